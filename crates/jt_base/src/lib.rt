@@ -1,0 +1,3 @@
+//! What every other crate rests on: lists of bits, files and a sink.
+#![tactic(auto)]
+
