@@ -1,0 +1,29 @@
+-- A wire to a chip: what the bytes that it carries do at its far end, where that is told.
+use Rattle.std.specs.Prelude.{◌≡◌, ◌++◌, ◌⊎◌, ℕ, List, [], ◌∷◌, length, Option, Some, None}
+use Rattle.std.specs.List.{AllPass}
+use Rattle.debug_model.specs.Chip.{Chip, feed, said}
+use Rattle.debug_model.specs.Signs.{sign_of, stays_open}
+use Rattle.debug_model.specs.Told.{Far}
+
+-- bytes that may be sent as one piece: signs, and `Q` only alone
+abbrev pub IsPiece : List ℕ → Type 0
+IsPiece bytes = AllPass (λ b. stays_open (sign_of b)) bytes ⊎ (bytes ≡ 81 ∷ [])
+
+-- the far end after these bytes are sent
+abbrev pub sent : List ℕ → Far → Far
+sent bytes f = record { chip = feed f.chip bytes; unread = f.unread ++ said f.chip bytes }
+
+-- some front of these bytes was sent, and no more
+abbrev pub SentFront : List ℕ → Option Far → Option Far → Type 0
+SentFront bytes None new = new ≡ None
+SentFront bytes (Some f) new = (front back : List ℕ) × (bytes ≡ front ++ back) × (new ≡ Some (sent front f))
+
+-- these bytes are the front of what was unread, and the chip stays as it is
+abbrev pub ReadsFront : List ℕ → Option Far → Option Far → Type 0
+ReadsFront bytes None new = new ≡ None
+ReadsFront bytes (Some f) new = (rest : List ℕ) × (f.unread ≡ bytes ++ rest) × (new ≡ Some (record f { unread = rest }))
+
+-- the unread answers may have become fewer, and the chip stays as it is
+abbrev pub KeepsChip : Option Far → Option Far → Type 0
+KeepsChip None new = new ≡ None
+KeepsChip (Some f) new = (rest : List ℕ) × (new ≡ Some (record f { unread = rest }))
