@@ -4,3 +4,4 @@ pub mod Chip
 pub mod Told
 pub mod Wire
 pub mod Scan
+pub mod Schedule

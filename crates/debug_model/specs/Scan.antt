@@ -1,13 +1,16 @@
 -- Scans: the clocks that carry one, what comes out of the selected register, and what stays in it.
 -- Source: IEEE 1149.1, the state diagram for the paths and the shifting of a register for the two cuts;
 -- OpenOCD, remote_bitbang, for the bytes of a clock.
-use Rattle.std.specs.Prelude.{◌≡◌, ◌++◌, ℕ, List, [], ◌∷◌, length, take, drop, Bool, true, false, Option, Some, None}
+use Rattle.std.specs.Prelude.{◌≡◌, ◌≢◌, ◌++◌, ℕ, List, [], ◌∷◌, length, take, drop, Bool, true, false, Option, Some, None, Result, IfErr}
+use Rattle.jt_base.specs.Faults.{Rises}
 use Rattle.debug_model.specs.Chip.{Chip, feed}
 use Rattle.debug_model.specs.Tap.{Port, captured}
 use Rattle.debug_model.specs.Told.{Far, read_out}
 use Rattle.debug_model.specs.declared.register.Register.{Register}
 use Rattle.debug_model.specs.declared.register.Register.TheVariants.{Idcode}
 use Rattle.debug_model.specs.declared.tap_state.TapState.TheVariants.{RunTestIdle}
+use Rattle.debug_model.specs.declared.wire.WireFault.{WireFault}
+use Rattle.debug_model.specs.declared.wire.WireFault.TheVariants.{SendFailed, RecvFailed, Ended, BadAnswer}
 
 -- the digit that sets TCK 0, and the one that sets TCK 1, with these levels of TMS and TDI
 abbrev pub low : Bool → Bool → ℕ
@@ -87,3 +90,13 @@ pub record WasReset (c : Chip) (new : Option Far) : Type 0 where
   pub is : new ≡ Some (read_out chip)
   pub fed : chip ≡ feed c reset_bytes
   pub selected : chip.port.selected ≡ Idcode
+
+-- why a scan failed: a rise of the count, or an answer byte that is neither 0 nor 1, which no told chip gives
+abbrev pub CauseOf : Option Far → ℕ → ℕ → WireFault → Type 0
+CauseOf told old new SendFailed = Rises old new
+CauseOf told old new RecvFailed = Rises old new
+CauseOf told old new Ended = Rises old new
+CauseOf told old new (BadAnswer b) = (told ≡ None) × (b ≢ 48) × (b ≢ 49)
+
+abbrev pub HasScanCause : {T : Type 0} → Option Far → ℕ → ℕ → Result T WireFault → Type 0
+HasScanCause told old new result = IfErr result (CauseOf told old new)

@@ -1,0 +1,35 @@
+-- A schedule of a chip's events: a list of rounds that starts again at its end, and when it is fair to each part.
+-- Debug Specification 1.0 leaves the timing of harts, DMI and system bus open; a schedule says one timing.
+use Rattle.std.specs.Prelude.{ℕ, zero, suc, ◌+◌, ◌<◌, nat_lt, List, [], length, slice_index_or, Contains, if◌then◌else◌}
+use Rattle.debug_model.specs.declared.event.Event.{Event}
+use Rattle.debug_model.specs.declared.event.Event.TheVariants.{Turn, DmiDone, DmiFail, CmdStep, BusDone}
+
+-- the rounds, each of at most eight events, and the place of the round that comes next
+pub record Plan : Type 0 where
+  pub rounds : List (List Event)
+  pub place : ℕ
+
+-- the round at the place, the empty round where the list is empty
+abbrev pub round_of : Plan → List Event
+round_of p = slice_index_or p.rounds p.place []
+
+-- the plan one place on, and from the list's end back at its start
+abbrev pub moved : Plan → Plan
+moved p = record p { place = if nat_lt (p.place + 1) (length p.rounds) then p.place + 1 else 0 }
+
+-- the k-th round to come, from 0
+abbrev pub round_after : ℕ → Plan → List Event
+round_after zero p = round_of p
+round_after (suc k) p = round_after k (moved p)
+
+-- the event stands in one of the w rounds from the k-th on
+abbrev pub ComesWithin : ℕ → ℕ → Plan → Event → Type 0
+ComesWithin w k p e = (i : ℕ) × (i < w) × Contains (round_after (k + i) p) e
+
+-- in every w consecutive rounds each hart below `harts` and each part of the debug module has its turn, and no DMI operation fails
+pub record Fair (w harts : ℕ) (p : Plan) : Type 0 where
+  pub turns : (k h : ℕ) → h < harts → ComesWithin w k p (Turn h)
+  pub dmi_done : (k : ℕ) → ComesWithin w k p DmiDone
+  pub cmd_step : (k : ℕ) → ComesWithin w k p CmdStep
+  pub bus_done : (k : ℕ) → ComesWithin w k p BusDone
+  pub no_dmi_fail : (k : ℕ) → ¬ Contains (round_after k p) DmiFail

@@ -1,0 +1,21 @@
+/// An entry of the chip's journal: what happened there that a debugger can tell apart.
+#[derive(Clone, Copy, Debug, PartialEq, Eq)]
+pub enum Point {
+    /// The hart of this number, which exists, had its turn.
+    Turn(u8),
+    /// The debugger looked at the hart of this number (`hartsel`), which need not exist: a read of dmstatus.
+    Look(u16),
+    /// The debugger requested that the hart of this number halt (`haltreq` written 1).
+    HaltReq(u8),
+    /// The debugger took back its request that the hart of this number halt (`haltreq` written 0).
+    HaltClear(u8),
+    /// The debugger requested that the hart of this number resume (`resumereq` written 1).
+    ResumeReq(u8),
+    /// The debugger had an access to memory made, by the program buffer or by the system bus.
+    Access,
+}
+
+/// The most bytes that a point takes, by which a journal's memory is reckoned.
+const POINT_BYTES: usize = 8;
+
+const _: () = prove!(size_of::<Point>() <= POINT_BYTES);
