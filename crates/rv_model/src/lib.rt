@@ -1,6 +1,24 @@
 //! The harts' definitions: what a program sees, and what an instruction does.
 #![tactic(auto)]
 
+mod alu_op;
+mod cause;
+mod did;
+mod insn;
+mod mem_fault;
+mod operands;
 mod size;
+mod slot_set;
+mod touch;
 
+pub use alu_op::AluOp;
+pub use cause::Cause;
+pub use did::Did;
+pub use insn::Insn;
+pub use mem_fault::MemFault;
+pub use operands::{
+    BType, CsrImmType, CsrType, IType, JType, LoadReservedType, RType, SType, ShiftType, UType,
+};
 pub use size::Size;
+pub use slot_set::SlotSet;
+pub use touch::Touch;

@@ -1,0 +1,4 @@
+pub mod AluCorners
+pub mod MapLemmas
+pub mod RowLemmas
+pub mod RowMeanings

@@ -1,0 +1,108 @@
+-- The result of each computing instruction and of each atomic memory operation, on whole numbers.
+-- Unprivileged manual: "Integer Computational Instructions" of RV32I and RV64I, "M Extension for Integer Multiplication and Division",
+-- "Atomic Memory Operations". Arguments and results are below 2^64; where the manual means a sign, the operation is on ℤ.
+use Rattle.std.specs.Prelude.{ℕ, ◌+◌, ◌-◌, ◌*◌, ◌/◌, ◌%◌, ◌^◌, Bool, true, false, if◌then◌else◌, nat_lt, ◌==◌, ℤ, pos, negsuc, ◌*ℤ◌, int_lt, int_div, int_rem, bit_and, bit_or, bit_xor}
+use Rattle.std.specs.Int.{cast_signed, w32, w64}
+use Rattle.rv_model.specs.declared.alu_op.AluOp.{AluOp}
+use Rattle.rv_model.specs.declared.alu_op.AluOp.TheVariants.{Addi, Slti, Sltiu, Xori, Ori, Andi, Slli, Srli, Srai, Addiw, Slliw, Srliw, Sraiw, Add, Sll, Slt, Sltu, Xor, Srl, Or, And, Sub, Sra, Mul, Mulh, Mulhsu, Mulhu, Div, Divu, Rem, Remu, Addw, Sllw, Srlw, Subw, Sraw, Mulw, Divw, Divuw, Remw, Remuw, AmoswapW, AmoaddW, AmoxorW, AmoandW, AmoorW, AmominW, AmomaxW, AmominuW, AmomaxuW, AmoswapD, AmoaddD, AmoxorD, AmoandD, AmoorD, AmominD, AmomaxD, AmominuD, AmomaxuD}
+use Rattle.rv_model.specs.Fields.{sign_extended}
+
+-- a register as a signed number
+abbrev pub signed : ℕ → ℤ
+signed n = cast_signed w64 n
+
+-- the low half of a register as a signed number
+abbrev pub signed_word : ℕ → ℤ
+signed_word n = cast_signed w32 (n % 2 ^ 32)
+
+-- the low half of a register, sign extended
+abbrev pub word : ℕ → ℕ
+word n = sign_extended 32 (n % 2 ^ 32)
+
+-- a whole number modulo 2^64
+abbrev pub low : ℤ → ℕ
+low (pos n) = n % 2 ^ 64
+low (negsuc n) = 2 ^ 64 - 1 - n % 2 ^ 64
+
+-- a whole number over 2^k, rounded down
+abbrev pub halved : ℤ → ℕ → ℤ
+halved (pos n) k = pos (n / 2 ^ k)
+halved (negsuc n) k = negsuc (n / 2 ^ k)
+
+abbrev pub digit : Bool → ℕ
+digit false = 0
+digit true = 1
+
+-- what a division by zero gives
+abbrev pub all_ones : ℕ
+all_ones = 2 ^ 64 - 1
+
+abbrev pub added : ℕ → ℕ → ℕ
+added a b = (a + b) % 2 ^ 64
+
+abbrev pub subtracted : ℕ → ℕ → ℕ
+subtracted a b = (a + (2 ^ 64 - b)) % 2 ^ 64
+
+abbrev pub shifted_left : ℕ → ℕ → ℕ
+shifted_left a k = a * 2 ^ k % 2 ^ 64
+
+unfoldable pub alu_of : AluOp → ℕ → ℕ → ℕ
+alu_of Addi a b = added a b
+alu_of Slti a b = digit (int_lt (signed a) (signed b))
+alu_of Sltiu a b = digit (nat_lt a b)
+alu_of Xori a b = bit_xor a b
+alu_of Ori a b = bit_or a b
+alu_of Andi a b = bit_and a b
+alu_of Slli a b = shifted_left a (b % 64)
+alu_of Srli a b = a / 2 ^ (b % 64)
+alu_of Srai a b = low (halved (signed a) (b % 64))
+alu_of Addiw a b = word (a + b)
+alu_of Slliw a b = word (a * 2 ^ (b % 32))
+alu_of Srliw a b = word (a % 2 ^ 32 / 2 ^ (b % 32))
+alu_of Sraiw a b = low (halved (signed_word a) (b % 32))
+alu_of Add a b = added a b
+alu_of Sll a b = shifted_left a (b % 64)
+alu_of Slt a b = digit (int_lt (signed a) (signed b))
+alu_of Sltu a b = digit (nat_lt a b)
+alu_of Xor a b = bit_xor a b
+alu_of Srl a b = a / 2 ^ (b % 64)
+alu_of Or a b = bit_or a b
+alu_of And a b = bit_and a b
+alu_of Sub a b = subtracted a b
+alu_of Sra a b = low (halved (signed a) (b % 64))
+alu_of Mul a b = a * b % 2 ^ 64
+alu_of Mulh a b = low (halved (signed a *ℤ signed b) 64)
+alu_of Mulhsu a b = low (halved (signed a *ℤ pos b) 64)
+alu_of Mulhu a b = a * b / 2 ^ 64
+alu_of Div a b = if b == 0 then all_ones else low (int_div (signed a) (signed b))
+alu_of Divu a b = if b == 0 then all_ones else a / b
+alu_of Rem a b = if b == 0 then a else low (int_rem (signed a) (signed b))
+alu_of Remu a b = if b == 0 then a else a % b
+alu_of Addw a b = word (a + b)
+alu_of Sllw a b = word (a * 2 ^ (b % 32))
+alu_of Srlw a b = word (a % 2 ^ 32 / 2 ^ (b % 32))
+alu_of Subw a b = word (subtracted a b)
+alu_of Sraw a b = low (halved (signed_word a) (b % 32))
+alu_of Mulw a b = word (a * b)
+alu_of Divw a b = if b % 2 ^ 32 == 0 then all_ones else word (low (int_div (signed_word a) (signed_word b)))
+alu_of Divuw a b = if b % 2 ^ 32 == 0 then all_ones else word (a % 2 ^ 32 / (b % 2 ^ 32))
+alu_of Remw a b = if b % 2 ^ 32 == 0 then word a else low (int_rem (signed_word a) (signed_word b))
+alu_of Remuw a b = if b % 2 ^ 32 == 0 then word a else word (a % 2 ^ 32 % (b % 2 ^ 32))
+alu_of AmoswapW a b = word b
+alu_of AmoaddW a b = word (a + b)
+alu_of AmoxorW a b = word (bit_xor a b)
+alu_of AmoandW a b = word (bit_and a b)
+alu_of AmoorW a b = word (bit_or a b)
+alu_of AmominW a b = if int_lt (signed_word b) (signed_word a) then word b else word a
+alu_of AmomaxW a b = if int_lt (signed_word a) (signed_word b) then word b else word a
+alu_of AmominuW a b = if nat_lt (b % 2 ^ 32) (a % 2 ^ 32) then word b else word a
+alu_of AmomaxuW a b = if nat_lt (a % 2 ^ 32) (b % 2 ^ 32) then word b else word a
+alu_of AmoswapD a b = b
+alu_of AmoaddD a b = added a b
+alu_of AmoxorD a b = bit_xor a b
+alu_of AmoandD a b = bit_and a b
+alu_of AmoorD a b = bit_or a b
+alu_of AmominD a b = if int_lt (signed b) (signed a) then b else a
+alu_of AmomaxD a b = if int_lt (signed a) (signed b) then b else a
+alu_of AmominuD a b = if nat_lt b a then b else a
+alu_of AmomaxuD a b = if nat_lt a b then b else a
