@@ -1,13 +1,20 @@
 -- A wire to a chip: what the bytes that it carries do at its far end, where that is told.
-use Rattle.std.specs.Prelude.{◌≡◌, ◌++◌, ◌⊎◌, ℕ, List, [], ◌∷◌, length, Option, Some, None}
-use Rattle.std.specs.List.{AllPass}
+use Rattle.std.specs.Prelude.{◌≡◌, ◌++◌, ◌⊎◌, ℕ, List, [], ◌∷◌, length, Bool, IsTrue, Option, Some, None}
+use Rattle.std.specs.List.{list_all}
 use Rattle.debug_model.specs.Chip.{Chip, feed, said}
 use Rattle.debug_model.specs.Signs.{sign_of, stays_open}
 use Rattle.debug_model.specs.Told.{Far}
+use Rattle.debug_model.specs.declared.wire.WireFault.{WireFault}
+use Rattle.debug_model.specs.declared.wire.WireFault.TheVariants.{SendFailed, RecvFailed, Ended, BadAnswer}
+use Rattle.jt_base.specs.Faults.{Rises}
+
+-- whether each byte is a sign that leaves the stream open
+unfoldable pub are_open : List ℕ → Bool
+are_open bytes = list_all (λ b. stays_open (sign_of b)) bytes
 
 -- bytes that may be sent as one piece: signs, and `Q` only alone
 abbrev pub IsPiece : List ℕ → Type 0
-IsPiece bytes = AllPass (λ b. stays_open (sign_of b)) bytes ⊎ (bytes ≡ 81 ∷ [])
+IsPiece bytes = IsTrue (are_open bytes) ⊎ (bytes ≡ 81 ∷ [])
 
 -- the far end after these bytes are sent
 abbrev pub sent : List ℕ → Far → Far
@@ -27,3 +34,10 @@ ReadsFront bytes (Some f) new = (rest : List ℕ) × (f.unread ≡ bytes ++ rest
 abbrev pub KeepsChip : Option Far → Option Far → Type 0
 KeepsChip None new = new ≡ None
 KeepsChip (Some f) new = (rest : List ℕ) × (new ≡ Some (record f { unread = rest }))
+
+-- why a call of a wire failed: its count rose. A wire hands answers on as they came, and judges none.
+abbrev pub WireCause : ℕ → ℕ → WireFault → Type 0
+WireCause old new SendFailed = Rises old new
+WireCause old new RecvFailed = Rises old new
+WireCause old new Ended = Rises old new
+WireCause old new (BadAnswer _) = ⊥

@@ -1,8 +1,7 @@
 ghost use Rattle.std.specs.Prelude.{◌≡◌, ◌≢◌, ◌≤◌, ◌∷◌, ℕ, List, Option, length, OnOk, OnErr, IfErr, IfSome, option_map};
 ghost use Rattle.std.specs.Borrow.{GName};
 ghost use Rattle.debug_model.specs.Told.{Far, IsLive, IsRead};
-ghost use Rattle.debug_model.specs.Wire.{IsPiece, sent, SentFront, ReadsFront, KeepsChip};
-ghost use Rattle.jt_base.specs.Faults.{Rises, HasCause};
+ghost use Rattle.debug_model.specs.Wire.{IsPiece, sent, SentFront, ReadsFront, KeepsChip, WireCause};
 
 use thiserror::Error;
 
@@ -47,7 +46,8 @@ pub trait Wire: Drop {
         requires read { IsRead (far self.old) }
         ensures sent { OnOk result (far self.new ≡ option_map (sent bytes.now) (far self.old)) }
         ensures front { OnErr result (SentFront bytes.now (far self.old) (far self.new)) }
-        ensures cause { HasCause (fault_count self.old) (fault_count self.new) result }
+        ensures later { fault_count self.old ≤ fault_count self.new }
+        ensures cause { IfErr result (WireCause (fault_count self.old) (fault_count self.new)) }
         ensures lenders { lenders self.new ≡ lenders self.old };
 
     /// Fills `into` with the next answers, as they came. On a fault what it holds is left open.
@@ -56,7 +56,8 @@ pub trait Wire: Drop {
         requires waiting { IfSome (far self.old) (λ f. length into.old ≤ length f.unread) }
         ensures read { OnOk result (ReadsFront into.new (far self.old) (far self.new)) }
         ensures chip { OnErr result (KeepsChip (far self.old) (far self.new)) }
-        ensures cause { HasCause (fault_count self.old) (fault_count self.new) result }
+        ensures later { fault_count self.old ≤ fault_count self.new }
+        ensures cause { IfErr result (WireCause (fault_count self.old) (fault_count self.new)) }
         ensures lenders { lenders self.new ≡ lenders self.old };
 
     /// How many calls have failed. The count stays at the top of a `u64`.
