@@ -1,1 +1,2 @@
 pub mod BitLists
+pub mod Fronts
