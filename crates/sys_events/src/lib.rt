@@ -6,6 +6,8 @@
 
 mod journal;
 mod list_schedule;
+mod seed_schedule;
 
 pub use journal::{JOURNAL_ROOM, Journal};
 pub use list_schedule::ListSchedule;
+pub use seed_schedule::SeedSchedule;
