@@ -26,19 +26,19 @@ moved-last f n m h = rw (length-map-range_with_len f 0 n, le-ltb (m + 1) n h) re
 
 moved-made : (f : ℕ → List Event) (n m : ℕ) → m < n → moved (made f n m) ≡ made f n ((m + 1) % n)
 moved-made f n m h = elim (cases_lt (m + 1) n) [
-    inl below ↦ moved-below f n m below ∙ ap (made f n) (sym (mod-eq_of_lt below))
+  | inl below ↦ moved-below f n m below ∙ ap (made f n) (sym (mod-eq_of_lt below))
   | inr last ↦
       let at_end : m + 1 ≡ n = omega arith in
       moved-last f n m last ∙ ap (made f n) (rw at_end (sym (mod_self n)))
-  ]
+]
 
 -- the k-th round to come is the one whose number is k more, from the end back at the start
 pub round_after-made : (f : ℕ → List Event) (n m k : ℕ) → m < n → round_after k (made f n m) ≡ f ((m + k) % n)
 round_after-made f n m zero h =
-  let here : (m + 0) % n ≡ m = simp (add-zero) (mod-eq_of_lt h) in
-  made-round f n m h ∙ ap f (sym here)
+    let here : (m + 0) % n ≡ m = simp (add-zero) (mod-eq_of_lt h) in
+    made-round f n m h ∙ ap f (sym here)
 round_after-made f n m (suc k) h =
-  let positive : 0 < n = omega arith in
-  let numbers : ((m + 1) % n + k) % n ≡ (m + suc k) % n =
+    let positive : 0 < n = omega arith in
+    let numbers : ((m + 1) % n + k) % n ≡ (m + suc k) % n =
     mod-add-mod (m + 1) n k ∙ ap (λ (x : ℕ). x % n) (omega arith) in
-  ap (round_after k) (moved-made f n m h) ∙ round_after-made f n ((m + 1) % n) k (mod-lt (m + 1) positive) ∙ ap f numbers
+    ap (round_after k) (moved-made f n m h) ∙ round_after-made f n ((m + 1) % n) k (mod-lt (m + 1) positive) ∙ ap f numbers
