@@ -1,0 +1,4 @@
+pub mod Words
+pub mod Pairs
+pub mod Rounds
+pub mod Fairness

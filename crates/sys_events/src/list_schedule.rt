@@ -1,0 +1,90 @@
+ghost use Rattle.std.specs.Prelude.{◌≡◌, map};
+
+use debug_model::{Round, Schedule};
+use std::marker::Model;
+
+/// A schedule whose rounds the caller lists.
+///
+/// Contracts see it as its plan: the rounds, and the place of the next one.
+#[derive(Drop)]
+pub struct ListSchedule {
+    rounds: Vec<Round>,
+    place: usize,
+}
+
+impl Model for ListSchedule {
+    ghost use Rattle.std.specs.Prelude.{◌≤◌, ◌-◌, map, vec_len};
+    ghost use Rattle.debug_model.specs.Schedule.{Plan};
+
+    ghost Value = { Plan };
+
+    ghost view = { λ s. record { rounds = map (λ r. r.items) s.rounds.items; place = s.place } };
+
+    ghost invariant = { λ s. s.place ≤ vec_len s.rounds - 1 };
+}
+
+impl ListSchedule {
+    /// Gives these rounds in order, and starts again after the last one. Without rounds each is empty.
+    pub fn new(rounds: Vec<Round>) -> ListSchedule
+        ensures { result ≡ record { rounds = map (λ r. r.items) rounds.items; place = 0 } }
+    {
+        ListSchedule { rounds, place: 0 }
+    }
+}
+
+impl Schedule for ListSchedule {
+    ghost plan = { λ s. s };
+
+    fn next(&mut self) -> Round {
+        let round = match self.rounds.get(self.place) {
+            Some(round) => copied(round),
+            None => Round::new(),
+        };
+        self.place = if self.place + 1 < self.rounds.len() {
+            self.place + 1
+        } else {
+            0
+        };
+        round
+    }
+}
+
+fn copied(round: &Round) -> Round
+    ensures { result.items ≡ round.now.items }
+{
+    Round::try_from(round.as_slice()).unwrap()
+}
+
+#[cfg(test)]
+mod tests {
+    use super::*;
+    use debug_model::Event;
+    use std::test::Fail;
+
+    #[test]
+    fn no_rounds_are_empty_rounds(rt: HostRuntime) {
+        let mut schedule = ListSchedule::new(Vec::new(rt.alloc()));
+        for _ in 0..3 {
+            assert!(rt; schedule.next().is_empty());
+        }
+    }
+
+    #[test]
+    fn two_rounds_come_in_turn(rt: HostRuntime) -> Result<(), Fail> {
+        let mut first = Round::new();
+        first.push(Event::Turn(3));
+        first.push(Event::DmiFail);
+        let mut rounds = Vec::new(rt.alloc());
+        rounds.push(first)?;
+        rounds.push(Round::new())?;
+        let mut schedule = ListSchedule::new(rounds);
+        for _ in 0..3 {
+            assert_eq!(rt;
+                schedule.next().as_slice(),
+                [Event::Turn(3), Event::DmiFail].as_slice()
+            );
+            assert!(rt; schedule.next().is_empty());
+        }
+        Ok(())
+    }
+}

@@ -1,0 +1,197 @@
+ghost use Rattle.std.specs.Prelude.{◌≡◌, ◌+◌, ◌%◌, ◌<◌, ◌≤◌, ◌==◌, length};
+ghost use Rattle.debug_model.specs.Schedule.{Fair};
+ghost use Rattle.sys_events.specs.Seed.{words_of, round_at, seed_plan};
+
+use arrayvec::ArrayVec;
+use debug_model::{Event, Round, Schedule};
+use rand_core::SeedableRng;
+use rand_core::utils::NextWord;
+use rand_xoshiro::SplitMix64;
+use std::marker::Model;
+
+/// The most rounds in which each event stands once.
+pub const MOST_BUSY: u8 = 32;
+
+/// The most harts for which a schedule is made.
+pub const MOST_HARTS: u8 = 4;
+
+/// How many words of the generator a schedule uses: one for each hart's turn, then one for each other event.
+const WORDS: usize = 7;
+
+/// A schedule that a seed makes: each event stands in one of every `busy` rounds, and the seed says in which.
+///
+/// Contracts see it as its plan: the first `busy` rounds, and the place of the next one.
+#[derive(Drop)]
+pub struct SeedSchedule {
+    pairs: ArrayVec<(Event, u64), WORDS>,
+    busy: u8,
+    place: u8,
+}
+
+impl Model for SeedSchedule {
+    ghost use Rattle.std.specs.Prelude.{◌<◌, ◌≤◌};
+    ghost use Rattle.debug_model.specs.Schedule.{Plan};
+    ghost use Rattle.sys_events.specs.Seed.{rounds_of};
+    ghost use Rattle.sys_events.specs.declared.seed_schedule.TheConstants.{MOST_BUSY};
+
+    ghost Value = { Plan };
+
+    ghost view = { λ s. record { rounds = rounds_of s.busy s.pairs.items; place = s.place } };
+
+    ghost invariant = { λ s. (s.place < s.busy) × (s.busy ≤ MOST_BUSY) };
+}
+
+impl SeedSchedule {
+    /// The schedule of a seed for this number of harts, with each event in one of every `busy` rounds.
+    ///
+    /// `busy` is 1 to 32, where 1 puts each event into every round, and `harts` is 1 to 4. It takes no memory.
+    pub fn new(seed: u64, busy: u8, harts: u8) -> SeedSchedule
+        requires busy { (1 ≤ busy) × (busy ≤ MOST_BUSY) }
+        requires harts { (1 ≤ harts) × (harts ≤ MOST_HARTS) }
+        ensures plan { result ≡ seed_plan seed busy harts }
+        ensures fair { Fair 32 harts result }
+    {
+        let words = first_words(seed);
+        let [.., dmi_done, cmd_step, bus_done] = words;
+        let mut pairs = ArrayVec::new();
+        'turns: for hart in 0..harts {
+            pairs.push((Event::Turn(hart), words[usize::from(hart)]));
+        }
+        pairs.push((Event::DmiDone, dmi_done));
+        pairs.push((Event::CmdStep, cmd_step));
+        pairs.push((Event::BusDone, bus_done));
+        SeedSchedule {
+            pairs,
+            busy,
+            place: 0,
+        }
+    }
+}
+
+impl Schedule for SeedSchedule {
+    ghost plan = { λ s. s };
+
+    fn next(&mut self) -> Round {
+        let round = make_round(self.pairs.as_slice(), self.busy, self.place);
+        self.place = if self.place + 1 < self.busy {
+            self.place + 1
+        } else {
+            0
+        };
+        round
+    }
+}
+
+/// The first seven words of the seed's generator.
+fn first_words(seed: u64) -> [u64; WORDS]
+    ensures { result ≡ words_of seed }
+{
+    let mut random = SplitMix64::from_seed(seed.to_le_bytes());
+    let mut words = [0; WORDS];
+    for word in words.iter_mut() {
+        *word = random.next_word();
+    }
+    words
+}
+
+/// The events of a round: those whose word and the round's number together are a multiple of `busy`.
+fn make_round(pairs: &[(Event, u64)], busy: u8, number: u8) -> Round
+    requires busy { 0 < busy }
+    requires few { length pairs.now ≤ 7 }
+    ensures { result.items ≡ round_at busy pairs.now number }
+{
+    let mut round = Round::new();
+    for (event, word) in pairs {
+        if stands(*word, busy, number) {
+            round.push(*event);
+        }
+    }
+    round
+}
+
+/// Whether an event of this word stands in the round of this number. The sum itself might not fit.
+fn stands(word: u64, busy: u8, number: u8) -> bool
+    requires { 0 < busy }
+    ensures { result ≡ ((number + word) % busy == 0) }
+{
+    let busy = u64::from(busy);
+    (u64::from(number) + word % busy) % busy == 0
+}
+
+#[cfg(test)]
+mod tests {
+    use super::*;
+    use std::process::Abort;
+
+    // The published outputs of SplitMix64 for the seed 1234567.
+    #[test]
+    fn words_are_those_of_splitmix64(rt: HostRuntime) {
+        let [first, second, third, fourth, fifth, ..] = first_words(1234567);
+        assert_eq!(rt; first, 6457827717110365317);
+        assert_eq!(rt; second, 3203168211198807973);
+        assert_eq!(rt; third, 9817491932198370423);
+        assert_eq!(rt; fourth, 4593380528125082431);
+        assert_eq!(rt; fifth, 16408922859458223821);
+    }
+
+    #[test]
+    fn busy_1_has_every_event_in_every_round(rt: HostRuntime) {
+        let mut schedule = SeedSchedule::new(0, 1, 2);
+        for _ in 0..3 {
+            assert_eq!(rt;
+                schedule.next().as_slice(),
+                [
+                    Event::Turn(0),
+                    Event::Turn(1),
+                    Event::DmiDone,
+                    Event::CmdStep,
+                    Event::BusDone,
+                ]
+                .as_slice()
+            );
+        }
+    }
+
+    // The numbers of the rounds are reckoned in Python, for a power of two and for another number.
+    #[test]
+    fn each_event_stands_once_and_the_rounds_start_again(rt: HostRuntime) {
+        check_places(
+            &rt,
+            SeedSchedule::new(1234567, 32, 4),
+            32,
+            [27, 27, 9, 1, 19, 10, 27],
+        );
+        check_places(
+            &rt,
+            SeedSchedule::new(u64::MAX, 5, 4),
+            5,
+            [4, 1, 4, 3, 4, 0, 0],
+        );
+    }
+
+    fn check_places(rt: &impl Abort, schedule: SeedSchedule, busy: u32, places: [u32; WORDS])
+        requires { 0 < busy }
+    {
+        let mut schedule = schedule;
+        let events = [
+            Event::Turn(0),
+            Event::Turn(1),
+            Event::Turn(2),
+            Event::Turn(3),
+            Event::DmiDone,
+            Event::CmdStep,
+            Event::BusDone,
+        ];
+        for number in 0..96 {
+            let round = schedule.next();
+            for (event, place) in events.iter().zip(places) {
+                let stands = round.as_slice().contains(event);
+                assert_eq!(rt;
+                    stands,
+                    number % busy == place,
+                    "{event:?} in round {number}"
+                );
+            }
+        }
+    }
+}
