@@ -1,0 +1,13 @@
+//! The program: the probe, the chip on its bench, and the words that bring them together.
+#![tactic(auto)]
+
+mod bench;
+mod bench_wire;
+mod signs;
+
+use bench::Bench;
+
+fn main() {
+    let mut bench = Bench::blank();
+    let _wire = bench_wire::BenchWire::new(&mut bench);
+}
