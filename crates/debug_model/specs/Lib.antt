@@ -1,3 +1,9 @@
 pub mod Command
+pub mod Grammar
 pub mod Registers
+pub mod ScriptArguments
 pub mod ScriptFault
+pub mod ScriptForms
+pub mod ScriptNumber
+pub mod ScriptText
+pub mod Spelling

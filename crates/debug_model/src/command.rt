@@ -1,6 +1,5 @@
-use rv_model::Size;
-
 use crate::register_name::RegName;
+use rv_model::Size;
 
 /// The way on which `read`, `write` and `dump` reach memory.
 #[derive(Clone, Copy, Debug, PartialEq, Eq)]

@@ -1,10 +1,9 @@
 ghost use Rattle.std.specs.Prelude.{◌≡◌, ◌<◌, ◌≤◌, List, [], ◌∷◌, ◌++◌, length, OnOk, OnErr, All};
 ghost use Rattle.debug_model.specs.Command.{IsWithinRanges, most_commands};
 
+use crate::command::Command;
 use std::alloc::{AllocError, Global};
 use std::marker::Model;
-
-use crate::command::Command;
 
 /// A list of at most 1,000 commands, each within its ranges.
 #[derive(Debug, Drop)]
