@@ -40,9 +40,9 @@ is_allowed byte = is_blank byte || (nat_le space byte && nat_le byte tilde)
 abbrev pub is_plain : List ℕ → Bool
 is_plain content = list_all is_allowed content
 
-abbrev pub is_not_empty : List ℕ → Bool
+abbrev pub is_not_empty : {A : Type 0} → List A → Bool
 is_not_empty [] = false
-is_not_empty (byte ∷ bytes) = true
+is_not_empty (x ∷ xs) = true
 
 -- the words: the longest runs of bytes that are no blanks
 unfoldable pub words_of : List ℕ → List (List ℕ)
