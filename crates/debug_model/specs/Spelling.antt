@@ -1,7 +1,8 @@
 -- The one spelling of each command: defaults written out, addresses and values as `0x` and sixteen digits, other numbers decimal.
 -- The format is this project's own (docs/SCRIPT.md, "Spelling").
-use Rattle.std.specs.Prelude.{ℕ, zero, suc, ◌+◌, ◌/◌, ◌%◌, ◌-◌, Bool, true, false, nat_lt, List, [], ◌∷◌, ◌++◌, flat_map, codes, decimal, if◌then◌else◌}
+use Rattle.std.specs.Prelude.{ℕ, zero, suc, ◌/◌, ◌%◌, Bool, true, false, List, [], ◌∷◌, ◌++◌, flat_map, codes, decimal}
 use Rattle.std.specs.List.{join_with_byte}
+use Rattle.std.specs.Char.{digit_char}
 use Rattle.rv_model.specs.Size.{count_of}
 use Rattle.debug_model.specs.declared.command.Path.{Path}
 use Rattle.debug_model.specs.declared.command.Path.TheVariants.{Progbuf, Bus}
@@ -13,14 +14,10 @@ use Rattle.debug_model.specs.Registers.{name_of_register}
 use Rattle.debug_model.specs.ScriptText.{line_feed, space}
 use Rattle.debug_model.specs.ScriptNumber.{hexadecimal_prefix, most_hexadecimal_digits}
 
--- a hexadecimal digit, in lower case: `0` is 48, and `a` is 97
-abbrev pub digit_of : ℕ → ℕ
-digit_of d = if nat_lt d 10 then 48 + d else 87 + d
-
--- the lowest `count` hexadecimal digits of a number, the highest first
+-- the lowest `count` hexadecimal digits of a number, in lower case, the highest first
 unfoldable pub hexadecimal : ℕ → ℕ → List ℕ
 hexadecimal zero n = []
-hexadecimal (suc count) n = hexadecimal count (n / 16) ++ (digit_of (n % 16) ∷ [])
+hexadecimal (suc count) n = hexadecimal count (n / 16) ++ (digit_char (n % 16) ∷ [])
 
 abbrev pub spelled_address : ℕ → List ℕ
 spelled_address n = hexadecimal_prefix ++ hexadecimal most_hexadecimal_digits n
