@@ -5,3 +5,12 @@ pub mod Told
 pub mod Wire
 pub mod Scan
 pub mod Schedule
+pub mod Command
+pub mod Grammar
+pub mod Registers
+pub mod ScriptArguments
+pub mod ScriptFault
+pub mod ScriptForms
+pub mod ScriptNumber
+pub mod ScriptText
+pub mod Spelling
