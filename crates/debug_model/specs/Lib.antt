@@ -14,3 +14,6 @@ pub mod ScriptForms
 pub mod ScriptNumber
 pub mod ScriptText
 pub mod Spelling
+pub mod Lines
+pub mod Debugger
+pub mod Transcript

@@ -46,9 +46,13 @@ next_state UpdateIr true = SelectDr
 abbrev pub register_of : ℕ → Register
 register_of code = if code == 0x01 then Idcode else Bypass
 
--- what a capture puts into the shift register: this chip's IDCODE is a choice of its own
+-- the device identification of this chip, a choice of its own: version 1, part 0x0d64, manufacturer 0
+abbrev pub idcode : ℕ
+idcode = 0x10d64001
+
+-- what a capture puts into the shift register
 unfoldable pub captured : Register → List Bool
-captured Idcode = bits_of 32 0x10d64001
+captured Idcode = bits_of 32 idcode
 captured Bypass = bits_of 1 0
 
 -- the instruction register captures 00001, of which the standard fixes the two lowest bits

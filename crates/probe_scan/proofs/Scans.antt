@@ -69,9 +69,10 @@ dr_sent bits f some live read free idle = rw (dr_fed bits f.chip some live free 
 -- what stands between the bytes of a scan and its answers, where the far end is told
 pub record IsAsked (bits : List Bool) (f : Far) (between : Option Far) : Type 0 where
   pub is : between ≡ Some (record { chip = scanned_chip bits f.chip; unread = map answer_byte (comes_out (captured f.chip.port.selected) bits) })
+  pub fed : scanned_chip bits f.chip ≡ feed f.chip (dr_bytes bits)
 
 asked_told : (bits : List Bool) (f : Far) (between : Option Far) → 0 < length bits → f.chip.ended ≡ None → f.unread ≡ [] → f.chip.port.held ≡ false → f.chip.port.state ≡ RunTestIdle → between ≡ Some (sent (dr_bytes bits) f) → IsAsked bits f between
-asked_told bits f between some live read free idle is = record { is = is ∙ ap Some (dr_sent bits f some live read free idle) }
+asked_told bits f between some live read free idle is = record { is = is ∙ ap Some (dr_sent bits f some live read free idle); fed = sym (dr_fed bits f.chip some live free idle) }
 
 pub asked : (bits : List Bool) (old between : Option Far) → 0 < length bits → IsLive old → IsRead old → IsFree old → IsIdle old → between ≡ option_map (sent (dr_bytes bits)) old → IfSome old (λ f. IsAsked bits f between)
 asked bits None between some live read free idle is = tt
@@ -139,7 +140,7 @@ dr_scanned bits out answers None between new is a read full spelled = tt
 dr_scanned bits out answers (Some f) between new is a read full spelled =
     let at : ReadsFront answers (Some (sent (dr_bytes bits) f)) new = subst (λ b. ReadsFront answers b new) is read in
     let received = received_told bits answers f (sent (dr_bytes bits) f) new full (sym is ∙ a.is) at in
-    record { out_is = same_bits _ _ (sym spelled ∙ received.answers_are); new_is = received.new_is }
+    record { out_is = same_bits _ _ (sym spelled ∙ received.answers_are); new_is = received.new_is; fed = a.fed }
 
 -- a scan was done: what it answers, and the conditions of the next one
 pub record IsDone (bits out : List Bool) (old new : Option Far) : Type 0 where
