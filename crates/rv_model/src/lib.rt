@@ -8,6 +8,7 @@ mod insn;
 mod mem_fault;
 mod operands;
 mod size;
+mod slot;
 mod slot_set;
 mod touch;
 
@@ -20,5 +21,6 @@ pub use operands::{
     BType, CsrImmType, CsrType, IType, JType, LoadReservedType, RType, SType, ShiftType, UType,
 };
 pub use size::Size;
+pub use slot::{Comparison, Icount, Mcontrol6, Slot, Trigger};
 pub use slot_set::SlotSet;
 pub use touch::Touch;
