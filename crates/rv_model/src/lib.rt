@@ -7,6 +7,8 @@ mod did;
 mod insn;
 mod mem_fault;
 mod operands;
+mod scan;
+mod scan_fields;
 mod size;
 mod slot;
 mod slot_set;
@@ -20,6 +22,7 @@ pub use mem_fault::MemFault;
 pub use operands::{
     BType, CsrImmType, CsrType, IType, JType, LoadReservedType, RType, SType, ShiftType, UType,
 };
+pub use scan::scan_rows;
 pub use size::Size;
 pub use slot::{Comparison, Icount, Mcontrol6, Slot, Trigger};
 pub use slot_set::SlotSet;
