@@ -1,4 +1,5 @@
 pub mod AluCorners
+pub mod ExampleLemmas
 pub mod MapLemmas
 pub mod RowLemmas
 pub mod RowMeanings

@@ -7,7 +7,10 @@ mod did;
 mod insn;
 mod mem_fault;
 mod operands;
+mod scan;
+mod scan_fields;
 mod size;
+mod slot;
 mod slot_set;
 mod touch;
 
@@ -19,6 +22,8 @@ pub use mem_fault::MemFault;
 pub use operands::{
     BType, CsrImmType, CsrType, IType, JType, LoadReservedType, RType, SType, ShiftType, UType,
 };
+pub use scan::scan_rows;
 pub use size::Size;
+pub use slot::{Comparison, Icount, Mcontrol6, Slot, Trigger};
 pub use slot_set::SlotSet;
 pub use touch::Touch;
