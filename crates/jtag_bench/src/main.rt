@@ -3,7 +3,9 @@
 
 mod bench;
 mod bench_wire;
+mod lines;
 mod signs;
+mod words;
 
 use bench::Bench;
 

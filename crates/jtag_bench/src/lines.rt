@@ -1,0 +1,66 @@
+//! The text of the lines that a session prints.
+
+ghost use Rattle.std.specs.Prelude.{◌≡◌, ◌≤◌, ◌<◌, ◌+◌, ◌++◌, ◌∷◌, [], length};
+ghost use Rattle.arrayvec.specs.ArrayVec.{array_vec_len};
+ghost use Rattle.debug_model.specs.Lines.{hex_digit as digit_of, hex_digits, text_of};
+ghost use Rattle.debug_model.specs.Lines.Line.{Idcode};
+
+use arrayvec::ArrayVec;
+
+/// The most bytes of a line.
+const LINE_MOST: usize = 64;
+
+/// The text of one line.
+pub type LineText = ArrayVec<u8, LINE_MOST>;
+
+/// The digits of a number of 32 bits.
+const WORD_DIGITS: u8 = 8;
+
+/// One hexadecimal digit, lower case.
+fn hex_digit(value: u8) -> u8
+    requires { value < 16 }
+    ensures { result ≡ digit_of value }
+{
+    if value < 10 {
+        b'0' + value
+    } else {
+        b'a' + (value - 10)
+    }
+}
+
+/// Appends the lowest so many hexadecimal digits of a number, the highest first.
+fn push_hex(text: &mut LineText, count: u8, number: u64)
+    requires { array_vec_len text.old + count ≤ 64 }
+    ensures digits { text.new.items ≡ text.old.items ++ hex_digits count number }
+    ensures room { array_vec_len text.new ≡ array_vec_len text.old + count }
+{
+    if count == 0 {
+        return;
+    }
+    push_hex(text, count - 1, number / 16);
+    text.push(hex_digit((number % 16) as u8));
+}
+
+/// Appends a word.
+fn push_word(text: &mut LineText, word: &[u8])
+    requires { array_vec_len text.old + length word.now ≤ 64 }
+    ensures word { text.new.items ≡ text.old.items ++ word.now }
+    ensures room { array_vec_len text.new ≡ array_vec_len text.old + length word.now }
+{
+    let mut rest = word;
+    'bytes: while let [byte, after @ ..] = rest {
+        text.push(*byte);
+        rest = after;
+    }
+}
+
+/// The line of the command `idcode`.
+pub fn idcode_line(number: u32) -> LineText
+    ensures { result.items ≡ text_of (Idcode number) }
+{
+    let mut text = LineText::new();
+    push_word(&mut text, b"idcode 0x");
+    push_hex(&mut text, WORD_DIGITS, u64::from(number));
+    text.push(b'\n');
+    text
+}
