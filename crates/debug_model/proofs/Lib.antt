@@ -1,1 +1,4 @@
+pub mod Cuts
 pub mod RegisterLemmas
+pub mod ScanExamples
+pub mod TapLaws

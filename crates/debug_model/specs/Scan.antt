@@ -92,6 +92,19 @@ pub record WasReset (c : Chip) (new : Option Far) : Type 0 where
   pub fed : chip ≡ feed c reset_bytes
   pub selected : chip.port.selected ≡ Idcode
 
+-- a front of these bytes was fed to a chip, and no more. Which of its answers are unread then is left open.
+pub record TookFront (bytes : List ℕ) (c : Chip) (new : Option Far) : Type 0 where
+  pub front : List ℕ
+  pub back : List ℕ
+  pub unread : List ℕ
+  pub cut : bytes ≡ front ++ back
+  pub is : new ≡ Some (record { chip = feed c front; unread = unread })
+
+-- what a fault leaves behind: a told chip has taken a front of these bytes
+abbrev pub FedFront : List ℕ → Option Far → Option Far → Type 0
+FedFront bytes None new = new ≡ None
+FedFront bytes (Some f) new = TookFront bytes f.chip new
+
 -- why a scan failed: a rise of the count, or an answer byte that is neither 0 nor 1, which no told chip gives
 abbrev pub CauseOf : Option Far → ℕ → ℕ → WireFault → Type 0
 CauseOf told old new SendFailed = Rises old new
