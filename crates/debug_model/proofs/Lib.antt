@@ -2,3 +2,4 @@ pub mod Cuts
 pub mod RegisterLemmas
 pub mod ScanExamples
 pub mod TapLaws
+pub mod Transcripts
