@@ -1,1 +1,4 @@
 pub mod FieldLemmas
+pub mod FormatLemmas
+pub mod MeaningRows
+pub mod WordsAgree

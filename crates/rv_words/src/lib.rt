@@ -6,6 +6,7 @@ mod code;
 mod decoder;
 mod encoder;
 mod fields;
+pub mod laws;
 mod mask;
 mod opcode;
 

@@ -1,0 +1,36 @@
+//! What `decode` and `encode` are to each other, as laws: nothing calls these functions, and what they ensure is the law.
+
+ghost use Rattle.std.specs.Prelude.{◌≡◌, ◌↔◌, IsNone, IfSome, bit_and};
+ghost use Rattle.rv_model.specs.Rows.{meaning};
+ghost use Rattle.rv_model.specs.OperandsFit.{OperandsFit};
+ghost use Rattle.rv_words.specs.KeptBits.{kept_bits};
+
+use crate::{decode, encode};
+use rv_model::Insn;
+
+/// An instruction is read back from its word.
+pub fn decode_undoes_encode(insn: Insn) -> Option<Insn>
+    requires { OperandsFit insn }
+    ensures { result ≡ Some insn }
+{
+    decode(encode(insn))
+}
+
+/// Words that mean the same instruction differ at most in the bits that it leaves free.
+pub fn words_of_one_instruction_agree(left: u32, right: u32, insn: Insn)
+    requires left { meaning left ≡ Some insn }
+    requires right { meaning right ≡ Some insn }
+    ensures { bit_and left (kept_bits insn) ≡ bit_and right (kept_bits insn) }
+{}
+
+/// A word that means an instruction is written back but for the bits that the instruction leaves free; another word gives `None`.
+pub fn encode_undoes_decode(word: u32) -> Option<u32>
+    ensures none { IsNone result ↔ (meaning word ≡ None) }
+    ensures same { IfSome result (λ again. meaning again ≡ meaning word) }
+    ensures kept { IfSome (meaning word) (λ insn. IfSome result (λ again. bit_and again (kept_bits insn) ≡ bit_and word (kept_bits insn))) }
+{
+    let insn = decode(word)?;
+    let again = encode(insn);
+    words_of_one_instruction_agree(again, word, insn);
+    Some(again)
+}
