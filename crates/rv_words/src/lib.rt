@@ -9,6 +9,8 @@ mod fields;
 pub mod laws;
 mod mask;
 mod opcode;
+#[cfg(test)]
+mod tests;
 
 pub use decoder::decode;
 pub use encoder::encode;
