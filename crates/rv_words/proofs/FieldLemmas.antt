@@ -1,5 +1,5 @@
 -- The bits of a word that a field has and that a mask keeps, over any place and width, and what the table's masks keep.
-use Rattle.std.proofs.Common.{◌≡◌, ℕ, ◌+◌, ◌-◌, ◌*◌, ◌/◌, ◌%◌, ◌^◌, ◌<◌, bit_and, sym, ap, ◌∙◌, zero-mul, zero-add, lit<}
+use Rattle.std.proofs.Common.{◌≡◌, ℕ, ◌+◌, ◌-◌, ◌*◌, ◌/◌, ◌%◌, ◌^◌, ◌<◌, bit_and, sym, ap, ◌∙◌, zero-mul, zero-add, lit<, arith}
 use Rattle.std.proofs.lemmas.Nat.{and_block, and_mask, shr_split, one_shl, mod_below, pow_pos}
 use Rattle.std.specs.Int.Bits.{and_zero_r}
 
@@ -45,3 +45,11 @@ and_funct5 w = and_run w 27 5 0x707f (lit< tt)
 
 pub and_funct5_rs2 : (w : ℕ) → bit_and w 0xf9f0707f ≡ w / 2 ^ 27 % 2 ^ 5 * 2 ^ 27 + (w / 2 ^ 20 % 2 ^ 5 * 2 ^ 20 + bit_and w 0x707f)
 and_funct5_rs2 w = and_run w 27 5 0x1f0707f (lit< tt) ∙ ap (λ k. w / 2 ^ 27 % 2 ^ 5 * 2 ^ 27 + k) (and_run w 20 5 0x707f (lit< tt))
+
+-- ---- the bits that an instruction's row and operands take up
+
+pub and_all_but_ordering : (w : ℕ) → bit_and w 0xf9ffffff ≡ w / 2 ^ 27 % 2 ^ 5 * 2 ^ 27 + w % 2 ^ 25
+and_all_but_ordering w = and_run w 27 5 0x1ffffff (lit< tt) ∙ ap (λ k. w / 2 ^ 27 % 2 ^ 5 * 2 ^ 27 + k) (and_mask w 25)
+
+pub and_word : (w : ℕ) → w < 2 ^ 32 → bit_and w 0xffffffff ≡ w
+and_word w fits = omega (arith, and_mask w 32)

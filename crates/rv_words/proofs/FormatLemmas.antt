@@ -1,5 +1,5 @@
 -- A code and operands leave no choice of the word, format by format, but for the bits aq and rl of atomics.
-use Rattle.std.proofs.Common.{◌≡◌, ℕ, ◌+◌, ◌-◌, ◌*◌, ◌/◌, ◌%◌, ◌^◌, ◌<◌, ◌≤◌, if◌then◌else◌, nat_lt, bit_and, lit<, sym, ap, ◌∙◌, arith}
+use Rattle.std.proofs.Common.{◌≡◌, ℕ, ◌+◌, ◌-◌, ◌*◌, ◌/◌, ◌%◌, ◌^◌, ◌<◌, ◌≤◌, if◌then◌else◌, nat_lt, bit_and, sym, ap, ◌∙◌, arith}
 use Rattle.std.proofs.lemmas.Bool.Decides.{nat_tests}
 use Rattle.rv_model.specs.declared.operands.RType.{RType}
 use Rattle.rv_model.specs.declared.operands.IType.{IType}
@@ -14,7 +14,7 @@ use Rattle.rv_model.specs.declared.operands.CsrImmType.{CsrImmType}
 use Rattle.rv_model.specs.Fields.{field}
 use Rattle.rv_model.specs.Operands.{r_type, i_type, s_type, b_type, u_type, j_type, shift_type, shift_word_type, load_reserved_type, csr_type, csr_imm_type}
 use Rattle.rv_model.specs.Means.{Matches}
-use Rattle.rv_words.proofs.FieldLemmas.{and_funct3, and_funct5, and_funct5_rs2, and_funct6, and_funct7, and_run}
+use Rattle.rv_words.proofs.FieldLemmas.{and_funct3, and_funct5, and_funct5_rs2, and_funct6, and_funct7, and_all_but_ordering}
 use Rattle.std.proofs.lemmas.Nat.{and_mask}
 
 -- sign extension loses nothing
@@ -101,9 +101,6 @@ same_csr_imm v w code p v_fits w_fits m n =
     same_fields v w v_fits w_fits (m.code_is ∙ sym n.code_is) (ap (λ (q : CsrImmType). q.rd) same) (ap (λ (q : CsrImmType). q.imm) same) (omega arith)
 
 -- ---- atomics: bits 26 and 25 do not count
-
-and_all_but_ordering : (w : ℕ) → bit_and w 0xf9ffffff ≡ w / 2 ^ 27 % 2 ^ 5 * 2 ^ 27 + w % 2 ^ 25
-and_all_but_ordering w = and_run w 27 5 0x1ffffff (lit< tt) ∙ ap (λ k. w / 2 ^ 27 % 2 ^ 5 * 2 ^ 27 + k) (and_mask w 25)
 
 same_but_ordering : (v w : ℕ) → bit_and v 0x707f ≡ bit_and w 0x707f → field 7 5 v ≡ field 7 5 w → field 15 5 v ≡ field 15 5 w → field 20 5 v ≡ field 20 5 w → field 27 5 v ≡ field 27 5 w → bit_and v 0xf9ffffff ≡ bit_and w 0xf9ffffff
 same_but_ordering v w code rd rs1 rs2 upper =

@@ -12,7 +12,8 @@ mod register;
 mod system;
 
 use crate::fields::{j_operands, u_operands};
-use crate::{mask, opcode};
+use crate::mask::OPCODE_MASK;
+use crate::opcode;
 use rv_model::Insn;
 
 /// The instruction that a word means, or `None` where the table has none: the word is an illegal instruction.
@@ -20,7 +21,7 @@ pub fn decode(word: u32) -> Option<Insn>
     ensures is { result ≡ meaning word }
     ensures fit { IfSome result OperandsFit }
 {
-    match word & mask::OPCODE {
+    match word & OPCODE_MASK {
         opcode::LOAD => memory::load(word),
         opcode::MISC_MEM => system::fence(word),
         opcode::OP_IMM => immediate::immediate(word),

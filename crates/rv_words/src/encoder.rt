@@ -1,9 +1,10 @@
 //! From an instruction to its word, by its format.
 
-ghost use Rattle.std.specs.Prelude.{◌≡◌, Some};
+ghost use Rattle.std.specs.Prelude.{◌≡◌, Some, bit_and};
 ghost use Rattle.rv_model.specs.Rows.{meaning};
 ghost use Rattle.rv_model.specs.Means.{Means};
 ghost use Rattle.rv_model.specs.OperandsFit.{OperandsFit};
+ghost use Rattle.rv_words.specs.KeptBits.{kept_bits};
 
 mod formats;
 
@@ -19,15 +20,18 @@ use rv_model::Insn;
 #[tactic(auto, using(rv_model::proofs::RowMeanings::meaning_from_row))]
 pub fn encode(insn: Insn) -> u32
     requires { OperandsFit insn }
-    ensures { meaning result ≡ Some insn }
+    ensures means { meaning result ≡ Some insn }
+    ensures plain { bit_and result (kept_bits insn) ≡ result }
 {
     word_of(insn)
 }
 
 /// The same, by the instruction's own row.
+#[tactic(auto, using(crate::proofs::FieldLemmas::and_word))]
 fn word_of(insn: Insn) -> u32
     requires { OperandsFit insn }
-    ensures { Means result insn }
+    ensures means { Means result insn }
+    ensures plain { bit_and result (kept_bits insn) ≡ result }
 {
     match insn {
         Insn::Lui(p) => u_word(code::LUI, p),

@@ -1,6 +1,6 @@
 //! What `decode` and `encode` are to each other, as laws: nothing calls these functions, and what they ensure is the law.
 
-ghost use Rattle.std.specs.Prelude.{◌≡◌, ◌↔◌, IsNone, IfSome, bit_and};
+ghost use Rattle.std.specs.Prelude.{◌≡◌, option_map, bit_and};
 ghost use Rattle.rv_model.specs.Rows.{meaning};
 ghost use Rattle.rv_model.specs.OperandsFit.{OperandsFit};
 ghost use Rattle.rv_words.specs.KeptBits.{kept_bits};
@@ -23,11 +23,9 @@ pub fn words_of_one_instruction_agree(left: u32, right: u32, insn: Insn)
     ensures { bit_and left (kept_bits insn) ≡ bit_and right (kept_bits insn) }
 {}
 
-/// A word that means an instruction is written back but for the bits that the instruction leaves free; another word gives `None`.
+/// A word that means an instruction is written back without the bits that the instruction leaves free.
 pub fn encode_undoes_decode(word: u32) -> Option<u32>
-    ensures none { IsNone result ↔ (meaning word ≡ None) }
-    ensures same { IfSome result (λ again. meaning again ≡ meaning word) }
-    ensures kept { IfSome (meaning word) (λ insn. IfSome result (λ again. bit_and again (kept_bits insn) ≡ bit_and word (kept_bits insn))) }
+    ensures { result ≡ option_map (λ insn. bit_and word (kept_bits insn)) (meaning word) }
 {
     let insn = decode(word)?;
     let again = encode(insn);

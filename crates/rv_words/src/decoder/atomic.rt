@@ -5,8 +5,9 @@ ghost use Rattle.rv_model.specs.Rows.{meaning_in, atomic_rows};
 ghost use Rattle.rv_words.specs.RowsByMask.{rows_by_mask};
 ghost use Rattle.rv_model.specs.OperandsFit.{OperandsFit};
 
+use crate::code;
 use crate::fields::{load_reserved_operands, r_operands};
-use crate::{code, mask};
+use crate::mask::{FUNCT5_MASK, FUNCT5_RS2_MASK};
 use rv_model::Insn;
 
 /// Opcode AMO, by funct3 and bits 31:27; in `lr` rs2 is 0.
@@ -14,7 +15,7 @@ pub fn atomic(word: u32) -> Option<Insn>
     ensures is { result ≡ meaning_in atomic_rows word }
     ensures fit { IfSome result OperandsFit }
 {
-    match word & mask::FUNCT5_RS2 {
+    match word & FUNCT5_RS2_MASK {
         code::LR_W => Some(Insn::LrW(load_reserved_operands(word))),
         code::LR_D => Some(Insn::LrD(load_reserved_operands(word))),
         _ => store_or_operation(word),
@@ -23,10 +24,10 @@ pub fn atomic(word: u32) -> Option<Insn>
 
 /// All but `lr`, by funct3 and bits 31:27.
 fn store_or_operation(word: u32) -> Option<Insn>
-    ensures is { result ≡ meaning_in (rows_by_mask 0xf800707f atomic_rows) word }
+    ensures is { result ≡ meaning_in (rows_by_mask FUNCT5_MASK atomic_rows) word }
     ensures fit { IfSome result OperandsFit }
 {
-    match word & mask::FUNCT5 {
+    match word & FUNCT5_MASK {
         code::SC_W => Some(Insn::ScW(r_operands(word))),
         code::AMOSWAP_W => Some(Insn::AmoswapW(r_operands(word))),
         code::AMOADD_W => Some(Insn::AmoaddW(r_operands(word))),

@@ -4,8 +4,9 @@ ghost use Rattle.std.specs.Prelude.{◌≡◌, IfSome};
 ghost use Rattle.rv_model.specs.Rows.{meaning_in, load_rows, store_rows};
 ghost use Rattle.rv_model.specs.OperandsFit.{OperandsFit};
 
+use crate::code;
 use crate::fields::{i_operands, s_operands};
-use crate::{code, mask};
+use crate::mask::FUNCT3_MASK;
 use rv_model::Insn;
 
 /// Opcode LOAD, by funct3.
@@ -13,7 +14,7 @@ pub fn load(word: u32) -> Option<Insn>
     ensures is { result ≡ meaning_in load_rows word }
     ensures fit { IfSome result OperandsFit }
 {
-    match word & mask::FUNCT3 {
+    match word & FUNCT3_MASK {
         code::LB => Some(Insn::Lb(i_operands(word))),
         code::LH => Some(Insn::Lh(i_operands(word))),
         code::LW => Some(Insn::Lw(i_operands(word))),
@@ -30,7 +31,7 @@ pub fn store(word: u32) -> Option<Insn>
     ensures is { result ≡ meaning_in store_rows word }
     ensures fit { IfSome result OperandsFit }
 {
-    match word & mask::FUNCT3 {
+    match word & FUNCT3_MASK {
         code::SB => Some(Insn::Sb(s_operands(word))),
         code::SH => Some(Insn::Sh(s_operands(word))),
         code::SW => Some(Insn::Sw(s_operands(word))),

@@ -4,8 +4,9 @@ ghost use Rattle.std.specs.Prelude.{◌≡◌, IfSome};
 ghost use Rattle.rv_model.specs.Rows.{meaning_in, register_rows, register_word_rows};
 ghost use Rattle.rv_model.specs.OperandsFit.{OperandsFit};
 
+use crate::code;
 use crate::fields::r_operands;
-use crate::{code, mask};
+use crate::mask::FUNCT7_MASK;
 use rv_model::Insn;
 
 /// Opcode OP, by funct3 and funct7.
@@ -13,7 +14,7 @@ pub fn register(word: u32) -> Option<Insn>
     ensures is { result ≡ meaning_in register_rows word }
     ensures fit { IfSome result OperandsFit }
 {
-    match word & mask::FUNCT7 {
+    match word & FUNCT7_MASK {
         code::ADD => Some(Insn::Add(r_operands(word))),
         code::SLL => Some(Insn::Sll(r_operands(word))),
         code::SLT => Some(Insn::Slt(r_operands(word))),
@@ -41,7 +42,7 @@ pub fn register_word(word: u32) -> Option<Insn>
     ensures is { result ≡ meaning_in register_word_rows word }
     ensures fit { IfSome result OperandsFit }
 {
-    match word & mask::FUNCT7 {
+    match word & FUNCT7_MASK {
         code::ADDW => Some(Insn::Addw(r_operands(word))),
         code::SLLW => Some(Insn::Sllw(r_operands(word))),
         code::SRLW => Some(Insn::Srlw(r_operands(word))),

@@ -6,8 +6,9 @@ ghost use Rattle.rv_model.specs.Rows.{meaning_in, fence_rows, system_rows};
 ghost use Rattle.rv_words.specs.RowsByMask.{rows_by_mask};
 ghost use Rattle.rv_model.specs.OperandsFit.{OperandsFit};
 
+use crate::code;
 use crate::fields::{csr_imm_operands, csr_operands};
-use crate::{code, mask};
+use crate::mask::FUNCT3_MASK;
 use rv_model::Insn;
 
 /// Opcode MISC-MEM, by funct3.
@@ -15,7 +16,7 @@ pub fn fence(word: u32) -> Option<Insn>
     ensures is { result ≡ meaning_in fence_rows word }
     ensures fit { IfSome result OperandsFit }
 {
-    match word & mask::FUNCT3 {
+    match word & FUNCT3_MASK {
         code::FENCE => Some(Insn::Fence),
         code::FENCE_I => Some(Insn::FenceI),
         _ => None,
@@ -27,7 +28,7 @@ pub fn system(word: u32) -> Option<Insn>
     ensures is { result ≡ meaning_in system_rows word }
     ensures fit { IfSome result OperandsFit }
 {
-    match word & mask::FUNCT3 {
+    match word & FUNCT3_MASK {
         code::CSRRW => Some(Insn::Csrrw(csr_operands(word))),
         code::CSRRS => Some(Insn::Csrrs(csr_operands(word))),
         code::CSRRC => Some(Insn::Csrrc(csr_operands(word))),
@@ -40,7 +41,7 @@ pub fn system(word: u32) -> Option<Insn>
 
 /// Instructions without operands, by the whole word.
 fn privileged(word: u32) -> Option<Insn>
-    ensures is { result ≡ meaning_in (rows_by_mask 0xffffffff system_rows) word }
+    ensures is { result ≡ meaning_in (rows_by_mask u32.MAX system_rows) word }
     ensures fit { IfSome result OperandsFit }
 {
     match word {
