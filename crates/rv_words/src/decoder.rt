@@ -16,7 +16,8 @@ use crate::mask::OPCODE_MASK;
 use crate::opcode;
 use rv_model::Insn;
 
-/// The instruction that a word means, or `None` where the table has none: the word is an illegal instruction.
+/// The instruction that a word means (unprivileged manual, "RV32/64G Instruction Set Listings"; privileged manual,
+/// "Machine-Mode Privileged Instructions"), or `None` where no row matches: the word is an illegal instruction.
 pub fn decode(word: u32) -> Option<Insn>
     ensures is { result ≡ meaning word }
     ensures fit { IfSome result OperandsFit }
