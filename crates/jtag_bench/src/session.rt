@@ -63,6 +63,33 @@ fn act<S: Scan, K: Sink>(scan: &mut S, command: &Command, out: &mut K) -> Result
     }
 }
 
+/// Does the commands of a script up to `end`, and puts a line for each.
+fn run_commands<S: Scan, K: Sink>(
+    scan: &mut S,
+    script: &[Command],
+    out: &mut K,
+) -> Result<(), Failure>
+    requires built { IsTrue (list_all is_built script.now) }
+    requires live { IsLive (S.far scan.old) }
+    requires read { IsRead (S.far scan.old) }
+    requires free { IsFree (S.far scan.old) }
+    ensures ran { OnOk result (IfSome (S.far scan.old) (λ f. Ran script.now f.chip (S.far scan.new) (K.contents out.old) (K.contents out.new))) }
+    ensures wrote { OnErr result (IfSome (S.far scan.old) (λ _. GrewByPrefix (text_of_all (transcript script.now []).world.lines) (K.contents out.old) (K.contents out.new))) }
+    ensures quit { OnOk result (CanQuit (S.far scan.new)) }
+    ensures quit_after { IfErr result (λ failure. CanQuitAfter failure (S.far scan.new)) }
+    ensures fails { IfErr result (FailureCause (S.far scan.old) (S.fault_count scan.old) (S.fault_count scan.new) (K.fault_count out.old) (K.fault_count out.new)) }
+    ensures lenders { S.lenders scan.new ≡ S.lenders scan.old }
+{
+    let mut rest = script;
+    'commands: while let [command, after @ ..] = rest {
+        match act(scan, command, out)? {
+            Acted::Done => rest = after,
+            Acted::Ended => return Ok(()),
+        }
+    }
+    Ok(())
+}
+
 /// Runs the commands of a script up to `end` over any wire, and puts a line for each.
 ///
 /// The commands are all built, nothing has ended the chip, no answer is unread and TRST is 0.
@@ -83,12 +110,5 @@ pub fn session<W: Wire, K: Sink>(
     ensures lenders { W.lenders wire.new ≡ W.lenders wire.old }
 {
     let mut scan = Scanner::new(wire);
-    let mut rest = script;
-    'commands: while let [command, after @ ..] = rest {
-        match act(&mut scan, command, out)? {
-            Acted::Done => rest = after,
-            Acted::Ended => return Ok(()),
-        }
-    }
-    Ok(())
+    run_commands(&mut scan, script, out)
 }
