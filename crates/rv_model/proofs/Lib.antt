@@ -1,4 +1,5 @@
 pub mod AluCorners
+pub mod BoardLemmas
 pub mod ExampleLemmas
 pub mod EffectsKeep
 pub mod KeptLemmas

@@ -7,7 +7,7 @@ use Rattle.rv_model.specs.declared.mem_fault.MemFault.TheVariants.{Misaligned, O
 use Rattle.rv_model.specs.declared.size.Size.{Size}
 use Rattle.rv_model.specs.Size.{count_of}
 use Rattle.rv_model.specs.Memory.{Memory, value_at, with_value, is_aligned, is_inside, or_outside, loaded, store_answer, after_store, touches, kept, cleared, reserve, dropped, place_covers, covers}
-use Rattle.rv_model.specs.Laws.{answered, KeptOrCleared}
+use Rattle.rv_model.specs.Laws.{answered, KeptOrCleared, RefusedStoresKeepMemory}
 use Rattle.rv_model.proofs.MapLemmas.{slice_get-set_same, slice_get-set_other}
 
 -- ---- stores
@@ -91,3 +91,6 @@ pub others_at : (old new : List (Option ℕ)) (h j : ℕ) (o : Option ℕ) → (
 others_at old new h j o other so_far =
     let P : Option (Option ℕ) → Type 0 = λ r. KeptOrCleared (slice_get old j) r in
     subst P (sym (slice_get-set_other new h j o other)) so_far
+
+pub refused_stores_keep_memory : RefusedStoresKeepMemory
+refused_stores_keep_memory m a size v = record { as_load = store_answer_is m a size; same = λ fault is. after_store_refused m a size v fault is }

@@ -5,6 +5,7 @@ mod alu_op;
 mod cause;
 mod did;
 mod insn;
+mod laws;
 mod mem_fault;
 mod operands;
 mod scan;
@@ -18,6 +19,10 @@ pub use alu_op::AluOp;
 pub use cause::Cause;
 pub use did::Did;
 pub use insn::Insn;
+pub use laws::{
+    execution_forgets_debugging, execution_keeps, execution_leaves_others,
+    refused_stores_keep_memory, rows_are_apart,
+};
 pub use mem_fault::MemFault;
 pub use operands::{
     BType, CsrImmType, CsrType, IType, JType, LoadReservedType, RType, SType, ShiftType, UType,
