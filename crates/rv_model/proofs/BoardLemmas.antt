@@ -37,7 +37,7 @@ execution_keeps c m = fetched_keeps (loaded m c.pc B4) c m
 execute_by_leaves : (o : Option Core) (h : ℕ) (b : Machine) → LeavesOthers h b (execute_by o h b)
 execute_by_leaves (Some c) h b = record {
   count = length-set b.cores h (exec_of c b.memory).step.core;
-  others = λ j other. slice_get-set_other b.cores h j (exec_of c b.memory).step.core other
+  others = λ j other. slice_get-set_other b.cores h j (exec_of c b.memory).step.core other;
 }
 execute_by_leaves None h b = record { count = refl; others = λ j other. refl }
 
@@ -62,7 +62,7 @@ cores-set hs h hart = map-set (λ (x : Hart). x.core) hs h hart
 forget_by : (o : Option Hart) (h : ℕ) (b : Board) → machine_of (execute_on_by o h b) ≡ execute_by (option_map (λ (x : Hart). x.core) o) h (machine_of b)
 forget_by (Some hart) h b =
     ap (λ cs. record { cores = cs; memory = (exec_of hart.core b.memory).memory })
-      (cores-set b.harts h (record hart { core = (exec_of hart.core b.memory).step.core }))
+    (cores-set b.harts h (record hart { core = (exec_of hart.core b.memory).step.core }))
 forget_by None h b = refl
 
 pub execution_forgets_debugging : ExecutionForgetsDebugging

@@ -31,7 +31,7 @@ with_x_by true c r v other = same_core c
 with_x_by false c r v other = record {
   same_id = refl;
   x0 = get_or-set_other c.x r 0 v 0 (λ e. other refl (sym e));
-  is_core = λ h. record { registers = length-set c.x r v ∙ h.registers; pc_aligned = h.pc_aligned; mtvec_aligned = h.mtvec_aligned; mepc_aligned = h.mepc_aligned; mpp_fixed = h.mpp_fixed }
+  is_core = λ h. record { registers = length-set c.x r v ∙ h.registers; pc_aligned = h.pc_aligned; mtvec_aligned = h.mtvec_aligned; mepc_aligned = h.mepc_aligned; mpp_fixed = h.mpp_fixed };
 }
 
 with_x_keeps : (c : Core) (r v : ℕ) → KeepsCore c (with_x c r v)
@@ -41,7 +41,7 @@ at_pc : (c : Core) (target : ℕ) → (IsCore c → target % 4 ≡ 0) → KeepsC
 at_pc c target fits = record {
   same_id = refl;
   x0 = refl;
-  is_core = λ h. record { registers = h.registers; pc_aligned = fits h; mtvec_aligned = h.mtvec_aligned; mepc_aligned = h.mepc_aligned; mpp_fixed = h.mpp_fixed }
+  is_core = λ h. record { registers = h.registers; pc_aligned = fits h; mtvec_aligned = h.mtvec_aligned; mepc_aligned = h.mepc_aligned; mpp_fixed = h.mpp_fixed };
 }
 
 next_aligned : (pc : ℕ) → pc % 4 ≡ 0 → (pc + 4) % 2 ^ 64 % 4 ≡ 0
@@ -74,20 +74,20 @@ pub traps_keeps : (cause value : ℕ) (c : Core) → KeepsCore c (traps cause va
 traps_keeps cause value c = record {
   same_id = refl;
   x0 = refl;
-  is_core = λ h. record { registers = h.registers; pc_aligned = h.mtvec_aligned; mtvec_aligned = h.mtvec_aligned; mepc_aligned = h.pc_aligned; mpp_fixed = mstatus_form 0 (mie_of c) (omega arith) (mie_below c) }
+  is_core = λ h. record { registers = h.registers; pc_aligned = h.mtvec_aligned; mtvec_aligned = h.mtvec_aligned; mepc_aligned = h.pc_aligned; mpp_fixed = mstatus_form 0 (mie_of c) (omega arith) (mie_below c) };
 }
 
 pub trap_left_keeps : (c : Core) → KeepsCore c (retires (trap_left c)).core
 trap_left_keeps c = record {
   same_id = refl;
   x0 = refl;
-  is_core = λ h. record { registers = h.registers; pc_aligned = h.mepc_aligned; mtvec_aligned = h.mtvec_aligned; mepc_aligned = h.mepc_aligned; mpp_fixed = mstatus_form (mpie_of c) 1 (mpie_below c) (omega arith) }
+  is_core = λ h. record { registers = h.registers; pc_aligned = h.mepc_aligned; mtvec_aligned = h.mtvec_aligned; mepc_aligned = h.mepc_aligned; mpp_fixed = mstatus_form (mpie_of c) 1 (mpie_below c) (omega arith) };
 }
 
 -- ---- jumps
 
 jumps_by : (b : Bool) (rd target : ℕ) (c : Core) → (b ≡ true → target % 4 ≡ 0)
-  → KeepsCore c (cond b (retires (record (with_x c rd (next_pc c)) { pc = target })) (traps 0 target c)).core
+    → KeepsCore c (cond b (retires (record (with_x c rd (next_pc c)) { pc = target })) (traps 0 target c)).core
 jumps_by true rd target c fits = kept_twice c (with_x c rd (next_pc c)) _ (with_x_keeps c rd (next_pc c)) (at_pc (with_x c rd (next_pc c)) target (λ _. fits refl))
 jumps_by false rd target c fits = traps_keeps 0 target c
 
@@ -105,7 +105,7 @@ AllKeep [] = Unit {0}
 AllKeep (r ∷ rs) = ((c : Core) (v : ℕ) → KeepsCore c (r.write (kept_of r v) c)) × AllKeep rs
 
 written_first : (b : Bool) (r : Register) (o : Option Register) (v : ℕ) (c : Core)
-  → KeepsCore c (r.write (kept_of r v) c) → KeepsCore c (written_at o v c) → KeepsCore c (written_at (cond b (Some r) o) v c)
+    → KeepsCore c (r.write (kept_of r v) c) → KeepsCore c (written_at o v c) → KeepsCore c (written_at (cond b (Some r) o) v c)
 written_first true r o v c here rest = here
 written_first false r o v c here rest = rest
 
@@ -146,21 +146,21 @@ mstatus_keeps : (c : Core) (v : ℕ) → KeepsCore c (record c { mstatus = 0x180
 mstatus_keeps c v = record {
   same_id = refl;
   x0 = refl;
-  is_core = λ h. record { registers = h.registers; pc_aligned = h.pc_aligned; mtvec_aligned = h.mtvec_aligned; mepc_aligned = h.mepc_aligned; mpp_fixed = kept_mstatus v (0x1800 + bit_and v mstatus_bits) refl }
+  is_core = λ h. record { registers = h.registers; pc_aligned = h.pc_aligned; mtvec_aligned = h.mtvec_aligned; mepc_aligned = h.mepc_aligned; mpp_fixed = kept_mstatus v (0x1800 + bit_and v mstatus_bits) refl };
 }
 
 mtvec_keeps : (c : Core) (v : ℕ) → KeepsCore c (record c { mtvec = 0 + bit_and v address_bits })
 mtvec_keeps c v = record {
   same_id = refl;
   x0 = refl;
-  is_core = λ h. record { registers = h.registers; pc_aligned = h.pc_aligned; mtvec_aligned = aligned_bits v; mepc_aligned = h.mepc_aligned; mpp_fixed = h.mpp_fixed }
+  is_core = λ h. record { registers = h.registers; pc_aligned = h.pc_aligned; mtvec_aligned = aligned_bits v; mepc_aligned = h.mepc_aligned; mpp_fixed = h.mpp_fixed };
 }
 
 mepc_keeps : (c : Core) (v : ℕ) → KeepsCore c (record c { mepc = 0 + bit_and v address_bits })
 mepc_keeps c v = record {
   same_id = refl;
   x0 = refl;
-  is_core = λ h. record { registers = h.registers; pc_aligned = h.pc_aligned; mtvec_aligned = h.mtvec_aligned; mepc_aligned = aligned_bits v; mpp_fixed = h.mpp_fixed }
+  is_core = λ h. record { registers = h.registers; pc_aligned = h.pc_aligned; mtvec_aligned = h.mtvec_aligned; mepc_aligned = aligned_bits v; mpp_fixed = h.mpp_fixed };
 }
 
 -- a register of which nothing else is known
@@ -173,26 +173,51 @@ free_keeps c d i x pc mtvec mepc mstatus = record {
     pc_aligned = ap (λ n. n % 4) pc ∙ h.pc_aligned;
     mtvec_aligned = ap (λ n. n % 4) mtvec ∙ h.mtvec_aligned;
     mepc_aligned = ap (λ n. n % 4) mepc ∙ h.mepc_aligned;
-    mpp_fixed = ap (λ n. mstatus_with (field 3 1 n) (field 7 1 n)) mstatus ∙ h.mpp_fixed ∙ sym mstatus
-  }
+    mpp_fixed = ap (λ n. mstatus_with (field 3 1 n) (field 7 1 n)) mstatus ∙ h.mpp_fixed ∙ sym mstatus;
+  };
 }
 
 registers_keep : AllKeep registers
 registers_keep = (
   mstatus_keeps,
-  (λ c v. same_core c,
-  (λ c v. same_core c,
-  (mtvec_keeps,
-  (λ c v. free_keeps c _ refl refl refl refl refl refl,
-  (mepc_keeps,
-  (λ c v. free_keeps c _ refl refl refl refl refl refl,
-  (λ c v. free_keeps c _ refl refl refl refl refl refl,
-  (λ c v. same_core c,
-  (λ c v. same_core c,
-  (λ c v. same_core c,
-  (λ c v. same_core c,
-  (λ c v. same_core c,
-  tt)))))))))))))
+  (
+    λ c v. same_core c,
+    (
+      λ c v. same_core c,
+      (
+        mtvec_keeps,
+        (
+          λ c v. free_keeps c _ refl refl refl refl refl refl,
+          (
+            mepc_keeps,
+            (
+              λ c v. free_keeps c _ refl refl refl refl refl refl,
+              (
+                λ c v. free_keeps c _ refl refl refl refl refl refl,
+                (
+                  λ c v. same_core c,
+                  (
+                    λ c v. same_core c,
+                    (
+                      λ c v. same_core c,
+                      (
+                        λ c v. same_core c,
+                        (
+                          λ c v. same_core c,
+                          tt,
+                        ),
+                      ),
+                    ),
+                  ),
+                ),
+              ),
+            ),
+          ),
+        ),
+      ),
+    ),
+  ),
+)
 
 pub csr_written_keeps : (c : Core) (number v : ℕ) → KeepsCore c (csr_written c number v)
 unfolding csr_written
@@ -231,7 +256,7 @@ stored_step_keeps (Ok u) a c = goes_on_keeps c
 stored_step_keeps (Err fault) a c = traps_keeps (store_cause fault) a c
 
 store_trapped : (r : Result ⊤ MemFault) (a : ℕ) (size : Size) (v : ℕ) (c : Core) (m : Memory) (cause : ℕ)
-  → store_answer m a size ≡ r → (stored_step r a c).did ≡ Trapped cause → after_store m a size v ≡ m
+    → store_answer m a size ≡ r → (stored_step r a c).did ≡ Trapped cause → after_store m a size v ≡ m
 store_trapped (Ok u) a size v c m cause is e = absurd (retired_is_not cause e)
 store_trapped (Err fault) a size v c m cause is e = after_store_refused m a size v fault is
 
@@ -239,7 +264,7 @@ pub stores_keeps : (a : ℕ) (size : Size) (v : ℕ) (c : Core) (m : Memory) →
 stores_keeps a size v c m = record {
   core = stored_step_keeps (store_answer m a size) a c;
   others = λ j other. after_store_others m a size v j;
-  trapped = λ cause e. store_trapped (store_answer m a size) a size v c m cause refl e
+  trapped = λ cause e. store_trapped (store_answer m a size) a size v c m cause refl e;
 }
 
 reserve_others : (r : Result ℕ MemFault) (a : ℕ) (c : Core) (m : Memory) (j : ℕ) → (j ≡ c.id → ⊥) → KeptOrCleared (slice_get m.reserved j) (slice_get (after_reserve r a c m).reserved j)
@@ -254,7 +279,7 @@ pub reserves_keeps : (a : ℕ) (size : Size) (extend : ℕ → ℕ) (rd : ℕ) (
 reserves_keeps a size extend rd c m = record {
   core = after_load_keeps (loaded m a size) extend rd a c;
   others = λ j other. reserve_others (loaded m a size) a c m j other;
-  trapped = λ cause e. reserve_trapped (loaded m a size) extend rd a c m cause e
+  trapped = λ cause e. reserve_trapped (loaded m a size) extend rd a c m cause e;
 }
 
 sc_step_keeps : (r : Result ℕ MemFault) (covered : Bool) (rd a : ℕ) (c : Core) → KeepsCore c (sc_step r covered rd a c).core
@@ -266,12 +291,12 @@ stored_if_others true a size v m j = after_store_others m a size v j
 stored_if_others false a size v m j = inl refl
 
 sc_others : (r : Result ℕ MemFault) (covered : Bool) (a : ℕ) (size : Size) (v : ℕ) (c : Core) (m : Memory) (j : ℕ) → (j ≡ c.id → ⊥)
-  → KeptOrCleared (slice_get m.reserved j) (slice_get (after_sc r covered a size v c m).reserved j)
+    → KeptOrCleared (slice_get m.reserved j) (slice_get (after_sc r covered a size v c m).reserved j)
 sc_others (Ok u) covered a size v c m j other = others_at m.reserved (cond covered (after_store m a size v) m).reserved c.id j None other (stored_if_others covered a size v m j)
 sc_others (Err fault) covered a size v c m j other = inl refl
 
 sc_trapped : (r : Result ℕ MemFault) (covered : Bool) (rd a : ℕ) (size : Size) (v : ℕ) (c : Core) (m : Memory) (cause : ℕ)
-  → (sc_step r covered rd a c).did ≡ Trapped cause → after_sc r covered a size v c m ≡ m
+    → (sc_step r covered rd a c).did ≡ Trapped cause → after_sc r covered a size v c m ≡ m
 sc_trapped (Ok u) covered rd a size v c m cause e = absurd (retired_is_not cause e)
 sc_trapped (Err fault) covered rd a size v c m cause e = refl
 
@@ -279,7 +304,7 @@ pub stores_if_reserved_keeps : (a : ℕ) (size : Size) (v rd : ℕ) (c : Core) (
 stores_if_reserved_keeps a size v rd c m = record {
   core = sc_step_keeps (loaded m a size) (covers m c.id a size) rd a c;
   others = λ j other. sc_others (loaded m a size) (covers m c.id a size) a size v c m j other;
-  trapped = λ cause e. sc_trapped (loaded m a size) (covers m c.id a size) rd a size v c m cause e
+  trapped = λ cause e. sc_trapped (loaded m a size) (covers m c.id a size) rd a size v c m cause e;
 }
 
 amo_step_keeps : (r : Result ℕ MemFault) (extend : ℕ → ℕ) (rd a : ℕ) (c : Core) → KeepsCore c (amo_step r extend rd a c).core
@@ -291,7 +316,7 @@ amo_others (Ok v) extend o a size b m j = after_store_others m a size _ j
 amo_others (Err fault) extend o a size b m j = inl refl
 
 amo_trapped : (r : Result ℕ MemFault) (extend : ℕ → ℕ) (o : AluOp) (rd a : ℕ) (size : Size) (b : ℕ) (c : Core) (m : Memory) (cause : ℕ)
-  → (amo_step r extend rd a c).did ≡ Trapped cause → after_amo r extend o a size b m ≡ m
+    → (amo_step r extend rd a c).did ≡ Trapped cause → after_amo r extend o a size b m ≡ m
 amo_trapped (Ok v) extend o rd a size b c m cause e = absurd (retired_is_not cause e)
 amo_trapped (Err fault) extend o rd a size b c m cause e = refl
 
@@ -299,5 +324,5 @@ pub updates_keeps : (a : ℕ) (size : Size) (extend : ℕ → ℕ) (o : AluOp) (
 updates_keeps a size extend o b rd c m = record {
   core = amo_step_keeps (loaded m a size) extend rd a c;
   others = λ j other. amo_others (loaded m a size) extend o a size b m j;
-  trapped = λ cause e. amo_trapped (loaded m a size) extend o rd a size b c m cause e
+  trapped = λ cause e. amo_trapped (loaded m a size) extend o rd a size b c m cause e;
 }

@@ -54,7 +54,7 @@ after_store_refused m a size v fault is = chosen_refused (is_aligned a size) (is
 
 -- any other store writes the bytes and clears what they touch
 pub after_store_taken : (m : Memory) (a : ℕ) (size : Size) (v : ℕ) → store_answer m a size ≡ Ok tt
-  → after_store m a size v ≡ cleared (record m { bytes = with_value m.bytes a (count_of size) v }) a (count_of size)
+    → after_store m a size v ≡ cleared (record m { bytes = with_value m.bytes a (count_of size) v }) a (count_of size)
 unfolding store_answer after_store
 after_store_taken m a size v is = chosen_taken (is_aligned a size) (is_inside m a size) _ m is
 
@@ -78,16 +78,16 @@ pub after_store_others : (m : Memory) (a : ℕ) (size : Size) (v j : ℕ) → Ke
 after_store_others m a size v j =
     elim (store_answer m a size) as (λ r. store_answer m a size ≡ r → KeptOrCleared (slice_get m.reserved j) (slice_get (after_store m a size v).reserved j)) [
       | Ok u ↦ λ is.
-        let P : Memory → Type 0 = λ n. KeptOrCleared (slice_get m.reserved j) (slice_get n.reserved j) in
-        subst P (sym (after_store_taken m a size v is)) (cleared_others (record m { bytes = with_value m.bytes a (count_of size) v }) a (count_of size) j)
+          let P : Memory → Type 0 = λ n. KeptOrCleared (slice_get m.reserved j) (slice_get n.reserved j) in
+          subst P (sym (after_store_taken m a size v is)) (cleared_others (record m { bytes = with_value m.bytes a (count_of size) v }) a (count_of size) j)
       | Err fault ↦ λ is.
-        let P : Memory → Type 0 = λ n. KeptOrCleared (slice_get m.reserved j) (slice_get n.reserved j) in
-        subst P (sym (after_store_refused m a size v fault is)) (inl refl)
+          let P : Memory → Type 0 = λ n. KeptOrCleared (slice_get m.reserved j) (slice_get n.reserved j) in
+          subst P (sym (after_store_refused m a size v fault is)) (inl refl)
     ] refl
 
 -- a later change of one hart's own place leaves the others' as they were
 pub others_at : (old new : List (Option ℕ)) (h j : ℕ) (o : Option ℕ) → (j ≡ h → ⊥)
-  → KeptOrCleared (slice_get old j) (slice_get new j) → KeptOrCleared (slice_get old j) (slice_get (set new h o) j)
+    → KeptOrCleared (slice_get old j) (slice_get new j) → KeptOrCleared (slice_get old j) (slice_get (set new h o) j)
 others_at old new h j o other so_far =
     let P : Option (Option ℕ) → Type 0 = λ r. KeptOrCleared (slice_get old j) r in
     subst P (sym (slice_get-set_other new h j o other)) so_far

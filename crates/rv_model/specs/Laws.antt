@@ -16,7 +16,7 @@ use Rattle.rv_model.specs.Board.{Machine, Board, execute, execute_on, machine_of
 -- no word matches two rows
 abbrev pub RowsAreApart : Type 0
 RowsAreApart = (w i j : ℕ) (r s : Row) → slice_get rows i ≡ Some r → slice_get rows j ≡ Some s
-  → bit_and w r.mask ≡ r.code → bit_and w s.mask ≡ s.code → i ≡ j
+    → bit_and w r.mask ≡ r.code → bit_and w s.mask ≡ s.code → i ≡ j
 
 -- ---- memory
 

@@ -4,6 +4,7 @@
 mod alu_op;
 mod cause;
 mod did;
+mod examples;
 mod insn;
 mod laws;
 mod mem_fault;
@@ -14,10 +15,16 @@ mod size;
 mod slot;
 mod slot_set;
 mod touch;
+#[cfg(test)]
+mod vectors;
 
 pub use alu_op::AluOp;
 pub use cause::Cause;
 pub use did::Did;
+pub use examples::{
+    counter_counts, divisions, reserved_words_mean_nothing, sc_fails_after_store,
+    sc_succeeds_after_lr, trap_examples, writes_keep_their_bits,
+};
 pub use insn::Insn;
 pub use laws::{
     execution_forgets_debugging, execution_keeps, execution_leaves_others,
