@@ -6,6 +6,7 @@ use Rattle.std.proofs.lemmas.Bool.{and_parts, cases_Bool, eq-eqb, eqb-true, ne_e
 use Rattle.std.proofs.lemmas.List.Folds.{find-append}
 use Rattle.std.proofs.lemmas.Nat.{and_assoc, and_comm}
 use Rattle.rv_model.specs.declared.insn.Insn.{Insn}
+use Rattle.rv_model.specs.Laws.{RowsAreApart}
 use Rattle.rv_model.specs.Rows.{Row, rows, matches, meaning_in, meaning, lui_rows, auipc_rows, jal_rows, jalr_rows, branch_rows, load_rows, store_rows, immediate_rows, immediate_word_rows, register_rows, register_word_rows, atomic_rows, fence_rows, system_rows}
 
 -- no word can match both rows: under both masks together their codes differ
@@ -129,3 +130,25 @@ unfolding meaning
 meaning_of_groups w =
     first_of_joined w (meaning_in lui_rows w) (auipc_rows ∷ jal_rows ∷ jalr_rows ∷ branch_rows ∷ load_rows ∷ store_rows ∷ immediate_rows ∷ immediate_word_rows ∷ register_rows ∷ register_word_rows ∷ atomic_rows ∷ fence_rows ∷ system_rows ∷ [])
     ∙ sym (meaning_in_both w lui_rows (joined (auipc_rows ∷ jal_rows ∷ jalr_rows ∷ branch_rows ∷ load_rows ∷ store_rows ∷ immediate_rows ∷ immediate_word_rows ∷ register_rows ∷ register_word_rows ∷ atomic_rows ∷ fence_rows ∷ system_rows ∷ [])))
+
+-- ---- no word matches two rows
+
+apart_places : (w : ℕ) (rs : List Row) (t s : Row) (j : ℕ) → list_all (apart t) rs ≡ true → slice_get rs j ≡ Some s → bit_and w t.mask ≡ t.code → bit_and w s.mask ≡ s.code → ⊥
+apart_places w rs t s j sep at is_t is_s = both_ways (matches w t) (not_both w t s (all_at (apart t) rs j s sep at) is_s) (eq-eqb _ _ is_t)
+
+same_place : (w : ℕ) (rs : List Row) → all_apart rs ≡ true → (i j : ℕ) (r s : Row) → slice_get rs i ≡ Some r → slice_get rs j ≡ Some s → bit_and w r.mask ≡ r.code → bit_and w s.mask ≡ s.code → i ≡ j
+same_place w [] sep i j r s at_i at_j is_r is_s = cc
+same_place w (t ∷ ts) sep zero zero r s at_i at_j is_r is_s = refl
+same_place w (t ∷ ts) sep zero (suc j) r s at_i at_j is_r is_s =
+    let e : t ≡ r = cc in
+    let is_t : bit_and w t.mask ≡ t.code = rw e is_r in
+    absurd (apart_places w ts t s j (and_parts (list_all (apart t) ts) (all_apart ts) sep).0 at_j is_t is_s)
+same_place w (t ∷ ts) sep (suc i) zero r s at_i at_j is_r is_s =
+    let e : t ≡ s = cc in
+    let is_t : bit_and w t.mask ≡ t.code = rw e is_s in
+    absurd (apart_places w ts t r i (and_parts (list_all (apart t) ts) (all_apart ts) sep).0 at_i is_t is_r)
+same_place w (t ∷ ts) sep (suc i) (suc j) r s at_i at_j is_r is_s =
+    ap suc (same_place w ts (and_parts (list_all (apart t) ts) (all_apart ts) sep).1 i j r s at_i at_j is_r is_s)
+
+pub rows_are_apart : RowsAreApart
+rows_are_apart w i j r s at_i at_j is_r is_s = same_place w rows rows_apart i j r s at_i at_j is_r is_s

@@ -4,7 +4,9 @@
 mod alu_op;
 mod cause;
 mod did;
+mod examples;
 mod insn;
+mod laws;
 mod mem_fault;
 mod operands;
 mod scan;
@@ -13,11 +15,21 @@ mod size;
 mod slot;
 mod slot_set;
 mod touch;
+#[cfg(test)]
+mod vectors;
 
 pub use alu_op::AluOp;
 pub use cause::Cause;
 pub use did::Did;
+pub use examples::{
+    counter_counts, divisions, reserved_words_mean_nothing, sc_fails_after_store,
+    sc_succeeds_after_lr, trap_examples, writes_keep_their_bits,
+};
 pub use insn::Insn;
+pub use laws::{
+    execution_forgets_debugging, execution_keeps, execution_leaves_others,
+    refused_stores_keep_memory, rows_are_apart,
+};
 pub use mem_fault::MemFault;
 pub use operands::{
     BType, CsrImmType, CsrType, IType, JType, LoadReservedType, RType, SType, ShiftType, UType,

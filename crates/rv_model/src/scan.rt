@@ -2,15 +2,15 @@
 //!
 //! A decoder and its tests are compared with it. It is the table of `specs/Rows.antt` in Rust, and it shows that the table computes.
 
+ghost use Rattle.std.specs.Prelude.{◌≡◌};
+ghost use Rattle.rv_model.specs.Rows.{meaning, meaning_in};
+ghost use Rattle.rv_model.specs.Rows as table;
+
 use crate::insn::Insn;
 use crate::scan_fields::{
     b_type, csr_imm_type, csr_type, i_type, j_type, load_reserved_type, r_type, s_type, shift_type,
     shift_word_type, u_type,
 };
-
-ghost use Rattle.std.specs.Prelude.{◌≡◌};
-ghost use Rattle.rv_model.specs.Rows.{meaning, meaning_in};
-ghost use Rattle.rv_model.specs.Rows as table;
 
 /// Answers the first row that the word matches, and ends the function that it stands in.
 /// A row is a mask, a code, an instruction, and its format where it has operands.

@@ -1,12 +1,12 @@
 //! The fields, immediates and operands of an instruction word (unprivileged manual, "Base Instruction Formats").
 
-use crate::operands::{
-    BType, CsrImmType, CsrType, IType, JType, LoadReservedType, RType, SType, ShiftType, UType,
-};
-
 ghost use Rattle.std.specs.Prelude.{◌≡◌, ◌+◌, ◌^◌, ◌<◌, ◌≤◌};
 ghost use Rattle.rv_model.specs.Fields as field_spec;
 ghost use Rattle.rv_model.specs.Operands as operand_spec;
+
+use crate::operands::{
+    BType, CsrImmType, CsrType, IType, JType, LoadReservedType, RType, SType, ShiftType, UType,
+};
 
 /// `count` bits of the word, from bit `low` on.
 #[tactic(auto, using(std::proofs::lemmas::Nat::one_shl, std::proofs::lemmas::Nat::pow_pos))]
@@ -26,7 +26,11 @@ fn sign_extend(n: u32, bits: u32) -> u64
     ensures { result ≡ field_spec.sign_extended bits n }
 {
     let n = n as u64;
-    if n < 1 << (bits - 1) { n } else { n + (u64::MAX - (1 << bits) + 1) }
+    if n < 1 << (bits - 1) {
+        n
+    } else {
+        n + (u64::MAX - (1 << bits) + 1)
+    }
 }
 
 fn register(word: u32, low: u32) -> u8
@@ -99,67 +103,108 @@ fn imm_j(word: u32) -> u64
 pub fn r_type(word: u32) -> RType
     ensures { result ≡ operand_spec.r_type word }
 {
-    RType { rd: rd(word), rs1: rs1(word), rs2: rs2(word) }
+    RType {
+        rd: rd(word),
+        rs1: rs1(word),
+        rs2: rs2(word),
+    }
 }
 
 pub fn i_type(word: u32) -> IType
     ensures { result ≡ operand_spec.i_type word }
 {
-    IType { rd: rd(word), rs1: rs1(word), imm: imm_i(word) }
+    IType {
+        rd: rd(word),
+        rs1: rs1(word),
+        imm: imm_i(word),
+    }
 }
 
 pub fn s_type(word: u32) -> SType
     ensures { result ≡ operand_spec.s_type word }
 {
-    SType { rs1: rs1(word), rs2: rs2(word), imm: imm_s(word) }
+    SType {
+        rs1: rs1(word),
+        rs2: rs2(word),
+        imm: imm_s(word),
+    }
 }
 
 pub fn b_type(word: u32) -> BType
     ensures { result ≡ operand_spec.b_type word }
 {
-    BType { rs1: rs1(word), rs2: rs2(word), imm: imm_b(word) }
+    BType {
+        rs1: rs1(word),
+        rs2: rs2(word),
+        imm: imm_b(word),
+    }
 }
 
 pub fn u_type(word: u32) -> UType
     ensures { result ≡ operand_spec.u_type word }
 {
-    UType { rd: rd(word), imm: imm_u(word) }
+    UType {
+        rd: rd(word),
+        imm: imm_u(word),
+    }
 }
 
 pub fn j_type(word: u32) -> JType
     ensures { result ≡ operand_spec.j_type word }
 {
-    JType { rd: rd(word), imm: imm_j(word) }
+    JType {
+        rd: rd(word),
+        imm: imm_j(word),
+    }
 }
 
 /// A shift of 64 bits, by six bits of the word.
 pub fn shift_type(word: u32) -> ShiftType
     ensures { result ≡ operand_spec.shift_type word }
 {
-    ShiftType { rd: rd(word), rs1: rs1(word), amount: field(word, 20, 6) as u8 }
+    ShiftType {
+        rd: rd(word),
+        rs1: rs1(word),
+        amount: field(word, 20, 6) as u8,
+    }
 }
 
 /// A shift of 32 bits, by five bits of the word.
 pub fn shift_word_type(word: u32) -> ShiftType
     ensures { result ≡ operand_spec.shift_word_type word }
 {
-    ShiftType { rd: rd(word), rs1: rs1(word), amount: rs2(word) }
+    ShiftType {
+        rd: rd(word),
+        rs1: rs1(word),
+        amount: rs2(word),
+    }
 }
 
 pub fn load_reserved_type(word: u32) -> LoadReservedType
     ensures { result ≡ operand_spec.load_reserved_type word }
 {
-    LoadReservedType { rd: rd(word), rs1: rs1(word) }
+    LoadReservedType {
+        rd: rd(word),
+        rs1: rs1(word),
+    }
 }
 
 pub fn csr_type(word: u32) -> CsrType
     ensures { result ≡ operand_spec.csr_type word }
 {
-    CsrType { rd: rd(word), rs1: rs1(word), csr: field(word, 20, 12) as u16 }
+    CsrType {
+        rd: rd(word),
+        rs1: rs1(word),
+        csr: field(word, 20, 12) as u16,
+    }
 }
 
 pub fn csr_imm_type(word: u32) -> CsrImmType
     ensures { result ≡ operand_spec.csr_imm_type word }
 {
-    CsrImmType { rd: rd(word), imm: rs1(word), csr: field(word, 20, 12) as u16 }
+    CsrImmType {
+        rd: rd(word),
+        imm: rs1(word),
+        csr: field(word, 20, 12) as u16,
+    }
 }
