@@ -1,12 +1,12 @@
 -- Where a session stands between two commands: its plan is replayed so far, and its bytes are at the chip.
-use Rattle.std.proofs.Common.{◌≡◌, ◌∙◌, ℕ, List, [], ◌∷◌, ◌++◌, Bool, true, false, Option, Some, None, option_map, refl, sym, ap, append_assoc, append-nil}
+use Rattle.std.proofs.Common.{◌≡◌, ◌∙◌, ℕ, List, [], ◌∷◌, ◌++◌, Bool, true, false, Option, Some, None, option_map, refl, sym, ap, append_assoc, append-nil, subst, IfSome}
 use Rattle.debug_model.proofs.Transcripts.{AddsLines, replay-grows, text_of_all-append, text_of_all-said}
 use Rattle.debug_model.specs.Chip.{Chip, feed}
 use Rattle.debug_model.specs.Debugger.{commands}
 use Rattle.debug_model.specs.Lines.{Line, text_of, text_of_all}
 use Rattle.debug_model.specs.Lines.Line.{Idcode as idcode_line}
 use Rattle.debug_model.specs.Tap.{idcode}
-use Rattle.debug_model.specs.Told.{Far, read_out}
+use Rattle.debug_model.specs.Told.{Far, IsRead, read_out}
 use Rattle.debug_model.specs.Transcript.{World, Outcome, replay, said, start, transcript}
 use Rattle.debug_model.specs.Transcript.End.{Clean}
 use Rattle.debug_model.specs.declared.command.Command.{Command}
@@ -132,3 +132,39 @@ sink_wrote script rest c held old before after s wrote =
     let text = text_so_far script next (replay (commands rest) next []) (s.replayed ∙ replay_idcode rest s.world) (replay-grows (commands rest) next []) in
     let cut : text_of_all (transcript script []).world.lines ≡ text_of_all s.world.lines ++ (text_of (idcode_line idcode) ++ text.0) = text.1 ∙ ap (λ front. front ++ text.0) (text_of_all-said (idcode_line idcode) s.world) ∙ append_assoc (text_of_all s.world.lines) (text_of (idcode_line idcode)) text.0 in
     grew_to _ _ held after cut (grew_behind (text_of_all s.world.lines) (text_of (idcode_line idcode)) text.0 held after (rw s.put at wrote))
+
+-- ---- the same, where the far end may not be told
+
+pub begun : (script : List Command) (told : Option Far) (held : Option (List ℕ)) → IsRead told → IfSome told (λ f. Stood script script f.chip held told held)
+begun script None held read = tt
+begun script (Some f) held read = stood_first script f held read
+
+at_chip : (P : Chip → Type 0) (old : Option Far) (c : Chip) → old ≡ Some (read_out c) → IfSome old (λ f. P f.chip) → P c
+at_chip P old c is h = subst (λ (o : Option Far). IfSome o (λ f. P f.chip)) is h
+
+pub went_on : (command : Command) (script rest all : List Command) (first old new : Option Far) (held before after : Option (List ℕ)) → all ≡ command ∷ rest → IfSome first (λ f. Stood script all f.chip held old before) → IfSome old (λ f. Did command Done f.chip new before after) → IfSome first (λ f. Stood script rest f.chip held new after)
+went_on command script rest all None old new held before after cut stood did = tt
+went_on command script rest all (Some f) old new held before after cut stood did =
+    let s : Stood script (command ∷ rest) f.chip held old before = subst (λ cs. Stood script cs f.chip held old before) cut stood in
+    stood_more command script rest f.chip held old new before after s (at_chip (λ c. Did command Done c new before after) old s.chip s.is did)
+
+pub ended_at : (command : Command) (script rest all : List Command) (first old new : Option Far) (held before after : Option (List ℕ)) → all ≡ command ∷ rest → IfSome first (λ f. Stood script all f.chip held old before) → IfSome old (λ f. Did command Ended f.chip new before after) → IfSome first (λ f. Ran script f.chip new held after)
+ended_at command script rest all None old new held before after cut stood did = tt
+ended_at command script rest all (Some f) old new held before after cut stood did =
+    let s : Stood script (command ∷ rest) f.chip held old before = subst (λ cs. Stood script cs f.chip held old before) cut stood in
+    ran_end command script rest f.chip held old new before after s (at_chip (λ c. Did command Ended c new before after) old s.chip s.is did)
+
+pub ended_last : (script all : List Command) (first old : Option Far) (held contents : Option (List ℕ)) → all ≡ [] → IfSome first (λ f. Stood script all f.chip held old contents) → IfSome first (λ f. Ran script f.chip old held contents)
+ended_last script all None old held contents cut stood = tt
+ended_last script all (Some f) old held contents cut stood = ran_last script f.chip held old contents (subst (λ cs. Stood script cs f.chip held old contents) cut stood)
+
+command_wrote : (command : Command) (failure : Failure) (script rest : List Command) (c : Chip) (held : Option (List ℕ)) (old : Option Far) (before after : Option (List ℕ)) (s : Stood script (command ∷ rest) c held old before) → WroteAt command failure before after → GrewByPrefix (text_of_all (transcript script []).world.lines) held after
+command_wrote Idcode (Wire fault) script rest c held old before after s wrote = wire_wrote script (Idcode ∷ rest) c held old before after s wrote
+command_wrote Idcode Sink script rest c held old before after s wrote = sink_wrote script rest c held old before after s wrote
+command_wrote _ failure script rest c held old before after s wrote = absurd wrote
+
+pub failed_at : (command : Command) (failure : Failure) (script rest all : List Command) (first old : Option Far) (held before after : Option (List ℕ)) → all ≡ command ∷ rest → IfSome first (λ f. Stood script all f.chip held old before) → IfSome old (λ _. WroteAt command failure before after) → IfSome first (λ _. GrewByPrefix (text_of_all (transcript script []).world.lines) held after)
+failed_at command failure script rest all None old held before after cut stood wrote = tt
+failed_at command failure script rest all (Some f) old held before after cut stood wrote =
+    let s : Stood script (command ∷ rest) f.chip held old before = subst (λ cs. Stood script cs f.chip held old before) cut stood in
+    command_wrote command failure script rest f.chip held old before after s (at_chip (λ c. WroteAt command failure before after) old s.chip s.is wrote)

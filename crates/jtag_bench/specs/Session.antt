@@ -63,10 +63,11 @@ pub record CanQuit (told : Option Far) : Type 0 where
   pub read : IsRead told
   pub free : IsFree told
 
--- what a command that failed had put: nothing, or a front of its line
-abbrev pub WroteAt : Failure → Option (List ℕ) → Option (List ℕ) → Type 0
-WroteAt (Wire fault) before after = after ≡ before
-WroteAt Sink before after = GrewByPrefix (text_of (idcode_line idcode)) before after
+-- what a command that failed had put: nothing, or a front of its line. No other command fails.
+abbrev pub WroteAt : Command → Failure → Option (List ℕ) → Option (List ℕ) → Type 0
+WroteAt Idcode (Wire fault) before after = after ≡ before
+WroteAt Idcode Sink before after = GrewByPrefix (text_of (idcode_line idcode)) before after
+WroteAt _ failure before after = ⊥
 
 abbrev pub CanQuitAfter : Failure → Option Far → Type 0
 CanQuitAfter (Wire fault) told = Unit {0}

@@ -46,7 +46,7 @@ fn act<S: Scan, K: Sink>(scan: &mut S, command: &Command, out: &mut K) -> Result
     ensures did { IfOk result (λ acted. IfSome (S.far scan.old) (λ f. Did command.now acted f.chip (S.far scan.new) (K.contents out.old) (K.contents out.new))) }
     ensures quit { OnOk result (CanQuit (S.far scan.new)) }
     ensures quit_after { IfErr result (λ failure. CanQuitAfter failure (S.far scan.new)) }
-    ensures wrote { IfErr result (λ failure. IfSome (S.far scan.old) (λ _. WroteAt failure (K.contents out.old) (K.contents out.new))) }
+    ensures wrote { IfErr result (λ failure. IfSome (S.far scan.old) (λ _. WroteAt command.now failure (K.contents out.old) (K.contents out.new))) }
     ensures fails { IfErr result (FailureCause (S.far scan.old) (S.fault_count scan.old) (S.fault_count scan.new) (K.fault_count out.old) (K.fault_count out.new)) }
     ensures scan_later { S.fault_count scan.old ≤ S.fault_count scan.new }
     ensures sink_later { K.fault_count out.old ≤ K.fault_count out.new }

@@ -7,3 +7,4 @@ pub mod MapLemmas
 pub mod MemoryLemmas
 pub mod RowLemmas
 pub mod RowMeanings
+pub mod TurnLemmas

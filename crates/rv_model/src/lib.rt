@@ -15,6 +15,8 @@ mod size;
 mod slot;
 mod slot_set;
 mod touch;
+mod turn_laws;
+mod turned;
 #[cfg(test)]
 mod vectors;
 
@@ -39,3 +41,5 @@ pub use size::Size;
 pub use slot::{Comparison, Icount, Mcontrol6, Slot, Trigger};
 pub use slot_set::SlotSet;
 pub use touch::Touch;
+pub use turn_laws::{turn_forgets_debugging, turn_leaves_others};
+pub use turned::Turned;
