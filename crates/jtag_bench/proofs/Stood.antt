@@ -1,7 +1,7 @@
 -- Where a session stands between two commands: its plan is replayed so far, and its bytes are at the chip.
-use Rattle.std.proofs.Common.{◌≡◌, ◌∙◌, ℕ, List, [], ◌∷◌, ◌++◌, Bool, true, false, Option, Some, None, option_map, refl, sym, ap, append_assoc, append-nil, subst, IfSome}
+use Rattle.std.proofs.Common.{◌≡◌, ◌∙◌, ℕ, List, [], ◌∷◌, ◌++◌, Bool, true, false, Option, Some, None, option_map, refl, sym, ap, append_assoc, append-nil, subst, IfSome, Result, Ok, Err, OnErr}
 use Rattle.debug_model.proofs.Transcripts.{AddsLines, replay-grows, text_of_all-append, text_of_all-said}
-use Rattle.debug_model.specs.Chip.{Chip, feed}
+use Rattle.debug_model.specs.Chip.{Chip, after, feed}
 use Rattle.debug_model.specs.Debugger.{commands}
 use Rattle.debug_model.specs.Lines.{Line, text_of, text_of_all}
 use Rattle.debug_model.specs.Lines.Line.{Idcode as idcode_line}
@@ -54,9 +54,9 @@ grew_whole xs zs (Some hs) = record { front = xs; back = zs; cut = refl; is = re
 
 -- ---- chips
 
-feed-append : (c : Chip) (xs ys : List ℕ) → feed c (xs ++ ys) ≡ feed (feed c xs) ys
-feed-append c [] ys = refl
-feed-append c (x ∷ xs) ys = feed-append _ xs ys
+feed-append : (xs : List ℕ) (c : Chip) (ys : List ℕ) → feed c (xs ++ ys) ≡ feed (feed c xs) ys
+feed-append [] c ys = refl
+feed-append (x ∷ xs) c ys = feed-append xs (after c x) ys
 
 -- ---- a session
 
@@ -79,7 +79,7 @@ idcode_stood script rest c held old new before after s did = record {
     world = said (idcode_line idcode) s.world;
     is = did.chip;
     replayed = s.replayed ∙ replay_idcode rest s.world;
-    fed = s.fed ∙ feed-append s.chip idcode_stream (stream_of rest);
+    fed = s.fed ∙ feed-append idcode_stream s.chip (stream_of rest);
     put = did.put ∙ ap (grown (text_of (idcode_line idcode))) s.put ∙ grown_twice (text_of_all s.world.lines) (text_of (idcode_line idcode)) held ∙ ap (λ text. grown text held) (sym (text_of_all-said (idcode_line idcode) s.world)) }
 
 -- one more command was done
@@ -168,3 +168,8 @@ failed_at command failure script rest all None old held before after cut stood w
 failed_at command failure script rest all (Some f) old held before after cut stood wrote =
     let s : Stood script (command ∷ rest) f.chip held old before = subst (λ cs. Stood script cs f.chip held old before) cut stood in
     command_wrote command failure script rest f.chip held old before after s (at_chip (λ c. WroteAt command failure before after) old s.chip s.is wrote)
+
+-- what holds of every fault holds where there is one
+pub wrote_by : {T E : Type 0} (P : Type 0) (result : Result T E) → P → OnErr result P
+wrote_by P (Ok x) holds = tt
+wrote_by P (Err e) holds = holds

@@ -81,7 +81,7 @@ fn run_commands<S: Scan, K: Sink>(
     ensures lenders { S.lenders scan.new ≡ S.lenders scan.old }
 {
     let mut rest = script;
-    'commands: while let [command, after @ ..] = rest {
+    'commands: while let Some((command, after)) = rest.split_first() {
         match act(scan, command, out)? {
             Acted::Done => rest = after,
             Acted::Ended => return Ok(()),
