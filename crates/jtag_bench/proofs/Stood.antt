@@ -34,12 +34,12 @@ grown_none : (held : Option (List ℕ)) → held ≡ grown [] held
 grown_none None = refl
 grown_none (Some xs) = ap Some (sym (append-nil xs))
 
-grown_twice : (xs ys : List ℕ) (held : Option (List ℕ)) → grown ys (grown xs held) ≡ grown (xs ++ ys) held
+pub grown_twice : (xs ys : List ℕ) (held : Option (List ℕ)) → grown ys (grown xs held) ≡ grown (xs ++ ys) held
 grown_twice xs ys None = refl
 grown_twice xs ys (Some zs) = ap Some (append_assoc zs xs ys)
 
 -- bytes that were taken whole, and then a front of what comes next
-grew_behind : (xs ys zs : List ℕ) (held new : Option (List ℕ)) → GrewByPrefix ys (grown xs held) new → GrewByPrefix (xs ++ (ys ++ zs)) held new
+pub grew_behind : (xs ys zs : List ℕ) (held new : Option (List ℕ)) → GrewByPrefix ys (grown xs held) new → GrewByPrefix (xs ++ (ys ++ zs)) held new
 grew_behind xs ys zs None new g = g
 grew_behind xs ys zs (Some hs) new g = record {
     front = xs ++ g.front;
@@ -48,13 +48,13 @@ grew_behind xs ys zs (Some hs) new g = record {
     is = g.is ∙ ap Some (append_assoc hs xs g.front) }
 
 -- bytes that were taken whole, and no more
-grew_whole : (xs zs : List ℕ) (held : Option (List ℕ)) → GrewByPrefix (xs ++ zs) held (grown xs held)
+pub grew_whole : (xs zs : List ℕ) (held : Option (List ℕ)) → GrewByPrefix (xs ++ zs) held (grown xs held)
 grew_whole xs zs None = refl
 grew_whole xs zs (Some hs) = record { front = xs; back = zs; cut = refl; is = refl }
 
 -- ---- chips
 
-feed-append : (xs : List ℕ) (c : Chip) (ys : List ℕ) → feed c (xs ++ ys) ≡ feed (feed c xs) ys
+pub feed-append : (xs : List ℕ) (c : Chip) (ys : List ℕ) → feed c (xs ++ ys) ≡ feed (feed c xs) ys
 feed-append [] c ys = refl
 feed-append (x ∷ xs) c ys = feed-append xs (after c x) ys
 

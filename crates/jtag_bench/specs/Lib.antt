@@ -3,3 +3,8 @@ pub mod Names
 pub mod Stream
 pub mod Session
 pub mod LastLine
+pub mod Status
+pub mod ScriptText
+pub mod Refusal
+pub mod FileRead
+pub mod Run
