@@ -77,7 +77,8 @@ abbrev pub scanned_chip : List Bool → Chip → Chip
 scanned_chip bits c = record {
   tck = true;
   port = idle_port c.port.selected (stays (captured c.port.selected) bits);
-  ended = c.ended }
+  ended = c.ended;
+}
 
 -- a scan of these bits took these out, and `new` tells the chip behind it
 pub record Scanned (bits out : List Bool) (c : Chip) (new : Option Far) : Type 0 where

@@ -39,8 +39,8 @@ reset_is_piece = inl refl
 is_chip_at : (c : Chip) → c.ended ≡ None → c.port.held ≡ false → c ≡ chip_at c.tck c.port.state c.port.selected c.port.shift c.port.tdo
 is_chip_at c live free = by c.port.held c.ended free live
   where
-  by : (h : Bool) (e : Option Ending) → h ≡ false → e ≡ None → record { tck = c.tck; port = record c.port { held = h }; ended = e } ≡ chip_at c.tck c.port.state c.port.selected c.port.shift c.port.tdo
-  by h e p q = cc
+    by : (h : Bool) (e : Option Ending) → h ≡ false → e ≡ None → record { tck = c.tck; port = record c.port { held = h }; ended = e } ≡ chip_at c.tck c.port.state c.port.selected c.port.shift c.port.tdo
+    by h e p q = cc
 
 -- such a chip in Run-Test/Idle
 is_idle_at : (c : Chip) → c.ended ≡ None → c.port.held ≡ false → c.port.state ≡ RunTestIdle → c ≡ chip_at c.tck RunTestIdle c.port.selected c.port.shift c.port.tdo
@@ -150,11 +150,12 @@ rest_of bits out answers None between new is read live scanned =
     let gone : new ≡ None = subst (λ b. ReadsFront answers b new) is read in
     rw gone (record { scanned = tt; live = tt; read = tt; free = tt; idle = tt })
 rest_of bits out answers (Some f) between new is read live scanned = record {
-    scanned = scanned;
-    live = rw scanned.new_is live;
-    read = rw scanned.new_is refl;
-    free = rw scanned.new_is refl;
-    idle = rw scanned.new_is refl }
+  scanned = scanned;
+  live = rw scanned.new_is live;
+  read = rw scanned.new_is refl;
+  free = rw scanned.new_is refl;
+  idle = rw scanned.new_is refl;
+}
 
 pub scan_done : (bits out : List Bool) (answers : List ℕ) (old between new : Option Far) → 0 < length bits → IsLive old → IsRead old → IsFree old → IsIdle old → between ≡ option_map (sent (dr_bytes bits)) old → ReadsFront answers between new → length answers ≡ length bits → answers ≡ map answer_byte out → IsDone bits out old new
 scan_done bits out answers old between new some live read free idle is was_read full spelled =
