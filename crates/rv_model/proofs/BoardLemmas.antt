@@ -1,5 +1,5 @@
 -- Execution on a machine and on a board: what it keeps, and that forgetting the debug parts goes before it or after it.
-use Rattle.std.proofs.Common.{◌≡◌, ℕ, List, [], ◌∷◌, ◌++◌, length, map, set, zero, suc, Option, Some, None, Result, Ok, Err, slice_get, option_map, refl, sym, ap, ◌∙◌}
+use Rattle.std.proofs.Common.{◌≡◌, ℕ, List, [], ◌∷◌, ◌++◌, map, set, zero, suc, Option, Some, None, Result, Ok, Err, slice_get, option_map, refl, sym, ap, ◌∙◌}
 use Rattle.std.proofs.lemmas.List.{length-set}
 use Rattle.std.proofs.lemmas.Option.{slice_get-map}
 use Rattle.rv_model.specs.declared.insn.Insn.{Insn}
@@ -10,7 +10,7 @@ use Rattle.rv_model.specs.Memory.{Memory, loaded}
 use Rattle.rv_model.specs.Core.{Core}
 use Rattle.rv_model.specs.Effects.{effect_of}
 use Rattle.rv_model.specs.Execute.{decoded, fetched, exec_of}
-use Rattle.rv_model.specs.Board.{Hart, Board, Machine, cores, machine_of, execute_by, execute, execute_on_by, execute_on}
+use Rattle.rv_model.specs.Board.{Hart, Board, Machine, cores, machine_of, execute_by, execute_on_by}
 use Rattle.rv_model.specs.Undebugged.{Entry, entered, undebugged}
 use Rattle.rv_model.specs.Laws.{Keeps, ExecutionKeeps, LeavesOthers, ExecutionLeavesOthers, ExecutionForgetsDebugging}
 use Rattle.rv_model.proofs.EffectsKeep.{effect_keeps}

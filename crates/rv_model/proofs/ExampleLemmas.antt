@@ -1,8 +1,7 @@
 -- The worked examples, computed.
-use Rattle.std.proofs.Common.{◌≡◌, ℕ, ◌+◌, ◌*◌, ◌/◌, ◌%◌, ◌<◌, ◌≤◌, Bool, true, false, cond, ◌&&◌, eqb, List, [], ◌∷◌, length, map, Option, Some, None, Result, Ok, Err, slice_get, option_map, refl, sym, ap, ◌∙◌, arith}
-use Rattle.std.proofs.lemmas.Bool.{and_from, cases_Bool, eqb-true, lt-ltb, le-leb}
+use Rattle.std.proofs.Common.{◌≡◌, ℕ, ◌+◌, ◌*◌, ◌/◌, ◌%◌, ◌<◌, Bool, true, false, cond, List, [], ◌∷◌, length, Option, Some, None, Result, Ok, Err, slice_get, option_map, refl, ap, ◌∙◌, arith}
+use Rattle.std.proofs.lemmas.Bool.{and_from, eqb-true, lt-ltb, le-leb}
 use Rattle.std.proofs.lemmas.Option.{slice_get-map}
-use Rattle.rv_model.specs.declared.insn.Insn.TheVariants.{ScD}
 use Rattle.rv_model.specs.declared.mem_fault.MemFault.{MemFault}
 use Rattle.rv_model.specs.declared.mem_fault.MemFault.TheVariants.{Misaligned, Outside}
 use Rattle.rv_model.specs.declared.size.Size.{Size}
@@ -10,14 +9,14 @@ use Rattle.rv_model.specs.declared.size.Size.TheVariants.{B1, B2, B4, B8}
 use Rattle.rv_model.specs.Size.{count_of}
 use Rattle.rv_model.specs.Alu.{alu_of}
 use Rattle.rv_model.specs.Rows.{meaning}
-use Rattle.rv_model.specs.Memory.{Memory, value_at, with_value, or_outside, is_aligned, loaded, store_answer, after_store, touches, kept, cleared, reserve, dropped, place_covers, covers}
+use Rattle.rv_model.specs.Memory.{Memory, value_at, or_outside, is_aligned, loaded, store_answer, after_store, touches, kept, reserve, place_covers, covers}
 use Rattle.rv_model.specs.Core.{Core, reset_core, x_of}
 use Rattle.rv_model.specs.Registers.{csr_value, csr_read_only}
-use Rattle.rv_model.specs.Effects.{Outcome, Step, effect_of, sets_rd, sc_step, after_sc}
+use Rattle.rv_model.specs.Effects.{Outcome, effect_of, sc_step, after_sc}
 use Rattle.rv_model.specs.Execute.{fetched, exec_of}
-use Rattle.rv_model.specs.Board.{Machine, with_outcome}
+use Rattle.rv_model.specs.Board.{with_outcome}
 use Rattle.rv_model.specs.Undebugged.{undebugged, Entry, Exec}
-use Rattle.rv_model.specs.Examples.{ReservedWordsMeanNothing, HoldsCounter, CounterCounts, WritesKeepTheirBits, one_hart, counter, Divisions, TrapExamples, ScFailsAfterStore, ScSucceedsAfterLr, hart_with}
+use Rattle.rv_model.specs.Examples.{ReservedWordsMeanNothing, CounterCounts, WritesKeepTheirBits, one_hart, counter, Divisions, TrapExamples, ScFailsAfterStore, ScSucceedsAfterLr, hart_with}
 use Rattle.rv_model.proofs.MapLemmas.{slice_get-set_same}
 use Rattle.rv_model.proofs.MemoryLemmas.{after_store_taken}
 

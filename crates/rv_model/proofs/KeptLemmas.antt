@@ -1,5 +1,5 @@
 -- What each class of instructions keeps: the core's number and x0, what is true of every core, other harts' reservations, and memory at a trap.
-use Rattle.std.proofs.Common.{◌≡◌, ℕ, ◌+◌, ◌-◌, ◌*◌, ◌/◌, ◌%◌, ◌^◌, ◌<◌, ◌≤◌, Bool, true, false, cond, ◌&&◌, eqb, ◌⊎◌, List, [], ◌∷◌, length, get_or, set, Option, Some, None, Result, Ok, Err, slice_get, find, bit_and, refl, sym, ap, ◌∙◌, inl, arith}
+use Rattle.std.proofs.Common.{◌≡◌, ℕ, ◌+◌, ◌*◌, ◌/◌, ◌%◌, ◌^◌, ◌<◌, ◌≤◌, Bool, true, false, cond, ◌&&◌, eqb, List, [], ◌∷◌, length, get_or, set, Option, Some, None, Result, Ok, Err, slice_get, find, bit_and, refl, sym, ap, ◌∙◌, inl, arith}
 use Rattle.std.specs.Prelude.{⊤}
 use Rattle.std.proofs.lemmas.Bool.{eqb-true, eqb-false}
 use Rattle.std.proofs.lemmas.List.{get_or-set_other, length-set}
@@ -12,7 +12,7 @@ use Rattle.rv_model.specs.declared.size.Size.{Size}
 use Rattle.rv_model.specs.Fields.{field}
 use Rattle.rv_model.specs.Memory.{Memory, loaded, store_answer, after_store, covers}
 use Rattle.rv_model.specs.Core.{Core, IsCore, with_x, next_pc, offset_by, mie_of, mpie_of, mstatus_with}
-use Rattle.rv_model.specs.Registers.{Register, registers, register_at, kept_of, written_at, csr_value, csr_written, csr_read_only, mstatus_bits, address_bits}
+use Rattle.rv_model.specs.Registers.{Register, registers, kept_of, written_at, csr_value, csr_written, csr_read_only, mstatus_bits, address_bits}
 use Rattle.rv_model.specs.Traps.{load_cause, store_cause, trap_left}
 use Rattle.rv_model.specs.Effects.{Step, same_memory, retires, goes_on, traps, sets_rd, jumps, branches, swapped_csr, swaps_csr, after_load, stored_step, stores_at, after_reserve, reserves_at, sc_step, after_sc, stores_if_reserved_at, amo_step, after_amo, updates_at}
 use Rattle.rv_model.specs.Laws.{KeptOrCleared, KeepsCore, Keeps}

@@ -1,14 +1,14 @@
 -- What a store, a reservation and an sc leave of memory.
-use Rattle.std.proofs.Common.{◌≡◌, ℕ, ◌+◌, ◌*◌, ◌/◌, ◌%◌, ◌<◌, ◌≤◌, Bool, true, false, cond, ◌&&◌, ◌⊎◌, List, length, map, set, Option, Some, None, is_some, Result, Ok, Err, slice_get, option_map, refl, sym, ap, subst, ◌∙◌, inl, inr}
+use Rattle.std.proofs.Common.{◌≡◌, ℕ, Bool, true, false, cond, ◌&&◌, List, set, Option, Some, None, is_some, Result, Ok, Err, slice_get, option_map, refl, sym, subst, inl, inr}
 use Rattle.std.specs.Prelude.{⊤}
 use Rattle.std.proofs.lemmas.Option.{slice_get-map}
 use Rattle.rv_model.specs.declared.mem_fault.MemFault.{MemFault}
 use Rattle.rv_model.specs.declared.mem_fault.MemFault.TheVariants.{Misaligned, Outside}
 use Rattle.rv_model.specs.declared.size.Size.{Size}
 use Rattle.rv_model.specs.Size.{count_of}
-use Rattle.rv_model.specs.Memory.{Memory, value_at, with_value, is_aligned, is_inside, or_outside, loaded, store_answer, after_store, touches, kept, cleared, reserve, dropped, place_covers, covers}
+use Rattle.rv_model.specs.Memory.{Memory, value_at, with_value, is_aligned, is_inside, or_outside, loaded, store_answer, after_store, touches, kept, cleared}
 use Rattle.rv_model.specs.Laws.{answered, KeptOrCleared, RefusedStoresKeepMemory}
-use Rattle.rv_model.proofs.MapLemmas.{slice_get-set_same, slice_get-set_other}
+use Rattle.rv_model.proofs.MapLemmas.{slice_get-set_other}
 
 -- ---- stores
 

@@ -1,6 +1,6 @@
 -- A board: one to four harts and one memory. A hart is its core, which a program sees, and beside it a debug part, which only a debugger sees.
 -- RISC-V Debug Specification 1.0, "Debug Control and Status", "Debug Module Status" and "Sdtrig (ISA Extension)". Forgetting the debug parts is `cores`.
-use Rattle.std.specs.Prelude.{◌≡◌, ℕ, ◌≤◌, ◌<◌, Bool, true, false, List, [], ◌∷◌, map, replicate, length, Option, Some, None, slice_get, slice_set}
+use Rattle.std.specs.Prelude.{◌≡◌, ℕ, ◌≤◌, ◌<◌, Bool, true, false, List, map, replicate, length, Option, Some, None, slice_get, slice_set}
 use Rattle.rv_model.specs.declared.cause.Cause.{Cause}
 use Rattle.rv_model.specs.declared.cause.Cause.TheVariants.{Reset}
 use Rattle.rv_model.specs.declared.slot.Slot.{Slot}

@@ -1,6 +1,6 @@
 -- A hart's core: all that a program can see of its own hart, and nothing that a debugger adds.
 -- Unprivileged manual, "Programmers' Model for Base Integer ISA"; privileged manual, "Machine-Level CSRs"; the reset values are this project's own choice.
-use Rattle.std.specs.Prelude.{◌≡◌, ℕ, ◌+◌, ◌-◌, ◌*◌, ◌/◌, ◌%◌, ◌^◌, ◌<◌, List, if◌then◌else◌, ◌==◌, length, replicate, slice_index, slice_set}
+use Rattle.std.specs.Prelude.{◌≡◌, ℕ, ◌+◌, ◌*◌, ◌/◌, ◌%◌, ◌^◌, List, if◌then◌else◌, ◌==◌, length, replicate, slice_index, slice_set}
 use Rattle.rv_model.specs.Memory.{ram_base}
 use Rattle.rv_model.specs.Fields.{field}
 

@@ -1,6 +1,6 @@
 -- What each instruction does to the core that executes it and to memory: its effect, or the trap in its place.
 -- Unprivileged manual: RV64I, M, A, Zicsr and Zifencei; privileged manual, "Machine-Mode Privileged Instructions". fence, fence.i and wfi do nothing here.
-use Rattle.std.specs.Prelude.{ℕ, ◌+◌, ◌-◌, ◌*◌, ◌/◌, ◌%◌, ◌^◌, Bool, true, false, not, ◌&&◌, if◌then◌else◌, nat_lt, ◌==◌, int_lt, ⊤, Option, Some, None, Result, Ok, Err, bit_and, bit_or}
+use Rattle.std.specs.Prelude.{ℕ, ◌-◌, ◌*◌, ◌/◌, ◌%◌, ◌^◌, Bool, true, not, ◌&&◌, if◌then◌else◌, nat_lt, ◌==◌, int_lt, ⊤, Option, Some, None, Result, Ok, Err, bit_and, bit_or}
 use Rattle.rv_model.specs.declared.alu_op.AluOp.{AluOp}
 use Rattle.rv_model.specs.declared.alu_op.AluOp.TheVariants as op
 use Rattle.rv_model.specs.declared.did.Did.{Did}

@@ -1,6 +1,6 @@
 -- Worked examples: what the definitions say of single words, single instructions and a small program.
 -- The words are spelled by the unprivileged manual's formats, and the results are worked by hand.
-use Rattle.std.specs.Prelude.{◌≡◌, ℕ, ◌/◌, ◌<◌, List, [], ◌∷◌, length, Option, Some, None, Ok, Err, ⊤, slice_set, replicate}
+use Rattle.std.specs.Prelude.{◌≡◌, ℕ, ◌/◌, ◌<◌, [], ◌∷◌, length, None, Ok, Err, slice_set, replicate}
 use Rattle.rv_model.specs.declared.did.Did.{Did}
 use Rattle.rv_model.specs.declared.did.Did.TheVariants.{Retired, Trapped}
 use Rattle.rv_model.specs.declared.insn.Insn.TheVariants.{ScD}
@@ -10,10 +10,10 @@ use Rattle.rv_model.specs.declared.size.Size.TheVariants.{B4, B8}
 use Rattle.rv_model.specs.Rows.{meaning}
 use Rattle.rv_model.specs.Memory.{Memory, loaded, store_answer, after_store, reserve, dropped}
 use Rattle.rv_model.specs.Core.{Core, reset_core, x_of}
-use Rattle.rv_model.specs.Effects.{Outcome, Step, effect_of, sets_rd}
+use Rattle.rv_model.specs.Effects.{effect_of, sets_rd}
 use Rattle.rv_model.specs.Execute.{exec_of}
 use Rattle.rv_model.specs.Board.{Machine}
-use Rattle.rv_model.specs.Undebugged.{undebugged, Entry, Exec, SetReg}
+use Rattle.rv_model.specs.Undebugged.{undebugged, Exec, SetReg}
 
 -- ---- words that are no instruction
 

@@ -1,12 +1,12 @@
 -- Laws of the definitions, over all instructions at once, in the words of a program's author.
 -- Unprivileged manual: "Programmers' Model for Base Integer ISA" (x0 is zero), "Load-Reserved/Store-Conditional Instructions" (stores by other harts).
-use Rattle.std.specs.Prelude.{◌≡◌, ℕ, ◌⊎◌, List, length, ⊤, Option, Some, None, Result, Ok, Err, bit_and, slice_get, slice_index}
+use Rattle.std.specs.Prelude.{◌≡◌, ℕ, ◌⊎◌, length, ⊤, Option, Some, None, Result, Ok, Err, bit_and, slice_get, slice_index}
 use Rattle.rv_model.specs.declared.did.Did.TheVariants.{Trapped}
 use Rattle.rv_model.specs.declared.mem_fault.MemFault.{MemFault}
 use Rattle.rv_model.specs.declared.size.Size.{Size}
 use Rattle.rv_model.specs.Rows.{Row, rows}
 use Rattle.rv_model.specs.Memory.{Memory, loaded, store_answer, after_store}
-use Rattle.rv_model.specs.Core.{Core, IsCore, x_of}
+use Rattle.rv_model.specs.Core.{Core, IsCore}
 use Rattle.rv_model.specs.Effects.{Outcome}
 use Rattle.rv_model.specs.Execute.{exec_of}
 use Rattle.rv_model.specs.Board.{Machine, Board, execute, execute_on, machine_of}

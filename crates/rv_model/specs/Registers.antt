@@ -1,6 +1,6 @@
 -- The control and status registers of Machine Mode as a table, and what a read and a write of one do.
 -- Privileged manual, "Machine-Level CSRs"; which bits are writable, and that the others keep their reset value, is this project's own choice within its WARL rules.
-use Rattle.std.specs.Prelude.{ℕ, ◌+◌, ◌-◌, ◌^◌, Bool, true, false, if◌then◌else◌, nat_lt, ◌==◌, List, [], ◌∷◌, Option, Some, None, find, option_map, bit_and, is_some}
+use Rattle.std.specs.Prelude.{ℕ, ◌+◌, ◌-◌, ◌^◌, Bool, true, false, if◌then◌else◌, nat_lt, ◌==◌, List, [], ◌∷◌, Option, Some, None, find, option_map, bit_and}
 use Rattle.rv_model.specs.Core.{Core, x_of, with_x, aligned, register_count, mpp_machine}
 
 pub record Register : Type 0 where
