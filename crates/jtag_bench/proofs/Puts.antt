@@ -7,10 +7,11 @@ use Rattle.jtag_bench.proofs.Stood.{grew_behind, grown_twice}
 pub first_failed : (xs zs : List ℕ) (held new : Option (List ℕ)) → GrewByPrefix xs held new → GrewByPrefix (xs ++ zs) held new
 first_failed xs zs None new g = g
 first_failed xs zs (Some hs) new g = record {
-    front = g.front;
-    back = g.back ++ zs;
-    cut = ap (λ part. part ++ zs) g.cut ∙ append_assoc g.front g.back zs;
-    is = g.is }
+  front = g.front;
+  back = g.back ++ zs;
+  cut = ap (λ part. part ++ zs) g.cut ∙ append_assoc g.front g.back zs;
+  is = g.is;
+}
 
 pub second_failed : (xs ys zs : List ℕ) (held between new : Option (List ℕ)) → between ≡ grown xs held → GrewByPrefix ys between new → GrewByPrefix (xs ++ (ys ++ zs)) held new
 second_failed xs ys zs held between new is g = grew_behind xs ys zs held new (subst (λ b. GrewByPrefix ys b new) is g)

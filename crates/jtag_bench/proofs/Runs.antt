@@ -14,6 +14,7 @@ same_chip f g e = ap (λ (h : Far). h.chip) (let s : f ≡ g = cc in s)
 
 pub ran_on : (commands : List Command) (before after : Option (List ℕ)) (begin given : Chip) (mid last : Far) → begin ≡ fresh_chip → Ran commands begin (Some mid) before after → Some last ≡ option_map (sent quit) (Some mid) → given ≡ last.chip → RanOn commands before after given
 ran_on commands before after begin given mid last fresh ran told is = record {
-    put = ran.put;
-    end = ran.end;
-    bench_is = is ∙ same_chip last (sent quit mid) told ∙ ap (λ c. feed c quit) (same_chip mid (read_out (feed begin (stream_of commands))) ran.chip ∙ ap (λ c. feed c (stream_of commands)) fresh) ∙ sym (feed-append (stream_of commands) fresh_chip quit) }
+  put = ran.put;
+  end = ran.end;
+  bench_is = is ∙ same_chip last (sent quit mid) told ∙ ap (λ c. feed c quit) (same_chip mid (read_out (feed begin (stream_of commands))) ran.chip ∙ ap (λ c. feed c (stream_of commands)) fresh) ∙ sym (feed-append (stream_of commands) fresh_chip quit);
+}

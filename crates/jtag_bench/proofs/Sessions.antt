@@ -24,8 +24,9 @@ reset_then c rest = refl
 
 read_told : (out : List Bool) (c : Chip) (new : Option Far) (w : Chip) → w ≡ feed c reset_bytes → w.port.selected ≡ Idcode → Scanned (bits_of 32 0) out w new → ReadIdcode (number_of out) c new
 read_told out c new w fed selected scanned = record {
-    number_is = ap number_of (scanned.out_is ∙ ap (λ r. comes_out (captured r) (bits_of 32 0)) selected) ∙ idcode_out;
-    chip = scanned.new_is ∙ ap (λ d. Some (read_out d)) (scanned.fed ∙ ap (λ d. feed d (dr_bytes (bits_of 32 0))) fed ∙ reset_then c (dr_bytes (bits_of 32 0)) ∙ ap (feed c) (sym stream_cut)) }
+  number_is = ap number_of (scanned.out_is ∙ ap (λ r. comes_out (captured r) (bits_of 32 0)) selected) ∙ idcode_out;
+  chip = scanned.new_is ∙ ap (λ d. Some (read_out d)) (scanned.fed ∙ ap (λ d. feed d (dr_bytes (bits_of 32 0))) fed ∙ reset_then c (dr_bytes (bits_of 32 0)) ∙ ap (feed c) (sym stream_cut));
+}
 
 told_mid : (out : List Bool) (w : Chip) (mid new : Option Far) → mid ≡ Some (read_out w) → IfSome mid (λ f. Scanned (bits_of 32 0) out f.chip new) → Scanned (bits_of 32 0) out w new
 told_mid out w mid new is h = subst (λ m. IfSome m (λ f. Scanned (bits_of 32 0) out f.chip new)) is h

@@ -42,10 +42,11 @@ grown_twice xs ys (Some zs) = ap Some (append_assoc zs xs ys)
 pub grew_behind : (xs ys zs : List ℕ) (held new : Option (List ℕ)) → GrewByPrefix ys (grown xs held) new → GrewByPrefix (xs ++ (ys ++ zs)) held new
 grew_behind xs ys zs None new g = g
 grew_behind xs ys zs (Some hs) new g = record {
-    front = xs ++ g.front;
-    back = g.back ++ zs;
-    cut = ap (λ part. xs ++ (part ++ zs)) g.cut ∙ simp append_assoc;
-    is = g.is ∙ ap Some (append_assoc hs xs g.front) }
+  front = xs ++ g.front;
+  back = g.back ++ zs;
+  cut = ap (λ part. xs ++ (part ++ zs)) g.cut ∙ simp append_assoc;
+  is = g.is ∙ ap Some (append_assoc hs xs g.front);
+}
 
 -- bytes that were taken whole, and no more
 pub grew_whole : (xs zs : List ℕ) (held : Option (List ℕ)) → GrewByPrefix (xs ++ zs) held (grown xs held)
@@ -62,12 +63,13 @@ feed-append (x ∷ xs) c ys = feed-append xs (after c x) ys
 
 pub stood_first : (script : List Command) (f : Far) (held : Option (List ℕ)) → f.unread ≡ [] → Stood script script f.chip held (Some f) held
 stood_first script f held read = record {
-    chip = f.chip;
-    world = start;
-    is = ap (λ (xs : List ℕ). Some (let g : Far = record { chip = f.chip; unread = xs } in g)) read;
-    replayed = refl;
-    fed = refl;
-    put = grown_none held }
+  chip = f.chip;
+  world = start;
+  is = ap (λ (xs : List ℕ). Some (let g : Far = record { chip = f.chip; unread = xs } in g)) read;
+  replayed = refl;
+  fed = refl;
+  put = grown_none held;
+}
 
 replay_idcode : (rest : List Command) (w : World) → replay (commands (Idcode ∷ rest)) w [] ≡ replay (commands rest) (said (idcode_line idcode) w) []
 unfolding replay
@@ -75,12 +77,13 @@ replay_idcode rest w = refl
 
 idcode_stood : (script rest : List Command) (c : Chip) (held : Option (List ℕ)) (old new : Option Far) (before after : Option (List ℕ)) (s : Stood script (Idcode ∷ rest) c held old before) → DidIdcode s.chip new before after → Stood script rest c held new after
 idcode_stood script rest c held old new before after s did = record {
-    chip = feed s.chip idcode_stream;
-    world = said (idcode_line idcode) s.world;
-    is = did.chip;
-    replayed = s.replayed ∙ replay_idcode rest s.world;
-    fed = s.fed ∙ feed-append idcode_stream s.chip (stream_of rest);
-    put = did.put ∙ ap (grown (text_of (idcode_line idcode))) s.put ∙ grown_twice (text_of_all s.world.lines) (text_of (idcode_line idcode)) held ∙ ap (λ text. grown text held) (sym (text_of_all-said (idcode_line idcode) s.world)) }
+  chip = feed s.chip idcode_stream;
+  world = said (idcode_line idcode) s.world;
+  is = did.chip;
+  replayed = s.replayed ∙ replay_idcode rest s.world;
+  fed = s.fed ∙ feed-append idcode_stream s.chip (stream_of rest);
+  put = did.put ∙ ap (grown (text_of (idcode_line idcode))) s.put ∙ grown_twice (text_of_all s.world.lines) (text_of (idcode_line idcode)) held ∙ ap (λ text. grown text held) (sym (text_of_all-said (idcode_line idcode) s.world));
+}
 
 -- one more command was done
 pub stood_more : (command : Command) (script rest : List Command) (c : Chip) (held : Option (List ℕ)) (old new : Option Far) (before after : Option (List ℕ)) (s : Stood script (command ∷ rest) c held old before) → Did command Done s.chip new before after → Stood script rest c held new after
@@ -98,9 +101,10 @@ stops_at_end rest w = refl
 
 ran_at : (script : List Command) (w : World) (c d : Chip) (new : Option Far) (held after : Option (List ℕ)) → transcript script [] ≡ record { world = w; end = Clean } → feed c (stream_of script) ≡ d → new ≡ Some (read_out d) → after ≡ grown (text_of_all w.lines) held → Ran script c new held after
 ran_at script w c d new held after is fed told put = record {
-    chip = told ∙ ap (λ e. Some (read_out e)) (sym fed);
-    put = put ∙ ap (λ (o : Outcome). grown (text_of_all o.world.lines) held) (sym is);
-    end = ap (λ (o : Outcome). o.end) is }
+  chip = told ∙ ap (λ e. Some (read_out e)) (sym fed);
+  put = put ∙ ap (λ (o : Outcome). grown (text_of_all o.world.lines) held) (sym is);
+  end = ap (λ (o : Outcome). o.end) is;
+}
 
 pub ran_last : (script : List Command) (c : Chip) (held : Option (List ℕ)) (told : Option Far) (contents : Option (List ℕ)) → Stood script [] c held told contents → Ran script c told held contents
 ran_last script c held told contents s = ran_at script s.world c s.chip told held contents (s.replayed ∙ stops s.world) s.fed s.is s.put

@@ -50,11 +50,7 @@ fn load_script<'a, F: Files>(
 }
 
 /// Reads and judges the image of this name: the chip of today has no RAM, so it is empty.
-fn load_image<'a, F: Files>(
-    alloc: Global,
-    files: &mut F,
-    name: &'a str,
-) -> Result<(), Refusal<'a>>
+fn load_image<'a, F: Files>(alloc: Global, files: &mut F, name: &'a str) -> Result<(), Refusal<'a>>
     ensures image { IfOk result (λ _. HoldsNoImage (F.held files.old) name.now) }
     ensures cause { IfErr result (ImageCause (F.held files.old) name.now (F.fault_count files.old) (F.fault_count files.new)) }
     ensures held { F.held files.new ≡ F.held files.old }

@@ -204,7 +204,7 @@ pub fed_whole : (bytes : List ℕ) (old between new : Option Far) → between �
 fed_whole bytes None between new is keeps = subst (λ b. KeepsChip b new) is keeps
 fed_whole bytes (Some f) between new is keeps =
     let at : KeepsChip (Some (sent bytes f)) new = subst (λ b. KeepsChip b new) is keeps in
-    record { front = bytes; back = []; unread = at.0; cut = sym (append-nil bytes); is = at.1 }
+    record { front = bytes; back = []; unread = at.1; cut = sym (append-nil bytes); is = at.3 }
 
 pub on_err : {T E P : Type 0} (result : Result T E) → P → OnErr result P
 on_err (Ok x) p = tt
