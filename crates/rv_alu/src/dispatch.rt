@@ -11,8 +11,8 @@ use crate::shifts::{sll, sllw, sra, sraw, srl, srlw};
 use crate::words::word;
 use rv_model::AluOp;
 
-#[tactic(auto, unfolding(rv_model::specs::Alu::alu_of))]
 /// What an operation gives.
+#[tactic(auto, unfolding(rv_model::specs::Alu::alu_of))]
 pub fn alu(op: AluOp, a: u64, b: u64) -> u64
     ensures { result ≡ alu_of op a b }
 {

@@ -56,6 +56,7 @@ pub value_at_drop : (xs : List ℕ) (a i n : ℕ) → a ≡ ram_base + i → i +
 value_at_drop xs a i n e h =
     value_at_from xs a i n e h ∙ ap Some (sym (little_from-drop xs i 0 n ∙ ap (λ k. little_from k n xs) (omega arith)))
 
+-- the same where what is left is cut after enough bytes
 pub value_at_mid : (xs : List ℕ) (a i k n v : ℕ) → a ≡ ram_base + i → i + n ≤ length xs → n ≤ k → v ≡ little_from 0 n (take k (drop i xs)) → value_at (map_of xs) a n ≡ Some v
 value_at_mid xs a i k n v e h long is =
     value_at_drop xs a i n e h ∙ ap Some (sym (is ∙ little_from-take 0 n k (drop i xs) (omega arith)))
@@ -103,9 +104,6 @@ write_mid xs ys a i k n v e h ek is =
     ∙ sym (write_from xs a i 0 n v v e h (sym (div-one v)))
 
 -- a number's lowest bytes are those of its low bits
-pub low_byte : (v w : ℕ) → w ≡ v % 2 ^ 8 → bytes_low_first 0 1 w ≡ bytes_low_first 0 1 v
-low_byte v w e = let a : w % 256 ≡ v % 256 = omega arith in λ i. a i ∷ []
-
 pub low_two : (v w : ℕ) → w ≡ v % 2 ^ 16 → bytes_low_first 0 2 w ≡ bytes_low_first 0 2 v
 low_two v w e =
     let a : w % 256 ≡ v % 256 = omega arith in

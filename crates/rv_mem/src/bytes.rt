@@ -1,7 +1,7 @@
 //! Bytes as numbers, the least significant first (unprivileged manual, "Load and Store Instructions").
 
 ghost use Rattle.std.specs.Prelude.{◌≡◌, ◌+◌, ◌*◌, ◌^◌, ◌<◌, ◌≤◌, Some, None, IfSome, IfNone, Bool, true, is_some, length};
-ghost use Rattle.rv_model.specs.Memory.{ram_base, map_of, value_at, with_value};
+ghost use Rattle.rv_model.specs.Memory.{ram_base, map_of, is_aligned, value_at, with_value};
 ghost use Rattle.rv_model.specs.Size.{count_of};
 ghost use Rattle.rv_mem.specs.Image.{with_image};
 
@@ -11,8 +11,15 @@ use rv_model::Size;
 /// The address of the first byte.
 pub const BASE: u64 = 0x8000_0000;
 
-#[tactic(auto, using(crate::proofs::ByteLemmas::none_low, crate::proofs::ByteLemmas::none_high, crate::proofs::ByteLemmas::some_inside))]
+/// Whether an address is a multiple of the access's size.
+pub fn is_aligned(addr: u64, size: Size) -> bool
+    ensures { result ≡ is_aligned addr size }
+{
+    addr % u64::from(size.count()) == 0
+}
+
 /// The index of an address among the bytes, or None where one of the `size` bytes from there on is not among them.
+#[tactic(auto, using(crate::proofs::ByteLemmas::none_low, crate::proofs::ByteLemmas::none_high, crate::proofs::ByteLemmas::some_inside))]
 pub fn index_of(bytes: &[u8], addr: u64, size: Size) -> Option<usize>
     ensures outside { IfNone result (value_at (map_of bytes.now) addr (count_of size) ≡ None) }
     ensures inside { IfSome result (λ at. is_some (value_at (map_of bytes.now) addr (count_of size)) ≡ true) }

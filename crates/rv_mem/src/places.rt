@@ -38,8 +38,8 @@ pub fn clear(places: &mut [Option<u64>], addr: u64, count: u64)
     }
 }
 
-#[tactic(auto, using(crate::proofs::ByteLemmas::count_most))]
 /// Whether a hart's reservation covers the `size` bytes from `addr` on.
+#[tactic(auto, using(crate::proofs::ByteLemmas::count_most))]
 pub fn is_covered(places: &[Option<u64>], hart: u8, addr: u64, size: Size) -> bool
     requires { hart < length places.now }
     ensures { result ≡ place_covers (slice_get places.now hart) addr (count_of size) }

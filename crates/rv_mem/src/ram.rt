@@ -4,7 +4,7 @@ ghost use Rattle.rv_model.specs.Memory.{IsRamSize, zero_memory, ram_base, loaded
 ghost use Rattle.rv_model.specs.Size.{count_of};
 ghost use Rattle.rv_mem.specs.Image.{ram_size, filled};
 
-use crate::bytes::{BASE, index_of, put, read, write};
+use crate::bytes::{BASE, index_of, is_aligned, put, read, write};
 use crate::places::{clear, is_covered, place_round};
 use crate::ram_fault::RamFault;
 use rv_model::{MemFault, Size};
@@ -62,8 +62,8 @@ impl Ram {
         }
     }
 
-    #[tactic(auto, using(crate::proofs::ImageLemmas::ram_lemmas))]
     /// How many bytes there are, from address 0x80000000 on.
+    #[tactic(auto, using(crate::proofs::ImageLemmas::ram_lemmas))]
     pub fn size(&self) -> u64
         ensures bytes { result ≡ ram_size self.now }
         ensures right { IsRamSize result }
@@ -72,29 +72,29 @@ impl Ram {
         self.bytes.len() as u64
     }
 
-    #[tactic(auto, unfolding(rv_model::specs::Memory::loaded))]
     /// The number in the `size` bytes from `addr` on, zero extended.
+    #[tactic(auto, unfolding(rv_model::specs::Memory::loaded))]
     pub fn load(&self, addr: u64, size: Size) -> Result<u64, MemFault>
         ensures value { result ≡ loaded self.now addr size }
         ensures small { IfOk result (λ value. value < 256 ^ count_of size) }
     {
-        if addr % u64::from(size.count()) != 0 {
+        if !is_aligned(addr, size) {
             return Err(MemFault::Misaligned);
         }
-        match index_of(&self.bytes, addr, size) {
-            Some(at) => Ok(read(&self.bytes, at, size)),
-            None => Err(MemFault::Outside),
-        }
+        let Some(at) = index_of(&self.bytes, addr, size) else {
+            return Err(MemFault::Outside);
+        };
+        Ok(read(&self.bytes, at, size))
     }
 
-    #[tactic(auto, unfolding(rv_model::specs::Memory::store_answer, rv_model::specs::Memory::after_store))]
     /// Puts the lowest bytes of `value` into the `size` bytes from `addr` on, and takes away each reservation that they touch.
     /// A refused store changes nothing.
+    #[tactic(auto, unfolding(rv_model::specs::Memory::store_answer, rv_model::specs::Memory::after_store))]
     pub fn store(&mut self, addr: u64, size: Size, value: u64) -> Result<(), MemFault>
         ensures answer { result ≡ store_answer self.old addr size }
         ensures after { self.new ≡ after_store self.old addr size value }
     {
-        if addr % u64::from(size.count()) != 0 {
+        if !is_aligned(addr, size) {
             return Err(MemFault::Misaligned);
         }
         match index_of(&self.bytes, addr, size) {
@@ -107,9 +107,9 @@ impl Ram {
         }
     }
 
-    #[tactic(auto, using(crate::proofs::ImageLemmas::ram_lemmas))]
     /// Puts an image at address 0x80000000 and takes away each reservation that it touches; the bytes above it stay.
     /// It is at most as long as RAM.
+    #[tactic(auto, using(crate::proofs::ImageLemmas::ram_lemmas))]
     pub fn fill(&mut self, image: &[u8])
         requires { length image.now ≤ ram_size self.old }
         ensures { self.new ≡ filled self.old image.now }

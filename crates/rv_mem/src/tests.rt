@@ -106,6 +106,8 @@ fn puts_an_image_at_the_first_address(rt: HostRuntime) {
     let _answer = ram.store(FIRST, Size::B8, u64::MAX);
     ram.reserve(0, FIRST);
     ram.reserve(1, FIRST + 8);
+    let room = ram.size();
+    assert!(rt; room >= 5);
     ram.fill(b"\x13\x05\xa0\x02\x73");
     assert_eq!(rt; ram.load(FIRST, Size::B8), Ok(0xffff_ff73_02a0_0513));
     assert!(rt; !ram.reserved(0, FIRST, Size::B1));

@@ -1,4 +1,4 @@
-use Rattle.std.proofs.Common.{◌≡◌, ◌++◌, drop, ap, sym, ◌∙◌, length}
+use Rattle.std.proofs.Common.{◌++◌, drop, ap, sym, ◌∙◌, length}
 use Rattle.rv_model.specs.Memory.{map_of}
 use Rattle.rv_mem.proofs.ImageLemmas.{with_image-map_of}
 use Rattle.rv_mem.proofs.bytes.put.Goals as goal
