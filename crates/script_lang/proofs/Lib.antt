@@ -1,0 +1,10 @@
+pub mod CleanLemmas
+pub mod FormLemmas
+pub mod LineLemmas
+pub mod NumberLemmas
+pub mod PrintLemmas
+pub mod ReadAgain
+pub mod ReaderLemmas
+pub mod RoundTrip
+pub mod SpellingAgain
+pub mod WordLemmas
