@@ -1,5 +1,6 @@
 pub mod CleanLemmas
 pub mod FormLemmas
+pub mod LawLemmas
 pub mod LineLemmas
 pub mod NumberLemmas
 pub mod PrintLemmas

@@ -12,7 +12,7 @@ mod reader;
 mod spelled;
 mod words;
 
-pub use laws::reads_its_spelling;
+pub use laws::{one_reading_of_a_line, one_reading_of_a_text};
 pub use printer::print;
 pub use reader::parse;
 
