@@ -1,26 +1,27 @@
 -- The control and status registers of Machine Mode as a table, and what a read and a write of one do.
 -- Privileged manual, "Machine-Level CSRs"; which bits are writable, and that the others keep their reset value, is this project's own choice within its WARL rules.
-use Rattle.std.specs.Prelude.{ℕ, ◌+◌, ◌-◌, ◌^◌, Bool, true, false, if◌then◌else◌, nat_lt, ◌==◌, List, [], ◌∷◌, Option, Some, None, find, option_map, bit_and}
+use Rattle.std.specs.Prelude.{codes, ℕ, ◌+◌, ◌-◌, ◌^◌, Bool, true, false, if◌then◌else◌, nat_lt, ◌==◌, List, [], ◌∷◌, Option, Some, None, find, option_map, bit_and}
 use Rattle.rv_model.specs.Core.{Core, x_of, with_x, aligned, register_count, mpp_machine}
 
 pub record Register : Type 0 where
   pub number : ℕ
+  pub name : List ℕ
   pub reset : ℕ  -- what the bits that are not writable always are
   pub writable : ℕ  -- the bits that a write sets
   pub refuses : Bool  -- a write is an illegal instruction; otherwise one of other bits is ignored
   pub read : Core → ℕ
   pub write : ℕ → Core → Core
 
-abbrev pub register : ℕ → ℕ → ℕ → (Core → ℕ) → (ℕ → Core → Core) → Register
-register number reset writable read write = record { number = number; reset = reset; writable = writable; refuses = false; read = read; write = write }
+abbrev pub register : ℕ → List ℕ → ℕ → ℕ → (Core → ℕ) → (ℕ → Core → Core) → Register
+register number name reset writable read write = record { number = number; name = name; reset = reset; writable = writable; refuses = false; read = read; write = write }
 
 -- a register whose writes are ignored
-abbrev pub constant : ℕ → ℕ → Register
-constant number value = record { number = number; reset = value; writable = 0; refuses = false; read = λ c. value; write = λ v c. c }
+abbrev pub constant : ℕ → List ℕ → ℕ → Register
+constant number name value = record { number = number; name = name; reset = value; writable = 0; refuses = false; read = λ c. value; write = λ v c. c }
 
 -- a register whose writes are refused
-abbrev pub read_only : ℕ → (Core → ℕ) → Register
-read_only number read = record { number = number; reset = 0; writable = 0; refuses = true; read = read; write = λ v c. c }
+abbrev pub read_only : ℕ → List ℕ → (Core → ℕ) → Register
+read_only number name read = record { number = number; name = name; reset = 0; writable = 0; refuses = true; read = read; write = λ v c. c }
 
 abbrev pub all_bits : ℕ
 all_bits = 2 ^ 64 - 1
@@ -36,19 +37,19 @@ misa_value = 0x8000000000001101
 
 abbrev pub registers : List Register
 registers =
-    register 0x300 mpp_machine mstatus_bits (λ c. c.mstatus) (λ v c. record c { mstatus = v }) ∷  -- mstatus
-    constant 0x301 misa_value ∷  -- misa
-    constant 0x304 0 ∷  -- mie
-    register 0x305 0 address_bits (λ c. c.mtvec) (λ v c. record c { mtvec = v }) ∷  -- mtvec
-    register 0x340 0 all_bits (λ c. c.mscratch) (λ v c. record c { mscratch = v }) ∷  -- mscratch
-    register 0x341 0 address_bits (λ c. c.mepc) (λ v c. record c { mepc = v }) ∷  -- mepc
-    register 0x342 0 all_bits (λ c. c.mcause) (λ v c. record c { mcause = v }) ∷  -- mcause
-    register 0x343 0 all_bits (λ c. c.mtval) (λ v c. record c { mtval = v }) ∷  -- mtval
-    constant 0x344 0 ∷  -- mip
-    read_only 0xf11 (λ c. 0) ∷  -- mvendorid
-    read_only 0xf12 (λ c. 0) ∷  -- marchid
-    read_only 0xf13 (λ c. 0) ∷  -- mimpid
-    read_only 0xf14 (λ c. c.id) ∷  -- mhartid
+    register 0x300 (codes "mstatus") mpp_machine mstatus_bits (λ c. c.mstatus) (λ v c. record c { mstatus = v }) ∷
+    constant 0x301 (codes "misa") misa_value ∷
+    constant 0x304 (codes "mie") 0 ∷
+    register 0x305 (codes "mtvec") 0 address_bits (λ c. c.mtvec) (λ v c. record c { mtvec = v }) ∷
+    register 0x340 (codes "mscratch") 0 all_bits (λ c. c.mscratch) (λ v c. record c { mscratch = v }) ∷
+    register 0x341 (codes "mepc") 0 address_bits (λ c. c.mepc) (λ v c. record c { mepc = v }) ∷
+    register 0x342 (codes "mcause") 0 all_bits (λ c. c.mcause) (λ v c. record c { mcause = v }) ∷
+    register 0x343 (codes "mtval") 0 all_bits (λ c. c.mtval) (λ v c. record c { mtval = v }) ∷
+    constant 0x344 (codes "mip") 0 ∷
+    read_only 0xf11 (codes "mvendorid") (λ c. 0) ∷
+    read_only 0xf12 (codes "marchid") (λ c. 0) ∷
+    read_only 0xf13 (codes "mimpid") (λ c. 0) ∷
+    read_only 0xf14 (codes "mhartid") (λ c. c.id) ∷
     []
 
 abbrev pub register_at : ℕ → Option Register
