@@ -6,5 +6,6 @@ pub mod LastLine
 pub mod Status
 pub mod ScriptText
 pub mod Refusal
+pub mod Asked
 pub mod FileRead
 pub mod Run

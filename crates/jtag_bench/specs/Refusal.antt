@@ -1,6 +1,6 @@
 -- Why a run is refused before its session, and what it prints and answers then.
 -- The order of the tests is this project's own: the words, the script, the image (docs/FORMATS.md, "Statuses").
-use Rattle.std.specs.Prelude.{◌≡◌, ◌≢◌, ◌⊎◌, ◌++◌, ℕ, List, [], ◌∷◌, Option, Some, None, Result, Ok, Err, IfSome, IsSome, IsSomeAnd}
+use Rattle.std.specs.Prelude.{◌≡◌, ◌≢◌, ◌++◌, ℕ, List, [], ◌∷◌, Option, Some, None, Result, Ok, Err, IfSome, IsSome, IsSomeAnd}
 use Rattle.debug_model.specs.declared.command.Command.{Command}
 use Rattle.debug_model.specs.declared.script_error.ScriptError.{ScriptError}
 use Rattle.jt_base.specs.Faults.{Rises}
@@ -63,7 +63,7 @@ pub record IsBadImage (inputs : Inputs) (held : Option (List NamedFile)) : Type 
 -- the cause of each refusal
 abbrev pub RefusalCause : List (List ℕ) → Option (List NamedFile) → ℕ → ℕ → Refusal → Type 0
 RefusalCause words held old new Words = inputs_of words ≡ None
-RefusalCause words held old new (File name) = Rises old new × IsSomeAnd (inputs_of words) (λ inputs. (name.now ≡ inputs.script) ⊎ (name.now ≡ inputs.image))
+RefusalCause words held old new (File name) = Rises old new × IsSome (inputs_of words)
 RefusalCause words held old new (Script error) = IsSomeAnd (inputs_of words) (λ inputs. HoldsBadScript held inputs.script error)
 RefusalCause words held old new Image = IsSomeAnd (inputs_of words) (λ inputs. IsBadImage inputs held)
 RefusalCause words held old new OutOfMemory = IsSome (inputs_of words)

@@ -8,6 +8,7 @@ use Rattle.debug_model.specs.Transcript.End.{Clean}
 use Rattle.debug_model.specs.declared.command.Command.{Command}
 use Rattle.jt_base.specs.Files.{NamedFile}
 use Rattle.jt_base.specs.Sink.{grown, GrewByPrefix}
+use Rattle.jtag_bench.specs.Asked.{AskedFor, Names}
 use Rattle.jtag_bench.specs.Refusal.{IsAccepted, RefusalCause, last_line, status_of}
 use Rattle.jtag_bench.specs.Stream.{quit, stream_of}
 use Rattle.jtag_bench.specs.declared.refusal.Refusal.{Refusal}
@@ -29,10 +30,11 @@ pub record RanClean (words : List (List ℕ)) (held : Option (List NamedFile)) (
   pub ran : RanOn commands before after bench
 
 -- a refused run: its cause, its last line and no other, and a chip that has taken no byte
-pub record WasRefused (words : List (List ℕ)) (held : Option (List NamedFile)) (old new : ℕ) (before after : Option (List ℕ)) (bench : Chip) (status : Status) : Type 0 where
+pub record WasRefused (words : List (List ℕ)) (held : Option (List NamedFile)) (asked_old asked_new : Names) (old new : ℕ) (before after : Option (List ℕ)) (bench : Chip) (status : Status) : Type 0 where
   pub refusal : Refusal
   pub status_is : status ≡ status_of refusal
   pub cause : RefusalCause words held old new refusal
+  pub asked : AskedFor words refusal asked_old asked_new
   pub put : after ≡ grown (last_line refusal) before
   pub bench_is : bench ≡ fresh_chip
 

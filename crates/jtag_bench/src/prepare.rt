@@ -1,10 +1,13 @@
 //! What is read and judged before a session.
 
-ghost use Rattle.std.specs.Prelude.{◌≡◌, ◌≤◌, map, string_bytes, IfOk, IfErr, IsErr, IsTrue, vec_len};
+ghost use Rattle.std.specs.Prelude.{◌≡◌, ◌≤◌, map, string_bytes, IfOk, IfErr, IsTrue, OnOk};
 ghost use Rattle.std.specs.List.{list_all};
 ghost use Rattle.jt_base.specs.Faults.{Rises};
+ghost use Rattle.jt_base.specs.Files.{asked_more};
+ghost use Rattle.jtag_bench.specs.Asked.{AskedAt, AskedFor, AskedFront};
 ghost use Rattle.jtag_bench.specs.Refusal.{HoldsBadScript, HoldsImage, HoldsNoImage, HoldsScript, IsAccepted, RefusalCause};
 ghost use Rattle.jtag_bench.specs.Session.{is_built};
+ghost use Rattle.jtag_bench.specs.Words.{inputs_of};
 ghost use Rattle.jtag_bench.specs.FileRead.{ImageCause, ScriptCause};
 
 use crate::refusal::Refusal;
@@ -30,6 +33,8 @@ fn load_script<'a, F: Files>(
     ensures built { IfOk result (λ commands. IsTrue (list_all is_built commands.now)) }
     ensures cause { IfErr result (ScriptCause (F.held files.old) name.now (F.fault_count files.old) (F.fault_count files.new)) }
     ensures held { F.held files.new ≡ F.held files.old }
+    ensures asked { OnOk result (F.asked files.new ≡ asked_more name.now (F.asked files.old)) }
+    ensures asked_err { IfErr result (λ refusal. AskedAt name.now refusal (F.asked files.old) (F.asked files.new)) }
     ensures later { F.fault_count files.old ≤ F.fault_count files.new }
 {
     let text = match files.read(alloc, name, SCRIPT_MOST) {
@@ -54,6 +59,8 @@ fn load_image<'a, F: Files>(alloc: Global, files: &mut F, name: &'a str) -> Resu
     ensures image { IfOk result (λ _. HoldsNoImage (F.held files.old) name.now) }
     ensures cause { IfErr result (ImageCause (F.held files.old) name.now (F.fault_count files.old) (F.fault_count files.new)) }
     ensures held { F.held files.new ≡ F.held files.old }
+    ensures asked { OnOk result (F.asked files.new ≡ asked_more name.now (F.asked files.old)) }
+    ensures asked_err { IfErr result (λ refusal. AskedAt name.now refusal (F.asked files.old) (F.asked files.new)) }
     ensures later { F.fault_count files.old ≤ F.fault_count files.new }
 {
     let image = match files.read(alloc, name, IMAGE_MOST) {
@@ -77,6 +84,8 @@ pub fn prepare<'a, F: Files>(
 ) -> Result<&'static [Command], Refusal<'a>>
     ensures accepted { IfOk result (λ commands. IsAccepted (map string_bytes words.now) (F.held files.old) commands.now) }
     ensures built { IfOk result (λ commands. IsTrue (list_all is_built commands.now)) }
+    ensures asked { AskedFront (inputs_of (map string_bytes words.now)) (F.asked files.old) (F.asked files.new) }
+    ensures asked_for { IfErr result (λ refusal. AskedFor (map string_bytes words.now) refusal (F.asked files.old) (F.asked files.new)) }
     ensures cause { IfErr result (RefusalCause (map string_bytes words.now) (F.held files.old) (F.fault_count files.old) (F.fault_count files.new)) }
 {
     let Some(inputs) = read_words(words) else {

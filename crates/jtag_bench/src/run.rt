@@ -5,8 +5,10 @@ ghost use Rattle.std.specs.List.{list_all};
 ghost use Rattle.debug_model.specs.Chip.{fresh_chip};
 ghost use Rattle.jt_base.specs.Faults.{HasCause, Rises};
 ghost use Rattle.jt_base.specs.Sink.{GrewByPrefix};
+ghost use Rattle.jtag_bench.specs.Asked.{AskedFront};
 ghost use Rattle.jtag_bench.specs.Run.{RanClean, RanOn, WasRefused, WroteFront, text_printed};
 ghost use Rattle.jtag_bench.specs.Session.{is_built};
+ghost use Rattle.jtag_bench.specs.Words.{inputs_of};
 
 use crate::acted::Failure;
 use crate::bench::Bench;
@@ -60,7 +62,8 @@ pub fn run<F: Files, K: Sink>(
     bench: &mut Bench,
 ) -> Status
     ensures clean { result ≡ Status.Clean → RanClean (map string_bytes words.now) (F.held files.old) (K.contents out.old) (K.contents out.new) bench.new }
-    ensures refused { result ≢ Status.Clean → result ≢ Status.Sink → WasRefused (map string_bytes words.now) (F.held files.old) (F.fault_count files.old) (F.fault_count files.new) (K.contents out.old) (K.contents out.new) bench.new result }
+    ensures refused { result ≢ Status.Clean → result ≢ Status.Sink → WasRefused (map string_bytes words.now) (F.held files.old) (F.asked files.old) (F.asked files.new) (F.fault_count files.old) (F.fault_count files.new) (K.contents out.old) (K.contents out.new) bench.new result }
+    ensures asked { AskedFront (inputs_of (map string_bytes words.now)) (F.asked files.old) (F.asked files.new) }
     ensures sink { result ≡ Status.Sink → Rises (K.fault_count out.old) (K.fault_count out.new) }
     ensures front { result ≡ Status.Sink → WroteFront (map string_bytes words.now) (F.held files.old) (F.fault_count files.old) (F.fault_count files.new) (K.contents out.old) (K.contents out.new) bench.new }
 {
