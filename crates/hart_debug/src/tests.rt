@@ -48,101 +48,87 @@ fn halted_hart_resumes_where_it_is_asked_to(rt: HostRuntime) {
     assert!(rt; !hart.acked() && !hart.resume_waits());
 }
 
-/// A running hart before its first instruction, what its turn answers, and its pc then.
-struct Case {
-    word: u64,
-    halt_request: bool,
-    ebreakm: bool,
-    step: bool,
-    turned: Turned,
-    pc: u64,
-}
-
-/// The cases of RISC-V Debug Specification 1.0, "Debug Control and Status", in this project's order.
-const CASES: [Case; 8] = [
-    case(
-        ADDI,
-        (false, false, false),
-        Turned::Ran(Did::Retired),
-        SECOND,
-    ),
-    case(
-        ADDI,
-        (true, false, true),
-        Turned::Halted(Cause::HaltReq),
-        FIRST,
-    ),
-    case(
-        EBREAK,
-        (true, true, true),
-        Turned::Halted(Cause::HaltReq),
-        FIRST,
-    ),
-    case(
-        EBREAK,
-        (false, true, true),
-        Turned::Halted(Cause::Ebreak),
-        FIRST,
-    ),
-    case(
-        EBREAK,
-        (false, true, false),
-        Turned::Halted(Cause::Ebreak),
-        FIRST,
-    ),
-    case(
-        EBREAK,
-        (false, false, false),
-        Turned::Ran(Did::Trapped(3)),
-        HANDLER,
-    ),
-    case(
-        ADDI,
-        (false, true, true),
-        Turned::Halted(Cause::Step),
-        SECOND,
-    ),
-    case(
-        EBREAK,
-        (false, false, true),
-        Turned::Halted(Cause::Step),
-        HANDLER,
-    ),
-];
-
-const fn case(
-    word: u64,
-    (halt_request, ebreakm, step): (bool, bool, bool),
-    turned: Turned,
-    pc: u64,
-) -> Case {
-    Case {
-        word,
-        halt_request,
-        ebreakm,
-        step,
-        turned,
-        pc,
+#[test]
+fn running_hart_halts_for_the_first_reason(rt: HostRuntime) {
+    // The word at pc; whether there is a halt request, ebreakm, step; the turn's answer, and pc then.
+    let cases = [
+        (
+            ADDI,
+            [false, false, false],
+            Turned::Ran(Did::Retired),
+            SECOND,
+        ),
+        (
+            ADDI,
+            [true, false, true],
+            Turned::Halted(Cause::HaltReq),
+            FIRST,
+        ),
+        (
+            EBREAK,
+            [true, true, true],
+            Turned::Halted(Cause::HaltReq),
+            FIRST,
+        ),
+        (
+            EBREAK,
+            [false, true, true],
+            Turned::Halted(Cause::Ebreak),
+            FIRST,
+        ),
+        (
+            EBREAK,
+            [false, true, false],
+            Turned::Halted(Cause::Ebreak),
+            FIRST,
+        ),
+        (
+            EBREAK,
+            [false, false, false],
+            Turned::Ran(Did::Trapped(3)),
+            HANDLER,
+        ),
+        (
+            ADDI,
+            [false, true, true],
+            Turned::Halted(Cause::Step),
+            SECOND,
+        ),
+        (
+            EBREAK,
+            [false, false, true],
+            Turned::Halted(Cause::Step),
+            HANDLER,
+        ),
+    ];
+    for (word, [halt_request, ebreakm, step], turned, pc) in cases {
+        let mut ram = ram_with(rt.alloc(), word).expect(&rt, "the smallest RAM");
+        let mut hart = DebugHart::new(0, Start::Running);
+        hart.halt_request(halt_request);
+        hart.set_ebreakm(ebreakm);
+        hart.set_step(step);
+        assert_eq!(rt; hart.turn(&mut ram), turned);
+        assert_eq!(rt; hart.hart().pc(), pc);
+        assert_eq!(rt; hart.halt_waits(), halt_request);
+        if let Turned::Halted(why) = turned {
+            assert_eq!(rt; hart.cause(), Some(why));
+            assert_eq!(rt; hart.turn(&mut ram), Turned::Idle);
+            assert_eq!(rt; hart.hart().pc(), pc);
+        } else {
+            assert_eq!(rt; hart.cause(), None);
+        }
     }
 }
 
 #[test]
-fn running_hart_halts_for_the_first_reason(rt: HostRuntime) {
-    for case in &CASES {
-        let mut ram = ram_with(rt.alloc(), case.word).expect(&rt, "the smallest RAM");
-        let mut hart = DebugHart::new(0, Start::Running);
-        hart.halt_request(case.halt_request);
-        hart.set_ebreakm(case.ebreakm);
-        hart.set_step(case.step);
-        assert_eq!(rt; hart.turn(&mut ram), case.turned);
-        assert_eq!(rt; hart.hart().pc(), case.pc);
-        assert_eq!(rt; hart.halt_waits(), case.halt_request);
-        if let Turned::Halted(why) = case.turned {
-            assert_eq!(rt; hart.cause(), Some(why));
-            assert_eq!(rt; hart.turn(&mut ram), Turned::Idle);
-            assert_eq!(rt; hart.hart().pc(), case.pc);
-        } else {
-            assert_eq!(rt; hart.cause(), None);
-        }
+fn causes_have_their_numbers(rt: HostRuntime) {
+    let numbers = [
+        (Cause::Ebreak, 1),
+        (Cause::HaltReq, 3),
+        (Cause::Step, 4),
+        (Cause::Reset, 5),
+    ];
+    for (why, number) in numbers {
+        assert_eq!(rt; why.number(), number, "{why:?}");
     }
 }

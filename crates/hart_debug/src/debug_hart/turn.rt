@@ -36,9 +36,9 @@ impl DebugHart {
                 }
             }
             None => {
+                // A trigger that fires comes behind a halt request and before `ebreak`. It has no code: all slots are free yet.
                 if self.halt_request {
                     self.halt(Cause::HaltReq)
-                    // Here a trigger that fires would halt the hart, but no slot can be armed yet.
                 } else if self.stops_at_ebreak(ram) {
                     self.halt(Cause::Ebreak)
                 } else {
