@@ -3,3 +3,4 @@ pub mod RegisterLemmas
 pub mod ScanExamples
 pub mod TapLaws
 pub mod Transcripts
+pub mod JournalLemmas
