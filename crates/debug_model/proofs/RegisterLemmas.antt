@@ -1,5 +1,5 @@
 -- The look-ups in a list of rows are those of the table that the rows show.
-use Rattle.std.proofs.Common.{◌≡◌, ℕ, ◌+◌, ◌<◌, ◌≤◌, Bool, true, false, ◌||◌, is_some, cond, ◌==◌, List, [], ◌∷◌, length, get_or, drop, map, Option, Some, None, unwrap_or, option_map, bytes_eq, refl, sym, ap, ◌∙◌, IsTrue, eq-eqb}
+use Rattle.std.proofs.Common.{◌≡◌, ℕ, ◌+◌, ◌<◌, ◌≤◌, Bool, true, false, ◌||◌, is_some, cond, ◌==◌, List, [], ◌∷◌, length, get_or, drop, map, Option, Some, None, unwrap_or, option_map, bytes_eq, refl, ap, ◌∙◌, eq-eqb}
 use Rattle.std.specs.List.{find, list_any}
 use Rattle.std.proofs.lemmas.List.{at_drop_more, at_drop_all}
 use denote.Ref.{Bor}

@@ -1,9 +1,9 @@
 -- Worked examples of scans, as the fold of the bytes over the chip computes them, with the values of the standard.
 -- Source: IEEE 1149.1, the bypass and the device identification register; OpenOCD, remote_bitbang, for the bytes.
-use Rattle.std.proofs.Common.{◌≡◌, ◌++◌, ℕ, List, [], ◌∷◌, Bool, true, false, length, take, map, Option, None, refl}
+use Rattle.std.proofs.Common.{◌≡◌, ◌++◌, ℕ, List, [], ◌∷◌, Bool, true, false, length, take, None, refl}
 use Rattle.jt_base.specs.BitList.{bits_of, number_of}
-use Rattle.debug_model.specs.Chip.{Chip, feed, said, answer_byte, fresh_chip}
-use Rattle.debug_model.specs.Scan.{clock, path, reset_bytes, to_idle, dr_bytes, comes_out, idle_port}
+use Rattle.debug_model.specs.Chip.{Chip, feed, said, fresh_chip}
+use Rattle.debug_model.specs.Scan.{clock, path, reset_bytes, to_idle, dr_bytes, comes_out}
 use Rattle.debug_model.specs.Tap.{captured, captured_instruction}
 use Rattle.debug_model.specs.declared.register.Register.{Register}
 use Rattle.debug_model.specs.declared.register.Register.TheVariants.{Idcode, Bypass}

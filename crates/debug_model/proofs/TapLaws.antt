@@ -1,12 +1,10 @@
 -- Laws of the TAP controller in the words of its standard: the way into Test-Logic-Reset, TRST, and the edges of TDO.
 -- Source: IEEE 1149.1, the state diagram, TRST, and the serial output of the instruction and test data registers.
-use Rattle.std.proofs.Common.{◌≡◌, ◌∙◌, ◌++◌, List, [], ◌∷◌, Bool, true, false, Option, None, refl, sym, ap}
+use Rattle.std.proofs.Common.{◌≡◌, List, [], ◌∷◌, Bool, true, false, None, refl}
 use Rattle.jt_base.specs.BitList.{lowest}
-use Rattle.debug_model.specs.Chip.{Chip, feed}
+use Rattle.debug_model.specs.Chip.{feed}
 use Rattle.debug_model.specs.Scan.{path}
 use Rattle.debug_model.specs.Tap.{Port, next_state, tap_rise, tap_fall, tap_held}
-use Rattle.debug_model.specs.declared.register.Register.{Register}
-use Rattle.debug_model.specs.declared.register.Register.TheVariants.{Idcode}
 use Rattle.debug_model.specs.declared.tap_state.TapState.{TapState}
 use Rattle.debug_model.specs.declared.tap_state.TapState.TheVariants.{TestLogicReset, RunTestIdle, SelectDr, CaptureDr, ShiftDr, Exit1Dr, PauseDr, Exit2Dr, UpdateDr, SelectIr, CaptureIr, ShiftIr, Exit1Ir, PauseIr, Exit2Ir, UpdateIr}
 

@@ -1,5 +1,5 @@
 -- Laws of every replay, each an induction on plans: a replay only adds lines.
-use Rattle.std.proofs.Common.{◌≡◌, ◌∙◌, ℕ, List, [], ◌∷◌, ◌++◌, Bool, true, false, ◌&&◌, ◌==◌, refl, sym, ap, append_assoc, append-nil, if◌then◌else◌}
+use Rattle.std.proofs.Common.{◌≡◌, ◌∙◌, List, [], ◌∷◌, ◌++◌, Bool, true, false, refl, sym, ap, append_assoc, append-nil, if◌then◌else◌}
 use Rattle.debug_model.specs.Debugger.{Plan, Stop}
 use Rattle.debug_model.specs.Debugger.Plan.{take, say, stop}
 use Rattle.debug_model.specs.Lines.{Line, text_of, text_of_all}

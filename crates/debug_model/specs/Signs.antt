@@ -1,6 +1,6 @@
 -- What each byte of the bit-bang stream means: pins, a question, a light, a reset line, the end, or no sign.
 -- Source: OpenOCD, remote_bitbang. That SRST does nothing, and that every other byte is no sign, is this project's choice.
-use Rattle.std.specs.Prelude.{ℕ, ◌==◌, List, [], ◌∷◌, Bool, true, false, Option, Some, None, if◌then◌else◌, IsSome}
+use Rattle.std.specs.Prelude.{ℕ, ◌==◌, List, [], ◌∷◌, Bool, true, false, Option, Some, None, if◌then◌else◌}
 use Rattle.debug_model.specs.declared.sign.Sign.{Sign}
 use Rattle.debug_model.specs.declared.sign.Sign.TheVariants.{Pins, Ask, Light, Reset, Quit}
 

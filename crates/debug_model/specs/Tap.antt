@@ -1,6 +1,6 @@
 -- The TAP controller with its instruction register and the test data registers: what an edge of TCK does, and TRST.
 -- Source: IEEE 1149.1, the state diagram, the instruction register, the bypass and the device identification register.
-use Rattle.std.specs.Prelude.{ℕ, ◌==◌, List, [], ◌∷◌, Bool, true, false, if◌then◌else◌}
+use Rattle.std.specs.Prelude.{ℕ, ◌==◌, List, [], Bool, true, false, if◌then◌else◌}
 use Rattle.jt_base.specs.BitList.{bits_of, number_of, shift_in, lowest}
 use Rattle.debug_model.specs.declared.register.Register.{Register}
 use Rattle.debug_model.specs.declared.register.Register.TheVariants.{Idcode, Bypass}

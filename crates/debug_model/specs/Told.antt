@@ -1,7 +1,7 @@
 -- What an object that carries a link may tell of its far end: the chip, and its answers that are not read yet.
 -- The named conditions recur in the contracts of the links; each of them holds of an object that tells no chip.
-use Rattle.std.specs.Prelude.{◌≡◌, ◌++◌, ℕ, List, [], false, Option, Some, None, IfSome}
-use Rattle.debug_model.specs.Chip.{Chip, feed, said}
+use Rattle.std.specs.Prelude.{◌≡◌, ℕ, List, [], false, Option, None, IfSome}
+use Rattle.debug_model.specs.Chip.{Chip}
 use Rattle.debug_model.specs.declared.tap_state.TapState.TheVariants.{RunTestIdle}
 
 pub record Far : Type 0 where

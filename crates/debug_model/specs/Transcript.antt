@@ -1,6 +1,6 @@
 -- The transcript of a session: its plan replayed along the chip's journal.
 -- It is this project's own: what a session prints is a function of the script and of what happened at the chip.
-use Rattle.std.specs.Prelude.{ℕ, List, [], ◌∷◌, ◌++◌, Bool, true, false, ◌&&◌, ◌==◌, if◌then◌else◌}
+use Rattle.std.specs.Prelude.{ℕ, List, [], ◌∷◌, ◌++◌, Bool, ◌&&◌, ◌==◌, if◌then◌else◌}
 use Rattle.debug_model.specs.Debugger.{Plan, Stop, commands}
 use Rattle.debug_model.specs.Debugger.Plan.{take, say, stop}
 use Rattle.debug_model.specs.Debugger.Stop.{Done, NotBuilt}

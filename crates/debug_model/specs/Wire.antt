@@ -1,7 +1,7 @@
 -- A wire to a chip: what the bytes that it carries do at its far end, where that is told.
-use Rattle.std.specs.Prelude.{◌≡◌, ◌++◌, ◌⊎◌, ℕ, List, [], ◌∷◌, length, Bool, IsTrue, Option, Some, None}
+use Rattle.std.specs.Prelude.{◌≡◌, ◌++◌, ◌⊎◌, ℕ, List, [], ◌∷◌, Bool, IsTrue, Option, Some, None}
 use Rattle.std.specs.List.{list_all}
-use Rattle.debug_model.specs.Chip.{Chip, feed, said}
+use Rattle.debug_model.specs.Chip.{feed, said}
 use Rattle.debug_model.specs.Signs.{sign_of, stays_open}
 use Rattle.debug_model.specs.Told.{Far}
 use Rattle.debug_model.specs.declared.wire.WireFault.{WireFault}

@@ -1,5 +1,5 @@
 -- A hart's turn against execution without debug parts, by the cases of the turn.
-use Rattle.std.proofs.Common.{◌≡◌, ◌≢◌, ◌∙◌, ℕ, List, [], ◌∷◌, Bool, true, false, length, map, set, zero, suc, Option, Some, None, slice_get, option_map, refl, sym, ap, subst, if◌then◌else◌}
+use Rattle.std.proofs.Common.{◌≡◌, ◌∙◌, ℕ, List, [], ◌∷◌, Bool, true, false, set, zero, suc, Option, Some, None, slice_get, option_map, refl, sym, ap, if◌then◌else◌}
 use Rattle.std.proofs.lemmas.List.{length-set}
 use Rattle.rv_model.specs.declared.cause.Cause.{Cause}
 use Rattle.rv_model.specs.declared.touch.Touch.{Touch}
@@ -9,7 +9,7 @@ use Rattle.rv_model.specs.Effects.{Outcome}
 use Rattle.rv_model.specs.Execute.{exec_of}
 use Rattle.rv_model.specs.Memory.{Memory}
 use Rattle.rv_model.specs.Touch.{touch_of}
-use Rattle.rv_model.specs.Turn.{executes, executes_at, executes_by, executes_here, memory_after, place_by, place_of, some_fires, stops_at_ebreak, turn, turn_by}
+use Rattle.rv_model.specs.Turn.{executes, executes_by, executes_here, memory_after, place_by, place_of, some_fires, stops_at_ebreak, turn_by}
 use Rattle.rv_model.specs.TurnLaws.{LeavesHarts, TurnForgetsDebugging, TurnLeavesOthers}
 use Rattle.rv_model.proofs.BoardLemmas.{cores-set, slice_get-cores}
 use Rattle.rv_model.proofs.MapLemmas.{slice_get-set_other}

@@ -4,7 +4,6 @@ use Rattle.std.specs.Prelude.{ℕ, zero, suc, ◌+◌, ◌-◌, ◌%◌, ◌^◌
 use Rattle.std.specs.List.{list_any}
 use Rattle.rv_model.specs.declared.slot.Comparison.{Comparison}
 use Rattle.rv_model.specs.declared.slot.Comparison.TheVariants.{Equal, AtLeast, Below}
-use Rattle.rv_model.specs.declared.slot.Mcontrol6.{Mcontrol6}
 use Rattle.rv_model.specs.declared.slot.Icount.{Icount}
 use Rattle.rv_model.specs.declared.slot.Trigger.{Trigger}
 use Rattle.rv_model.specs.declared.slot.Trigger.TheVariants as kind

@@ -1,7 +1,7 @@
 -- A hart's turn, the atomic step of a chip's harts: one resume, one stop, or one instruction or trap.
 -- RISC-V Debug Specification 1.0, "Sdext (ISA Extension)": Debug Mode, single stepping and the halt causes of dcsr. That a halt request comes
 -- before triggers, and those before ebreak, is this project's own choice.
-use Rattle.std.specs.Prelude.{ℕ, Bool, true, false, ◌&&◌, List, Option, Some, None, is_some, Result, Ok, Err, slice_get, slice_set, if◌then◌else◌}
+use Rattle.std.specs.Prelude.{ℕ, Bool, true, false, ◌&&◌, Option, Some, None, Result, Ok, Err, slice_get, slice_set, if◌then◌else◌}
 use Rattle.std.specs.List.{list_any}
 use Rattle.rv_model.specs.declared.cause.Cause.{Cause}
 use Rattle.rv_model.specs.declared.cause.Cause.TheVariants as cause

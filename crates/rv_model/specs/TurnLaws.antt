@@ -1,7 +1,7 @@
 -- Laws of a hart's turn: it leaves the other harts alone, and to a program it is one execution or nothing.
 -- They are this project's own: the second is what lets a debugger be forgotten.
 use Rattle.std.specs.Prelude.{◌≡◌, ◌≢◌, ℕ, length, slice_get, if◌then◌else◌}
-use Rattle.rv_model.specs.Board.{Board, Machine, execute, machine_of}
+use Rattle.rv_model.specs.Board.{Board, execute, machine_of}
 use Rattle.rv_model.specs.Turn.{executes_at, turn}
 
 -- registers and debug parts of every other hart stay as they are, and no hart comes or goes
