@@ -1,7 +1,6 @@
 -- The ranges of the numbers in a script's commands, and what a list of commands keeps to be a script.
 -- They are this project's own (docs/SCRIPT.md, "Commands").
 use Rattle.std.specs.Prelude.{ℕ, ◌+◌, ◌*◌, ◌^◌, ◌<◌, ◌≤◌, List, length, All, IsTrue}
-use Rattle.rv_model.specs.declared.size.Size.{Size}
 use Rattle.rv_model.specs.Size.{count_of}
 use Rattle.debug_model.specs.declared.command.Command.{Command}
 use Rattle.debug_model.specs.declared.command.Command.TheVariants.{Idcode, Hart, State, Halt, Resume, Step, Wait, Regs, Reg, SetReg, Read, Write, Dump, Via, Break, Watch, Count, Clear, Slots, Ebreak, End}

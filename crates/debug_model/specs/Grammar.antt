@@ -6,7 +6,7 @@ use Rattle.debug_model.specs.declared.script_error.ScriptFault.{ScriptFault}
 use Rattle.debug_model.specs.declared.script_error.ScriptFault.TheVariants.{NotAscii, Extra, TooManyLines}
 use Rattle.debug_model.specs.Command.{most_commands}
 use Rattle.debug_model.specs.ScriptText.{lines_of, content_of, is_plain, is_not_empty, words_of}
-use Rattle.debug_model.specs.ScriptArguments.{Words, Taken, ◌>>=◌}
+use Rattle.debug_model.specs.ScriptArguments.{Words, ◌>>=◌}
 use Rattle.debug_model.specs.ScriptForms.{command_read}
 
 -- what a line can be, beside a fault: a command, or none
