@@ -65,9 +65,11 @@ found_is_register name n (r ∷ table) e = by_cases (bytes_eq r.0 name) (λ e. f
   where
     same : (m k : ℕ) → Some m ≡ Some k → (m == k) ≡ true
     same m k e = eq-eqb m k cc
+
     or_true : (a b : Bool) → b ≡ true → (a || b) ≡ true
     or_true true b e = refl
     or_true false b e = e
+
     by_cases : (b : Bool) → (option_map (λ r. r.1) (find (λ r. bytes_eq r.0 name) table) ≡ Some n → list_any (λ r. r.1 == n) table ≡ true) → option_map (λ r. r.1) (cond b (Some r) (find (λ r. bytes_eq r.0 name) table)) ≡ Some n → ((r.1 == n) || list_any (λ r. r.1 == n) table) ≡ true
     by_cases true later e = ap (λ b. b || list_any (λ r. r.1 == n) table) (same r.1 n e)
     by_cases false later e = or_true (r.1 == n) _ (later e)

@@ -1,6 +1,6 @@
 -- Words without blanks, number signs and line feeds part again where a line joins them, and lines where a text joins them.
-use Rattle.std.proofs.Common.{◌≡◌, ◌≢◌, ℕ, suc, ◌+◌, ◌<◌, ◌≤◌, Bool, true, false, not, ◌&&◌, ◌||◌, ◌==◌, nat_le, cond, List, [], ◌∷◌, ◌++◌, length, take, map, refl, sym, ap, ◌∙◌, arith, append_assoc}
-use Rattle.std.specs.List.{All, filter, list_all, slice_split, position_or_len, join_with_byte, flat_map}
+use Rattle.std.proofs.Common.{◌≡◌, ℕ, suc, ◌+◌, ◌≤◌, Bool, true, false, not, ◌&&◌, ◌==◌, nat_le, cond, List, [], ◌∷◌, ◌++◌, take, refl, ap, ◌∙◌, arith, append_assoc}
+use Rattle.std.specs.List.{All, filter, list_all, slice_split, position_or_len, join_with_byte}
 use Rattle.std.proofs.lemmas.Bool.Decides.{nat_tests}
 use Rattle.std.proofs.lemmas.List.Elements.{All-nil, All-cons, All-head, All-tail, All-append, All-weaker}
 use Rattle.std.proofs.lemmas.List.Splits.{slice_split_none, slice_split_at}

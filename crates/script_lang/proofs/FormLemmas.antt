@@ -1,13 +1,13 @@
 -- A word is looked up in the parts of the table of commands, one after another.
-use Rattle.std.proofs.Common.{◌≡◌, ℕ, true, false, List, ◌++◌, Option, Some, None, is_some, option_map, bytes_eq, Result, Ok, Err, refl, sym, ap, ◌∙◌}
+use Rattle.std.proofs.Common.{◌≡◌, ℕ, true, List, ◌++◌, Option, Some, None, is_some, option_map, bytes_eq, Ok, refl, sym, ap, ◌∙◌}
 use Rattle.std.specs.List.{find}
 use Rattle.std.specs.Option.{option_or, ok_or}
 use Rattle.std.proofs.lemmas.List.Folds.{find-append}
 use Rattle.debug_model.specs.declared.command.Command.{Command}
 use Rattle.debug_model.specs.declared.script_error.ScriptFault.TheVariants.{UnknownWord}
-use Rattle.debug_model.specs.ScriptArguments.{Words, Taken, ◌>>=◌}
+use Rattle.debug_model.specs.ScriptArguments.{Words, ◌>>=◌}
 use Rattle.debug_model.specs.ScriptForms.{Form, Forms, forms, form_in, no_arguments, plain_forms, hart_forms, memory_forms, slot_forms, command_read}
-use Rattle.script_lang.specs.Takes.{Takes, TakesBy, taken_by}
+use Rattle.script_lang.specs.Takes.{taken_by}
 
 option_map-or : {A B : Type 0} (f : A → B) (x y : Option A) → option_map f (option_or x y) ≡ option_or (option_map f x) (option_map f y)
 option_map-or f (Some a) y = refl

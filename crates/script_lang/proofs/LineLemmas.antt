@@ -1,13 +1,12 @@
 -- What a line is read as, by what its content is and what its words are.
-use Rattle.std.proofs.Common.{◌≡◌, ℕ, ◌<◌, ◌≤◌, Bool, true, false, not, ◌&&◌, ◌==◌, cond, nat_le, List, [], ◌∷◌, length, take, get_or, Option, Some, None, Result, Ok, Err, refl, sym, ap, ◌∙◌, arith}
-use Rattle.std.specs.List.{position_or_len}
+use Rattle.std.proofs.Common.{◌≡◌, ℕ, ◌<◌, ◌≤◌, Bool, true, false, not, ◌&&◌, ◌==◌, cond, nat_le, List, [], ◌∷◌, length, take, get_or, Option, Some, None, Ok, Err, refl, sym, ap, ◌∙◌, arith}
 use Rattle.std.proofs.lemmas.List.Sums.{position_or_len_is}
 use Rattle.std.proofs.lemmas.Bool.Decides.{nat_tests}
 use Rattle.debug_model.specs.declared.command.Command.{Command}
 use Rattle.debug_model.specs.declared.script_error.ScriptFault.{ScriptFault}
 use Rattle.debug_model.specs.declared.script_error.ScriptFault.TheVariants.{NotAscii, Extra, TooManyLines}
 use Rattle.debug_model.specs.ScriptText.{content_of, is_plain, is_not_empty, words_of, number_sign}
-use Rattle.debug_model.specs.ScriptArguments.{Words, Taken, ◌>>=◌}
+use Rattle.debug_model.specs.ScriptArguments.{Words, ◌>>=◌}
 use Rattle.debug_model.specs.ScriptForms.{command_read}
 use Rattle.debug_model.specs.Grammar.{Reading, finished, words_read, line_read, line_read_after}
 

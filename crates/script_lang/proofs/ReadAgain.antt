@@ -1,6 +1,6 @@
 -- Numbers, names and commands are read as what they spell.
-use Rattle.std.proofs.Common.{◌≡◌, ◌≢◌, ℕ, zero, suc, ◌+◌, ◌*◌, ◌/◌, ◌%◌, ◌^◌, ◌<◌, ◌≤◌, Bool, true, false, not, ◌&&◌, ◌||◌, ◌==◌, nat_le, nat_lt, cond, List, [], ◌∷◌, ◌++◌, length, take, drop, refl, sym, ap, ◌∙◌, arith, codes, decimal, bytes_eq, Option, Some, None, Result, Ok, Err, lit<, lit≤}
-use Rattle.std.specs.List.{All, list_all}
+use Rattle.std.proofs.Common.{◌≡◌, ℕ, zero, suc, ◌+◌, ◌*◌, ◌/◌, ◌%◌, ◌^◌, ◌<◌, ◌≤◌, Bool, true, false, ◌&&◌, ◌==◌, List, [], ◌∷◌, length, take, refl, sym, ap, ◌∙◌, arith, decimal, bytes_eq, Some, Ok, lit<}
+use Rattle.std.specs.List.{list_all}
 use Rattle.std.specs.Char.{digit_char, digit_value, is_digit}
 use Rattle.std.specs.Str.Parse.{AllDigits, digits_value}
 use Rattle.std.proofs.lemmas.Grind.{pow_more}
@@ -8,10 +8,10 @@ use Rattle.std.proofs.lemmas.Bool.{lt-ltb}
 use Rattle.std.proofs.lemmas.Bool.Decides.{nat_tests}
 use Rattle.std.proofs.lemmas.Str.{digit_value-digit_char}
 use Rattle.std.proofs.lemmas.Str.Parse.{digit_from_value}
-use Rattle.std.proofs.lemmas.Fmt.{decimal_is_IsNumeral, length-decimal-le, decimal_nonempty}
+use Rattle.std.proofs.lemmas.Fmt.{decimal_is_IsNumeral, length-decimal-le}
 use Rattle.std.proofs.lemmas.Int.Digits.{digits_push, digits_value_push}
 use Rattle.std.proofs.lemmas.List.{length-append}
-use Rattle.debug_model.specs.ScriptNumber.{are_digits, numeral_read, number_read, hexadecimal_prefix}
+use Rattle.debug_model.specs.ScriptNumber.{numeral_read, number_read, hexadecimal_prefix}
 use Rattle.debug_model.specs.Spelling.{hexadecimal, spelled_address}
 use Rattle.script_lang.proofs.NumberLemmas.{numeral_read-value, are_digits-each, number_read-decimal, number_read-hexadecimal}
 

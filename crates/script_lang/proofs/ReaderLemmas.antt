@@ -1,12 +1,12 @@
 -- The lines of a text, read one after another.
-use Rattle.std.proofs.Common.{◌≡◌, ℕ, ◌+◌, ◌<◌, ◌≤◌, List, [], ◌∷◌, ◌++◌, map, length, take, drop, get_or, Option, Some, None, Result, Ok, Err, is_err, OnOk, false, refl, sym, ap, ◌∙◌, arith, append-nil}
+use Rattle.std.proofs.Common.{◌≡◌, ℕ, ◌+◌, ◌<◌, ◌≤◌, List, [], ◌∷◌, ◌++◌, map, length, take, drop, get_or, Some, None, Result, Ok, Err, is_err, OnOk, false, refl, sym, ap, ◌∙◌, append-nil}
 use Rattle.std.specs.List.{filter_map}
 use Rattle.std.proofs.lemmas.List.{map-append, take-append-drop, at_drop_more}
 use Rattle.std.proofs.lemmas.List.Elements.{filter_map-append}
 use Rattle.debug_model.specs.declared.command.Command.{Command}
 use Rattle.debug_model.specs.declared.script_error.ScriptFault.{ScriptFault}
 use Rattle.debug_model.specs.ScriptText.{lines_of}
-use Rattle.debug_model.specs.Grammar.{line_read, line_read_after, line_number, AreReadAs, IsReadAs, HasFirstFault}
+use Rattle.debug_model.specs.Grammar.{line_read, line_read_after, line_number, AreReadAs, HasFirstFault}
 
 pub AreReadAs-none : AreReadAs [] []
 AreReadAs-none = record { readings = []; each = refl; commands_of = refl }

@@ -1,7 +1,7 @@
 -- The words of each command are read as this command.
-use Rattle.std.proofs.Common.{◌≡◌, ℕ, ◌+◌, ◌*◌, ◌-◌, ◌^◌, ◌<◌, ◌≤◌, Bool, true, false, ◌&&◌, ◌||◌, ◌==◌, nat_le, cond, List, [], ◌∷◌, refl, sym, ap, ◌∙◌, arith, codes, decimal, bytes_eq, Option, Some, None, unwrap_or, option_map, Result, Ok, Err}
+use Rattle.std.proofs.Common.{◌≡◌, ℕ, ◌+◌, ◌*◌, ◌-◌, ◌^◌, ◌<◌, ◌≤◌, Bool, true, false, ◌&&◌, ◌||◌, ◌==◌, nat_le, cond, List, [], ◌∷◌, refl, ap, ◌∙◌, arith, codes, decimal, Option, Some, None, unwrap_or, option_map, Result, Ok, Err}
 use Rattle.std.specs.Option.{ok_or}
-use Rattle.std.specs.List.{All, list_all, list_any, find}
+use Rattle.std.specs.List.{list_all, list_any, find}
 use Rattle.std.specs.Fmt.{digits}
 use Rattle.std.proofs.lemmas.Bool.Decides.{nat_tests}
 use Rattle.rv_model.specs.declared.size.Size.{Size}
@@ -16,11 +16,10 @@ use Rattle.debug_model.specs.declared.command.Command.{Command}
 use Rattle.debug_model.specs.declared.command.Command.TheVariants.{Idcode, Hart, State, Halt, Resume, Step, Wait, Regs, Reg, SetReg, Read, Write, Dump, Via, Break, Watch, Count, Clear, Slots, Ebreak, End}
 use Rattle.debug_model.specs.declared.script_error.ScriptFault.{ScriptFault}
 use Rattle.debug_model.specs.declared.script_error.ScriptFault.TheVariants.{UnknownWord, OutOfRange}
-use Rattle.debug_model.specs.Command.{IsWithinRanges, IsBlock, all_addresses, most_elements}
+use Rattle.debug_model.specs.Command.{IsWithinRanges, IsBlock, all_addresses}
 use Rattle.debug_model.specs.Registers.{Register, registers, is_register, number_of_register, name_of_register}
-use Rattle.debug_model.specs.ScriptText.{is_not_empty}
 use Rattle.debug_model.specs.ScriptNumber.{number_read, numeral_read, are_digits}
-use Rattle.debug_model.specs.ScriptArguments.{Words, Taken, ◌>>=◌, one_word, number_within, ranged, ranged_or, address_of, value_of, ending, count_from, length_from, size_with, size_named, path_named, watch_kind_named, switch_named, register_named}
+use Rattle.debug_model.specs.ScriptArguments.{Words, ◌>>=◌, one_word, number_within, ranged, ranged_or, ending, count_from, length_from, size_named, path_named, watch_kind_named, switch_named, register_named}
 use Rattle.debug_model.specs.ScriptForms.{hart_form, step_form, wait_form, reg_value_form, reg_form, read_form, write_form, dump_form, via_form, break_form, watch_form, count_form, clear_form, ebreak_form, plain_forms, hart_forms, memory_forms, slot_forms, command_read}
 use Rattle.debug_model.specs.Spelling.{spelled_address, spelled_path, spelled_watch_kind, spelled_switch, spelled_words}
 use Rattle.debug_model.specs.Grammar.{finished, words_read}

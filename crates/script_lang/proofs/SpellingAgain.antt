@@ -1,6 +1,6 @@
 -- A spelled line is read as its command, and a spelled text as its commands.
-use Rattle.std.proofs.Common.{◌≡◌, ℕ, ◌+◌, ◌<◌, ◌≤◌, ◌^◌, Bool, true, false, cond, List, [], ◌∷◌, ◌++◌, length, map, refl, sym, ap, ◌∙◌, subst, arith, codes, decimal, Option, Some, None, Result, Ok, Err}
-use Rattle.std.specs.List.{All, filter_map, join_with_byte, flat_map}
+use Rattle.std.proofs.Common.{◌≡◌, ℕ, ◌<◌, ◌≤◌, ◌^◌, Bool, true, false, cond, List, [], ◌∷◌, length, map, refl, sym, ap, ◌∙◌, subst, arith, codes, decimal, Some, None, Ok, Err}
+use Rattle.std.specs.List.{All, join_with_byte, flat_map}
 use Rattle.std.specs.Char.{digit_value}
 use Rattle.std.specs.Str.Parse.{AllDigits}
 use Rattle.std.proofs.lemmas.Bool.Decides.{nat_tests}
@@ -18,12 +18,12 @@ use Rattle.debug_model.specs.declared.command.Command.TheVariants.{Idcode, Hart,
 use Rattle.debug_model.specs.declared.script_error.ScriptFault.TheVariants.{NotAscii}
 use Rattle.debug_model.specs.Command.{IsWithinRanges}
 use Rattle.debug_model.specs.Registers.{name_of_register}
-use Rattle.debug_model.specs.ScriptText.{is_plain, is_not_empty, words_of, content_of, lines_of, line_feed, space}
-use Rattle.debug_model.specs.Grammar.{Reading, words_read, line_read, AreReadAs, IsReadAs}
+use Rattle.debug_model.specs.ScriptText.{is_plain, is_not_empty, words_of, content_of, lines_of, space}
+use Rattle.debug_model.specs.Grammar.{words_read, line_read, AreReadAs, IsReadAs}
 use Rattle.debug_model.specs.Spelling.{hexadecimal, spelled_address, spelled_path, spelled_watch_kind, spelled_switch, spelled_words, spelling, spelled_line, spelled_script}
 use Rattle.script_lang.proofs.CleanLemmas.{IsWord, IsWordByte, IsLineByte, IsWordByte-from_range, IsWord-from_name, line_of_words, content_of-plain, is_plain-line, words_of-joined, lines_of-line}
 use Rattle.script_lang.proofs.ReadAgain.{AllDigits-hexadecimal}
-use Rattle.script_lang.proofs.RoundTrip.{IsWord-register, words_read-spelled, value_small, block_small, length_small}
+use Rattle.script_lang.proofs.RoundTrip.{IsWord-register, words_read-spelled}
 
 -- each spelled word is a word
 

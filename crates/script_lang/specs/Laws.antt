@@ -1,6 +1,6 @@
 -- What holds of the language of scripts as a whole.
 -- The grammar and the spelling are those of debug_model.
-use Rattle.std.specs.Prelude.{◌≡◌, ℕ, List, Option, Some, Ok}
+use Rattle.std.specs.Prelude.{◌≡◌, ℕ, List, Some, Ok}
 use Rattle.debug_model.specs.declared.command.Command.{Command}
 use Rattle.debug_model.specs.declared.script_error.ScriptFault.{ScriptFault}
 use Rattle.debug_model.specs.Command.{IsWithinRanges}

@@ -1,8 +1,8 @@
-use Rattle.std.proofs.Common.{◌≡◌, ◌+◌, ◌<◌, ◌==◌, List, [], ◌∷◌, ◌++◌, length, map, subst, sym, ap, ◌∙◌, Ok, Err, Some, None, inr, arith, rules, tests}
+use Rattle.std.proofs.Common.{◌==◌, [], ◌∷◌, length, map, subst, sym, ap, ◌∙◌, Ok, Some, None, inr, arith, rules, tests}
 use Rattle.std.proofs.lemmas.List.{map-append, length-map, length-append}
 use Rattle.std.proofs.lemmas.Iterator.Splits.{YieldsList-from_slice_split}
 use Rattle.std.proofs.lemmas.Iterator.Consumers.{YieldsList-so_far, YieldsList-turn, YieldsList-end}
-use Rattle.debug_model.specs.ScriptText.{line_feed, lines_of}
+use Rattle.debug_model.specs.ScriptText.{line_feed}
 use Rattle.debug_model.specs.Grammar.{AreReadAs, line_read_after}
 use Rattle.script_lang.proofs.LineLemmas.{room_for, line_read-alone}
 use Rattle.script_lang.proofs.ReaderLemmas.{AreReadAs-push_none, AreReadAs-push_some, HasFirstFault-at, at_ok}
