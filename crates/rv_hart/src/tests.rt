@@ -33,11 +33,10 @@ const MTVAL: u16 = 0x343;
 /// RAM with words from `START` on and the number at `DATA`.
 fn ram_with(rt: &impl Abort, alloc: Global, words: &[u32]) -> Ram {
     let mut ram = Ram::new(alloc, 65_536).expect(rt, "the smallest RAM");
-    for (place, &word) in (0..16).zip(words) {
-        assert_eq!(rt;
-            ram.store(START + 4 * place, Size::B4, u64::from(word)),
-            Ok(())
-        );
+    let mut addr = START;
+    for &word in words {
+        assert_eq!(rt; ram.store(addr, Size::B4, u64::from(word)), Ok(()));
+        addr = addr.wrapping_add(4);
     }
     assert_eq!(rt; ram.store(DATA, Size::B8, NUMBER), Ok(()));
     ram
