@@ -2,4 +2,4 @@ pub mod Conditions
 pub mod CsrAnswer
 pub mod CsrChanges
 pub mod Extensions
-pub mod Invariant
+pub mod Fields

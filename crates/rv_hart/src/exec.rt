@@ -3,7 +3,6 @@
 ghost use Rattle.std.specs.Prelude.{◌≡◌};
 ghost use Rattle.rv_model.specs.Execute.{exec_of};
 
-use crate::execute::execute;
 use crate::hart::{FETCH_OUTSIDE, Hart, ILLEGAL_INSTRUCTION};
 use rv_mem::Ram;
 use rv_model::{Did, Size};
@@ -19,7 +18,7 @@ impl Hart {
         let pc = self.pc();
         match ram.load(pc, Size::B4) {
             Ok(word) => match decode(word as u32) {
-                Some(insn) => execute(self, ram, insn),
+                Some(insn) => self.execute(ram, insn),
                 None => self.trap(ILLEGAL_INSTRUCTION, 0),
             },
             Err(_) => self.trap(FETCH_OUTSIDE, pc),

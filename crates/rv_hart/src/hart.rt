@@ -26,7 +26,7 @@ pub const INSTRUCTION_SIZE: u64 = 4;
 const RESET_PC: u64 = 0x8000_0000;
 
 /// One core: its number, x0 to x31, pc and the registers of Machine Mode.
-#[derive(Drop)]
+#[derive(Clone, Copy, Debug, PartialEq, Eq)]
 pub struct Hart {
     id: u8,
     x: [u64; REGISTERS],
@@ -42,15 +42,18 @@ pub struct Hart {
 impl Model for Hart {
     ghost use Rattle.rv_model.specs.Core.{Core};
     ghost use Rattle.rv_model.specs.Codes.{core_code};
-    ghost use Rattle.rv_hart.specs.Invariant.{IsHart};
 
     ghost Value = { Core };
 
     ghost coded = { core_code };
 
-    ghost view = { λ h. record { id = h.id; x = h.x; pc = h.pc; mstatus = h.mstatus; mtvec = h.mtvec; mscratch = h.mscratch; mepc = h.mepc; mcause = h.mcause; mtval = h.mtval } };
+    ghost use Rattle.rv_hart.specs.Fields.{core_of, fields_of, IsHart};
 
-    ghost invariant = { λ h. IsHart (record { id = h.id; x = h.x; pc = h.pc; mstatus = h.mstatus; mtvec = h.mtvec; mscratch = h.mscratch; mepc = h.mepc; mcause = h.mcause; mtval = h.mtval }) };
+    ghost view = { core_of };
+
+    ghost inverse = { fields_of };
+
+    ghost invariant = { λ h. IsHart (core_of h) };
 }
 
 impl Hart {

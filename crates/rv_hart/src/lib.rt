@@ -16,6 +16,8 @@ mod jumps;
 mod loads;
 mod stores;
 mod system;
+#[cfg(test)]
+mod tests;
 mod touch;
 
 pub use csr_fault::CsrFault;

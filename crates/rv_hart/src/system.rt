@@ -17,14 +17,13 @@ fn swap(hart: &mut Hart, writes: bool, change: CsrChange, number: u16, operand: 
     let Some(old) = hart.csr_read(number) else {
         return hart.trap(ILLEGAL_INSTRUCTION, 0);
     };
-    if writes
-        && hart
-            .csr_write(number, changed(change, old, operand))
-            .is_err()
-    {
-        return hart.trap(ILLEGAL_INSTRUCTION, 0);
+    if !writes {
+        return hart.set_rd(rd, old);
     }
-    hart.set_rd(rd, old)
+    match hart.csr_write(number, changed(change, old, operand)) {
+        Ok(()) => hart.set_rd(rd, old),
+        Err(_) => hart.trap(ILLEGAL_INSTRUCTION, 0),
+    }
 }
 
 /// An instruction on a control and status register whose operand is a register.

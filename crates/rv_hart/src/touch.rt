@@ -62,50 +62,50 @@ fn offset_addr(hart: &Hart, rs1: u8, imm: u64) -> u64
     hart.x(rs1).wrapping_add(imm)
 }
 
-/// What an instruction would read and write.
-fn touch_by(hart: &Hart, insn: Insn) -> Touch
-    requires { OperandsFit insn }
-    ensures { result ≡ touch insn hart.now }
-{
-    match insn {
-        Insn::Lb(p) => reads(hart, offset_addr(hart, p.rs1, p.imm), Size::B1),
-        Insn::Lh(p) => reads(hart, offset_addr(hart, p.rs1, p.imm), Size::B2),
-        Insn::Lw(p) => reads(hart, offset_addr(hart, p.rs1, p.imm), Size::B4),
-        Insn::Ld(p) => reads(hart, offset_addr(hart, p.rs1, p.imm), Size::B8),
-        Insn::Lbu(p) => reads(hart, offset_addr(hart, p.rs1, p.imm), Size::B1),
-        Insn::Lhu(p) => reads(hart, offset_addr(hart, p.rs1, p.imm), Size::B2),
-        Insn::Lwu(p) => reads(hart, offset_addr(hart, p.rs1, p.imm), Size::B4),
-        Insn::Sb(p) => writes(hart, offset_addr(hart, p.rs1, p.imm), Size::B1),
-        Insn::Sh(p) => writes(hart, offset_addr(hart, p.rs1, p.imm), Size::B2),
-        Insn::Sw(p) => writes(hart, offset_addr(hart, p.rs1, p.imm), Size::B4),
-        Insn::Sd(p) => writes(hart, offset_addr(hart, p.rs1, p.imm), Size::B8),
-        Insn::LrW(p) => reads(hart, hart.x(p.rs1), Size::B4),
-        Insn::ScW(p) => writes(hart, hart.x(p.rs1), Size::B4),
-        Insn::AmoswapW(p) => reads_and_writes(hart, hart.x(p.rs1), Size::B4),
-        Insn::AmoaddW(p) => reads_and_writes(hart, hart.x(p.rs1), Size::B4),
-        Insn::AmoxorW(p) => reads_and_writes(hart, hart.x(p.rs1), Size::B4),
-        Insn::AmoandW(p) => reads_and_writes(hart, hart.x(p.rs1), Size::B4),
-        Insn::AmoorW(p) => reads_and_writes(hart, hart.x(p.rs1), Size::B4),
-        Insn::AmominW(p) => reads_and_writes(hart, hart.x(p.rs1), Size::B4),
-        Insn::AmomaxW(p) => reads_and_writes(hart, hart.x(p.rs1), Size::B4),
-        Insn::AmominuW(p) => reads_and_writes(hart, hart.x(p.rs1), Size::B4),
-        Insn::AmomaxuW(p) => reads_and_writes(hart, hart.x(p.rs1), Size::B4),
-        Insn::LrD(p) => reads(hart, hart.x(p.rs1), Size::B8),
-        Insn::ScD(p) => writes(hart, hart.x(p.rs1), Size::B8),
-        Insn::AmoswapD(p) => reads_and_writes(hart, hart.x(p.rs1), Size::B8),
-        Insn::AmoaddD(p) => reads_and_writes(hart, hart.x(p.rs1), Size::B8),
-        Insn::AmoxorD(p) => reads_and_writes(hart, hart.x(p.rs1), Size::B8),
-        Insn::AmoandD(p) => reads_and_writes(hart, hart.x(p.rs1), Size::B8),
-        Insn::AmoorD(p) => reads_and_writes(hart, hart.x(p.rs1), Size::B8),
-        Insn::AmominD(p) => reads_and_writes(hart, hart.x(p.rs1), Size::B8),
-        Insn::AmomaxD(p) => reads_and_writes(hart, hart.x(p.rs1), Size::B8),
-        Insn::AmominuD(p) => reads_and_writes(hart, hart.x(p.rs1), Size::B8),
-        Insn::AmomaxuD(p) => reads_and_writes(hart, hart.x(p.rs1), Size::B8),
-        _ => touches_nothing(hart),
-    }
-}
-
 impl Hart {
+    /// What an instruction would read and write if it stood at pc. Its operands fit its format, as those that `decode` gives do.
+    pub fn touch_by(&self, insn: Insn) -> Touch
+        requires { OperandsFit insn }
+        ensures { result ≡ touch insn self.now }
+    {
+        match insn {
+            Insn::Lb(p) => reads(self, offset_addr(self, p.rs1, p.imm), Size::B1),
+            Insn::Lh(p) => reads(self, offset_addr(self, p.rs1, p.imm), Size::B2),
+            Insn::Lw(p) => reads(self, offset_addr(self, p.rs1, p.imm), Size::B4),
+            Insn::Ld(p) => reads(self, offset_addr(self, p.rs1, p.imm), Size::B8),
+            Insn::Lbu(p) => reads(self, offset_addr(self, p.rs1, p.imm), Size::B1),
+            Insn::Lhu(p) => reads(self, offset_addr(self, p.rs1, p.imm), Size::B2),
+            Insn::Lwu(p) => reads(self, offset_addr(self, p.rs1, p.imm), Size::B4),
+            Insn::Sb(p) => writes(self, offset_addr(self, p.rs1, p.imm), Size::B1),
+            Insn::Sh(p) => writes(self, offset_addr(self, p.rs1, p.imm), Size::B2),
+            Insn::Sw(p) => writes(self, offset_addr(self, p.rs1, p.imm), Size::B4),
+            Insn::Sd(p) => writes(self, offset_addr(self, p.rs1, p.imm), Size::B8),
+            Insn::LrW(p) => reads(self, self.x(p.rs1), Size::B4),
+            Insn::ScW(p) => writes(self, self.x(p.rs1), Size::B4),
+            Insn::AmoswapW(p) => reads_and_writes(self, self.x(p.rs1), Size::B4),
+            Insn::AmoaddW(p) => reads_and_writes(self, self.x(p.rs1), Size::B4),
+            Insn::AmoxorW(p) => reads_and_writes(self, self.x(p.rs1), Size::B4),
+            Insn::AmoandW(p) => reads_and_writes(self, self.x(p.rs1), Size::B4),
+            Insn::AmoorW(p) => reads_and_writes(self, self.x(p.rs1), Size::B4),
+            Insn::AmominW(p) => reads_and_writes(self, self.x(p.rs1), Size::B4),
+            Insn::AmomaxW(p) => reads_and_writes(self, self.x(p.rs1), Size::B4),
+            Insn::AmominuW(p) => reads_and_writes(self, self.x(p.rs1), Size::B4),
+            Insn::AmomaxuW(p) => reads_and_writes(self, self.x(p.rs1), Size::B4),
+            Insn::LrD(p) => reads(self, self.x(p.rs1), Size::B8),
+            Insn::ScD(p) => writes(self, self.x(p.rs1), Size::B8),
+            Insn::AmoswapD(p) => reads_and_writes(self, self.x(p.rs1), Size::B8),
+            Insn::AmoaddD(p) => reads_and_writes(self, self.x(p.rs1), Size::B8),
+            Insn::AmoxorD(p) => reads_and_writes(self, self.x(p.rs1), Size::B8),
+            Insn::AmoandD(p) => reads_and_writes(self, self.x(p.rs1), Size::B8),
+            Insn::AmoorD(p) => reads_and_writes(self, self.x(p.rs1), Size::B8),
+            Insn::AmominD(p) => reads_and_writes(self, self.x(p.rs1), Size::B8),
+            Insn::AmomaxD(p) => reads_and_writes(self, self.x(p.rs1), Size::B8),
+            Insn::AmominuD(p) => reads_and_writes(self, self.x(p.rs1), Size::B8),
+            Insn::AmomaxuD(p) => reads_and_writes(self, self.x(p.rs1), Size::B8),
+            _ => touches_nothing(self),
+        }
+    }
+
     #[tactic(auto, unfolding(rv_model::specs::Touch::touch_of))]
     /// What the instruction at pc would read and write; nothing where there is none.
     pub fn touch(&self, ram: &Ram) -> Touch
@@ -113,7 +113,7 @@ impl Hart {
     {
         match ram.load(self.pc(), Size::B4) {
             Ok(word) => match decode(word as u32) {
-                Some(insn) => touch_by(self, insn),
+                Some(insn) => self.touch_by(insn),
                 None => touches_nothing(self),
             },
             Err(_) => touches_nothing(self),
