@@ -1,5 +1,5 @@
 -- The look-ups in a list of rows are those of the table that the rows show.
-use Rattle.std.proofs.Common.{◌≡◌, ℕ, ◌+◌, ◌<◌, ◌≤◌, Bool, true, false, ◌||◌, is_some, cond, ◌==◌, List, [], ◌∷◌, length, get_or, drop, map, Option, Some, None, unwrap_or, option_map, bytes_eq, refl, sym, ap, ◌∙◌, IsTrue}
+use Rattle.std.proofs.Common.{◌≡◌, ℕ, ◌+◌, ◌<◌, ◌≤◌, Bool, true, false, ◌||◌, is_some, cond, ◌==◌, List, [], ◌∷◌, length, get_or, drop, map, Option, Some, None, unwrap_or, option_map, bytes_eq, refl, sym, ap, ◌∙◌, IsTrue, eq-eqb}
 use Rattle.std.specs.List.{find, list_any}
 use Rattle.std.proofs.lemmas.List.{at_drop_more, at_drop_all}
 use denote.Ref.{Bor}
@@ -57,3 +57,21 @@ name_in_any number (r ∷ rows) =
 pub name_in_known : (number : ℕ) (rows : List Row) → map row rows ≡ registers → is_some (name_in number rows) ≡ is_register number
 unfolding is_register
 name_in_known number rows e = name_in_any number rows ∙ ap (λ t. list_any (λ r. r.1 == number) t) e
+
+-- what is found is in the table
+found_is_register : (name : List ℕ) (n : ℕ) (table : List Register) → option_map (λ r. r.1) (find (λ r. bytes_eq r.0 name) table) ≡ Some n → list_any (λ r. r.1 == n) table ≡ true
+found_is_register name n [] e = cc
+found_is_register name n (r ∷ table) e = by_cases (bytes_eq r.0 name) (λ e. found_is_register name n table e) e
+  where
+    same : (m k : ℕ) → Some m ≡ Some k → (m == k) ≡ true
+    same m k e = eq-eqb m k cc
+    or_true : (a b : Bool) → b ≡ true → (a || b) ≡ true
+    or_true true b e = refl
+    or_true false b e = e
+    by_cases : (b : Bool) → (option_map (λ r. r.1) (find (λ r. bytes_eq r.0 name) table) ≡ Some n → list_any (λ r. r.1 == n) table ≡ true) → option_map (λ r. r.1) (cond b (Some r) (find (λ r. bytes_eq r.0 name) table)) ≡ Some n → ((r.1 == n) || list_any (λ r. r.1 == n) table) ≡ true
+    by_cases true later e = ap (λ b. b || list_any (λ r. r.1 == n) table) (same r.1 n e)
+    by_cases false later e = or_true (r.1 == n) _ (later e)
+
+pub is_register-found : (name : List ℕ) (n : ℕ) → number_of_register name ≡ Some n → is_register n ≡ true
+unfolding number_of_register is_register
+is_register-found name n e = found_is_register name n registers e

@@ -12,7 +12,7 @@ use Rattle.debug_model.specs.declared.sign.Sign.TheVariants.{Pins, Ask, Light, R
 pub record Chip : Type 0 where
   pub tck : Bool
   pub port : Port
-  pub ended : Option Ending      -- what ended it, where something did
+  pub ended : Option Ending  -- what ended it, where something did
 
 -- all pins 0, and the TAP in Test-Logic-Reset
 abbrev pub fresh_chip : Chip

@@ -3,11 +3,11 @@
 use Rattle.std.specs.Prelude.{◌≡◌, ℕ, ◌+◌, ◌-◌, ◌^◌, ◌≤◌, Bool, ◌&&◌, min, nat_le, List, [], ◌∷◌, ◌++◌, length, map, filter_map, Option, Some, None, Result, Ok, Err, if◌then◌else◌}
 use Rattle.debug_model.specs.declared.command.Command.{Command}
 use Rattle.debug_model.specs.declared.script_error.ScriptFault.{ScriptFault}
-use Rattle.debug_model.specs.declared.script_error.ScriptFault.TheVariants.{NotAscii, UnknownWord, Extra, TooManyLines}
+use Rattle.debug_model.specs.declared.script_error.ScriptFault.TheVariants.{NotAscii, Extra, TooManyLines}
 use Rattle.debug_model.specs.Command.{most_commands}
 use Rattle.debug_model.specs.ScriptText.{lines_of, content_of, is_plain, is_not_empty, words_of}
-use Rattle.debug_model.specs.ScriptArguments.{Words, Taken, ◌>>=◌, or_fault}
-use Rattle.debug_model.specs.ScriptForms.{form_of}
+use Rattle.debug_model.specs.ScriptArguments.{Words, Taken, ◌>>=◌}
+use Rattle.debug_model.specs.ScriptForms.{command_read}
 
 -- what a line can be, beside a fault: a command, or none
 abbrev pub Reading : Type 0
@@ -22,8 +22,7 @@ finished (command, word ∷ rest) = Err Extra
 unfoldable pub words_read : Words → Reading
 words_read [] = Ok None
 words_read (name ∷ words) = do
-  form ← or_fault UnknownWord (form_of name)
-  taken ← form words
+  taken ← command_read name words
   command ← finished taken
   Ok (Some command)
 

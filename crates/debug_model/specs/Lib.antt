@@ -17,3 +17,4 @@ pub mod Spelling
 pub mod Lines
 pub mod Debugger
 pub mod Transcript
+pub mod Journal

@@ -77,7 +77,8 @@ abbrev pub scanned_chip : List Bool → Chip → Chip
 scanned_chip bits c = record {
   tck = true;
   port = idle_port c.port.selected (stays (captured c.port.selected) bits);
-  ended = c.ended }
+  ended = c.ended;
+}
 
 -- a scan of these bits took these out, and `new` tells the chip behind it
 pub record Scanned (bits out : List Bool) (c : Chip) (new : Option Far) : Type 0 where
@@ -91,6 +92,19 @@ pub record WasReset (c : Chip) (new : Option Far) : Type 0 where
   pub is : new ≡ Some (read_out chip)
   pub fed : chip ≡ feed c reset_bytes
   pub selected : chip.port.selected ≡ Idcode
+
+-- a front of these bytes was fed to a chip, and no more. Which of its answers are unread then is left open.
+pub record TookFront (bytes : List ℕ) (c : Chip) (new : Option Far) : Type 0 where
+  pub front : List ℕ
+  pub back : List ℕ
+  pub unread : List ℕ
+  pub cut : bytes ≡ front ++ back
+  pub is : new ≡ Some (record { chip = feed c front; unread = unread })
+
+-- what a fault leaves behind: a told chip has taken a front of these bytes
+abbrev pub FedFront : List ℕ → Option Far → Option Far → Type 0
+FedFront bytes None new = new ≡ None
+FedFront bytes (Some f) new = TookFront bytes f.chip new
 
 -- why a scan failed: a rise of the count, or an answer byte that is neither 0 nor 1, which no told chip gives
 abbrev pub CauseOf : Option Far → ℕ → ℕ → WireFault → Type 0

@@ -26,7 +26,8 @@ round_after (suc k) p = round_after k (moved p)
 abbrev pub ComesWithin : ℕ → ℕ → Plan → Event → Type 0
 ComesWithin w k p e = (i : ℕ) × (i < w) × Contains (round_after (k + i) p) e
 
--- in every w consecutive rounds each hart below `harts` and each part of the debug module has its turn, and no DMI operation fails
+-- in every w consecutive rounds each hart below `harts` and each part of the debug module has its turn,
+-- and in no round a DMI operation fails
 pub record Fair (w harts : ℕ) (p : Plan) : Type 0 where
   pub turns : (k h : ℕ) → h < harts → ComesWithin w k p (Turn h)
   pub dmi_done : (k : ℕ) → ComesWithin w k p DmiDone

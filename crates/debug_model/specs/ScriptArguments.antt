@@ -1,6 +1,6 @@
 -- What each kind of argument of a command takes from the front of the words that are left, or the fault of the first word that it can't take.
 -- The kinds are this project's own (docs/SCRIPT.md, "Commands").
-use Rattle.std.specs.Prelude.{ℕ, ◌+◌, ◌*◌, ◌-◌, ◌^◌, ◌&&◌, Bool, true, false, nat_le, nat_eq, ◌==◌, bytes_eq, List, [], ◌∷◌, codes, Result, Ok, Err, Option, Some, None, if◌then◌else◌}
+use Rattle.std.specs.Prelude.{ℕ, ◌+◌, ◌*◌, ◌-◌, ◌^◌, ◌&&◌, Bool, true, false, nat_le, nat_eq, ◌==◌, bytes_eq, List, [], ◌∷◌, codes, Result, Ok, Err, Option, Some, None, ok_or, if◌then◌else◌}
 use Rattle.rv_model.specs.declared.size.Size.{Size}
 use Rattle.rv_model.specs.declared.size.Size.TheVariants.{B1, B2, B4, B8}
 use Rattle.rv_model.specs.Size.{count_of}
@@ -26,11 +26,6 @@ infixl 10 ◌>>=◌
 abbrev pub ◌>>=◌ : {A B : Type 0} → Result A ScriptFault → (A → Result B ScriptFault) → Result B ScriptFault
 (Ok x) >>= f = f x
 (Err e) >>= f = Err e
-
--- a value that a word may stand for, and the fault where it stands for none
-abbrev pub or_fault : {A : Type 0} → ScriptFault → Option A → Result A ScriptFault
-or_fault fault (Some x) = Ok x
-or_fault fault None = Err fault
 
 -- the next word, as what `meaning` says of it
 abbrev pub one_word : {A : Type 0} → (List ℕ → Result A ScriptFault) → Words → Taken A
@@ -61,19 +56,23 @@ address_of size words = ranged 0 (all_addresses - size) words
 abbrev pub value_of : ℕ → Words → Taken ℕ
 value_of size words = ranged 0 (256 ^ size - 1) words
 
--- how many elements of that size there are from an address on, where their end is at or below the last address
-unfoldable pub ending : ℕ → ℕ → Taken ℕ → Taken ℕ
-ending size address taken = do
-  count ← taken
-  if nat_le (address + size * count.0) all_addresses then Ok count else Err OutOfRange
+-- a count of elements of that size, where they end at or below the last address
+unfoldable pub ending : ℕ → ℕ → ℕ → Result ℕ ScriptFault
+ending size address count = if nat_le (address + size * count) all_addresses then Ok count else Err OutOfRange
 
--- a count of elements, 1 where the line ends before it
-abbrev pub count_from : ℕ → ℕ → Words → Taken ℕ
-count_from size address words = ending size address (ranged_or 1 1 most_elements words)
+-- a count of elements from an address on, 1 where the line ends before it
+unfoldable pub count_from : ℕ → ℕ → Words → Taken ℕ
+count_from size address words = do
+  count ← ranged_or 1 1 most_elements words
+  ended ← ending size address count.0
+  Ok (ended, count.1)
 
 -- a length in bytes
-abbrev pub length_from : ℕ → Words → Taken ℕ
-length_from address words = ending 1 address (ranged 1 most_elements words)
+unfoldable pub length_from : ℕ → Words → Taken ℕ
+length_from address words = do
+  count ← ranged 1 most_elements words
+  ended ← ending 1 address count.0
+  Ok (ended, count.1)
 
 abbrev pub size_with : ℕ → Option Size
 size_with count =
@@ -83,7 +82,7 @@ size_with count =
 unfoldable pub size_named : List ℕ → Result Size ScriptFault
 size_named word = do
   number ← number_read word
-  or_fault OutOfRange (size_with number)
+  ok_or (size_with number) OutOfRange
 
 -- fixed words
 unfoldable pub path_named : List ℕ → Result Path ScriptFault
@@ -99,5 +98,5 @@ switch_named word = if bytes_eq word (codes "on") then Ok true else (if bytes_eq
 
 unfoldable pub register_named : List ℕ → Result RegName ScriptFault
 register_named word = do
-  number ← or_fault UnknownWord (number_of_register word)
+  number ← ok_or (number_of_register word) UnknownWord
   Ok (record { 0 = number })

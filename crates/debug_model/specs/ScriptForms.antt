@@ -1,10 +1,11 @@
 -- The commands of a script by their first word, and the arguments of each, from left to right.
 -- They are this project's own (docs/SCRIPT.md, "Commands").
-use Rattle.std.specs.Prelude.{ℕ, bytes_eq, List, [], ◌∷◌, find, codes, Option, option_map, Ok}
+use Rattle.std.specs.Prelude.{ℕ, bytes_eq, List, [], ◌∷◌, ◌++◌, find, codes, Option, option_map, ok_or, Ok}
 use Rattle.rv_model.specs.Size.{count_of}
 use Rattle.debug_model.specs.declared.register_name.RegName.{RegName}
 use Rattle.debug_model.specs.declared.command.Command.{Command}
 use Rattle.debug_model.specs.declared.command.Command.TheVariants.{Idcode, Hart, State, Halt, Resume, Step, Wait, Regs, Reg, SetReg, Read, Write, Dump, Via, Break, Watch, Count, Clear, Slots, Ebreak, End}
+use Rattle.debug_model.specs.declared.script_error.ScriptFault.TheVariants.{UnknownWord}
 use Rattle.debug_model.specs.Command.{last_hart, most_repeats, most_turns, last_slot}
 use Rattle.debug_model.specs.ScriptArguments.{Words, Taken, ◌>>=◌, one_word, ranged, ranged_or, address_of, value_of, count_from, length_from, size_named, path_named, watch_kind_named, switch_named, register_named}
 
@@ -96,30 +97,60 @@ ebreak_form words = do
   switch ← one_word switch_named words
   Ok (Ebreak switch.0, switch.1)
 
--- each command's word, and its form
-unfoldable pub forms : List (List ℕ × Form)
-forms =
+-- The table of commands: each one's first word, and its arguments. It has four parts.
+
+abbrev pub Forms : Type 0
+Forms = List (List ℕ × Form)
+
+-- the commands with no argument
+unfoldable pub plain_forms : Forms
+plain_forms =
     (codes "idcode", no_arguments Idcode) ∷
-    (codes "hart", hart_form) ∷
     (codes "state", no_arguments State) ∷
     (codes "halt", no_arguments Halt) ∷
     (codes "resume", no_arguments Resume) ∷
+    (codes "regs", no_arguments Regs) ∷
+    (codes "slots", no_arguments Slots) ∷
+    (codes "end", no_arguments End) ∷
+    []
+
+-- the commands about a hart
+unfoldable pub hart_forms : Forms
+hart_forms =
+    (codes "hart", hart_form) ∷
     (codes "step", step_form) ∷
     (codes "wait", wait_form) ∷
-    (codes "regs", no_arguments Regs) ∷
     (codes "reg", reg_form) ∷
+    (codes "ebreak", ebreak_form) ∷
+    []
+
+-- the commands about memory
+unfoldable pub memory_forms : Forms
+memory_forms =
     (codes "read", read_form) ∷
     (codes "write", write_form) ∷
     (codes "dump", dump_form) ∷
     (codes "via", via_form) ∷
+    []
+
+-- the commands about trigger slots
+unfoldable pub slot_forms : Forms
+slot_forms =
     (codes "break", break_form) ∷
     (codes "watch", watch_form) ∷
     (codes "count", count_form) ∷
     (codes "clear", clear_form) ∷
-    (codes "slots", no_arguments Slots) ∷
-    (codes "ebreak", ebreak_form) ∷
-    (codes "end", no_arguments End) ∷
     []
 
-unfoldable pub form_of : List ℕ → Option Form
-form_of name = option_map (λ row. row.1) (find (λ row. bytes_eq row.0 name) forms)
+abbrev pub forms : Forms
+forms = plain_forms ++ (hart_forms ++ (memory_forms ++ slot_forms))
+
+-- what a table has for a word
+abbrev pub form_in : Forms → List ℕ → Option Form
+form_in table name = option_map (λ row. row.1) (find (λ row. bytes_eq row.0 name) table)
+
+-- the command that a line's first word and the words after it are
+unfoldable pub command_read : List ℕ → Form
+command_read name words = do
+  form ← ok_or (form_in forms name) UnknownWord
+  form words

@@ -4,7 +4,6 @@ use Rattle.std.specs.Prelude.{ℕ, ◌^◌, Bool, ◌&&◌, nat_le, nat_lt, byte
 use Rattle.std.specs.List.{list_all}
 use Rattle.std.specs.Char.{is_digit}
 use Rattle.std.specs.Str.Parse.{digits_value}
-use Rattle.debug_model.specs.ScriptText.{is_not_empty}
 use Rattle.debug_model.specs.declared.script_error.ScriptFault.{ScriptFault}
 use Rattle.debug_model.specs.declared.script_error.ScriptFault.TheVariants.{BadNumber, OutOfRange}
 
@@ -20,7 +19,7 @@ most_hexadecimal_digits = 16
 -- whether these are from one to `most` digits of the base
 unfoldable pub are_digits : ℕ → ℕ → List ℕ → Bool
 are_digits base most digits =
-    is_not_empty digits && nat_le (length digits) most && list_all (λ digit. is_digit digit base) digits
+    nat_le 1 (length digits) && nat_le (length digits) most && list_all (λ digit. is_digit digit base) digits
 
 -- the number that digits of a base write
 unfoldable pub numeral_read : ℕ → ℕ → List ℕ → Result ℕ ScriptFault

@@ -19,11 +19,11 @@ letters =
     letter 50 (Pins false true false) ∷ letter 51 (Pins false true true) ∷
     letter 52 (Pins true false false) ∷ letter 53 (Pins true false true) ∷
     letter 54 (Pins true true false) ∷ letter 55 (Pins true true true) ∷
-    letter 82 Ask ∷                                     -- 'R'
-    letter 66 Light ∷ letter 98 Light ∷                 -- 'B' on, 'b' off
-    letter 114 (Reset false) ∷ letter 115 (Reset false) ∷   -- 'r' and 's': TRST 0, SRST 0 and 1
-    letter 116 (Reset true) ∷ letter 117 (Reset true) ∷     -- 't' and 'u': TRST 1, SRST 0 and 1
-    letter 81 Quit ∷ []                                 -- 'Q'
+    letter 82 Ask ∷  -- 'R'
+    letter 66 Light ∷ letter 98 Light ∷  -- 'B' on, 'b' off
+    letter 114 (Reset false) ∷ letter 115 (Reset false) ∷  -- 'r' and 's': TRST 0, SRST 0 and 1
+    letter 116 (Reset true) ∷ letter 117 (Reset true) ∷  -- 't' and 'u': TRST 1, SRST 0 and 1
+    letter 81 Quit ∷ []  -- 'Q'
 
 abbrev pub meaning_in : List Letter → ℕ → Option Sign
 meaning_in [] b = None

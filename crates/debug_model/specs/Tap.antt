@@ -66,7 +66,7 @@ pub record Port : Type 0 where
   pub selected : Register
   pub shift : List Bool
   pub tdo : Bool
-  pub held : Bool                -- TRST is 1
+  pub held : Bool  -- TRST is 1
 
 -- whenever the controller enters Test-Logic-Reset, the instruction becomes IDCODE
 abbrev pub selected_in : TapState → Register → Register
@@ -87,7 +87,8 @@ risen tms tdi p = record {
   selected = selected_in (next_state p.state tms) p.selected;
   shift = shift_after p.state p.selected tdi p.shift;
   tdo = p.tdo;
-  held = p.held }
+  held = p.held;
+}
 
 -- a rise of TCK with these levels of TMS and TDI: while TRST is 1 it leaves the port as it is
 abbrev pub tap_rise : Bool → Bool → Port → Port

@@ -30,10 +30,10 @@ abbrev pub ReadsFront : List ℕ → Option Far → Option Far → Type 0
 ReadsFront bytes None new = new ≡ None
 ReadsFront bytes (Some f) new = (rest : List ℕ) × (f.unread ≡ bytes ++ rest) × (new ≡ Some (record f { unread = rest }))
 
--- the unread answers may have become fewer, and the chip stays as it is
+-- a front of the unread answers may be lost, and the chip stays as it is
 abbrev pub KeepsChip : Option Far → Option Far → Type 0
 KeepsChip None new = new ≡ None
-KeepsChip (Some f) new = (rest : List ℕ) × (new ≡ Some (record f { unread = rest }))
+KeepsChip (Some f) new = (taken rest : List ℕ) × (f.unread ≡ taken ++ rest) × (new ≡ Some (record f { unread = rest }))
 
 -- why a call of a wire failed: its count rose. A wire hands answers on as they came, and judges none.
 abbrev pub WireCause : ℕ → ℕ → WireFault → Type 0

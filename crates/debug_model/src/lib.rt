@@ -4,6 +4,7 @@
 mod command;
 mod ending;
 mod event;
+mod journal_laws;
 mod point;
 mod register;
 mod register_name;
@@ -18,6 +19,7 @@ mod wire;
 pub use command::{Command, Path, WatchKind};
 pub use ending::Ending;
 pub use event::{Event, Round};
+pub use journal_laws::points_forget_debugging;
 pub use point::Point;
 pub use register::Register;
 pub use register_name::RegName;

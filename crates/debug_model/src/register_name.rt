@@ -1,4 +1,4 @@
-ghost use Rattle.std.specs.Prelude.{◌≡◌, map, IsTrue, OnSome, option_map};
+ghost use Rattle.std.specs.Prelude.{◌≡◌, map, IsTrue, IfSome, option_map};
 ghost use Rattle.debug_model.specs.Registers.{registers, is_register, number_of_register, name_of_register};
 
 /// A register that a script can name, by its number for abstract commands
@@ -66,7 +66,8 @@ fn registers() -> &'static [(&'static [u8], u16)]
 impl RegName {
     /// The register with this name.
     pub fn named(name: &[u8]) -> Option<RegName>
-        ensures { option_map (λ r. r.0) result ≡ number_of_register name.now }
+        ensures number { option_map (λ r. r.0) result ≡ number_of_register name.now }
+        ensures known { IfSome result (λ r. IsTrue (is_register r.0)) }
     {
         for (known, number) in registers() {
             if *known == name {

@@ -1,7 +1,7 @@
 ghost use Rattle.std.specs.Prelude.{◌≡◌, ◌<◌, ◌≤◌, ◌∷◌, ℕ, List, Option, length, OnOk, OnErr, IfOk, IfErr, IfSome};
 ghost use Rattle.std.specs.Borrow.{GName};
 ghost use Rattle.debug_model.specs.Told.{Far, IsLive, IsRead, IsFree, IsIdle};
-ghost use Rattle.debug_model.specs.Scan.{Scanned, WasReset, HasScanCause};
+ghost use Rattle.debug_model.specs.Scan.{reset_bytes, dr_bytes, Scanned, WasReset, FedFront, HasScanCause};
 
 use crate::wire::WireFault;
 use jt_base::Bits;
@@ -9,6 +9,7 @@ use jt_base::Bits;
 /// Scans of a TAP's registers.
 ///
 /// Where it tells its far end, the clauses say what each call does there. Each Ok leaves the TAP in Run-Test/Idle.
+/// On a fault the chip has taken a front of the call's bytes, and no more.
 pub trait Scan: Drop {
     /// The chip at the far end and its unread answers, where they are told.
     ghost far: { Self → Option Far };
@@ -29,6 +30,7 @@ pub trait Scan: Drop {
         ensures read { OnOk result (IsRead (far self.new)) }
         ensures free { OnOk result (IsFree (far self.new)) }
         ensures idle { OnOk result (IsIdle (far self.new)) }
+        ensures front { OnErr result (FedFront reset_bytes (far self.old) (far self.new)) }
         ensures later { fault_count self.old ≤ fault_count self.new }
         ensures cause { HasScanCause (far self.old) (fault_count self.old) (fault_count self.new) result }
         ensures lenders { lenders self.new ≡ lenders self.old };
@@ -46,6 +48,7 @@ pub trait Scan: Drop {
         ensures read { OnOk result (IsRead (far self.new)) }
         ensures free { OnOk result (IsFree (far self.new)) }
         ensures idle { OnOk result (IsIdle (far self.new)) }
+        ensures front { OnErr result (FedFront (dr_bytes bits) (far self.old) (far self.new)) }
         ensures later { fault_count self.old ≤ fault_count self.new }
         ensures cause { HasScanCause (far self.old) (fault_count self.old) (fault_count self.new) result }
         ensures lenders { lenders self.new ≡ lenders self.old };

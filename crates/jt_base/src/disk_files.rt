@@ -4,10 +4,9 @@ ghost use Rattle.std.specs.Prelude.{◌≡◌, ◌≤◌, vec_len, IfOk};
 use crate::faults::count_fault;
 use crate::files::{FileFault, Files};
 use std::alloc::Global;
-use std::fs;
 use std::io::Read;
 use std::marker::Model;
-use std::rt;
+use std::{fs, rt};
 
 /// How many bytes one read asks for.
 const PIECE: usize = 4096;

@@ -15,6 +15,8 @@ mod memory_files;
 mod memory_sink;
 mod sink;
 mod std_sink;
+#[cfg(test)]
+mod tests;
 
 pub use bits::Bits;
 pub use disk_files::DiskFiles;

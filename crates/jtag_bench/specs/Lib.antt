@@ -1,0 +1,11 @@
+pub mod Words
+pub mod Names
+pub mod Stream
+pub mod Session
+pub mod LastLine
+pub mod Status
+pub mod ScriptText
+pub mod Refusal
+pub mod Asked
+pub mod FileRead
+pub mod Run

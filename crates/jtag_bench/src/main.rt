@@ -1,13 +1,68 @@
 //! The program: the probe, the chip on its bench, and the words that bring them together.
 #![tactic(auto)]
 
+mod acted;
 mod bench;
 mod bench_wire;
+mod last_line;
+mod lines;
+mod prepare;
+mod refusal;
+mod run;
+mod script_text;
+mod session;
 mod signs;
+mod status;
+#[cfg(test)]
+mod tests;
+mod words;
 
 use bench::Bench;
+use jt_base::{DiskFiles, Sink, StdSink};
+use last_line::put_last_line;
+use refusal::Refusal;
+use run::run;
+use status::Status;
+use std::io::ErrorKind;
+use std::process::ExitCode;
+use std::rt::Env;
+use std::{env, io};
 
-fn main() {
-    let mut bench = Bench::blank();
-    let _wire = bench_wire::BenchWire::new(&mut bench);
+/// Why the words behind the program's name can't be had: one of them isn't UTF-8, or there is no memory.
+fn words_refusal(error: &io::Error) -> Refusal<'static> {
+    if error.kind() == ErrorKind::InvalidData {
+        Refusal::Words
+    } else {
+        Refusal::OutOfMemory
+    }
+}
+
+/// The words behind the program's name.
+fn words_given<R: Env + AllocGlobal>(rt: &R) -> io::Result<Vec<String>> {
+    let mut words = Vec::new(rt.alloc());
+    for word in env::args(rt)?.skip(1) {
+        words.push(word)?;
+    }
+    Ok(words)
+}
+
+/// The status of a run whose words can't be had, behind its last line.
+fn refuse<K: Sink>(out: &mut K, refusal: Refusal<'_>) -> Status {
+    match put_last_line(out, refusal) {
+        Ok(()) => refusal.status(),
+        Err(_) => Status::Sink,
+    }
+}
+
+fn main(rt: HostRuntime) -> ExitCode {
+    let mut out = StdSink::new(&rt);
+    let status = match words_given(&rt) {
+        Ok(words) => {
+            let mut files = DiskFiles::new(&rt);
+            let mut bench = Bench::blank();
+            run(rt.alloc(), &words, &mut files, &mut out, &mut bench)
+        }
+        Err(error) => refuse(&mut out, words_refusal(&error)),
+    };
+    ExitCode::from(status.code())
 }

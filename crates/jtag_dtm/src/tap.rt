@@ -142,3 +142,114 @@ impl Tap {
         self.controller
     }
 }
+
+#[cfg(test)]
+mod tests {
+    use super::*;
+    use std::process::Abort;
+
+    /// One clock as a host gives it: TCK falls, TDO is read, TCK rises.
+    fn clock(tap: &mut Tap, tms: bool, tdi: bool) -> bool {
+        tap.fall();
+        let level = tap.tdo();
+        tap.rise(tms, tdi);
+        level
+    }
+
+    /// A clock for each `0` or `1`, the level of TMS, with TDI 0.
+    fn follow(tap: &mut Tap, levels: &[u8]) {
+        for tms in levels {
+            clock(tap, *tms == b'1', false);
+        }
+    }
+
+    /// These bits go in and those come out, the least significant first. The last clock has TMS 1.
+    fn exchange(rt: &impl Abort, tap: &mut Tap, given: &[u8], wanted: &[u8]) {
+        assert_eq!(rt; given.len(), wanted.len());
+        for i in 0..given.len() {
+            let level = clock(tap, i + 1 == given.len(), given[i] == b'1');
+            assert_eq!(rt; level, wanted[i] == b'1', "bit {i}");
+        }
+    }
+
+    const NO_BITS: &[u8] = b"00000000000000000000000000000000";
+
+    const IDCODE_BITS_OUT: &[u8] = b"10000000000000100110101100001000";
+
+    #[test]
+    fn scans_registers(rt: HostRuntime) {
+        let mut tap = Tap::new();
+        follow(&mut tap, b"111110100");
+        exchange(&rt, &mut tap, NO_BITS, IDCODE_BITS_OUT);
+        follow(&mut tap, b"10");
+        // a code, then what goes in and what comes out behind it
+        let cases: [(&[u8], &[u8], &[u8]); 5] = [
+            (b"11111", b"1011", b"0101"),
+            (b"00000", b"1100101", b"0110010"),
+            (b"10000", NO_BITS, IDCODE_BITS_OUT),
+            (b"01000", b"111", b"011"),
+            (b"10001", b"1", b"0"),
+        ];
+        for (code, given, wanted) in cases {
+            follow(&mut tap, b"1100");
+            exchange(&rt, &mut tap, code, b"10000");
+            follow(&mut tap, b"10100");
+            exchange(&rt, &mut tap, given, wanted);
+            follow(&mut tap, b"10");
+            assert_eq!(rt; tap.state(), TapState::RunTestIdle);
+        }
+    }
+
+    #[test]
+    fn output_changes_at_falls(rt: HostRuntime) {
+        let mut tap = Tap::new();
+        follow(&mut tap, b"0100");
+        let mut levels = [false; 6];
+        for i in 0..3 {
+            tap.fall();
+            levels[2 * i] = tap.tdo();
+            tap.rise(false, true);
+            levels[2 * i + 1] = tap.tdo();
+        }
+        assert_eq!(rt; levels, [true, true, false, false, false, false]);
+        follow(&mut tap, b"1");
+        tap.fall();
+        assert!(rt; !tap.tdo());
+    }
+
+    #[test]
+    fn reset_line_holds(rt: HostRuntime) {
+        // TMS from Run-Test/Idle to each of the sixteen states
+        let cases: [(&[u8], TapState); 16] = [
+            (b"111", TapState::TestLogicReset),
+            (b"0", TapState::RunTestIdle),
+            (b"1", TapState::SelectDr),
+            (b"10", TapState::CaptureDr),
+            (b"1000", TapState::ShiftDr),
+            (b"101", TapState::Exit1Dr),
+            (b"10100", TapState::PauseDr),
+            (b"10101", TapState::Exit2Dr),
+            (b"1011", TapState::UpdateDr),
+            (b"11", TapState::SelectIr),
+            (b"110", TapState::CaptureIr),
+            (b"11000", TapState::ShiftIr),
+            (b"1101", TapState::Exit1Ir),
+            (b"110100", TapState::PauseIr),
+            (b"110101", TapState::Exit2Ir),
+            (b"11011", TapState::UpdateIr),
+        ];
+        for (levels, state) in cases {
+            let mut tap = Tap::new();
+            follow(&mut tap, b"0");
+            follow(&mut tap, levels);
+            assert_eq!(rt; tap.state(), state);
+            tap.hold_reset(true);
+            follow(&mut tap, b"0100");
+            assert_eq!(rt; tap.state(), TapState::TestLogicReset);
+            assert!(rt; !tap.tdo());
+            tap.hold_reset(false);
+            follow(&mut tap, b"0100");
+            exchange(&rt, &mut tap, NO_BITS, IDCODE_BITS_OUT);
+        }
+    }
+}

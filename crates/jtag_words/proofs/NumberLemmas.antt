@@ -6,7 +6,6 @@ use Rattle.std.specs.Str.Parse.{digits_value, digits_value_after, AllDigits}
 use Rattle.std.proofs.lemmas.List.{at_drop_more}
 use Rattle.std.proofs.lemmas.Bool.{ltb-true, lt-ltb}
 use Rattle.std.proofs.lemmas.Bool.Decides.{nat_tests}
-use Rattle.debug_model.specs.ScriptText.{is_not_empty}
 use Rattle.debug_model.specs.ScriptNumber.{are_digits, numeral_read, number_read, hexadecimal_prefix}
 use Rattle.std.specs.Option.{ok_or}
 use Rattle.debug_model.specs.declared.script_error.ScriptFault.TheVariants.{BadNumber, OutOfRange}
@@ -54,16 +53,15 @@ numeral_read-value base most ds None e h = numeral_read-good base most ds e ∙ 
 pub AllDigits-from_digits : (base most : ℕ) (ds : List ℕ) → are_digits base most ds ≡ true → AllDigits base ds
 unfolding are_digits
 AllDigits-from_digits base most ds e =
-    AllDigits-from_test base ds (both_true (is_not_empty ds && nat_le (length ds) most) (list_all (λ d. is_digit d base) ds) e).1
+    AllDigits-from_test base ds (both_true (nat_le 1 (length ds) && nat_le (length ds) most) (list_all (λ d. is_digit d base) ds) e).1
 
 pub are_digits-empty : (base most : ℕ) (ds : List ℕ) → length ds ≡ 0 → are_digits base most ds ≡ false
 unfolding are_digits
-are_digits-empty base most [] h = refl
-are_digits-empty base most (d ∷ ds) h = absurd (omega arith)
+are_digits-empty base most ds h = ap (λ n. nat_le 1 n && nat_le n most && list_all (λ d. is_digit d base) ds) h
 
 pub are_digits-long : (base most : ℕ) (ds : List ℕ) → most < length ds → are_digits base most ds ≡ false
 unfolding are_digits
-are_digits-long base most ds h = ap (λ b. is_not_empty ds && b && list_all (λ d. is_digit d base) ds) (leb_not (length ds) most h) ∙ no_more (is_not_empty ds) (list_all (λ d. is_digit d base) ds)
+are_digits-long base most ds h = ap (λ b. nat_le 1 (length ds) && b && list_all (λ d. is_digit d base) ds) (leb_not (length ds) most h) ∙ no_more (nat_le 1 (length ds)) (list_all (λ d. is_digit d base) ds)
   where
     leb_not : (m n : ℕ) → n < m → nat_le m n ≡ false
     leb_not m n h = grind (arith, nat_tests)
@@ -74,8 +72,7 @@ are_digits-long base most ds h = ap (λ b. is_not_empty ds && b && list_all (λ 
 
 pub are_digits-each : (base most : ℕ) (ds : List ℕ) → 0 < length ds → length ds ≤ most → are_digits base most ds ≡ list_all (λ d. is_digit d base) ds
 unfolding are_digits
-are_digits-each base most [] some few = absurd (omega arith)
-are_digits-each base most (d ∷ ds) some few = ap (λ b. b && list_all (λ d. is_digit d base) (d ∷ ds)) (le-leb (length (d ∷ ds)) most few)
+are_digits-each base most ds some few = ap (λ b. b && nat_le (length ds) most && list_all (λ d. is_digit d base) ds) (lt-ltb 0 (length ds) some) ∙ ap (λ b. b && list_all (λ d. is_digit d base) ds) (le-leb (length ds) most few)
   where
     le-leb : (m n : ℕ) → m ≤ n → nat_le m n ≡ true
     le-leb m n h = grind (arith, nat_tests)

@@ -1,9 +1,8 @@
 -- What the paths of scans do to the chip: each clock computes, and n clocks are one induction.
-use Rattle.std.proofs.Common.{◌≡◌, ◌∙◌, ◌<◌, ◌≤◌, ◌+◌, ℕ, suc, List, [], ◌∷◌, ◌++◌, Bool, true, false, length, map, take, drop, Option, Some, None, refl, sym, ap, append_assoc, arith}
+use Rattle.std.proofs.Common.{◌≡◌, ◌∙◌, ◌<◌, ℕ, List, [], ◌∷◌, ◌++◌, Bool, true, false, length, map, take, drop, None, refl, ap, append_assoc, arith}
 use Rattle.debug_model.specs.Chip.{Chip, feed, said, answer_byte}
-use Rattle.debug_model.specs.Scan.{asked_clock, clock, path, reset_bytes, shift_bytes, to_shift_dr, to_idle, dr_bytes, comes_out, stays, idle_port, scanned_chip}
+use Rattle.debug_model.specs.Scan.{asked_clock, path, reset_bytes, shift_bytes, to_shift_dr, to_idle, dr_bytes, comes_out, stays, idle_port}
 use Rattle.debug_model.specs.Tap.{Port, captured}
-use Rattle.debug_model.specs.declared.ending.Ending.{Ending}
 use Rattle.debug_model.specs.declared.register.Register.{Register}
 use Rattle.debug_model.specs.declared.register.Register.TheVariants.{Idcode, Bypass}
 use Rattle.debug_model.specs.declared.tap_state.TapState.{TapState}

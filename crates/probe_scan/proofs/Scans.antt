@@ -1,22 +1,17 @@
 -- What a reset and a scan do at the far end of a wire, over plain variables.
-use Rattle.std.proofs.Common.{◌≡◌, ◌≢◌, ◌∙◌, ◌⊎◌, ◌<◌, ◌≤◌, ◌+◌, ◌==◌, ℕ, suc, List, [], ◌∷◌, ◌++◌, Bool, true, false, IsTrue, length, map, take, drop, Option, Some, None, option_map, IfSome, refl, sym, ap, subst, append_assoc, arith, inl, inr, length-append, length-take, append-nil, Result, Ok, Err, IsErrAnd}
+use Rattle.std.proofs.Common.{◌≡◌, ◌≢◌, ◌∙◌, ◌<◌, ◌≤◌, ◌==◌, ℕ, List, [], ◌∷◌, ◌++◌, Bool, true, false, length, map, drop, Option, Some, None, option_map, IfSome, refl, sym, ap, subst, arith, inl, length-append, length-take, append-nil, Result, Ok, Err, IsErrAnd, OnErr}
 use Rattle.debug_model.specs.Chip.{Chip, feed, said, answer_byte}
-use Rattle.debug_model.specs.Scan.{asked_clock, clock, path, reset_bytes, shift_bytes, to_shift_dr, to_idle, dr_bytes, comes_out, stays, idle_port, scanned_chip, Scanned, WasReset}
-use Rattle.debug_model.specs.Signs.{sign_of, stays_open}
-use Rattle.debug_model.specs.Tap.{Port, captured}
+use Rattle.debug_model.specs.Scan.{reset_bytes, shift_bytes, to_idle, dr_bytes, comes_out, stays, idle_port, scanned_chip, Scanned, FedFront}
+use Rattle.debug_model.specs.Tap.{captured}
 use Rattle.debug_model.specs.Told.{Far, read_out, IsLive, IsRead, IsFree, IsIdle}
-use Rattle.debug_model.specs.Wire.{are_open, IsPiece, sent, ReadsFront}
+use Rattle.debug_model.specs.Wire.{are_open, IsPiece, sent, ReadsFront, KeepsChip}
 use Rattle.debug_model.specs.declared.ending.Ending.{Ending}
-use Rattle.debug_model.specs.declared.register.Register.{Register}
-use Rattle.debug_model.specs.declared.register.Register.TheVariants.{Idcode, Bypass}
-use Rattle.debug_model.specs.declared.tap_state.TapState.{TapState}
 use Rattle.debug_model.specs.declared.tap_state.TapState.TheVariants.{RunTestIdle}
-use Rattle.probe_scan.proofs.Paths.{chip_at, idle_chip, scan_fed, scan_said, IsReset, reset_fed, reset_said}
+use Rattle.probe_scan.proofs.Paths.{chip_at, scan_fed, scan_said}
 use Rattle.debug_model.specs.Scan.{CauseOf, HasScanCause}
 use Rattle.debug_model.specs.Wire.{WireCause}
 use Rattle.debug_model.specs.declared.wire.WireFault.{WireFault}
 use Rattle.debug_model.specs.declared.wire.WireFault.TheVariants.{SendFailed, RecvFailed, Ended, BadAnswer}
-use Rattle.jt_base.specs.Faults.{Rises}
 use Rattle.probe_scan.specs.Answers.{IsFirstBad}
 use Rattle.std.proofs.lemmas.List.{length-map}
 
@@ -44,8 +39,8 @@ reset_is_piece = inl refl
 is_chip_at : (c : Chip) → c.ended ≡ None → c.port.held ≡ false → c ≡ chip_at c.tck c.port.state c.port.selected c.port.shift c.port.tdo
 is_chip_at c live free = by c.port.held c.ended free live
   where
-  by : (h : Bool) (e : Option Ending) → h ≡ false → e ≡ None → record { tck = c.tck; port = record c.port { held = h }; ended = e } ≡ chip_at c.tck c.port.state c.port.selected c.port.shift c.port.tdo
-  by h e p q = cc
+    by : (h : Bool) (e : Option Ending) → h ≡ false → e ≡ None → record { tck = c.tck; port = record c.port { held = h }; ended = e } ≡ chip_at c.tck c.port.state c.port.selected c.port.shift c.port.tdo
+    by h e p q = cc
 
 -- such a chip in Run-Test/Idle
 is_idle_at : (c : Chip) → c.ended ≡ None → c.port.held ≡ false → c.port.state ≡ RunTestIdle → c ≡ chip_at c.tck RunTestIdle c.port.selected c.port.shift c.port.tdo
@@ -155,11 +150,12 @@ rest_of bits out answers None between new is read live scanned =
     let gone : new ≡ None = subst (λ b. ReadsFront answers b new) is read in
     rw gone (record { scanned = tt; live = tt; read = tt; free = tt; idle = tt })
 rest_of bits out answers (Some f) between new is read live scanned = record {
-    scanned = scanned;
-    live = rw scanned.new_is live;
-    read = rw scanned.new_is refl;
-    free = rw scanned.new_is refl;
-    idle = rw scanned.new_is refl }
+  scanned = scanned;
+  live = rw scanned.new_is live;
+  read = rw scanned.new_is refl;
+  free = rw scanned.new_is refl;
+  idle = rw scanned.new_is refl;
+}
 
 pub scan_done : (bits out : List Bool) (answers : List ℕ) (old between new : Option Far) → 0 < length bits → IsLive old → IsRead old → IsFree old → IsIdle old → between ≡ option_map (sent (dr_bytes bits)) old → ReadsFront answers between new → length answers ≡ length bits → answers ≡ map answer_byte out → IsDone bits out old new
 scan_done bits out answers old between new some live read free idle is was_read full spelled =
@@ -200,3 +196,16 @@ bad_cause bits answers fault (Some f) between new before after full is a read ba
 pub err_cause : {T : Type 0} (told : Option Far) (old new : ℕ) (fault : WireFault) (result : Result T WireFault) → IsErrAnd result (λ e. e ≡ fault) → CauseOf told old new fault → HasScanCause told old new result
 err_cause told old new fault (Ok x) h cause = absurd h
 err_cause told old new fault (Err e) h cause = subst (CauseOf told old new) (sym h) cause
+
+-- ---- what a fault leaves behind
+
+-- a reading behind a whole send
+pub fed_whole : (bytes : List ℕ) (old between new : Option Far) → between ≡ option_map (sent bytes) old → KeepsChip between new → FedFront bytes old new
+fed_whole bytes None between new is keeps = subst (λ b. KeepsChip b new) is keeps
+fed_whole bytes (Some f) between new is keeps =
+    let at : KeepsChip (Some (sent bytes f)) new = subst (λ b. KeepsChip b new) is keeps in
+    record { front = bytes; back = []; unread = at.1; cut = sym (append-nil bytes); is = at.3 }
+
+pub on_err : {T E P : Type 0} (result : Result T E) → P → OnErr result P
+on_err (Ok x) p = tt
+on_err (Err e) p = p

@@ -53,3 +53,101 @@ impl<W: Wire> Scan for Scanner<W> {
         self.wire.faults()
     }
 }
+
+#[cfg(test)]
+mod tests {
+    use super::*;
+    use arrayvec::ArrayVec;
+    use jt_base::count_fault;
+
+    /// A wire that tells nothing: it keeps what is sent, gives these answers, and fails once so many calls were good.
+    #[derive(Drop)]
+    struct FakeWire<'a> {
+        sent: ArrayVec<u8, 256>,
+        answers: &'a [u8],
+        good_calls: u8,
+        failed: u64,
+    }
+
+    impl<'a> Wire for FakeWire<'a> {
+        ghost use Rattle.std.specs.Prelude.{[], None};
+
+        ghost far = { λ _. None };
+
+        ghost fault_count = { λ w. w.failed };
+
+        ghost lenders = { λ _. [] };
+
+        fn send(&mut self, bytes: &[u8]) -> Result<(), WireFault> {
+            if self.good_calls == 0 || self.sent.try_extend_from_slice(bytes).is_err() {
+                count_fault(&mut self.failed);
+                return Err(WireFault::SendFailed);
+            }
+            self.good_calls -= 1;
+            Ok(())
+        }
+
+        fn recv(&mut self, into: &mut [u8]) -> Result<(), WireFault> {
+            if self.good_calls == 0 {
+                count_fault(&mut self.failed);
+                return Err(WireFault::RecvFailed);
+            }
+            self.good_calls -= 1;
+            for i in 0..into.len() {
+                if let Some(answer) = self.answers.get(i) {
+                    into[i] = *answer;
+                }
+            }
+            Ok(())
+        }
+
+        fn faults(&self) -> u64 {
+            self.failed
+        }
+    }
+
+    fn scanner_over(answers: &[u8], good_calls: u8) -> Scanner<FakeWire<'_>> {
+        Scanner::new(FakeWire {
+            sent: ArrayVec::new(),
+            answers,
+            good_calls,
+            failed: 0,
+        })
+    }
+
+    #[test]
+    fn resets(rt: HostRuntime) {
+        let cases: [(u8, Result<(), WireFault>, &[u8], u64); 2] = [
+            (1, Ok(()), b"262626262604", 0),
+            (0, Err(WireFault::SendFailed), b"", 1),
+        ];
+        for (good_calls, wanted, sent, faults) in cases {
+            let mut scanner = scanner_over(b"", good_calls);
+            assert_eq!(rt; scanner.reset(), wanted);
+            assert_eq!(rt; scanner.faults(), faults);
+            assert_eq!(rt; scanner.into_wire().sent.as_slice(), sent);
+        }
+    }
+
+    #[test]
+    fn scans_two_bits(rt: HostRuntime) {
+        const SENT: &[u8] = b"2604041R52R62604";
+        // the answers, the good calls, what `dr` answers, what was sent, and the faults
+        let cases: [(&[u8], u8, Result<u64, WireFault>, &[u8], u64); 7] = [
+            (b"10", 2, Ok(0b01), SENT, 0),
+            (b"01", 2, Ok(0b10), SENT, 0),
+            (b"1x", 2, Err(WireFault::BadAnswer(b'x')), SENT, 0),
+            (b"x0", 2, Err(WireFault::BadAnswer(b'x')), SENT, 0),
+            (b"2\x00", 2, Err(WireFault::BadAnswer(b'2')), SENT, 0),
+            (b"10", 0, Err(WireFault::SendFailed), b"", 1),
+            (b"10", 1, Err(WireFault::RecvFailed), SENT, 1),
+        ];
+        for (answers, good_calls, wanted, sent, faults) in cases {
+            let mut scanner = scanner_over(answers, good_calls);
+            let out = scanner.dr(Bits::from_u64(0b01, 2)).map(|bits| bits.value());
+            assert_eq!(rt; out, wanted);
+            assert_eq!(rt; scanner.faults(), faults);
+            assert_eq!(rt; scanner.into_wire().sent.as_slice(), sent);
+        }
+    }
+}

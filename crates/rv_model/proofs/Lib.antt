@@ -1,4 +1,10 @@
 pub mod AluCorners
+pub mod BoardLemmas
+pub mod ExampleLemmas
+pub mod EffectsKeep
+pub mod KeptLemmas
 pub mod MapLemmas
+pub mod MemoryLemmas
 pub mod RowLemmas
 pub mod RowMeanings
+pub mod TurnLemmas

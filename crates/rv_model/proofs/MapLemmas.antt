@@ -1,6 +1,6 @@
 -- Memory as the map of a list of bytes: what a look-up, a write, a value and a store of several bytes are on that list.
 -- Each lemma takes the numbers that a goal has, joined by equations, so that `omega arith` shows each premise.
-use Rattle.std.proofs.Common.{◌≡◌, ℕ, zero, suc, ◌+◌, ◌-◌, ◌*◌, ◌/◌, ◌%◌, ◌^◌, ◌<◌, ◌≤◌, Bool, true, false, cond, eqb, List, [], ◌∷◌, length, get_or, set, Option, Some, None, is_some, IfSome, slice_get, refl, sym, ap, subst, ◌∙◌, inl, inr, arith}
+use Rattle.std.proofs.Common.{◌≡◌, ℕ, zero, suc, ◌+◌, ◌-◌, ◌*◌, ◌/◌, ◌%◌, ◌^◌, ◌<◌, ◌≤◌, true, false, cond, List, [], ◌∷◌, length, get_or, set, Option, Some, None, is_some, slice_get, refl, sym, ap, ◌∙◌, inl, inr, arith}
 use Rattle.std.specs.FinMap as map
 use Rattle.std.specs.FinMap.{same_map, get-insert, get-from_entries, nat_cmp-IsAntisymmetric}
 use Rattle.std.specs.Cmp.{nat_cmp_total, unsigned_tied}
@@ -9,7 +9,7 @@ use Rattle.std.specs.List.{enumerate_from}
 use Rattle.std.proofs.lemmas.Bool.{cases_eq, cases_lt, eq-eqb, ne_eqb}
 use Rattle.std.proofs.lemmas.Option.{slice_get-get_or, slice_get_past, none-some, same_Some}
 use Rattle.std.proofs.Math.Nat.{pow-suc}
-use Rattle.rv_model.specs.Memory.{map_of, ram_base, value_at, with_value, with_byte, Bytes}
+use Rattle.rv_model.specs.Memory.{map_of, ram_base, value_at, with_value, with_byte}
 
 -- ---- lists
 

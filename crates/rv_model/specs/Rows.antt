@@ -1,7 +1,7 @@
 -- The instruction table: one row for each instruction, with the mask and the code that a word must match, and its operands.
 -- Opcodes, funct fields and formats are those of the unprivileged manual's "RV32/64G Instruction Set Listings" and of the privileged manual's
 -- "Machine-Mode Privileged Instructions"; a word that matches no row means nothing, and is an illegal instruction.
-use Rattle.std.specs.Prelude.{◌≡◌, ℕ, Bool, ◌==◌, List, [], ◌∷◌, ◌++◌, Option, find, option_map, bit_and}
+use Rattle.std.specs.Prelude.{ℕ, Bool, ◌==◌, List, [], ◌∷◌, ◌++◌, Option, find, option_map, bit_and}
 use Rattle.rv_model.specs.declared.insn.Insn.{Insn}
 use Rattle.rv_model.specs.declared.insn.Insn.TheVariants.{Lui, Auipc, Jal, Jalr, Beq, Bne, Blt, Bge, Bltu, Bgeu, Lb, Lh, Lw, Ld, Lbu, Lhu, Lwu, Sb, Sh, Sw, Sd, Addi, Slti, Sltiu, Xori, Ori, Andi, Slli, Srli, Srai, Addiw, Slliw, Srliw, Sraiw, Add, Sll, Slt, Sltu, Xor, Srl, Or, And, Sub, Sra, Mul, Mulh, Mulhsu, Mulhu, Div, Divu, Rem, Remu, Addw, Sllw, Srlw, Subw, Sraw, Mulw, Divw, Divuw, Remw, Remuw, LrW, ScW, AmoswapW, AmoaddW, AmoxorW, AmoandW, AmoorW, AmominW, AmomaxW, AmominuW, AmomaxuW, LrD, ScD, AmoswapD, AmoaddD, AmoxorD, AmoandD, AmoorD, AmominD, AmomaxD, AmominuD, AmomaxuD, Fence, FenceI, Csrrw, Csrrs, Csrrc, Csrrwi, Csrrsi, Csrrci, Ecall, Ebreak, Mret, Wfi}
 use Rattle.rv_model.specs.Operands.{r_type, i_type, s_type, b_type, u_type, j_type, shift_type, shift_word_type, load_reserved_type, csr_type, csr_imm_type}

@@ -4,21 +4,42 @@
 mod alu_op;
 mod cause;
 mod did;
+mod examples;
 mod insn;
+mod laws;
 mod mem_fault;
 mod operands;
+mod scan;
+mod scan_fields;
 mod size;
+mod slot;
 mod slot_set;
 mod touch;
+mod turn_laws;
+mod turned;
+#[cfg(test)]
+mod vectors;
 
 pub use alu_op::AluOp;
 pub use cause::Cause;
 pub use did::Did;
+pub use examples::{
+    counter_counts, divisions, reserved_words_mean_nothing, sc_fails_after_store,
+    sc_succeeds_after_lr, trap_examples, writes_keep_their_bits,
+};
 pub use insn::Insn;
+pub use laws::{
+    execution_forgets_debugging, execution_keeps, execution_leaves_others,
+    refused_stores_keep_memory, rows_are_apart,
+};
 pub use mem_fault::MemFault;
 pub use operands::{
     BType, CsrImmType, CsrType, IType, JType, LoadReservedType, RType, SType, ShiftType, UType,
 };
+pub use scan::scan_rows;
 pub use size::Size;
+pub use slot::{Comparison, Icount, Mcontrol6, Slot, Trigger};
 pub use slot_set::SlotSet;
 pub use touch::Touch;
+pub use turn_laws::{turn_forgets_debugging, turn_leaves_others};
+pub use turned::Turned;

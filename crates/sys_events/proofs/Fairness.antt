@@ -1,12 +1,12 @@
 -- A schedule of events with words is fair, whatever the words.
-use Rattle.std.proofs.Common.{◌≡◌, ◌∙◌, ℕ, zero, suc, ◌+◌, ◌*◌, ◌-◌, ◌/◌, ◌%◌, ◌<◌, ◌≤◌, Bool, true, false, cond, List, [], ◌∷◌, ◌++◌, length, refl, ap, sym, subst, arith, eq-eqb, rules}
+use Rattle.std.proofs.Common.{◌≡◌, ◌∙◌, ℕ, zero, suc, ◌+◌, ◌*◌, ◌-◌, ◌/◌, ◌%◌, ◌<◌, ◌≤◌, Bool, true, false, cond, List, [], ◌∷◌, length, refl, ap, sym, subst, arith, eq-eqb}
 use Rattle.std.specs.Prelude.{map, filter, Contains, All, ◌==◌, slice_index, slice_index_or}
 use Rattle.std.specs.List.{range_with_len}
 use Rattle.std.proofs.Math.Nat.{mod-lt, mod-add-mod, mul-mod_right, div-add-mod}
 use Rattle.std.proofs.lemmas.Bool.{false≢true}
-use Rattle.std.proofs.lemmas.List.Elements.{All-contains, All-map, All-filter, All-append, All-cons, All-nil, Contains-append_left, Contains-append_right, Contains-get_or}
+use Rattle.std.proofs.lemmas.List.Elements.{All-contains, All-map, All-filter, All-append, All-cons, All-nil, Contains-append_left, Contains-append_right}
 use Rattle.std.proofs.lemmas.List.FromFn.{length-map-range_with_len, get_or-map-range_with_len}
-use Rattle.debug_model.specs.Schedule.{Plan, round_after, ComesWithin, Fair}
+use Rattle.debug_model.specs.Schedule.{ComesWithin, Fair}
 use Rattle.debug_model.specs.declared.event.Event.{Event}
 use Rattle.debug_model.specs.declared.event.Event.TheVariants.{Turn, DmiDone, DmiFail, CmdStep, BusDone}
 use Rattle.sys_events.specs.Seed.{paired, round_at, rounds_of}
@@ -39,10 +39,12 @@ in_round busy n x e (p ∷ ps) h (suc i) short is =
 wait : ℕ → ℕ → ℕ → ℕ
 wait busy x k = busy - 1 - (k + x + (busy - 1)) % busy
 
+-- it is one of the next `busy` rounds
 wait-below : (busy x k : ℕ) → 0 < busy → wait busy x k < busy
 unfolding wait
 wait-below busy x k h = omega arith
 
+-- the number of that round and the word together are a multiple of `busy`
 wait-is : (busy x k : ℕ) → 0 < busy → ((0 + (k + wait busy x k)) % busy + x) % busy ≡ 0
 unfolding wait
 wait-is busy x k h =
@@ -52,6 +54,7 @@ wait-is busy x k h =
     let sum : (0 + (k + (busy - 1 - all % busy))) + x ≡ busy * (all / busy) = omega arith in
     mod-add-mod (0 + (k + (busy - 1 - all % busy))) busy x ∙ ap (λ (y : ℕ). y % busy) sum ∙ mul-mod_right busy (all / busy)
 
+-- each event of a pair comes within w rounds
 comes : (w busy k x : ℕ) (e : Event) (pairs : List (Event × ℕ)) → 0 < busy → busy ≤ w → Contains pairs (e, x)
     → ComesWithin w k (made (round_at busy pairs) busy 0) e
 comes w busy k x e pairs h fits (i, short, is) =
@@ -66,6 +69,7 @@ comes w busy k x e pairs h fits (i, short, is) =
 abbrev Fine : Event × ℕ → Type 0
 Fine p = p.0 ≡ DmiFail → ⊥
 
+-- no round has a failing operation
 none_fails : (busy n : ℕ) (pairs : List (Event × ℕ)) → All Fine pairs → ¬ Contains (round_at busy pairs n) DmiFail
 none_fails busy n pairs fine there =
     All-contains (λ (e : Event). e ≡ DmiFail → ⊥) (round_at busy pairs n) DmiFail
@@ -73,13 +77,14 @@ none_fails busy n pairs fine there =
     (All-filter (λ p. (n + p.1) % busy == 0) Fine pairs fine))
     there refl
 
--- the pairs of a schedule: each event stands among them
+-- the two parts of the pairs of a schedule
 abbrev turns : ℕ → List ℕ → List (Event × ℕ)
 turns harts words = map (λ h. (Turn h, slice_index words h)) (range_with_len 0 harts)
 
 abbrev others : List ℕ → List (Event × ℕ)
 others words = (DmiDone, slice_index words 4) ∷ (CmdStep, slice_index words 5) ∷ (BusDone, slice_index words 6) ∷ []
 
+-- each hart's turn stands among the pairs
 turn_stands : (harts h : ℕ) (words : List ℕ) → h < harts → Contains (paired harts words) (Turn h, slice_index words h)
 turn_stands harts h words below =
     let turn : ℕ → Event × ℕ = λ i. (Turn i, slice_index words i) in
@@ -89,9 +94,11 @@ turn_stands harts h words below =
       get_or-map-range_with_len turn 0 harts h h _ below (omega arith),
     )
 
+-- and so does each other event
 other_stands : (harts : ℕ) (words : List ℕ) (p : Event × ℕ) → Contains (others words) p → Contains (paired harts words) p
 other_stands harts words p there = Contains-append_right (turns harts words) (others words) p there
 
+-- none of them is a failing operation
 all_fine : (harts : ℕ) (words : List ℕ) → All Fine (paired harts words)
 all_fine harts words =
     All-append Fine (turns harts words) (others words)

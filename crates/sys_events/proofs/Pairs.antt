@@ -1,5 +1,5 @@
 -- The pairs of a schedule, as they are put together.
-use Rattle.std.proofs.Common.{◌≡◌, ◌∙◌, ℕ, List, [], ◌∷◌, ◌++◌, refl, append_assoc}
+use Rattle.std.proofs.Common.{◌≡◌, ℕ, List, [], ◌∷◌, ◌++◌, refl, append_assoc}
 use Rattle.std.specs.Prelude.{map, slice_index}
 use Rattle.std.specs.List.{range_with_len}
 use Rattle.debug_model.specs.declared.event.Event.{Event}

@@ -1,6 +1,6 @@
 -- The rounds to come of a list that a function of the number makes.
-use Rattle.std.proofs.Common.{◌≡◌, ◌∙◌, ℕ, zero, suc, ◌+◌, ◌%◌, ◌<◌, ◌≤◌, inl, inr, cond, List, length, refl, ap, sym, arith, add-zero}
-use Rattle.std.specs.Prelude.{map, nat_lt}
+use Rattle.std.proofs.Common.{◌≡◌, ◌∙◌, ℕ, zero, suc, ◌+◌, ◌%◌, ◌<◌, ◌≤◌, inl, inr, List, refl, ap, sym, arith, add-zero}
+use Rattle.std.specs.Prelude.{map}
 use Rattle.std.specs.List.{range_with_len}
 use Rattle.std.proofs.Math.Nat.{mod-eq_of_lt, mod-lt, mod-add-mod, mod_self}
 use Rattle.std.proofs.lemmas.Bool.{cases_lt, lt-ltb, le-ltb}
@@ -24,6 +24,7 @@ moved-below f n m h = rw (length-map-range_with_len f 0 n, lt-ltb (m + 1) n h) r
 pub moved-last : (f : ℕ → List Event) (n m : ℕ) → n ≤ m + 1 → moved (made f n m) ≡ made f n 0
 moved-last f n m h = rw (length-map-range_with_len f 0 n, le-ltb (m + 1) n h) refl
 
+-- both at once
 moved-made : (f : ℕ → List Event) (n m : ℕ) → m < n → moved (made f n m) ≡ made f n ((m + 1) % n)
 moved-made f n m h = elim (cases_lt (m + 1) n) [
   | inl below ↦ moved-below f n m below ∙ ap (made f n) (sym (mod-eq_of_lt below))

@@ -97,7 +97,7 @@ fn first_words(seed: u64) -> [u64; WORDS]
 /// The events of a round: those whose word and the round's number together are a multiple of `busy`.
 fn make_round(pairs: &[(Event, u64)], busy: u8, number: u8) -> Round
     requires busy { 0 < busy }
-    requires few { length pairs.now ≤ 7 }
+    requires few { length pairs.now ≤ WORDS }
     ensures { result.items ≡ round_at busy pairs.now number }
 {
     let mut round = Round::new();
@@ -109,11 +109,12 @@ fn make_round(pairs: &[(Event, u64)], busy: u8, number: u8) -> Round
     round
 }
 
-/// Whether an event of this word stands in the round of this number. The sum itself might not fit.
+/// Whether an event of this word stands in the round of this number.
 fn stands(word: u64, busy: u8, number: u8) -> bool
     requires { 0 < busy }
     ensures { result ≡ ((number + word) % busy == 0) }
 {
+    // The word and the number together might not fit, so the word is taken modulo `busy` first.
     let busy = u64::from(busy);
     (u64::from(number) + word % busy) % busy == 0
 }

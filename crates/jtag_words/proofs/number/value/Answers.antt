@@ -1,4 +1,4 @@
-use Rattle.std.proofs.Common.{◌+◌, ◌*◌, get_or, drop, arith}
+use Rattle.std.proofs.Common.{◌+◌, ◌*◌, ◌<◌, get_or, drop, arith}
 use Rattle.std.specs.Char.{digit_value}
 use Rattle.std.specs.Str.Parse.{digits_value_after}
 use Rattle.std.proofs.lemmas.List.{at_drop_all}

@@ -1,8 +1,8 @@
-use Rattle.std.proofs.Common.{◌≡◌, ◌<◌, arith, option_map}
+use Rattle.std.proofs.Common.{◌≡◌, arith, option_map}
 use Rattle.std.proofs.lemmas.Grind.{common_steps}
 use Rattle.debug_model.specs.Scan.{dr_bytes}
 use Rattle.debug_model.specs.Wire.{sent}
-use Rattle.probe_scan.proofs.Scans.{dr_is_piece, asked, live_between, waiting_between, scan_done, bad_cause, err_cause}
+use Rattle.probe_scan.proofs.Scans.{dr_is_piece, asked, live_between, waiting_between, scan_done, bad_cause, err_cause, fed_whole, on_err}
 use Rattle.probe_scan.proofs.scanner.ScannerScan.dr.Goals as goal
 
 pub send-requires-clause-piece : goal.send-requires-clause-piece
@@ -47,3 +47,8 @@ pub returns-clause-idle : goal.returns-clause-idle
 returns-clause-idle g c =
     let is : g.W.Wire.far c.send.new.self ≡ option_map (sent (dr_bytes c.args.bits)) (g.W.Wire.far c.args.self.now.wire) = grind (arith, common_steps) in
     (scan_done c.args.bits _ c.recv.new.into _ (g.W.Wire.far c.send.new.self) _ c.requires.some c.requires.live c.requires.read c.requires.free c.requires.idle is c.in_ok-recv.ensures.read (grind (arith, common_steps)) c.in_ok-out.ensures.bits).idle
+
+pub returns-in_err-recv-clause-front : goal.returns-in_err-recv-clause-front
+returns-in_err-recv-clause-front g c =
+    let is : g.W.Wire.far c.send.new.self ≡ option_map (sent (dr_bytes c.args.bits)) (g.W.Wire.far c.args.self.now.wire) = grind (arith, common_steps) in
+    on_err _ (fed_whole (dr_bytes c.args.bits) _ (g.W.Wire.far c.send.new.self) _ is c.in_err-recv.ensures.chip)

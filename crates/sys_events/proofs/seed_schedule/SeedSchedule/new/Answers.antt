@@ -1,7 +1,7 @@
-use Rattle.std.proofs.Common.{◌≡◌, ap, subst, sym, arith, ℕ, List}
+use Rattle.std.proofs.Common.{ap, subst, sym, arith, ℕ, List}
 use Rattle.debug_model.specs.Schedule.{Plan, Fair}
 use Rattle.debug_model.specs.declared.event.Event.{Event}
-use Rattle.sys_events.specs.Seed.{words_of, paired, rounds_of, seed_plan}
+use Rattle.sys_events.specs.Seed.{words_of, rounds_of}
 use Rattle.sys_events.proofs.Pairs.{paired-made}
 use Rattle.sys_events.proofs.Fairness.{paired-fair}
 use Rattle.sys_events.proofs.seed_schedule.SeedSchedule.new.Goals as goal

@@ -1,4 +1,4 @@
-use Rattle.std.proofs.Common.{◌≡◌, ◌∙◌, ap, sym, ℕ, List}
+use Rattle.std.proofs.Common.{◌∙◌, ap, sym, ℕ, List}
 use Rattle.debug_model.specs.declared.event.Event.{Event}
 use Rattle.sys_events.specs.Seed.{round_at}
 use Rattle.sys_events.proofs.Rounds.{made, made-round, moved-below, moved-last}

@@ -1,0 +1,90 @@
+//! A hart's turn, one function for each case (RISC-V Debug Specification 1.0, "Sdext (ISA Extension)").
+
+ghost use Rattle.std.specs.Prelude.{◌≡◌};
+ghost use Rattle.rv_model.specs.Execute.{exec_of};
+ghost use Rattle.rv_model.specs.Turn.{place_of, memory_after, resumed, halted_for, stops_at_ebreak, ran};
+ghost use Rattle.debug_model.specs.Journal.{with_debug};
+
+use super::DebugHart;
+use crate::ebreak::is_ebreak_at;
+use rv_hart::Hart;
+use rv_mem::Ram;
+use rv_model::{Cause, Did, Turned};
+
+/// Executes one instruction or takes one trap.
+fn execute(hart: &mut Hart, ram: &mut Ram) -> Did
+    ensures core { hart.new ≡ (exec_of hart.old ram.old).step.core }
+    ensures did { result ≡ (exec_of hart.old ram.old).step.did }
+    ensures memory { ram.new ≡ (exec_of hart.old ram.old).memory }
+{
+    hart.exec(ram)
+}
+
+impl DebugHart {
+    #[tactic(auto, unfolding(rv_model::specs::Turn::place_of, rv_model::specs::Turn::executes, rv_model::specs::Turn::memory_after))]
+    /// The hart's next turn: a resume, a stop, nothing where it is halted, or else one instruction or trap.
+    pub fn turn(&mut self, ram: &mut Ram) -> Turned
+        ensures place { record { hart = self.new; turned = result } ≡ place_of self.old ram.old }
+        ensures memory { ram.new ≡ memory_after self.old ram.old }
+    {
+        match self.halted {
+            Some(_) => {
+                if self.resume_request {
+                    self.resume()
+                } else {
+                    Turned::Idle
+                }
+            }
+            None => {
+                // A trigger that fires comes behind a halt request and before `ebreak`. It has no code: all slots are free yet.
+                if self.halt_request {
+                    self.halt(Cause::HaltReq)
+                } else if self.stops_at_ebreak(ram) {
+                    self.halt(Cause::Ebreak)
+                } else {
+                    self.run(ram)
+                }
+            }
+        }
+    }
+
+    /// Whether the hart halts at an `ebreak` at pc.
+    fn stops_at_ebreak(&self, ram: &Ram) -> bool
+        ensures { result ≡ stops_at_ebreak self.now ram.now }
+    {
+        self.ebreakm && is_ebreak_at(&self.hart, ram)
+    }
+
+    /// The halted hart runs on, and says so.
+    fn resume(&mut self) -> Turned
+        ensures hart { self.new ≡ with_debug resumed self.old }
+        ensures turned { result ≡ Turned.Resumed }
+    {
+        self.halted = None;
+        self.resume_request = false;
+        self.resume_ack = true;
+        Turned::Resumed
+    }
+
+    /// The hart halts before its next instruction.
+    fn halt(&mut self, why: Cause) -> Turned
+        ensures hart { self.new ≡ with_debug (halted_for why) self.old }
+        ensures turned { result ≡ Turned.Halted why }
+    {
+        self.halted = Some(why);
+        Turned::Halted(why)
+    }
+
+    /// One instruction or one trap, behind which a single step halts. A free slot counts nothing.
+    fn run(&mut self, ram: &mut Ram) -> Turned
+        ensures place { record { hart = self.new; turned = result } ≡ ran (exec_of self.old.core ram.old) self.old }
+        ensures memory { ram.new ≡ (exec_of self.old.core ram.old).memory }
+    {
+        let did = execute(&mut self.hart, ram);
+        if self.step {
+            self.halted = Some(Cause::Step);
+            return Turned::Halted(Cause::Step);
+        }
+        Turned::Ran(did)
+    }
+}

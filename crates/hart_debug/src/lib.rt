@@ -1,0 +1,14 @@
+//! One hart with its debug part: its turns, and what a debugger asks of it.
+//!
+//! For those above, a `DebugHart` is the hart of the model. Each call here changes it exactly as the model says.
+#![tactic(auto)]
+
+mod debug_hart;
+mod ebreak;
+mod start;
+#[cfg(test)]
+mod tests;
+
+pub use debug_hart::DebugHart;
+pub use rv_model::Turned;
+pub use start::Start;

@@ -1,0 +1,7 @@
+-- The inputs of a run as lists of bytes.
+-- They are this project's own (docs/FORMATS.md, "Words").
+use Rattle.jtag_bench.specs.Words.{Inputs as Names}
+use Rattle.jtag_bench.specs.declared.words.Inputs.{Inputs}
+
+abbrev pub names_of : Inputs → Names
+names_of i = record { image = i.image.now; script = i.script.now }

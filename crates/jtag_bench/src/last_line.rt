@@ -1,0 +1,38 @@
+//! The last line of a refused run.
+
+ghost use Rattle.std.specs.Prelude.{◌≡◌, OnErr, OnOk};
+ghost use Rattle.jt_base.specs.Faults.{HasCause};
+ghost use Rattle.jt_base.specs.Sink.{GrewByPrefix, grown};
+ghost use Rattle.jtag_bench.specs.LastLine.{file_failed};
+ghost use Rattle.jtag_bench.specs.Refusal.{last_line};
+
+use crate::lines::script_refused_line;
+use crate::refusal::Refusal;
+use jt_base::{Sink, SinkFault};
+
+/// The last line of a run whose file of this name could not be read.
+fn put_file_failed<K: Sink>(out: &mut K, name: &str) -> Result<(), SinkFault>
+    ensures put { OnOk result (K.contents out.new ≡ grown (file_failed name.now) (K.contents out.old)) }
+    ensures front { OnErr result (GrewByPrefix (file_failed name.now) (K.contents out.old) (K.contents out.new)) }
+    ensures cause { HasCause (K.fault_count out.old) (K.fault_count out.new) result }
+{
+    out.put(b"file failed: ")?;
+    out.put(name.as_bytes())?;
+    out.put(b"\n")?;
+    Ok(())
+}
+
+/// Puts the last line of a refused run.
+pub fn put_last_line<K: Sink>(out: &mut K, refusal: Refusal<'_>) -> Result<(), SinkFault>
+    ensures put { OnOk result (K.contents out.new ≡ grown (last_line refusal.entry) (K.contents out.old)) }
+    ensures front { OnErr result (GrewByPrefix (last_line refusal.entry) (K.contents out.old) (K.contents out.new)) }
+    ensures cause { HasCause (K.fault_count out.old) (K.fault_count out.new) result }
+{
+    match refusal {
+        Refusal::Words => out.put(b"words refused\n"),
+        Refusal::File(name) => put_file_failed(out, name),
+        Refusal::Script(error) => out.put(&script_refused_line(&error)),
+        Refusal::Image => out.put(b"image refused: fault 1\n"),
+        Refusal::OutOfMemory => out.put(b"out of memory\n"),
+    }
+}

@@ -1,0 +1,98 @@
+//! The text of the lines that a session prints.
+
+ghost use Rattle.std.specs.Prelude.{◌≡◌, ◌≤◌, ◌<◌, ◌+◌, ◌++◌, ◌∷◌, [], decimal, length};
+ghost use Rattle.arrayvec.specs.ArrayVec.{array_vec_len};
+ghost use Rattle.debug_model.specs.Lines.{text_of};
+ghost use Rattle.debug_model.specs.Lines.Line.{Idcode};
+ghost use Rattle.debug_model.specs.Spelling.{hexadecimal};
+ghost use Rattle.jtag_bench.specs.LastLine.{script_refused};
+ghost use Rattle.std.specs.Char.{digit_char};
+
+use arrayvec::ArrayVec;
+use debug_model::ScriptError;
+use itoa::Buffer;
+
+/// The most bytes of a line.
+const LINE_MOST: usize = 64;
+
+/// The text of one line.
+pub type LineText = ArrayVec<u8, LINE_MOST>;
+
+/// The digits of a number of 32 bits.
+const WORD_DIGITS: u8 = 8;
+
+/// The most digits of a `u32` in decimal.
+const DECIMAL_MOST: usize = 10;
+
+/// One hexadecimal digit, lower case.
+fn hex_digit(value: u8) -> u8
+    requires { value < 16 }
+    ensures { result ≡ digit_char value }
+{
+    if value < 10 {
+        b'0' + value
+    } else {
+        b'a' + (value - 10)
+    }
+}
+
+/// Appends the lowest so many hexadecimal digits of a number, the highest first.
+#[tactic(auto, unfolding(debug_model::specs::Spelling::hexadecimal))]
+fn push_hex(text: &mut LineText, count: u8, number: u64)
+    requires { array_vec_len text.old + count ≤ 64 }
+    ensures digits { text.new.items ≡ text.old.items ++ hexadecimal count number }
+    ensures room { array_vec_len text.new ≡ array_vec_len text.old + count }
+{
+    if count == 0 {
+        return;
+    }
+    push_hex(text, count - 1, number / 16);
+    text.push(hex_digit((number % 16) as u8));
+}
+
+/// Appends a word.
+fn push_word(text: &mut LineText, word: &[u8])
+    requires { array_vec_len text.old + length word.now ≤ 64 }
+    ensures word { text.new.items ≡ text.old.items ++ word.now }
+    ensures room { array_vec_len text.new ≡ array_vec_len text.old + length word.now }
+{
+    let mut rest = word;
+    'bytes: while let [byte, after @ ..] = rest {
+        text.push(*byte);
+        rest = after;
+    }
+}
+
+/// The line of the command `idcode`.
+pub fn idcode_line(number: u32) -> LineText
+    ensures { result.items ≡ text_of (Idcode number) }
+{
+    let mut text = LineText::new();
+    push_word(&mut text, b"idcode 0x");
+    push_hex(&mut text, WORD_DIGITS, u64::from(number));
+    text.push(b'\n');
+    text
+}
+
+/// Appends a number in decimal.
+fn push_decimal(text: &mut LineText, number: u32)
+    requires { array_vec_len text.old + DECIMAL_MOST ≤ 64 }
+    ensures digits { text.new.items ≡ text.old.items ++ decimal number }
+    ensures room { array_vec_len text.new ≤ array_vec_len text.old + DECIMAL_MOST }
+{
+    let mut buffer = Buffer::new();
+    push_word(text, buffer.format(number).as_bytes());
+}
+
+/// The last line of a run whose script is refused.
+pub fn script_refused_line(error: &ScriptError) -> LineText
+    ensures { result.items ≡ script_refused error.now }
+{
+    let mut text = LineText::new();
+    push_word(&mut text, b"script refused: line ");
+    push_decimal(&mut text, error.line);
+    push_word(&mut text, b" fault ");
+    push_decimal(&mut text, u32::from(error.fault.number()));
+    text.push(b'\n');
+    text
+}

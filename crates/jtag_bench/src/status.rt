@@ -1,0 +1,38 @@
+ghost use Rattle.std.specs.Prelude.{◌≡◌};
+ghost use Rattle.jtag_bench.specs.Status.{code_of};
+
+/// How a run ended.
+#[derive(Clone, Copy, Debug, PartialEq, Eq)]
+pub enum Status {
+    /// The session ran to its end.
+    Clean,
+    /// The words were refused.
+    Words,
+    /// A file could not be read.
+    File,
+    /// The script was refused.
+    Script,
+    /// The image was refused.
+    Image,
+    /// Not all of the output could be written.
+    Sink,
+    /// No memory was left before the session.
+    OutOfMemory,
+}
+
+impl Status {
+    /// The exit status of the program.
+    pub fn code(&self) -> u8
+        ensures { result ≡ code_of self.now }
+    {
+        match self {
+            Status::Clean => 0,
+            Status::Words => 2,
+            Status::File => 3,
+            Status::Script => 4,
+            Status::Image => 5,
+            Status::Sink => 8,
+            Status::OutOfMemory => 11,
+        }
+    }
+}

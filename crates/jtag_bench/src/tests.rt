@@ -1,0 +1,215 @@
+//! Runs as a person makes them, over files and a sink in memory. Expected values are the printed formats' and the standard's.
+
+use crate::bench::Bench;
+use crate::run::run;
+use crate::status::Status;
+use jt_base::{DiskFiles, Files, MemoryFile, MemoryFiles, MemorySink};
+use std::alloc::{AllocError, Global};
+use std::fs;
+use std::test::Fail;
+
+/// Room for everything that a run prints.
+const AMPLE: usize = 4096;
+
+/// The most bytes of a script's file.
+const SCRIPT_MOST: usize = 1_048_576;
+
+fn word_list(alloc: Global, words: &[&str]) -> Result<Vec<String>, AllocError> {
+    let mut list = Vec::new(alloc);
+    for word in words {
+        list.push(String::from_str(alloc, word)?)?;
+    }
+    Ok(list)
+}
+
+/// Files named `i` and `s`, of which the call `fail_at` is to fail where it is below 2.
+fn two_files(
+    alloc: Global,
+    image: &[u8],
+    script: &[u8],
+    fail_at: u32,
+) -> Result<MemoryFiles, AllocError> {
+    let mut files = Vec::new(alloc);
+    files.push(MemoryFile::new(String::from_str(alloc, "i")?, image.to_vec(alloc)?))?;
+    files.push(MemoryFile::new(String::from_str(alloc, "s")?, script.to_vec(alloc)?))?;
+    let mut listed = Vec::new(alloc);
+    listed.push(fail_at)?;
+    Ok(MemoryFiles::new(alloc, files, listed))
+}
+
+const NO_FAILURE: u32 = 1000;
+
+#[test]
+fn runs_over_memory(rt: HostRuntime) -> Result<(), Fail> {
+    let alloc = rt.alloc();
+    let both = ["both", "--image", "i", "--script", "s"].as_slice();
+    let cases: [(&[&str], &[u8], &[u8], u32, Status, &str); 14] = [
+        (both, b"", b"", NO_FAILURE, Status::Clean, ""),
+        (
+            both,
+            b"",
+            b"idcode",
+            NO_FAILURE,
+            Status::Clean,
+            "idcode 0x10d64001\n",
+        ),
+        (
+            both,
+            b"",
+            b"idcode\n",
+            NO_FAILURE,
+            Status::Clean,
+            "idcode 0x10d64001\n",
+        ),
+        (&[], b"", b"", NO_FAILURE, Status::Words, "words refused\n"),
+        (
+            &["both"],
+            b"",
+            b"",
+            NO_FAILURE,
+            Status::Words,
+            "words refused\n",
+        ),
+        (
+            &["both", "--script", "s", "--image", "i"],
+            b"",
+            b"",
+            NO_FAILURE,
+            Status::Words,
+            "words refused\n",
+        ),
+        (
+            &["both", "--image", "i", "--script", "s", "x"],
+            b"",
+            b"",
+            NO_FAILURE,
+            Status::Words,
+            "words refused\n",
+        ),
+        (
+            &["chip", "--image", "i", "--script", "s"],
+            b"",
+            b"",
+            NO_FAILURE,
+            Status::Words,
+            "words refused\n",
+        ),
+        (
+            &["both", "--image", "i", "--script", "t"],
+            b"",
+            b"",
+            NO_FAILURE,
+            Status::File,
+            "file failed: t\n",
+        ),
+        (
+            &["both", "--image", "j", "--script", "s"],
+            b"",
+            b"",
+            NO_FAILURE,
+            Status::File,
+            "file failed: j\n",
+        ),
+        (both, b"", b"idcode\n", 0, Status::File, "file failed: s\n"),
+        (
+            both,
+            b"",
+            b"idcode\n\n",
+            NO_FAILURE,
+            Status::Script,
+            "script refused: line 1 fault 2\n",
+        ),
+        (
+            both,
+            b"x",
+            b"idcodes",
+            NO_FAILURE,
+            Status::Script,
+            "script refused: line 1 fault 2\n",
+        ),
+        (
+            both,
+            b"x",
+            b"idcode",
+            NO_FAILURE,
+            Status::Image,
+            "image refused: fault 1\n",
+        ),
+    ];
+    for (words, image, script, fail_at, status, printed) in cases {
+        let words = word_list(alloc, words)?;
+        let mut files = two_files(alloc, image, script, fail_at)?;
+        let mut out = MemorySink::new(alloc, AMPLE, Vec::new(alloc))?;
+        let mut bench = Bench::blank();
+        let ended = run(alloc, &words, &mut files, &mut out, &mut bench);
+        assert_eq!(rt; ended, status);
+        assert_eq!(rt; out.bytes(), printed.as_bytes());
+    }
+    Ok(())
+}
+
+#[test]
+fn a_script_over_the_limit_is_refused(rt: HostRuntime) -> Result<(), Fail> {
+    let alloc = rt.alloc();
+    let words = word_list(alloc, &["both", "--image", "i", "--script", "s"])?;
+    let long = vec![in alloc; b'#'; SCRIPT_MOST + 1]?;
+    let mut files = two_files(alloc, b"", &long, NO_FAILURE)?;
+    let mut out = MemorySink::new(alloc, AMPLE, Vec::new(alloc))?;
+    let mut bench = Bench::blank();
+    let ended = run(alloc, &words, &mut files, &mut out, &mut bench);
+    assert_eq!(rt; ended, Status::Script);
+    assert_eq!(rt; out.bytes(), b"script refused: line 0 fault 7\n".as_slice());
+    Ok(())
+}
+
+#[test]
+fn a_sink_that_fails_gives_its_status(rt: HostRuntime) -> Result<(), Fail> {
+    let alloc = rt.alloc();
+    let cases: [(&[u8], usize, Option<u32>, &str); 4] = [
+        (b"idcode", AMPLE, Some(0), ""),
+        (b"idcode", 9, None, "idcode 0x"),
+        (b"nothing", AMPLE, Some(0), ""),
+        (b"nothing", 6, None, "script"),
+    ];
+    for (script, room, fail_at, printed) in cases {
+        let words = word_list(alloc, &["both", "--image", "i", "--script", "s"])?;
+        let mut files = two_files(alloc, b"", script, NO_FAILURE)?;
+        let mut listed = Vec::new(alloc);
+        if let Some(call) = fail_at {
+            listed.push(call)?;
+        }
+        let mut out = MemorySink::new(alloc, room, listed)?;
+        let mut bench = Bench::blank();
+        let ended = run(alloc, &words, &mut files, &mut out, &mut bench);
+        assert_eq!(rt; ended.code(), 8);
+        assert_eq!(rt; out.bytes(), printed.as_bytes());
+    }
+    Ok(())
+}
+
+#[test]
+fn files_on_disk_are_read(rt: HostRuntime) -> Result<(), Fail> {
+    let alloc = rt.alloc();
+    let script = "/tmp/jtag_bench_script.txt";
+    let image = "/tmp/jtag_bench_image.bin";
+    fs::write(&rt, script, "idcode\n")?;
+    fs::write(&rt, image, "")?;
+    let words = word_list(alloc, &["both", "--image", image, "--script", script])?;
+    let mut files = DiskFiles::new(&rt);
+    let mut out = MemorySink::new(alloc, AMPLE, Vec::new(alloc))?;
+    let mut bench = Bench::blank();
+    let ended = run(alloc, &words, &mut files, &mut out, &mut bench);
+    assert_eq!(rt; ended, Status::Clean);
+    assert_eq!(rt; out.bytes(), b"idcode 0x10d64001\n".as_slice());
+
+    let absent = word_list(
+        alloc,
+        &["both", "--image", image, "--script", "/tmp/no/such"],
+    )?;
+    let mut out = MemorySink::new(alloc, AMPLE, Vec::new(alloc))?;
+    let ended = run(alloc, &absent, &mut files, &mut out, &mut bench);
+    assert_eq!(rt; ended.code(), 3);
+    assert_eq!(rt; out.bytes(), b"file failed: /tmp/no/such\n".as_slice());
+    assert_eq!(rt; files.faults(), 1);
+    Ok(())
+}

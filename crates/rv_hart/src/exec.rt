@@ -1,0 +1,28 @@
+//! One turn of a core (unprivileged manual, "Programmers' Model for Base Integer ISA"; privileged manual, "Machine Cause").
+
+ghost use Rattle.std.specs.Prelude.{◌≡◌};
+ghost use Rattle.rv_model.specs.Execute.{exec_of};
+
+use crate::execute::execute;
+use crate::hart::{FETCH_OUTSIDE, Hart, ILLEGAL_INSTRUCTION};
+use rv_mem::Ram;
+use rv_model::{Did, Size};
+use rv_words::decode;
+
+impl Hart {
+    #[tactic(auto, unfolding(rv_model::specs::Execute::exec_of))]
+    /// Executes the instruction at pc, or traps in its place.
+    pub fn exec(&mut self, ram: &mut Ram) -> Did
+        ensures step { record { core = self.new; did = result } ≡ (exec_of self.old ram.old).step }
+        ensures memory { ram.new ≡ (exec_of self.old ram.old).memory }
+    {
+        let pc = self.pc();
+        match ram.load(pc, Size::B4) {
+            Ok(word) => match decode(word as u32) {
+                Some(insn) => execute(self, ram, insn),
+                None => self.trap(ILLEGAL_INSTRUCTION, 0),
+            },
+            Err(_) => self.trap(FETCH_OUTSIDE, pc),
+        }
+    }
+}

@@ -1,0 +1,102 @@
+//! The control and status registers of Machine Mode by their numbers (privileged manual, "Machine-Level CSRs").
+
+ghost use Rattle.std.specs.Prelude.{◌≡◌, ◌+◌, ◌%◌, IfErr, bit_and};
+ghost use Rattle.rv_model.specs.Registers.{csr_value, csr_written, address_bits};
+ghost use Rattle.rv_hart.specs.CsrAnswer.{csr_answer};
+
+use super::Hart;
+use super::mstatus::mstatus_written;
+use crate::csr_fault::CsrFault;
+
+const MSTATUS: u16 = 0x300;
+
+const MISA: u16 = 0x301;
+
+const MIE: u16 = 0x304;
+
+const MTVEC: u16 = 0x305;
+
+const MSCRATCH: u16 = 0x340;
+
+const MEPC: u16 = 0x341;
+
+const MCAUSE: u16 = 0x342;
+
+const MTVAL: u16 = 0x343;
+
+const MIP: u16 = 0x344;
+
+const MVENDORID: u16 = 0xf11;
+
+const MARCHID: u16 = 0xf12;
+
+const MIMPID: u16 = 0xf13;
+
+const MHARTID: u16 = 0xf14;
+
+/// What misa reads: 64 bits, with the extensions A, I and M.
+const MISA_VALUE: u64 = 0x8000_0000_0000_1101;
+
+/// The bits that mtvec and mepc keep: all but the two lowest.
+const ADDRESS_BITS: u64 = 0xffff_ffff_ffff_fffc;
+
+#[tactic(auto, using(crate::proofs::CsrBits::and_address_bits))]
+/// What mtvec and mepc keep of a value.
+fn address_written(value: u64) -> u64
+    ensures is { result ≡ 0 + bit_and value address_bits }
+    ensures whole { result % 4 ≡ 0 }
+{
+    value & ADDRESS_BITS
+}
+
+impl Hart {
+    /// A register's value, or `None` where there is no register of this number.
+    #[tactic(auto, unfolding(rv_model::specs::Registers::csr_value))]
+    pub fn csr_read(&self, number: u16) -> Option<u64>
+        ensures { result ≡ csr_value self.now number }
+    {
+        match number {
+            MSTATUS => Some(self.mstatus),
+            MISA => Some(MISA_VALUE),
+            MIE => Some(0),
+            MTVEC => Some(self.mtvec),
+            MSCRATCH => Some(self.mscratch),
+            MEPC => Some(self.mepc),
+            MCAUSE => Some(self.mcause),
+            MTVAL => Some(self.mtval),
+            MIP => Some(0),
+            MVENDORID => Some(0),
+            MARCHID => Some(0),
+            MIMPID => Some(0),
+            MHARTID => Some(u64::from(self.id)),
+            _ => None,
+        }
+    }
+
+    /// Writes a register's writable bits. A refusal changes nothing: `Absent` where there is no register of this number,
+    /// `ReadOnly` at mvendorid, marchid, mimpid and mhartid.
+    #[tactic(auto, unfolding(rv_model::specs::Registers::csr_value, rv_model::specs::Registers::csr_read_only, rv_model::specs::Registers::csr_written))]
+    pub fn csr_write(&mut self, number: u16, value: u64) -> Result<(), CsrFault>
+        ensures answer { result ≡ csr_answer self.old number }
+        ensures after { self.new ≡ csr_written self.old number value }
+        ensures refused { IfErr result (λ _. self.new ≡ self.old) }
+    {
+        match number {
+            MSTATUS => self.mstatus = mstatus_written(value),
+            MTVEC => self.mtvec = address_written(value),
+            MSCRATCH => self.mscratch = value,
+            MEPC => self.mepc = address_written(value),
+            MCAUSE => self.mcause = value,
+            MTVAL => self.mtval = value,
+            MISA => {}
+            MIE => {}
+            MIP => {}
+            MVENDORID => return Err(CsrFault::ReadOnly),
+            MARCHID => return Err(CsrFault::ReadOnly),
+            MIMPID => return Err(CsrFault::ReadOnly),
+            MHARTID => return Err(CsrFault::ReadOnly),
+            _ => return Err(CsrFault::Absent),
+        }
+        Ok(())
+    }
+}

@@ -1,0 +1,5 @@
+use Rattle.rv_model.proofs.BoardLemmas as lemmas
+use Rattle.rv_model.proofs.laws.execution_leaves_others.Goals as goal
+
+pub returns : goal.returns
+returns c = lemmas.execution_leaves_others

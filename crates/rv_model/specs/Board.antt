@@ -1,0 +1,107 @@
+-- A board: one to four harts and one memory. A hart is its core, which a program sees, and beside it a debug part, which only a debugger sees.
+-- RISC-V Debug Specification 1.0, "Debug Control and Status", "Debug Module Status" and "Sdtrig (ISA Extension)". Forgetting the debug parts is `cores`.
+use Rattle.std.specs.Prelude.{◌≡◌, ℕ, ◌≤◌, ◌<◌, Bool, true, false, List, map, replicate, length, Option, Some, None, slice_get, slice_set}
+use Rattle.rv_model.specs.declared.cause.Cause.{Cause}
+use Rattle.rv_model.specs.declared.cause.Cause.TheVariants.{Reset}
+use Rattle.rv_model.specs.declared.slot.Slot.{Slot}
+use Rattle.rv_model.specs.declared.slot.Trigger.TheVariants.{Disabled}
+use Rattle.rv_model.specs.Memory.{Memory}
+use Rattle.rv_model.specs.Core.{Core, reset_core}
+use Rattle.rv_model.specs.Effects.{Outcome}
+use Rattle.rv_model.specs.Execute.{exec_of}
+
+pub record DebugPart : Type 0 where
+  pub halted : Option Cause  -- why the hart is halted, or none where it runs
+  pub halt_request : Bool
+  pub resume_request : Bool
+  pub resume_ack : Bool
+  pub have_reset : Bool  -- the hart has been reset, and the debugger has not said that it knows
+  pub step : Bool  -- dcsr.step
+  pub stepie : Bool  -- dcsr.stepie
+  pub ebreakm : Bool  -- dcsr.ebreakm
+  pub tselect : ℕ  -- below 4
+  pub slots : List Slot  -- four
+
+pub record Hart : Type 0 where
+  pub core : Core
+  pub debug : DebugPart
+
+pub record Board : Type 0 where
+  pub harts : List Hart
+  pub memory : Memory
+
+-- a board that nobody debugs
+pub record Machine : Type 0 where
+  pub cores : List Core
+  pub memory : Memory
+
+-- ---- forgetting the debug parts
+
+abbrev pub cores : List Hart → List Core
+cores hs = map (λ (h : Hart). h.core) hs
+
+abbrev pub machine_of : Board → Machine
+machine_of b = record { cores = cores b.harts; memory = b.memory }
+
+-- ---- execution by one hart
+
+abbrev pub with_outcome : ℕ → Outcome → Machine → Machine
+with_outcome h o b = record { cores = slice_set b.cores h o.step.core; memory = o.memory }
+
+abbrev pub execute_by : Option Core → ℕ → Machine → Machine
+execute_by (Some c) h b = with_outcome h (exec_of c b.memory) b
+execute_by None h b = b
+
+-- a machine after one instruction of hart h; nothing where there is no such hart
+abbrev pub execute : ℕ → Machine → Machine
+execute h b = execute_by (slice_get b.cores h) h b
+
+abbrev pub with_board_outcome : ℕ → Hart → Outcome → Board → Board
+with_board_outcome h hart o b = record { harts = slice_set b.harts h (record hart { core = o.step.core }); memory = o.memory }
+
+abbrev pub execute_on_by : Option Hart → ℕ → Board → Board
+execute_on_by (Some hart) h b = with_board_outcome h hart (exec_of hart.core b.memory) b
+execute_on_by None h b = b
+
+-- the same on a board: every debug part stays as it is
+abbrev pub execute_on : ℕ → Board → Board
+execute_on h b = execute_on_by (slice_get b.harts h) h b
+
+-- ---- reset
+
+abbrev pub slot_count : ℕ
+slot_count = 4
+
+abbrev pub free_slot : Slot
+free_slot = record { trigger = Disabled; tdata2 = 0 }
+
+-- the debug part of a hart that has just been reset; given is the cause of its halt, or none where it runs
+abbrev pub reset_debug : Option Cause → DebugPart
+reset_debug halted = record {
+  halted = halted;
+  halt_request = false;
+  resume_request = false;
+  resume_ack = false;
+  have_reset = true;
+  step = false;
+  stepie = false;
+  ebreakm = false;
+  tselect = 0;
+  slots = replicate slot_count free_slot;
+}
+
+abbrev pub reset_hart : ℕ → Option Cause → Hart
+reset_hart id halted = record { core = reset_core id; debug = reset_debug halted }
+
+abbrev pub runs : Option Cause
+runs = None
+
+abbrev pub halted_by_reset : Option Cause
+halted_by_reset = Some Reset
+
+-- a board has one to four harts, and each core has its place as its number
+pub record IsBoard (b : Board) : Type 0 where
+  pub some_hart : 0 < length b.harts
+  pub at_most_four : length b.harts ≤ 4
+  pub numbered : (h : ℕ) (hart : Hart) → slice_get b.harts h ≡ Some hart → hart.core.id ≡ h
+  pub places : length b.memory.reserved ≡ 4

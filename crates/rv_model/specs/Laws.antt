@@ -1,0 +1,69 @@
+-- Laws of the definitions, over all instructions at once, in the words of a program's author.
+-- Unprivileged manual: "Programmers' Model for Base Integer ISA" (x0 is zero), "Load-Reserved/Store-Conditional Instructions" (stores by other harts).
+use Rattle.std.specs.Prelude.{◌≡◌, ℕ, ◌⊎◌, length, ⊤, Option, Some, None, Result, Ok, Err, bit_and, slice_get, slice_index}
+use Rattle.rv_model.specs.declared.did.Did.TheVariants.{Trapped}
+use Rattle.rv_model.specs.declared.mem_fault.MemFault.{MemFault}
+use Rattle.rv_model.specs.declared.size.Size.{Size}
+use Rattle.rv_model.specs.Rows.{Row, rows}
+use Rattle.rv_model.specs.Memory.{Memory, loaded, store_answer, after_store}
+use Rattle.rv_model.specs.Core.{Core, IsCore}
+use Rattle.rv_model.specs.Effects.{Outcome}
+use Rattle.rv_model.specs.Execute.{exec_of}
+use Rattle.rv_model.specs.Board.{Machine, Board, execute, execute_on, machine_of}
+
+-- ---- the instruction table
+
+-- no word matches two rows
+abbrev pub RowsAreApart : Type 0
+RowsAreApart = (w i j : ℕ) (r s : Row) → slice_get rows i ≡ Some r → slice_get rows j ≡ Some s
+    → bit_and w r.mask ≡ r.code → bit_and w s.mask ≡ s.code → i ≡ j
+
+-- ---- memory
+
+abbrev pub answered : Result ℕ MemFault → Result ⊤ MemFault
+answered (Ok v) = Ok tt
+answered (Err fault) = Err fault
+
+-- a store is refused exactly where a load of its bytes is, for the same reason, and then changes no memory
+pub record RefusedStoreKeeps (m : Memory) (a : ℕ) (size : Size) (v : ℕ) : Type 0 where
+  pub as_load : store_answer m a size ≡ answered (loaded m a size)
+  pub same : (fault : MemFault) → store_answer m a size ≡ Err fault → after_store m a size v ≡ m
+
+abbrev pub RefusedStoresKeepMemory : Type 0
+RefusedStoresKeepMemory = (m : Memory) (a : ℕ) (size : Size) (v : ℕ) → RefusedStoreKeeps m a size v
+
+-- ---- one instruction
+
+-- a reservation is as it was, or it is gone
+abbrev pub KeptOrCleared : Option (Option ℕ) → Option (Option ℕ) → Type 0
+KeptOrCleared old new = (new ≡ old) ⊎ (new ≡ Some None)
+
+-- what every instruction leaves of its own core
+pub record KeepsCore (c after : Core) : Type 0 where
+  pub same_id : after.id ≡ c.id
+  pub x0 : slice_index after.x 0 ≡ slice_index c.x 0
+  pub is_core : IsCore c → IsCore after
+
+-- what every instruction leaves of its own core and of memory
+pub record Keeps (c : Core) (m : Memory) (o : Outcome) : Type 0 where
+  pub core : KeepsCore c o.step.core
+  pub others : (j : ℕ) → (j ≡ c.id → ⊥) → KeptOrCleared (slice_get m.reserved j) (slice_get o.memory.reserved j)
+  pub trapped : (cause : ℕ) → o.step.did ≡ Trapped cause → o.memory ≡ m
+
+-- x0 never changes, pc stays a multiple of 4, other harts' reservations are kept or cleared, and an instruction that traps changes no memory
+abbrev pub ExecutionKeeps : Type 0
+ExecutionKeeps = (c : Core) (m : Memory) → Keeps c m (exec_of c m)
+
+-- ---- one hart of a board
+
+-- execution by hart h leaves every other hart's core alone
+pub record LeavesOthers (h : ℕ) (b after : Machine) : Type 0 where
+  pub count : length after.cores ≡ length b.cores
+  pub others : (j : ℕ) → (j ≡ h → ⊥) → slice_get after.cores j ≡ slice_get b.cores j
+
+abbrev pub ExecutionLeavesOthers : Type 0
+ExecutionLeavesOthers = (h : ℕ) (b : Machine) → LeavesOthers h b (execute h b)
+
+-- debug parts are no part of execution: it may be done before or after they are forgotten
+abbrev pub ExecutionForgetsDebugging : Type 0
+ExecutionForgetsDebugging = (h : ℕ) (b : Board) → machine_of (execute_on h b) ≡ execute h (machine_of b)

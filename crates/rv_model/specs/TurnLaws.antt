@@ -1,0 +1,17 @@
+-- Laws of a hart's turn: it leaves the other harts alone, and to a program it is one execution or nothing.
+-- They are this project's own: the second is what lets a debugger be forgotten.
+use Rattle.std.specs.Prelude.{◌≡◌, ◌≢◌, ℕ, length, slice_get, if◌then◌else◌}
+use Rattle.rv_model.specs.Board.{Board, Machine, execute, machine_of}
+use Rattle.rv_model.specs.Turn.{executes_at, turn}
+
+-- registers and debug parts of every other hart stay as they are, and no hart comes or goes
+pub record LeavesHarts (h : ℕ) (old new : Board) : Type 0 where
+  pub count : length new.harts ≡ length old.harts
+  pub others : (j : ℕ) → j ≢ h → slice_get new.harts j ≡ slice_get old.harts j
+
+abbrev pub TurnLeavesOthers : Type 0
+TurnLeavesOthers = (h : ℕ) (b : Board) → LeavesHarts h b (turn h b)
+
+-- forgetting the debug parts, an executed turn is one execution, and any other nothing
+abbrev pub TurnForgetsDebugging : Type 0
+TurnForgetsDebugging = (h : ℕ) (b : Board) → machine_of (turn h b) ≡ (if executes_at h b then execute h (machine_of b) else machine_of b)

@@ -1,0 +1,35 @@
+//! Laws of the definitions. Each is the contract of a function that does nothing; `specs/Laws.antt` has the statements.
+
+ghost use Rattle.rv_model.specs.Laws.{
+  ExecutionForgetsDebugging,
+  ExecutionKeeps,
+  ExecutionLeavesOthers,
+  RefusedStoresKeepMemory,
+  RowsAreApart,
+};
+
+/// No word matches two rows of the instruction table.
+pub fn rows_are_apart()
+    ensures { RowsAreApart }
+{}
+
+/// A store is refused exactly where a load of its bytes is, and then changes no memory.
+pub fn refused_stores_keep_memory()
+    ensures { RefusedStoresKeepMemory }
+{}
+
+/// Whatever an instruction is: x0 never changes, pc stays a multiple of 4, another hart's reservation is kept or cleared,
+/// and an instruction that traps changes no memory.
+pub fn execution_keeps()
+    ensures { ExecutionKeeps }
+{}
+
+/// Execution by one hart leaves every other hart's core alone.
+pub fn execution_leaves_others()
+    ensures { ExecutionLeavesOthers }
+{}
+
+/// Debug parts are no part of execution.
+pub fn execution_forgets_debugging()
+    ensures { ExecutionForgetsDebugging }
+{}

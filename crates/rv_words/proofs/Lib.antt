@@ -1,0 +1,5 @@
+pub mod FieldLemmas
+pub mod FormatLemmas
+pub mod MeaningRows
+pub mod OneRow
+pub mod WordsAgree

@@ -1,0 +1,105 @@
+-- Words that mean the same instruction agree in the bits that tell it.
+use Rattle.std.proofs.Common.{◌≡◌, ℕ, ◌<◌, ◌^◌, bit_and, ap, sym, ◌∙◌}
+use Rattle.rv_model.specs.declared.insn.Insn.{Insn}
+use Rattle.rv_model.specs.declared.insn.Insn.TheVariants.{Lui, Auipc, Jal, Jalr, Beq, Bne, Blt, Bge, Bltu, Bgeu, Lb, Lh, Lw, Ld, Lbu, Lhu, Lwu, Sb, Sh, Sw, Sd, Addi, Slti, Sltiu, Xori, Ori, Andi, Slli, Srli, Srai, Addiw, Slliw, Srliw, Sraiw, Add, Sll, Slt, Sltu, Xor, Srl, Or, And, Sub, Sra, Mul, Mulh, Mulhsu, Mulhu, Div, Divu, Rem, Remu, Addw, Sllw, Srlw, Subw, Sraw, Mulw, Divw, Divuw, Remw, Remuw, LrW, ScW, AmoswapW, AmoaddW, AmoxorW, AmoandW, AmoorW, AmominW, AmomaxW, AmominuW, AmomaxuW, LrD, ScD, AmoswapD, AmoaddD, AmoxorD, AmoandD, AmoorD, AmominD, AmomaxD, AmominuD, AmomaxuD, Fence, FenceI, Csrrw, Csrrs, Csrrc, Csrrwi, Csrrsi, Csrrci, Ecall, Ebreak, Mret, Wfi}
+use Rattle.rv_model.specs.Means.{Means}
+use Rattle.rv_words.specs.KeptBits.{kept_bits}
+use Rattle.rv_words.proofs.FormatLemmas.{same_atomic, same_b, same_csr, same_csr_imm, same_i, same_j, same_load_reserved, same_r, same_s, same_shift, same_shift_word, same_u}
+
+pub kept_bits_agree : (v w : ℕ) → v < 2 ^ 32 → w < 2 ^ 32 → (insn : Insn) → Means v insn → Means w insn → bit_and v (kept_bits insn) ≡ bit_and w (kept_bits insn)
+kept_bits_agree v w v_fits w_fits (Lui p) m n = ap (λ k. bit_and k 0xffffffff) (same_u v w 0x00000037 p v_fits w_fits m n)
+kept_bits_agree v w v_fits w_fits (Auipc p) m n = ap (λ k. bit_and k 0xffffffff) (same_u v w 0x00000017 p v_fits w_fits m n)
+kept_bits_agree v w v_fits w_fits (Jal p) m n = ap (λ k. bit_and k 0xffffffff) (same_j v w 0x0000006f p v_fits w_fits m n)
+kept_bits_agree v w v_fits w_fits (Jalr p) m n = ap (λ k. bit_and k 0xffffffff) (same_i v w 0x00000067 p v_fits w_fits m n)
+kept_bits_agree v w v_fits w_fits (Beq p) m n = ap (λ k. bit_and k 0xffffffff) (same_b v w 0x00000063 p v_fits w_fits m n)
+kept_bits_agree v w v_fits w_fits (Bne p) m n = ap (λ k. bit_and k 0xffffffff) (same_b v w 0x00001063 p v_fits w_fits m n)
+kept_bits_agree v w v_fits w_fits (Blt p) m n = ap (λ k. bit_and k 0xffffffff) (same_b v w 0x00004063 p v_fits w_fits m n)
+kept_bits_agree v w v_fits w_fits (Bge p) m n = ap (λ k. bit_and k 0xffffffff) (same_b v w 0x00005063 p v_fits w_fits m n)
+kept_bits_agree v w v_fits w_fits (Bltu p) m n = ap (λ k. bit_and k 0xffffffff) (same_b v w 0x00006063 p v_fits w_fits m n)
+kept_bits_agree v w v_fits w_fits (Bgeu p) m n = ap (λ k. bit_and k 0xffffffff) (same_b v w 0x00007063 p v_fits w_fits m n)
+kept_bits_agree v w v_fits w_fits (Lb p) m n = ap (λ k. bit_and k 0xffffffff) (same_i v w 0x00000003 p v_fits w_fits m n)
+kept_bits_agree v w v_fits w_fits (Lh p) m n = ap (λ k. bit_and k 0xffffffff) (same_i v w 0x00001003 p v_fits w_fits m n)
+kept_bits_agree v w v_fits w_fits (Lw p) m n = ap (λ k. bit_and k 0xffffffff) (same_i v w 0x00002003 p v_fits w_fits m n)
+kept_bits_agree v w v_fits w_fits (Ld p) m n = ap (λ k. bit_and k 0xffffffff) (same_i v w 0x00003003 p v_fits w_fits m n)
+kept_bits_agree v w v_fits w_fits (Lbu p) m n = ap (λ k. bit_and k 0xffffffff) (same_i v w 0x00004003 p v_fits w_fits m n)
+kept_bits_agree v w v_fits w_fits (Lhu p) m n = ap (λ k. bit_and k 0xffffffff) (same_i v w 0x00005003 p v_fits w_fits m n)
+kept_bits_agree v w v_fits w_fits (Lwu p) m n = ap (λ k. bit_and k 0xffffffff) (same_i v w 0x00006003 p v_fits w_fits m n)
+kept_bits_agree v w v_fits w_fits (Sb p) m n = ap (λ k. bit_and k 0xffffffff) (same_s v w 0x00000023 p v_fits w_fits m n)
+kept_bits_agree v w v_fits w_fits (Sh p) m n = ap (λ k. bit_and k 0xffffffff) (same_s v w 0x00001023 p v_fits w_fits m n)
+kept_bits_agree v w v_fits w_fits (Sw p) m n = ap (λ k. bit_and k 0xffffffff) (same_s v w 0x00002023 p v_fits w_fits m n)
+kept_bits_agree v w v_fits w_fits (Sd p) m n = ap (λ k. bit_and k 0xffffffff) (same_s v w 0x00003023 p v_fits w_fits m n)
+kept_bits_agree v w v_fits w_fits (Addi p) m n = ap (λ k. bit_and k 0xffffffff) (same_i v w 0x00000013 p v_fits w_fits m n)
+kept_bits_agree v w v_fits w_fits (Slti p) m n = ap (λ k. bit_and k 0xffffffff) (same_i v w 0x00002013 p v_fits w_fits m n)
+kept_bits_agree v w v_fits w_fits (Sltiu p) m n = ap (λ k. bit_and k 0xffffffff) (same_i v w 0x00003013 p v_fits w_fits m n)
+kept_bits_agree v w v_fits w_fits (Xori p) m n = ap (λ k. bit_and k 0xffffffff) (same_i v w 0x00004013 p v_fits w_fits m n)
+kept_bits_agree v w v_fits w_fits (Ori p) m n = ap (λ k. bit_and k 0xffffffff) (same_i v w 0x00006013 p v_fits w_fits m n)
+kept_bits_agree v w v_fits w_fits (Andi p) m n = ap (λ k. bit_and k 0xffffffff) (same_i v w 0x00007013 p v_fits w_fits m n)
+kept_bits_agree v w v_fits w_fits (Slli p) m n = ap (λ k. bit_and k 0xffffffff) (same_shift v w 0x00001013 p v_fits w_fits m n)
+kept_bits_agree v w v_fits w_fits (Srli p) m n = ap (λ k. bit_and k 0xffffffff) (same_shift v w 0x00005013 p v_fits w_fits m n)
+kept_bits_agree v w v_fits w_fits (Srai p) m n = ap (λ k. bit_and k 0xffffffff) (same_shift v w 0x40005013 p v_fits w_fits m n)
+kept_bits_agree v w v_fits w_fits (Addiw p) m n = ap (λ k. bit_and k 0xffffffff) (same_i v w 0x0000001b p v_fits w_fits m n)
+kept_bits_agree v w v_fits w_fits (Slliw p) m n = ap (λ k. bit_and k 0xffffffff) (same_shift_word v w 0x0000101b p v_fits w_fits m n)
+kept_bits_agree v w v_fits w_fits (Srliw p) m n = ap (λ k. bit_and k 0xffffffff) (same_shift_word v w 0x0000501b p v_fits w_fits m n)
+kept_bits_agree v w v_fits w_fits (Sraiw p) m n = ap (λ k. bit_and k 0xffffffff) (same_shift_word v w 0x4000501b p v_fits w_fits m n)
+kept_bits_agree v w v_fits w_fits (Add p) m n = ap (λ k. bit_and k 0xffffffff) (same_r v w 0x00000033 p v_fits w_fits m n)
+kept_bits_agree v w v_fits w_fits (Sll p) m n = ap (λ k. bit_and k 0xffffffff) (same_r v w 0x00001033 p v_fits w_fits m n)
+kept_bits_agree v w v_fits w_fits (Slt p) m n = ap (λ k. bit_and k 0xffffffff) (same_r v w 0x00002033 p v_fits w_fits m n)
+kept_bits_agree v w v_fits w_fits (Sltu p) m n = ap (λ k. bit_and k 0xffffffff) (same_r v w 0x00003033 p v_fits w_fits m n)
+kept_bits_agree v w v_fits w_fits (Xor p) m n = ap (λ k. bit_and k 0xffffffff) (same_r v w 0x00004033 p v_fits w_fits m n)
+kept_bits_agree v w v_fits w_fits (Srl p) m n = ap (λ k. bit_and k 0xffffffff) (same_r v w 0x00005033 p v_fits w_fits m n)
+kept_bits_agree v w v_fits w_fits (Or p) m n = ap (λ k. bit_and k 0xffffffff) (same_r v w 0x00006033 p v_fits w_fits m n)
+kept_bits_agree v w v_fits w_fits (And p) m n = ap (λ k. bit_and k 0xffffffff) (same_r v w 0x00007033 p v_fits w_fits m n)
+kept_bits_agree v w v_fits w_fits (Sub p) m n = ap (λ k. bit_and k 0xffffffff) (same_r v w 0x40000033 p v_fits w_fits m n)
+kept_bits_agree v w v_fits w_fits (Sra p) m n = ap (λ k. bit_and k 0xffffffff) (same_r v w 0x40005033 p v_fits w_fits m n)
+kept_bits_agree v w v_fits w_fits (Mul p) m n = ap (λ k. bit_and k 0xffffffff) (same_r v w 0x02000033 p v_fits w_fits m n)
+kept_bits_agree v w v_fits w_fits (Mulh p) m n = ap (λ k. bit_and k 0xffffffff) (same_r v w 0x02001033 p v_fits w_fits m n)
+kept_bits_agree v w v_fits w_fits (Mulhsu p) m n = ap (λ k. bit_and k 0xffffffff) (same_r v w 0x02002033 p v_fits w_fits m n)
+kept_bits_agree v w v_fits w_fits (Mulhu p) m n = ap (λ k. bit_and k 0xffffffff) (same_r v w 0x02003033 p v_fits w_fits m n)
+kept_bits_agree v w v_fits w_fits (Div p) m n = ap (λ k. bit_and k 0xffffffff) (same_r v w 0x02004033 p v_fits w_fits m n)
+kept_bits_agree v w v_fits w_fits (Divu p) m n = ap (λ k. bit_and k 0xffffffff) (same_r v w 0x02005033 p v_fits w_fits m n)
+kept_bits_agree v w v_fits w_fits (Rem p) m n = ap (λ k. bit_and k 0xffffffff) (same_r v w 0x02006033 p v_fits w_fits m n)
+kept_bits_agree v w v_fits w_fits (Remu p) m n = ap (λ k. bit_and k 0xffffffff) (same_r v w 0x02007033 p v_fits w_fits m n)
+kept_bits_agree v w v_fits w_fits (Addw p) m n = ap (λ k. bit_and k 0xffffffff) (same_r v w 0x0000003b p v_fits w_fits m n)
+kept_bits_agree v w v_fits w_fits (Sllw p) m n = ap (λ k. bit_and k 0xffffffff) (same_r v w 0x0000103b p v_fits w_fits m n)
+kept_bits_agree v w v_fits w_fits (Srlw p) m n = ap (λ k. bit_and k 0xffffffff) (same_r v w 0x0000503b p v_fits w_fits m n)
+kept_bits_agree v w v_fits w_fits (Subw p) m n = ap (λ k. bit_and k 0xffffffff) (same_r v w 0x4000003b p v_fits w_fits m n)
+kept_bits_agree v w v_fits w_fits (Sraw p) m n = ap (λ k. bit_and k 0xffffffff) (same_r v w 0x4000503b p v_fits w_fits m n)
+kept_bits_agree v w v_fits w_fits (Mulw p) m n = ap (λ k. bit_and k 0xffffffff) (same_r v w 0x0200003b p v_fits w_fits m n)
+kept_bits_agree v w v_fits w_fits (Divw p) m n = ap (λ k. bit_and k 0xffffffff) (same_r v w 0x0200403b p v_fits w_fits m n)
+kept_bits_agree v w v_fits w_fits (Divuw p) m n = ap (λ k. bit_and k 0xffffffff) (same_r v w 0x0200503b p v_fits w_fits m n)
+kept_bits_agree v w v_fits w_fits (Remw p) m n = ap (λ k. bit_and k 0xffffffff) (same_r v w 0x0200603b p v_fits w_fits m n)
+kept_bits_agree v w v_fits w_fits (Remuw p) m n = ap (λ k. bit_and k 0xffffffff) (same_r v w 0x0200703b p v_fits w_fits m n)
+kept_bits_agree v w v_fits w_fits (LrW p) m n = same_load_reserved v w 0x1000202f p v_fits w_fits m n
+kept_bits_agree v w v_fits w_fits (ScW p) m n = same_atomic v w 0x1800202f p v_fits w_fits m n
+kept_bits_agree v w v_fits w_fits (AmoswapW p) m n = same_atomic v w 0x0800202f p v_fits w_fits m n
+kept_bits_agree v w v_fits w_fits (AmoaddW p) m n = same_atomic v w 0x0000202f p v_fits w_fits m n
+kept_bits_agree v w v_fits w_fits (AmoxorW p) m n = same_atomic v w 0x2000202f p v_fits w_fits m n
+kept_bits_agree v w v_fits w_fits (AmoandW p) m n = same_atomic v w 0x6000202f p v_fits w_fits m n
+kept_bits_agree v w v_fits w_fits (AmoorW p) m n = same_atomic v w 0x4000202f p v_fits w_fits m n
+kept_bits_agree v w v_fits w_fits (AmominW p) m n = same_atomic v w 0x8000202f p v_fits w_fits m n
+kept_bits_agree v w v_fits w_fits (AmomaxW p) m n = same_atomic v w 0xa000202f p v_fits w_fits m n
+kept_bits_agree v w v_fits w_fits (AmominuW p) m n = same_atomic v w 0xc000202f p v_fits w_fits m n
+kept_bits_agree v w v_fits w_fits (AmomaxuW p) m n = same_atomic v w 0xe000202f p v_fits w_fits m n
+kept_bits_agree v w v_fits w_fits (LrD p) m n = same_load_reserved v w 0x1000302f p v_fits w_fits m n
+kept_bits_agree v w v_fits w_fits (ScD p) m n = same_atomic v w 0x1800302f p v_fits w_fits m n
+kept_bits_agree v w v_fits w_fits (AmoswapD p) m n = same_atomic v w 0x0800302f p v_fits w_fits m n
+kept_bits_agree v w v_fits w_fits (AmoaddD p) m n = same_atomic v w 0x0000302f p v_fits w_fits m n
+kept_bits_agree v w v_fits w_fits (AmoxorD p) m n = same_atomic v w 0x2000302f p v_fits w_fits m n
+kept_bits_agree v w v_fits w_fits (AmoandD p) m n = same_atomic v w 0x6000302f p v_fits w_fits m n
+kept_bits_agree v w v_fits w_fits (AmoorD p) m n = same_atomic v w 0x4000302f p v_fits w_fits m n
+kept_bits_agree v w v_fits w_fits (AmominD p) m n = same_atomic v w 0x8000302f p v_fits w_fits m n
+kept_bits_agree v w v_fits w_fits (AmomaxD p) m n = same_atomic v w 0xa000302f p v_fits w_fits m n
+kept_bits_agree v w v_fits w_fits (AmominuD p) m n = same_atomic v w 0xc000302f p v_fits w_fits m n
+kept_bits_agree v w v_fits w_fits (AmomaxuD p) m n = same_atomic v w 0xe000302f p v_fits w_fits m n
+kept_bits_agree v w v_fits w_fits Fence m n = m ∙ sym n
+kept_bits_agree v w v_fits w_fits FenceI m n = m ∙ sym n
+kept_bits_agree v w v_fits w_fits (Csrrw p) m n = ap (λ k. bit_and k 0xffffffff) (same_csr v w 0x00001073 p v_fits w_fits m n)
+kept_bits_agree v w v_fits w_fits (Csrrs p) m n = ap (λ k. bit_and k 0xffffffff) (same_csr v w 0x00002073 p v_fits w_fits m n)
+kept_bits_agree v w v_fits w_fits (Csrrc p) m n = ap (λ k. bit_and k 0xffffffff) (same_csr v w 0x00003073 p v_fits w_fits m n)
+kept_bits_agree v w v_fits w_fits (Csrrwi p) m n = ap (λ k. bit_and k 0xffffffff) (same_csr_imm v w 0x00005073 p v_fits w_fits m n)
+kept_bits_agree v w v_fits w_fits (Csrrsi p) m n = ap (λ k. bit_and k 0xffffffff) (same_csr_imm v w 0x00006073 p v_fits w_fits m n)
+kept_bits_agree v w v_fits w_fits (Csrrci p) m n = ap (λ k. bit_and k 0xffffffff) (same_csr_imm v w 0x00007073 p v_fits w_fits m n)
+kept_bits_agree v w v_fits w_fits Ecall m n = m ∙ sym n
+kept_bits_agree v w v_fits w_fits Ebreak m n = m ∙ sym n
+kept_bits_agree v w v_fits w_fits Mret m n = m ∙ sym n
+kept_bits_agree v w v_fits w_fits Wfi m n = m ∙ sym n

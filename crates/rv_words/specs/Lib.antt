@@ -1,0 +1,2 @@
+pub mod KeptBits
+pub mod RowsByMask

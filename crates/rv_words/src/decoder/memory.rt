@@ -1,0 +1,41 @@
+//! Loads and stores (unprivileged manual, "Load and Store Instructions").
+
+ghost use Rattle.std.specs.Prelude.{◌≡◌, IfSome};
+ghost use Rattle.rv_model.specs.Rows.{meaning_in, load_rows, store_rows};
+ghost use Rattle.rv_model.specs.OperandsFit.{OperandsFit};
+
+use crate::code;
+use crate::fields::{i_operands, s_operands};
+use crate::mask::FUNCT3_MASK;
+use rv_model::Insn;
+
+/// Opcode LOAD, by funct3.
+pub fn load(word: u32) -> Option<Insn>
+    ensures is { result ≡ meaning_in load_rows word }
+    ensures fit { IfSome result OperandsFit }
+{
+    match word & FUNCT3_MASK {
+        code::LB => Some(Insn::Lb(i_operands(word))),
+        code::LH => Some(Insn::Lh(i_operands(word))),
+        code::LW => Some(Insn::Lw(i_operands(word))),
+        code::LD => Some(Insn::Ld(i_operands(word))),
+        code::LBU => Some(Insn::Lbu(i_operands(word))),
+        code::LHU => Some(Insn::Lhu(i_operands(word))),
+        code::LWU => Some(Insn::Lwu(i_operands(word))),
+        _ => None,
+    }
+}
+
+/// Opcode STORE, by funct3.
+pub fn store(word: u32) -> Option<Insn>
+    ensures is { result ≡ meaning_in store_rows word }
+    ensures fit { IfSome result OperandsFit }
+{
+    match word & FUNCT3_MASK {
+        code::SB => Some(Insn::Sb(s_operands(word))),
+        code::SH => Some(Insn::Sh(s_operands(word))),
+        code::SW => Some(Insn::Sw(s_operands(word))),
+        code::SD => Some(Insn::Sd(s_operands(word))),
+        _ => None,
+    }
+}

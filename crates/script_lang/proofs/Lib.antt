@@ -1,0 +1,11 @@
+pub mod CleanLemmas
+pub mod FormLemmas
+pub mod LawLemmas
+pub mod LineLemmas
+pub mod NumberLemmas
+pub mod PrintLemmas
+pub mod ReadAgain
+pub mod ReaderLemmas
+pub mod RoundTrip
+pub mod SpellingAgain
+pub mod WordLemmas

@@ -1,0 +1,168 @@
+-- A spelled line is read as its command, and a spelled text as its commands.
+use Rattle.std.proofs.Common.{◌≡◌, ℕ, ◌+◌, ◌<◌, ◌≤◌, ◌^◌, Bool, true, false, cond, List, [], ◌∷◌, ◌++◌, length, map, refl, sym, ap, ◌∙◌, subst, arith, codes, decimal, Option, Some, None, Result, Ok, Err}
+use Rattle.std.specs.List.{All, filter_map, join_with_byte, flat_map}
+use Rattle.std.specs.Char.{digit_value}
+use Rattle.std.specs.Str.Parse.{AllDigits}
+use Rattle.std.proofs.lemmas.Bool.Decides.{nat_tests}
+use Rattle.std.proofs.lemmas.Fmt.{decimal_is_IsNumeral}
+use Rattle.std.proofs.lemmas.List.Elements.{All-nil, All-cons, All-head, All-tail}
+use Rattle.rv_model.specs.declared.size.Size.{Size}
+use Rattle.rv_model.specs.declared.size.Size.TheVariants.{B1, B2, B4, B8}
+use Rattle.rv_model.specs.Size.{count_of}
+use Rattle.debug_model.specs.declared.command.Path.{Path}
+use Rattle.debug_model.specs.declared.command.Path.TheVariants.{Progbuf, Bus}
+use Rattle.debug_model.specs.declared.command.WatchKind.{WatchKind}
+use Rattle.debug_model.specs.declared.command.WatchKind.TheVariants.{Load, Store, Access}
+use Rattle.debug_model.specs.declared.command.Command.{Command}
+use Rattle.debug_model.specs.declared.command.Command.TheVariants.{Idcode, Hart, State, Halt, Resume, Step, Wait, Regs, Reg, SetReg, Read, Write, Dump, Via, Break, Watch, Count, Clear, Slots, Ebreak, End}
+use Rattle.debug_model.specs.declared.script_error.ScriptFault.TheVariants.{NotAscii}
+use Rattle.debug_model.specs.Command.{IsWithinRanges}
+use Rattle.debug_model.specs.Registers.{name_of_register}
+use Rattle.debug_model.specs.ScriptText.{is_plain, is_not_empty, words_of, content_of, lines_of, line_feed, space}
+use Rattle.debug_model.specs.Grammar.{Reading, words_read, line_read, AreReadAs, IsReadAs}
+use Rattle.debug_model.specs.Spelling.{hexadecimal, spelled_address, spelled_path, spelled_watch_kind, spelled_switch, spelled_words, spelling, spelled_line, spelled_script}
+use Rattle.script_lang.proofs.CleanLemmas.{IsWord, IsWordByte, IsLineByte, IsWordByte-from_range, IsWord-from_name, line_of_words, content_of-plain, is_plain-line, words_of-joined, lines_of-line}
+use Rattle.script_lang.proofs.ReadAgain.{AllDigits-hexadecimal}
+use Rattle.script_lang.proofs.RoundTrip.{IsWord-register, words_read-spelled, value_small, block_small, length_small}
+
+-- each spelled word is a word
+
+digit_is_word_byte : (d : ℕ) → digit_value d < 16 → IsWordByte d
+digit_is_word_byte d h = IsWordByte-from_range d (low d h) (high d h)
+  where
+    low : (d : ℕ) → digit_value d < 16 → 48 ≤ d
+    low d h = grind (arith, nat_tests)
+
+    high : (d : ℕ) → digit_value d < 16 → d ≤ 126
+    high d h = grind (arith, nat_tests)
+
+digits_are_word_bytes : (base : ℕ) (ds : List ℕ) → base ≤ 16 → AllDigits base ds → All IsWordByte ds
+digits_are_word_bytes base [] small h = All-nil IsWordByte
+digits_are_word_bytes base (d ∷ ds) small h = All-cons IsWordByte d ds (digit_is_word_byte d (lower (digit_value d) h.0)) (digits_are_word_bytes base ds small h.1)
+  where
+    lower : (v : ℕ) → v < base → v < 16
+    lower v l = omega arith
+
+not_empty : (ds : List ℕ) → 0 < length ds → is_not_empty ds ≡ true
+not_empty [] h = absurd (omega arith)
+not_empty (d ∷ ds) h = refl
+
+decimal_word : (n : ℕ) → n < 2 ^ 64 → IsWord (decimal n)
+decimal_word n small =
+    let numeral = (decimal_is_IsNumeral n small).0 in
+    record { some = not_empty (decimal n) numeral.0; bytes = digits_are_word_bytes 10 (decimal n) (omega arith) numeral.1 }
+
+address_word : (n : ℕ) → IsWord (spelled_address n)
+address_word n = record {
+  some = refl;
+  bytes = All-cons IsWordByte 48 (120 ∷ hexadecimal 16 n) (IsWordByte-from_range 48 (omega arith) (omega arith))
+      (All-cons IsWordByte 120 (hexadecimal 16 n) (IsWordByte-from_range 120 (omega arith) (omega arith)) (digits_are_word_bytes 16 (hexadecimal 16 n) (omega arith) (AllDigits-hexadecimal 16 n)));
+}
+
+size_word : (size : Size) → IsWord (decimal (count_of size))
+size_word B1 = decimal_word 1 (omega arith)
+size_word B2 = decimal_word 2 (omega arith)
+size_word B4 = decimal_word 4 (omega arith)
+size_word B8 = decimal_word 8 (omega arith)
+
+path_word : (path : Path) → IsWord (spelled_path path)
+path_word Progbuf = IsWord-from_name (codes "progbuf") refl
+path_word Bus = IsWord-from_name (codes "bus") refl
+
+kind_word : (kind : WatchKind) → IsWord (spelled_watch_kind kind)
+kind_word Load = IsWord-from_name (codes "load") refl
+kind_word Store = IsWord-from_name (codes "store") refl
+kind_word Access = IsWord-from_name (codes "access") refl
+
+switch_word : (is_on : Bool) → IsWord (spelled_switch is_on)
+switch_word true = IsWord-from_name (codes "on") refl
+switch_word false = IsWord-from_name (codes "off") refl
+
+one : (v : List ℕ) → IsWord v → All IsWord (v ∷ [])
+one v h = All-cons IsWord v [] h (All-nil IsWord)
+
+two : (v w : List ℕ) → IsWord v → IsWord w → All IsWord (v ∷ w ∷ [])
+two v w h i = All-cons IsWord v (w ∷ []) h (one w i)
+
+three : (v w x : List ℕ) → IsWord v → IsWord w → IsWord x → All IsWord (v ∷ w ∷ x ∷ [])
+three v w x h i j = All-cons IsWord v (w ∷ x ∷ []) h (two w x i j)
+
+name : (word : List ℕ) → IsWord word → (words : List (List ℕ)) → All IsWord words → All IsWord (word ∷ words)
+name word h words hs = All-cons IsWord word words h hs
+
+are_words : (command : Command) → IsWithinRanges command → All IsWord (spelled_words command)
+are_words Idcode h = one (codes "idcode") (IsWord-from_name (codes "idcode") refl)
+are_words (Hart n) h = two (codes "hart") (decimal n) (IsWord-from_name (codes "hart") refl) (decimal_word n (omega arith))
+are_words State h = one (codes "state") (IsWord-from_name (codes "state") refl)
+are_words Halt h = one (codes "halt") (IsWord-from_name (codes "halt") refl)
+are_words Resume h = one (codes "resume") (IsWord-from_name (codes "resume") refl)
+are_words (Step n) h = two (codes "step") (decimal n) (IsWord-from_name (codes "step") refl) (decimal_word n (omega arith))
+are_words (Wait n) h = two (codes "wait") (decimal n) (IsWord-from_name (codes "wait") refl) (decimal_word n (omega arith))
+are_words Regs h = one (codes "regs") (IsWord-from_name (codes "regs") refl)
+are_words (Reg register) h = two (codes "reg") (name_of_register register.0) (IsWord-from_name (codes "reg") refl) (IsWord-register register.0 h)
+are_words (SetReg register value) h =
+    three (codes "reg") (name_of_register register.0) (spelled_address value) (IsWord-from_name (codes "reg") refl) (IsWord-register register.0 h.0) (address_word value)
+are_words (Read size address count) h =
+    name (codes "read") (IsWord-from_name (codes "read") refl) (decimal (count_of size) ∷ spelled_address address ∷ decimal count ∷ [])
+    (three (decimal (count_of size)) (spelled_address address) (decimal count) (size_word size) (address_word address) (decimal_word count (omega arith)))
+are_words (Write size address value count) h =
+    name (codes "write") (IsWord-from_name (codes "write") refl) (decimal (count_of size) ∷ spelled_address address ∷ spelled_address value ∷ decimal count ∷ [])
+    (name (decimal (count_of size)) (size_word size) (spelled_address address ∷ spelled_address value ∷ decimal count ∷ [])
+    (three (spelled_address address) (spelled_address value) (decimal count) (address_word address) (address_word value) (decimal_word count (omega arith))))
+are_words (Dump address count) h =
+    three (codes "dump") (spelled_address address) (decimal count) (IsWord-from_name (codes "dump") refl) (address_word address) (decimal_word count (omega arith))
+are_words (Via path) h = two (codes "via") (spelled_path path) (IsWord-from_name (codes "via") refl) (path_word path)
+are_words (Break address) h = two (codes "break") (spelled_address address) (IsWord-from_name (codes "break") refl) (address_word address)
+are_words (Watch kind address) h =
+    three (codes "watch") (spelled_watch_kind kind) (spelled_address address) (IsWord-from_name (codes "watch") refl) (kind_word kind) (address_word address)
+are_words (Count n) h = two (codes "count") (decimal n) (IsWord-from_name (codes "count") refl) (decimal_word n (omega arith))
+are_words (Clear n) h = two (codes "clear") (decimal n) (IsWord-from_name (codes "clear") refl) (decimal_word n (omega arith))
+are_words Slots h = one (codes "slots") (IsWord-from_name (codes "slots") refl)
+are_words (Ebreak is_on) h = two (codes "ebreak") (spelled_switch is_on) (IsWord-from_name (codes "ebreak") refl) (switch_word is_on)
+are_words End h = one (codes "end") (IsWord-from_name (codes "end") refl)
+
+-- a spelled line
+
+line_again : (words : List (List ℕ)) (command : Command) → All IsWord words → words_read words ≡ Ok (Some command) → line_read (join_with_byte space words) ≡ Ok (Some command)
+unfolding line_read words_read
+line_again [] command h e = cc
+line_again (w ∷ words) command h e =
+    let line = join_with_byte space (w ∷ words) in
+    let bytes = line_of_words (w ∷ words) h in
+    ap (λ c. cond (is_plain c) (words_read (words_of c)) (Err NotAscii)) (content_of-plain line bytes)
+    ∙ ap (λ b. cond b (words_read (words_of line)) (Err NotAscii)) (is_plain-line line bytes)
+    ∙ ap words_read (words_of-joined w words (All-head IsWord w words h) (All-tail IsWord w words h))
+    ∙ e
+
+pub line_read-spelling : (command : Command) → IsWithinRanges command → line_read (spelling command) ≡ Ok (Some command)
+unfolding spelling
+line_read-spelling command h = line_again (spelled_words command) command (are_words command h) (words_read-spelled command h)
+
+line_bytes : (command : Command) → IsWithinRanges command → All IsLineByte (spelling command)
+unfolding spelling
+line_bytes command h = line_of_words (spelled_words command) (are_words command h)
+
+-- a spelled text
+
+AreReadAs-cons : (line : List ℕ) (lines : List (List ℕ)) (command : Command) (commands : List Command) → line_read line ≡ Ok (Some command) → AreReadAs lines commands → AreReadAs (line ∷ lines) (command ∷ commands)
+AreReadAs-cons line lines command commands e h = record {
+  readings = Some command ∷ h.readings;
+  each = ap (λ r. r ∷ map line_read lines) e ∙ ap (λ rs. Ok (Some command) ∷ rs) h.each;
+  commands_of = ap (λ cs. command ∷ cs) h.commands_of;
+}
+
+empty_line : line_read [] ≡ Ok None
+unfolding line_read words_read words_of content_of
+empty_line = refl
+
+are_read : (commands : List Command) → All IsWithinRanges commands → AreReadAs (lines_of (spelled_script commands)) commands
+unfolding spelled_script
+are_read [] h = record { readings = None ∷ []; each = ap (λ r. r ∷ []) empty_line; commands_of = refl }
+are_read (command ∷ commands) h =
+    let here = All-head IsWithinRanges command commands h in
+    let rest = are_read commands (All-tail IsWithinRanges command commands h) in
+    subst (λ lines. AreReadAs lines (command ∷ commands)) (sym (lines_of-line (spelling command) (flat_map spelled_line commands) (line_bytes command here)))
+    (AreReadAs-cons (spelling command) (lines_of (flat_map spelled_line commands)) command commands (line_read-spelling command here) rest)
+
+pub IsReadAs-spelled : (commands : List Command) → length commands ≤ 1000 → All IsWithinRanges commands → IsReadAs (spelled_script commands) commands
+IsReadAs-spelled commands few h = record { few = few; lines = are_read commands h }

@@ -1,0 +1,5 @@
+pub mod Argument
+pub mod Cursor
+pub mod Laws
+pub mod Refused
+pub mod Takes

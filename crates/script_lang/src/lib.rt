@@ -1,0 +1,20 @@
+//! The language of scripts. `parse` reads a text as the grammar of `debug_model` does: it gives the script, or the first
+//! faulty line with its first fault. `print` writes each command in its one spelling, which `parse` reads as this script.
+#![tactic(auto)]
+
+mod arguments;
+mod forms;
+mod laws;
+mod line;
+mod number;
+mod printer;
+mod reader;
+mod spelled;
+mod words;
+
+pub use laws::{one_reading_of_a_line, one_reading_of_a_text};
+pub use printer::print;
+pub use reader::parse;
+
+#[cfg(test)]
+mod tests;
