@@ -1,0 +1,8 @@
+use Rattle.jtag_words.proofs.JobLemmas.{given_job, given_refusal}
+use Rattle.jtag_words.proofs.reading.read_words.Goals as goal
+
+pub returns-clause-job : goal.returns-clause-job
+returns-clause-job c = given_job _ _ c.read.ensures
+
+pub returns-clause-refused : goal.returns-clause-refused
+returns-clause-refused c = given_refusal _ _ c.read.ensures

@@ -1,0 +1,52 @@
+/// What the words ask for.
+#[derive(Debug, PartialEq, Eq, Drop)]
+pub enum Job {
+    /// Chip and probe in one process: the inputs, the chip's options, the most bytes that a piece of the stream has
+    /// (from 1 to 256), and whether the bytes go over a connection of the machine to itself.
+    Both(Inputs, ChipOptions, u16, bool),
+    /// The probe alone.
+    Probe {
+        /// The address of the target.
+        at: String,
+        /// The name of the script's file.
+        script: String,
+    },
+    /// The chip alone.
+    Chip {
+        /// The address at which the chip waits for its client.
+        at: String,
+        /// The name of the image's file.
+        image: String,
+        /// How the chip is made.
+        options: ChipOptions,
+    },
+}
+
+/// Where image and script come from.
+#[derive(Debug, PartialEq, Eq, Drop)]
+pub enum Inputs {
+    /// From two files.
+    Files {
+        /// The name of the image's file.
+        image: String,
+        /// The name of the script's file.
+        script: String,
+    },
+    /// Made from a number.
+    Gen(u64),
+}
+
+/// How a chip is made.
+#[derive(Clone, Copy, Debug, PartialEq, Eq)]
+pub struct ChipOptions {
+    /// How many harts it has.
+    pub harts: u64,
+    /// How many bytes of memory it has.
+    pub ram: u64,
+    /// Whether the harts stand halted at the start.
+    pub halted: bool,
+    /// The number from which the schedule is made.
+    pub seed: u64,
+    /// In how many rounds each event of the schedule comes once, from 1 to 32.
+    pub busy: u8,
+}

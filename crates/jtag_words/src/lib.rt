@@ -1,0 +1,19 @@
+//! The words of a command line: which program they name, and with which options.
+//!
+//! `read_words` answers exactly the job that the words write, and refuses exactly the words that write none.
+//! Which options a program takes stands in one table; that the words fit it is what the crate `clap` proves of a simple command.
+#![tactic(auto)]
+
+mod fault;
+mod job;
+mod number;
+mod options;
+mod reading;
+mod values;
+
+pub use fault::WordsFault;
+pub use job::{ChipOptions, Inputs, Job};
+pub use reading::read_words;
+
+#[cfg(test)]
+mod tests;
