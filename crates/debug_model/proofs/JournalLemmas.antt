@@ -17,7 +17,7 @@ changed_by None change h b here = refl
 changed_by (Some hart) change h b here =
     let at : slice_get (cores b.harts) h ≡ Some hart.core = slice_get-cores b.harts h ∙ ap (option_map (λ (x : Hart). x.core)) here in
     ap (λ (cs : List Core). let m : Machine = record { cores = cs; memory = b.memory } in m)
-        (cores-set b.harts h (with_debug change hart) ∙ set_same (cores b.harts) h hart.core at)
+    (cores-set b.harts h (with_debug change hart) ∙ set_same (cores b.harts) h hart.core at)
 
 -- forgetting the debug parts, a change of one changes nothing
 pub debug_changed_forgotten : (change : DebugPart → DebugPart) (h : ℕ) (b : Board) → machine_of (debug_changed change h b) ≡ machine_of b

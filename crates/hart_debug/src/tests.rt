@@ -119,16 +119,3 @@ fn running_hart_halts_for_the_first_reason(rt: HostRuntime) {
         }
     }
 }
-
-#[test]
-fn causes_have_their_numbers(rt: HostRuntime) {
-    let numbers = [
-        (Cause::Ebreak, 1),
-        (Cause::HaltReq, 3),
-        (Cause::Step, 4),
-        (Cause::Reset, 5),
-    ];
-    for (why, number) in numbers {
-        assert_eq!(rt; why.number(), number, "{why:?}");
-    }
-}
