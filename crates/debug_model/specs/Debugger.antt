@@ -14,7 +14,7 @@ pub data Stop : Type 0 where
   NotBuilt : Stop
 
 pub data Plan : Type 0 where
-  take : (point : Point) → (next : Plan) → Plan            -- the turns that stand in front, then this point
+  take : (point : Point) → (next : Plan) → Plan  -- the turns that stand in front, then this point
   say : (line : Line) → (next : Plan) → Plan
   stop : (end : Stop) → Plan
 

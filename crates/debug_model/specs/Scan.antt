@@ -84,7 +84,7 @@ scanned_chip bits c = record {
 pub record Scanned (bits out : List Bool) (c : Chip) (new : Option Far) : Type 0 where
   pub out_is : out ≡ comes_out (captured c.port.selected) bits
   pub new_is : new ≡ Some (read_out (scanned_chip bits c))
-  pub fed : scanned_chip bits c ≡ feed c (dr_bytes bits)       -- which is the chip that has taken the bytes of the scan
+  pub fed : scanned_chip bits c ≡ feed c (dr_bytes bits)  -- which is the chip that has taken the bytes of the scan
 
 -- a chip was reset: `new` tells the one that has taken the bytes of the path, which selects IDCODE
 pub record WasReset (c : Chip) (new : Option Far) : Type 0 where

@@ -1,5 +1,5 @@
 -- A job whose texts are lists of bytes.
--- The programs are this project's own (README.md, "Usage").
+-- The programs are this project's own (docs/FORMATS.md, "Words").
 use Rattle.std.specs.Prelude.{ℕ, Bool, List, Option, Result, Ok, Err, Some, None, ◌≡◌, string_bytes}
 use Rattle.jtag_words.specs.declared.fault.WordsFault.{WordsFault}
 use Rattle.jtag_words.specs.declared.fault.WordsFault.TheVariants.{Refused, NoMemory}

@@ -1,5 +1,5 @@
 -- The options that each program takes, and the command that takes them by the crate `clap`: each option has one value, each
--- flag none, none is required, and there are no flags for help or a version. The options are this project's own (README.md, "Usage").
+-- flag none, none is required, and there are no flags for help or a version. The options are this project's own (docs/FORMATS.md, "Words").
 use Rattle.std.specs.Prelude.{true, List, [], ◌∷◌, ◌++◌, map, codes, Some}
 use Rattle.clap.specs.Words.{App, Rule, new_rule}
 use Rattle.clap.specs.Simple.{new_shape}

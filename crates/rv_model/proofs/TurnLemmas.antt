@@ -64,7 +64,8 @@ leaves_by : (o : Option Hart) (h : ℕ) (b : Board) → LeavesHarts h b (turn_by
 leaves_by None h b = record { count = refl; others = λ j other. refl }
 leaves_by (Some hart) h b = record {
   count = length-set b.harts h (place_of hart b.memory).hart;
-  others = λ j other. slice_get-set_other b.harts h j (place_of hart b.memory).hart other }
+  others = λ j other. slice_get-set_other b.harts h j (place_of hart b.memory).hart other;
+}
 
 pub turn_leaves_others : TurnLeavesOthers
 turn_leaves_others h b = leaves_by (slice_get b.harts h) h b

@@ -30,8 +30,8 @@ access_compares comparison tdata2 (Some access) = list_any (compares comparison 
 abbrev pub trigger_fires : Trigger → ℕ → Touch → Bool
 trigger_fires (kind.Mcontrol6 t) tdata2 touch =
     t.m && ((t.execute && compares t.comparison tdata2 touch.pc)
-        || ((t.load && access_compares t.comparison tdata2 touch.load)
-        || (t.store && access_compares t.comparison tdata2 touch.store)))
+    || ((t.load && access_compares t.comparison tdata2 touch.load)
+    || (t.store && access_compares t.comparison tdata2 touch.store)))
 trigger_fires (kind.Icount t) tdata2 touch = t.m && t.pending
 trigger_fires kind.Disabled tdata2 touch = false
 

@@ -75,7 +75,8 @@ stepped d = if d.step then halted_for cause.Step (record d { slots = counted_dow
 abbrev pub ran : Outcome → Hart → Place
 ran o h = record {
   hart = record { core = o.step.core; debug = stepped h.debug };
-  turned = if h.debug.step then Halted cause.Step else Ran o.step.did }
+  turned = if h.debug.step then Halted cause.Step else Ran o.step.did;
+}
 
 -- by: halted, a resume request, a halt request, some slot fires, an ebreak that halts
 abbrev pub place_by : Option Cause → Bool → Bool → Bool → Bool → Touch → Outcome → Hart → Place
@@ -84,7 +85,8 @@ place_by (Some why) false request fired at_ebreak touch o h = record { hart = h;
 place_by None resume true fired at_ebreak touch o h = record { hart = record h { debug = halted_for cause.HaltReq h.debug }; turned = Halted cause.HaltReq }
 place_by None resume false true at_ebreak touch o h = record {
   hart = record h { debug = halted_for cause.Trigger (record h.debug { slots = marked touch h.debug.slots }) };
-  turned = Halted cause.Trigger }
+  turned = Halted cause.Trigger;
+}
 place_by None resume false false true touch o h = record { hart = record h { debug = halted_for cause.Ebreak h.debug }; turned = Halted cause.Ebreak }
 place_by None resume false false false touch o h = ran o h
 
