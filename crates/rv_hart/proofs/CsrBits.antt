@@ -1,5 +1,5 @@
 -- The bits that a write of a control and status register sets.
-use Rattle.std.proofs.Common.{◌≡◌, ℕ, ◌+◌, ◌-◌, ◌*◌, ◌/◌, ◌%◌, ◌^◌, ◌<◌, bit_and, ◌∙◌, ap, lit<, arith}
+use Rattle.std.proofs.Common.{◌≡◌, ℕ, ◌+◌, ◌*◌, ◌/◌, ◌%◌, ◌^◌, ◌<◌, bit_and, ◌∙◌, lit<, arith}
 use Rattle.std.proofs.lemmas.Nat.{and_mask, and_mod}
 use Rattle.std.specs.Int.Bits.{and_zero_r}
 use Rattle.rv_words.proofs.FieldLemmas.{and_run}

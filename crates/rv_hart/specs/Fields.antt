@@ -1,6 +1,6 @@
 -- The fields of a `Hart` as a core, and what is true of every core that a `Hart` holds: its number is one of a board's four places.
 -- Unprivileged manual, "Programmers' Model for Base Integer ISA"; privileged manual, "Machine-Level CSRs".
-use Rattle.std.specs.Prelude.{ℕ, ◌<◌}
+use Rattle.std.specs.Prelude.{◌<◌}
 use Rattle.rv_model.specs.Core.{Core, IsCore}
 use Rattle.rv_hart.specs.declared.hart.Hart.TheInside.{Inside}
 

@@ -13,7 +13,7 @@ use crate::hart::{BREAKPOINT, ENVIRONMENT_CALL, Hart};
 use crate::jumps::{branch, jal, jalr};
 use crate::loads::load;
 use crate::stores::store;
-use crate::system::{csr_immediate, csr_register};
+use crate::zicsr::{csr_immediate, csr_register};
 use rv_mem::Ram;
 use rv_model::{AluOp, Did, Insn, Size};
 

@@ -117,7 +117,7 @@ impl Hart {
     }
 
     /// The address behind the instruction at pc.
-    pub fn next_pc(&self) -> u64
+    pub(crate) fn next_pc(&self) -> u64
         ensures address { result ≡ next_pc self.now }
         ensures whole { result % 4 ≡ 0 }
     {
@@ -125,7 +125,7 @@ impl Hart {
     }
 
     /// Puts pc at an address that is a multiple of 4.
-    pub fn go_to(&mut self, target: u64)
+    pub(crate) fn go_to(&mut self, target: u64)
         requires { target % 4 ≡ 0 }
         ensures { self.new ≡ record self.old { pc = target } }
     {
@@ -133,7 +133,7 @@ impl Hart {
     }
 
     /// Goes on behind the instruction at pc.
-    pub fn advance(&mut self) -> Did
+    pub(crate) fn advance(&mut self) -> Did
         ensures { record { core = self.new; did = result } ≡ goes_on self.old }
     {
         let next = self.next_pc();
@@ -142,7 +142,7 @@ impl Hart {
     }
 
     /// Writes the destination of an instruction, and goes on behind it.
-    pub fn set_rd(&mut self, rd: u8, value: u64) -> Did
+    pub(crate) fn set_rd(&mut self, rd: u8, value: u64) -> Did
         requires { rd < 32 }
         ensures { record { core = self.new; did = result } ≡ sets_rd rd value self.old }
     {

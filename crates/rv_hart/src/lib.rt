@@ -15,10 +15,10 @@ mod hart;
 mod jumps;
 mod loads;
 mod stores;
-mod system;
 #[cfg(test)]
 mod tests;
 mod touch;
+mod zicsr;
 
 pub use csr_fault::CsrFault;
 pub use hart::Hart;

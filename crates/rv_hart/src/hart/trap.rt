@@ -57,7 +57,7 @@ pub fn store_cause(fault: MemFault) -> u8
 
 impl Hart {
     /// Enters the trap handler for the instruction at pc; the value is an address, or 0.
-    pub fn trap(&mut self, cause: u8, value: u64) -> Did
+    pub(crate) fn trap(&mut self, cause: u8, value: u64) -> Did
         ensures { record { core = self.new; did = result } ≡ traps cause value self.old }
     {
         self.mepc = self.pc;
@@ -69,7 +69,7 @@ impl Hart {
     }
 
     /// Goes back to where the last trap came from.
-    pub fn leave_trap(&mut self) -> Did
+    pub(crate) fn leave_trap(&mut self) -> Did
         ensures { record { core = self.new; did = result } ≡ retires (trap_left self.old) }
     {
         self.mstatus = mstatus_of(mpie(self.mstatus), 1);
