@@ -29,6 +29,14 @@ AskedLast name i old new =
     ((name ≡ i.script) × (new ≡ asked_more i.script old)) ⊎ ((name ≡ i.image) × (new ≡ asked_more i.image (asked_more i.script old)))
 
 -- where a file failed it is the last that was asked for
+abbrev pub AskedInputs : Inputs → Refusal → Names → Names → Type 0
+AskedInputs inputs (File name) old new = AskedLast name.now inputs old new
+AskedInputs inputs Words old new = ⊥
+AskedInputs inputs (Script _) old new = Unit {0}
+AskedInputs inputs Image old new = Unit {0}
+AskedInputs inputs OutOfMemory old new = Unit {0}
+
+-- the same, by the words
 abbrev pub AskedFor : List (List ℕ) → Refusal → Names → Names → Type 0
 AskedFor words (File name) old new = IsSomeAnd (inputs_of words) (λ inputs. AskedLast name.now inputs old new)
 AskedFor words Words old new = new ≡ old

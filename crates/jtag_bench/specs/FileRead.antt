@@ -8,12 +8,12 @@ use Rattle.jtag_bench.specs.declared.refusal.Refusal.{Refusal}
 use Rattle.jtag_bench.specs.declared.refusal.Refusal.TheVariants.{Words, File, Script, Image, OutOfMemory}
 
 -- the script's file was not read, or not accepted
-abbrev pub ScriptCause : Option (List NamedFile) → List ℕ → ℕ → ℕ → Refusal → Type 0
-ScriptCause held name old new Words = ⊥
-ScriptCause held name old new (File asked) = Rises old new × (asked.now ≡ name)
-ScriptCause held name old new (Script error) = HoldsBadScript held name error
-ScriptCause held name old new Image = ⊥
-ScriptCause held name old new OutOfMemory = Unit {0}
+abbrev pub FileScriptCause : Option (List NamedFile) → List ℕ → ℕ → ℕ → Refusal → Type 0
+FileScriptCause held name old new Words = ⊥
+FileScriptCause held name old new (File asked) = Rises old new × (asked.now ≡ name)
+FileScriptCause held name old new (Script error) = HoldsBadScript held name error
+FileScriptCause held name old new Image = ⊥
+FileScriptCause held name old new OutOfMemory = Unit {0}
 
 -- the image's file was not read, or not accepted
 abbrev pub ImageCause : Option (List NamedFile) → List ℕ → ℕ → ℕ → Refusal → Type 0

@@ -5,6 +5,7 @@ pub mod Session
 pub mod LastLine
 pub mod Status
 pub mod ScriptText
+pub mod ScriptFault
 pub mod Refusal
 pub mod Asked
 pub mod FileRead

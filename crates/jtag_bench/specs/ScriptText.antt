@@ -1,11 +1,12 @@
--- The scripts of today: an empty text, or the one command `idcode`. Every other text is refused.
--- They are this project's own (docs/FORMATS.md, "Scripts").
-use Rattle.std.specs.Prelude.{ℕ, List, [], ◌∷◌, ◌++◌, length, codes, bytes_eq, ◌||◌, nat_lt, Result, Ok, Err, if◌then◌else◌}
-use Rattle.debug_model.specs.ScriptText.{line_feed}
+-- Which scripts the program runs today, and how it refuses the others.
+-- The language is that of docs/SCRIPT.md; the limit and the commands that are built are this project's own.
+use Rattle.std.specs.Prelude.{◌≡◌, ◌⊎◌, ◌<◌, ◌≤◌, ℕ, List, Bool, true, false, length}
+use Rattle.std.specs.List.{list_all}
+use Rattle.debug_model.specs.Grammar.{IsReadAs, HasFirstFault}
 use Rattle.debug_model.specs.declared.command.Command.{Command}
-use Rattle.debug_model.specs.declared.command.Command.TheVariants.{Idcode}
 use Rattle.debug_model.specs.declared.script_error.ScriptError.{ScriptError}
 use Rattle.debug_model.specs.declared.script_error.ScriptFault.TheVariants.{UnknownWord, TooManyLines}
+use Rattle.jtag_bench.specs.Session.{is_built}
 
 -- the most bytes of a script's file
 abbrev pub most_script : ℕ
@@ -15,15 +16,25 @@ most_script = 1048576
 abbrev pub too_long : ScriptError
 too_long = record { line = 0; fault = TooManyLines }
 
-abbrev pub unknown : ScriptError
-unknown = record { line = 1; fault = UnknownWord }
+-- a script with a command that isn't built yet is refused before the session
+abbrev pub not_built : ScriptError
+not_built = record { line = 0; fault = UnknownWord }
 
--- the commands of a text
-abbrev pub script_of : List ℕ → Result (List Command) ScriptError
-script_of text =
-    if bytes_eq text [] then Ok []
-    else (if bytes_eq text (codes "idcode") || bytes_eq text (codes "idcode" ++ line_feed ∷ []) then Ok (Idcode ∷ []) else Err unknown)
+-- the grammar reads the text as these commands, and a session of today runs them all
+pub record IsAcceptedText (text : List ℕ) (commands : List Command) : Type 0 where
+  pub short : length text ≤ most_script
+  pub read : IsReadAs text commands
+  pub built : list_all is_built commands ≡ true
 
--- what becomes of a file's text
-abbrev pub judged : List ℕ → Result (List Command) ScriptError
-judged text = if nat_lt most_script (length text) then Err too_long else script_of text
+-- the grammar reads the text, but some command isn't built
+pub record IsUnbuiltText (text : List ℕ) : Type 0 where
+  pub commands : List Command
+  pub read : IsReadAs text commands
+  pub unbuilt : list_all is_built commands ≡ false
+
+-- a text is refused so: for its length, for the first fault of its first faulty line, or for a command that isn't built
+abbrev pub IsRefusedText : List ℕ → ScriptError → Type 0
+IsRefusedText text error =
+    ((most_script < length text) × (error ≡ too_long))
+    ⊎ ((HasFirstFault text error.line error.fault)
+    ⊎ (IsUnbuiltText text × (error ≡ not_built)))

@@ -1,16 +1,26 @@
--- The command line of today: the words behind the program's name.
--- They are this project's own (docs/FORMATS.md, "Words").
-use Rattle.std.specs.Prelude.{ℕ, List, [], ◌∷◌, Bool, ◌&&◌, codes, bytes_eq, Option, Some, None, if◌then◌else◌}
+-- The jobs that the program does today: a chip and a probe in one process, with an image and a script from two files.
+-- The words are this project's own (docs/FORMATS.md, "Words"); what they write is what `jtag_words` says.
+use Rattle.std.specs.Prelude.{ℕ, List, Bool, true, false, Option, Some, None}
+use Rattle.jtag_words.specs.Job.{JobValue, InputsValue, both, probe, chip, files, gen}
+use Rattle.jtag_words.specs.Words.{job_of}
 
 -- the names of the two files that a run reads
 pub record Inputs : Type 0 where
   pub image : List ℕ
   pub script : List ℕ
 
--- exactly `both --image F --script F`; all else is refused
+abbrev pub built_inputs : InputsValue → Option Inputs
+built_inputs (files image script) = Some (record { image = image; script = script })
+built_inputs (gen number) = None
+
+-- the files of a job that is built
+abbrev pub built : Option JobValue → Option Inputs
+built (Some (both inputs options piece false)) = built_inputs inputs
+built (Some (both inputs options piece true)) = None
+built (Some (probe at script)) = None
+built (Some (chip at image options)) = None
+built None = None
+
+-- words that write no job are refused, and so are those that write one that isn't built yet
 abbrev pub inputs_of : List (List ℕ) → Option Inputs
-inputs_of (program ∷ image_option ∷ image ∷ script_option ∷ script ∷ []) =
-    if bytes_eq program (codes "both") && bytes_eq image_option (codes "--image") && bytes_eq script_option (codes "--script")
-    then Some (record { image = image; script = script })
-    else None
-inputs_of _ = None
+inputs_of words = built (job_of words)

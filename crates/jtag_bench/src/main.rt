@@ -18,11 +18,9 @@ mod tests;
 mod words;
 
 use bench::Bench;
-use jt_base::{DiskFiles, Sink, StdSink};
-use last_line::put_last_line;
+use jt_base::{DiskFiles, StdSink};
 use refusal::Refusal;
-use run::run;
-use status::Status;
+use run::{refuse, run};
 use std::io::ErrorKind;
 use std::process::ExitCode;
 use std::rt::Env;
@@ -44,14 +42,6 @@ fn words_given<R: Env + AllocGlobal>(rt: &R) -> io::Result<Vec<String>> {
         words.push(word)?;
     }
     Ok(words)
-}
-
-/// The status of a run whose words can't be had, behind its last line.
-fn refuse<K: Sink>(out: &mut K, refusal: Refusal<'_>) -> Status {
-    match put_last_line(out, refusal) {
-        Ok(()) => refusal.status(),
-        Err(_) => Status::Sink,
-    }
 }
 
 fn main(rt: HostRuntime) -> ExitCode {

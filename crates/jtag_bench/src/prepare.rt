@@ -1,19 +1,18 @@
 //! What is read and judged before a session.
 
-ghost use Rattle.std.specs.Prelude.{◌≡◌, ◌≤◌, map, string_bytes, IfOk, IfErr, IsTrue, OnOk};
+ghost use Rattle.std.specs.Prelude.{◌≡◌, ◌≤◌, IfOk, IfErr, OnOk, Some, true};
 ghost use Rattle.std.specs.List.{list_all};
-ghost use Rattle.jt_base.specs.Faults.{Rises};
 ghost use Rattle.jt_base.specs.Files.{asked_more};
-ghost use Rattle.jtag_bench.specs.Asked.{AskedAt, AskedFor, AskedFront};
-ghost use Rattle.jtag_bench.specs.Refusal.{HoldsBadScript, HoldsImage, HoldsNoImage, HoldsScript, IsAccepted, RefusalCause};
+ghost use Rattle.jtag_bench.specs.Asked.{AskedAt, AskedFront, AskedInputs};
+ghost use Rattle.jtag_bench.specs.Names.{names_of};
+ghost use Rattle.jtag_bench.specs.Refusal.{HoldsNoImage, HoldsScript, InputsCause, IsAcceptedBy};
 ghost use Rattle.jtag_bench.specs.Session.{is_built};
-ghost use Rattle.jtag_bench.specs.Words.{inputs_of};
-ghost use Rattle.jtag_bench.specs.FileRead.{ImageCause, ScriptCause};
+ghost use Rattle.jtag_bench.specs.FileRead.{FileScriptCause, ImageCause};
 
 use crate::refusal::Refusal;
-use crate::script_text::read_script;
-use crate::words::read_words;
-use debug_model::{Command, ScriptError, ScriptFault};
+use crate::script_text::{ScriptRefusal, read_script};
+use crate::words::Inputs;
+use debug_model::{Script, ScriptError, ScriptFault};
 use jt_base::{FileFault, Files};
 use std::alloc::Global;
 
@@ -28,10 +27,10 @@ fn load_script<'a, F: Files>(
     alloc: Global,
     files: &mut F,
     name: &'a str,
-) -> Result<&'static [Command], Refusal<'a>>
-    ensures commands { IfOk result (λ commands. HoldsScript (F.held files.old) name.now commands.now) }
-    ensures built { IfOk result (λ commands. IsTrue (list_all is_built commands.now)) }
-    ensures cause { IfErr result (ScriptCause (F.held files.old) name.now (F.fault_count files.old) (F.fault_count files.new)) }
+) -> Result<Script, Refusal<'a>>
+    ensures commands { IfOk result (HoldsScript (F.held files.old) name.now) }
+    ensures built { IfOk result (λ script. list_all is_built script ≡ true) }
+    ensures cause { IfErr result (FileScriptCause (F.held files.old) name.now (F.fault_count files.old) (F.fault_count files.new)) }
     ensures held { F.held files.new ≡ F.held files.old }
     ensures asked { OnOk result (F.asked files.new ≡ asked_more name.now (F.asked files.old)) }
     ensures asked_err { IfErr result (λ refusal. AskedAt name.now refusal (F.asked files.old) (F.asked files.new)) }
@@ -48,9 +47,10 @@ fn load_script<'a, F: Files>(
         }
         Err(FileFault::NoMemory) => return Err(Refusal::OutOfMemory),
     };
-    match read_script(&text) {
-        Ok(commands) => Ok(commands),
-        Err(error) => Err(Refusal::Script(error)),
+    match read_script(alloc, &text) {
+        Ok(script) => Ok(script),
+        Err(ScriptRefusal::Refused(error)) => Err(Refusal::Script(error)),
+        Err(ScriptRefusal::OutOfMemory) => Err(Refusal::OutOfMemory),
     }
 }
 
@@ -76,22 +76,19 @@ fn load_image<'a, F: Files>(alloc: Global, files: &mut F, name: &'a str) -> Resu
     }
 }
 
-/// Reads and judges the words, the script and the image, in this order. The first refusal ends it.
+/// Reads and judges the script and the image, in this order. The first refusal ends it.
 pub fn prepare<'a, F: Files>(
     alloc: Global,
-    words: &'a [String],
+    inputs: &'a Inputs,
     files: &mut F,
-) -> Result<&'static [Command], Refusal<'a>>
-    ensures accepted { IfOk result (λ commands. IsAccepted (map string_bytes words.now) (F.held files.old) commands.now) }
-    ensures built { IfOk result (λ commands. IsTrue (list_all is_built commands.now)) }
-    ensures asked { AskedFront (inputs_of (map string_bytes words.now)) (F.asked files.old) (F.asked files.new) }
-    ensures asked_for { IfErr result (λ refusal. AskedFor (map string_bytes words.now) refusal (F.asked files.old) (F.asked files.new)) }
-    ensures cause { IfErr result (RefusalCause (map string_bytes words.now) (F.held files.old) (F.fault_count files.old) (F.fault_count files.new)) }
+) -> Result<Script, Refusal<'a>>
+    ensures accepted { IfOk result (IsAcceptedBy (names_of inputs.now) (F.held files.old)) }
+    ensures built { IfOk result (λ script. list_all is_built script ≡ true) }
+    ensures asked { AskedFront (Some (names_of inputs.now)) (F.asked files.old) (F.asked files.new) }
+    ensures asked_for { IfErr result (λ refusal. AskedInputs (names_of inputs.now) refusal (F.asked files.old) (F.asked files.new)) }
+    ensures cause { IfErr result (InputsCause (names_of inputs.now) (F.held files.old) (F.fault_count files.old) (F.fault_count files.new)) }
 {
-    let Some(inputs) = read_words(words) else {
-        return Err(Refusal::Words);
-    };
-    let commands = load_script(alloc, files, inputs.script)?;
-    load_image(alloc, files, inputs.image)?;
-    Ok(commands)
+    let script = load_script(alloc, files, inputs.script.as_str())?;
+    load_image(alloc, files, inputs.image.as_str())?;
+    Ok(script)
 }

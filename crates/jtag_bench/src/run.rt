@@ -4,8 +4,9 @@ ghost use Rattle.std.specs.Prelude.{◌≡◌, ◌≢◌, IsTrue, OnErr, OnOk, m
 ghost use Rattle.std.specs.List.{list_all};
 ghost use Rattle.debug_model.specs.Chip.{fresh_chip};
 ghost use Rattle.jt_base.specs.Faults.{HasCause, Rises};
-ghost use Rattle.jt_base.specs.Sink.{GrewByPrefix};
+ghost use Rattle.jt_base.specs.Sink.{GrewByPrefix, grown};
 ghost use Rattle.jtag_bench.specs.Asked.{AskedFront};
+ghost use Rattle.jtag_bench.specs.Refusal.{last_line, status_of};
 ghost use Rattle.jtag_bench.specs.Run.{RanClean, RanOn, WasRefused, WroteFront, text_printed};
 ghost use Rattle.jtag_bench.specs.Session.{is_built};
 ghost use Rattle.jtag_bench.specs.Words.{inputs_of};
@@ -15,8 +16,10 @@ use crate::bench::Bench;
 use crate::bench_wire::BenchWire;
 use crate::last_line::put_last_line;
 use crate::prepare::prepare;
+use crate::refusal::Refusal;
 use crate::session::session;
 use crate::status::Status;
+use crate::words::read_inputs;
 use debug_model::{Command, Wire};
 use jt_base::{Files, Sink, SinkFault};
 use std::alloc::Global;
@@ -50,6 +53,20 @@ fn run_session<K: Sink>(
     }
 }
 
+/// The status of a refused run, behind its last line.
+pub fn refuse<K: Sink>(out: &mut K, refusal: Refusal<'_>) -> Status
+    ensures status { result ≢ Status.Sink → result ≡ status_of refusal.entry }
+    ensures put { result ≢ Status.Sink → K.contents out.new ≡ grown (last_line refusal.entry) (K.contents out.old) }
+    ensures front { result ≡ Status.Sink → GrewByPrefix (last_line refusal.entry) (K.contents out.old) (K.contents out.new) }
+    ensures cause { result ≡ Status.Sink → Rises (K.fault_count out.old) (K.fault_count out.new) }
+    ensures unclean { result ≢ Status.Clean }
+{
+    match put_last_line(out, refusal) {
+        Ok(()) => refusal.status(),
+        Err(SinkFault::Failed) => Status::Sink,
+    }
+}
+
 /// Runs the program: `words` are those behind its name.
 ///
 /// The words are judged first, then the script is read and judged, then the image; the first refusal ends the run with
@@ -68,14 +85,15 @@ pub fn run<F: Files, K: Sink>(
     ensures front { result ≡ Status.Sink → WroteFront (map string_bytes words.now) (F.held files.old) (F.fault_count files.old) (F.fault_count files.new) (K.contents out.old) (K.contents out.new) bench.new }
 {
     *bench = Bench::blank();
-    match prepare(alloc, words, files) {
-        Ok(commands) => match run_session(commands, out, bench) {
+    let inputs = match read_inputs(alloc, words) {
+        Ok(inputs) => inputs,
+        Err(refusal) => return refuse(out, refusal),
+    };
+    match prepare(alloc, &inputs, files) {
+        Ok(script) => match run_session(script.commands(), out, bench) {
             Ok(()) => Status::Clean,
             Err(SinkFault::Failed) => Status::Sink,
         },
-        Err(refusal) => match put_last_line(out, refusal) {
-            Ok(()) => refusal.status(),
-            Err(SinkFault::Failed) => Status::Sink,
-        },
+        Err(refusal) => refuse(out, refusal),
     }
 }

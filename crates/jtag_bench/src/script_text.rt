@@ -1,27 +1,63 @@
-ghost use Rattle.std.specs.Prelude.{◌≡◌, IfOk, IfErr, Ok, Err, IsTrue};
+ghost use Rattle.std.specs.Prelude.{◌≡◌, ◌⊎◌, ◌≤◌, IfOk, IfErr, length, true};
 ghost use Rattle.std.specs.List.{list_all};
-ghost use Rattle.jtag_bench.specs.ScriptText.{script_of};
+ghost use Rattle.jtag_bench.specs.ScriptFault.{ScriptCause};
+ghost use Rattle.jtag_bench.specs.ScriptText.{IsAcceptedText, IsRefusedText};
 ghost use Rattle.jtag_bench.specs.Session.{is_built};
 
-use debug_model::{Command, ScriptError, ScriptFault};
+use debug_model::{Command, Script, ScriptError, ScriptFault};
+use script_lang::parse;
+use std::alloc::Global;
 
-/// The commands of a text: none, or the one command `idcode`. Every other text is refused at its first line.
-pub fn read_script(text: &[u8]) -> Result<&'static [Command], ScriptError>
-    ensures commands { IfOk result (λ commands. script_of text.now ≡ Ok commands.now) }
-    ensures built { IfOk result (λ commands. IsTrue (list_all is_built commands.now)) }
-    ensures refused { IfErr result (λ error. script_of text.now ≡ Err error) }
+/// A script that the grammar reads and a session of today doesn't run.
+const NOT_BUILT: ScriptError = ScriptError {
+    line: 0,
+    fault: ScriptFault::UnknownWord,
+};
+
+/// Whether a session of today runs this command. This list only grows.
+fn is_built(command: &Command) -> bool
+    ensures { result ≡ is_built command.now }
 {
-    if text.is_empty() {
-        return Ok(&[]);
+    match command {
+        Command::Idcode => true,
+        Command::End => true,
+        _ => false,
     }
-    if text == b"idcode".as_slice() {
-        return Ok(&[Command::Idcode]);
+}
+
+/// Whether a session of today runs these commands.
+fn are_built(commands: &[Command]) -> bool
+    ensures { result ≡ list_all is_built commands.now }
+{
+    commands.iter().all(|command| is_built(command))
+}
+
+/// Why a script is not run.
+#[derive(Clone, Copy)]
+pub enum ScriptRefusal {
+    /// The text is refused.
+    Refused(ScriptError),
+    /// No memory was left for the commands.
+    OutOfMemory,
+}
+
+/// The script of a text of at most 1,048,576 bytes whose commands a session of today runs.
+pub fn read_script(alloc: Global, text: &[u8]) -> Result<Script, ScriptRefusal>
+    requires { length text.now ≤ 1048576 }
+    ensures accepted { IfOk result (IsAcceptedText text.now) }
+    ensures refused { IfErr result (ScriptCause text.now) }
+{
+    match parse(alloc, text) {
+        Ok(script) => {
+            if are_built(script.commands()) {
+                Ok(script)
+            } else {
+                Err(ScriptRefusal::Refused(NOT_BUILT))
+            }
+        }
+        Err(error) => match error.fault {
+            ScriptFault::NoMemory => Err(ScriptRefusal::OutOfMemory),
+            _ => Err(ScriptRefusal::Refused(error)),
+        },
     }
-    if text == b"idcode\n".as_slice() {
-        return Ok(&[Command::Idcode]);
-    }
-    Err(ScriptError {
-        line: 1,
-        fault: ScriptFault::UnknownWord,
-    })
 }

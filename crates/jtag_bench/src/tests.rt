@@ -43,7 +43,7 @@ const NO_FAILURE: u32 = 1000;
 fn runs_over_memory(rt: HostRuntime) -> Result<(), Fail> {
     let alloc = rt.alloc();
     let both = ["both", "--image", "i", "--script", "s"].as_slice();
-    let cases: [(&[&str], &[u8], &[u8], u32, Status, &str); 14] = [
+    let cases: [(&[&str], &[u8], &[u8], u32, Status, &str); 13] = [
         (both, b"", b"", NO_FAILURE, Status::Clean, ""),
         (
             both,
@@ -56,68 +56,34 @@ fn runs_over_memory(rt: HostRuntime) -> Result<(), Fail> {
         (
             both,
             b"",
-            b"idcode\n",
+            b" idcode # twice\r\n\nidcode\n",
+            NO_FAILURE,
+            Status::Clean,
+            "idcode 0x10d64001\nidcode 0x10d64001\n",
+        ),
+        (
+            both,
+            b"",
+            b"idcode\nend\nidcode\n",
             NO_FAILURE,
             Status::Clean,
             "idcode 0x10d64001\n",
         ),
-        (&[], b"", b"", NO_FAILURE, Status::Words, "words refused\n"),
-        (
-            &["both"],
-            b"",
-            b"",
-            NO_FAILURE,
-            Status::Words,
-            "words refused\n",
-        ),
-        (
-            &["both", "--script", "s", "--image", "i"],
-            b"",
-            b"",
-            NO_FAILURE,
-            Status::Words,
-            "words refused\n",
-        ),
-        (
-            &["both", "--image", "i", "--script", "s", "x"],
-            b"",
-            b"",
-            NO_FAILURE,
-            Status::Words,
-            "words refused\n",
-        ),
-        (
-            &["chip", "--image", "i", "--script", "s"],
-            b"",
-            b"",
-            NO_FAILURE,
-            Status::Words,
-            "words refused\n",
-        ),
-        (
-            &["both", "--image", "i", "--script", "t"],
-            b"",
-            b"",
-            NO_FAILURE,
-            Status::File,
-            "file failed: t\n",
-        ),
-        (
-            &["both", "--image", "j", "--script", "s"],
-            b"",
-            b"",
-            NO_FAILURE,
-            Status::File,
-            "file failed: j\n",
-        ),
-        (both, b"", b"idcode\n", 0, Status::File, "file failed: s\n"),
         (
             both,
             b"",
-            b"idcode\n\n",
+            b"state\nread 3 0x80000000\n",
             NO_FAILURE,
             Status::Script,
-            "script refused: line 1 fault 2\n",
+            "script refused: line 2 fault 6\n",
+        ),
+        (
+            both,
+            b"",
+            b"idcode\nstate\n",
+            NO_FAILURE,
+            Status::Script,
+            "script refused: line 0 fault 2\n",
         ),
         (
             both,
@@ -135,6 +101,35 @@ fn runs_over_memory(rt: HostRuntime) -> Result<(), Fail> {
             Status::Image,
             "image refused: fault 1\n",
         ),
+        (both, b"", b"idcode\n", 0, Status::File, "file failed: s\n"),
+        (both, b"", b"idcode\n", 1, Status::File, "file failed: i\n"),
+        (
+            &["both", "--image", "i", "--script", "t"],
+            b"",
+            b"",
+            NO_FAILURE,
+            Status::File,
+            "file failed: t\n",
+        ),
+        (
+            &["both", "--image", "j", "--script", "s"],
+            b"",
+            b"",
+            NO_FAILURE,
+            Status::File,
+            "file failed: j\n",
+        ),
+        (
+            &[
+                "both", "--script", "s", "--harts", "4", "--ram", "0x10000", "--halted", "--seed",
+                "7", "--busy", "32", "--piece", "1", "--image", "i",
+            ],
+            b"",
+            b"idcode",
+            NO_FAILURE,
+            Status::Clean,
+            "idcode 0x10d64001\n",
+        ),
     ];
     for (words, image, script, fail_at, status, printed) in cases {
         let words = word_list(alloc, words)?;
@@ -144,6 +139,31 @@ fn runs_over_memory(rt: HostRuntime) -> Result<(), Fail> {
         let ended = run(alloc, &words, &mut files, &mut out, &mut bench);
         assert_eq!(rt; ended, status);
         assert_eq!(rt; out.bytes(), printed.as_bytes());
+    }
+    Ok(())
+}
+
+#[test]
+fn words_that_write_no_built_job_are_refused(rt: HostRuntime) -> Result<(), Fail> {
+    let alloc = rt.alloc();
+    let cases: [&[&str]; 8] = [
+        &[],
+        &["both"],
+        &["both", "--image", "i", "--script", "s", "x"],
+        &["both", "--image", "i", "--script", "s", "--busy", "33"],
+        &["both", "--image", "i", "--script", "s", "--loopback"],
+        &["both", "--gen", "1"],
+        &["probe", "--at", "x", "--script", "s"],
+        &["chip", "--at", "x", "--image", "i"],
+    ];
+    for words in cases {
+        let words = word_list(alloc, words)?;
+        let mut files = two_files(alloc, b"", b"idcode", NO_FAILURE)?;
+        let mut out = MemorySink::new(alloc, AMPLE, Vec::new(alloc))?;
+        let mut bench = Bench::blank();
+        let ended = run(alloc, &words, &mut files, &mut out, &mut bench);
+        assert_eq!(rt; ended.code(), 2);
+        assert_eq!(rt; out.bytes(), b"words refused\n".as_slice());
     }
     Ok(())
 }
