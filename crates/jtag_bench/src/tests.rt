@@ -5,8 +5,8 @@ use crate::run::run;
 use crate::status::Status;
 use jt_base::{DiskFiles, Files, MemoryFile, MemoryFiles, MemorySink};
 use std::alloc::{AllocError, Global};
-use std::fs;
 use std::test::Fail;
+use std::{fs, process};
 
 /// Room for everything that a run prints.
 const AMPLE: usize = 4096;
@@ -210,11 +210,20 @@ fn a_sink_that_fails_gives_its_status(rt: HostRuntime) -> Result<(), Fail> {
 #[test]
 fn files_on_disk_are_read(rt: HostRuntime) -> Result<(), Fail> {
     let alloc = rt.alloc();
-    let script = "/tmp/jtag_bench_script.txt";
-    let image = "/tmp/jtag_bench_image.bin";
-    fs::write(&rt, script, "idcode\n")?;
-    fs::write(&rt, image, "")?;
-    let words = word_list(alloc, &["both", "--image", image, "--script", script])?;
+    let script = format!(in alloc; "/tmp/jtag_bench_script_{}", process::id(rt.process()))?;
+    let image = format!(in alloc; "/tmp/jtag_bench_image_{}", process::id(rt.process()))?;
+    fs::write(&rt, script.as_str(), "idcode\n")?;
+    fs::write(&rt, image.as_str(), "")?;
+    let words = word_list(
+        alloc,
+        &[
+            "both",
+            "--image",
+            image.as_str(),
+            "--script",
+            script.as_str(),
+        ],
+    )?;
     let mut files = DiskFiles::new(&rt);
     let mut out = MemorySink::new(alloc, AMPLE, Vec::new(alloc))?;
     let mut bench = Bench::blank();
@@ -224,12 +233,20 @@ fn files_on_disk_are_read(rt: HostRuntime) -> Result<(), Fail> {
 
     let absent = word_list(
         alloc,
-        &["both", "--image", image, "--script", "/tmp/no/such"],
+        &[
+            "both",
+            "--image",
+            image.as_str(),
+            "--script",
+            "/tmp/no/such",
+        ],
     )?;
     let mut out = MemorySink::new(alloc, AMPLE, Vec::new(alloc))?;
     let ended = run(alloc, &absent, &mut files, &mut out, &mut bench);
     assert_eq!(rt; ended.code(), 3);
     assert_eq!(rt; out.bytes(), b"file failed: /tmp/no/such\n".as_slice());
     assert_eq!(rt; files.faults(), 1);
+    fs::remove_file(&rt, script.as_str())?;
+    fs::remove_file(&rt, image.as_str())?;
     Ok(())
 }
