@@ -1,6 +1,5 @@
 pub mod CommandLemmas
 pub mod GivesLemmas
 pub mod JobLemmas
-pub mod NumberLemmas
 pub mod RangeLemmas
 pub mod RowLemmas

@@ -6,7 +6,6 @@
 
 mod fault;
 mod job;
-mod number;
 mod options;
 mod reading;
 mod values;

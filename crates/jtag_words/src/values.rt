@@ -4,9 +4,9 @@ ghost use Rattle.jtag_words.specs.Words.{flag_in, inputs_from, inputs_in, number
 
 use crate::fault::WordsFault;
 use crate::job::{ChipOptions, Inputs};
-use crate::number::number;
 use crate::options::{BUSY, GEN, HALTED, HARTS, IMAGE, RAM, SCRIPT, SEED};
 use clap::ArgMatches;
+use script_lang::read_number;
 use std::alloc::Global;
 use std::ops::RangeInclusive;
 
@@ -57,7 +57,7 @@ pub(crate) fn flag(matches: &ArgMatches, name: &str) -> bool
 fn number_of(word: &str) -> Result<u64, WordsFault>
     ensures { Gives (λ number. number) result (number_of word.now) }
 {
-    match number(word.as_bytes()) {
+    match read_number(word.as_bytes()) {
         Ok(number) => Ok(number),
         Err(_) => Err(WordsFault::Refused),
     }

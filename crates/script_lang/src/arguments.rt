@@ -5,7 +5,7 @@ ghost use Rattle.rv_model.specs.Size.{count_of};
 ghost use Rattle.debug_model.specs.ScriptArguments.{one_word, ranged, ranged_or, address_of, value_of, count_from, length_from, size_named, path_named, watch_kind_named, switch_named, register_named, ending};
 ghost use Rattle.script_lang.specs.Takes.{Takes, TakesWord};
 
-use crate::number::number;
+use crate::number::read_number;
 use crate::words::Words;
 use debug_model::{Path, RegName, ScriptFault, WatchKind};
 use rv_model::Size;
@@ -29,7 +29,7 @@ pub(crate) fn ranged(words: &mut Words, least: u64, most: u64) -> Result<u64, Sc
     ensures taken { Takes result words.new (ranged least most words.old) }
     ensures within { IfOk result (λ n. (least ≤ n) × (n ≤ most)) }
 {
-    let value = number(word(words)?)?;
+    let value = read_number(word(words)?)?;
     if least <= value && value <= most {
         Ok(value)
     } else {
@@ -132,7 +132,7 @@ fn ending(size: u8, address: u64, count: u16) -> Result<u16, ScriptFault>
 pub(crate) fn size(words: &mut Words) -> Result<Size, ScriptFault>
     ensures { Takes result words.new (one_word size_named words.old) }
 {
-    match number(word(words)?)? {
+    match read_number(word(words)?)? {
         1 => Ok(Size::B1),
         2 => Ok(Size::B2),
         4 => Ok(Size::B4),

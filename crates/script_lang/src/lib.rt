@@ -13,6 +13,7 @@ mod spelled;
 mod words;
 
 pub use laws::{one_reading_of_a_line, one_reading_of_a_text};
+pub use number::read_number;
 pub use printer::print;
 pub use reader::parse;
 

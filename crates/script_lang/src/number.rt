@@ -12,9 +12,10 @@ const MOST_DECIMAL_DIGITS: usize = 20;
 /// The most hexadecimal digits of a number.
 const MOST_HEXADECIMAL_DIGITS: usize = 16;
 
-/// The number that a word writes, decimal or hexadecimal.
+/// The number that a word writes: 1 to 20 decimal digits, or `0x` and 1 to 16 hexadecimal digits of either case.
+/// `BadNumber` where the word is not of this form, `OutOfRange` where its number is 2^64 or more.
 #[tactic(auto, using(crate::proofs::NumberLemmas::number_steps))]
-pub(crate) fn number(word: &[u8]) -> Result<u64, ScriptFault>
+pub fn read_number(word: &[u8]) -> Result<u64, ScriptFault>
     ensures { result ≡ number_read word.now }
 {
     match word.strip_prefix(b"0x") {
