@@ -1,7 +1,7 @@
 //! Words as a published assembler writes them, by instruction: word, name, rd, rs1, rs2 and immediate.
 //! The immediate is also a shift's amount or a register's number; rs1 is also the number of `csrrwi` and its like.
 
-pub static WORDS: [(u32, &str, u8, u8, u8, i64); 284] = [
+pub static WORDS: [(u32, &str, u8, u8, u8, i64); 289] = [
     (0x8000_0fb7, "lui", 31, 0, 0, -2147483648),
     (0x8000_0137, "lui", 2, 0, 0, -2147483648),
     (0xffff_f037, "lui", 0, 0, 0, -4096),
@@ -263,7 +263,12 @@ pub static WORDS: [(u32, &str, u8, u8, u8, i64); 284] = [
     (0xe625_342f, "amomaxu.d", 8, 10, 2, 0),
     (0x0ff0_000f, "fence", 0, 0, 0, 0),
     (0x0210_000f, "fence", 0, 0, 0, 0),
+    (0x0310_000f, "fence", 0, 0, 0, 0),
+    (0x8330_000f, "fence", 0, 0, 0, 0),
+    (0x7ff3_028f, "fence", 0, 0, 0, 0),
     (0x0000_100f, "fence.i", 0, 0, 0, 0),
+    (0x1233_128f, "fence.i", 0, 0, 0, 0),
+    (0xfff0_1f8f, "fence.i", 0, 0, 0, 0),
     (0x7b00_9173, "csrrw", 2, 1, 0, 1968),
     (0xf144_1473, "csrrw", 8, 8, 0, 3860),
     (0xf147_97f3, "csrrw", 15, 15, 0, 3860),
