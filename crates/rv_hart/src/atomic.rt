@@ -17,6 +17,7 @@ const STORED: u64 = 0;
 const NOT_STORED: u64 = 1;
 
 /// `lr` of `size` bytes.
+#[inline(always)]
 pub fn load_reserved(hart: &mut Hart, ram: &mut Ram, size: Size, p: LoadReservedType) -> Did
     requires rd { p.rd < 32 }
     requires rs1 { p.rs1 < 32 }
@@ -34,6 +35,7 @@ pub fn load_reserved(hart: &mut Hart, ram: &mut Ram, size: Size, p: LoadReserved
 }
 
 /// `sc` of `size` bytes.
+#[inline(always)]
 pub fn store_conditional(hart: &mut Hart, ram: &mut Ram, size: Size, p: RType) -> Did
     requires rd { p.rd < 32 }
     requires rs1 { p.rs1 < 32 }
@@ -55,6 +57,7 @@ pub fn store_conditional(hart: &mut Hart, ram: &mut Ram, size: Size, p: RType) -
 }
 
 /// An atomic memory operation on `size` bytes.
+#[inline(always)]
 pub fn update(hart: &mut Hart, ram: &mut Ram, size: Size, op: AluOp, p: RType) -> Did
     requires rd { p.rd < 32 }
     requires rs1 { p.rs1 < 32 }

@@ -9,6 +9,7 @@ use rv_alu::alu;
 use rv_model::{AluOp, Did, IType, RType, ShiftType, UType};
 
 /// `lui`.
+#[inline(always)]
 pub fn lui(hart: &mut Hart, p: UType) -> Did
     requires { p.rd < 32 }
     ensures { record { core = hart.new; did = result } ≡ sets_rd p.rd p.imm hart.old }
@@ -17,6 +18,7 @@ pub fn lui(hart: &mut Hart, p: UType) -> Did
 }
 
 /// `auipc`.
+#[inline(always)]
 pub fn auipc(hart: &mut Hart, p: UType) -> Did
     requires { p.rd < 32 }
     ensures { record { core = hart.new; did = result } ≡ sets_rd p.rd (offset_by hart.old.pc p.imm) hart.old }
@@ -26,6 +28,7 @@ pub fn auipc(hart: &mut Hart, p: UType) -> Did
 }
 
 /// An operation on a register and an immediate.
+#[inline(always)]
 pub fn immediate(hart: &mut Hart, op: AluOp, p: IType) -> Did
     requires rd { p.rd < 32 }
     requires rs1 { p.rs1 < 32 }
@@ -36,6 +39,7 @@ pub fn immediate(hart: &mut Hart, op: AluOp, p: IType) -> Did
 }
 
 /// A shift of a register by an amount.
+#[inline(always)]
 pub fn shift(hart: &mut Hart, op: AluOp, p: ShiftType) -> Did
     requires rd { p.rd < 32 }
     requires rs1 { p.rs1 < 32 }
@@ -46,6 +50,7 @@ pub fn shift(hart: &mut Hart, op: AluOp, p: ShiftType) -> Did
 }
 
 /// An operation on two registers.
+#[inline(always)]
 pub fn register(hart: &mut Hart, op: AluOp, p: RType) -> Did
     requires rd { p.rd < 32 }
     requires rs1 { p.rs1 < 32 }

@@ -24,6 +24,7 @@ fn jump(hart: &mut Hart, rd: u8, target: u64) -> Did
 }
 
 /// `jal`.
+#[inline(always)]
 pub fn jal(hart: &mut Hart, p: JType) -> Did
     requires { p.rd < 32 }
     ensures { record { core = hart.new; did = result } ≡ jumps p.rd (offset_by hart.old.pc p.imm) hart.old }
@@ -33,6 +34,7 @@ pub fn jal(hart: &mut Hart, p: JType) -> Did
 }
 
 /// `jalr`, whose target loses its lowest bit.
+#[inline(always)]
 pub fn jalr(hart: &mut Hart, p: IType) -> Did
     requires rd { p.rd < 32 }
     requires rs1 { p.rs1 < 32 }
@@ -43,6 +45,7 @@ pub fn jalr(hart: &mut Hart, p: IType) -> Did
 }
 
 /// A branch: a jump that leaves no address, where its condition is met.
+#[inline(always)]
 pub fn branch(hart: &mut Hart, condition: Condition, p: BType) -> Did
     requires rs1 { p.rs1 < 32 }
     requires rs2 { p.rs2 < 32 }

@@ -10,6 +10,7 @@ use rv_mem::Ram;
 use rv_model::{Did, IType, Size};
 
 /// A load of `size` bytes.
+#[inline(always)]
 pub fn load(hart: &mut Hart, ram: &Ram, size: Size, extend: Extend, p: IType) -> Did
     requires rd { p.rd < 32 }
     requires rs1 { p.rs1 < 32 }

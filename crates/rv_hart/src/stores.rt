@@ -8,6 +8,7 @@ use rv_mem::Ram;
 use rv_model::{Did, SType, Size};
 
 /// A store of `size` bytes.
+#[inline(always)]
 pub fn store(hart: &mut Hart, ram: &mut Ram, size: Size, p: SType) -> Did
     requires rs1 { p.rs1 < 32 }
     requires rs2 { p.rs2 < 32 }

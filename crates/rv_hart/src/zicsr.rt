@@ -27,6 +27,7 @@ fn swap(hart: &mut Hart, writes: bool, change: CsrChange, number: u16, operand: 
 }
 
 /// An instruction on a control and status register whose operand is a register.
+#[inline(always)]
 pub fn csr_register(hart: &mut Hart, change: CsrChange, p: CsrType) -> Did
     requires rd { p.rd < 32 }
     requires rs1 { p.rs1 < 32 }
@@ -37,6 +38,7 @@ pub fn csr_register(hart: &mut Hart, change: CsrChange, p: CsrType) -> Did
 }
 
 /// An instruction on a control and status register whose operand is an immediate.
+#[inline(always)]
 pub fn csr_immediate(hart: &mut Hart, change: CsrChange, p: CsrImmType) -> Did
     requires { p.rd < 32 }
     ensures { record { core = hart.new; did = result } ≡ swaps_csr (writes_by change p.imm) (change_by change) p.csr p.imm p.rd hart.old }
