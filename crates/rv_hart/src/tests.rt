@@ -1,8 +1,10 @@
 //! Single instructions and short programs, with what the manuals say of them.
 
+mod reference;
+mod registers;
 mod rows;
 
-use crate::{CsrFault, Hart};
+use crate::Hart;
 use rows::{COMPUTING, CSR_STEPS, JUMPS, MEMORY, NUMBER, TOUCHES, TRAPS};
 use rv_mem::Ram;
 use rv_model::{Did, Size, Touch};
@@ -30,14 +32,19 @@ const MCAUSE: u16 = 0x342;
 
 const MTVAL: u16 = 0x343;
 
-/// RAM with words from `START` on and the number at `DATA`.
-fn ram_with(rt: &impl Abort, alloc: Global, words: &[u32]) -> Ram {
-    let mut ram = Ram::new(alloc, 65_536).expect(rt, "the smallest RAM");
-    let mut addr = START;
+/// Puts words into RAM one behind the other.
+fn put_words(rt: &impl Abort, ram: &mut Ram, start: u64, words: &[u32]) {
+    let mut addr = start;
     for &word in words {
         assert_eq!(rt; ram.store(addr, Size::B4, u64::from(word)), Ok(()));
         addr = addr.wrapping_add(4);
     }
+}
+
+/// RAM with words from `START` on and the number at `DATA`.
+fn ram_with(rt: &impl Abort, alloc: Global, words: &[u32]) -> Ram {
+    let mut ram = Ram::new(alloc, 65_536).expect(rt, "the smallest RAM");
+    put_words(rt, &mut ram, START, words);
     assert_eq!(rt; ram.store(DATA, Size::B8, NUMBER), Ok(()));
     ram
 }
@@ -245,53 +252,4 @@ fn touches_what_it_would_read_and_write(rt: HostRuntime) {
         store: None,
     };
     assert_eq!(rt; outside.touch(&ram_with(&rt, rt.alloc(), &[])), wanted);
-}
-
-#[test]
-fn has_the_registers_of_the_table(rt: HostRuntime) {
-    // Number, value at reset, what a write of all ones answers, value afterwards.
-    let all = u64::MAX;
-    let refused = Err(CsrFault::ReadOnly);
-    let registers = [
-        (MSTATUS, 0x1800, Ok(()), 0x1888),
-        (0x301, 0x8000_0000_0000_1101, Ok(()), 0x8000_0000_0000_1101),
-        (0x304, 0, Ok(()), 0),
-        (MTVEC, 0, Ok(()), all - 3),
-        (MSCRATCH, 0, Ok(()), all),
-        (MEPC, 0, Ok(()), all - 3),
-        (MCAUSE, 0, Ok(()), all),
-        (MTVAL, 0, Ok(()), all),
-        (0x344, 0, Ok(()), 0),
-        (0xf11, 0, refused, 0),
-        (0xf12, 0, refused, 0),
-        (0xf13, 0, refused, 0),
-        (0xf14, 3, refused, 3),
-    ];
-    for (number, reset, answer, kept) in registers {
-        let mut hart = Hart::new(3);
-        assert_eq!(rt; hart.csr_read(number), Some(reset), "{number:#x}");
-        assert_eq!(rt; hart.csr_write(number, all), answer, "{number:#x}");
-        assert_eq!(rt; hart.csr_read(number), Some(kept), "{number:#x}");
-    }
-    for number in [
-        0, 0x302, 0x306, 0x7a0, 0x7b0, 0x7b1, 0xb00, 0xf10, 0xf15, 0xfff, 0x1000,
-    ] {
-        let mut hart = Hart::new(3);
-        assert_eq!(rt; hart.csr_read(number), None, "{number:#x}");
-        assert_eq!(rt;
-            hart.csr_write(number, all),
-            Err(CsrFault::Absent),
-            "{number:#x}"
-        );
-        assert_eq!(rt; hart, Hart::new(3), "{number:#x}");
-    }
-    let mut hart = Hart::new(3);
-    assert_eq!(rt; (hart.id(), hart.pc()), (3, START));
-    for r in 0..32 {
-        assert_eq!(rt; hart.x(r), 0, "x{r}");
-        hart.set_x(r, all);
-        assert_eq!(rt; hart.x(r), if r == 0 { 0 } else { all }, "x{r}");
-    }
-    hart.set_pc(all);
-    assert_eq!(rt; hart.pc(), all - 3);
 }
