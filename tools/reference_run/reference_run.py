@@ -28,18 +28,19 @@ def folds(seen):
     return sums
 
 
-def table(name, kind, digits, numbers):
+def table(comment, name, kind, digits, numbers):
     lines = "".join(f"    {n:#0{digits + 2}x},\n" for n in numbers)
-    return f"pub static {name}: [{kind}; {len(numbers)}] = [\n{lines}];\n"
+    return f"/// {comment}\npub static {name}: [{kind}; {len(numbers)}] = [\n{lines}];\n"
 
 
 def main(seed, count):
     words = program(seed, count)
     seen = states(words)
-    print(table("PROGRAM", "u32", 8, words))
-    print(table("TRAP_HANDLER", "u32", 8, handler()))
-    print(f"pub const EXECUTED: u32 = {len(seen) - 1};\n")
-    print(table("SUMS", "u64", 16, folds(seen)))
+    print("//! Data that `tools/reference_run` wrote: a program, and sums of what QEMU's hart held behind its instructions.\n")
+    print(table("The program.", "PROGRAM", "u32", 8, words))
+    print(table("What it calls at a trap.", "TRAP_HANDLER", "u32", 8, handler()))
+    print(f"/// How many instructions are executed until the program ends.\npub const EXECUTED: u32 = {len(seen) - 1};\n")
+    print(table(f"The sums behind every {EVERY} of them, and behind the last.", "SUMS", "u64", 16, folds(seen)))
 
 
 if __name__ == "__main__":

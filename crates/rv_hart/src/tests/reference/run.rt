@@ -1,3 +1,6 @@
+//! Data that `tools/reference_run` wrote: a program, and sums of what QEMU's hart held behind its instructions.
+
+/// The program.
 pub static PROGRAM: [u32; 1292] = [
     0x01a17463, 0x9ae78093, 0x00ded29b, 0x342dab73, 0x01ad4463, 0xeb938193, 0x6c042823, 0x021ea8b3,
     0x01c851bb, 0xde840c83, 0x42d70913, 0x00000497, 0x00c484e7, 0x243e0c93, 0x008001ef, 0x6cf10293,
@@ -163,14 +166,17 @@ pub static PROGRAM: [u32; 1292] = [
     0x0062c2b3, 0x00729313, 0x006282b3, 0xfe8494e3,
 ];
 
+/// What it calls at a trap.
 pub static TRAP_HANDLER: [u32; 24] = [
     0x34102ff3, 0x01ff0f33, 0x007f1f93, 0x01ff4f33, 0x34202ff3, 0x01ff0f33, 0x007f1f93, 0x01ff4f33,
     0x30002ff3, 0x088fff93, 0x01ff0f33, 0x007f1f93, 0x01ff4f33, 0x34202ff3, 0x004fbf93, 0x000f9a63,
     0x34302ff3, 0x01ff0f33, 0x007f1f93, 0x01ff4f33, 0x34102ff3, 0x004f8f93, 0x341f9073, 0x30200073,
 ];
 
+/// How many instructions are executed until the program ends.
 pub const EXECUTED: u32 = 6728;
 
+/// The sums behind every 100 of them, and behind the last.
 pub static SUMS: [u64; 68] = [
     0x149bb0b943e46952,
     0xdd5a6facad71eb9a,
