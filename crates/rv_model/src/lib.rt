@@ -2,7 +2,9 @@
 #![tactic(auto)]
 
 mod alu_op;
+mod bits;
 mod cause;
+mod dcsr;
 mod did;
 mod examples;
 mod insn;
@@ -15,6 +17,7 @@ mod size;
 mod slot;
 mod slot_set;
 mod touch;
+mod trigger_word;
 mod turn_laws;
 mod turned;
 #[cfg(test)]
@@ -22,6 +25,7 @@ mod vectors;
 
 pub use alu_op::AluOp;
 pub use cause::Cause;
+pub use dcsr::Dcsr;
 pub use did::Did;
 pub use examples::{
     counter_counts, divisions, reserved_words_mean_nothing, sc_fails_after_store,
