@@ -15,6 +15,7 @@ use Rattle.rv_model.specs.declared.slot.Slot.{Slot}
 use Rattle.rv_model.specs.Cause.{cause_number}
 use Rattle.rv_model.specs.Core.{Core}
 use Rattle.rv_model.specs.Board.{DebugPart, Hart}
+use Rattle.rv_model.specs.TriggerWords.{comparison_number, comparison_of}
 
 abbrev pub core_code : Coded Core
 core_code =
@@ -38,16 +39,6 @@ cause_of-cause_number Reset = refl
 
 abbrev pub cause_code : Coded Cause
 cause_code = code_by ℕ coded_ℕ cause_number cause_of cause_of-cause_number
-
--- the field match of mcontrol6
-abbrev pub comparison_number : Comparison → ℕ
-comparison_number Equal = 0
-comparison_number AtLeast = 2
-comparison_number Below = 3
-
--- what a written match is kept as: another number becomes 0
-abbrev pub comparison_of : ℕ → Comparison
-comparison_of n = if n == 2 then AtLeast else (if n == 3 then Below else Equal)
 
 pub comparison_of-comparison_number : (c : Comparison) → comparison_of (comparison_number c) ≡ c
 comparison_of-comparison_number Equal = refl

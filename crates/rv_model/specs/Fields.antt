@@ -1,10 +1,18 @@
--- The fields of an instruction word and the immediates that they spell.
+-- The fields of a word, and the immediates that those of an instruction spell.
 -- Unprivileged manual, "Base Instruction Formats" and "Immediate Encoding Variants"; immediates are sign extended, modulo 2^64.
-use Rattle.std.specs.Prelude.{ℕ, ◌+◌, ◌-◌, ◌*◌, ◌/◌, ◌%◌, ◌^◌, if◌then◌else◌, nat_lt}
+use Rattle.std.specs.Prelude.{ℕ, ◌+◌, ◌-◌, ◌*◌, ◌/◌, ◌%◌, ◌^◌, Bool, if◌then◌else◌, ◌==◌, nat_lt}
 
 -- so many bits of a word, from bit `low` on
 abbrev pub field : ℕ → ℕ → ℕ → ℕ
 field low count w = w / 2 ^ low % 2 ^ count
+
+-- is a bit of a word set?
+abbrev pub bit : ℕ → ℕ → Bool
+bit place w = field place 1 w == 1
+
+-- what a bit adds to a word
+abbrev pub bit_value : ℕ → Bool → ℕ
+bit_value place set = if set then 2 ^ place else 0
 
 -- a number of so many bits, the highest of which is its sign, modulo 2^64
 abbrev pub sign_extended : ℕ → ℕ → ℕ

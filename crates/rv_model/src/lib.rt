@@ -2,7 +2,11 @@
 #![tactic(auto)]
 
 mod alu_op;
+mod bits;
 mod cause;
+mod dcsr;
+mod debug_did;
+mod debug_word_laws;
 mod did;
 mod examples;
 mod insn;
@@ -15,6 +19,7 @@ mod size;
 mod slot;
 mod slot_set;
 mod touch;
+mod trigger_word;
 mod turn_laws;
 mod turned;
 #[cfg(test)]
@@ -22,6 +27,12 @@ mod vectors;
 
 pub use alu_op::AluOp;
 pub use cause::Cause;
+pub use dcsr::Dcsr;
+pub use debug_did::DebugDid;
+pub use debug_word_laws::{
+    dcsr_examples, dcsr_read_back, trigger_read_back, trigger_registers, triggers_decoded,
+    triggers_kept,
+};
 pub use did::Did;
 pub use examples::{
     counter_counts, divisions, reserved_words_mean_nothing, sc_fails_after_store,
