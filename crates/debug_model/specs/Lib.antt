@@ -22,3 +22,9 @@ pub mod WordFields
 pub mod TransportWords
 pub mod Transport
 pub mod Port
+pub mod ModuleWords
+pub mod Commands
+pub mod SystemBus
+pub mod Module
+pub mod Deeds
+pub mod WholeChip

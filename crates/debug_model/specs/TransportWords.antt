@@ -3,30 +3,31 @@
 use Rattle.std.specs.Prelude.{ℕ, ◌+◌}
 use Rattle.debug_model.specs.declared.dtmcs.Dtmcs.{Dtmcs}
 use Rattle.debug_model.specs.declared.dmi_scan.DmiScan.{DmiScan}
-use Rattle.debug_model.specs.WordFields.{bits_at, flag_at, put_bits, put_flag}
+use Rattle.rv_model.specs.Fields.{field, bit, bit_value}
+use Rattle.debug_model.specs.WordFields.{placed}
 
 -- ---- dtmcs, 32 bits
 
 abbrev pub dtmcs_word : Dtmcs → ℕ
-dtmcs_word r = put_flag 17 r.dtmhardreset + put_flag 16 r.dmireset + put_bits 12 3 r.idle + put_bits 10 2 r.dmistat + put_bits 4 6 r.abits + put_bits 0 4 r.version
+dtmcs_word r = bit_value 17 r.dtmhardreset + bit_value 16 r.dmireset + placed 12 3 r.idle + placed 10 2 r.dmistat + placed 4 6 r.abits + placed 0 4 r.version
 
 abbrev pub dtmcs_of : ℕ → Dtmcs
 dtmcs_of w = record {
-  dtmhardreset = flag_at 17 w;
-  dmireset = flag_at 16 w;
-  idle = bits_at 12 3 w;
-  dmistat = bits_at 10 2 w;
-  abits = bits_at 4 6 w;
-  version = bits_at 0 4 w;
+  dtmhardreset = bit 17 w;
+  dmireset = bit 16 w;
+  idle = field 12 3 w;
+  dmistat = field 10 2 w;
+  abits = field 4 6 w;
+  version = field 0 4 w;
 }
 
 -- ---- dmi, 41 bits where an address has 7
 
 abbrev pub dmi_word : DmiScan → ℕ
-dmi_word r = put_bits 34 7 r.address + put_bits 2 32 r.value + put_bits 0 2 r.op
+dmi_word r = placed 34 7 r.address + placed 2 32 r.value + placed 0 2 r.op
 
 abbrev pub dmi_of : ℕ → DmiScan
-dmi_of w = record { address = bits_at 34 7 w; value = bits_at 2 32 w; op = bits_at 0 2 w }
+dmi_of w = record { address = field 34 7 w; value = field 2 32 w; op = field 0 2 w }
 
 -- the field op as it is shifted in
 abbrev pub op_nop : ℕ
