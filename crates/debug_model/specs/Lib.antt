@@ -2,6 +2,7 @@ pub mod Signs
 pub mod Tap
 pub mod Chip
 pub mod Told
+pub mod Ties
 pub mod Wire
 pub mod Scan
 pub mod Schedule
