@@ -4,6 +4,7 @@ pub mod Chip
 pub mod Told
 pub mod Ties
 pub mod Wire
+pub mod Net
 pub mod Scan
 pub mod Schedule
 pub mod Command

@@ -1,5 +1,5 @@
 -- What an object that carries a link keeps through every call: the references that it borrows through, and, where a net
--- lies below it, how that net was opened and what it tells.
+-- lies below it, which call opened that net, and where.
 use Rattle.std.specs.Prelude.{ℕ, List, [], ◌∷◌, Bool, false, Option, None}
 use Rattle.std.specs.Borrow.{GName}
 use Rattle.debug_model.specs.declared.net.Call.{Call}
@@ -9,9 +9,8 @@ pub record Opening : Type 0 where
   pub call : Call
   pub address : Option (List ℕ)
 
--- whether a net tells a chip behind `connect` and a pipe behind `join`, and what opened it, where something did
+-- whether a net tells a pipe behind `join`, and what opened it, where something did
 pub record NetTies : Type 0 where
-  pub tells_chip : Bool
   pub tells_pipe : Bool
   pub opening : Option Opening
 
@@ -20,7 +19,7 @@ pub record Ties : Type 0 where
   pub net : NetTies
 
 abbrev pub no_net : NetTies
-no_net = record { tells_chip = false; tells_pipe = false; opening = None }
+no_net = record { tells_pipe = false; opening = None }
 
 -- of an object that borrows nothing and lies over no net
 abbrev pub no_ties : Ties

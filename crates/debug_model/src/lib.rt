@@ -21,7 +21,7 @@ pub use command::{Command, Path, WatchKind};
 pub use ending::Ending;
 pub use event::{Event, Round};
 pub use journal_laws::points_forget_debugging;
-pub use net::Call;
+pub use net::{Call, End, GIVEN_MOST, Net, NetFault};
 pub use point::Point;
 pub use register::Register;
 pub use register_name::RegName;
