@@ -2,7 +2,9 @@ pub mod Signs
 pub mod Tap
 pub mod Chip
 pub mod Told
+pub mod Ties
 pub mod Wire
+pub mod Net
 pub mod Scan
 pub mod Schedule
 pub mod Command
