@@ -9,4 +9,5 @@ pub mod MapLemmas
 pub mod MemoryLemmas
 pub mod RowLemmas
 pub mod RowMeanings
+pub mod TouchLemmas
 pub mod TurnLemmas
