@@ -29,4 +29,9 @@ pub mod Commands
 pub mod SystemBus
 pub mod Module
 pub mod Deeds
-pub mod WholeChip
+pub mod RunningChip
+pub mod Loaded
+pub mod RunningTold
+pub mod RunningWire
+pub mod RunningScan
+pub mod Course

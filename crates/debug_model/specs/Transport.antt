@@ -11,6 +11,7 @@ use Rattle.debug_model.specs.declared.dmi_scan.DmiScan.{DmiScan}
 use Rattle.debug_model.specs.declared.dtmcs.Dtmcs.{Dtmcs}
 use Rattle.debug_model.specs.declared.sticky.Sticky.{Sticky}
 use Rattle.debug_model.specs.declared.sticky.Sticky.TheVariants.{Clear, Failed, Busy}
+use Rattle.debug_model.specs.Tap.{idcode}
 use Rattle.debug_model.specs.TransportWords.{dmi_word, dmi_of, dtmcs_word, dtmcs_of, op_read, op_write, status_done, status_failed, status_busy, address_bits}
 
 pub record Dtm : Type 0 where
@@ -54,10 +55,6 @@ sets_busy register.Dtmcs d = false
 sets_busy register.Idcode d = false
 sets_busy register.Bypass d = false
 
--- the device identification of this chip, a choice of its own: version 1, part 0x0d64, manufacturer 0
-abbrev pub device_identification : ℕ
-device_identification = 0x10d64001
-
 -- a hint that one clock in Run-Test/Idle is enough
 abbrev pub idle_hint : ℕ
 idle_hint = 1
@@ -83,7 +80,7 @@ dmi_width = 41
 
 -- what a capture puts into the shift register
 unfoldable pub captured_bits : DataRegister → Dtm → List Bool
-captured_bits register.Idcode d = bits_of idcode_width device_identification
+captured_bits register.Idcode d = bits_of idcode_width idcode
 captured_bits register.Dtmcs d = bits_of dtmcs_width (dtmcs_word (dtmcs_seen d))
 captured_bits register.Dmi d = bits_of dmi_width (dmi_word (dmi_seen d))
 captured_bits register.Bypass d = bits_of 1 0

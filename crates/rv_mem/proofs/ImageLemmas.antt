@@ -12,7 +12,7 @@ use Rattle.std.proofs.lemmas.Bool.{cases_lt, ne_eqb}
 use Rattle.std.proofs.lemmas.Option.{slice_get-get_or}
 use Rattle.rv_model.specs.Memory.{map_of, ram_base, Bytes}
 use Rattle.rv_model.proofs.MapLemmas.{get-map_of, get-map_of_below, get-map_of_above}
-use Rattle.rv_mem.specs.Image.{with_image}
+use Rattle.rv_model.specs.Image.{with_image}
 
 -- ---- RAM's bytes
 

@@ -3,7 +3,7 @@
 ghost use Rattle.std.specs.Prelude.{◌≡◌, ◌+◌, ◌*◌, ◌^◌, ◌<◌, ◌≤◌, Some, None, IfSome, IfNone, Bool, true, is_some, length};
 ghost use Rattle.rv_model.specs.Memory.{ram_base, map_of, is_aligned, value_at, with_value};
 ghost use Rattle.rv_model.specs.Size.{count_of};
-ghost use Rattle.rv_mem.specs.Image.{with_image};
+ghost use Rattle.rv_model.specs.Image.{with_image};
 
 use byteorder::{ByteOrder, LittleEndian};
 use rv_model::Size;

@@ -2,7 +2,7 @@ ghost use Rattle.std.specs.Prelude.{◌≡◌, ◌<◌, ◌≤◌, ◌^◌, ◌�
 ghost use Rattle.std.specs.FinMap.{get};
 ghost use Rattle.rv_model.specs.Memory.{IsRamSize, zero_memory, ram_base, loaded, store_answer, after_store, reserve, dropped, covers};
 ghost use Rattle.rv_model.specs.Size.{count_of};
-ghost use Rattle.rv_mem.specs.Image.{ram_size, filled};
+ghost use Rattle.rv_model.specs.Image.{ram_size, filled};
 
 use crate::bytes::{BASE, index_of, is_aligned, put, read, write};
 use crate::places::{clear, is_covered, place_round};

@@ -1,5 +1,5 @@
 use Rattle.std.proofs.Common.{ap, arith, ◌∙◌, length}
-use Rattle.rv_mem.specs.Image.{ram_size}
+use Rattle.rv_model.specs.Image.{ram_size}
 use Rattle.rv_mem.proofs.ImageLemmas.{size_kept}
 use Rattle.rv_mem.proofs.ram.Ram.store.Goals as goal
 

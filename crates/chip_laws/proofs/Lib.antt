@@ -1,0 +1,4 @@
+pub mod StreamLemmas
+pub mod PathLemmas
+pub mod ModuleLemmas
+pub mod ExampleLemmas

@@ -1,0 +1,64 @@
+-- Laws of the debug module in the standard's words: who may ask a hart, what a read leaves, and whom a command touches.
+-- RISC-V Debug Specification 1.0, "Selecting Harts", "Run Control" and "Abstract Commands".
+use Rattle.std.specs.Prelude.{◌≡◌, ◌≢◌, ℕ, ⊤, false, length, Some, slice_get}
+use Rattle.rv_model.specs.declared.cause.Cause.{Cause}
+use Rattle.rv_model.specs.Board.{Hart}
+use Rattle.rv_model.specs.Memory.{Memory}
+use Rattle.rv_model.specs.Turn.{memory_after, place_of}
+use Rattle.debug_model.specs.declared.dmi_op.DmiOp.{DmiOp}
+use Rattle.debug_model.specs.declared.dmi_op.DmiOp.TheVariants.{Read, Write}
+use Rattle.debug_model.specs.declared.module_register.ModuleRegister.{ModuleRegister}
+use Rattle.debug_model.specs.declared.module_register.ModuleRegister.TheVariants.{Word, Dmcontrol, Dmstatus, Abstractcs, Command, Abstractauto, Sbcs, Sbaddress0, Sbaddress1, Sbdata0, Sbdata1, Haltsum0, Nothing}
+use Rattle.debug_model.specs.Deeds.{command_stepped}
+use Rattle.debug_model.specs.Module.{Site, after_read, operated, register_at}
+
+-- ---- harts are asked by dmcontrol alone
+
+abbrev pub AsksNoHart : DmiOp → Type 0
+AsksNoHart (Read a) = ⊤
+AsksNoHart (Write a v) = register_at a ≢ Dmcontrol
+
+abbrev pub OnlyDmcontrolAsksHarts : Type 0
+OnlyDmcontrolAsksHarts = (op : DmiOp) (s : Site) → AsksNoHart op → (operated op s).board ≡ s.board
+
+-- ---- reads
+
+-- a read of it may change something: it is looked at, starts a command or an access, or may not be read now
+abbrev pub IsPlain : ModuleRegister → Type 0
+IsPlain (Word w) = ⊥
+IsPlain Dmcontrol = ⊤
+IsPlain Dmstatus = ⊥
+IsPlain Abstractcs = ⊤
+IsPlain Command = ⊤
+IsPlain Abstractauto = ⊤
+IsPlain Sbcs = ⊤
+IsPlain Sbaddress0 = ⊥
+IsPlain Sbaddress1 = ⊥
+IsPlain Sbdata0 = ⊥
+IsPlain Sbdata1 = ⊥
+IsPlain Haltsum0 = ⊤
+IsPlain Nothing = ⊤
+
+abbrev pub PlainReadsChangeNothing : Type 0
+PlainReadsChangeNothing = (a : ℕ) (s : Site) → IsPlain (register_at a) → after_read a s ≡ s
+
+-- ---- commands
+
+pub record KeepsOtherHarts (s t : Site) : Type 0 where
+  pub count : length t.board.harts ≡ length s.board.harts
+  pub others : (h : ℕ) → h ≢ s.unit.hartsel → slice_get t.board.harts h ≡ slice_get s.board.harts h
+  pub selection : t.unit.hartsel ≡ s.unit.hartsel
+  pub active : t.unit.active ≡ s.unit.active
+  pub bus : t.unit.bus ≡ s.unit.bus
+
+abbrev pub CommandsKeepOtherHarts : Type 0
+CommandsKeepOtherHarts = (s : Site) → KeepsOtherHarts s (command_stepped s)
+
+-- ---- a turn and a command never meet on one hart
+
+pub record Rests (hart : Hart) (m : Memory) : Type 0 where
+  pub same : (place_of hart m).hart ≡ hart
+  pub memory : memory_after hart m ≡ m
+
+abbrev pub ServedHartsRest : Type 0
+ServedHartsRest = (hart : Hart) (m : Memory) (why : Cause) → hart.debug.halted ≡ Some why → hart.debug.resume_request ≡ false → Rests hart m

@@ -1,0 +1,61 @@
+-- The chip as it is loaded: an image in memory, harts as a reset leaves them, an empty journal, and no byte taken yet.
+-- How a program comes into the chip, and where its harts start, is this project's own choice.
+use Rattle.std.specs.Prelude.{◌≡◌, ℕ, zero, suc, ◌<◌, ◌≤◌, false, List, [], ◌∷◌, ◌++◌, length, replicate, Option, None}
+use Rattle.rv_model.specs.declared.cause.Cause.{Cause}
+use Rattle.rv_model.specs.Board.{Board, Hart, reset_hart}
+use Rattle.rv_model.specs.Image.{with_image}
+use Rattle.rv_model.specs.Memory.{IsRamSize, Memory, hart_places, map_of}
+use Rattle.debug_model.specs.RunningChip.{Chip, Inside, Live, no_counts}
+use Rattle.debug_model.specs.Module.{reset_module}
+use Rattle.debug_model.specs.Port.{reset_port}
+use Rattle.debug_model.specs.Schedule.{Plan}
+use Rattle.debug_model.specs.Transport.{fresh_dtm}
+
+-- so many harts, numbered from 0, halted for this reason or running
+abbrev pub reset_harts : ℕ → Option Cause → List Hart
+reset_harts zero halted = []
+reset_harts (suc n) halted = reset_harts n halted ++ reset_hart n halted ∷ []
+
+-- the image from the start of RAM on, and zeros behind it
+abbrev pub loaded_memory : List ℕ → ℕ → Memory
+loaded_memory image ram = record { bytes = with_image (map_of (replicate ram 0)) image; reserved = replicate hart_places None }
+
+abbrev pub loaded_board : List ℕ → ℕ → ℕ → Option Cause → Board
+loaded_board image harts ram halted = record { harts = reset_harts harts halted; memory = loaded_memory image ram }
+
+abbrev pub loaded_inside : Board → Plan → Inside
+loaded_inside board plan = record {
+  works = record {
+    dtm = fresh_dtm;
+    site = record { unit = reset_module; board = board; journal = [] };
+    counts = no_counts;
+  };
+  plan = plan;
+}
+
+abbrev pub loaded_chip : Board → Plan → Chip
+loaded_chip board plan = record { tck = false; port = reset_port; inside = loaded_inside board plan }
+
+abbrev pub live : Chip → Live
+live c = record { chip = c; ended = None }
+
+-- ---- what can be loaded
+
+pub record RightHarts (harts : ℕ) : Type 0 where
+  pub some : 0 < harts
+  pub most : harts ≤ 4
+
+abbrev pub Fits : List ℕ → ℕ → Type 0
+Fits image ram = length image ≤ ram
+
+-- a chip as loaded, by some image, size, harts, start and schedule
+pub record AsLoaded (l : Live) : Type 0 where
+  pub image : List ℕ
+  pub harts : ℕ
+  pub ram : ℕ
+  pub halted : Option Cause
+  pub plan : Plan
+  pub right : RightHarts harts
+  pub size : IsRamSize ram
+  pub fits : Fits image ram
+  pub is : l ≡ live (loaded_chip (loaded_board image harts ram halted) plan)
