@@ -17,8 +17,8 @@ use Rattle.debug_model.specs.Course.SitePath.{nowhere, did, did_operation}
 use Rattle.debug_model.specs.Deeds.{Deed, after_deed, ran}
 use Rattle.debug_model.specs.Deeds.Deed.{Turned, CommandStepped, BusStepped}
 use Rattle.debug_model.specs.Module.{Site, operated, operation_result}
-use Rattle.debug_model.specs.RunningChip.{Inside, Works, after_event, after_events, counted, performed_by, lost_by, tick}
-use Rattle.debug_model.specs.RunningScan.{dtm_of}
+use Rattle.debug_model.specs.Chip.{Inside, Works, after_event, after_events, counted, performed_by, lost_by, tick}
+use Rattle.debug_model.specs.Scan.{dtm_of}
 use Rattle.debug_model.specs.Schedule.{round_of}
 
 -- ---- happenings

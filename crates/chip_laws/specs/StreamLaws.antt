@@ -2,7 +2,7 @@
 -- OpenOCD, remote_bitbang: the stream has no frames, so how it is cut is nobody's concern.
 use Rattle.std.specs.Prelude.{◌≡◌, ℕ, List, [], ◌++◌, Some, None}
 use Rattle.debug_model.specs.declared.chip_end.ChipEnd.{ChipEnd}
-use Rattle.debug_model.specs.RunningChip.{Chip, Live, feed, said, run, told_by}
+use Rattle.debug_model.specs.Chip.{Chip, Live, feed, said, run, told_by}
 
 pub record Joins (l : Live) (xs ys : List ℕ) : Type 0 where
   pub chip : feed l (xs ++ ys) ≡ feed (feed l xs) ys

@@ -11,8 +11,8 @@ use Rattle.debug_model.specs.declared.sticky.Sticky.TheVariants.{Clear, Failed, 
 use Rattle.jt_base.specs.BitList.{number_of}
 use Rattle.debug_model.specs.Deeds.{Deed, after_deed, ran}
 use Rattle.debug_model.specs.Module.{Site, after_read, after_write, operated, operation_result, result_of}
-use Rattle.debug_model.specs.RunningChip.{Inside, Works, after_event, counted, tick}
-use Rattle.debug_model.specs.RunningScan.{capture, dtm_of, update}
+use Rattle.debug_model.specs.Chip.{Inside, Works, after_event, counted, tick}
+use Rattle.debug_model.specs.Scan.{capture, dtm_of, update}
 use Rattle.debug_model.specs.Schedule.{round_of}
 use Rattle.debug_model.specs.Transport.{Dtm, operation_of}
 use Rattle.debug_model.specs.TransportWords.{dmi_of}

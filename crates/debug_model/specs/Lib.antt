@@ -1,11 +1,7 @@
 pub mod Signs
 pub mod Tap
-pub mod Chip
-pub mod Told
 pub mod Ties
-pub mod Wire
 pub mod Net
-pub mod Scan
 pub mod Schedule
 pub mod Command
 pub mod Grammar
@@ -29,9 +25,9 @@ pub mod Commands
 pub mod SystemBus
 pub mod Module
 pub mod Deeds
-pub mod RunningChip
 pub mod Loaded
-pub mod RunningTold
-pub mod RunningWire
-pub mod RunningScan
 pub mod Course
+pub mod Chip
+pub mod Told
+pub mod Wire
+pub mod Scan

@@ -5,7 +5,7 @@ use Rattle.rv_model.specs.declared.cause.Cause.{Cause}
 use Rattle.rv_model.specs.Board.{Board, Hart, reset_hart}
 use Rattle.rv_model.specs.Image.{with_image}
 use Rattle.rv_model.specs.Memory.{IsRamSize, Memory, hart_places, map_of}
-use Rattle.debug_model.specs.RunningChip.{Chip, Inside, Live, no_counts}
+use Rattle.debug_model.specs.Chip.{Chip, Inside, Live, no_counts}
 use Rattle.debug_model.specs.Module.{reset_module}
 use Rattle.debug_model.specs.Port.{reset_port}
 use Rattle.debug_model.specs.Schedule.{Plan}

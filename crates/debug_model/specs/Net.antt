@@ -3,9 +3,9 @@
 -- No public standard defines this.
 use Rattle.std.specs.Prelude.{◌≡◌, ℕ, ◌+◌, ◌<◌, ◌≤◌, List, [], ◌++◌, length, take, drop, Bool, true, false, Option, None, Some, IfSome, option_map}
 use Rattle.jt_base.specs.Faults.{Rises}
-use Rattle.debug_model.specs.Chip.{Chip}
+use Rattle.debug_model.specs.Chip.{Live}
 use Rattle.debug_model.specs.Ties.{NetTies}
-use Rattle.debug_model.specs.Told.{Far, IsLive, IsRead, read_out}
+use Rattle.debug_model.specs.Told.{Far, IsOpen, IsRead, read_out}
 use Rattle.debug_model.specs.Wire.{IsPiece, sent}
 use Rattle.debug_model.specs.declared.net.Call.{Call}
 use Rattle.debug_model.specs.declared.net.End.{End}
@@ -16,7 +16,7 @@ use Rattle.debug_model.specs.declared.net.NetFault.TheVariants as faults
 -- who answers once the net is open, where that is told before: the chip behind `connect`, or the bytes that come behind
 -- `connect` or `accept`
 pub record Peer : Type 0 where
-  pub chip : Option Chip
+  pub chip : Option Live
   pub script : Option (List ℕ)
 
 -- a scripted near end: the bytes that are to come, and all that were put there
@@ -122,7 +122,7 @@ pub record PutFront (at : End) (bytes : List ℕ) (old new : NetState) : Type 0 
 pub record MaySend (bytes : List ℕ) (told : Option Far) : Type 0 where
   pub most : IfSome told (λ _. length bytes ≤ 256)
   pub piece : IfSome told (λ _. IsPiece bytes)
-  pub live : IsLive told
+  pub stays_open : IsOpen told
   pub read : IsRead told
 
 abbrev pub MayPut : End → List ℕ → NetState → Type 0

@@ -1,12 +1,16 @@
--- A wire to a chip: what the bytes that it carries do at its far end, where that is told.
+-- A wire to a chip: what the bytes that it carries do at its far end, where that is told, and the answers that it has to come, where those are told.
 use Rattle.std.specs.Prelude.{◌≡◌, ◌++◌, ◌⊎◌, ℕ, List, [], ◌∷◌, Bool, IsTrue, Option, Some, None}
 use Rattle.std.specs.List.{list_all}
 use Rattle.debug_model.specs.Chip.{feed, said}
 use Rattle.debug_model.specs.Signs.{sign_of, stays_open}
-use Rattle.debug_model.specs.Told.{Far}
+use Rattle.debug_model.specs.Told.{Far, MetLimit}
 use Rattle.debug_model.specs.declared.wire.WireFault.{WireFault}
 use Rattle.debug_model.specs.declared.wire.WireFault.TheVariants.{SendFailed, RecvFailed, Ended, BadAnswer}
 use Rattle.jt_base.specs.Faults.{Rises}
+
+-- the most bytes of one piece
+abbrev pub piece_most : ℕ
+piece_most = 256
 
 -- whether each byte is a sign that leaves the stream open
 unfoldable pub are_open : List ℕ → Bool
@@ -16,28 +20,53 @@ are_open bytes = list_all (λ b. stays_open (sign_of b)) bytes
 abbrev pub IsPiece : List ℕ → Type 0
 IsPiece bytes = IsTrue (are_open bytes) ⊎ (bytes ≡ 81 ∷ [])
 
+-- ---- the far end
+
 -- the far end after these bytes are sent
 abbrev pub sent : List ℕ → Far → Far
-sent bytes f = record { chip = feed f.chip bytes; unread = f.unread ++ said f.chip bytes }
+sent bytes f = record { live = feed f.live bytes; unread = f.unread ++ said f.live bytes }
 
--- some front of these bytes was sent, and no more
+-- a prefix of these bytes was sent, and no more
 abbrev pub SentFront : List ℕ → Option Far → Option Far → Type 0
 SentFront bytes None new = new ≡ None
 SentFront bytes (Some f) new = (front back : List ℕ) × (bytes ≡ front ++ back) × (new ≡ Some (sent front f))
 
--- these bytes are the front of what was unread, and the chip stays as it is
+-- these bytes are the first of what was unread, and the chip stays as it is
 abbrev pub ReadsFront : List ℕ → Option Far → Option Far → Type 0
 ReadsFront bytes None new = new ≡ None
 ReadsFront bytes (Some f) new = (rest : List ℕ) × (f.unread ≡ bytes ++ rest) × (new ≡ Some (record f { unread = rest }))
 
--- a front of the unread answers may be lost, and the chip stays as it is
+-- some of the unread answers, the first of them, may be lost, and the chip stays as it is
 abbrev pub KeepsChip : Option Far → Option Far → Type 0
 KeepsChip None new = new ≡ None
 KeepsChip (Some f) new = (taken rest : List ℕ) × (f.unread ≡ taken ++ rest) × (new ≡ Some (record f { unread = rest }))
 
--- why a call of a wire failed: its count rose. A wire hands answers on as they came, and judges none.
-abbrev pub WireCause : ℕ → ℕ → WireFault → Type 0
-WireCause old new SendFailed = Rises old new
-WireCause old new RecvFailed = Rises old new
-WireCause old new Ended = Rises old new
-WireCause old new (BadAnswer _) = ⊥
+-- ---- a scripted wire: the answers that are to come
+
+-- these bytes are the first of those to come
+abbrev pub TakesComing : List ℕ → Option (List ℕ) → Option (List ℕ) → Type 0
+TakesComing bytes None new = new ≡ None
+TakesComing bytes (Some coming) new = (rest : List ℕ) × (coming ≡ bytes ++ rest) × (new ≡ Some rest)
+
+-- some of them, the first, may be lost
+abbrev pub LosesComing : Option (List ℕ) → Option (List ℕ) → Type 0
+LosesComing None new = new ≡ None
+LosesComing (Some coming) new = (taken rest : List ℕ) × (coming ≡ taken ++ rest) × (new ≡ Some rest)
+
+-- ---- why a call of a wire failed. A wire hands answers on as they came, and judges none.
+
+-- the count rose, or the told chip has met its limit
+abbrev pub EndCause : ℕ → ℕ → Option Far → Type 0
+EndCause old new told = Rises old new ⊎ MetLimit told
+
+abbrev pub SendCause : ℕ → ℕ → Option Far → WireFault → Type 0
+SendCause old new told SendFailed = Rises old new
+SendCause old new told RecvFailed = ⊥
+SendCause old new told Ended = EndCause old new told
+SendCause old new told (BadAnswer _) = ⊥
+
+abbrev pub RecvCause : ℕ → ℕ → Option Far → WireFault → Type 0
+RecvCause old new told SendFailed = ⊥
+RecvCause old new told RecvFailed = Rises old new
+RecvCause old new told Ended = EndCause old new told
+RecvCause old new told (BadAnswer _) = ⊥

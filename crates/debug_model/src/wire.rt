@@ -1,7 +1,7 @@
-ghost use Rattle.std.specs.Prelude.{◌≡◌, ◌≢◌, ◌≤◌, ◌∷◌, ℕ, List, Option, length, OnOk, OnErr, IfErr, IfSome, option_map};
-ghost use Rattle.std.specs.Borrow.{GName};
-ghost use Rattle.debug_model.specs.Told.{Far, IsLive, IsRead};
-ghost use Rattle.debug_model.specs.Wire.{IsPiece, sent, SentFront, ReadsFront, KeepsChip, WireCause};
+ghost use Rattle.std.specs.Prelude.{◌≡◌, ◌≤◌, ℕ, List, Option, length, IsTrue, OnOk, OnErr, IfErr, IfSome, option_map};
+ghost use Rattle.debug_model.specs.Ties.{Ties, lent_by};
+ghost use Rattle.debug_model.specs.Told.{Far, IsOpen, IsLive, IsRead};
+ghost use Rattle.debug_model.specs.Wire.{IsPiece, are_open, piece_most, sent, SentFront, ReadsFront, KeepsChip, TakesComing, LosesComing, SendCause, RecvCause};
 
 use thiserror::Error;
 
@@ -27,38 +27,45 @@ pub enum WireFault {
 
 /// A wire that carries the bytes of the bit-bang stream to a chip, and its answers back.
 ///
-/// Where it tells its far end, the clauses say what each call does there.
+/// Where it tells its far end, or the answers that are to come, the clauses say what each call does there.
 pub trait Wire: Drop {
     /// The chip at the far end and its unread answers, where they are told.
     ghost far: { Self → Option Far };
 
+    /// The answers that are to come, where they are told beside a chip or without one.
+    ghost coming: { Self → Option (List ℕ) };
+
     /// How many calls have failed.
     ghost fault_count: { Self → ℕ };
 
-    /// The `&mut`s that the wire works on, which it keeps.
-    ghost lenders: { Self → List GName };
+    /// What the wire keeps of the things below it: the references that it borrows through, and how a net there was opened.
+    ghost ties: { Self → Ties };
 
-    /// Sends at most 256 bytes, all of them signs; a `Q` is sent alone. On a fault a front of them was sent.
+    /// Sends at most 256 bytes, all of them signs; a `Q` is sent alone. On a fault some of them were sent, from the first on.
     fn send(&mut self, bytes: &[u8]) -> Result<(), WireFault>
-        requires most { length bytes.now ≤ 256 }
+        requires most { length bytes.now ≤ piece_most }
         requires piece { IsPiece bytes.now }
-        requires live { IsLive (far self.old) }
+        requires open { IsOpen (far self.old) }
         requires read { IsRead (far self.old) }
         ensures sent { OnOk result (far self.new ≡ option_map (sent bytes.now) (far self.old)) }
-        ensures front { OnErr result (SentFront bytes.now (far self.old) (far self.new)) }
+        ensures live { OnOk result (IsTrue (are_open bytes.now) → IsLive (far self.new)) }
+        ensures prefix { OnErr result (SentFront bytes.now (far self.old) (far self.new)) }
+        ensures coming { coming self.new ≡ coming self.old }
         ensures later { fault_count self.old ≤ fault_count self.new }
-        ensures cause { IfErr result (WireCause (fault_count self.old) (fault_count self.new)) }
-        ensures lenders { lenders self.new ≡ lenders self.old };
+        ensures cause { IfErr result (SendCause (fault_count self.old) (fault_count self.new) (far self.new)) }
+        ensures ties { ties self.new ≡ ties self.old };
 
     /// Fills `into` with the next answers, as they came. On a fault what it holds is left open.
     fn recv(&mut self, into: &mut [u8]) -> Result<(), WireFault>
-        requires live { IsLive (far self.old) }
+        requires open { IsOpen (far self.old) }
         requires waiting { IfSome (far self.old) (λ f. length into.old ≤ length f.unread) }
         ensures read { OnOk result (ReadsFront into.new (far self.old) (far self.new)) }
+        ensures came { OnOk result (TakesComing into.new (coming self.old) (coming self.new)) }
         ensures chip { OnErr result (KeepsChip (far self.old) (far self.new)) }
+        ensures lost { OnErr result (LosesComing (coming self.old) (coming self.new)) }
         ensures later { fault_count self.old ≤ fault_count self.new }
-        ensures cause { IfErr result (WireCause (fault_count self.old) (fault_count self.new)) }
-        ensures lenders { lenders self.new ≡ lenders self.old };
+        ensures cause { IfErr result (RecvCause (fault_count self.old) (fault_count self.new) (far self.new)) }
+        ensures ties { ties self.new ≡ ties self.old };
 
     /// How many calls have failed. The count stays at the top of a `u64`.
     fn faults(&self) -> u64
@@ -68,9 +75,11 @@ pub trait Wire: Drop {
 impl<W: Wire> Wire for &mut W {
     ghost far = { λ w. W.far w.now };
 
+    ghost coming = { λ w. W.coming w.now };
+
     ghost fault_count = { λ w. W.fault_count w.now };
 
-    ghost lenders = { λ w. w.ghost_name ∷ W.lenders w.now };
+    ghost ties = { λ w. lent_by w.ghost_name (W.ties w.now) };
 
     fn send(&mut self, bytes: &[u8]) -> Result<(), WireFault> {
         (**self).send(bytes)
