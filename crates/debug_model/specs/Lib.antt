@@ -18,3 +18,7 @@ pub mod Lines
 pub mod Debugger
 pub mod Transcript
 pub mod Journal
+pub mod WordFields
+pub mod TransportWords
+pub mod Transport
+pub mod Port
