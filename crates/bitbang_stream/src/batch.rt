@@ -106,12 +106,9 @@ mod tests {
             (true, true, true, b"041526370R41R52R63R7"),
         ];
         for (tms, tdi, ask, wanted) in cases {
+            assert!(rt; batch.bytes().len() <= 253);
             batch.pulse(tms, tdi, ask);
             assert_eq!(rt; batch.bytes(), wanted);
         }
-        for _ in 0..78 {
-            batch.pulse(false, false, true);
-        }
-        assert_eq!(rt; batch.bytes().len(), 254);
     }
 }
