@@ -1,24 +1,23 @@
-#![tactic(auto, unfolding(debug_model::specs::Tap::captured, debug_model::specs::Tap::captured_instruction))]
+#![tactic(auto, unfolding(debug_model::specs::Port::captured_code))]
 
-ghost use Rattle.std.specs.Prelude.{◌≡◌};
-ghost use Rattle.debug_model.specs.Tap.{captured, fresh_port, register_of, tap_fall, tap_held, tap_rise};
+ghost use Rattle.std.specs.Prelude.{◌≡◌, IsSome};
+ghost use Rattle.debug_model.specs.Port.{busy_in, captured_in, data_register_of, reset_tap, rise_finds_busy, selected_in, shift_after, tap_falls, tap_holds, tap_rises};
+ghost use Rattle.debug_model.specs.Transport.{dropped, finished};
 
 use crate::controller::next_state;
-use debug_model::{Register, TapState};
+use crate::transport::Transport;
+use debug_model::{DataRegister, DmiOp, TapState};
 use jt_base::Bits;
 use std::marker::Model;
 
-/// The device identification that this chip gives: version 1, part 0x0d64, manufacturer 0.
-const IDCODE: u64 = 0x10d6_4001;
-
-/// The bits of the device identification register.
-const IDCODE_BITS: u8 = 32;
-
-/// The bits of the bypass register.
-const BYPASS_BITS: u8 = 1;
-
 /// The instruction code that selects the device identification register.
 const IDCODE_INSTRUCTION: u64 = 0x01;
+
+/// The instruction code that selects dtmcs.
+const DTMCS_INSTRUCTION: u64 = 0x10;
+
+/// The instruction code that selects dmi.
+const DMI_INSTRUCTION: u64 = 0x11;
 
 /// The bits of the instruction register.
 const INSTRUCTION_BITS: u8 = 5;
@@ -26,85 +25,111 @@ const INSTRUCTION_BITS: u8 = 5;
 /// What the instruction register captures: the standard fixes the two lowest bits.
 const CAPTURED_INSTRUCTION: u64 = 0b00001;
 
-/// The TAP of the chip.
+/// The TAP of the chip, with the debug transport behind it.
 ///
-/// Source: IEEE 1149.1, the test access port.
+/// Source: IEEE 1149.1, the test access port; RISC-V Debug Specification 1.0, "JTAG Debug Transport Module".
 #[derive(Drop)]
 pub struct Tap {
     controller: TapState,
-    instruction: Register,
+    instruction: DataRegister,
     shifting: Bits,
     output: bool,
     is_held: bool,
+    transport: Transport,
 }
 
 impl Model for Tap {
-    ghost use Rattle.debug_model.specs.Tap.{Port};
+    ghost use Rattle.debug_model.specs.Port.{Tap as TapAndTransport};
 
-    ghost Value = { Port };
+    ghost Value = { TapAndTransport };
 
-    ghost view = { λ t. record { state = t.controller; selected = t.instruction; shift = t.shifting; tdo = t.output; held = t.is_held } };
-}
-
-/// What a capture puts into the shift register.
-fn capture(register: Register) -> Bits
-    ensures { result ≡ captured register }
-{
-    match register {
-        Register::Idcode => Bits::from_u64(IDCODE, IDCODE_BITS),
-        Register::Bypass => Bits::from_u64(0, BYPASS_BITS),
-    }
+    ghost view = { λ t. record {
+      port = record { state = t.controller; selected = t.instruction; shift = t.shifting; tdo = t.output; held = t.is_held };
+      dtm = t.transport;
+    } };
 }
 
 /// The data register that an instruction code selects.
-fn select(code: u64) -> Register
-    ensures { result ≡ register_of code }
+fn select(code: u64) -> DataRegister
+    ensures { result ≡ data_register_of code }
 {
-    if code == IDCODE_INSTRUCTION {
-        Register::Idcode
-    } else {
-        Register::Bypass
+    match code {
+        IDCODE_INSTRUCTION => DataRegister::Idcode,
+        DTMCS_INSTRUCTION => DataRegister::Dtmcs,
+        DMI_INSTRUCTION => DataRegister::Dmi,
+        _ => DataRegister::Bypass,
     }
 }
 
 impl Tap {
-    /// In Test-Logic-Reset with IDCODE selected, TDO 0 and TRST 0.
+    /// In Test-Logic-Reset with IDCODE selected, TDO 0 and TRST 0, and the debug transport at its start.
     pub fn new() -> Self
-        ensures { result ≡ fresh_port }
+        ensures { result ≡ reset_tap }
     {
         Tap {
             controller: TapState::TestLogicReset,
-            instruction: Register::Idcode,
+            instruction: DataRegister::Idcode,
             shifting: Bits::new(),
             output: false,
             is_held: false,
+            transport: Transport::new(),
         }
     }
 
-    /// TCK rises with these levels of TMS and TDI. While TRST is 1 nothing changes.
-    pub fn rise(&mut self, tms: bool, tdi: bool)
-        ensures { self.new ≡ tap_rise tms tdi self.old }
+    /// What the state before a rise does at it: a capture or a shift. Answers whether it set the sticky status to 3.
+    #[inline(always)]
+    fn act(&mut self, tdi: bool) -> bool
+        ensures port { self.new.port ≡ record self.old.port { shift = shift_after self.old.port.state self.old.port.selected self.old.dtm tdi self.old.port.shift } }
+        ensures transport { self.new.dtm ≡ captured_in self.old.port.state self.old.port.selected self.old.dtm }
+        ensures busy { result ≡ busy_in self.old.port.state self.old.port.selected self.old.dtm }
     {
-        if self.is_held {
-            return;
-        }
         match self.controller {
-            TapState::CaptureDr => self.shifting = capture(self.instruction),
+            TapState::CaptureDr => {
+                self.shifting = self.transport.captured(self.instruction);
+                self.transport.capture(self.instruction)
+            }
             TapState::CaptureIr => {
                 self.shifting = Bits::from_u64(CAPTURED_INSTRUCTION, INSTRUCTION_BITS);
+                false
             }
-            TapState::ShiftDr | TapState::ShiftIr => self.shifting.shift_in(tdi),
-            _ => {}
+            TapState::ShiftDr | TapState::ShiftIr => {
+                self.shifting.shift_in(tdi);
+                false
+            }
+            _ => false,
         }
-        self.controller = next_state(self.controller, tms);
-        if self.controller == TapState::TestLogicReset {
-            self.instruction = Register::Idcode;
+    }
+
+    /// The controller enters a state.
+    #[inline(always)]
+    fn enter(&mut self, state: TapState)
+        ensures { self.new ≡ record self.old { port = record self.old.port { state = state; selected = selected_in state self.old.port.selected } } }
+    {
+        self.controller = state;
+        if state == TapState::TestLogicReset {
+            self.instruction = DataRegister::Idcode;
         }
+    }
+
+    /// TCK rises with these levels of TMS and TDI. While TRST is 1 nothing changes. Answers whether this rise set the
+    /// sticky status to 3.
+    #[inline(always)]
+    pub fn rise(&mut self, tms: bool, tdi: bool) -> bool
+        ensures tap { self.new ≡ tap_rises tms tdi self.old }
+        ensures busy { result ≡ rise_finds_busy self.old.port self.old.dtm }
+    {
+        if self.is_held {
+            return false;
+        }
+        let is_busy = self.act(tdi);
+        self.enter(next_state(self.controller, tms));
+        is_busy
     }
 
     /// TCK falls.
+    #[inline(always)]
     pub fn fall(&mut self)
-        ensures { self.new ≡ tap_fall self.old }
+        ensures { self.new ≡ tap_falls self.old }
     {
         match self.controller {
             TapState::ShiftDr | TapState::ShiftIr => self.output = self.shifting.lowest(),
@@ -112,24 +137,30 @@ impl Tap {
                 self.instruction = select(self.shifting.value());
                 self.output = false;
             }
+            TapState::UpdateDr => {
+                self.transport.update(self.instruction, self.shifting);
+                self.output = false;
+            }
             _ => self.output = false,
         }
     }
 
     /// The level of TDO.
+    #[inline(always)]
     pub fn tdo(&self) -> bool
-        ensures { result ≡ self.now.tdo }
+        ensures { result ≡ self.now.port.tdo }
     {
         self.output
     }
 
-    /// TRST takes this level. At 1 the controller is in Test-Logic-Reset and stays there.
+    /// TRST takes this level. At 1 the controller is in Test-Logic-Reset and stays there; the debug transport stays as it
+    /// is.
     pub fn hold_reset(&mut self, on: bool)
-        ensures { self.new ≡ tap_held on self.old }
+        ensures { self.new ≡ tap_holds on self.old }
     {
         if on {
             self.controller = TapState::TestLogicReset;
-            self.instruction = Register::Idcode;
+            self.instruction = DataRegister::Idcode;
             self.output = false;
         }
         self.is_held = on;
@@ -137,119 +168,32 @@ impl Tap {
 
     /// The state of the controller.
     pub fn state(&self) -> TapState
-        ensures { result ≡ self.now.state }
+        ensures { result ≡ self.now.port.state }
     {
         self.controller
     }
-}
 
-#[cfg(test)]
-mod tests {
-    use super::*;
-    use std::process::Abort;
-
-    /// One clock as a host gives it: TCK falls, TDO is read, TCK rises.
-    fn clock(tap: &mut Tap, tms: bool, tdi: bool) -> bool {
-        tap.fall();
-        let level = tap.tdo();
-        tap.rise(tms, tdi);
-        level
+    /// The operation that was put in flight and is neither performed nor dropped yet.
+    #[inline(always)]
+    pub fn in_flight(&self) -> Option<DmiOp>
+        ensures { result ≡ self.now.dtm.flight }
+    {
+        self.transport.in_flight()
     }
 
-    /// A clock for each `0` or `1`, the level of TMS, with TDI 0.
-    fn follow(tap: &mut Tap, levels: &[u8]) {
-        for tms in levels {
-            clock(tap, *tms == b'1', false);
-        }
+    /// The operation in flight was performed, with this result: its address and result become the last result.
+    pub fn finish(&mut self, result_word: u32)
+        requires in_flight { IsSome self.old.dtm.flight }
+        ensures { self.new ≡ record self.old { dtm = finished result_word self.old.dtm } }
+    {
+        self.transport.finish(result_word);
     }
 
-    /// These bits go in and those come out, the least significant first. The last clock has TMS 1.
-    fn exchange(rt: &impl Abort, tap: &mut Tap, given: &[u8], wanted: &[u8]) {
-        assert_eq!(rt; given.len(), wanted.len());
-        for i in 0..given.len() {
-            let level = clock(tap, i + 1 == given.len(), given[i] == b'1');
-            assert_eq!(rt; level, wanted[i] == b'1', "bit {i}");
-        }
-    }
-
-    const NO_BITS: &[u8] = b"00000000000000000000000000000000";
-
-    const IDCODE_BITS_OUT: &[u8] = b"10000000000000100110101100001000";
-
-    #[test]
-    fn scans_registers(rt: HostRuntime) {
-        let mut tap = Tap::new();
-        follow(&mut tap, b"111110100");
-        exchange(&rt, &mut tap, NO_BITS, IDCODE_BITS_OUT);
-        follow(&mut tap, b"10");
-        // a code, then what goes in and what comes out behind it
-        let cases: [(&[u8], &[u8], &[u8]); 5] = [
-            (b"11111", b"1011", b"0101"),
-            (b"00000", b"1100101", b"0110010"),
-            (b"10000", NO_BITS, IDCODE_BITS_OUT),
-            (b"01000", b"111", b"011"),
-            (b"10001", b"1", b"0"),
-        ];
-        for (code, given, wanted) in cases {
-            follow(&mut tap, b"1100");
-            exchange(&rt, &mut tap, code, b"10000");
-            follow(&mut tap, b"10100");
-            exchange(&rt, &mut tap, given, wanted);
-            follow(&mut tap, b"10");
-            assert_eq!(rt; tap.state(), TapState::RunTestIdle);
-        }
-    }
-
-    #[test]
-    fn output_changes_at_falls(rt: HostRuntime) {
-        let mut tap = Tap::new();
-        follow(&mut tap, b"0100");
-        let mut levels = [false; 6];
-        for i in 0..3 {
-            tap.fall();
-            levels[2 * i] = tap.tdo();
-            tap.rise(false, true);
-            levels[2 * i + 1] = tap.tdo();
-        }
-        assert_eq!(rt; levels, [true, true, false, false, false, false]);
-        follow(&mut tap, b"1");
-        tap.fall();
-        assert!(rt; !tap.tdo());
-    }
-
-    #[test]
-    fn reset_line_holds(rt: HostRuntime) {
-        // TMS from Run-Test/Idle to each of the sixteen states
-        let cases: [(&[u8], TapState); 16] = [
-            (b"111", TapState::TestLogicReset),
-            (b"0", TapState::RunTestIdle),
-            (b"1", TapState::SelectDr),
-            (b"10", TapState::CaptureDr),
-            (b"1000", TapState::ShiftDr),
-            (b"101", TapState::Exit1Dr),
-            (b"10100", TapState::PauseDr),
-            (b"10101", TapState::Exit2Dr),
-            (b"1011", TapState::UpdateDr),
-            (b"11", TapState::SelectIr),
-            (b"110", TapState::CaptureIr),
-            (b"11000", TapState::ShiftIr),
-            (b"1101", TapState::Exit1Ir),
-            (b"110100", TapState::PauseIr),
-            (b"110101", TapState::Exit2Ir),
-            (b"11011", TapState::UpdateIr),
-        ];
-        for (levels, state) in cases {
-            let mut tap = Tap::new();
-            follow(&mut tap, b"0");
-            follow(&mut tap, levels);
-            assert_eq!(rt; tap.state(), state);
-            tap.hold_reset(true);
-            follow(&mut tap, b"0100");
-            assert_eq!(rt; tap.state(), TapState::TestLogicReset);
-            assert!(rt; !tap.tdo());
-            tap.hold_reset(false);
-            follow(&mut tap, b"0100");
-            exchange(&rt, &mut tap, NO_BITS, IDCODE_BITS_OUT);
-        }
+    /// The operation in flight is dropped unperformed: its address, data 0 and the failed mark become the last result.
+    pub fn fail(&mut self)
+        requires in_flight { IsSome self.old.dtm.flight }
+        ensures { self.new ≡ record self.old { dtm = dropped self.old.dtm } }
+    {
+        self.transport.fail();
     }
 }
