@@ -56,17 +56,6 @@ execute_by None h b = b
 abbrev pub execute : ℕ → Machine → Machine
 execute h b = execute_by (slice_get b.cores h) h b
 
-abbrev pub with_board_outcome : ℕ → Hart → Outcome → Board → Board
-with_board_outcome h hart o b = record { harts = slice_set b.harts h (record hart { core = o.step.core }); memory = o.memory }
-
-abbrev pub execute_on_by : Option Hart → ℕ → Board → Board
-execute_on_by (Some hart) h b = with_board_outcome h hart (exec_of hart.core b.memory) b
-execute_on_by None h b = b
-
--- the same on a board: every debug part stays as it is
-abbrev pub execute_on : ℕ → Board → Board
-execute_on h b = execute_on_by (slice_get b.harts h) h b
-
 -- ---- reset
 
 abbrev pub slot_count : ℕ

@@ -14,8 +14,6 @@ mod insn;
 mod laws;
 mod mem_fault;
 mod operands;
-mod scan;
-mod scan_fields;
 mod size;
 mod slot;
 mod slot_set;
@@ -23,8 +21,6 @@ mod touch;
 mod trigger_word;
 mod turn_laws;
 mod turned;
-#[cfg(test)]
-mod vectors;
 
 pub use alu_op::AluOp;
 pub use cause::Cause;
@@ -45,14 +41,12 @@ pub use examples::{
 };
 pub use insn::Insn;
 pub use laws::{
-    execution_forgets_debugging, execution_keeps, execution_leaves_others,
-    refused_stores_keep_memory, rows_are_apart,
+    execution_keeps, execution_leaves_others, refused_stores_keep_memory, rows_are_apart,
 };
 pub use mem_fault::MemFault;
 pub use operands::{
     BType, CsrImmType, CsrType, IType, JType, LoadReservedType, RType, SType, ShiftType, UType,
 };
-pub use scan::scan_rows;
 pub use size::Size;
 pub use slot::{Comparison, Icount, Mcontrol6, Slot, Trigger};
 pub use slot_set::SlotSet;
