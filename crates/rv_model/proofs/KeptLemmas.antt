@@ -16,7 +16,7 @@ use Rattle.rv_model.specs.Registers.{Register, registers, kept_of, written_at, c
 use Rattle.rv_model.specs.Traps.{load_cause, store_cause, trap_entered, trap_left}
 use Rattle.rv_model.specs.Effects.{Step, same_memory, retires, goes_on, traps, sets_rd, jumps, branches, swapped_csr, swaps_csr, after_load, stored_step, stores_at, after_reserve, reserves_at, sc_step, after_sc, stores_if_reserved_at, amo_step, after_amo, updates_at}
 use Rattle.rv_model.specs.Laws.{KeptOrCleared, KeepsCore, IsTrap, Keeps}
-use Rattle.rv_model.proofs.MemoryLemmas.{after_store_refused, after_store_others, others_at}
+use Rattle.rv_model.proofs.MemoryLemmas.{after_store_refused, after_store_others, after_store_places, others_at}
 
 -- ---- cores
 
@@ -273,7 +273,7 @@ is_trap : {c : Core} {s : Step} (m n : Memory) → StepKeeps c s → (cause : �
 is_trap m n h cause e same = record { value = (h.trapped cause e).0; core = (h.trapped cause e).1; memory = same }
 
 pub quiet : {c : Core} {s : Step} (m : Memory) → StepKeeps c s → Keeps c m (same_memory m s)
-quiet m h = record { core = h.core; others = λ j other. inl refl; trapped = λ cause e. is_trap m m h cause e refl }
+quiet m h = record { core = h.core; others = λ j other. inl refl; places = refl; trapped = λ cause e. is_trap m m h cause e refl }
 
 pub after_load_keeps : (r : Result ℕ MemFault) (extend : ℕ → ℕ) (rd a : ℕ) (c : Core) → StepKeeps c (after_load r extend rd a c)
 after_load_keeps (Ok v) extend rd a c = sets_rd_keeps rd (extend v) c
@@ -292,12 +292,17 @@ pub stores_keeps : (a : ℕ) (size : Size) (v : ℕ) (c : Core) (m : Memory) →
 stores_keeps a size v c m = record {
   core = (stored_step_keeps (store_answer m a size) a c).core;
   others = λ j other. after_store_others m a size v j;
+  places = after_store_places m a size v;
   trapped = λ cause e. is_trap m _ (stored_step_keeps (store_answer m a size) a c) cause e (store_trapped (store_answer m a size) a size v c m cause refl e);
 }
 
 reserve_others : (r : Result ℕ MemFault) (a : ℕ) (c : Core) (m : Memory) (j : ℕ) → (j ≡ c.id → ⊥) → KeptOrCleared (slice_get m.reserved j) (slice_get (after_reserve r a c m).reserved j)
 reserve_others (Ok v) a c m j other = others_at m.reserved m.reserved c.id j (Some (a / 8 * 8)) other (inl refl)
 reserve_others (Err fault) a c m j other = inl refl
+
+reserve_places : (r : Result ℕ MemFault) (a : ℕ) (c : Core) (m : Memory) → length (after_reserve r a c m).reserved ≡ length m.reserved
+reserve_places (Ok v) a c m = length-set m.reserved c.id (Some (a / 8 * 8))
+reserve_places (Err fault) a c m = refl
 
 reserve_trapped : (r : Result ℕ MemFault) (extend : ℕ → ℕ) (rd a : ℕ) (c : Core) (m : Memory) (cause : ℕ) → (after_load r extend rd a c).did ≡ Trapped cause → after_reserve r a c m ≡ m
 reserve_trapped (Ok v) extend rd a c m cause e = absurd (retired_is_not cause e)
@@ -307,6 +312,7 @@ pub reserves_keeps : (a : ℕ) (size : Size) (extend : ℕ → ℕ) (rd : ℕ) (
 reserves_keeps a size extend rd c m = record {
   core = (after_load_keeps (loaded m a size) extend rd a c).core;
   others = λ j other. reserve_others (loaded m a size) a c m j other;
+  places = reserve_places (loaded m a size) a c m;
   trapped = λ cause e. is_trap m _ (after_load_keeps (loaded m a size) extend rd a c) cause e (reserve_trapped (loaded m a size) extend rd a c m cause e);
 }
 
@@ -323,6 +329,14 @@ sc_others : (r : Result ℕ MemFault) (covered : Bool) (a : ℕ) (size : Size) (
 sc_others (Ok u) covered a size v c m j other = others_at m.reserved (cond covered (after_store m a size v) m).reserved c.id j None other (stored_if_others covered a size v m j)
 sc_others (Err fault) covered a size v c m j other = inl refl
 
+stored_if_places : (covered : Bool) (a : ℕ) (size : Size) (v : ℕ) (m : Memory) → length (cond covered (after_store m a size v) m).reserved ≡ length m.reserved
+stored_if_places true a size v m = after_store_places m a size v
+stored_if_places false a size v m = refl
+
+sc_places : (r : Result ℕ MemFault) (covered : Bool) (a : ℕ) (size : Size) (v : ℕ) (c : Core) (m : Memory) → length (after_sc r covered a size v c m).reserved ≡ length m.reserved
+sc_places (Ok u) covered a size v c m = length-set (cond covered (after_store m a size v) m).reserved c.id None ∙ stored_if_places covered a size v m
+sc_places (Err fault) covered a size v c m = refl
+
 sc_trapped : (r : Result ℕ MemFault) (covered : Bool) (rd a : ℕ) (size : Size) (v : ℕ) (c : Core) (m : Memory) (cause : ℕ)
     → (sc_step r covered rd a c).did ≡ Trapped cause → after_sc r covered a size v c m ≡ m
 sc_trapped (Ok u) covered rd a size v c m cause e = absurd (retired_is_not cause e)
@@ -332,6 +346,7 @@ pub stores_if_reserved_keeps : (a : ℕ) (size : Size) (v rd : ℕ) (c : Core) (
 stores_if_reserved_keeps a size v rd c m = record {
   core = (sc_step_keeps (loaded m a size) (covers m c.id a size) rd a c).core;
   others = λ j other. sc_others (loaded m a size) (covers m c.id a size) a size v c m j other;
+  places = sc_places (loaded m a size) (covers m c.id a size) a size v c m;
   trapped = λ cause e. is_trap m _ (sc_step_keeps (loaded m a size) (covers m c.id a size) rd a c) cause e (sc_trapped (loaded m a size) (covers m c.id a size) rd a size v c m cause e);
 }
 
@@ -343,6 +358,10 @@ amo_others : (r : Result ℕ MemFault) (extend : ℕ → ℕ) (o : AluOp) (a : �
 amo_others (Ok v) extend o a size b m j = after_store_others m a size _ j
 amo_others (Err fault) extend o a size b m j = inl refl
 
+amo_places : (r : Result ℕ MemFault) (extend : ℕ → ℕ) (o : AluOp) (a : ℕ) (size : Size) (b : ℕ) (m : Memory) → length (after_amo r extend o a size b m).reserved ≡ length m.reserved
+amo_places (Ok v) extend o a size b m = after_store_places m a size _
+amo_places (Err fault) extend o a size b m = refl
+
 amo_trapped : (r : Result ℕ MemFault) (extend : ℕ → ℕ) (o : AluOp) (rd a : ℕ) (size : Size) (b : ℕ) (c : Core) (m : Memory) (cause : ℕ)
     → (amo_step r extend rd a c).did ≡ Trapped cause → after_amo r extend o a size b m ≡ m
 amo_trapped (Ok v) extend o rd a size b c m cause e = absurd (retired_is_not cause e)
@@ -352,5 +371,6 @@ pub updates_keeps : (a : ℕ) (size : Size) (extend : ℕ → ℕ) (o : AluOp) (
 updates_keeps a size extend o b rd c m = record {
   core = (amo_step_keeps (loaded m a size) extend rd a c).core;
   others = λ j other. amo_others (loaded m a size) extend o a size b m j;
+  places = amo_places (loaded m a size) extend o a size b m;
   trapped = λ cause e. is_trap m _ (amo_step_keeps (loaded m a size) extend rd a c) cause e (amo_trapped (loaded m a size) extend o rd a size b c m cause e);
 }

@@ -55,6 +55,7 @@ pub record IsTrap (cause : ℕ) (c : Core) (m : Memory) (o : Outcome) : Type 0 w
 pub record Keeps (c : Core) (m : Memory) (o : Outcome) : Type 0 where
   pub core : KeepsCore c o.step.core
   pub others : (j : ℕ) → (j ≡ c.id → ⊥) → KeptOrCleared (slice_get m.reserved j) (slice_get o.memory.reserved j)
+  pub places : length o.memory.reserved ≡ length m.reserved
   pub trapped : (cause : ℕ) → o.step.did ≡ Trapped cause → IsTrap cause c m o
 
 -- x0 never changes, pc stays a multiple of 4, other harts' reservations are kept or cleared, and an instruction that traps does what a trap does alone

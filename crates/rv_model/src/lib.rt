@@ -51,5 +51,7 @@ pub use size::Size;
 pub use slot::{Comparison, Icount, Mcontrol6, Slot, Trigger};
 pub use slot_set::SlotSet;
 pub use touch::Touch;
-pub use turn_laws::{turn_forgets_debugging, turn_leaves_others};
+pub use turn_laws::{
+    reset_boards_are_boards, turn_forgets_debugging, turn_keeps_board, turn_leaves_others,
+};
 pub use turned::Turned;
