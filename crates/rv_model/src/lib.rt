@@ -36,7 +36,7 @@ pub use debug_word_laws::{
 };
 pub use did::Did;
 pub use examples::{
-    counter_counts, divisions, reserved_words_mean_nothing, sc_fails_after_store,
+    alu_corners, counter_counts, divisions, reserved_words_mean_nothing, sc_fails_after_store,
     sc_succeeds_after_lr, trap_examples, writes_keep_their_bits,
 };
 pub use insn::Insn;
