@@ -1,7 +1,7 @@
 -- What Debug Mode's writes and words of the program buffer keep, by the sorts of instructions.
 use Rattle.std.proofs.Common.{◌≡◌, ℕ, ◌+◌, ◌-◌, ◌<◌, Bool, true, false, cond, ◌&&◌, eqb, ltb, length, get_or, set, Option, Some, None, refl, ap, ◌∙◌, arith}
 use Rattle.std.proofs.lemmas.Bool.{cond-true, lt-ltb, le-ltb, ne_eqb}
-use Rattle.std.proofs.lemmas.List.{get_or-set_same}
+use Rattle.std.proofs.lemmas.List.{get_or-set_same, length-set}
 use Rattle.rv_model.specs.declared.debug_did.DebugDid.{DebugDid}
 use Rattle.rv_model.specs.declared.debug_did.DebugDid.TheVariants as ended
 use Rattle.rv_model.specs.declared.did.Did.{Did}
@@ -9,7 +9,7 @@ use Rattle.rv_model.specs.declared.did.Did.TheVariants.{Retired, Trapped}
 use Rattle.rv_model.specs.declared.insn.Insn.{Insn}
 use Rattle.rv_model.specs.declared.insn.Insn.TheVariants.{Sb, Sh, Sw, Sd, LrW, ScW, AmoswapW, AmoaddW, AmoxorW, AmoandW, AmoorW, AmominW, AmomaxW, AmominuW, AmomaxuW, LrD, ScD, AmoswapD, AmoaddD, AmoxorD, AmoandD, AmoorD, AmominD, AmomaxD, AmominuD, AmomaxuD, Csrrw, Csrrs, Csrrc, Csrrwi, Csrrsi, Csrrci}
 use Rattle.rv_model.specs.Alu.{alu_of}
-use Rattle.rv_model.specs.Board.{DebugPart, Hart}
+use Rattle.rv_model.specs.Board.{DebugPart, Hart, IsHart, slot_count}
 use Rattle.rv_model.specs.Core.{Core, x_of, with_x, aligned}
 use Rattle.rv_model.specs.Dcsr.{dcsr_word, dcsr_of_word}
 use Rattle.rv_model.specs.DebugRegisters.{debug_csr_value, debug_csr_written, value_or, debug_value, debug_refuses, debug_written}
@@ -20,9 +20,11 @@ use Rattle.rv_model.specs.Memory.{Memory, loaded, store_answer, after_store}
 use Rattle.rv_model.specs.ProgramBuffer.{Debugged, CsrSwap, Sort, Ends, Refused, Swaps, Accesses, Plain, sort_of, swapped, executed_by, ran_sort, ran_meant, ran_word}
 use Rattle.rv_model.specs.Registers.{reg_value, reg_written, is_x_number, csr_value, csr_written, csr_read_only}
 use Rattle.rv_model.specs.Rows.{meaning}
-use Rattle.rv_model.specs.TriggerWords.{tdata1_of, trigger_csr_value, trigger_csr_written}
+use Rattle.rv_model.specs.Triggers.{CountsFit}
+use Rattle.rv_model.specs.TriggerWords.{TriggerPart, triggers_of, tselect_number, tdata1_number, tdata2_number, tdata1_of, trigger_csr_value, trigger_csr_written}
 use Rattle.rv_model.proofs.EffectsKeep.{effect_keeps}
 use Rattle.rv_model.proofs.KeptLemmas.{kept_twice, same_core, with_x_keeps, at_pc, csr_written_keeps}
+use Rattle.rv_model.proofs.SlotLemmas.{set_fits, selected_fits, written_fits}
 
 -- ---- worked examples
 
@@ -79,22 +81,78 @@ reg_by false false c r v = csr_written_keeps c r v
 pub reg_written_keeps : (c : Core) (r v : ℕ) → KeepsCore c (reg_written c r v)
 reg_written_keeps c r v = reg_by (is_x_number r) (eqb r 0x7b1) c r v
 
+-- what a debug part keeps of what is true of every hart
+pub record DebugKeeps (d after : DebugPart) : Type 0 where
+  pub requests : SameRequests d after
+  pub slots : length after.slots ≡ length d.slots
+  pub counts : CountsFit d.slots → CountsFit after.slots
+  pub selected : d.tselect < slot_count → after.tselect < slot_count
+
 same_requests : (d : DebugPart) → SameRequests d d
 same_requests d = record { halted = refl; halt_request = refl; resume_request = refl; resume_ack = refl; have_reset = refl }
 
-debug_by : (dcsr : Bool) (d a b : DebugPart) → SameRequests d a → SameRequests d b → SameRequests d (cond dcsr a b)
+abbrev TriggersKeep : TriggerPart → TriggerPart → Type 0
+TriggersKeep t after = (length after.slots ≡ length t.slots) × (CountsFit t.slots → CountsFit after.slots) × (t.tselect < slot_count → after.tselect < slot_count)
+
+triggers_by : (is_tselect is_tdata1 is_tdata2 : Bool) (t a b c : TriggerPart) → TriggersKeep t a → TriggersKeep t b → TriggersKeep t c
+    → TriggersKeep t (cond is_tselect a (cond is_tdata1 b (cond is_tdata2 c t)))
+triggers_by true is_tdata1 is_tdata2 t a b c p q r = p
+triggers_by false true is_tdata2 t a b c p q r = q
+triggers_by false false true t a b c p q r = r
+triggers_by false false false t a b c p q r = (refl, λ fits. fits, λ below. below)
+
+triggers_keep : (t : TriggerPart) (number v : ℕ) → TriggersKeep t (trigger_csr_written t number v)
+unfolding trigger_csr_written
+triggers_keep t number v =
+    triggers_by (eqb number tselect_number) (eqb number tdata1_number) (eqb number tdata2_number) t _ _ _
+    (refl, λ fits. fits, λ below. omega arith)
+    (length-set t.slots t.tselect _, λ fits. set_fits t.slots t.tselect _ (written_fits v) fits, λ below. below)
+    (length-set t.slots t.tselect _, λ fits. set_fits t.slots t.tselect _ (selected_fits t.slots t.tselect fits) fits, λ below. below)
+
+debug_by : (dcsr : Bool) (d a b : DebugPart) → DebugKeeps d a → DebugKeeps d b → DebugKeeps d (cond dcsr a b)
 debug_by true d a b h k = h
 debug_by false d a b h k = k
 
-pub debug_csr_keeps : (d : DebugPart) (number v : ℕ) → SameRequests d (debug_csr_written d number v)
+pub debug_csr_keeps : (d : DebugPart) (number v : ℕ) → DebugKeeps d (debug_csr_written d number v)
 debug_csr_keeps d number v =
+    let t = triggers_keep (triggers_of d) number v in
     debug_by (eqb number 0x7b0) d _ _
-    (record { halted = refl; halt_request = refl; resume_request = refl; resume_ack = refl; have_reset = refl })
-    (record { halted = refl; halt_request = refl; resume_request = refl; resume_ack = refl; have_reset = refl })
+    (record {
+      requests = record { halted = refl; halt_request = refl; resume_request = refl; resume_ack = refl; have_reset = refl };
+      slots = refl;
+      counts = λ fits. fits;
+      selected = λ below. below;
+    })
+    (record {
+      requests = record { halted = refl; halt_request = refl; resume_request = refl; resume_ack = refl; have_reset = refl };
+      slots = t.0;
+      counts = t.1;
+      selected = t.2;
+    })
+
+-- a hart whose core and debug part keep that
+hart_keeps : (h after : Hart) → KeepsCore h.core after.core → DebugKeeps h.debug after.debug → WriteKeeps h after
+hart_keeps h after core debug = record {
+  requests = debug.requests;
+  core = core;
+  is_hart = λ n is. record {
+    number = core.same_id ∙ is.number;
+    core = core.is_core is.core;
+    slots = debug.slots ∙ is.slots;
+    counts = debug.counts is.counts;
+    selected = debug.selected is.selected;
+  };
+}
+
+same_debug_part : (d : DebugPart) → DebugKeeps d d
+same_debug_part d = record { requests = same_requests d; slots = refl; counts = λ fits. fits; selected = λ below. below }
+
+core_alone : (h : Hart) (core : Core) → KeepsCore h.core core → WriteKeeps h (record h { core = core })
+core_alone h core keeps = hart_keeps h (record h { core = core }) keeps (same_debug_part h.debug)
 
 pub writes_keep : WritesKeep
 unfolding debug_written
-writes_keep h number v = record { requests = debug_csr_keeps h.debug number v; core = reg_written_keeps h.core number v }
+writes_keep h number v = hart_keeps h _ (reg_written_keeps h.core number v) (debug_csr_keeps h.debug number v)
 
 -- ---- written and read back
 
@@ -174,14 +232,21 @@ exceptions_change_nothing w h m differs = meant_refuses (meaning w) h m differs
 -- ---- what every word keeps
 
 same_hart : (h : Hart) → WriteKeeps h h
-same_hart h = record { requests = same_requests h.debug; core = same_core h.core }
+same_hart h = core_alone h h.core (same_core h.core)
 
 written_if : (writes : Bool) (h : Hart) (number v : ℕ) → WriteKeeps h (cond writes (debug_written h number v) h)
 written_if true h number v = writes_keep h number v
 written_if false h number v = same_hart h
 
+whole_with_x : (n : ℕ) (h : Hart) (rd v : ℕ) → IsHart n h → IsHart n (record h { core = with_x h.core rd v })
+whole_with_x n h rd v is = (core_alone h (with_x h.core rd v) (with_x_keeps h.core rd v)).is_hart n is
+
 with_rd : (h after : Hart) (rd v : ℕ) → WriteKeeps h after → WriteKeeps h (record after { core = with_x after.core rd v })
-with_rd h after rd v k = record { requests = k.requests; core = kept_twice h.core after.core _ k.core (with_x_keeps after.core rd v) }
+with_rd h after rd v k = record {
+  requests = k.requests;
+  core = kept_twice h.core after.core _ k.core (with_x_keeps after.core rd v);
+  is_hart = λ n is. whole_with_x n after rd v (k.is_hart n is);
+}
 
 either_hart : (refuses : Bool) (h : Hart) (a b : Debugged) → WriteKeeps h a.hart → WriteKeeps h b.hart → WriteKeeps h (cond refuses a b).hart
 either_hart true h a b p q = p
@@ -207,7 +272,7 @@ pc_back c after k = record {
 }
 
 executed_keeps : (d : Did) (o : Outcome) (accessed : Bool) (h : Hart) (m : Memory) → KeepsCore h.core o.step.core → WriteKeeps h (executed_by d o accessed h m).hart
-executed_keeps Retired o accessed h m k = record { requests = same_requests h.debug; core = pc_back h.core o.step.core k }
+executed_keeps Retired o accessed h m k = core_alone h _ (pc_back h.core o.step.core k)
 executed_keeps (Trapped cause) o accessed h m k = same_hart h
 
 core_kept : (insn : Insn) (c : Core) (m : Memory) → KeepsCore c (effect_of insn c m).step.core
@@ -225,9 +290,37 @@ meant_keeps : (o : Option Insn) (h : Hart) (m : Memory) → WriteKeeps h (ran_me
 meant_keeps None h m = same_hart h
 meant_keeps (Some insn) h m = sort_keeps (sort_of insn h.core) insn h m
 
+executed_places : (d : Did) (o : Outcome) (accessed : Bool) (h : Hart) (m : Memory) → length o.memory.reserved ≡ length m.reserved
+    → length (executed_by d o accessed h m).memory.reserved ≡ length m.reserved
+executed_places Retired o accessed h m same = same
+executed_places (Trapped cause) o accessed h m same = refl
+
+places_kept : (insn : Insn) (c : Core) (m : Memory) → length (effect_of insn c m).memory.reserved ≡ length m.reserved
+unfolding effect_of
+places_kept insn c m = (effect_keeps insn c m).places
+
+either_places : (refuses : Bool) (m : Memory) (a b : Debugged) → a.memory ≡ m → b.memory ≡ m → length (cond refuses a b).memory.reserved ≡ length m.reserved
+either_places true m a b p q = ap (λ (n : Memory). length n.reserved) p
+either_places false m a b p q = ap (λ (n : Memory). length n.reserved) q
+
+swapped_places : (o : Option ℕ) (s : CsrSwap) (h : Hart) (m : Memory) → length (swapped o s h m).memory.reserved ≡ length m.reserved
+swapped_places None s h m = refl
+swapped_places (Some old) s h m = either_places (s.writes && debug_refuses s.number) m _ _ refl refl
+
+sort_places : (s : Sort) (insn : Insn) (h : Hart) (m : Memory) → length (ran_sort s insn h m).memory.reserved ≡ length m.reserved
+sort_places Ends insn h m = refl
+sort_places Refused insn h m = refl
+sort_places (Swaps s) insn h m = swapped_places (debug_value h s.number) s h m
+sort_places Accesses insn h m = executed_places (effect_of insn h.core m).step.did (effect_of insn h.core m) true h m (places_kept insn h.core m)
+sort_places Plain insn h m = executed_places (effect_of insn h.core m).step.did (effect_of insn h.core m) false h m (places_kept insn h.core m)
+
+meant_places : (o : Option Insn) (h : Hart) (m : Memory) → length (ran_meant o h m).memory.reserved ≡ length m.reserved
+meant_places None h m = refl
+meant_places (Some insn) h m = sort_places (sort_of insn h.core) insn h m
+
 pub words_keep : WordsKeep
 unfolding ran_word
-words_keep w h m = meant_keeps (meaning w) h m
+words_keep w h m = record { hart = meant_keeps (meaning w) h m; places = meant_places (meaning w) h m }
 
 -- ---- memory
 

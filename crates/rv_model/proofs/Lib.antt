@@ -9,5 +9,7 @@ pub mod MapLemmas
 pub mod MemoryLemmas
 pub mod RowLemmas
 pub mod RowMeanings
+pub mod SlotLemmas
 pub mod TouchLemmas
 pub mod TurnLemmas
+pub mod WholeBoards

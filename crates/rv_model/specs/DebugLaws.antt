@@ -5,7 +5,7 @@ use Rattle.rv_model.specs.declared.cause.Cause.TheVariants.{Reset}
 use Rattle.rv_model.specs.declared.debug_did.DebugDid.TheVariants as ended
 use Rattle.rv_model.specs.declared.insn.Insn.{Insn}
 use Rattle.rv_model.specs.declared.insn.Insn.TheVariants.{Ld, Csrrw, Csrrs, Csrrc, Csrrwi, Csrrsi, Csrrci}
-use Rattle.rv_model.specs.Board.{DebugPart, Hart, reset_hart, slot_count}
+use Rattle.rv_model.specs.Board.{DebugPart, Hart, IsHart, reset_hart, slot_count}
 use Rattle.rv_model.specs.Core.{with_x, aligned, register_count}
 use Rattle.rv_model.specs.Dcsr.{dcsr_word, dcsr_of_word, shown_cause}
 use Rattle.rv_model.specs.DebugRegisters.{debug_value, debug_refuses, debug_written}
@@ -81,10 +81,11 @@ pub record SameRequests (d after : DebugPart) : Type 0 where
   pub resume_ack : after.resume_ack ≡ d.resume_ack
   pub have_reset : after.have_reset ≡ d.have_reset
 
--- and the core keeps its number, x0 and what is true of every core
+-- and the core keeps its number, x0 and what is true of every core, as the hart keeps what is true of every hart
 pub record WriteKeeps (h after : Hart) : Type 0 where
   pub requests : SameRequests h.debug after.debug
   pub core : KeepsCore h.core after.core
+  pub is_hart : (n : ℕ) → IsHart n h → IsHart n after
 
 abbrev pub WritesKeep : Type 0
 WritesKeep = (h : Hart) (number v : ℕ) → WriteKeeps h (debug_written h number v)
@@ -121,9 +122,13 @@ ExceptionsChangeNothing = (w : ℕ) (h : Hart) (m : Memory) → (ran_word w h m)
 abbrev pub MemoryNeedsAccess : Type 0
 MemoryNeedsAccess = (w : ℕ) (h : Hart) (m : Memory) → (ran_word w h m).accessed ≡ false → (ran_word w h m).memory ≡ m
 
--- whatever a word is, the hart stays halted with its requests, and its core keeps its number, x0 and what is true of every core
+-- whatever a word is, it keeps of its hart what a write of a register keeps, and no reservation's place comes or goes
+pub record WordKeeps (h : Hart) (m : Memory) (after : Debugged) : Type 0 where
+  pub hart : WriteKeeps h after.hart
+  pub places : length after.memory.reserved ≡ length m.reserved
+
 abbrev pub WordsKeep : Type 0
-WordsKeep = (w : ℕ) (h : Hart) (m : Memory) → WriteKeeps h (ran_word w h m).hart
+WordsKeep = (w : ℕ) (h : Hart) (m : Memory) → WordKeeps h m (ran_word w h m)
 
 abbrev pub is_csr_insn : Option Insn → Bool
 is_csr_insn None = false

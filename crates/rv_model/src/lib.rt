@@ -14,8 +14,6 @@ mod insn;
 mod laws;
 mod mem_fault;
 mod operands;
-mod scan;
-mod scan_fields;
 mod size;
 mod slot;
 mod slot_set;
@@ -23,8 +21,6 @@ mod touch;
 mod trigger_word;
 mod turn_laws;
 mod turned;
-#[cfg(test)]
-mod vectors;
 
 pub use alu_op::AluOp;
 pub use cause::Cause;
@@ -40,22 +36,22 @@ pub use debug_word_laws::{
 };
 pub use did::Did;
 pub use examples::{
-    counter_counts, divisions, reserved_words_mean_nothing, sc_fails_after_store,
+    alu_corners, counter_counts, divisions, reserved_words_mean_nothing, sc_fails_after_store,
     sc_succeeds_after_lr, trap_examples, writes_keep_their_bits,
 };
 pub use insn::Insn;
 pub use laws::{
-    execution_forgets_debugging, execution_keeps, execution_leaves_others,
-    refused_stores_keep_memory, rows_are_apart,
+    execution_keeps, execution_leaves_others, refused_stores_keep_memory, rows_are_apart,
 };
 pub use mem_fault::MemFault;
 pub use operands::{
     BType, CsrImmType, CsrType, IType, JType, LoadReservedType, RType, SType, ShiftType, UType,
 };
-pub use scan::scan_rows;
 pub use size::Size;
 pub use slot::{Comparison, Icount, Mcontrol6, Slot, Trigger};
 pub use slot_set::SlotSet;
 pub use touch::Touch;
-pub use turn_laws::{turn_forgets_debugging, turn_leaves_others};
+pub use turn_laws::{
+    reset_boards_are_boards, turn_forgets_debugging, turn_keeps_board, turn_leaves_others,
+};
 pub use turned::Turned;
