@@ -1,5 +1,6 @@
 pub mod AluCorners
 pub mod BoardLemmas
+pub mod DebugWordLemmas
 pub mod ExampleLemmas
 pub mod EffectsKeep
 pub mod KeptLemmas

@@ -5,6 +5,8 @@ mod alu_op;
 mod bits;
 mod cause;
 mod dcsr;
+mod debug_did;
+mod debug_word_laws;
 mod did;
 mod examples;
 mod insn;
@@ -26,6 +28,11 @@ mod vectors;
 pub use alu_op::AluOp;
 pub use cause::Cause;
 pub use dcsr::Dcsr;
+pub use debug_did::DebugDid;
+pub use debug_word_laws::{
+    dcsr_examples, dcsr_read_back, trigger_read_back, trigger_registers, triggers_decoded,
+    triggers_kept,
+};
 pub use did::Did;
 pub use examples::{
     counter_counts, divisions, reserved_words_mean_nothing, sc_fails_after_store,

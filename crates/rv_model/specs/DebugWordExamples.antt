@@ -1,0 +1,80 @@
+-- Worked examples of dcsr's and the trigger registers' words, and the laws that what a write keeps is read back.
+-- The words of the examples are spelled by the field tables of the RISC-V Debug Specification 1.0, "Debug Control and Status" and "Sdtrig (ISA Extension)".
+use Rattle.std.specs.Prelude.{◌≡◌, ℕ, ◌+◌, ◌*◌, ◌<◌, Bool, true, false, [], ◌∷◌, Some, None}
+use Rattle.rv_model.specs.declared.cause.Cause.TheVariants.{Trigger as TriggerCause, Reset}
+use Rattle.rv_model.specs.declared.dcsr.Dcsr.{Dcsr}
+use Rattle.rv_model.specs.declared.slot.Comparison.TheVariants.{Equal}
+use Rattle.rv_model.specs.declared.slot.Trigger.{Trigger}
+use Rattle.rv_model.specs.declared.slot.Trigger.TheVariants as kind
+use Rattle.rv_model.specs.declared.slot.Slot.{Slot}
+use Rattle.rv_model.specs.Board.{reset_debug, free_slot}
+use Rattle.rv_model.specs.Dcsr.{dcsr_word, dcsr_of_word, dcsr_value, dcsr_written}
+use Rattle.rv_model.specs.TriggerWords.{TriggerPart, CountFits, tdata1_of, trigger_of, trigger_csr_value, trigger_csr_written, triggers_of}
+
+-- ---- dcsr
+
+pub record DcsrExamples : Type 0 where
+  pub halted_by_reset : dcsr_value (reset_debug (Some Reset)) ≡ 0x40000143
+  pub running : dcsr_value (reset_debug None) ≡ 0x40000003
+  pub stopped_by_trigger : dcsr_value (record (reset_debug (Some TriggerCause)) { step = true; ebreakm = true }) ≡ 0x40008087
+  pub all_zeros_written : dcsr_written 0 (record (reset_debug (Some Reset)) { step = true; stepie = true; ebreakm = true }) ≡ reset_debug (Some Reset)
+  pub all_ones_written : dcsr_written 0xffffffffffffffff (reset_debug (Some Reset)) ≡ record (reset_debug (Some Reset)) { step = true; stepie = true; ebreakm = true }
+
+-- what stands in dcsr's writable bits is read back, and the cause stays
+abbrev pub DcsrReadBack : Type 0
+DcsrReadBack = (d : Dcsr) → d.cause < 8 → dcsr_of_word (dcsr_word d) ≡ d
+
+-- ---- tdata1 as a debugger writes it
+
+abbrev pub address_trigger : Bool → Bool → Bool → Trigger
+address_trigger execute store load = kind.Mcontrol6 (record { hit = false; comparison = Equal; m = true; execute = execute; store = store; load = load })
+
+abbrev pub count_trigger : ℕ → Trigger
+count_trigger count = kind.Icount (record { hit = false; count = count; m = true; pending = false })
+
+pub record TriggersDecoded : Type 0 where
+  pub execution : trigger_of 0x6800000000001044 ≡ address_trigger true false false
+  pub loads : trigger_of 0x6800000000001041 ≡ address_trigger false false true
+  pub stores : trigger_of 0x6800000000001042 ≡ address_trigger false true false
+  pub accesses : trigger_of 0x6800000000001043 ≡ address_trigger false true true
+  pub one : trigger_of (0x3800000000000201 + 1 * 1024) ≡ count_trigger 1
+  pub most : trigger_of (0x3800000000000201 + 16383 * 1024) ≡ count_trigger 16383
+  pub free : trigger_of 0xf800000000000000 ≡ kind.Disabled
+
+-- ---- what a write of each type keeps, of all zeros and of all ones
+
+pub record TriggersKept : Type 0 where
+  pub type_0 : trigger_of 0 ≡ kind.Disabled
+  pub type_2 : trigger_of 0x2fffffffffffffff ≡ kind.Disabled
+  pub type_15 : trigger_of 0xffffffffffffffff ≡ kind.Disabled
+  pub disabled : tdata1_of kind.Disabled ≡ 0xf800000000000000
+  pub mcontrol6_zeros : tdata1_of (trigger_of 0x6000000000000000) ≡ 0x6800000000001000
+  pub mcontrol6_ones : tdata1_of (trigger_of 0x6fffffffffffffff) ≡ 0x6800000000401047  -- match 15 becomes 0
+  pub mcontrol6_at_least : tdata1_of (trigger_of 0x6800000000001144) ≡ 0x6800000000001144
+  pub mcontrol6_below : tdata1_of (trigger_of 0x68000000000011c4) ≡ 0x68000000000011c4
+  pub mcontrol6_masked : tdata1_of (trigger_of 0x68000000000010c4) ≡ 0x6800000000001044  -- match 1 becomes 0
+  pub icount_zeros : tdata1_of (trigger_of 0x3000000000000000) ≡ 0x3800000000000001
+  pub icount_ones : tdata1_of (trigger_of 0x3fffffffffffffff) ≡ 0x3800000001ffff01
+
+-- what tdata1 holds is read back
+abbrev pub TriggerReadBack : Type 0
+TriggerReadBack = (t : Trigger) → CountFits t → trigger_of (tdata1_of t) ≡ t
+
+-- ---- the registers of a hart that reset left
+
+abbrev pub reset_triggers : TriggerPart
+reset_triggers = triggers_of (reset_debug None)
+
+abbrev pub break_slot : Slot
+break_slot = record { trigger = address_trigger true false false; tdata2 = 0 }
+
+pub record TriggerRegisters : Type 0 where
+  pub tselect : trigger_csr_value reset_triggers 0x7a0 ≡ Some 0
+  pub tdata1 : trigger_csr_value reset_triggers 0x7a1 ≡ Some 0xf800000000000000
+  pub tdata2 : trigger_csr_value reset_triggers 0x7a2 ≡ Some 0
+  pub tinfo : trigger_csr_value reset_triggers 0x7a4 ≡ Some 0x01008048
+  pub tdata3 : trigger_csr_value reset_triggers 0x7a3 ≡ None
+  pub selects : trigger_csr_written reset_triggers 0x7a0 0x1e ≡ record reset_triggers { tselect = 2 }
+  pub ignores : trigger_csr_written reset_triggers 0x7a4 0x1e ≡ reset_triggers
+  pub arms : trigger_csr_written (record reset_triggers { tselect = 2 }) 0x7a1 0x6800000000001044
+      ≡ record { tselect = 2; slots = free_slot ∷ free_slot ∷ break_slot ∷ free_slot ∷ [] }
