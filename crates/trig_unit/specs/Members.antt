@@ -1,6 +1,6 @@
 -- A set of slots as the list of its answers, one for each of the four slots, and what taking a hit by such a list is.
 -- RISC-V Debug Specification 1.0, "Trigger Select": the slots are the triggers that tselect numbers.
-use Rattle.std.specs.Prelude.{ℕ, Bool, true, false, List, [], ◌∷◌, map}
+use Rattle.std.specs.Prelude.{Bool, true, false, List, [], ◌∷◌, map}
 use Rattle.std.specs.List.{list_any}
 use Rattle.rv_model.specs.declared.slot.Slot.{Slot}
 use Rattle.rv_model.specs.declared.slot_set.SlotSet.{SlotSet}

@@ -4,7 +4,6 @@
 #![tactic(auto)]
 
 mod access;
-mod registers;
 mod slot;
 mod slots;
 

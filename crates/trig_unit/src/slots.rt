@@ -5,6 +5,8 @@ ghost use Rattle.rv_model.specs.Triggers.{fires, marked, counted_down};
 ghost use Rattle.trig_unit.specs.Armed.{some_armed};
 ghost use Rattle.trig_unit.specs.Members.{members, some_member, hit_by};
 
+mod registers;
+
 use crate::slot;
 use rv_model::{Slot, SlotSet, Touch, Trigger};
 use std::marker::Model;

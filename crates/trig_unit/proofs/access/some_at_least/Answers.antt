@@ -1,4 +1,4 @@
-use Rattle.std.proofs.Common.{◌≡◌, ℕ, ◌+◌, ◌-◌, ◌%◌, ◌^◌, ◌<◌, ◌≤◌, arith, ap, sym, ◌∙◌}
+use Rattle.std.proofs.Common.{arith, sym}
 use Rattle.trig_unit.proofs.Addresses.{at_least_in, at_least_wrapped}
 use Rattle.trig_unit.proofs.access.some_at_least.Goals as goal
 

@@ -1,4 +1,4 @@
-use Rattle.std.proofs.Common.{◌≡◌, ℕ, ◌+◌, ◌-◌, ◌%◌, ◌^◌, ◌<◌, ◌≤◌, arith, ap, sym, ◌∙◌}
+use Rattle.std.proofs.Common.{arith}
 use Rattle.trig_unit.proofs.Addresses.{below_in, below_wrapped}
 use Rattle.trig_unit.proofs.access.some_below.Goals as goal
 

@@ -1,5 +1,4 @@
 use Rattle.trig_unit.proofs.Sets.{members_of}
-use Rattle.std.proofs.Common.{◌+◌, ◌*◌, ◌%◌, ap}
 use Rattle.trig_unit.proofs.slots.set_of.Goals as goal
 
 pub returns-clause-members : goal.returns-clause-members
