@@ -20,10 +20,10 @@ use Rattle.rv_model.proofs.MemoryLemmas.{after_store_refused, after_store_others
 
 -- ---- cores
 
-kept_twice : (a b c : Core) → KeepsCore a b → KeepsCore b c → KeepsCore a c
+pub kept_twice : (a b c : Core) → KeepsCore a b → KeepsCore b c → KeepsCore a c
 kept_twice a b c h k = record { same_id = k.same_id ∙ h.same_id; x0 = k.x0 ∙ h.x0; is_core = λ core. k.is_core (h.is_core core) }
 
-same_core : (c : Core) → KeepsCore c c
+pub same_core : (c : Core) → KeepsCore c c
 same_core c = record { same_id = refl; x0 = refl; is_core = λ core. core }
 
 with_x_by : (b : Bool) (c : Core) (r v : ℕ) → (b ≡ false → r ≡ 0 → ⊥) → KeepsCore c (cond b c (record c { x = set c.x r v }))
@@ -34,10 +34,10 @@ with_x_by false c r v other = record {
   is_core = λ h. record { registers = length-set c.x r v ∙ h.registers; pc_aligned = h.pc_aligned; mtvec_aligned = h.mtvec_aligned; mepc_aligned = h.mepc_aligned; mpp_fixed = h.mpp_fixed };
 }
 
-with_x_keeps : (c : Core) (r v : ℕ) → KeepsCore c (with_x c r v)
+pub with_x_keeps : (c : Core) (r v : ℕ) → KeepsCore c (with_x c r v)
 with_x_keeps c r v = with_x_by (eqb r 0) c r v (eqb-false r 0)
 
-at_pc : (c : Core) (target : ℕ) → (IsCore c → target % 4 ≡ 0) → KeepsCore c (record c { pc = target })
+pub at_pc : (c : Core) (target : ℕ) → (IsCore c → target % 4 ≡ 0) → KeepsCore c (record c { pc = target })
 at_pc c target fits = record {
   same_id = refl;
   x0 = refl;

@@ -1,5 +1,6 @@
 pub mod AluCorners
 pub mod BoardLemmas
+pub mod DebugLemmas
 pub mod DebugWordLemmas
 pub mod ExampleLemmas
 pub mod EffectsKeep
@@ -8,4 +9,5 @@ pub mod MapLemmas
 pub mod MemoryLemmas
 pub mod RowLemmas
 pub mod RowMeanings
+pub mod TouchLemmas
 pub mod TurnLemmas

@@ -25,6 +25,12 @@ slice_get-set_other (x ∷ xs) zero (suc j) v h = refl
 slice_get-set_other (x ∷ xs) (suc i) zero v h = refl
 slice_get-set_other (x ∷ xs) (suc i) (suc j) v h = slice_get-set_other xs i j v (λ e. h (ap suc e))
 
+-- a list in which an element is written that stood there
+pub set_same : {X : Type 0} (xs : List X) (i : ℕ) (x : X) → slice_get xs i ≡ Some x → set xs i x ≡ xs
+set_same [] i x is = refl
+set_same (y ∷ xs) zero x is = ap (λ z. z ∷ xs) (let e : x ≡ y = cc in e)
+set_same (y ∷ xs) (suc i) x is = ap (λ zs. y ∷ zs) (set_same xs i x is)
+
 -- ---- one byte
 
 same_key : (q : ℕ) → eq_by_cmp nat_cmp q q ≡ true

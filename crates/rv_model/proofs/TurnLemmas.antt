@@ -1,5 +1,5 @@
 -- A hart's turn against execution without debug parts, by the cases of the turn.
-use Rattle.std.proofs.Common.{◌≡◌, ◌∙◌, ℕ, List, [], ◌∷◌, Bool, true, false, set, zero, suc, Option, Some, None, slice_get, option_map, refl, sym, ap, if◌then◌else◌}
+use Rattle.std.proofs.Common.{◌≡◌, ◌∙◌, ℕ, List, Bool, true, false, set, Option, Some, None, slice_get, option_map, refl, sym, ap, if◌then◌else◌}
 use Rattle.std.proofs.lemmas.List.{length-set}
 use Rattle.rv_model.specs.declared.cause.Cause.{Cause}
 use Rattle.rv_model.specs.declared.touch.Touch.{Touch}
@@ -12,7 +12,7 @@ use Rattle.rv_model.specs.Touch.{touch_of}
 use Rattle.rv_model.specs.Turn.{executes, executes_by, executes_here, memory_after, place_by, place_of, some_fires, stops_at_ebreak, turn_by}
 use Rattle.rv_model.specs.TurnLaws.{LeavesHarts, TurnForgetsDebugging, TurnLeavesOthers}
 use Rattle.rv_model.proofs.BoardLemmas.{cores-set, slice_get-cores}
-use Rattle.rv_model.proofs.MapLemmas.{slice_get-set_other}
+use Rattle.rv_model.proofs.MapLemmas.{slice_get-set_other, set_same}
 
 -- ---- one hart
 
@@ -28,13 +28,6 @@ core_by None resume false false false touch o h = refl
 core_of : (h : Hart) (m : Memory) → (place_of h m).hart.core ≡ (if executes h m then (exec_of h.core m).step.core else h.core)
 unfolding place_of executes
 core_of h m = core_by h.debug.halted h.debug.resume_request h.debug.halt_request (some_fires (touch_of h.core m) h) (stops_at_ebreak h m) (touch_of h.core m) (exec_of h.core m) h
-
--- ---- a place that keeps what it holds
-
-set_same : {A : Type 0} (xs : List A) (i : ℕ) (x : A) → slice_get xs i ≡ Some x → set xs i x ≡ xs
-set_same [] i x is = refl
-set_same (y ∷ xs) zero x is = ap (λ z. z ∷ xs) (let e : x ≡ y = cc in e)
-set_same (y ∷ xs) (suc i) x is = ap (λ zs. y ∷ zs) (set_same xs i x is)
 
 -- ---- a board
 

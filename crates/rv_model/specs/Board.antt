@@ -5,8 +5,8 @@ use Rattle.rv_model.specs.declared.cause.Cause.{Cause}
 use Rattle.rv_model.specs.declared.cause.Cause.TheVariants.{Reset}
 use Rattle.rv_model.specs.declared.slot.Slot.{Slot}
 use Rattle.rv_model.specs.declared.slot.Trigger.TheVariants.{Disabled}
-use Rattle.rv_model.specs.Memory.{Memory}
-use Rattle.rv_model.specs.Core.{Core, reset_core}
+use Rattle.rv_model.specs.Memory.{Memory, hart_places}
+use Rattle.rv_model.specs.Core.{Core, IsCore, reset_core}
 use Rattle.rv_model.specs.Effects.{Outcome}
 use Rattle.rv_model.specs.Execute.{exec_of}
 
@@ -99,9 +99,16 @@ runs = None
 abbrev pub halted_by_reset : Option Cause
 halted_by_reset = Some Reset
 
--- a board has one to four harts, and each core has its place as its number
+-- what is true of every hart from reset on: it stands at its number, and has four slots, one of which is selected
+pub record IsHart (h : ℕ) (hart : Hart) : Type 0 where
+  pub number : hart.core.id ≡ h
+  pub core : IsCore hart.core
+  pub slots : length hart.debug.slots ≡ slot_count
+  pub selected : hart.debug.tselect < slot_count
+
+-- and of every board: one to four harts, and a place for the reservation of each that there may be
 pub record IsBoard (b : Board) : Type 0 where
   pub some_hart : 0 < length b.harts
-  pub at_most_four : length b.harts ≤ 4
-  pub numbered : (h : ℕ) (hart : Hart) → slice_get b.harts h ≡ Some hart → hart.core.id ≡ h
-  pub places : length b.memory.reserved ≡ 4
+  pub at_most_four : length b.harts ≤ hart_places
+  pub harts : (h : ℕ) (hart : Hart) → slice_get b.harts h ≡ Some hart → IsHart h hart
+  pub places : length b.memory.reserved ≡ hart_places

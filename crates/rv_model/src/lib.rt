@@ -6,6 +6,7 @@ mod bits;
 mod cause;
 mod dcsr;
 mod debug_did;
+mod debug_laws;
 mod debug_word_laws;
 mod did;
 mod examples;
@@ -29,6 +30,10 @@ pub use alu_op::AluOp;
 pub use cause::Cause;
 pub use dcsr::Dcsr;
 pub use debug_did::DebugDid;
+pub use debug_laws::{
+    debug_needs_csr, debug_register_examples, exceptions_change_nothing, memory_needs_access,
+    program_buffer_examples, words_keep, writes_keep, writes_read_back,
+};
 pub use debug_word_laws::{
     dcsr_examples, dcsr_read_back, trigger_read_back, trigger_registers, triggers_decoded,
     triggers_kept,

@@ -1,0 +1,5 @@
+use Rattle.rv_model.proofs.DebugLemmas as lemmas
+use Rattle.rv_model.proofs.debug_laws.exceptions_change_nothing.Goals as goal
+
+pub returns : goal.returns
+returns c = lemmas.exceptions_change_nothing

@@ -1,0 +1,5 @@
+use Rattle.rv_model.proofs.DebugLemmas as lemmas
+use Rattle.rv_model.proofs.debug_laws.writes_keep.Goals as goal
+
+pub returns : goal.returns
+returns c = lemmas.writes_keep
