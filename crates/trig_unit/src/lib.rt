@@ -6,5 +6,7 @@
 mod access;
 mod slot;
 mod slots;
+#[cfg(test)]
+mod tests;
 
 pub use slots::Slots;
