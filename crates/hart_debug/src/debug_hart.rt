@@ -5,6 +5,8 @@ ghost use Rattle.rv_model.specs.Board.{reset_hart};
 ghost use Rattle.debug_model.specs.Journal.{with_debug};
 ghost use Rattle.hart_debug.specs.Changes.{start_cause, step_set, ebreakm_set};
 
+mod program_buffer;
+mod registers;
 mod requests;
 mod turn;
 
@@ -12,10 +14,9 @@ use crate::start::Start;
 use rv_hart::Hart;
 use rv_model::Cause;
 use std::marker::Model;
+use trig_unit::Slots;
 
-/// One hart: its core, its requests, and the bits of `dcsr` and `tselect`.
-///
-/// Its four trigger slots are free, since nothing arms one yet; so it keeps none.
+/// One hart: its core, its requests, the bits of `dcsr`, and its trigger slots.
 #[derive(Drop)]
 pub struct DebugHart {
     hart: Hart,
@@ -27,19 +28,18 @@ pub struct DebugHart {
     step: bool,
     stepie: bool,
     ebreakm: bool,
-    tselect: u8,
+    slots: Slots,
 }
 
 impl Model for DebugHart {
-    ghost use Rattle.std.specs.Prelude.{replicate};
-    ghost use Rattle.rv_model.specs.Board.{Hart, slot_count, free_slot};
+    ghost use Rattle.rv_model.specs.Board.{Hart};
     ghost use Rattle.rv_model.specs.Codes.{hart_code};
 
     ghost Value = { Hart };
 
     ghost coded = { hart_code };
 
-    ghost view = { λ h. record { core = h.hart; debug = record { halted = h.halted; halt_request = h.halt_request; resume_request = h.resume_request; resume_ack = h.resume_ack; have_reset = h.have_reset; step = h.step; stepie = h.stepie; ebreakm = h.ebreakm; tselect = h.tselect; slots = replicate slot_count free_slot } } };
+    ghost view = { λ h. record { core = h.hart; debug = record { halted = h.halted; halt_request = h.halt_request; resume_request = h.resume_request; resume_ack = h.resume_ack; have_reset = h.have_reset; step = h.step; stepie = h.stepie; ebreakm = h.ebreakm; tselect = h.slots.tselect; slots = h.slots.slots } } };
 }
 
 /// Why a hart is halted that comes out of reset like this.
@@ -68,7 +68,7 @@ impl DebugHart {
             step: false,
             stepie: false,
             ebreakm: false,
-            tselect: 0,
+            slots: Slots::new(),
         }
     }
 

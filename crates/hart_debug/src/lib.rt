@@ -5,10 +5,12 @@
 
 mod debug_hart;
 mod ebreak;
+mod ran_word;
 mod start;
 #[cfg(test)]
 mod tests;
 
 pub use debug_hart::DebugHart;
-pub use rv_model::Turned;
+pub use ran_word::RanWord;
+pub use rv_model::{DebugDid, Turned};
 pub use start::Start;

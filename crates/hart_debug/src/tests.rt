@@ -1,3 +1,7 @@
+mod program_buffer;
+mod registers;
+mod triggers;
+
 use crate::{DebugHart, Start, Turned};
 use rv_mem::{Ram, RamFault};
 use rv_model::{Cause, Did, Size};
@@ -22,6 +26,20 @@ fn ram_with(alloc: Global, word: u64) -> Result<Ram, RamFault> {
     let mut ram = Ram::new(alloc, 65_536)?;
     let _ = ram.store(FIRST, Size::B4, word);
     Ok(ram)
+}
+
+/// A register of a halted hart.
+fn read(hart: &DebugHart, regno: u16) -> Option<u64> {
+    if hart.is_halted() {
+        hart.reg_read(regno)
+    } else {
+        None
+    }
+}
+
+/// Writes a register of a halted hart.
+fn write(hart: &mut DebugHart, regno: u16, value: u64) -> bool {
+    hart.is_halted() && hart.reg_write(regno, value)
 }
 
 #[test]

@@ -20,5 +20,6 @@ mod tests;
 mod touch;
 mod zicsr;
 
+pub use csr_change::{CsrChange, changed, writes};
 pub use csr_fault::CsrFault;
 pub use hart::Hart;

@@ -1,9 +1,9 @@
 //! The micro steps of a command that is under way.
 
-ghost use Rattle.std.specs.Prelude.{◌≡◌, true, is_some};
+ghost use Rattle.std.specs.Prelude.{◌≡◌, true, false, ◌∷◌, is_some};
 ghost use Rattle.rv_model.specs.DebugRegisters.{debug_value};
 ghost use Rattle.rv_model.specs.Memory.{Memory};
-ghost use Rattle.debug_model.specs.Commands.{busy, completed, failed, given_to, left_with, micro_step, taken_from, transferred, unit_behind, went_on};
+ghost use Rattle.debug_model.specs.Commands.{busy, completed, failed, given_to, left_with, micro_step, step_by, taken_from, transferred, unit_behind, went_on};
 ghost use Rattle.dbg_abstract.specs.Steps.{stepped_to};
 
 use super::CommandUnit;

@@ -1,15 +1,19 @@
 //! A hart's turn, one function for each case (RISC-V Debug Specification 1.0, "Sdext (ISA Extension)").
 
-ghost use Rattle.std.specs.Prelude.{◌≡◌};
+ghost use Rattle.std.specs.Prelude.{◌≡◌, nat_lt};
 ghost use Rattle.rv_model.specs.Execute.{exec_of};
-ghost use Rattle.rv_model.specs.Turn.{place_of, memory_after, resumed, halted_for, stops_at_ebreak, ran};
+ghost use Rattle.rv_model.specs.Turn.{place_of, memory_after, resumed, halted_for, some_fires, stops_at_ebreak, ran};
+ghost use Rattle.rv_model.specs.Touch.{touch_of};
+ghost use Rattle.rv_model.specs.Triggers.{fires};
+ghost use Rattle.trig_unit.specs.Members.{members};
+ghost use Rattle.hart_debug.specs.Stops.{stopped_at_trigger};
 ghost use Rattle.debug_model.specs.Journal.{with_debug};
 
 use super::DebugHart;
 use crate::ebreak::is_ebreak_at;
 use rv_hart::Hart;
 use rv_mem::Ram;
-use rv_model::{Cause, Did, Turned};
+use rv_model::{Cause, Did, SlotSet, Turned};
 
 /// Executes one instruction or takes one trap.
 fn execute(hart: &mut Hart, ram: &mut Ram) -> Did
@@ -36,9 +40,10 @@ impl DebugHart {
                 }
             }
             None => {
-                // A trigger that fires comes behind a halt request and before `ebreak`. It has no code: all slots are free yet.
                 if self.halt_request {
                     self.halt(Cause::HaltReq)
+                } else if self.stops_at_trigger(ram) {
+                    self.halt(Cause::Trigger)
                 } else if self.stops_at_ebreak(ram) {
                     self.halt(Cause::Ebreak)
                 } else {
@@ -46,6 +51,31 @@ impl DebugHart {
                 }
             }
         }
+    }
+
+    /// The trigger slots that fire at the instruction at pc: at these a running hart stops that has no halt request.
+    pub fn fired(&self, ram: &Ram) -> SlotSet
+        ensures members { members result ≡ fires (touch_of self.now.core ram.now) self.now.debug.slots }
+        ensures some { nat_lt 0 result.0 ≡ some_fires (touch_of self.now.core ram.now) self.now }
+    {
+        self.slots.fires(&self.hart.touch(ram))
+    }
+
+    /// Whether the hart halts at a trigger; the slots that fire take their hit.
+    fn stops_at_trigger(&mut self, ram: &Ram) -> bool
+        ensures answer { result ≡ some_fires (touch_of self.old.core ram.now) self.old }
+        ensures hart { self.new ≡ stopped_at_trigger (touch_of self.old.core ram.now) self.old }
+    {
+        // What the instruction touches is asked for only where a slot may fire: most harts have none armed in most turns.
+        if !self.slots.any_armed() {
+            return false;
+        }
+        let fired = self.fired(ram);
+        if fired.0 == 0 {
+            return false;
+        }
+        self.slots.mark(fired);
+        true
     }
 
     /// Whether the hart halts at an `ebreak` at pc.
@@ -75,12 +105,13 @@ impl DebugHart {
         Turned::Halted(why)
     }
 
-    /// One instruction or one trap, behind which a single step halts. A free slot counts nothing.
+    /// One instruction or one trap, behind which a single step halts. The counts fall.
     fn run(&mut self, ram: &mut Ram) -> Turned
         ensures place { record { hart = self.new; turned = result } ≡ ran (exec_of self.old.core ram.old) self.old }
         ensures memory { ram.new ≡ (exec_of self.old.core ram.old).memory }
     {
         let did = execute(&mut self.hart, ram);
+        self.slots.retired();
         if self.step {
             self.halted = Some(Cause::Step);
             return Turned::Halted(Cause::Step);

@@ -1,0 +1,161 @@
+//! One instruction word of the program buffer (RISC-V Debug Specification 1.0, "Program Buffer").
+
+ghost use Rattle.std.specs.Prelude.{◌≡◌, ◌<◌, true, is_some};
+ghost use Rattle.rv_model.specs.Memory.{Memory};
+ghost use Rattle.rv_model.specs.Effects.{effect_of};
+ghost use Rattle.rv_model.specs.Core.{x_of};
+ghost use Rattle.rv_model.specs.OperandsFit.{OperandsFit};
+ghost use Rattle.rv_model.specs.DebugLaws.{WriteKeeps};
+ghost use Rattle.rv_model.specs.DebugRegisters.{debug_value};
+ghost use Rattle.rv_model.specs.ProgramBuffer.{executed, ran_insn, ran_word, swapped};
+ghost use Rattle.rv_model.specs.Touch.{touch};
+ghost use Rattle.hart_debug.specs.Words.{ran_to, csr_swap, csr_swap_by, touches_memory};
+
+use super::DebugHart;
+use crate::ran_word::RanWord;
+use rv_hart::{CsrChange, changed, writes};
+use rv_mem::Ram;
+use rv_model::{CsrImmType, CsrType, DebugDid, Did, Insn};
+use rv_words::decode;
+
+/// The word before this one was the last: this is `ebreak`.
+const ENDS: RanWord = RanWord {
+    did: DebugDid::Ebreak,
+    accessed: false,
+};
+
+/// The word may not stand in the program buffer, or there is no such instruction or register.
+const REFUSED: RanWord = RanWord {
+    did: DebugDid::Exception,
+    accessed: false,
+};
+
+/// The word took effect, and is no access.
+const DONE: RanWord = RanWord {
+    did: DebugDid::Next,
+    accessed: false,
+};
+
+impl DebugHart {
+    #[tactic(auto, unfolding(rv_model::specs::ProgramBuffer::ran_word))]
+    /// Executes one word of the program buffer; `dpc` stays. An exception changes nothing. The hart is halted.
+    pub fn debug_exec(&mut self, word: u32, ram: &mut Ram) -> RanWord
+        requires { is_some self.old.debug.halted ≡ true }
+        ensures ran { ran_to self.new ram.new result ≡ ran_word word self.old ram.old }
+        ensures keeps { WriteKeeps self.old self.new }
+    {
+        match decode(word) {
+            Some(insn) => self.run_insn(insn, ram),
+            None => REFUSED,
+        }
+    }
+
+    /// Executes one instruction of the program buffer.
+    fn run_insn(&mut self, insn: Insn, ram: &mut Ram) -> RanWord
+        requires halted { is_some self.old.debug.halted ≡ true }
+        requires fit { OperandsFit insn }
+        ensures { ran_to self.new ram.new result ≡ ran_insn insn self.old ram.old }
+    {
+        match insn {
+            Insn::Ebreak => ENDS,
+            // These would need a pc, a trap or a reservation of Debug Mode's own.
+            Insn::Auipc(_) => REFUSED,
+            Insn::Jal(_) => REFUSED,
+            Insn::Jalr(_) => REFUSED,
+            Insn::Beq(_) => REFUSED,
+            Insn::Bne(_) => REFUSED,
+            Insn::Blt(_) => REFUSED,
+            Insn::Bge(_) => REFUSED,
+            Insn::Bltu(_) => REFUSED,
+            Insn::Bgeu(_) => REFUSED,
+            Insn::LrW(_) => REFUSED,
+            Insn::ScW(_) => REFUSED,
+            Insn::LrD(_) => REFUSED,
+            Insn::ScD(_) => REFUSED,
+            Insn::Ecall => REFUSED,
+            Insn::Mret => REFUSED,
+            // These reach the registers of Debug Mode too.
+            Insn::Csrrw(p) => self.swap_register(CsrChange::Replace, p),
+            Insn::Csrrs(p) => self.swap_register(CsrChange::Set, p),
+            Insn::Csrrc(p) => self.swap_register(CsrChange::Clear, p),
+            Insn::Csrrwi(p) => self.swap_immediate(CsrChange::Replace, p),
+            Insn::Csrrsi(p) => self.swap_immediate(CsrChange::Set, p),
+            Insn::Csrrci(p) => self.swap_immediate(CsrChange::Clear, p),
+            _ => self.execute_in_place(insn, ram),
+        }
+    }
+
+    /// An instruction on a control and status register whose operand is a register.
+    fn swap_register(&mut self, change: CsrChange, p: CsrType) -> RanWord
+        requires halted { is_some self.old.debug.halted ≡ true }
+        requires rd { p.rd < 32 }
+        requires rs1 { p.rs1 < 32 }
+        ensures { (m : Memory) → ran_to self.new m result ≡ swapped (debug_value self.old p.csr) (csr_swap change p.rs1 p.csr (x_of self.old.core p.rs1) p.rd) self.old m }
+    {
+        let operand = self.hart.x(p.rs1);
+        self.swap(writes(change, p.rs1), change, p.csr, operand, p.rd)
+    }
+
+    /// An instruction on a control and status register whose operand is an immediate.
+    fn swap_immediate(&mut self, change: CsrChange, p: CsrImmType) -> RanWord
+        requires halted { is_some self.old.debug.halted ≡ true }
+        requires rd { p.rd < 32 }
+        ensures { (m : Memory) → ran_to self.new m result ≡ swapped (debug_value self.old p.csr) (csr_swap change p.imm p.csr p.imm p.rd) self.old m }
+    {
+        self.swap(writes(change, p.imm), change, p.csr, u64::from(p.imm), p.rd)
+    }
+
+    /// The destination takes a register's old value; where the instruction writes, the register takes the changed one.
+    fn swap(
+        &mut self,
+        writes: bool,
+        change: CsrChange,
+        number: u16,
+        operand: u64,
+        rd: u8,
+    ) -> RanWord
+        requires halted { is_some self.old.debug.halted ≡ true }
+        requires rd { rd < 32 }
+        ensures { (m : Memory) → ran_to self.new m result ≡ swapped (debug_value self.old number) (csr_swap_by writes change number operand rd) self.old m }
+    {
+        let Some(old) = self.reg_read(number) else {
+            return REFUSED;
+        };
+        if !writes {
+            self.hart.set_x(rd, old);
+            return DONE;
+        }
+        if self.reg_write(number, changed(change, old, operand)) {
+            self.hart.set_x(rd, old);
+            DONE
+        } else {
+            REFUSED
+        }
+    }
+
+    /// The effect of an instruction with pc as it was, or nothing in the place of a trap.
+    fn execute_in_place(&mut self, insn: Insn, ram: &mut Ram) -> RanWord
+        requires { OperandsFit insn }
+        ensures { ran_to self.new ram.new result ≡ executed (effect_of insn self.old.core ram.old) (touches_memory (touch insn self.old.core)) self.old ram.old }
+    {
+        let touch = self.hart.touch_by(insn);
+        let accessed = touch.load.is_some() || touch.store.is_some();
+        let before = self.hart;
+        match self.hart.execute(ram, insn) {
+            Did::Retired => {
+                self.hart.set_pc(before.pc());
+                RanWord {
+                    did: DebugDid::Next,
+                    accessed,
+                }
+            }
+            Did::Trapped(_) => {
+                self.hart = before;
+                RanWord {
+                    did: DebugDid::Exception,
+                    accessed,
+                }
+            }
+        }
+    }
+}

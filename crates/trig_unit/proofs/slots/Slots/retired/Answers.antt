@@ -1,0 +1,9 @@
+use Rattle.std.proofs.Common.{sym, ap, ◌∙◌}
+use Rattle.trig_unit.specs.Armed.{some_armed}
+use Rattle.trig_unit.proofs.Four.{unarmed_still}
+use Rattle.trig_unit.proofs.slots.Slots.retired.Goals as goal
+
+pub returns-then-not-self : goal.returns-then-not-self
+returns-then-not-self c =
+    ap (λ s. record c.args.self.now { slots = s })
+    (sym (unarmed_still c.args.self.now.slots (ap (λ t. some_armed t.slots) (sym c.self.view_is) ∙ sym c.self.invariant.marked ∙ c.if-not-self.true)))
