@@ -282,18 +282,18 @@ impl BusUnit {
         }
     }
 
-    /// The access of a bus that is busy with it.
+    /// The access that the bus is busy with, which is over then.
     fn make(&mut self, what: BusAccess, ram: &mut Ram)
         ensures unit { self.new ≡ (bus_done_by (Some what) (access_size self.old.access) ram.old self.old).unit }
         ensures memory { ram.new ≡ (bus_done_by (Some what) (access_size self.old.access) ram.old self.old).memory }
     {
-        self.pending = None;
-        let Some(size) = access_size(self.access) else {
-            return;
-        };
-        match what {
-            BusAccess::Read => self.read(size, ram),
-            BusAccess::Write => self.write(size, ram),
+        match access_size(self.access) {
+            Some(size) => match what {
+                BusAccess::Read => self.read(size, ram),
+                BusAccess::Write => self.write(size, ram),
+            },
+            // An access without a size does not start.
+            None => self.pending = None,
         }
     }
 
@@ -301,6 +301,7 @@ impl BusUnit {
     fn read(&mut self, size: Size, ram: &Ram)
         ensures { self.new ≡ bus_read_by (loaded ram.now self.old.address size) size self.old }
     {
+        self.pending = None;
         match ram.load(self.address, size) {
             Ok(value) => {
                 self.value = value;
@@ -315,6 +316,7 @@ impl BusUnit {
         ensures unit { self.new ≡ bus_wrote_by (store_answer ram.old self.old.address size) size self.old }
         ensures memory { ram.new ≡ after_store ram.old self.old.address size self.old.value }
     {
+        self.pending = None;
         match ram.store(self.address, size, self.value) {
             Ok(()) => self.grow(size),
             Err(_) => self.error = Sberror::Address,
