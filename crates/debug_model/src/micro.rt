@@ -8,3 +8,10 @@ pub enum Micro {
     /// This word of the program buffer is executed.
     Run(u32),
 }
+
+/// It only fills the places of a fixed list that hold no step.
+impl Default for Micro {
+    fn default() -> Self {
+        Micro::Run(0)
+    }
+}

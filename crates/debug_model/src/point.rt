@@ -1,5 +1,5 @@
 /// An entry of the chip's journal: what happened there that a debugger can tell apart.
-#[derive(Clone, Copy, Debug, PartialEq, Eq)]
+#[derive(Clone, Copy, Debug, Default, PartialEq, Eq)]
 pub enum Point {
     /// The hart of this number, which exists, had its turn.
     Turn(u8),
@@ -11,7 +11,9 @@ pub enum Point {
     HaltClear(u8),
     /// The debugger requested that the hart of this number resume (`resumereq` written 1).
     ResumeReq(u8),
-    /// The debugger had an access to memory made, by the program buffer or by the system bus.
+    /// The debugger had an access to memory made, by the program buffer or by the system bus. It is the default, which only
+    /// fills the places of a fixed list that hold no entry.
+    #[default]
     Access,
 }
 

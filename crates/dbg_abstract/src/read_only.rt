@@ -1,0 +1,27 @@
+//! The registers that a debugger may read and not write (RISC-V privileged manual, "Machine-Level CSRs").
+
+ghost use Rattle.std.specs.Prelude.{◌≡◌};
+ghost use Rattle.rv_model.specs.DebugRegisters.{debug_refuses};
+
+/// The vendor, the architecture, the implementation and the hart's own number.
+const MVENDORID: u16 = 0xf11;
+
+const MARCHID: u16 = 0xf12;
+
+const MIMPID: u16 = 0xf13;
+
+const MHARTID: u16 = 0xf14;
+
+/// Whether a write of the register of this number is refused.
+#[tactic(auto, unfolding(rv_model::specs::DebugRegisters::debug_refuses, rv_model::specs::Registers::csr_read_only))]
+pub fn is_read_only(regno: u16) -> bool
+    ensures { result ≡ debug_refuses regno }
+{
+    match regno {
+        MVENDORID => true,
+        MARCHID => true,
+        MIMPID => true,
+        MHARTID => true,
+        _ => false,
+    }
+}
