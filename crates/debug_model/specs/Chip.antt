@@ -2,7 +2,7 @@
 -- OpenOCD, remote_bitbang, for the bytes; IEEE 1149.1 for the edges of TCK. That harts and module go on by rounds, one at each rise of TCK, and the
 -- limits of journal and rounds, are this project's own choices.
 use Rattle.std.specs.Prelude.{ℕ, ◌+◌, ◌^◌, List, [], ◌∷◌, ◌++◌, length, Bool, true, false, not, ◌||◌, if◌then◌else◌, nat_lt, Option, Some, None}
-use Rattle.debug_model.specs.declared.data_register.DataRegister.{DataRegister}
+use Rattle.debug_model.specs.declared.counts.Counts.{Counts}
 use Rattle.debug_model.specs.declared.dmi_op.DmiOp.{DmiOp}
 use Rattle.debug_model.specs.declared.chip_end.ChipEnd.{ChipEnd}
 use Rattle.debug_model.specs.declared.chip_end.ChipEnd.TheVariants.{Quitted, BadByte, AtLimit}
@@ -16,12 +16,6 @@ use Rattle.debug_model.specs.Port.{Port, port_risen, dtm_risen, rise_finds_busy,
 use Rattle.debug_model.specs.Schedule.{Plan, round_of, moved}
 use Rattle.debug_model.specs.Signs.{sign_of}
 use Rattle.debug_model.specs.Transport.{Dtm, finished, dropped}
-
-pub record Counts : Type 0 where
-  pub rounds : ℕ  -- rises of TCK
-  pub dmi_done : ℕ  -- operations performed
-  pub dmi_busy : ℕ  -- captures of dmi that found an operation in flight, and set the sticky status
-  pub dmi_failed : ℕ  -- operations dropped
 
 abbrev pub no_counts : Counts
 no_counts = record { rounds = 0; dmi_done = 0; dmi_busy = 0; dmi_failed = 0 }
