@@ -1,8 +1,8 @@
 -- A session on a bench, and the end of its stream.
 use Rattle.std.proofs.Common.{◌≡◌, ◌∙◌, ℕ, List, ◌++◌, Option, Some, None, option_map, refl, sym, ap}
-use Rattle.debug_model.specs.Chip.{Chip, feed, fresh_chip}
-use Rattle.debug_model.specs.Told.{Far, read_out}
-use Rattle.debug_model.specs.Wire.{sent}
+use Rattle.pins_link.specs.Chip.{Chip, feed, fresh_chip}
+use Rattle.pins_link.specs.Told.{Far, read_out}
+use Rattle.pins_link.specs.Wire.{sent}
 use Rattle.debug_model.specs.declared.command.Command.{Command}
 use Rattle.jtag_bench.proofs.Stood.{feed-append}
 use Rattle.jtag_bench.specs.Run.{RanOn}

@@ -1,10 +1,10 @@
 -- What a session does at a told chip, over plain variables.
 use Rattle.std.proofs.Common.{◌≡◌, ◌∙◌, ℕ, List, [], ◌∷◌, ◌++◌, Bool, Option, Some, None, IfSome, refl, sym, ap, subst}
-use Rattle.debug_model.specs.Chip.{Chip, feed}
-use Rattle.debug_model.specs.Scan.{comes_out, dr_bytes, reset_bytes, scanned_chip, Scanned, WasReset}
-use Rattle.debug_model.specs.Tap.{captured, idcode}
-use Rattle.debug_model.specs.Told.{Far, read_out}
-use Rattle.debug_model.specs.declared.register.Register.TheVariants.{Idcode}
+use Rattle.pins_link.specs.Chip.{Chip, feed}
+use Rattle.pins_link.specs.Scan.{comes_out, dr_bytes, reset_bytes, scanned_chip, Scanned, WasReset}
+use Rattle.pins_link.specs.Tap.{captured, idcode}
+use Rattle.pins_link.specs.Told.{Far, read_out}
+use Rattle.pins_link.specs.declared.register.Register.TheVariants.{Idcode}
 use Rattle.jt_base.specs.BitList.{bits_of, number_of}
 use Rattle.jtag_bench.specs.Session.{ReadIdcode}
 use Rattle.jtag_bench.specs.Stream.{idcode_stream}

@@ -1,7 +1,7 @@
 -- What a run prints, and the chip that it leaves.
 -- The program is this project's own (docs/FORMATS.md, "Statuses").
 use Rattle.std.specs.Prelude.{◌≡◌, ◌++◌, ◌⊎◌, ℕ, List, [], Option}
-use Rattle.debug_model.specs.Chip.{Chip, feed, fresh_chip}
+use Rattle.pins_link.specs.Chip.{Chip, feed, fresh_chip}
 use Rattle.debug_model.specs.Lines.{text_of_all}
 use Rattle.debug_model.specs.Transcript.{transcript}
 use Rattle.debug_model.specs.Transcript.End.{Clean}

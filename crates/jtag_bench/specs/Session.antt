@@ -1,12 +1,12 @@
 -- What a session does at a told chip and puts into a sink: its transcript, and the bytes that it sends.
 -- IEEE 1149.1 for the scan of the device identification; the rest is this project's own.
 use Rattle.std.specs.Prelude.{◌≡◌, ◌++◌, ℕ, List, [], ◌∷◌, Bool, true, false, Option, Some, Result, Ok, Err}
-use Rattle.debug_model.specs.Chip.{Chip, feed}
+use Rattle.pins_link.specs.Chip.{Chip, feed}
 use Rattle.debug_model.specs.Lines.{text_of, text_of_all}
 use Rattle.debug_model.specs.Lines.Line.{Idcode as idcode_line}
-use Rattle.debug_model.specs.Scan.{CauseOf}
+use Rattle.pins_link.specs.Scan.{CauseOf}
 use Rattle.debug_model.specs.Tap.{idcode}
-use Rattle.debug_model.specs.Told.{Far, IsFree, IsLive, IsRead, read_out}
+use Rattle.pins_link.specs.Told.{Far, IsFree, IsLive, IsRead, read_out}
 use Rattle.debug_model.specs.Transcript.{Outcome, transcript}
 use Rattle.debug_model.specs.Transcript.End.{Clean}
 use Rattle.debug_model.specs.declared.command.Command.{Command}

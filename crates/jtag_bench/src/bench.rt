@@ -1,12 +1,12 @@
 ghost use Rattle.std.specs.Prelude.{◌≡◌, ◌≤◌, ◌<◌, ◌+◌, ◌++◌, length};
 ghost use Rattle.arrayvec.specs.ArrayVec.{array_vec_len};
-ghost use Rattle.debug_model.specs.Chip.{after, answer, answer_byte, feed, fresh_chip, pins, said};
-ghost use Rattle.debug_model.specs.Tap.{Port};
+ghost use Rattle.pins_link.specs.Chip.{after, answer, answer_byte, feed, fresh_chip, pins, said};
+ghost use Rattle.pins_link.specs.Tap.{Port};
 
 use crate::signs::classify;
 use arrayvec::ArrayVec;
-use debug_model::{Ending, PIECE_MOST, Sign};
-use jtag_dtm::Tap;
+use debug_model::Sign;
+use pins_link::{Ending, PIECE_MOST, Tap};
 use std::marker::Model;
 
 /// Answers of a chip, before they are read.
@@ -21,7 +21,7 @@ pub struct Bench {
 }
 
 impl Model for Bench {
-    ghost use Rattle.debug_model.specs.Chip.{Chip};
+    ghost use Rattle.pins_link.specs.Chip.{Chip};
 
     ghost Value = { Chip };
 

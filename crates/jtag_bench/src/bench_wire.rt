@@ -2,7 +2,8 @@ ghost use Rattle.std.specs.Prelude.{◌≡◌, [], ◌∷◌, Some};
 ghost use Rattle.std.specs.Borrow.{GName};
 
 use crate::bench::{Answers, Bench};
-use debug_model::{Wire, WireFault};
+use debug_model::WireFault;
+use pins_link::Wire;
 
 /// A wire to a chip on its bench, which the caller keeps. It tells its chip, and never fails.
 #[derive(Drop)]

@@ -2,7 +2,7 @@
 
 ghost use Rattle.std.specs.Prelude.{◌≡◌, ◌≢◌, IsTrue, OnErr, OnOk, map, string_bytes};
 ghost use Rattle.std.specs.List.{list_all};
-ghost use Rattle.debug_model.specs.Chip.{fresh_chip};
+ghost use Rattle.pins_link.specs.Chip.{fresh_chip};
 ghost use Rattle.jt_base.specs.Faults.{HasCause, Rises};
 ghost use Rattle.jt_base.specs.Sink.{GrewByPrefix, grown};
 ghost use Rattle.jtag_bench.specs.Asked.{AskedFront};
@@ -20,7 +20,8 @@ use crate::refusal::Refusal;
 use crate::session::session;
 use crate::status::Status;
 use crate::words::read_inputs;
-use debug_model::{Command, Wire};
+use debug_model::Command;
+use pins_link::Wire;
 use jt_base::{Files, Sink, SinkFault};
 use std::alloc::Global;
 

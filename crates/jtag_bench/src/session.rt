@@ -3,17 +3,17 @@
 ghost use Rattle.std.specs.Prelude.{◌≡◌, ◌≤◌, [], IfOk, IfErr, IfSome, IsTrue, OnErr, OnOk};
 ghost use Rattle.std.specs.List.{list_all};
 ghost use Rattle.debug_model.specs.Lines.{text_of_all};
-ghost use Rattle.debug_model.specs.Scan.{HasScanCause};
-ghost use Rattle.debug_model.specs.Told.{IsFree, IsLive, IsRead};
+ghost use Rattle.pins_link.specs.Scan.{HasScanCause};
+ghost use Rattle.pins_link.specs.Told.{IsFree, IsLive, IsRead};
 ghost use Rattle.debug_model.specs.Transcript.{transcript};
 ghost use Rattle.jt_base.specs.Sink.{GrewByPrefix};
 ghost use Rattle.jtag_bench.specs.Session.{CanQuit, CanQuitAfter, Did, FailureCause, Ran, ReadIdcode, WroteAt, is_built};
 
 use crate::acted::{Acted, Failure};
 use crate::lines::idcode_line;
-use debug_model::{Command, Scan, Wire, WireFault};
+use debug_model::{Command, WireFault};
 use jt_base::{Bits, Sink};
-use probe_scan::Scanner;
+use pins_link::{Scan, Scanner, Wire};
 
 /// The bits of the device identification register.
 const IDCODE_BITS: u8 = 32;

@@ -1,6 +1,6 @@
 use Rattle.std.proofs.Common.{◌≡◌, ◌∙◌, arith}
 use Rattle.std.proofs.lemmas.Grind.{common_steps}
-use Rattle.debug_model.specs.Told.{Far}
+use Rattle.pins_link.specs.Told.{Far}
 use Rattle.jtag_bench.proofs.Runs.{ran_on}
 use Rattle.jtag_bench.proofs.run.run_session.Goals as goal
 

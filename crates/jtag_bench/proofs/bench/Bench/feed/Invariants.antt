@@ -1,6 +1,6 @@
 use Rattle.std.proofs.Common.{◌≡◌, ◌≤◌, ◌+◌, ◌++◌, length}
 use Rattle.arrayvec.specs.ArrayVec.{array_vec_len}
-use Rattle.debug_model.specs.Chip.{feed, said}
+use Rattle.pins_link.specs.Chip.{feed, said}
 use Rattle.jtag_bench.proofs.bench.Bench.feed.Given as goal
 
 abbrev pub invariant-bytes : goal.invariant-bytes
