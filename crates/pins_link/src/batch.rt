@@ -6,8 +6,8 @@ ghost use Rattle.pins_link.specs.Chip.{answer_byte};
 ghost use Rattle.pins_link.specs.Answers.{IsFirstBad};
 ghost use Rattle.pins_link.specs.Scan.{asked_clock, clock, dr_bytes, high, low, path, reset_bytes, shift_bytes};
 
-use arrayvec::ArrayVec;
 use crate::wire::PIECE_MOST;
+use arrayvec::ArrayVec;
 use debug_model::WireFault;
 use jt_base::Bits;
 
