@@ -13,7 +13,7 @@ use Rattle.rv_model.specs.Board.{DebugPart, Hart, IsHart, slot_count}
 use Rattle.rv_model.specs.Core.{Core, x_of, with_x, aligned}
 use Rattle.rv_model.specs.Dcsr.{dcsr_word, dcsr_of_word}
 use Rattle.rv_model.specs.DebugRegisters.{debug_csr_value, debug_csr_written, value_or, debug_value, debug_refuses, debug_written}
-use Rattle.rv_model.specs.DebugLaws.{DebugRegisterExamples, ProgramBufferExamples, SameRequests, WriteKeeps, WritesKeep, WritesReadBack, ChangesNothing, ExceptionsChangeNothing, MemoryNeedsAccess, WordsKeep, is_csr_insn, KeepsDebug, DebugNeedsCsr}
+use Rattle.rv_model.specs.DebugLaws.{DebugRegisterNumbers, DebugRegisterExamples, ProgramBufferExamples, SameRequests, WriteKeeps, WritesKeep, WritesReadBack, ChangesNothing, ExceptionsChangeNothing, MemoryNeedsAccess, WordsKeep, is_csr_insn, KeepsDebug, DebugNeedsCsr}
 use Rattle.rv_model.specs.Effects.{Outcome, effect, effect_of}
 use Rattle.rv_model.specs.Laws.{KeepsCore}
 use Rattle.rv_model.specs.Memory.{Memory, loaded, store_answer, after_store}
@@ -27,6 +27,9 @@ use Rattle.rv_model.proofs.KeptLemmas.{kept_twice, same_core, with_x_keeps, at_p
 use Rattle.rv_model.proofs.SlotLemmas.{set_fits, selected_fits, written_fits}
 
 -- ---- worked examples
+
+pub debug_register_numbers : DebugRegisterNumbers
+debug_register_numbers = record { tselect = refl; tdata1 = refl; tdata2 = refl; tinfo = refl; tinfo_reads = refl; dcsr = refl; dpc = refl }
 
 pub debug_register_examples : DebugRegisterExamples
 unfolding debug_value debug_refuses debug_written csr_value csr_read_only csr_written dcsr_word tdata1_of trigger_csr_value trigger_csr_written
