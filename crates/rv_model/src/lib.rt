@@ -1,4 +1,7 @@
-//! The harts' definitions: what a program sees, and what an instruction does.
+//! The harts' definitions: what a program sees, what an instruction does, and what a debugger reaches beside it.
+//!
+//! The definitions stand in `specs`; here are the types that they speak of, with the words of `dcsr` and `tdata1`.
+//! Laws and worked examples of the definitions are the contracts of functions that do nothing.
 #![tactic(auto)]
 
 mod alu_op;
