@@ -1,5 +1,6 @@
 pub mod AluCorners
 pub mod BoardLemmas
+pub mod DebugLemmas
 pub mod DebugRegisterLemmas
 pub mod DebugWordLemmas
 pub mod ExampleLemmas
