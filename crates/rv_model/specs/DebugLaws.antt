@@ -5,15 +5,29 @@ use Rattle.rv_model.specs.declared.cause.Cause.TheVariants.{Reset}
 use Rattle.rv_model.specs.declared.debug_did.DebugDid.TheVariants as ended
 use Rattle.rv_model.specs.declared.insn.Insn.{Insn}
 use Rattle.rv_model.specs.declared.insn.Insn.TheVariants.{Ld, Csrrw, Csrrs, Csrrc, Csrrwi, Csrrsi, Csrrci}
+use Rattle.rv_model.specs.declared.register_number.TheConstants.{TSELECT, TDATA1, TDATA2, TINFO, DCSR, DPC}
+use Rattle.rv_model.specs.declared.trigger_word.TheConstants.{TINFO_VALUE}
 use Rattle.rv_model.specs.Board.{DebugPart, Hart, IsHart, reset_hart, slot_count}
 use Rattle.rv_model.specs.Core.{with_x, aligned, register_count}
 use Rattle.rv_model.specs.Dcsr.{dcsr_word, dcsr_of_word, shown_cause}
-use Rattle.rv_model.specs.DebugRegisters.{debug_value, debug_refuses, debug_written}
+use Rattle.rv_model.specs.DebugRegisters.{dcsr_number, debug_value, debug_refuses, debug_written}
 use Rattle.rv_model.specs.Laws.{KeepsCore}
 use Rattle.rv_model.specs.Memory.{Memory}
 use Rattle.rv_model.specs.ProgramBuffer.{Debugged, debugged, ran_word}
+use Rattle.rv_model.specs.Registers.{pc_number}
 use Rattle.rv_model.specs.Rows.{meaning}
-use Rattle.rv_model.specs.TriggerWords.{tdata1_of, trigger_of, tinfo_value}
+use Rattle.rv_model.specs.TriggerWords.{tselect_number, tdata1_number, tdata2_number, tinfo_number, tdata1_of, trigger_of, tinfo_value}
+
+-- ---- the code's numbers
+
+pub record DebugRegisterNumbers : Type 0 where
+  pub tselect : TSELECT ≡ tselect_number
+  pub tdata1 : TDATA1 ≡ tdata1_number
+  pub tdata2 : TDATA2 ≡ tdata2_number
+  pub tinfo : TINFO ≡ tinfo_number
+  pub tinfo_reads : TINFO_VALUE ≡ tinfo_value
+  pub dcsr : DCSR ≡ dcsr_number
+  pub dpc : DPC ≡ pc_number
 
 -- ---- worked examples: hart 2, halted by reset
 
