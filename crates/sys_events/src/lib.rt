@@ -6,8 +6,8 @@
 
 mod journal;
 mod list_schedule;
+mod place;
 mod seed_schedule;
-mod turning;
 
 pub use journal::{JOURNAL_ROOM, Journal};
 pub use list_schedule::ListSchedule;

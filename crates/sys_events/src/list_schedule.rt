@@ -1,6 +1,6 @@
 ghost use Rattle.std.specs.Prelude.{◌≡◌, map};
 
-use crate::turning::following;
+use crate::place::following;
 use debug_model::{Event, Round, Schedule};
 use std::marker::Model;
 

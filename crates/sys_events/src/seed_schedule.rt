@@ -3,7 +3,7 @@ ghost use Rattle.arrayvec.specs.ArrayVec.{array_vec_len};
 ghost use Rattle.debug_model.specs.Schedule.{Fair};
 ghost use Rattle.sys_events.specs.Seed.{words_of, paired, round_at, rounds_of, seed_plan};
 
-use crate::turning::following;
+use crate::place::following;
 use arrayvec::ArrayVec;
 use debug_model::{Event, Round, Schedule};
 use rand_core::SeedableRng;
