@@ -273,9 +273,21 @@ fn std_sink_writes_or_counts(rt: HostRuntime) {
     let slow = Output::new(rt.alloc(), 2, 6);
     let mut sink = StdSink::new(&slow);
     let failed = Err(SinkFault::Failed);
-    assert_eq!(rt; (put_into(&mut sink, b"abcde"), slow.has(b"abcde")), ((Ok(()), 0), true));
-    assert_eq!(rt; (put_into(&mut sink, b"fgh"), slow.has(b"abcdef")), ((failed, 1), true));
-    assert_eq!(rt; (put_into(&mut sink, b""), slow.has(b"abcdef")), ((Ok(()), 1), true));
+    assert_eq!(rt;
+        (put_into(&mut sink, b"abcde"), slow.has(b"abcde")),
+        ((Ok(()), 0), true)
+    );
+    assert_eq!(rt;
+        (put_into(&mut sink, b"fgh"), slow.has(b"abcdef")),
+        ((failed, 1), true)
+    );
+    assert_eq!(rt;
+        (put_into(&mut sink, b""), slow.has(b"abcdef")),
+        ((Ok(()), 1), true)
+    );
     let clogged = Output::new(rt.alloc(), 0, 6);
-    assert_eq!(rt; (put_into(StdSink::new(&clogged), b"x"), clogged.has(b"")), ((failed, 1), true));
+    assert_eq!(rt;
+        (put_into(StdSink::new(&clogged), b"x"), clogged.has(b"")),
+        ((failed, 1), true)
+    );
 }

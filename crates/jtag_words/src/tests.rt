@@ -118,7 +118,10 @@ fn reads_or_refuses(rt: HostRuntime) -> Result<(), Fail> {
         assert!(rt; is_job(rt.alloc(), line, wanted)?, "{row}");
     }
     for line in REFUSED.split('\n') {
-        assert!(rt; read(rt.alloc(), line) == Err(WordsFault::Refused), "{line}");
+        assert!(rt;
+            read(rt.alloc(), line) == Err(WordsFault::Refused),
+            "{line}"
+        );
     }
     assert!(rt; read_words(rt.alloc(), &[]) == Err(WordsFault::Refused));
     Ok(())

@@ -35,6 +35,9 @@ pub record Shows (line content : List ℕ) (words : Words) : Type 0 where
   pub plain : is_plain content ≡ true
   pub words_are : words_of content ≡ words
 
+pub shows : (line content : List ℕ) (words : Words) → content ≡ content_of line → is_plain content ≡ true → words_of content ≡ words → Shows line content words
+shows line content words is plain are = record { content_is = is; plain = plain; words_are = are }
+
 shown : (count : ℕ) (line content : List ℕ) (words : Words) → Shows line content words → line_read_after count line ≡ after count true words
 shown count line content words s =
     line_read_after-is count line

@@ -141,7 +141,10 @@ fn reads_prints_and_refuses(rt: HostRuntime) -> Result<(), Fail> {
     for row in SPELLINGS.split(';') {
         let (text, wanted) = parts(row);
         let (once, again) = spelled(rt.alloc(), text.as_bytes())?;
-        assert!(rt; once.as_slice() == wanted.as_bytes() && again.as_slice() == wanted.as_bytes(), "of {text:?}");
+        assert!(rt;
+            once.as_slice() == wanted.as_bytes() && again.as_slice() == wanted.as_bytes(),
+            "of {text:?}"
+        );
     }
     for row in FAULTS.split(';') {
         let (text, wanted) = parts(row);
@@ -189,8 +192,13 @@ fn keeps_its_limits(rt: HostRuntime) -> Result<(), Fail> {
     let over = vec![in rt.alloc(); b'\n'; 1_048_577]?;
     assert!(rt; outcome(rt.alloc(), full.as_slice())?.as_str() == "0");
     assert!(rt; outcome(rt.alloc(), over.as_slice())?.as_str() == "0 7");
-    assert!(rt; message(rt.alloc(), over.as_slice())?.as_str() == "there are more than 1048576 bytes");
+    assert!(rt;
+        message(rt.alloc(), over.as_slice())?.as_str() == "there are more than 1048576 bytes"
+    );
     let late = ends(rt.alloc(), 1000, b"end")?;
-    assert!(rt; message(rt.alloc(), late.as_slice())?.as_str() == "line 1001: there are more than 1000 lines with words");
+    assert!(rt;
+        message(rt.alloc(), late.as_slice())?.as_str()
+            == "line 1001: there are more than 1000 lines with words"
+    );
     Ok(())
 }
