@@ -3,12 +3,12 @@ use Rattle.std.proofs.Common.{◌≡◌, ℕ, ◌+◌, ◌<◌, ◌≤◌, Bool,
 use Rattle.std.specs.List.{find, list_any}
 use Rattle.std.proofs.lemmas.List.{at_drop_more, at_drop_all}
 use denote.Ref.{Bor}
-use Rattle.debug_model.specs.Registers.{Register, registers, is_register, number_of_register, name_of_register}
+use Rattle.debug_model.specs.Registers.{NamedRegister, named_registers, is_register, number_of_register, name_of_register}
 
 abbrev pub Row : Type 0
 Row = Bor (List ℕ) × ℕ
 
-abbrev pub row : Row → Register
+abbrev pub row : Row → NamedRegister
 row r = (r.0.now, r.1)
 
 abbrev pub number_in : List ℕ → List Row → Option ℕ
@@ -20,7 +20,7 @@ number_in_table name [] = refl
 number_in_table name (r ∷ rows) =
     elim (bytes_eq r.0.now name) as (λ b. cond b (Some r.1) (number_in name rows) ≡ option_map (λ q. q.1) (cond b (Some (row r)) (find (λ q. bytes_eq q.0 name) (map row rows)))) [ true ↦ refl | false ↦ number_in_table name rows ]
 
-pub number_in_registers : (name : List ℕ) (rows : List Row) → map row rows ≡ registers → number_in name rows ≡ number_of_register name
+pub number_in_registers : (name : List ℕ) (rows : List Row) → map row rows ≡ named_registers → number_in name rows ≡ number_of_register name
 unfolding number_of_register
 number_in_registers name rows e = number_in_table name rows ∙ ap (λ t. option_map (λ r. r.1) (find (λ r. bytes_eq r.0 name) t)) e
 
@@ -39,7 +39,7 @@ name_in_table number [] = refl
 name_in_table number (r ∷ rows) =
     elim (r.1 == number) as (λ b. cond b (Some r.0.now) (name_in number rows) ≡ option_map (λ q. q.0) (cond b (Some (row r)) (find (λ q. q.1 == number) (map row rows)))) [ true ↦ refl | false ↦ name_in_table number rows ]
 
-pub name_in_registers : (number : ℕ) (rows : List Row) → map row rows ≡ registers → unwrap_or (name_in number rows) [] ≡ name_of_register number
+pub name_in_registers : (number : ℕ) (rows : List Row) → map row rows ≡ named_registers → unwrap_or (name_in number rows) [] ≡ name_of_register number
 unfolding name_of_register
 name_in_registers number rows e = ap (λ o. unwrap_or o []) (name_in_table number rows ∙ ap (λ t. option_map (λ r. r.0) (find (λ r. r.1 == number) t)) e)
 
@@ -54,12 +54,12 @@ name_in_any number [] = refl
 name_in_any number (r ∷ rows) =
     elim (r.1 == number) as (λ b. is_some (cond b (Some r.0.now) (name_in number rows)) ≡ (b || list_any (λ q. q.1 == number) (map row rows))) [ true ↦ refl | false ↦ name_in_any number rows ]
 
-pub name_in_known : (number : ℕ) (rows : List Row) → map row rows ≡ registers → is_some (name_in number rows) ≡ is_register number
+pub name_in_known : (number : ℕ) (rows : List Row) → map row rows ≡ named_registers → is_some (name_in number rows) ≡ is_register number
 unfolding is_register
 name_in_known number rows e = name_in_any number rows ∙ ap (λ t. list_any (λ r. r.1 == number) t) e
 
 -- what is found is in the table
-found_is_register : (name : List ℕ) (n : ℕ) (table : List Register) → option_map (λ r. r.1) (find (λ r. bytes_eq r.0 name) table) ≡ Some n → list_any (λ r. r.1 == n) table ≡ true
+found_is_register : (name : List ℕ) (n : ℕ) (table : List NamedRegister) → option_map (λ r. r.1) (find (λ r. bytes_eq r.0 name) table) ≡ Some n → list_any (λ r. r.1 == n) table ≡ true
 found_is_register name n [] e = cc
 found_is_register name n (r ∷ table) e = by_cases (bytes_eq r.0 name) (λ e. found_is_register name n table e) e
   where
@@ -76,4 +76,4 @@ found_is_register name n (r ∷ table) e = by_cases (bytes_eq r.0 name) (λ e. f
 
 pub is_register-found : (name : List ℕ) (n : ℕ) → number_of_register name ≡ Some n → is_register n ≡ true
 unfolding number_of_register is_register
-is_register-found name n e = found_is_register name n registers e
+is_register-found name n e = found_is_register name n named_registers e

@@ -1,7 +1,8 @@
 -- The grammar of a script: a line is no command, one command or a fault, and a text is a script or has a first faulty line.
 -- The language is this project's own (docs/SCRIPT.md).
-use Rattle.std.specs.Prelude.{◌≡◌, ℕ, ◌+◌, ◌-◌, ◌^◌, ◌≤◌, Bool, ◌&&◌, min, nat_le, List, [], ◌∷◌, ◌++◌, length, map, filter_map, Option, Some, None, Result, Ok, Err, if◌then◌else◌}
+use Rattle.std.specs.Prelude.{◌≡◌, ◌⊎◌, ℕ, ◌+◌, ◌-◌, ◌^◌, ◌<◌, ◌≤◌, Bool, ◌&&◌, min, nat_le, List, [], ◌∷◌, ◌++◌, length, map, filter_map, Option, Some, None, Result, Ok, Err, if◌then◌else◌}
 use Rattle.debug_model.specs.declared.command.Command.{Command}
+use Rattle.debug_model.specs.declared.script_error.ScriptError.{ScriptError}
 use Rattle.debug_model.specs.declared.script_error.ScriptFault.{ScriptFault}
 use Rattle.debug_model.specs.declared.script_error.ScriptFault.TheVariants.{NotAscii, Extra, TooManyLines}
 use Rattle.debug_model.specs.Command.{most_commands}
@@ -48,8 +49,13 @@ pub record AreReadAs (lines : List (List ℕ)) (commands : List Command) : Type 
   pub each : map line_read lines ≡ map Ok readings
   pub commands_of : commands ≡ filter_map (λ reading. reading) readings
 
+-- the most bytes of a text
+abbrev pub most_text : ℕ
+most_text = 1048576
+
 -- the text is a script with these commands
 pub record IsReadAs (text : List ℕ) (commands : List Command) : Type 0 where
+  pub short : length text ≤ most_text
   pub few : length commands ≤ most_commands
   pub lines : AreReadAs (lines_of text) commands
 
@@ -57,8 +63,9 @@ pub record IsReadAs (text : List ℕ) (commands : List Command) : Type 0 where
 abbrev pub line_number : ℕ → ℕ
 line_number n = min n (2 ^ 32 - 1)
 
--- the first faulty line of the text, counted from 1, and its fault
+-- the first faulty line of a text that isn't too long, counted from 1, and its fault
 pub record HasFirstFault (text : List ℕ) (line : ℕ) (fault : ScriptFault) : Type 0 where
+  pub short : length text ≤ most_text
   pub before : List (List ℕ)
   pub commands : List Command
   pub faulty : List ℕ
@@ -68,3 +75,11 @@ pub record HasFirstFault (text : List ℕ) (line : ℕ) (fault : ScriptFault) : 
   pub read : AreReadAs before commands
   pub fault_is : line_read_after (length commands) faulty ≡ Err fault
   pub place : line ≡ line_number (length before + 1)
+
+-- a text over the limit is refused as a whole, before a line is read
+abbrev pub too_long : ScriptError
+too_long = record { line = 0; fault = TooManyLines }
+
+-- the text is refused so: for its length, or else by its first faulty line
+abbrev pub IsRefusedAs : List ℕ → ScriptError → Type 0
+IsRefusedAs text error = ((most_text < length text) × (error ≡ too_long)) ⊎ HasFirstFault text error.line error.fault

@@ -1,13 +1,13 @@
 ghost use Rattle.std.specs.Prelude.{◌≡◌, map, IsTrue, IfSome, option_map};
-ghost use Rattle.debug_model.specs.Registers.{registers, is_register, number_of_register, name_of_register};
+ghost use Rattle.debug_model.specs.Registers.{named_registers, is_register, number_of_register, name_of_register};
 
 /// A register that a script can name, by its number for abstract commands
 /// (RISC-V Debug Specification 1.0, Abstract Register Numbers).
 #[derive(Clone, Copy, Debug, PartialEq, Eq)]
 pub struct RegName(pub u16);
 
-/// Each register's name, and its number.
-const REGISTERS: [(&[u8], u16); 46] = [
+/// Each register's name, and its number: the CSRs, pc, and x0 to x31.
+const NAMED_REGISTERS: [(&[u8], u16); 46] = [
     (b"mstatus", 0x300),
     (b"misa", 0x301),
     (b"mie", 0x304),
@@ -17,11 +17,11 @@ const REGISTERS: [(&[u8], u16); 46] = [
     (b"mcause", 0x342),
     (b"mtval", 0x343),
     (b"mip", 0x344),
-    (b"pc", 0x7b1),
     (b"mvendorid", 0xf11),
     (b"marchid", 0xf12),
     (b"mimpid", 0xf13),
     (b"mhartid", 0xf14),
+    (b"pc", 0x7b1),
     (b"x0", 0x1000),
     (b"x1", 0x1001),
     (b"x2", 0x1002),
@@ -56,11 +56,11 @@ const REGISTERS: [(&[u8], u16); 46] = [
     (b"x31", 0x101f),
 ];
 
-/// The table of registers.
-fn registers() -> &'static [(&'static [u8], u16)]
-    ensures { map (λ r. (r.0.now, r.1)) result.now ≡ registers }
+/// The table of names.
+fn named_registers() -> &'static [(&'static [u8], u16)]
+    ensures { map (λ r. (r.0.now, r.1)) result.now ≡ named_registers }
 {
-    &REGISTERS
+    &NAMED_REGISTERS
 }
 
 impl RegName {
@@ -69,7 +69,7 @@ impl RegName {
         ensures number { option_map (λ r. r.0) result ≡ number_of_register name.now }
         ensures known { IfSome result (λ r. IsTrue (is_register r.0)) }
     {
-        for (known, number) in registers() {
+        for (known, number) in named_registers() {
             if *known == name {
                 return Some(RegName(*number));
             }
@@ -82,7 +82,7 @@ impl RegName {
         requires { IsTrue (is_register self.0) }
         ensures { result.now ≡ name_of_register self.0 }
     {
-        for (name, number) in registers() {
+        for (name, number) in named_registers() {
             if *number == self.0 {
                 return name;
             }

@@ -1,6 +1,6 @@
 -- That bits and the number that they spell give each other back: n bits are n, and a number below 2 ^ n is spelled by n bits.
 -- Serial registers shift their least significant bit out first (IEEE 1149.1, the test data registers).
-use Rattle.std.proofs.Common.{◌≡◌, ℕ, zero, suc, ◌/◌, ◌%◌, ◌^◌, ◌<◌, ◌==◌, length, refl, ap, arith}
+use Rattle.std.proofs.Common.{◌≡◌, ℕ, zero, suc, ◌/◌, ◌%◌, ◌^◌, ◌<◌, ◌==◌, List, Bool, length, refl, ap, arith}
 use Rattle.std.proofs.Math.Nat.{pow-suc}
 use Rattle.jt_base.specs.BitList.{bits_of, number_of, digit}
 
@@ -23,3 +23,11 @@ number_of-bits_of zero v small = omega arith
 number_of-bits_of (suc n) v small =
     let rest = number_of-bits_of n (v / 2) (omega (arith, pow-suc 2 n)) in
     omega (arith, rest, digit-lowest v)
+
+-- bits are those that their number is spelled by
+abbrev pub GivesBitsBack : Type 0
+GivesBitsBack = (bits : List Bool) → bits_of (length bits) (number_of bits) ≡ bits
+
+-- a number is the one that its bits spell
+abbrev pub GivesNumberBack : Type 0
+GivesNumberBack = (n number : ℕ) → number < 2 ^ n → number_of (bits_of n number) ≡ number

@@ -2,6 +2,10 @@
 -- Serial registers shift their least significant bit out first (IEEE 1149.1, the test data registers).
 use Rattle.std.specs.Prelude.{ℕ, zero, suc, ◌+◌, ◌*◌, ◌/◌, ◌%◌, ◌==◌, List, [], ◌∷◌, ◌++◌, Bool, true, false}
 
+-- the most bits of a list
+abbrev pub most_bits : ℕ
+most_bits = 64
+
 abbrev pub digit : Bool → ℕ
 digit false = 0
 digit true = 1

@@ -1,6 +1,7 @@
 -- Files that are read whole by their names: what they hold, what a reading answers, and which names were asked for.
 -- No public standard defines this: a name and a content are lists of bytes.
-use Rattle.std.specs.Prelude.{◌≡◌, ℕ, ◌<◌, ◌⊎◌, List, [], ◌∷◌, ◌++◌, length, find, bytes_eq, Option, Some, IfSome, IsSomeAnd, option_map}
+use Rattle.std.specs.Prelude.{◌≡◌, ℕ, ◌<◌, ◌⊎◌, List, [], ◌∷◌, ◌++◌, length, find, bytes_eq, Option, Some, IfSome, IsSomeAnd, option_map, Result, Ok, Err}
+use Rattle.jt_base.specs.Faults.{counted}
 use Rattle.jt_base.specs.declared.files.FileFault.{FileFault}
 use Rattle.jt_base.specs.declared.files.FileFault.TheVariants.{Failed, TooLong, NoMemory}
 
@@ -29,3 +30,10 @@ abbrev pub AskedAt : FileFault → List ℕ → Option (List (List ℕ)) → Opt
 AskedAt Failed name old new = new ≡ asked_more name old
 AskedAt TooLong name old new = new ≡ asked_more name old
 AskedAt NoMemory name old new = (new ≡ old) ⊎ (new ≡ asked_more name old)
+
+-- the count of faults after a reading: one more where the file couldn't be read
+abbrev pub count_after : {T : Type 0} → Result T FileFault → ℕ → ℕ
+count_after (Ok x) count = count
+count_after (Err Failed) count = counted count
+count_after (Err TooLong) count = count
+count_after (Err NoMemory) count = count

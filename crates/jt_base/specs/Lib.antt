@@ -5,3 +5,4 @@ pub mod FileStore
 pub mod Files
 pub mod ByteStore
 pub mod Sink
+pub mod Written

@@ -2,7 +2,7 @@
 #![tactic(auto, using(crate::proofs::BitLists::bit_lists), unfolding(crate::specs::BitList::bits_of))]
 
 ghost use Rattle.std.specs.Prelude.{◌≡◌, ◌==◌, ◌+◌, ◌<◌, ◌≤◌, [], ◌∷◌, ◌++◌, Some, length, slice_get, option_to_list, IfNone, OnSome};
-ghost use Rattle.jt_base.specs.BitList.{bits_of, number_of, lowest, shift_in};
+ghost use Rattle.jt_base.specs.BitList.{most_bits, bits_of, number_of, lowest, shift_in};
 
 use std::marker::Model;
 
@@ -19,14 +19,14 @@ pub struct Bits {
 
 impl Model for Bits {
     ghost use Rattle.std.specs.Prelude.{ℕ, ◌<◌, ◌≤◌, ◌^◌, List, Bool, length};
-    ghost use Rattle.jt_base.specs.BitList.{bits_of, number_of};
+    ghost use Rattle.jt_base.specs.BitList.{most_bits, bits_of, number_of};
     ghost use Rattle.jt_base.specs.BitLaws.{length-bits_of, number_of-bits_of};
 
     ghost Value = { List Bool };
 
     ghost view = { λ b. bits_of b.count b.value };
 
-    ghost invariant = { λ b. (b.count ≤ 64) × (b.value < 2 ^ b.count) };
+    ghost invariant = { λ b. (b.count ≤ most_bits) × (b.value < 2 ^ b.count) };
 
     ghost inverse = { λ bits. record { value = number_of bits; count = length bits } };
 
@@ -46,7 +46,7 @@ impl Bits {
 
     /// The lowest `len` bits of a number; `len` is at most 64.
     pub fn from_u64(value: u64, len: u8) -> Self
-        requires { len ≤ 64 }
+        requires { len ≤ most_bits }
         ensures bits { result ≡ bits_of len value }
         ensures length { length result ≡ len }
     {
@@ -69,7 +69,7 @@ impl Bits {
     /// How many bits there are, at most 64.
     pub fn len(&self) -> u8
         ensures length { result ≡ length self.now }
-        ensures most { result ≤ 64 }
+        ensures most { result ≤ most_bits }
     {
         self.count
     }
@@ -98,7 +98,7 @@ impl Bits {
 
     /// Puts a bit above the others. There are fewer than 64.
     pub fn push(&mut self, bit: bool)
-        requires { length self.old < 64 }
+        requires { length self.old < most_bits }
         ensures { self.new ≡ self.old ++ bit ∷ [] }
     {
         if bit {
@@ -113,7 +113,7 @@ impl Bits {
     pub fn pop(&mut self) -> Option<bool>
         ensures bits { self.old ≡ option_to_list result ++ self.new }
         ensures none { IfNone result (self.new ≡ []) }
-        ensures room { OnSome result (length self.new < 64) }
+        ensures room { OnSome result (length self.new < most_bits) }
     {
         if self.count == 0 {
             return None;

@@ -1,15 +1,12 @@
 //! Real files: the trusted edge, which tells nothing of what they hold.
-ghost use Rattle.std.specs.Prelude.{◌≡◌, ◌≤◌, vec_len, IfOk};
+ghost use Rattle.std.specs.Prelude.{◌≡◌, ◌<◌, ◌≤◌, length, vec_len, IfOk, IfSome, IsErrOf};
 
 use crate::faults::count_fault;
 use crate::files::{FileFault, Files};
 use std::alloc::Global;
-use std::io::Read;
+use std::io::{ErrorKind, Read};
 use std::marker::Model;
 use std::{fs, rt};
-
-/// How many bytes one read asks for.
-const PIECE: usize = 4096;
 
 /// Real files. Contracts see how many calls have failed.
 #[derive(Drop)]
@@ -35,8 +32,8 @@ impl<R: rt::Files + Drop> DiskFiles<R> {
     }
 }
 
-// Reads to the end, and at most a piece past the limit.
-fn read_whole<R: rt::Files>(
+// Opens the file of this name and reads it.
+fn read_file<R: rt::Files>(
     runtime: &R,
     alloc: Global,
     name: &str,
@@ -44,24 +41,34 @@ fn read_whole<R: rt::Files>(
 ) -> Result<Vec<u8>, FileFault>
     ensures { IfOk result (λ bytes. vec_len bytes ≤ limit) }
 {
-    let Ok(mut file) = fs::open(runtime, name) else {
-        return Err(FileFault::Failed);
-    };
-    let mut bytes = Vec::new(alloc);
-    let mut piece = [0; PIECE];
-    'pieces: for _ in 0..u64::MAX {
-        let Ok(count) = file.read(&mut piece) else {
-            return Err(FileFault::Failed);
-        };
-        if count == 0 {
-            return Ok(bytes);
-        }
-        if count > limit - bytes.len() {
-            return Err(FileFault::TooLong);
-        }
-        bytes.extend_from_slice(&piece[..count])?;
+    match fs::open(runtime, name) {
+        Ok(file) => read_whole(file, alloc, limit),
+        Err(_) => Err(FileFault::Failed),
     }
-    Err(FileFault::Failed)
+}
+
+// All that a source gives, of which one byte past the limit is read and no more.
+pub(crate) fn read_whole<S: Read + Drop>(
+    source: S,
+    alloc: Global,
+    limit: usize,
+) -> Result<Vec<u8>, FileFault>
+    ensures whole { IfOk result (λ bytes. IfSome (S.remaining source) (λ left. bytes.items ≡ left)) }
+    ensures most { IfOk result (λ bytes. vec_len bytes ≤ limit) }
+    ensures too_long { IsErrOf result FileFault.TooLong → IfSome (S.remaining source) (λ left. limit < length left) }
+{
+    let mut bytes = Vec::new(alloc);
+    let outcome = source
+        .take((limit as u64).saturating_add(1))
+        .read_to_end(&mut bytes);
+    match outcome {
+        Ok(_) if bytes.len() <= limit => Ok(bytes),
+        Ok(_) => Err(FileFault::TooLong),
+        Err(error) => Err(match error.kind() {
+            ErrorKind::OutOfMemory => FileFault::NoMemory,
+            _ => FileFault::Failed,
+        }),
+    }
 }
 
 impl<R: rt::Files + Drop> Files for DiskFiles<R> {
@@ -76,7 +83,7 @@ impl<R: rt::Files + Drop> Files for DiskFiles<R> {
     ghost lenders = { λ f. [] };
 
     fn read(&mut self, alloc: Global, name: &str, limit: usize) -> Result<Vec<u8>, FileFault> {
-        let outcome = read_whole(&self.runtime, alloc, name, limit);
+        let outcome = read_file(&self.runtime, alloc, name, limit);
         if let Err(FileFault::Failed) = outcome {
             count_fault(&mut self.failed);
         }

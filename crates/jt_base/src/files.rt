@@ -2,7 +2,7 @@
 ghost use Rattle.std.specs.Prelude.{◌≡◌, ◌≤◌, ℕ, List, ◌∷◌, Option, vec_len, OnOk, IfOk, IfErr, IsErrOf};
 ghost use Rattle.std.specs.Borrow.{GName};
 ghost use Rattle.jt_base.specs.Faults.{Rises};
-ghost use Rattle.jt_base.specs.Files.{NamedFile, Holds, HoldsMore, asked_more, AskedAt};
+ghost use Rattle.jt_base.specs.Files.{NamedFile, Holds, HoldsMore, asked_more, AskedAt, count_after};
 ghost use Rattle.jt_base.specs.declared.files.FileFault.TheVariants.{NoMemory};
 
 use std::alloc::{AllocError, AllocFailed, Global};
@@ -59,6 +59,7 @@ pub trait Files: Drop {
         ensures too_long { IsErrOf result FileFault.TooLong → HoldsMore (held self.old) name.now limit }
         ensures failed { IsErrOf result FileFault.Failed → Rises (fault_count self.old) (fault_count self.new) }
         ensures later { fault_count self.old ≤ fault_count self.new }
+        ensures count { fault_count self.new ≡ count_after result (fault_count self.old) }
         ensures held { held self.new ≡ held self.old }
         ensures asked { OnOk result (asked self.new ≡ asked_more name.now (asked self.old)) }
         ensures asked_err { IfErr result (λ fault. AskedAt fault name.now (asked self.old) (asked self.new)) }

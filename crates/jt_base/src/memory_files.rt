@@ -2,7 +2,7 @@
 ghost use Rattle.std.specs.Prelude.{◌≡◌, ◌≤◌, List, [], Some, Ok, vec_len, string_bytes, bytes_eq, MatchResult, OnOk, OnErr, IfOk, IfErr, IsErrOf, option_map};
 ghost use Rattle.std.specs.Borrow.{GName};
 ghost use Rattle.jt_base.specs.Faults.{Rises};
-ghost use Rattle.jt_base.specs.Files.{Holds, HoldsMore, asked_more, AskedAt, content_of};
+ghost use Rattle.jt_base.specs.Files.{Holds, HoldsMore, asked_more, AskedAt, content_of, count_after};
 ghost use Rattle.jt_base.specs.FileStore.{answer, IsFault, is_listed, after_read, AfterFault};
 
 use crate::faults::{count_fault, is_listed};
@@ -147,6 +147,7 @@ impl Files for MemoryFiles {
         ensures too_long { IsErrOf result FileFault.TooLong → HoldsMore (Some self.old.files) name.now limit }
         ensures failed { IsErrOf result FileFault.Failed → Rises self.old.faults self.new.faults }
         ensures later { self.old.faults ≤ self.new.faults }
+        ensures count { self.new.faults ≡ count_after result self.old.faults }
         ensures held { Some self.new.files ≡ Some self.old.files }
         ensures asked { OnOk result (Some self.new.asked ≡ asked_more name.now (Some self.old.asked)) }
         ensures asked_err { IfErr result (λ fault. AskedAt fault name.now (Some self.old.asked) (Some self.new.asked)) }

@@ -1,7 +1,7 @@
 //! A sink in memory, for tests.
 ghost use Rattle.std.specs.Prelude.{◌≡◌, List, [], Some, is_ok, OnOk, OnErr, IfOk};
 ghost use Rattle.std.specs.Borrow.{GName};
-ghost use Rattle.jt_base.specs.Faults.{HasCause};
+ghost use Rattle.jt_base.specs.Faults.{HasCause, count_after};
 ghost use Rattle.jt_base.specs.Sink.{grown, GrewByPrefix};
 ghost use Rattle.jt_base.specs.ByteStore.{takes_all, after_put};
 
@@ -66,6 +66,7 @@ impl Sink for MemorySink {
         ensures put { OnOk result (Some self.new.contents ≡ grown bytes.now (Some self.old.contents)) }
         ensures front { OnErr result (GrewByPrefix bytes.now (Some self.old.contents) (Some self.new.contents)) }
         ensures cause { HasCause self.old.faults self.new.faults result }
+        ensures count { self.new.faults ≡ count_after result self.old.faults }
         ensures lenders { ◌≡◌ {A = List GName} [] [] }
         ensures answer { is_ok result ≡ takes_all bytes.now self.old }
         ensures state { self.new ≡ after_put bytes.now self.old }

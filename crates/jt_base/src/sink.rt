@@ -1,7 +1,7 @@
 //! Sinks of bytes.
 ghost use Rattle.std.specs.Prelude.{◌≡◌, ℕ, List, ◌∷◌, Option, OnOk, OnErr};
 ghost use Rattle.std.specs.Borrow.{GName};
-ghost use Rattle.jt_base.specs.Faults.{HasCause};
+ghost use Rattle.jt_base.specs.Faults.{HasCause, count_after};
 ghost use Rattle.jt_base.specs.Sink.{grown, GrewByPrefix};
 
 use thiserror::Error;
@@ -30,6 +30,7 @@ pub trait Sink: Drop {
         ensures put { OnOk result (contents self.new ≡ grown bytes.now (contents self.old)) }
         ensures front { OnErr result (GrewByPrefix bytes.now (contents self.old) (contents self.new)) }
         ensures cause { HasCause (fault_count self.old) (fault_count self.new) result }
+        ensures count { fault_count self.new ≡ count_after result (fault_count self.old) }
         ensures lenders { lenders self.new ≡ lenders self.old };
 
     /// How many calls have failed. The count stands still at its type's end.

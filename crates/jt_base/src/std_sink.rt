@@ -1,5 +1,7 @@
 //! Standard output: the trusted edge, which tells nothing of what was written.
-ghost use Rattle.std.specs.Prelude.{◌≡◌};
+ghost use Rattle.std.specs.Prelude.{◌≡◌, OnOk, OnErr};
+ghost use Rattle.std.specs.Io.KnownBytes.{Appends};
+ghost use Rattle.jt_base.specs.Written.{AppendsFront};
 
 use crate::faults::count_fault;
 use crate::sink::{Sink, SinkFault};
@@ -32,8 +34,10 @@ impl<R: Print + Drop> StdSink<R> {
 }
 
 // Writes piece after piece, and then what is held back. A write that takes nothing is an error.
-fn write_whole<R: Print>(runtime: &R, bytes: &[u8]) -> io::Result<()> {
-    let mut out = io::writer(runtime);
+fn write_whole<W: Write>(out: &mut W, bytes: &[u8]) -> io::Result<()>
+    ensures whole { OnOk result (Appends (W.contents out.old) (W.contents out.new) bytes.now) }
+    ensures front { OnErr result (AppendsFront (W.contents out.old) (W.contents out.new) bytes.now) }
+{
     let mut rest = bytes;
     'pieces: for _ in 0..u64::MAX {
         if rest.is_empty() {
@@ -41,11 +45,15 @@ fn write_whole<R: Print>(runtime: &R, bytes: &[u8]) -> io::Result<()> {
         }
         let count = out.write(rest)?;
         if count == 0 {
-            break;
+            return Err(took_nothing());
         }
         rest = &rest[count..];
     }
-    Err(io::Error::from(io::ErrorKind::WriteZero))
+    Err(took_nothing())
+}
+
+fn took_nothing() -> io::Error {
+    io::Error::from(io::ErrorKind::WriteZero)
 }
 
 impl<R: Print + Drop> Sink for StdSink<R> {
@@ -58,7 +66,7 @@ impl<R: Print + Drop> Sink for StdSink<R> {
     ghost lenders = { λ s. [] };
 
     fn put(&mut self, bytes: &[u8]) -> Result<(), SinkFault> {
-        if write_whole(&self.runtime, bytes).is_err() {
+        if write_whole(&mut io::writer(&self.runtime), bytes).is_err() {
             count_fault(&mut self.failed);
             return Err(SinkFault::Failed);
         }

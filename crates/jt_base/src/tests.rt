@@ -1,7 +1,10 @@
+use crate::disk_files::read_whole;
 use crate::{
     Bits, DiskFiles, FileFault, Files, MemoryFile, MemoryFiles, MemorySink, Sink, SinkFault,
     StdSink,
 };
+use std::alloc::{AllocError, Global};
+use std::cell::RefCell;
 use std::fmt::Display;
 use std::rt::HostRuntime;
 use std::test::Fail;
@@ -140,11 +143,62 @@ fn memory_sink_fails_where_listed_or_full(rt: HostRuntime) -> Result<(), Fail> {
     Ok(())
 }
 
+// So many bytes, which differ by their places.
+fn numbered(alloc: Global, count: u32) -> Result<Vec<u8>, AllocError> {
+    let mut bytes = Vec::new(alloc);
+    for place in 0..count {
+        bytes.push((place % 251) as u8)?;
+    }
+    Ok(bytes)
+}
+
+// A reader that counts down, a byte at a time, and then ends or fails.
+#[derive(Drop)]
+struct Countdown {
+    left: u8,
+    fails: bool,
+}
+
+impl io::Read for Countdown {
+    fn read(&mut self, buf: &mut [u8]) -> io::Result<usize> {
+        if self.left == 0 {
+            return if self.fails {
+                Err(io::Error::from(io::ErrorKind::ConnectionReset))
+            } else {
+                Ok(0)
+            };
+        }
+        let [first, ..] = buf else {
+            return Ok(0);
+        };
+        *first = self.left;
+        self.left -= 1;
+        Ok(1)
+    }
+}
+
+#[test]
+fn reads_whole_or_fails(rt: HostRuntime) {
+    let cases = [
+        (false, 5, Ok([5, 4, 3, 2, 1].as_slice())),
+        (false, 4, Err(FileFault::TooLong)),
+        (true, 5, Err(FileFault::Failed)),
+    ];
+    for (fails, limit, want) in cases {
+        let outcome = read_whole(Countdown { left: 5, fails }, rt.alloc(), limit);
+        let outcome = match &outcome {
+            Ok(bytes) => Ok(bytes.as_slice()),
+            Err(fault) => Err(*fault),
+        };
+        assert!(rt; outcome == want, "{fails} {limit}");
+    }
+}
+
 #[test]
 fn disk_files_read_what_was_written(rt: HostRuntime) -> Result<(), Fail> {
     let alloc = rt.alloc();
     let path = format!(in alloc; "/tmp/jt_base_{}", process::id(rt.process()))?;
-    let content = vec![in alloc; 7u8; 5000]?;
+    let content = numbered(alloc, 5000)?;
     fs::write(&rt, path.as_str(), content.as_slice())?;
     let mut files = DiskFiles::new(&rt);
     let (whole, _) = read_of(&mut files, &rt, path.as_str(), 5000);
@@ -161,10 +215,27 @@ fn disk_files_read_what_was_written(rt: HostRuntime) -> Result<(), Fail> {
     Ok(())
 }
 
-// An output that takes this many bytes at a write.
+// An output that takes this many bytes at a write and has room for so many.
 #[derive(Drop)]
 struct Output {
     step: usize,
+    room: usize,
+    taken: RefCell<Vec<u8>>,
+}
+
+impl Output {
+    fn new(alloc: Global, step: usize, room: usize) -> Output {
+        let taken = RefCell::new(Vec::new(alloc));
+        Output { step, room, taken }
+    }
+
+    // Whether these bytes were taken.
+    fn has(&self, bytes: &[u8]) -> bool {
+        match self.taken.try_borrow() {
+            Ok(taken) => taken.as_slice() == bytes,
+            Err(_) => false,
+        }
+    }
 }
 
 impl Print for Output {
@@ -181,7 +252,16 @@ impl Print for Output {
     }
 
     fn write_some(&self, bytes: &[u8]) -> io::Result<usize> {
-        Ok(bytes.len().min(self.step))
+        let Ok(mut taken) = self.taken.try_borrow_mut() else {
+            return Ok(0);
+        };
+        let left = self.room.saturating_sub(taken.len());
+        if left == 0 {
+            return Err(io::Error::from(io::ErrorKind::BrokenPipe));
+        }
+        let count = bytes.len().min(self.step).min(left);
+        taken.extend_from_slice(&bytes[..count])?;
+        Ok(count)
     }
 }
 
@@ -190,9 +270,24 @@ fn std_sink_writes_or_counts(rt: HostRuntime) {
     let mut out = StdSink::new(&rt);
     assert_eq!(rt; put_into(&mut out, b""), (Ok(()), 0));
     assert_eq!(rt; put_into(&mut out, b"a line\n"), (Ok(()), 0));
-    let mut slow = StdSink::new(Output { step: 2 });
-    assert_eq!(rt; put_into(&mut slow, b"abcde"), (Ok(()), 0));
-    let mut clogged = StdSink::new(Output { step: 0 });
-    assert_eq!(rt; put_into(&mut clogged, b"x"), (Err(SinkFault::Failed), 1));
-    assert_eq!(rt; put_into(&mut clogged, b""), (Ok(()), 1));
+    let slow = Output::new(rt.alloc(), 2, 6);
+    let mut sink = StdSink::new(&slow);
+    let failed = Err(SinkFault::Failed);
+    assert_eq!(rt;
+        (put_into(&mut sink, b"abcde"), slow.has(b"abcde")),
+        ((Ok(()), 0), true)
+    );
+    assert_eq!(rt;
+        (put_into(&mut sink, b"fgh"), slow.has(b"abcdef")),
+        ((failed, 1), true)
+    );
+    assert_eq!(rt;
+        (put_into(&mut sink, b""), slow.has(b"abcdef")),
+        ((Ok(()), 1), true)
+    );
+    let clogged = Output::new(rt.alloc(), 0, 6);
+    assert_eq!(rt;
+        (put_into(StdSink::new(&clogged), b"x"), clogged.has(b"")),
+        ((failed, 1), true)
+    );
 }

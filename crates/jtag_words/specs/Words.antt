@@ -22,9 +22,6 @@ seed_unsaid = 0
 abbrev pub busy_unsaid : ℕ
 busy_unsaid = 1
 
-abbrev pub piece_unsaid : ℕ
-piece_unsaid = 256
-
 abbrev pub least_busy : ℕ
 least_busy = 1
 
@@ -36,6 +33,9 @@ least_piece = 1
 
 abbrev pub most_piece : ℕ
 most_piece = 256
+
+abbrev pub piece_unsaid : ℕ
+piece_unsaid = most_piece
 
 infixl 10 ◌>>=◌
 abbrev pub ◌>>=◌ : {A B : Type 0} → Option A → (A → Option B) → Option B

@@ -13,14 +13,13 @@ use crate::options::{
 use crate::values::{chip_options, flag, inputs, ranged, required};
 use clap::error::ErrorKind;
 use clap::{ArgMatches, Command, Error};
+use debug_model::PIECE_MOST;
 use std::alloc::Global;
 
 /// The most bytes of a piece of the stream, where the words give none.
-const PIECE_UNSAID: u64 = 256;
+const PIECE_UNSAID: u64 = PIECE_MOST as u64;
 
 const PIECE_LEAST: u64 = 1;
-
-const PIECE_MOST: u64 = 256;
 
 /// The job that the words after the program's name write.
 ///
@@ -89,7 +88,7 @@ fn both_in(alloc: Global, matches: &ArgMatches) -> Result<Job, WordsFault>
 {
     let inputs = inputs(alloc, matches)?;
     let options = chip_options(matches)?;
-    let piece = ranged(matches, PIECE, PIECE_UNSAID, PIECE_LEAST, PIECE_MOST)?;
+    let piece = ranged(matches, PIECE, PIECE_UNSAID, PIECE_LEAST, PIECE_MOST as u64)?;
     Ok(Job::Both(inputs, options, piece as u16, flag(matches, LOOPBACK)))
 }
 

@@ -2,13 +2,87 @@ use crate::{ChipOptions, Inputs, Job, WordsFault, read_words};
 use std::alloc::Global;
 use std::test::Fail;
 
-const UNSAID: ChipOptions = ChipOptions {
-    harts: 1,
-    ram: 65_536,
-    halted: false,
-    seed: 0,
-    busy: 1,
-};
+/// Lines of words, and the jobs that they write, with a bar between them and a line feed after each pair but the last.
+/// Of `both` from the number 5 stand the harts, the bytes of memory, whether they are halted, the seed, the most rounds, the
+/// most bytes of a piece, and whether the bytes go over a connection.
+const JOBS: &str = "both --gen 5|1 65536 false 0 1 256 false\n\
+both --gen=0x5 --|1 65536 false 0 1 256 false\n\
+both --halted --gen 5|1 65536 true 0 1 256 false\n\
+both --loopback --gen 5|1 65536 false 0 1 256 true\n\
+both --gen 5 --harts 0|0 65536 false 0 1 256 false\n\
+both --gen 5 --ram=0xABcd|1 43981 false 0 1 256 false\n\
+both --gen 5 --seed 18446744073709551615|1 65536 false 18446744073709551615 1 256 false\n\
+both --gen 5 --seed 0xffffFFFFffffFFFF|1 65536 false 18446744073709551615 1 256 false\n\
+both --gen 5 --seed 00000000000000000007|1 65536 false 7 1 256 false\n\
+both --gen 5 --busy 1|1 65536 false 0 1 256 false\n\
+both --gen 5 --busy 32|1 65536 false 0 32 256 false\n\
+both --gen 5 --busy 032|1 65536 false 0 32 256 false\n\
+both --gen 5 --busy 0x20|1 65536 false 0 32 256 false\n\
+both --gen 5 --piece 1|1 65536 false 0 1 1 false\n\
+both --gen 5 --piece 256|1 65536 false 0 1 256 false\n\
+both --script=--halt --image core.bin|Both(Files { image: \"core.bin\", script: \"--halt\" }, ChipOptions { harts: 1, ram: 65536, halted: false, seed: 0, busy: 1 }, 256, false)\n\
+probe --at localhost:9000 --script probe|Probe { at: \"localhost:9000\", script: \"probe\" }\n\
+chip --at  --image a --halted --harts 4|Chip { at: \"\", image: \"a\", options: ChipOptions { harts: 4, ram: 65536, halted: true, seed: 0, busy: 1 } }";
+
+/// Lines of words that write no job, with a line feed after each but the last: no program or another; an option of another
+/// program, an unknown or a shortened one, or one that asks for help or a version; an option twice, a missing value, a flag with
+/// one, or a word that is no option; inputs that are missing or given twice; words that are no number; numbers out of range.
+const REFUSED: &str = "\n\
+Both --gen 5\n\
+bench --gen 5\n\
+--gen 5 both\n\
+help\n\
+both --gen 5 --at a\n\
+probe --at a --script s --image i\n\
+probe --at a --script s --halted\n\
+chip --at a --image i --script s\n\
+chip --at a --image i --piece 1\n\
+chip --at a --image i --loopback\n\
+chip --at a --image i --gen 5\n\
+both --gen 5 --speed 1\n\
+both --ge 5\n\
+both -g 5\n\
+both --gen 5 --help\n\
+both --gen 5 -h\n\
+both --gen 5 --version\n\
+both --gen 5 --gen 5\n\
+both --gen 5 --halted --halted\n\
+both --gen\n\
+both --gen --halted\n\
+both --gen 5 --halted=true\n\
+both --gen 5 more\n\
+both --gen 5 -- more\n\
+both  --gen 5\n\
+both\n\
+both --image i\n\
+both --script s\n\
+both --gen 5 --image i\n\
+both --gen 5 --script s\n\
+both --gen 5 --image i --script s\n\
+probe\n\
+probe --at a\n\
+probe --script s\n\
+chip\n\
+chip --at a\n\
+chip --image i\n\
+both --gen=\n\
+both --gen x\n\
+both --gen +5\n\
+both --gen=-5\n\
+both --gen 5_0\n\
+both --gen 0x\n\
+both --gen 0X5\n\
+both --gen 18446744073709551616\n\
+both --gen 0x00000000000000005\n\
+both --gen 000000000000000000005\n\
+both --gen 5 --harts one\n\
+both --gen 5 --ram 64k\n\
+chip --at a --image i --seed 0xg\n\
+both --gen 5 --busy 0\n\
+chip --at a --image i --busy 33\n\
+both --gen 5 --busy 0x21\n\
+both --gen 5 --piece 0\n\
+both --gen 5 --piece 257";
 
 /// The job of a line's words, which single spaces part.
 fn read(alloc: Global, line: &str) -> Result<Job, WordsFault> {
@@ -19,194 +93,36 @@ fn read(alloc: Global, line: &str) -> Result<Job, WordsFault> {
     read_words(alloc, &words)
 }
 
+/// Whether a line's words are this job.
+fn is_job(alloc: Global, line: &str, wanted: &str) -> Result<bool, Fail> {
+    let text = match read(alloc, line)? {
+        Job::Both(Inputs::Gen(5), options, piece, loopback) => {
+            let ChipOptions {
+                harts,
+                ram,
+                halted,
+                seed,
+                busy,
+            } = options;
+            format!(in alloc; "{harts} {ram} {halted} {seed} {busy} {piece} {loopback}")?
+        }
+        job => format!(in alloc; "{job:?}")?,
+    };
+    Ok(text.as_str() == wanted)
+}
+
 #[test]
-fn reads_the_options_of_a_chip(rt: HostRuntime) -> Result<(), Fail> {
-    for (line, options, piece, loopback) in [
-        ("both --gen 5", UNSAID, 256, false),
-        ("both --gen=0x5 --", UNSAID, 256, false),
-        (
-            "both --halted --gen 5",
-            ChipOptions {
-                halted: true,
-                ..UNSAID
-            },
-            256,
-            false,
-        ),
-        ("both --loopback --gen 5", UNSAID, 256, true),
-        (
-            "both --gen 5 --harts 0",
-            ChipOptions { harts: 0, ..UNSAID },
-            256,
-            false,
-        ),
-        (
-            "both --gen 5 --ram=0xABcd",
-            ChipOptions {
-                ram: 0xabcd,
-                ..UNSAID
-            },
-            256,
-            false,
-        ),
-        (
-            "both --gen 5 --seed 18446744073709551615",
-            ChipOptions {
-                seed: u64::MAX,
-                ..UNSAID
-            },
-            256,
-            false,
-        ),
-        (
-            "both --gen 5 --seed 0xffffFFFFffffFFFF",
-            ChipOptions {
-                seed: u64::MAX,
-                ..UNSAID
-            },
-            256,
-            false,
-        ),
-        (
-            "both --gen 5 --seed 00000000000000000007",
-            ChipOptions { seed: 7, ..UNSAID },
-            256,
-            false,
-        ),
-        ("both --gen 5 --busy 1", UNSAID, 256, false),
-        (
-            "both --gen 5 --busy 32",
-            ChipOptions { busy: 32, ..UNSAID },
-            256,
-            false,
-        ),
-        (
-            "both --gen 5 --busy 032",
-            ChipOptions { busy: 32, ..UNSAID },
-            256,
-            false,
-        ),
-        (
-            "both --gen 5 --busy 0x20",
-            ChipOptions { busy: 32, ..UNSAID },
-            256,
-            false,
-        ),
-        ("both --gen 5 --piece 1", UNSAID, 1, false),
-        ("both --gen 5 --piece 256", UNSAID, 256, false),
-    ] {
-        assert_eq!(rt;
-            read(rt.alloc(), line)?,
-            Job::Both(Inputs::Gen(5), options, piece, loopback),
+fn reads_or_refuses(rt: HostRuntime) -> Result<(), Fail> {
+    for row in JOBS.split('\n') {
+        let (line, wanted) = row.split_once('|').unwrap_or((row, ""));
+        assert!(rt; is_job(rt.alloc(), line, wanted)?, "{row}");
+    }
+    for line in REFUSED.split('\n') {
+        assert!(rt;
+            read(rt.alloc(), line) == Err(WordsFault::Refused),
             "{line}"
         );
     }
+    assert!(rt; read_words(rt.alloc(), &[]) == Err(WordsFault::Refused));
     Ok(())
-}
-
-#[test]
-fn reads_the_names_of_files(rt: HostRuntime) -> Result<(), Fail> {
-    let alloc = rt.alloc();
-    let text = |content: &str| String::from_str(alloc, content);
-    let inputs = Inputs::Files {
-        image: text("core.bin")?,
-        script: text("--halt")?,
-    };
-    assert_eq!(rt;
-        read(alloc, "both --script=--halt --image core.bin")?,
-        Job::Both(inputs, UNSAID, 256, false)
-    );
-    let probe = Job::Probe {
-        at: text("localhost:9000")?,
-        script: text("probe")?,
-    };
-    assert_eq!(rt;
-        read(alloc, "probe --at localhost:9000 --script probe")?,
-        probe
-    );
-    let chip = Job::Chip {
-        at: text("")?,
-        image: text("a")?,
-        options: ChipOptions {
-            harts: 4,
-            halted: true,
-            ..UNSAID
-        },
-    };
-    assert_eq!(rt;
-        read(alloc, "chip --at  --image a --halted --harts 4")?,
-        chip
-    );
-    Ok(())
-}
-
-#[test]
-fn refuses_other_words(rt: HostRuntime) {
-    for line in [
-        // no program, or another
-        "",
-        "Both --gen 5",
-        "bench --gen 5",
-        "--gen 5 both",
-        "help",
-        // an option of another program, an unknown one, a shortened one, or one that asks for help or a version
-        "both --gen 5 --at a",
-        "probe --at a --script s --image i",
-        "probe --at a --script s --halted",
-        "chip --at a --image i --script s",
-        "chip --at a --image i --piece 1",
-        "chip --at a --image i --loopback",
-        "chip --at a --image i --gen 5",
-        "both --gen 5 --speed 1",
-        "both --ge 5",
-        "both -g 5",
-        "both --gen 5 --help",
-        "both --gen 5 -h",
-        "both --gen 5 --version",
-        // an option twice, a missing value, a flag with one, or a word that is no option
-        "both --gen 5 --gen 5",
-        "both --gen 5 --halted --halted",
-        "both --gen",
-        "both --gen --halted",
-        "both --gen 5 --halted=true",
-        "both --gen 5 more",
-        "both --gen 5 -- more",
-        "both  --gen 5",
-        // inputs that are missing, or given twice
-        "both",
-        "both --image i",
-        "both --script s",
-        "both --gen 5 --image i",
-        "both --gen 5 --script s",
-        "both --gen 5 --image i --script s",
-        "probe",
-        "probe --at a",
-        "probe --script s",
-        "chip",
-        "chip --at a",
-        "chip --image i",
-        // words that are no number
-        "both --gen=",
-        "both --gen x",
-        "both --gen +5",
-        "both --gen=-5",
-        "both --gen 5_0",
-        "both --gen 0x",
-        "both --gen 0X5",
-        "both --gen 18446744073709551616",
-        "both --gen 0x00000000000000005",
-        "both --gen 000000000000000000005",
-        "both --gen 5 --harts one",
-        "both --gen 5 --ram 64k",
-        "chip --at a --image i --seed 0xg",
-        // numbers out of their range
-        "both --gen 5 --busy 0",
-        "chip --at a --image i --busy 33",
-        "both --gen 5 --busy 0x21",
-        "both --gen 5 --piece 0",
-        "both --gen 5 --piece 257",
-    ] {
-        assert_eq!(rt; read(rt.alloc(), line), Err(WordsFault::Refused), "{line}");
-    }
-    assert_eq!(rt; read_words(rt.alloc(), &[]), Err(WordsFault::Refused));
 }

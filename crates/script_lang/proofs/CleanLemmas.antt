@@ -1,7 +1,9 @@
 -- Words without blanks, number signs and line feeds part again where a line joins them, and lines where a text joins them.
-use Rattle.std.proofs.Common.{◌≡◌, ℕ, suc, ◌+◌, ◌≤◌, Bool, true, false, not, ◌&&◌, ◌==◌, nat_le, cond, List, [], ◌∷◌, ◌++◌, take, refl, ap, ◌∙◌, arith, append_assoc}
+use Rattle.std.proofs.Common.{◌≡◌, ℕ, suc, ◌+◌, ◌*◌, ◌≤◌, Bool, true, false, not, ◌&&◌, ◌==◌, nat_le, cond, List, [], ◌∷◌, ◌++◌, length, take, refl, ap, ◌∙◌, arith, append_assoc}
 use Rattle.std.specs.List.{All, filter, list_all, slice_split, position_or_len, join_with_byte}
+use Rattle.std.proofs.lemmas.Bool.{and_parts, leb-true}
 use Rattle.std.proofs.lemmas.Bool.Decides.{nat_tests}
+use Rattle.std.proofs.lemmas.List.{length-append}
 use Rattle.std.proofs.lemmas.List.Elements.{All-nil, All-cons, All-head, All-tail, All-append, All-weaker}
 use Rattle.std.proofs.lemmas.List.Splits.{slice_split_none, slice_split_at}
 use Rattle.debug_model.specs.ScriptText.{is_blank, is_allowed, is_plain, is_not_empty, words_of, content_of, lines_of, number_sign, line_feed, space}
@@ -27,8 +29,13 @@ IsWordByte-from_range b low high = record {
   allowed = grind (arith, nat_tests);
 }
 
+-- the greatest number has the longest word
+abbrev pub longest_word : ℕ
+longest_word = 20
+
 pub record IsWord (word : List ℕ) : Type 0 where
   pub some : is_not_empty word ≡ true
+  pub few : length word ≤ longest_word
   pub bytes : All IsWordByte word
 
 -- a word of letters and digits, by a test
@@ -36,26 +43,20 @@ abbrev pub is_name_byte : ℕ → Bool
 is_name_byte b = nat_le 48 b && nat_le b 126
 
 abbrev pub is_name : List ℕ → Bool
-is_name word = is_not_empty word && list_all is_name_byte word
-
-both : (a b : Bool) → (a && b) ≡ true → (a ≡ true) × (b ≡ true)
-both true b e = (refl, e)
-both false b e = cc
-
-leb_is : (m n : ℕ) → nat_le m n ≡ true → m ≤ n
-leb_is m n e = grind (arith, nat_tests)
+is_name word = is_not_empty word && nat_le (length word) longest_word && list_all is_name_byte word
 
 bytes_of_name : (word : List ℕ) → list_all is_name_byte word ≡ true → All IsWordByte word
 bytes_of_name [] e = All-nil IsWordByte
 bytes_of_name (b ∷ word) e =
-    let parts = both (is_name_byte b) (list_all is_name_byte word) e in
-    let ends = both (nat_le 48 b) (nat_le b 126) parts.0 in
-    All-cons IsWordByte b word (IsWordByte-from_range b (leb_is 48 b ends.0) (leb_is b 126 ends.1)) (bytes_of_name word parts.1)
+    let parts = and_parts (is_name_byte b) (list_all is_name_byte word) e in
+    let ends = and_parts (nat_le 48 b) (nat_le b 126) parts.0 in
+    All-cons IsWordByte b word (IsWordByte-from_range b (leb-true 48 b ends.0) (leb-true b 126 ends.1)) (bytes_of_name word parts.1)
 
 pub IsWord-from_name : (word : List ℕ) → is_name word ≡ true → IsWord word
 IsWord-from_name word e =
-    let parts = both (is_not_empty word) (list_all is_name_byte word) e in
-    record { some = parts.0; bytes = bytes_of_name word parts.1 }
+    let ends = and_parts (is_not_empty word && nat_le (length word) longest_word) (list_all is_name_byte word) e in
+    let starts = and_parts (is_not_empty word) (nat_le (length word) longest_word) ends.0 in
+    record { some = starts.0; few = leb-true (length word) longest_word starts.1; bytes = bytes_of_name word ends.1 }
 
 -- a line of words
 
@@ -72,6 +73,15 @@ line_of_words (w ∷ v ∷ words) h =
     All-append IsLineByte w (space ∷ join_with_byte space (v ∷ words))
     (All-weaker IsWordByte IsLineByte line_byte w (All-head IsWord w (v ∷ words) h).bytes)
     (All-cons IsLineByte space (join_with_byte space (v ∷ words)) space_is_line_byte (line_of_words (v ∷ words) (All-tail IsWord w (v ∷ words) h)))
+
+pub length-line_of_words : (words : List (List ℕ)) → All IsWord words → length (join_with_byte space words) ≤ (longest_word + 1) * length words
+length-line_of_words [] h = omega arith
+length-line_of_words (w ∷ []) h = let short = (All-head IsWord w [] h).few in omega arith
+length-line_of_words (w ∷ v ∷ words) h =
+    let short = (All-head IsWord w (v ∷ words) h).few in
+    let rest = length-line_of_words (v ∷ words) (All-tail IsWord w (v ∷ words) h) in
+    let joined = length-append w (space ∷ join_with_byte space (v ∷ words)) in
+    omega (arith, joined)
 
 before_all : (bytes : List ℕ) → All IsLineByte bytes → take (position_or_len (λ b. b == number_sign) bytes) bytes ≡ bytes
 before_all [] h = refl

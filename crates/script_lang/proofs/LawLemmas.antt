@@ -1,15 +1,16 @@
 -- A text is read in one way: the lines before its first fault are those that are read, whatever their number.
-use Rattle.std.proofs.Common.{◌≡◌, ℕ, suc, ◌+◌, ◌≤◌, Bool, true, false, ◌&&◌, cond, nat_le, List, [], ◌∷◌, ◌++◌, length, map, Option, Some, None, Result, Ok, Err, refl, sym, ap, ◌∙◌, subst, arith}
+use Rattle.std.proofs.Common.{◌≡◌, ℕ, suc, ◌+◌, ◌≤◌, Bool, true, false, ◌&&◌, cond, nat_le, List, [], ◌∷◌, ◌++◌, length, map, Option, Some, None, Result, Ok, Err, inl, inr, refl, sym, ap, ◌∙◌, subst, arith}
 use Rattle.std.specs.List.{filter_map, cons_option}
-use Rattle.std.proofs.lemmas.Bool.Decides.{nat_tests}
+use Rattle.std.proofs.lemmas.Bool.{and_parts, leb-true}
 use Rattle.debug_model.specs.declared.command.Command.{Command}
+use Rattle.debug_model.specs.declared.script_error.ScriptError.{ScriptError}
 use Rattle.debug_model.specs.declared.script_error.ScriptFault.{ScriptFault}
 use Rattle.debug_model.specs.declared.script_error.ScriptFault.TheVariants.{NotAscii, TooManyLines}
-use Rattle.debug_model.specs.Command.{IsWithinRanges}
+use Rattle.debug_model.specs.Command.{IsWithinRanges, most_commands}
 use Rattle.debug_model.specs.ScriptText.{is_plain, is_not_empty, words_of, content_of, lines_of}
 use Rattle.debug_model.specs.ScriptArguments.{Words, ◌>>=◌}
 use Rattle.debug_model.specs.ScriptForms.{command_read}
-use Rattle.debug_model.specs.Grammar.{Reading, finished, words_read, line_read, line_read_after, line_number, AreReadAs, IsReadAs, HasFirstFault}
+use Rattle.debug_model.specs.Grammar.{Reading, finished, words_read, line_read, line_read_after, line_number, AreReadAs, IsReadAs, HasFirstFault, IsRefusedAs}
 use Rattle.debug_model.specs.Spelling.{spelling}
 use Rattle.script_lang.proofs.SpellingAgain.{line_read-spelling}
 
@@ -81,40 +82,33 @@ words_give_command (name ∷ words) r some e = by_cases (command_read name words
     by_cases (Ok taken) e = last (finished taken) e
     by_cases (Err f) e = cc
 
-both : (a b : Bool) → (a && b) ≡ true → (a ≡ true) × (b ≡ true)
-both true b e = (refl, e)
-both false b e = cc
-
-leb_is : (m n : ℕ) → nat_le m n ≡ true → m ≤ n
-leb_is m n e = grind (arith, nat_tests)
-
-too_many : (count : ℕ) (line : List ℕ) (r : Option Command) (fault : ScriptFault) → line_read line ≡ Ok r → line_read_after count line ≡ Err fault → (1000 ≤ count) × ((c : Command) × (r ≡ Some c))
+too_many : (count : ℕ) (line : List ℕ) (r : Option Command) (fault : ScriptFault) → line_read line ≡ Ok r → line_read_after count line ≡ Err fault → (most_commands ≤ count) × ((c : Command) × (r ≡ Some c))
 unfolding line_read_after line_read
-too_many count line r fault e f = by_cases (is_plain (content_of line) && is_not_empty (words_of (content_of line)) && nat_le 1000 count) refl f
+too_many count line r fault e f = by_cases (is_plain (content_of line) && is_not_empty (words_of (content_of line)) && nat_le most_commands count) refl f
   where
     with_words : (b : Bool) (words : Words) → b ≡ true → is_not_empty words ≡ true → cond b (words_read words) (Err NotAscii) ≡ Ok r → (c : Command) × (r ≡ Some c)
     with_words true words g some e = words_give_command words r some e
     with_words false words g some e = cc
 
-    by_cases : (b : Bool) → (is_plain (content_of line) && is_not_empty (words_of (content_of line)) && nat_le 1000 count) ≡ b → cond b (Err TooManyLines) (cond (is_plain (content_of line)) (words_read (words_of (content_of line))) (Err NotAscii)) ≡ Err fault → (1000 ≤ count) × ((c : Command) × (r ≡ Some c))
+    by_cases : (b : Bool) → (is_plain (content_of line) && is_not_empty (words_of (content_of line)) && nat_le most_commands count) ≡ b → cond b (Err TooManyLines) (cond (is_plain (content_of line)) (words_read (words_of (content_of line))) (Err NotAscii)) ≡ Err fault → (most_commands ≤ count) × ((c : Command) × (r ≡ Some c))
     by_cases true g f =
-        let ends = both (is_plain (content_of line) && is_not_empty (words_of (content_of line))) (nat_le 1000 count) g in
-        let starts = both (is_plain (content_of line)) (is_not_empty (words_of (content_of line))) ends.0 in
-        (leb_is 1000 count ends.1, with_words (is_plain (content_of line)) (words_of (content_of line)) starts.0 starts.1 e)
+        let ends = and_parts (is_plain (content_of line) && is_not_empty (words_of (content_of line))) (nat_le most_commands count) g in
+        let starts = and_parts (is_plain (content_of line)) (is_not_empty (words_of (content_of line))) ends.0 in
+        (leb-true most_commands count ends.1, with_words (is_plain (content_of line)) (words_of (content_of line)) starts.0 starts.1 e)
     by_cases false g f = cc
 
 -- the same at the front of some lines that are read
-stopped : (k : ℕ) (line : List ℕ) (lines : List (List ℕ)) (cs : List Command) (fault : ScriptFault) → AreReadAs (line ∷ lines) cs → line_read_after k line ≡ Err fault → k + length cs ≤ 1000 → ⊥
+stopped : (k : ℕ) (line : List ℕ) (lines : List (List ℕ)) (cs : List Command) (fault : ScriptFault) → AreReadAs (line ∷ lines) cs → line_read_after k line ≡ Err fault → k + length cs ≤ most_commands → ⊥
 stopped k line lines cs fault h f few =
     let a = first line lines cs h in
     let late = too_many k line a.reading fault a.here f in
     let grown : cs ≡ late.1.0 ∷ a.rest = a.whole ∙ ap (λ r. cons_option r a.rest) late.1.1 in
     long k cs late.1.0 a.rest late.0 grown few
   where
-    long : (k : ℕ) (cs : List Command) (c : Command) (ds : List Command) → 1000 ≤ k → cs ≡ c ∷ ds → k + length cs ≤ 1000 → ⊥
+    long : (k : ℕ) (cs : List Command) (c : Command) (ds : List Command) → most_commands ≤ k → cs ≡ c ∷ ds → k + length cs ≤ most_commands → ⊥
     long k cs c ds late e few = let l = ap length e in omega (arith, l)
 
-faulty_at : (before : List (List ℕ)) (faulty : List ℕ) (after : List (List ℕ)) (k : ℕ) (cs ds : List Command) (fault : ScriptFault) → AreReadAs (before ++ (faulty ∷ after)) cs → AreReadAs before ds → line_read_after (k + length ds) faulty ≡ Err fault → k + length cs ≤ 1000 → ⊥
+faulty_at : (before : List (List ℕ)) (faulty : List ℕ) (after : List (List ℕ)) (k : ℕ) (cs ds : List Command) (fault : ScriptFault) → AreReadAs (before ++ (faulty ∷ after)) cs → AreReadAs before ds → line_read_after (k + length ds) faulty ≡ Err fault → k + length cs ≤ most_commands → ⊥
 faulty_at [] faulty after k cs ds fault h i f few =
     stopped k faulty after cs fault h (sym (ap (λ n. line_read_after n faulty) (counted k ds (none_of ds i))) ∙ f) few
   where
@@ -126,7 +120,7 @@ faulty_at (line ∷ before) faulty after k cs ds fault h i f few =
     let same = same_reading b.reading a.reading (line_read line) b.here a.here in
     by_cases a.reading a.rest b.rest a.whole (b.whole ∙ ap (λ r. cons_option r b.rest) same) (λ k g few. faulty_at before faulty after k a.rest b.rest fault a.later b.later g few)
   where
-    by_cases : (r : Option Command) (cs' ds' : List Command) → cs ≡ cons_option r cs' → ds ≡ cons_option r ds' → ((k : ℕ) → line_read_after (k + length ds') faulty ≡ Err fault → k + length cs' ≤ 1000 → ⊥) → ⊥
+    by_cases : (r : Option Command) (cs' ds' : List Command) → cs ≡ cons_option r cs' → ds ≡ cons_option r ds' → ((k : ℕ) → line_read_after (k + length ds') faulty ≡ Err fault → k + length cs' ≤ most_commands → ⊥) → ⊥
     by_cases (Some c) cs' ds' e g later =
         let l = ap length e in
         let m = ap length g in
@@ -137,7 +131,7 @@ faulty_at (line ∷ before) faulty after k cs ds fault h i f few =
     by_cases None cs' ds' e g later =
         later k (ap (λ xs. line_read_after (k + length xs) faulty) (sym g) ∙ f) (let l = ap length e in omega (arith, l))
 
-pub no_fault : (text : List ℕ) (cs : List Command) (line : ℕ) (fault : ScriptFault) → IsReadAs text cs → HasFirstFault text line fault → ⊥
+no_fault : (text : List ℕ) (cs : List Command) (line : ℕ) (fault : ScriptFault) → IsReadAs text cs → HasFirstFault text line fault → ⊥
 no_fault text cs line fault h i =
     faulty_at i.before i.faulty i.after 0 cs i.commands fault (subst (λ ls. AreReadAs ls cs) i.cut h.lines) i.read (ap (λ n. line_read_after n i.faulty) (from_zero (length i.commands)) ∙ i.fault_is) (omega (arith, h.few))
   where
@@ -157,7 +151,7 @@ pub record Same (one other : List (List ℕ)) (f g : ScriptFault) : Type 0 where
   pub place : length one ≡ length other
   pub fault : f ≡ g
 
-same_fault : (one other : List (List ℕ)) (x y : List ℕ) (rest more : List (List ℕ)) (k : ℕ) (cs ds : List Command) (f g : ScriptFault) → one ++ (x ∷ rest) ≡ other ++ (y ∷ more) → AreReadAs one cs → AreReadAs other ds → k + length cs ≤ 1000 → k + length ds ≤ 1000 → line_read_after (k + length cs) x ≡ Err f → line_read_after (k + length ds) y ≡ Err g → Same one other f g
+same_fault : (one other : List (List ℕ)) (x y : List ℕ) (rest more : List (List ℕ)) (k : ℕ) (cs ds : List Command) (f g : ScriptFault) → one ++ (x ∷ rest) ≡ other ++ (y ∷ more) → AreReadAs one cs → AreReadAs other ds → k + length cs ≤ most_commands → k + length ds ≤ most_commands → line_read_after (k + length cs) x ≡ Err f → line_read_after (k + length ds) y ≡ Err g → Same one other f g
 same_fault [] [] x y rest more k cs ds f g e h i few fewer a b = record {
   place = refl;
   fault = same_error (line_read_after k x) f g (at_start k x cs f h a) (ap (line_read_after k) (head_of x y rest more e) ∙ at_start k y ds g i b);
@@ -180,7 +174,7 @@ same_fault (line ∷ one) (other_line ∷ other) x y rest more k cs ds f g e h i
     longer : Same one other f g → Same (line ∷ one) (other_line ∷ other) f g
     longer s = record { place = ap suc s.place; fault = s.fault }
 
-    by_cases : (r : Option Command) (cs' ds' : List Command) → cs ≡ cons_option r cs' → ds ≡ cons_option r ds' → ((k : ℕ) → k + length cs' ≤ 1000 → k + length ds' ≤ 1000 → line_read_after (k + length cs') x ≡ Err f → line_read_after (k + length ds') y ≡ Err g → Same one other f g) → Same (line ∷ one) (other_line ∷ other) f g
+    by_cases : (r : Option Command) (cs' ds' : List Command) → cs ≡ cons_option r cs' → ds ≡ cons_option r ds' → ((k : ℕ) → k + length cs' ≤ most_commands → k + length ds' ≤ most_commands → line_read_after (k + length cs') x ≡ Err f → line_read_after (k + length ds') y ≡ Err g → Same one other f g) → Same (line ∷ one) (other_line ∷ other) f g
     by_cases (Some c) cs' ds' p q later =
         let l = ap length p in
         let m = ap length q in
@@ -188,10 +182,24 @@ same_fault (line ∷ one) (other_line ∷ other) x y rest more k cs ds f g e h i
     by_cases None cs' ds' p q later =
         longer (later k (let l = ap length p in omega (arith, l)) (let l = ap length q in omega (arith, l)) (ap (λ xs. line_read_after (k + length xs) x) (sym p) ∙ a) (ap (λ xs. line_read_after (k + length xs) y) (sym q) ∙ b))
 
-pub one_fault : (text : List ℕ) (m n : ℕ) (f g : ScriptFault) → HasFirstFault text m f → HasFirstFault text n g → (m ≡ n) × (f ≡ g)
+one_fault : (text : List ℕ) (m n : ℕ) (f g : ScriptFault) → HasFirstFault text m f → HasFirstFault text n g → (m ≡ n) × (f ≡ g)
 one_fault text m n f g h i =
     let same = same_fault h.before i.before h.faulty i.faulty h.after i.after 0 h.commands i.commands f g (sym h.cut ∙ i.cut) h.read i.read (omega (arith, h.few)) (omega (arith, i.few)) (ap (λ n. line_read_after n h.faulty) (zero_plus (length h.commands)) ∙ h.fault_is) (ap (λ n. line_read_after n i.faulty) (zero_plus (length i.commands)) ∙ i.fault_is) in
     (h.place ∙ ap (λ n. line_number (n + 1)) same.place ∙ sym i.place, same.fault)
   where
     zero_plus : (n : ℕ) → 0 + n ≡ n
     zero_plus n = omega arith
+
+-- a refusal is for the length of the text, or for its first faulty line
+
+pub no_refusal : (text : List ℕ) (cs : List Command) (error : ScriptError) → IsReadAs text cs → IsRefusedAs text error → ⊥
+no_refusal text cs error h (inl long) = omega (arith, h.short, long.0)
+no_refusal text cs error h (inr fault) = no_fault text cs error.line error.fault h fault
+
+pub one_refusal : (text : List ℕ) (e f : ScriptError) → IsRefusedAs text e → IsRefusedAs text f → e ≡ f
+one_refusal text e f (inl long) (inl other) = long.1 ∙ sym other.1
+one_refusal text e f (inl long) (inr fault) = absurd (omega (arith, long.0, fault.short))
+one_refusal text e f (inr fault) (inl long) = absurd (omega (arith, long.0, fault.short))
+one_refusal text e f (inr fault) (inr other) =
+    let same = one_fault text e.line f.line e.fault f.fault fault other in
+    λ i. record { line = same.0 i; fault = same.1 i }

@@ -9,3 +9,4 @@ pub mod ReaderLemmas
 pub mod RoundTrip
 pub mod SpellingAgain
 pub mod WordLemmas
+pub mod Places

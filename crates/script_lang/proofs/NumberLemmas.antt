@@ -4,20 +4,16 @@ use Rattle.std.specs.List.{list_all}
 use Rattle.std.specs.Char.{digit_value, is_digit}
 use Rattle.std.specs.Str.Parse.{digits_value, digits_value_after, AllDigits}
 use Rattle.std.proofs.lemmas.List.{at_drop_more}
-use Rattle.std.proofs.lemmas.Bool.{ltb-true, lt-ltb}
+use Rattle.std.proofs.lemmas.Bool.{and_parts, ltb-true, lt-ltb}
 use Rattle.std.proofs.lemmas.Bool.Decides.{nat_tests}
 use Rattle.debug_model.specs.ScriptNumber.{are_digits, numeral_read, number_read, hexadecimal_prefix}
 use Rattle.std.specs.Option.{ok_or}
 use Rattle.debug_model.specs.declared.script_error.ScriptFault.TheVariants.{BadNumber, OutOfRange}
 
-pub both_true : (a b : Bool) → (a && b) ≡ true → (a ≡ true) × (b ≡ true)
-both_true true b e = (refl, e)
-both_true false b e = cc
-
 pub AllDigits-from_test : (base : ℕ) (ds : List ℕ) → list_all (λ d. is_digit d base) ds ≡ true → AllDigits base ds
 AllDigits-from_test base [] e = tt
 AllDigits-from_test base (d ∷ ds) e =
-    let parts = both_true (is_digit d base) (list_all (λ d. is_digit d base) ds) e in
+    let parts = and_parts (is_digit d base) (list_all (λ d. is_digit d base) ds) e in
     (ltb-true _ _ parts.0, AllDigits-from_test base ds parts.1)
 
 pub digits_value_after-drop : (base n : ℕ) (ds : List ℕ) (i : ℕ) → i < length ds → digits_value_after base n (drop i ds) ≡ digits_value_after base (n * base + digit_value (get_or ds i 0)) (drop (i + 1) ds)
@@ -33,6 +29,11 @@ digits_value_after-ge base n (d ∷ ds) h = grows base n (digit_value d) (digits
   where
     grows : (b n d whole : ℕ) → 1 ≤ b → n * b + d ≤ whole → n ≤ whole
     grows b n d whole h g = grind arith
+
+-- what a loop has read with one digit more is not over the whole
+pub value_grows : (base n : ℕ) (ds : List ℕ) (i : ℕ) → i < length ds → 1 ≤ base → n * base + digit_value (get_or ds i 0) ≤ digits_value_after base n (drop i ds)
+value_grows base n ds i h b =
+    omega (arith, digits_value_after-drop base n ds i h, digits_value_after-ge base (n * base + digit_value (get_or ds i 0)) (drop (i + 1) ds) b)
 
 -- a word of no digits is no number, and the value of digits is the number where it is below 2^64
 pub numeral_read-bad : (base most : ℕ) (ds : List ℕ) → are_digits base most ds ≡ false → numeral_read base most ds ≡ Err BadNumber
@@ -53,7 +54,7 @@ numeral_read-value base most ds None e h = numeral_read-good base most ds e ∙ 
 pub AllDigits-from_digits : (base most : ℕ) (ds : List ℕ) → are_digits base most ds ≡ true → AllDigits base ds
 unfolding are_digits
 AllDigits-from_digits base most ds e =
-    AllDigits-from_test base ds (both_true (nat_le 1 (length ds) && nat_le (length ds) most) (list_all (λ d. is_digit d base) ds) e).1
+    AllDigits-from_test base ds (and_parts (nat_le 1 (length ds) && nat_le (length ds) most) (list_all (λ d. is_digit d base) ds) e).1
 
 pub are_digits-empty : (base most : ℕ) (ds : List ℕ) → length ds ≡ 0 → are_digits base most ds ≡ false
 unfolding are_digits

@@ -44,7 +44,7 @@ number_read-decimal_of n small =
     number_read-decimal (decimal n) (not_prefixed (decimal n) numeral.0.1)
     ∙ numeral_read-digits 10 20 n (decimal n) numeral.0.0 (length-decimal-le 20 n (lit< tt) (omega arith) small) numeral.0.1 numeral.1 small
 
-length-hexadecimal : (k n : ℕ) → length (hexadecimal k n) ≡ k
+pub length-hexadecimal : (k n : ℕ) → length (hexadecimal k n) ≡ k
 unfolding hexadecimal
 length-hexadecimal zero n = refl
 length-hexadecimal (suc k) n = length-append (hexadecimal k (n / 16)) (digit_char (n % 16) ∷ []) ∙ ap (λ m. m + 1) (length-hexadecimal k (n / 16)) ∙ plus_one k

@@ -5,8 +5,9 @@ use Rattle.std.proofs.lemmas.List.{map-append, take-append-drop, at_drop_more}
 use Rattle.std.proofs.lemmas.List.Elements.{filter_map-append}
 use Rattle.debug_model.specs.declared.command.Command.{Command}
 use Rattle.debug_model.specs.declared.script_error.ScriptFault.{ScriptFault}
+use Rattle.debug_model.specs.Command.{most_commands}
 use Rattle.debug_model.specs.ScriptText.{lines_of}
-use Rattle.debug_model.specs.Grammar.{line_read, line_read_after, line_number, AreReadAs, HasFirstFault}
+use Rattle.debug_model.specs.Grammar.{line_read, line_read_after, line_number, most_text, AreReadAs, HasFirstFault}
 
 pub AreReadAs-none : AreReadAs [] []
 AreReadAs-none = record { readings = []; each = refl; commands_of = refl }
@@ -29,8 +30,9 @@ take_with : (lines : List (List ℕ)) (n : ℕ) (d : List ℕ) → n < length li
 take_with lines n d h = sym (take-append-drop n lines) ∙ ap (λ rest. take n lines ++ rest) (at_drop_more (λ x. x) lines n d h)
 
 -- the line after the first n lines is the first faulty one
-pub HasFirstFault-at : (text : List ℕ) (n : ℕ) (before : List (List ℕ)) (faulty : List ℕ) (commands : List Command) (number : ℕ) (fault : ScriptFault) → before ≡ take n (lines_of text) → length before ≡ n → n < length (lines_of text) → faulty ≡ get_or (lines_of text) n faulty → AreReadAs before commands → length commands ≤ 1000 → number ≡ line_number (n + 1) → line_read_after (length commands) faulty ≡ Err fault → HasFirstFault text number fault
-HasFirstFault-at text n before faulty commands number fault front count inside here read few place fault_is = record {
+pub HasFirstFault-at : (text : List ℕ) (n : ℕ) (before : List (List ℕ)) (faulty : List ℕ) (commands : List Command) (number : ℕ) (fault : ScriptFault) → length text ≤ most_text → before ≡ take n (lines_of text) → length before ≡ n → n < length (lines_of text) → faulty ≡ get_or (lines_of text) n faulty → AreReadAs before commands → length commands ≤ most_commands → number ≡ line_number (n + 1) → line_read_after (length commands) faulty ≡ Err fault → HasFirstFault text number fault
+HasFirstFault-at text n before faulty commands number fault short front count inside here read few place fault_is = record {
+  short = short;
   before = before;
   commands = commands;
   faulty = faulty;

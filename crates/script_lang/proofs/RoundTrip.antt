@@ -3,6 +3,7 @@ use Rattle.std.proofs.Common.{◌≡◌, ℕ, ◌+◌, ◌*◌, ◌-◌, ◌^◌
 use Rattle.std.specs.Option.{ok_or}
 use Rattle.std.specs.List.{list_all, list_any, find}
 use Rattle.std.specs.Fmt.{digits}
+use Rattle.std.proofs.lemmas.Bool.{and_parts}
 use Rattle.std.proofs.lemmas.Bool.Decides.{nat_tests}
 use Rattle.rv_model.specs.declared.size.Size.{Size}
 use Rattle.rv_model.specs.declared.size.Size.TheVariants.{B1, B2, B4, B8}
@@ -17,7 +18,7 @@ use Rattle.debug_model.specs.declared.command.Command.TheVariants.{Idcode, Hart,
 use Rattle.debug_model.specs.declared.script_error.ScriptFault.{ScriptFault}
 use Rattle.debug_model.specs.declared.script_error.ScriptFault.TheVariants.{UnknownWord, OutOfRange}
 use Rattle.debug_model.specs.Command.{IsWithinRanges, IsBlock, all_addresses}
-use Rattle.debug_model.specs.Registers.{Register, registers, is_register, number_of_register, name_of_register}
+use Rattle.debug_model.specs.Registers.{NamedRegister, named_registers, is_register, number_of_register, name_of_register}
 use Rattle.debug_model.specs.ScriptNumber.{number_read, numeral_read, are_digits}
 use Rattle.debug_model.specs.ScriptArguments.{Words, ◌>>=◌, one_word, number_within, ranged, ranged_or, ending, count_from, length_from, size_named, path_named, watch_kind_named, switch_named, register_named}
 use Rattle.debug_model.specs.ScriptForms.{hart_form, step_form, wait_form, reg_value_form, reg_form, read_form, write_form, dump_form, via_form, break_form, watch_form, count_form, clear_form, ebreak_form, plain_forms, hart_forms, memory_forms, slot_forms, command_read}
@@ -32,32 +33,28 @@ is_number : Option ℕ → ℕ → Bool
 is_number (Some m) n = m == n
 is_number None n = false
 
-is_row : Register → Bool
+is_row : NamedRegister → Bool
 unfolding is_number
 is_row r = is_name r.0 && is_number (number_of_register r.0) r.1
 
-each_row : list_all is_row registers ≡ true
-unfolding is_row is_number registers number_of_register digits
+each_row : list_all is_row named_registers ≡ true
+unfolding is_row is_number named_registers number_of_register digits
 each_row = refl
 
-record Row (n : ℕ) (table : List Register) : Type 0 where
-  row : Register
+record Row (n : ℕ) (table : List NamedRegister) : Type 0 where
+  row : NamedRegister
   passes : is_row row ≡ true
   number : (row.1 == n) ≡ true
   name : unwrap_or (option_map (λ r. r.0) (find (λ r. r.1 == n) table)) [] ≡ row.0
 
-both : (a b : Bool) → (a && b) ≡ true → (a ≡ true) × (b ≡ true)
-both true b e = (refl, e)
-both false b e = cc
-
-row_of : (n : ℕ) (table : List Register) → list_all is_row table ≡ true → list_any (λ r. r.1 == n) table ≡ true → Row n table
+row_of : (n : ℕ) (table : List NamedRegister) → list_all is_row table ≡ true → list_any (λ r. r.1 == n) table ≡ true → Row n table
 row_of n [] all any = cc
-row_of n (r ∷ table) all any = by_cases (r.1 == n) refl (λ e. row_of n table (both (is_row r) _ all).1 e) any
+row_of n (r ∷ table) all any = by_cases (r.1 == n) refl (λ e. row_of n table (and_parts (is_row r) _ all).1 e) any
   where
     by_cases : (b : Bool) → (r.1 == n) ≡ b → (list_any (λ r. r.1 == n) table ≡ true → Row n table) → (b || list_any (λ r. r.1 == n) table) ≡ true → Row n (r ∷ table)
     by_cases true e later h = record {
       row = r;
-      passes = (both (is_row r) (list_all is_row table) all).0;
+      passes = (and_parts (is_row r) (list_all is_row table) all).0;
       number = e;
       name = ap (λ b. unwrap_or (option_map (λ r. r.0) (cond b (Some r) (find (λ r. r.1 == n) table))) []) e;
     }
@@ -70,15 +67,15 @@ row_of n (r ∷ table) all any = by_cases (r.1 == n) refl (λ e. row_of n table 
           name = ap (λ b. unwrap_or (option_map (λ r. r.0) (cond b (Some r) (find (λ r. r.1 == n) table))) []) e ∙ rest.name;
         }
 
-register_row : (n : ℕ) → is_register n ≡ true → Row n registers
+register_row : (n : ℕ) → is_register n ≡ true → Row n named_registers
 unfolding is_register
-register_row n h = row_of n registers each_row h
+register_row n h = row_of n named_registers each_row h
 
 pub IsWord-register : (n : ℕ) → is_register n ≡ true → IsWord (name_of_register n)
 unfolding is_row name_of_register
 IsWord-register n h =
     let found = register_row n h in
-    rw found.name (IsWord-from_name found.row.0 (both (is_name found.row.0) (is_number (number_of_register found.row.0) found.row.1) found.passes).0)
+    rw found.name (IsWord-from_name found.row.0 (and_parts (is_name found.row.0) (is_number (number_of_register found.row.0) found.row.1) found.passes).0)
 
 same_number : (o : Option ℕ) (m n : ℕ) → is_number o m ≡ true → (m == n) ≡ true → o ≡ Some n
 unfolding is_number
@@ -92,7 +89,7 @@ register_again : (n : ℕ) → is_register n ≡ true → register_named (name_o
 unfolding is_row name_of_register register_named
 register_again n h =
     let found = register_row n h in
-    let number = same_number (number_of_register found.row.0) found.row.1 n (both (is_name found.row.0) (is_number (number_of_register found.row.0) found.row.1) found.passes).1 found.number in
+    let number = same_number (number_of_register found.row.0) found.row.1 n (and_parts (is_name found.row.0) (is_number (number_of_register found.row.0) found.row.1) found.passes).1 found.number in
     ap register_named found.name ∙ ap (λ o. ok_or o UnknownWord >>= (λ number. Ok (record { 0 = number }))) number
 
 -- arguments

@@ -1,10 +1,11 @@
 -- A spelled line is read as its command, and a spelled text as its commands.
-use Rattle.std.proofs.Common.{◌≡◌, ℕ, ◌<◌, ◌≤◌, ◌^◌, Bool, true, false, cond, List, [], ◌∷◌, length, map, refl, sym, ap, ◌∙◌, subst, arith, codes, decimal, Some, None, Ok, Err}
+use Rattle.std.proofs.Common.{◌≡◌, ℕ, ◌+◌, ◌*◌, ◌<◌, ◌≤◌, ◌^◌, Bool, true, false, cond, List, [], ◌∷◌, length, map, refl, sym, ap, ◌∙◌, subst, arith, codes, decimal, Some, None, Ok, Err, lit<, lit≤}
 use Rattle.std.specs.List.{All, join_with_byte, flat_map}
 use Rattle.std.specs.Char.{digit_value}
 use Rattle.std.specs.Str.Parse.{AllDigits}
 use Rattle.std.proofs.lemmas.Bool.Decides.{nat_tests}
-use Rattle.std.proofs.lemmas.Fmt.{decimal_is_IsNumeral}
+use Rattle.std.proofs.lemmas.Fmt.{decimal_is_IsNumeral, length-decimal-le}
+use Rattle.std.proofs.lemmas.List.{length-append}
 use Rattle.std.proofs.lemmas.List.Elements.{All-nil, All-cons, All-head, All-tail}
 use Rattle.rv_model.specs.declared.size.Size.{Size}
 use Rattle.rv_model.specs.declared.size.Size.TheVariants.{B1, B2, B4, B8}
@@ -16,13 +17,13 @@ use Rattle.debug_model.specs.declared.command.WatchKind.TheVariants.{Load, Store
 use Rattle.debug_model.specs.declared.command.Command.{Command}
 use Rattle.debug_model.specs.declared.command.Command.TheVariants.{Idcode, Hart, State, Halt, Resume, Step, Wait, Regs, Reg, SetReg, Read, Write, Dump, Via, Break, Watch, Count, Clear, Slots, Ebreak, End}
 use Rattle.debug_model.specs.declared.script_error.ScriptFault.TheVariants.{NotAscii}
-use Rattle.debug_model.specs.Command.{IsWithinRanges}
+use Rattle.debug_model.specs.Command.{IsWithinRanges, most_commands}
 use Rattle.debug_model.specs.Registers.{name_of_register}
-use Rattle.debug_model.specs.ScriptText.{is_plain, is_not_empty, words_of, content_of, lines_of, space}
-use Rattle.debug_model.specs.Grammar.{words_read, line_read, AreReadAs, IsReadAs}
+use Rattle.debug_model.specs.ScriptText.{is_plain, is_not_empty, words_of, content_of, lines_of, line_feed, space}
+use Rattle.debug_model.specs.Grammar.{words_read, line_read, most_text, AreReadAs, IsReadAs}
 use Rattle.debug_model.specs.Spelling.{hexadecimal, spelled_address, spelled_path, spelled_watch_kind, spelled_switch, spelled_words, spelling, spelled_line, spelled_script}
-use Rattle.script_lang.proofs.CleanLemmas.{IsWord, IsWordByte, IsLineByte, IsWordByte-from_range, IsWord-from_name, line_of_words, content_of-plain, is_plain-line, words_of-joined, lines_of-line}
-use Rattle.script_lang.proofs.ReadAgain.{AllDigits-hexadecimal}
+use Rattle.script_lang.proofs.CleanLemmas.{IsWord, IsWordByte, IsLineByte, IsWordByte-from_range, IsWord-from_name, longest_word, line_of_words, length-line_of_words, content_of-plain, is_plain-line, words_of-joined, lines_of-line}
+use Rattle.script_lang.proofs.ReadAgain.{length-hexadecimal, AllDigits-hexadecimal}
 use Rattle.script_lang.proofs.RoundTrip.{IsWord-register, words_read-spelled}
 
 -- each spelled word is a word
@@ -50,11 +51,12 @@ not_empty (d ∷ ds) h = refl
 decimal_word : (n : ℕ) → n < 2 ^ 64 → IsWord (decimal n)
 decimal_word n small =
     let numeral = (decimal_is_IsNumeral n small).0 in
-    record { some = not_empty (decimal n) numeral.0; bytes = digits_are_word_bytes 10 (decimal n) (omega arith) numeral.1 }
+    record { some = not_empty (decimal n) numeral.0; few = length-decimal-le longest_word n (lit< tt) (omega arith) small; bytes = digits_are_word_bytes 10 (decimal n) (omega arith) numeral.1 }
 
 address_word : (n : ℕ) → IsWord (spelled_address n)
 address_word n = record {
   some = refl;
+  few = omega (arith, length-hexadecimal 16 n);
   bytes = All-cons IsWordByte 48 (120 ∷ hexadecimal 16 n) (IsWordByte-from_range 48 (omega arith) (omega arith))
       (All-cons IsWordByte 120 (hexadecimal 16 n) (IsWordByte-from_range 120 (omega arith) (omega arith)) (digits_are_word_bytes 16 (hexadecimal 16 n) (omega arith) (AllDigits-hexadecimal 16 n)));
 }
@@ -164,5 +166,50 @@ are_read (command ∷ commands) h =
     subst (λ lines. AreReadAs lines (command ∷ commands)) (sym (lines_of-line (spelling command) (flat_map spelled_line commands) (line_bytes command here)))
     (AreReadAs-cons (spelling command) (lines_of (flat_map spelled_line commands)) command commands (line_read-spelling command here) rest)
 
-pub IsReadAs-spelled : (commands : List Command) → length commands ≤ 1000 → All IsWithinRanges commands → IsReadAs (spelled_script commands) commands
-IsReadAs-spelled commands few h = record { few = few; lines = are_read commands h }
+-- a spelled text is short
+
+few_words : (command : Command) → length (spelled_words command) ≤ 5
+few_words Idcode = lit≤ tt
+few_words (Hart n) = lit≤ tt
+few_words State = lit≤ tt
+few_words Halt = lit≤ tt
+few_words Resume = lit≤ tt
+few_words (Step n) = lit≤ tt
+few_words (Wait n) = lit≤ tt
+few_words Regs = lit≤ tt
+few_words (Reg register) = lit≤ tt
+few_words (SetReg register value) = lit≤ tt
+few_words (Read size address count) = lit≤ tt
+few_words (Write size address value count) = lit≤ tt
+few_words (Dump address count) = lit≤ tt
+few_words (Via path) = lit≤ tt
+few_words (Break address) = lit≤ tt
+few_words (Watch kind address) = lit≤ tt
+few_words (Count n) = lit≤ tt
+few_words (Clear n) = lit≤ tt
+few_words Slots = lit≤ tt
+few_words (Ebreak is_on) = lit≤ tt
+few_words End = lit≤ tt
+
+abbrev longest_line : ℕ
+longest_line = 5 * (longest_word + 1) + 1
+
+length-spelled_line : (command : Command) → IsWithinRanges command → length (spelled_line command) ≤ longest_line
+unfolding spelling
+length-spelled_line command h =
+    let words = spelled_words command in
+    omega (arith, length-append (join_with_byte space words) (line_feed ∷ []), length-line_of_words words (are_words command h), few_words command)
+
+length-spelled : (commands : List Command) → All IsWithinRanges commands → length (flat_map spelled_line commands) ≤ longest_line * length commands
+length-spelled [] h = omega arith
+length-spelled (command ∷ commands) h =
+    let line = length-spelled_line command (All-head IsWithinRanges command commands h) in
+    let rest = length-spelled commands (All-tail IsWithinRanges command commands h) in
+    omega (arith, line, rest, length-append (spelled_line command) (flat_map spelled_line commands))
+
+is_short : (commands : List Command) → length commands ≤ most_commands → All IsWithinRanges commands → length (spelled_script commands) ≤ most_text
+unfolding spelled_script
+is_short commands few h = omega (arith, few, length-spelled commands h)
+
+pub IsReadAs-spelled : (commands : List Command) → length commands ≤ most_commands → All IsWithinRanges commands → IsReadAs (spelled_script commands) commands
+IsReadAs-spelled commands few h = record { short = is_short commands few h; few = few; lines = are_read commands h }

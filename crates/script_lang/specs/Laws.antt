@@ -2,9 +2,9 @@
 -- The grammar and the spelling are those of debug_model.
 use Rattle.std.specs.Prelude.{◌≡◌, ℕ, List, Some, Ok}
 use Rattle.debug_model.specs.declared.command.Command.{Command}
-use Rattle.debug_model.specs.declared.script_error.ScriptFault.{ScriptFault}
+use Rattle.debug_model.specs.declared.script_error.ScriptError.{ScriptError}
 use Rattle.debug_model.specs.Command.{IsWithinRanges}
-use Rattle.debug_model.specs.Grammar.{Reading, Reads, IsReadAs, HasFirstFault}
+use Rattle.debug_model.specs.Grammar.{Reading, Reads, IsReadAs, IsRefusedAs}
 use Rattle.debug_model.specs.Spelling.{spelling}
 
 -- a line has at most one reading
@@ -23,10 +23,10 @@ HasOwnSpelling = (one other : Command) → IsWithinRanges one → IsWithinRanges
 abbrev pub IsOneScript : Type 0
 IsOneScript = (text : List ℕ) (one other : List Command) → IsReadAs text one → IsReadAs text other → one ≡ other
 
--- a text that is a script has no faulty line
-abbrev pub HasNoFault : Type 0
-HasNoFault = (text : List ℕ) (commands : List Command) (line : ℕ) (fault : ScriptFault) → IsReadAs text commands → HasFirstFault text line fault → ⊥
+-- a text that is a script is not refused
+abbrev pub HasNoRefusal : Type 0
+HasNoRefusal = (text : List ℕ) (commands : List Command) (error : ScriptError) → IsReadAs text commands → IsRefusedAs text error → ⊥
 
--- a text has at most one first faulty line, with one fault
-abbrev pub HasOneFault : Type 0
-HasOneFault = (text : List ℕ) (one other : ℕ) (fault other_fault : ScriptFault) → HasFirstFault text one fault → HasFirstFault text other other_fault → (one ≡ other) × (fault ≡ other_fault)
+-- a text has at most one refusal: that it is too long, or its first faulty line with one fault
+abbrev pub HasOneRefusal : Type 0
+HasOneRefusal = (text : List ℕ) (one other : ScriptError) → IsRefusedAs text one → IsRefusedAs text other → one ≡ other

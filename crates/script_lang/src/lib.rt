@@ -1,5 +1,5 @@
 //! The language of scripts. `parse` reads a text as the grammar of `debug_model` does: it gives the script, or the first
-//! faulty line with its first fault. `print` writes each command in its one spelling, which `parse` reads as this script.
+//! faulty line with its first fault; a text that is too long is refused before a line is read. `print` writes each command in its one spelling, which `parse` reads as this script.
 #![tactic(auto)]
 
 mod arguments;
@@ -15,7 +15,7 @@ mod words;
 pub use laws::{one_reading_of_a_line, one_reading_of_a_text};
 pub use number::read_number;
 pub use printer::print;
-pub use reader::parse;
+pub use reader::{MOST_TEXT, parse};
 
 #[cfg(test)]
 mod tests;

@@ -1,6 +1,6 @@
-ghost use Rattle.std.specs.Prelude.{◌≡◌, IfOk, IfSome};
+ghost use Rattle.std.specs.Prelude.{◌≡◌, ◌==◌, ◌<◌, length, position, IfOk, IfSome};
 ghost use Rattle.debug_model.specs.Command.{IsWithinRanges};
-ghost use Rattle.debug_model.specs.ScriptText.{content_of, is_plain, is_allowed};
+ghost use Rattle.debug_model.specs.ScriptText.{content_of, is_plain, is_allowed, number_sign};
 ghost use Rattle.debug_model.specs.Grammar.{line_read_after};
 
 use crate::forms::command;
@@ -52,10 +52,16 @@ fn is_allowed(byte: u8) -> bool
 fn without_comment(line: &[u8]) -> &[u8]
     ensures { result.now ≡ content_of line.now }
 {
-    for (index, byte) in line.iter().enumerate() {
-        if *byte == b'#' {
-            return &line[..index];
-        }
+    match comment_start(line) {
+        Some(start) => &line[..start],
+        None => line,
     }
-    line
+}
+
+/// The place of the line's first number sign.
+fn comment_start(line: &[u8]) -> Option<usize>
+    ensures place { result ≡ position (λ byte. byte == number_sign) line.now }
+    ensures inside { IfSome result (λ start. start < length line.now) }
+{
+    line.iter().position(|byte| *byte == b'#')
 }

@@ -75,9 +75,5 @@ fn digit(value: u8) -> u8
     requires { value < 16 }
     ensures { result ≡ digit_char value }
 {
-    if value < 10 {
-        b'0' + value
-    } else {
-        b'a' + (value - 10)
-    }
+    char::from_digit(u32::from(value), 16).unwrap() as u8
 }

@@ -1,4 +1,4 @@
-ghost use Rattle.std.specs.Prelude.{◌≡◌, ◌≤◌, ◌∷◌, [], length, MatchOption, not};
+ghost use Rattle.std.specs.Prelude.{◌≡◌, ◌<◌, ◌≤◌, ◌∷◌, [], length, position, IfSome, MatchOption, not};
 ghost use Rattle.std.specs.List.{position_or_len};
 ghost use Rattle.debug_model.specs.ScriptText.{words_of, is_blank, is_not_empty};
 ghost use Rattle.script_lang.specs.Cursor.{StartsWithWord};
@@ -83,10 +83,16 @@ fn word_end(content: &[u8]) -> usize
     ensures place { result ≡ position_or_len is_blank content.now }
     ensures inside { result ≤ length content.now }
 {
-    for (index, byte) in content.iter().enumerate() {
-        if is_blank(*byte) {
-            return index;
-        }
+    match first_blank(content) {
+        Some(place) => place,
+        None => content.len(),
     }
-    content.len()
+}
+
+/// The place of the first blank.
+fn first_blank(content: &[u8]) -> Option<usize>
+    ensures place { result ≡ position is_blank content.now }
+    ensures inside { IfSome result (λ place. place < length content.now) }
+{
+    content.iter().position(|byte| is_blank(*byte))
 }

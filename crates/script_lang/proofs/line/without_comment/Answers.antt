@@ -1,14 +1,9 @@
-use Rattle.std.proofs.Common.{length, arith, rules}
-use Rattle.std.proofs.lemmas.Grind.{common_steps}
-use Rattle.script_lang.proofs.LineLemmas.{content_of-is}
+use Rattle.std.proofs.Common.{sym}
+use Rattle.script_lang.proofs.LineLemmas.{content_of-found, content_of-whole}
 use Rattle.script_lang.proofs.line.without_comment.Goals as goal
 
-pub returns-then-byte-eq35 : goal.returns-then-byte-eq35
-returns-then-byte-eq35 c =
-    let e = content_of-is c.args.line.now c.loop-index.index (omega arith) c.loop-index.invariant (λ _. search rules) in
-    grind (arith, common_steps)
+pub returns-in-Some : goal.returns-in-Some
+returns-in-Some c = content_of-found c.args.line.now c.in-Some.start (sym c.in-Some.ensures.place)
 
-pub returns : goal.returns
-returns c =
-    let e = content_of-is c.args.line.now (length c.args.line.now) (omega arith) (λ k h. c.loop-index.invariant k (omega arith)) (λ h. absurd (omega arith)) in
-    grind (arith, common_steps)
+pub returns-in-None : goal.returns-in-None
+returns-in-None c = content_of-whole c.args.line.now (sym c.in-None.ensures.place)

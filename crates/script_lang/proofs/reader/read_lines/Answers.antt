@@ -1,4 +1,4 @@
-use Rattle.std.proofs.Common.{◌==◌, [], ◌∷◌, length, map, subst, sym, ap, ◌∙◌, Ok, Some, None, inr, arith, rules, tests}
+use Rattle.std.proofs.Common.{◌==◌, [], ◌∷◌, length, map, subst, sym, ap, ◌∙◌, Ok, Some, None, inl, inr, arith, rules, tests}
 use Rattle.std.proofs.lemmas.List.{map-append, length-map, length-append}
 use Rattle.std.proofs.lemmas.Iterator.Splits.{YieldsList-from_slice_split}
 use Rattle.std.proofs.lemmas.Iterator.Consumers.{YieldsList-so_far, YieldsList-turn, YieldsList-end}
@@ -6,7 +6,7 @@ use Rattle.debug_model.specs.ScriptText.{line_feed}
 use Rattle.debug_model.specs.Grammar.{AreReadAs, line_read_after}
 use Rattle.script_lang.proofs.LineLemmas.{room_for, line_read-alone}
 use Rattle.script_lang.proofs.ReaderLemmas.{AreReadAs-push_none, AreReadAs-push_some, HasFirstFault-at, at_ok}
-use Rattle.script_lang.proofs.reader.parse.Goals as goal
+use Rattle.script_lang.proofs.reader.read_lines.Goals as goal
 
 pub push-requires-clause-few : goal.push-requires-clause-few
 push-requires-clause-few c =
@@ -42,12 +42,13 @@ returns-in-Err-clause-refused c =
     let turn = YieldsList-turn (YieldsList-from_slice_split _ (λ b. b == line_feed) c.args.text.now (cc) (cc) (cc) (λ x b q k. search (rules, tests))) c.loop-line.yielded _ c.loop-line.yielded_by _ _ c.in-Some.line c.in-Some.is c.next.ensures.steps in
     let front = YieldsList-so_far (YieldsList-from_slice_split _ (λ b. b == line_feed) c.args.text.now (cc) (cc) (cc) (λ x b q k. search (rules, tests))) c.loop-line.yielded _ c.loop-line.yielded_by in
     let e = ap (λ cs. line_read_after (length cs) c.in-Some.line.now) (sym c.commands.ensures.list) ∙ sym c.read_line.ensures.reading ∙ c.in-Err.is in
-    inr (HasFirstFault-at c.args.text.now (length c.loop-line.yielded) (map (λ x. x.now) c.loop-line.yielded) c.in-Some.line.now c.loop-line.script _ c.in-Err.fault front (simp length-map) turn.0 turn.1 c.loop-line.invariant.read c.loop-line.invariant.few (omega (arith, c.loop-line.invariant.place)) e)
+    inl (inr (HasFirstFault-at c.args.text.now (length c.loop-line.yielded) (map (λ x. x.now) c.loop-line.yielded) c.in-Some.line.now c.loop-line.script _ c.in-Err.fault c.requires front (simp length-map) turn.0 turn.1 c.loop-line.invariant.read c.loop-line.invariant.few (omega (arith, c.loop-line.invariant.place)) e))
 
 pub returns-clause-read : goal.returns-clause-read
 returns-clause-read c =
     let all = YieldsList-end (YieldsList-from_slice_split _ (λ b. b == line_feed) c.args.text.now (cc) (cc) (cc) (λ x b q k. search (rules, tests))) c.loop-line.yielded _ c.loop-line.yielded_by _ _ c.in-None.is c.next.ensures.steps in
     record {
+      short = c.requires;
       few = c.loop-line.invariant.few;
       lines = subst (λ ls. AreReadAs ls c.loop-line.script) all.0 c.loop-line.invariant.read;
     }
