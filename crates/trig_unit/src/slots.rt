@@ -70,6 +70,7 @@ impl Slots {
     }
 
     /// Whether some slot is on in Machine Mode: no other fires or counts.
+    #[inline(always)]
     pub fn any_armed(&self) -> bool
         ensures armed { result ≡ some_armed self.now.slots }
         ensures quiet { result ≡ false → (touch : Touch) → some_member (fires touch self.now.slots) ≡ false }
@@ -108,12 +109,19 @@ impl Slots {
     }
 
     /// An executed turn lets the counts fall.
+    #[inline(always)]
     pub fn retired(&mut self)
         ensures { self.new ≡ record self.old { slots = counted_down self.old.slots } }
     {
-        if !self.armed {
-            return;
+        if self.armed {
+            self.count_down();
         }
+    }
+
+    /// Lets each count fall that is on.
+    fn count_down(&mut self)
+        ensures { self.new ≡ record self.old { slots = counted_down self.old.slots } }
+    {
         let [a, b, c, d] = self.slots;
         self.slots = [
             slot::counted_down(a),

@@ -15,7 +15,7 @@ use super::DebugHart;
 use crate::ran_word::RanWord;
 use rv_hart::{CsrChange, changed, writes};
 use rv_mem::Ram;
-use rv_model::{CsrImmType, CsrType, DebugDid, Did, Insn};
+use rv_model::{CsrImmType, CsrType, DebugDid, Did, Insn, Touch};
 use rv_words::decode;
 
 /// The word before this one was the last: this is `ebreak`.
@@ -35,6 +35,13 @@ const DONE: RanWord = RanWord {
     did: DebugDid::Next,
     accessed: false,
 };
+
+/// Whether an instruction that touches this is a load, a store or an atomic memory operation.
+fn is_access(touch: &Touch) -> bool
+    ensures { result ≡ touches_memory touch.now }
+{
+    touch.load.is_some() || touch.store.is_some()
+}
 
 impl DebugHart {
     #[tactic(auto, unfolding(rv_model::specs::ProgramBuffer::ran_word))]
@@ -139,7 +146,7 @@ impl DebugHart {
         ensures { ran_to self.new ram.new result ≡ executed (effect_of insn self.old.core ram.old) (touches_memory (touch insn self.old.core)) self.old ram.old }
     {
         let touch = self.hart.touch_by(insn);
-        let accessed = touch.load.is_some() || touch.store.is_some();
+        let accessed = is_access(&touch);
         let before = self.hart;
         match self.hart.execute(ram, insn) {
             Did::Retired => {

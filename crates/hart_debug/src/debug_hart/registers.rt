@@ -36,6 +36,7 @@ fn read_core(hart: &Hart, regno: u16) -> Option<u64>
     hart.csr_read(regno)
 }
 
+#[tactic(auto, using(crate::proofs::Registers::x_answer, crate::proofs::Registers::dpc_answer))]
 /// Writes a register of the core; what is not writable stays as it is. A refusal changes nothing: `Absent` where the core
 /// has no register of this number, `ReadOnly` at mvendorid, marchid, mimpid and mhartid.
 fn write_core(hart: &mut Hart, regno: u16, value: u64) -> Result<(), CsrFault>

@@ -62,14 +62,25 @@ impl DebugHart {
     }
 
     /// Whether the hart halts at a trigger; the slots that fire take their hit.
+    ///
+    /// What the instruction touches is asked for only where a slot is armed: few harts have one in most turns.
+    #[inline(always)]
     fn stops_at_trigger(&mut self, ram: &Ram) -> bool
         ensures answer { result ≡ some_fires (touch_of self.old.core ram.now) self.old }
         ensures hart { self.new ≡ stopped_at_trigger (touch_of self.old.core ram.now) self.old }
     {
-        // What the instruction touches is asked for only where a slot may fire: most harts have none armed in most turns.
-        if !self.slots.any_armed() {
-            return false;
+        if self.slots.any_armed() {
+            self.mark_fired(ram)
+        } else {
+            false
         }
+    }
+
+    /// The slots that fire take their hit. Are there any?
+    fn mark_fired(&mut self, ram: &Ram) -> bool
+        ensures answer { result ≡ some_fires (touch_of self.old.core ram.now) self.old }
+        ensures hart { self.new ≡ stopped_at_trigger (touch_of self.old.core ram.now) self.old }
+    {
         let fired = self.fired(ram);
         if fired.0 == 0 {
             return false;

@@ -3,7 +3,7 @@ use Rattle.trig_unit.specs.Armed.{some_armed}
 use Rattle.trig_unit.proofs.Four.{unarmed_still}
 use Rattle.trig_unit.proofs.slots.Slots.retired.Goals as goal
 
-pub returns-then-not-self : goal.returns-then-not-self
-returns-then-not-self c =
+pub returns-else-self : goal.returns-else-self
+returns-else-self c =
     ap (λ s. record c.args.self.now { slots = s })
-    (sym (unarmed_still c.args.self.now.slots (ap (λ t. some_armed t.slots) (sym c.self.view_is) ∙ sym c.self.invariant.marked ∙ c.if-not-self.true)))
+    (sym (unarmed_still c.args.self.now.slots (ap (λ t. some_armed t.slots) (sym c.self.view_is) ∙ sym c.self.invariant.marked ∙ c.if-self.false)))
