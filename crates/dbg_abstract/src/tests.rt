@@ -1,7 +1,4 @@
-use crate::CommandUnit;
-
-#[test]
-fn placeholder(rt: HostRuntime) {
-    let unit = CommandUnit::new();
-    assert_eq!(rt; unit.abstractcs(), 0x0400_0002);
-}
+mod harts;
+mod registers;
+mod running;
+mod starting;

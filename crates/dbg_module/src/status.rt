@@ -19,7 +19,7 @@ pub fn hart_at(harts: &[DebugHart], number: u16) -> Option<&DebugHart>
 
 /// The status of a hart, or that there is no such hart.
 pub fn hart_status(hart: Option<&DebugHart>) -> Dmstatus
-    ensures { result ≡ hart_status (option_map (λ h. h.now) hart) }
+    ensures { result ≡ hart_status (option_map (λ h. h.now) hart.entry) }
 {
     match hart {
         Some(hart) => Dmstatus {

@@ -60,7 +60,7 @@ impl CommandUnit {
     /// while a command is under way it notes the error 1.
     pub fn read_word(&mut self, word: CommandWord, hart: Option<&DebugHart>) -> u32
         ensures value { result ≡ word_in word self.old }
-        ensures after { self.new ≡ word_read word (option_map (λ h. h.now) hart) self.old }
+        ensures after { self.new ≡ word_read word (option_map (λ h. h.now) hart.entry) self.old }
     {
         let value = self.word(word);
         if self.is_busy() {
@@ -74,7 +74,7 @@ impl CommandUnit {
     /// A write of a word. Behind it the kept command starts on the selected hart where `abstractauto` says so;
     /// while a command is under way it writes nothing and notes the error 1.
     pub fn write_word(&mut self, word: CommandWord, value: u32, hart: Option<&DebugHart>)
-        ensures { self.new ≡ word_written word value (option_map (λ h. h.now) hart) self.old }
+        ensures { self.new ≡ word_written word value (option_map (λ h. h.now) hart.entry) self.old }
     {
         if self.is_busy() {
             self.note(Cmderr::Busy);
@@ -111,7 +111,7 @@ impl CommandUnit {
     /// A write of `command`: the command is kept and starts on the selected hart. With an error set it changes nothing;
     /// while a command is under way it is a late write.
     pub fn write_command(&mut self, word: u32, hart: Option<&DebugHart>)
-        ensures { self.new ≡ command_written word (option_map (λ h. h.now) hart) self.old }
+        ensures { self.new ≡ command_written word (option_map (λ h. h.now) hart.entry) self.old }
     {
         if self.is_busy() {
             self.late = true;
@@ -170,7 +170,7 @@ impl CommandUnit {
 
     /// Behind an access to a word: the kept command starts where `abstractauto` says so.
     fn start_automatically(&mut self, word: CommandWord, hart: Option<&DebugHart>)
-        ensures { self.new ≡ auto_started word (option_map (λ h. h.now) hart) self.old }
+        ensures { self.new ≡ auto_started word (option_map (λ h. h.now) hart.entry) self.old }
     {
         if is_auto(word, self.auto) {
             self.start(hart);

@@ -1,6 +1,6 @@
 //! The start of the kept command (RISC-V Debug Specification 1.0, "Abstract Commands" and "Access Register").
 
-ghost use Rattle.std.specs.Prelude.{◌≡◌, option_map};
+ghost use Rattle.std.specs.Prelude.{◌≡◌, true, option_map};
 ghost use Rattle.debug_model.specs.Commands.{can_transfer, has_register, is_supported, refusal, serves, start, started_by, steps_of};
 
 use super::CommandUnit;
@@ -31,7 +31,7 @@ fn is_supported(command: AbstractCommand) -> bool
 
 /// Whether the hart is there and stays halted: no resume is asked of it.
 fn serves(hart: Option<&DebugHart>) -> bool
-    ensures { result ≡ serves (option_map (λ h. h.now) hart) }
+    ensures { result ≡ serves (option_map (λ h. h.now) hart.entry) }
 {
     match hart {
         Some(hart) => hart.is_halted() && !hart.resume_waits(),
@@ -41,8 +41,8 @@ fn serves(hart: Option<&DebugHart>) -> bool
 
 /// Whether the register of a transfer is there, and writable where it is to be written.
 fn can_transfer(hart: Option<&DebugHart>, command: AbstractCommand) -> bool
-    requires { serves (option_map (λ h. h.now) hart) ≡ true }
-    ensures { result ≡ can_transfer (option_map (λ h. h.now) hart) command }
+    requires { serves (option_map (λ h. h.now) hart.entry) ≡ true }
+    ensures { result ≡ can_transfer (option_map (λ h. h.now) hart.entry) command }
 {
     if !command.transfer {
         return true;
@@ -59,7 +59,7 @@ fn can_transfer(hart: Option<&DebugHart>, command: AbstractCommand) -> bool
 /// Why a command is refused, with the first reason, or `Fine`.
 #[tactic(auto, unfolding(debug_model::specs::Commands::refusal))]
 fn refusal(hart: Option<&DebugHart>, command: AbstractCommand) -> Cmderr
-    ensures { result ≡ refusal (option_map (λ h. h.now) hart) command }
+    ensures { result ≡ refusal (option_map (λ h. h.now) hart.entry) command }
 {
     if !is_supported(command) {
         Cmderr::NotSupported
@@ -75,7 +75,7 @@ fn refusal(hart: Option<&DebugHart>, command: AbstractCommand) -> Cmderr
 impl CommandUnit {
     /// The kept command starts on the selected hart, of a unit that has none under way; with an error set nothing starts.
     pub(super) fn start(&mut self, hart: Option<&DebugHart>)
-        ensures { self.new ≡ start (option_map (λ h. h.now) hart) self.old }
+        ensures { self.new ≡ start (option_map (λ h. h.now) hart.entry) self.old }
     {
         match self.error {
             Cmderr::Fine => self.start_or_refuse(refusal(hart, self.command)),

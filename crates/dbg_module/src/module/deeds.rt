@@ -1,6 +1,7 @@
 //! What happens behind the transport between two operations: micro steps of a command, and accesses of the system bus.
 
 ghost use Rattle.std.specs.Prelude.{◌≡◌, ◌++◌, List};
+ghost use Rattle.rv_model.specs.Board.{Hart};
 ghost use Rattle.debug_model.specs.declared.point.Point.{Point};
 ghost use Rattle.debug_model.specs.Deeds.{access_points, bus_stepped, command_stepped};
 ghost use Rattle.dbg_module.specs.Served.{IsServedBy};
@@ -40,7 +41,7 @@ impl Module {
     /// It answers whether there was one: it touched memory, or tried to, and the journal has that.
     #[inline(always)]
     pub fn bus_step(&mut self, ram: &mut Ram) -> bool
-        ensures { (hs : List Hart) (j : List Point) → bus_stepped (site_of self.old hs ram.old j) ≡ site_of self.new hs ram.new (j ++ access_points result) }
+        ensures site { (hs : List Hart) (j : List Point) → bus_stepped (site_of self.old hs ram.old j) ≡ site_of self.new hs ram.new (j ++ access_points result) }
         ensures served { (hs : List Hart) → IsServedBy self.old hs → IsServedBy self.new hs }
     {
         self.bus.done(ram)

@@ -43,7 +43,7 @@ impl Module {
 
     /// What a register shows of a module that does not work: all but dmcontrol read 0.
     fn inactive_word(&self, register: ModuleRegister) -> u32
-        ensures { result ≡ shown_inactive register (bare_site self.now harts []) }
+        ensures { result ≡ shown_inactive register (bare_site self.now [] []) }
     {
         match register {
             ModuleRegister::Dmcontrol => self.dmcontrol(),
