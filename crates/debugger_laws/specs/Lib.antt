@@ -1,0 +1,9 @@
+pub mod Trace
+pub mod Own
+pub mod Slots
+pub mod Lines
+pub mod Plan
+pub mod Debugger
+pub mod Transcript
+pub mod FirstMatch
+pub mod Laws

@@ -1,0 +1,2 @@
+//! Laws of the abstract debugger: what is true of every session, whatever its script and whatever happens at the chip.
+#![tactic(auto)]
