@@ -4,6 +4,7 @@ pub mod Slots
 pub mod Lines
 pub mod Plan
 pub mod Debugger
+pub mod Turns
 pub mod Transcript
 pub mod FirstMatch
 pub mod Laws
