@@ -1,5 +1,5 @@
 -- A change at one place of a list, and of one hart of a board.
-use Rattle.std.proofs.Common.{◌≡◌, ◌∙◌, ℕ, zero, suc, List, [], ◌∷◌, map, set, Option, Some, None, slice_get, option_map, refl, sym, ap}
+use Rattle.std.proofs.Common.{◌≡◌, ℕ, zero, suc, List, [], ◌∷◌, set, Some, None, slice_get, option_map, refl, ap}
 use Rattle.debugger_laws.specs.Slots.{over}
 
 pub slice_get-over_same : {A : Type 0} (f : A → A) (h : ℕ) (xs : List A) → slice_get (over h f xs) h ≡ option_map f (slice_get xs h)

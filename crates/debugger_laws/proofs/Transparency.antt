@@ -7,8 +7,8 @@ use Rattle.rv_model.specs.Memory.{Memory}
 use Rattle.rv_model.specs.Registers.{reg_written}
 use Rattle.rv_model.specs.Touch.{touch_of}
 use Rattle.rv_model.specs.Triggers.{fires}
-use Rattle.rv_model.specs.Turn.{executes, executes_at, executes_by, executes_here, some_fires, stops_at_ebreak}
-use Rattle.rv_model.specs.Undebugged.{Entry, Exec, SetReg, SetMem, entered, undebugged, with_reg}
+use Rattle.rv_model.specs.Turn.{executes, executes_by, executes_here, some_fires, stops_at_ebreak}
+use Rattle.rv_model.specs.Undebugged.{Entry, SetReg, SetMem, entered, undebugged, with_reg}
 use Rattle.rv_model.proofs.BoardLemmas.{undebugged-append}
 use Rattle.debug_model.specs.Journal.{machine_after_point}
 use Rattle.debug_model.specs.declared.point.Point.{Point}
@@ -16,12 +16,12 @@ use Rattle.debug_model.specs.declared.point.Point.TheVariants.{Turn, Look, HaltR
 use Rattle.debug_model.proofs.JournalLemmas.{points_forget_debugging}
 use Rattle.debugger_laws.specs.Laws.{Transparent, PastsAreUndebugged}
 use Rattle.debugger_laws.specs.Own.{lived, own}
-use Rattle.debugger_laws.specs.Plan.{Change, Plan, changed_board, changed_past, ebreak_halts, hart_over, register_set, slot_changed, slot_freed, step_begun, step_ended, with_debug_part}
+use Rattle.debugger_laws.specs.Plan.{Change, changed_board, changed_past, ebreak_halts, hart_over, register_set, slot_changed, slot_freed, step_begun, step_ended, with_debug_part}
 use Rattle.debugger_laws.specs.Plan.Change.{WriteReg, WriteMem, ArmSlot, FreeSlot, StepOver, StepDone, EbreakHalts}
 use Rattle.debugger_laws.specs.Slots.{over}
 use Rattle.debugger_laws.specs.Trace.{Note, Past, noted, noted_by, noted_here, trace_of}
 use Rattle.debugger_laws.specs.Trace.Note.{Did, Stop, Arm, Free}
-use Rattle.debugger_laws.specs.Transcript.{World, changed, passed, replay, start}
+use Rattle.debugger_laws.specs.Transcript.{World, replay, start}
 use Rattle.debugger_laws.proofs.Keeps.{Keeps, replay-keeps}
 
 -- ---- entries in order, and a past

@@ -1,6 +1,6 @@
 -- The abstract debugger: what each command of a script does, as a plan, with the hart and the path that are then selected.
 -- It is this project's own (docs/SCRIPT.md). Lines that follow a Look at a halted hart read and write its registers and slots at once.
-use Rattle.std.specs.Prelude.{ℕ, zero, suc, ◌+◌, ◌-◌, ◌&&◌, Bool, true, false, List, [], ◌∷◌, ◌++◌, length, map, Option, Some, None, Result, Ok, Err, ⊤, option_map, unwrap_or, slice_get, if◌then◌else◌, ◌==◌}
+use Rattle.std.specs.Prelude.{ℕ, zero, suc, ◌+◌, ◌&&◌, Bool, true, false, List, [], ◌∷◌, ◌++◌, length, map, Option, Some, None, Result, Ok, Err, ⊤, unwrap_or, slice_get, if◌then◌else◌, ◌==◌}
 use Rattle.std.specs.List.{range_with_len}
 use Rattle.rv_model.specs.declared.cause.Cause.{Cause}
 use Rattle.rv_model.specs.declared.cause.Cause.TheVariants as cause
@@ -17,15 +17,14 @@ use Rattle.debug_model.specs.declared.command.Command.{Command}
 use Rattle.debug_model.specs.declared.command.Command.TheVariants as command
 use Rattle.debug_model.specs.declared.command.Path.{Path}
 use Rattle.debug_model.specs.declared.command.Path.TheVariants.{Progbuf, Bus}
-use Rattle.debug_model.specs.declared.point.Point.{Point}
 use Rattle.debug_model.specs.declared.point.Point.TheVariants.{Look, HaltReq, HaltClear, ResumeReq, Access}
 use Rattle.debug_model.specs.Tap.{idcode}
 use Rattle.debugger_laws.specs.Lines.{Line}
-use Rattle.debugger_laws.specs.Plan.{Change, Plan, PlanEnd, is_step}
+use Rattle.debugger_laws.specs.Plan.{Plan, is_step}
 use Rattle.debugger_laws.specs.Plan.Change.{WriteReg, WriteMem, ArmSlot, FreeSlot, StepOver, StepDone, EbreakHalts}
 use Rattle.debugger_laws.specs.Plan.Plan.{take, see, change, say, stop}
 use Rattle.debugger_laws.specs.Plan.PlanEnd.{Done, NoHalt, NoAck}
-use Rattle.debugger_laws.specs.Slots.{Use, any_hit, first_free, hits_of, is_free, slots_at, trigger_has_hit, use_of}
+use Rattle.debugger_laws.specs.Slots.{any_hit, first_free, hits_of, is_free, slots_at, trigger_has_hit, use_of}
 use Rattle.debugger_laws.specs.Slots.Use.{Armed, Unused}
 use Rattle.debugger_laws.specs.Trace.{What}
 use Rattle.debugger_laws.specs.Trace.What.{Break, Watch, Count}

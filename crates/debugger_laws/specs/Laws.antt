@@ -1,8 +1,8 @@
 -- Laws of replays and transcripts: for every plan, or every script, whatever the journal and however it ends.
 -- They are this project's own; docs/HEADLINE.md reads them aloud.
-use Rattle.std.specs.Prelude.{◌≡◌, ◌≢◌, ℕ, List, [], ◌∷◌, ◌++◌, All, Bool, true, false, Option, Some, None, slice_get}
+use Rattle.std.specs.Prelude.{◌≡◌, ◌≢◌, ℕ, List, ◌++◌, false, Some, slice_get}
 use Rattle.rv_model.specs.declared.cause.Cause.{Cause}
-use Rattle.rv_model.specs.Board.{Board, DebugPart, Hart, Machine, machine_of, reset_debug}
+use Rattle.rv_model.specs.Board.{Board, DebugPart, Hart, Machine, machine_of}
 use Rattle.rv_model.specs.Undebugged.{undebugged}
 use Rattle.debug_model.specs.declared.command.Command.{Command}
 use Rattle.debug_model.specs.declared.point.Point.{Point}

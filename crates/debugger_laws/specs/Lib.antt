@@ -8,3 +8,4 @@ pub mod Turns
 pub mod Transcript
 pub mod FirstMatch
 pub mod Laws
+pub mod Examples

@@ -1,6 +1,6 @@
 -- A debugger's plan: what is still to be done, as points to be taken, looks at the board, changes made at once, and lines to be said.
 -- It is this project's own. It knows no scan, no register of the debug module, no busy answer and no program buffer.
-use Rattle.std.specs.Prelude.{◌+◌, ◌||◌, ℕ, Bool, true, false, not, ◌&&◌, Option, Some, None, slice_get, if◌then◌else◌, ◌==◌, List, [], ◌∷◌}
+use Rattle.std.specs.Prelude.{ℕ, Bool, true, false, Option, Some, None, if◌then◌else◌, ◌==◌, ◌∷◌}
 use Rattle.rv_model.specs.declared.cause.Cause.{Cause}
 use Rattle.rv_model.specs.declared.cause.Cause.TheVariants as cause
 use Rattle.rv_model.specs.Board.{Board, DebugPart, Hart}
@@ -9,8 +9,8 @@ use Rattle.rv_model.specs.Undebugged.{SetMem, SetReg, with_bytes}
 use Rattle.debug_model.specs.declared.point.Point.{Point}
 use Rattle.debugger_laws.specs.Lines.{Line}
 use Rattle.debugger_laws.specs.Slots.{armed_for, freed, hits_forgotten, over, slots_back, slots_held, with_slots}
-use Rattle.debugger_laws.specs.Trace.{Note, Past, What}
-use Rattle.debugger_laws.specs.Trace.Note.{Did, Stop, Arm, Free}
+use Rattle.debugger_laws.specs.Trace.{Past, What}
+use Rattle.debugger_laws.specs.Trace.Note.{Did, Arm, Free}
 
 -- what a debugger does at once, however many registers it writes for it
 pub data Change : Type 0 where

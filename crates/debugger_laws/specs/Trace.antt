@@ -1,6 +1,6 @@
 -- The trace of a session: what happened at the harts that a debugger's user can tell, one note after the other.
 -- It is this project's own. A trace is kept as a past, the newest note first, so that each note is read over what stands before it.
-use Rattle.std.specs.Prelude.{ℕ, Bool, true, false, List, [], ◌∷◌, ◌++◌, Option, Some, None, slice_get, if◌then◌else◌}
+use Rattle.std.specs.Prelude.{ℕ, Bool, true, false, List, [], ◌∷◌, ◌++◌, Option, Some, None, slice_get}
 use Rattle.rv_model.specs.declared.cause.Cause.{Cause}
 use Rattle.rv_model.specs.declared.cause.Cause.TheVariants as cause
 use Rattle.rv_model.specs.Board.{Board, Hart}
