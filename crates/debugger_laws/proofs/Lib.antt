@@ -4,3 +4,4 @@ pub mod Transparency
 pub mod Fetched
 pub mod ExampleLemmas
 pub mod AccessLemmas
+pub mod SlotLemmas

@@ -9,3 +9,4 @@ pub mod Transcript
 pub mod FirstMatch
 pub mod Laws
 pub mod Examples
+pub mod Ways
