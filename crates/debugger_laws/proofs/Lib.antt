@@ -5,3 +5,5 @@ pub mod Fetched
 pub mod ExampleLemmas
 pub mod AccessLemmas
 pub mod SlotLemmas
+pub mod StoryLemmas
+pub mod HartLemmas
