@@ -256,7 +256,7 @@ halted_turn h hart mem past why is =
     halted_notes hart.debug.halted hart.debug.halt_request (some_fires (touch_of hart.core mem) hart) (stops_at_ebreak hart mem) hart.debug.step
     h (fires (touch_of hart.core mem) hart.debug.slots) past why is
 
-abbrev TurnedTo : Way → Machine → ℕ → Past → Hart → Memory → Type 0
+abbrev pub TurnedTo : Way → Machine → ℕ → Past → Hart → Memory → Type 0
 TurnedTo way m h past hart mem = Turned way m h past (noted_turn h hart mem past) (place_of hart mem).hart.debug
 
 stays : (way : Way) (m : Machine) (h : ℕ) (past : Past) (hart : Hart) (mem : Memory) (why : Cause) → hart.debug.halted ≡ Some why → hart.debug.resume_request ≡ false

@@ -7,3 +7,9 @@ pub mod AccessLemmas
 pub mod SlotLemmas
 pub mod StoryLemmas
 pub mod HartLemmas
+pub mod WorldLemmas
+pub mod PointLemmas
+pub mod GoodLemmas
+pub mod ScriptLemmas
+pub mod FrontLemmas
+pub mod FrozenLemmas

@@ -1,12 +1,15 @@
 -- Laws of replays and transcripts: for every plan, or every script, whatever the journal and however it ends.
 -- They are this project's own; docs/HEADLINE.md reads them aloud.
-use Rattle.std.specs.Prelude.{◌≡◌, ◌≢◌, ℕ, List, ◌++◌, false, Some, slice_get}
+use Rattle.std.specs.Prelude.{◌≡◌, ◌≢◌, ℕ, All, List, ◌++◌, Option, Some, false, slice_get}
 use Rattle.rv_model.specs.declared.cause.Cause.{Cause}
-use Rattle.rv_model.specs.Board.{Board, DebugPart, Hart, Machine, machine_of}
+use Rattle.rv_model.specs.Board.{Board, DebugPart, Hart, Machine, machine_of, reset_debug}
 use Rattle.rv_model.specs.Undebugged.{undebugged}
 use Rattle.debug_model.specs.declared.command.Command.{Command}
+use Rattle.debug_model.specs.Command.{IsWithinRanges}
 use Rattle.debug_model.specs.declared.point.Point.{Point}
 use Rattle.debugger_laws.specs.Debugger.{State, commands, session}
+use Rattle.debugger_laws.specs.FirstMatch.{FirstMatch}
+use Rattle.debugger_laws.specs.Known.{IsFresh, IsFreshPart}
 use Rattle.debugger_laws.specs.Lines.{Line}
 use Rattle.debugger_laws.specs.Own as entries
 use Rattle.debugger_laws.specs.Own.{lived}
@@ -29,6 +32,17 @@ Transparent = (plan : Plan) (board : Board) (journal : List Point)
 -- the machine that lives through a past is the undebugged run of its entries
 abbrev pub PastsAreUndebugged : Type 0
 PastsAreUndebugged = (m : Machine) (past : Past) → undebugged m (entries.own (trace_of past)) ≡ lived m past
+
+-- ---- first match
+
+-- it holds of the trace of every script within its ranges, over a board whose harts no debugger has touched
+abbrev pub FirstMatchHolds : Type 0
+FirstMatchHolds = (board : Board) (script : List Command) (journal : List Point) → All IsWithinRanges script → IsFresh board
+    → FirstMatch (machine_of board) (transcript board script journal).world.past
+
+-- and a reset leaves harts so
+abbrev pub ResetIsFresh : Type 0
+ResetIsFresh = (halted : Option Cause) → IsFreshPart (reset_debug halted)
 
 -- ---- a journal that is cut
 

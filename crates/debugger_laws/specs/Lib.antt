@@ -10,3 +10,4 @@ pub mod FirstMatch
 pub mod Laws
 pub mod Examples
 pub mod Ways
+pub mod Known

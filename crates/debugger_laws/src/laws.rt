@@ -1,6 +1,6 @@
 //! Laws of replays and transcripts. Each is the contract of a function that does nothing; `specs/Laws.antt` has the statements.
 
-ghost use Rattle.debugger_laws.specs.Laws.{PastsAreUndebugged, Transparent};
+ghost use Rattle.debugger_laws.specs.Laws.{ChangesMayWait, CutLinesAreAFront, FirstMatchHolds, FrozenMayWait, FrozenStays, LinesGrow, OnlyOpenOnesGrow, PastsAreUndebugged, ResetIsFresh, Transparent, TurnsKeepOn};
 
 /// Memory and every hart's core end as those of a machine that nobody debugs, whatever the plan, the board, the journal and the end.
 pub fn transparent()
@@ -10,4 +10,41 @@ pub fn transparent()
 /// The machine that lives through a past is the undebugged run of the past's own entries.
 pub fn pasts_are_undebugged()
     ensures { PastsAreUndebugged }
+{}
+
+/// First match holds of the trace of every script within its ranges, whatever the journal and the end.
+pub fn first_match()
+    ensures { FirstMatchHolds }
+{}
+
+/// A reset leaves a hart as no debugger has touched it.
+pub fn reset_is_fresh()
+    ensures { ResetIsFresh }
+{}
+
+/// A replay only adds lines.
+pub fn lines_grow()
+    ensures { LinesGrow }
+{}
+
+/// What is printed along a journal that was cut is the front of what is printed along any longer one.
+pub fn cut_lines()
+    ensures front { CutLinesAreAFront }
+    ensures whole { OnlyOpenOnesGrow }
+{}
+
+/// Turns alone lead no plan astray.
+pub fn turns_keep_on()
+    ensures { TurnsKeepOn }
+{}
+
+/// Turns pass a halted hart by that nobody asks to resume.
+pub fn frozen_stays()
+    ensures { FrozenStays }
+{}
+
+/// A change of such a hart may be made before some turns or behind them, and so may each change that a plan makes of it.
+pub fn frozen_may_wait()
+    ensures any { FrozenMayWait }
+    ensures plans { ChangesMayWait }
 {}
