@@ -13,3 +13,4 @@ pub mod GoodLemmas
 pub mod ScriptLemmas
 pub mod FrontLemmas
 pub mod FrozenLemmas
+pub mod QuietLemmas

@@ -1,6 +1,6 @@
 //! Laws of replays and transcripts. Each is the contract of a function that does nothing; `specs/Laws.antt` has the statements.
 
-ghost use Rattle.debugger_laws.specs.Laws.{ChangesMayWait, CutLinesAreAFront, FirstMatchHolds, FrozenMayWait, FrozenStays, LinesGrow, OnlyOpenOnesGrow, PastsAreUndebugged, ResetIsFresh, Transparent, TurnsKeepOn};
+ghost use Rattle.debugger_laws.specs.Laws.{ChangesMayWait, CommandsAreQuiet, CutLinesAreAFront, FirstMatchHolds, FrozenMayWait, FrozenStays, LinesGrow, OnlyOpenOnesGrow, PastsAreUndebugged, QuietBoards, ResetIsFresh, SessionsSayQuietly, Transparent, TurnsKeepOn};
 
 /// Memory and every hart's core end as those of a machine that nobody debugs, whatever the plan, the board, the journal and the end.
 pub fn transparent()
@@ -47,4 +47,11 @@ pub fn frozen_stays()
 pub fn frozen_may_wait()
     ensures any { FrozenMayWait }
     ensures plans { ChangesMayWait }
+{}
+
+/// Behind a line only lines follow, up to the next point: where no line is written any more, the board is left to the turns.
+pub fn quiet_boards()
+    ensures boards { QuietBoards }
+    ensures commands { CommandsAreQuiet }
+    ensures sessions { SessionsSayQuietly }
 {}
