@@ -14,3 +14,5 @@ pub mod ScriptLemmas
 pub mod FrontLemmas
 pub mod FrozenLemmas
 pub mod QuietLemmas
+pub mod StandsLemmas
+pub mod DealsLemmas

@@ -11,3 +11,4 @@ pub mod Laws
 pub mod Examples
 pub mod Ways
 pub mod Known
+pub mod Stands
