@@ -16,3 +16,4 @@ pub mod FrozenLemmas
 pub mod QuietLemmas
 pub mod StandsLemmas
 pub mod DealsLemmas
+pub mod OrderLemmas

@@ -1,6 +1,6 @@
 //! Laws of replays and transcripts. Each is the contract of a function that does nothing; `specs/Laws.antt` has the statements.
 
-ghost use Rattle.debugger_laws.specs.Laws.{ChangesMayWait, CommandsAreQuiet, CutLinesAreAFront, FirstMatchHolds, FrozenMayWait, FrozenStays, LinesGrow, OnlyOpenOnesGrow, PastsAreUndebugged, QuietBoards, ResetIsFresh, SessionsSayQuietly, Transparent, TurnsKeepOn};
+ghost use Rattle.debugger_laws.specs.Laws.{ChangesMayWait, CommandsAreQuiet, CommandsSpeakInOrder, CutLinesAreAFront, FirstMatchHolds, FrozenMayWait, FrozenStays, LinesGrow, OnlyOpenOnesGrow, PastsAreUndebugged, QuietBoards, ResetIsFresh, SessionsSayQuietly, Transparent, TurnsKeepOn};
 
 /// Memory and every hart's core end as those of a machine that nobody debugs, whatever the plan, the board, the journal and the end.
 pub fn transparent()
@@ -31,6 +31,11 @@ pub fn lines_grow()
 pub fn cut_lines()
     ensures front { CutLinesAreAFront }
     ensures whole { OnlyOpenOnesGrow }
+{}
+
+/// The lines of a script's first commands are the front of its lines, along the same journal.
+pub fn commands_speak_in_order()
+    ensures { CommandsSpeakInOrder }
 {}
 
 /// Turns alone lead no plan astray.
