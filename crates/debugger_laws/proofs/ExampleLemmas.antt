@@ -10,7 +10,7 @@ use Rattle.rv_model.specs.Rows.{meaning}
 use Rattle.debug_model.specs.Registers.{name_of_register, registers}
 use Rattle.debug_model.specs.Spelling.{hexadecimal}
 use Rattle.debugger_laws.specs.Debugger.{session, stepping, until}
-use Rattle.debugger_laws.specs.Examples.{Case, Happens, Holds, step_from_reset, break_twice, pc_onto_break, pc_onto_the_same_break, step_onto_break, count_five, watched_store, ebreak_halts, five_breaks, hart_7, hart_1_running, read_only_register, misaligned_read, no_halt, no_ack, step_without_halt, step_without_ack, wait_in_vain, cut_in_a_step, foreign_request, StopsHappen, RefusalsHappen, LossesHappen, LinesRead}
+use Rattle.debugger_laws.specs.Examples.{Case, Happens, Holds, step_from_reset, break_twice, pc_onto_break, pc_onto_the_same_break, step_onto_break, count_five, watched_store, ebreak_halts, halt_running, five_breaks, hart_7, hart_1_running, read_only_register, misaligned_read, no_halt, no_ack, step_without_halt, step_without_ack, wait_in_vain, cut_in_a_step, foreign_request, StopsHappen, RefusalsHappen, LossesHappen, LinesRead}
 use Rattle.debugger_laws.specs.Transcript.{End, Outcome, start, transcript}
 use Rattle.debugger_laws.proofs.Fetched.{computed, computed-agrees, some-unwrap}
 
@@ -76,6 +76,10 @@ ebreak_halts_happens : Happens ebreak_halts
 unfolding computed meaning alu_of effect_of stepping until csr_value csr_read_only
 ebreak_halts_happens = happens ebreak_halts (λ m. record { memory_is = refl; some = refl; lines = refl; end = refl; past = refl })
 
+halt_running_happens : Happens halt_running
+unfolding computed meaning alu_of effect_of stepping until csr_value csr_read_only
+halt_running_happens = happens halt_running (λ m. record { memory_is = refl; some = refl; lines = refl; end = refl; past = refl })
+
 five_breaks_happens : Happens five_breaks
 unfolding computed meaning alu_of effect_of stepping until csr_value csr_read_only
 five_breaks_happens = happens five_breaks (λ m. record { memory_is = refl; some = refl; lines = refl; end = refl; past = refl })
@@ -136,6 +140,7 @@ stops_happen = record {
   counts = count_five_happens;
   watches = watched_store_happens;
   ebreaks = ebreak_halts_happens;
+  halts = halt_running_happens;
 }
 
 pub refusals_happen : RefusalsHappen

@@ -24,7 +24,7 @@ use Rattle.debug_model.specs.declared.point.Point.TheVariants.{Look, Access}
 use Rattle.debugger_laws.specs.Debugger.{State, act, arming, arming_at, at_aligned, at_halted, at_path, by_load, by_path, by_store, commands, dumping, first_state, freeing, going, halting, is_free_slot, one, reading, register_line, row_bytes, saying, saying_row, sees_halted, session, shown_registers, slot_lines, stepping, stop_line, unseen, until, writing}
 use Rattle.debugger_laws.specs.FirstMatch.{FirstMatch}
 use Rattle.debugger_laws.specs.Known.{IsFresh, IsKnown}
-use Rattle.debugger_laws.specs.Laws.{FirstMatchHolds, ResetIsFresh}
+use Rattle.debugger_laws.specs.Laws.{EachNoteIsRight, FirstMatchHolds, ResetIsFresh}
 use Rattle.debugger_laws.specs.Lines.{Line}
 use Rattle.debugger_laws.specs.Plan.{Plan}
 use Rattle.debugger_laws.specs.Plan.Change.{WriteReg, WriteMem, ArmSlot, FreeSlot, EbreakHalts}
@@ -252,3 +252,9 @@ all_free (suc n) (suc k) s is = all_free n k s is
 
 pub reset_is_fresh : ResetIsFresh
 reset_is_fresh halted = record { not_asked = refl; no_step = refl; unused = all_free slot_count }
+
+-- ---- any place of a past
+
+pub each_note_is_right : EachNoteIsRight
+each_note_is_right m [] note earlier right = right.0
+each_note_is_right m (n ∷ later) note earlier right = each_note_is_right m later note earlier right.1

@@ -12,7 +12,7 @@ use Rattle.debug_model.specs.declared.command.Command.TheVariants as command
 use Rattle.debug_model.specs.declared.command.Path.TheVariants.{Bus}
 use Rattle.debug_model.specs.declared.command.WatchKind.TheVariants as watch
 use Rattle.debug_model.specs.declared.point.Point.{Point}
-use Rattle.debug_model.specs.declared.point.Point.TheVariants.{Turn, Look, HaltReq, ResumeReq, Access}
+use Rattle.debug_model.specs.declared.point.Point.TheVariants.{Turn, Look, HaltReq, HaltClear, ResumeReq, Access}
 use Rattle.debug_model.specs.declared.register_name.RegName.{RegName}
 use Rattle.debugger_laws.specs.Lines.{Line, text_of}
 use Rattle.debugger_laws.specs.Slots.Use.{Armed, Unused}
@@ -200,6 +200,18 @@ ebreak_halts = record {
   lines = Line.Ebreak true ∷ Line.Resumed ∷ Line.Halted 0x80000000 1 [] ∷ [];
   end = End.Clean;
   past = Stop 0 cause.Ebreak [] ∷ [];
+}
+
+-- a running hart halts at its next turn, and the request is taken back; another hart goes on
+abbrev pub halt_running : Case
+halt_running = record {
+  program = counter;
+  board = running_board;
+  script = command.Halt ∷ command.Reg x5 ∷ [];
+  journal = Look 0 ∷ Look 0 ∷ HaltReq 0 ∷ Look 0 ∷ Turn 1 ∷ Turn 0 ∷ Look 0 ∷ HaltClear 0 ∷ Turn 0 ∷ Look 0 ∷ [];
+  lines = Line.Halted 0x80000000 3 [] ∷ x5_is 0 ∷ [];
+  end = End.Clean;
+  past = Stop 0 cause.HaltReq [] ∷ Did (Exec 1) ∷ [];
 }
 
 -- ---- slots and harts
@@ -405,6 +417,7 @@ pub record StopsHappen : Type 0 where
   pub counts : Happens count_five
   pub watches : Happens watched_store
   pub ebreaks : Happens ebreak_halts
+  pub halts : Happens halt_running
 
 pub record RefusalsHappen : Type 0 where
   pub slots : Happens five_breaks

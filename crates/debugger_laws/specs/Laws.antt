@@ -1,6 +1,6 @@
 -- Laws of replays and transcripts: for every plan, or every script, whatever the journal and however it ends.
 -- They are this project's own; docs/HEADLINE.md reads them aloud.
-use Rattle.std.specs.Prelude.{◌≡◌, ◌≢◌, ℕ, All, List, ◌++◌, Option, Some, false, slice_get}
+use Rattle.std.specs.Prelude.{◌≡◌, ◌≢◌, ℕ, All, List, ◌∷◌, ◌++◌, Option, Some, false, slice_get}
 use Rattle.rv_model.specs.declared.cause.Cause.{Cause}
 use Rattle.rv_model.specs.Board.{Board, DebugPart, Hart, Machine, machine_of, reset_debug}
 use Rattle.rv_model.specs.Undebugged.{undebugged}
@@ -8,7 +8,7 @@ use Rattle.debug_model.specs.declared.command.Command.{Command}
 use Rattle.debug_model.specs.Command.{IsWithinRanges}
 use Rattle.debug_model.specs.declared.point.Point.{Point}
 use Rattle.debugger_laws.specs.Debugger.{State, commands, session}
-use Rattle.debugger_laws.specs.FirstMatch.{FirstMatch}
+use Rattle.debugger_laws.specs.FirstMatch.{FirstMatch, RightNote}
 use Rattle.debugger_laws.specs.Known.{IsFresh, IsFreshPart}
 use Rattle.debugger_laws.specs.Lines.{Line}
 use Rattle.debugger_laws.specs.Own as entries
@@ -16,7 +16,7 @@ use Rattle.debugger_laws.specs.Own.{lived}
 use Rattle.debugger_laws.specs.Plan.{Change, Plan, hart_over, changed_board}
 use Rattle.debugger_laws.specs.Plan.Change.{WriteReg, WriteMem, ArmSlot, FreeSlot, StepOver, StepDone, EbreakHalts}
 use Rattle.debugger_laws.specs.Plan.Plan.{take, see, change, say, stop}
-use Rattle.debugger_laws.specs.Trace.{Past, trace_of}
+use Rattle.debugger_laws.specs.Trace.{Note, Past, trace_of}
 use Rattle.debugger_laws.specs.Transcript.{World, replay, start, trace, transcript}
 use Rattle.debugger_laws.specs.Transcript.End.{Open, Astray}
 use Rattle.debugger_laws.specs.Turns.{after_turns, turns}
@@ -40,7 +40,11 @@ abbrev pub FirstMatchHolds : Type 0
 FirstMatchHolds = (board : Board) (script : List Command) (journal : List Point) → All IsWithinRanges script → IsFresh board
     → FirstMatch (machine_of board) (transcript board script journal).world.past
 
--- and a reset leaves harts so
+-- so at any place of a past the note is right over what stands before it
+abbrev pub EachNoteIsRight : Type 0
+EachNoteIsRight = (m : Machine) (later : Past) (note : Note) (earlier : Past) → FirstMatch m (later ++ note ∷ earlier) → RightNote m note earlier
+
+-- a reset leaves harts that no debugger has touched
 abbrev pub ResetIsFresh : Type 0
 ResetIsFresh = (halted : Option Cause) → IsFreshPart (reset_debug halted)
 

@@ -1,6 +1,6 @@
 //! Laws of replays and transcripts. Each is the contract of a function that does nothing; `specs/Laws.antt` has the statements.
 
-ghost use Rattle.debugger_laws.specs.Laws.{ChangesMayWait, CommandsAreQuiet, CommandsSpeakInOrder, CutLinesAreAFront, FirstMatchHolds, FrozenMayWait, FrozenStays, LinesGrow, OnlyOpenOnesGrow, PastsAreUndebugged, QuietBoards, ResetIsFresh, SessionsSayQuietly, Transparent, TurnsKeepOn};
+ghost use Rattle.debugger_laws.specs.Laws.{ChangesMayWait, CommandsAreQuiet, CommandsSpeakInOrder, CutLinesAreAFront, EachNoteIsRight, FirstMatchHolds, FrozenMayWait, FrozenStays, LinesGrow, OnlyOpenOnesGrow, PastsAreUndebugged, QuietBoards, ResetIsFresh, SessionsSayQuietly, Transparent, TurnsKeepOn};
 
 /// Memory and every hart's core end as those of a machine that nobody debugs, whatever the plan, the board, the journal and the end.
 pub fn transparent()
@@ -12,9 +12,11 @@ pub fn pasts_are_undebugged()
     ensures { PastsAreUndebugged }
 {}
 
-/// First match holds of the trace of every script within its ranges, whatever the journal and the end.
+/// First match holds of the trace of every script within its ranges, whatever the journal and the end; so each note of it is right over
+/// what stands before it.
 pub fn first_match()
-    ensures { FirstMatchHolds }
+    ensures holds { FirstMatchHolds }
+    ensures each { EachNoteIsRight }
 {}
 
 /// A reset leaves a hart as no debugger has touched it.
