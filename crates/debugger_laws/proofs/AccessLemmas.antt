@@ -77,7 +77,7 @@ read_faults : ReadFaults
 unfolding replay
 read_faults m outside = (
   outcome _ _ _ _ _ (replay-reading_err 0 B8 0x80010000 Outside (commands [] first_state) (start (halted_board m)) [] outside) refl refl refl,
-  outcome _ _ _ _ _ (replay-reading_err 0 B8 0x80010000 Outside (commands [] (record first_state { path = Bus })) (said (Line.Via Bus) (start (running_board m))) [] outside) refl refl refl
+  outcome _ _ _ _ _ (replay-reading_err 0 B8 0x80010000 Outside (commands [] (record first_state { path = Bus })) (said (Line.Via Bus) (start (running_board m))) [] outside) refl refl refl,
 )
 
 second_read_faults : SecondReadFaults

@@ -1,27 +1,26 @@
 -- The steps of a session with what is known of the harts: each moves the way to the selected hart as the plan does.
-use Rattle.std.proofs.Common.{◌≡◌, ◌∙◌, ℕ, zero, suc, List, [], ◌∷◌, ◌++◌, Bool, true, false, Option, Some, None, slice_get, refl, sym, ap, subst, if◌then◌else◌}
+use Rattle.std.proofs.Common.{◌≡◌, ◌∙◌, ℕ, zero, suc, List, [], ◌∷◌, ◌++◌, Bool, true, false, Some, slice_get, refl, sym, ap, subst, if◌then◌else◌}
 use Rattle.std.proofs.lemmas.Bool.{false≢true}
-use Rattle.std.proofs.lemmas.Option.{same_Some}
 use Rattle.rv_model.specs.Board.{Board, DebugPart, Hart, Machine, machine_of}
 use Rattle.debug_model.specs.declared.point.Point.{Point}
 use Rattle.debug_model.specs.declared.point.Point.TheVariants.{Turn, Look, HaltReq, HaltClear, ResumeReq, Access}
 use Rattle.debugger_laws.specs.Debugger.{Seen, halted_of, look, seen_at, sees_ack, sees_both, sees_halted, until}
-use Rattle.debugger_laws.specs.Known.{IsFresh, IsKnown, way_at}
+use Rattle.debugger_laws.specs.Known.{IsFresh, IsKnown}
 use Rattle.debugger_laws.specs.Laws.{IsChangeOf, IsFrozen}
 use Rattle.debugger_laws.specs.Lines.{Line}
 use Rattle.debugger_laws.specs.Plan.{Change, Plan, is_step}
 use Rattle.debugger_laws.specs.Plan.Change.{StepOver, StepDone, WriteMem}
-use Rattle.debugger_laws.specs.Plan.Plan.{take, see, change, say, stop}
+use Rattle.debugger_laws.specs.Plan.Plan.{take, see, change, say}
 use Rattle.debugger_laws.specs.Slots.{any_hit, slots_at}
 use Rattle.debugger_laws.specs.Stands.{Deals, Looked, Origin, Pointed, PointedWith, Rewrote, Stands, Target, WentOn}
-use Rattle.debugger_laws.specs.Transcript.{World, changed, passed, said, start}
+use Rattle.debugger_laws.specs.Transcript.{World, changed, passed, start}
 use Rattle.debugger_laws.specs.Ways.{Fits, Way}
 use Rattle.debugger_laws.specs.Ways.Way.{Idle, Still, Ready, Going, Holding, Asked, Over}
-use Rattle.debugger_laws.proofs.FrozenLemmas.{frozen_stays, hart_change}
+use Rattle.debugger_laws.proofs.FrozenLemmas.{hart_change}
 use Rattle.std.specs.Prelude.{◌==◌}
 use Rattle.debugger_laws.proofs.StoryLemmas.{same_number}
-use Rattle.debugger_laws.proofs.StandsLemmas.{IsTaken, at_plan, looked, put, seen, spin, spin-board, starts, taken, taken_with, went_on, wrote}
-use Rattle.debugger_laws.proofs.WorldLemmas.{known-asked, known-going, known-gone, known-halt_clear, known-halt_req, known-over, known-ready, known-rests, known-said, known-start, known-step_done, known-step_over, known-stepped, known-still, known-turn, known-unspent, known-write_mem}
+use Rattle.debugger_laws.proofs.StandsLemmas.{IsTaken, at_plan, looked, put, seen, spin, starts, taken, taken_with, went_on, wrote}
+use Rattle.debugger_laws.proofs.WorldLemmas.{known-asked, known-going, known-gone, known-halt_clear, known-halt_req, known-over, known-ready, known-rests, known-said, known-start, known-step_done, known-step_over, known-stepped, known-still, known-turn, known-write_mem}
 
 -- ---- turns
 

@@ -72,12 +72,12 @@ abbrev world_with : Result ℕ MemFault → Memory → Hart → ℕ → World �
 world_with r behind hart h w = record w {
   board = record {
     harts = slice_set w.board.harts h
-      (place_by hart.debug.halted hart.debug.resume_request hart.debug.halt_request (some_fires (touch_fetched r hart.core) hart) (hart.debug.ebreakm && is_ebreak_word r)
-      (touch_fetched r hart.core) (fetched r hart.core w.board.memory) hart).hart;
+        (place_by hart.debug.halted hart.debug.resume_request hart.debug.halt_request (some_fires (touch_fetched r hart.core) hart) (hart.debug.ebreakm && is_ebreak_word r)
+        (touch_fetched r hart.core) (fetched r hart.core w.board.memory) hart).hart;
     memory = behind;
   };
   past = noted_by hart.debug.halted hart.debug.halt_request (some_fires (touch_fetched r hart.core) hart) (hart.debug.ebreakm && is_ebreak_word r) hart.debug.step
-    h (fires (touch_fetched r hart.core) hart.debug.slots) w.past;
+      h (fires (touch_fetched r hart.core) hart.debug.slots) w.past;
 }
 
 abbrev passed_by : Option Hart → ℕ → World → World

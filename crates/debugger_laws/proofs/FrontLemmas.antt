@@ -5,12 +5,12 @@ use Rattle.debug_model.specs.declared.point.Point.{Point}
 use Rattle.debug_model.specs.declared.point.Point.TheVariants.{Turn, Look, HaltReq, HaltClear, ResumeReq, Access}
 use Rattle.debugger_laws.specs.Laws.{CutLinesAreAFront, IsFront, LinesGrow, OnlyOpenOnesGrow, TurnsKeepOn}
 use Rattle.debugger_laws.specs.Lines.{Line, any_error}
-use Rattle.debugger_laws.specs.Plan.{Plan, PlanEnd}
+use Rattle.debugger_laws.specs.Plan.{PlanEnd}
 use Rattle.debugger_laws.specs.Plan.Plan.{take, see, change, say, stop}
 use Rattle.debugger_laws.specs.Plan.PlanEnd.{Done}
 use Rattle.debugger_laws.specs.Transcript.{End, Outcome, World, changed, finish, graded, passed, replay, said, same_point, taking}
 use Rattle.debugger_laws.specs.Turns.{turns}
-use Rattle.debugger_laws.proofs.Keeps.{Keeps, finish-keeps, replay-keeps, taking-keeps}
+use Rattle.debugger_laws.proofs.Keeps.{Keeps, replay-keeps, taking-keeps}
 
 pub front_same : (lines : List Line) → IsFront lines lines
 front_same lines = record { rest = []; is = sym (append-nil lines) }

@@ -1,7 +1,6 @@
 -- Plans whose replays keep to first match, by how they are put together: each lemma carries every journal and every end.
-use Rattle.std.proofs.Common.{◌≡◌, ◌∙◌, ℕ, zero, suc, Bool, true, false, List, [], ◌∷◌, Option, Some, None, slice_get, refl, sym, ap, subst, if◌then◌else◌}
-use Rattle.rv_model.specs.declared.cause.Cause.{Cause}
-use Rattle.rv_model.specs.Board.{Board, Hart, Machine}
+use Rattle.std.proofs.Common.{◌≡◌, ◌∙◌, ℕ, zero, suc, Bool, true, false, List, [], ◌∷◌, slice_get, refl, sym, ap, subst, if◌then◌else◌}
+use Rattle.rv_model.specs.Board.{Board, Machine}
 use Rattle.debug_model.specs.declared.point.Point.{Point}
 use Rattle.debug_model.specs.declared.point.Point.TheVariants.{Turn, Look, HaltReq, HaltClear, ResumeReq, Access}
 use Rattle.debugger_laws.specs.Debugger.{Seen, at_halted, by_state, going, halted_of, halting, look, lost_step, most_looks, one, seen_at, sees_ack, sees_both, sees_halted, stop_line, stop_line_of, unseen, until}
@@ -17,7 +16,7 @@ use Rattle.debugger_laws.specs.Transcript.{Outcome, World, changed, finish, pass
 use Rattle.debugger_laws.specs.Ways.{Way}
 use Rattle.debugger_laws.specs.Ways.Way.{Idle, Still, Ready, Going, Holding, Asked, Over}
 use Rattle.debugger_laws.proofs.PointLemmas.{same_point-equal}
-use Rattle.debugger_laws.proofs.WorldLemmas.{known-asked, known-going, known-gone, known-halt_clear, known-halt_req, known-over, known-ready, known-rests, known-said, known-step_done, known-step_over, known-stepped, known-still, known-turn, known-unspent, known_idle}
+use Rattle.debugger_laws.proofs.WorldLemmas.{known-asked, known-going, known-gone, known-halt_clear, known-halt_req, known-over, known-rests, known-said, known-step_done, known-step_over, known-stepped, known-still, known-turn, known-unspent, known_idle}
 
 -- from every world of which this is known, along every journal, first match is kept
 pub record Good (m : Machine) (sel : ℕ) (way : Way) (p : Plan) : Type 0 where

@@ -1,5 +1,5 @@
 -- The turn of one hart: it keeps the way in which the debugger stands to it, and what it notes is right.
-use Rattle.std.proofs.Common.{◌≡◌, ◌∙◌, ◌+◌, ℕ, zero, suc, Bool, true, false, not, ◌&&◌, ◌||◌, List, [], ◌∷◌, map, Option, Some, None, slice_get, option_map, refl, sym, ap, subst, if◌then◌else◌, inl, inr}
+use Rattle.std.proofs.Common.{◌≡◌, ◌∙◌, ◌+◌, ℕ, zero, suc, Bool, true, false, not, ◌&&◌, ◌||◌, List, [], ◌∷◌, Option, Some, None, slice_get, option_map, refl, sym, ap, subst, if◌then◌else◌, inl, inr}
 use Rattle.std.specs.List.{list_any}
 use Rattle.std.proofs.lemmas.Bool.{false≢true, or_parts, or_right}
 use Rattle.std.proofs.lemmas.Option.{slice_get-map, none-some}
@@ -15,13 +15,12 @@ use Rattle.rv_model.specs.Execute.{exec_of}
 use Rattle.rv_model.specs.Memory.{Memory}
 use Rattle.rv_model.specs.Touch.{touch_of}
 use Rattle.rv_model.specs.Triggers.{counted_down, fires, marked, slot_counted, slot_fires, slot_marked}
-use Rattle.rv_model.specs.Turn.{halted_for, place_by, place_of, resumed, some_fires, stepped, stops_at_ebreak}
+use Rattle.rv_model.specs.Turn.{halted_for, place_by, place_of, resumed, some_fires, stops_at_ebreak}
 use Rattle.rv_model.specs.Undebugged.{Exec}
 use Rattle.debugger_laws.specs.FirstMatch.{FirstMatch, NothingRunPast, StopsAtMatch, Story, armed_matches, has, has_here, matching, story, told}
-use Rattle.debugger_laws.specs.Plan.{is_step}
-use Rattle.debugger_laws.specs.Trace.{Note, Past, no_slots, noted_by, noted_turn}
-use Rattle.debugger_laws.specs.Trace.Note.{Did, Stop, Arm, Free}
-use Rattle.debugger_laws.specs.Ways.{Fits, FitsBy, Held, IsSlot, IsSlotFor, IsSteppedSlot, Moves, NothingSpent, Rests, Runs, SlotsHeld, SlotsOn, Starts, Stepped, Unspent, Way}
+use Rattle.debugger_laws.specs.Trace.{Past, no_slots, noted_by, noted_turn}
+use Rattle.debugger_laws.specs.Trace.Note.{Did, Stop}
+use Rattle.debugger_laws.specs.Ways.{Fits, IsSlot, IsSlotFor, IsSteppedSlot, Moves, NothingSpent, SlotsHeld, Starts, Way}
 use Rattle.debugger_laws.specs.Ways.Starts.{runs, waits}
 use Rattle.debugger_laws.specs.Ways.Way.{Idle, Still, Ready, Going, Holding, Asked, Over}
 use Rattle.debugger_laws.proofs.SlotLemmas.{fires_here, slot-counted, slot-fires, slot-marked}
@@ -151,16 +150,16 @@ run_on false false true m h past hart mem o running not_asked no_step are unspen
 run_on false false false m h past hart mem o running not_asked no_step are unspent knows fires_is = record {
   fits = subst (Fits Idle h (Did (Exec h) ∷ past)) (sym (ap (λ b. if b then halted_for cause.Step (record hart.debug { slots = counted_down hart.debug.slots }) else record hart.debug { slots = counted_down hart.debug.slots }) no_step))
       (inr (record {
-    is_running = running;
-    moves = record {
-      starts = runs running not_asked;
-      step_is = no_step;
-      slots_are = λ k. subst (λ (v : Story). IsSlot (slice_get (counted_down hart.debug.slots) k) (not v.spent) v.spent v) (sym (story-here h k (Did (Exec h)) past (same_number h)))
-          (subst (λ b. IsSlotFor (slice_get (counted_down hart.debug.slots) k) (story h k past).armed (not b) b ((story h k past).execs + 1) (story h k past).stopped) (unspent k)
-          (exec-slot hart.core mem hart.debug.slots k (story h k past) (are k) (calm_there m h past hart.core mem hart.debug.slots are fires_is k)));
-      unspent = λ w k. ap (λ (v : Story). v.spent) (story-here h k (Did (Exec h)) past (same_number h));
-    };
-  }));
+        is_running = running;
+        moves = record {
+          starts = runs running not_asked;
+          step_is = no_step;
+          slots_are = λ k. subst (λ (v : Story). IsSlot (slice_get (counted_down hart.debug.slots) k) (not v.spent) v.spent v) (sym (story-here h k (Did (Exec h)) past (same_number h)))
+              (subst (λ b. IsSlotFor (slice_get (counted_down hart.debug.slots) k) (story h k past).armed (not b) b ((story h k past).execs + 1) (story h k past).stopped) (unspent k)
+              (exec-slot hart.core mem hart.debug.slots k (story h k past) (are k) (calm_there m h past hart.core mem hart.debug.slots are fires_is k)));
+          unspent = λ w k. ap (λ (v : Story). v.spent) (story-here h k (Did (Exec h)) past (same_number h));
+        };
+      }));
   right = λ r. (right_exec m h past hart.core mem hart.debug.slots are knows fires_is, r);
 }
 
@@ -192,12 +191,12 @@ run_once false true at_ebreak m h past hart mem o running not_asked step_is are 
     slots_are = λ k. subst (IsSteppedSlot (slice_get (marked (touch_of hart.core mem) hart.debug.slots) k) false)
         (sym (story-here h k (Stop h cause.Trigger (fires (touch_of hart.core mem) hart.debug.slots)) past (same_number h)))
         (record {
-      m = not (story h k past).spent;
-      hit = has (fires (touch_of hart.core mem) hart.debug.slots) k || (story h k past).spent;
-      is = stop-slot hart.core mem hart.debug.slots k (not (story h k past).spent) (story h k past) (are k);
-      off = λ w. or_right (has (fires (touch_of hart.core mem) hart.debug.slots) k) (story h k past).spent (off_is_spent (story h k past).spent w);
-      spent_is = refl;
-    });
+          m = not (story h k past).spent;
+          hit = has (fires (touch_of hart.core mem) hart.debug.slots) k || (story h k past).spent;
+          is = stop-slot hart.core mem hart.debug.slots k (not (story h k past).spent) (story h k past) (are k);
+          off = λ w. or_right (has (fires (touch_of hart.core mem) hart.debug.slots) k) (story h k past).spent (off_is_spent (story h k past).spent w);
+          spent_is = refl;
+        });
   });
   right = λ r. (right_stop m h past hart.core mem hart.debug.slots are knows fires_is, r);
 }
@@ -215,19 +214,19 @@ run_once false false false m h past hart mem o running not_asked step_is are kno
   fits = subst (Fits Asked h (Stop h cause.Step no_slots ∷ Did (Exec h) ∷ past))
       (sym (ap (λ b. if b then halted_for cause.Step (record hart.debug { slots = counted_down hart.debug.slots }) else record hart.debug { slots = counted_down hart.debug.slots }) step_is))
       (inl (record {
-    why = cause.Step;
-    is_halted = refl;
-    not_asked = not_asked;
-    slots_are = λ k. subst (IsSteppedSlot (slice_get (counted_down hart.debug.slots) k) true)
-        (sym (story-here h k (Stop h cause.Step no_slots) (Did (Exec h) ∷ past) (same_number h) ∙ ap (told k (Stop h cause.Step no_slots)) (story-here h k (Did (Exec h)) past (same_number h))))
-        (record {
-      m = not (story h k past).spent;
-      hit = (story h k past).spent;
-      is = exec-slot hart.core mem hart.debug.slots k (story h k past) (are k) (calm_there m h past hart.core mem hart.debug.slots are fires_is k);
-      off = off_is_spent (story h k past).spent;
-      spent_is = refl;
-    });
-  }));
+        why = cause.Step;
+        is_halted = refl;
+        not_asked = not_asked;
+        slots_are = λ k. subst (IsSteppedSlot (slice_get (counted_down hart.debug.slots) k) true)
+            (sym (story-here h k (Stop h cause.Step no_slots) (Did (Exec h) ∷ past) (same_number h) ∙ ap (told k (Stop h cause.Step no_slots)) (story-here h k (Did (Exec h)) past (same_number h))))
+            (record {
+              m = not (story h k past).spent;
+              hit = (story h k past).spent;
+              is = exec-slot hart.core mem hart.debug.slots k (story h k past) (are k) (calm_there m h past hart.core mem hart.debug.slots are fires_is k);
+              off = off_is_spent (story h k past).spent;
+              spent_is = refl;
+            });
+      }));
   right = λ r. (tt, (right_exec m h past hart.core mem hart.debug.slots are knows fires_is, r));
 }
 

@@ -1,5 +1,5 @@
 -- The lines of a script's first commands stand in front, along the same journal: a plan says no less where more follows it.
-use Rattle.std.proofs.Common.{◌≡◌, ◌+◌, ℕ, zero, suc, Bool, true, false, List, [], ◌∷◌, ◌++◌, length, map, Option, Some, None, Result, Ok, Err, slice_get, refl, sym, subst, if◌then◌else◌}
+use Rattle.std.proofs.Common.{◌+◌, ℕ, zero, suc, Bool, true, false, List, [], ◌∷◌, ◌++◌, length, map, Option, Some, None, Result, Ok, Err, slice_get, sym, subst, if◌then◌else◌}
 use Rattle.std.specs.Prelude.{◌==◌}
 use Rattle.rv_model.specs.declared.mem_fault.MemFault.{MemFault}
 use Rattle.rv_model.specs.declared.size.Size.{Size}
@@ -15,18 +15,18 @@ use Rattle.debug_model.specs.declared.command.Path.{Path}
 use Rattle.debug_model.specs.declared.command.Path.TheVariants.{Progbuf, Bus}
 use Rattle.debug_model.specs.declared.point.Point.{Point}
 use Rattle.debug_model.specs.declared.point.Point.TheVariants.{Turn, Look, HaltReq, HaltClear, ResumeReq, Access}
-use Rattle.debugger_laws.specs.Debugger.{Seen, State, act, arming, arming_at, at_aligned, at_halted, at_path, by_load, by_path, by_state, by_store, commands, dumping, first_state, freeing, going, halted_of, halting, is_free_slot, look, lost_step, most_looks, one, reading, register_line, row_bytes, saying, saying_row, seen_at, sees_ack, sees_both, sees_halted, session, shown_registers, slot_lines, stepping, stop_line, stop_line_of, unseen, until, writing}
+use Rattle.debugger_laws.specs.Debugger.{Seen, State, act, arming, arming_at, at_aligned, at_halted, at_path, by_load, by_path, by_state, by_store, commands, dumping, first_state, freeing, going, halted_of, halting, is_free_slot, look, lost_step, most_looks, one, reading, register_line, row_bytes, saying, saying_row, seen_at, sees_ack, sees_both, sees_halted, shown_registers, slot_lines, stepping, stop_line, stop_line_of, unseen, until, writing}
 use Rattle.debugger_laws.specs.Debugger.Seen.{Absent, Running, Halted}
 use Rattle.debugger_laws.specs.Laws.{CommandsSpeakInOrder, IsFront}
 use Rattle.debugger_laws.specs.Lines.{Line}
 use Rattle.debugger_laws.specs.Plan.{Change, Plan, PlanEnd, is_step}
-use Rattle.debugger_laws.specs.Plan.Change.{WriteReg, WriteMem, ArmSlot, FreeSlot, StepOver, StepDone, EbreakHalts}
+use Rattle.debugger_laws.specs.Plan.Change.{WriteReg, WriteMem, FreeSlot, StepOver, StepDone, EbreakHalts}
 use Rattle.debugger_laws.specs.Plan.Plan.{take, see, change, say, stop}
 use Rattle.debugger_laws.specs.Plan.PlanEnd.{Done, NoAck, NoHalt}
 use Rattle.debugger_laws.specs.Slots.{any_hit, first_free, slots_at}
 use Rattle.debugger_laws.specs.Slots.Use.{Armed, Unused}
 use Rattle.debugger_laws.specs.Trace.{What}
-use Rattle.debugger_laws.specs.Transcript.{Outcome, World, changed, finish, passed, replay, said, same_point, start, taking}
+use Rattle.debugger_laws.specs.Transcript.{Outcome, World, changed, passed, replay, said, same_point, start, taking}
 use Rattle.debugger_laws.proofs.FrontLemmas.{finish-lines, front_same, lines_grow}
 
 -- along every journal, the first plan's lines are the front of the second's

@@ -14,8 +14,8 @@ use Rattle.debug_model.specs.declared.command.Command.TheVariants as command
 use Rattle.debug_model.specs.declared.command.Path.{Path}
 use Rattle.debug_model.specs.declared.command.Path.TheVariants.{Progbuf, Bus}
 use Rattle.debug_model.specs.declared.point.Point.{Point}
-use Rattle.debug_model.specs.declared.point.Point.TheVariants.{Turn, Look, HaltReq, HaltClear, ResumeReq, Access}
-use Rattle.debugger_laws.specs.Debugger.{Seen, State, act, arming, arming_at, at_aligned, at_halted, at_path, by_load, by_path, by_state, by_store, commands, dumping, first_state, freeing, going, halted_of, halting, is_free_slot, look, lost_step, most_looks, one, reading, register_line, row_bytes, saying, saying_row, seen_at, sees_ack, sees_both, sees_halted, session, shown_registers, slot_lines, stepping, stop_line, stop_line_of, unseen, until, writing}
+use Rattle.debug_model.specs.declared.point.Point.TheVariants.{Turn, Look, HaltClear, ResumeReq, Access}
+use Rattle.debugger_laws.specs.Debugger.{Seen, State, act, arming, arming_at, at_aligned, at_halted, at_path, by_load, by_path, by_state, by_store, commands, dumping, first_state, freeing, going, halted_of, halting, is_free_slot, look, lost_step, most_looks, one, reading, register_line, row_bytes, saying, saying_row, seen_at, sees_ack, sees_both, sees_halted, shown_registers, slot_lines, stepping, stop_line, stop_line_of, unseen, until, writing}
 use Rattle.debugger_laws.specs.Debugger.Seen.{Absent, Running, Halted}
 use Rattle.debugger_laws.specs.Laws.{CommandsAreQuiet, Quiet, QuietBoards, SaysQuietly, SessionsSayQuietly}
 use Rattle.debugger_laws.specs.Lines.{Line}

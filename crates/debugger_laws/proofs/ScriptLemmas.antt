@@ -1,5 +1,5 @@
 -- Each command keeps to first match, and so does a session.
-use Rattle.std.proofs.Common.{◌≡◌, ◌∙◌, ◌+◌, ℕ, zero, suc, Bool, true, false, List, [], ◌∷◌, ◌++◌, length, map, Option, Some, None, Result, Ok, Err, slice_get, option_map, refl, sym, ap, subst, if◌then◌else◌}
+use Rattle.std.proofs.Common.{◌≡◌, ◌∙◌, ◌+◌, ℕ, zero, suc, Bool, true, false, List, [], ◌∷◌, ◌++◌, length, map, Option, Some, None, Result, Ok, Err, slice_get, option_map, refl, sym, ap, if◌then◌else◌}
 use Rattle.std.specs.Prelude.{All, replicate, ◌==◌}
 use Rattle.std.proofs.lemmas.Bool.{false≢true}
 use Rattle.std.proofs.lemmas.List.Elements.{All-head, All-tail}
@@ -9,7 +9,7 @@ use Rattle.rv_model.specs.declared.size.Size.{Size}
 use Rattle.rv_model.specs.declared.size.Size.TheVariants.{B1}
 use Rattle.rv_model.specs.declared.slot.Slot.{Slot}
 use Rattle.rv_model.specs.declared.slot.Trigger.TheVariants.{Disabled}
-use Rattle.rv_model.specs.Board.{Board, Hart, Machine, free_slot, machine_of, slot_count}
+use Rattle.rv_model.specs.Board.{Board, Machine, free_slot, machine_of, slot_count}
 use Rattle.rv_model.specs.Memory.{is_aligned, loaded, store_answer}
 use Rattle.rv_model.specs.Registers.{csr_read_only}
 use Rattle.rv_model.specs.Size.{count_of}
@@ -20,15 +20,15 @@ use Rattle.debug_model.specs.declared.command.Command.TheVariants as command
 use Rattle.debug_model.specs.declared.command.Path.{Path}
 use Rattle.debug_model.specs.declared.command.Path.TheVariants.{Progbuf, Bus}
 use Rattle.debug_model.specs.declared.point.Point.{Point}
-use Rattle.debug_model.specs.declared.point.Point.TheVariants.{Look, Access}
-use Rattle.debugger_laws.specs.Debugger.{State, act, arming, arming_at, at_aligned, at_halted, at_path, by_load, by_path, by_store, commands, dumping, first_state, freeing, going, halting, is_free_slot, one, reading, register_line, row_bytes, saying, saying_row, sees_halted, session, shown_registers, slot_lines, stepping, stop_line, unseen, until, writing}
+use Rattle.debug_model.specs.declared.point.Point.TheVariants.{Access}
+use Rattle.debugger_laws.specs.Debugger.{State, act, arming, arming_at, at_aligned, at_halted, at_path, by_load, by_path, by_store, commands, dumping, first_state, freeing, going, halting, is_free_slot, one, reading, register_line, row_bytes, saying, saying_row, sees_halted, shown_registers, slot_lines, stepping, stop_line, unseen, writing}
 use Rattle.debugger_laws.specs.FirstMatch.{FirstMatch}
-use Rattle.debugger_laws.specs.Known.{IsFresh, IsKnown}
+use Rattle.debugger_laws.specs.Known.{IsKnown}
 use Rattle.debugger_laws.specs.Laws.{EachNoteIsRight, FirstMatchHolds, ResetIsFresh}
 use Rattle.debugger_laws.specs.Lines.{Line}
 use Rattle.debugger_laws.specs.Plan.{Plan}
 use Rattle.debugger_laws.specs.Plan.Change.{WriteReg, WriteMem, ArmSlot, FreeSlot, EbreakHalts}
-use Rattle.debugger_laws.specs.Plan.Plan.{take, see, change, say, stop}
+use Rattle.debugger_laws.specs.Plan.Plan.{see, change, say}
 use Rattle.debugger_laws.specs.Plan.PlanEnd.{Done}
 use Rattle.debugger_laws.specs.Slots.{any_hit, first_free, is_free, slots_at, slots_here}
 use Rattle.debugger_laws.specs.Slots.Use.{Armed, Unused}
@@ -37,9 +37,9 @@ use Rattle.debugger_laws.specs.Trace.What.{Break, Watch, Count}
 use Rattle.debugger_laws.specs.Transcript.{World, changed, replay, start}
 use Rattle.debugger_laws.specs.Ways.{Way}
 use Rattle.debugger_laws.specs.Ways.Way.{Idle, Still, Ready}
-use Rattle.debugger_laws.proofs.GoodLemmas.{Fine, Good, chosen, fine_idle, fine_still, good-change, good-going, good-halted, good-halting, good-if, good-look_all, good-look_by, good-one, good-say, good-see, good-stop, good-stop_line, good-take, good-until, good-weaker, idle_fine, still_ready}
+use Rattle.debugger_laws.proofs.GoodLemmas.{Fine, Good, chosen, fine_idle, fine_still, good-change, good-going, good-halted, good-halting, good-if, good-look_all, good-look_by, good-one, good-say, good-see, good-stop, good-stop_line, good-take, good-until, idle_fine, still_ready}
 use Rattle.debugger_laws.proofs.SlotLemmas.{CanArm}
-use Rattle.debugger_laws.proofs.WorldLemmas.{HasSlot, known-arm, known-ebreak, known-free, known-ready, known-start, known-still, known-unspent, known-write_mem, known-write_reg}
+use Rattle.debugger_laws.proofs.WorldLemmas.{HasSlot, known-arm, known-ebreak, known-free, known-ready, known-start, known-still, known-write_mem, known-write_reg}
 
 -- ---- loops
 

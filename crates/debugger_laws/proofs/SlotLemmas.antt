@@ -1,5 +1,5 @@
 -- One slot, as its story says it is: when it fires, and what a stop, an execution and a debugger make of it.
-use Rattle.std.proofs.Common.{◌≡◌, ◌∙◌, ◌≤◌, ◌<◌, ◌+◌, ◌-◌, ℕ, Bool, true, false, not, ◌&&◌, ◌||◌, List, [], ◌∷◌, map, Option, Some, None, Result, Ok, Err, slice_get, option_map, refl, sym, ap, subst, if◌then◌else◌, inl, inr, arith}
+use Rattle.std.proofs.Common.{◌≡◌, ◌∙◌, ◌≤◌, ◌<◌, ◌+◌, ◌-◌, ℕ, Bool, true, false, not, ◌&&◌, ◌||◌, Option, Some, None, Result, Ok, Err, option_map, refl, sym, ap, if◌then◌else◌, inl, inr, arith}
 use Rattle.std.specs.Prelude.{◌==◌, nat_lt}
 use Rattle.std.proofs.lemmas.Bool.{cases_eq, cases_lt, eq-eqb, ne_eqb, eqb-true, lt-ltb, false≢true, or_from, false_from_ne_true}
 use Rattle.std.proofs.Math.Bool.{and-false, or-false}
@@ -16,7 +16,7 @@ use Rattle.rv_model.specs.Core.{Core}
 use Rattle.rv_model.specs.Memory.{Memory, loaded}
 use Rattle.rv_model.specs.Rows.{meaning}
 use Rattle.rv_model.specs.Touch.{touch, touch_fetched, touch_meant, touch_of}
-use Rattle.rv_model.specs.Triggers.{access_compares, counted, slot_counted, slot_fires, slot_marked, trigger_counted, trigger_fires, trigger_hit}
+use Rattle.rv_model.specs.Triggers.{access_compares, slot_counted, slot_fires, slot_marked, trigger_counted, trigger_fires, trigger_hit}
 use Rattle.debug_model.specs.declared.command.WatchKind.TheVariants.{Load, Store, Access}
 use Rattle.debugger_laws.specs.FirstMatch.{armed_matches, has_here, matches}
 use Rattle.debugger_laws.specs.Slots.{armed_for, freed, trigger_back, trigger_forgotten, trigger_has_hit, trigger_held, with_trigger}

@@ -1,16 +1,15 @@
 -- The steps of a session: how each call on the link moves the place where the replay stands.
 -- What builds a place is an abbreviation, so that the world in it is seen through.
-use Rattle.std.proofs.Common.{◌≡◌, ◌∙◌, ℕ, zero, suc, List, [], ◌∷◌, ◌++◌, Bool, true, false, ◌&&◌, Option, Some, None, option_map, slice_get, refl, sym, ap, subst, append_assoc, append-nil, if◌then◌else◌}
+use Rattle.std.proofs.Common.{◌≡◌, ◌∙◌, ℕ, List, [], ◌∷◌, ◌++◌, Bool, true, false, Option, Some, slice_get, refl, sym, ap, subst, append_assoc, append-nil, if◌then◌else◌}
 use Rattle.std.specs.Prelude.{◌≢◌}
 use Rattle.std.proofs.lemmas.Bool.{eq-eqb, false≢true}
-use Rattle.std.proofs.lemmas.Option.{none-some, same_Some}
-use Rattle.rv_model.specs.Board.{Board, DebugPart, Hart, Machine, machine_of}
+use Rattle.rv_model.specs.Board.{Board, Hart, machine_of}
 use Rattle.rv_model.specs.Turn.{turn}
 use Rattle.rv_model.specs.Undebugged.{undebugged}
 use Rattle.debug_model.specs.Journal.{after_point}
 use Rattle.debug_model.specs.declared.point.Point.{Point}
 use Rattle.debug_model.specs.declared.point.Point.TheVariants.{Turn, Look, HaltReq, HaltClear, ResumeReq, Access}
-use Rattle.debugger_laws.specs.Debugger.{Seen, look, seen_at, until}
+use Rattle.debugger_laws.specs.Debugger.{Seen, look, seen_at}
 use Rattle.debugger_laws.specs.Laws.{IsChangeOf, IsFront, IsFrozen, Quiet}
 use Rattle.debugger_laws.specs.Lines.{Line}
 use Rattle.debugger_laws.specs.Own.{own}
@@ -21,7 +20,6 @@ use Rattle.debugger_laws.specs.Transcript.{End, Outcome, World, changed, finish,
 use Rattle.debugger_laws.specs.Turns.{after_turns, turns}
 use Rattle.debugger_laws.proofs.FrontLemmas.{lines_grow, turns_keep_on}
 use Rattle.debugger_laws.proofs.FrozenLemmas.{changed_hart, frozen_may_wait, frozen_stays, hart_change, hart_change-frozen}
-use Rattle.debugger_laws.proofs.OverLemmas.{slice_get-over_same}
 use Rattle.debugger_laws.proofs.QuietLemmas.{quiet_boards}
 use Rattle.debugger_laws.proofs.Transparency.{transparent}
 
@@ -260,10 +258,9 @@ undebugged_target plan board t is = ap machine_of (sym is) ∙ transparent plan 
 pub rewrote_then : (f g : Hart → Hart) (h : ℕ) (first second third : Target) (hart : Hart) → slice_get first.board.harts h ≡ Some hart → IsFrozen hart.debug → IsFrozen (f hart).debug
     → Rewrote f h first second → Rewrote g h second third → (harts : List ℕ) × (third.board ≡ hart_over g h (hart_over f h (after_turns harts first.board))) × (third.journal ≡ first.journal ++ turns harts)
 rewrote_then f g h first second third hart is frozen after a b =
-    let there : slice_get (after_turns a.harts first.board).harts h ≡ Some hart = frozen_stays h hart first.board a.harts is frozen in
-    (
+    let there : slice_get (after_turns a.harts first.board).harts h ≡ Some hart = frozen_stays h hart first.board a.harts is frozen in (
       a.harts ++ b.harts,
       b.board ∙ ap (hart_over g h) (ap (after_turns b.harts) a.board ∙ frozen_may_wait f h hart (after_turns a.harts first.board) b.harts there frozen after
-      ∙ ap (hart_over f h) (sym (after_turns-append a.harts b.harts first.board))),
-      b.journal ∙ ap (λ (j : List Point). j ++ turns b.harts) a.journal ∙ append_assoc first.journal (turns a.harts) (turns b.harts) ∙ ap (λ (j : List Point). first.journal ++ j) (sym (turns-append a.harts b.harts))
+          ∙ ap (hart_over f h) (sym (after_turns-append a.harts b.harts first.board))),
+      b.journal ∙ ap (λ (j : List Point). j ++ turns b.harts) a.journal ∙ append_assoc first.journal (turns a.harts) (turns b.harts) ∙ ap (λ (j : List Point). first.journal ++ j) (sym (turns-append a.harts b.harts)),
     )

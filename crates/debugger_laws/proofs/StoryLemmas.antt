@@ -1,5 +1,5 @@
 -- Stories behind a note: of the note's own hart, and of another.
-use Rattle.std.proofs.Common.{◌≡◌, ◌∙◌, ℕ, Bool, true, false, List, [], ◌∷◌, Option, Some, None, refl, sym, ap, subst, if◌then◌else◌, inl, inr}
+use Rattle.std.proofs.Common.{◌≡◌, ◌∙◌, ℕ, Bool, true, false, List, ◌∷◌, Option, Some, None, refl, sym, ap, subst, if◌then◌else◌, inl, inr}
 use Rattle.std.proofs.lemmas.Bool.{eq-eqb, ne_eqb}
 use Rattle.rv_model.specs.declared.cause.Cause.{Cause}
 use Rattle.rv_model.specs.declared.cause.Cause.TheVariants as cause
@@ -8,8 +8,8 @@ use Rattle.rv_model.specs.Board.{DebugPart}
 use Rattle.rv_model.specs.Undebugged.{Exec}
 use Rattle.debugger_laws.specs.FirstMatch.{Story, concerns, story, told}
 use Rattle.debugger_laws.specs.Trace.{Note, Past, no_slots, noted_by}
-use Rattle.debugger_laws.specs.Trace.Note.{Did, Stop, Arm, Free}
-use Rattle.debugger_laws.specs.Ways.{Fits, FitsBy, Held, IsSlot, IsSteppedSlot, Moves, NothingSpent, Rests, Runs, SlotsHeld, SlotsOn, Stepped, Unspent, Way}
+use Rattle.debugger_laws.specs.Trace.Note.{Did, Stop}
+use Rattle.debugger_laws.specs.Ways.{Fits, IsSlot, IsSteppedSlot, Moves, NothingSpent, Rests, SlotsHeld, SlotsOn, Stepped, Way}
 use Rattle.debugger_laws.specs.Ways.Way.{Idle, Still, Ready, Going, Holding, Asked, Over}
 use Rattle.std.specs.Prelude.{◌==◌, not, slice_get}
 use Rattle.debugger_laws.specs.Plan.{is_step}

@@ -1,5 +1,5 @@
 -- What is known of a world behind each point, each Look and each change.
-use Rattle.std.proofs.Common.{◌≡◌, ◌∙◌, ℕ, zero, suc, Bool, true, false, not, ◌&&◌, ◌||◌, List, [], ◌∷◌, map, set, Option, Some, None, slice_get, option_map, refl, sym, ap, subst, if◌then◌else◌, inl, inr}
+use Rattle.std.proofs.Common.{◌≡◌, ◌∙◌, ℕ, zero, suc, Bool, true, false, not, ◌&&◌, ◌||◌, List, [], ◌∷◌, map, Option, Some, None, slice_get, option_map, refl, sym, ap, subst, if◌then◌else◌, inl, inr}
 use Rattle.std.specs.Prelude.{◌==◌, slice_set}
 use Rattle.std.specs.List.{list_any}
 use Rattle.std.proofs.lemmas.Bool.{cases_eq, eq-eqb, ne_eqb, false≢true, or_parts}
@@ -7,8 +7,7 @@ use Rattle.std.proofs.lemmas.Option.{slice_get-map, none-some, same_Some}
 use Rattle.rv_model.specs.declared.cause.Cause.{Cause}
 use Rattle.rv_model.specs.declared.slot.Slot.{Slot}
 use Rattle.rv_model.specs.declared.slot.Trigger.TheVariants.{Disabled}
-use Rattle.rv_model.specs.Board.{Board, DebugPart, Hart, Machine, cores, machine_of}
-use Rattle.rv_model.specs.Core.{Core}
+use Rattle.rv_model.specs.Board.{Board, DebugPart, Hart, Machine, machine_of}
 use Rattle.rv_model.specs.Memory.{Memory}
 use Rattle.rv_model.specs.Registers.{pc_number}
 use Rattle.rv_model.specs.Touch.{touch_of}
@@ -17,29 +16,27 @@ use Rattle.rv_model.specs.Turn.{place_of, some_fires, stops_at_ebreak, turn_by}
 use Rattle.rv_model.specs.Undebugged.{SetMem, SetReg}
 use Rattle.rv_model.proofs.BoardLemmas.{slice_get-cores}
 use Rattle.rv_model.proofs.MapLemmas.{slice_get-set_other}
-use Rattle.debug_model.specs.Journal.{debug_changed, debug_changed_by, halt_requested, resume_asked, resume_asked_by, with_debug}
-use Rattle.debug_model.specs.declared.point.Point.{Point}
-use Rattle.debug_model.specs.declared.point.Point.TheVariants.{Turn, Look, HaltReq, HaltClear, ResumeReq, Access}
-use Rattle.debugger_laws.specs.Debugger.{Seen, seen_at, seen_by, seen_here, sees_ack, sees_both, sees_halted}
-use Rattle.debugger_laws.specs.FirstMatch.{FirstMatch, RightNote, Story, has_here, matches_at, newly_armed, story, told, unarmed}
+use Rattle.debug_model.specs.Journal.{debug_changed_by, halt_requested, resume_asked, resume_asked_by, with_debug}
+use Rattle.debug_model.specs.declared.point.Point.TheVariants.{Turn, HaltReq, HaltClear, ResumeReq}
+use Rattle.debugger_laws.specs.Debugger.{seen_at, seen_by, seen_here, sees_ack, sees_both, sees_halted}
+use Rattle.debugger_laws.specs.FirstMatch.{FirstMatch, Story, has_here, matches_at, newly_armed, story, unarmed}
 use Rattle.debugger_laws.specs.Known.{IsFresh, IsFreshPart, IsKnown, way_at}
 use Rattle.debugger_laws.specs.Lines.{Line}
 use Rattle.debugger_laws.specs.Own.{lived}
 use Rattle.debugger_laws.specs.Plan.{Change, ebreak_halts, is_step, register_set, slot_changed, slot_freed, step_begun, step_ended, with_debug_part}
 use Rattle.debugger_laws.specs.Plan.Change.{WriteReg, WriteMem, ArmSlot, FreeSlot, StepOver, StepDone, EbreakHalts}
-use Rattle.debugger_laws.specs.Slots.{any_hit, armed_for, freed, hits_forgotten, hits_of, over, slots_at, slots_back, slots_held, slots_here, trigger_back, trigger_forgotten, trigger_has_hit, trigger_held, with_slots, with_trigger}
+use Rattle.debugger_laws.specs.Slots.{any_hit, armed_for, freed, hits_forgotten, hits_of, over, slots_at, slots_back, slots_here, trigger_back, trigger_forgotten, trigger_has_hit, trigger_held, with_slots, with_trigger}
 use Rattle.debugger_laws.specs.Trace.{Note, Past, What, noted_here}
-use Rattle.debugger_laws.specs.Trace.Note.{Did, Stop, Arm, Free}
+use Rattle.debugger_laws.specs.Trace.Note.{Did, Arm, Free}
 use Rattle.debugger_laws.specs.Transcript.{World, changed, passed, said, start}
-use Rattle.debugger_laws.specs.Ways.{Fits, FitsBy, Held, IsSlot, IsSlotFor, IsSteppedSlot, Moves, NothingSpent, Rests, Runs, SlotsHeld, SlotsOn, Starts, Stepped, Unspent, Way}
+use Rattle.debugger_laws.specs.Ways.{Fits, IsSlot, IsSlotFor, IsSteppedSlot, Starts, Way}
 use Rattle.debugger_laws.specs.Ways.Starts.{runs, waits}
 use Rattle.debugger_laws.specs.Ways.Way.{Idle, Still, Ready, Going, Holding, Asked, Over}
 use Rattle.debugger_laws.proofs.HartLemmas.{Knows, TurnedTo, turn-fits}
 use Rattle.debugger_laws.proofs.OverLemmas.{slice_get-over_same, slice_get-over_other, slice_get-set_here}
 use Rattle.debugger_laws.proofs.SlotLemmas.{CanArm, slot-armed, slot-back, slot-forgotten, slot-freed, slot-held, slot-hit}
 use Rattle.debugger_laws.proofs.StoryLemmas.{Alike, fits-alike, same_number, story-here, story-there, turn-elsewhere}
-use Rattle.debugger_laws.proofs.Transparency.{Erased, erased-keeps}
-use Rattle.debugger_laws.proofs.Keeps.{Keeps}
+use Rattle.debugger_laws.proofs.Transparency.{erased-keeps}
 
 -- ---- a list of harts that is changed at one place
 

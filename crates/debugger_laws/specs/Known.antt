@@ -1,7 +1,6 @@
 -- What is known of a world in the middle of a session: it is transparent, first match holds so far, and each hart fits the way in which the debugger stands to it.
 -- It is this project's own.
-use Rattle.std.specs.Prelude.{◌≡◌, ◌==◌, ℕ, false, Option, Some, None, slice_get, if◌then◌else◌}
-use Rattle.rv_model.specs.declared.cause.Cause.{Cause}
+use Rattle.std.specs.Prelude.{◌≡◌, ◌==◌, ℕ, false, Some, slice_get, if◌then◌else◌}
 use Rattle.rv_model.specs.declared.slot.Slot.{Slot}
 use Rattle.rv_model.specs.declared.slot.Trigger.TheVariants.{Disabled}
 use Rattle.rv_model.specs.Board.{Board, DebugPart, Hart, Machine, machine_of}
