@@ -1,0 +1,215 @@
+-- The steps of a session with what is known of the harts: each moves the way to the selected hart as the plan does.
+use Rattle.std.proofs.Common.{◌≡◌, ◌∙◌, ℕ, zero, suc, List, [], ◌∷◌, ◌++◌, Bool, true, false, Some, slice_get, refl, sym, ap, subst, if◌then◌else◌}
+use Rattle.std.proofs.lemmas.Bool.{false≢true}
+use Rattle.rv_model.specs.Board.{Board, DebugPart, Hart, Machine, machine_of}
+use Rattle.debug_model.specs.declared.point.Point.{Point}
+use Rattle.debug_model.specs.declared.point.Point.TheVariants.{Turn, Look, HaltReq, HaltClear, ResumeReq, Access}
+use Rattle.debugger_laws.specs.Debugger.{Seen, halted_of, look, seen_at, sees_ack, sees_both, sees_halted, until}
+use Rattle.debugger_laws.specs.Known.{IsFresh, IsKnown}
+use Rattle.debugger_laws.specs.Laws.{IsChangeOf, IsFrozen}
+use Rattle.debugger_laws.specs.Lines.{Line}
+use Rattle.debugger_laws.specs.Plan.{Change, Plan, is_step}
+use Rattle.debugger_laws.specs.Plan.Change.{StepOver, StepDone, WriteMem}
+use Rattle.debugger_laws.specs.Plan.Plan.{take, see, change, say}
+use Rattle.debugger_laws.specs.Slots.{any_hit, slots_at}
+use Rattle.debugger_laws.specs.Stands.{Deals, Looked, Origin, Pointed, PointedWith, Rewrote, Stands, Target, WentOn}
+use Rattle.debugger_laws.specs.Transcript.{World, changed, passed, start}
+use Rattle.debugger_laws.specs.Ways.{Fits, Way}
+use Rattle.debugger_laws.specs.Ways.Way.{Idle, Still, Ready, Going, Holding, Asked, Over}
+use Rattle.debugger_laws.proofs.FrozenLemmas.{hart_change}
+use Rattle.std.specs.Prelude.{◌==◌}
+use Rattle.debugger_laws.proofs.StoryLemmas.{same_number}
+use Rattle.debugger_laws.proofs.StandsLemmas.{IsTaken, at_plan, looked, put, seen, spin, starts, taken, taken_with, went_on, wrote}
+use Rattle.debugger_laws.proofs.WorldLemmas.{known-asked, known-going, known-gone, known-halt_clear, known-halt_req, known-over, known-ready, known-rests, known-said, known-start, known-step_done, known-step_over, known-stepped, known-still, known-turn, known-write_mem}
+
+-- ---- turns
+
+pub known-spin : (m : Machine) (sel : ℕ) (way : Way) (hs : List ℕ) (w : World) → IsKnown m sel way w → IsKnown m sel way (spin hs w)
+known-spin m sel way [] w k = k
+known-spin m sel way (h ∷ hs) w k = known-spin m sel way hs (passed (Turn h) w) (known-turn m sel way h w k)
+
+-- ---- the steps
+
+pub deals_starts : (sel : ℕ) (plan : Plan) (board : Board) → IsFresh board → Deals (machine_of board) sel Idle (record { plan = plan; world = start board }) plan [] (record { board = board; journal = [] })
+deals_starts sel plan board fresh = record { stands = starts plan board; knows = known-start sel board fresh }
+
+pub deals_at_plan : (m : Machine) (sel : ℕ) (way : Way) (o : Origin) (p q : Plan) (lines : List Line) (t : Target) → p ≡ q → Deals m sel way o p lines t → Deals m sel way o q lines t
+deals_at_plan m sel way o p q lines t e d = record { stands = at_plan o p q lines t e d.stands; knows = d.knows }
+
+-- more or less is known
+pub deals_known : (m : Machine) (sel : ℕ) (way way' : Way) (o : Origin) (p : Plan) (lines : List Line) (t : Target) (d : Deals m sel way o p lines t)
+    → (IsKnown m sel way d.stands.world → IsKnown m sel way' d.stands.world) → Deals m sel way' o p lines t
+deals_known m sel way way' o p lines t d knows = record { stands = d.stands; knows = knows d.knows }
+
+pub deals_went_on : (m : Machine) (sel : ℕ) (way : Way) (o : Origin) (p : Plan) (lines : List Line) (old new : Target) → Deals m sel way o p lines old → WentOn old new → Deals m sel way o p lines new
+deals_went_on m sel way o p lines old new d went = record { stands = went_on o p lines old new d.stands went; knows = d.knows }
+
+pub deals_put : (m : Machine) (sel : ℕ) (way : Way) (o : Origin) (line : Line) (next : Plan) (lines : List Line) (t : Target) → Deals m sel way o (say line next) lines t → Deals m sel way o next (lines ++ line ∷ []) t
+deals_put m sel way o line next lines t d = record { stands = put o line next lines t d.stands; knows = known-said m sel way line d.stands.world d.knows }
+
+pub deals_taken : (m : Machine) (sel : ℕ) (way way' : Way) (o : Origin) (q : Point) (next : Plan) (lines : List Line) (old new : Target) → IsTaken q
+    → ((w : World) → IsKnown m sel way w → IsKnown m sel way' (passed q w)) → Deals m sel way o (take q next) lines old → Pointed q old new → Deals m sel way' o next lines new
+deals_taken m sel way way' o q next lines old new ok steps d at = record {
+  stands = taken o q next lines old new ok d.stands at;
+  knows = steps (spin (d.stands.rest ++ at.harts) d.stands.world) (known-spin m sel way (d.stands.rest ++ at.harts) d.stands.world d.knows);
+}
+
+-- a store of an access
+pub deals_stored : (m : Machine) (sel : ℕ) (way : Way) (o : Origin) (a count v : ℕ) (next : Plan) (lines : List Line) (old new : Target)
+    → Deals m sel way o (take Access (change (WriteMem a count v) next)) lines old → PointedWith Access (WriteMem a count v) old new → Deals m sel way o next lines new
+deals_stored m sel way o a count v next lines old new d at = record {
+  stands = taken_with o Access (WriteMem a count v) next lines old new tt d.stands at;
+  knows = known-write_mem m sel way a count v (spin (d.stands.rest ++ at.harts) d.stands.world) (known-spin m sel way (d.stands.rest ++ at.harts) d.stands.world d.knows);
+}
+
+-- ---- what is known of the selected hart
+
+-- where it rests, or is held, or has stepped, it is frozen
+abbrev pub IsStill : Way → Type 0
+IsStill Idle = ⊥
+IsStill Still = Unit {0}
+IsStill Ready = Unit {0}
+IsStill Going = ⊥
+IsStill Holding = Unit {0}
+IsStill Asked = ⊥
+IsStill Over = Unit {0}
+
+frozen_by : (way : Way) (h : ℕ) (w : World) (d : DebugPart) → IsStill way → Fits way h w.past d → IsFrozen d
+frozen_by Idle h w d still f = absurd still
+frozen_by Still h w d still f = record { why = f.why; halted = f.is_halted; not_asked = f.not_asked }
+frozen_by Ready h w d still f = record { why = f.rests.why; halted = f.rests.is_halted; not_asked = f.rests.not_asked }
+frozen_by Going h w d still f = absurd still
+frozen_by Holding h w d still f = record { why = f.why; halted = f.is_halted; not_asked = f.not_asked }
+frozen_by Asked h w d still f = absurd still
+frozen_by Over h w d still f = record { why = f.why; halted = f.is_halted; not_asked = f.not_asked }
+
+pub known-frozen : (m : Machine) (sel : ℕ) (way : Way) (w : World) (x : Hart) → IsStill way → IsKnown m sel way w → slice_get w.board.harts sel ≡ Some x → IsFrozen x.debug
+known-frozen m sel way w x still k is = frozen_by way sel w x.debug still (subst (λ y. Fits y sel w.past x.debug) (way_here (sel == sel) (same_number sel)) (k.each sel x is))
+  where
+    way_here : (b : Bool) → b ≡ true → (if b then way else Idle) ≡ way
+    way_here true e = refl
+    way_here false e = absurd (false≢true e)
+
+-- ---- a change of the selected hart
+
+pub deals_wrote : (m : Machine) (sel : ℕ) (way way' : Way) (o : Origin) (c : Change) (next : Plan) (lines : List Line) (old new : Target) (hart : Hart) (d : Deals m sel way o (change c next) lines old)
+    → IsStill way → IsChangeOf sel c → slice_get d.stands.world.board.harts sel ≡ Some hart
+    → (IsKnown m sel way d.stands.world → IsKnown m sel way' (changed c d.stands.world)) → Rewrote (hart_change c) sel old new → Deals m sel way' o next lines new
+deals_wrote m sel way way' o c next lines old new hart d still of_sel is steps at = record {
+  stands = wrote o sel c next lines old new hart d.stands of_sel is (known-frozen m sel way d.stands.world hart still d.knows is) at;
+  knows = steps d.knows;
+}
+
+-- before a step, and behind it
+pub deals_hold : (m : Machine) (sel : ℕ) (o : Origin) (next : Plan) (lines : List Line) (old new : Target) (hart : Hart) (d : Deals m sel Still o (change (StepOver sel) next) lines old)
+    → slice_get d.stands.world.board.harts sel ≡ Some hart → Rewrote (hart_change (StepOver sel)) sel old new → Deals m sel Holding o next lines new
+deals_hold m sel o next lines old new hart d is at = deals_wrote m sel Still Holding o (StepOver sel) next lines old new hart d tt refl is (known-step_over m sel d.stands.world) at
+
+pub deals_done : (m : Machine) (sel : ℕ) (o : Origin) (next : Plan) (lines : List Line) (old new : Target) (hart : Hart) (d : Deals m sel Over o (change (StepDone sel) next) lines old)
+    → slice_get d.stands.world.board.harts sel ≡ Some hart → Rewrote (hart_change (StepDone sel)) sel old new → Deals m sel Still o next lines new
+deals_done m sel o next lines old new hart d is at = deals_wrote m sel Over Still o (StepDone sel) next lines old new hart d tt refl is (known-step_done m sel d.stands.world) at
+
+-- ---- requests
+
+pub deals_halt_req : (m : Machine) (sel : ℕ) (way : Way) (h : ℕ) (o : Origin) (next : Plan) (lines : List Line) (old new : Target)
+    → Deals m sel way o (take (HaltReq h) next) lines old → Pointed (HaltReq h) old new → Deals m sel way o next lines new
+deals_halt_req m sel way h o next lines old new d at = deals_taken m sel way way o (HaltReq h) next lines old new tt (known-halt_req m sel way h) d at
+
+pub deals_halt_clear : (m : Machine) (sel : ℕ) (way : Way) (h : ℕ) (o : Origin) (next : Plan) (lines : List Line) (old new : Target)
+    → Deals m sel way o (take (HaltClear h) next) lines old → Pointed (HaltClear h) old new → Deals m sel way o next lines new
+deals_halt_clear m sel way h o next lines old new d at = deals_taken m sel way way o (HaltClear h) next lines old new tt (known-halt_clear m sel way h) d at
+
+pub deals_go : (m : Machine) (sel : ℕ) (o : Origin) (next : Plan) (lines : List Line) (old new : Target)
+    → Deals m sel Ready o (take (ResumeReq sel) next) lines old → Pointed (ResumeReq sel) old new → Deals m sel Going o next lines new
+deals_go m sel o next lines old new d at = deals_taken m sel Ready Going o (ResumeReq sel) next lines old new tt (known-going m sel) d at
+
+pub deals_ask : (m : Machine) (sel : ℕ) (o : Origin) (next : Plan) (lines : List Line) (old new : Target)
+    → Deals m sel Holding o (take (ResumeReq sel) next) lines old → Pointed (ResumeReq sel) old new → Deals m sel Asked o next lines new
+deals_ask m sel o next lines old new d at = deals_taken m sel Holding Asked o (ResumeReq sel) next lines old new tt (known-asked m sel) d at
+
+-- ---- Looks
+
+-- one Look: the plan goes on by what it showed, and more may be known by that
+pub deals_looked : (m : Machine) (sel : ℕ) (way way' : Way) (o : Origin) (h : ℕ) (next : Seen → Plan) (now : Seen) (lines : List Line) (old new : Target)
+    → ((w : World) → seen_at h w.board ≡ now → IsKnown m sel way w → IsKnown m sel way' w) → Deals m sel way o (look h next) lines old → Looked h now old new → Deals m sel way' o (next now) lines new
+deals_looked m sel way way' o h next now lines old new sees d at =
+    let v : Stands o (see (λ b. next (seen_at h b))) lines new = taken o (Look h) (see (λ b. next (seen_at h b))) lines old new tt d.stands at.pointed in
+    record {
+      stands = looked o h next now lines old new d.stands at;
+      knows = sees (spin (d.stands.rest ++ at.pointed.harts) d.stands.world) (sym (at.shows ∙ ap (seen_at h) v.board))
+          (known-spin m sel way (d.stands.rest ++ at.pointed.harts) d.stands.world d.knows);
+    }
+
+-- a command's Look that sees the hart halted
+pub deals_halted : (m : Machine) (sel : ℕ) (o : Origin) (next : Seen → Plan) (now : Seen) (lines : List Line) (old new : Target) → sees_halted now ≡ true
+    → Deals m sel Idle o (look sel next) lines old → Looked sel now old new → Deals m sel Still o (next now) lines new
+deals_halted m sel o next now lines old new is d at =
+    deals_looked m sel Idle Still o sel next now lines old new (λ w e k. known-still m sel w (ap sees_halted e ∙ is) k) d at
+
+until-suc : (n h : ℕ) (test : Seen → Bool) (failed : Seen → Plan) (found : Plan) (last : Seen) → until (suc n) h test failed found last ≡ look h (λ s. if test s then found else until n h test failed found s)
+unfolding until
+until-suc n h test failed found last = refl
+
+pub until-zero : (h : ℕ) (test : Seen → Bool) (failed : Seen → Plan) (found : Plan) (last : Seen) → until zero h test failed found last ≡ failed last
+unfolding until
+until-zero h test failed found last = refl
+
+if_true : (b : Bool) (p q : Plan) → b ≡ true → (if b then p else q) ≡ p
+if_true true p q is = refl
+if_true false p q is = absurd (false≢true is)
+
+if_false : (b : Bool) (p q : Plan) → b ≡ false → (if b then p else q) ≡ q
+if_false false p q is = refl
+if_false true p q is = absurd (false≢true (sym is))
+
+-- one Look of several that saw what was wanted
+pub deals_found : (m : Machine) (sel : ℕ) (way way' : Way) (o : Origin) (n : ℕ) (test : Seen → Bool) (failed : Seen → Plan) (found : Plan) (last now : Seen) (lines : List Line) (old new : Target)
+    → test now ≡ true → ((w : World) → test (seen_at sel w.board) ≡ true → IsKnown m sel way w → IsKnown m sel way' w)
+    → Deals m sel way o (until (suc n) sel test failed found last) lines old → Looked sel now old new → Deals m sel way' o found lines new
+deals_found m sel way way' o n test failed found last now lines old new is sees d at =
+    deals_at_plan m sel way' o (if test now then found else until n sel test failed found now) found lines new (if_true (test now) found (until n sel test failed found now) is)
+    (deals_looked m sel way way' o sel (λ s. if test s then found else until n sel test failed found s) now lines old new (λ w e k. sees w (ap test e ∙ is) k)
+    (deals_at_plan m sel way o _ _ lines old (until-suc n sel test failed found last) d) at)
+
+-- and one that did not
+pub deals_again : (m : Machine) (sel : ℕ) (way : Way) (o : Origin) (n : ℕ) (test : Seen → Bool) (failed : Seen → Plan) (found : Plan) (last now : Seen) (lines : List Line) (old new : Target)
+    → test now ≡ false → Deals m sel way o (until (suc n) sel test failed found last) lines old → Looked sel now old new → Deals m sel way o (until n sel test failed found now) lines new
+deals_again m sel way o n test failed found last now lines old new is d at =
+    deals_at_plan m sel way o (if test now then found else until n sel test failed found now) (until n sel test failed found now) lines new (if_false (test now) found (until n sel test failed found now) is)
+    (deals_looked m sel way way o sel (λ s. if test s then found else until n sel test failed found s) now lines old new (λ w e k. k)
+    (deals_at_plan m sel way o _ _ lines old (until-suc n sel test failed found last) d) at)
+
+-- what the three waits see
+pub sees_still : (m : Machine) (sel : ℕ) (w : World) → sees_halted (seen_at sel w.board) ≡ true → IsKnown m sel Idle w → IsKnown m sel Still w
+sees_still = known-still
+
+pub sees_gone : (m : Machine) (sel : ℕ) (w : World) → sees_ack (seen_at sel w.board) ≡ true → IsKnown m sel Going w → IsKnown m sel Idle w
+sees_gone = known-gone
+
+pub sees_over : (m : Machine) (sel : ℕ) (w : World) → sees_both (seen_at sel w.board) ≡ true → IsKnown m sel Asked w → IsKnown m sel Over w
+sees_over = known-over
+
+-- ---- behind a step, and where nothing has a hit
+
+pub deals_stepped : (m : Machine) (sel : ℕ) (o : Origin) (stepped other : Plan) (lines : List Line) (t : Target) (d : Deals m sel Still o (see (λ b. if is_step (halted_of (slice_get b.harts sel)) then stepped else other)) lines t)
+    → is_step (halted_of (slice_get d.stands.world.board.harts sel)) ≡ true → Deals m sel Ready o stepped lines t
+deals_stepped m sel o stepped other lines t d is = record {
+  stands = at_plan o _ stepped lines t (if_true (is_step (halted_of (slice_get d.stands.world.board.harts sel))) stepped other is)
+      (seen o (λ b. if is_step (halted_of (slice_get b.harts sel)) then stepped else other) lines t d.stands);
+  knows = known-stepped m sel d.stands.world (λ x at. sym (ap (λ o. is_step (halted_of o)) at) ∙ is) d.knows;
+}
+
+pub deals_otherwise : (m : Machine) (sel : ℕ) (o : Origin) (stepped other : Plan) (lines : List Line) (t : Target) (d : Deals m sel Still o (see (λ b. if is_step (halted_of (slice_get b.harts sel)) then stepped else other)) lines t)
+    → is_step (halted_of (slice_get d.stands.world.board.harts sel)) ≡ false → Deals m sel Still o other lines t
+deals_otherwise m sel o stepped other lines t d is = record {
+  stands = at_plan o _ other lines t (if_false (is_step (halted_of (slice_get d.stands.world.board.harts sel))) stepped other is)
+      (seen o (λ b. if is_step (halted_of (slice_get b.harts sel)) then stepped else other) lines t d.stands);
+  knows = d.knows;
+}
+
+pub deals_ready : (m : Machine) (sel : ℕ) (o : Origin) (p : Plan) (lines : List Line) (t : Target) (d : Deals m sel Still o p lines t) → any_hit (slots_at sel d.stands.world.board) ≡ false → Deals m sel Ready o p lines t
+deals_ready m sel o p lines t d none = deals_known m sel Still Ready o p lines t d (known-ready m sel d.stands.world none)
+
+-- a command's end: the hart rests, and any hart may be selected
+pub deals_rests : (m : Machine) (sel : ℕ) (o : Origin) (p : Plan) (lines : List Line) (t : Target) → Deals m sel Still o p lines t → Deals m sel Idle o p lines t
+deals_rests m sel o p lines t d = deals_known m sel Still Idle o p lines t d (known-rests m sel d.stands.world)

@@ -1,0 +1,14 @@
+pub mod Trace
+pub mod Own
+pub mod Slots
+pub mod Lines
+pub mod Plan
+pub mod Debugger
+pub mod Turns
+pub mod Transcript
+pub mod FirstMatch
+pub mod Laws
+pub mod Examples
+pub mod Ways
+pub mod Known
+pub mod Stands
