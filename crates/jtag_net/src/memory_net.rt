@@ -1,6 +1,7 @@
 //! Nets in memory, for tests.
 ghost use Rattle.std.specs.Prelude.{◌≡◌, ◌+◌, ◌-◌, ◌^◌, ◌<◌, ◌≤◌, ◌++◌, [], List, None, Some, Option, take, drop, length, min, nat_le, false, true, vec_len, vec_capacity, IfOk, IfErr, OnOk, OnErr, IfSome, IfNone, OnSome};
 ghost use Rattle.jt_base.specs.FileStore.{is_listed};
+ghost use Rattle.jt_base.specs.Faults.{Rises};
 
 use crate::stream::tally;
 use debug_model::{Call, End, GIVEN_MOST, Net, NetFault};
@@ -86,4 +87,205 @@ fn give(coming: &mut Vec<u8>, piece: usize, given: &mut u64, into: &mut [u8]) ->
     coming.drain(..count);
     *given += count as u64;
     Some(count)
+}
+
+impl MemoryNet {
+    ghost use Rattle.std.specs.Prelude.{not};
+    ghost use Rattle.jtag_net.specs.Store.{called, count_at, failed, fails_here, given, kept_at, left_at, new_store, opened_both, opened_near, started, taken_at, unread};
+
+    /// A net that gives this input, in pieces of at most `piece` bytes, which is at least 1, and keeps what is put up to
+    /// `room` bytes, whose memory is taken here. The calls whose numbers, from 0, are listed fail and do nothing.
+    pub fn new(
+        alloc: Global,
+        input: Vec<u8>,
+        piece: usize,
+        room: usize,
+        fail_at: Vec<u32>,
+    ) -> Result<Self, AllocError>
+        requires { 0 < piece }
+        ensures { IfOk result (λ n. n ≡ new_store input.items piece room fail_at.items) }
+    {
+        let mut coming = input;
+        coming.reserve(room)?;
+        let put = Vec::with_capacity(alloc, room)?;
+        Ok(MemoryNet {
+            coming,
+            put,
+            piece,
+            room,
+            fail_at,
+            calls: 0,
+            opening: None,
+            address: None,
+            near_open: false,
+            far_open: false,
+            near_given: 0,
+            far_given: 0,
+            failed: 0,
+            ended: 0,
+        })
+    }
+
+    /// What was put at the near end: all of it, or behind `join` what of it is unread at the far end.
+    pub fn sent(&self) -> &[u8]
+        ensures { result.now ≡ self.now.put }
+    {
+        &self.put
+    }
+
+    // Counts a call, and tells whether it is to fail.
+    fn begin(&mut self) -> bool
+        ensures listed { result ≡ fails_here self.old }
+        ensures store { self.new ≡ called self.old }
+    {
+        let listed = is_listed(&self.fail_at, self.calls);
+        count_fault(&mut self.calls);
+        listed
+    }
+
+    fn fail(&mut self) -> NetFault
+        ensures fault { result ≡ NetFault.Failed }
+        ensures store { self.new ≡ failed self.old }
+        ensures later { self.old.faults ≤ self.new.faults }
+        ensures rises { Rises self.old.faults self.new.faults }
+    {
+        count_fault(&mut self.failed);
+        NetFault::Failed
+    }
+
+    // Begins a call that opens, and tells whether it is to fail. Its address is untold until it is kept.
+    fn start(&mut self, call: Call) -> bool
+        ensures listed { result ≡ fails_here self.old }
+        ensures store { self.new ≡ started call self.old }
+    {
+        self.opening = Some(call);
+        self.address = None;
+        self.begin()
+    }
+
+    fn keep_address(&mut self, alloc: Global, at: &str) -> Result<(), NetFault>
+        ensures kept { OnOk result (self.new ≡ record self.old { address = Some at.now }) }
+        ensures unchanged { OnErr result (self.new ≡ self.old) }
+        ensures memory { IfErr result (λ fault. fault ≡ NetFault.NoMemory) }
+    {
+        match String::from_str(alloc, at) {
+            Ok(address) => {
+                self.address = Some(address);
+                Ok(())
+            }
+            Err(_) => Err(NetFault::NoMemory),
+        }
+    }
+
+    fn open_near(&mut self)
+        ensures { self.new ≡ opened_near self.old }
+    {
+        self.put.clear();
+        self.near_open = true;
+        self.far_open = false;
+    }
+
+    fn open_both(&mut self)
+        ensures { self.new ≡ opened_both self.old }
+    {
+        self.coming.clear();
+        self.put.clear();
+        self.near_open = true;
+        self.far_open = true;
+    }
+
+    // Keeps of these bytes what fits, and tells whether it is all of them.
+    fn keep_at(&mut self, end: End, bytes: &[u8]) -> bool
+        ensures fits { result ≡ nat_le (length bytes.now) (left_at end self.old) }
+        ensures store { self.new ≡ kept_at end (take (left_at end self.old) bytes.now) self.old }
+    {
+        match end {
+            End::Near => keep(&mut self.put, self.room, bytes),
+            End::Far => keep(&mut self.coming, self.room, bytes),
+        }
+    }
+
+    // Gives what comes next, and answers how many bytes. None where as many came as one end gives.
+    fn give_at(&mut self, end: End, into: &mut [u8]) -> Option<usize>
+        ensures spent { OnSome result (given end self.old < 2 ^ 40) }
+        ensures none { IfNone result (2 ^ 40 ≤ given end self.old) }
+        ensures count { IfSome result (λ n. n ≡ count_at end (length into.old) self.old) }
+        ensures gave { IfSome result (λ n. take n (unread end self.old) ≡ take n into.new) }
+        ensures store { IfSome result (λ n. self.new ≡ taken_at end n self.old) }
+        ensures kept { IfNone result (self.new ≡ self.old) }
+    {
+        match end {
+            End::Near => give(&mut self.coming, self.piece, &mut self.near_given, into),
+            End::Far => give(&mut self.put, self.piece, &mut self.far_given, into),
+        }
+    }
+}
+
+impl Net for MemoryNet {
+    ghost use Rattle.std.specs.Prelude.{[], is_ok};
+    ghost use Rattle.jtag_net.specs.Store.{peer_of, state_of};
+
+    ghost state = { λ n. state_of n };
+
+    ghost peer = { λ n. peer_of n };
+
+    ghost fault_count = { λ n. n.faults };
+
+    ghost end_count = { λ n. n.ends };
+
+    ghost lenders = { λ n. [] };
+
+    fn connect(&mut self, alloc: Global, at: &str) -> Result<(), NetFault> {
+        let listed = self.start(Call::Connect);
+        self.keep_address(alloc, at)?;
+        if listed {
+            return Err(self.fail());
+        }
+        self.open_near();
+        Ok(())
+    }
+
+    fn accept(&mut self, alloc: Global, at: &str) -> Result<(), NetFault> {
+        let listed = self.start(Call::Accept);
+        self.keep_address(alloc, at)?;
+        if listed {
+            return Err(self.fail());
+        }
+        self.open_near();
+        Ok(())
+    }
+
+    fn join(&mut self, _alloc: Global) -> Result<(), NetFault> {
+        if self.start(Call::Join) {
+            return Err(self.fail());
+        }
+        self.open_both();
+        Ok(())
+    }
+
+    fn put(&mut self, end: End, bytes: &[u8]) -> Result<(), NetFault> {
+        if self.begin() {
+            return Err(self.fail());
+        }
+        if !self.keep_at(end, bytes) {
+            return Err(self.fail());
+        }
+        Ok(())
+    }
+
+    fn take(&mut self, end: End, into: &mut [u8]) -> Result<usize, NetFault> {
+        if self.begin() {
+            return Err(self.fail());
+        }
+        let count = self.give_at(end, into);
+        tally(&mut self.failed, &mut self.ended, count)
+    }
+
+    fn faults(&self) -> u64 {
+        self.failed
+    }
+
+    fn ends(&self) -> u64 {
+        self.ended
+    }
 }
