@@ -7,6 +7,7 @@
 
 mod memory_net;
 mod stream;
+mod take_all;
 mod tcp_net;
 
 pub use memory_net::MemoryNet;
