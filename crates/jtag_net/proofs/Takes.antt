@@ -1,12 +1,13 @@
 -- Bytes that are taken at the near end of a net, piece after piece, into one list.
-use Rattle.std.proofs.Common.{◌≡◌, ℕ, ◌+◌, ◌-◌, ◌<◌, ◌≤◌, List, [], ◌++◌, length, take, drop, Option, None, Some, IfSome, option_map, refl, sym, ap, subst, ◌∙◌, add_assoc, arith}
-use Rattle.std.proofs.lemmas.List.{drop-drop, length-take-le, take-append-le}
+use Rattle.std.proofs.Common.{◌≡◌, ℕ, ◌+◌, ◌-◌, ◌<◌, ◌≤◌, List, [], ◌++◌, length, take, drop, Option, None, Some, IfSome, IsTrue, is_none, ◌&&◌, option_map, refl, sym, ap, subst, ◌∙◌, add_assoc, arith}
+use Rattle.std.proofs.lemmas.List.{drop-drop, length-take-le, take-append-drop, take-append-le, take_all}
 use Rattle.std.proofs.Math.Seq.{take-add, take-append-add}
 use borrow.Rule.Slice.PartMut.{put_mid, post_of}
 use Rattle.debug_model.specs.Net.{Exchange, GivesNear, IsFront, NetState, Pipe, after_take, read_on, take_near, without}
 use Rattle.debug_model.specs.Told.{Far}
+use Rattle.debug_model.specs.Wire.{KeepsChip, ReadsFront}
 use Rattle.debug_model.specs.declared.net.End.TheVariants as ends
-use Rattle.jtag_net.specs.Wired.{Took}
+use Rattle.jtag_net.specs.Wired.{Took, TookSome, is_wired}
 
 read_twice : (a n : ℕ) (told : Option Far) → option_map (read_on n) (option_map (read_on a) told) ≡ option_map (read_on (a + n)) told
 read_twice a n None = refl
@@ -59,3 +60,25 @@ took_more a k n into piece old mid new took gives is within most =
       of_chip = chip_more a k n old.chip into piece took.of_chip chip within most;
       of_script = script_more a k n old.script into piece took.of_script script within most;
     }
+
+none_still : (n : ℕ) (told : Option Pipe) → is_none (option_map (take_near n) told) ≡ is_none told
+none_still n None = refl
+none_still n (Some p) = refl
+
+pub still_wired : (n : ℕ) (old new : NetState) → IsTrue (is_wired old) → new ≡ after_take ends.Near n old → IsTrue (is_wired new)
+still_wired n old new wired is = subst IsTrue (ap (λ b. old.near_open && b) (sym (none_still n old.pipe)) ∙ sym (ap is_wired is)) wired
+
+-- what a told chip's answers are behind the takes
+reads : (into : List ℕ) (told new : Option Far) → IfSome told (λ f. take (length into) f.unread ≡ take (length into) into) → new ≡ option_map (read_on (length into)) told → ReadsFront into told new
+reads into None new front is = is
+reads into (Some f) new front is = (drop (length into) f.unread, sym (take-append-drop (length into) f.unread) ∙ ap (λ l. l ++ drop (length into) f.unread) (front ∙ take_all (length into) into (omega arith)), is)
+
+pub reads_front : (into : List ℕ) (old new : NetState) → Took (length into) into old new → ReadsFront into old.chip new.chip
+reads_front into old new took = reads into old.chip new.chip took.of_chip (ap (λ s. s.chip) took.is)
+
+keeps : (n : ℕ) (told new : Option Far) → new ≡ option_map (read_on n) told → KeepsChip told new
+keeps n None new is = is
+keeps n (Some f) new is = (take n f.unread, drop n f.unread, sym (take-append-drop n f.unread), is)
+
+pub keeps_chip : (old new : NetState) → TookSome old new → KeepsChip old.chip new.chip
+keeps_chip old new some = keeps some.count old.chip new.chip (ap (λ s. s.chip) some.took.is)

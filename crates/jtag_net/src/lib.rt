@@ -6,9 +6,13 @@
 #![tactic(auto)]
 
 mod memory_net;
+mod net_wire;
 mod stream;
 mod take_all;
 mod tcp_net;
+#[cfg(test)]
+mod tests;
 
 pub use memory_net::MemoryNet;
+pub use net_wire::NetWire;
 pub use tcp_net::TcpNet;

@@ -10,6 +10,8 @@ pub fn take_all<N: Net>(net: &mut N, into: &mut [u8]) -> Result<(), WireFault>
     requires waiting { IfSome (N.state net.old).chip (λ f. length into.old ≤ length f.unread) }
     ensures took { OnOk result (Took (length into.new) into.new (N.state net.old) (N.state net.new)) }
     ensures some { OnErr result (TookSome (N.state net.old) (N.state net.new)) }
+    ensures wired { IsTrue (is_wired (N.state net.new)) }
+    ensures ties { (N.state net.new).ties ≡ (N.state net.old).ties }
     ensures cause { IfErr result (RecvCause (N.fault_count net.old) (N.fault_count net.new) (N.end_count net.old) (N.end_count net.new)) }
     ensures later { N.fault_count net.old ≤ N.fault_count net.new }
     ensures ends_later { N.end_count net.old ≤ N.end_count net.new }

@@ -1,0 +1,51 @@
+//! The bit-bang stream over a net.
+ghost use Rattle.std.specs.Prelude.{◌≡◌, ◌∷◌, None, true, IsTrue};
+ghost use Rattle.debug_model.specs.Net.{is_open};
+ghost use Rattle.debug_model.specs.declared.net.End.TheVariants as end;
+ghost use Rattle.jtag_net.specs.Wired.{is_wired, summed};
+
+use crate::take_all::take_all;
+use debug_model::{End, Net, Wire, WireFault};
+
+/// A wire over the near end of a net, which the caller keeps. It tells what the net tells, and counts the net's faults and
+/// ends, at most the greatest `u64`. It answers `Ended` where a take found the other side ended.
+#[derive(Drop)]
+pub struct NetWire<'a, N: Net> {
+    net: &'a mut N,
+    ghost wired: { IsTrue (is_wired (N.state net.now)) },
+}
+
+impl<'a, N: Net> NetWire<'a, N> {
+    /// A wire over this net, whose near end is open and which tells no pipe.
+    pub fn new(net: &'a mut N) -> Self
+        requires open { is_open end.Near (N.state net.old) ≡ true }
+        requires plain { (N.state net.old).pipe ≡ None }
+        ensures same_reference { result.net.ghost_name ≡ net.entry.ghost_name }
+        ensures net { result.net.now ≡ net.old }
+    {
+        NetWire { net }
+    }
+}
+
+impl<'a, N: Net> Wire for NetWire<'a, N> {
+    ghost far = { λ w. (N.state w.net.now).chip };
+
+    ghost fault_count = { λ w. summed (N.fault_count w.net.now) (N.end_count w.net.now) };
+
+    ghost lenders = { λ w. w.net.ghost_name ∷ N.lenders w.net.now };
+
+    fn send(&mut self, bytes: &[u8]) -> Result<(), WireFault> {
+        match self.net.put(End::Near, bytes) {
+            Ok(()) => Ok(()),
+            Err(_) => Err(WireFault::SendFailed),
+        }
+    }
+
+    fn recv(&mut self, into: &mut [u8]) -> Result<(), WireFault> {
+        take_all(self.net, into)
+    }
+
+    fn faults(&self) -> u64 {
+        self.net.faults().saturating_add(self.net.ends())
+    }
+}
