@@ -1,12 +1,14 @@
 -- A net in memory: what it holds, what each call answers and changes, and what it tells. It gives its input in pieces of a
 -- set size, keeps what is put within a set room, and fails at the calls of the listed numbers. Behind `join` what is put at
 -- one end is unread at the other. No public standard defines this.
-use Rattle.std.specs.Prelude.{ℕ, ◌+◌, ◌-◌, ◌^◌, ◌&&◌, ◌==◌, min, List, [], ◌++◌, length, take, drop, Bool, true, false, not, if◌then◌else◌, nat_le, nat_lt, Option, None, Some, option_map}
+use Rattle.std.specs.Prelude.{◌≡◌, ℕ, ◌+◌, ◌-◌, ◌^◌, ◌&&◌, ◌==◌, min, List, [], ◌++◌, length, take, drop, Bool, true, false, not, if◌then◌else◌, nat_le, nat_lt, Option, None, Some, option_map, Result, Ok, Err}
 use Rattle.jt_base.specs.Faults.{counted}
 use Rattle.jt_base.specs.FileStore.{is_listed}
 use Rattle.debug_model.specs.Net.{Exchange, NetState, Peer, Pipe}
 use Rattle.debug_model.specs.Ties.{NetTies, Opening}
 use Rattle.debug_model.specs.declared.net.Call.{Call}
+use Rattle.debug_model.specs.declared.net.NetFault.{NetFault}
+use Rattle.debug_model.specs.declared.net.NetFault.TheVariants as faults
 use Rattle.debug_model.specs.declared.net.End.{End}
 use Rattle.debug_model.specs.declared.net.End.TheVariants as ends
 
@@ -128,3 +130,25 @@ takes_all at bytes s = not (fails_here s) && nat_le (length bytes) (left_at at s
 
 abbrev pub gives_any : End → Store → Bool
 gives_any at s = not (fails_here s) && nat_lt (given at s) (2 ^ 40)
+
+-- the answers of a call that opens: it fails where its number is listed, or for want of memory
+abbrev pub Opens : {T : Type 0} → Bool → Result T NetFault → Type 0
+Opens listed (Ok _) = listed ≡ false
+Opens listed (Err faults.Failed) = listed ≡ true
+Opens listed (Err faults.NoMemory) = Unit {0}
+
+-- after a call that was made at this address and failed
+abbrev pub refused_at : Option (List ℕ) → Call → Store → Store
+refused_at address call s = failed (record (started call s) { address = address })
+
+abbrev pub Refused : NetFault → Store → Store → Type 0
+Refused faults.Failed new wanted = new ≡ wanted
+Refused faults.NoMemory new wanted = Unit {0}
+
+-- after a put: what fits is kept, and nothing where its number is listed
+abbrev pub after_put : End → List ℕ → Store → Store
+after_put at bytes s = if fails_here s then failed (called s) else if nat_le (length bytes) (left_at at s) then kept_at at bytes (called s) else failed (kept_at at (take (left_at at s) bytes) (called s))
+
+-- after a take of so many bytes, of which none is the end
+abbrev pub counted_end : ℕ → Store → Store
+counted_end n s = record s { ends = if n == 0 then counted s.ends else s.ends }

@@ -222,8 +222,11 @@ impl MemoryNet {
 }
 
 impl Net for MemoryNet {
-    ghost use Rattle.std.specs.Prelude.{[], is_ok};
-    ghost use Rattle.jtag_net.specs.Store.{peer_of, state_of};
+    ghost use Rattle.std.specs.Prelude.{◌≢◌, is_ok};
+    ghost use Rattle.std.specs.Borrow.{GName};
+    ghost use Rattle.debug_model.specs.Net.{Called, CallCause, Gives, IsAccepted, IsConnected, IsJoined, MayPut, MayTake, OpenCause, PutFront, is_open, after_put as net_after_put, after_take};
+    ghost use Rattle.debug_model.specs.declared.net.Call.TheVariants as calls;
+    ghost use Rattle.jtag_net.specs.Store.{Opens, Refused, after_put, called, count_at, counted_end, failed, fails_here, given, gives_any, opened_both, opened_near, peer_of, refused_at, started, state_of, taken_at, takes_all};
 
     ghost state = { λ n. state_of n };
 
@@ -235,7 +238,17 @@ impl Net for MemoryNet {
 
     ghost lenders = { λ n. [] };
 
-    fn connect(&mut self, alloc: Global, at: &str) -> Result<(), NetFault> {
+    fn connect(&mut self, alloc: Global, at: &str) -> Result<(), NetFault>
+        ensures called { Called calls.Connect (Some at.now) (state_of self.old).ties (state_of self.new).ties }
+        ensures opened { OnOk result (IsConnected (peer_of self.old) (state_of self.new)) }
+        ensures cause { IfErr result (OpenCause self.old.faults self.new.faults) }
+        ensures later { self.old.faults ≤ self.new.faults }
+        ensures ends { self.new.ends ≡ self.old.ends }
+        ensures lenders { ◌≡◌ {A = List GName} [] [] }
+        ensures answer { Opens (fails_here self.old) result }
+        ensures kept { OnOk result (self.new ≡ opened_near (record (started calls.Connect self.old) { address = Some at.now })) }
+        ensures refused { IfErr result (λ fault. Refused fault self.new (refused_at (Some at.now) calls.Connect self.old)) }
+    {
         let listed = self.start(Call::Connect);
         self.keep_address(alloc, at)?;
         if listed {
@@ -245,7 +258,17 @@ impl Net for MemoryNet {
         Ok(())
     }
 
-    fn accept(&mut self, alloc: Global, at: &str) -> Result<(), NetFault> {
+    fn accept(&mut self, alloc: Global, at: &str) -> Result<(), NetFault>
+        ensures called { Called calls.Accept (Some at.now) (state_of self.old).ties (state_of self.new).ties }
+        ensures opened { OnOk result (IsAccepted (peer_of self.old) (state_of self.new)) }
+        ensures cause { IfErr result (OpenCause self.old.faults self.new.faults) }
+        ensures later { self.old.faults ≤ self.new.faults }
+        ensures ends { self.new.ends ≡ self.old.ends }
+        ensures lenders { ◌≡◌ {A = List GName} [] [] }
+        ensures answer { Opens (fails_here self.old) result }
+        ensures kept { OnOk result (self.new ≡ opened_near (record (started calls.Accept self.old) { address = Some at.now })) }
+        ensures refused { IfErr result (λ fault. Refused fault self.new (refused_at (Some at.now) calls.Accept self.old)) }
+    {
         let listed = self.start(Call::Accept);
         self.keep_address(alloc, at)?;
         if listed {
@@ -255,7 +278,17 @@ impl Net for MemoryNet {
         Ok(())
     }
 
-    fn join(&mut self, _alloc: Global) -> Result<(), NetFault> {
+    fn join(&mut self, _alloc: Global) -> Result<(), NetFault>
+        ensures called { Called calls.Join None (state_of self.old).ties (state_of self.new).ties }
+        ensures opened { OnOk result (IsJoined (state_of self.new)) }
+        ensures cause { IfErr result (OpenCause self.old.faults self.new.faults) }
+        ensures later { self.old.faults ≤ self.new.faults }
+        ensures ends { self.new.ends ≡ self.old.ends }
+        ensures lenders { ◌≡◌ {A = List GName} [] [] }
+        ensures answer { Opens (fails_here self.old) result }
+        ensures kept { OnOk result (self.new ≡ opened_both (record (started calls.Join self.old) { address = None })) }
+        ensures refused { IfErr result (λ fault. Refused fault self.new (refused_at None calls.Join self.old)) }
+    {
         if self.start(Call::Join) {
             return Err(self.fail());
         }
@@ -263,7 +296,18 @@ impl Net for MemoryNet {
         Ok(())
     }
 
-    fn put(&mut self, end: End, bytes: &[u8]) -> Result<(), NetFault> {
+    fn put(&mut self, end: End, bytes: &[u8]) -> Result<(), NetFault>
+        requires open { is_open end (state_of self.old) ≡ true }
+        requires accepts { MayPut end bytes.now (state_of self.old) }
+        ensures put { OnOk result (state_of self.new ≡ net_after_put end bytes.now (state_of self.old)) }
+        ensures front { OnErr result (PutFront end bytes.now (state_of self.old) (state_of self.new)) }
+        ensures cause { IfErr result (CallCause self.old.faults self.new.faults) }
+        ensures later { self.old.faults ≤ self.new.faults }
+        ensures ends { self.new.ends ≡ self.old.ends }
+        ensures lenders { ◌≡◌ {A = List GName} [] [] }
+        ensures answer { is_ok result ≡ takes_all end bytes.now self.old }
+        ensures store { self.new ≡ after_put end bytes.now self.old }
+    {
         if self.begin() {
             return Err(self.fail());
         }
@@ -273,7 +317,28 @@ impl Net for MemoryNet {
         Ok(())
     }
 
-    fn take(&mut self, end: End, into: &mut [u8]) -> Result<usize, NetFault> {
+    fn take(&mut self, end: End, into: &mut [u8]) -> Result<usize, NetFault>
+        requires open { is_open end (state_of self.old) ≡ true }
+        requires room { 0 < length into.old }
+        requires unread { MayTake end (state_of self.old) }
+        ensures most { IfOk result (λ n. n ≤ length into.new) }
+        ensures gave { IfOk result (λ n. Gives end n into.new (state_of self.old)) }
+        ensures took { IfOk result (λ n. state_of self.new ≡ after_take end n (state_of self.old)) }
+        ensures spent { OnOk result (given end self.old < 2 ^ 40) }
+        ensures bound { IfOk result (λ n. given end self.old + n ≤ 2 ^ 40) }
+        ensures kept { OnErr result (state_of self.new ≡ state_of self.old) }
+        ensures cause { IfErr result (CallCause self.old.faults self.new.faults) }
+        ensures later { self.old.faults ≤ self.new.faults }
+        ensures ended { IfOk result (λ n. n ≡ 0 → Rises self.old.ends self.new.ends) }
+        ensures goes_on { IfOk result (λ n. n ≢ 0 → self.new.ends ≡ self.old.ends) }
+        ensures ends { OnErr result (self.new.ends ≡ self.old.ends) }
+        ensures ends_later { self.old.ends ≤ self.new.ends }
+        ensures lenders { ◌≡◌ {A = List GName} [] [] }
+        ensures answer { is_ok result ≡ gives_any end self.old }
+        ensures count { IfOk result (λ n. n ≡ count_at end (length into.old) self.old) }
+        ensures store { IfOk result (λ n. self.new ≡ counted_end n (taken_at end n (called self.old))) }
+        ensures failed { OnErr result (self.new ≡ failed (called self.old)) }
+    {
         if self.begin() {
             return Err(self.fail());
         }

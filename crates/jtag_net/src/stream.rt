@@ -1,8 +1,8 @@
 //! What a call of a net does on one stream, over any reader and any writer.
-ghost use Rattle.std.specs.Prelude.{◌≡◌, ◌≢◌, ◌+◌, ◌^◌, ◌<◌, ◌≤◌, take, length, IfOk, IfErr, OnOk, OnErr, IfSome, IfNone, OnSome, None, Some};
+ghost use Rattle.std.specs.Prelude.{◌≡◌, ◌≢◌, ◌==◌, if◌then◌else◌, is_ok, ◌+◌, ◌^◌, ◌<◌, ◌≤◌, take, length, IfOk, IfErr, OnOk, OnErr, IfSome, IfNone, OnSome, None, Some};
 ghost use Rattle.std.specs.Io.KnownBytes.{Appends, Consumes, IsAtEnd, Keeps};
 ghost use Rattle.debug_model.specs.Net.{CallCause};
-ghost use Rattle.jt_base.specs.Faults.{Rises};
+ghost use Rattle.jt_base.specs.Faults.{Rises, counted};
 ghost use Rattle.jtag_net.specs.Stream.{AppendsFront};
 
 use debug_model::{GIVEN_MOST, NetFault};
@@ -52,7 +52,9 @@ pub fn tally(failed: &mut u64, ended: &mut u64, count: Option<usize>) -> Result<
     ensures err { OnErr result (count ≡ None) }
     ensures cause { IfErr result (CallCause failed.old failed.new) }
     ensures later { failed.old ≤ failed.new }
+    ensures failed { failed.new ≡ (if is_ok result then failed.old else counted failed.old) }
     ensures ended { IfOk result (λ n. n ≡ 0 → Rises ended.old ended.new) }
+    ensures counted { IfOk result (λ n. ended.new ≡ (if n == 0 then counted ended.old else ended.old)) }
     ensures goes_on { IfOk result (λ n. n ≢ 0 → ended.new ≡ ended.old) }
     ensures ends { OnErr result (ended.new ≡ ended.old) }
     ensures ends_later { ended.old ≤ ended.new }
