@@ -14,8 +14,8 @@ use Rattle.debug_model.specs.declared.net.End.TheVariants as ends
 
 pub record Store : Type 0 where
   pub coming : List ℕ  -- unread at the near end
-  pub put : List ℕ     -- put at the near end; behind `join`, what of it is unread at the far end
-  pub piece : ℕ        -- the most bytes of one take
+  pub put : List ℕ  -- put at the near end; behind `join`, what of it is unread at the far end
+  pub piece : ℕ  -- the most bytes of one take
   pub room : ℕ
   pub fail_at : List ℕ
   pub calls : ℕ

@@ -1,10 +1,10 @@
 //! The bit-bang stream over a net.
 ghost use Rattle.std.specs.Prelude.{◌≡◌, ◌≤◌, ◌∷◌, None, true, IsTrue, length, IfErr, IfSome, OnErr, OnOk, option_map};
-ghost use Rattle.debug_model.specs.Net.{is_open};
+ghost use Rattle.debug_model.specs.Net.{PutFront, after_put, is_open};
 ghost use Rattle.debug_model.specs.declared.net.End.TheVariants as end;
 ghost use Rattle.debug_model.specs.Told.{IsLive, IsRead};
 ghost use Rattle.debug_model.specs.Wire.{IsPiece, KeepsChip, ReadsFront, SentFront, WireCause, sent};
-ghost use Rattle.jtag_net.specs.Wired.{RecvCause, SendCause, is_wired, summed};
+ghost use Rattle.jtag_net.specs.Wired.{RecvCause, SendCause, Took, TookSome, is_wired, summed};
 
 use crate::take_all::take_all;
 use debug_model::{End, Net, Wire, WireFault};
@@ -46,6 +46,8 @@ impl<'a, N: Net> Wire for NetWire<'a, N> {
         ensures later { summed (N.fault_count self.old.net.now) (N.end_count self.old.net.now) ≤ summed (N.fault_count self.new.net.now) (N.end_count self.new.net.now) }
         ensures cause { IfErr result (WireCause (summed (N.fault_count self.old.net.now) (N.end_count self.old.net.now)) (summed (N.fault_count self.new.net.now) (N.end_count self.new.net.now))) }
         ensures lenders { self.new.net.ghost_name ∷ N.lenders self.new.net.now ≡ self.old.net.ghost_name ∷ N.lenders self.old.net.now }
+        ensures net { OnOk result (N.state self.new.net.now ≡ after_put end.Near bytes.now (N.state self.old.net.now)) }
+        ensures net_front { OnErr result (PutFront end.Near bytes.now (N.state self.old.net.now) (N.state self.new.net.now)) }
         ensures faults { IfErr result (SendCause (N.fault_count self.old.net.now) (N.fault_count self.new.net.now)) }
     {
         match self.net.put(End::Near, bytes) {
@@ -63,6 +65,8 @@ impl<'a, N: Net> Wire for NetWire<'a, N> {
         ensures later { summed (N.fault_count self.old.net.now) (N.end_count self.old.net.now) ≤ summed (N.fault_count self.new.net.now) (N.end_count self.new.net.now) }
         ensures cause { IfErr result (WireCause (summed (N.fault_count self.old.net.now) (N.end_count self.old.net.now)) (summed (N.fault_count self.new.net.now) (N.end_count self.new.net.now))) }
         ensures lenders { self.new.net.ghost_name ∷ N.lenders self.new.net.now ≡ self.old.net.ghost_name ∷ N.lenders self.old.net.now }
+        ensures net { OnOk result (Took (length into.new) into.new (N.state self.old.net.now) (N.state self.new.net.now)) }
+        ensures net_some { OnErr result (TookSome (N.state self.old.net.now) (N.state self.new.net.now)) }
         ensures faults { IfErr result (RecvCause (N.fault_count self.old.net.now) (N.fault_count self.new.net.now) (N.end_count self.old.net.now) (N.end_count self.new.net.now)) }
     {
         take_all(self.net, into)

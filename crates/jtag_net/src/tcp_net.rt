@@ -8,11 +8,10 @@ use crate::stream::{read_some, tally, write_whole};
 use debug_model::{Call, End, Net, NetFault};
 use jt_base::count_fault;
 use std::alloc::Global;
-use std::io;
 use std::io::Write;
 use std::marker::Model;
-use std::net;
 use std::net::{OpenListener, OpenStream, TcpListener, TcpStream};
+use std::{io, net};
 
 /// Where a connection to itself listens: a free port that the system picks.
 const LOOP_BACK: &str = "127.0.0.1:0";

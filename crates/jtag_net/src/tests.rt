@@ -22,6 +22,7 @@ fn memory(
 }
 
 #[test]
+#[tactic(auto, unfolding(debug_model::specs::Wire::are_open))]
 fn wire_gives_input_in_any_pieces(rt: HostRuntime) -> Result<(), Fail> {
     for piece in [1, 2, 3, 256] {
         let mut net = memory(&rt, b"10110", piece, 8, &[])?;
@@ -34,7 +35,11 @@ fn wire_gives_input_in_any_pieces(rt: HostRuntime) -> Result<(), Fail> {
         wire.send(b"2R6")?;
         wire.recv(&mut two)?;
         assert_eq!(rt; (&three, &two), (b"101", b"10"), "pieces of {piece}");
-        assert_eq!(rt; (wire.recv(&mut two), wire.faults()), (Err(WireFault::Ended), 1), "pieces of {piece}");
+        assert_eq!(rt;
+            (wire.recv(&mut two), wire.faults()),
+            (Err(WireFault::Ended), 1),
+            "pieces of {piece}"
+        );
         assert_eq!(rt; (net.faults(), net.ends()), (0, 1), "pieces of {piece}");
         assert_eq!(rt; net.sent(), b"0R42R6".as_slice());
     }
@@ -42,19 +47,23 @@ fn wire_gives_input_in_any_pieces(rt: HostRuntime) -> Result<(), Fail> {
 }
 
 #[test]
+#[tactic(auto, unfolding(debug_model::specs::Wire::are_open))]
 fn memory_net_fails_where_listed_or_full(rt: HostRuntime) -> Result<(), Fail> {
     let alloc = rt.alloc();
     let mut deaf = memory(&rt, b"01", 1, 8, &[0])?;
-    assert_eq!(rt; (deaf.accept(alloc, "here"), deaf.faults()), (Err(NetFault::Failed), 1));
+    assert_eq!(rt;
+        (deaf.accept(alloc, "here"), deaf.faults()),
+        (Err(NetFault::Failed), 1)
+    );
     // the room, the call that fails, what three sends and two takes answer, and what was put
     let sends = Err(WireFault::SendFailed);
     let takes = Err(WireFault::RecvFailed);
     let cases = [
-        (8, 1, [sends, Ok(()), Ok(()), Ok(())], b"c".as_slice()),
-        (8, 2, [Ok(()), takes, Ok(()), Ok(())], b"abc"),
-        (8, 3, [Ok(()), Ok(()), sends, Ok(())], b"ab"),
-        (8, 4, [Ok(()), Ok(()), Ok(()), takes], b"abc"),
-        (1, 9, [sends, Ok(()), sends, Ok(())], b"a"),
+        (8, 1, [sends, Ok(()), Ok(()), Ok(())], b"4".as_slice()),
+        (8, 2, [Ok(()), takes, Ok(()), Ok(())], b"0R4"),
+        (8, 3, [Ok(()), Ok(()), sends, Ok(())], b"0R"),
+        (8, 4, [Ok(()), Ok(()), Ok(()), takes], b"0R4"),
+        (1, 9, [sends, Ok(()), sends, Ok(())], b"0"),
     ];
     for (room, listed, wanted, put) in cases {
         let mut net = memory(&rt, b"01", 1, room, &[listed])?;
@@ -62,9 +71,9 @@ fn memory_net_fails_where_listed_or_full(rt: HostRuntime) -> Result<(), Fail> {
         let mut wire = NetWire::new(&mut net);
         let mut byte = [0];
         let outcomes = [
-            wire.send(b"ab"),
+            wire.send(b"0R"),
             wire.recv(&mut byte),
-            wire.send(b"c"),
+            wire.send(b"4"),
             wire.recv(&mut byte),
         ];
         assert_eq!(rt; outcomes, wanted, "call {listed}");
@@ -91,12 +100,22 @@ fn both_ways<N: Net>(rt: &HostRuntime, net: &mut N) -> Result<([u8; 4], [u8; 4])
 fn joined_nets_carry_bytes_both_ways(rt: HostRuntime) -> Result<(), Fail> {
     let wanted = Ok((*b"R2\0\0", *b"10\0\0"));
     let mut tcp = TcpNet::new(&rt);
-    assert_eq!(rt; (both_ways(&rt, &mut tcp), tcp.faults(), tcp.ends()), (wanted, 0, 0));
+    assert_eq!(rt;
+        (both_ways(&rt, &mut tcp), tcp.faults(), tcp.ends()),
+        (wanted, 0, 0)
+    );
     let mut whole = memory(&rt, b"unused", 4, 2, &[])?;
-    assert_eq!(rt; (both_ways(&rt, &mut whole), whole.faults(), whole.ends()), (wanted, 0, 0));
+    assert_eq!(rt;
+        (both_ways(&rt, &mut whole), whole.faults(), whole.ends()),
+        (wanted, 0, 0)
+    );
     for call in 0..5 {
         let mut failing = memory(&rt, b"", 4, 2, &[call])?;
-        assert_eq!(rt; (both_ways(&rt, &mut failing), failing.faults()), (Err(NetFault::Failed), 1), "call {call}");
+        assert_eq!(rt;
+            (both_ways(&rt, &mut failing), failing.faults()),
+            (Err(NetFault::Failed), 1),
+            "call {call}"
+        );
     }
     Ok(())
 }
