@@ -1,0 +1,84 @@
+-- Bytes that are taken at the near end of a net, piece after piece, into one list.
+use Rattle.std.proofs.Common.{◌≡◌, ℕ, ◌+◌, ◌-◌, ◌<◌, ◌≤◌, List, [], ◌++◌, length, take, drop, Option, None, Some, IfSome, IsTrue, is_none, ◌&&◌, option_map, refl, sym, ap, subst, ◌∙◌, add_assoc, arith}
+use Rattle.std.proofs.lemmas.List.{drop-drop, length-take-le, take-append-drop, take-append-le, take_all}
+use Rattle.std.proofs.Math.Seq.{take-add, take-append-add}
+use borrow.Rule.Slice.PartMut.{put_mid, post_of}
+use Rattle.debug_model.specs.Net.{Exchange, GivesNear, IsFront, NetState, Pipe, after_take, read_on, take_near, without}
+use Rattle.debug_model.specs.Told.{Far}
+use Rattle.debug_model.specs.Wire.{KeepsChip, ReadsFront}
+use Rattle.debug_model.specs.declared.net.End.TheVariants as ends
+use Rattle.jtag_net.specs.Wired.{Took, TookSome, is_wired}
+
+read_twice : (a n : ℕ) (told : Option Far) → option_map (read_on n) (option_map (read_on a) told) ≡ option_map (read_on (a + n)) told
+read_twice a n None = refl
+read_twice a n (Some f) = ap (λ xs. Some (record f { unread = xs })) (drop-drop n a f.unread)
+
+without_twice : (a n : ℕ) (told : Option Exchange) → option_map (without n) (option_map (without a) told) ≡ option_map (without (a + n)) told
+without_twice a n None = refl
+without_twice a n (Some e) = ap (λ xs. Some (record e { coming = xs })) (drop-drop n a e.coming)
+
+taken_twice : (a n : ℕ) (told : Option Pipe) → option_map (take_near n) (option_map (take_near a) told) ≡ option_map (take_near (a + n)) told
+taken_twice a n None = refl
+taken_twice a n (Some p) = ap (λ xs. Some (record p { near = xs })) (drop-drop n a p.near)
+
+after_twice : (a n : ℕ) (s : NetState) → after_take ends.Near n (after_take ends.Near a s) ≡ after_take ends.Near (a + n) s
+after_twice a n s =
+    ap (λ g. record s { near_given = g; chip = option_map (read_on n) (option_map (read_on a) s.chip); script = option_map (without n) (option_map (without a) s.script); pipe = option_map (take_near n) (option_map (take_near a) s.pipe) }) (add_assoc s.near_given a n)
+    ∙ ap (λ c. record s { near_given = s.near_given + (a + n); chip = c; script = option_map (without n) (option_map (without a) s.script); pipe = option_map (take_near n) (option_map (take_near a) s.pipe) }) (read_twice a n s.chip)
+    ∙ ap (λ e. record s { near_given = s.near_given + (a + n); chip = option_map (read_on (a + n)) s.chip; script = e; pipe = option_map (take_near n) (option_map (take_near a) s.pipe) }) (without_twice a n s.script)
+    ∙ ap (λ p. record s { near_given = s.near_given + (a + n); chip = option_map (read_on (a + n)) s.chip; script = option_map (without (a + n)) s.script; pipe = p }) (taken_twice a n s.pipe)
+
+-- the front of a list behind a write into the part from `a` on
+front_of_mid : (a k n : ℕ) (xs ys : List ℕ) → a ≤ length xs → n ≤ length ys → take (a + n) (put_mid a k xs ys) ≡ take a xs ++ take n ys
+front_of_mid a k n xs ys within most =
+    ap (λ m. take (m + n) (put_mid a k xs ys)) (sym (length-take-le a xs within))
+    ∙ take-append-add (take a xs) (ys ++ post_of a k xs) n
+    ∙ ap (λ l. take a xs ++ l) (take-append-le n ys (post_of a k xs) most)
+
+front_more : (a k n : ℕ) (unread into piece : List ℕ) → take a unread ≡ take a into → IsFront n piece (drop a unread) → a ≤ length into → n ≤ length piece → take (a + n) unread ≡ take (a + n) (put_mid a k into piece)
+front_more a k n unread into piece front next within most =
+    take-add a n unread ∙ ap (λ l. l ++ take n (drop a unread)) front ∙ ap (λ l. take a into ++ l) next ∙ sym (front_of_mid a k n into piece within most)
+
+chip_more : (a k n : ℕ) (told : Option Far) (into piece : List ℕ) → IfSome told (λ f. take a f.unread ≡ take a into) → IfSome (option_map (read_on a) told) (λ f. IsFront n piece f.unread × (0 < n))
+    → a ≤ length into → n ≤ length piece → IfSome told (λ f. take (a + n) f.unread ≡ take (a + n) (put_mid a k into piece))
+chip_more a k n None into piece front next within most = tt
+chip_more a k n (Some f) into piece front next within most = front_more a k n f.unread into piece front next.0 within most
+
+script_more : (a k n : ℕ) (told : Option Exchange) (into piece : List ℕ) → IfSome told (λ e. take a e.coming ≡ take a into) → IfSome (option_map (without a) told) (λ e. IsFront n piece e.coming × (n ≡ 0 → e.coming ≡ []))
+    → a ≤ length into → n ≤ length piece → IfSome told (λ e. take (a + n) e.coming ≡ take (a + n) (put_mid a k into piece))
+script_more a k n None into piece front next within most = tt
+script_more a k n (Some e) into piece front next within most = front_more a k n e.coming into piece front next.0 within most
+
+-- one piece more
+pub took_more : (a k n : ℕ) (into piece : List ℕ) (old mid new : NetState) → Took a into old mid → GivesNear n piece mid → new ≡ after_take ends.Near n mid → a ≤ length into → n ≤ length piece
+    → Took (a + n) (put_mid a k into piece) old new
+took_more a k n into piece old mid new took gives is within most =
+    let chip : IfSome (option_map (read_on a) old.chip) (λ f. IsFront n piece f.unread × (0 < n)) = subst (λ s. IfSome s.chip (λ f. IsFront n piece f.unread × (0 < n))) took.is gives.of_chip in
+    let script : IfSome (option_map (without a) old.script) (λ e. IsFront n piece e.coming × (n ≡ 0 → e.coming ≡ [])) = subst (λ s. IfSome s.script (λ e. IsFront n piece e.coming × (n ≡ 0 → e.coming ≡ []))) took.is gives.of_script in
+    record {
+      is = is ∙ ap (after_take ends.Near n) took.is ∙ after_twice a n old;
+      of_chip = chip_more a k n old.chip into piece took.of_chip chip within most;
+      of_script = script_more a k n old.script into piece took.of_script script within most;
+    }
+
+none_still : (n : ℕ) (told : Option Pipe) → is_none (option_map (take_near n) told) ≡ is_none told
+none_still n None = refl
+none_still n (Some p) = refl
+
+pub still_wired : (n : ℕ) (old new : NetState) → IsTrue (is_wired old) → new ≡ after_take ends.Near n old → IsTrue (is_wired new)
+still_wired n old new wired is = subst IsTrue (ap (λ b. old.near_open && b) (sym (none_still n old.pipe)) ∙ sym (ap is_wired is)) wired
+
+-- what a told chip's answers are behind the takes
+reads : (into : List ℕ) (told new : Option Far) → IfSome told (λ f. take (length into) f.unread ≡ take (length into) into) → new ≡ option_map (read_on (length into)) told → ReadsFront into told new
+reads into None new front is = is
+reads into (Some f) new front is = (drop (length into) f.unread, sym (take-append-drop (length into) f.unread) ∙ ap (λ l. l ++ drop (length into) f.unread) (front ∙ take_all (length into) into (omega arith)), is)
+
+pub reads_front : (into : List ℕ) (old new : NetState) → Took (length into) into old new → ReadsFront into old.chip new.chip
+reads_front into old new took = reads into old.chip new.chip took.of_chip (ap (λ s. s.chip) took.is)
+
+keeps : (n : ℕ) (told new : Option Far) → new ≡ option_map (read_on n) told → KeepsChip told new
+keeps n None new is = is
+keeps n (Some f) new is = (take n f.unread, drop n f.unread, sym (take-append-drop n f.unread), is)
+
+pub keeps_chip : (old new : NetState) → TookSome old new → KeepsChip old.chip new.chip
+keeps_chip old new some = keeps some.count old.chip new.chip (ap (λ s. s.chip) some.took.is)

@@ -1,0 +1,4 @@
+pub mod Stream
+pub mod Connection
+pub mod Store
+pub mod Wired

@@ -1,0 +1,41 @@
+-- A wire over the near end of a net: over which nets it works, what a take of many bytes does, and why its calls fail.
+-- No public standard defines this.
+use Rattle.std.specs.Prelude.{◌≡◌, ℕ, ◌+◌, ◌-◌, ◌^◌, ◌&&◌, min, List, take, Bool, is_none, IfSome}
+use Rattle.jt_base.specs.Faults.{Rises}
+use Rattle.debug_model.specs.Net.{NetState, after_take}
+use Rattle.debug_model.specs.declared.net.End.TheVariants as ends
+use Rattle.debug_model.specs.declared.wire.WireFault.{WireFault}
+use Rattle.debug_model.specs.declared.wire.WireFault.TheVariants.{SendFailed, RecvFailed, Ended, BadAnswer}
+
+-- an open near end, of a net that tells no pipe
+abbrev pub is_wired : NetState → Bool
+is_wired s = s.near_open && is_none s.pipe
+
+-- the count of the faults of a wire: of its net both faults and ends, as far as 64 bits go
+abbrev pub summed : ℕ → ℕ → ℕ
+summed faults ends = min (faults + ends) (2 ^ 64 - 1)
+
+-- `count` bytes were taken at the near end, and they stand at the front of `into`
+pub record Took (count : ℕ) (into : List ℕ) (old new : NetState) : Type 0 where
+  pub is : new ≡ after_take ends.Near count old
+  pub of_chip : IfSome old.chip (λ f. take count f.unread ≡ take count into)
+  pub of_script : IfSome old.script (λ e. take count e.coming ≡ take count into)
+
+-- which count of the net rose: the faults before and after, and the ends
+abbrev pub SendCause : ℕ → ℕ → WireFault → Type 0
+SendCause old new SendFailed = Rises old new
+SendCause old new RecvFailed = ⊥
+SendCause old new Ended = ⊥
+SendCause old new (BadAnswer _) = ⊥
+
+abbrev pub RecvCause : ℕ → ℕ → ℕ → ℕ → WireFault → Type 0
+RecvCause faults faults' ends ends' SendFailed = ⊥
+RecvCause faults faults' ends ends' RecvFailed = Rises faults faults'
+RecvCause faults faults' ends ends' Ended = Rises ends ends'
+RecvCause faults faults' ends ends' (BadAnswer _) = ⊥
+
+-- some bytes were taken at the near end, and no told chip or script lost more
+pub record TookSome (old new : NetState) : Type 0 where
+  pub count : ℕ
+  pub into : List ℕ
+  pub took : Took count into old new
