@@ -1,4 +1,0 @@
-pub mod Behind
-pub mod Counted
-pub mod Fed
-pub mod OnBench
