@@ -1,4 +1,3 @@
 pub mod Cuts
 pub mod RegisterLemmas
-pub mod Transcripts
 pub mod JournalLemmas

@@ -1,14 +1,14 @@
 -- Where a session stands between two commands: its plan is replayed so far, and its bytes are at the chip.
 use Rattle.std.proofs.Common.{◌≡◌, ◌∙◌, ℕ, List, [], ◌∷◌, ◌++◌, Bool, true, false, Option, Some, None, option_map, refl, sym, ap, append_assoc, append-nil, subst, IfSome, Result, Ok, Err, OnErr}
-use Rattle.debug_model.proofs.Transcripts.{AddsLines, replay-grows, text_of_all-append, text_of_all-said}
+use Rattle.jtag_bench.proofs.Transcripts.{AddsLines, replay-grows, text_of_all-append, text_of_all-said}
 use Rattle.pins_link.specs.Chip.{Chip, after, feed}
-use Rattle.debug_model.specs.Debugger.{commands}
-use Rattle.debug_model.specs.Lines.{Line, text_of, text_of_all}
-use Rattle.debug_model.specs.Lines.Line.{Idcode as idcode_line}
+use Rattle.jtag_bench.specs.Debugger.{commands}
+use Rattle.jtag_bench.specs.Lines.{Line, text_of, text_of_all}
+use Rattle.jtag_bench.specs.Lines.Line.{Idcode as idcode_line}
 use Rattle.debug_model.specs.Tap.{idcode}
 use Rattle.pins_link.specs.Told.{Far, IsRead, read_out}
-use Rattle.debug_model.specs.Transcript.{World, Outcome, replay, said, start, transcript}
-use Rattle.debug_model.specs.Transcript.End.{Clean}
+use Rattle.jtag_bench.specs.Transcript.{World, Outcome, replay, said, start, transcript}
+use Rattle.jtag_bench.specs.Transcript.End.{Clean}
 use Rattle.debug_model.specs.declared.command.Command.{Command}
 use Rattle.debug_model.specs.declared.command.Command.TheVariants.{Idcode, End}
 use Rattle.jt_base.specs.Sink.{grown, GrewByPrefix, TookFront}

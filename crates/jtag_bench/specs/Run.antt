@@ -2,9 +2,9 @@
 -- The program is this project's own (docs/FORMATS.md, "Statuses").
 use Rattle.std.specs.Prelude.{◌≡◌, ◌++◌, ◌⊎◌, ℕ, List, [], Option}
 use Rattle.pins_link.specs.Chip.{Chip, feed, fresh_chip}
-use Rattle.debug_model.specs.Lines.{text_of_all}
-use Rattle.debug_model.specs.Transcript.{transcript}
-use Rattle.debug_model.specs.Transcript.End.{Clean}
+use Rattle.jtag_bench.specs.Lines.{text_of_all}
+use Rattle.jtag_bench.specs.Transcript.{transcript}
+use Rattle.jtag_bench.specs.Transcript.End.{Clean}
 use Rattle.debug_model.specs.declared.command.Command.{Command}
 use Rattle.jt_base.specs.Files.{NamedFile}
 use Rattle.jt_base.specs.Sink.{grown, GrewByPrefix}

@@ -2,13 +2,13 @@
 -- IEEE 1149.1 for the scan of the device identification; the rest is this project's own.
 use Rattle.std.specs.Prelude.{◌≡◌, ◌++◌, ℕ, List, [], ◌∷◌, Bool, true, false, Option, Some, Result, Ok, Err}
 use Rattle.pins_link.specs.Chip.{Chip, feed}
-use Rattle.debug_model.specs.Lines.{text_of, text_of_all}
-use Rattle.debug_model.specs.Lines.Line.{Idcode as idcode_line}
+use Rattle.jtag_bench.specs.Lines.{text_of, text_of_all}
+use Rattle.jtag_bench.specs.Lines.Line.{Idcode as idcode_line}
 use Rattle.pins_link.specs.Scan.{CauseOf}
 use Rattle.debug_model.specs.Tap.{idcode}
 use Rattle.pins_link.specs.Told.{Far, IsFree, IsLive, IsRead, read_out}
-use Rattle.debug_model.specs.Transcript.{Outcome, transcript}
-use Rattle.debug_model.specs.Transcript.End.{Clean}
+use Rattle.jtag_bench.specs.Transcript.{Outcome, transcript}
+use Rattle.jtag_bench.specs.Transcript.End.{Clean}
 use Rattle.debug_model.specs.declared.command.Command.{Command}
 use Rattle.debug_model.specs.declared.command.Command.TheVariants.{Idcode, End}
 use Rattle.jt_base.specs.Faults.{Rises}

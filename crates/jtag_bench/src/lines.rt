@@ -2,8 +2,8 @@
 
 ghost use Rattle.std.specs.Prelude.{◌≡◌, ◌≤◌, ◌<◌, ◌+◌, ◌++◌, ◌∷◌, [], decimal, length};
 ghost use Rattle.arrayvec.specs.ArrayVec.{array_vec_len};
-ghost use Rattle.debug_model.specs.Lines.{text_of};
-ghost use Rattle.debug_model.specs.Lines.Line.{Idcode};
+ghost use Rattle.jtag_bench.specs.Lines.{text_of};
+ghost use Rattle.jtag_bench.specs.Lines.Line.{Idcode};
 ghost use Rattle.debug_model.specs.Spelling.{hexadecimal};
 ghost use Rattle.jtag_bench.specs.LastLine.{script_refused};
 ghost use Rattle.std.specs.Char.{digit_char};

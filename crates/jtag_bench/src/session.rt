@@ -2,10 +2,10 @@
 
 ghost use Rattle.std.specs.Prelude.{◌≡◌, ◌≤◌, [], IfOk, IfErr, IfSome, IsTrue, OnErr, OnOk};
 ghost use Rattle.std.specs.List.{list_all};
-ghost use Rattle.debug_model.specs.Lines.{text_of_all};
+ghost use Rattle.jtag_bench.specs.Lines.{text_of_all};
 ghost use Rattle.pins_link.specs.Scan.{HasScanCause};
 ghost use Rattle.pins_link.specs.Told.{IsFree, IsLive, IsRead};
-ghost use Rattle.debug_model.specs.Transcript.{transcript};
+ghost use Rattle.jtag_bench.specs.Transcript.{transcript};
 ghost use Rattle.jt_base.specs.Sink.{GrewByPrefix};
 ghost use Rattle.jtag_bench.specs.Session.{CanQuit, CanQuitAfter, Did, FailureCause, Ran, ReadIdcode, WroteAt, is_built};
 

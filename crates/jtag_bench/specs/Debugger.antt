@@ -1,8 +1,8 @@
 -- The abstract debugger: what each command of a script does, as a plan of what is still to be done.
 -- It knows no scan, no register of the debug module and no busy answer; it is this project's own (docs/SCRIPT.md).
 use Rattle.std.specs.Prelude.{List, [], ◌∷◌}
-use Rattle.debug_model.specs.Lines.{Line}
-use Rattle.debug_model.specs.Lines.Line.{Idcode as idcode_line}
+use Rattle.jtag_bench.specs.Lines.{Line}
+use Rattle.jtag_bench.specs.Lines.Line.{Idcode as idcode_line}
 use Rattle.debug_model.specs.Tap.{idcode}
 use Rattle.debug_model.specs.declared.command.Command.{Command}
 use Rattle.debug_model.specs.declared.command.Command.TheVariants.{Idcode, End}

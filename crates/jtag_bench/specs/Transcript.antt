@@ -1,10 +1,10 @@
 -- The transcript of a session: its plan replayed along the chip's journal.
 -- It is this project's own: what a session prints is a function of the script and of what happened at the chip.
 use Rattle.std.specs.Prelude.{ℕ, List, [], ◌∷◌, ◌++◌, Bool, ◌&&◌, ◌==◌, if◌then◌else◌}
-use Rattle.debug_model.specs.Debugger.{Plan, Stop, commands}
-use Rattle.debug_model.specs.Debugger.Plan.{take, say, stop}
-use Rattle.debug_model.specs.Debugger.Stop.{Done, NotBuilt}
-use Rattle.debug_model.specs.Lines.{Line}
+use Rattle.jtag_bench.specs.Debugger.{Plan, Stop, commands}
+use Rattle.jtag_bench.specs.Debugger.Plan.{take, say, stop}
+use Rattle.jtag_bench.specs.Debugger.Stop.{Done, NotBuilt}
+use Rattle.jtag_bench.specs.Lines.{Line}
 use Rattle.debug_model.specs.declared.command.Command.{Command}
 use Rattle.debug_model.specs.declared.point.Point.{Point}
 use Rattle.debug_model.specs.declared.point.Point.TheVariants.{Turn, Look, HaltReq, HaltClear, ResumeReq, Access}

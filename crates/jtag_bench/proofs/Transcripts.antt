@@ -1,9 +1,9 @@
 -- Laws of every replay, each an induction on plans: a replay only adds lines.
 use Rattle.std.proofs.Common.{◌≡◌, ◌∙◌, List, [], ◌∷◌, ◌++◌, Bool, true, false, refl, sym, ap, append_assoc, append-nil, if◌then◌else◌}
-use Rattle.debug_model.specs.Debugger.{Plan, Stop}
-use Rattle.debug_model.specs.Debugger.Plan.{take, say, stop}
-use Rattle.debug_model.specs.Lines.{Line, text_of, text_of_all}
-use Rattle.debug_model.specs.Transcript.{World, Outcome, End, same_point, said, taking, finish, replay}
+use Rattle.jtag_bench.specs.Debugger.{Plan, Stop}
+use Rattle.jtag_bench.specs.Debugger.Plan.{take, say, stop}
+use Rattle.jtag_bench.specs.Lines.{Line, text_of, text_of_all}
+use Rattle.jtag_bench.specs.Transcript.{World, Outcome, End, same_point, said, taking, finish, replay}
 use Rattle.debug_model.specs.declared.point.Point.{Point}
 use Rattle.debug_model.specs.declared.point.Point.TheVariants.{Turn, Look, HaltReq, HaltClear, ResumeReq, Access}
 
