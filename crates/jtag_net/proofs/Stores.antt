@@ -1,5 +1,5 @@
 -- What a net in memory tells after a put that failed.
-use Rattle.std.proofs.Common.{◌≡◌, List, ℕ, ◌++◌, take, drop, Bool, true, false, option_map, refl, sym, ap, subst, ◌∙◌}
+use Rattle.std.proofs.Common.{◌≡◌, List, ℕ, ◌++◌, take, drop, Bool, true, false, option_map, refl, sym, ap, ◌∙◌}
 use Rattle.std.proofs.lemmas.List.{take-append-drop}
 use Rattle.debug_model.specs.Net.{PutFront, after_put, is_open, more_put, put_near, put_far}
 use Rattle.debug_model.specs.declared.net.End.{End}

@@ -1,5 +1,5 @@
 -- Bytes that are taken at the near end of a net, piece after piece, into one list.
-use Rattle.std.proofs.Common.{◌≡◌, ℕ, ◌+◌, ◌-◌, ◌<◌, ◌≤◌, List, [], ◌++◌, length, take, drop, Option, None, Some, IfSome, IsTrue, is_none, ◌&&◌, option_map, refl, sym, ap, subst, ◌∙◌, add_assoc, arith}
+use Rattle.std.proofs.Common.{◌≡◌, ℕ, ◌+◌, ◌<◌, ◌≤◌, List, [], ◌++◌, length, take, drop, Option, None, Some, IfSome, IsTrue, is_none, ◌&&◌, option_map, refl, sym, ap, subst, ◌∙◌, add_assoc, arith}
 use Rattle.std.proofs.lemmas.List.{drop-drop, length-take-le, take-append-drop, take-append-le, take_all}
 use Rattle.std.proofs.Math.Seq.{take-add, take-append-add}
 use borrow.Rule.Slice.PartMut.{put_mid, post_of}

@@ -1,4 +1,4 @@
-use Rattle.std.proofs.Common.{◌≤◌, length, arith}
+use Rattle.std.proofs.Common.{arith}
 use Rattle.std.proofs.lemmas.Grind.{common_steps}
 use Rattle.jtag_net.proofs.Takes.{still_wired, took_more}
 use Rattle.jtag_net.proofs.take_all.take_all.Goals as goal
