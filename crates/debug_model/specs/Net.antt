@@ -1,12 +1,12 @@
 -- A net: one connection of bytes, which one call opens, and what each call does to what the net tells. A net may tell the
 -- chip at its far side, or a pipe from each of its ends to the other, or the bytes that are to come.
 -- No public standard defines this.
-use Rattle.std.specs.Prelude.{◌≡◌, ℕ, ◌+◌, ◌<◌, ◌≤◌, List, [], ◌++◌, length, take, drop, Bool, true, false, Option, None, Some, IfSome, option_map}
+use Rattle.std.specs.Prelude.{◌≡◌, ℕ, ◌+◌, ◌<◌, ◌≤◌, List, [], ◌++◌, length, take, drop, Bool, true, false, Option, None, Some, IfSome, IsTrue, option_map}
 use Rattle.jt_base.specs.Faults.{Rises}
 use Rattle.debug_model.specs.Chip.{Live}
 use Rattle.debug_model.specs.Ties.{NetTies}
-use Rattle.debug_model.specs.Told.{Far, IsOpen, IsRead, read_out}
-use Rattle.debug_model.specs.Wire.{IsPiece, sent}
+use Rattle.debug_model.specs.Told.{Far, IsLive, IsOpen, IsRead, read_out}
+use Rattle.debug_model.specs.Wire.{IsPiece, are_open, piece_most, sent}
 use Rattle.debug_model.specs.declared.net.Call.{Call}
 use Rattle.debug_model.specs.declared.net.End.{End}
 use Rattle.debug_model.specs.declared.net.End.TheVariants as ends
@@ -38,6 +38,13 @@ pub record NetState : Type 0 where
   pub chip : Option Far
   pub script : Option Exchange
   pub pipe : Option Pipe
+
+-- the bytes that are to come at a scripted near end
+abbrev pub coming_in : Exchange → List ℕ
+coming_in e = e.coming
+
+abbrev pub coming_of : NetState → Option (List ℕ)
+coming_of s = option_map coming_in s.script
 
 abbrev pub is_open : End → NetState → Bool
 is_open ends.Near s = s.near_open
@@ -120,7 +127,7 @@ pub record PutFront (at : End) (bytes : List ℕ) (old new : NetState) : Type 0 
 
 -- what a told chip may be sent
 pub record MaySend (bytes : List ℕ) (told : Option Far) : Type 0 where
-  pub most : IfSome told (λ _. length bytes ≤ 256)
+  pub most : IfSome told (λ _. length bytes ≤ piece_most)
   pub piece : IfSome told (λ _. IsPiece bytes)
   pub stays_open : IsOpen told
   pub read : IsRead told
@@ -128,6 +135,11 @@ pub record MaySend (bytes : List ℕ) (told : Option Far) : Type 0 where
 abbrev pub MayPut : End → List ℕ → NetState → Type 0
 MayPut ends.Near bytes s = MaySend bytes s.chip
 MayPut ends.Far bytes s = Unit {0}
+
+-- behind a put of signs that leave the stream open, a chip at the near end has not ended
+abbrev pub LivesOn : End → List ℕ → NetState → Type 0
+LivesOn ends.Near bytes s = IsTrue (are_open bytes) → IsLive s.chip
+LivesOn ends.Far bytes s = Unit {0}
 
 -- Taking
 

@@ -1,6 +1,6 @@
 ghost use Rattle.std.specs.Prelude.{◌≡◌, ◌≢◌, ◌+◌, ◌^◌, ◌<◌, ◌≤◌, ◌∷◌, ℕ, List, None, Some, length, true, OnOk, OnErr, IfOk, IfErr};
 ghost use Rattle.std.specs.Borrow.{GName};
-ghost use Rattle.debug_model.specs.Net.{Called, CallCause, Gives, IsAccepted, IsConnected, IsJoined, MayPut, MayTake, NetState, OpenCause, Peer, PutFront, after_put, after_take, given, is_open};
+ghost use Rattle.debug_model.specs.Net.{LivesOn, Called, CallCause, Gives, IsAccepted, IsConnected, IsJoined, MayPut, MayTake, NetState, OpenCause, Peer, PutFront, after_put, after_take, given, is_open};
 ghost use Rattle.debug_model.specs.declared.net.Call.TheVariants as call;
 ghost use Rattle.jt_base.specs.Faults.{Rises};
 
@@ -96,6 +96,7 @@ pub trait Net: Drop {
         requires open { is_open end (state self.old) ≡ true }
         requires accepts { MayPut end bytes.now (state self.old) }
         ensures put { OnOk result (state self.new ≡ after_put end bytes.now (state self.old)) }
+        ensures live { OnOk result (LivesOn end bytes.now (state self.new)) }
         ensures front { OnErr result (PutFront end bytes.now (state self.old) (state self.new)) }
         ensures cause { IfErr result (CallCause (fault_count self.old) (fault_count self.new)) }
         ensures later { fault_count self.old ≤ fault_count self.new }

@@ -3,9 +3,9 @@ use Rattle.std.proofs.Common.{◌≡◌, ℕ, ◌+◌, ◌<◌, ◌≤◌, List,
 use Rattle.std.proofs.lemmas.List.{drop-drop, length-take-le, take-append-drop, take-append-le, take_all}
 use Rattle.std.proofs.Math.Seq.{take-add, take-append-add}
 use borrow.Rule.Slice.PartMut.{put_mid, post_of}
-use Rattle.debug_model.specs.Net.{Exchange, GivesNear, IsFront, NetState, Pipe, after_take, read_on, take_near, without}
+use Rattle.debug_model.specs.Net.{Exchange, GivesNear, IsFront, NetState, Pipe, after_take, coming_in, coming_of, read_on, take_near, without}
 use Rattle.debug_model.specs.Told.{Far}
-use Rattle.debug_model.specs.Wire.{KeepsChip, ReadsFront}
+use Rattle.debug_model.specs.Wire.{KeepsChip, LosesComing, ReadsFront, TakesComing}
 use Rattle.debug_model.specs.declared.net.End.TheVariants as ends
 use Rattle.jtag_net.specs.Wired.{Took, TookSome, is_wired}
 
@@ -82,3 +82,19 @@ keeps n (Some f) new is = (take n f.unread, drop n f.unread, sym (take-append-dr
 
 pub keeps_chip : (old new : NetState) → TookSome old new → KeepsChip old.chip new.chip
 keeps_chip old new some = keeps some.count old.chip new.chip (ap (λ s. s.chip) some.took.is)
+
+-- what a script's bytes to come are behind the takes
+comes : (into : List ℕ) (told new : Option Exchange) → IfSome told (λ e. take (length into) e.coming ≡ take (length into) into) → new ≡ option_map (without (length into)) told
+    → TakesComing into (option_map coming_in told) (option_map coming_in new)
+comes into None new front is = ap (option_map coming_in) is
+comes into (Some e) new front is = (drop (length into) e.coming, sym (take-append-drop (length into) e.coming) ∙ ap (λ l. l ++ drop (length into) e.coming) (front ∙ take_all (length into) into (omega arith)), ap (option_map coming_in) is)
+
+pub takes_coming : (into : List ℕ) (old new : NetState) → Took (length into) into old new → TakesComing into (coming_of old) (coming_of new)
+takes_coming into old new took = comes into old.script new.script took.of_script (ap (λ s. s.script) took.is)
+
+loses : (n : ℕ) (told new : Option Exchange) → new ≡ option_map (without n) told → LosesComing (option_map coming_in told) (option_map coming_in new)
+loses n None new is = ap (option_map coming_in) is
+loses n (Some e) new is = (take n e.coming, drop n e.coming, sym (take-append-drop n e.coming), ap (option_map coming_in) is)
+
+pub loses_coming : (old new : NetState) → TookSome old new → LosesComing (coming_of old) (coming_of new)
+loses_coming old new some = loses some.count old.script new.script (ap (λ s. s.script) some.took.is)

@@ -22,17 +22,17 @@ pub record Took (count : ℕ) (into : List ℕ) (old new : NetState) : Type 0 wh
   pub of_script : IfSome old.script (λ e. take count e.coming ≡ take count into)
 
 -- which count of the net rose: the faults before and after, and the ends
-abbrev pub SendCause : ℕ → ℕ → WireFault → Type 0
-SendCause old new SendFailed = Rises old new
-SendCause old new RecvFailed = ⊥
-SendCause old new Ended = ⊥
-SendCause old new (BadAnswer _) = ⊥
+abbrev pub PutCause : ℕ → ℕ → WireFault → Type 0
+PutCause old new SendFailed = Rises old new
+PutCause old new RecvFailed = ⊥
+PutCause old new Ended = ⊥
+PutCause old new (BadAnswer _) = ⊥
 
-abbrev pub RecvCause : ℕ → ℕ → ℕ → ℕ → WireFault → Type 0
-RecvCause faults faults' ends ends' SendFailed = ⊥
-RecvCause faults faults' ends ends' RecvFailed = Rises faults faults'
-RecvCause faults faults' ends ends' Ended = Rises ends ends'
-RecvCause faults faults' ends ends' (BadAnswer _) = ⊥
+abbrev pub TakeCause : ℕ → ℕ → ℕ → ℕ → WireFault → Type 0
+TakeCause faults faults' ends ends' SendFailed = ⊥
+TakeCause faults faults' ends ends' RecvFailed = Rises faults faults'
+TakeCause faults faults' ends ends' Ended = Rises ends ends'
+TakeCause faults faults' ends ends' (BadAnswer _) = ⊥
 
 -- some bytes were taken at the near end, and no told chip or script lost more
 pub record TookSome (old new : NetState) : Type 0 where

@@ -1,10 +1,10 @@
 //! The bit-bang stream over a net.
 ghost use Rattle.std.specs.Prelude.{◌≡◌, ◌≤◌, ◌∷◌, None, true, IsTrue, length, IfErr, IfSome, OnErr, OnOk, option_map};
-ghost use Rattle.debug_model.specs.Net.{PutFront, after_put, is_open};
+ghost use Rattle.debug_model.specs.Net.{PutFront, after_put, coming_of, is_open};
 ghost use Rattle.debug_model.specs.declared.net.End.TheVariants as end;
-ghost use Rattle.debug_model.specs.Told.{IsLive, IsRead};
-ghost use Rattle.debug_model.specs.Wire.{IsPiece, KeepsChip, ReadsFront, SentFront, WireCause, sent};
-ghost use Rattle.jtag_net.specs.Wired.{RecvCause, SendCause, Took, TookSome, is_wired, summed};
+ghost use Rattle.debug_model.specs.Told.{IsLive, IsOpen, IsRead};
+ghost use Rattle.debug_model.specs.Wire.{IsPiece, KeepsChip, LosesComing, ReadsFront, RecvCause, SendCause, SentFront, TakesComing, are_open, piece_most, sent};
+ghost use Rattle.jtag_net.specs.Wired.{PutCause, TakeCause, Took, TookSome, is_wired, summed};
 
 use crate::take_all::take_all;
 use debug_model::{End, Net, Wire, WireFault};
@@ -32,23 +32,28 @@ impl<'a, N: Net> NetWire<'a, N> {
 impl<'a, N: Net> Wire for NetWire<'a, N> {
     ghost far = { λ w. (N.state w.net.now).chip };
 
+    ghost coming = { λ w. coming_of (N.state w.net.now) };
+
     ghost fault_count = { λ w. summed (N.fault_count w.net.now) (N.end_count w.net.now) };
 
-    ghost lenders = { λ w. w.net.ghost_name ∷ N.lenders w.net.now };
+    ghost ties = { λ w. record { lenders = w.net.ghost_name ∷ N.lenders w.net.now; net = (N.state w.net.now).ties } };
 
+    #[tactic(auto, using(crate::proofs::Puts::coming_stays, crate::proofs::Puts::coming_stays_cut))]
     fn send(&mut self, bytes: &[u8]) -> Result<(), WireFault>
-        requires most { length bytes.now ≤ 256 }
+        requires most { length bytes.now ≤ piece_most }
         requires piece { IsPiece bytes.now }
-        requires live { IsLive (N.state self.old.net.now).chip }
+        requires open { IsOpen (N.state self.old.net.now).chip }
         requires read { IsRead (N.state self.old.net.now).chip }
         ensures sent { OnOk result ((N.state self.new.net.now).chip ≡ option_map (sent bytes.now) (N.state self.old.net.now).chip) }
-        ensures front { OnErr result (SentFront bytes.now (N.state self.old.net.now).chip (N.state self.new.net.now).chip) }
+        ensures live { OnOk result (IsTrue (are_open bytes.now) → IsLive (N.state self.new.net.now).chip) }
+        ensures prefix { OnErr result (SentFront bytes.now (N.state self.old.net.now).chip (N.state self.new.net.now).chip) }
+        ensures coming { coming_of (N.state self.new.net.now) ≡ coming_of (N.state self.old.net.now) }
         ensures later { summed (N.fault_count self.old.net.now) (N.end_count self.old.net.now) ≤ summed (N.fault_count self.new.net.now) (N.end_count self.new.net.now) }
-        ensures cause { IfErr result (WireCause (summed (N.fault_count self.old.net.now) (N.end_count self.old.net.now)) (summed (N.fault_count self.new.net.now) (N.end_count self.new.net.now))) }
-        ensures lenders { self.new.net.ghost_name ∷ N.lenders self.new.net.now ≡ self.old.net.ghost_name ∷ N.lenders self.old.net.now }
+        ensures cause { IfErr result (SendCause (summed (N.fault_count self.old.net.now) (N.end_count self.old.net.now)) (summed (N.fault_count self.new.net.now) (N.end_count self.new.net.now)) (N.state self.new.net.now).chip) }
+        ensures ties { record { lenders = self.new.net.ghost_name ∷ N.lenders self.new.net.now; net = (N.state self.new.net.now).ties } ≡ record { lenders = self.old.net.ghost_name ∷ N.lenders self.old.net.now; net = (N.state self.old.net.now).ties } }
         ensures net { OnOk result (N.state self.new.net.now ≡ after_put end.Near bytes.now (N.state self.old.net.now)) }
         ensures net_front { OnErr result (PutFront end.Near bytes.now (N.state self.old.net.now) (N.state self.new.net.now)) }
-        ensures faults { IfErr result (SendCause (N.fault_count self.old.net.now) (N.fault_count self.new.net.now)) }
+        ensures faults { IfErr result (PutCause (N.fault_count self.old.net.now) (N.fault_count self.new.net.now)) }
     {
         match self.net.put(End::Near, bytes) {
             Ok(()) => Ok(()),
@@ -56,18 +61,20 @@ impl<'a, N: Net> Wire for NetWire<'a, N> {
         }
     }
 
-    #[tactic(auto, using(crate::proofs::Takes::keeps_chip, crate::proofs::Takes::reads_front))]
+    #[tactic(auto, using(crate::proofs::Takes::keeps_chip, crate::proofs::Takes::reads_front, crate::proofs::Takes::takes_coming, crate::proofs::Takes::loses_coming))]
     fn recv(&mut self, into: &mut [u8]) -> Result<(), WireFault>
-        requires live { IsLive (N.state self.old.net.now).chip }
+        requires open { IsOpen (N.state self.old.net.now).chip }
         requires waiting { IfSome (N.state self.old.net.now).chip (λ f. length into.old ≤ length f.unread) }
         ensures read { OnOk result (ReadsFront into.new (N.state self.old.net.now).chip (N.state self.new.net.now).chip) }
         ensures chip { OnErr result (KeepsChip (N.state self.old.net.now).chip (N.state self.new.net.now).chip) }
+        ensures came { OnOk result (TakesComing into.new (coming_of (N.state self.old.net.now)) (coming_of (N.state self.new.net.now))) }
+        ensures lost { OnErr result (LosesComing (coming_of (N.state self.old.net.now)) (coming_of (N.state self.new.net.now))) }
         ensures later { summed (N.fault_count self.old.net.now) (N.end_count self.old.net.now) ≤ summed (N.fault_count self.new.net.now) (N.end_count self.new.net.now) }
-        ensures cause { IfErr result (WireCause (summed (N.fault_count self.old.net.now) (N.end_count self.old.net.now)) (summed (N.fault_count self.new.net.now) (N.end_count self.new.net.now))) }
-        ensures lenders { self.new.net.ghost_name ∷ N.lenders self.new.net.now ≡ self.old.net.ghost_name ∷ N.lenders self.old.net.now }
+        ensures cause { IfErr result (RecvCause (summed (N.fault_count self.old.net.now) (N.end_count self.old.net.now)) (summed (N.fault_count self.new.net.now) (N.end_count self.new.net.now)) (N.state self.new.net.now).chip) }
+        ensures ties { record { lenders = self.new.net.ghost_name ∷ N.lenders self.new.net.now; net = (N.state self.new.net.now).ties } ≡ record { lenders = self.old.net.ghost_name ∷ N.lenders self.old.net.now; net = (N.state self.old.net.now).ties } }
         ensures net { OnOk result (Took (length into.new) into.new (N.state self.old.net.now) (N.state self.new.net.now)) }
         ensures net_some { OnErr result (TookSome (N.state self.old.net.now) (N.state self.new.net.now)) }
-        ensures faults { IfErr result (RecvCause (N.fault_count self.old.net.now) (N.fault_count self.new.net.now) (N.end_count self.old.net.now) (N.end_count self.new.net.now)) }
+        ensures faults { IfErr result (TakeCause (N.fault_count self.old.net.now) (N.fault_count self.new.net.now) (N.end_count self.old.net.now) (N.end_count self.new.net.now)) }
     {
         take_all(self.net, into)
     }

@@ -1,6 +1,6 @@
 //! Takes of many bytes, in whatever pieces they come.
 ghost use Rattle.std.specs.Prelude.{◌≡◌, ◌≤◌, length, IfErr, IfSome, IsTrue, OnErr, OnOk};
-ghost use Rattle.jtag_net.specs.Wired.{RecvCause, Took, TookSome, is_wired};
+ghost use Rattle.jtag_net.specs.Wired.{TakeCause, Took, TookSome, is_wired};
 
 use debug_model::{End, Net, WireFault};
 
@@ -12,7 +12,7 @@ pub fn take_all<N: Net>(net: &mut N, into: &mut [u8]) -> Result<(), WireFault>
     ensures some { OnErr result (TookSome (N.state net.old) (N.state net.new)) }
     ensures wired { IsTrue (is_wired (N.state net.new)) }
     ensures ties { (N.state net.new).ties ≡ (N.state net.old).ties }
-    ensures cause { IfErr result (RecvCause (N.fault_count net.old) (N.fault_count net.new) (N.end_count net.old) (N.end_count net.new)) }
+    ensures cause { IfErr result (TakeCause (N.fault_count net.old) (N.fault_count net.new) (N.end_count net.old) (N.end_count net.new)) }
     ensures later { N.fault_count net.old ≤ N.fault_count net.new }
     ensures ends_later { N.end_count net.old ≤ N.end_count net.new }
     ensures lenders { N.lenders net.new ≡ N.lenders net.old }
