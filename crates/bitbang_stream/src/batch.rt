@@ -80,7 +80,7 @@ impl Batch {
     pub fn bytes(&self) -> &[u8]
         ensures bytes { result.now ≡ self.now }
         ensures most { length result.now ≤ 256 }
-        ensures open { IsTrue (are_open result.now) }
+        ensures signs { IsTrue (are_open result.now) }
     {
         &self.signs
     }
