@@ -1,5 +1,5 @@
 #!/usr/bin/env python3
-"""Writes the test data `crates/rv_hart/src/tests/reference_run.rt`: a program of random instructions, and what QEMU makes of it."""
+"""Writes the test data `crates/rv_tests/src/hart/reference/run.rt`: a program of random instructions, and what QEMU makes of it."""
 
 import sys
 

@@ -9,8 +9,6 @@ mod dispatch;
 mod divide;
 mod multiply;
 mod shifts;
-#[cfg(test)]
-mod tests;
 mod words;
 
 pub use dispatch::alu;

@@ -15,8 +15,6 @@ mod hart;
 mod jumps;
 mod loads;
 mod stores;
-#[cfg(test)]
-mod tests;
 mod touch;
 mod zicsr;
 

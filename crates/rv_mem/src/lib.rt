@@ -7,8 +7,6 @@ mod bytes;
 mod places;
 mod ram;
 mod ram_fault;
-#[cfg(test)]
-mod tests;
 
 pub use ram::Ram;
 pub use ram_fault::RamFault;

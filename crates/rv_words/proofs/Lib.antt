@@ -1,5 +1,1 @@
 pub mod FieldLemmas
-pub mod FormatLemmas
-pub mod MeaningRows
-pub mod OneRow
-pub mod WordsAgree

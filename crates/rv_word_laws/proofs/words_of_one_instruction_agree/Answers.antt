@@ -1,7 +1,7 @@
 use Rattle.std.proofs.Common.{arith}
-use Rattle.rv_words.proofs.MeaningRows.{means_from_meaning}
-use Rattle.rv_words.proofs.WordsAgree.{kept_bits_agree}
-use Rattle.rv_words.proofs.laws.words_of_one_instruction_agree.Goals as goal
+use Rattle.rv_word_laws.proofs.MeaningRows.{means_from_meaning}
+use Rattle.rv_word_laws.proofs.WordsAgree.{kept_bits_agree}
+use Rattle.rv_word_laws.proofs.words_of_one_instruction_agree.Goals as goal
 
 pub returns : goal.returns
 returns c =

@@ -4,7 +4,7 @@ use Rattle.rv_model.specs.declared.insn.Insn.{Insn}
 use Rattle.rv_model.specs.declared.insn.Insn.TheVariants.{Lui, Auipc, Jal, Jalr, Beq, Bne, Blt, Bge, Bltu, Bgeu, Lb, Lh, Lw, Ld, Lbu, Lhu, Lwu, Sb, Sh, Sw, Sd, Addi, Slti, Sltiu, Xori, Ori, Andi, Slli, Srli, Srai, Addiw, Slliw, Srliw, Sraiw, Add, Sll, Slt, Sltu, Xor, Srl, Or, And, Sub, Sra, Mul, Mulh, Mulhsu, Mulhu, Div, Divu, Rem, Remu, Addw, Sllw, Srlw, Subw, Sraw, Mulw, Divw, Divuw, Remw, Remuw, LrW, ScW, AmoswapW, AmoaddW, AmoxorW, AmoandW, AmoorW, AmominW, AmomaxW, AmominuW, AmomaxuW, LrD, ScD, AmoswapD, AmoaddD, AmoxorD, AmoandD, AmoorD, AmominD, AmomaxD, AmominuD, AmomaxuD, Fence, FenceI, Csrrw, Csrrs, Csrrc, Csrrwi, Csrrsi, Csrrci, Ecall, Ebreak, Mret, Wfi}
 use Rattle.rv_model.specs.Means.{Means}
 use Rattle.rv_words.specs.KeptBits.{kept_bits}
-use Rattle.rv_words.proofs.FormatLemmas.{same_atomic, same_b, same_csr, same_csr_imm, same_i, same_j, same_load_reserved, same_r, same_s, same_shift, same_shift_word, same_u}
+use Rattle.rv_word_laws.proofs.FormatLemmas.{same_atomic, same_b, same_csr, same_csr_imm, same_i, same_j, same_load_reserved, same_r, same_s, same_shift, same_shift_word, same_u}
 
 pub kept_bits_agree : (v w : ℕ) → v < 2 ^ 32 → w < 2 ^ 32 → (insn : Insn) → Means v insn → Means w insn → bit_and v (kept_bits insn) ≡ bit_and w (kept_bits insn)
 kept_bits_agree v w v_fits w_fits (Lui p) m n = ap (λ k. bit_and k 0xffffffff) (same_u v w 0x00000037 p v_fits w_fits m n)

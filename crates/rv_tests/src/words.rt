@@ -1,13 +1,13 @@
 //! Words of a published assembler, and words that are no instruction.
 
+mod assembled;
 mod no_instructions;
 mod shown;
-mod words;
 
-use crate::{decode, encode};
+use assembled::WORDS;
 use no_instructions::NO_INSTRUCTIONS;
+use rv_words::{decode, encode};
 use shown::show;
-use words::WORDS;
 
 /// The word without the bits that its instruction leaves free: aq and rl of atomics, the fields of fences.
 fn without_free_bits(word: u32) -> u32 {

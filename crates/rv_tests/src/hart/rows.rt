@@ -178,6 +178,32 @@ pub static TRAPS: [(u32, &str, u64, u8, u64); 21] = [
     (0x4073_32af, "amoor.d", 0x8001_0000, 7, 0x8001_0000),
 ];
 
+/// Fetches that trap: pc, and where it is.
+pub static FETCHES: [(u64, &str); 3] = [
+    (0, "fetch at 0"),
+    (0x8001_0000, "fetch behind the end"),
+    (u64::MAX - 3, "fetch at the highest address"),
+];
+
+/// `mret` from a handler of an instruction that stood where MIE was 1, and of one where it was 0: mstatus before and afterwards.
+pub static RETURNS: [(u64, u64, &str); 2] = [
+    (0x80, 0x1888, "mret where MPIE is 1"),
+    (0x8, 0x1880, "mret where MPIE is 0"),
+];
+
+/// What another hart does between `lr` and `sc`, with 0x8000_1000 in x6: word, name, x6 of that hart, and whether the `sc` succeeds.
+pub static BETWEEN: [(u32, &str, u64, bool); 4] = [
+    (0xff83_0293, "nothing: addi x5, x6, -8", 0x8000_1000, true),
+    (0x0073_3023, "sd x7, 0(x6) beside it", 0x8000_1008, true),
+    (0x0073_03a3, "sb x7, 7(x6) into it", 0x8000_1000, false),
+    (
+        0x0073_22af,
+        "amoadd.w x5, x7, (x6) into it",
+        0x8000_1004,
+        false,
+    ),
+];
+
 /// Instructions and what they would touch: word, name, x6, then the address and its number of bytes, and whether they are read and written.
 pub static TOUCHES: [(u32, &str, u64, u64, u8, bool, bool); 18] = [
     (0xfff3_0283, "lb -1", 0, u64::MAX, 1, true, false),

@@ -4,8 +4,8 @@
 mod run;
 
 use super::{MCAUSE, MEPC, MSCRATCH, MTVEC, START, put_words, set_csr};
-use crate::Hart;
 use run::{EXECUTED, PROGRAM, SUMS, TRAP_HANDLER};
+use rv_hart::Hart;
 use rv_mem::Ram;
 use rv_model::Size;
 use std::alloc::Global;
@@ -69,21 +69,27 @@ fn with_hart(rt: &impl Abort, sum: u64, hart: &Hart) -> u64 {
     sum
 }
 
+/// Executes this many instructions, and folds the hart behind each into the sum.
+fn execute(rt: &impl Abort, hart: &mut Hart, ram: &mut Ram, count: u32, sum: u64) -> u64 {
+    let mut sum = sum;
+    for _ in 0..count {
+        let _did = hart.exec(ram);
+        sum = with_hart(rt, sum, hart);
+    }
+    sum
+}
+
 #[test]
 fn executes_what_another_simulator_executes(rt: HostRuntime) {
     let mut ram = ram_at_start(&rt, rt.alloc());
     let mut hart = hart_at_start(&rt);
     let mut sum = 0;
-    let mut executed: u32 = 0;
+    let mut left = EXECUTED;
     for &wanted in &SUMS {
-        for _ in 0..EVERY {
-            if executed < EXECUTED {
-                let _did = hart.exec(&mut ram);
-                sum = with_hart(&rt, sum, &hart);
-                executed += 1;
-            }
-        }
-        assert_eq!(rt; sum, wanted, "by instruction {executed}");
+        let count = left.min(EVERY);
+        sum = execute(&rt, &mut hart, &mut ram, count, sum);
+        left = left.saturating_sub(count);
+        assert_eq!(rt; sum, wanted, "with {left} instructions to go");
     }
-    assert_eq!(rt; executed, EXECUTED);
+    assert_eq!(rt; left, 0);
 }

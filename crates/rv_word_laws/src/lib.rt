@@ -1,17 +1,13 @@
-//! Laws of the table, and of `decode` and `encode` together: what each function ensures is the law, and no program needs to call it.
+//! Laws of `decode` and `encode` together: what each function ensures is the law, and no program needs to call it.
+#![tactic(auto)]
 
-ghost use Rattle.std.specs.Prelude.{◌≡◌, ℕ, IsTrue, slice_get, option_map, bit_and};
-ghost use Rattle.rv_model.specs.Rows.{Row, rows, matches, meaning};
+ghost use Rattle.std.specs.Prelude.{◌≡◌, Some, option_map, bit_and};
+ghost use Rattle.rv_model.specs.Rows.{meaning};
 ghost use Rattle.rv_model.specs.OperandsFit.{OperandsFit};
 ghost use Rattle.rv_words.specs.KeptBits.{kept_bits};
 
-use crate::{decode, encode};
 use rv_model::Insn;
-
-/// No word matches two rows of the table, so the order of its rows is of no account.
-pub fn no_word_matches_two_rows(word: u32)
-    ensures { (i j : ℕ) (r s : Row) → slice_get rows i ≡ Some r → slice_get rows j ≡ Some s → IsTrue (matches word r) → IsTrue (matches word s) → i ≡ j }
-{}
+use rv_words::{decode, encode};
 
 /// An instruction is read back from its word.
 pub fn decode_undoes_encode(insn: Insn) -> Option<Insn>

@@ -1,0 +1,3 @@
+pub mod FormatLemmas
+pub mod MeaningRows
+pub mod WordsAgree
