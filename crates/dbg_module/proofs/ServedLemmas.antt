@@ -246,12 +246,12 @@ turn_serves : (hs : List Hart) (m : Memory) (h selected : ℕ) (x : Hart) → sl
     → serves (slice_get (set hs h (place_of x m).hart) selected) ≡ true
 turn_serves hs m h selected x here held = elim (cases_eq selected h) [
   | inl same ↦
-    let mine : slice_get hs selected ≡ Some x = ap (slice_get hs) same ∙ here in
-    let stays : (place_of x m).hart ≡ x = turn_held x.debug.halted x.debug.resume_request x m refl refl (some_serves _ x mine held) in
-    ap (λ k. serves (slice_get (set hs h (place_of x m).hart) k)) same
-    ∙ ap serves (slice_get-set_same hs h (place_of x m).hart (slice_get_within hs h x here))
-    ∙ ap (λ y. serves (Some y)) stays
-    ∙ some_serves _ x mine held
+      let mine : slice_get hs selected ≡ Some x = ap (slice_get hs) same ∙ here in
+      let stays : (place_of x m).hart ≡ x = turn_held x.debug.halted x.debug.resume_request x m refl refl (some_serves _ x mine held) in
+      ap (λ k. serves (slice_get (set hs h (place_of x m).hart) k)) same
+      ∙ ap serves (slice_get-set_same hs h (place_of x m).hart (slice_get_within hs h x here))
+      ∙ ap (λ y. serves (Some y)) stays
+      ∙ some_serves _ x mine held
   | inr other ↦ ap serves (slice_get-set_other hs h selected (place_of x m).hart other) ∙ held
 ]
 

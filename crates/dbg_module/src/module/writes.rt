@@ -28,7 +28,12 @@ fn ask(control: Dmcontrol, harts: &mut [DebugHart]) -> Points
 
 impl Module {
     /// A write of a register: while the module does not work, all but one of dmcontrol are ignored.
-    pub(super) fn write(&mut self, register: ModuleRegister, word: u32, harts: &mut [DebugHart]) -> Points
+    pub(super) fn write(
+        &mut self,
+        register: ModuleRegister,
+        word: u32,
+        harts: &mut [DebugHart],
+    ) -> Points
         requires { length harts.old ≤ hart_places }
         ensures { write_by register word (bare_site self.old harts.old []) ≡ bare_site self.new harts.new result.items }
     {
@@ -66,13 +71,15 @@ impl Module {
     {
         match register {
             ModuleRegister::Word(name) => {
-                self.commands.write_word(name, word, hart_at(harts, self.hartsel));
+                self.commands
+                    .write_word(name, word, hart_at(harts, self.hartsel));
             }
             ModuleRegister::Dmcontrol => {}
             ModuleRegister::Dmstatus => {}
             ModuleRegister::Abstractcs => self.commands.write_abstractcs(word),
             ModuleRegister::Command => {
-                self.commands.write_command(word, hart_at(harts, self.hartsel));
+                self.commands
+                    .write_command(word, hart_at(harts, self.hartsel));
             }
             ModuleRegister::Abstractauto => self.commands.write_abstractauto(word),
             ModuleRegister::Sbcs => self.bus.write_sbcs(word),
