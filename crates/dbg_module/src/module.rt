@@ -1,8 +1,8 @@
 //! The module and its operations.
 
 ghost use Rattle.std.specs.Prelude.{◌≡◌, ◌≤◌, ◌++◌, List, length};
-ghost use Rattle.rv_model.specs.Board.{Hart, hart_places};
-ghost use Rattle.rv_model.specs.Memory.{Memory};
+ghost use Rattle.rv_model.specs.Board.{Hart};
+ghost use Rattle.rv_model.specs.Memory.{Memory, hart_places};
 ghost use Rattle.debug_model.specs.declared.point.Point.{Point};
 ghost use Rattle.debug_model.specs.Module.{operated, operation_result, reset_module};
 ghost use Rattle.dbg_module.specs.Served.{IsServedBy};

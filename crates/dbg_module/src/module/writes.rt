@@ -1,7 +1,7 @@
 //! Writes of the registers.
 
 ghost use Rattle.std.specs.Prelude.{◌≡◌, ◌≤◌, [], length, slice_get};
-ghost use Rattle.rv_model.specs.Board.{hart_places};
+ghost use Rattle.rv_model.specs.Memory.{hart_places};
 ghost use Rattle.debug_model.specs.Module.{control_points, controlled_by, write_by, written_by};
 ghost use Rattle.dbg_module.specs.Requests.{harts_requested};
 ghost use Rattle.dbg_module.specs.Sites.{bare_site};
