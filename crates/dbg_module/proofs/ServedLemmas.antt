@@ -272,6 +272,18 @@ operated_served op u u' hs hs' ps is h =
     let there : IsServed (bare_site u' hs' ps) = subst IsServed is after in
     record { held = there.held }
 
+-- behind a read of the register that stands at an address
+pub read_served : (a : ℕ) (r : ModuleRegister) (u u' : DebugModule) (hs : List Hart) (ps : List Point) → r ≡ register_at a
+    → cond u.active (read_by r (bare_site u hs [])) (bare_site u hs []) ≡ bare_site u' hs ps → IsServedBy u hs → IsServedBy u' hs
+read_served a r u u' hs ps at is =
+    operated_served (Read a) u u' hs hs ps (ap (λ q. cond u.active (read_by q (bare_site u hs [])) (bare_site u hs [])) (sym at) ∙ is)
+
+-- and behind a write of it
+pub write_served : (a v : ℕ) (r : ModuleRegister) (u u' : DebugModule) (hs hs' : List Hart) (ps : List Point) → r ≡ register_at a
+    → write_by r v (bare_site u hs []) ≡ bare_site u' hs' ps → IsServedBy u hs → IsServedBy u' hs'
+write_served a v r u u' hs hs' ps at is =
+    operated_served (Write a v) u u' hs hs' ps (ap (λ q. write_by q v (bare_site u hs [])) (sym at) ∙ is)
+
 -- behind a micro step that changes them so
 pub stepped_served : (u u' : DebugModule) (hs hs' : List Hart) (m m' : Memory) (ps : List Point)
     → command_stepped (site_of u hs m []) ≡ site_of u' hs' m' ps → IsServedBy u hs → IsServedBy u' hs'

@@ -50,6 +50,7 @@ impl Module {
         }
     }
 
+    #[tactic(auto, using(crate::proofs::SiteLemmas::operated_from, crate::proofs::SiteLemmas::result_anywhere, crate::proofs::ServedLemmas::operated_served))]
     /// Performs an operation on the harts, each at the place of its number. Memory is not touched.
     pub fn perform(&mut self, op: DmiOp, harts: &mut [DebugHart]) -> Performed
         requires { length harts.old ≤ hart_places }

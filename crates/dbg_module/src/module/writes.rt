@@ -20,10 +20,11 @@ fn ask(control: Dmcontrol, harts: &mut [DebugHart]) -> Points
     ensures points { result.items ≡ control_points control (slice_get harts.old control.hartsello) }
     ensures harts { harts.new ≡ harts_requested control (slice_get harts.old control.hartsello) harts.old }
 {
-    match harts.get_mut(usize::from(control.hartsello)) {
-        Some(hart) => request(control, (control.hartsello & 0xff) as u8, hart),
-        None => ArrayVec::new(),
+    let place = usize::from(control.hartsello);
+    if place >= harts.len() {
+        return ArrayVec::new();
     }
+    request(control, (control.hartsello & 0xff) as u8, &mut harts[place])
 }
 
 impl Module {
