@@ -1,2 +1,4 @@
 pub mod SiteLemmas
 pub mod ServedLemmas
+pub mod StepLemmas
+pub mod HaltsumLemmas

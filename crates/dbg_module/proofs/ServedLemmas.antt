@@ -1,5 +1,5 @@
 -- While a command is under way its hart stays halted, with no resume asked of it.
-use Rattle.std.proofs.Common.{◌≡◌, ℕ, ◌<◌, Bool, true, false, cond, List, [], ◌∷◌, ◌++◌, length, set, Option, Some, None, slice_get, refl, sym, ap, ◌∙◌, inl, inr, not}
+use Rattle.std.proofs.Common.{◌≡◌, ℕ, ◌<◌, Bool, true, false, cond, List, [], ◌∷◌, ◌++◌, length, set, Option, Some, None, slice_get, refl, sym, ap, subst, ◌∙◌, inl, inr, not}
 use Rattle.std.proofs.lemmas.Bool.{cases_eq}
 use Rattle.std.proofs.lemmas.Option.{slice_get_within}
 use Rattle.rv_model.specs.declared.cause.Cause.{Cause}
@@ -29,7 +29,13 @@ use Rattle.debug_model.specs.Commands.{CommandUnit, Stepped, auto_started, abstr
 use Rattle.debug_model.specs.Deeds.{bus_stepped, command_stepped, stepped_by, turned, turned_by}
 use Rattle.debug_model.specs.Module.{DebugModule, Site, after_read, controlled_by, operated, read_by, register_at, write_by, written_by}
 use Rattle.debug_model.specs.ModuleWords.{dmcontrol_of}
+use Rattle.debug_model.specs.declared.point.Point.{Point}
+use Rattle.dbg_module.specs.Sites.{site_of, bare_site}
 use Rattle.dbg_module.specs.Served.{BusStepsServe, CommandStepsServe, IsServed, IsServedBy, OperationsServe, ResetIsServed, TurnsServe}
+
+-- the same as a function
+abbrev Holds : Site → Type 0
+Holds s = busy s.unit.commands ≡ true → serves (slice_get s.board.harts s.unit.hartsel) ≡ true
 
 -- ---- the start of a command
 
@@ -111,7 +117,7 @@ command_serves v hart u h = by_arms (busy u) hart _ _ (λ _. h) (λ idle. kept_s
 
 -- ---- operations
 
-read_serves : (r : ModuleRegister) (s : Site) → IsServed s → IsServed (read_by r s)
+read_serves : (r : ModuleRegister) (s : Site) → Holds s → Holds (read_by r s)
 read_serves (Word w) s h = word_read_serves w (slice_get s.board.harts s.unit.hartsel) s.unit.commands h
 read_serves dmcontrol s h = h
 read_serves dmstatus s h = h
@@ -126,7 +132,7 @@ read_serves Sbdata1 s h = h
 read_serves Haltsum0 s h = h
 read_serves Nothing s h = h
 
-written_serves : (r : ModuleRegister) (v : ℕ) (s : Site) → IsServed s → IsServed (written_by r v s)
+written_serves : (r : ModuleRegister) (v : ℕ) (s : Site) → Holds s → Holds (written_by r v s)
 written_serves (Word w) v s h = word_written_serves w v (slice_get s.board.harts s.unit.hartsel) s.unit.commands h
 written_serves dmcontrol v s h = h
 written_serves dmstatus v s h = h
@@ -141,15 +147,15 @@ written_serves Sbdata1 v s h = h
 written_serves Haltsum0 v s h = h
 written_serves Nothing v s h = h
 
-site_by : (b : Bool) (s t : Site) → (b ≡ true → IsServed s) → (b ≡ false → IsServed t) → IsServed (cond b s t)
+site_by : (b : Bool) (s t : Site) → (b ≡ true → Holds s) → (b ≡ false → Holds t) → Holds (cond b s t)
 site_by true s t h k = h refl
 site_by false s t h k = k refl
 
-controlled_serves : (active : Bool) (k : Dmcontrol) (s : Site) → IsServed s → IsServed (controlled_by active k s)
+controlled_serves : (active : Bool) (k : Dmcontrol) (s : Site) → Holds s → Holds (controlled_by active k s)
 controlled_serves true k s h = site_by (busy s.unit.commands) s _ (λ _. h) (λ idle is. absurd (is_not (busy s.unit.commands) idle is))
 controlled_serves false k s h = λ is. cc
 
-write_serves : (r : ModuleRegister) (v : ℕ) (s : Site) → IsServed s → IsServed (write_by r v s)
+write_serves : (r : ModuleRegister) (v : ℕ) (s : Site) → Holds s → Holds (write_by r v s)
 write_serves dmcontrol v s h = controlled_serves (dmcontrol_of v).dmactive (dmcontrol_of v) s h
 write_serves (Word w) v s h = site_by s.unit.active _ s (λ _. written_serves (Word w) v s h) (λ _. h)
 write_serves dmstatus v s h = site_by s.unit.active _ s (λ _. h) (λ _. h)
@@ -164,12 +170,15 @@ write_serves Sbdata1 v s h = site_by s.unit.active _ s (λ _. h) (λ _. h)
 write_serves Haltsum0 v s h = site_by s.unit.active _ s (λ _. h) (λ _. h)
 write_serves Nothing v s h = site_by s.unit.active _ s (λ _. h) (λ _. h)
 
+operations_hold : (op : DmiOp) (s : Site) → Holds s → Holds (operated op s)
+operations_hold (Read a) s h = site_by s.unit.active _ s (λ _. read_serves (register_at a) s h) (λ _. h)
+operations_hold (Write a v) s h = write_serves (register_at a) v s h
+
 pub operations_serve : OperationsServe
-operations_serve (Read a) s h = site_by s.unit.active _ s (λ _. read_serves (register_at a) s h) (λ _. h)
-operations_serve (Write a v) s h = write_serves (register_at a) v s h
+operations_serve op s h = record { held = operations_hold op s h.held }
 
 pub reset_is_served : ResetIsServed
-reset_is_served hs is = cc
+reset_is_served hs = record { held = λ is. cc }
 
 -- ---- micro steps
 
@@ -205,7 +214,7 @@ some_serves : (o : Option Hart) (x : Hart) → o ≡ Some x → serves o ≡ tru
 some_serves o x is h = sym (ap serves is) ∙ h
 
 command_by : (steps : List Micro) (o : Option Hart) (s : Site) → s.unit.commands.steps ≡ steps → slice_get s.board.harts s.unit.hartsel ≡ o
-    → IsServed s → IsServed (stepped_by steps o s)
+    → Holds s → Holds (stepped_by steps o s)
 command_by [] o s steps here h = h
 command_by (m ∷ ms) None s steps here h = h
 command_by (m ∷ ms) (Some x) s steps here h =
@@ -215,10 +224,10 @@ command_by (m ∷ ms) (Some x) s steps here h =
     λ _. ap serves (slice_get-set_same s.board.harts s.unit.hartsel after.hart (slice_get_within s.board.harts s.unit.hartsel x here)) ∙ held
 
 pub command_steps_serve : CommandStepsServe
-command_steps_serve s h = command_by s.unit.commands.steps (slice_get s.board.harts s.unit.hartsel) s refl refl h
+command_steps_serve s h = record { held = command_by s.unit.commands.steps (slice_get s.board.harts s.unit.hartsel) s refl refl h.held }
 
 pub bus_steps_serve : BusStepsServe
-bus_steps_serve s h = h
+bus_steps_serve s h = record { held = h.held }
 
 -- ---- turns
 
@@ -237,18 +246,48 @@ turn_serves : (hs : List Hart) (m : Memory) (h selected : ℕ) (x : Hart) → sl
     → serves (slice_get (set hs h (place_of x m).hart) selected) ≡ true
 turn_serves hs m h selected x here held = elim (cases_eq selected h) [
   | inl same ↦
-    let mine : slice_get hs selected ≡ Some x = ap (slice_get hs) same ∙ here in
-    let stays : (place_of x m).hart ≡ x = turn_held x.debug.halted x.debug.resume_request x m refl refl (some_serves _ x mine held) in
-    ap (λ k. serves (slice_get (set hs h (place_of x m).hart) k)) same
-    ∙ ap serves (slice_get-set_same hs h (place_of x m).hart (slice_get_within hs h x here))
-    ∙ ap (λ y. serves (Some y)) stays
-    ∙ some_serves _ x mine held
+      let mine : slice_get hs selected ≡ Some x = ap (slice_get hs) same ∙ here in
+      let stays : (place_of x m).hart ≡ x = turn_held x.debug.halted x.debug.resume_request x m refl refl (some_serves _ x mine held) in
+      ap (λ k. serves (slice_get (set hs h (place_of x m).hart) k)) same
+      ∙ ap serves (slice_get-set_same hs h (place_of x m).hart (slice_get_within hs h x here))
+      ∙ ap (λ y. serves (Some y)) stays
+      ∙ some_serves _ x mine held
   | inr other ↦ ap serves (slice_get-set_other hs h selected (place_of x m).hart other) ∙ held
 ]
 
-turned_serves : (o : Option Hart) (h : ℕ) (s : Site) → slice_get s.board.harts h ≡ o → IsServed s → IsServed (turned_by o h s)
+turned_serves : (o : Option Hart) (h : ℕ) (s : Site) → slice_get s.board.harts h ≡ o → Holds s → Holds (turned_by o h s)
 turned_serves None h s here served = served
 turned_serves (Some x) h s here served = λ now. turn_serves s.board.harts s.board.memory h s.unit.hartsel x here (served now)
 
 pub turns_serve : TurnsServe
-turns_serve h s served = turned_serves (slice_get s.board.harts h) h s refl served
+turns_serve h s served = record { held = turned_serves (slice_get s.board.harts h) h s refl served.held }
+
+-- ---- by module and harts
+
+-- behind an operation that changes them so
+pub operated_served : (op : DmiOp) (u u' : DebugModule) (hs hs' : List Hart) (ps : List Point)
+    → operated op (bare_site u hs []) ≡ bare_site u' hs' ps → IsServedBy u hs → IsServedBy u' hs'
+operated_served op u u' hs hs' ps is h =
+    let after : IsServed (operated op (bare_site u hs [])) = operations_serve op (bare_site u hs []) (record { held = h.held }) in
+    let there : IsServed (bare_site u' hs' ps) = subst IsServed is after in
+    record { held = there.held }
+
+-- behind a read of the register that stands at an address
+pub read_served : (a : ℕ) (r : ModuleRegister) (u u' : DebugModule) (hs : List Hart) (ps : List Point) → r ≡ register_at a
+    → cond u.active (read_by r (bare_site u hs [])) (bare_site u hs []) ≡ bare_site u' hs ps → IsServedBy u hs → IsServedBy u' hs
+read_served a r u u' hs ps at is =
+    operated_served (Read a) u u' hs hs ps (ap (λ q. cond u.active (read_by q (bare_site u hs [])) (bare_site u hs [])) (sym at) ∙ is)
+
+-- and behind a write of it
+pub write_served : (a v : ℕ) (r : ModuleRegister) (u u' : DebugModule) (hs hs' : List Hart) (ps : List Point) → r ≡ register_at a
+    → write_by r v (bare_site u hs []) ≡ bare_site u' hs' ps → IsServedBy u hs → IsServedBy u' hs'
+write_served a v r u u' hs hs' ps at is =
+    operated_served (Write a v) u u' hs hs' ps (ap (λ q. write_by q v (bare_site u hs [])) (sym at) ∙ is)
+
+-- behind a micro step that changes them so
+pub stepped_served : (u u' : DebugModule) (hs hs' : List Hart) (m m' : Memory) (ps : List Point)
+    → command_stepped (site_of u hs m []) ≡ site_of u' hs' m' ps → IsServedBy u hs → IsServedBy u' hs'
+stepped_served u u' hs hs' m m' ps is h =
+    let after : IsServed (command_stepped (site_of u hs m [])) = command_steps_serve (site_of u hs m []) (record { held = h.held }) in
+    let there : IsServed (site_of u' hs' m' ps) = subst IsServed is after in
+    record { held = there.held }

@@ -1,5 +1,5 @@
 -- An operation does the same whatever memory is and whatever the journal had: it changes module and harts, and appends to the journal.
-use Rattle.std.proofs.Common.{◌≡◌, ℕ, ◌<◌, Bool, true, false, List, [], ◌∷◌, ◌++◌, length, set, set-set, Option, Some, None, slice_get, refl, sym, ap, ◌∙◌, append-nil, cond}
+use Rattle.std.proofs.Common.{◌≡◌, ℕ, ◌<◌, Bool, true, false, List, [], ◌∷◌, ◌++◌, length, set, set-set, Option, Some, None, slice_get, refl, sym, ap, ◌∙◌, append-nil, cond, not}
 use Rattle.std.proofs.lemmas.Option.{slice_get_within}
 use Rattle.rv_model.specs.Board.{Board, DebugPart, Hart}
 use Rattle.rv_model.specs.Memory.{Memory}
@@ -113,7 +113,7 @@ either true s t s' t' m j here there = here
 either false s t s' t' m j here there = there
 
 -- a module that is told so works with this hart selected
-abbrev selecting : Dmcontrol → DebugModule → DebugModule
+abbrev pub selecting : Dmcontrol → DebugModule → DebugModule
 selecting k u = record u { active = true; hartsel = k.hartsello }
 
 pub asked_at : (k : Dmcontrol) (u : DebugModule) (hs : List Hart) (m : Memory) (j : List Point)
@@ -121,6 +121,21 @@ pub asked_at : (k : Dmcontrol) (u : DebugModule) (hs : List Hart) (m : Memory) (
 asked_at k u hs m j =
     ap (λ (b : Board). let s : Site = record { unit = selecting k u; board = b; journal = j ++ control_points k (slice_get hs k.hartsello) } in s)
     (harts_asked k hs m (slice_get hs k.hartsello) refl)
+
+not_not : (b : Bool) → not b ≡ false → b ≡ true
+not_not true is = refl
+not_not false is = cc
+
+-- a write of dmcontrol that keeps the module working
+pub control_asked : (k : Dmcontrol) (u : DebugModule) (hs hs' : List Hart) (ps : List Point) → not k.dmactive ≡ false → busy u.commands ≡ false
+    → hs' ≡ harts_requested k (slice_get hs k.hartsello) hs → ps ≡ control_points k (slice_get hs k.hartsello)
+    → controlled_by k.dmactive k (bare_site u hs []) ≡ bare_site (selecting k u) hs' ps
+control_asked k u hs hs' ps active idle harts points =
+    ap (λ b. controlled_by b k (bare_site u hs [])) (not_not k.dmactive active)
+    ∙ ap (λ b. cond b (bare_site u hs []) (acknowledged k (asked k (bare_site u hs [])))) idle
+    ∙ asked_at k u hs _ []
+    ∙ sym (ap (λ qs. bare_site (selecting k u) (harts_requested k (slice_get hs k.hartsello) hs) qs) points)
+    ∙ sym (ap (λ xs. bare_site (selecting k u) xs ps) harts)
 
 controlled_anywhere : (active : Bool) (k : Dmcontrol) (u : DebugModule) (hs : List Hart) (m : Memory) (j : List Point)
     → controlled_by active k (site_of u hs m j) ≡ moved_to m j (controlled_by active k (bare_site u hs []))

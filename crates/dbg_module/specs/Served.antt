@@ -8,8 +8,8 @@ use Rattle.debug_model.specs.Deeds.{turned, command_stepped, bus_stepped}
 use Rattle.debug_model.specs.Module.{DebugModule, Site, operated, reset_module}
 
 -- of a module and its harts
-abbrev pub IsServedBy : DebugModule → List Hart → Type 0
-IsServedBy u hs = busy u.commands ≡ true → serves (slice_get hs u.hartsel) ≡ true
+pub record IsServedBy (u : DebugModule) (hs : List Hart) : Type 0 where
+  pub held : busy u.commands ≡ true → serves (slice_get hs u.hartsel) ≡ true
 
 abbrev pub IsServed : Site → Type 0
 IsServed s = IsServedBy s.unit s.board.harts

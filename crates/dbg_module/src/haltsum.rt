@@ -1,7 +1,7 @@
 //! The halted harts as bits (RISC-V Debug Specification 1.0, "Halt Summary 0").
 
 ghost use Rattle.std.specs.Prelude.{◌≡◌, ◌≤◌, length, map};
-ghost use Rattle.rv_model.specs.Board.{hart_places};
+ghost use Rattle.rv_model.specs.Memory.{hart_places};
 ghost use Rattle.debug_model.specs.Module.{haltsum, is_halted};
 
 use hart_debug::DebugHart;

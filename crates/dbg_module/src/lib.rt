@@ -13,6 +13,8 @@ mod status;
 #[cfg(test)]
 mod tests;
 
-pub use laws::{bus_steps_serve, command_steps_serve, operations_serve, reset_is_served, turns_serve};
+pub use laws::{
+    bus_steps_serve, command_steps_serve, operations_serve, reset_is_served, turns_serve,
+};
 pub use module::Module;
 pub use performed::{MOST_POINTS, Performed, Points};

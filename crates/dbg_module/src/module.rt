@@ -1,12 +1,10 @@
 //! The module and its operations.
 
 ghost use Rattle.std.specs.Prelude.{◌≡◌, ◌≤◌, ◌++◌, List, length};
-ghost use Rattle.rv_model.specs.Board.{hart_places};
-ghost use Rattle.rv_model.specs.Memory.{Memory};
+ghost use Rattle.rv_model.specs.Board.{Hart};
+ghost use Rattle.rv_model.specs.Memory.{Memory, hart_places};
 ghost use Rattle.debug_model.specs.declared.point.Point.{Point};
-ghost use Rattle.debug_model.specs.Deeds.{access_points, bus_stepped, command_stepped};
-ghost use Rattle.debug_model.specs.Module.{dmcontrol_shown, operated, operation_result, reset_module};
-ghost use Rattle.debug_model.specs.ModuleWords.{dmcontrol_word};
+ghost use Rattle.debug_model.specs.Module.{operated, operation_result, reset_module};
 ghost use Rattle.dbg_module.specs.Served.{IsServedBy};
 ghost use Rattle.dbg_module.specs.Sites.{site_of};
 
@@ -41,7 +39,8 @@ impl Model for Module {
 impl Module {
     /// The module as a reset leaves it: it does not work until dmcontrol says so.
     pub fn new() -> Self
-        ensures { result ≡ reset_module }
+        ensures module { result ≡ reset_module }
+        ensures served { (hs : List Hart) → IsServedBy result hs }
     {
         Module {
             active: false,
@@ -51,6 +50,7 @@ impl Module {
         }
     }
 
+    #[tactic(auto, using(crate::proofs::SiteLemmas::operated_from, crate::proofs::SiteLemmas::result_anywhere, crate::proofs::ServedLemmas::operated_served))]
     /// Performs an operation on the harts, each at the place of its number. Memory is not touched.
     pub fn perform(&mut self, op: DmiOp, harts: &mut [DebugHart]) -> Performed
         requires { length harts.old ≤ hart_places }

@@ -173,7 +173,11 @@ fn does_nothing_while_an_error_is_set(rt: HostRuntime) {
         (0x0008_0000, FIRST, 0x4000, [0x4000, 0x4000, 0]),
     ];
     for (sbcs, at, error, cleared) in cases {
-        for (bit, left) in [(0x1000, cleared[0]), (0x2000, cleared[1]), (0x4000, cleared[2])] {
+        for (bit, left) in [
+            (0x1000, cleared[0]),
+            (0x2000, cleared[1]),
+            (0x4000, cleared[2]),
+        ] {
             let mut bus = bus_with(sbcs, at);
             bus.write_sbdata0(5);
             bus.done(&mut ram);
@@ -203,7 +207,15 @@ fn notes_each_access_while_busy(rt: HostRuntime) {
             3 => bus.read_sbdata1(),
             _ => 0,
         };
-        let wanted = if case == 0 { 0x8000_0000 } else if case == 2 { 1 } else if case == 3 { 2 } else { 0 };
+        let wanted = if case == 0 {
+            0x8000_0000
+        } else if case == 2 {
+            1
+        } else if case == 3 {
+            2
+        } else {
+            0
+        };
         assert_eq!(rt; word, wanted);
         match case {
             4 => bus.write_sbcs(BUSY_ERROR | AUTOINCREMENT),
@@ -223,8 +235,14 @@ fn notes_each_access_while_busy(rt: HostRuntime) {
         bus.write_sbdata0(9);
         assert_eq!(rt; bus.is_busy(), case == 9);
         bus.write_sbcs(DOUBLES);
-        assert_eq!(rt; bus.sbcs() & BUSY_ERROR, if case == 9 { BUSY_ERROR } else { noted });
+        assert_eq!(rt;
+            bus.sbcs() & BUSY_ERROR,
+            if case == 9 { BUSY_ERROR } else { noted }
+        );
         bus.write_sbcs(DOUBLES | BUSY_ERROR);
-        assert_eq!(rt; bus.sbcs() & BUSY_ERROR, if case == 9 { BUSY_ERROR } else { 0 });
+        assert_eq!(rt;
+            bus.sbcs() & BUSY_ERROR,
+            if case == 9 { BUSY_ERROR } else { 0 }
+        );
     }
 }

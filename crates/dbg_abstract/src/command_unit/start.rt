@@ -41,7 +41,7 @@ fn serves(hart: Option<&DebugHart>) -> bool
 
 /// Whether the register of a transfer is there, and writable where it is to be written.
 fn can_transfer(hart: Option<&DebugHart>, command: AbstractCommand) -> bool
-    requires { serves (option_map (λ h. h.now) hart.entry) ≡ true }
+    requires { serves (option_map (λ h. h.now) hart) ≡ true }
     ensures { result ≡ can_transfer (option_map (λ h. h.now) hart.entry) command }
 {
     if !command.transfer {

@@ -47,7 +47,11 @@ pub enum Found {
 
 /// A hart that is found so; there is one behind `Nowhere` too, which nobody is told of.
 pub fn hart_found(found: Found) -> DebugHart {
-    let start = if found == Found::Running { Start::Running } else { Start::Halted };
+    let start = if found == Found::Running {
+        Start::Running
+    } else {
+        Start::Halted
+    };
     let mut hart = DebugHart::new(2, start);
     if found == Found::Resuming {
         hart.resume_request();
@@ -56,7 +60,12 @@ pub fn hart_found(found: Found) -> DebugHart {
 }
 
 /// Runs what is under way to its end, and answers how many steps it took and how many of them accessed memory.
-pub fn run(rt: &impl Abort, unit: &mut CommandUnit, hart: &mut DebugHart, ram: &mut Ram) -> (u32, u32) {
+pub fn run(
+    rt: &impl Abort,
+    unit: &mut CommandUnit,
+    hart: &mut DebugHart,
+    ram: &mut Ram,
+) -> (u32, u32) {
     let mut steps = 0;
     let mut accesses = 0;
     for _ in 0..6 {
@@ -78,7 +87,13 @@ pub fn cmderr(unit: &CommandUnit) -> u32 {
 }
 
 /// Writes `command` and runs it to its end; the answer is `cmderr` then.
-pub fn execute(rt: &impl Abort, unit: &mut CommandUnit, hart: &mut DebugHart, ram: &mut Ram, command: u32) -> Cmderr {
+pub fn execute(
+    rt: &impl Abort,
+    unit: &mut CommandUnit,
+    hart: &mut DebugHart,
+    ram: &mut Ram,
+    command: u32,
+) -> Cmderr {
     unit.write_command(command, Some(hart));
     run(rt, unit, hart, ram);
     unit.cmderr()

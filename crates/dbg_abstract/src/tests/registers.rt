@@ -52,7 +52,16 @@ fn starts_again_at_each_word(rt: HostRuntime) {
             assert_eq!(rt; unit.is_busy(), bit == other_bit, "write of {word:?}");
             let steps = run(&rt, &mut unit, &mut hart, &mut ram).0;
             let adds = bit == other_bit && other == CommandWord::Progbuf0;
-            assert_eq!(rt; steps, if adds { 2 } else if bit == other_bit { 1 } else { 0 });
+            assert_eq!(rt;
+                steps,
+                if adds {
+                    2
+                } else if bit == other_bit {
+                    1
+                } else {
+                    0
+                }
+            );
             assert_eq!(rt; hart.hart().x(8), if adds { 1 } else { 0 });
             assert_eq!(rt; cmderr(&unit), 0);
             // With an error set nothing starts; the word is accessed all the same.
@@ -69,7 +78,15 @@ fn starts_again_at_each_word(rt: HostRuntime) {
 fn takes_nothing_while_busy(rt: HostRuntime) {
     let mut ram = ram(rt.alloc()).expect(&rt, "the smallest RAM");
     // The error while the command is under way, and behind it: an access to a word counts at once, a late write at the end.
-    let cases = [(0, 1, 1), (1, 1, 1), (2, 1, 1), (3, 0, 1), (4, 0, 1), (5, 0, 1), (6, 0, 0)];
+    let cases = [
+        (0, 1, 1),
+        (1, 1, 1),
+        (2, 1, 1),
+        (3, 0, 1),
+        (4, 0, 1),
+        (5, 0, 1),
+        (6, 0, 0),
+    ];
     for (case, during, behind) in cases {
         let mut hart = hart_found(Found::Halted);
         let mut unit = CommandUnit::new();

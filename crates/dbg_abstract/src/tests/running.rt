@@ -1,5 +1,6 @@
 use super::harts::{
-    ADD_ONE, EBREAK, EXECUTE, FIRST, FIRST_VALUE, Found, READ_X8, WRITE_X8, execute, hart_found, ram, run,
+    ADD_ONE, EBREAK, EXECUTE, FIRST, FIRST_VALUE, Found, READ_X8, WRITE_X8, execute, hart_found,
+    ram, run,
 };
 use crate::CommandUnit;
 use debug_model::{Cmderr, CommandWord};
@@ -12,7 +13,10 @@ fn transfers_both_words_or_the_lower_one(rt: HostRuntime) {
     let mut unit = CommandUnit::new();
     unit.write_word(CommandWord::Data0, 0x89ab_cdef, None);
     unit.write_word(CommandWord::Data1, 0x0123_4567, None);
-    assert_eq!(rt; execute(&rt, &mut unit, &mut hart, &mut ram, WRITE_X8), Cmderr::Fine);
+    assert_eq!(rt;
+        execute(&rt, &mut unit, &mut hart, &mut ram, WRITE_X8),
+        Cmderr::Fine
+    );
     assert_eq!(rt; hart.hart().x(8), 0x0123_4567_89ab_cdef);
     // 32 bits are written below the upper half that the register had.
     unit.write_word(CommandWord::Data0, 0xffff_0000, None);
@@ -34,17 +38,71 @@ fn transfers_both_words_or_the_lower_one(rt: HostRuntime) {
 #[test]
 fn executes_the_program_buffer(rt: HostRuntime) {
     // `ld x9, 0(x8)`, `sd x9, 8(x8)`, `ld x9, 4(x8)`, `jal x0, 2`, `amoadd.d x9, x9, (x8)`
-    let [load, store, misaligned, jump, add] = [0x0004_3483, 0x0094_3423, 0x0044_3483, 0x0020_006f, 0x0094_34af];
+    let [load, store, misaligned, jump, add] = [
+        0x0004_3483,
+        0x0094_3423,
+        0x0044_3483,
+        0x0020_006f,
+        0x0094_34af,
+    ];
     // The words; the steps, the accesses, the error, x8 less RAM's first address, and x9.
     let cases = [
-        ([EBREAK, ADD_ONE, ADD_ONE, ADD_ONE], (1, 0), Cmderr::Fine, 0, 0),
-        ([ADD_ONE, ADD_ONE, EBREAK, ADD_ONE], (3, 0), Cmderr::Fine, 2, 0),
-        ([ADD_ONE, ADD_ONE, ADD_ONE, EBREAK], (4, 0), Cmderr::Fine, 3, 0),
-        ([ADD_ONE, ADD_ONE, ADD_ONE, ADD_ONE], (4, 0), Cmderr::Exception, 4, 0),
-        ([load, store, EBREAK, EBREAK], (3, 2), Cmderr::Fine, 0, FIRST_VALUE),
-        ([ADD_ONE, misaligned, ADD_ONE, EBREAK], (2, 1), Cmderr::Exception, 1, 0),
-        ([add, EBREAK, EBREAK, EBREAK], (2, 1), Cmderr::Fine, 0, FIRST_VALUE),
-        ([ADD_ONE, jump, ADD_ONE, EBREAK], (2, 0), Cmderr::Exception, 1, 0),
+        (
+            [EBREAK, ADD_ONE, ADD_ONE, ADD_ONE],
+            (1, 0),
+            Cmderr::Fine,
+            0,
+            0,
+        ),
+        (
+            [ADD_ONE, ADD_ONE, EBREAK, ADD_ONE],
+            (3, 0),
+            Cmderr::Fine,
+            2,
+            0,
+        ),
+        (
+            [ADD_ONE, ADD_ONE, ADD_ONE, EBREAK],
+            (4, 0),
+            Cmderr::Fine,
+            3,
+            0,
+        ),
+        (
+            [ADD_ONE, ADD_ONE, ADD_ONE, ADD_ONE],
+            (4, 0),
+            Cmderr::Exception,
+            4,
+            0,
+        ),
+        (
+            [load, store, EBREAK, EBREAK],
+            (3, 2),
+            Cmderr::Fine,
+            0,
+            FIRST_VALUE,
+        ),
+        (
+            [ADD_ONE, misaligned, ADD_ONE, EBREAK],
+            (2, 1),
+            Cmderr::Exception,
+            1,
+            0,
+        ),
+        (
+            [add, EBREAK, EBREAK, EBREAK],
+            (2, 1),
+            Cmderr::Fine,
+            0,
+            FIRST_VALUE,
+        ),
+        (
+            [ADD_ONE, jump, ADD_ONE, EBREAK],
+            (2, 0),
+            Cmderr::Exception,
+            1,
+            0,
+        ),
         ([0, EBREAK, EBREAK, EBREAK], (1, 0), Cmderr::Exception, 0, 0),
     ];
     for (words, steps, error, added, x9) in cases {

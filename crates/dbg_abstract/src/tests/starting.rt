@@ -5,7 +5,11 @@ use crate::CommandUnit;
 fn start(command: u32, found: Found) -> (u32, bool) {
     let hart = hart_found(found);
     let mut unit = CommandUnit::new();
-    let hart = if found == Found::Nowhere { None } else { Some(&hart) };
+    let hart = if found == Found::Nowhere {
+        None
+    } else {
+        Some(&hart)
+    };
     unit.write_command(command, hart);
     (cmderr(&unit), unit.is_busy())
 }
@@ -46,7 +50,11 @@ fn refuses_for_the_first_reason(rt: HostRuntime) {
         (0x0033_0f14, Found::Resuming, 4),
     ];
     for (command, found, error) in cases {
-        assert_eq!(rt; start(command, found), (error, error == 0), "{command} {found:?}");
+        assert_eq!(rt;
+            start(command, found),
+            (error, error == 0),
+            "{command} {found:?}"
+        );
     }
     // Without a transfer, size, register and direction tell nothing, and without a program there is nothing to do.
     for command in [0, 0x0041_1020, 0x0031_0f14] {
@@ -59,7 +67,10 @@ fn refuses_for_the_first_reason(rt: HostRuntime) {
 fn starts_nothing_while_an_error_is_set(rt: HostRuntime) {
     let hart = hart_found(Found::Halted);
     // A command that sets the error, the bits of abstractcs that clear none of it, and those that clear it.
-    for (refused, error, other, clears) in [(0x0100_0000, 2, 0x0500, 0x0200), (0x0032_1020, 3, 0, 0x0300)] {
+    for (refused, error, other, clears) in [
+        (0x0100_0000, 2, 0x0500, 0x0200),
+        (0x0032_1020, 3, 0, 0x0300),
+    ] {
         let mut unit = CommandUnit::new();
         unit.write_command(refused, Some(&hart));
         assert_eq!(rt; cmderr(&unit), error);

@@ -1,8 +1,9 @@
 //! What happens behind the transport between two operations: micro steps of a command, and accesses of the system bus.
 
-ghost use Rattle.std.specs.Prelude.{◌≡◌, ◌++◌, List};
+ghost use Rattle.std.specs.Prelude.{◌≡◌, true, ◌++◌, List};
 ghost use Rattle.rv_model.specs.Board.{Hart};
 ghost use Rattle.debug_model.specs.declared.point.Point.{Point};
+ghost use Rattle.debug_model.specs.Commands.{busy};
 ghost use Rattle.debug_model.specs.Deeds.{access_points, bus_stepped, command_stepped};
 ghost use Rattle.dbg_module.specs.Served.{IsServedBy};
 ghost use Rattle.dbg_module.specs.Sites.{site_of};
@@ -15,6 +16,7 @@ impl Module {
     /// One micro step of the command that is under way, on the selected hart; nothing where none is. The harts stand at the places of their numbers.
     /// It answers whether the step made an access to memory, or tried to: the journal has that.
     #[inline(always)]
+    #[tactic(auto, using(crate::proofs::StepLemmas::idle_stepped))]
     pub fn command_step(&mut self, harts: &mut [DebugHart], ram: &mut Ram) -> bool
         requires { IsServedBy self.old harts.old }
         ensures site { (j : List Point) → command_stepped (site_of self.old harts.old ram.old j) ≡ site_of self.new harts.new ram.new (j ++ access_points result) }
@@ -28,13 +30,15 @@ impl Module {
 
     /// One micro step of the command that is under way.
     fn step(&mut self, harts: &mut [DebugHart], ram: &mut Ram) -> bool
-        requires { IsServedBy self.old harts.old }
+        requires busy { busy self.old.commands ≡ true }
+        requires served { IsServedBy self.old harts.old }
         ensures { (j : List Point) → command_stepped (site_of self.old harts.old ram.old j) ≡ site_of self.new harts.new ram.new (j ++ access_points result) }
     {
-        match harts.get_mut(usize::from(self.hartsel)) {
-            Some(hart) => self.commands.micro(hart, ram),
-            None => false,
+        let place = usize::from(self.hartsel);
+        if place >= harts.len() {
+            return false;
         }
+        self.commands.micro(&mut harts[place], ram)
     }
 
     /// The access of the system bus that is under way is made; nothing where none is.

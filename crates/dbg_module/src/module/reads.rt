@@ -1,7 +1,7 @@
 //! Reads of the registers.
 
 ghost use Rattle.std.specs.Prelude.{◌≡◌, ◌≤◌, [], length, if◌then◌else◌};
-ghost use Rattle.rv_model.specs.Board.{hart_places};
+ghost use Rattle.rv_model.specs.Memory.{hart_places};
 ghost use Rattle.debug_model.specs.Module.{dmcontrol_shown, read_by, result_by, shown, shown_inactive};
 ghost use Rattle.debug_model.specs.ModuleWords.{dmcontrol_word};
 ghost use Rattle.dbg_module.specs.Sites.{bare_site};

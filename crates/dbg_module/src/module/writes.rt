@@ -1,7 +1,7 @@
 //! Writes of the registers.
 
 ghost use Rattle.std.specs.Prelude.{◌≡◌, ◌≤◌, [], length, slice_get};
-ghost use Rattle.rv_model.specs.Board.{hart_places};
+ghost use Rattle.rv_model.specs.Memory.{hart_places};
 ghost use Rattle.debug_model.specs.Module.{control_points, controlled_by, write_by, written_by};
 ghost use Rattle.dbg_module.specs.Requests.{harts_requested};
 ghost use Rattle.dbg_module.specs.Sites.{bare_site};
@@ -20,15 +20,21 @@ fn ask(control: Dmcontrol, harts: &mut [DebugHart]) -> Points
     ensures points { result.items ≡ control_points control (slice_get harts.old control.hartsello) }
     ensures harts { harts.new ≡ harts_requested control (slice_get harts.old control.hartsello) harts.old }
 {
-    match harts.get_mut(usize::from(control.hartsello)) {
-        Some(hart) => request(control, (control.hartsello & 0xff) as u8, hart),
-        None => ArrayVec::new(),
+    let place = usize::from(control.hartsello);
+    if place >= harts.len() {
+        return ArrayVec::new();
     }
+    request(control, (control.hartsello & 0xff) as u8, &mut harts[place])
 }
 
 impl Module {
     /// A write of a register: while the module does not work, all but one of dmcontrol are ignored.
-    pub(super) fn write(&mut self, register: ModuleRegister, word: u32, harts: &mut [DebugHart]) -> Points
+    pub(super) fn write(
+        &mut self,
+        register: ModuleRegister,
+        word: u32,
+        harts: &mut [DebugHart],
+    ) -> Points
         requires { length harts.old ≤ hart_places }
         ensures { write_by register word (bare_site self.old harts.old []) ≡ bare_site self.new harts.new result.items }
     {
@@ -66,13 +72,15 @@ impl Module {
     {
         match register {
             ModuleRegister::Word(name) => {
-                self.commands.write_word(name, word, hart_at(harts, self.hartsel));
+                self.commands
+                    .write_word(name, word, hart_at(harts, self.hartsel));
             }
             ModuleRegister::Dmcontrol => {}
             ModuleRegister::Dmstatus => {}
             ModuleRegister::Abstractcs => self.commands.write_abstractcs(word),
             ModuleRegister::Command => {
-                self.commands.write_command(word, hart_at(harts, self.hartsel));
+                self.commands
+                    .write_command(word, hart_at(harts, self.hartsel));
             }
             ModuleRegister::Abstractauto => self.commands.write_abstractauto(word),
             ModuleRegister::Sbcs => self.bus.write_sbcs(word),
