@@ -2,7 +2,9 @@ pub mod Signs
 pub mod Tap
 pub mod Chip
 pub mod Told
+pub mod Ties
 pub mod Wire
+pub mod Net
 pub mod Scan
 pub mod Schedule
 pub mod Command
@@ -18,3 +20,13 @@ pub mod Lines
 pub mod Debugger
 pub mod Transcript
 pub mod Journal
+pub mod WordFields
+pub mod TransportWords
+pub mod Transport
+pub mod Port
+pub mod ModuleWords
+pub mod Commands
+pub mod SystemBus
+pub mod Module
+pub mod Deeds
+pub mod WholeChip

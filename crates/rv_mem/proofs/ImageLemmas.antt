@@ -1,5 +1,5 @@
 -- How many bytes RAM has and where they stand, and what stands in RAM with an image.
-use Rattle.std.proofs.Common.{◌≡◌, ℕ, zero, suc, ◌+◌, ◌-◌, ◌<◌, ◌≤◌, ◌↔◌, Bool, true, false, cond, List, [], ◌∷◌, ◌++◌, length, drop, Option, Some, None, is_some, IsSome, slice_get, refl, sym, ap, ◌∙◌, inl, inr, arith, add-one}
+use Rattle.std.proofs.Common.{◌≡◌, ℕ, zero, suc, ◌+◌, ◌-◌, ◌<◌, ◌≤◌, ◌↔◌, Bool, true, false, cond, List, [], ◌∷◌, ◌++◌, length, take, drop, length-append, length-drop, Option, Some, None, is_some, IsSome, slice_get, refl, sym, ap, ◌∙◌, inl, inr, arith, add-one}
 use Rattle.std.specs.FinMap as map
 use Rattle.std.specs.FinMap.{same_map, get-from_entries, get-entries, len-empty, len-insert, nat_cmp-IsAntisymmetric}
 use Rattle.std.specs.Cmp.{nat_cmp_total, unsigned_tied}
@@ -7,6 +7,7 @@ use Rattle.std.specs.Ordering.{nat_cmp, eq_by_cmp}
 use Rattle.std.specs.List.{enumerate_from}
 use Rattle.std.specs.Option.{option_or}
 use Rattle.std.proofs.Math.Seq.{drop-nil}
+use Rattle.std.proofs.lemmas.List.{length-take}
 use Rattle.std.proofs.lemmas.Bool.{cases_lt, ne_eqb}
 use Rattle.std.proofs.lemmas.Option.{slice_get-get_or}
 use Rattle.rv_model.specs.Memory.{map_of, ram_base, Bytes}
@@ -34,6 +35,14 @@ len_from n (x ∷ xs) =
 pub len-map_of : (xs : List ℕ) → map.len (map_of xs) ≡ length xs
 unfolding map_of
 len-map_of xs = len_from ram_base xs
+
+-- bytes that are written over all of RAM's are as many
+pub size_kept : (xs ys : List ℕ) (n : ℕ) → length xs ≡ n → length ys ≡ length xs
+    → map.len (map_of (take n (ys ++ drop (length ys) xs))) ≡ map.len (map_of xs)
+size_kept xs ys n all same =
+    let over : length (take n (ys ++ drop (length ys) xs)) ≡ length xs =
+    simp (length-take, length-append, length-drop) (omega arith) in
+    len-map_of (take n (ys ++ drop (length ys) xs)) ∙ over ∙ sym (len-map_of xs)
 
 none_is : (o : Option ℕ) → o ≡ None → IsSome o → ⊥
 none_is o e h = let k : false ≡ true = sym (ap is_some e) ∙ h in cc

@@ -93,6 +93,7 @@ impl Ram {
     pub fn store(&mut self, addr: u64, size: Size, value: u64) -> Result<(), MemFault>
         ensures answer { result ≡ store_answer self.old addr size }
         ensures after { self.new ≡ after_store self.old addr size value }
+        ensures size { ram_size self.new ≡ ram_size self.old }
     {
         if !is_aligned(addr, size) {
             return Err(MemFault::Misaligned);
@@ -112,7 +113,8 @@ impl Ram {
     #[tactic(auto, using(crate::proofs::ImageLemmas::ram_lemmas))]
     pub fn fill(&mut self, image: &[u8])
         requires { length image.now ≤ ram_size self.old }
-        ensures { self.new ≡ filled self.old image.now }
+        ensures after { self.new ≡ filled self.old image.now }
+        ensures size { ram_size self.new ≡ ram_size self.old }
     {
         put(&mut self.bytes, image);
         clear(&mut self.places, BASE, image.len() as u64);
@@ -121,7 +123,8 @@ impl Ram {
     /// A hart below 4 reserves the aligned eight bytes that hold an address, in place of what it had reserved.
     pub fn reserve(&mut self, hart: u8, addr: u64)
         requires { hart < 4 }
-        ensures { self.new ≡ reserve self.old hart addr }
+        ensures after { self.new ≡ reserve self.old hart addr }
+        ensures places { length self.new.reserved ≡ HARTS }
     {
         self.places[hart as usize] = Some(place_round(addr));
     }
@@ -129,7 +132,8 @@ impl Ram {
     /// A hart below 4 has no reservation from now on.
     pub fn drop_reservation(&mut self, hart: u8)
         requires { hart < 4 }
-        ensures { self.new ≡ dropped self.old hart }
+        ensures after { self.new ≡ dropped self.old hart }
+        ensures places { length self.new.reserved ≡ HARTS }
     {
         self.places[hart as usize] = None;
     }
@@ -137,7 +141,8 @@ impl Ram {
     /// Whether the reservation of a hart below 4 covers the `size` bytes from `addr` on.
     pub fn reserved(&self, hart: u8, addr: u64, size: Size) -> bool
         requires { hart < 4 }
-        ensures { result ≡ covers self.now hart addr size }
+        ensures is { result ≡ covers self.now hart addr size }
+        ensures places { length self.now.reserved ≡ HARTS }
     {
         is_covered(&self.places, hart, addr, size)
     }

@@ -1,4 +1,5 @@
 pub mod Words
 pub mod Pairs
+pub mod Made
 pub mod Rounds
 pub mod Fairness

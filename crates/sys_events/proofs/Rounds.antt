@@ -13,15 +13,15 @@ abbrev pub made : (ℕ → List Event) → ℕ → ℕ → Plan
 made f n place = record { rounds = map f (range_with_len 0 n); place = place }
 
 -- the round that comes next
-pub made-round : (f : ℕ → List Event) (n m : ℕ) → m < n → round_of (made f n m) ≡ f m
+made-round : (f : ℕ → List Event) (n m : ℕ) → m < n → round_of (made f n m) ≡ f m
 made-round f n m h = get_or-map-range_with_len f 0 n m m _ h (omega arith)
 
 -- one place on
-pub moved-below : (f : ℕ → List Event) (n m : ℕ) → m + 1 < n → moved (made f n m) ≡ made f n (m + 1)
+moved-below : (f : ℕ → List Event) (n m : ℕ) → m + 1 < n → moved (made f n m) ≡ made f n (m + 1)
 moved-below f n m h = rw (length-map-range_with_len f 0 n, lt-ltb (m + 1) n h) refl
 
 -- from the end back at the start
-pub moved-last : (f : ℕ → List Event) (n m : ℕ) → n ≤ m + 1 → moved (made f n m) ≡ made f n 0
+moved-last : (f : ℕ → List Event) (n m : ℕ) → n ≤ m + 1 → moved (made f n m) ≡ made f n 0
 moved-last f n m h = rw (length-map-range_with_len f 0 n, le-ltb (m + 1) n h) refl
 
 -- both at once

@@ -3,6 +3,10 @@
 use Rattle.std.specs.Prelude.{ℕ, List}
 use Rattle.debug_model.specs.declared.point.Point.{Point}
 
+-- how many points fit into a journal with memory
+abbrev pub journal_room : ℕ
+journal_room = 16777216
+
 pub record Journal : Type 0 where
   pub points : List Point
   pub room : ℕ

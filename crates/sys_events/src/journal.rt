@@ -1,4 +1,5 @@
 ghost use Rattle.std.specs.Prelude.{◌≡◌, ◌+◌, ◌<◌, ◌≤◌, [], ◌∷◌, ◌++◌, length, slice_get, IfOk, IsTrue, ◌↔◌};
+ghost use Rattle.sys_events.specs.Journal.{journal_room};
 
 use debug_model::Point;
 use std::alloc::{AllocError, Global};
@@ -18,23 +19,22 @@ pub struct Journal {
 impl Model for Journal {
     ghost use Rattle.std.specs.Prelude.{◌≤◌, [], vec_len, vec_capacity, IfSome};
     ghost use Rattle.std.specs.Option.{option_map_or};
-    ghost use Rattle.sys_events.specs.Journal.{Journal as Points};
-    ghost use Rattle.sys_events.specs.declared.journal.TheConstants.{JOURNAL_ROOM};
+    ghost use Rattle.sys_events.specs.Journal.{Journal as Points, journal_room};
 
     ghost Value = { Points };
 
     ghost view = { λ j. record {
       points = option_map_or (λ v. v.items) j.memory [];
-      room = option_map_or (λ _. JOURNAL_ROOM) j.memory 0;
+      room = option_map_or (λ _. journal_room) j.memory 0;
     } };
 
-    ghost invariant = { λ j. IfSome j.memory (λ v. (vec_len v ≤ JOURNAL_ROOM) × (JOURNAL_ROOM ≤ vec_capacity v)) };
+    ghost invariant = { λ j. IfSome j.memory (λ v. (vec_len v ≤ journal_room) × (journal_room ≤ vec_capacity v)) };
 }
 
 impl Journal {
     /// An empty journal with memory for all the points that a chip may note.
     pub fn reserve(alloc: Global) -> Result<Journal, AllocError>
-        ensures { IfOk result (λ j. j ≡ record { points = []; room = JOURNAL_ROOM }) }
+        ensures { IfOk result (λ j. j ≡ record { points = []; room = journal_room }) }
     {
         Ok(Journal {
             memory: Some(Vec::with_capacity(alloc, JOURNAL_ROOM as usize)?),
@@ -48,15 +48,15 @@ impl Journal {
         Journal { memory: None }
     }
 
-    /// Appends a point. It takes no memory.
+    /// Appends a point. It takes no memory, and always the same short time.
+    #[inline(always)]
     pub fn note(&mut self, point: Point)
         requires { length self.old.points < self.old.room }
         ensures points { self.new.points ≡ self.old.points ++ point ∷ [] }
         ensures room { self.new.room ≡ self.old.room }
     {
         if let Some(points) = &mut self.memory {
-            let noted = points.push(point);
-            prove!(noted.is_ok());
+            points.push_reserved(point);
         }
     }
 

@@ -7,6 +7,7 @@
 mod journal;
 mod list_schedule;
 mod seed_schedule;
+mod turning;
 
 pub use journal::{JOURNAL_ROOM, Journal};
 pub use list_schedule::ListSchedule;

@@ -1,6 +1,7 @@
 ghost use Rattle.std.specs.Prelude.{◌≡◌, map};
 
-use debug_model::{Round, Schedule};
+use crate::turning::following;
+use debug_model::{Event, Round, Schedule};
 use std::marker::Model;
 
 /// A schedule whose rounds the caller lists.
@@ -35,31 +36,23 @@ impl ListSchedule {
 impl Schedule for ListSchedule {
     ghost plan = { λ s. s };
 
-    fn next(&mut self) -> Round {
-        let round = match self.rounds.get(self.place) {
-            Some(round) => copied(round),
-            None => Round::new(),
-        };
-        self.place = if self.place + 1 < self.rounds.len() {
-            self.place + 1
-        } else {
-            0
-        };
-        round
+    #[inline(always)]
+    fn round(&self) -> &[Event] {
+        match self.rounds.get(self.place) {
+            Some(round) => round.as_slice(),
+            None => &[],
+        }
     }
-}
 
-/// The same round. It takes no memory, and all events fit, since a round has no more than eight.
-fn copied(round: &Round) -> Round
-    ensures { result.items ≡ round.now.items }
-{
-    Round::try_from(round.as_slice()).unwrap()
+    #[inline(always)]
+    fn advance(&mut self) {
+        self.place = following(self.place, self.rounds.len());
+    }
 }
 
 #[cfg(test)]
 mod tests {
     use super::*;
-    use debug_model::Event;
     use std::test::Fail;
 
     #[test]
@@ -84,7 +77,8 @@ mod tests {
                 schedule.next().as_slice(),
                 [Event::Turn(3), Event::DmiFail].as_slice()
             );
-            assert!(rt; schedule.next().is_empty());
+            assert!(rt; schedule.round().is_empty());
+            schedule.advance();
         }
         Ok(())
     }

@@ -1,7 +1,9 @@
-ghost use Rattle.std.specs.Prelude.{◌≡◌, ◌+◌, ◌%◌, ◌<◌, ◌≤◌, ◌==◌, length};
+ghost use Rattle.std.specs.Prelude.{◌≡◌, ◌+◌, ◌%◌, ◌<◌, ◌≤◌, ◌==◌, length, map};
+ghost use Rattle.arrayvec.specs.ArrayVec.{array_vec_len};
 ghost use Rattle.debug_model.specs.Schedule.{Fair};
-ghost use Rattle.sys_events.specs.Seed.{words_of, round_at, seed_plan};
+ghost use Rattle.sys_events.specs.Seed.{words_of, paired, round_at, rounds_of, seed_plan};
 
+use crate::turning::following;
 use arrayvec::ArrayVec;
 use debug_model::{Event, Round, Schedule};
 use rand_core::SeedableRng;
@@ -15,30 +17,31 @@ pub const MOST_BUSY: u8 = 32;
 /// The most harts for which a schedule is made.
 pub const MOST_HARTS: u8 = 4;
 
+/// The most rounds before the first one comes again.
+const ROUNDS: usize = MOST_BUSY as usize;
+
 /// How many words of the generator a schedule uses: one for each hart's turn, then one for each other event.
 const WORDS: usize = 7;
 
 /// A schedule that a seed makes: each event stands in one of every `busy` rounds, and the seed says in which.
 ///
-/// Contracts see it as its plan: the first `busy` rounds, and the place of the next one.
+/// The rounds are made once. Contracts see their plan: the first `busy` rounds, and the place of the next one.
 #[derive(Drop)]
 pub struct SeedSchedule {
-    pairs: ArrayVec<(Event, u64), WORDS>,
-    busy: u8,
-    place: u8,
+    rounds: ArrayVec<Round, ROUNDS>,
+    place: usize,
 }
 
 impl Model for SeedSchedule {
-    ghost use Rattle.std.specs.Prelude.{◌<◌, ◌≤◌};
+    ghost use Rattle.std.specs.Prelude.{◌<◌, map};
+    ghost use Rattle.arrayvec.specs.ArrayVec.{array_vec_len};
     ghost use Rattle.debug_model.specs.Schedule.{Plan};
-    ghost use Rattle.sys_events.specs.Seed.{rounds_of};
-    ghost use Rattle.sys_events.specs.declared.seed_schedule.TheConstants.{MOST_BUSY};
 
     ghost Value = { Plan };
 
-    ghost view = { λ s. record { rounds = rounds_of s.busy s.pairs.items; place = s.place } };
+    ghost view = { λ s. record { rounds = map (λ r. r.items) s.rounds.items; place = s.place } };
 
-    ghost invariant = { λ s. (s.place < s.busy) × (s.busy ≤ MOST_BUSY) };
+    ghost invariant = { λ s. s.place < array_vec_len s.rounds };
 }
 
 impl SeedSchedule {
@@ -51,18 +54,9 @@ impl SeedSchedule {
         ensures plan { result ≡ seed_plan seed busy harts }
         ensures fair { Fair 32 harts result }
     {
-        let words = first_words(seed);
-        let [.., dmi_done, cmd_step, bus_done] = words;
-        let mut pairs = ArrayVec::new();
-        'turns: for hart in 0..harts {
-            pairs.push((Event::Turn(hart), words[usize::from(hart)]));
-        }
-        pairs.push((Event::DmiDone, dmi_done));
-        pairs.push((Event::CmdStep, cmd_step));
-        pairs.push((Event::BusDone, bus_done));
+        let pairs = pair(first_words(seed), harts);
         SeedSchedule {
-            pairs,
-            busy,
+            rounds: make_rounds(pairs.as_slice(), busy),
             place: 0,
         }
     }
@@ -71,15 +65,45 @@ impl SeedSchedule {
 impl Schedule for SeedSchedule {
     ghost plan = { λ s. s };
 
-    fn next(&mut self) -> Round {
-        let round = make_round(self.pairs.as_slice(), self.busy, self.place);
-        self.place = if self.place + 1 < self.busy {
-            self.place + 1
-        } else {
-            0
-        };
-        round
+    #[inline(always)]
+    fn round(&self) -> &[Event] {
+        self.rounds[self.place].as_slice()
     }
+
+    #[inline(always)]
+    fn advance(&mut self) {
+        self.place = following(self.place, self.rounds.len());
+    }
+}
+
+/// The events of a schedule in the order of a round, each with its word.
+fn pair(words: [u64; WORDS], harts: u8) -> ArrayVec<(Event, u64), WORDS>
+    requires { harts ≤ MOST_HARTS }
+    ensures { result.items ≡ paired harts words }
+{
+    let [.., dmi_done, cmd_step, bus_done] = words;
+    let mut pairs = ArrayVec::new();
+    'turns: for hart in 0..harts {
+        pairs.push((Event::Turn(hart), words[usize::from(hart)]));
+    }
+    pairs.push((Event::DmiDone, dmi_done));
+    pairs.push((Event::CmdStep, cmd_step));
+    pairs.push((Event::BusDone, bus_done));
+    pairs
+}
+
+/// The first `busy` rounds.
+fn make_rounds(pairs: &[(Event, u64)], busy: u8) -> ArrayVec<Round, ROUNDS>
+    requires busy { busy ≤ MOST_BUSY }
+    requires few { length pairs.now ≤ WORDS }
+    ensures rounds { map (λ r. r.items) result.items ≡ rounds_of busy pairs.now }
+    ensures count { array_vec_len result ≡ busy }
+{
+    let mut rounds = ArrayVec::new();
+    for number in 0..busy {
+        rounds.push(make_round(pairs, busy, number));
+    }
+    rounds
 }
 
 /// The first seven words of the seed's generator.

@@ -1,0 +1,30 @@
+-- What an object that carries a link keeps through every call: the references that it borrows through, and, where a net
+-- lies below it, which call opened that net, and where.
+use Rattle.std.specs.Prelude.{ℕ, List, [], ◌∷◌, Bool, false, Option, None}
+use Rattle.std.specs.Borrow.{GName}
+use Rattle.debug_model.specs.declared.net.Call.{Call}
+
+-- which call opened a net, and its address, where that is told
+pub record Opening : Type 0 where
+  pub call : Call
+  pub address : Option (List ℕ)
+
+-- whether a net tells a pipe behind `join`, and what opened it, where something did
+pub record NetTies : Type 0 where
+  pub tells_pipe : Bool
+  pub opening : Option Opening
+
+pub record Ties : Type 0 where
+  pub lenders : List GName
+  pub net : NetTies
+
+abbrev pub no_net : NetTies
+no_net = record { tells_pipe = false; opening = None }
+
+-- of an object that borrows nothing and lies over no net
+abbrev pub no_ties : Ties
+no_ties = record { lenders = []; net = no_net }
+
+-- of an object that is reached through one more reference
+abbrev pub lent_by : GName → Ties → Ties
+lent_by name ties = record ties { lenders = name ∷ ties.lenders }
