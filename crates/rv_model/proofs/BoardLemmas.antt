@@ -1,5 +1,5 @@
 -- Execution on a machine and on a board: what it keeps, and that forgetting the debug parts goes before it or after it.
-use Rattle.std.proofs.Common.{◌≡◌, ℕ, List, [], ◌∷◌, ◌++◌, map, set, zero, suc, Option, Some, None, Result, Ok, Err, slice_get, option_map, refl, sym, ap, ◌∙◌}
+use Rattle.std.proofs.Common.{◌≡◌, ℕ, List, [], ◌∷◌, ◌++◌, map, set, zero, suc, Option, Some, None, Result, Ok, Err, slice_get, option_map, refl, ap}
 use Rattle.std.proofs.lemmas.List.{length-set}
 use Rattle.std.proofs.lemmas.Option.{slice_get-map}
 use Rattle.rv_model.specs.declared.insn.Insn.{Insn}
@@ -10,9 +10,9 @@ use Rattle.rv_model.specs.Memory.{Memory, loaded}
 use Rattle.rv_model.specs.Core.{Core}
 use Rattle.rv_model.specs.Effects.{effect_of}
 use Rattle.rv_model.specs.Execute.{decoded, fetched, exec_of}
-use Rattle.rv_model.specs.Board.{Hart, Board, Machine, cores, machine_of, execute_by, execute_on_by}
+use Rattle.rv_model.specs.Board.{Hart, Machine, cores, execute_by}
 use Rattle.rv_model.specs.Undebugged.{Entry, entered, undebugged}
-use Rattle.rv_model.specs.Laws.{Keeps, ExecutionKeeps, LeavesOthers, ExecutionLeavesOthers, ExecutionForgetsDebugging}
+use Rattle.rv_model.specs.Laws.{Keeps, ExecutionKeeps, LeavesOthers, ExecutionLeavesOthers}
 use Rattle.rv_model.proofs.EffectsKeep.{effect_keeps}
 use Rattle.rv_model.proofs.KeptLemmas.{quiet, traps_keeps}
 use Rattle.rv_model.proofs.MapLemmas.{slice_get-set_other}
@@ -58,16 +58,6 @@ slice_get-cores hs h = slice_get-map (λ (x : Hart). x.core) hs h
 -- a hart whose core alone is written
 pub cores-set : (hs : List Hart) (h : ℕ) (hart : Hart) → cores (set hs h hart) ≡ set (cores hs) h hart.core
 cores-set hs h hart = map-set (λ (x : Hart). x.core) hs h hart
-
-forget_by : (o : Option Hart) (h : ℕ) (b : Board) → machine_of (execute_on_by o h b) ≡ execute_by (option_map (λ (x : Hart). x.core) o) h (machine_of b)
-forget_by (Some hart) h b =
-    ap (λ cs. record { cores = cs; memory = (exec_of hart.core b.memory).memory })
-    (cores-set b.harts h (record hart { core = (exec_of hart.core b.memory).step.core }))
-forget_by None h b = refl
-
-pub execution_forgets_debugging : ExecutionForgetsDebugging
-execution_forgets_debugging h b =
-    forget_by (slice_get b.harts h) h b ∙ ap (λ o. execute_by o h (machine_of b)) (sym (slice_get-cores b.harts h))
 
 -- ---- runs
 

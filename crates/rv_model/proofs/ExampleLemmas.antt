@@ -1,5 +1,6 @@
 -- The worked examples, computed.
 use Rattle.std.proofs.Common.{◌≡◌, ℕ, ◌+◌, ◌*◌, ◌/◌, ◌%◌, ◌<◌, Bool, true, false, cond, List, [], ◌∷◌, length, Option, Some, None, Result, Ok, Err, slice_get, option_map, refl, ap, ◌∙◌, arith}
+use Rattle.std.specs.FinMap.{get}
 use Rattle.std.proofs.lemmas.Bool.{and_from, eqb-true, lt-ltb, le-leb}
 use Rattle.std.proofs.lemmas.Option.{slice_get-map}
 use Rattle.rv_model.specs.declared.mem_fault.MemFault.{MemFault}
@@ -8,17 +9,19 @@ use Rattle.rv_model.specs.declared.size.Size.{Size}
 use Rattle.rv_model.specs.declared.size.Size.TheVariants.{B1, B2, B4, B8}
 use Rattle.rv_model.specs.Size.{count_of}
 use Rattle.rv_model.specs.Alu.{alu_of}
+use Rattle.rv_model.specs.Fields.{sign_extended}
+use Rattle.rv_model.specs.Laws.{answered}
 use Rattle.rv_model.specs.Rows.{meaning}
-use Rattle.rv_model.specs.Memory.{Memory, value_at, or_outside, is_aligned, loaded, store_answer, after_store, touches, kept, reserve, place_covers, covers}
+use Rattle.rv_model.specs.Memory.{Memory, with_byte, value_at, or_outside, is_aligned, loaded, store_answer, after_store, touches, kept, reserve, place_covers, covers}
 use Rattle.rv_model.specs.Core.{Core, reset_core, x_of}
 use Rattle.rv_model.specs.Registers.{csr_value, csr_read_only}
-use Rattle.rv_model.specs.Effects.{Outcome, effect_of, sc_step, after_sc}
+use Rattle.rv_model.specs.Effects.{Outcome, same_memory, after_load, stored_step, effect_of, sc_step, after_sc}
 use Rattle.rv_model.specs.Execute.{fetched, exec_of}
 use Rattle.rv_model.specs.Board.{with_outcome}
 use Rattle.rv_model.specs.Undebugged.{undebugged, Entry, Exec}
-use Rattle.rv_model.specs.Examples.{ReservedWordsMeanNothing, CounterCounts, WritesKeepTheirBits, one_hart, counter, Divisions, TrapExamples, ScFailsAfterStore, ScSucceedsAfterLr, hart_with}
+use Rattle.rv_model.specs.Examples.{ReservedWordsMeanNothing, CounterCounts, WritesKeepTheirBits, one_hart, counter, Divisions, TrapsOutside, TrapExamples, ScFailsAfterStore, ScSucceedsAfterLr, hart_with}
 use Rattle.rv_model.proofs.MapLemmas.{slice_get-set_same}
-use Rattle.rv_model.proofs.MemoryLemmas.{after_store_taken}
+use Rattle.rv_model.proofs.MemoryLemmas.{after_store_refused, after_store_taken, store_answer_is}
 
 pub reserved_words_mean_nothing : ReservedWordsMeanNothing
 unfolding meaning
@@ -58,6 +61,25 @@ divisions = record {
   remainder_of_overflow = λ m is. exec_fetched (hart_with 0x8000000000000000 0xffffffffffffffff) m (Ok 0x027362b3) is;
 }
 
+-- an aligned word of which memory has no first byte
+outside : (m : Memory) → get m.bytes 0x1000 ≡ None → loaded m 0x1000 B4 ≡ Err Outside
+unfolding loaded
+outside m none = ap (λ o. or_outside (with_byte o (value_at m.bytes 0x1001 3))) none
+
+load_outside : TrapsOutside 0x00032283 0x1000 0 5 0x1000
+unfolding meaning effect_of
+load_outside m is none =
+    exec_fetched (hart_with 0x1000 0) m (Ok 0x00032283) is
+    ∙ ap (λ r. same_memory m (after_load r (sign_extended 32) 5 0x1000 (hart_with 0x1000 0))) (outside m none)
+
+store_outside : TrapsOutside 0x00732023 0x1000 7 7 0x1000
+unfolding meaning effect_of
+store_outside m is none =
+    let refused : store_answer m 0x1000 B4 ≡ Err Outside = store_answer_is m 0x1000 B4 ∙ ap answered (outside m none) in
+    exec_fetched (hart_with 0x1000 7) m (Ok 0x00732023) is
+    ∙ ap (λ r. record { step = stored_step r 0x1000 (hart_with 0x1000 7); memory = after_store m 0x1000 B4 7 }) refused
+    ∙ ap (λ n. record { step = stored_step (Err Outside) 0x1000 (hart_with 0x1000 7); memory = n }) (after_store_refused m 0x1000 B4 7 Outside refused)
+
 pub trap_examples : TrapExamples
 unfolding meaning alu_of effect_of loaded store_answer after_store csr_value csr_read_only
 trap_examples = record {
@@ -67,6 +89,8 @@ trap_examples = record {
   jump_by_two = λ m is. exec_fetched (hart_with 0 0) m (Ok 0x0020006f) is;
   misaligned_load = λ m is. exec_fetched (hart_with 0x10 0) m (Ok 0x00132283) is;
   misaligned_store = λ m is. exec_fetched (hart_with 0 0) m (Ok 0x007020a3) is;
+  load_outside = load_outside;
+  store_outside = store_outside;
   write_of_mhartid = λ m is. exec_fetched (hart_with 0 0) m (Ok 0xf1401073) is;
   no_such_register = λ m is. exec_fetched (hart_with 0 0) m (Ok 0x7b0022f3) is;
   read_of_mhartid = λ m is. exec_fetched (hart_with 0 0) m (Ok 0xf14022f3) is;

@@ -13,10 +13,10 @@ use Rattle.rv_model.specs.Fields.{field}
 use Rattle.rv_model.specs.Memory.{Memory, loaded, store_answer, after_store, covers}
 use Rattle.rv_model.specs.Core.{Core, IsCore, with_x, next_pc, offset_by, mie_of, mpie_of, mstatus_with}
 use Rattle.rv_model.specs.Registers.{Register, registers, kept_of, written_at, csr_value, csr_written, csr_read_only, mstatus_bits, address_bits}
-use Rattle.rv_model.specs.Traps.{load_cause, store_cause, trap_left}
+use Rattle.rv_model.specs.Traps.{load_cause, store_cause, trap_entered, trap_left}
 use Rattle.rv_model.specs.Effects.{Step, same_memory, retires, goes_on, traps, sets_rd, jumps, branches, swapped_csr, swaps_csr, after_load, stored_step, stores_at, after_reserve, reserves_at, sc_step, after_sc, stores_if_reserved_at, amo_step, after_amo, updates_at}
-use Rattle.rv_model.specs.Laws.{KeptOrCleared, KeepsCore, Keeps}
-use Rattle.rv_model.proofs.MemoryLemmas.{after_store_refused, after_store_others, others_at}
+use Rattle.rv_model.specs.Laws.{KeptOrCleared, KeepsCore, IsTrap, Keeps}
+use Rattle.rv_model.proofs.MemoryLemmas.{after_store_refused, after_store_others, after_store_places, others_at}
 
 -- ---- cores
 
@@ -47,13 +47,32 @@ at_pc c target fits = record {
 next_aligned : (pc : ℕ) → pc % 4 ≡ 0 → (pc + 4) % 2 ^ 64 % 4 ≡ 0
 next_aligned pc h = omega arith
 
-pub goes_on_keeps : (c : Core) → KeepsCore c (goes_on c).core
-goes_on_keeps c = at_pc c (next_pc c) (λ h. next_aligned c.pc h.pc_aligned)
+-- ---- steps: one that retires, and one that traps
 
-sets_rd_from : (a c : Core) (rd v : ℕ) → KeepsCore a c → KeepsCore a (sets_rd rd v c).core
-sets_rd_from a c rd v h = kept_twice a (with_x c rd v) _ (kept_twice a c _ h (with_x_keeps c rd v)) (goes_on_keeps (with_x c rd v))
+-- what every step leaves of its core: where it traps, the core is the trap's
+pub record StepKeeps (c : Core) (s : Step) : Type 0 where
+  pub core : KeepsCore c s.core
+  pub trapped : (cause : ℕ) → s.did ≡ Trapped cause → (value : ℕ) × (s.core ≡ trap_entered cause value c)
 
-pub sets_rd_keeps : (rd v : ℕ) (c : Core) → KeepsCore c (sets_rd rd v c).core
+retired_is_not : (cause : ℕ) → Retired ≡ Trapped cause → ⊥
+retired_is_not cause e = cc
+
+same_cause : (a b : ℕ) → Trapped a ≡ Trapped b → a ≡ b
+same_cause a b e = cc
+
+retired : (c after : Core) → KeepsCore c after → StepKeeps c (retires after)
+retired c after h = record { core = h; trapped = λ cause e. absurd (retired_is_not cause e) }
+
+next_keeps : (c : Core) → KeepsCore c (record c { pc = next_pc c })
+next_keeps c = at_pc c (next_pc c) (λ h. next_aligned c.pc h.pc_aligned)
+
+pub goes_on_keeps : (c : Core) → StepKeeps c (goes_on c)
+goes_on_keeps c = retired c _ (next_keeps c)
+
+sets_rd_from : (a c : Core) (rd v : ℕ) → KeepsCore a c → StepKeeps a (sets_rd rd v c)
+sets_rd_from a c rd v h = retired a _ (kept_twice a (with_x c rd v) _ (kept_twice a c _ h (with_x_keeps c rd v)) (next_keeps (with_x c rd v)))
+
+pub sets_rd_keeps : (rd v : ℕ) (c : Core) → StepKeeps c (sets_rd rd v c)
 sets_rd_keeps rd v c = sets_rd_from c c rd v (same_core c)
 
 -- ---- mstatus and traps
@@ -70,31 +89,40 @@ mie_below c = bit_below (c.mstatus / 2 ^ 3)
 mpie_below : (c : Core) → mpie_of c < 2
 mpie_below c = bit_below (c.mstatus / 2 ^ 7)
 
-pub traps_keeps : (cause value : ℕ) (c : Core) → KeepsCore c (traps cause value c).core
-traps_keeps cause value c = record {
+trap_keeps : (cause value : ℕ) (c : Core) → KeepsCore c (trap_entered cause value c)
+trap_keeps cause value c = record {
   same_id = refl;
   x0 = refl;
   is_core = λ h. record { registers = h.registers; pc_aligned = h.mtvec_aligned; mtvec_aligned = h.mtvec_aligned; mepc_aligned = h.pc_aligned; mpp_fixed = mstatus_form 0 (mie_of c) (omega arith) (mie_below c) };
 }
 
-pub trap_left_keeps : (c : Core) → KeepsCore c (retires (trap_left c)).core
-trap_left_keeps c = record {
+pub traps_keeps : (cause value : ℕ) (c : Core) → StepKeeps c (traps cause value c)
+traps_keeps cause value c = record {
+  core = trap_keeps cause value c;
+  trapped = λ other e. (value, ap (λ k. trap_entered k value c) (same_cause cause other e));
+}
+
+left_keeps : (c : Core) → KeepsCore c (trap_left c)
+left_keeps c = record {
   same_id = refl;
   x0 = refl;
   is_core = λ h. record { registers = h.registers; pc_aligned = h.mepc_aligned; mtvec_aligned = h.mtvec_aligned; mepc_aligned = h.mepc_aligned; mpp_fixed = mstatus_form (mpie_of c) 1 (mpie_below c) (omega arith) };
 }
 
+pub trap_left_keeps : (c : Core) → StepKeeps c (retires (trap_left c))
+trap_left_keeps c = retired c (trap_left c) (left_keeps c)
+
 -- ---- jumps
 
 jumps_by : (b : Bool) (rd target : ℕ) (c : Core) → (b ≡ true → target % 4 ≡ 0)
-    → KeepsCore c (cond b (retires (record (with_x c rd (next_pc c)) { pc = target })) (traps 0 target c)).core
-jumps_by true rd target c fits = kept_twice c (with_x c rd (next_pc c)) _ (with_x_keeps c rd (next_pc c)) (at_pc (with_x c rd (next_pc c)) target (λ _. fits refl))
+    → StepKeeps c (cond b (retires (record (with_x c rd (next_pc c)) { pc = target })) (traps 0 target c))
+jumps_by true rd target c fits = retired c _ (kept_twice c (with_x c rd (next_pc c)) _ (with_x_keeps c rd (next_pc c)) (at_pc (with_x c rd (next_pc c)) target (λ _. fits refl)))
 jumps_by false rd target c fits = traps_keeps 0 target c
 
-pub jumps_keeps : (rd target : ℕ) (c : Core) → KeepsCore c (jumps rd target c).core
+pub jumps_keeps : (rd target : ℕ) (c : Core) → StepKeeps c (jumps rd target c)
 jumps_keeps rd target c = jumps_by (eqb (target % 4) 0) rd target c (eqb-true (target % 4) 0)
 
-pub branches_keeps : (taken : Bool) (p : BType) (c : Core) → KeepsCore c (branches taken p c).core
+pub branches_keeps : (taken : Bool) (p : BType) (c : Core) → StepKeeps c (branches taken p c)
 branches_keeps true p c = jumps_keeps 0 (offset_by c.pc p.imm) c
 branches_keeps false p c = goes_on_keeps c
 
@@ -227,31 +255,31 @@ written_if : (writes : Bool) (c : Core) (number v : ℕ) → KeepsCore c (cond w
 written_if true c number v = csr_written_keeps c number v
 written_if false c number v = same_core c
 
-refused_or : (b : Bool) (s t : Step) (c : Core) → KeepsCore c s.core → KeepsCore c t.core → KeepsCore c (cond b s t).core
+refused_or : (b : Bool) (s t : Step) (c : Core) → StepKeeps c s → StepKeeps c t → StepKeeps c (cond b s t)
 refused_or true s t c h k = h
 refused_or false s t c h k = k
 
-swapped_keeps : (o : Option ℕ) (writes : Bool) (change : ℕ → ℕ → ℕ) (number v rd : ℕ) (c : Core) → KeepsCore c (swapped_csr o writes change number v rd c).core
+swapped_keeps : (o : Option ℕ) (writes : Bool) (change : ℕ → ℕ → ℕ) (number v rd : ℕ) (c : Core) → StepKeeps c (swapped_csr o writes change number v rd c)
 swapped_keeps None writes change number v rd c = traps_keeps 2 0 c
 swapped_keeps (Some old) writes change number v rd c =
     refused_or (writes && csr_read_only number) _ _ c (traps_keeps 2 0 c) (sets_rd_from c _ rd old (written_if writes c number (change old v)))
 
-pub swaps_csr_keeps : (writes : Bool) (change : ℕ → ℕ → ℕ) (number v rd : ℕ) (c : Core) → KeepsCore c (swaps_csr writes change number v rd c).core
+pub swaps_csr_keeps : (writes : Bool) (change : ℕ → ℕ → ℕ) (number v rd : ℕ) (c : Core) → StepKeeps c (swaps_csr writes change number v rd c)
 swaps_csr_keeps writes change number v rd c = swapped_keeps (csr_value c number) writes change number v rd c
 
 -- ---- memory
 
-pub quiet : {c : Core} {s : Step} (m : Memory) → KeepsCore c s.core → Keeps c m (same_memory m s)
-quiet m h = record { core = h; others = λ j other. inl refl; trapped = λ cause e. refl }
+is_trap : {c : Core} {s : Step} (m n : Memory) → StepKeeps c s → (cause : ℕ) → s.did ≡ Trapped cause → n ≡ m → IsTrap cause c m (record { step = s; memory = n })
+is_trap m n h cause e same = record { value = (h.trapped cause e).0; core = (h.trapped cause e).1; memory = same }
 
-retired_is_not : (cause : ℕ) → Retired ≡ Trapped cause → ⊥
-retired_is_not cause e = cc
+pub quiet : {c : Core} {s : Step} (m : Memory) → StepKeeps c s → Keeps c m (same_memory m s)
+quiet m h = record { core = h.core; others = λ j other. inl refl; places = refl; trapped = λ cause e. is_trap m m h cause e refl }
 
-pub after_load_keeps : (r : Result ℕ MemFault) (extend : ℕ → ℕ) (rd a : ℕ) (c : Core) → KeepsCore c (after_load r extend rd a c).core
+pub after_load_keeps : (r : Result ℕ MemFault) (extend : ℕ → ℕ) (rd a : ℕ) (c : Core) → StepKeeps c (after_load r extend rd a c)
 after_load_keeps (Ok v) extend rd a c = sets_rd_keeps rd (extend v) c
 after_load_keeps (Err fault) extend rd a c = traps_keeps (load_cause fault) a c
 
-stored_step_keeps : (r : Result ⊤ MemFault) (a : ℕ) (c : Core) → KeepsCore c (stored_step r a c).core
+stored_step_keeps : (r : Result ⊤ MemFault) (a : ℕ) (c : Core) → StepKeeps c (stored_step r a c)
 stored_step_keeps (Ok u) a c = goes_on_keeps c
 stored_step_keeps (Err fault) a c = traps_keeps (store_cause fault) a c
 
@@ -262,14 +290,19 @@ store_trapped (Err fault) a size v c m cause is e = after_store_refused m a size
 
 pub stores_keeps : (a : ℕ) (size : Size) (v : ℕ) (c : Core) (m : Memory) → Keeps c m (stores_at a size v c m)
 stores_keeps a size v c m = record {
-  core = stored_step_keeps (store_answer m a size) a c;
+  core = (stored_step_keeps (store_answer m a size) a c).core;
   others = λ j other. after_store_others m a size v j;
-  trapped = λ cause e. store_trapped (store_answer m a size) a size v c m cause refl e;
+  places = after_store_places m a size v;
+  trapped = λ cause e. is_trap m _ (stored_step_keeps (store_answer m a size) a c) cause e (store_trapped (store_answer m a size) a size v c m cause refl e);
 }
 
 reserve_others : (r : Result ℕ MemFault) (a : ℕ) (c : Core) (m : Memory) (j : ℕ) → (j ≡ c.id → ⊥) → KeptOrCleared (slice_get m.reserved j) (slice_get (after_reserve r a c m).reserved j)
 reserve_others (Ok v) a c m j other = others_at m.reserved m.reserved c.id j (Some (a / 8 * 8)) other (inl refl)
 reserve_others (Err fault) a c m j other = inl refl
+
+reserve_places : (r : Result ℕ MemFault) (a : ℕ) (c : Core) (m : Memory) → length (after_reserve r a c m).reserved ≡ length m.reserved
+reserve_places (Ok v) a c m = length-set m.reserved c.id (Some (a / 8 * 8))
+reserve_places (Err fault) a c m = refl
 
 reserve_trapped : (r : Result ℕ MemFault) (extend : ℕ → ℕ) (rd a : ℕ) (c : Core) (m : Memory) (cause : ℕ) → (after_load r extend rd a c).did ≡ Trapped cause → after_reserve r a c m ≡ m
 reserve_trapped (Ok v) extend rd a c m cause e = absurd (retired_is_not cause e)
@@ -277,12 +310,13 @@ reserve_trapped (Err fault) extend rd a c m cause e = refl
 
 pub reserves_keeps : (a : ℕ) (size : Size) (extend : ℕ → ℕ) (rd : ℕ) (c : Core) (m : Memory) → Keeps c m (reserves_at a size extend rd c m)
 reserves_keeps a size extend rd c m = record {
-  core = after_load_keeps (loaded m a size) extend rd a c;
+  core = (after_load_keeps (loaded m a size) extend rd a c).core;
   others = λ j other. reserve_others (loaded m a size) a c m j other;
-  trapped = λ cause e. reserve_trapped (loaded m a size) extend rd a c m cause e;
+  places = reserve_places (loaded m a size) a c m;
+  trapped = λ cause e. is_trap m _ (after_load_keeps (loaded m a size) extend rd a c) cause e (reserve_trapped (loaded m a size) extend rd a c m cause e);
 }
 
-sc_step_keeps : (r : Result ℕ MemFault) (covered : Bool) (rd a : ℕ) (c : Core) → KeepsCore c (sc_step r covered rd a c).core
+sc_step_keeps : (r : Result ℕ MemFault) (covered : Bool) (rd a : ℕ) (c : Core) → StepKeeps c (sc_step r covered rd a c)
 sc_step_keeps (Ok v) covered rd a c = sets_rd_keeps rd (cond covered 0 1) c
 sc_step_keeps (Err fault) covered rd a c = traps_keeps (store_cause fault) a c
 
@@ -295,6 +329,14 @@ sc_others : (r : Result ℕ MemFault) (covered : Bool) (a : ℕ) (size : Size) (
 sc_others (Ok u) covered a size v c m j other = others_at m.reserved (cond covered (after_store m a size v) m).reserved c.id j None other (stored_if_others covered a size v m j)
 sc_others (Err fault) covered a size v c m j other = inl refl
 
+stored_if_places : (covered : Bool) (a : ℕ) (size : Size) (v : ℕ) (m : Memory) → length (cond covered (after_store m a size v) m).reserved ≡ length m.reserved
+stored_if_places true a size v m = after_store_places m a size v
+stored_if_places false a size v m = refl
+
+sc_places : (r : Result ℕ MemFault) (covered : Bool) (a : ℕ) (size : Size) (v : ℕ) (c : Core) (m : Memory) → length (after_sc r covered a size v c m).reserved ≡ length m.reserved
+sc_places (Ok u) covered a size v c m = length-set (cond covered (after_store m a size v) m).reserved c.id None ∙ stored_if_places covered a size v m
+sc_places (Err fault) covered a size v c m = refl
+
 sc_trapped : (r : Result ℕ MemFault) (covered : Bool) (rd a : ℕ) (size : Size) (v : ℕ) (c : Core) (m : Memory) (cause : ℕ)
     → (sc_step r covered rd a c).did ≡ Trapped cause → after_sc r covered a size v c m ≡ m
 sc_trapped (Ok u) covered rd a size v c m cause e = absurd (retired_is_not cause e)
@@ -302,18 +344,23 @@ sc_trapped (Err fault) covered rd a size v c m cause e = refl
 
 pub stores_if_reserved_keeps : (a : ℕ) (size : Size) (v rd : ℕ) (c : Core) (m : Memory) → Keeps c m (stores_if_reserved_at a size v rd c m)
 stores_if_reserved_keeps a size v rd c m = record {
-  core = sc_step_keeps (loaded m a size) (covers m c.id a size) rd a c;
+  core = (sc_step_keeps (loaded m a size) (covers m c.id a size) rd a c).core;
   others = λ j other. sc_others (loaded m a size) (covers m c.id a size) a size v c m j other;
-  trapped = λ cause e. sc_trapped (loaded m a size) (covers m c.id a size) rd a size v c m cause e;
+  places = sc_places (loaded m a size) (covers m c.id a size) a size v c m;
+  trapped = λ cause e. is_trap m _ (sc_step_keeps (loaded m a size) (covers m c.id a size) rd a c) cause e (sc_trapped (loaded m a size) (covers m c.id a size) rd a size v c m cause e);
 }
 
-amo_step_keeps : (r : Result ℕ MemFault) (extend : ℕ → ℕ) (rd a : ℕ) (c : Core) → KeepsCore c (amo_step r extend rd a c).core
+amo_step_keeps : (r : Result ℕ MemFault) (extend : ℕ → ℕ) (rd a : ℕ) (c : Core) → StepKeeps c (amo_step r extend rd a c)
 amo_step_keeps (Ok v) extend rd a c = sets_rd_keeps rd (extend v) c
 amo_step_keeps (Err fault) extend rd a c = traps_keeps (store_cause fault) a c
 
 amo_others : (r : Result ℕ MemFault) (extend : ℕ → ℕ) (o : AluOp) (a : ℕ) (size : Size) (b : ℕ) (m : Memory) (j : ℕ) → KeptOrCleared (slice_get m.reserved j) (slice_get (after_amo r extend o a size b m).reserved j)
 amo_others (Ok v) extend o a size b m j = after_store_others m a size _ j
 amo_others (Err fault) extend o a size b m j = inl refl
+
+amo_places : (r : Result ℕ MemFault) (extend : ℕ → ℕ) (o : AluOp) (a : ℕ) (size : Size) (b : ℕ) (m : Memory) → length (after_amo r extend o a size b m).reserved ≡ length m.reserved
+amo_places (Ok v) extend o a size b m = after_store_places m a size _
+amo_places (Err fault) extend o a size b m = refl
 
 amo_trapped : (r : Result ℕ MemFault) (extend : ℕ → ℕ) (o : AluOp) (rd a : ℕ) (size : Size) (b : ℕ) (c : Core) (m : Memory) (cause : ℕ)
     → (amo_step r extend rd a c).did ≡ Trapped cause → after_amo r extend o a size b m ≡ m
@@ -322,7 +369,8 @@ amo_trapped (Err fault) extend o rd a size b c m cause e = refl
 
 pub updates_keeps : (a : ℕ) (size : Size) (extend : ℕ → ℕ) (o : AluOp) (b rd : ℕ) (c : Core) (m : Memory) → Keeps c m (updates_at a size extend o b rd c m)
 updates_keeps a size extend o b rd c m = record {
-  core = amo_step_keeps (loaded m a size) extend rd a c;
+  core = (amo_step_keeps (loaded m a size) extend rd a c).core;
   others = λ j other. amo_others (loaded m a size) extend o a size b m j;
-  trapped = λ cause e. amo_trapped (loaded m a size) extend o rd a size b c m cause e;
+  places = amo_places (loaded m a size) extend o a size b m;
+  trapped = λ cause e. is_trap m _ (amo_step_keeps (loaded m a size) extend rd a c) cause e (amo_trapped (loaded m a size) extend o rd a size b c m cause e);
 }

@@ -1,13 +1,17 @@
 pub mod AluCorners
 pub mod BoardLemmas
 pub mod DebugLemmas
+pub mod DebugRegisterLemmas
 pub mod DebugWordLemmas
 pub mod ExampleLemmas
 pub mod EffectsKeep
 pub mod KeptLemmas
 pub mod MapLemmas
 pub mod MemoryLemmas
+pub mod ProgramBufferLemmas
 pub mod RowLemmas
 pub mod RowMeanings
+pub mod SlotLemmas
 pub mod TouchLemmas
 pub mod TurnLemmas
+pub mod WholeBoards

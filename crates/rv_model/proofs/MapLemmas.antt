@@ -46,7 +46,7 @@ find_from (x ∷ xs) n zero q e =
 find_from (x ∷ xs) n (suc i) q e =
     ap (λ b. cond b (Some x) (map.find nat_cmp q (enumerate_from (n + 1) xs))) (other_key q n (λ h. omega arith)) ∙ find_from xs (n + 1) i q (omega arith)
 
-find_below : (xs : List ℕ) (n q : ℕ) → q < n → map.find nat_cmp q (enumerate_from n xs) ≡ None
+pub find_below : (xs : List ℕ) (n q : ℕ) → q < n → map.find nat_cmp q (enumerate_from n xs) ≡ None
 find_below [] n q h = refl
 find_below (x ∷ xs) n q h =
     ap (λ b. cond b (Some x) (map.find nat_cmp q (enumerate_from (n + 1) xs))) (other_key q n (λ e. omega arith)) ∙ find_below xs (n + 1) q (omega arith)

@@ -1,6 +1,7 @@
 -- What a store, a reservation and an sc leave of memory.
-use Rattle.std.proofs.Common.{◌≡◌, ℕ, Bool, true, false, cond, ◌&&◌, List, set, Option, Some, None, is_some, Result, Ok, Err, slice_get, option_map, refl, sym, subst, inl, inr}
+use Rattle.std.proofs.Common.{◌≡◌, ℕ, Bool, true, false, cond, ◌&&◌, List, length, set, Option, Some, None, is_some, Result, Ok, Err, slice_get, option_map, refl, sym, ap, ◌∙◌, subst, inl, inr}
 use Rattle.std.specs.Prelude.{⊤}
+use Rattle.std.proofs.lemmas.List.{length-map}
 use Rattle.std.proofs.lemmas.Option.{slice_get-map}
 use Rattle.rv_model.specs.declared.mem_fault.MemFault.{MemFault}
 use Rattle.rv_model.specs.declared.mem_fault.MemFault.TheVariants.{Misaligned, Outside}
@@ -83,6 +84,14 @@ after_store_others m a size v j =
       | Err fault ↦ λ is.
           let P : Memory → Type 0 = λ n. KeptOrCleared (slice_get m.reserved j) (slice_get n.reserved j) in
           subst P (sym (after_store_refused m a size v fault is)) (inl refl)
+    ] refl
+
+-- no place comes or goes
+pub after_store_places : (m : Memory) (a : ℕ) (size : Size) (v : ℕ) → length (after_store m a size v).reserved ≡ length m.reserved
+after_store_places m a size v =
+    elim (store_answer m a size) as (λ r. store_answer m a size ≡ r → length (after_store m a size v).reserved ≡ length m.reserved) [
+      | Ok u ↦ λ is. ap (λ (n : Memory). length n.reserved) (after_store_taken m a size v is) ∙ length-map m.reserved (kept a (count_of size))
+      | Err fault ↦ λ is. ap (λ (n : Memory). length n.reserved) (after_store_refused m a size v fault is)
     ] refl
 
 -- a later change of one hart's own place leaves the others' as they were

@@ -30,7 +30,7 @@ pub not_both : (w : ℕ) (r s : Row) → apart r s ≡ true → bit_and w s.mask
 not_both w r s sep is_s =
     ne_eqb _ _ (λ is_r. both_ways _ (not-true _ sep) (eq-eqb _ _ (codes_agree w r s is_r is_s)))
 
-all_at : (p : Row → Bool) (rs : List Row) (i : ℕ) (r : Row) → list_all p rs ≡ true → slice_get rs i ≡ Some r → p r ≡ true
+pub all_at : (p : Row → Bool) (rs : List Row) (i : ℕ) (r : Row) → list_all p rs ≡ true → slice_get rs i ≡ Some r → p r ≡ true
 all_at p [] i r h at = cc
 all_at p (s ∷ rs) zero r h at = let e : s ≡ r = cc in ap p (sym e) ∙ (and_parts _ _ h).0
 all_at p (s ∷ rs) (suc i) r h at = all_at p rs i r (and_parts _ _ h).1 at

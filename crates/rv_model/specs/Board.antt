@@ -1,6 +1,6 @@
 -- A board: one to four harts and one memory. A hart is its core, which a program sees, and beside it a debug part, which only a debugger sees.
 -- RISC-V Debug Specification 1.0, "Debug Control and Status", "Debug Module Status" and "Sdtrig (ISA Extension)". Forgetting the debug parts is `cores`.
-use Rattle.std.specs.Prelude.{◌≡◌, ℕ, ◌≤◌, ◌<◌, Bool, true, false, List, map, replicate, length, Option, Some, None, slice_get, slice_set}
+use Rattle.std.specs.Prelude.{◌≡◌, ℕ, ◌+◌, ◌≤◌, ◌<◌, Bool, true, false, List, [], ◌∷◌, map, replicate, length, Option, Some, None, slice_get, slice_set}
 use Rattle.rv_model.specs.declared.cause.Cause.{Cause}
 use Rattle.rv_model.specs.declared.cause.Cause.TheVariants.{Reset}
 use Rattle.rv_model.specs.declared.slot.Slot.{Slot}
@@ -9,6 +9,7 @@ use Rattle.rv_model.specs.Memory.{Memory, hart_places}
 use Rattle.rv_model.specs.Core.{Core, IsCore, reset_core}
 use Rattle.rv_model.specs.Effects.{Outcome}
 use Rattle.rv_model.specs.Execute.{exec_of}
+use Rattle.rv_model.specs.Triggers.{CountsFit}
 
 pub record DebugPart : Type 0 where
   pub halted : Option Cause  -- why the hart is halted, or none where it runs
@@ -56,17 +57,6 @@ execute_by None h b = b
 abbrev pub execute : ℕ → Machine → Machine
 execute h b = execute_by (slice_get b.cores h) h b
 
-abbrev pub with_board_outcome : ℕ → Hart → Outcome → Board → Board
-with_board_outcome h hart o b = record { harts = slice_set b.harts h (record hart { core = o.step.core }); memory = o.memory }
-
-abbrev pub execute_on_by : Option Hart → ℕ → Board → Board
-execute_on_by (Some hart) h b = with_board_outcome h hart (exec_of hart.core b.memory) b
-execute_on_by None h b = b
-
--- the same on a board: every debug part stays as it is
-abbrev pub execute_on : ℕ → Board → Board
-execute_on h b = execute_on_by (slice_get b.harts h) h b
-
 -- ---- reset
 
 abbrev pub slot_count : ℕ
@@ -93,17 +83,26 @@ reset_debug halted = record {
 abbrev pub reset_hart : ℕ → Option Cause → Hart
 reset_hart id halted = record { core = reset_core id; debug = reset_debug halted }
 
+-- one hart for each, from a number on, halted by these causes or running
+abbrev pub reset_harts : ℕ → List (Option Cause) → List Hart
+reset_harts id [] = []
+reset_harts id (halted ∷ rest) = reset_hart id halted ∷ reset_harts (id + 1) rest
+
+abbrev pub reset_board : List (Option Cause) → Memory → Board
+reset_board halted m = record { harts = reset_harts 0 halted; memory = m }
+
 abbrev pub runs : Option Cause
 runs = None
 
 abbrev pub halted_by_reset : Option Cause
 halted_by_reset = Some Reset
 
--- what is true of every hart from reset on: it stands at its number, and has four slots, one of which is selected
+-- what is true of every hart from reset on: its core is whole and has the hart's place as its number, and one of its four slots is selected
 pub record IsHart (h : ℕ) (hart : Hart) : Type 0 where
   pub number : hart.core.id ≡ h
   pub core : IsCore hart.core
   pub slots : length hart.debug.slots ≡ slot_count
+  pub counts : CountsFit hart.debug.slots
   pub selected : hart.debug.tselect < slot_count
 
 -- and of every board: one to four harts, and a place for the reservation of each that there may be

@@ -5,15 +5,29 @@ use Rattle.rv_model.specs.declared.cause.Cause.TheVariants.{Reset}
 use Rattle.rv_model.specs.declared.debug_did.DebugDid.TheVariants as ended
 use Rattle.rv_model.specs.declared.insn.Insn.{Insn}
 use Rattle.rv_model.specs.declared.insn.Insn.TheVariants.{Ld, Csrrw, Csrrs, Csrrc, Csrrwi, Csrrsi, Csrrci}
-use Rattle.rv_model.specs.Board.{DebugPart, Hart, reset_hart, slot_count}
+use Rattle.rv_model.specs.declared.register_number.TheConstants.{TSELECT, TDATA1, TDATA2, TINFO, DCSR, DPC}
+use Rattle.rv_model.specs.declared.trigger_word.TheConstants.{TINFO_VALUE}
+use Rattle.rv_model.specs.Board.{DebugPart, Hart, IsHart, reset_hart, slot_count}
 use Rattle.rv_model.specs.Core.{with_x, aligned, register_count}
 use Rattle.rv_model.specs.Dcsr.{dcsr_word, dcsr_of_word, shown_cause}
-use Rattle.rv_model.specs.DebugRegisters.{debug_value, debug_refuses, debug_written}
+use Rattle.rv_model.specs.DebugRegisters.{dcsr_number, debug_value, debug_refuses, debug_written}
 use Rattle.rv_model.specs.Laws.{KeepsCore}
 use Rattle.rv_model.specs.Memory.{Memory}
 use Rattle.rv_model.specs.ProgramBuffer.{Debugged, debugged, ran_word}
+use Rattle.rv_model.specs.Registers.{pc_number}
 use Rattle.rv_model.specs.Rows.{meaning}
-use Rattle.rv_model.specs.TriggerWords.{tdata1_of, trigger_of, tinfo_value}
+use Rattle.rv_model.specs.TriggerWords.{tselect_number, tdata1_number, tdata2_number, tinfo_number, tdata1_of, trigger_of, tinfo_value}
+
+-- ---- the code's numbers
+
+pub record DebugRegisterNumbers : Type 0 where
+  pub tselect : TSELECT ≡ tselect_number
+  pub tdata1 : TDATA1 ≡ tdata1_number
+  pub tdata2 : TDATA2 ≡ tdata2_number
+  pub tinfo : TINFO ≡ tinfo_number
+  pub tinfo_reads : TINFO_VALUE ≡ tinfo_value
+  pub dcsr : DCSR ≡ dcsr_number
+  pub dpc : DPC ≡ pc_number
 
 -- ---- worked examples: hart 2, halted by reset
 
@@ -81,10 +95,11 @@ pub record SameRequests (d after : DebugPart) : Type 0 where
   pub resume_ack : after.resume_ack ≡ d.resume_ack
   pub have_reset : after.have_reset ≡ d.have_reset
 
--- and the core keeps its number, x0 and what is true of every core
+-- and the core keeps its number, x0 and what is true of every core, as the hart keeps what is true of every hart
 pub record WriteKeeps (h after : Hart) : Type 0 where
   pub requests : SameRequests h.debug after.debug
   pub core : KeepsCore h.core after.core
+  pub is_hart : (n : ℕ) → IsHart n h → IsHart n after
 
 abbrev pub WritesKeep : Type 0
 WritesKeep = (h : Hart) (number v : ℕ) → WriteKeeps h (debug_written h number v)
@@ -121,9 +136,13 @@ ExceptionsChangeNothing = (w : ℕ) (h : Hart) (m : Memory) → (ran_word w h m)
 abbrev pub MemoryNeedsAccess : Type 0
 MemoryNeedsAccess = (w : ℕ) (h : Hart) (m : Memory) → (ran_word w h m).accessed ≡ false → (ran_word w h m).memory ≡ m
 
--- whatever a word is, the hart stays halted with its requests, and its core keeps its number, x0 and what is true of every core
+-- whatever a word is, it keeps of its hart what a write of a register keeps, and no reservation's place comes or goes
+pub record WordKeeps (h : Hart) (m : Memory) (after : Debugged) : Type 0 where
+  pub hart : WriteKeeps h after.hart
+  pub places : length after.memory.reserved ≡ length m.reserved
+
 abbrev pub WordsKeep : Type 0
-WordsKeep = (w : ℕ) (h : Hart) (m : Memory) → WriteKeeps h (ran_word w h m).hart
+WordsKeep = (w : ℕ) (h : Hart) (m : Memory) → WordKeeps h m (ran_word w h m)
 
 abbrev pub is_csr_insn : Option Insn → Bool
 is_csr_insn None = false

@@ -1,6 +1,7 @@
 -- Worked examples: what the definitions say of single words, single instructions and a small program.
 -- The words are spelled by the unprivileged manual's formats, and the results are worked by hand.
 use Rattle.std.specs.Prelude.{◌≡◌, ℕ, ◌/◌, ◌<◌, [], ◌∷◌, length, None, Ok, Err, slice_set, replicate}
+use Rattle.std.specs.FinMap.{get}
 use Rattle.rv_model.specs.declared.did.Did.{Did}
 use Rattle.rv_model.specs.declared.did.Did.TheVariants.{Retired, Trapped}
 use Rattle.rv_model.specs.declared.insn.Insn.TheVariants.{ScD}
@@ -64,10 +65,18 @@ StepsTo word before after did = (m : Memory) → loaded m before.pc B4 ≡ Ok wo
 abbrev pub Gives : ℕ → ℕ → ℕ → ℕ → Type 0
 Gives word x6 x7 x5 = StepsTo word (hart_with x6 x7) (record (hart_with x6 x7) { x = slice_set (slice_set (slice_set (replicate 32 0) 6 x6) 7 x7) 5 x5; pc = 0x80000004 }) Retired
 
+-- the hart in its trap handler, by cause and value
+abbrev pub in_handler : ℕ → ℕ → ℕ → ℕ → Core
+in_handler x6 x7 cause value = record (hart_with x6 x7) { pc = 0x80000100; mepc = 0x80000000; mcause = cause; mtval = value; mstatus = 0x1880 }
+
 -- the word traps, by cause and value
 abbrev pub Traps : ℕ → ℕ → ℕ → ℕ → ℕ → Type 0
-Traps word x6 x7 cause value = StepsTo word (hart_with x6 x7)
-    (record (hart_with x6 x7) { pc = 0x80000100; mepc = 0x80000000; mcause = cause; mtval = value; mstatus = 0x1880 }) (Trapped cause)
+Traps word x6 x7 cause value = StepsTo word (hart_with x6 x7) (in_handler x6 x7 cause value) (Trapped cause)
+
+-- it traps at an address that it makes of x6 and x7, where memory has no byte there
+abbrev pub TrapsOutside : ℕ → ℕ → ℕ → ℕ → ℕ → Type 0
+TrapsOutside word x6 x7 cause address = (m : Memory) → loaded m 0x80000000 B4 ≡ Ok word → get m.bytes address ≡ None
+    → exec_of (hart_with x6 x7) m ≡ record { step = record { core = in_handler x6 x7 cause address; did = Trapped cause }; memory = m }
 
 pub record Divisions : Type 0 where
   pub by_zero : Gives 0x027342b3 7 0 0xffffffffffffffff  -- div x5, x6, x7
@@ -83,14 +92,13 @@ pub record TrapExamples : Type 0 where
   pub jump_by_two : Traps 0x0020006f 0 0 0 0x80000002  -- jal x0, 2
   pub misaligned_load : Traps 0x00132283 0x10 0 4 0x11  -- lw x5, 1(x6): not the trap of an address without memory
   pub misaligned_store : Traps 0x007020a3 0 0 6 1  -- sw x7, 1(x0)
+  pub load_outside : TrapsOutside 0x00032283 0x1000 0 5 0x1000  -- lw x5, 0(x6)
+  pub store_outside : TrapsOutside 0x00732023 0x1000 7 7 0x1000  -- sw x7, 0(x6)
   pub write_of_mhartid : Traps 0xf1401073 0 0 2 0  -- csrrw x0, mhartid, x0
   pub no_such_register : Traps 0x7b0022f3 0 0 2 0  -- csrrs x5, dcsr, x0
   pub read_of_mhartid : Gives 0xf14022f3 0 0 0  -- csrrs x5, mhartid, x0: no write, so no trap
   pub nothing_at_pc : (m : Memory) → loaded m 0x80000000 B4 ≡ Err Outside
-      → exec_of (hart_with 0 0) m ≡ record {
-        step = record { core = record (hart_with 0 0) { pc = 0x80000100; mepc = 0x80000000; mcause = 1; mtval = 0x80000000; mstatus = 0x1880 }; did = Trapped 1 };
-        memory = m;
-      }
+      → exec_of (hart_with 0 0) m ≡ record { step = record { core = in_handler 0 0 1 0x80000000; did = Trapped 1 }; memory = m }
 
 -- ---- reservations: sc.d x5, x7, (x6)
 

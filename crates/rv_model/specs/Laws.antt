@@ -9,7 +9,8 @@ use Rattle.rv_model.specs.Memory.{Memory, loaded, store_answer, after_store}
 use Rattle.rv_model.specs.Core.{Core, IsCore}
 use Rattle.rv_model.specs.Effects.{Outcome}
 use Rattle.rv_model.specs.Execute.{exec_of}
-use Rattle.rv_model.specs.Board.{Machine, Board, execute, execute_on, machine_of}
+use Rattle.rv_model.specs.Traps.{trap_entered}
+use Rattle.rv_model.specs.Board.{Machine, execute}
 
 -- ---- the instruction table
 
@@ -44,13 +45,20 @@ pub record KeepsCore (c after : Core) : Type 0 where
   pub x0 : slice_index after.x 0 ≡ slice_index c.x 0
   pub is_core : IsCore c → IsCore after
 
+-- a trap by this cause, and nothing else: the core is the trap's for some value of mtval, and memory is as it was
+pub record IsTrap (cause : ℕ) (c : Core) (m : Memory) (o : Outcome) : Type 0 where
+  pub value : ℕ
+  pub core : o.step.core ≡ trap_entered cause value c
+  pub memory : o.memory ≡ m
+
 -- what every instruction leaves of its own core and of memory
 pub record Keeps (c : Core) (m : Memory) (o : Outcome) : Type 0 where
   pub core : KeepsCore c o.step.core
   pub others : (j : ℕ) → (j ≡ c.id → ⊥) → KeptOrCleared (slice_get m.reserved j) (slice_get o.memory.reserved j)
-  pub trapped : (cause : ℕ) → o.step.did ≡ Trapped cause → o.memory ≡ m
+  pub places : length o.memory.reserved ≡ length m.reserved
+  pub trapped : (cause : ℕ) → o.step.did ≡ Trapped cause → IsTrap cause c m o
 
--- x0 never changes, pc stays a multiple of 4, other harts' reservations are kept or cleared, and an instruction that traps changes no memory
+-- x0 never changes, pc stays a multiple of 4, other harts' reservations are kept or cleared, and an instruction that traps does what a trap does alone
 abbrev pub ExecutionKeeps : Type 0
 ExecutionKeeps = (c : Core) (m : Memory) → Keeps c m (exec_of c m)
 
@@ -63,7 +71,3 @@ pub record LeavesOthers (h : ℕ) (b after : Machine) : Type 0 where
 
 abbrev pub ExecutionLeavesOthers : Type 0
 ExecutionLeavesOthers = (h : ℕ) (b : Machine) → LeavesOthers h b (execute h b)
-
--- debug parts are no part of execution: it may be done before or after they are forgotten
-abbrev pub ExecutionForgetsDebugging : Type 0
-ExecutionForgetsDebugging = (h : ℕ) (b : Board) → machine_of (execute_on h b) ≡ execute h (machine_of b)

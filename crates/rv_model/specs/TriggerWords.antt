@@ -2,7 +2,7 @@
 -- RISC-V Debug Specification 1.0, "Sdtrig (ISA Extension)": "Trigger Select", "Trigger Data 1", "Trigger Data 2", "Trigger Info", "Match Control Type 6"
 -- and "Instruction Count". Which fields are writable, that every trigger enters Debug Mode and is written in Debug Mode alone (action 1, dmode 1),
 -- and the value of tinfo are this project's own choice.
-use Rattle.std.specs.Prelude.{ℕ, ◌+◌, ◌*◌, ◌%◌, ◌^◌, ◌<◌, ⊤, if◌then◌else◌, ◌==◌, List, Option, Some, None, slice_index_or, slice_set}
+use Rattle.std.specs.Prelude.{ℕ, ◌+◌, ◌*◌, ◌%◌, ◌^◌, if◌then◌else◌, ◌==◌, List, Option, Some, None, slice_index_or, slice_set}
 use Rattle.rv_model.specs.declared.slot.Comparison.{Comparison}
 use Rattle.rv_model.specs.declared.slot.Comparison.TheVariants.{Equal, AtLeast, Below}
 use Rattle.rv_model.specs.declared.slot.Mcontrol6.{Mcontrol6}
@@ -12,6 +12,7 @@ use Rattle.rv_model.specs.declared.slot.Trigger.TheVariants as kind
 use Rattle.rv_model.specs.declared.slot.Slot.{Slot}
 use Rattle.rv_model.specs.Board.{DebugPart, free_slot, slot_count}
 use Rattle.rv_model.specs.Fields.{field, bit, bit_value}
+pub use Rattle.rv_model.specs.Triggers.{count_limit, CountFits}
 
 -- ---- the field match of mcontrol6
 
@@ -45,15 +46,6 @@ mcontrol6_word t =
 
 abbrev pub icount_word : Icount → ℕ
 icount_word t = icount_fixed + bit_value 24 t.hit + t.count * 2 ^ 10 + bit_value 9 t.m + bit_value 8 t.pending
-
--- the field count has 14 bits
-abbrev pub count_limit : ℕ
-count_limit = 2 ^ 14
-
-abbrev pub CountFits : Trigger → Type 0
-CountFits (kind.Mcontrol6 t) = ⊤
-CountFits (kind.Icount t) = t.count < count_limit
-CountFits kind.Disabled = ⊤
 
 -- what tdata1 reads
 unfoldable pub tdata1_of : Trigger → ℕ

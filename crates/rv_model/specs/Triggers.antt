@@ -1,6 +1,6 @@
 -- Which of a hart's trigger slots fire at the instruction at its pc, and what firing and executing change in them.
 -- RISC-V Debug Specification 1.0, "Sdtrig (ISA Extension)": Match Control Type 6 and Instruction Count.
-use Rattle.std.specs.Prelude.{ℕ, zero, suc, ◌+◌, ◌-◌, ◌%◌, ◌^◌, Bool, true, false, ◌&&◌, ◌||◌, ◌==◌, nat_le, nat_lt, List, [], ◌∷◌, map, Option, Some, None, if◌then◌else◌}
+use Rattle.std.specs.Prelude.{◌≡◌, ℕ, zero, suc, ◌+◌, ◌-◌, ◌%◌, ◌^◌, ◌<◌, ⊤, Bool, true, false, ◌&&◌, ◌||◌, ◌==◌, nat_le, nat_lt, List, [], ◌∷◌, map, Option, Some, None, slice_get, if◌then◌else◌}
 use Rattle.std.specs.List.{list_any}
 use Rattle.rv_model.specs.declared.slot.Comparison.{Comparison}
 use Rattle.rv_model.specs.declared.slot.Comparison.TheVariants.{Equal, AtLeast, Below}
@@ -9,6 +9,21 @@ use Rattle.rv_model.specs.declared.slot.Trigger.{Trigger}
 use Rattle.rv_model.specs.declared.slot.Trigger.TheVariants as kind
 use Rattle.rv_model.specs.declared.slot.Slot.{Slot}
 use Rattle.rv_model.specs.declared.touch.Touch.{Touch}
+
+-- the field count of icount has 14 bits
+abbrev pub count_limit : ℕ
+count_limit = 2 ^ 14
+
+abbrev pub CountFits : Trigger → Type 0
+CountFits (kind.Mcontrol6 t) = ⊤
+CountFits (kind.Icount t) = t.count < count_limit
+CountFits kind.Disabled = ⊤
+
+-- every slot's count fits
+abbrev pub CountsFit : List Slot → Type 0
+CountsFit slots = (k : ℕ) (s : Slot) → slice_get slots k ≡ Some s → CountFits s.trigger
+
+-- ---- which slots fire
 
 -- the comparison of an address with tdata2, both unsigned
 abbrev pub compares : Comparison → ℕ → ℕ → Bool

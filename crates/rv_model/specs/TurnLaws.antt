@@ -1,7 +1,9 @@
--- Laws of a hart's turn: it leaves the other harts alone, and to a program it is one execution or nothing.
--- They are this project's own: the second is what lets a debugger be forgotten.
-use Rattle.std.specs.Prelude.{◌≡◌, ◌≢◌, ℕ, length, slice_get, if◌then◌else◌}
-use Rattle.rv_model.specs.Board.{Board, execute, machine_of}
+-- Laws of a hart's turn: it leaves the other harts alone, a board stays a board, and to a program it is one execution or nothing.
+-- They are this project's own: the last is what lets a debugger be forgotten.
+use Rattle.std.specs.Prelude.{◌≡◌, ◌≢◌, ℕ, ◌<◌, ◌≤◌, List, Option, length, slice_get, if◌then◌else◌}
+use Rattle.rv_model.specs.declared.cause.Cause.{Cause}
+use Rattle.rv_model.specs.Board.{Board, IsBoard, execute, machine_of, reset_board}
+use Rattle.rv_model.specs.Memory.{Memory, hart_places}
 use Rattle.rv_model.specs.Turn.{executes_at, turn}
 
 -- registers and debug parts of every other hart stay as they are, and no hart comes or goes
@@ -11,6 +13,14 @@ pub record LeavesHarts (h : ℕ) (old new : Board) : Type 0 where
 
 abbrev pub TurnLeavesOthers : Type 0
 TurnLeavesOthers = (h : ℕ) (b : Board) → LeavesHarts h b (turn h b)
+
+-- what reset leaves is a board, of one to four harts
+abbrev pub ResetBoardsAreBoards : Type 0
+ResetBoardsAreBoards = (halted : List (Option Cause)) (m : Memory) → 0 < length halted → length halted ≤ hart_places → length m.reserved ≡ hart_places → IsBoard (reset_board halted m)
+
+-- and a turn leaves a board
+abbrev pub TurnKeepsBoard : Type 0
+TurnKeepsBoard = (h : ℕ) (b : Board) → IsBoard b → IsBoard (turn h b)
 
 -- forgetting the debug parts, an executed turn is one execution, and any other nothing
 abbrev pub TurnForgetsDebugging : Type 0

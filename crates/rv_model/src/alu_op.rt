@@ -2,7 +2,7 @@
 ///
 /// `a` is the first source, or what lies in memory; `b` is the second source or the immediate.
 /// A 32-bit operation reads the low halves of both, and its result is sign extended.
-#[derive(Clone, Copy)]
+#[derive(Clone, Copy, Debug, PartialEq, Eq)]
 pub enum AluOp {
     // RV64I, integer register-immediate instructions: b is the immediate.
     /// a + b.

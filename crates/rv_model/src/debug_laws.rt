@@ -3,6 +3,7 @@
 ghost use Rattle.rv_model.specs.DebugLaws.{
   DebugNeedsCsr,
   DebugRegisterExamples,
+  DebugRegisterNumbers,
   ExceptionsChangeNothing,
   MemoryNeedsAccess,
   ProgramBufferExamples,
@@ -10,6 +11,11 @@ ghost use Rattle.rv_model.specs.DebugLaws.{
   WritesKeep,
   WritesReadBack,
 };
+
+/// The numbers by which the code calls the debug and trigger registers, and what it has `tinfo` read.
+pub fn debug_register_numbers()
+    ensures { DebugRegisterNumbers }
+{}
 
 /// Registers of a hart that reset has halted, by number, and writes that change nothing.
 pub fn debug_register_examples()

@@ -1,5 +1,6 @@
 //! Worked examples of the definitions, as contracts; `specs/Examples.antt` has the words, the programs and the results.
 
+ghost use Rattle.rv_model.specs.AluCorners.{AluCorners};
 ghost use Rattle.rv_model.specs.Examples.{
   CounterCounts,
   Divisions,
@@ -23,6 +24,11 @@ pub fn counter_counts()
 /// A debugger's writes of pc and x0.
 pub fn writes_keep_their_bits()
     ensures { WritesKeepTheirBits }
+{}
+
+/// Each class of operations at corner values.
+pub fn alu_corners()
+    ensures { AluCorners }
 {}
 
 /// Divisions by zero, and the overflowing one.

@@ -1,7 +1,6 @@
 //! Laws of the definitions. Each is the contract of a function that does nothing; `specs/Laws.antt` has the statements.
 
 ghost use Rattle.rv_model.specs.Laws.{
-  ExecutionForgetsDebugging,
   ExecutionKeeps,
   ExecutionLeavesOthers,
   RefusedStoresKeepMemory,
@@ -19,7 +18,7 @@ pub fn refused_stores_keep_memory()
 {}
 
 /// Whatever an instruction is: x0 never changes, pc stays a multiple of 4, another hart's reservation is kept or cleared,
-/// and an instruction that traps changes no memory.
+/// and an instruction that traps changes no memory, and of its core what a trap sets alone.
 pub fn execution_keeps()
     ensures { ExecutionKeeps }
 {}
@@ -27,9 +26,4 @@ pub fn execution_keeps()
 /// Execution by one hart leaves every other hart's core alone.
 pub fn execution_leaves_others()
     ensures { ExecutionLeavesOthers }
-{}
-
-/// Debug parts are no part of execution.
-pub fn execution_forgets_debugging()
-    ensures { ExecutionForgetsDebugging }
 {}

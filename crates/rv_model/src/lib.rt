@@ -1,4 +1,7 @@
-//! The harts' definitions: what a program sees, and what an instruction does.
+//! The harts' definitions: what a program sees, what an instruction does, and what a debugger reaches beside it.
+//!
+//! The definitions stand in `specs`; here are the types that they speak of, with the words of `dcsr` and `tdata1`.
+//! Laws and worked examples of the definitions are the contracts of functions that do nothing.
 #![tactic(auto)]
 
 mod alu_op;
@@ -14,8 +17,7 @@ mod insn;
 mod laws;
 mod mem_fault;
 mod operands;
-mod scan;
-mod scan_fields;
+pub mod register_number;
 mod size;
 mod slot;
 mod slot_set;
@@ -23,16 +25,14 @@ mod touch;
 mod trigger_word;
 mod turn_laws;
 mod turned;
-#[cfg(test)]
-mod vectors;
 
 pub use alu_op::AluOp;
 pub use cause::Cause;
 pub use dcsr::Dcsr;
 pub use debug_did::DebugDid;
 pub use debug_laws::{
-    debug_needs_csr, debug_register_examples, exceptions_change_nothing, memory_needs_access,
-    program_buffer_examples, words_keep, writes_keep, writes_read_back,
+    debug_needs_csr, debug_register_examples, debug_register_numbers, exceptions_change_nothing,
+    memory_needs_access, program_buffer_examples, words_keep, writes_keep, writes_read_back,
 };
 pub use debug_word_laws::{
     dcsr_examples, dcsr_read_back, trigger_read_back, trigger_registers, triggers_decoded,
@@ -40,22 +40,23 @@ pub use debug_word_laws::{
 };
 pub use did::Did;
 pub use examples::{
-    counter_counts, divisions, reserved_words_mean_nothing, sc_fails_after_store,
+    alu_corners, counter_counts, divisions, reserved_words_mean_nothing, sc_fails_after_store,
     sc_succeeds_after_lr, trap_examples, writes_keep_their_bits,
 };
 pub use insn::Insn;
 pub use laws::{
-    execution_forgets_debugging, execution_keeps, execution_leaves_others,
-    refused_stores_keep_memory, rows_are_apart,
+    execution_keeps, execution_leaves_others, refused_stores_keep_memory, rows_are_apart,
 };
 pub use mem_fault::MemFault;
 pub use operands::{
     BType, CsrImmType, CsrType, IType, JType, LoadReservedType, RType, SType, ShiftType, UType,
 };
-pub use scan::scan_rows;
 pub use size::Size;
 pub use slot::{Comparison, Icount, Mcontrol6, Slot, Trigger};
 pub use slot_set::SlotSet;
 pub use touch::Touch;
-pub use turn_laws::{turn_forgets_debugging, turn_leaves_others};
+pub use trigger_word::TINFO_VALUE;
+pub use turn_laws::{
+    reset_boards_are_boards, turn_forgets_debugging, turn_keeps_board, turn_leaves_others,
+};
 pub use turned::Turned;

@@ -49,6 +49,9 @@ mod icount_bits {
     pub const FIXED: u64 = 0x3800_0000_0000_0001;
 }
 
+/// What `tinfo` reads: version 1, and the types 3, 6 and 15.
+pub const TINFO_VALUE: u64 = 0x0100_8048;
+
 /// Type 15 and `dmode` 1.
 const DISABLED: u64 = 0xf800_0000_0000_0000;
 

@@ -1,4 +1,4 @@
-use Rattle.rv_model.proofs.DebugLemmas as lemmas
+use Rattle.rv_model.proofs.DebugRegisterLemmas as lemmas
 use Rattle.rv_model.proofs.debug_laws.writes_keep.Goals as goal
 
 pub returns : goal.returns
