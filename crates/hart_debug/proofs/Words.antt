@@ -21,11 +21,11 @@ executed_sort false insn h m = refl
 
 pub trapped_keeps : (insn : Insn) (c : Core) (m : Memory) (cause : ℕ) → (effect_of insn c m).step.did ≡ Trapped cause → (effect_of insn c m).memory ≡ m
 unfolding effect_of
-trapped_keeps insn c m cause e = (effect_keeps insn c m).trapped cause e
+trapped_keeps insn c m cause e = ((effect_keeps insn c m).trapped cause e).memory
 
 pub word_keeps : (w : ℕ) (h : Hart) (m : Memory) (insn : Insn) (after : Hart) (left : Memory) (ran : RanWord) →
     Some insn ≡ meaning w → ran_to after left ran ≡ ran_insn insn h m → WriteKeeps h after
 unfolding ran_word
 word_keeps w h m insn after left ran is e =
     let same : (ran_word w h m).hart ≡ after = ap (λ o. (ran_meant o h m).hart) (sym is) ∙ ap (λ (d : Debugged). d.hart) (sym e) in
-    subst (λ (x : Hart). WriteKeeps h x) same (words_keep w h m)
+    subst (λ (x : Hart). WriteKeeps h x) same (words_keep w h m).hart

@@ -1,4 +1,4 @@
-//! One hart with its debug part: its turns, and what a debugger asks of it.
+//! One hart with its debug part: its turns, what a debugger asks of it, and its registers and program buffer in Debug Mode.
 //!
 //! For those above, a `DebugHart` is the hart of the model. Each call here changes it exactly as the model says.
 #![tactic(auto)]

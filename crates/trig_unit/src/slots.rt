@@ -119,6 +119,7 @@ impl Slots {
     }
 
     /// Lets each count fall that is on.
+    #[inline(never)]
     fn count_down(&mut self)
         ensures { self.new ≡ record self.old { slots = counted_down self.old.slots } }
     {

@@ -11,17 +11,13 @@ ghost use Rattle.hart_debug.specs.RegisterAnswers.{write_answer};
 use super::DebugHart;
 use rv_hart::{CsrFault, Hart};
 use rv_model::Dcsr;
+use rv_model::register_number::{DCSR, DPC};
 
 /// The number of x0; those of x1 to x31 follow.
 const FIRST_X: u16 = 0x1000;
 
 /// The number behind that of x31.
 const END_OF_X: u16 = 0x1020;
-
-const DCSR: u16 = 0x7b0;
-
-/// pc, as a halted hart shows it.
-const DPC: u16 = 0x7b1;
 
 /// A register of the core, or `None` where it has none of this number.
 fn read_core(hart: &Hart, regno: u16) -> Option<u64>

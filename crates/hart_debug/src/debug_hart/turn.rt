@@ -77,6 +77,7 @@ impl DebugHart {
     }
 
     /// The slots that fire take their hit. Are there any?
+    #[inline(never)]
     fn mark_fired(&mut self, ram: &Ram) -> bool
         ensures answer { result ≡ some_fires (touch_of self.old.core ram.now) self.old }
         ensures hart { self.new ≡ stopped_at_trigger (touch_of self.old.core ram.now) self.old }

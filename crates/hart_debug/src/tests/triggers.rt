@@ -86,7 +86,7 @@ fn a_trigger_stops_before_the_instruction(rt: HostRuntime) {
         if stops {
             assert_eq!(rt; hart.turn(&mut ram), Turned::Halted(Cause::Trigger));
             assert_eq!(rt; hart.hart().pc(), FIRST);
-            assert_eq!(rt; read(&hart, TDATA1), Some(tdata1 + HIT));
+            assert_eq!(rt; read(&hart, TDATA1), Some(tdata1 | HIT));
             assert_eq!(rt; read(&hart, 0x7b0), Some(0x4000_0083));
         } else {
             assert_eq!(rt; hart.turn(&mut ram), Turned::Ran(Did::Retired));
@@ -128,6 +128,6 @@ fn a_trigger_comes_behind_a_halt_request_and_before_ebreak(rt: HostRuntime) {
         hart.halt_request(halt_request);
         assert_eq!(rt; hart.turn(&mut ram), Turned::Halted(cause));
         let hit = if halt_request { 0 } else { HIT };
-        assert_eq!(rt; read(&hart, TDATA1), Some(BREAK + hit));
+        assert_eq!(rt; read(&hart, TDATA1), Some(BREAK | hit));
     }
 }

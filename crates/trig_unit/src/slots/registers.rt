@@ -7,21 +7,11 @@ ghost use Rattle.rv_model.specs.TriggerWords.{CountFits, with_selected, trigger_
 ghost use Rattle.trig_unit.specs.Parts.{CountsFit};
 
 use super::{SLOTS, Slots, any_armed};
-use rv_model::{Slot, Trigger};
-
-const TSELECT: u16 = 0x7a0;
-
-const TDATA1: u16 = 0x7a1;
-
-const TDATA2: u16 = 0x7a2;
-
-const TINFO: u16 = 0x7a4;
+use rv_model::register_number::{TDATA1, TDATA2, TINFO, TSELECT};
+use rv_model::{Slot, TINFO_VALUE, Trigger};
 
 /// The bits that `tselect` keeps: the number of a slot.
 const TSELECT_BITS: u64 = 3;
-
-/// What `tinfo` reads: version 1, and the types 3, 6 and 15.
-const TINFO_VALUE: u64 = 0x0100_8048;
 
 /// The slot of that place.
 fn slot_at(slots: &[Slot; SLOTS as usize], place: u8) -> Slot
