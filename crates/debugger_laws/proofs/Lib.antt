@@ -17,3 +17,4 @@ pub mod QuietLemmas
 pub mod StandsLemmas
 pub mod DealsLemmas
 pub mod OrderLemmas
+pub mod ToldLemmas
