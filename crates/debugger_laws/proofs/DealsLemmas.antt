@@ -22,7 +22,7 @@ use Rattle.rv_model.specs.declared.slot.Slot.{Slot}
 use Rattle.debugger_laws.specs.Trace.{What}
 use Rattle.debugger_laws.proofs.SlotLemmas.{CanArm}
 use Rattle.debugger_laws.proofs.StoryLemmas.{same_number}
-use Rattle.debugger_laws.proofs.StandsLemmas.{IsTaken, at_plan, looked, put, seen, seen_hart, shown, spin, starts, taken, taken_with, went_on, wrote}
+use Rattle.debugger_laws.proofs.StandsLemmas.{IsTaken, at_plan, looked, put, seen_hart, shown, spin, starts, taken, taken_with, went_on, wrote}
 use Rattle.debugger_laws.proofs.WorldLemmas.{HasSlot, known-arm, known-asked, known-ebreak, known-free, known-going, known-gone, known-halt_clear, known-halt_req, known-over, known-ready, known-rests, known-said, known-start, known-step_done, known-step_over, known-stepped, known-still, known-turn, known-unspent, known-write_mem, known-write_reg, known_idle}
 
 -- ---- turns

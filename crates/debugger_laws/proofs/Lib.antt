@@ -18,3 +18,4 @@ pub mod StandsLemmas
 pub mod DealsLemmas
 pub mod OrderLemmas
 pub mod ToldLemmas
+pub mod RunLemmas

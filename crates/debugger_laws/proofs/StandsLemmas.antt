@@ -1,6 +1,6 @@
 -- The steps of a session: how each call on the link moves the place where the replay stands.
 -- What builds a place is an abbreviation, so that the world in it is seen through.
-use Rattle.std.proofs.Common.{◌≡◌, ◌∙◌, ℕ, zero, suc, List, [], ◌∷◌, ◌++◌, Bool, true, false, Option, Some, slice_get, refl, sym, ap, subst, append_assoc, append-nil, if◌then◌else◌}
+use Rattle.std.proofs.Common.{◌≡◌, ◌∙◌, ℕ, zero, suc, List, [], ◌∷◌, ◌++◌, Bool, true, false, Option, slice_get, refl, sym, ap, subst, append_assoc, append-nil, if◌then◌else◌}
 use Rattle.std.specs.Prelude.{◌≢◌}
 use Rattle.std.proofs.lemmas.Bool.{eq-eqb, false≢true}
 use Rattle.rv_model.specs.Board.{Board, Hart, machine_of}
@@ -261,7 +261,7 @@ rewrote_then f g h first second third frozen keeps a b = record {
   harts = a.harts ++ b.harts;
   board = b.board
       ∙ ap (hart_over g h) (ap (after_turns b.harts) a.board ∙ may_wait f h (after_turns a.harts first.board) b.harts (still_frozen h first.board a.harts frozen) keeps
-          ∙ ap (hart_over f h) (sym (after_turns-append a.harts b.harts first.board)))
+      ∙ ap (hart_over f h) (sym (after_turns-append a.harts b.harts first.board)))
       ∙ over_both f g h (after_turns (a.harts ++ b.harts) first.board);
   journal = b.journal ∙ ap (λ (j : List Point). j ++ turns b.harts) a.journal ∙ append_assoc first.journal (turns a.harts) (turns b.harts)
       ∙ ap (λ (j : List Point). first.journal ++ j) (sym (turns-append a.harts b.harts));
@@ -269,9 +269,11 @@ rewrote_then f g h first second third frozen keeps a b = record {
   where
     still_frozen : (h : ℕ) (b : Board) (harts : List ℕ) → IsFrozenAt h b → IsFrozenAt h (after_turns harts b)
     still_frozen h b harts frozen x is = frozen x (sym (stays_same h b harts frozen) ∙ is)
+
     over_twice : (f g : Hart → Hart) (h : ℕ) (hs : List Hart) → over h g (over h f hs) ≡ over h (λ x. g (f x)) hs
     over_twice f g h [] = refl
     over_twice f g zero (x ∷ xs) = refl
     over_twice f g (suc h) (x ∷ xs) = ap (λ (l : List Hart). x ∷ l) (over_twice f g h xs)
+
     over_both : (f g : Hart → Hart) (h : ℕ) (b : Board) → hart_over g h (hart_over f h b) ≡ hart_over (λ x. g (f x)) h b
     over_both f g h b = ap (λ (hs : List Hart). let c : Board = record { harts = hs; memory = b.memory } in c) (over_twice f g h b.harts)

@@ -1,5 +1,5 @@
 -- Sessions over an object that tells of its chip: one step, the Looks of a wait, and the steps of `step`.
-use Rattle.std.proofs.Common.{◌≡◌, ◌∙◌, ◌+◌, ◌-◌, ◌<◌, ℕ, zero, suc, Bool, true, false, List, Option, Some, None, refl, sym, ap, subst, arith}
+use Rattle.std.proofs.Common.{◌≡◌, ◌+◌, ◌-◌, ◌<◌, ℕ, zero, suc, Bool, true, false, List, Option, Some, None, refl, ap, subst, arith}
 use Rattle.std.proofs.lemmas.Option.{none-some, same_Some}
 use Rattle.rv_model.specs.Board.{Machine}
 use Rattle.debugger_laws.specs.Debugger.{Seen, one, seen_at, stepping, unseen, until}
@@ -38,9 +38,11 @@ pub since_again : (m : Machine) (sel : ℕ) (way : Way) (o : Origin) (limit : �
     → test now ≡ false → Since m sel way o limit test failed found lines tries old → Reaches (Looked sel now) old new → Since m sel way o limit test failed found lines (tries + 1) new
 since_again m sel way o limit test failed found lines tries now old new not_yet since r n is =
     let e : tries + suc n ≡ limit = omega arith in
-    let last : Seen = (since (suc n) e).0 in
-    (now, at_step (Looked sel now) m sel way way o (until (suc n) sel test failed found last) (until n sel test failed found now) lines lines old new
-    (λ t u d l. deals_again m sel way o n test failed found last now lines t u not_yet d l) (since (suc n) e).1 r)
+    let last : Seen = (since (suc n) e).0 in (
+      now,
+      at_step (Looked sel now) m sel way way o (until (suc n) sel test failed found last) (until n sel test failed found now) lines lines old new
+          (λ t u d l. deals_again m sel way o n test failed found last now lines t u not_yet d l) (since (suc n) e).1 r,
+    )
 
 pub since_found : (m : Machine) (sel : ℕ) (way way' : Way) (o : Origin) (limit : ℕ) (test : Seen → Bool) (failed : Seen → Plan) (found : Plan) (lines : List Line) (tries : ℕ) (now : Seen) (old new : Option Target)
     → tries < limit → test now ≡ true → ((w : World) → test (seen_at sel w.board) ≡ true → IsKnown m sel way w → IsKnown m sel way' w)
