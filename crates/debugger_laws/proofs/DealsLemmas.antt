@@ -6,7 +6,7 @@ use Rattle.debug_model.specs.declared.point.Point.{Point}
 use Rattle.debug_model.specs.declared.point.Point.TheVariants.{Turn, Look, HaltReq, HaltClear, ResumeReq, Access}
 use Rattle.debugger_laws.specs.Debugger.{Seen, halted_of, look, seen_at, sees_ack, sees_both, sees_halted, until}
 use Rattle.debugger_laws.specs.Known.{IsFresh, IsKnown}
-use Rattle.debugger_laws.specs.Laws.{IsChangeOf, IsFrozen}
+use Rattle.debugger_laws.specs.Laws.{IsChangeOf, IsFrozen, IsFrozenAt}
 use Rattle.debugger_laws.specs.Lines.{Line}
 use Rattle.debugger_laws.specs.Plan.{Change, Plan, is_step}
 use Rattle.debugger_laws.specs.Plan.Change.{ArmSlot, EbreakHalts, FreeSlot, StepDone, StepOver, WriteMem, WriteReg}
@@ -16,7 +16,7 @@ use Rattle.debugger_laws.specs.Stands.{Deals, Looked, Origin, Pointed, PointedWi
 use Rattle.debugger_laws.specs.Transcript.{World, changed, passed, start}
 use Rattle.debugger_laws.specs.Ways.{Fits, Way}
 use Rattle.debugger_laws.specs.Ways.Way.{Idle, Still, Ready, Going, Holding, Asked, Over}
-use Rattle.debugger_laws.proofs.FrozenLemmas.{IsFrozenAt, hart_change}
+use Rattle.debugger_laws.proofs.FrozenLemmas.{hart_change}
 use Rattle.std.specs.Prelude.{◌==◌}
 use Rattle.rv_model.specs.declared.slot.Slot.{Slot}
 use Rattle.debugger_laws.specs.Trace.{What}

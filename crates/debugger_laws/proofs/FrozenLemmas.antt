@@ -11,7 +11,7 @@ use Rattle.rv_model.specs.Turn.{executes, executes_by, memory_after, place_of, s
 use Rattle.rv_model.specs.Touch.{touch_of}
 use Rattle.rv_model.specs.Execute.{exec_of}
 use Rattle.rv_model.proofs.MapLemmas.{slice_get-set_other}
-use Rattle.debugger_laws.specs.Laws.{ChangesMayWait, FrozenMayWait, FrozenStays, IsChangeOf, IsFrozen}
+use Rattle.debugger_laws.specs.Laws.{ChangesMayWait, FrozenMayWait, FrozenStays, IsChangeOf, IsFrozen, IsFrozenAt}
 use Rattle.debugger_laws.specs.Plan.{Change, changed_board, ebreak_halts, hart_over, register_set, slot_changed, slot_freed, step_begun, step_ended, with_debug_part}
 use Rattle.debugger_laws.specs.Plan.Change.{WriteReg, WriteMem, ArmSlot, FreeSlot, StepOver, StepDone, EbreakHalts}
 use Rattle.debugger_laws.specs.Slots.{hits_forgotten, over, with_slots}
@@ -95,9 +95,6 @@ frozen_may_wait f h hart b (g ∷ harts) is frozen after =
     ∙ frozen_may_wait f h hart (turn g b) harts (stays_at h hart b g is frozen) frozen after
 
 -- ---- a hart that is frozen where it is there at all
-
-abbrev pub IsFrozenAt : ℕ → Board → Type 0
-IsFrozenAt h b = (x : Hart) → slice_get b.harts h ≡ Some x → IsFrozen x.debug
 
 set_absent : (hs : List Hart) (g h : ℕ) (v : Hart) → slice_get hs h ≡ None → slice_get (slice_set hs g v) h ≡ None
 set_absent [] g h v is = refl

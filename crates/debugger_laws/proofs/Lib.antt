@@ -19,3 +19,4 @@ pub mod DealsLemmas
 pub mod OrderLemmas
 pub mod ToldLemmas
 pub mod RunLemmas
+pub mod CutLemmas

@@ -10,7 +10,7 @@ use Rattle.debug_model.specs.Journal.{after_point}
 use Rattle.debug_model.specs.declared.point.Point.{Point}
 use Rattle.debug_model.specs.declared.point.Point.TheVariants.{Turn, Look, HaltReq, HaltClear, ResumeReq, Access}
 use Rattle.debugger_laws.specs.Debugger.{Seen, look, seen_at}
-use Rattle.debugger_laws.specs.Laws.{IsChangeOf, IsFront, IsFrozen, Quiet}
+use Rattle.debugger_laws.specs.Laws.{IsChangeOf, IsFront, IsFrozen, IsFrozenAt, Quiet, WritesOnly, IsWritten}
 use Rattle.debugger_laws.specs.Lines.{Line}
 use Rattle.debugger_laws.specs.Own.{own}
 use Rattle.debugger_laws.specs.Plan.{Change, Plan, PlanEnd, changed_board, hart_over}
@@ -19,8 +19,9 @@ use Rattle.debugger_laws.specs.Slots.{over}
 use Rattle.debugger_laws.specs.Stands.{IsTranscribed, Looked, Origin, Pointed, PointedWith, Rewrote, Stands, Target, WentOn}
 use Rattle.debugger_laws.specs.Transcript.{End, Outcome, World, changed, finish, graded, passed, replay, said, same_point, start, taking, trace}
 use Rattle.debugger_laws.specs.Turns.{after_turns, turns}
+use Rattle.debugger_laws.proofs.CutLemmas.{cut_boards}
 use Rattle.debugger_laws.proofs.FrontLemmas.{lines_grow, turns_keep_on}
-use Rattle.debugger_laws.proofs.FrozenLemmas.{IsFrozenAt, changed_hart, hart_change, hart_change-frozen, may_wait, stays_same}
+use Rattle.debugger_laws.proofs.FrozenLemmas.{changed_hart, hart_change, hart_change-frozen, may_wait, stays_same}
 use Rattle.debugger_laws.proofs.QuietLemmas.{quiet_boards}
 use Rattle.debugger_laws.proofs.Transparency.{transparent}
 
@@ -244,9 +245,16 @@ said_front o p lines t s =
 pub not_astray : (o : Origin) (p : Plan) (lines : List Line) (t : Target) → Stands o p lines t → (replay o.plan o.world t.journal).end ≢ End.Astray
 not_astray o p lines t s is = turns_keep_on p s.world s.rest (sym (ap (λ (x : Outcome). x.end) (nothing_more o p lines t s)) ∙ is)
 
--- where only lines were left to be said, the board is the transcript's
+-- where nothing was left to be changed, the board is the transcript's
 pub quiet_board : (o : Origin) (p : Plan) (lines : List Line) (t : Target) → Quiet p → Stands o p lines t → (replay o.plan o.world t.journal).world.board ≡ t.board
 quiet_board o p lines t quiet s = ap (λ (x : Outcome). x.world.board) (nothing_more o p lines t s) ∙ quiet_boards p s.world s.rest quiet ∙ sym s.board
+
+-- where a command was cut that changes one halted hart, the transcript's board is the chip's but for that hart's debug part, and for the register that it writes
+pub cut_board : (o : Origin) (p : Plan) (lines : List Line) (t : Target) (h : ℕ) (n : Option ℕ) (s : Stands o p lines t) → WritesOnly h n p → IsFrozenAt h s.world.board
+    → (f : Hart → Hart) × ((x : Hart) → IsWritten n x.core (f x).core) × ((replay o.plan o.world t.journal).world.board ≡ hart_over f h t.board)
+cut_board o p lines t h n s only frozen =
+    let (f, written, is) = cut_boards p s.world h n s.rest only frozen in
+    (f, written, ap (λ (x : Outcome). x.world.board) (nothing_more o p lines t s) ∙ is ∙ ap (hart_over f h) (sym s.board))
 
 -- the chip's own machine is the undebugged one, where the board is the transcript's
 pub undebugged_target : (plan : Plan) (board : Board) (t : Target) → (replay plan (start board) t.journal).world.board ≡ t.board
