@@ -1,18 +1,15 @@
 -- The board of a replay where no point follows, while its plan changes one frozen hart.
-use Rattle.std.proofs.Common.{◌≡◌, ◌∙◌, ℕ, zero, suc, List, [], ◌∷◌, Bool, true, false, Option, Some, None, option_map, slice_get, refl, sym, ap, subst, inl, inr, if◌then◌else◌}
-use Rattle.std.specs.Prelude.{◌==◌}
+use Rattle.std.proofs.Common.{◌≡◌, ◌∙◌, ℕ, zero, suc, List, [], ◌∷◌, Option, Some, None, option_map, slice_get, refl, sym, ap, subst, inl, inr}
 use Rattle.std.proofs.lemmas.Option.{none-some, same_Some}
-use Rattle.rv_model.specs.Board.{Board, DebugPart, Hart}
+use Rattle.rv_model.specs.Board.{Board, Hart}
 use Rattle.rv_model.specs.Core.{Core}
 use Rattle.rv_model.specs.Registers.{reg_written}
-use Rattle.debug_model.specs.declared.point.Point.{Point}
-use Rattle.debug_model.specs.declared.point.Point.TheVariants.{Turn}
 use Rattle.debugger_laws.specs.Laws.{CutBoards, IsChangeOf, IsFrozen, IsFrozenAt, IsWritten, WritesOnly}
-use Rattle.debugger_laws.specs.Plan.{Change, Plan, PlanEnd, changed_board, ebreak_halts, hart_over, slot_changed, slot_freed, step_begun, step_ended, with_debug_part}
+use Rattle.debugger_laws.specs.Plan.{Change, Plan, changed_board, hart_over}
 use Rattle.debugger_laws.specs.Plan.Change.{WriteReg, WriteMem, ArmSlot, FreeSlot, StepOver, StepDone, EbreakHalts}
 use Rattle.debugger_laws.specs.Plan.Plan.{take, see, change, say, stop}
 use Rattle.debugger_laws.specs.Slots.{over}
-use Rattle.debugger_laws.specs.Transcript.{Outcome, World, changed, finish, passed, replay, said, taking}
+use Rattle.debugger_laws.specs.Transcript.{World, changed, replay, said}
 use Rattle.debugger_laws.specs.Turns.{after_turns, turns}
 use Rattle.debugger_laws.proofs.FrozenLemmas.{changed_hart, hart_change, hart_change-frozen, may_wait}
 use Rattle.debugger_laws.proofs.OverLemmas.{slice_get-over_same}
