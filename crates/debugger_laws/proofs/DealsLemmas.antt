@@ -1,26 +1,29 @@
 -- The steps of a session with what is known of the harts: each moves the way to the selected hart as the plan does.
-use Rattle.std.proofs.Common.{◌≡◌, ◌∙◌, ℕ, zero, suc, List, [], ◌∷◌, ◌++◌, Bool, true, false, Some, slice_get, refl, sym, ap, subst, if◌then◌else◌}
+use Rattle.std.proofs.Common.{◌≡◌, ◌∙◌, ℕ, zero, suc, List, [], ◌∷◌, ◌++◌, Bool, true, false, Option, Some, slice_get, refl, sym, ap, subst, if◌then◌else◌}
 use Rattle.std.proofs.lemmas.Bool.{false≢true}
 use Rattle.rv_model.specs.Board.{Board, DebugPart, Hart, Machine, machine_of}
 use Rattle.debug_model.specs.declared.point.Point.{Point}
 use Rattle.debug_model.specs.declared.point.Point.TheVariants.{Turn, Look, HaltReq, HaltClear, ResumeReq, Access}
 use Rattle.debugger_laws.specs.Debugger.{Seen, halted_of, look, seen_at, sees_ack, sees_both, sees_halted, until}
 use Rattle.debugger_laws.specs.Known.{IsFresh, IsKnown}
-use Rattle.debugger_laws.specs.Laws.{IsChangeOf, IsFrozen}
+use Rattle.debugger_laws.specs.Laws.{IsChangeOf, IsFrozen, IsFrozenAt}
 use Rattle.debugger_laws.specs.Lines.{Line}
 use Rattle.debugger_laws.specs.Plan.{Change, Plan, is_step}
-use Rattle.debugger_laws.specs.Plan.Change.{StepOver, StepDone, WriteMem}
+use Rattle.debugger_laws.specs.Plan.Change.{ArmSlot, EbreakHalts, FreeSlot, StepDone, StepOver, WriteMem, WriteReg}
 use Rattle.debugger_laws.specs.Plan.Plan.{take, see, change, say}
-use Rattle.debugger_laws.specs.Slots.{any_hit, slots_at}
+use Rattle.debugger_laws.specs.Slots.{any_hit, slots_at, slots_here}
 use Rattle.debugger_laws.specs.Stands.{Deals, Looked, Origin, Pointed, PointedWith, Rewrote, Stands, Target, WentOn}
 use Rattle.debugger_laws.specs.Transcript.{World, changed, passed, start}
 use Rattle.debugger_laws.specs.Ways.{Fits, Way}
 use Rattle.debugger_laws.specs.Ways.Way.{Idle, Still, Ready, Going, Holding, Asked, Over}
 use Rattle.debugger_laws.proofs.FrozenLemmas.{hart_change}
 use Rattle.std.specs.Prelude.{◌==◌}
+use Rattle.rv_model.specs.declared.slot.Slot.{Slot}
+use Rattle.debugger_laws.specs.Trace.{What}
+use Rattle.debugger_laws.proofs.SlotLemmas.{CanArm}
 use Rattle.debugger_laws.proofs.StoryLemmas.{same_number}
-use Rattle.debugger_laws.proofs.StandsLemmas.{IsTaken, at_plan, looked, put, seen, spin, starts, taken, taken_with, went_on, wrote}
-use Rattle.debugger_laws.proofs.WorldLemmas.{known-asked, known-going, known-gone, known-halt_clear, known-halt_req, known-over, known-ready, known-rests, known-said, known-start, known-step_done, known-step_over, known-stepped, known-still, known-turn, known-write_mem}
+use Rattle.debugger_laws.proofs.StandsLemmas.{IsTaken, at_plan, looked, put, seen_hart, shown, spin, starts, taken, taken_with, went_on, wrote}
+use Rattle.debugger_laws.proofs.WorldLemmas.{HasSlot, known-arm, known-asked, known-ebreak, known-free, known-going, known-gone, known-halt_clear, known-halt_req, known-over, known-ready, known-rests, known-said, known-start, known-step_done, known-step_over, known-stepped, known-still, known-turn, known-unspent, known-write_mem, known-write_reg, known_idle}
 
 -- ---- turns
 
@@ -90,24 +93,69 @@ known-frozen m sel way w x still k is = frozen_by way sel w x.debug still (subst
     way_here true e = refl
     way_here false e = absurd (false≢true e)
 
+pub deals_frozen : (m : Machine) (sel : ℕ) (way : Way) (o : Origin) (p : Plan) (lines : List Line) (t : Target) → IsStill way → (d : Deals m sel way o p lines t) → IsFrozenAt sel d.stands.world.board
+deals_frozen m sel way o p lines t still d x is = known-frozen m sel way d.stands.world x still d.knows is
+
+-- in the chip too
+pub target_frozen : (m : Machine) (sel : ℕ) (way : Way) (o : Origin) (p : Plan) (lines : List Line) (t : Target) → IsStill way → Deals m sel way o p lines t → IsFrozenAt sel t.board
+target_frozen m sel way o p lines t still d x is =
+    known-frozen m sel way d.stands.world x still d.knows (sym (shown o sel p lines t d.stands (deals_frozen m sel way o p lines t still d)) ∙ is)
+
+-- what the chip shows of the selected hart
+pub deals_seen : (m : Machine) (sel : ℕ) (way : Way) (o : Origin) (next : Option Hart → Plan) (lines : List Line) (t : Target) → IsStill way
+    → Deals m sel way o (see (λ b. next (slice_get b.harts sel))) lines t → Deals m sel way o (next (slice_get t.board.harts sel)) lines t
+deals_seen m sel way o next lines t still d = record {
+  stands = seen_hart o sel next lines t d.stands (deals_frozen m sel way o (see (λ b. next (slice_get b.harts sel))) lines t still d);
+  knows = d.knows;
+}
+
 -- ---- a change of the selected hart
 
-pub deals_wrote : (m : Machine) (sel : ℕ) (way way' : Way) (o : Origin) (c : Change) (next : Plan) (lines : List Line) (old new : Target) (hart : Hart) (d : Deals m sel way o (change c next) lines old)
-    → IsStill way → IsChangeOf sel c → slice_get d.stands.world.board.harts sel ≡ Some hart
-    → (IsKnown m sel way d.stands.world → IsKnown m sel way' (changed c d.stands.world)) → Rewrote (hart_change c) sel old new → Deals m sel way' o next lines new
-deals_wrote m sel way way' o c next lines old new hart d still of_sel is steps at = record {
-  stands = wrote o sel c next lines old new hart d.stands of_sel is (known-frozen m sel way d.stands.world hart still d.knows is) at;
-  knows = steps d.knows;
+pub deals_wrote : (m : Machine) (sel : ℕ) (way way' : Way) (o : Origin) (c : Change) (next : Plan) (lines : List Line) (old new : Target) → IsStill way → IsChangeOf sel c
+    → ((w : World) → IsKnown m sel way w → IsKnown m sel way' (changed c w)) → Deals m sel way o (change c next) lines old → Rewrote (hart_change c) sel old new → Deals m sel way' o next lines new
+deals_wrote m sel way way' o c next lines old new still of_sel steps d at = record {
+  stands = wrote o sel c next lines old new d.stands of_sel (deals_frozen m sel way o (change c next) lines old still d) at;
+  knows = steps d.stands.world d.knows;
 }
 
 -- before a step, and behind it
-pub deals_hold : (m : Machine) (sel : ℕ) (o : Origin) (next : Plan) (lines : List Line) (old new : Target) (hart : Hart) (d : Deals m sel Still o (change (StepOver sel) next) lines old)
-    → slice_get d.stands.world.board.harts sel ≡ Some hart → Rewrote (hart_change (StepOver sel)) sel old new → Deals m sel Holding o next lines new
-deals_hold m sel o next lines old new hart d is at = deals_wrote m sel Still Holding o (StepOver sel) next lines old new hart d tt refl is (known-step_over m sel d.stands.world) at
+pub deals_hold : (m : Machine) (sel : ℕ) (o : Origin) (next : Plan) (lines : List Line) (old new : Target)
+    → Deals m sel Still o (change (StepOver sel) next) lines old → Rewrote (hart_change (StepOver sel)) sel old new → Deals m sel Holding o next lines new
+deals_hold m sel o next lines old new d at = deals_wrote m sel Still Holding o (StepOver sel) next lines old new tt refl (known-step_over m sel) d at
 
-pub deals_done : (m : Machine) (sel : ℕ) (o : Origin) (next : Plan) (lines : List Line) (old new : Target) (hart : Hart) (d : Deals m sel Over o (change (StepDone sel) next) lines old)
-    → slice_get d.stands.world.board.harts sel ≡ Some hart → Rewrote (hart_change (StepDone sel)) sel old new → Deals m sel Still o next lines new
-deals_done m sel o next lines old new hart d is at = deals_wrote m sel Over Still o (StepDone sel) next lines old new hart d tt refl is (known-step_done m sel d.stands.world) at
+pub deals_done : (m : Machine) (sel : ℕ) (o : Origin) (next : Plan) (lines : List Line) (old new : Target)
+    → Deals m sel Over o (change (StepDone sel) next) lines old → Rewrote (hart_change (StepDone sel)) sel old new → Deals m sel Still o next lines new
+deals_done m sel o next lines old new d at = deals_wrote m sel Over Still o (StepDone sel) next lines old new tt refl (known-step_done m sel) d at
+
+-- a register, and dcsr.ebreakm
+pub deals_register : (m : Machine) (sel r v : ℕ) (o : Origin) (next : Plan) (lines : List Line) (old new : Target)
+    → Deals m sel Still o (change (WriteReg sel r v) next) lines old → Rewrote (hart_change (WriteReg sel r v)) sel old new → Deals m sel Still o next lines new
+deals_register m sel r v o next lines old new d at = deals_wrote m sel Still Still o (WriteReg sel r v) next lines old new tt refl (known-write_reg m sel r v) d at
+
+pub deals_ebreak : (m : Machine) (sel : ℕ) (on : Bool) (o : Origin) (next : Plan) (lines : List Line) (old new : Target)
+    → Deals m sel Still o (change (EbreakHalts sel on) next) lines old → Rewrote (hart_change (EbreakHalts sel on)) sel old new → Deals m sel Still o next lines new
+deals_ebreak m sel on o next lines old new d at = deals_wrote m sel Still Still o (EbreakHalts sel on) next lines old new tt refl (known-ebreak m sel on) d at
+
+-- a slot that the chip's hart has
+abbrev pub ShowsSlot : ℕ → ℕ → Target → Type 0
+ShowsSlot h slot t = (x : Hart) → slice_get t.board.harts h ≡ Some x → (s : Slot) × (slice_get x.debug.slots slot ≡ Some s)
+
+has_slot : (m : Machine) (sel slot : ℕ) (o : Origin) (p : Plan) (lines : List Line) (t : Target) (d : Deals m sel Still o p lines t) → ShowsSlot sel slot t → HasSlot sel slot d.stands.world
+has_slot m sel slot o p lines t d shows x is = shows x (shown o sel p lines t d.stands (deals_frozen m sel Still o p lines t tt d) ∙ is)
+
+pub deals_armed : (m : Machine) (sel slot : ℕ) (what : What) (o : Origin) (next : Plan) (lines : List Line) (old new : Target) → CanArm what → ShowsSlot sel slot old
+    → Deals m sel Still o (change (ArmSlot sel slot what) next) lines old → Rewrote (hart_change (ArmSlot sel slot what)) sel old new → Deals m sel Still o next lines new
+deals_armed m sel slot what o next lines old new can shows d at = record {
+  stands = wrote o sel (ArmSlot sel slot what) next lines old new d.stands refl (deals_frozen m sel Still o (change (ArmSlot sel slot what) next) lines old tt d) at;
+  knows = known-arm m sel slot what d.stands.world can (has_slot m sel slot o (change (ArmSlot sel slot what) next) lines old d shows) d.knows;
+}
+
+pub deals_freed : (m : Machine) (sel slot : ℕ) (o : Origin) (next : Plan) (lines : List Line) (old new : Target) → ShowsSlot sel slot old
+    → Deals m sel Still o (change (FreeSlot sel slot) next) lines old → Rewrote (hart_change (FreeSlot sel slot)) sel old new → Deals m sel Still o next lines new
+deals_freed m sel slot o next lines old new shows d at = record {
+  stands = wrote o sel (FreeSlot sel slot) next lines old new d.stands refl (deals_frozen m sel Still o (change (FreeSlot sel slot) next) lines old tt d) at;
+  knows = known-free m sel slot d.stands.world (has_slot m sel slot o (change (FreeSlot sel slot) next) lines old d shows) d.knows;
+}
 
 -- ---- requests
 
@@ -189,27 +237,38 @@ sees_gone = known-gone
 pub sees_over : (m : Machine) (sel : ℕ) (w : World) → sees_both (seen_at sel w.board) ≡ true → IsKnown m sel Asked w → IsKnown m sel Over w
 sees_over = known-over
 
--- ---- behind a step, and where nothing has a hit
+-- ---- behind a step, and where nothing has a hit: by what the chip shows
 
-pub deals_stepped : (m : Machine) (sel : ℕ) (o : Origin) (stepped other : Plan) (lines : List Line) (t : Target) (d : Deals m sel Still o (see (λ b. if is_step (halted_of (slice_get b.harts sel)) then stepped else other)) lines t)
-    → is_step (halted_of (slice_get d.stands.world.board.harts sel)) ≡ true → Deals m sel Ready o stepped lines t
-deals_stepped m sel o stepped other lines t d is = record {
-  stands = at_plan o _ stepped lines t (if_true (is_step (halted_of (slice_get d.stands.world.board.harts sel))) stepped other is)
-      (seen o (λ b. if is_step (halted_of (slice_get b.harts sel)) then stepped else other) lines t d.stands);
-  knows = known-stepped m sel d.stands.world (λ x at. sym (ap (λ o. is_step (halted_of o)) at) ∙ is) d.knows;
-}
+abbrev after_step : ℕ → (stepped other : Plan) → Plan
+after_step sel stepped other = see (λ b. if is_step (halted_of (slice_get b.harts sel)) then stepped else other)
 
-pub deals_otherwise : (m : Machine) (sel : ℕ) (o : Origin) (stepped other : Plan) (lines : List Line) (t : Target) (d : Deals m sel Still o (see (λ b. if is_step (halted_of (slice_get b.harts sel)) then stepped else other)) lines t)
-    → is_step (halted_of (slice_get d.stands.world.board.harts sel)) ≡ false → Deals m sel Still o other lines t
-deals_otherwise m sel o stepped other lines t d is = record {
-  stands = at_plan o _ other lines t (if_false (is_step (halted_of (slice_get d.stands.world.board.harts sel))) stepped other is)
-      (seen o (λ b. if is_step (halted_of (slice_get b.harts sel)) then stepped else other) lines t d.stands);
-  knows = d.knows;
-}
+pub deals_stepped : (m : Machine) (sel : ℕ) (o : Origin) (stepped other : Plan) (lines : List Line) (t : Target) → is_step (halted_of (slice_get t.board.harts sel)) ≡ true
+    → Deals m sel Still o (see (λ b. if is_step (halted_of (slice_get b.harts sel)) then stepped else other)) lines t → Deals m sel Ready o stepped lines t
+deals_stepped m sel o stepped other lines t is d =
+    let same : slice_get t.board.harts sel ≡ slice_get d.stands.world.board.harts sel = shown o sel (after_step sel stepped other) lines t d.stands (deals_frozen m sel Still o (after_step sel stepped other) lines t tt d) in
+    record {
+      stands = at_plan o _ stepped lines t (if_true (is_step (halted_of (slice_get t.board.harts sel))) stepped other is)
+          (seen_hart o sel (λ x. if is_step (halted_of x) then stepped else other) lines t d.stands (deals_frozen m sel Still o (after_step sel stepped other) lines t tt d));
+      knows = known-stepped m sel d.stands.world (λ x at. sym (ap (λ y. is_step (halted_of y)) (same ∙ at)) ∙ is) d.knows;
+    }
 
-pub deals_ready : (m : Machine) (sel : ℕ) (o : Origin) (p : Plan) (lines : List Line) (t : Target) (d : Deals m sel Still o p lines t) → any_hit (slots_at sel d.stands.world.board) ≡ false → Deals m sel Ready o p lines t
-deals_ready m sel o p lines t d none = deals_known m sel Still Ready o p lines t d (known-ready m sel d.stands.world none)
+pub deals_otherwise : (m : Machine) (sel : ℕ) (o : Origin) (stepped other : Plan) (lines : List Line) (t : Target) → is_step (halted_of (slice_get t.board.harts sel)) ≡ false
+    → Deals m sel Still o (see (λ b. if is_step (halted_of (slice_get b.harts sel)) then stepped else other)) lines t → Deals m sel Still o other lines t
+deals_otherwise m sel o stepped other lines t is d =
+    deals_at_plan m sel Still o (if is_step (halted_of (slice_get t.board.harts sel)) then stepped else other) other lines t (if_false (is_step (halted_of (slice_get t.board.harts sel))) stepped other is)
+    (deals_seen m sel Still o (λ x. if is_step (halted_of x) then stepped else other) lines t tt d)
+
+pub deals_ready : (m : Machine) (sel : ℕ) (o : Origin) (p : Plan) (lines : List Line) (t : Target) → any_hit (slots_at sel t.board) ≡ false → Deals m sel Still o p lines t → Deals m sel Ready o p lines t
+deals_ready m sel o p lines t none d =
+    deals_known m sel Still Ready o p lines t d (known-ready m sel d.stands.world
+    (ap (λ x. any_hit (slots_here x)) (sym (shown o sel p lines t d.stands (deals_frozen m sel Still o p lines t tt d))) ∙ none))
 
 -- a command's end: the hart rests, and any hart may be selected
 pub deals_rests : (m : Machine) (sel : ℕ) (o : Origin) (p : Plan) (lines : List Line) (t : Target) → Deals m sel Still o p lines t → Deals m sel Idle o p lines t
 deals_rests m sel o p lines t d = deals_known m sel Still Idle o p lines t d (known-rests m sel d.stands.world)
+
+pub deals_unspent : (m : Machine) (sel : ℕ) (o : Origin) (p : Plan) (lines : List Line) (t : Target) → Deals m sel Ready o p lines t → Deals m sel Still o p lines t
+deals_unspent m sel o p lines t d = deals_known m sel Ready Still o p lines t d (known-unspent m sel d.stands.world)
+
+pub deals_selects : (m : Machine) (sel sel' : ℕ) (o : Origin) (p : Plan) (lines : List Line) (t : Target) → Deals m sel Idle o p lines t → Deals m sel' Idle o p lines t
+deals_selects m sel sel' o p lines t d = record { stands = d.stands; knows = known_idle m sel sel' d.stands.world d.knows }

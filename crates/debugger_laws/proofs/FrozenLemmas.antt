@@ -11,13 +11,13 @@ use Rattle.rv_model.specs.Turn.{executes, executes_by, memory_after, place_of, s
 use Rattle.rv_model.specs.Touch.{touch_of}
 use Rattle.rv_model.specs.Execute.{exec_of}
 use Rattle.rv_model.proofs.MapLemmas.{slice_get-set_other}
-use Rattle.debugger_laws.specs.Laws.{ChangesMayWait, FrozenMayWait, FrozenStays, IsChangeOf, IsFrozen}
+use Rattle.debugger_laws.specs.Laws.{ChangesMayWait, FrozenMayWait, FrozenStays, IsChangeOf, IsFrozen, IsFrozenAt}
 use Rattle.debugger_laws.specs.Plan.{Change, changed_board, ebreak_halts, hart_over, register_set, slot_changed, slot_freed, step_begun, step_ended, with_debug_part}
 use Rattle.debugger_laws.specs.Plan.Change.{WriteReg, WriteMem, ArmSlot, FreeSlot, StepOver, StepDone, EbreakHalts}
 use Rattle.debugger_laws.specs.Slots.{hits_forgotten, over, with_slots}
 use Rattle.debugger_laws.specs.Turns.{after_turns}
 use Rattle.debugger_laws.proofs.HartLemmas.{frozen_place}
-use Rattle.debugger_laws.proofs.OverLemmas.{set_same, slice_get-over_same, slice_get-over_other}
+use Rattle.debugger_laws.proofs.OverLemmas.{over_none, set_same, slice_get-over_same, slice_get-over_other}
 
 -- ---- its own turn
 
@@ -93,6 +93,42 @@ frozen_may_wait f h hart b [] is frozen after = refl
 frozen_may_wait f h hart b (g ∷ harts) is frozen after =
     ap (after_turns harts) (waits_at f h hart b g is frozen after)
     ∙ frozen_may_wait f h hart (turn g b) harts (stays_at h hart b g is frozen) frozen after
+
+-- ---- a hart that is frozen where it is there at all
+
+set_absent : (hs : List Hart) (g h : ℕ) (v : Hart) → slice_get hs h ≡ None → slice_get (slice_set hs g v) h ≡ None
+set_absent [] g h v is = refl
+set_absent (x ∷ xs) g zero v is = absurd (none-some x (sym is))
+set_absent (x ∷ xs) zero (suc h) v is = is
+set_absent (x ∷ xs) (suc g) (suc h) v is = set_absent xs g h v is
+
+turned_absent : (o : Option Hart) (g h : ℕ) (b : Board) → slice_get b.harts h ≡ None → slice_get (turn_by o g b).harts h ≡ None
+turned_absent None g h b is = is
+turned_absent (Some x) g h b is = set_absent b.harts g h (place_of x b.memory).hart is
+
+absent_stays : (harts : List ℕ) (h : ℕ) (b : Board) → slice_get b.harts h ≡ None → slice_get (after_turns harts b).harts h ≡ None
+absent_stays [] h b is = is
+absent_stays (g ∷ harts) h b is = absent_stays harts h (turn g b) (turned_absent (slice_get b.harts g) g h b is)
+
+same_by : (o : Option Hart) (h : ℕ) (b : Board) (harts : List ℕ) → slice_get b.harts h ≡ o → IsFrozenAt h b → slice_get (after_turns harts b).harts h ≡ slice_get b.harts h
+same_by (Some x) h b harts is frozen = frozen_stays h x b harts is (frozen x is) ∙ sym is
+same_by None h b harts is frozen = absent_stays harts h b is ∙ sym is
+
+-- turns leave it as it is
+pub stays_same : (h : ℕ) (b : Board) (harts : List ℕ) → IsFrozenAt h b → slice_get (after_turns harts b).harts h ≡ slice_get b.harts h
+stays_same h b harts frozen = same_by (slice_get b.harts h) h b harts refl frozen
+
+wait_by : (o : Option Hart) (f : Hart → Hart) (h : ℕ) (b : Board) (harts : List ℕ) → slice_get b.harts h ≡ o → IsFrozenAt h b → ((x : Hart) → IsFrozen x.debug → IsFrozen (f x).debug)
+    → after_turns harts (hart_over f h b) ≡ hart_over f h (after_turns harts b)
+wait_by (Some x) f h b harts is frozen keeps = frozen_may_wait f h x b harts is (frozen x is) (keeps x (frozen x is))
+wait_by None f h b harts is frozen keeps =
+    ap (after_turns harts) (ap (board_of b.memory) (over_none f b.harts h is))
+    ∙ sym (ap (board_of (after_turns harts b).memory) (over_none f (after_turns harts b).harts h (absent_stays harts h b is)))
+
+-- and a change of it may wait
+pub may_wait : (f : Hart → Hart) (h : ℕ) (b : Board) (harts : List ℕ) → IsFrozenAt h b → ((x : Hart) → IsFrozen x.debug → IsFrozen (f x).debug)
+    → after_turns harts (hart_over f h b) ≡ hart_over f h (after_turns harts b)
+may_wait f h b harts frozen keeps = wait_by (slice_get b.harts h) f h b harts refl frozen keeps
 
 -- ---- the changes of a plan
 

@@ -17,3 +17,6 @@ pub mod QuietLemmas
 pub mod StandsLemmas
 pub mod DealsLemmas
 pub mod OrderLemmas
+pub mod ToldLemmas
+pub mod RunLemmas
+pub mod CutLemmas

@@ -1,4 +1,4 @@
--- Behind a line only lines follow, up to the next point: where no line is written any more, the board is left to the turns.
+-- Behind a line nothing is changed up to the next point: where no line is written any more, the board is left to the turns.
 use Rattle.std.proofs.Common.{◌≡◌, ◌+◌, ℕ, zero, suc, Bool, true, false, List, [], ◌∷◌, ◌++◌, length, map, Option, Some, None, Result, Ok, Err, slice_get, refl, if◌then◌else◌}
 use Rattle.std.specs.Prelude.{◌==◌}
 use Rattle.rv_model.specs.declared.mem_fault.MemFault.{MemFault}
@@ -32,18 +32,18 @@ use Rattle.debugger_laws.specs.Turns.{after_turns, turns}
 
 -- ---- boards
 
-taking-board : (p : Point) (next : World → List Point → Outcome) (w : World) (hs : List ℕ) → (taking p next w (turns hs)).world.board ≡ after_turns hs w.board
+pub taking-board : (p : Point) (next : World → List Point → Outcome) (w : World) (hs : List ℕ) → (taking p next w (turns hs)).world.board ≡ after_turns hs w.board
 taking-board p next w [] = refl
 taking-board p next w (h ∷ hs) = taking-board p next (passed (Turn h) w) hs
 
-finish-board : (e : PlanEnd) (w : World) (hs : List ℕ) → (finish e w (turns hs)).world.board ≡ after_turns hs w.board
+pub finish-board : (e : PlanEnd) (w : World) (hs : List ℕ) → (finish e w (turns hs)).world.board ≡ after_turns hs w.board
 finish-board e w [] = refl
 finish-board e w (h ∷ hs) = finish-board e (passed (Turn h) w) hs
 
 pub quiet_boards : QuietBoards
 unfolding replay
 quiet_boards (take p next) w hs is = taking-board p (replay next) w hs
-quiet_boards (see next) w hs is = absurd is
+quiet_boards (see next) w hs is = quiet_boards (next w.board) w hs (is w.board)
 quiet_boards (change c next) w hs is = absurd is
 quiet_boards (say line next) w hs is = quiet_boards next (said line w) hs is
 quiet_boards (stop e) w hs is = finish-board e w hs

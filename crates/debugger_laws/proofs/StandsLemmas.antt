@@ -1,6 +1,6 @@
 -- The steps of a session: how each call on the link moves the place where the replay stands.
 -- What builds a place is an abbreviation, so that the world in it is seen through.
-use Rattle.std.proofs.Common.{◌≡◌, ◌∙◌, ℕ, List, [], ◌∷◌, ◌++◌, Bool, true, false, Option, Some, slice_get, refl, sym, ap, subst, append_assoc, append-nil, if◌then◌else◌}
+use Rattle.std.proofs.Common.{◌≡◌, ◌∙◌, ℕ, zero, suc, List, [], ◌∷◌, ◌++◌, Bool, true, false, Option, slice_get, refl, sym, ap, subst, append_assoc, append-nil, if◌then◌else◌}
 use Rattle.std.specs.Prelude.{◌≢◌}
 use Rattle.std.proofs.lemmas.Bool.{eq-eqb, false≢true}
 use Rattle.rv_model.specs.Board.{Board, Hart, machine_of}
@@ -10,16 +10,18 @@ use Rattle.debug_model.specs.Journal.{after_point}
 use Rattle.debug_model.specs.declared.point.Point.{Point}
 use Rattle.debug_model.specs.declared.point.Point.TheVariants.{Turn, Look, HaltReq, HaltClear, ResumeReq, Access}
 use Rattle.debugger_laws.specs.Debugger.{Seen, look, seen_at}
-use Rattle.debugger_laws.specs.Laws.{IsChangeOf, IsFront, IsFrozen, Quiet}
+use Rattle.debugger_laws.specs.Laws.{IsChangeOf, IsFront, IsFrozen, IsFrozenAt, Quiet, WritesOnly, IsWritten}
 use Rattle.debugger_laws.specs.Lines.{Line}
 use Rattle.debugger_laws.specs.Own.{own}
 use Rattle.debugger_laws.specs.Plan.{Change, Plan, PlanEnd, changed_board, hart_over}
 use Rattle.debugger_laws.specs.Plan.Plan.{take, see, change, say, stop}
+use Rattle.debugger_laws.specs.Slots.{over}
 use Rattle.debugger_laws.specs.Stands.{IsTranscribed, Looked, Origin, Pointed, PointedWith, Rewrote, Stands, Target, WentOn}
 use Rattle.debugger_laws.specs.Transcript.{End, Outcome, World, changed, finish, graded, passed, replay, said, same_point, start, taking, trace}
 use Rattle.debugger_laws.specs.Turns.{after_turns, turns}
+use Rattle.debugger_laws.proofs.CutLemmas.{cut_boards}
 use Rattle.debugger_laws.proofs.FrontLemmas.{lines_grow, turns_keep_on}
-use Rattle.debugger_laws.proofs.FrozenLemmas.{changed_hart, frozen_may_wait, frozen_stays, hart_change, hart_change-frozen}
+use Rattle.debugger_laws.proofs.FrozenLemmas.{changed_hart, hart_change, hart_change-frozen, may_wait, stays_same}
 use Rattle.debugger_laws.proofs.QuietLemmas.{quiet_boards}
 use Rattle.debugger_laws.proofs.Transparency.{transparent}
 
@@ -194,26 +196,25 @@ looked o h next now lines old new s at =
 -- ---- what is read of a halted hart, and written to it
 
 -- a frozen hart shows what it was behind the last point
-pub shown : (o : Origin) (h : ℕ) (p : Plan) (lines : List Line) (t : Target) (hart : Hart) (s : Stands o p lines t) → slice_get s.world.board.harts h ≡ Some hart → IsFrozen hart.debug
-    → slice_get t.board.harts h ≡ slice_get s.world.board.harts h
-shown o h p lines t hart s is frozen = ap (λ (b : Board). slice_get b.harts h) s.board ∙ frozen_stays h hart s.world.board s.rest is frozen ∙ sym is
+pub shown : (o : Origin) (h : ℕ) (p : Plan) (lines : List Line) (t : Target) (s : Stands o p lines t) → IsFrozenAt h s.world.board → slice_get t.board.harts h ≡ slice_get s.world.board.harts h
+shown o h p lines t s frozen = ap (λ (b : Board). slice_get b.harts h) s.board ∙ stays_same h s.world.board s.rest frozen
 
 -- so a plan that goes on by it goes on by what the chip shows
-abbrev pub seen_hart : (o : Origin) (h : ℕ) (next : Option Hart → Plan) (lines : List Line) (t : Target) (hart : Hart) (s : Stands o (see (λ b. next (slice_get b.harts h))) lines t)
-    → slice_get s.world.board.harts h ≡ Some hart → IsFrozen hart.debug → Stands o (next (slice_get t.board.harts h)) lines t
-seen_hart o h next lines t hart s is frozen =
+abbrev pub seen_hart : (o : Origin) (h : ℕ) (next : Option Hart → Plan) (lines : List Line) (t : Target) (s : Stands o (see (λ b. next (slice_get b.harts h))) lines t)
+    → IsFrozenAt h s.world.board → Stands o (next (slice_get t.board.harts h)) lines t
+seen_hart o h next lines t s frozen =
     at_plan o (next (slice_get s.world.board.harts h)) (next (slice_get t.board.harts h)) lines t
-    (ap next (sym (shown o h (see (λ b. next (slice_get b.harts h))) lines t hart s is frozen))) (seen o (λ b. next (slice_get b.harts h)) lines t s)
+    (ap next (sym (shown o h (see (λ b. next (slice_get b.harts h))) lines t s frozen))) (seen o (λ b. next (slice_get b.harts h)) lines t s)
 
 -- a change of the frozen hart h, some turns after the last point
-abbrev pub wrote : (o : Origin) (h : ℕ) (c : Change) (next : Plan) (lines : List Line) (old new : Target) (hart : Hart) (s : Stands o (change c next) lines old)
-    → IsChangeOf h c → slice_get s.world.board.harts h ≡ Some hart → IsFrozen hart.debug → Rewrote (hart_change c) h old new → Stands o next lines new
-wrote o h c next lines old new hart s of_h is frozen at = record {
+abbrev pub wrote : (o : Origin) (h : ℕ) (c : Change) (next : Plan) (lines : List Line) (old new : Target) (s : Stands o (change c next) lines old)
+    → IsChangeOf h c → IsFrozenAt h s.world.board → Rewrote (hart_change c) h old new → Stands o next lines new
+wrote o h c next lines old new s of_h frozen at = record {
   world = changed c s.world;
   rest = s.rest ++ at.harts;
   replayed = λ more. journal_on o (change c next) s.world s.rest at.harts old.journal new.journal more s.replayed at.journal ∙ replay-change c next s.world (turns (s.rest ++ at.harts) ++ more);
   board = at.board ∙ ap (hart_over (hart_change c) h) (board_on s.world.board old.board (after_turns at.harts old.board) s.rest at.harts s.board refl)
-      ∙ sym (frozen_may_wait (hart_change c) h hart s.world.board (s.rest ++ at.harts) is frozen (hart_change-frozen c hart frozen))
+      ∙ sym (may_wait (hart_change c) h s.world.board (s.rest ++ at.harts) frozen (hart_change-frozen c))
       ∙ ap (after_turns (s.rest ++ at.harts)) (sym (changed_hart c h s.world.board of_h));
   spoken = s.spoken;
 }
@@ -244,9 +245,16 @@ said_front o p lines t s =
 pub not_astray : (o : Origin) (p : Plan) (lines : List Line) (t : Target) → Stands o p lines t → (replay o.plan o.world t.journal).end ≢ End.Astray
 not_astray o p lines t s is = turns_keep_on p s.world s.rest (sym (ap (λ (x : Outcome). x.end) (nothing_more o p lines t s)) ∙ is)
 
--- where only lines were left to be said, the board is the transcript's
+-- where nothing was left to be changed, the board is the transcript's
 pub quiet_board : (o : Origin) (p : Plan) (lines : List Line) (t : Target) → Quiet p → Stands o p lines t → (replay o.plan o.world t.journal).world.board ≡ t.board
 quiet_board o p lines t quiet s = ap (λ (x : Outcome). x.world.board) (nothing_more o p lines t s) ∙ quiet_boards p s.world s.rest quiet ∙ sym s.board
+
+-- where a command was cut that changes one halted hart, the transcript's board is the chip's but for that hart's debug part, and for the register that it writes
+pub cut_board : (o : Origin) (p : Plan) (lines : List Line) (t : Target) (h : ℕ) (n : Option ℕ) (s : Stands o p lines t) → WritesOnly h n p → IsFrozenAt h s.world.board
+    → (f : Hart → Hart) × ((x : Hart) → IsWritten n x.core (f x).core) × ((replay o.plan o.world t.journal).world.board ≡ hart_over f h t.board)
+cut_board o p lines t h n s only frozen =
+    let (f, written, is) = cut_boards p s.world h n s.rest only frozen in
+    (f, written, ap (λ (x : Outcome). x.world.board) (nothing_more o p lines t s) ∙ is ∙ ap (hart_over f h) (sym s.board))
 
 -- the chip's own machine is the undebugged one, where the board is the transcript's
 pub undebugged_target : (plan : Plan) (board : Board) (t : Target) → (replay plan (start board) t.journal).world.board ≡ t.board
@@ -255,12 +263,25 @@ undebugged_target plan board t is = ap machine_of (sym is) ∙ transparent plan 
 
 -- ---- several changes of one frozen hart are one
 
-pub rewrote_then : (f g : Hart → Hart) (h : ℕ) (first second third : Target) (hart : Hart) → slice_get first.board.harts h ≡ Some hart → IsFrozen hart.debug → IsFrozen (f hart).debug
-    → Rewrote f h first second → Rewrote g h second third → (harts : List ℕ) × (third.board ≡ hart_over g h (hart_over f h (after_turns harts first.board))) × (third.journal ≡ first.journal ++ turns harts)
-rewrote_then f g h first second third hart is frozen after a b =
-    let there : slice_get (after_turns a.harts first.board).harts h ≡ Some hart = frozen_stays h hart first.board a.harts is frozen in (
-      a.harts ++ b.harts,
-      b.board ∙ ap (hart_over g h) (ap (after_turns b.harts) a.board ∙ frozen_may_wait f h hart (after_turns a.harts first.board) b.harts there frozen after
-          ∙ ap (hart_over f h) (sym (after_turns-append a.harts b.harts first.board))),
-      b.journal ∙ ap (λ (j : List Point). j ++ turns b.harts) a.journal ∙ append_assoc first.journal (turns a.harts) (turns b.harts) ∙ ap (λ (j : List Point). first.journal ++ j) (sym (turns-append a.harts b.harts)),
-    )
+pub rewrote_then : (f g : Hart → Hart) (h : ℕ) (first second third : Target) → IsFrozenAt h first.board → ((x : Hart) → IsFrozen x.debug → IsFrozen (f x).debug)
+    → Rewrote f h first second → Rewrote g h second third → Rewrote (λ x. g (f x)) h first third
+rewrote_then f g h first second third frozen keeps a b = record {
+  harts = a.harts ++ b.harts;
+  board = b.board
+      ∙ ap (hart_over g h) (ap (after_turns b.harts) a.board ∙ may_wait f h (after_turns a.harts first.board) b.harts (still_frozen h first.board a.harts frozen) keeps
+      ∙ ap (hart_over f h) (sym (after_turns-append a.harts b.harts first.board)))
+      ∙ over_both f g h (after_turns (a.harts ++ b.harts) first.board);
+  journal = b.journal ∙ ap (λ (j : List Point). j ++ turns b.harts) a.journal ∙ append_assoc first.journal (turns a.harts) (turns b.harts)
+      ∙ ap (λ (j : List Point). first.journal ++ j) (sym (turns-append a.harts b.harts));
+}
+  where
+    still_frozen : (h : ℕ) (b : Board) (harts : List ℕ) → IsFrozenAt h b → IsFrozenAt h (after_turns harts b)
+    still_frozen h b harts frozen x is = frozen x (sym (stays_same h b harts frozen) ∙ is)
+
+    over_twice : (f g : Hart → Hart) (h : ℕ) (hs : List Hart) → over h g (over h f hs) ≡ over h (λ x. g (f x)) hs
+    over_twice f g h [] = refl
+    over_twice f g zero (x ∷ xs) = refl
+    over_twice f g (suc h) (x ∷ xs) = ap (λ (l : List Hart). x ∷ l) (over_twice f g h xs)
+
+    over_both : (f g : Hart → Hart) (h : ℕ) (b : Board) → hart_over g h (hart_over f h b) ≡ hart_over (λ x. g (f x)) h b
+    over_both f g h b = ap (λ (hs : List Hart). let c : Board = record { harts = hs; memory = b.memory } in c) (over_twice f g h b.harts)

@@ -1,5 +1,5 @@
 -- The abstract debugger: what each command of a script does, as a plan, with the hart and the path that are then selected.
--- It is this project's own (docs/SCRIPT.md). Lines that follow a Look at a halted hart read and write its registers and slots at once.
+-- It is this project's own (docs/SCRIPT.md). Behind a Look at a halted hart its registers and slots are read and written at once.
 use Rattle.std.specs.Prelude.{ℕ, zero, suc, ◌+◌, ◌&&◌, Bool, true, false, List, [], ◌∷◌, ◌++◌, length, map, Option, Some, None, Result, Ok, Err, ⊤, unwrap_or, slice_get, if◌then◌else◌, ◌==◌}
 use Rattle.std.specs.List.{range_with_len}
 use Rattle.rv_model.specs.declared.cause.Cause.{Cause}

@@ -1,8 +1,10 @@
 -- Laws of replays and transcripts: for every plan, or every script, whatever the journal and however it ends.
 -- They are this project's own; docs/HEADLINE.md reads them aloud.
-use Rattle.std.specs.Prelude.{◌≡◌, ◌≢◌, ℕ, All, List, ◌∷◌, ◌++◌, Option, Some, false, slice_get}
+use Rattle.std.specs.Prelude.{◌≡◌, ◌≢◌, ◌⊎◌, ℕ, All, List, ◌∷◌, ◌++◌, Option, Some, None, false, slice_get}
 use Rattle.rv_model.specs.declared.cause.Cause.{Cause}
 use Rattle.rv_model.specs.Board.{Board, DebugPart, Hart, Machine, machine_of, reset_debug}
+use Rattle.rv_model.specs.Core.{Core}
+use Rattle.rv_model.specs.Registers.{reg_written}
 use Rattle.rv_model.specs.Undebugged.{undebugged}
 use Rattle.debug_model.specs.declared.command.Command.{Command}
 use Rattle.debug_model.specs.Command.{IsWithinRanges}
@@ -80,10 +82,10 @@ TurnsKeepOn = (plan : Plan) (w : World) (harts : List ℕ) → (replay plan w (t
 
 -- ---- behind a line that could not be written
 
--- lines alone, up to the next point or the end
+-- no change, up to the next point or the end
 abbrev pub Quiet : Plan → Type 0
 Quiet (take point next) = Unit {0}
-Quiet (see next) = ⊥
+Quiet (see next) = (b : Board) → Quiet (next b)
 Quiet (change what next) = ⊥
 Quiet (say line next) = Quiet next
 Quiet (stop end) = Unit {0}
@@ -123,6 +125,10 @@ abbrev pub FrozenMayWait : Type 0
 FrozenMayWait = (f : Hart → Hart) (h : ℕ) (hart : Hart) (b : Board) (harts : List ℕ) → slice_get b.harts h ≡ Some hart → IsFrozen hart.debug → IsFrozen (f hart).debug
     → after_turns harts (hart_over f h b) ≡ hart_over f h (after_turns harts b)
 
+-- the same, of a hart that may be absent
+abbrev pub IsFrozenAt : ℕ → Board → Type 0
+IsFrozenAt h b = (x : Hart) → slice_get b.harts h ≡ Some x → IsFrozen x.debug
+
 -- a change that a debugger makes of hart h
 abbrev pub IsChangeOf : ℕ → Change → Type 0
 IsChangeOf h (WriteReg j number value) = j ≡ h
@@ -136,3 +142,29 @@ IsChangeOf h (EbreakHalts j on) = j ≡ h
 abbrev pub ChangesMayWait : Type 0
 ChangesMayWait = (c : Change) (h : ℕ) (hart : Hart) (b : Board) (harts : List ℕ) → IsChangeOf h c → slice_get b.harts h ≡ Some hart → IsFrozen hart.debug
     → after_turns harts (changed_board c b) ≡ changed_board c (after_turns harts b)
+
+-- ---- a call that failed in the middle of a command
+
+-- up to the next point a plan changes hart h alone, and of what a program sees at most one register: that of this number, where there is one
+abbrev pub WritesOnly : ℕ → Option ℕ → Plan → Type 0
+WritesOnly h n (take point next) = Unit {0}
+WritesOnly h n (see next) = (b : Board) → WritesOnly h n (next b)
+WritesOnly h n (change (WriteReg j number value) next) = (j ≡ h) × (n ≡ Some number) × WritesOnly h None next
+WritesOnly h n (change (WriteMem address count value) next) = ⊥
+WritesOnly h n (change (ArmSlot j slot what) next) = (j ≡ h) × WritesOnly h n next
+WritesOnly h n (change (FreeSlot j slot) next) = (j ≡ h) × WritesOnly h n next
+WritesOnly h n (change (StepOver j) next) = (j ≡ h) × WritesOnly h n next
+WritesOnly h n (change (StepDone j) next) = (j ≡ h) × WritesOnly h n next
+WritesOnly h n (change (EbreakHalts j on) next) = (j ≡ h) × WritesOnly h n next
+WritesOnly h n (say line next) = WritesOnly h n next
+WritesOnly h n (stop end) = Unit {0}
+
+-- a core that is the same, or has this register written
+abbrev pub IsWritten : Option ℕ → (old new : Core) → Type 0
+IsWritten None old new = new ≡ old
+IsWritten (Some r) old new = (new ≡ old) ⊎ ((v : ℕ) × (new ≡ reg_written old r v))
+
+-- So where no point follows, the replay's board is that of the turns, but for the debug part of hart h and that one register of it.
+abbrev pub CutBoards : Type 0
+CutBoards = (plan : Plan) (w : World) (h : ℕ) (n : Option ℕ) (harts : List ℕ) → WritesOnly h n plan → IsFrozenAt h w.board
+    → (f : Hart → Hart) × ((x : Hart) → IsWritten n x.core (f x).core) × ((replay plan w (turns harts)).world.board ≡ hart_over f h (after_turns harts w.board))

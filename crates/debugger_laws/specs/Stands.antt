@@ -1,11 +1,11 @@
 -- How far a session is: what is left of its plan, and how the chip stands to it. It is what the code of a session keeps from call to call.
 -- It is this project's own.
-use Rattle.std.specs.Prelude.{◌≡◌, ℕ, List, [], ◌∷◌, ◌++◌, Bool, true, false, Option, Some}
+use Rattle.std.specs.Prelude.{◌≡◌, ℕ, List, [], ◌∷◌, ◌++◌, ◌+◌, Bool, true, false, IfSome, Option, Some}
 use Rattle.rv_model.specs.Board.{Board, Hart, Machine}
 use Rattle.debug_model.specs.declared.point.Point.{Point}
 use Rattle.debug_model.specs.declared.point.Point.TheVariants.{Look}
 use Rattle.debug_model.specs.Journal.{after_point}
-use Rattle.debugger_laws.specs.Debugger.{Seen, one, seen_at, stepping}
+use Rattle.debugger_laws.specs.Debugger.{Seen, one, seen_at, stepping, until}
 use Rattle.debugger_laws.specs.Known.{IsKnown}
 use Rattle.debugger_laws.specs.Lines.{Line}
 use Rattle.debugger_laws.specs.Plan.{Change, Plan, changed_board, hart_over}
@@ -74,13 +74,31 @@ pub data Cut (p : Point) (old new : Target) : Type 0 where
   before : (went : WentOn old new) → Cut p old new
   behind : (pointed : Pointed p old new) → Cut p old new
 
--- ---- run control, by what it makes of the plan
+-- ---- an object that tells of its chip
 
--- a session deals so with the chip that an object tells of
-pub record At (m : Machine) (selected : ℕ) (way : Way) (o : Origin) (p : Plan) (lines : List Line) (told : Option Target) : Type 0 where
+pub record IsTold (P : Target → Type 0) (told : Option Target) : Type 0 where
   pub target : Target
   pub is : told ≡ Some target
-  pub deals : Deals m selected way o p lines target
+  pub holds : P target
+
+-- where it told of a chip, it tells of one that stands so to that
+abbrev pub Reaches : (Target → Target → Type 0) → (old new : Option Target) → Type 0
+Reaches R old new = IfSome old (λ t. IsTold (R t) new)
+
+-- a session deals so with the chip that an object tells of
+abbrev pub At : Machine → (selected : ℕ) → Way → Origin → Plan → List Line → (told : Option Target) → Type 0
+At m selected way o p lines told = IsTold (Deals m selected way o p lines) told
+
+-- ---- run control, by what it makes of the plan
+
+-- after so many Looks of a wait that did not see what was wanted
+abbrev pub Since : Machine → (selected : ℕ) → Way → Origin → (limit : ℕ) → (test : Seen → Bool) → (failed : Seen → Plan) → (found : Plan) → List Line → (tries : ℕ) → (now : Option Target) → Type 0
+Since m selected way o limit test failed found lines tries now =
+    (n : ℕ) → tries + n ≡ limit → (last : Seen) × At m selected way o (until n selected test failed found last) lines now
+
+-- after so many single steps
+abbrev pub SoFar : Machine → (selected : ℕ) → Origin → (count : ℕ) → (next : Plan) → List Line → (done : ℕ) → (now : Option Target) → Type 0
+SoFar m selected o count next lines done now = (n : ℕ) → done + n ≡ count → At m selected Still o (stepping n selected next) lines now
 
 -- one single step with spent slots off; was it a whole one?
 abbrev pub SteppedOver : ℕ → Bool → (old new : Option Target) → Type 0

@@ -1,6 +1,6 @@
 //! Laws of replays and transcripts. Each is the contract of a function that does nothing; `specs/Laws.antt` has the statements.
 
-ghost use Rattle.debugger_laws.specs.Laws.{ChangesMayWait, CommandsAreQuiet, CommandsSpeakInOrder, CutLinesAreAFront, EachNoteIsRight, FirstMatchHolds, FrozenMayWait, FrozenStays, LinesGrow, OnlyOpenOnesGrow, PastsAreUndebugged, QuietBoards, ResetIsFresh, SessionsSayQuietly, Transparent, TurnsKeepOn};
+ghost use Rattle.debugger_laws.specs.Laws.{ChangesMayWait, CommandsAreQuiet, CommandsSpeakInOrder, CutBoards, CutLinesAreAFront, EachNoteIsRight, FirstMatchHolds, FrozenMayWait, FrozenStays, LinesGrow, OnlyOpenOnesGrow, PastsAreUndebugged, QuietBoards, ResetIsFresh, SessionsSayQuietly, Transparent, TurnsKeepOn};
 
 /// Memory and every hart's core end as those of a machine that nobody debugs, whatever the plan, the board, the journal and the end.
 pub fn transparent()
@@ -56,9 +56,14 @@ pub fn frozen_may_wait()
     ensures plans { ChangesMayWait }
 {}
 
-/// Behind a line only lines follow, up to the next point: where no line is written any more, the board is left to the turns.
+/// Behind a line nothing is changed up to the next point: where no line is written any more, the board is left to the turns.
 pub fn quiet_boards()
     ensures boards { QuietBoards }
     ensures commands { CommandsAreQuiet }
     ensures sessions { SessionsSayQuietly }
+{}
+
+/// Where no point follows, a plan that changes one halted hart leaves all else to the turns: what holds of a session whose link failed.
+pub fn cut_boards()
+    ensures { CutBoards }
 {}
