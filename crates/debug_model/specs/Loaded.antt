@@ -1,8 +1,9 @@
 -- The chip as it is loaded: an image in memory, harts as a reset leaves them, an empty journal, and no byte taken yet.
 -- How a program comes into the chip, and where its harts start, is this project's own choice.
-use Rattle.std.specs.Prelude.{◌≡◌, ℕ, zero, suc, ◌<◌, ◌≤◌, false, List, [], ◌∷◌, ◌++◌, length, replicate, Option, None}
+use Rattle.std.specs.Prelude.{◌≡◌, ◌⊎◌, ℕ, zero, suc, ◌<◌, ◌≤◌, false, List, [], ◌∷◌, ◌++◌, length, replicate, Option, None, All}
 use Rattle.rv_model.specs.declared.cause.Cause.{Cause}
-use Rattle.rv_model.specs.Board.{Board, Hart, reset_hart}
+use Rattle.debug_model.specs.declared.event.Event.{Event}
+use Rattle.rv_model.specs.Board.{Board, Hart, halted_by_reset, reset_hart, runs}
 use Rattle.rv_model.specs.Image.{with_image}
 use Rattle.rv_model.specs.Memory.{IsRamSize, Memory, hart_places, map_of}
 use Rattle.debug_model.specs.Chip.{Chip, Inside, Live, no_counts}
@@ -48,7 +49,7 @@ pub record RightHarts (harts : ℕ) : Type 0 where
 abbrev pub Fits : List ℕ → ℕ → Type 0
 Fits image ram = length image ≤ ram
 
--- a chip as loaded, by some image, size, harts, start and schedule
+-- a chip as loaded, by some image of bytes, size, harts, start and schedule at its start
 pub record AsLoaded (l : Live) : Type 0 where
   pub image : List ℕ
   pub harts : ℕ
@@ -58,4 +59,8 @@ pub record AsLoaded (l : Live) : Type 0 where
   pub right : RightHarts harts
   pub size : IsRamSize ram
   pub fits : Fits image ram
+  pub bytes : All (λ b. b < 256) image
+  pub start : (halted ≡ runs) ⊎ (halted ≡ halted_by_reset)
+  pub rounds : All (λ (r : List Event). length r ≤ 8) plan.rounds
+  pub first : plan.place ≡ 0
   pub is : l ≡ live (loaded_chip (loaded_board image harts ram halted) plan)
