@@ -7,7 +7,7 @@ use Rattle.rv_model.specs.Effects.{effect_of}
 use Rattle.rv_model.specs.Memory.{Memory}
 use Rattle.rv_model.specs.Registers.{csr_value, csr_read_only}
 use Rattle.rv_model.specs.Rows.{meaning}
-use Rattle.debug_model.specs.Registers.{name_of_register, registers}
+use Rattle.debug_model.specs.Registers.{name_of_register, named_registers}
 use Rattle.debug_model.specs.Spelling.{hexadecimal}
 use Rattle.debugger_laws.specs.Debugger.{session, stepping, until}
 use Rattle.debugger_laws.specs.Examples.{Case, Happens, Holds, step_from_reset, break_twice, pc_onto_break, pc_onto_the_same_break, step_onto_break, count_five, watched_store, ebreak_halts, halt_running, five_breaks, hart_7, hart_1_running, read_only_register, misaligned_read, no_halt, no_ack, step_without_halt, step_without_ack, wait_in_vain, cut_in_a_step, foreign_request, StopsHappen, RefusalsHappen, LossesHappen, LinesRead}
@@ -166,7 +166,7 @@ losses_happen = record {
 -- ---- text
 
 pub lines_read : LinesRead
-unfolding hexadecimal name_of_register registers digits
+unfolding hexadecimal name_of_register named_registers digits
 lines_read = record {
   idcode = refl;
   stepped = refl;
