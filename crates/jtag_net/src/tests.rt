@@ -2,6 +2,8 @@ ghost use Rattle.std.specs.Prelude.{◌≡◌, ◌<◌, None, IfOk};
 
 use crate::{MemoryNet, NetWire, TcpNet};
 use debug_model::{End, Net, NetFault, Wire, WireFault};
+use std::io::{Read, Write};
+use std::net::TcpListener;
 use std::rt::HostRuntime;
 use std::test::Fail;
 
@@ -117,5 +119,42 @@ fn joined_nets_carry_bytes_both_ways(rt: HostRuntime) -> Result<(), Fail> {
             "call {call}"
         );
     }
+    Ok(())
+}
+
+#[test]
+#[tactic(auto, unfolding(debug_model::specs::Wire::are_open))]
+fn tcp_net_connects_and_sees_the_end(rt: HostRuntime) -> Result<(), Fail> {
+    let alloc = rt.alloc();
+    let listener = TcpListener::bind(&rt, "127.0.0.1:0")?;
+    let at = format!(in alloc; "{}", listener.local_addr()?)?;
+    let mut net = TcpNet::new(&rt);
+    net.connect(alloc, at.as_str())?;
+    let mut wire = NetWire::new(&mut net);
+    let mut peer = listener.accept()?.0;
+    let mut piece = [0; 4];
+    wire.send(b"0R4")?;
+    let count = peer.read(&mut piece)?;
+    peer.write_all(b"1")?;
+    drop(peer);
+    let mut answer = [0];
+    wire.recv(&mut answer)?;
+    assert_eq!(rt; (count, &piece, &answer), (3, b"0R4\0", b"1"));
+    assert_eq!(rt;
+        (wire.recv(&mut answer), wire.faults()),
+        (Err(WireFault::Ended), 1)
+    );
+    assert_eq!(rt; (net.faults(), net.ends()), (0, 1));
+    drop(listener);
+    let mut late = TcpNet::new(&rt);
+    assert_eq!(rt;
+        (late.connect(alloc, at.as_str()), late.faults()),
+        (Err(NetFault::Failed), 1)
+    );
+    let mut nowhere = TcpNet::new(&rt);
+    assert_eq!(rt;
+        (nowhere.accept(alloc, "nowhere"), nowhere.faults()),
+        (Err(NetFault::Failed), 1)
+    );
     Ok(())
 }
