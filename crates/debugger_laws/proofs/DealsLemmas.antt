@@ -12,8 +12,9 @@ use Rattle.debugger_laws.specs.Plan.{Change, Plan, is_step}
 use Rattle.debugger_laws.specs.Plan.Change.{ArmSlot, EbreakHalts, FreeSlot, StepDone, StepOver, WriteMem, WriteReg}
 use Rattle.debugger_laws.specs.Plan.Plan.{take, see, change, say}
 use Rattle.debugger_laws.specs.Slots.{any_hit, slots_at, slots_here}
-use Rattle.debugger_laws.specs.Stands.{Deals, Looked, Origin, Pointed, PointedWith, Rewrote, Stands, Target, WentOn}
+use Rattle.debugger_laws.specs.Stands.{Deals, Looked, Origin, Pointed, PointedWith, Rewrote, Target, WentOn}
 use Rattle.debugger_laws.specs.Transcript.{World, changed, passed, start}
+use Rattle.debugger_laws.specs.Turns.{after_turns}
 use Rattle.debugger_laws.specs.Ways.{Fits, Way}
 use Rattle.debugger_laws.specs.Ways.Way.{Idle, Still, Ready, Going, Holding, Asked, Over}
 use Rattle.debugger_laws.proofs.FrozenLemmas.{hart_change}
@@ -22,7 +23,7 @@ use Rattle.rv_model.specs.declared.slot.Slot.{Slot}
 use Rattle.debugger_laws.specs.Trace.{What}
 use Rattle.debugger_laws.proofs.SlotLemmas.{CanArm}
 use Rattle.debugger_laws.proofs.StoryLemmas.{same_number}
-use Rattle.debugger_laws.proofs.StandsLemmas.{IsTaken, at_plan, looked, put, seen_hart, shown, spin, starts, taken, taken_with, went_on, wrote}
+use Rattle.debugger_laws.proofs.StandsLemmas.{IsTaken, at_plan, looked, point_board, put, seen_hart, shown, spin, starts, taken, taken_seen, taken_with, went_on, wrote}
 use Rattle.debugger_laws.proofs.WorldLemmas.{HasSlot, known-arm, known-asked, known-ebreak, known-free, known-going, known-gone, known-halt_clear, known-halt_req, known-over, known-ready, known-rests, known-said, known-start, known-step_done, known-step_over, known-stepped, known-still, known-turn, known-unspent, known-write_mem, known-write_reg, known_idle}
 
 -- ---- turns
@@ -54,15 +55,23 @@ pub deals_taken : (m : Machine) (sel : ℕ) (way way' : Way) (o : Origin) (q : P
     → ((w : World) → IsKnown m sel way w → IsKnown m sel way' (passed q w)) → Deals m sel way o (take q next) lines old → Pointed q old new → Deals m sel way' o next lines new
 deals_taken m sel way way' o q next lines old new ok steps d at = record {
   stands = taken o q next lines old new ok d.stands at;
-  knows = steps (spin (d.stands.rest ++ at.harts) d.stands.world) (known-spin m sel way (d.stands.rest ++ at.harts) d.stands.world d.knows);
+  knows = steps (spin (d.stands.rest ++ at.before) d.stands.world) (known-spin m sel way (d.stands.rest ++ at.before) d.stands.world d.knows);
 }
 
--- a store of an access
-pub deals_stored : (m : Machine) (sel : ℕ) (way : Way) (o : Origin) (a count v : ℕ) (next : Plan) (lines : List Line) (old new : Target)
-    → Deals m sel way o (take Access (change (WriteMem a count v) next)) lines old → PointedWith Access (WriteMem a count v) old new → Deals m sel way o next lines new
-deals_stored m sel way o a count v next lines old new d at = record {
-  stands = taken_with o Access (WriteMem a count v) next lines old new tt d.stands at;
-  knows = known-write_mem m sel way a count v (spin (d.stands.rest ++ at.harts) d.stands.world) (known-spin m sel way (d.stands.rest ++ at.harts) d.stands.world d.knows);
+-- a load of an access: the plan goes on by what memory held there
+pub deals_loaded : (m : Machine) (sel : ℕ) (way : Way) (o : Origin) (next : Board → Plan) (lines : List Line) (old new : Target) → Deals m sel way o (take Access (see next)) lines old → (at : Pointed Access old new)
+    → Deals m sel way o (next (after_turns at.before old.board)) lines new
+deals_loaded m sel way o next lines old new d at = record {
+  stands = taken_seen o Access next lines old new tt d.stands at;
+  knows = known-spin m sel way (d.stands.rest ++ at.before) d.stands.world d.knows;
+}
+
+-- a store of an access, which the plan makes by what memory answers there
+pub deals_stored : (m : Machine) (sel : ℕ) (way : Way) (o : Origin) (a count v : ℕ) (next : Board → Plan) (rest : Plan) (lines : List Line) (old new : Target) → Deals m sel way o (take Access (see next)) lines old
+    → (at : PointedWith Access (WriteMem a count v) old new) → next (after_turns at.before old.board) ≡ change (WriteMem a count v) rest → Deals m sel way o rest lines new
+deals_stored m sel way o a count v next rest lines old new d at goes = record {
+  stands = taken_with o Access (WriteMem a count v) next rest lines old new tt d.stands at goes;
+  knows = known-write_mem m sel way a count v (spin (d.stands.rest ++ at.before) d.stands.world) (known-spin m sel way (d.stands.rest ++ at.before) d.stands.world d.knows);
 }
 
 -- ---- what is known of the selected hart
@@ -181,11 +190,11 @@ deals_ask m sel o next lines old new d at = deals_taken m sel Holding Asked o (R
 pub deals_looked : (m : Machine) (sel : ℕ) (way way' : Way) (o : Origin) (h : ℕ) (next : Seen → Plan) (now : Seen) (lines : List Line) (old new : Target)
     → ((w : World) → seen_at h w.board ≡ now → IsKnown m sel way w → IsKnown m sel way' w) → Deals m sel way o (look h next) lines old → Looked h now old new → Deals m sel way' o (next now) lines new
 deals_looked m sel way way' o h next now lines old new sees d at =
-    let v : Stands o (see (λ b. next (seen_at h b))) lines new = taken o (Look h) (see (λ b. next (seen_at h b))) lines old new tt d.stands at.pointed in
+    let w : World = spin (d.stands.rest ++ at.pointed.before) d.stands.world in
     record {
       stands = looked o h next now lines old new d.stands at;
-      knows = sees (spin (d.stands.rest ++ at.pointed.harts) d.stands.world) (sym (at.shows ∙ ap (seen_at h) v.board))
-          (known-spin m sel way (d.stands.rest ++ at.pointed.harts) d.stands.world d.knows);
+      knows = sees w (ap (seen_at h) (sym (point_board (Look h) d.stands.world old.board d.stands.rest at.pointed.before d.stands.board)) ∙ sym at.shows)
+          (known-spin m sel way (d.stands.rest ++ at.pointed.before) d.stands.world d.knows);
     }
 
 -- a command's Look that sees the hart halted

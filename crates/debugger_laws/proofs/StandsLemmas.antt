@@ -16,7 +16,7 @@ use Rattle.debugger_laws.specs.Own.{own}
 use Rattle.debugger_laws.specs.Plan.{Change, Plan, PlanEnd, changed_board, hart_over}
 use Rattle.debugger_laws.specs.Plan.Plan.{take, see, change, say, stop}
 use Rattle.debugger_laws.specs.Slots.{over}
-use Rattle.debugger_laws.specs.Stands.{IsTranscribed, Looked, Origin, Pointed, PointedWith, Rewrote, Stands, Target, WentOn}
+use Rattle.debugger_laws.specs.Stands.{Cut, CutWith, IsTranscribed, Left, Looked, Origin, Pointed, PointedWith, Rewrote, Stands, Target, WentOn}
 use Rattle.debugger_laws.specs.Transcript.{End, Outcome, World, changed, finish, graded, passed, replay, said, same_point, start, taking, trace}
 use Rattle.debugger_laws.specs.Turns.{after_turns, turns}
 use Rattle.debugger_laws.proofs.CutLemmas.{cut_boards}
@@ -131,43 +131,74 @@ went_on o p lines old new s went = record {
   spoken = s.spoken;
 }
 
-pub point_on : (o : Origin) (q : Point) (next : Plan) (w : World) (rest harts : List ℕ) (old new more : List Point) → IsTaken q
-    → ((j : List Point) → replay o.plan o.world (old ++ j) ≡ replay (take q next) w (turns rest ++ j)) → new ≡ old ++ (turns harts ++ q ∷ [])
-    → replay o.plan o.world (new ++ more) ≡ replay next (passed q (spin (rest ++ harts) w)) more
-point_on o q next w rest harts old new more ok replayed is =
-    ap (λ (j : List Point). replay o.plan o.world (j ++ more)) (is ∙ sym (append_assoc old (turns harts) (q ∷ [])))
-    ∙ ap (replay o.plan o.world) (append_assoc (old ++ turns harts) (q ∷ []) more)
-    ∙ journal_on o (take q next) w rest harts old (old ++ turns harts) (q ∷ more) replayed refl
-    ∙ replay-take q ok next (rest ++ harts) w more
+pub point_on : (o : Origin) (q : Point) (next : Plan) (w : World) (rest before behind : List ℕ) (old new more : List Point) → IsTaken q
+    → ((j : List Point) → replay o.plan o.world (old ++ j) ≡ replay (take q next) w (turns rest ++ j)) → new ≡ (old ++ turns before) ++ q ∷ turns behind
+    → replay o.plan o.world (new ++ more) ≡ replay next (passed q (spin (rest ++ before) w)) (turns behind ++ more)
+point_on o q next w rest before behind old new more ok replayed is =
+    ap (λ (j : List Point). replay o.plan o.world (j ++ more)) is
+    ∙ ap (replay o.plan o.world) (append_assoc (old ++ turns before) (q ∷ turns behind) more)
+    ∙ journal_on o (take q next) w rest before old (old ++ turns before) (q ∷ (turns behind ++ more)) replayed refl
+    ∙ replay-take q ok next (rest ++ before) w (turns behind ++ more)
 
-pub point_board : (q : Point) (w : World) (old new : Board) (rest harts : List ℕ) → old ≡ after_turns rest w.board → new ≡ after_point q (after_turns harts old) → new ≡ (passed q (spin (rest ++ harts) w)).board
-point_board q w old new rest harts before is =
-    is ∙ ap (after_point q) (ap (after_turns harts) before ∙ sym (after_turns-append rest harts w.board) ∙ sym (spin-board (rest ++ harts) w))
+-- the board at a point
+pub point_board : (q : Point) (w : World) (old : Board) (rest before : List ℕ) → old ≡ after_turns rest w.board → after_point q (after_turns before old) ≡ (passed q (spin (rest ++ before) w)).board
+point_board q w old rest before is =
+    ap (after_point q) (ap (after_turns before) is ∙ sym (after_turns-append rest before w.board) ∙ sym (spin-board (rest ++ before) w))
 
 -- a point is taken
 abbrev pub taken : (o : Origin) (q : Point) (next : Plan) (lines : List Line) (old new : Target) → IsTaken q → Stands o (take q next) lines old → Pointed q old new → Stands o next lines new
 taken o q next lines old new ok s at = record {
-  world = passed q (spin (s.rest ++ at.harts) s.world);
-  rest = [];
-  replayed = λ more. point_on o q next s.world s.rest at.harts old.journal new.journal more ok s.replayed at.journal;
-  board = point_board q s.world old.board new.board s.rest at.harts s.board at.board;
-  spoken = spin-lines (s.rest ++ at.harts) s.world ∙ s.spoken;
+  world = passed q (spin (s.rest ++ at.before) s.world);
+  rest = at.behind;
+  replayed = λ more. point_on o q next s.world s.rest at.before at.behind old.journal new.journal more ok s.replayed at.journal;
+  board = at.board ∙ ap (after_turns at.behind) (point_board q s.world old.board s.rest at.before s.board);
+  spoken = spin-lines (s.rest ++ at.before) s.world ∙ s.spoken;
 }
 
--- a point is taken, and a change goes with it
-abbrev pub taken_with : (o : Origin) (q : Point) (c : Change) (next : Plan) (lines : List Line) (old new : Target) → IsTaken q → Stands o (take q (change c next)) lines old → PointedWith q c old new → Stands o next lines new
-taken_with o q c next lines old new ok s at = record {
-  world = changed c (passed q (spin (s.rest ++ at.harts) s.world));
-  rest = [];
-  replayed = λ more. point_on o q (change c next) s.world s.rest at.harts old.journal new.journal more ok s.replayed at.journal
-      ∙ replay-change c next (passed q (spin (s.rest ++ at.harts) s.world)) more;
-  board = at.board ∙ ap (changed_board c) (point_board q s.world old.board (after_point q (after_turns at.harts old.board)) s.rest at.harts s.board refl);
-  spoken = spin-lines (s.rest ++ at.harts) s.world ∙ s.spoken;
+-- a point is taken, and the plan goes on by what the board shows there, as at a load
+abbrev pub taken_seen : (o : Origin) (q : Point) (next : Board → Plan) (lines : List Line) (old new : Target) → IsTaken q → Stands o (take q (see next)) lines old → (at : Pointed q old new)
+    → Stands o (next (after_point q (after_turns at.before old.board))) lines new
+taken_seen o q next lines old new ok s at = record {
+  world = passed q (spin (s.rest ++ at.before) s.world);
+  rest = at.behind;
+  replayed = λ more. point_on o q (see next) s.world s.rest at.before at.behind old.journal new.journal more ok s.replayed at.journal
+      ∙ replay-see next (passed q (spin (s.rest ++ at.before) s.world)) (turns at.behind ++ more)
+      ∙ ap (λ (b : Board). replay (next b) (passed q (spin (s.rest ++ at.before) s.world)) (turns at.behind ++ more)) (sym (point_board q s.world old.board s.rest at.before s.board));
+  board = at.board ∙ ap (after_turns at.behind) (point_board q s.world old.board s.rest at.before s.board);
+  spoken = spin-lines (s.rest ++ at.before) s.world ∙ s.spoken;
 }
+
+-- a point is taken, and a change goes with it: the one that the plan makes by what the board shows there, as at a store
+abbrev pub taken_with : (o : Origin) (q : Point) (c : Change) (next : Board → Plan) (rest : Plan) (lines : List Line) (old new : Target) → IsTaken q → Stands o (take q (see next)) lines old
+    → (at : PointedWith q c old new) → next (after_point q (after_turns at.before old.board)) ≡ change c rest → Stands o rest lines new
+taken_with o q c next rest lines old new ok s at goes = record {
+  world = changed c (passed q (spin (s.rest ++ at.before) s.world));
+  rest = at.behind;
+  replayed = λ more. point_on o q (see next) s.world s.rest at.before at.behind old.journal new.journal more ok s.replayed at.journal
+      ∙ replay-see next (passed q (spin (s.rest ++ at.before) s.world)) (turns at.behind ++ more)
+      ∙ ap (λ p. replay p (passed q (spin (s.rest ++ at.before) s.world)) (turns at.behind ++ more)) (ap next (sym (point_board q s.world old.board s.rest at.before s.board)) ∙ goes)
+      ∙ replay-change c rest (passed q (spin (s.rest ++ at.before) s.world)) (turns at.behind ++ more);
+  board = at.board ∙ ap (λ (b : Board). after_turns at.behind (changed_board c b)) (point_board q s.world old.board s.rest at.before s.board);
+  spoken = spin-lines (s.rest ++ at.before) s.world ∙ s.spoken;
+}
+
+-- ---- a fault in the course of a call
+
+pub left_at : (o : Origin) (p : Plan) (lines : List Line) (t : Target) → Stands o p lines t → Left o lines t
+left_at o p lines t s = record { plan = p; stands = s }
+
+pub left_cut : (o : Origin) (q : Point) (next : Plan) (lines : List Line) (old new : Target) → IsTaken q → Stands o (take q next) lines old → Cut q old new → Left o lines new
+left_cut o q next lines old new ok s (Cut.before went) = record { plan = take q next; stands = went_on o (take q next) lines old new s went }
+left_cut o q next lines old new ok s (Cut.behind pointed) = record { plan = next; stands = taken o q next lines old new ok s pointed }
+
+pub left_cut_with : (o : Origin) (q : Point) (c : Change) (next : Board → Plan) (rest : Plan) (lines : List Line) (old new : Target) → IsTaken q → Stands o (take q (see next)) lines old
+    → CutWith q c old new → ((at : PointedWith q c old new) → next (after_point q (after_turns at.before old.board)) ≡ change c rest) → Left o lines new
+left_cut_with o q c next rest lines old new ok s (CutWith.before went) goes = record { plan = take q (see next); stands = went_on o (take q (see next)) lines old new s went }
+left_cut_with o q c next rest lines old new ok s (CutWith.behind at) goes = record { plan = rest; stands = taken_with o q c next rest lines old new ok s at (goes at) }
 
 -- ---- what is seen and said
 
--- behind a point, and before any turn, the chip's board is the one that is seen
+-- a plan goes on by the board behind the last point
 abbrev pub seen : (o : Origin) (next : Board → Plan) (lines : List Line) (t : Target) (s : Stands o (see next) lines t) → Stands o (next s.world.board) lines t
 seen o next lines t s = record {
   world = s.world;
@@ -189,9 +220,8 @@ put o line next lines t s = record {
 -- a Look, and what it showed
 abbrev pub looked : (o : Origin) (h : ℕ) (next : Seen → Plan) (now : Seen) (lines : List Line) (old new : Target) → Stands o (look h next) lines old → Looked h now old new → Stands o (next now) lines new
 looked o h next now lines old new s at =
-    let v : Stands o (see (λ b. next (seen_at h b))) lines new = taken o (Look h) (see (λ b. next (seen_at h b))) lines old new tt s at.pointed in
-    at_plan o (next (seen_at h (spin (s.rest ++ at.pointed.harts) s.world).board)) (next now) lines new
-    (ap next (sym (at.shows ∙ ap (seen_at h) v.board))) (seen o (λ b. next (seen_at h b)) lines new v)
+    at_plan o (next (seen_at h (after_turns at.pointed.before old.board))) (next now) lines new (ap next (sym at.shows))
+    (taken_seen o (Look h) (λ b. next (seen_at h b)) lines old new tt s at.pointed)
 
 -- ---- what is read of a halted hart, and written to it
 

@@ -1,6 +1,6 @@
 -- How far a session is: what is left of its plan, and how the chip stands to it. It is what the code of a session keeps from call to call.
 -- It is this project's own.
-use Rattle.std.specs.Prelude.{◌≡◌, ℕ, List, [], ◌∷◌, ◌++◌, ◌+◌, Bool, true, false, IfSome, Option, Some}
+use Rattle.std.specs.Prelude.{◌≡◌, ℕ, List, ◌∷◌, ◌++◌, ◌+◌, Bool, true, false, IfSome, Option, Some}
 use Rattle.rv_model.specs.Board.{Board, Hart, Machine}
 use Rattle.debug_model.specs.declared.point.Point.{Point}
 use Rattle.debug_model.specs.declared.point.Point.TheVariants.{Look}
@@ -46,22 +46,24 @@ pub record WentOn (old new : Target) : Type 0 where
   pub board : new.board ≡ after_turns harts old.board
   pub journal : new.journal ≡ old.journal ++ turns harts
 
--- some turns, and then this point
+-- some turns, this point, and some turns more
 pub record Pointed (p : Point) (old new : Target) : Type 0 where
-  pub harts : List ℕ
-  pub board : new.board ≡ after_point p (after_turns harts old.board)
-  pub journal : new.journal ≡ old.journal ++ (turns harts ++ p ∷ [])
+  pub before : List ℕ
+  pub behind : List ℕ
+  pub board : new.board ≡ after_turns behind (after_point p (after_turns before old.board))
+  pub journal : new.journal ≡ (old.journal ++ turns before) ++ p ∷ turns behind
 
--- a Look, and what it showed
+-- a Look, and what it showed there
 pub record Looked (h : ℕ) (s : Seen) (old new : Target) : Type 0 where
   pub pointed : Pointed (Look h) old new
-  pub shows : s ≡ seen_at h new.board
+  pub shows : s ≡ seen_at h (after_turns pointed.before old.board)
 
--- some turns, then this point and with it this change, as the store of an access
+-- the same as a point, and with it this change, as the store of an access
 pub record PointedWith (p : Point) (c : Change) (old new : Target) : Type 0 where
-  pub harts : List ℕ
-  pub board : new.board ≡ changed_board c (after_point p (after_turns harts old.board))
-  pub journal : new.journal ≡ old.journal ++ (turns harts ++ p ∷ [])
+  pub before : List ℕ
+  pub behind : List ℕ
+  pub board : new.board ≡ after_turns behind (changed_board c (after_point p (after_turns before old.board)))
+  pub journal : new.journal ≡ (old.journal ++ turns before) ++ p ∷ turns behind
 
 -- some turns, and f done to hart h, without a point
 pub record Rewrote (f : Hart → Hart) (h : ℕ) (old new : Target) : Type 0 where
@@ -73,6 +75,16 @@ pub record Rewrote (f : Hart → Hart) (h : ℕ) (old new : Target) : Type 0 whe
 pub data Cut (p : Point) (old new : Target) : Type 0 where
   before : (went : WentOn old new) → Cut p old new
   behind : (pointed : Pointed p old new) → Cut p old new
+
+-- the same of a point with its change
+pub data CutWith (p : Point) (c : Change) (old new : Target) : Type 0 where
+  before : (went : WentOn old new) → CutWith p c old new
+  behind : (pointed : PointedWith p c old new) → CutWith p c old new
+
+-- what is left of a session behind a fault: some plan, and where it stands
+pub record Left (o : Origin) (lines : List Line) (t : Target) : Type 0 where
+  pub plan : Plan
+  pub stands : Stands o plan lines t
 
 -- ---- an object that tells of its chip
 
