@@ -1,7 +1,7 @@
 -- What a fault leaves behind and why it came: a told chip has taken a front of the call's bytes, and gives no bad answer.
-use Rattle.std.proofs.Common.{◌≡◌, ◌≢◌, ◌∙◌, ◌<◌, ◌≤◌, ◌+◌, ◌⊎◌, ℕ, suc, List, [], ◌∷◌, ◌++◌, Bool, true, false, length, map, drop, Option, Some, None, option_map, IfSome, refl, sym, ap, subst, arith, inl, inr, append-nil, append_assoc, Result, Ok, Err, IsErrAnd, IfErr, OnErr}
-use Rattle.debug_model.specs.Chip.{Chip, Inside, answer_byte, run}
-use Rattle.debug_model.specs.Scan.{BadCause, ResetCut, RoundsPassed, ScanCause, ScanCut, Script, Stage, WhereTold, WrongIn, capture, dr_bytes, dr_inside, ir_bytes, reset_bytes, ticks}
+use Rattle.std.proofs.Common.{◌≡◌, ◌≢◌, ◌∙◌, ◌<◌, ◌≤◌, ◌+◌, ◌⊎◌, ℕ, suc, List, [], ◌∷◌, ◌++◌, Bool, true, false, length, map, drop, Option, Some, None, option_map, IfSome, refl, sym, ap, subst, arith, inl, inr, append_assoc, Result, Ok, Err, IsErrAnd, IfErr, OnErr}
+use Rattle.debug_model.specs.Chip.{Chip, Inside, answer_byte}
+use Rattle.debug_model.specs.Scan.{ResetCut, RoundsPassed, ScanCause, ScanCut, Script, Stage, WhereTold, WrongIn, dr_bytes, ir_bytes, reset_bytes, ticks}
 use Rattle.debug_model.specs.Scan.{Answers, not_captured, captured, updated}
 use Rattle.debug_model.specs.Told.{Far, IsFree, IsIdle}
 use Rattle.debug_model.specs.Wire.{KeepsChip, ReadsFront, SentFront, TakesComing, sent}
@@ -9,7 +9,6 @@ use Rattle.debug_model.specs.declared.data_register.DataRegister.{DataRegister}
 use Rattle.debug_model.specs.declared.tap_state.TapState.{TapState}
 use Rattle.debug_model.specs.declared.tap_state.TapState.TheVariants.{TestLogicReset, RunTestIdle}
 use Rattle.debug_model.specs.declared.wire.WireFault.{WireFault}
-use Rattle.debug_model.specs.declared.wire.WireFault.TheVariants.{SendFailed, RecvFailed, Ended, BadAnswer}
 use Rattle.probe_scan.proofs.Along.{Along, along_front, dr_along, idle_along, ir_along, still_along}
 use Rattle.probe_scan.proofs.Ends.{TookFront, took_front}
 use Rattle.probe_scan.proofs.Paths.{chip_at, scan_inside}

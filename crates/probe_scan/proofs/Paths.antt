@@ -1,7 +1,7 @@
 -- What the paths of the host do to a chip that runs without ends: each clock computes, over rounds that stay closed, and n clocks are one induction.
-use Rattle.std.proofs.Common.{◌≡◌, ◌∙◌, ◌+◌, ◌<◌, ◌%◌, ◌/◌, ◌==◌, ℕ, zero, suc, List, [], ◌∷◌, ◌++◌, Bool, true, false, length, map, take, drop, refl, sym, subst, ap, append_assoc, arith}
+use Rattle.std.proofs.Common.{◌≡◌, ◌∙◌, ◌<◌, ℕ, zero, suc, List, [], ◌∷◌, ◌++◌, Bool, true, false, length, map, take, drop, refl, sym, subst, ap, append_assoc, arith}
 use Rattle.debug_model.specs.Chip.{Chip, Inside, answer_byte, fall, run, tick, told_by}
-use Rattle.debug_model.specs.Port.{Port, captured_code, data_register_of}
+use Rattle.debug_model.specs.Port.{captured_code, data_register_of}
 use Rattle.debug_model.specs.Scan.{asked_bits, asked_clock, capture, clock, comes_out, dr_bytes, dr_inside, dr_out, dr_stays, dtm_of, idle_port, ir_bytes, path, reset_bytes, sent_bits, stays, ticks, to_idle, to_shift_dr, to_shift_ir, update}
 use Rattle.debug_model.specs.Transport.{Dtm, captured_bits}
 use Rattle.debug_model.specs.declared.data_register.DataRegister.{DataRegister}

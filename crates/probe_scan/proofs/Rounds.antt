@@ -1,5 +1,5 @@
 -- How often TCK rose: each rise takes one round and counts it, whatever the TAP, the round and the module do.
-use Rattle.std.proofs.Common.{◌≡◌, ◌∙◌, ◌+◌, ◌≤◌, ℕ, zero, suc, List, [], ◌∷◌, ◌++◌, Bool, true, false, length, Option, Some, None, refl, ap, arith}
+use Rattle.std.proofs.Common.{◌≡◌, ◌∙◌, ◌+◌, ◌≤◌, ℕ, zero, suc, List, [], ◌∷◌, Bool, true, false, length, Option, Some, None, refl, ap, arith}
 use Rattle.debug_model.specs.Chip.{Chip, Inside, Works, after_event, after_events, busy_counted, counted, fall, lost_by, performed_by, rise, run, tick, works_risen}
 use Rattle.debug_model.specs.Port.{Port, rise_finds_busy}
 use Rattle.debug_model.specs.Scan.{path, ticks}

@@ -1,12 +1,11 @@
 -- What a reset, an instruction and a scan did at the far end of a wire that took all their bytes, over plain variables.
-use Rattle.std.proofs.Common.{◌≡◌, ◌≢◌, ◌∙◌, ◌<◌, ◌≤◌, ◌+◌, ◌==◌, ℕ, suc, List, [], ◌∷◌, ◌++◌, Bool, true, false, length, map, Option, Some, None, option_map, IfSome, IsTrue, refl, sym, ap, subst, arith, inl, inr, length-append, length-take, append-nil}
+use Rattle.std.proofs.Common.{◌≡◌, ◌∙◌, ◌<◌, ◌≤◌, ◌+◌, ◌==◌, ℕ, suc, List, [], ◌∷◌, ◌++◌, Bool, true, false, length, map, Option, Some, None, option_map, IfSome, IsTrue, refl, sym, ap, subst, arith, inl, inr, length-append, length-take, append-nil}
 use Rattle.std.proofs.lemmas.List.{length-map}
 use Rattle.debug_model.specs.Chip.{Chip, Inside, Live, answer_byte, feed, run, said, told_by}
 use Rattle.debug_model.specs.Port.{Port, data_register_of}
-use Rattle.debug_model.specs.Scan.{Scanned, Script, Selected, StoodAtRest, TookOut, WasReset, WhereTold, ComesOut, comes_out, dr_bytes, dr_out, dr_stays, far_at, idle_port, ir_bytes, reset_bytes, ticks}
+use Rattle.debug_model.specs.Scan.{Scanned, Selected, StoodAtRest, WasReset, WhereTold, ComesOut, comes_out, dr_bytes, dr_out, dr_stays, far_at, idle_port, ir_bytes, reset_bytes, ticks}
 use Rattle.debug_model.specs.Scan.{Answers}
 use Rattle.debug_model.specs.Told.{Far, IsFree, IsIdle, IsLive, IsOpen, IsRead}
-use Rattle.debug_model.specs.Transport.{captured_bits}
 use Rattle.debug_model.specs.Wire.{ReadsFront, TakesComing, are_open, sent}
 use Rattle.debug_model.specs.declared.data_register.DataRegister.{DataRegister}
 use Rattle.debug_model.specs.declared.data_register.DataRegister.TheVariants.{Idcode}

@@ -1,4 +1,4 @@
-use Rattle.std.proofs.Common.{◌≡◌, ◌∙◌, arith, inl}
+use Rattle.std.proofs.Common.{◌∙◌, arith, inl}
 use Rattle.std.proofs.lemmas.Grind.{common_steps}
 use Rattle.probe_scan.proofs.Faults.{bad_cause, bad_cut, err_cause, lost_cut, on_err, scan_cut_behind}
 use Rattle.probe_scan.proofs.Scans.{remembers, scan_between, scan_done, waiting}
