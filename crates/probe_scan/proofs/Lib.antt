@@ -1,0 +1,6 @@
+pub mod Along
+pub mod Ends
+pub mod Faults
+pub mod Paths
+pub mod Rounds
+pub mod Scans

@@ -1,0 +1,25 @@
+use Rattle.std.proofs.Common.{◌∙◌, inl}
+use Rattle.probe_scan.proofs.Faults.{on_err, reset_cut_behind}
+use Rattle.probe_scan.proofs.Scans.{reset_behind}
+use Rattle.probe_scan.proofs.scanner.ScannerScan.reset.Goals as goal
+
+pub send-requires-clause-piece : goal.send-requires-clause-piece
+send-requires-clause-piece g c = inl c.bytes.ensures.signs
+
+pub returns-in_err-send-clause-cut : goal.returns-in_err-send-clause-cut
+returns-in_err-send-clause-cut g c = on_err _ (reset_cut_behind c.bytes.result.now _ _ (c.bytes.ensures.bytes ∙ c.reset_batch.ensures) c.in_err-send.ensures.prefix c.requires.free)
+
+pub invariant_of-self-2 : goal.invariant_of-self-2
+invariant_of-self-2 g c = record { is_remembered = (reset_behind c.bytes.result.now _ _ (c.bytes.ensures.bytes ∙ c.reset_batch.ensures) c.in_ok-send.ensures.sent c.in_ok-send.ensures.live c.bytes.ensures.signs c.requires.read c.requires.free).rests.holds }
+
+pub returns-clause-reset : goal.returns-clause-reset
+returns-clause-reset g c = (reset_behind c.bytes.result.now _ _ (c.bytes.ensures.bytes ∙ c.reset_batch.ensures) c.in_ok-send.ensures.sent c.in_ok-send.ensures.live c.bytes.ensures.signs c.requires.read c.requires.free).reset
+
+pub returns-clause-read : goal.returns-clause-read
+returns-clause-read g c = (reset_behind c.bytes.result.now _ _ (c.bytes.ensures.bytes ∙ c.reset_batch.ensures) c.in_ok-send.ensures.sent c.in_ok-send.ensures.live c.bytes.ensures.signs c.requires.read c.requires.free).rests.read
+
+pub returns-clause-free : goal.returns-clause-free
+returns-clause-free g c = (reset_behind c.bytes.result.now _ _ (c.bytes.ensures.bytes ∙ c.reset_batch.ensures) c.in_ok-send.ensures.sent c.in_ok-send.ensures.live c.bytes.ensures.signs c.requires.read c.requires.free).rests.free
+
+pub returns-clause-idle : goal.returns-clause-idle
+returns-clause-idle g c = (reset_behind c.bytes.result.now _ _ (c.bytes.ensures.bytes ∙ c.reset_batch.ensures) c.in_ok-send.ensures.sent c.in_ok-send.ensures.live c.bytes.ensures.signs c.requires.read c.requires.free).rests.idle

@@ -1,0 +1,113 @@
+//! The bytes of the paths, and the bits of answers.
+
+ghost use Rattle.std.specs.Prelude.{◌≡◌, ◌≤◌, ◌<◌, ◌+◌, ◌*◌, ◌++◌, length, map, IfOk, IfErr};
+ghost use Rattle.debug_model.specs.Chip.{answer_byte};
+ghost use Rattle.debug_model.specs.Scan.{asked_bits, dr_bytes, ir_bytes, path, reset_bytes, sent_bits};
+ghost use Rattle.probe_scan.specs.Answers.{IsFirstBad};
+
+use bitbang_stream::{Batch, answer_bit};
+use debug_model::WireFault;
+use jt_base::Bits;
+
+/// The bits of the instruction register.
+const INSTRUCTION_BITS: u8 = 5;
+
+/// TMS from anywhere to Run-Test/Idle, through Test-Logic-Reset.
+const RESET_PATH: [bool; 6] = [true, true, true, true, true, false];
+
+/// TMS from Run-Test/Idle to Shift-DR.
+const SHIFT_DR_PATH: [bool; 3] = [true, false, false];
+
+/// TMS from Run-Test/Idle to Shift-IR.
+const SHIFT_IR_PATH: [bool; 4] = [true, true, false, false];
+
+/// TMS from Exit1-DR or Exit1-IR to Run-Test/Idle.
+const IDLE_PATH: [bool; 2] = [true, false];
+
+/// Appends a clock for each level of TMS, with TDI 0.
+fn push_path(batch: &mut Batch, levels: &[bool])
+    requires { length batch.old + 3 * length levels.now ≤ 256 }
+    ensures bytes { batch.new ≡ batch.old ++ path levels.now }
+    ensures room { length batch.new ≤ length batch.old + 3 * length levels.now }
+{
+    let mut rest = levels;
+    'levels: while let [tms, after @ ..] = rest {
+        batch.pulse(*tms, false, false);
+        rest = after;
+    }
+}
+
+/// Appends an asked clock for each bit, the last of them with TMS 1.
+fn push_asked(batch: &mut Batch, bits: Bits)
+    requires { length batch.old + 3 * length bits ≤ 256 }
+    ensures bytes { batch.new ≡ batch.old ++ asked_bits bits }
+    ensures room { length batch.new ≤ length batch.old + 3 * length bits }
+{
+    let mut rest = bits;
+    'clocks: while let Some(bit) = rest.pop() {
+        batch.pulse(rest.is_empty(), bit, true);
+    }
+}
+
+/// Appends a clock for each bit, the last of them with TMS 1.
+fn push_sent(batch: &mut Batch, bits: Bits)
+    requires { length batch.old + 3 * length bits ≤ 256 }
+    ensures bytes { batch.new ≡ batch.old ++ sent_bits bits }
+    ensures room { length batch.new ≤ length batch.old + 3 * length bits }
+{
+    let mut rest = bits;
+    'clocks: while let Some(bit) = rest.pop() {
+        batch.pulse(rest.is_empty(), bit, false);
+    }
+}
+
+/// The bytes of a reset.
+pub fn reset_batch() -> Batch
+    ensures { result ≡ reset_bytes }
+{
+    let mut batch = Batch::new();
+    push_path(&mut batch, &RESET_PATH);
+    batch
+}
+
+/// The bytes of a scan of this instruction code.
+pub fn ir_batch(code: u8) -> Batch
+    ensures { result ≡ ir_bytes code }
+{
+    let mut batch = Batch::new();
+    push_path(&mut batch, &SHIFT_IR_PATH);
+    push_sent(
+        &mut batch,
+        Bits::from_u64(u64::from(code), INSTRUCTION_BITS),
+    );
+    push_path(&mut batch, &IDLE_PATH);
+    batch
+}
+
+/// The bytes of a scan of these bits, at most 64.
+pub fn dr_batch(bits: Bits) -> Batch
+    requires { length bits ≤ 64 }
+    ensures { result ≡ dr_bytes bits }
+{
+    let mut batch = Batch::new();
+    push_path(&mut batch, &SHIFT_DR_PATH);
+    push_asked(&mut batch, bits);
+    push_path(&mut batch, &IDLE_PATH);
+    batch
+}
+
+/// The bits of at most 64 answers, in order. The first that is neither `0` nor `1` is refused.
+pub fn read_bits(answers: &[u8]) -> Result<Bits, WireFault>
+    requires { length answers.now ≤ 64 }
+    ensures bits { IfOk result (λ bits. answers.now ≡ map answer_byte bits) }
+    ensures bad { IfErr result (IsFirstBad answers.now) }
+{
+    let mut bits = Bits::new();
+    let mut rest = answers;
+    'answers: while let [byte, after @ ..] = rest {
+        let bit = answer_bit(*byte)?;
+        bits.push(bit);
+        rest = after;
+    }
+    Ok(bits)
+}

@@ -1,0 +1,79 @@
+ghost use Rattle.std.specs.Prelude.{◌≡◌, [], ◌++◌, Some, None, IfNone, option_to_list};
+ghost use Rattle.debug_model.specs.Scan.{Numbers};
+ghost use Rattle.debug_model.specs.Ties.{no_ties};
+
+use arrayvec::ArrayVec;
+use debug_model::{Scan, WireFault};
+use jt_base::{Bits, count_fault};
+
+/// How many numbers a script holds at most.
+const NUMBERS_MOST: usize = 128;
+
+/// Scans without a chip: what comes out is given beforehand.
+///
+/// Each `dr` answers the lowest bits of the next number, as many as were sent. Where none is left it counts a fault and
+/// answers `RecvFailed`. `reset` and `ir` are Ok. It takes no memory.
+#[derive(Drop)]
+pub struct ScriptedScan {
+    numbers: ArrayVec<u64, NUMBERS_MOST>,
+    failed: u64,
+}
+
+impl ScriptedScan {
+    /// Scans that take out these numbers, the first first.
+    pub fn new(answers: ArrayVec<u64, NUMBERS_MOST>) -> Self
+        ensures numbers { result.numbers ≡ answers }
+        ensures failed { result.failed ≡ 0 }
+    {
+        ScriptedScan {
+            numbers: answers,
+            failed: 0,
+        }
+    }
+}
+
+/// Takes the first of these numbers, or None where there is none.
+fn take_first(numbers: &mut ArrayVec<u64, NUMBERS_MOST>) -> Option<u64>
+    ensures taken { numbers.old.items ≡ option_to_list result ++ numbers.new.items }
+    ensures none { IfNone result (numbers.old.items ≡ []) }
+{
+    if numbers.is_empty() {
+        return None;
+    }
+    Some(numbers.remove(0))
+}
+
+impl Scan for ScriptedScan {
+    ghost far = { λ _. None };
+
+    ghost script = { λ s. Some (Numbers s.numbers.items) };
+
+    ghost fault_count = { λ s. s.failed };
+
+    ghost slack = { λ _. None };
+
+    ghost ties = { λ _. no_ties };
+
+    fn reset(&mut self) -> Result<(), WireFault> {
+        Ok(())
+    }
+
+    fn ir(&mut self, code: u8) -> Result<(), WireFault> {
+        let _code = code;
+        Ok(())
+    }
+
+    fn dr(&mut self, bits: Bits) -> Result<Bits, WireFault> {
+        match take_first(&mut self.numbers) {
+            Some(number) => Ok(Bits::from_u64(number, bits.len())),
+            None => {
+                count_fault(&mut self.failed);
+                Err(WireFault::RecvFailed)
+            }
+        }
+    }
+
+    fn faults(&self) -> u64 {
+        self.failed
+    }
+}
