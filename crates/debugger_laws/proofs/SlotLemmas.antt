@@ -22,7 +22,7 @@ use Rattle.debugger_laws.specs.FirstMatch.{armed_matches, has_here, matches}
 use Rattle.debugger_laws.specs.Slots.{armed_for, freed, trigger_back, trigger_forgotten, trigger_has_hit, trigger_held, with_trigger}
 use Rattle.debugger_laws.specs.Trace.{What}
 use Rattle.debugger_laws.specs.Trace.What.{Break, Watch, Count}
-use Rattle.debugger_laws.specs.Ways.{HasRunDown, IsAt, IsSlotFor, Like, trigger_of}
+use Rattle.debugger_laws.specs.Ways.{HasRunDown, IsAt, IsSlotFor, Like, trigger_like}
 
 -- ---- what an instruction touches stands at its pc
 
@@ -45,7 +45,7 @@ touch-pc c m = touch-pc_fetched (loaded m c.pc B4) c
 -- ---- when it fires
 
 trigger-fires : (c : Core) (mem : Memory) (m hit : Bool) (what : What) (n : ℕ) (st : Bool) (tdata2 : ℕ) → IsAt what tdata2
-    → trigger_fires (trigger_of m hit what n st) tdata2 (touch_of c mem) ≡ (m && matches what c mem n st)
+    → trigger_fires (trigger_like m hit what n st) tdata2 (touch_of c mem) ≡ (m && matches what c mem n st)
 trigger-fires c mem m hit (Break a) n st tdata2 at =
     ap (λ b. m && b) (or-false ((touch_of c mem).pc == tdata2) ∙ ap (λ p. p == tdata2) (touch-pc c mem) ∙ ap (λ t. c.pc == t) at)
 trigger-fires c mem m hit (Watch Load a) n st tdata2 at =
@@ -127,7 +127,7 @@ count-next true hit turns n st calm run_down off = elim (cases_lt n turns) [
 -- ---- an execution at which it does not fire
 
 trigger-counted : (what : What) (c : Core) (mem : Memory) (m hit : Bool) (n : ℕ) (st : Bool) → (m && matches what c mem n st) ≡ false → (st ≡ true → HasRunDown what n) → (m ≡ false → st ≡ true)
-    → trigger_counted (trigger_of m hit what n st) ≡ trigger_of m hit what (n + 1) st
+    → trigger_counted (trigger_like m hit what n st) ≡ trigger_like m hit what (n + 1) st
 trigger-counted (Break a) c mem m hit n st calm run_down off = refl
 trigger-counted (Watch Load a) c mem m hit n st calm run_down off = refl
 trigger-counted (Watch Store a) c mem m hit n st calm run_down off = refl
@@ -153,7 +153,7 @@ slot-counted c mem (Some s) (Some what) m hit n st is calm off = record {
 
 -- ---- a stop at which it fires or not
 
-trigger-hit : (what : What) (m hit : Bool) (n : ℕ) (st : Bool) → trigger_hit (trigger_of m hit what n st) ≡ trigger_of m true what n true
+trigger-hit : (what : What) (m hit : Bool) (n : ℕ) (st : Bool) → trigger_hit (trigger_like m hit what n st) ≡ trigger_like m true what n true
 trigger-hit (Break a) m hit n st = refl
 trigger-hit (Watch Load a) m hit n st = refl
 trigger-hit (Watch Store a) m hit n st = refl
@@ -206,7 +206,7 @@ down a false le is = refl
 
 -- a change of its trigger that leaves the story alone
 lifted : (f : Trigger → Trigger) (o : Option Slot) (a : Option What) (m hit m' hit' : Bool) (n : ℕ) (st : Bool)
-    → ((what : What) → f (trigger_of m hit what n st) ≡ trigger_of m' hit' what n st) → f kind.Disabled ≡ kind.Disabled → (hit' ≡ true → hit ≡ true)
+    → ((what : What) → f (trigger_like m hit what n st) ≡ trigger_like m' hit' what n st) → f kind.Disabled ≡ kind.Disabled → (hit' ≡ true → hit ≡ true)
     → IsSlotFor o a m hit n st → IsSlotFor (option_map (with_trigger f) o) a m' hit' n st
 lifted f None None m hit m' hit' n st each free le is = down hit hit' le is
 lifted f None (Some what) m hit m' hit' n st each free le is = is
@@ -218,21 +218,21 @@ lifted f (Some s) (Some what) m hit m' hit' n st each free le is = record {
   hit_stopped = λ t. is.hit_stopped (le t);
 }
 
-trigger-held : (m hit : Bool) (n : ℕ) (st : Bool) (what : What) → trigger_held (trigger_of m hit what n st) ≡ trigger_of (m && not hit) hit what n st
+trigger-held : (m hit : Bool) (n : ℕ) (st : Bool) (what : What) → trigger_held (trigger_like m hit what n st) ≡ trigger_like (m && not hit) hit what n st
 trigger-held m hit n st (Break a) = refl
 trigger-held m hit n st (Watch Load a) = refl
 trigger-held m hit n st (Watch Store a) = refl
 trigger-held m hit n st (Watch Access a) = refl
 trigger-held m hit n st (Count turns) = refl
 
-trigger-back : (m hit : Bool) (n : ℕ) (st : Bool) (what : What) → trigger_back (trigger_of m hit what n st) ≡ trigger_of (m || hit) hit what n st
+trigger-back : (m hit : Bool) (n : ℕ) (st : Bool) (what : What) → trigger_back (trigger_like m hit what n st) ≡ trigger_like (m || hit) hit what n st
 trigger-back m hit n st (Break a) = refl
 trigger-back m hit n st (Watch Load a) = refl
 trigger-back m hit n st (Watch Store a) = refl
 trigger-back m hit n st (Watch Access a) = refl
 trigger-back m hit n st (Count turns) = refl
 
-trigger-forgotten : (m hit : Bool) (n : ℕ) (st : Bool) (what : What) → trigger_forgotten (trigger_of m hit what n st) ≡ trigger_of m false what n st
+trigger-forgotten : (m hit : Bool) (n : ℕ) (st : Bool) (what : What) → trigger_forgotten (trigger_like m hit what n st) ≡ trigger_like m false what n st
 trigger-forgotten m hit n st (Break a) = refl
 trigger-forgotten m hit n st (Watch Load a) = refl
 trigger-forgotten m hit n st (Watch Store a) = refl
@@ -248,7 +248,7 @@ slot-back o a m hit n st is = lifted trigger_back o a m hit (m || hit) hit n st 
 pub slot-forgotten : (o : Option Slot) (a : Option What) (m hit : Bool) (n : ℕ) (st : Bool) → IsSlotFor o a m hit n st → IsSlotFor (option_map (with_trigger trigger_forgotten) o) a m false n st
 slot-forgotten o a m hit n st is = lifted trigger_forgotten o a m hit m false n st (trigger-forgotten m hit n st) refl (λ t. absurd (false≢true t)) is
 
-trigger-hit_is : (what : What) (m hit : Bool) (n : ℕ) (st : Bool) → trigger_has_hit (trigger_of m hit what n st) ≡ hit
+trigger-hit_is : (what : What) (m hit : Bool) (n : ℕ) (st : Bool) → trigger_has_hit (trigger_like m hit what n st) ≡ hit
 trigger-hit_is (Break a) m hit n st = refl
 trigger-hit_is (Watch Load a) m hit n st = refl
 trigger-hit_is (Watch Store a) m hit n st = refl
@@ -268,7 +268,7 @@ CanArm (Break a) = Unit {0}
 CanArm (Watch watched a) = Unit {0}
 CanArm (Count turns) = 1 ≤ turns
 
-armed-trigger : (what : What) (s : Slot) → CanArm what → (armed_for what s).trigger ≡ trigger_of true false what 0 false
+armed-trigger : (what : What) (s : Slot) → CanArm what → (armed_for what s).trigger ≡ trigger_like true false what 0 false
 armed-trigger (Break a) s can = refl
 armed-trigger (Watch Load a) s can = refl
 armed-trigger (Watch Store a) s can = refl

@@ -25,10 +25,10 @@ watch_like m hit Store = address_like m hit false false true
 watch_like m hit Access = address_like m hit false true true
 
 -- the trigger of a slot that is on or off, with or without a hit, and was armed for this, so many executions and maybe a stop ago
-abbrev pub trigger_of : (m hit : Bool) → What → (execs : ℕ) → (stopped : Bool) → Trigger
-trigger_of m hit (Break address) execs stopped = address_like m hit true false false
-trigger_of m hit (Watch watched address) execs stopped = watch_like m hit watched
-trigger_of m hit (Count turns) execs stopped = kind.Icount (record { hit = hit; count = turns - execs; m = m; pending = execs == turns && not stopped })
+abbrev pub trigger_like : (m hit : Bool) → What → (execs : ℕ) → (stopped : Bool) → Trigger
+trigger_like m hit (Break address) execs stopped = address_like m hit true false false
+trigger_like m hit (Watch watched address) execs stopped = watch_like m hit watched
+trigger_like m hit (Count turns) execs stopped = kind.Icount (record { hit = hit; count = turns - execs; m = m; pending = execs == turns && not stopped })
 
 abbrev pub IsAt : What → ℕ → Type 0
 IsAt (Break address) tdata2 = tdata2 ≡ address
@@ -41,7 +41,7 @@ HasRunDown (Watch watched address) execs = Unit {0}
 HasRunDown (Count turns) execs = turns ≤ execs
 
 pub record Like (m hit : Bool) (what : What) (execs : ℕ) (stopped : Bool) (s : Slot) : Type 0 where
-  pub trigger : s.trigger ≡ trigger_of m hit what execs stopped
+  pub trigger : s.trigger ≡ trigger_like m hit what execs stopped
   pub at : IsAt what s.tdata2
   pub run_down : stopped ≡ true → HasRunDown what execs
   pub hit_stopped : hit ≡ true → stopped ≡ true
