@@ -9,6 +9,7 @@ use Rattle.rv_model.specs.declared.slot.Slot.{Slot}
 use Rattle.rv_model.specs.declared.slot.Trigger.{Trigger}
 use Rattle.rv_model.specs.declared.slot.Trigger.TheVariants as kind
 use Rattle.rv_model.specs.Board.{Board, DebugPart, Hart}
+use Rattle.rv_model.specs.TriggerWords.{tdata1_of}
 use Rattle.debug_model.specs.declared.command.WatchKind.{WatchKind}
 use Rattle.debug_model.specs.declared.command.WatchKind.TheVariants.{Load, Store, Access}
 use Rattle.debugger_laws.specs.Trace.{What}
@@ -115,23 +116,6 @@ pub data Use : Type 0 where
   Armed : (what : What) → Use  -- for a count: with the turns that are left
   Unused : Use
   Other : (tdata1 : ℕ) → Use  -- nothing that a script arms
-
-abbrev pub bit : ℕ → Bool → ℕ
-bit place true = 2 ^ place
-bit place false = 0
-
--- the field `match` of mcontrol6
-abbrev pub match_number : Comparison → ℕ
-match_number Equal = 0
-match_number AtLeast = 2
-match_number Below = 3
-
--- tdata1 as a number: type in bits 63 to 60, dmode in bit 59, and the fields of the type
-abbrev pub tdata1_of : Trigger → ℕ
-tdata1_of (kind.Mcontrol6 t) =
-    0x6800000000001000 + bit 22 t.hit + match_number t.comparison * 2 ^ 7 + bit 6 t.m + bit 2 t.execute + bit 1 t.store + bit 0 t.load
-tdata1_of (kind.Icount t) = 0x3800000000000001 + bit 24 t.hit + t.count * 2 ^ 10 + bit 9 t.m + bit 8 t.pending
-tdata1_of kind.Disabled = 0xf800000000000000
 
 -- by: m, execute, load, store of a comparison for equality
 abbrev pub use_by : Bool → Bool → Bool → Bool → ℕ → ℕ → Use
