@@ -1,13 +1,12 @@
 -- While a command is under way its hart stays halted, with no resume asked of it.
-use Rattle.std.proofs.Common.{◌≡◌, ℕ, ◌<◌, Bool, true, false, cond, List, [], ◌∷◌, ◌++◌, length, set, Option, Some, None, slice_get, refl, sym, ap, subst, ◌∙◌, inl, inr, not}
+use Rattle.std.proofs.Common.{◌≡◌, ℕ, Bool, true, false, cond, List, [], ◌∷◌, set, Option, Some, None, slice_get, refl, sym, ap, subst, ◌∙◌, inl, inr, not}
 use Rattle.std.proofs.lemmas.Bool.{cases_eq}
 use Rattle.std.proofs.lemmas.Option.{slice_get_within}
 use Rattle.rv_model.specs.declared.cause.Cause.{Cause}
-use Rattle.rv_model.specs.Board.{Board, DebugPart, Hart}
+use Rattle.rv_model.specs.Board.{DebugPart, Hart}
 use Rattle.rv_model.specs.DebugLaws.{SameRequests}
 use Rattle.rv_model.specs.DebugRegisters.{debug_value}
 use Rattle.rv_model.specs.Memory.{Memory}
-use Rattle.rv_model.specs.ProgramBuffer.{ran_word}
 use Rattle.rv_model.specs.Execute.{exec_of}
 use Rattle.rv_model.specs.Touch.{touch_of}
 use Rattle.rv_model.specs.Turn.{place_by, place_of, some_fires, stops_at_ebreak}
@@ -26,8 +25,8 @@ use Rattle.debug_model.specs.declared.micro.Micro.TheVariants.{Transfer, Run}
 use Rattle.debug_model.specs.declared.module_register.ModuleRegister.{ModuleRegister}
 use Rattle.debug_model.specs.declared.module_register.ModuleRegister.TheVariants.{Word, Dmcontrol as dmcontrol, Dmstatus as dmstatus, Abstractcs, Command, Abstractauto, Sbcs, Sbaddress0, Sbaddress1, Sbdata0, Sbdata1, Haltsum0, Nothing}
 use Rattle.debug_model.specs.Commands.{CommandUnit, Stepped, auto_started, abstractauto_written, abstractcs_written, busy, can_transfer, command_kept, command_written, is_auto, is_held, is_supported, is_under_way, micro_step, refusal, serves, start, start_unless, started_by, step_by, transferred, with_word, word_read, word_written}
-use Rattle.debug_model.specs.Deeds.{bus_stepped, command_stepped, stepped_by, turned, turned_by}
-use Rattle.debug_model.specs.Module.{DebugModule, Site, after_read, controlled_by, operated, read_by, register_at, write_by, written_by}
+use Rattle.debug_model.specs.Deeds.{command_stepped, stepped_by, turned_by}
+use Rattle.debug_model.specs.Module.{DebugModule, Site, controlled_by, operated, read_by, register_at, write_by, written_by}
 use Rattle.debug_model.specs.ModuleWords.{dmcontrol_of}
 use Rattle.debug_model.specs.declared.point.Point.{Point}
 use Rattle.dbg_module.specs.Sites.{site_of, bare_site}

@@ -14,7 +14,7 @@ use Rattle.debug_model.specs.Commands.{busy}
 use Rattle.debug_model.specs.Journal.{after_journal, after_point, debug_changed, debug_changed_by, halt_requested, resume_asked, with_debug}
 use Rattle.debug_model.specs.Module.{DebugModule, Site, register_at, operated, operation_result, read_by, write_by, written_by, result_by, controlled_by, acknowledged, asked, control_points, halt_points, resume_points, reset_known}
 use Rattle.debug_model.specs.ModuleWords.{dmcontrol_of}
-use Rattle.dbg_module.specs.Requests.{halt_asked, resume_asked_unless, requested, harts_requested}
+use Rattle.dbg_module.specs.Requests.{halt_asked, resume_asked_unless, harts_requested}
 use Rattle.dbg_module.specs.Sites.{site_of, bare_site}
 
 -- ---- what is asked of the selected hart

@@ -1,6 +1,6 @@
 -- A site by its parts, and the site on which an operation is looked at: memory and the journal before it tell nothing of what it does.
-use Rattle.std.specs.Prelude.{List, [], ◌++◌}
-use Rattle.rv_model.specs.Board.{Board, Hart}
+use Rattle.std.specs.Prelude.{List, []}
+use Rattle.rv_model.specs.Board.{Hart}
 use Rattle.rv_model.specs.Memory.{Memory, map_of}
 use Rattle.debug_model.specs.declared.point.Point.{Point}
 use Rattle.debug_model.specs.Module.{DebugModule, Site}

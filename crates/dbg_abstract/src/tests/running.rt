@@ -118,7 +118,7 @@ fn executes_the_program_buffer(rt: HostRuntime) {
         unit.write_command(EXECUTE, Some(&hart));
         assert_eq!(rt; run(&rt, &mut unit, &mut hart, &mut ram), steps);
         assert_eq!(rt; unit.cmderr(), error);
-        assert_eq!(rt; hart.hart().x(8) - FIRST, added);
+        assert_eq!(rt; hart.hart().x(8).wrapping_sub(FIRST), added);
         assert_eq!(rt; hart.hart().x(9), x9);
         assert_eq!(rt; hart.hart().pc(), FIRST);
         assert!(rt; hart.is_halted());

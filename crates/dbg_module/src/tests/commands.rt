@@ -1,5 +1,6 @@
 use super::bench::{
-    ABSTRACTAUTO, ABSTRACTCS, Bench, COMMAND, DATA0, DATA1, DMCONTROL, EBREAK, PROGBUF0, SBADDRESS0, SBCS, SBDATA0,
+    ABSTRACTAUTO, ABSTRACTCS, Bench, COMMAND, DATA0, DATA1, DMCONTROL, EBREAK, PROGBUF0,
+    SBADDRESS0, SBCS, SBDATA0,
 };
 use debug_model::DmiOp;
 use hart_debug::Start;
@@ -51,7 +52,14 @@ fn serves_the_selected_hart_alone(rt: HostRuntime) {
 #[test]
 fn starts_again_at_each_word_of_abstractauto(rt: HostRuntime) {
     // The address of a word, its bit, and whether it is read or written.
-    for (address, bit) in [(0x04, 0), (0x05, 1), (0x20, 16), (0x21, 17), (0x22, 18), (0x23, 19)] {
+    for (address, bit) in [
+        (0x04, 0),
+        (0x05, 1),
+        (0x20, 16),
+        (0x21, 17),
+        (0x22, 18),
+        (0x23, 19),
+    ] {
         for reads in [false, true] {
             let mut bench = Bench::new(rt.alloc(), Start::Halted).expect(&rt, "the smallest RAM");
             bench.write(DMCONTROL, 1);
@@ -59,7 +67,11 @@ fn starts_again_at_each_word_of_abstractauto(rt: HostRuntime) {
             bench.write(COMMAND, 0x0004_0000);
             bench.run();
             bench.write(ABSTRACTAUTO, 1 << bit);
-            let op = if reads { DmiOp::Read(address) } else { DmiOp::Write(address, EBREAK) };
+            let op = if reads {
+                DmiOp::Read(address)
+            } else {
+                DmiOp::Write(address, EBREAK)
+            };
             let performed = bench.perform(op);
             assert!(rt; performed.points.is_empty());
             assert_eq!(rt; bench.read(ABSTRACTCS), 0x0400_1002);

@@ -1,4 +1,6 @@
-use super::bench::{ABSTRACTCS, Bench, DATA0, DMCONTROL, DMSTATUS, HALTSUM0, SBADDRESS0, SBCS, SBDATA0, COMMAND};
+use super::bench::{
+    ABSTRACTCS, Bench, COMMAND, DATA0, DMCONTROL, DMSTATUS, HALTSUM0, SBADDRESS0, SBCS, SBDATA0,
+};
 use crate::Performed;
 use debug_model::{DmiOp, Point};
 use hart_debug::Start;
@@ -13,21 +15,112 @@ fn told_by(performed: &Performed) -> [Option<Point>; 2] {
 fn selects_a_hart_and_then_asks_it(rt: HostRuntime) {
     // Whether hart 1 runs, a word of dmcontrol written before, one written then, what the journal has of that, and dmstatus and dmcontrol behind it.
     let cases = [
-        (Start::Running, 0, 0x0000_0001, [None, None], 0x000c_0383, 0x0000_0001),
-        (Start::Running, 0, 0x0001_0001, [None, None], 0x000c_0c83, 0x0001_0001),
-        (Start::Running, 0, 0x0002_0001, [None, None], 0x0000_c083, 0x0002_0001),
-        (Start::Running, 0, 0xffff_ffff, [None, None], 0x0000_c083, 0x03ff_0001),
+        (
+            Start::Running,
+            0,
+            0x0000_0001,
+            [None, None],
+            0x000c_0383,
+            0x0000_0001,
+        ),
+        (
+            Start::Running,
+            0,
+            0x0001_0001,
+            [None, None],
+            0x000c_0c83,
+            0x0001_0001,
+        ),
+        (
+            Start::Running,
+            0,
+            0x0002_0001,
+            [None, None],
+            0x0000_c083,
+            0x0002_0001,
+        ),
+        (
+            Start::Running,
+            0,
+            0xffff_ffff,
+            [None, None],
+            0x0000_c083,
+            0x03ff_0001,
+        ),
         // Bits of no meaning here are ignored.
-        (Start::Running, 0, 0x0c00_ffff, [None, None], 0x000c_0383, 0x0000_0001),
-        (Start::Running, 0, 0x1001_0001, [None, None], 0x0000_0c83, 0x0001_0001),
+        (
+            Start::Running,
+            0,
+            0x0c00_ffff,
+            [None, None],
+            0x000c_0383,
+            0x0000_0001,
+        ),
+        (
+            Start::Running,
+            0,
+            0x1001_0001,
+            [None, None],
+            0x0000_0c83,
+            0x0001_0001,
+        ),
         // Requests, of the hart that is selected by the same write.
-        (Start::Running, 0, 0x8001_0001, [Some(Point::HaltReq(1)), None], 0x000c_0c83, 0x0001_0001),
-        (Start::Running, 0x8001_0001, 0x0001_0001, [Some(Point::HaltClear(1)), None], 0x000c_0c83, 0x0001_0001),
-        (Start::Running, 0x8000_0001, 0x0001_0001, [None, None], 0x000c_0c83, 0x0001_0001),
-        (Start::Running, 0x8001_0001, 0x4001_0001, [Some(Point::HaltClear(1)), Some(Point::ResumeReq(1))], 0x000c_0c83, 0x0001_0001),
-        (Start::Running, 0, 0x4001_0001, [Some(Point::ResumeReq(1)), None], 0x000c_0c83, 0x0001_0001),
-        (Start::Running, 0, 0xc000_0001, [Some(Point::HaltReq(0)), None], 0x000c_0383, 0x0000_0001),
-        (Start::Running, 0x8000_0001, 0x8000_0001, [Some(Point::HaltReq(0)), None], 0x000c_0383, 0x0000_0001),
+        (
+            Start::Running,
+            0,
+            0x8001_0001,
+            [Some(Point::HaltReq(1)), None],
+            0x000c_0c83,
+            0x0001_0001,
+        ),
+        (
+            Start::Running,
+            0x8001_0001,
+            0x0001_0001,
+            [Some(Point::HaltClear(1)), None],
+            0x000c_0c83,
+            0x0001_0001,
+        ),
+        (
+            Start::Running,
+            0x8000_0001,
+            0x0001_0001,
+            [None, None],
+            0x000c_0c83,
+            0x0001_0001,
+        ),
+        (
+            Start::Running,
+            0x8001_0001,
+            0x4001_0001,
+            [Some(Point::HaltClear(1)), Some(Point::ResumeReq(1))],
+            0x000c_0c83,
+            0x0001_0001,
+        ),
+        (
+            Start::Running,
+            0,
+            0x4001_0001,
+            [Some(Point::ResumeReq(1)), None],
+            0x000c_0c83,
+            0x0001_0001,
+        ),
+        (
+            Start::Running,
+            0,
+            0xc000_0001,
+            [Some(Point::HaltReq(0)), None],
+            0x000c_0383,
+            0x0000_0001,
+        ),
+        (
+            Start::Running,
+            0x8000_0001,
+            0x8000_0001,
+            [Some(Point::HaltReq(0)), None],
+            0x000c_0383,
+            0x0000_0001,
+        ),
         // A module that is told to stop working asks nobody, and forgets the selection.
         (Start::Running, 0x0001_0001, 0x8001_0000, [None, None], 0, 0),
     ];
@@ -59,7 +152,14 @@ fn notes_each_look(rt: HostRuntime) {
 #[test]
 fn shows_the_halted_harts_of_the_first_group(rt: HostRuntime) {
     for (second, bits) in [(Start::Running, 1), (Start::Halted, 3)] {
-        for (hart, shown) in [(0, bits), (1, bits), (31, bits), (32, 0), (63, 0), (1023, 0)] {
+        for (hart, shown) in [
+            (0, bits),
+            (1, bits),
+            (31, bits),
+            (32, 0),
+            (63, 0),
+            (1023, 0),
+        ] {
             let mut bench = Bench::new(rt.alloc(), second).expect(&rt, "the smallest RAM");
             bench.write(DMCONTROL, (hart << 16) + 1);
             assert_eq!(rt; bench.read(HALTSUM0), shown);
@@ -78,7 +178,12 @@ fn reset_stops_what_is_under_way(rt: HostRuntime) {
     assert_eq!(rt; bench.read(SBCS), 0x2024_080f);
     assert_eq!(rt; bench.read(ABSTRACTCS), 0x0400_1002);
     // A busy module ignores every other write of dmcontrol.
-    assert!(rt; bench.perform(DmiOp::Write(DMCONTROL, 0x8001_0001)).points.is_empty());
+    assert!(rt;
+        bench
+            .perform(DmiOp::Write(DMCONTROL, 0x8001_0001))
+            .points
+            .is_empty()
+    );
     assert_eq!(rt; bench.read(DMCONTROL), 1);
     bench.write(DMCONTROL, 0x8001_0000);
     assert!(rt; !bench.command_step());

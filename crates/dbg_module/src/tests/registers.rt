@@ -30,10 +30,15 @@ const AFTER_ALL_ONES: [(u8, u32); 17] = [
 fn read_after_all_ones(bench: &mut Bench, address: u8) -> u32 {
     for at in 0..0x80 {
         if at != DMCONTROL {
-            let _performed = bench.module.perform(DmiOp::Write(at, 0xffff_ffff), &mut bench.harts);
+            let _performed = bench
+                .module
+                .perform(DmiOp::Write(at, 0xffff_ffff), &mut bench.harts);
         }
     }
-    bench.module.perform(DmiOp::Read(address), &mut bench.harts).result
+    bench
+        .module
+        .perform(DmiOp::Read(address), &mut bench.harts)
+        .result
 }
 
 #[test]
@@ -47,11 +52,17 @@ fn reads_back_all_ones(rt: HostRuntime) {
         }
         let mut bench = Bench::new(rt.alloc(), Start::Running).expect(&rt, "the smallest RAM");
         bench.write(DMCONTROL, 1);
-        assert_eq!(rt; read_after_all_ones(&mut bench, address), wanted, "{address}");
+        assert_eq!(rt;
+            read_after_all_ones(&mut bench, address),
+            wanted,
+            "{address}"
+        );
         // While the module does not work, they all read 0, and no write is taken.
         let mut bench = Bench::new(rt.alloc(), Start::Running).expect(&rt, "the smallest RAM");
         assert_eq!(rt; read_after_all_ones(&mut bench, address), 0, "{address}");
-        bench.module.perform(DmiOp::Write(DMCONTROL, 1), &mut bench.harts);
+        bench
+            .module
+            .perform(DmiOp::Write(DMCONTROL, 1), &mut bench.harts);
         let fresh = match address {
             0x10 => 0x0000_0001,
             0x11 => 0x000c_0383,

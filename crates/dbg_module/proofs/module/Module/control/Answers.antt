@@ -1,4 +1,4 @@
-use Rattle.std.proofs.Common.{◌≡◌, true, false, sym, ◌∙◌}
+use Rattle.std.proofs.Common.{sym, ◌∙◌}
 use Rattle.dbg_module.proofs.SiteLemmas.{control_asked}
 use Rattle.dbg_module.proofs.module.Module.control.Goals as goal
 
