@@ -1,8 +1,10 @@
 -- A wire over the near end of a net: over which nets it works, what a take of many bytes does, and why its calls fail.
 -- No public standard defines this.
-use Rattle.std.specs.Prelude.{◌≡◌, ℕ, ◌+◌, ◌-◌, ◌^◌, ◌&&◌, min, List, take, Bool, is_none, IfSome}
+use Rattle.std.specs.Prelude.{◌≡◌, ℕ, ◌+◌, ◌-◌, ◌^◌, ◌&&◌, min, List, ◌∷◌, take, Bool, is_none, IfSome}
 use Rattle.jt_base.specs.Faults.{Rises}
+use Rattle.std.specs.Borrow.{GName}
 use Rattle.debug_model.specs.Net.{NetState, after_take}
+use Rattle.debug_model.specs.Ties.{Ties}
 use Rattle.debug_model.specs.declared.net.End.TheVariants as ends
 use Rattle.debug_model.specs.declared.wire.WireFault.{WireFault}
 use Rattle.debug_model.specs.declared.wire.WireFault.TheVariants.{SendFailed, RecvFailed, Ended, BadAnswer}
@@ -39,3 +41,7 @@ pub record TookSome (old new : NetState) : Type 0 where
   pub count : ℕ
   pub into : List ℕ
   pub took : Took count into old new
+
+-- what a wire over a net keeps: its reference to the net, those of the net, and how the net was opened
+abbrev pub wired_ties : GName → List GName → NetState → Ties
+wired_ties name lenders s = record { lenders = name ∷ lenders; net = s.ties }
