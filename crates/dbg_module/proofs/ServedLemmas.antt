@@ -203,7 +203,7 @@ transferred_keeps None k rest x m u = same_requests x.debug
 step_keeps : (steps : List Micro) (x : Hart) (m : Memory) (u : CommandUnit) → SameRequests x.debug (step_by steps x m u).hart.debug
 step_keeps [] x m u = same_requests x.debug
 step_keeps (Transfer k ∷ rest) x m u = transferred_keeps (debug_value x k.regno) k rest x m u
-step_keeps (Run w ∷ rest) x m u = (words_keep w x m).requests
+step_keeps (Run w ∷ rest) x m u = (words_keep w x m).hart.requests
 
 micro_keeps : (x : Hart) (m : Memory) (u : CommandUnit) → SameRequests x.debug (micro_step x m u).hart.debug
 unfolding micro_step

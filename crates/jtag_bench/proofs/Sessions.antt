@@ -2,7 +2,8 @@
 use Rattle.std.proofs.Common.{◌≡◌, ◌∙◌, ℕ, List, [], ◌∷◌, ◌++◌, Bool, Option, Some, None, IfSome, refl, sym, ap, subst}
 use Rattle.pins_link.specs.Chip.{Chip, feed}
 use Rattle.pins_link.specs.Scan.{comes_out, dr_bytes, reset_bytes, scanned_chip, Scanned, WasReset}
-use Rattle.pins_link.specs.Tap.{captured, idcode}
+use Rattle.debug_model.specs.Tap.{idcode}
+use Rattle.pins_link.specs.Tap.{captured}
 use Rattle.pins_link.specs.Told.{Far, read_out}
 use Rattle.pins_link.specs.declared.register.Register.TheVariants.{Idcode}
 use Rattle.jt_base.specs.BitList.{bits_of, number_of}
