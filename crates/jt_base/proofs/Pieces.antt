@@ -3,7 +3,7 @@ use Rattle.std.proofs.Common.{◌≡◌, ℕ, ◌-◌, List, [], ◌∷◌, ◌+
 use Rattle.std.proofs.lemmas.List.{take-append-drop, take_all, length-take, length-drop}
 use Rattle.std.specs.Io.KnownBytes.{Appends, Keeps}
 use Rattle.std.proofs.KnownBytes.{Appends-nil, Appends-trans, Appends-kept}
-use Rattle.jt_base.specs.Written.{AppendsUpTo, AppendsFront}
+use Rattle.jt_base.specs.Written.{AppendsUpTo}
 
 pub none_yet : (old : Option (List ℕ)) (piece : List ℕ) → AppendsUpTo old old piece piece
 none_yet old piece = record { front = []; cut = refl; added = Appends-nil old }
