@@ -6,6 +6,7 @@ use debug_model::TapState;
 /// The state behind a rise of TCK, by the state before it and TMS.
 ///
 /// Source: IEEE 1149.1, the TAP controller state diagram.
+#[inline(always)]
 pub fn next_state(state: TapState, tms: bool) -> TapState
     ensures { result ≡ state_behind state tms }
 {
