@@ -21,8 +21,8 @@ use crate::session::session;
 use crate::status::Status;
 use crate::words::read_inputs;
 use debug_model::Command;
-use pins_link::Wire;
 use jt_base::{Files, Sink, SinkFault};
+use pins_link::Wire;
 use std::alloc::Global;
 
 /// The sign that ends a stream.
