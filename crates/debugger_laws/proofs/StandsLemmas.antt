@@ -254,17 +254,14 @@ wrote o h c next lines old new s of_h frozen at = record {
 nothing_more : (o : Origin) (p : Plan) (lines : List Line) (t : Target) (s : Stands o p lines t) → replay o.plan o.world t.journal ≡ replay p s.world (turns s.rest)
 nothing_more o p lines t s = ap (replay o.plan o.world) (sym (append-nil t.journal)) ∙ s.replayed [] ∙ ap (replay p s.world) (append-nil (turns s.rest))
 
-pub transcribed : (o : Origin) (e : PlanEnd) (lines : List Line) (t : Target) → Stands o (stop e) lines t → IsTranscribed o lines t
+pub transcribed : (o : Origin) (e : PlanEnd) (lines : List Line) (t : Target) → Stands o (stop e) lines t → IsTranscribed o (graded e lines) lines t
 transcribed o e lines t s =
     let is : replay o.plan o.world t.journal ≡ record { world = spin s.rest s.world; end = graded e (spin s.rest s.world).lines } = nothing_more o (stop e) lines t s ∙ replay-stop e s.rest s.world in
     record {
+      end_is = ap (λ (x : Outcome). x.end) is ∙ ap (graded e) (spin-lines s.rest s.world ∙ s.spoken);
       lines_are = ap (λ (x : Outcome). x.world.lines) is ∙ spin-lines s.rest s.world ∙ s.spoken;
       board_is = ap (λ (x : Outcome). x.world.board) is ∙ spin-board s.rest s.world ∙ sym s.board;
     }
-
-pub ended : (o : Origin) (e : PlanEnd) (lines : List Line) (t : Target) → Stands o (stop e) lines t → (replay o.plan o.world t.journal).end ≡ graded e lines
-ended o e lines t s =
-    ap (λ (x : Outcome). x.end) (nothing_more o (stop e) lines t s ∙ replay-stop e s.rest s.world) ∙ ap (graded e) (spin-lines s.rest s.world ∙ s.spoken)
 
 -- wherever a session was cut: what it said is a front of the transcript's lines, which is not astray
 pub said_front : (o : Origin) (p : Plan) (lines : List Line) (t : Target) → Stands o p lines t → IsFront lines (replay o.plan o.world t.journal).world.lines

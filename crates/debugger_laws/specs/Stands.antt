@@ -9,7 +9,7 @@ use Rattle.debugger_laws.specs.Debugger.{Seen, one, seen_at, stepping, until}
 use Rattle.debugger_laws.specs.Known.{IsKnown}
 use Rattle.debugger_laws.specs.Lines.{Line}
 use Rattle.debugger_laws.specs.Plan.{Change, Plan, changed_board, hart_over}
-use Rattle.debugger_laws.specs.Transcript.{World, replay}
+use Rattle.debugger_laws.specs.Transcript.{End, World, replay}
 use Rattle.debugger_laws.specs.Turns.{after_turns, turns}
 use Rattle.debugger_laws.specs.Ways.{Way}
 use Rattle.debugger_laws.specs.Ways.Way.{Still, Ready}
@@ -125,6 +125,7 @@ Steps h count old new = (m : Machine) (o : Origin) (lines : List Line) (next : P
 
 -- ---- what a session that has stopped shows
 
-pub record IsTranscribed (o : Origin) (lines : List Line) (t : Target) : Type 0 where
+pub record IsTranscribed (o : Origin) (end : End) (lines : List Line) (t : Target) : Type 0 where
+  pub end_is : (replay o.plan o.world t.journal).end ≡ end
   pub lines_are : (replay o.plan o.world t.journal).world.lines ≡ lines
   pub board_is : (replay o.plan o.world t.journal).world.board ≡ t.board
