@@ -3,6 +3,7 @@ pub mod Command
 pub mod Commands
 pub mod Course
 pub mod Deeds
+pub mod Dmi
 pub mod Grammar
 pub mod Journal
 pub mod Loaded
