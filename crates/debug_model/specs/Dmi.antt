@@ -1,7 +1,7 @@
 -- Operations on the debug module interface: what a call does to a told chip, what is heard of a scripted one, and why a call fails.
 -- RISC-V Debug Specification 1.0, "Debug Module Interface Access". That the reserved op 1 is taken as busy, and that a call gives up behind 64 busy
 -- answers, are this project's own choices.
-use Rattle.std.specs.Prelude.{◌≡◌, ◌⊎◌, ◌++◌, ℕ, zero, suc, ◌+◌, ◌<◌, ◌≤◌, List, [], ◌∷◌, Bool, true, false, Option, Some, None, IfSome}
+use Rattle.std.specs.Prelude.{◌≡◌, ◌⊎◌, ◌++◌, ℕ, zero, suc, ◌+◌, ◌%◌, ◌^◌, ◌<◌, ◌≤◌, List, [], ◌∷◌, length, Bool, true, false, Option, Some, None, IfSome}
 use Rattle.jt_base.specs.BitList.{number_of}
 use Rattle.debug_model.specs.declared.dmi.DmiFault.{DmiFault}
 use Rattle.debug_model.specs.declared.dmi.DmiFault.TheVariants.{Wire, Failed, StillBusy}
@@ -15,6 +15,7 @@ use Rattle.debug_model.specs.Module.{Site}
 use Rattle.debug_model.specs.Scan.{ScanCause, Script, StoodAtRest, TookOut}
 use Rattle.debug_model.specs.Scan.Script.{Numbers}
 use Rattle.debug_model.specs.Told.{Far, IsClean, IsFree, IsOpen, IsRead, chip_of, site_of}
+use Rattle.debug_model.specs.Transport.{dmi_width, dtmcs_width}
 use Rattle.debug_model.specs.TransportWords.{dmi_of, status_busy, status_done, status_failed}
 
 -- ---- when a call may be made
@@ -42,13 +43,19 @@ pub record CanQuit (told : Option Far) : Type 0 where
 abbrev pub counts_of : Far → Counts
 counts_of f = (chip_of f).inside.works.counts
 
--- just this operation was put in flight and performed, once, with this result, and none was lost: however many rounds passed, and
--- however often the transport was found busy
-pub record Operated (op : DmiOp) (result : ℕ) (c : Chip) (new : Option Far) : Type 0 where
+-- the field `value` of dmi holds so many bits of a result
+abbrev pub value_of : ℕ → ℕ
+value_of result = result % 2 ^ 32
+
+-- just this operation was put in flight and performed, once, and this word is its result; and none was lost: however many rounds
+-- passed, and however often the transport was found busy
+pub record Operated (op : DmiOp) (value : ℕ) (c : Chip) (new : Option Far) : Type 0 where
   pub far : Far
   pub is : new ≡ Some far
+  pub result : ℕ
   pub path : Spans (record { op = op; result = result } ∷ []) c.inside (chip_of far).inside
   pub site : OneOperation op result c.inside.works.site (site_of far)
+  pub value_is : value ≡ value_of result
 
 -- no operation was put in flight, performed or lost
 pub record NoneOperated (c : Chip) (new : Option Far) : Type 0 where
@@ -98,21 +105,34 @@ WasBusy out = ((heard out).op ≡ status_busy) ⊎ ((heard out).op ≡ 1)
 abbrev pub WasDone : List Bool → Type 0
 WasDone out = (heard out).op ≡ status_done
 
+-- a scan of dmi carries op, value and an address of at least 7 bits
+abbrev pub IsDmi : List Bool → Type 0
+IsDmi out = dmi_width ≤ length out
+
+abbrev pub IsDtmcs : List Bool → Type 0
+IsDtmcs out = length out ≡ dtmcs_width
+
 -- the scans of an operation so far, with what came out: so many found the transport busy, each followed by one of dtmcs; and whether the transport
 -- has taken the operation. One that carried it and found the transport busy was ignored.
 pub data Awaited : ℕ → Bool → List (List Bool) → Type 0 where
   begun : Awaited 0 false []
   busy : (n : ℕ) (taken : Bool) (outs : List (List Bool)) → Awaited n taken outs
-      → (out cleared : List Bool) → WasBusy out → Awaited (suc n) taken (outs ++ (out ∷ cleared ∷ []))
+      → (out cleared : List Bool) → IsDmi out → WasBusy out → IsDtmcs cleared → Awaited (suc n) taken (outs ++ (out ∷ cleared ∷ []))
   carried : (n : ℕ) (outs : List (List Bool)) → Awaited n false outs
-      → (out : List Bool) → WasDone out → Awaited n true (outs ++ (out ∷ []))
+      → (out : List Bool) → IsDmi out → WasDone out → Awaited n true (outs ++ (out ∷ []))
+
+-- so many busy answers in one call are too many
+abbrev pub busy_most : ℕ
+busy_most = 64
 
 -- the scans of an operation whose result this is
 pub record Fetched (result : ℕ) (script new : Script) : Type 0 where
   pub busy_answers : ℕ
+  pub few : busy_answers < busy_most
   pub outs : List (List Bool)
   pub awaited : Awaited busy_answers true outs
   pub out : List Bool
+  pub width : IsDmi out
   pub done : WasDone out
   pub result_is : result ≡ (heard out).value
   pub took : TookAll (outs ++ (out ∷ [])) script new
@@ -138,6 +158,7 @@ Passes (Some script) new = TookNothing script new
 -- one scan of 32 bits
 pub record TookWord (value : ℕ) (script new : Script) : Type 0 where
   pub out : List Bool
+  pub width : length out ≡ 32
   pub value_is : value ≡ number_of out
   pub took : TookOut out script (Some new)
 
@@ -151,10 +172,6 @@ Shows value None new = new ≡ None
 Shows value (Some script) new = TookRegister value script new
 
 -- ---- why a call failed. Behind a fault the link is not alive.
-
--- so many busy answers in one call are too many
-abbrev pub busy_most : ℕ
-busy_most = 64
 
 -- an operation was lost in this call
 pub record LostOne (c : Chip) (new : Option Far) : Type 0 where
@@ -171,10 +188,12 @@ pub record FoundBusy (c : Chip) (new : Option Far) : Type 0 where
 -- the last scan took out op 2
 pub record HeardFailed (script : Script) : Type 0 where
   pub busy_answers : ℕ
+  pub few : busy_answers < busy_most
   pub taken : Bool
   pub outs : List (List Bool)
   pub awaited : Awaited busy_answers taken outs
   pub out : List Bool
+  pub width : IsDmi out
   pub failed : (heard out).op ≡ status_failed
   pub new : Script
   pub took : TookAll (outs ++ (out ∷ [])) script new

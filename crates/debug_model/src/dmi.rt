@@ -25,6 +25,16 @@ pub enum DmiFault {
     StillBusy,
 }
 
+impl From<WireFault> for DmiFault {
+    ghost use Rattle.debug_model.specs.declared.dmi.DmiFault.TheVariants as fault;
+
+    ghost from_gives = { λ wire e. e ≡ fault.Wire wire };
+
+    fn from(wire: WireFault) -> DmiFault {
+        DmiFault::Wire(wire)
+    }
+}
+
 /// Operations on the registers of a debug module, and the two registers of the transport that tell what it is
 /// (RISC-V Debug Specification 1.0, "Debug Module Interface").
 ///
