@@ -1,5 +1,6 @@
+pub mod Idcodes
+pub mod OnBenches
+pub mod Prepares
 pub mod Puts
 pub mod Runs
-pub mod Sessions
 pub mod Stood
-pub mod Transcripts

@@ -1,30 +1,36 @@
 -- Why a run is refused before its session, and what it prints and answers then.
--- The order of the tests is this project's own: the words, the script, the image (docs/FORMATS.md, "Statuses").
-use Rattle.std.specs.Prelude.{◌≡◌, ◌≢◌, ◌++◌, ℕ, List, [], ◌∷◌, Option, Some, None, IfSome, IsSome, IsSomeAnd}
+-- The order of the tests is this project's own: the words, the script, the image, the load (docs/FORMATS.md, "Statuses").
+use Rattle.std.specs.Prelude.{◌≡◌, ◌⊎◌, ◌++◌, ℕ, List, [], ◌∷◌, Option, Some, None, IfSome, IsSomeAnd}
+use Rattle.chip_core.specs.declared.load_fault.LoadFault.{LoadFault}
+use Rattle.chip_core.specs.declared.load_fault.LoadFault.TheVariants as load
+use Rattle.debug_model.specs.Loaded.{Fits, RightHarts}
 use Rattle.debug_model.specs.declared.command.Command.{Command}
 use Rattle.debug_model.specs.declared.script_error.ScriptError.{ScriptError}
 use Rattle.jt_base.specs.Faults.{Rises}
-use Rattle.jt_base.specs.Files.{NamedFile, content_of}
+use Rattle.jt_base.specs.Files.{Holds, HoldsMore, NamedFile, asked_more, content_of}
 use Rattle.jtag_bench.specs.LastLine.{words_refused, file_failed, script_refused, image_refused, out_of_memory}
+use Rattle.jtag_bench.specs.Outside.{FilesSeen}
 use Rattle.jtag_bench.specs.ScriptText.{IsAcceptedText, IsRefusedText}
-use Rattle.jtag_bench.specs.Words.{Inputs, inputs_of}
+use Rattle.jtag_bench.specs.Words.{Both, both_job}
 use Rattle.jtag_bench.specs.declared.refusal.Refusal.{Refusal}
 use Rattle.jtag_bench.specs.declared.refusal.Refusal.TheVariants.{Words, File, Script, Image, OutOfMemory}
 use Rattle.jtag_bench.specs.declared.status.Status.{Status}
 use Rattle.jtag_bench.specs.declared.status.Status.TheVariants as status
+use Rattle.jtag_words.specs.declared.job.ChipOptions.{ChipOptions}
+use Rattle.rv_model.specs.Memory.{IsRamSize}
 
 abbrev pub status_of : Refusal → Status
 status_of Words = status.Words
 status_of (File name) = status.File
 status_of (Script error) = status.Script
-status_of Image = status.Image
+status_of (Image fault) = status.Image
 status_of OutOfMemory = status.OutOfMemory
 
 abbrev pub last_line : Refusal → List ℕ
 last_line Words = words_refused
 last_line (File name) = file_failed name.now
 last_line (Script error) = script_refused error
-last_line Image = image_refused
+last_line (Image fault) = image_refused fault
 last_line OutOfMemory = out_of_memory
 
 -- ---- what the files hold, where they are told
@@ -37,47 +43,101 @@ HoldsScript held name commands = IfSome held (λ files. IsSomeAnd (content_of na
 abbrev pub HoldsBadScript : Option (List NamedFile) → List ℕ → ScriptError → Type 0
 HoldsBadScript held name error = IfSome held (λ files. IsSomeAnd (content_of name files) (λ text. IsRefusedText text error))
 
--- the file of this name holds no byte: the chip of today has no RAM
-abbrev pub HoldsNoImage : Option (List NamedFile) → List ℕ → Type 0
-HoldsNoImage held name = IfSome held (λ files. content_of name files ≡ Some [])
+-- ---- names
 
-abbrev pub HoldsImage : Option (List NamedFile) → List ℕ → Type 0
-HoldsImage held name = IfSome held (λ files. IsSomeAnd (content_of name files) (λ bytes. bytes ≢ []))
+-- the script was asked for, and no other file
+abbrev pub asked_script : Both → FilesSeen → Option (List (List ℕ))
+asked_script job old = asked_more job.script old.asked
 
--- ---- causes
+-- the script and then the image, and no other file
+abbrev pub asked_both : Both → FilesSeen → Option (List (List ℕ))
+asked_both job old = asked_more job.image (asked_script job old)
 
--- the words name a script and an image that are accepted
-pub record IsAcceptedBy (inputs : Inputs) (held : Option (List NamedFile)) (commands : List Command) : Type 0 where
-  pub script : HoldsScript held inputs.script commands
-  pub image : HoldsNoImage held inputs.image
+-- ---- causes of one file
 
-abbrev pub IsAccepted : List (List ℕ) → Option (List NamedFile) → List Command → Type 0
-IsAccepted words held commands = IsSomeAnd (inputs_of words) (λ inputs. IsAcceptedBy inputs held commands)
+-- the most bytes of an image's file
+abbrev pub most_image : ℕ
+most_image = 16777216
+
+-- the script's file was not read, or its text not accepted
+abbrev pub ScriptFileCause : List ℕ → FilesSeen → FilesSeen → Refusal → Type 0
+ScriptFileCause name old new Words = ⊥
+ScriptFileCause name old new (File asked) = Rises old.faults new.faults × (asked.now ≡ name) × (new.asked ≡ asked_more name old.asked)
+ScriptFileCause name old new (Script error) = HoldsBadScript old.held name error × (new.asked ≡ asked_more name old.asked)
+ScriptFileCause name old new (Image fault) = ⊥
+ScriptFileCause name old new OutOfMemory = (new.asked ≡ old.asked) ⊎ (new.asked ≡ asked_more name old.asked)
+
+-- the image's file was not read: it failed, or it has too many bytes for any chip
+abbrev pub LongImage : List ℕ → FilesSeen → LoadFault → Type 0
+LongImage name old load.TooLong = HoldsMore old.held name most_image
+LongImage name old load.BadSize = ⊥
+LongImage name old load.BadHarts = ⊥
+LongImage name old load.NoMemory = ⊥
+
+abbrev pub ImageFileCause : List ℕ → FilesSeen → FilesSeen → Refusal → Type 0
+ImageFileCause name old new Words = ⊥
+ImageFileCause name old new (File asked) = Rises old.faults new.faults × (asked.now ≡ name) × (new.asked ≡ asked_more name old.asked)
+ImageFileCause name old new (Script error) = ⊥
+ImageFileCause name old new (Image fault) = LongImage name old fault × (new.asked ≡ asked_more name old.asked)
+ImageFileCause name old new OutOfMemory = (new.asked ≡ old.asked) ⊎ (new.asked ≡ asked_more name old.asked)
+
+-- ---- causes of the load
+
+-- the harts are judged first, then the size of RAM, then whether the image fits
+abbrev pub UnfitChip : List ℕ → ChipOptions → LoadFault → Type 0
+UnfitChip image o load.BadHarts = ¬ RightHarts o.harts
+UnfitChip image o load.BadSize = RightHarts o.harts × ¬ IsRamSize o.ram
+UnfitChip image o load.TooLong = RightHarts o.harts × (IsRamSize o.ram × ¬ Fits image o.ram)
+UnfitChip image o load.NoMemory = ⊥
+
+-- the image was read, and can't be loaded with these options
+pub record Unloadable (job : Both) (old : FilesSeen) (fault : LoadFault) : Type 0 where
+  pub image : List ℕ
+  pub held : Holds old.held job.image image
+  pub unfit : UnfitChip image job.options fault
+
+-- why an image that was read is not loaded
+abbrev pub LoadCause : List ℕ → ChipOptions → Refusal → Type 0
+LoadCause image o Words = ⊥
+LoadCause image o (File name) = ⊥
+LoadCause image o (Script error) = ⊥
+LoadCause image o (Image fault) = UnfitChip image o fault
+LoadCause image o OutOfMemory = Unit {0}
+
+-- ---- the cause of each refusal of a job
+
+-- which file failed: the script, or behind an accepted script the image
+pub data FailedFile (job : Both) (old new : FilesSeen) (name : List ℕ) : Type 0 where
+  of_script : name ≡ job.script → new.asked ≡ asked_script job old → FailedFile job old new name
+  of_image : (commands : List Command) → HoldsScript old.held job.script commands → name ≡ job.image → new.asked ≡ asked_both job old → FailedFile job old new name
 
 -- an image is judged behind a script that is accepted
-pub record IsBadImage (inputs : Inputs) (held : Option (List NamedFile)) : Type 0 where
+pub record BadImage (job : Both) (old new : FilesSeen) (fault : LoadFault) : Type 0 where
   pub commands : List Command
-  pub script : HoldsScript held inputs.script commands
-  pub image : HoldsImage held inputs.image
+  pub script : HoldsScript old.held job.script commands
+  pub image : (LongImage job.image old fault) ⊎ (Unloadable job old fault)
+  pub asked : new.asked ≡ asked_both job old
 
--- the cause of each refusal of the two files
-abbrev pub InputsCause : Inputs → Option (List NamedFile) → ℕ → ℕ → Refusal → Type 0
-InputsCause inputs held old new Words = ⊥
-InputsCause inputs held old new (File name) = Rises old new
-InputsCause inputs held old new (Script error) = HoldsBadScript held inputs.script error
-InputsCause inputs held old new Image = IsBadImage inputs held
-InputsCause inputs held old new OutOfMemory = Unit {0}
+-- no other file than the job's was asked for, and none before its turn
+abbrev pub AskedFront : Both → FilesSeen → FilesSeen → Type 0
+AskedFront job old new = (new.asked ≡ old.asked) ⊎ ((new.asked ≡ asked_script job old) ⊎ (new.asked ≡ asked_both job old))
 
--- the cause of each refusal: the words alone, or one of the files that they name. Want of memory is free.
-abbrev pub RefusalCause : List (List ℕ) → Option (List NamedFile) → ℕ → ℕ → Refusal → Type 0
-RefusalCause words held old new Words = inputs_of words ≡ None
-RefusalCause words held old new (File name) = Rises old new
-RefusalCause words held old new (Script error) = IsSomeAnd (inputs_of words) (λ inputs. HoldsBadScript held inputs.script error)
-RefusalCause words held old new Image = IsSomeAnd (inputs_of words) (λ inputs. IsBadImage inputs held)
-RefusalCause words held old new OutOfMemory = Unit {0}
+abbrev pub JobCause : Both → FilesSeen → FilesSeen → Refusal → Type 0
+JobCause job old new Words = ⊥
+JobCause job old new (File name) = Rises old.faults new.faults × FailedFile job old new name.now
+JobCause job old new (Script error) = HoldsBadScript old.held job.script error × (new.asked ≡ asked_script job old)
+JobCause job old new (Image fault) = BadImage job old new fault
+JobCause job old new OutOfMemory = AskedFront job old new
 
 -- the causes that lie in the words alone
 abbrev pub WordsCause : List (List ℕ) → Refusal → Type 0
-WordsCause words Words = inputs_of words ≡ None
+WordsCause words Words = both_job words ≡ None
+WordsCause words (File name) = ⊥
+WordsCause words (Script error) = ⊥
+WordsCause words (Image fault) = ⊥
 WordsCause words OutOfMemory = Unit {0}
-WordsCause words _ = ⊥
+
+-- the cause of each refusal: the words alone, before any file is asked for, or what their job meets. Want of memory is free.
+pub data RefusalCause (words : List (List ℕ)) (old new : FilesSeen) (refusal : Refusal) : Type 0 where
+  of_words : WordsCause words refusal → new ≡ old → RefusalCause words old new refusal
+  of_job : (job : Both) → both_job words ≡ Some job → JobCause job old new refusal → RefusalCause words old new refusal

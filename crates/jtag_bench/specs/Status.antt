@@ -2,7 +2,7 @@
 -- They are this project's own (docs/FORMATS.md, "Statuses").
 use Rattle.std.specs.Prelude.{ℕ}
 use Rattle.jtag_bench.specs.declared.status.Status.{Status}
-use Rattle.jtag_bench.specs.declared.status.Status.TheVariants.{Clean, Words, File, Script, Image, Sink, OutOfMemory}
+use Rattle.jtag_bench.specs.declared.status.Status.TheVariants.{Clean, Words, File, Script, Image, Sink, EventLimit, OutOfMemory}
 
 abbrev pub code_of : Status → ℕ
 code_of Clean = 0
@@ -11,4 +11,5 @@ code_of File = 3
 code_of Script = 4
 code_of Image = 5
 code_of Sink = 8
+code_of EventLimit = 10
 code_of OutOfMemory = 11

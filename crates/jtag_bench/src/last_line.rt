@@ -6,7 +6,7 @@ ghost use Rattle.jt_base.specs.Sink.{GrewByPrefix, grown};
 ghost use Rattle.jtag_bench.specs.LastLine.{file_failed};
 ghost use Rattle.jtag_bench.specs.Refusal.{last_line};
 
-use crate::lines::script_refused_line;
+use crate::lines::{image_refused_line, script_refused_line};
 use crate::refusal::Refusal;
 use jt_base::{Sink, SinkFault};
 
@@ -32,7 +32,7 @@ pub fn put_last_line<K: Sink>(out: &mut K, refusal: Refusal<'_>) -> Result<(), S
         Refusal::Words => out.put(b"words refused\n"),
         Refusal::File(name) => put_file_failed(out, name),
         Refusal::Script(error) => out.put(&script_refused_line(&error)),
-        Refusal::Image => out.put(b"image refused: fault 1\n"),
+        Refusal::Image(fault) => out.put(&image_refused_line(fault)),
         Refusal::OutOfMemory => out.put(b"out of memory\n"),
     }
 }

@@ -2,13 +2,14 @@
 
 ghost use Rattle.std.specs.Prelude.{◌≡◌, ◌≤◌, ◌<◌, ◌+◌, ◌++◌, ◌∷◌, [], decimal, length};
 ghost use Rattle.arrayvec.specs.ArrayVec.{array_vec_len};
-ghost use Rattle.jtag_bench.specs.Lines.{text_of};
-ghost use Rattle.jtag_bench.specs.Lines.Line.{Idcode};
+ghost use Rattle.debugger_laws.specs.Lines.{text_of};
+ghost use Rattle.debugger_laws.specs.Lines.Line.{Idcode};
 ghost use Rattle.debug_model.specs.Spelling.{hexadecimal};
-ghost use Rattle.jtag_bench.specs.LastLine.{script_refused};
+ghost use Rattle.jtag_bench.specs.LastLine.{image_refused, script_refused};
 ghost use Rattle.std.specs.Char.{digit_char};
 
 use arrayvec::ArrayVec;
+use chip_core::LoadFault;
 use debug_model::ScriptError;
 use itoa::Buffer;
 
@@ -93,6 +94,17 @@ pub fn script_refused_line(error: &ScriptError) -> LineText
     push_decimal(&mut text, error.line);
     push_word(&mut text, b" fault ");
     push_decimal(&mut text, u32::from(error.fault.number()));
+    text.push(b'\n');
+    text
+}
+
+/// The last line of a run whose image is refused.
+pub fn image_refused_line(fault: LoadFault) -> LineText
+    ensures { result.items ≡ image_refused fault }
+{
+    let mut text = LineText::new();
+    push_word(&mut text, b"image refused: fault ");
+    push_decimal(&mut text, u32::from(fault.number()));
     text.push(b'\n');
     text
 }

@@ -1,9 +1,8 @@
 //! The program: the probe, the chip on its bench, and the words that bring them together.
 #![tactic(auto)]
 
-mod acted;
-mod bench;
-mod bench_wire;
+mod both_with;
+mod failure;
 mod last_line;
 mod lines;
 mod prepare;
@@ -11,13 +10,12 @@ mod refusal;
 mod run;
 mod script_text;
 mod session;
-mod signs;
 mod status;
 #[cfg(test)]
 mod tests;
 mod words;
 
-use bench::Bench;
+use chip_core::Bench;
 use jt_base::{DiskFiles, StdSink};
 use refusal::Refusal;
 use run::{refuse, run};

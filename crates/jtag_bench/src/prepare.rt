@@ -1,20 +1,27 @@
 //! What is read and judged before a session.
 
-ghost use Rattle.std.specs.Prelude.{◌≡◌, ◌≤◌, IfOk, IfErr, OnOk, Some, true};
+ghost use Rattle.std.specs.Prelude.{◌≡◌, ◌≤◌, IfOk, IfErr, IfSome, OnErr, OnOk, Some, true};
 ghost use Rattle.std.specs.List.{list_all};
-ghost use Rattle.jt_base.specs.Files.{asked_more};
-ghost use Rattle.jtag_bench.specs.Asked.{AskedAt, AskedFront, AskedInputs};
-ghost use Rattle.jtag_bench.specs.Names.{names_of};
-ghost use Rattle.jtag_bench.specs.Refusal.{HoldsNoImage, HoldsScript, InputsCause, IsAcceptedBy};
+ghost use Rattle.chip_core.specs.Loads.{IsFirst, loaded};
+ghost use Rattle.debug_model.specs.Loaded.{AsLoaded, Fits, RightHarts};
+ghost use Rattle.jt_base.specs.Files.{Holds, asked_more};
+ghost use Rattle.jtag_bench.specs.Ended.{Prepared};
+ghost use Rattle.jtag_bench.specs.Refusal.{HoldsScript, ImageFileCause, JobCause, LoadCause, ScriptFileCause, asked_both};
 ghost use Rattle.jtag_bench.specs.Session.{is_built};
-ghost use Rattle.jtag_bench.specs.FileRead.{FileScriptCause, ImageCause};
+ghost use Rattle.jtag_bench.specs.Words.{plan_of, start_of, value_of};
+ghost use Rattle.jtag_words.specs.Words.{InRange, least_busy, most_busy};
+ghost use Rattle.rv_model.specs.Memory.{IsRamSize};
 
 use crate::refusal::Refusal;
 use crate::script_text::{ScriptRefusal, read_script};
-use crate::words::Inputs;
+use crate::words::BothJob;
+use chip_core::{Bench, LoadFault};
 use debug_model::{Script, ScriptError, ScriptFault};
+use hart_debug::Start;
 use jt_base::{FileFault, Files};
+use jtag_words::ChipOptions;
 use std::alloc::Global;
+use sys_events::SeedSchedule;
 
 /// The most bytes of a script's file.
 const SCRIPT_MOST: usize = 1_048_576;
@@ -30,10 +37,9 @@ fn load_script<'a, F: Files>(
 ) -> Result<Script, Refusal<'a>>
     ensures commands { IfOk result (HoldsScript (F.held files.old) name.now) }
     ensures built { IfOk result (λ script. list_all is_built script ≡ true) }
-    ensures cause { IfErr result (FileScriptCause (F.held files.old) name.now (F.fault_count files.old) (F.fault_count files.new)) }
+    ensures cause { IfErr result (ScriptFileCause name.now (record { held = F.held files.old; asked = F.asked files.old; faults = F.fault_count files.old }) (record { held = F.held files.new; asked = F.asked files.new; faults = F.fault_count files.new })) }
     ensures held { F.held files.new ≡ F.held files.old }
     ensures asked { OnOk result (F.asked files.new ≡ asked_more name.now (F.asked files.old)) }
-    ensures asked_err { IfErr result (λ refusal. AskedAt name.now refusal (F.asked files.old) (F.asked files.new)) }
     ensures later { F.fault_count files.old ≤ F.fault_count files.new }
 {
     let text = match files.read(alloc, name, SCRIPT_MOST) {
@@ -54,41 +60,98 @@ fn load_script<'a, F: Files>(
     }
 }
 
-/// Reads and judges the image of this name: the chip of today has no RAM, so it is empty.
-fn load_image<'a, F: Files>(alloc: Global, files: &mut F, name: &'a str) -> Result<(), Refusal<'a>>
-    ensures image { IfOk result (λ _. HoldsNoImage (F.held files.old) name.now) }
-    ensures cause { IfErr result (ImageCause (F.held files.old) name.now (F.fault_count files.old) (F.fault_count files.new)) }
+/// Reads the image of this name.
+fn read_image<'a, F: Files>(
+    alloc: Global,
+    files: &mut F,
+    name: &'a str,
+) -> Result<Vec<u8>, Refusal<'a>>
+    ensures image { IfOk result (λ image. Holds (F.held files.old) name.now image.items) }
+    ensures cause { IfErr result (ImageFileCause name.now (record { held = F.held files.old; asked = F.asked files.old; faults = F.fault_count files.old }) (record { held = F.held files.new; asked = F.asked files.new; faults = F.fault_count files.new })) }
     ensures held { F.held files.new ≡ F.held files.old }
     ensures asked { OnOk result (F.asked files.new ≡ asked_more name.now (F.asked files.old)) }
-    ensures asked_err { IfErr result (λ refusal. AskedAt name.now refusal (F.asked files.old) (F.asked files.new)) }
     ensures later { F.fault_count files.old ≤ F.fault_count files.new }
 {
-    let image = match files.read(alloc, name, IMAGE_MOST) {
-        Ok(image) => image,
-        Err(FileFault::Failed) => return Err(Refusal::File(name)),
-        Err(FileFault::TooLong) => return Err(Refusal::Image),
-        Err(FileFault::NoMemory) => return Err(Refusal::OutOfMemory),
-    };
-    if image.is_empty() {
-        Ok(())
-    } else {
-        Err(Refusal::Image)
+    match files.read(alloc, name, IMAGE_MOST) {
+        Ok(image) => Ok(image),
+        Err(FileFault::Failed) => Err(Refusal::File(name)),
+        Err(FileFault::TooLong) => Err(Refusal::Image(LoadFault::TooLong)),
+        Err(FileFault::NoMemory) => Err(Refusal::OutOfMemory),
     }
 }
 
-/// Reads and judges the script and the image, in this order. The first refusal ends it.
+/// The schedule of a chip with these options. The harts of another number than one to four are refused by the load.
+fn schedule_of(options: &ChipOptions) -> SeedSchedule
+    requires busy { InRange least_busy most_busy options.now.busy }
+    ensures plan { result ≡ plan_of options.now }
+    ensures first { IsFirst result }
+{
+    let harts = if (1..=4).contains(&options.harts) {
+        options.harts as u8
+    } else {
+        1
+    };
+    SeedSchedule::new(options.seed, options.busy, harts)
+}
+
+/// How the harts of a chip with these options stand at its start.
+fn start_of(halted: bool) -> Start
+    ensures { result ≡ start_of halted }
+{
+    if halted {
+        Start::Halted
+    } else {
+        Start::Running
+    }
+}
+
+/// Loads the image into a chip with these options.
+fn load_chip(
+    alloc: Global,
+    bench: &mut Bench<SeedSchedule>,
+    image: &[u8],
+    options: &ChipOptions,
+) -> Result<(), Refusal<'static>>
+    requires busy { InRange least_busy most_busy options.now.busy }
+    ensures chip { OnOk result (bench.new ≡ Some (loaded image.now options.now.harts options.now.ram (start_of options.now.halted) (plan_of options.now))) }
+    ensures harts { OnOk result (RightHarts options.now.harts) }
+    ensures size { OnOk result (IsRamSize options.now.ram) }
+    ensures fits { OnOk result (Fits image.now options.now.ram) }
+    ensures as_loaded { OnOk result (IfSome bench.new AsLoaded) }
+    ensures cause { IfErr result (LoadCause image.now options.now) }
+    ensures kept { OnErr result (bench.new ≡ bench.old) }
+{
+    let loaded = bench.load(
+        alloc,
+        image,
+        options.harts,
+        options.ram,
+        start_of(options.halted),
+        schedule_of(options),
+    );
+    match loaded {
+        Ok(()) => Ok(()),
+        Err(LoadFault::NoMemory) => Err(Refusal::OutOfMemory),
+        Err(fault) => Err(Refusal::Image(fault)),
+    }
+}
+
+/// Reads and judges the script, reads the image and loads it, in this order. The first refusal ends it, and no chip is loaded then.
 pub fn prepare<'a, F: Files>(
     alloc: Global,
-    inputs: &'a Inputs,
+    job: &'a BothJob,
     files: &mut F,
+    bench: &mut Bench<SeedSchedule>,
 ) -> Result<Script, Refusal<'a>>
-    ensures accepted { IfOk result (IsAcceptedBy (names_of inputs.now) (F.held files.old)) }
+    requires busy { InRange least_busy most_busy job.now.options.busy }
+    ensures prepared { IfOk result (λ script. Prepared (value_of job.now) (F.held files.old) script bench.new) }
     ensures built { IfOk result (λ script. list_all is_built script ≡ true) }
-    ensures asked { AskedFront (Some (names_of inputs.now)) (F.asked files.old) (F.asked files.new) }
-    ensures asked_for { IfErr result (λ refusal. AskedInputs (names_of inputs.now) refusal (F.asked files.old) (F.asked files.new)) }
-    ensures cause { IfErr result (InputsCause (names_of inputs.now) (F.held files.old) (F.fault_count files.old) (F.fault_count files.new)) }
+    ensures asked { OnOk result (F.asked files.new ≡ asked_both (value_of job.now) (record { held = F.held files.old; asked = F.asked files.old; faults = F.fault_count files.old })) }
+    ensures cause { IfErr result (JobCause (value_of job.now) (record { held = F.held files.old; asked = F.asked files.old; faults = F.fault_count files.old }) (record { held = F.held files.new; asked = F.asked files.new; faults = F.fault_count files.new })) }
+    ensures kept { OnErr result (bench.new ≡ bench.old) }
 {
-    let script = load_script(alloc, files, inputs.script.as_str())?;
-    load_image(alloc, files, inputs.image.as_str())?;
+    let script = load_script(alloc, files, job.script.as_str())?;
+    let image = read_image(alloc, files, job.image.as_str())?;
+    load_chip(alloc, bench, &image, &job.options)?;
     Ok(script)
 }

@@ -1,4 +1,5 @@
 use crate::status::Status;
+use chip_core::LoadFault;
 use debug_model::ScriptError;
 
 /// Why a run was refused before its session.
@@ -10,8 +11,8 @@ pub enum Refusal<'a> {
     File(&'a str),
     /// The script, at this line and for this fault.
     Script(ScriptError),
-    /// The image: it has more bytes than the chip's RAM.
-    Image,
+    /// The image, or the chip that it is to be loaded into.
+    Image(LoadFault),
     /// No memory was left.
     OutOfMemory,
 }
@@ -28,7 +29,7 @@ impl Refusal<'_> {
             Refusal::Words => Status::Words,
             Refusal::File(_) => Status::File,
             Refusal::Script(_) => Status::Script,
-            Refusal::Image => Status::Image,
+            Refusal::Image(_) => Status::Image,
             Refusal::OutOfMemory => Status::OutOfMemory,
         }
     }

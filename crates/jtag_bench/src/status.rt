@@ -16,6 +16,8 @@ pub enum Status {
     Image,
     /// Not all of the output could be written.
     Sink,
+    /// The chip met its limit of events.
+    EventLimit,
     /// No memory was left before the session.
     OutOfMemory,
 }
@@ -32,6 +34,7 @@ impl Status {
             Status::Script => 4,
             Status::Image => 5,
             Status::Sink => 8,
+            Status::EventLimit => 10,
             Status::OutOfMemory => 11,
         }
     }

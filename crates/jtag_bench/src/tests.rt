@@ -1,8 +1,8 @@
 //! Runs as a person makes them, over files and a sink in memory. Expected values are the printed formats' and the standard's.
 
-use crate::bench::Bench;
 use crate::run::run;
 use crate::status::Status;
+use chip_core::Bench;
 use jt_base::{DiskFiles, Files, MemoryFile, MemoryFiles, MemorySink};
 use std::alloc::{AllocError, Global};
 use std::test::Fail;
@@ -39,11 +39,19 @@ fn two_files(
 
 const NO_FAILURE: u32 = 1000;
 
+/// x5 = 5; then x5 = x5 + 1 again and again.
+const PROGRAM: &[u8] = &[
+    0x93, 0x02, 0x50, 0x00, 0x93, 0x82, 0x12, 0x00, 0x6f, 0xf0, 0xdf, 0xff,
+];
+
+/// The bytes of RAM where the words say nothing.
+const RAM_UNSAID: usize = 65_536;
+
 #[test]
 fn runs_over_memory(rt: HostRuntime) -> Result<(), Fail> {
     let alloc = rt.alloc();
     let both = ["both", "--image", "i", "--script", "s"].as_slice();
-    let cases: [(&[&str], &[u8], &[u8], u32, Status, &str); 13] = [
+    let cases: [(&[&str], &[u8], &[u8], u32, Status, &str); 17] = [
         (both, b"", b"", NO_FAILURE, Status::Clean, ""),
         (
             both,
@@ -95,11 +103,43 @@ fn runs_over_memory(rt: HostRuntime) -> Result<(), Fail> {
         ),
         (
             both,
-            b"x",
+            PROGRAM,
+            b"idcode",
+            NO_FAILURE,
+            Status::Clean,
+            "idcode 0x10d64001\n",
+        ),
+        (
+            &["both", "--image", "j", "--script", "s"],
+            b"",
+            b"foo",
+            NO_FAILURE,
+            Status::Script,
+            "script refused: line 1 fault 2\n",
+        ),
+        (
+            &["both", "--image", "i", "--script", "s", "--harts", "5"],
+            b"",
             b"idcode",
             NO_FAILURE,
             Status::Image,
-            "image refused: fault 1\n",
+            "image refused: fault 3\n",
+        ),
+        (
+            &["both", "--image", "i", "--script", "s", "--harts", "0", "--ram", "1"],
+            b"",
+            b"idcode",
+            NO_FAILURE,
+            Status::Image,
+            "image refused: fault 3\n",
+        ),
+        (
+            &["both", "--image", "i", "--script", "s", "--ram", "65537"],
+            b"",
+            b"idcode",
+            NO_FAILURE,
+            Status::Image,
+            "image refused: fault 2\n",
         ),
         (both, b"", b"idcode\n", 0, Status::File, "file failed: s\n"),
         (both, b"", b"idcode\n", 1, Status::File, "file failed: i\n"),
@@ -179,6 +219,45 @@ fn a_script_over_the_limit_is_refused(rt: HostRuntime) -> Result<(), Fail> {
     let ended = run(alloc, &words, &mut files, &mut out, &mut bench);
     assert_eq!(rt; ended, Status::Script);
     assert_eq!(rt; out.bytes(), b"script refused: line 0 fault 7\n".as_slice());
+    Ok(())
+}
+
+#[test]
+fn an_image_fits_into_ram_or_is_refused(rt: HostRuntime) -> Result<(), Fail> {
+    let alloc = rt.alloc();
+    let words = word_list(alloc, &["both", "--image", "i", "--script", "s"])?;
+    for (bytes, status) in [(RAM_UNSAID, Status::Clean), (RAM_UNSAID + 1, Status::Image)] {
+        let image = vec![in alloc; 0x13; bytes]?;
+        let mut files = two_files(alloc, &image, b"", NO_FAILURE)?;
+        let mut out = MemorySink::new(alloc, AMPLE, Vec::new(alloc))?;
+        let mut bench = Bench::blank();
+        let ended = run(alloc, &words, &mut files, &mut out, &mut bench);
+        assert_eq!(rt; ended, status);
+        assert_eq!(rt; bench.is_loaded(), status == Status::Clean);
+    }
+    Ok(())
+}
+
+// The IDCODE takes 43 clocks: six of the reset, three to Shift-DR, 32 of the bits and two back. Each is a round, in which at busy 1 each of the
+// harts has its turn, and at busy 2 in every second one.
+#[test]
+fn rounds_pass_while_the_idcode_is_read(rt: HostRuntime) -> Result<(), Fail> {
+    let alloc = rt.alloc();
+    let cases: [(&str, &str, u32, u32); 3] = [("1", "1", 43, 43), ("4", "1", 172, 172), ("1", "2", 21, 22)];
+    for (harts, busy, least, most) in cases {
+        let words = word_list(
+            alloc,
+            &["both", "--image", "i", "--script", "s", "--harts", harts, "--busy", busy, "--piece", "3"],
+        )?;
+        let mut files = two_files(alloc, PROGRAM, b"idcode", NO_FAILURE)?;
+        let mut out = MemorySink::new(alloc, AMPLE, Vec::new(alloc))?;
+        let mut bench = Bench::blank();
+        let ended = run(alloc, &words, &mut files, &mut out, &mut bench);
+        assert_eq!(rt; ended, Status::Clean);
+        assert_eq!(rt; bench.counts().rounds, 43);
+        assert!(rt; least <= bench.journal().len() && bench.journal().len() <= most);
+        assert!(rt; !bench.at_limit());
+    }
     Ok(())
 }
 

@@ -1,5 +1,6 @@
 pub mod CommandLemmas
 pub mod GivesLemmas
 pub mod JobLemmas
+pub mod JobRanges
 pub mod RangeLemmas
 pub mod RowLemmas

@@ -1,6 +1,6 @@
 -- The job that words write, or none: the first word names the program, and the rest are the options of its command.
 -- The words are this project's own (docs/FORMATS.md, "Words"); which words a command takes, and what it finds in them, is what the crate `clap` says.
-use Rattle.std.specs.Prelude.{ℕ, Bool, false, ◌&&◌, nat_le, List, [], ◌∷◌, codes, bytes_eq, Option, Some, None, option_map, Result, Ok, Err, if◌then◌else◌}
+use Rattle.std.specs.Prelude.{◌≤◌, ℕ, Bool, false, ◌&&◌, nat_le, List, [], ◌∷◌, codes, bytes_eq, Option, Some, None, option_map, Result, Ok, Err, if◌then◌else◌}
 use Rattle.std.specs.Borrow.{Bor}
 use Rattle.clap.specs.Words.{App, Kinds, Row, fault_of, first_of, found_of, matches_of, rows_of}
 use Rattle.clap.specs.declared.parser.matches.ArgMatches.{ArgMatches}
@@ -170,3 +170,15 @@ job_by program words =
 unfoldable pub job_of : List Text → Option JobValue
 job_of [] = None
 job_of (program ∷ rest) = job_by program (program ∷ rest)
+
+-- ---- ranges
+
+pub record InRange (least most n : ℕ) : Type 0 where
+  pub low : least ≤ n
+  pub high : n ≤ most
+
+-- the numbers of a job that have a range are within it; of the others `load` judges
+abbrev pub HasRanges : JobValue → Type 0
+HasRanges (both inputs options piece loopback) = InRange least_piece most_piece piece × InRange least_busy most_busy options.busy
+HasRanges (probe at script) = Unit {0}
+HasRanges (chip at image options) = InRange least_busy most_busy options.busy

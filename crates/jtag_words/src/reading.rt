@@ -3,7 +3,7 @@ ghost use Rattle.clap.specs.Words.{app_of, is_simple_and_free, kind_of};
 ghost use Rattle.clap.specs.declared.error.kind.ErrorKind.TheVariants.{OutOfMemory};
 ghost use Rattle.jtag_words.specs.Job.{Gives, job_value};
 ghost use Rattle.jtag_words.specs.Options.{both_command, chip_command, probe_command};
-ghost use Rattle.jtag_words.specs.Words.{both_in, both_of, chip_in, chip_of, job_by, job_of, probe_in, probe_of, rows_found, rows_in};
+ghost use Rattle.jtag_words.specs.Words.{HasRanges, both_in, both_of, chip_in, chip_of, job_by, job_of, probe_in, probe_of, rows_found, rows_in};
 
 use crate::fault::WordsFault;
 use crate::job::Job;
@@ -28,6 +28,7 @@ const PIECE_LEAST: u64 = 1;
 /// `Refused` exactly where the words write no job, and `NoMemory` where memory ran out.
 pub fn read_words(alloc: Global, words: &[String]) -> Result<Job, WordsFault>
     ensures job { IfOk result (λ job. job_of (map string_bytes words.now) ≡ Some (job_value job)) }
+    ensures ranges { IfOk result (λ job. HasRanges (job_value job)) }
     ensures refused { IsErrOf result WordsFault.Refused → job_of (map string_bytes words.now) ≡ None }
 {
     read(alloc, words)

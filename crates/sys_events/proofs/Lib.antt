@@ -3,3 +3,4 @@ pub mod Pairs
 pub mod Made
 pub mod Rounds
 pub mod Fairness
+pub mod Short

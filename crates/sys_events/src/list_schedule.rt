@@ -1,4 +1,6 @@
-ghost use Rattle.std.specs.Prelude.{◌≡◌, map};
+ghost use Rattle.std.specs.Prelude.{◌≡◌, ◌≤◌, All, List, length, map};
+ghost use Rattle.arrayvec.specs.ArrayVec.{array_vec_len};
+ghost use Rattle.debug_model.specs.declared.event.Event.{Event};
 
 use crate::place::following;
 use debug_model::{Event, Round, Schedule};
@@ -27,9 +29,20 @@ impl Model for ListSchedule {
 impl ListSchedule {
     /// Gives these rounds in order, and starts again after the last one. Without rounds each is empty.
     pub fn new(rounds: Vec<Round>) -> ListSchedule
-        ensures { result ≡ record { rounds = map (λ r. r.items) rounds.items; place = 0 } }
+        ensures plan { result ≡ record { rounds = map (λ r. r.items) rounds.items; place = 0 } }
+        ensures few { All (λ (r : List Event). length r ≤ 8) result.rounds }
     {
+        measure(&rounds);
         ListSchedule { rounds, place: 0 }
+    }
+}
+
+/// Asks each round for its length: that none has more than eight events is the promise of its type, which a contract knows of a round only once it is asked.
+fn measure(rounds: &[Round])
+    ensures { All (λ r. array_vec_len r ≤ 8) rounds.now }
+{
+    for round in rounds {
+        let _few = round.len();
     }
 }
 

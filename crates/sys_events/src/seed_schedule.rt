@@ -1,4 +1,5 @@
-ghost use Rattle.std.specs.Prelude.{◌≡◌, ◌+◌, ◌%◌, ◌<◌, ◌≤◌, ◌==◌, length, map};
+ghost use Rattle.std.specs.Prelude.{◌≡◌, ◌+◌, ◌%◌, ◌<◌, ◌≤◌, ◌==◌, All, List, length, map};
+ghost use Rattle.debug_model.specs.declared.event.Event.{Event};
 ghost use Rattle.arrayvec.specs.ArrayVec.{array_vec_len};
 ghost use Rattle.debug_model.specs.Schedule.{Fair};
 ghost use Rattle.sys_events.specs.Seed.{words_of, paired, round_at, rounds_of, seed_plan};
@@ -53,6 +54,7 @@ impl SeedSchedule {
         requires harts { (1 ≤ harts) × (harts ≤ MOST_HARTS) }
         ensures plan { result ≡ seed_plan seed busy harts }
         ensures fair { Fair 32 harts result }
+        ensures few { All (λ (r : List Event). length r ≤ 8) result.rounds }
     {
         let pairs = pair(first_words(seed), harts);
         SeedSchedule {

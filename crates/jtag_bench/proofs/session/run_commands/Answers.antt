@@ -1,25 +1,22 @@
 use Rattle.std.proofs.Common.{◌≡◌, ◌∷◌, arith}
 use Rattle.std.proofs.lemmas.Grind.{common_steps}
-use Rattle.jtag_bench.proofs.Stood.{begun, went_on, ended_at, ended_last, failed_at, wrote_by}
+use Rattle.debug_model.specs.declared.command.Command.TheVariants.{Idcode}
+use Rattle.jtag_bench.proofs.Stood.{at_idcode, cut_at, first_stood, if_err, read_more, stood_cause}
 use Rattle.jtag_bench.proofs.session.run_commands.Goals as goal
 
 pub commands-init : goal.commands-init
-commands-init g c = (begun _ _ _ c.requires.read, grind (arith, common_steps), grind (arith, common_steps), grind (arith, common_steps), grind (arith, common_steps), grind (arith, common_steps))
+commands-init g c = (first_stood _ _ _ _, grind (arith, common_steps), grind (arith, common_steps), grind (arith, common_steps), grind (arith, common_steps), grind (arith, common_steps))
 
-pub returns-in_err-act-clause-wrote : goal.returns-in_err-act-clause-wrote
-returns-in_err-act-clause-wrote g c =
-    let cut : c.commands.rest.now ≡ c.in-Some.command.now ∷ c.in-Some.after.now = grind (arith, common_steps) in
-    wrote_by _ _ (failed_at c.in-Some.command.now c.in_err-act.field-0.0 _ c.in-Some.after.now _ _ _ _ _ _ cut c.commands.invariant.0 c.in_err-act.ensures.wrote)
+pub returns-in_err-print_idcode-in-Idcode-clause-cut : goal.returns-in_err-print_idcode-in-Idcode-clause-cut
+returns-in_err-print_idcode-in-Idcode-clause-cut g c =
+    let front : c.commands.rest.now ≡ Idcode ∷ c.in-Some.after.now = grind (arith, common_steps) in
+    if_err _ c.in_err-print_idcode-in-Idcode.field-0.0 _ c.from_residual.ensures.1 (cut_at _ _ c.in-Some.after.now _ (g.S.Scan.far c.commands.scan) _ _ _ _ _ _ _ (at_idcode _ _ _ _ _ _ _ _ _ front c.commands.invariant.0) c.print_idcode.ensures.passed c.in_err-print_idcode-in-Idcode.ensures.failed)
+
+pub returns-in_err-print_idcode-in-Idcode-clause-cause : goal.returns-in_err-print_idcode-in-Idcode-clause-cause
+returns-in_err-print_idcode-in-Idcode-clause-cause g c =
+    if_err _ c.in_err-print_idcode-in-Idcode.field-0.0 _ c.from_residual.ensures.1 (stood_cause _ _ _ _ _ _ _ _ _ _ (g.S.Scan.fault_count c.commands.scan) _ _ (g.K.Sink.fault_count c.commands.out) _ _ c.commands.invariant.0 c.commands.invariant.3 c.print_idcode.ensures.scan_later c.commands.invariant.4 c.print_idcode.ensures.sink_later c.in_err-print_idcode-in-Idcode.ensures.cause)
 
 pub commands-preserved : goal.commands-preserved
 commands-preserved g c =
-    let cut : c.commands.rest.now ≡ c.in-Some.command.now ∷ c.in-Some.after.now = grind (arith, common_steps) in
-    (went_on c.in-Some.command.now _ c.in-Some.after.now _ _ _ _ _ _ _ cut c.commands.invariant.0 (rw c.in-Done.is at c.in_ok-act.ensures.did), grind (arith, common_steps), grind (arith, common_steps), grind (arith, common_steps), grind (arith, common_steps), grind (arith, common_steps))
-
-pub returns-in-Ended-clause-ran : goal.returns-in-Ended-clause-ran
-returns-in-Ended-clause-ran g c =
-    let cut : c.commands.rest.now ≡ c.in-Some.command.now ∷ c.in-Some.after.now = grind (arith, common_steps) in
-    ended_at c.in-Some.command.now _ c.in-Some.after.now _ _ _ _ _ _ _ cut c.commands.invariant.0 (rw c.in-Ended.is at c.in_ok-act.ensures.did)
-
-pub returns-clause-ran : goal.returns-clause-ran
-returns-clause-ran g c = ended_last _ _ _ _ _ _ (grind (arith, common_steps)) c.commands.invariant.0
+    let front : c.commands.rest.now ≡ Idcode ∷ c.in-Some.after.now = grind (arith, common_steps) in
+    (read_more _ c.in-Some.after.now _ (g.S.Scan.far c.commands.scan) _ _ _ _ _ _ _ c.in_ok-print_idcode-in-Idcode.field-0 (at_idcode _ _ _ _ _ _ _ _ _ front c.commands.invariant.0) c.in_ok-print_idcode-in-Idcode.ensures.told c.in_ok-print_idcode-in-Idcode.ensures.heard c.print_idcode.ensures.passed c.in_ok-print_idcode-in-Idcode.ensures.put, grind (arith, common_steps), grind (arith, common_steps), grind (arith, common_steps), grind (arith, common_steps), grind (arith, common_steps))

@@ -1,4 +1,5 @@
 use Rattle.jtag_words.proofs.JobLemmas.{given_job, given_refusal}
+use Rattle.jtag_words.proofs.JobRanges.{read_within}
 use Rattle.jtag_words.proofs.reading.read_words.Goals as goal
 
 pub returns-clause-job : goal.returns-clause-job
@@ -6,3 +7,6 @@ returns-clause-job c = given_job _ _ c.read.ensures
 
 pub returns-clause-refused : goal.returns-clause-refused
 returns-clause-refused c = given_refusal _ _ c.read.ensures
+
+pub returns-clause-ranges : goal.returns-clause-ranges
+returns-clause-ranges c = read_within _ _ c.read.ensures

@@ -1,0 +1,9 @@
+mod Counts
+mod Ends
+mod Events
+mod Feeding
+mod Firsts
+mod Loads
+mod Turning
+mod Turns
+mod Tells

@@ -1,0 +1,46 @@
+-- Harts and memory as a load makes them, and the chip as loaded.
+use Rattle.std.proofs.Common.{◌≡◌, ◌⊎◌, ℕ, ◌+◌, ◌<◌, ◌≤◌, List, [], ◌∷◌, ◌++◌, Option, get_or, refl, ap, ◌∙◌, add-one, inl, inr, arith}
+use Rattle.std.proofs.Math.ListN.{replicate}
+use Rattle.std.proofs.lemmas.List.{length-replicate}
+use Rattle.std.proofs.lemmas.List.Elements.{All-from_get_or}
+use Rattle.rv_model.specs.declared.cause.Cause.{Cause}
+use Rattle.rv_model.specs.Board.{Hart, halted_by_reset, reset_hart, runs}
+use Rattle.rv_model.specs.Image.{ram_size}
+use Rattle.rv_model.specs.Memory.{IsRamSize, zero_memory}
+use Rattle.debug_model.specs.Chip.{Live}
+use Rattle.debug_model.specs.Loaded.{AsLoaded, Fits, reset_harts}
+use Rattle.debug_model.specs.Schedule.{Plan}
+use Rattle.hart_debug.specs.Changes.{start_cause}
+use Rattle.hart_debug.specs.declared.start.Start.{Start}
+use Rattle.hart_debug.specs.declared.start.Start.TheVariants.{Running, Halted}
+use Rattle.rv_mem.proofs.ImageLemmas.{len-map_of}
+use Rattle.chip_core.specs.Loads.{IsFirst, loaded}
+
+pub one_hart_more : (n : ℕ) (why : Option Cause) → reset_harts (n + 1) why ≡ reset_harts n why ++ reset_hart n why ∷ []
+one_hart_more n why = ap (λ k. reset_harts k why) (add-one n)
+
+pub zero_size : (n : ℕ) → ram_size (zero_memory n) ≡ n
+zero_size n = len-map_of (replicate n 0) ∙ length-replicate n 0
+
+start_known : (start : Start) → (start_cause start ≡ runs) ⊎ (start_cause start ≡ halted_by_reset)
+start_known Running = inl refl
+start_known Halted = inr refl
+
+pub as_loaded : (l : Live) (image : List ℕ) (harts ram : ℕ) (start : Start) (plan : Plan)
+    → 1 ≤ harts → harts ≤ 4 → IsRamSize ram → Fits image ram → ((i : ℕ) → get_or image i 0 < 256) → IsFirst plan
+    → l ≡ loaded image harts ram start plan → AsLoaded l
+as_loaded l image harts ram start plan some most size fits bytes first is = record {
+  image = image;
+  harts = harts;
+  ram = ram;
+  halted = start_cause start;
+  plan = plan;
+  right = record { some = omega arith; most = most };
+  size = size;
+  fits = fits;
+  bytes = All-from_get_or (λ b. b < 256) image 0 (λ i _. bytes i);
+  start = start_known start;
+  rounds = first.rounds;
+  first = first.place;
+  is = is;
+}

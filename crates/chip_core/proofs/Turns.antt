@@ -1,0 +1,167 @@
+-- The turns of a chip's harts are those that its schedule offered, behind each byte.
+use Rattle.std.proofs.Common.{◌≡◌, ℕ, zero, suc, ◌+◌, Bool, true, false, List, [], ◌∷◌, ◌++◌, length, Option, Some, None, IfSome, refl, subst, sym, ap, ◌∙◌, append_assoc, add-one, option_map}
+use Rattle.std.proofs.lemmas.List.{append-nil}
+use Rattle.debug_model.specs.declared.chip_end.ChipEnd.{ChipEnd}
+use Rattle.debug_model.specs.declared.counts.Counts.{Counts}
+use Rattle.debug_model.specs.declared.dmi_op.DmiOp.{DmiOp}
+use Rattle.debug_model.specs.declared.event.Event.{Event}
+use Rattle.debug_model.specs.declared.event.Event.TheVariants as event
+use Rattle.debug_model.specs.declared.sign.Sign.{Sign}
+use Rattle.debug_model.specs.declared.sign.Sign.TheVariants.{Pins, Ask, Light, Reset, Quit}
+use Rattle.debug_model.specs.Chip.{Chip, Inside, Live, Works, after, after_event, after_events, busy_counted, counted, end_of, fall, feed, lost_by, performed_by, pins, rise, signed, taken_by, tick, unless_ended, works_risen}
+use Rattle.debug_model.specs.Loaded.{AsLoaded, loaded_chip}
+use Rattle.debug_model.specs.Module.{Site}
+use Rattle.rv_model.specs.Board.{Board}
+use Rattle.debug_model.specs.Port.{Port, rise_finds_busy}
+use Rattle.debug_model.specs.Scan.{ticks}
+use Rattle.debug_model.specs.Schedule.{Plan, moved, round_of}
+use Rattle.debug_model.specs.Signs.{sign_of}
+use Rattle.hart_debug.specs.declared.start.Start.{Start}
+use Rattle.chip_core.specs.Loads.{loaded}
+use Rattle.chip_core.specs.Offered.{RoundsOfferTurns, TurnsOffered, first_rounds, moved_on, offered, offered_by, turns_of}
+use Rattle.chip_core.proofs.Events.{Added, event_adds}
+
+-- ---- schedules
+
+moved_on-more : (k : ℕ) (p : Plan) → moved_on (suc k) p ≡ moved (moved_on k p)
+unfolding moved_on
+moved_on-more zero p = refl
+moved_on-more (suc k) p = moved_on-more k (moved p)
+
+first_rounds-more : (k : ℕ) (p : Plan) → first_rounds (suc k) p ≡ first_rounds k p ++ round_of (moved_on k p)
+unfolding first_rounds moved_on
+first_rounds-more zero p = append-nil (round_of p)
+first_rounds-more (suc k) p =
+    ap (λ es. round_of p ++ es) (first_rounds-more k (moved p)) ∙ sym (append_assoc (round_of p) (first_rounds k (moved p)) (round_of (moved_on k (moved p))))
+
+offered-append : (n : ℕ) (xs ys : List Event) → offered n (xs ++ ys) ≡ offered n xs ++ offered n ys
+unfolding offered
+offered-append n [] ys = refl
+offered-append n (e ∷ xs) ys = ap (λ zs. offered_by n e ++ zs) (offered-append n xs ys) ∙ sym (append_assoc (offered_by n e) (offered n xs) (offered n ys))
+
+-- ---- events
+
+added_then : (xs ys : List ℕ) (s t u : Site) → Added xs s t → Added ys t u → Added (xs ++ ys) s u
+added_then xs ys s t u first second = record {
+  turns = second.turns ∙ ap (λ zs. zs ++ ys) first.turns ∙ append_assoc (turns_of s.journal) xs ys;
+  harts = second.harts ∙ first.harts;
+}
+
+events_added : (n : ℕ) (es : List Event) (w : Works) → length w.site.board.harts ≡ n → Added (offered n es) w.site (after_events es w).site
+unfolding offered after_events
+events_added n [] w here = record { turns = sym (append-nil (turns_of w.site.journal)); harts = refl }
+events_added n (e ∷ es) w here =
+    let first : Added (offered_by (length w.site.board.harts) e) w.site (after_event e w).site = (event_adds e w).added in
+    added_then (offered_by n e) (offered n es) w.site (after_event e w).site (after_events es (after_event e w)).site
+    (rw (← here) first)
+    (events_added n es (after_event e w) (first.harts ∙ here))
+
+performed_rounds : (o : Option DmiOp) (w : Works) → (performed_by o w).counts.rounds ≡ w.counts.rounds
+performed_rounds (Some op) w = refl
+performed_rounds None w = refl
+
+lost_rounds : (o : Option DmiOp) (w : Works) → (lost_by o w).counts.rounds ≡ w.counts.rounds
+lost_rounds (Some op) w = refl
+lost_rounds None w = refl
+
+event_rounds : (e : Event) (w : Works) → (after_event e w).counts.rounds ≡ w.counts.rounds
+unfolding after_event
+event_rounds (event.Turn h) w = refl
+event_rounds event.DmiDone w = performed_rounds w.dtm.flight w
+event_rounds event.DmiFail w = lost_rounds w.dtm.flight w
+event_rounds event.CmdStep w = refl
+event_rounds event.BusDone w = refl
+
+events_rounds : (es : List Event) (w : Works) → (after_events es w).counts.rounds ≡ w.counts.rounds
+unfolding after_events
+events_rounds [] w = refl
+events_rounds (e ∷ es) w = events_rounds es (after_event e w) ∙ event_rounds e w
+
+-- ---- edges
+
+busy_rounds : (busy : Bool) (c : Counts) → (busy_counted busy c).rounds ≡ c.rounds
+busy_rounds true c = refl
+busy_rounds false c = refl
+
+-- a round of the schedule, whatever clock and port are
+tick_offered : (first : Plan) (tck tck' : Bool) (port port' : Port) (i : Inside) → TurnsOffered first (record { tck = tck; port = port; inside = i })
+    → TurnsOffered first (record { tck = tck'; port = port'; inside = tick i })
+unfolding tick
+tick_offered first tck tck' port port' i is =
+    let n : ℕ = length i.works.site.board.harts in
+    let k : ℕ = i.works.counts.rounds in
+    let es : List Event = round_of i.plan in
+    let w : Works = counted i.works in
+    let added : Added (offered n es) i.works.site (after_events es w).site = events_added n es w refl in
+    let rounds : (after_events es w).counts.rounds ≡ suc k = events_rounds es w ∙ add-one k in
+    let list : first_rounds k first ++ es ≡ first_rounds (suc k) first = ap (λ p. first_rounds k first ++ round_of p) is.plan ∙ sym (first_rounds-more k first) in
+    record {
+      turns = added.turns ∙ ap (λ xs. xs ++ offered n es) is.turns ∙ sym (offered-append n (first_rounds k first) es)
+      ∙ ap (λ xs. offered n xs) list ∙ ap (λ r. offered n (first_rounds r first)) (sym rounds) ∙ ap (λ m. offered m (first_rounds (after_events es w).counts.rounds first)) (sym added.harts);
+      plan = ap moved is.plan ∙ sym (moved_on-more k first) ∙ ap (λ r. moved_on r first) (sym rounds);
+    }
+
+ticks_offered : (first : Plan) (n : ℕ) (tck tck' : Bool) (port port' : Port) (i : Inside) → TurnsOffered first (record { tck = tck; port = port; inside = i })
+    → TurnsOffered first (record { tck = tck'; port = port'; inside = ticks n i })
+unfolding ticks
+ticks_offered first zero tck tck' port port' i is = record { turns = is.turns; plan = is.plan }
+ticks_offered first (suc n) tck tck' port port' i is = ticks_offered first n tck tck' port port' (tick i) (tick_offered first tck tck port port i is)
+
+works_offered : (first : Plan) (c : Chip) → TurnsOffered first c → TurnsOffered first (record c { inside = record c.inside { works = works_risen c.port c.inside.works } })
+works_offered first c is =
+    let rounds : (works_risen c.port c.inside.works).counts.rounds ≡ c.inside.works.counts.rounds = busy_rounds (rise_finds_busy c.port c.inside.works.dtm) c.inside.works.counts in
+    record {
+      turns = is.turns ∙ ap (λ r. offered (length c.inside.works.site.board.harts) (first_rounds r first)) (sym rounds);
+      plan = is.plan ∙ ap (λ r. moved_on r first) (sym rounds);
+    }
+
+rise_offered : (first : Plan) (tms tdi : Bool) (c : Chip) → TurnsOffered first c → TurnsOffered first (rise tms tdi c)
+rise_offered first tms tdi c is = tick_offered first c.tck true c.port _ (record c.inside { works = works_risen c.port c.inside.works }) (works_offered first c is)
+
+pins_offered : (first : Plan) (old new tms tdi : Bool) (c : Chip) → TurnsOffered first c → TurnsOffered first (pins old new tms tdi c)
+pins_offered first false true tms tdi c is = rise_offered first tms tdi c is
+pins_offered first true false tms tdi c is = record { turns = is.turns; plan = is.plan }
+pins_offered first false false tms tdi c is = is
+pins_offered first true true tms tdi c is = is
+
+-- ---- bytes
+
+sign_offered : (first : Plan) (s : Option Sign) (c : Chip) → TurnsOffered first c → TurnsOffered first (signed s c)
+sign_offered first (Some (Pins tck tms tdi)) c is = pins_offered first c.tck tck tms tdi c is
+sign_offered first (Some Ask) c is = is
+sign_offered first (Some Light) c is = is
+sign_offered first (Some (Reset trst)) c is = record { turns = is.turns; plan = is.plan }
+sign_offered first (Some Quit) c is = is
+sign_offered first None c is = is
+
+taken_offered : (first : Plan) (ended end : Option ChipEnd) (next : Chip) (l : Live) → TurnsOffered first l.chip → TurnsOffered first next
+    → TurnsOffered first (unless_ended ended (taken_by end next l.chip) l).chip
+taken_offered first None None next l here there = there
+taken_offered first None (Some end) next l here there = here
+taken_offered first (Some ended) end next l here there = here
+
+pub feed_offered : (first : Plan) (bytes : List ℕ) (l : Live) → TurnsOffered first l.chip → TurnsOffered first (feed l bytes).chip
+unfolding feed
+feed_offered first [] l is = is
+feed_offered first (b ∷ bs) l is =
+    feed_offered first bs (after l b)
+    (taken_offered first l.ended (end_of b (sign_of b) l.chip) (signed (sign_of b) l.chip) l is (sign_offered first (sign_of b) l.chip is))
+
+-- ---- a bench
+
+board_offers : (board : Board) (plan : Plan) → TurnsOffered plan (loaded_chip board plan)
+unfolding turns_of offered first_rounds moved_on
+board_offers board plan = record { turns = refl; plan = refl }
+
+pub loaded_offers : (image : List ℕ) (harts ram : ℕ) (start : Start) (plan : Plan) → TurnsOffered plan (loaded image harts ram start plan).chip
+loaded_offers image harts ram start plan = board_offers _ plan
+
+-- ---- rounds alone
+
+fresh_offers : (l : Live) → AsLoaded l → TurnsOffered l.chip.inside.plan l.chip
+fresh_offers l a = subst (λ (m : Live). TurnsOffered m.chip.inside.plan m.chip) (sym a.is) (board_offers _ _)
+
+pub rounds_offer : RoundsOfferTurns
+rounds_offer l rises c a passed =
+    subst (λ (i : Inside). TurnsOffered l.chip.inside.plan (record { tck = c.tck; port = c.port; inside = i })) (sym passed)
+    (ticks_offered l.chip.inside.plan rises l.chip.tck c.tck l.chip.port c.port l.chip.inside (fresh_offers l a))

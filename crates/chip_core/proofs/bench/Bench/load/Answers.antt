@@ -1,0 +1,17 @@
+use Rattle.std.proofs.Common.{◌≡◌, arith}
+use Rattle.std.proofs.lemmas.Grind.{common_steps}
+use Rattle.chip_core.specs.Loads.{loaded}
+use Rattle.chip_core.proofs.Loads.{as_loaded}
+use Rattle.chip_core.proofs.Turns.{loaded_offers}
+use Rattle.chip_core.proofs.bench.Bench.load.Goals as goal
+
+pub returns-clause-as_loaded : goal.returns-clause-as_loaded
+returns-clause-as_loaded g c = λ first.
+    let is : c.new-2.result ≡ loaded c.args.image.now c.args.harts c.args.ram c.args.start (g.Q.Schedule.plan c.args.schedule) = grind (arith, common_steps) in
+    as_loaded c.new-2.result c.args.image.now c.args.harts c.args.ram c.args.start (g.Q.Schedule.plan c.args.schedule)
+    c.if-harts-lt1.false c.if-harts-gt-MOST_HARTS.false c.in_ok-memory.ensures.right.0 c.in_ok-memory.ensures.right.1 (λ i. (c.type_inv.image i).fits) first is
+
+pub returns-clause-turns : goal.returns-clause-turns
+returns-clause-turns g c =
+    let is : c.new-2.result ≡ loaded c.args.image.now c.args.harts c.args.ram c.args.start (g.Q.Schedule.plan c.args.schedule) = grind (arith, common_steps) in
+    rw is (loaded_offers c.args.image.now c.args.harts c.args.ram c.args.start (g.Q.Schedule.plan c.args.schedule))

@@ -1,0 +1,25 @@
+-- What a load puts onto the bench, and the numbers of its refusals. The checks are made in the order of the numbers 3, 2, 1, 4.
+-- How a program comes into the chip is this project's own choice.
+use Rattle.std.specs.Prelude.{◌≡◌, ℕ, ◌≤◌, List, length, All, Option, Some}
+use Rattle.debug_model.specs.declared.event.Event.{Event}
+use Rattle.debug_model.specs.Chip.{Live}
+use Rattle.debug_model.specs.Loaded.{live, loaded_board, loaded_chip}
+use Rattle.debug_model.specs.Schedule.{Plan}
+use Rattle.hart_debug.specs.Changes.{start_cause}
+use Rattle.hart_debug.specs.declared.start.Start.{Start}
+use Rattle.chip_core.specs.declared.load_fault.LoadFault.{LoadFault}
+use Rattle.chip_core.specs.declared.load_fault.LoadFault.TheVariants.{BadHarts, BadSize, TooLong, NoMemory}
+
+abbrev pub loaded : List ℕ → ℕ → ℕ → Start → Plan → Live
+loaded image harts ram start plan = live (loaded_chip (loaded_board image harts ram (start_cause start)) plan)
+
+-- a schedule that has given no round yet
+pub record IsFirst (plan : Plan) : Type 0 where
+  pub rounds : All (λ (r : List Event). length r ≤ 8) plan.rounds
+  pub place : plan.place ≡ 0
+
+abbrev pub load_fault_number : LoadFault → ℕ
+load_fault_number TooLong = 1
+load_fault_number BadSize = 2
+load_fault_number BadHarts = 3
+load_fault_number NoMemory = 4

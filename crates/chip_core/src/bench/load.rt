@@ -1,0 +1,96 @@
+//! Loading a bench.
+
+ghost use Rattle.std.specs.Prelude.{◌≡◌, ◌≤◌, ◌↔◌, Err, IfOk, IfSome, OnErr, OnOk, Some, length, vec_len};
+ghost use Rattle.rv_model.specs.Memory.{IsRamSize, hart_places};
+ghost use Rattle.debug_model.specs.Loaded.{AsLoaded, Fits, RightHarts, loaded_memory, reset_harts};
+ghost use Rattle.hart_debug.specs.Changes.{start_cause};
+ghost use Rattle.chip_core.specs.Loads.{IsFirst, loaded};
+ghost use Rattle.chip_core.specs.Offered.{TurnsOffered};
+
+use super::Bench;
+use crate::chip::Chip;
+use crate::load_fault::LoadFault;
+use crate::system::System;
+use debug_model::Schedule;
+use hart_debug::{DebugHart, Start};
+use rv_mem::{Ram, RamFault};
+use std::alloc::{AllocError, Global};
+use sys_events::Journal;
+
+/// The most harts.
+const MOST_HARTS: u64 = 4;
+
+/// So many harts as a reset leaves them, numbered from 0.
+fn make_harts(alloc: Global, count: u8, start: Start) -> Result<Vec<DebugHart>, AllocError>
+    requires { count ≤ hart_places }
+    ensures harts { IfOk result (λ harts. harts.items ≡ reset_harts count (start_cause start)) }
+    ensures few { IfOk result (λ harts. vec_len harts ≤ hart_places) }
+{
+    let mut harts = Vec::new(alloc);
+    for id in 0..count {
+        harts.push(DebugHart::new(id, start))?;
+    }
+    Ok(harts)
+}
+
+/// RAM of so many bytes with the image at its start, and zeros behind it.
+fn make_ram(alloc: Global, image: &[u8], size: u64) -> Result<Ram, LoadFault>
+    ensures ram { IfOk result (λ ram. ram ≡ loaded_memory image.now size) }
+    ensures right { OnOk result (IsRamSize size × Fits image.now size) }
+    ensures harts { ¬ (result ≡ Err LoadFault.BadHarts) }
+    ensures bad_size { (result ≡ Err LoadFault.BadSize) ↔ ¬ IsRamSize size }
+    ensures too_long { (result ≡ Err LoadFault.TooLong) ↔ (IsRamSize size × ¬ Fits image.now size) }
+{
+    let made = Ram::new(alloc, size);
+    if let Err(RamFault::BadSize) = made {
+        return Err(LoadFault::BadSize);
+    }
+    if image.len() as u64 > size {
+        return Err(LoadFault::TooLong);
+    }
+    match made {
+        Ok(ram) => {
+            let mut ram = ram;
+            ram.fill(image);
+            Ok(ram)
+        }
+        Err(_) => Err(LoadFault::NoMemory),
+    }
+}
+
+impl<Q: Schedule> Bench<Q> {
+    /// Puts a chip onto the bench in the place of what was there: the image at address 0x80000000 and zeros behind it, one to four harts
+    /// that run or are halted, an empty journal, and the TAP in Test-Logic-Reset. RAM has a multiple of 4,096 bytes, from 65,536 to
+    /// 16,777,216. After a refusal the bench is as before.
+    pub fn load(
+        &mut self,
+        alloc: Global,
+        image: &[u8],
+        harts: u64,
+        ram: u64,
+        start: Start,
+        schedule: Q,
+    ) -> Result<(), LoadFault>
+        ensures chip { OnOk result (self.new ≡ Some (loaded image.now harts ram start (Q.plan schedule))) }
+        ensures as_loaded { OnOk result (IsFirst (Q.plan schedule) → IfSome self.new AsLoaded) }
+        ensures turns { OnOk result (IfSome self.new (λ l. TurnsOffered (Q.plan schedule) l.chip)) }
+        ensures kept { OnErr result (self.new ≡ self.old) }
+        ensures right { OnOk result (RightHarts harts × (IsRamSize ram × Fits image.now ram)) }
+        ensures bad_harts { (result ≡ Err LoadFault.BadHarts) ↔ ¬ RightHarts harts }
+        ensures bad_size { (result ≡ Err LoadFault.BadSize) ↔ (RightHarts harts × ¬ IsRamSize ram) }
+        ensures too_long { (result ≡ Err LoadFault.TooLong) ↔ (RightHarts harts × (IsRamSize ram × ¬ Fits image.now ram)) }
+    {
+        if harts < 1 || harts > MOST_HARTS {
+            return Err(LoadFault::BadHarts);
+        }
+        let memory = make_ram(alloc, image, ram)?;
+        let Ok(made) = make_harts(alloc, harts as u8, start) else {
+            return Err(LoadFault::NoMemory);
+        };
+        let Ok(journal) = Journal::reserve(alloc) else {
+            return Err(LoadFault::NoMemory);
+        };
+        self.chip = Some(Chip::new(System::new(made, memory, journal), schedule));
+        Ok(())
+    }
+}

@@ -1,0 +1,15 @@
+-- What a run meets outside, where it is told: the files with the names that were asked for, and the bytes that were printed.
+-- No public standard defines this.
+use Rattle.std.specs.Prelude.{ℕ, List, Option}
+use Rattle.jt_base.specs.Files.{NamedFile}
+
+-- the files of a moment
+pub record FilesSeen : Type 0 where
+  pub held : Option (List NamedFile)
+  pub asked : Option (List (List ℕ))
+  pub faults : ℕ
+
+-- what a sink has taken by then
+pub record SinkSeen : Type 0 where
+  pub printed : Option (List ℕ)
+  pub faults : ℕ
