@@ -1,5 +1,5 @@
 -- That an event keeps the counts below their bounds: an operation that ends was in flight, and is counted for what it was.
-use Rattle.std.proofs.Common.{◌≡◌, ℕ, ◌+◌, ◌≤◌, Option, Some, None, refl, ap, arith}
+use Rattle.std.proofs.Common.{◌≡◌, ◌+◌, ◌≤◌, Option, Some, None, refl, ap, arith}
 use Rattle.debug_model.specs.declared.dmi_op.DmiOp.{DmiOp}
 use Rattle.debug_model.specs.declared.event.Event.{Event}
 use Rattle.debug_model.specs.declared.event.Event.TheVariants.{Turn, DmiDone, DmiFail, CmdStep, BusDone}

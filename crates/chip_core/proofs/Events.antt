@@ -1,11 +1,11 @@
 -- What an event adds to the journal: two points at most, and of turns those that it offers. There are as many harts behind it as before.
-use Rattle.std.proofs.Common.{◌≡◌, ℕ, ◌+◌, ◌≤◌, ◌<◌, cond, Bool, true, false, List, [], ◌∷◌, ◌++◌, length, Option, Some, None, slice_get, refl, sym, ap, ◌∙◌, append_assoc, arith, inl, inr}
+use Rattle.std.proofs.Common.{◌≡◌, ℕ, ◌+◌, ◌≤◌, cond, Bool, true, false, List, [], ◌∷◌, ◌++◌, length, Option, Some, None, slice_get, refl, sym, ap, ◌∙◌, append_assoc, arith, inl, inr}
 use Rattle.std.proofs.Common.{length-append, length-set, ltb}
 use Rattle.std.proofs.lemmas.Bool.{le-ltb, lt-ltb}
 use Rattle.std.proofs.lemmas.List.{append-nil}
 use Rattle.std.proofs.lemmas.Option.{none-some, slice_get_cases, slice_get_within}
 use Rattle.rv_model.specs.Board.{Board, DebugPart, Hart}
-use Rattle.rv_model.specs.Turn.{place_of, turn_by}
+use Rattle.rv_model.specs.Turn.{turn_by}
 use Rattle.debug_model.specs.declared.dmcontrol.Dmcontrol.{Dmcontrol}
 use Rattle.debug_model.specs.declared.dmi_op.DmiOp.{DmiOp}
 use Rattle.debug_model.specs.declared.dmi_op.DmiOp.TheVariants.{Read, Write}
@@ -20,7 +20,7 @@ use Rattle.debug_model.specs.Chip.{Works, after_event, lost_by, performed_by}
 use Rattle.debug_model.specs.Commands.{busy}
 use Rattle.debug_model.specs.Deeds.{access_points, bus_stepped, stepped_by, turned_by}
 use Rattle.debug_model.specs.Journal.{after_journal, after_point, debug_changed_by, halt_requested, resume_asked}
-use Rattle.debug_model.specs.Module.{Site, acknowledged, asked, control_points, controlled_by, halt_points, operated, read_by, register_at, reset_known, resume_points, selected_hart, with_selection, write_by, written_by}
+use Rattle.debug_model.specs.Module.{Site, acknowledged, asked, control_points, controlled_by, halt_points, operated, read_by, register_at, reset_known, resume_points, selected_hart, write_by, written_by}
 use Rattle.debug_model.specs.ModuleWords.{dmcontrol_of}
 use Rattle.chip_core.specs.Offered.{offered_by, turn_at, turns_of}
 

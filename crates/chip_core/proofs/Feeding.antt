@@ -3,10 +3,9 @@ use Rattle.std.proofs.Common.{◌≡◌, ℕ, ◌+◌, ◌<◌, ◌≤◌, List,
 use Rattle.std.proofs.lemmas.List.{append-nil}
 use Rattle.debug_model.specs.declared.chip_end.ChipEnd.{ChipEnd}
 use Rattle.debug_model.specs.declared.chip_end.ChipEnd.TheVariants.{Quitted, BadByte, AtLimit}
-use Rattle.debug_model.specs.Chip.{Live, after, answer, feed, said}
+use Rattle.debug_model.specs.Chip.{Live, after, feed, said}
 use Rattle.chip_laws.proofs.StreamLemmas.{pieces_join, takes_nothing}
 use Rattle.chip_core.specs.declared.fed.Fed.{Fed}
-use Rattle.chip_core.specs.declared.fed.Fed.TheVariants.{All, Quit, Bad, EventLimit}
 use Rattle.chip_core.specs.Fed.{fed, fed_at, fed_from, placed}
 use Rattle.chip_core.specs.Feeds.{feed_of, said_of}
 use Rattle.chip_core.specs.Pieces.{EndedStaysEnded, PiecesJoin, joined, moved_by}

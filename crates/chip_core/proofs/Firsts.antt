@@ -1,12 +1,11 @@
 -- The first of what is left of a list, as a loop over a slice takes it, and a list of which nothing is left.
-use Rattle.std.proofs.Common.{◌≡◌, ℕ, suc, ◌+◌, ◌-◌, ◌<◌, ◌≤◌, List, [], ◌∷◌, ◌++◌, length, take, drop, get_or, Option, Some, None, refl, sym, ap, ◌∙◌, append_assoc, arith}
+use Rattle.std.proofs.Common.{◌≡◌, ℕ, ◌+◌, ◌-◌, ◌<◌, ◌≤◌, List, [], ◌∷◌, ◌++◌, length, take, drop, get_or, Some, None, refl, sym, ap, ◌∙◌, append_assoc, arith}
 use Rattle.std.proofs.Math.Seq.{take-length}
 use Rattle.std.proofs.lemmas.List.{append-nil}
 use Rattle.debug_model.specs.declared.chip_end.ChipEnd.{ChipEnd}
 use Rattle.debug_model.specs.declared.event.Event.{Event}
 use Rattle.debug_model.specs.declared.event.Event.TheVariants.{Turn}
 use Rattle.debug_model.specs.Chip.{Live, Works, after, after_event, after_events, answer, feed, said}
-use Rattle.chip_core.specs.declared.fed.Fed.{Fed}
 use Rattle.chip_core.specs.declared.fed.Fed.TheVariants.{All}
 use Rattle.chip_core.specs.Fed.{fed_at, fed_from, placed}
 use Rattle.chip_core.proofs.Feeding.{feed_stays, said_stays}

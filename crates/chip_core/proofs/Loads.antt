@@ -4,7 +4,7 @@ use Rattle.std.proofs.Math.ListN.{replicate}
 use Rattle.std.proofs.lemmas.List.{length-replicate}
 use Rattle.std.proofs.lemmas.List.Elements.{All-from_get_or}
 use Rattle.rv_model.specs.declared.cause.Cause.{Cause}
-use Rattle.rv_model.specs.Board.{Hart, halted_by_reset, reset_hart, runs}
+use Rattle.rv_model.specs.Board.{halted_by_reset, reset_hart, runs}
 use Rattle.rv_model.specs.Image.{ram_size}
 use Rattle.rv_model.specs.Memory.{IsRamSize, zero_memory}
 use Rattle.debug_model.specs.Chip.{Live}

@@ -1,12 +1,11 @@
 -- What the answer of a feed says of the bytes.
-use Rattle.std.proofs.Common.{◌≡◌, ◌⊎◌, ℕ, ◌+◌, List, [], ◌∷◌, ◌++◌, length, Option, Some, None, refl, sym, ap, ◌∙◌, inl, inr, arith}
+use Rattle.std.proofs.Common.{◌≡◌, ℕ, ◌+◌, List, [], ◌∷◌, length, Option, Some, None, refl, sym, ap, ◌∙◌, arith}
 use Rattle.std.proofs.lemmas.Option.{none-some}
 use Rattle.debug_model.specs.declared.chip_end.ChipEnd.{ChipEnd}
 use Rattle.debug_model.specs.Chip.{Chip, Live, after, end_of, feed, signed, taken_by, unless_ended}
 use Rattle.debug_model.specs.Signs.{sign_of}
-use Rattle.chip_core.specs.declared.fed.Fed.{Fed}
 use Rattle.chip_core.specs.declared.fed.Fed.TheVariants.{All}
-use Rattle.chip_core.specs.Fed.{fed, fed_at, fed_from, placed}
+use Rattle.chip_core.specs.Fed.{fed_at, fed_from, placed}
 use Rattle.chip_core.specs.Tells.{EndsAt, FedTells, FeedsTell}
 use Rattle.chip_core.specs.Tells.FedTells.{whole, ended_at}
 

@@ -1,5 +1,5 @@
 -- A hart's turn on a chip: what the code does to one hart of the list is the definition's turn, and the module stays served.
-use Rattle.std.proofs.Common.{◌≡◌, ℕ, ◌≤◌, List, [], ◌∷◌, ◌++◌, length, set, Option, Some, sym, ap, subst, ◌∙◌, slice_get}
+use Rattle.std.proofs.Common.{◌≡◌, ℕ, ◌≤◌, List, [], ◌∷◌, ◌++◌, length, set, Some, sym, ap, subst, ◌∙◌, slice_get}
 use Rattle.std.proofs.lemmas.Option.{slice_get_past}
 use Rattle.rv_model.specs.Board.{Hart}
 use Rattle.rv_model.specs.Memory.{Memory}
@@ -7,7 +7,7 @@ use Rattle.rv_model.specs.Turn.{memory_after, place_of}
 use Rattle.debug_model.specs.declared.point.Point.{Point}
 use Rattle.debug_model.specs.declared.point.Point.TheVariants.{Turn}
 use Rattle.debug_model.specs.Deeds.{turned, turned_by}
-use Rattle.debug_model.specs.Module.{DebugModule, Site}
+use Rattle.debug_model.specs.Module.{DebugModule}
 use Rattle.dbg_module.specs.Served.{IsServed, IsServedBy, TurnsServe}
 use Rattle.dbg_module.specs.Sites.{site_of}
 use Rattle.chip_core.specs.Parts.{Parts, with_site}

@@ -1,5 +1,5 @@
 -- The turns of a chip's harts are those that its schedule offered, behind each byte.
-use Rattle.std.proofs.Common.{◌≡◌, ℕ, zero, suc, ◌+◌, Bool, true, false, List, [], ◌∷◌, ◌++◌, length, Option, Some, None, IfSome, refl, subst, sym, ap, ◌∙◌, append_assoc, add-one, option_map}
+use Rattle.std.proofs.Common.{◌≡◌, ℕ, zero, suc, Bool, true, false, List, [], ◌∷◌, ◌++◌, length, Option, Some, None, refl, subst, sym, ap, ◌∙◌, append_assoc, add-one}
 use Rattle.std.proofs.lemmas.List.{append-nil}
 use Rattle.debug_model.specs.declared.chip_end.ChipEnd.{ChipEnd}
 use Rattle.debug_model.specs.declared.counts.Counts.{Counts}
@@ -8,7 +8,7 @@ use Rattle.debug_model.specs.declared.event.Event.{Event}
 use Rattle.debug_model.specs.declared.event.Event.TheVariants as event
 use Rattle.debug_model.specs.declared.sign.Sign.{Sign}
 use Rattle.debug_model.specs.declared.sign.Sign.TheVariants.{Pins, Ask, Light, Reset, Quit}
-use Rattle.debug_model.specs.Chip.{Chip, Inside, Live, Works, after, after_event, after_events, busy_counted, counted, end_of, fall, feed, lost_by, performed_by, pins, rise, signed, taken_by, tick, unless_ended, works_risen}
+use Rattle.debug_model.specs.Chip.{Chip, Inside, Live, Works, after, after_event, after_events, busy_counted, counted, end_of, feed, lost_by, performed_by, pins, rise, signed, taken_by, tick, unless_ended, works_risen}
 use Rattle.debug_model.specs.Loaded.{AsLoaded, loaded_chip}
 use Rattle.debug_model.specs.Module.{Site}
 use Rattle.rv_model.specs.Board.{Board}
@@ -97,7 +97,7 @@ tick_offered first tck tck' port port' i is =
     let list : first_rounds k first ++ es ≡ first_rounds (suc k) first = ap (λ p. first_rounds k first ++ round_of p) is.plan ∙ sym (first_rounds-more k first) in
     record {
       turns = added.turns ∙ ap (λ xs. xs ++ offered n es) is.turns ∙ sym (offered-append n (first_rounds k first) es)
-      ∙ ap (λ xs. offered n xs) list ∙ ap (λ r. offered n (first_rounds r first)) (sym rounds) ∙ ap (λ m. offered m (first_rounds (after_events es w).counts.rounds first)) (sym added.harts);
+          ∙ ap (λ xs. offered n xs) list ∙ ap (λ r. offered n (first_rounds r first)) (sym rounds) ∙ ap (λ m. offered m (first_rounds (after_events es w).counts.rounds first)) (sym added.harts);
       plan = ap moved is.plan ∙ sym (moved_on-more k first) ∙ ap (λ r. moved_on r first) (sym rounds);
     }
 

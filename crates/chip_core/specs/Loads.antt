@@ -1,6 +1,6 @@
 -- What a load puts onto the bench, and the numbers of its refusals. The checks are made in the order of the numbers 3, 2, 1, 4.
 -- How a program comes into the chip is this project's own choice.
-use Rattle.std.specs.Prelude.{◌≡◌, ℕ, ◌≤◌, List, length, All, Option, Some}
+use Rattle.std.specs.Prelude.{◌≡◌, ℕ, ◌≤◌, List, length, All}
 use Rattle.debug_model.specs.declared.event.Event.{Event}
 use Rattle.debug_model.specs.Chip.{Live}
 use Rattle.debug_model.specs.Loaded.{live, loaded_board, loaded_chip}

@@ -1,6 +1,6 @@
 -- What one call of a round changes: all of a chip but its clock and its schedule, with the port of the TAP beside what the events of a round change.
 -- It is the chip of debug_model in other parts, since one object of this crate holds the TAP and all that stands behind it.
-use Rattle.std.specs.Prelude.{Bool, List}
+use Rattle.std.specs.Prelude.{Bool}
 use Rattle.debug_model.specs.Chip.{Chip, Works, works_risen}
 use Rattle.debug_model.specs.Module.{Site}
 use Rattle.debug_model.specs.Port.{Port, dtm_fallen, port_fallen, port_held, port_risen}

@@ -1,6 +1,6 @@
-use Rattle.std.proofs.Common.{ap, sym, ◌∙◌, ◌++◌, arith, append_assoc}
+use Rattle.std.proofs.Common.{ap, sym, ◌∙◌, arith}
 use Rattle.std.proofs.lemmas.Grind.{common_steps}
-use Rattle.chip_core.specs.Feeds.{feed_of, said_of}
+use Rattle.chip_core.specs.Feeds.{feed_of}
 use Rattle.chip_core.proofs.Feeding.{feed_of-append, piece_said, nothing_fed, nothing_said}
 use Rattle.chip_core.proofs.bench_wire.feed_pieces.Goals as goal
 

@@ -1,0 +1,10 @@
+pub mod Conditions
+pub mod Counts
+pub mod Flight
+pub mod Heard
+pub mod Readings
+pub mod Scans
+pub mod Stages
+pub mod Told
+pub mod Updates
+pub mod Words

@@ -1,0 +1,15 @@
+use Rattle.debug_model.specs.declared.data_register.DataRegister.TheVariants.{Idcode}
+use Rattle.std.proofs.Common.{refl, subst}
+use Rattle.debug_model.specs.Scan.{WhereTold}
+use Rattle.probe_dmi.specs.Registers.{CutFrom, idcode_bits}
+use Rattle.probe_dmi.proofs.Scans.{cut_then, on_err, scan_then, waited_cut, word_of}
+use Rattle.probe_dmi.proofs.register.Registers.idcode.Goals as goal
+
+pub returns-in_err-rest-clause-cut : goal.returns-in_err-rest-clause-cut
+returns-in_err-rest-clause-cut g c = on_err _ (waited_cut _ _ _ _ c.in_err-rest.ensures.cut)
+
+pub returns-in_err-out-clause-cut : goal.returns-in_err-out-clause-cut
+returns-in_err-out-clause-cut g c = on_err _ (subst (λ b. WhereTold (CutFrom Idcode b) (g.S.Scan.far c.args.self.now.scan) (g.S.Scan.far c.shift.new.self.scan)) c.from_u64.ensures.bits (cut_then _ Idcode c.from_u64.result _ (g.S.Scan.far c.rest.new.self.scan) _ (c.in_ok-rest.ensures.reset refl) c.in_err-out.ensures.cut))
+
+pub returns-clause-scanned : goal.returns-clause-scanned
+returns-clause-scanned g c = word_of Idcode c.from_u64.result idcode_bits c.in_ok-out.out c.value.result _ _ c.from_u64.ensures.bits c.value.ensures (scan_then _ Idcode c.from_u64.result c.in_ok-out.out _ (g.S.Scan.far c.rest.new.self.scan) _ (c.in_ok-rest.ensures.reset refl) c.in_ok-out.ensures.scanned)

@@ -1,0 +1,15 @@
+use Rattle.debug_model.specs.declared.data_register.DataRegister.TheVariants.{Idcode}
+use Rattle.probe_dmi.proofs.Scans.{on_err, prepared_waited, reset_prepared, reset_waited, waited_none}
+use Rattle.probe_dmi.proofs.register.Registers.rest.Goals as goal
+
+pub returns-then-eq-clause-waited : goal.returns-then-eq-clause-waited
+returns-then-eq-clause-waited g c = waited_none _
+
+pub returns-in_err-reset-clause-cut : goal.returns-in_err-reset-clause-cut
+returns-in_err-reset-clause-cut g c = on_err _ (reset_waited _ _ _ c.requires.scan.rest c.in_err-reset.ensures.cut)
+
+pub returns-clause-waited : goal.returns-clause-waited
+returns-clause-waited g c = prepared_waited Idcode _ _ (reset_prepared _ _ _ c.requires.scan.rest c.in_ok-reset.ensures.reset)
+
+pub returns-clause-reset : goal.returns-clause-reset
+returns-clause-reset g c = λ _. reset_prepared _ _ _ c.requires.scan.rest c.in_ok-reset.ensures.reset

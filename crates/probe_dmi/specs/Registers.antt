@@ -1,0 +1,115 @@
+-- Scans of a register of the transport from a TAP at rest: rounds, the capture, rounds, the update, rounds; and what a fault left of that.
+-- RISC-V Debug Specification 1.0, "JTAG DTM Registers"; a path of IEEE 1149.1 to Run-Test/Idle or to another instruction is rounds alone.
+use Rattle.std.specs.Prelude.{◌≡◌, ℕ, List, length, Bool, true, false, Option, Some, None, IfSome}
+use Rattle.jt_base.specs.BitList.{bits_of, number_of}
+use Rattle.debug_model.specs.declared.data_register.DataRegister.{DataRegister}
+use Rattle.debug_model.specs.declared.data_register.DataRegister.TheVariants.{Dmi}
+use Rattle.debug_model.specs.declared.dmi_scan.DmiScan.{DmiScan}
+use Rattle.debug_model.specs.Chip.{Chip, Inside}
+use Rattle.debug_model.specs.Dmi.{IsAtRest, IsDmi, heard}
+use Rattle.debug_model.specs.Scan.{Script, TookOut, capture, dr_inside, dr_out, ticks}
+use Rattle.debug_model.specs.Told.{Far, IsFree, IsIdle, IsLive, IsOpen, IsRead, chip_of}
+use Rattle.debug_model.specs.Transport.{dmi_width, dtmcs_width, idcode_width}
+use Rattle.debug_model.specs.TransportWords.{address_bits, dmi_word, dtmcs_word}
+
+-- ---- when a register can be scanned, and what each Ok leaves
+
+pub record CanScan (told : Option Far) : Type 0 where
+  pub unended : IsOpen told
+  pub read : IsRead told
+  pub free : IsFree told
+  pub rest : IsAtRest told
+
+pub record Rests (told : Option Far) : Type 0 where
+  pub live : IsLive told
+  pub read : IsRead told
+  pub free : IsFree told
+  pub idle : IsIdle told
+
+-- an address has as many bits as a told chip's
+abbrev pub IsWidth : ℕ → Option Far → Type 0
+IsWidth abits told = IfSome told (λ _. abits ≡ address_bits)
+
+-- ---- what was done to a told chip
+
+-- rounds passed
+pub record Waited (c : Chip) (new : Option Far) : Type 0 where
+  pub far : Far
+  pub is : new ≡ Some far
+  pub rounds : ℕ
+  pub passed : (chip_of far).inside ≡ ticks rounds c.inside
+
+-- rounds passed, and this register is selected
+pub record Prepared (r : DataRegister) (c : Chip) (new : Option Far) : Type 0 where
+  pub far : Far
+  pub is : new ≡ Some far
+  pub rounds : ℕ
+  pub passed : (chip_of far).inside ≡ ticks rounds c.inside
+  pub selected : (chip_of far).port.selected ≡ r
+
+-- a scan of these bits took these out
+pub record ScannedFrom (r : DataRegister) (bits out : List Bool) (c : Chip) (new : Option Far) : Type 0 where
+  pub far : Far
+  pub is : new ≡ Some far
+  pub before : ℕ
+  pub between : ℕ
+  pub behind : ℕ
+  pub out_is : out ≡ dr_out bits r (ticks before c.inside)
+  pub passed : (chip_of far).inside ≡ dr_inside before between behind bits r c.inside
+
+-- how far a scan came
+pub data Part (r : DataRegister) (bits : List Bool) (i : Inside) : Inside → Type 0 where
+  before_capture : (before : ℕ) → Part r bits i (ticks before i)
+  behind_capture : (before between : ℕ) → Part r bits i (ticks between (capture r (ticks before i)))
+  behind_update : (before between behind : ℕ) → Part r bits i (dr_inside before between behind bits r i)
+
+pub record CutFrom (r : DataRegister) (bits : List Bool) (c : Chip) (new : Option Far) : Type 0 where
+  pub far : Far
+  pub is : new ≡ Some far
+  pub part : Part r bits c.inside (chip_of far).inside
+
+-- ---- the registers of the transport
+
+-- the bits of a scan that only reads
+abbrev pub idcode_bits : List Bool
+idcode_bits = bits_of idcode_width 0
+
+-- dmireset and nothing else
+abbrev pub reset_bits : List Bool
+reset_bits = bits_of dtmcs_width (dtmcs_word (record { dtmhardreset = false; dmireset = true; idle = 0; dmistat = 0; abits = 0; version = 0 }))
+
+abbrev pub dmi_bits : DmiScan → List Bool
+dmi_bits s = bits_of dmi_width (dmi_word s)
+
+-- a scan of a register that is read as a number
+pub record WordScanned (r : DataRegister) (bits : List Bool) (value : ℕ) (c : Chip) (new : Option Far) : Type 0 where
+  pub out : List Bool
+  pub value_is : value ≡ number_of out
+  pub scanned : ScannedFrom r bits out c new
+
+pub record DmiScanned (sent out : DmiScan) (c : Chip) (new : Option Far) : Type 0 where
+  pub bits : List Bool
+  pub out_is : out ≡ heard bits
+  pub scanned : ScannedFrom Dmi (dmi_bits sent) bits c new
+
+-- ---- what is heard of a scripted one
+
+pub record TookDmi (out : DmiScan) (script : Script) (new : Option Script) : Type 0 where
+  pub bits : List Bool
+  pub is : out ≡ heard bits
+  pub width : IsDmi bits
+  pub took : TookOut bits script new
+
+abbrev pub HeardDmi : DmiScan → Option Script → Option Script → Type 0
+HeardDmi out None new = new ≡ None
+HeardDmi out (Some script) new = TookDmi out script new
+
+pub record TookNumber (value : ℕ) (script : Script) (new : Option Script) : Type 0 where
+  pub bits : List Bool
+  pub is : value ≡ number_of bits
+  pub width : length bits ≡ 32
+  pub took : TookOut bits script new
+
+abbrev pub HeardNumber : ℕ → Option Script → Option Script → Type 0
+HeardNumber value None new = new ≡ None
+HeardNumber value (Some script) new = TookNumber value script new

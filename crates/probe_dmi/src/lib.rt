@@ -1,0 +1,14 @@
+//! Operations on the debug module interface over scans: each is put in flight once, awaited, and its own result answered,
+//! whatever the rounds and the busy answers are. Where the scans tell their chip, a call is the path of atomic steps that
+//! `debug_model` defines, and a fault leaves an operation that was performed at most once.
+//! A link is dead behind any fault.
+#![tactic(auto)]
+
+mod link;
+mod operation;
+mod register;
+mod state;
+#[cfg(test)]
+mod tests;
+
+pub use link::Link;

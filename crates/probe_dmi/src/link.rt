@@ -1,0 +1,104 @@
+ghost use Rattle.std.specs.Prelude.{◌≡◌, ◌≤◌, option_map};
+ghost use Rattle.std.proofs.Props.{props};
+ghost use Rattle.debug_model.specs.Dmi.{CanOperate, Scans};
+ghost use Rattle.probe_dmi.specs.declared.state.State.TheVariants.{Idle, New};
+ghost use Rattle.probe_dmi.specs.Operations.{abits_behind, is_alive_as};
+ghost use Rattle.probe_dmi.specs.Registers.{IsWidth};
+
+use crate::register::{ABITS_LEAST, ABITS_MOST, Registers};
+use crate::state::State;
+use debug_model::{Dmi, DmiFault, DmiOp, Dtmcs, Scan};
+
+/// Operations over scans.
+///
+/// An address has the bits that `dtmcs` told, where they are from 7 to 30, and 7 until then.
+#[derive(Drop)]
+pub struct Link<S: Scan> {
+    registers: Registers<S>,
+    abits: u8,
+    ghost in_range: { (7 ≤ abits) × (abits ≤ 30) },
+    ghost width: { IsWidth abits (S.far registers.scan) } by { Prim.hlevel props },
+}
+
+impl<S: Scan> Link<S> {
+    /// Operations over these scans, which `into_scan` hands back. The first call resets the TAP.
+    pub fn new(scan: S) -> Self
+        requires link { CanOperate (S.far scan) }
+        ensures scan { result.registers.scan ≡ scan }
+        ensures state { result.registers.state ≡ New }
+        ensures abits { result.abits ≡ 7 }
+    {
+        Link {
+            registers: Registers {
+                scan,
+                state: State::New,
+            },
+            abits: ABITS_LEAST,
+        }
+    }
+
+    /// The scans as they stand.
+    pub fn into_scan(self) -> S
+        ensures { result ≡ self.registers.scan }
+    {
+        self.registers.scan
+    }
+}
+
+/// The bits of an address behind a reading of `dtmcs`.
+fn abits_behind(found: u8, old: u8) -> u8
+    requires least { 7 ≤ old }
+    requires most { old ≤ 30 }
+    ensures value { result ≡ abits_behind found old }
+    ensures least { 7 ≤ result }
+    ensures most { result ≤ 30 }
+{
+    if ABITS_LEAST <= found && found <= ABITS_MOST {
+        return found;
+    }
+    old
+}
+
+impl<S: Scan> Dmi for Link<S> {
+    ghost far = { λ l. S.far l.registers.scan };
+
+    ghost script = { λ l. option_map Scans (S.script l.registers.scan) };
+
+    ghost is_alive = { λ l. is_alive_as l.registers.state };
+
+    ghost fault_count = { λ l. S.fault_count l.registers.scan };
+
+    ghost slack = { λ l. S.slack l.registers.scan };
+
+    ghost ties = { λ l. S.ties l.registers.scan };
+
+    fn idcode(&mut self) -> Result<u32, DmiFault> {
+        let idcode = self.registers.idcode()?;
+        Ok(idcode)
+    }
+
+    fn dtmcs(&mut self) -> Result<u32, DmiFault> {
+        let dtmcs = self.registers.clear()?;
+        self.abits = abits_behind(Dtmcs::from_word(dtmcs).abits, self.abits);
+        Ok(dtmcs)
+    }
+
+    fn read(&mut self, address: u8) -> Result<u32, DmiFault> {
+        let value = self.registers.operate(self.abits, DmiOp::Read(address))?;
+        Ok(value)
+    }
+
+    fn write(&mut self, address: u8, value: u32) -> Result<(), DmiFault> {
+        self.registers
+            .operate(self.abits, DmiOp::Write(address, value))?;
+        Ok(())
+    }
+
+    fn alive(&self) -> bool {
+        self.registers.is_alive()
+    }
+
+    fn faults(&self) -> u64 {
+        self.registers.faults()
+    }
+}

@@ -1,0 +1,96 @@
+ghost use Rattle.std.specs.Prelude.{◌≡◌, ◌≤◌, OnOk, OnErr, IfOk, IfErr, option_map};
+ghost use Rattle.debug_model.specs.Dmi.{Answers, CanOperate, DmiCause, LeavesStream, Operated, OperationCut, Scans};
+ghost use Rattle.debug_model.specs.Scan.{WhereTold};
+ghost use Rattle.debug_model.specs.Told.{IsIdle, IsLive};
+ghost use Rattle.probe_dmi.specs.declared.state.State.TheVariants.{Dead, Idle};
+ghost use Rattle.probe_dmi.specs.Registers.{IsWidth};
+ghost use Rattle.probe_dmi.specs.Operations.{IsOperation, next_scan};
+
+use crate::register::Registers;
+use crate::state::State;
+use debug_model::{DmiFault, DmiOp, DmiScan, Scan};
+
+/// The field `op` as it is shifted in (RISC-V Debug Specification 1.0, "Debug Module Interface Access").
+const OP_NOP: u8 = 0;
+
+const OP_READ: u8 = 1;
+
+const OP_WRITE: u8 = 2;
+
+/// The field `op` as it is captured: done, and failed. The others are taken as busy.
+const STATUS_DONE: u8 = 0;
+
+const STATUS_FAILED: u8 = 2;
+
+/// With so many busy answers a call gives up.
+const BUSY_MOST: u8 = 64;
+
+/// What the next scan of an operation carries: the operation until the transport has taken it, and then nothing.
+fn next_scan(op: DmiOp, taken: bool) -> DmiScan
+    ensures { result ≡ next_scan op taken }
+{
+    if taken {
+        return DmiScan {
+            address: 0,
+            value: 0,
+            op: OP_NOP,
+        };
+    }
+    match op {
+        DmiOp::Read(address) => DmiScan {
+            address,
+            value: 0,
+            op: OP_READ,
+        },
+        DmiOp::Write(address, value) => DmiScan {
+            address,
+            value,
+            op: OP_WRITE,
+        },
+    }
+}
+
+impl<S: Scan> Registers<S> {
+    /// Does one operation: sends it until the transport has taken it, and awaits its result.
+    pub fn operate(&mut self, abits: u8, op: DmiOp) -> Result<u32, DmiFault>
+        requires operation { IsOperation op }
+        requires least { 7 ≤ abits }
+        requires most { abits ≤ 30 }
+        requires width { IsWidth abits (S.far self.old.scan) }
+        requires link { CanOperate (S.far self.old.scan) }
+        ensures operated { IfOk result (λ value. WhereTold (Operated op value) (S.far self.old.scan) (S.far self.new.scan)) }
+        ensures answers { IfOk result (λ value. Answers value (option_map Scans (S.script self.old.scan)) (option_map Scans (S.script self.new.scan))) }
+        ensures link { OnOk result (CanOperate (S.far self.new.scan)) }
+        ensures live { OnOk result (IsLive (S.far self.new.scan)) }
+        ensures resting { OnOk result (IsIdle (S.far self.new.scan)) }
+        ensures cut { OnErr result (WhereTold (OperationCut op) (S.far self.old.scan) (S.far self.new.scan)) }
+        ensures cause { IfErr result (DmiCause (S.fault_count self.old.scan) (S.fault_count self.new.scan) (S.far self.old.scan) (S.far self.new.scan) (option_map Scans (S.script self.old.scan))) }
+        ensures stream { IfErr result (LeavesStream (S.far self.new.scan)) }
+        ensures idle { OnOk result (self.new.state ≡ Idle) }
+        ensures dead { OnErr result (self.new.state ≡ Dead) }
+        ensures later { S.fault_count self.old.scan ≤ S.fault_count self.new.scan }
+        ensures slack { S.slack self.new.scan ≡ S.slack self.old.scan }
+        ensures ties { S.ties self.new.scan ≡ S.ties self.old.scan }
+    {
+        let mut busy = 0;
+        let mut taken = false;
+        'scans: while busy < BUSY_MOST {
+            let out = self.exchange(abits, next_scan(op, taken))?;
+            if out.op == STATUS_FAILED {
+                self.state = State::Dead;
+                return Err(DmiFault::Failed);
+            }
+            if out.op == STATUS_DONE {
+                if taken {
+                    return Ok(out.value);
+                }
+                taken = true;
+                continue;
+            }
+            self.clear()?;
+            busy += 1;
+        }
+        self.state = State::Dead;
+        Err(DmiFault::StillBusy)
+    }
+}
