@@ -1,0 +1,190 @@
+-- What a register that was read or written says of a told chip.
+use Rattle.std.proofs.Common.{◌≡◌, ◌∙◌, ◌<◌, ◌^◌, ◌/◌, ◌%◌, ℕ, Bool, true, false, Option, Some, is_some, refl, sym, ap, subst, arith}
+use Rattle.rv_model.specs.Board.{Board, Hart}
+use Rattle.rv_model.specs.DebugRegisters.{debug_refuses, debug_value, debug_written}
+use Rattle.debug_model.specs.Dmi.{value_of}
+use Rattle.debug_model.specs.Module.{DebugModule, Site}
+use Rattle.debug_model.specs.SystemBus.{BusUnit}
+use Rattle.debug_model.specs.Told.{Far, HartHalted, ModuleReady, SiteReady, site_of}
+use Rattle.debugger_laws.specs.Turns.{after_turns}
+use Rattle.probe_run.specs.Acts.{Did, Tells}
+use Rattle.probe_run.specs.Sites.{put_hart}
+use Rattle.probe_access.specs.CommandRuns.{RanCommand, error_shown}
+use Rattle.probe_access.specs.RegisterRuns.{DoubleRead, RanOddly, RanTo, RegisterRead, RegisterWritten, double_written}
+use Rattle.probe_access.specs.Registers.{TurnsPassed, TurnsPassedBut, reaches}
+use Rattle.probe_access.specs.Words.{joined, transfer_word}
+use Rattle.probe_access.proofs.Along.{AtSites, did_sites}
+use Rattle.probe_access.proofs.Aside.{passed}
+use Rattle.probe_access.proofs.ReadyTurns.{BoardReady, Passed, board_ready_turns, passed_turns}
+use Rattle.probe_access.proofs.ReadyUnit.{Held, Kept, at_first, halted_held, kept_of, unit_of}
+use Rattle.probe_access.proofs.RegisterTold.{Stood, TransferTold, WordsGot, transfer_told, words_got, words_put, with_double}
+use Rattle.probe_access.proofs.RegisterTold.TransferTold.{taken, denied}
+use Rattle.probe_access.proofs.TransferLemmas.{words_behind}
+use Rattle.probe_access.proofs.Turns.{stays_passed}
+use Rattle.rv_model.proofs.MapLemmas.{set_same}
+
+-- ---- from a ready site, and back to one
+
+pub first_stood : (h : ℕ) (s : Site) (ready : SiteReady s) (halted : HartHalted h s.board) → s.unit.hartsel ≡ h → Stood h s.unit.bus halted.hart s halted.hart (kept_of s.unit.commands) s
+first_stood h s ready halted selected =
+    let held : Held h halted.hart s = halted_held h s ready halted in
+    record { held = held; frozen = held.frozen; idle = ready.unit.bus.idle; at = at_first h s halted.hart ready.unit selected halted.is }
+
+pub stood_board : (h : ℕ) (bus : BusUnit) (base : Site) (w : Hart) (k : Kept) (t : Site) (st : Stood h bus w base w k t) → t.board ≡ (passed st.at.harts base).board
+stood_board h bus base w k t st =
+    ap (λ (u : Site). u.board) st.at.is
+    ∙ ap (λ hs. let b : Board = record { harts = hs; memory = (passed st.at.harts base).board.memory } in b) (set_same (passed st.at.harts base).board.harts h w (stays_passed h st.at.harts base w st.held.here st.held.frozen))
+
+pub stood_passed : (h : ℕ) (s : Site) (w : Hart) (k : Kept) (t : Site) → Stood h s.unit.bus w s w k t → TurnsPassed s t
+stood_passed h s w k t st =
+    let p : Passed s (passed st.at.harts s) = passed_turns st.at.harts s in
+    record { harts = p.harts; board = stood_board h s.unit.bus s w k t st ∙ p.board; journal = ap (λ (u : Site). u.journal) st.at.is ∙ p.journal; bus = ap (λ (u : Site). u.unit.bus) st.at.is }
+
+pub stood_passed_but : (h : ℕ) (s : Site) (y w : Hart) (k : Kept) (t : Site) → Stood h s.unit.bus y s w k t → TurnsPassedBut h y s t
+stood_passed_but h s y w k t st =
+    let p : Passed s (passed st.at.harts s) = passed_turns st.at.harts s in
+    record {
+      harts = p.harts;
+      board = ap (λ (u : Site). u.board) st.at.is ∙ ap (put_hart h y) p.board;
+      journal = ap (λ (u : Site). u.journal) st.at.is ∙ p.journal;
+      bus = ap (λ (u : Site). u.unit.bus) st.at.is;
+    }
+
+module_back : (m : DebugModule) (k : Kept) (h : ℕ) (bus : BusUnit) → m ≡ unit_of k h bus → ModuleReady (unit_of k h bus) → ModuleReady m
+module_back m k h bus is r = subst (λ (n : DebugModule). ModuleReady n) (sym is) r
+
+pub stood_unit : (h : ℕ) (s : Site) (y base_hart : Hart) (base : Site) (k : Kept) (t : Site) → ModuleReady s.unit → Stood h s.unit.bus y base base_hart k t → ModuleReady t.unit
+stood_unit h s y w base k t ready st =
+    module_back t.unit k h s.unit.bus (ap (λ (u : Site). u.unit) st.at.is)
+    (record { active = refl; commands = record { idle = refl; fine = refl; no_autoexec = refl; none_late = refl }; bus = record { idle = ready.bus.idle; fine = ready.bus.fine; no_busyerror = ready.bus.no_busyerror } })
+
+board_back : (b c : Board) → b ≡ c → BoardReady c → BoardReady b
+board_back b c is r = subst (λ (x : Board). BoardReady x) (sym is) r
+
+pub stood_ready : (h : ℕ) (s : Site) (w : Hart) (k : Kept) (t : Site) → SiteReady s → Stood h s.unit.bus w s w k t → SiteReady t
+stood_ready h s w k t ready st =
+    let p : TurnsPassed s t = stood_passed h s w k t st in
+    let b : BoardReady t.board = board_back t.board (after_turns p.harts s.board) p.board (board_ready_turns p.harts s.board (record { harts = ready.harts; memory = ready.memory })) in
+    record { unit = stood_unit h s w w s k t ready.unit st; harts = b.harts; memory = b.memory }
+
+pub stood_selects : (h : ℕ) (bus : BusUnit) (y : Hart) (base : Site) (w : Hart) (k : Kept) (t : Site) → Stood h bus y base w k t → t.unit.hartsel ≡ h
+stood_selects h bus y base w k t st = ap (λ (u : Site). u.unit.hartsel) st.at.is
+
+-- ---- a value of 64 bits as its words
+
+pub words_joined : (v low high : ℕ) → v < 2 ^ 64 → low ≡ value_of (v % 2 ^ 32) → high ≡ value_of (v / 2 ^ 32) → joined low high ≡ v
+words_joined v low high small is_low is_high = omega arith
+
+pub halves_joined : (v : ℕ) → joined (v % 2 ^ 32) (v / 2 ^ 32) ≡ v
+halves_joined v = omega arith
+
+-- ---- a told link along the calls, from any base
+
+pub record StoodTold (h : ℕ) (bus : BusUnit) (y : Hart) (base : Site) (w : Hart) (told : Option Far) : Type 0 where
+  pub far : Far
+  pub is : told ≡ Some far
+  pub kept : Kept
+  pub stood : Stood h bus y base w kept (site_of far)
+
+pub record CommandTold (write : Bool) (number last h : ℕ) (bus : BusUnit) (y : Hart) (base : Site) (w : Hart) (k : Kept) (told : Option Far) : Type 0 where
+  pub far : Far
+  pub is : told ≡ Some far
+  pub transfer : TransferTold write number last h bus y base w k (site_of far)
+
+pub command_told : (write : Bool) (number last h : ℕ) (bus : BusUnit) (y : Hart) (base : Site) (w : Hart) (old new : Tells) → number < 2 ^ 16 → (st : StoodTold h bus y base w old.far) → RanCommand (transfer_word write number) last old new
+    → CommandTold write number last h bus y base w st.kept new.far
+command_told write number last h bus y base w old new small st ran =
+    let at : AtSites _ st.far new.far = did_sites old _ new st.far ran.did st.is in
+    record { far = at.far; is = at.is; transfer = transfer_told write number ran.words last h bus y base w st.kept (site_of st.far) (site_of at.far) small st.stood at.acts_are ran.idle }
+
+-- a register that is read
+pub record ReadTold (number value h : ℕ) (bus : BusUnit) (y : Hart) (base : Site) (w : Hart) (told : Option Far) : Type 0 where
+  pub held : ℕ
+  pub held_is : debug_value y number ≡ Some held
+  pub value_is : held < 2 ^ 64 → value ≡ held
+  pub then : StoodTold h bus y base w told
+
+three_not_zero : (n : ℕ) → n ≡ 3 → n ≡ 0 → ⊥
+three_not_zero n a b = omega arith
+
+read_told_by : (number value last h : ℕ) (bus : BusUnit) (y : Hart) (base : Site) (w : Hart) (k : Kept) (mid new : Tells) (f : Far) → mid.far ≡ Some f → error_shown last ≡ 0
+    → TransferTold false number last h bus y base w k (site_of f) → DoubleRead value mid new → ReadTold number value h bus y base w new.far
+read_told_by number value last h bus y base w k mid new f is fine (taken v held free error st) words =
+    let at : AtSites _ f new.far = did_sites mid _ new f words.did is in
+    let got : WordsGot words.low words.high h bus y base w (words_behind false number v k) (site_of at.far) =
+    words_got words.low words.high h bus y base w (words_behind false number v k) (site_of f) (site_of at.far) st at.acts_are in
+    record {
+      held = v;
+      held_is = held;
+      value_is = λ small. words.is ∙ words_joined v words.low words.high small got.low_is got.high_is;
+      then = record { far = at.far; is = at.is; kept = words_behind false number v k; stood = got.stood };
+    }
+read_told_by number value last h bus y base w k mid new f is fine (denied none error st) words = absurd (three_not_zero (error_shown last) error fine)
+
+pub read_told : (number value h : ℕ) (bus : BusUnit) (y : Hart) (base : Site) (w : Hart) (old new : Tells) → number < 2 ^ 16 → StoodTold h bus y base w old.far → RegisterRead number value old new → ReadTold number value h bus y base w new.far
+read_told number value h bus y base w old new small st r =
+    let c : CommandTold false number r.ran.last h bus y base w st.kept r.mid.far = command_told false number r.ran.last h bus y base w old r.mid small st r.ran.ran in
+    read_told_by number value r.ran.last h bus y base w st.kept r.mid new c.far c.is r.ran.error_is c.transfer r.words
+
+-- one that is written
+pub record WrittenTold (number value h : ℕ) (bus : BusUnit) (y : Hart) (base : Site) (w : Hart) (k : Kept) (told : Option Far) : Type 0 where
+  pub there : is_some (debug_value y number) ≡ true
+  pub writable : debug_refuses number ≡ false
+  pub then : StoodTold h bus (debug_written y number value) base w told
+  pub progbuf0 : then.kept.progbuf0 ≡ k.progbuf0
+  pub progbuf1 : then.kept.progbuf1 ≡ k.progbuf1
+
+written_told_by : (number value last h : ℕ) (bus : BusUnit) (y : Hart) (base : Site) (w : Hart) (k : Kept) (new : Tells) (f : Far) → new.far ≡ Some f → error_shown last ≡ 0
+    → TransferTold true number last h bus y base w (with_double value k) (site_of f) → WrittenTold number value h bus y base w k new.far
+written_told_by number value last h bus y base w k new f is fine (taken v held free error st) = record {
+  there = ap is_some held;
+  writable = free;
+  then = record {
+    far = f;
+    is = is;
+    kept = words_behind true number v (with_double value k);
+    stood = subst (λ n. Stood h bus (debug_written y number n) base w (words_behind true number v (with_double value k)) (site_of f)) (halves_joined value) st;
+  };
+  progbuf0 = refl;
+  progbuf1 = refl;
+}
+written_told_by number value last h bus y base w k new f is fine (denied none error st) = absurd (three_not_zero (error_shown last) error fine)
+
+-- the words of a value are there
+pub double_told : (value h : ℕ) (bus : BusUnit) (y : Hart) (base : Site) (w : Hart) (old new : Tells) → (st : StoodTold h bus y base w old.far) → Did old (double_written value) new → StoodTold h bus y base w new.far
+double_told value h bus y base w old new st did =
+    let at : AtSites _ st.far new.far = did_sites old _ new st.far did st.is in
+    record { far = at.far; is = at.is; kept = with_double value st.kept; stood = words_put value h bus y base w st.kept (site_of st.far) (site_of at.far) st.stood at.acts_are }
+
+pub written_told : (number value h : ℕ) (bus : BusUnit) (y : Hart) (base : Site) (w : Hart) (old new : Tells) → number < 2 ^ 16 → (st : StoodTold h bus y base w old.far) → RegisterWritten number value old new → WrittenTold number value h bus y base w st.kept new.far
+written_told number value h bus y base w old new small st r =
+    let at : AtSites _ st.far r.mid.far = did_sites old _ r.mid st.far r.words st.is in
+    let words : Stood h bus y base w (with_double value st.kept) (site_of at.far) = words_put value h bus y base w st.kept (site_of st.far) (site_of at.far) st.stood at.acts_are in
+    let mid : StoodTold h bus y base w r.mid.far = record { far = at.far; is = at.is; kept = with_double value st.kept; stood = words } in
+    let c : CommandTold true number r.ran.last h bus y base w (with_double value st.kept) new.far = command_told true number r.ran.last h bus y base w r.mid new small mid r.ran.ran in
+    written_told_by number value r.ran.last h bus y base w st.kept new c.far c.is r.ran.error_is c.transfer
+
+-- a transfer that was refused
+pub record DeniedTold (write : Bool) (number h : ℕ) (bus : BusUnit) (y : Hart) (base : Site) (w : Hart) (told : Option Far) : Type 0 where
+  pub denied_is : reaches write y number ≡ false
+  pub then : StoodTold h bus y base w told
+
+denied_told_by : (write : Bool) (number last h : ℕ) (bus : BusUnit) (y : Hart) (base : Site) (w : Hart) (k : Kept) (new : Tells) (f : Far) → new.far ≡ Some f → error_shown last ≡ 3
+    → TransferTold write number last h bus y base w k (site_of f) → DeniedTold write number h bus y base w new.far
+denied_told_by write number last h bus y base w k new f is refused (taken v held free error st) = absurd (three_not_zero (error_shown last) refused error)
+denied_told_by write number last h bus y base w k new f is refused (denied none error st) = record { denied_is = none; then = record { far = f; is = is; kept = _; stood = st } }
+
+pub denied_told : (write : Bool) (number h : ℕ) (bus : BusUnit) (y : Hart) (base : Site) (w : Hart) (old new : Tells) → number < 2 ^ 16 → StoodTold h bus y base w old.far → RanTo (transfer_word write number) 3 old new → DeniedTold write number h bus y base w new.far
+denied_told write number h bus y base w old new small st r =
+    let c : CommandTold write number r.last h bus y base w st.kept new.far = command_told write number r.last h bus y base w old new small st r.ran in
+    denied_told_by write number r.last h bus y base w st.kept new c.far c.is r.error_is c.transfer
+
+-- no other error comes
+odd_told_by : (write : Bool) (number last h : ℕ) (bus : BusUnit) (y : Hart) (base : Site) (w : Hart) (k : Kept) (t : Site) → TransferTold write number last h bus y base w k t → (error_shown last ≡ 0 → ⊥) → (error_shown last ≡ 3 → ⊥) → ⊥
+odd_told_by write number last h bus y base w k t (taken v held free error st) some other = some error
+odd_told_by write number last h bus y base w k t (denied none error st) some other = other error
+
+pub odd_told : (write : Bool) (number last h : ℕ) (bus : BusUnit) (y : Hart) (base : Site) (w : Hart) (old new : Tells) → number < 2 ^ 16 → StoodTold h bus y base w old.far → RanOddly (transfer_word write number) last old new → ⊥
+odd_told write number last h bus y base w old new small st r =
+    let c : CommandTold write number last h bus y base w st.kept new.far = command_told write number last h bus y base w old new small st r.ran in
+    odd_told_by write number last h bus y base w st.kept (site_of c.far) c.transfer r.some r.other

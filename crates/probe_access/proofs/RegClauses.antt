@@ -1,0 +1,113 @@
+-- The clauses of the calls that read and write a register, where the chip is told.
+use Rattle.std.proofs.Common.{◌≡◌, ◌∙◌, ◌<◌, ◌^◌, ℕ, Bool, false, Option, Some, None, slice_get, refl, sym, ap, subst}
+use Rattle.debug_model.specs.Dmi.{DmiScript}
+use Rattle.debug_model.specs.Module.{Site}
+use Rattle.debug_model.specs.Scan.{WhereTold}
+use Rattle.debug_model.specs.Told.{Far, HartHalted, IsHalted, IsReady, Selects, SiteReady, site_of}
+use Rattle.probe_access.specs.declared.fault.AccessFault.{AccessFault}
+use Rattle.probe_access.specs.declared.fault.AccessFault.TheVariants as access_fault
+use Rattle.probe_run.specs.Acts.{Tells, tells}
+use Rattle.probe_access.specs.RegisterRuns.{ReadFailed, RegisterRead}
+use Rattle.probe_access.specs.Registers.{GotRegister, IfRegister, RegisterLeft}
+use Rattle.probe_access.proofs.Along.{did_untold}
+use Rattle.probe_access.proofs.Aside.{passed}
+use Rattle.probe_access.proofs.ReadyUnit.{kept_of, unit_of}
+use Rattle.probe_access.proofs.RegAnswers.{DeniedTold, ReadTold, StoodTold, denied_told, first_stood, odd_told, read_told, stood_passed, stood_ready, stood_selects}
+use Rattle.probe_access.proofs.Turns.{stays_passed, hart_aside}
+
+-- ---- the start
+
+pub first_told : (h : ℕ) (f : Far) (ready : SiteReady (site_of f)) (halted : HartHalted h (site_of f).board) → (site_of f).unit.hartsel ≡ h
+    → StoodTold h (site_of f).unit.bus halted.hart (site_of f) halted.hart (Some f)
+first_told h f ready halted selected = record { far = f; is = refl; kept = kept_of (site_of f).unit.commands; stood = first_stood h (site_of f) ready halted selected }
+
+-- ---- what holds of a chip again
+
+pub record Serving (h : ℕ) (told : Option Far) : Type 0 where
+  pub ready : IsReady told
+  pub selects : Selects h told
+  pub halted : IsHalted h told
+
+pub untold_serving : (h : ℕ) (told : Option Far) → told ≡ None → Serving h told
+untold_serving h told is = subst (Serving h) (sym is) (record { ready = tt; selects = tt; halted = tt })
+
+pub told_serving : (h : ℕ) (f : Far) → SiteReady (site_of f) → (site_of f).unit.hartsel ≡ h → HartHalted h (site_of f).board → (told : Option Far) → told ≡ Some f → Serving h told
+told_serving h f ready selects halted told is = subst (Serving h) (sym is) (record { ready = ready; selects = selects; halted = halted })
+
+pub stood_serving : (h : ℕ) (f : Far) (ready : SiteReady (site_of f)) (halted : HartHalted h (site_of f).board) (told : Option Far)
+    → StoodTold h (site_of f).unit.bus halted.hart (site_of f) halted.hart told → Serving h told
+stood_serving h f ready halted told st =
+    told_serving h st.far (stood_ready h (site_of f) halted.hart st.kept (site_of st.far) ready st.stood) (stood_selects h (site_of f).unit.bus halted.hart (site_of f) halted.hart st.kept (site_of st.far) st.stood)
+    (record {
+      hart = halted.hart;
+      is =
+          ap (λ (s : Site). slice_get s.board.harts h) st.stood.at.is
+          ∙ hart_aside (unit_of st.kept h (site_of f).unit.bus) h halted.hart (passed st.stood.at.harts (site_of f)) halted.hart (stays_passed h st.stood.at.harts (site_of f) halted.hart st.stood.held.here st.stood.held.frozen);
+      halted = halted.halted;
+    }) told st.is
+
+-- ---- a register that is read
+
+pub record RegOk (h number value : ℕ) (old new : Option Far) : Type 0 where
+  pub got : WhereTold (GotRegister h number value) old new
+  pub serving : Serving h new
+
+pub reg_ok : (h number value : ℕ) (far : Option Far) (script : Option DmiScript) (new : Tells) → number < 2 ^ 16 → IsReady far → Selects h far → IsHalted h far → RegisterRead number value (tells far script) new → RegOk h number value far new.far
+reg_ok h number value None script new small ready selects halted r =
+    let mid : r.mid.far ≡ None = did_untold (tells None script) _ r.mid r.ran.ran.did refl in
+    let end : new.far ≡ None = did_untold r.mid _ new r.words.did mid in
+    record { got = end; serving = untold_serving h new.far end }
+reg_ok h number value (Some f) script new small ready selects halted r =
+    let t : ReadTold number value h (site_of f).unit.bus halted.hart (site_of f) halted.hart new.far = read_told number value h (site_of f).unit.bus halted.hart (site_of f) halted.hart (tells (Some f) script) new small (first_told h f ready halted selects) r in
+    let fits : t.held < 2 ^ 64 = (ready.harts h halted.hart halted.is).registers number t.held t.held_is in
+    record {
+      got = record {
+        far = t.then.far;
+        is = t.then.is;
+        hart = halted.hart;
+        here = halted.is;
+        value_is = t.held_is ∙ ap Some (sym (t.value_is fits));
+        passed = stood_passed h (site_of f) halted.hart t.then.kept (site_of t.then.far) t.then.stood;
+      };
+      serving = stood_serving h f ready halted new.far t.then;
+    }
+
+pub record RegErr (write : Bool) (h number : ℕ) (old new : Option Far) (e : AccessFault) : Type 0 where
+  pub left : RegisterLeft write h number old new e
+  pub serving : IfRegister (Serving h new) e
+
+pub reg_denied : (write : Bool) (h number asked : ℕ) (f : Far) (new : Tells) (ready : SiteReady (site_of f)) (halted : HartHalted h (site_of f).board)
+    → DeniedTold write number h (site_of f).unit.bus halted.hart (site_of f) halted.hart new.far → RegErr write h number (Some f) new.far (access_fault.Register asked)
+reg_denied write h number asked f new ready halted t = record {
+  left = record {
+    far = t.then.far;
+    is = t.then.is;
+    hart = halted.hart;
+    here = halted.is;
+    denied = t.denied_is;
+    passed = stood_passed h (site_of f) halted.hart t.then.kept (site_of t.then.far) t.then.stood;
+  };
+  serving = stood_serving h f ready halted new.far t.then;
+}
+
+pub reg_err : (h number : ℕ) (far : Option Far) (script : Option DmiScript) (old_count new_count : ℕ) (new : Tells) (e : AccessFault) → number < 2 ^ 16 → IsReady far → Selects h far → IsHalted h far
+    → ReadFailed number old_count new_count (tells far script) new e → RegErr false h number far new.far e
+reg_err h number far script old_count new_count new (access_fault.Dmi why) small ready selects halted f = record { left = tt; serving = tt }
+reg_err h number far script old_count new_count new (access_fault.Memory address) small ready selects halted f = absurd f
+reg_err h number None script old_count new_count new (access_fault.Register asked) small ready selects halted f =
+    let end : new.far ≡ None = did_untold (tells None script) _ new f.ran.ran.did refl in record { left = end; serving = untold_serving h new.far end }
+reg_err h number (Some c) script old_count new_count new (access_fault.Register asked) small ready selects halted f =
+    reg_denied false h number asked c new ready halted (denied_told false number h (site_of c).unit.bus halted.hart (site_of c) halted.hart (tells (Some c) script) new small (first_told h c ready halted selects) f.ran)
+reg_err h number far script old_count new_count new access_fault.StillBusy small ready selects halted f = record { left = tt; serving = tt }
+reg_err h number far script old_count new_count new (access_fault.Run why) small ready selects halted f = absurd f
+reg_err h number None script old_count new_count new (access_fault.Odd word) small ready selects halted f = record { left = refl; serving = tt }
+reg_err h number (Some c) script old_count new_count new (access_fault.Odd word) small ready selects halted f =
+    absurd (odd_told false number word h (site_of c).unit.bus halted.hart (site_of c) halted.hart (tells (Some c) script) new small (first_told h c ready halted selects) f)
+
+pub if_register : (P Q : Type 0) (e : AccessFault) → (P → Q) → IfRegister P e → IfRegister Q e
+if_register P Q (access_fault.Dmi why) f p = tt
+if_register P Q (access_fault.Memory address) f p = tt
+if_register P Q (access_fault.Register asked) f p = f p
+if_register P Q access_fault.StillBusy f p = tt
+if_register P Q (access_fault.Run why) f p = tt
+if_register P Q (access_fault.Odd word) f p = tt

@@ -1,0 +1,9 @@
+pub mod Accesses
+pub mod CommandRuns
+pub mod Faults
+pub mod MemoryRuns
+pub mod Registers
+pub mod RegisterRuns
+pub mod Scratches
+pub mod Stops
+pub mod Words

@@ -1,0 +1,74 @@
+-- The addresses, commands and words of a register access.
+-- RISC-V Debug Specification 1.0, "Debug Module Registers", "Access Register" and "Abstract Control and Status".
+use Rattle.std.specs.Prelude.{ℕ, ◌+◌, ◌*◌, ◌^◌, Bool, true, false}
+use Rattle.rv_model.specs.declared.size.Size.{Size}
+use Rattle.rv_model.specs.declared.size.Size.TheVariants.{B1, B2, B4, B8}
+use Rattle.debug_model.specs.declared.abstract_command.AbstractCommand.{AbstractCommand}
+use Rattle.debug_model.specs.ModuleWords.{command_word}
+
+abbrev pub data0_address : ℕ
+data0_address = 0x04
+
+abbrev pub data1_address : ℕ
+data1_address = 0x05
+
+abbrev pub abstractcs_address : ℕ
+abstractcs_address = 0x16
+
+abbrev pub command_address : ℕ
+command_address = 0x17
+
+abbrev pub progbuf0_address : ℕ
+progbuf0_address = 0x20
+
+abbrev pub progbuf1_address : ℕ
+progbuf1_address = 0x21
+
+-- the word of abstractcs that clears cmderr
+abbrev pub clears_cmderr : ℕ
+clears_cmderr = 0x700
+
+-- a transfer of 64 bits from a register into the data words, or from them into it
+abbrev pub transfer_command : Bool → ℕ → AbstractCommand
+transfer_command write number =
+    record { cmdtype = 0; aarsize = 3; aarpostincrement = false; postexec = false; transfer = true; write = write; regno = number }
+
+-- the program buffer alone
+abbrev pub program_command : AbstractCommand
+program_command = record { cmdtype = 0; aarsize = 3; aarpostincrement = false; postexec = true; transfer = false; write = false; regno = 0 }
+
+abbrev pub transfer_word : Bool → ℕ → ℕ
+transfer_word write number = command_word (transfer_command write number)
+
+abbrev pub program_word : ℕ
+program_word = command_word program_command
+
+-- a value of 64 bits as two words, the lower one first
+abbrev pub joined : ℕ → ℕ → ℕ
+joined low high = low + high * 2 ^ 32
+
+-- ---- accesses to memory
+
+-- the registers that an access uses: the address, and the value
+abbrev pub x8_number : ℕ
+x8_number = 0x1008
+
+abbrev pub x9_number : ℕ
+x9_number = 0x1009
+
+abbrev pub ebreak_word : ℕ
+ebreak_word = 0x00100073
+
+-- lbu, lhu, lwu and ld x9, 0(x8)
+abbrev pub load_word : Size → ℕ
+load_word B1 = 0x00044483
+load_word B2 = 0x00045483
+load_word B4 = 0x00046483
+load_word B8 = 0x00043483
+
+-- sb, sh, sw and sd x9, 0(x8)
+abbrev pub store_word : Size → ℕ
+store_word B1 = 0x00940023
+store_word B2 = 0x00941023
+store_word B4 = 0x00942023
+store_word B8 = 0x00943023

@@ -1,0 +1,76 @@
+ghost use Rattle.std.specs.Prelude.{◌≡◌, ◌≤◌, ◌<◌, ◌^◌, ◌∷◌, [], true, false, IfOk, IfErr, OnErr, OnOk};
+ghost use Rattle.debug_model.specs.Dmi.{CanOperate};
+ghost use Rattle.debug_model.specs.Told.{IsIdle, IsLive};
+ghost use Rattle.debug_model.specs.ModuleWords.{command_word};
+ghost use Rattle.probe_run.specs.Acts.{Did, tells};
+ghost use Rattle.probe_access.specs.Faults.{BrokeIn, LinkBehind};
+ghost use Rattle.probe_access.specs.CommandRuns.{CommandFailed, RanCommand};
+ghost use Rattle.probe_access.specs.Words.{program_command, transfer_command};
+
+use crate::fault::AccessFault;
+use crate::polling::{ABSTRACTCS, poll};
+use debug_model::{AbstractCommand, Abstractcs, Dmi};
+
+/// The address of `command`.
+const COMMAND: u8 = 0x17;
+
+/// The word of `abstractcs` that clears `cmderr`.
+const CLEARS_CMDERR: u32 = 0x700;
+
+/// The field `aarsize` of transfers of 64 bits.
+const DOUBLE: u8 = 3;
+
+/// The command to read a register into the data words, or to write it from them.
+pub fn transfer_of(register: u16, write: bool) -> AbstractCommand
+    ensures { result ≡ transfer_command write register }
+{
+    AbstractCommand {
+        cmdtype: 0,
+        aarsize: DOUBLE,
+        aarpostincrement: false,
+        postexec: false,
+        transfer: true,
+        write,
+        regno: register,
+    }
+}
+
+/// The command to execute the program buffer, without a transfer.
+pub fn program() -> AbstractCommand
+    ensures { result ≡ program_command }
+{
+    AbstractCommand {
+        cmdtype: 0,
+        aarsize: DOUBLE,
+        aarpostincrement: false,
+        postexec: true,
+        transfer: false,
+        write: false,
+        regno: 0,
+    }
+}
+
+/// Writes `command` and polls for the command's end, and answers `abstractcs` as it was then. An error that it shows is cleared.
+pub fn run_command<D: Dmi>(link: &mut D, command: AbstractCommand) -> Result<u32, AccessFault>
+    requires alive { D.is_alive link.old ≡ true }
+    requires link { CanOperate (D.far link.old) }
+    ensures ran { IfOk result (λ last. RanCommand (command_word command) last (tells (D.far link.old) (D.script link.old)) (tells (D.far link.new) (D.script link.new))) }
+    ensures failed { IfErr result (CommandFailed (command_word command) (D.fault_count link.old) (D.fault_count link.new) (tells (D.far link.old) (D.script link.old)) (tells (D.far link.new) (D.script link.new))) }
+    ensures state { IfErr result (LinkBehind (D.far link.new) (D.is_alive link.new)) }
+    ensures link { OnOk result (CanOperate (D.far link.new)) }
+    ensures live { OnOk result (IsLive (D.far link.new)) }
+    ensures idle { OnOk result (IsIdle (D.far link.new)) }
+    ensures alive { OnOk result (D.is_alive link.new ≡ true) }
+    ensures later { D.fault_count link.old ≤ D.fault_count link.new }
+    ensures slack { D.slack link.new ≡ D.slack link.old }
+    ensures ties { D.ties link.new ≡ D.ties link.old }
+{
+    link.write(COMMAND, command.word())?;
+    let last = poll(link)?;
+    let status = Abstractcs::from_word(last);
+    if status.cmderr == 0 {
+        return Ok(last);
+    }
+    link.write(ABSTRACTCS, CLEARS_CMDERR)?;
+    Ok(last)
+}

@@ -1,0 +1,26 @@
+//! Registers and memory of a chip, over operations on its debug module: by abstract commands, and by a halted hart's program buffer.
+//! Each contract names the operations that were made, in order, with what they showed; where the chip is told it says too that turns
+//! of harts are all else that happened, that just the named register was changed or one access made, and that the chip is ready again.
+#![tactic(auto)]
+
+mod commands;
+mod doubles;
+mod fault;
+mod inside;
+mod memory;
+mod polling;
+mod program;
+mod registers;
+mod scratch;
+mod stopped;
+mod stops;
+#[cfg(test)]
+mod tests;
+mod transfers;
+
+pub use fault::AccessFault;
+pub use memory::{is_aligned, load, store};
+pub use registers::{reg, set_reg};
+pub use scratch::{Scratch, save};
+pub use stopped::Stop;
+pub use stops::stop;

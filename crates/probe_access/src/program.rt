@@ -1,0 +1,116 @@
+ghost use Rattle.std.specs.Prelude.{◌≡◌, ◌≤◌, ◌<◌, ◌^◌, true, false, IfOk, IfErr, OnOk, OnErr};
+ghost use Rattle.debug_model.specs.Dmi.{CanOperate};
+ghost use Rattle.debug_model.specs.Told.{IsIdle, IsLive};
+ghost use Rattle.probe_run.specs.Acts.{Did, tells};
+ghost use Rattle.probe_access.specs.Faults.{BrokeIn, LinkBehind};
+ghost use Rattle.debug_model.specs.Dmi.{LeavesStream};
+ghost use Rattle.probe_access.specs.MemoryRuns.{PerformFailed, Performed, ProgramBegun, program_written};
+ghost use Rattle.probe_access.specs.Words.{load_word, store_word};
+
+use crate::commands::{program, run_command};
+use crate::fault::AccessFault;
+use crate::transfers::{EXCEPTION, write_register};
+use debug_model::{Abstractcs, Dmi, DmiFault};
+use rv_model::Size;
+
+/// The number of x8, which holds the address of an access.
+pub const X8: u16 = 0x1008;
+
+/// The number of x9, which holds its value.
+pub const X9: u16 = 0x1009;
+
+/// The addresses of the program buffer's first two words.
+const PROGBUF0: u8 = 0x20;
+
+const PROGBUF1: u8 = 0x21;
+
+/// `ebreak`
+const EBREAK: u32 = 0x0010_0073;
+
+/// `lbu x9, 0(x8)`, and the same for 2, 4 and 8 bytes.
+const LBU: u32 = 0x0004_4483;
+
+const LHU: u32 = 0x0004_5483;
+
+const LWU: u32 = 0x0004_6483;
+
+const LD: u32 = 0x0004_3483;
+
+/// `sb x9, 0(x8)`, and the same for 2, 4 and 8 bytes.
+const SB: u32 = 0x0094_0023;
+
+const SH: u32 = 0x0094_1023;
+
+const SW: u32 = 0x0094_2023;
+
+const SD: u32 = 0x0094_3023;
+
+/// The instruction that loads so many bytes into x9, the upper bits 0.
+pub fn load_of(size: Size) -> u32
+    ensures { result ≡ load_word size }
+{
+    match size {
+        Size::B1 => LBU,
+        Size::B2 => LHU,
+        Size::B4 => LWU,
+        Size::B8 => LD,
+    }
+}
+
+/// The instruction that stores so many bytes of x9.
+pub fn store_of(size: Size) -> u32
+    ensures { result ≡ store_word size }
+{
+    match size {
+        Size::B1 => SB,
+        Size::B2 => SH,
+        Size::B4 => SW,
+        Size::B8 => SD,
+    }
+}
+
+/// Writes an instruction and `ebreak` into the program buffer.
+fn write_program<D: Dmi>(link: &mut D, instruction: u32) -> Result<(), DmiFault>
+    requires alive { D.is_alive link.old ≡ true }
+    requires link { CanOperate (D.far link.old) }
+    ensures did { OnOk result (Did (tells (D.far link.old) (D.script link.old)) (program_written instruction) (tells (D.far link.new) (D.script link.new))) }
+    ensures broke { IfErr result (BrokeIn (ProgramBegun instruction) (D.fault_count link.old) (D.fault_count link.new) (tells (D.far link.old) (D.script link.old)) (D.far link.new)) }
+    ensures stream { IfErr result (LeavesStream (D.far link.new)) }
+    ensures dead { OnErr result (D.is_alive link.new ≡ false) }
+    ensures link { OnOk result (CanOperate (D.far link.new)) }
+    ensures live { OnOk result (IsLive (D.far link.new)) }
+    ensures idle { OnOk result (IsIdle (D.far link.new)) }
+    ensures alive { OnOk result (D.is_alive link.new ≡ true) }
+    ensures later { D.fault_count link.old ≤ D.fault_count link.new }
+    ensures slack { D.slack link.new ≡ D.slack link.old }
+    ensures ties { D.ties link.new ≡ D.ties link.old }
+{
+    link.write(PROGBUF0, instruction)?;
+    link.write(PROGBUF1, EBREAK)?;
+    Ok(())
+}
+
+/// Executes one instruction of the selected hart, with this address in x8. `Memory` where it met an exception.
+pub fn perform<D: Dmi>(link: &mut D, instruction: u32, address: u64) -> Result<(), AccessFault>
+    requires alive { D.is_alive link.old ≡ true }
+    requires link { CanOperate (D.far link.old) }
+    ensures performed { OnOk result (Performed instruction address 0 (tells (D.far link.old) (D.script link.old)) (tells (D.far link.new) (D.script link.new))) }
+    ensures failed { IfErr result (PerformFailed instruction address (D.fault_count link.old) (D.fault_count link.new) (tells (D.far link.old) (D.script link.old)) (tells (D.far link.new) (D.script link.new))) }
+    ensures state { IfErr result (LinkBehind (D.far link.new) (D.is_alive link.new)) }
+    ensures link { OnOk result (CanOperate (D.far link.new)) }
+    ensures live { OnOk result (IsLive (D.far link.new)) }
+    ensures idle { OnOk result (IsIdle (D.far link.new)) }
+    ensures alive { OnOk result (D.is_alive link.new ≡ true) }
+    ensures later { D.fault_count link.old ≤ D.fault_count link.new }
+    ensures slack { D.slack link.new ≡ D.slack link.old }
+    ensures ties { D.ties link.new ≡ D.ties link.old }
+{
+    write_program(link, instruction)?;
+    write_register(link, X8, address)?;
+    let last = run_command(link, program())?;
+    match Abstractcs::from_word(last).cmderr {
+        0 => Ok(()),
+        EXCEPTION => Err(AccessFault::Memory(address)),
+        _ => Err(AccessFault::Odd(last)),
+    }
+}

@@ -1,0 +1,88 @@
+-- Calls made one after another: two stretches are one, and a failed call behind more of them.
+use Rattle.std.proofs.Common.{◌≡◌, ◌≤◌, ◌++◌, ℕ, List, [], ◌∷◌, Option, Result, Ok, Err, IfErr, IsErrAnd, sym, subst, append_assoc, append-nil, arith, inl, inr}
+use Rattle.jt_base.specs.Faults.{Rises}
+use Rattle.debug_model.specs.declared.dmi.DmiFault.{DmiFault}
+use Rattle.debug_model.specs.declared.dmi.DmiFault.TheVariants.{Wire, Failed, StillBusy}
+use Rattle.debug_model.specs.declared.wire.WireFault.{WireFault}
+use Rattle.debug_model.specs.declared.wire.WireFault.TheVariants.{SendFailed, RecvFailed, Ended, BadAnswer}
+use Rattle.debug_model.specs.Dmi.{Answers, DmiCause, DmiScript, Operated, OperationCut, Passes, ScannedCause}
+use Rattle.debug_model.specs.Scan.{ScanCause, Script, WhereTold}
+use Rattle.debug_model.specs.Told.{Far}
+use Rattle.probe_run.specs.Acts.{Act, Attempt, Broke, Did, Tells, chip_cut, chip_did, tells, was_heard}
+use Rattle.probe_run.specs.Acts.Act.{Got, Put}
+use Rattle.probe_run.specs.Acts.Attempt.{Operation}
+use Rattle.debug_model.specs.declared.dmi_op.DmiOp.{DmiOp}
+use Rattle.debug_model.specs.declared.dmi_op.DmiOp.TheVariants.{Read, Write}
+use Rattle.probe_run.specs.Acts.Did.{nothing, further}
+
+pub did_one : (act : Act) (old new : Tells) → WhereTold (chip_did act) old.far new.far → was_heard act old.script new.script → Did old (act ∷ []) new
+did_one act old new told heard = further [] act old new nothing (record { told = told; heard = heard })
+
+pub did_list : (acts acts' : List Act) (old new : Tells) → acts ≡ acts' → Did old acts new → Did old acts' new
+did_list acts acts' old new e d = subst (λ xs. Did old xs new) e d
+
+pub did_then : (xs : List Act) (old mid : Tells) → Did old xs mid → (ys : List Act) (new : Tells) → Did mid ys new → Did old (xs ++ ys) new
+did_then xs old mid d ys new nothing = did_list xs (xs ++ []) old mid (sym (append-nil xs)) d
+did_then xs old mid d ys new (further zs act at new' before does) =
+    did_list ((xs ++ zs) ++ act ∷ []) (xs ++ (zs ++ act ∷ [])) old new (append_assoc xs zs (act ∷ []))
+    (further (xs ++ zs) act at new (did_then xs old mid d zs at before) does)
+
+-- ---- causes
+
+rises_from : (old mid new : ℕ) → old ≤ mid → mid ≤ new → Rises mid new → Rises old new
+rises_from old mid new le later r below = grind arith
+
+scan_cause_from : (old mid new : ℕ) (told : Option Far) (script : Option Script) (fault : WireFault) → old ≤ mid → mid ≤ new → ScanCause mid new told script fault → ScanCause old new told script fault
+scan_cause_from old mid new told script SendFailed le later c = rises_from old mid new le later c
+scan_cause_from old mid new told script RecvFailed le later c = rises_from old mid new le later c
+scan_cause_from old mid new told script Ended le later (inl c) = inl (rises_from old mid new le later c)
+scan_cause_from old mid new told script Ended le later (inr c) = inr c
+scan_cause_from old mid new told script (BadAnswer b) le later c = c
+
+pub cause_from : (old mid new : ℕ) (was told : Option Far) (script : Option DmiScript) (fault : DmiFault) → old ≤ mid → mid ≤ new → DmiCause mid new was told script fault → DmiCause old new was told script fault
+cause_from old mid new was told script (Wire fault) le later c = scan_cause_from old mid new told _ fault le later c
+cause_from old mid new was told script Failed le later c = c
+cause_from old mid new was told script StillBusy le later c = c
+
+pub scanned_cause : (old new : ℕ) (was told : Option Far) (script : Option DmiScript) (fault : DmiFault) → ScannedCause old new told script fault → DmiCause old new was told script fault
+scanned_cause old new was told script (Wire fault) c = c
+scanned_cause old new was told script Failed c = absurd c
+scanned_cause old new was told script StillBusy c = absurd c
+
+pub broke_one : (failed : Attempt) (old_count new_count : ℕ) (old : Tells) (told : Option Far) (fault : DmiFault) → WhereTold (chip_cut failed) old.far told
+    → DmiCause old_count new_count old.far told old.script fault → Broke [] failed old_count new_count old told fault
+broke_one failed old_count new_count old told fault cut cause = record { mid = old; did = nothing; cut = cut; cause = cause }
+
+pub broke_then : (xs : List Act) (old mid : Tells) → Did old xs mid → (ys : List Act) (failed : Attempt) (count mid_count new_count : ℕ) (told : Option Far) (fault : DmiFault) → count ≤ mid_count → mid_count ≤ new_count
+    → Broke ys failed mid_count new_count mid told fault → Broke (xs ++ ys) failed count new_count old told fault
+broke_then xs old mid d ys failed count mid_count new_count told fault le later b = record {
+  mid = b.mid;
+  did = did_then xs old mid d ys b.mid b.did;
+  cut = b.cut;
+  cause = cause_from count mid_count new_count b.mid.far told b.mid.script fault le later b.cause;
+}
+
+pub broke_list : (xs xs' : List Act) (failed : Attempt) (old_count new_count : ℕ) (old : Tells) (told : Option Far) (fault : DmiFault) → xs ≡ xs'
+    → Broke xs failed old_count new_count old told fault → Broke xs' failed old_count new_count old told fault
+broke_list xs xs' failed old_count new_count old told fault e b = subst (λ zs. Broke zs failed old_count new_count old told fault) e b
+
+-- ---- one operation
+
+pub did_put : (address value value' : ℕ) (far far' : Option Far) (script script' : Option DmiScript) → value ≡ value'
+    → WhereTold (Operated (Write address value) value) far far' → Passes script script' → Did (tells far script) (Put address value' ∷ []) (tells far' script')
+did_put address value value' far far' script script' e told heard =
+    subst (λ v. Did (tells far script) (Put address v ∷ []) (tells far' script')) e (did_one (Put address value) (tells far script) (tells far' script') told heard)
+
+pub did_got : (address value : ℕ) (far far' : Option Far) (script script' : Option DmiScript)
+    → WhereTold (Operated (Read address) value) far far' → Answers value script script' → Did (tells far script) (Got address value ∷ []) (tells far' script')
+did_got address value far far' script script' told heard = did_one (Got address value) (tells far script) (tells far' script') told heard
+
+pub broke_op : (op op' : DmiOp) (old_count new_count : ℕ) (far far' : Option Far) (script : Option DmiScript) (fault : DmiFault) → op ≡ op'
+    → WhereTold (OperationCut op) far far' → DmiCause old_count new_count far far' script fault → Broke [] (Operation op') old_count new_count (tells far script) far' fault
+broke_op op op' old_count new_count far far' script fault e cut cause =
+    subst (λ o. Broke [] (Operation o) old_count new_count (tells far script) far' fault) e (broke_one (Operation op) old_count new_count (tells far script) far' fault cut cause)
+
+-- an error that is handed on
+pub if_err : {T E : Type 0} (P : E → Type 0) (result : Result T E) (fault : E) → IsErrAnd result (λ e. e ≡ fault) → P fault → IfErr result P
+if_err P (Ok x) fault is p = tt
+if_err P (Err e) fault is p = subst P (sym is) p

@@ -1,0 +1,152 @@
+-- A chip as it was loaded: its module is reset, nothing is asked of its harts, and all its numbers are within their widths.
+use Rattle.std.proofs.Common.{◌≡◌, ◌∙◌, ◌++◌, ◌+◌, ◌<◌, ◌≤◌, ◌^◌, ◌==◌, ℕ, zero, suc, List, [], ◌∷◌, length, replicate, get_or, All, Bool, true, false, cond, Option, Some, slice_get, refl, sym, ap, subst, arith, append-nil, if◌then◌else◌}
+use Rattle.std.specs.Cmp.{nat_cmp_total}
+use Rattle.std.specs.FinMap as map
+use Rattle.std.specs.FinMap.{entries, get, get-entries, get-from_entries}
+use Rattle.std.specs.List.{enumerate_from}
+use Rattle.std.specs.Ordering.{eq_by_cmp, nat_cmp}
+use Rattle.std.proofs.lemmas.List.Elements.{All-head, All-tail, All-nil, All-cons}
+use Rattle.std.proofs.lemmas.Option.{none-some, same_Some}
+use Rattle.rv_model.specs.declared.cause.Cause.{Cause}
+use Rattle.rv_model.specs.declared.slot.Slot.{Slot}
+use Rattle.rv_model.specs.Board.{Hart, IsHart, free_slot, reset_hart}
+use Rattle.rv_model.specs.Core.{reset_core}
+use Rattle.rv_model.specs.Image.{with_image}
+use Rattle.rv_model.specs.Memory.{Bytes, map_of, ram_base}
+use Rattle.rv_model.proofs.SlotLemmas.{free_slots_fit}
+use Rattle.debug_model.specs.Chip.{Live}
+use Rattle.debug_model.specs.Loaded.{AsLoaded, loaded_board, loaded_memory, reset_harts}
+use Rattle.debug_model.specs.Module.{reset_module}
+use Rattle.debug_model.specs.Told.{Far, MemoryReady, site_of}
+use Rattle.probe_run.proofs.Asking.{Unasked}
+use Rattle.probe_run.proofs.Fresh.{Fresh}
+use Rattle.probe_run.proofs.WideCore.{CoreWide, zero_wide}
+use Rattle.probe_run.proofs.WideHart.{HartWide, registers_wide}
+use Rattle.probe_run.proofs.WideWords.{IsWide}
+
+-- ---- a hart as a reset leaves it
+
+zeros : (n i : ℕ) → get_or (replicate n zero) i zero ≡ zero
+zeros zero i = refl
+zeros (suc n) zero = refl
+zeros (suc n) (suc i) = zeros n i
+
+zero_by : (b : Bool) (v : ℕ) → v ≡ 0 → IsWide (if b then 0 else v)
+zero_by true v is = zero_wide
+zero_by false v is = subst (λ n. IsWide n) (sym is) zero_wide
+
+reset_whole : (n : ℕ) (halted : Option Cause) → IsHart n (reset_hart n halted)
+reset_whole n halted = record {
+  number = refl;
+  core = record { registers = refl; pc_aligned = refl; mtvec_aligned = refl; mepc_aligned = refl; mpp_fixed = refl };
+  slots = refl;
+  counts = free_slots_fit 4;
+  selected = omega arith;
+}
+
+reset_wide : (n : ℕ) → IsWide n → CoreWide (reset_core n)
+reset_wide n small = record {
+  id = small;
+  x = λ i. zero_by (i == 0) (get_or (replicate 32 0) i 0) (zeros 32 i);
+  pc = omega arith;
+  mstatus = omega arith;
+  mtvec = zero_wide;
+  mscratch = zero_wide;
+  mepc = zero_wide;
+  mcause = zero_wide;
+  mtval = zero_wide;
+}
+
+free_compared : (n : ℕ) (k : ℕ) (s : Slot) → slice_get (replicate n free_slot) k ≡ Some s → s.tdata2 < 2 ^ 64
+free_compared zero k s is = absurd (none-some s is)
+free_compared (suc n) zero s is = subst (λ (y : Slot). y.tdata2 < 2 ^ 64) (same_Some free_slot s is) zero_wide
+free_compared (suc n) (suc k) s is = free_compared n k s is
+
+pub record ResetAs (n : ℕ) (x : Hart) : Type 0 where
+  pub halted : Option Cause
+  pub is : x ≡ reset_hart n halted
+  pub small : IsWide n
+
+reset_hart_wide : (n : ℕ) (x : Hart) → ResetAs n x → HartWide n x
+reset_hart_wide n x r =
+    subst (λ y. HartWide n y) (sym r.is) (record {
+      whole = reset_whole n r.halted;
+      registers = registers_wide n (reset_hart n r.halted) (reset_whole n r.halted) (reset_wide n r.small) (free_compared 4);
+      compared = free_compared 4;
+    })
+
+reset_unasked : (n : ℕ) (x : Hart) → ResetAs n x → Unasked x.debug
+reset_unasked n x r = subst (λ (y : Hart). Unasked y.debug) (sym r.is) (record { no_halt = refl; no_resume = refl })
+
+-- ---- all of them
+
+at_end : (P : ℕ → Hart → Type 0) (xs : List Hart) (y : Hart) (n : ℕ) → ((j : ℕ) (x : Hart) → slice_get xs j ≡ Some x → P (n + j) x) → P (n + length xs) y
+    → (j : ℕ) (x : Hart) → slice_get (xs ++ y ∷ []) j ≡ Some x → P (n + j) x
+at_end P [] y n each last zero x is = subst (λ z. P (n + 0) z) (same_Some y x is) last
+at_end P [] y n each last (suc j) x is = absurd (none-some x is)
+at_end P (z ∷ zs) y n each last zero x is = each zero x is
+at_end P (z ∷ zs) y n each last (suc j) x is =
+    let shift : (n + 1) + j ≡ n + suc j = omega arith in
+    let over : n + suc (length zs) ≡ (n + 1) + length zs = omega arith in
+    subst (λ k. P k x) shift
+    (at_end P zs y (n + 1) (λ i w at. let e : n + suc i ≡ (n + 1) + i = omega arith in subst (λ k. P k w) e (each (suc i) w at)) (subst (λ k. P k y) over last) j x is)
+
+length_end : (xs : List Hart) (y : Hart) → length (xs ++ y ∷ []) ≡ suc (length xs)
+length_end [] y = refl
+length_end (z ∷ zs) y = ap suc (length_end zs y)
+
+reset_length : (n : ℕ) (halted : Option Cause) → length (reset_harts n halted) ≡ n
+reset_length zero halted = refl
+reset_length (suc n) halted = length_end (reset_harts n halted) (reset_hart n halted) ∙ ap suc (reset_length n halted)
+
+each_reset : (n : ℕ) (halted : Option Cause) → n ≤ 4 → (j : ℕ) (x : Hart) → slice_get (reset_harts n halted) j ≡ Some x → ResetAs j x
+each_reset zero halted most j x is = absurd (none-some x is)
+each_reset (suc n) halted most j x is =
+    let zero_plus : 0 + j ≡ j = omega arith in
+    let end : 0 + length (reset_harts n halted) ≡ n = let e : length (reset_harts n halted) ≡ n = reset_length n halted in omega arith in
+    let last : ResetAs n (reset_hart n halted) = record { halted = halted; is = refl; small = omega arith } in
+    subst (λ k. ResetAs k x) zero_plus
+    (at_end ResetAs (reset_harts n halted) (reset_hart n halted) 0
+    (λ i w at. let e : i ≡ 0 + i = omega arith in subst (λ k. ResetAs k w) e (each_reset n halted (omega arith) i w at))
+    (subst (λ k. ResetAs k (reset_hart n halted)) (sym end) last) j x is)
+
+-- ---- memory
+
+found_by : (b : Bool) (x : ℕ) (o : Option ℕ) (v : ℕ) → x < 256 → (o ≡ Some v → v < 256) → cond b (Some x) o ≡ Some v → v < 256
+found_by true x o v small later is = let e : x ≡ v = same_Some x v is in omega arith
+found_by false x o v small later is = later is
+
+found_small : (xs : List ℕ) (n q v : ℕ) (es : List (ℕ × ℕ)) → All (λ b. b < 256) xs → (map.find nat_cmp q es ≡ Some v → v < 256) → map.find nat_cmp q (enumerate_from n xs ++ es) ≡ Some v → v < 256
+found_small [] n q v es all later is = later is
+found_small (x ∷ xs) n q v es all later is =
+    found_by (eq_by_cmp nat_cmp q n) x _ v (All-head (λ b. b < 256) x xs all) (λ e. found_small xs (n + 1) q v es (All-tail (λ b. b < 256) x xs all) later e) is
+
+all_zeros : (n : ℕ) → All (λ b. b < 256) (replicate n 0)
+all_zeros zero = All-nil (λ b. b < 256)
+all_zeros (suc n) = All-cons (λ b. b < 256) 0 (replicate n 0) (omega arith) (all_zeros n)
+
+zeros_ready : (ram q v : ℕ) → get (map_of (replicate ram 0)) q ≡ Some v → v < 256
+unfolding map_of
+zeros_ready ram q v is =
+    found_small (replicate ram 0) ram_base q v [] (all_zeros ram) (λ e. absurd (none-some v e))
+    (ap (map.find nat_cmp q) (append-nil (enumerate_from ram_base (replicate ram 0))) ∙ sym (get-from_entries nat_cmp_total (enumerate_from ram_base (replicate ram 0)) q) ∙ is)
+
+image_ready : (image : List ℕ) (ram : ℕ) → All (λ b. b < 256) image → MemoryReady (loaded_memory image ram)
+unfolding with_image
+image_ready image ram all q v is =
+    let m : Bytes = map_of (replicate ram 0) in
+    found_small image ram_base q v (entries m) all (λ e. zeros_ready ram q v (get-entries m q ∙ e))
+    (sym (get-from_entries nat_cmp_total (enumerate_from ram_base image ++ entries m) q) ∙ is)
+
+-- ---- the chip
+
+loaded_fresh : (image : List ℕ) (harts ram : ℕ) (halted : Option Cause) → harts ≤ 4 → All (λ b. b < 256) image → Fresh reset_module (record { unit = reset_module; board = loaded_board image harts ram halted; journal = [] })
+loaded_fresh image harts ram halted most all = record {
+  unit = refl;
+  wide = record { harts = λ j x is. reset_hart_wide j x (each_reset harts halted most j x is); memory = image_ready image ram all };
+  harts = λ j x is. let u : Unasked x.debug = reset_unasked j x (each_reset harts halted most j x is) in record { here = λ same. u; others = λ other. u };
+}
+
+pub fresh_loaded : (f : Far) → AsLoaded f.live → Fresh reset_module (site_of f)
+fresh_loaded f a =
+    subst (λ (l : Live). Fresh reset_module l.chip.inside.works.site) (sym a.is) (loaded_fresh a.image a.harts a.ram a.halted a.right.most a.bytes)

@@ -1,0 +1,5 @@
+use Rattle.probe_run.proofs.SessionLemmas as lemmas
+use Rattle.probe_run.proofs.laws.steps_lead.Goals as goal
+
+pub returns : goal.returns
+returns c = lemmas.steps_lead

@@ -1,0 +1,68 @@
+-- The calls that are made on a link, one after another, with what they answered: of the chip where it is told, along a script where that is told.
+-- It is this project's own word for a debugger's use of the debug module interface.
+use Rattle.std.specs.Prelude.{◌≡◌, ◌++◌, ℕ, List, [], ◌∷◌, Option}
+use Rattle.debug_model.specs.declared.dmi.DmiFault.{DmiFault}
+use Rattle.debug_model.specs.declared.dmi_op.DmiOp.{DmiOp}
+use Rattle.debug_model.specs.declared.dmi_op.DmiOp.TheVariants.{Read, Write}
+use Rattle.debug_model.specs.Chip.{Chip}
+use Rattle.debug_model.specs.Dmi.{Answers, DmiCause, DmiScript, NoneOperated, Operated, OperationCut, Passes, Shows}
+use Rattle.debug_model.specs.Scan.{WhereTold}
+use Rattle.debug_model.specs.Told.{Far}
+use Rattle.debug_model.specs.Transport.{dtmcs_seen, fresh_dtm}
+use Rattle.debug_model.specs.TransportWords.{dtmcs_word}
+
+-- what a link tells: its chip, and what is to be heard
+pub record Tells : Type 0 where
+  pub far : Option Far
+  pub script : Option DmiScript
+
+abbrev pub tells : Option Far → Option DmiScript → Tells
+tells far script = record { far = far; script = script }
+
+-- ---- calls that were Ok
+
+pub data Act : Type 0 where
+  Scanned : (value : ℕ) → Act  -- dtmcs was read as this
+  Got : (address value : ℕ) → Act  -- a register of the module was read as this
+  Put : (address value : ℕ) → Act  -- a register of the module was written
+
+-- dtmcs of this chip is the same at any time
+pub record ScannedAs (value : ℕ) (c : Chip) (new : Option Far) : Type 0 where
+  pub none : NoneOperated c new
+  pub value_is : value ≡ dtmcs_word (dtmcs_seen fresh_dtm)
+
+abbrev pub chip_did : Act → Chip → Option Far → Type 0
+chip_did (Scanned value) = ScannedAs value
+chip_did (Got address value) = Operated (Read address) value
+chip_did (Put address value) = Operated (Write address value) value
+
+abbrev pub was_heard : Act → Option DmiScript → Option DmiScript → Type 0
+was_heard (Scanned value) = Shows value
+was_heard (Got address value) = Answers value
+was_heard (Put address value) = Passes
+
+pub record Does (act : Act) (old new : Tells) : Type 0 where
+  pub told : WhereTold (chip_did act) old.far new.far
+  pub heard : was_heard act old.script new.script
+
+-- just these calls were made, in this order, and each was Ok
+pub data Did (old : Tells) : List Act → Tells → Type 0 where
+  nothing : Did old [] old
+  further : (acts : List Act) (act : Act) (mid new : Tells) → Did old acts mid → Does act mid new → Did old (acts ++ act ∷ []) new
+
+-- ---- a call that failed
+
+pub data Attempt : Type 0 where
+  Scan : Attempt  -- of dtmcs
+  Operation : (op : DmiOp) → Attempt
+
+abbrev pub chip_cut : Attempt → Chip → Option Far → Type 0
+chip_cut Scan = NoneOperated
+chip_cut (Operation op) = OperationCut op
+
+-- behind these calls, which were Ok, this one failed, for this reason
+pub record Broke (acts : List Act) (failed : Attempt) (old_count new_count : ℕ) (old : Tells) (told : Option Far) (fault : DmiFault) : Type 0 where
+  pub mid : Tells
+  pub did : Did old acts mid
+  pub cut : WhereTold (chip_cut failed) mid.far told
+  pub cause : DmiCause old_count new_count mid.far told mid.script fault

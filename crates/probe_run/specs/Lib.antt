@@ -1,0 +1,9 @@
+pub mod Acts
+pub mod Requests
+pub mod Looks
+pub mod Waits
+pub mod Outcomes
+pub mod Happens
+pub mod Opening
+pub mod Sites
+pub mod SessionLaws

@@ -1,0 +1,269 @@
+//! The opening of a chip, register by register.
+
+ghost use Rattle.std.specs.Prelude.{◌≡◌, ◌≤◌, ◌∷◌, [], true, false, IfOk, IfErr, OnErr, OnOk};
+ghost use Rattle.debug_model.specs.Dmi.{CanOperate, LeavesStream};
+ghost use Rattle.debug_model.specs.Told.{IsIdle, IsLive};
+ghost use Rattle.debug_model.specs.ModuleWords.{abstractcs_of, dmstatus_of, sbcs_of};
+ghost use Rattle.debug_model.specs.TransportWords.{dtmcs_of};
+ghost use Rattle.probe_run.specs.Acts.{tells};
+ghost use Rattle.probe_run.specs.Opening.{Activated, ActivationFails, BusCleared, BusFails, BusFits, CommandsCleared, CommandsFail, CommandsFit, ConnectFails, IfOpeningDmi, LosesLoaded, ModuleFails, ModuleFits, Opened, OpensLoaded, Then, TransportFails, TransportFits, UnlessOpeningDmi, bus_fits, clears_cmderr, clears_sberror, commands_fit, module_fits, starts_none, transport_fits};
+
+use crate::control::{DMCONTROL, Request, control};
+use crate::fault::ConnectFault;
+use crate::target::{Target, opened};
+use crate::wait::look;
+use debug_model::{Abstractauto, Abstractcs, Dmcontrol, Dmi, Dmstatus, Dtmcs, Sbcs};
+
+/// The addresses of `abstractcs`, `abstractauto` and `sbcs`.
+const ABSTRACTCS: u8 = 0x16;
+
+const ABSTRACTAUTO: u8 = 0x18;
+
+const SBCS: u8 = 0x38;
+
+/// How often `dmcontrol` is read at most until dmactive is 1.
+const READS_MOST: u32 = 64;
+
+/// Whether this is a transport of version 1 with addresses of 7 to 30 bits.
+fn has_transport(word: u32) -> bool
+    ensures { result ≡ transport_fits word }
+{
+    let dtmcs = Dtmcs::from_word(word);
+    dtmcs.version == 1 && 7 <= dtmcs.abits && dtmcs.abits <= 30
+}
+
+/// Whether this is a debug module of version 3 that may be used.
+fn has_module(word: u32) -> bool
+    ensures { result ≡ module_fits word }
+{
+    let status = Dmstatus::from_word(word);
+    status.authenticated && status.version == 3
+}
+
+/// Whether there are four words of program buffer and two of data, and no command is under way.
+fn has_commands(word: u32) -> bool
+    ensures { result ≡ commands_fit word }
+{
+    let commands = Abstractcs::from_word(word);
+    4 <= commands.progbufsize && 2 <= commands.datacount && !commands.busy
+}
+
+/// Whether this is a system bus of version 1 with addresses of 64 bits and accesses of 1, 2, 4 and 8 bytes.
+fn has_bus(word: u32) -> bool
+    ensures { result ≡ bus_fits word }
+{
+    let bus = Sbcs::from_word(word);
+    bus.sbversion == 1 && bus.sbasize == 64 && bus.sizes % 16 == 15
+}
+
+/// The word of `abstractcs` that clears every error.
+fn cleared_cmderr() -> u32
+    ensures { result ≡ clears_cmderr }
+{
+    let commands = Abstractcs {
+        progbufsize: 0,
+        busy: false,
+        cmderr: 7,
+        datacount: 0,
+    };
+    commands.word()
+}
+
+/// The word of `abstractauto` by which no access starts a command.
+fn no_autoexec() -> u32
+    ensures { result ≡ starts_none }
+{
+    let auto = Abstractauto {
+        data0: false,
+        data1: false,
+        progbuf0: false,
+        progbuf1: false,
+        progbuf2: false,
+        progbuf3: false,
+    };
+    auto.word()
+}
+
+/// The word of `sbcs` that clears every error, and by which no access follows another.
+fn cleared_sberror() -> u32
+    ensures { result ≡ clears_sberror }
+{
+    let bus = Sbcs {
+        sbversion: 0,
+        sbbusyerror: true,
+        sbbusy: false,
+        sbreadonaddr: false,
+        sbaccess: 0,
+        sbautoincrement: false,
+        sbreadondata: false,
+        sberror: 7,
+        sbasize: 0,
+        sizes: 0,
+    };
+    bus.word()
+}
+
+/// Reads `dtmcs`.
+fn check_transport<D: Dmi>(link: &mut D) -> Result<(), ConnectFault>
+    requires alive { D.is_alive link.old ≡ true }
+    requires link { CanOperate (D.far link.old) }
+    ensures did { OnOk result (TransportFits (tells (D.far link.old) (D.script link.old)) (tells (D.far link.new) (D.script link.new))) }
+    ensures fails { IfErr result (TransportFails (D.fault_count link.old) (D.fault_count link.new) (tells (D.far link.old) (D.script link.old)) (tells (D.far link.new) (D.script link.new))) }
+    ensures stream { IfErr result (IfOpeningDmi (LeavesStream (D.far link.new))) }
+    ensures link { OnOk result (CanOperate (D.far link.new)) }
+    ensures live { OnOk result (IsLive (D.far link.new)) }
+    ensures idle { OnOk result (IsIdle (D.far link.new)) }
+    ensures alive { OnOk result (D.is_alive link.new ≡ true) }
+    ensures dead { IfErr result (IfOpeningDmi (λ _. D.is_alive link.new ≡ false)) }
+    ensures stays_alive { IfErr result (UnlessOpeningDmi (D.is_alive link.new ≡ true)) }
+    ensures stays_link { IfErr result (UnlessOpeningDmi (CanOperate (D.far link.new))) }
+    ensures later { D.fault_count link.old ≤ D.fault_count link.new }
+    ensures slack { D.slack link.new ≡ D.slack link.old }
+    ensures ties { D.ties link.new ≡ D.ties link.old }
+{
+    let word = link.dtmcs()?;
+    if !has_transport(word) {
+        return Err(ConnectFault::Dtm(word));
+    }
+    Ok(())
+}
+
+/// Writes dmactive, and reads it until it is 1.
+fn activate<D: Dmi>(link: &mut D) -> Result<(), ConnectFault>
+    requires alive { D.is_alive link.old ≡ true }
+    requires link { CanOperate (D.far link.old) }
+    ensures did { OnOk result (Activated (tells (D.far link.old) (D.script link.old)) (tells (D.far link.new) (D.script link.new))) }
+    ensures fails { IfErr result (ActivationFails (D.fault_count link.old) (D.fault_count link.new) (tells (D.far link.old) (D.script link.old)) (tells (D.far link.new) (D.script link.new))) }
+    ensures stream { IfErr result (IfOpeningDmi (LeavesStream (D.far link.new))) }
+    ensures link { OnOk result (CanOperate (D.far link.new)) }
+    ensures live { OnOk result (IsLive (D.far link.new)) }
+    ensures idle { OnOk result (IsIdle (D.far link.new)) }
+    ensures alive { OnOk result (D.is_alive link.new ≡ true) }
+    ensures dead { IfErr result (IfOpeningDmi (λ _. D.is_alive link.new ≡ false)) }
+    ensures stays_alive { IfErr result (UnlessOpeningDmi (D.is_alive link.new ≡ true)) }
+    ensures stays_link { IfErr result (UnlessOpeningDmi (CanOperate (D.far link.new))) }
+    ensures later { D.fault_count link.old ≤ D.fault_count link.new }
+    ensures slack { D.slack link.new ≡ D.slack link.old }
+    ensures ties { D.ties link.new ≡ D.ties link.old }
+{
+    control(link, 0, Request::Nothing)?;
+    let mut last = 0;
+    'reads: for _reads in 0..READS_MOST {
+        let word = link.read(DMCONTROL)?;
+        if Dmcontrol::from_word(word).dmactive {
+            return Ok(());
+        }
+        last = word;
+    }
+    Err(ConnectFault::Module(last, true))
+}
+
+/// Reads `dmstatus`.
+fn check_module<D: Dmi>(link: &mut D) -> Result<(), ConnectFault>
+    requires alive { D.is_alive link.old ≡ true }
+    requires link { CanOperate (D.far link.old) }
+    ensures did { OnOk result (ModuleFits (tells (D.far link.old) (D.script link.old)) (tells (D.far link.new) (D.script link.new))) }
+    ensures fails { IfErr result (ModuleFails (D.fault_count link.old) (D.fault_count link.new) (tells (D.far link.old) (D.script link.old)) (tells (D.far link.new) (D.script link.new))) }
+    ensures stream { IfErr result (IfOpeningDmi (LeavesStream (D.far link.new))) }
+    ensures link { OnOk result (CanOperate (D.far link.new)) }
+    ensures live { OnOk result (IsLive (D.far link.new)) }
+    ensures idle { OnOk result (IsIdle (D.far link.new)) }
+    ensures alive { OnOk result (D.is_alive link.new ≡ true) }
+    ensures dead { IfErr result (IfOpeningDmi (λ _. D.is_alive link.new ≡ false)) }
+    ensures stays_alive { IfErr result (UnlessOpeningDmi (D.is_alive link.new ≡ true)) }
+    ensures stays_link { IfErr result (UnlessOpeningDmi (CanOperate (D.far link.new))) }
+    ensures later { D.fault_count link.old ≤ D.fault_count link.new }
+    ensures slack { D.slack link.new ≡ D.slack link.old }
+    ensures ties { D.ties link.new ≡ D.ties link.old }
+{
+    let word = look(link)?;
+    if !has_module(word) {
+        return Err(ConnectFault::Module(word, false));
+    }
+    Ok(())
+}
+
+/// Reads `abstractcs`, clears its errors, and writes `abstractauto`.
+fn check_commands<D: Dmi>(link: &mut D) -> Result<(), ConnectFault>
+    requires alive { D.is_alive link.old ≡ true }
+    requires link { CanOperate (D.far link.old) }
+    ensures did { OnOk result (Then CommandsFit CommandsCleared (tells (D.far link.old) (D.script link.old)) (tells (D.far link.new) (D.script link.new))) }
+    ensures fails { IfErr result (CommandsFail (D.fault_count link.old) (D.fault_count link.new) (tells (D.far link.old) (D.script link.old)) (tells (D.far link.new) (D.script link.new))) }
+    ensures stream { IfErr result (IfOpeningDmi (LeavesStream (D.far link.new))) }
+    ensures link { OnOk result (CanOperate (D.far link.new)) }
+    ensures live { OnOk result (IsLive (D.far link.new)) }
+    ensures idle { OnOk result (IsIdle (D.far link.new)) }
+    ensures alive { OnOk result (D.is_alive link.new ≡ true) }
+    ensures dead { IfErr result (IfOpeningDmi (λ _. D.is_alive link.new ≡ false)) }
+    ensures stays_alive { IfErr result (UnlessOpeningDmi (D.is_alive link.new ≡ true)) }
+    ensures stays_link { IfErr result (UnlessOpeningDmi (CanOperate (D.far link.new))) }
+    ensures later { D.fault_count link.old ≤ D.fault_count link.new }
+    ensures slack { D.slack link.new ≡ D.slack link.old }
+    ensures ties { D.ties link.new ≡ D.ties link.old }
+{
+    let word = link.read(ABSTRACTCS)?;
+    if !has_commands(word) {
+        return Err(ConnectFault::Abstract(word));
+    }
+    link.write(ABSTRACTCS, cleared_cmderr())?;
+    link.write(ABSTRACTAUTO, no_autoexec())?;
+    Ok(())
+}
+
+/// Reads `sbcs`, and clears its errors.
+fn check_bus<D: Dmi>(link: &mut D) -> Result<(), ConnectFault>
+    requires alive { D.is_alive link.old ≡ true }
+    requires link { CanOperate (D.far link.old) }
+    ensures did { OnOk result (Then BusFits BusCleared (tells (D.far link.old) (D.script link.old)) (tells (D.far link.new) (D.script link.new))) }
+    ensures fails { IfErr result (BusFails (D.fault_count link.old) (D.fault_count link.new) (tells (D.far link.old) (D.script link.old)) (tells (D.far link.new) (D.script link.new))) }
+    ensures stream { IfErr result (IfOpeningDmi (LeavesStream (D.far link.new))) }
+    ensures link { OnOk result (CanOperate (D.far link.new)) }
+    ensures live { OnOk result (IsLive (D.far link.new)) }
+    ensures idle { OnOk result (IsIdle (D.far link.new)) }
+    ensures alive { OnOk result (D.is_alive link.new ≡ true) }
+    ensures dead { IfErr result (IfOpeningDmi (λ _. D.is_alive link.new ≡ false)) }
+    ensures stays_alive { IfErr result (UnlessOpeningDmi (D.is_alive link.new ≡ true)) }
+    ensures stays_link { IfErr result (UnlessOpeningDmi (CanOperate (D.far link.new))) }
+    ensures later { D.fault_count link.old ≤ D.fault_count link.new }
+    ensures slack { D.slack link.new ≡ D.slack link.old }
+    ensures ties { D.ties link.new ≡ D.ties link.old }
+{
+    let word = link.read(SBCS)?;
+    if !has_bus(word) {
+        return Err(ConnectFault::Bus(word));
+    }
+    link.write(SBCS, cleared_sberror())?;
+    Ok(())
+}
+
+/// Opens a chip: the transport and the parts of the debug module are as the probe needs them, the module works, and its errors are cleared.
+///
+/// `dtmcs` is read first (`Dtm`); dmactive is written 1 and read until it is 1, at most 64 times, and `dmstatus` is read once, which is a Look of
+/// hart 0 (`Module`); `abstractcs` is read (`Abstract`), its errors are cleared, and no word starts a command again; `sbcs` is read (`Bus`), and
+/// its errors are cleared. Each of these faults has the register as it was read.
+pub fn connect<D: Dmi>(link: &mut D) -> Result<Target, ConnectFault>
+    requires alive { D.is_alive link.old ≡ true }
+    requires link { CanOperate (D.far link.old) }
+    ensures did { OnOk result (Opened (tells (D.far link.old) (D.script link.old)) (tells (D.far link.new) (D.script link.new))) }
+    ensures fails { IfErr result (ConnectFails (D.fault_count link.old) (D.fault_count link.new) (tells (D.far link.old) (D.script link.old)) (tells (D.far link.new) (D.script link.new))) }
+    ensures loaded { OnOk result (OpensLoaded (D.far link.old) (D.far link.new)) }
+    ensures lost { IfErr result (LosesLoaded (D.far link.old) (D.far link.new)) }
+    ensures stream { IfErr result (IfOpeningDmi (LeavesStream (D.far link.new))) }
+    ensures link { OnOk result (CanOperate (D.far link.new)) }
+    ensures live { OnOk result (IsLive (D.far link.new)) }
+    ensures idle { OnOk result (IsIdle (D.far link.new)) }
+    ensures alive { OnOk result (D.is_alive link.new ≡ true) }
+    ensures dead { IfErr result (IfOpeningDmi (λ _. D.is_alive link.new ≡ false)) }
+    ensures stays_alive { IfErr result (UnlessOpeningDmi (D.is_alive link.new ≡ true)) }
+    ensures stays_link { IfErr result (UnlessOpeningDmi (CanOperate (D.far link.new))) }
+    ensures later { D.fault_count link.old ≤ D.fault_count link.new }
+    ensures slack { D.slack link.new ≡ D.slack link.old }
+    ensures ties { D.ties link.new ≡ D.ties link.old }
+{
+    check_transport(link)?;
+    activate(link)?;
+    check_module(link)?;
+    check_commands(link)?;
+    check_bus(link)?;
+    Ok(opened())
+}
