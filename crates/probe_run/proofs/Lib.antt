@@ -22,6 +22,7 @@ pub mod HartControl
 pub mod Halting
 pub mod Resuming
 pub mod Looking
+pub mod OpenedReady
 pub mod OpeningLemmas
 pub mod Fresh
 pub mod OpeningFails

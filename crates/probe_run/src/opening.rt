@@ -2,7 +2,7 @@
 
 ghost use Rattle.std.specs.Prelude.{◌≡◌, ◌≤◌, ◌∷◌, [], true, false, IfOk, IfErr, OnErr, OnOk};
 ghost use Rattle.debug_model.specs.Dmi.{CanOperate, LeavesStream};
-ghost use Rattle.debug_model.specs.Told.{IsIdle, IsLive};
+ghost use Rattle.debug_model.specs.Told.{IsAsLoaded, IsIdle, IsLive, IsReady, Selects};
 ghost use Rattle.debug_model.specs.ModuleWords.{abstractcs_of, dmstatus_of, sbcs_of};
 ghost use Rattle.debug_model.specs.TransportWords.{dtmcs_of};
 ghost use Rattle.probe_run.specs.Acts.{tells};
@@ -247,6 +247,8 @@ pub fn connect<D: Dmi>(link: &mut D) -> Result<Target, ConnectFault>
     ensures did { OnOk result (Opened (tells (D.far link.old) (D.script link.old)) (tells (D.far link.new) (D.script link.new))) }
     ensures fails { IfErr result (ConnectFails (D.fault_count link.old) (D.fault_count link.new) (tells (D.far link.old) (D.script link.old)) (tells (D.far link.new) (D.script link.new))) }
     ensures loaded { OnOk result (OpensLoaded (D.far link.old) (D.far link.new)) }
+    ensures ready { OnOk result (IsAsLoaded (D.far link.old) → IsReady (D.far link.new)) }
+    ensures selects { OnOk result (IsAsLoaded (D.far link.old) → Selects 0 (D.far link.new)) }
     ensures lost { IfErr result (LosesLoaded (D.far link.old) (D.far link.new)) }
     ensures stream { IfErr result (IfOpeningDmi (LeavesStream (D.far link.new))) }
     ensures link { OnOk result (CanOperate (D.far link.new)) }

@@ -3,6 +3,7 @@ use Rattle.probe_run.specs.Acts.{tells}
 use Rattle.probe_run.specs.Opening.{ConnectFails, LosesLoaded}
 use Rattle.probe_run.proofs.ActLemmas.{if_err}
 use Rattle.probe_run.proofs.LoadedCalls.{loses_loaded, opens_loaded}
+use Rattle.probe_run.proofs.OpenedReady.{opened_ready, opened_selects}
 use Rattle.probe_run.proofs.OpeningFails.{activation_fails, bus_fails, commands_fail, module_fails, transport_fails}
 use Rattle.probe_run.proofs.opening.connect.Goals as goal
 
@@ -61,3 +62,9 @@ returns-clause-did g c = (record { mid = (tells (g.D.Dmi.far c.check_commands.ne
 
 pub returns-clause-loaded : goal.returns-clause-loaded
 returns-clause-loaded g c = opens_loaded (tells (g.D.Dmi.far c.args.link.now) (g.D.Dmi.script c.args.link.now)) (tells (g.D.Dmi.far c.check_bus.new.link) (g.D.Dmi.script c.check_bus.new.link)) (record { mid = (tells (g.D.Dmi.far c.check_commands.new.link) (g.D.Dmi.script c.check_commands.new.link)); first = (record { mid = (tells (g.D.Dmi.far c.check_module.new.link) (g.D.Dmi.script c.check_module.new.link)); first = (record { mid = (tells (g.D.Dmi.far c.activate.new.link) (g.D.Dmi.script c.activate.new.link)); first = (record { mid = (tells (g.D.Dmi.far c.check_transport.new.link) (g.D.Dmi.script c.check_transport.new.link)); first = c.in_ok-check_transport.ensures.did; second = c.in_ok-activate.ensures.did }); second = c.in_ok-check_module.ensures.did }); second = c.in_ok-check_commands.ensures.did }); second = c.in_ok-check_bus.ensures.did })
+
+pub returns-clause-ready : goal.returns-clause-ready
+returns-clause-ready g c = opened_ready (tells (g.D.Dmi.far c.args.link.now) (g.D.Dmi.script c.args.link.now)) (tells (g.D.Dmi.far c.check_bus.new.link) (g.D.Dmi.script c.check_bus.new.link)) (record { mid = (tells (g.D.Dmi.far c.check_commands.new.link) (g.D.Dmi.script c.check_commands.new.link)); first = (record { mid = (tells (g.D.Dmi.far c.check_module.new.link) (g.D.Dmi.script c.check_module.new.link)); first = (record { mid = (tells (g.D.Dmi.far c.activate.new.link) (g.D.Dmi.script c.activate.new.link)); first = (record { mid = (tells (g.D.Dmi.far c.check_transport.new.link) (g.D.Dmi.script c.check_transport.new.link)); first = c.in_ok-check_transport.ensures.did; second = c.in_ok-activate.ensures.did }); second = c.in_ok-check_module.ensures.did }); second = c.in_ok-check_commands.ensures.did }); second = c.in_ok-check_bus.ensures.did })
+
+pub returns-clause-selects : goal.returns-clause-selects
+returns-clause-selects g c = opened_selects (tells (g.D.Dmi.far c.args.link.now) (g.D.Dmi.script c.args.link.now)) (tells (g.D.Dmi.far c.check_bus.new.link) (g.D.Dmi.script c.check_bus.new.link)) (record { mid = (tells (g.D.Dmi.far c.check_commands.new.link) (g.D.Dmi.script c.check_commands.new.link)); first = (record { mid = (tells (g.D.Dmi.far c.check_module.new.link) (g.D.Dmi.script c.check_module.new.link)); first = (record { mid = (tells (g.D.Dmi.far c.activate.new.link) (g.D.Dmi.script c.activate.new.link)); first = (record { mid = (tells (g.D.Dmi.far c.check_transport.new.link) (g.D.Dmi.script c.check_transport.new.link)); first = c.in_ok-check_transport.ensures.did; second = c.in_ok-activate.ensures.did }); second = c.in_ok-check_module.ensures.did }); second = c.in_ok-check_commands.ensures.did }); second = c.in_ok-check_bus.ensures.did })

@@ -1,0 +1,13 @@
+//! Tests of the probe's layers over a chip on its bench: wire, scans, operations, run control and accesses together.
+//!
+//! They stand in a crate of their own, above the chip and above the probe, which know nothing of one another.
+#![tactic(auto)]
+
+#[cfg(test)]
+mod accesses;
+#[cfg(test)]
+mod fault;
+#[cfg(test)]
+mod operations;
+#[cfg(test)]
+mod run_control;
