@@ -142,9 +142,11 @@ printed_after commands old new unread script before after so sn (Wire fault) f c
       put = c.printed ∙ ap (λ text. grown text before) (numbers_text old c.numbers c.count f c.is);
     }
 printed_after commands old new unread script before after so sn Sink f c cause =
-    let front = text_front commands c.count c.most in
-    (grew_more (text_of_numbers (replicate c.count idcode)) front.0 (text_printed commands) before after front.1
-        (subst (λ text. GrewByPrefix text before after) (numbers_text old c.numbers c.count f c.is) c.printed), cause)
+    let front = text_front commands c.count c.most in (
+      grew_more (text_of_numbers (replicate c.count idcode)) front.0 (text_printed commands) before after front.1
+          (subst (λ text. GrewByPrefix text before after) (numbers_text old c.numbers c.count f c.is) c.printed),
+      cause,
+    )
 
 -- ---- the chip that is left
 

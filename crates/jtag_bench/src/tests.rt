@@ -126,7 +126,9 @@ fn runs_over_memory(rt: HostRuntime) -> Result<(), Fail> {
             "image refused: fault 3\n",
         ),
         (
-            &["both", "--image", "i", "--script", "s", "--harts", "0", "--ram", "1"],
+            &[
+                "both", "--image", "i", "--script", "s", "--harts", "0", "--ram", "1",
+            ],
             b"",
             b"idcode",
             NO_FAILURE,
@@ -243,11 +245,18 @@ fn an_image_fits_into_ram_or_is_refused(rt: HostRuntime) -> Result<(), Fail> {
 #[test]
 fn rounds_pass_while_the_idcode_is_read(rt: HostRuntime) -> Result<(), Fail> {
     let alloc = rt.alloc();
-    let cases: [(&str, &str, u32, u32); 3] = [("1", "1", 43, 43), ("4", "1", 172, 172), ("1", "2", 21, 22)];
+    let cases: [(&str, &str, u32, u32); 3] = [
+        ("1", "1", 43, 43),
+        ("4", "1", 172, 172),
+        ("1", "2", 21, 22),
+    ];
     for (harts, busy, least, most) in cases {
         let words = word_list(
             alloc,
-            &["both", "--image", "i", "--script", "s", "--harts", harts, "--busy", busy, "--piece", "3"],
+            &[
+                "both", "--image", "i", "--script", "s", "--harts", harts, "--busy", busy,
+                "--piece", "3",
+            ],
         )?;
         let mut files = two_files(alloc, PROGRAM, b"idcode", NO_FAILURE)?;
         let mut out = MemorySink::new(alloc, AMPLE, Vec::new(alloc))?;

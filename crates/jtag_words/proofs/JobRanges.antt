@@ -1,12 +1,12 @@
 -- The numbers of a job are within their ranges, whatever the words are.
-use Rattle.std.proofs.Common.{◌≡◌, ℕ, ◌≤◌, ◌&&◌, Bool, true, false, cond, nat_le, List, [], ◌∷◌, Option, Some, None, bytes_eq, codes, refl, sym, ap, subst, arith, Result, Ok, Err, IfOk}
+use Rattle.std.proofs.Common.{◌≡◌, ℕ, ◌&&◌, Bool, true, false, cond, nat_le, List, [], ◌∷◌, Option, Some, None, bytes_eq, codes, refl, ap, subst, arith, Result, Ok, Err, IfOk}
 use Rattle.std.proofs.lemmas.Bool.Decides.{nat_tests}
 use Rattle.std.proofs.lemmas.Option.{none-some, same_Some}
 use Rattle.clap.specs.Words.{Row}
 use Rattle.jtag_words.specs.declared.job.ChipOptions.{ChipOptions}
 use Rattle.jtag_words.specs.declared.job.Job.{Job}
 use Rattle.jtag_words.specs.declared.fault.WordsFault.{WordsFault}
-use Rattle.jtag_words.specs.Job.{Gives, InputsValue, JobValue, Text, both, chip, job_value, probe}
+use Rattle.jtag_words.specs.Job.{Gives, InputsValue, JobValue, Text, job_value}
 use Rattle.jtag_words.specs.Options.{both_command, chip_command, probe_command}
 use Rattle.jtag_words.specs.Words.{◌>>=◌, HasRanges, InRange, both_from, both_in, both_of, busy_unsaid, chip_from, chip_in, chip_of, flag_in, harts_unsaid, inputs_in, job_by, job_of, least_busy, least_piece, most_busy, most_piece, number_in, options_from, options_in, piece_unsaid, probe_from, probe_in, probe_of, ram_unsaid, ranged_in, rows_in, seed_unsaid, value_in, within}
 
@@ -37,7 +37,7 @@ options_range : (rows : List Row) (options : ChipOptions) → options_in rows �
 unfolding options_in
 options_range rows options e = ranged_is rows (codes "busy") busy_unsaid least_busy most_busy options.busy
     (busy_is (number_in rows (codes "harts") harts_unsaid) (number_in rows (codes "ram") ram_unsaid) (number_in rows (codes "seed") seed_unsaid)
-        (ranged_in rows (codes "busy") busy_unsaid least_busy most_busy) (flag_in rows (codes "halted")) options e)
+    (ranged_in rows (codes "busy") busy_unsaid least_busy most_busy) (flag_in rows (codes "halted")) options e)
 
 both_ranges_by : (inputs : Option InputsValue) (options : Option ChipOptions) (piece : Option ℕ) (loopback : Bool) (v : JobValue)
     → ((o : ChipOptions) → options ≡ Some o → InRange least_busy most_busy o.busy) → ((n : ℕ) → piece ≡ Some n → InRange least_piece most_piece n)
