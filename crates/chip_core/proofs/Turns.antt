@@ -19,6 +19,7 @@ use Rattle.debug_model.specs.Signs.{sign_of}
 use Rattle.hart_debug.specs.declared.start.Start.{Start}
 use Rattle.chip_core.specs.Loads.{loaded}
 use Rattle.chip_core.specs.Offered.{RoundsOfferTurns, TurnsOffered, first_rounds, moved_on, offered, offered_by, turns_of}
+use Rattle.debug_model.proofs.Rounds.{busy_rounds, events_rounds}
 use Rattle.chip_core.proofs.Events.{Added, event_adds}
 
 -- ---- schedules
@@ -56,32 +57,7 @@ events_added n (e ∷ es) w here =
     (rw (← here) first)
     (events_added n es (after_event e w) (first.harts ∙ here))
 
-performed_rounds : (o : Option DmiOp) (w : Works) → (performed_by o w).counts.rounds ≡ w.counts.rounds
-performed_rounds (Some op) w = refl
-performed_rounds None w = refl
-
-lost_rounds : (o : Option DmiOp) (w : Works) → (lost_by o w).counts.rounds ≡ w.counts.rounds
-lost_rounds (Some op) w = refl
-lost_rounds None w = refl
-
-event_rounds : (e : Event) (w : Works) → (after_event e w).counts.rounds ≡ w.counts.rounds
-unfolding after_event
-event_rounds (event.Turn h) w = refl
-event_rounds event.DmiDone w = performed_rounds w.dtm.flight w
-event_rounds event.DmiFail w = lost_rounds w.dtm.flight w
-event_rounds event.CmdStep w = refl
-event_rounds event.BusDone w = refl
-
-events_rounds : (es : List Event) (w : Works) → (after_events es w).counts.rounds ≡ w.counts.rounds
-unfolding after_events
-events_rounds [] w = refl
-events_rounds (e ∷ es) w = events_rounds es (after_event e w) ∙ event_rounds e w
-
 -- ---- edges
-
-busy_rounds : (busy : Bool) (c : Counts) → (busy_counted busy c).rounds ≡ c.rounds
-busy_rounds true c = refl
-busy_rounds false c = refl
 
 -- a round of the schedule, whatever clock and port are
 tick_offered : (first : Plan) (tck tck' : Bool) (port port' : Port) (i : Inside) → TurnsOffered first (record { tck = tck; port = port; inside = i })

@@ -91,7 +91,7 @@ site_path i j hs (updated r bits before k c) =
 
 -- ---- no operation, and one
 
-ran-append : (ds es : List Deed) (s : Site) → ran (ds ++ es) s ≡ ran es (ran ds s)
+pub ran-append : (ds es : List Deed) (s : Site) → ran (ds ++ es) s ≡ ran es (ran ds s)
 unfolding ran
 ran-append [] es s = refl
 ran-append (d ∷ ds) es s = ran-append ds es (after_deed d s)

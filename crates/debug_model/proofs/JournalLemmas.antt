@@ -3,14 +3,10 @@ use Rattle.std.proofs.Common.{◌≡◌, ◌∙◌, ℕ, zero, suc, List, [], �
 use Rattle.rv_model.specs.Board.{Board, DebugPart, Hart, Machine, cores, machine_of}
 use Rattle.rv_model.specs.Core.{Core}
 use Rattle.rv_model.proofs.BoardLemmas.{cores-set, slice_get-cores}
+use Rattle.rv_model.proofs.MapLemmas.{set_same}
 use Rattle.rv_model.proofs.TurnLemmas.{turn_forgets_debugging}
 use Rattle.debug_model.specs.Journal.{PointsForgetDebugging, debug_changed, debug_changed_by, halt_requested, resume_asked, with_debug}
 use Rattle.debug_model.specs.declared.point.Point.TheVariants.{Turn, Look, HaltReq, HaltClear, ResumeReq, Access}
-
-set_same : {A : Type 0} (xs : List A) (i : ℕ) (x : A) → slice_get xs i ≡ Some x → set xs i x ≡ xs
-set_same [] i x is = refl
-set_same (y ∷ xs) zero x is = ap (λ z. z ∷ xs) (let e : x ≡ y = cc in e)
-set_same (y ∷ xs) (suc i) x is = ap (λ zs. y ∷ zs) (set_same xs i x is)
 
 changed_by : (o : Option Hart) (change : DebugPart → DebugPart) (h : ℕ) (b : Board) → slice_get b.harts h ≡ o → machine_of (debug_changed_by o change h b) ≡ machine_of b
 changed_by None change h b here = refl

@@ -1,3 +1,5 @@
 pub mod Cuts
 pub mod RegisterLemmas
 pub mod JournalLemmas
+pub mod Rounds
+pub mod HeardLemmas

@@ -12,7 +12,7 @@ use Rattle.debugger_laws.specs.Slots.{over}
 use Rattle.debugger_laws.specs.Transcript.{World, changed, replay, said}
 use Rattle.debugger_laws.specs.Turns.{after_turns, turns}
 use Rattle.debugger_laws.proofs.FrozenLemmas.{changed_hart, hart_change, hart_change-frozen, may_wait}
-use Rattle.debugger_laws.proofs.OverLemmas.{slice_get-over_same}
+use Rattle.debugger_laws.proofs.OverLemmas.{over_twice, slice_get-over_same}
 use Rattle.debugger_laws.proofs.QuietLemmas.{finish-board, taking-board}
 
 -- a replay that stands at a board that is f over another one, and what it ends at
@@ -20,11 +20,6 @@ record Ends (n : Option ℕ) (h : ℕ) (b : Board) (harts : List ℕ) (end : Boa
   f : Hart → Hart
   written : (x : Hart) → IsWritten n x.core (f x).core
   is : end ≡ hart_over f h (after_turns harts b)
-
-over_twice : (f g : Hart → Hart) (h : ℕ) (hs : List Hart) → over h g (over h f hs) ≡ over h (λ x. g (f x)) hs
-over_twice f g h [] = refl
-over_twice f g zero (x ∷ xs) = refl
-over_twice f g (suc h) (x ∷ xs) = ap (λ (l : List Hart). x ∷ l) (over_twice f g h xs)
 
 over_id : (h : ℕ) (hs : List Hart) → over h (λ x. x) hs ≡ hs
 over_id h [] = refl

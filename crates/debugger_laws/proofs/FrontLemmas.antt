@@ -42,9 +42,9 @@ finish-lines end w (Access ∷ j) = refl
 front_of_same : (xs ys : List Line) → ys ≡ xs → IsFront xs ys
 front_of_same xs ys is = record { rest = []; is = is ∙ sym (append-nil xs) }
 
-either-cut : (b : Bool) (x y x' y' : Outcome) → IsFront x.world.lines x'.world.lines → IsFront y.world.lines y'.world.lines → IsFront (if b then x else y).world.lines (if b then x' else y').world.lines
-either-cut true x y x' y' fx fy = fx
-either-cut false x y x' y' fx fy = fy
+pub either-fronts : (b : Bool) (x y x' y' : Outcome) → IsFront x.world.lines x'.world.lines → IsFront y.world.lines y'.world.lines → IsFront (if b then x else y).world.lines (if b then x' else y').world.lines
+either-fronts true x y x' y' fx fy = fx
+either-fronts false x y x' y' fx fy = fy
 
 abbrev CutAt : (World → List Point → Outcome) → List Point → Type 0
 CutAt next more = (w : World) (j : List Point) → IsFront (next w j).world.lines (next w (j ++ more)).world.lines
@@ -56,11 +56,11 @@ taking-cut p next more goes grows w [] =
     compose : (xs ys zs : List Line) → IsFront xs ys → IsFront ys zs → IsFront xs zs
     compose xs ys zs f g = record { rest = f.rest ++ g.rest; is = g.is ∙ ap (λ (l : List Line). l ++ g.rest) f.is ∙ append_assoc xs f.rest g.rest }
 taking-cut p next more goes grows w (Turn h ∷ j) = taking-cut p next more goes grows (passed (Turn h) w) j
-taking-cut p next more goes grows w (Look n ∷ j) = either-cut (same_point p (Look n)) _ _ _ _ (goes (passed (Look n) w) j) (front_same w.lines)
-taking-cut p next more goes grows w (HaltReq h ∷ j) = either-cut (same_point p (HaltReq h)) _ _ _ _ (goes (passed (HaltReq h) w) j) (front_same w.lines)
-taking-cut p next more goes grows w (HaltClear h ∷ j) = either-cut (same_point p (HaltClear h)) _ _ _ _ (goes (passed (HaltClear h) w) j) (front_same w.lines)
-taking-cut p next more goes grows w (ResumeReq h ∷ j) = either-cut (same_point p (ResumeReq h)) _ _ _ _ (goes (passed (ResumeReq h) w) j) (front_same w.lines)
-taking-cut p next more goes grows w (Access ∷ j) = either-cut (same_point p Access) _ _ _ _ (goes (passed Access w) j) (front_same w.lines)
+taking-cut p next more goes grows w (Look n ∷ j) = either-fronts (same_point p (Look n)) _ _ _ _ (goes (passed (Look n) w) j) (front_same w.lines)
+taking-cut p next more goes grows w (HaltReq h ∷ j) = either-fronts (same_point p (HaltReq h)) _ _ _ _ (goes (passed (HaltReq h) w) j) (front_same w.lines)
+taking-cut p next more goes grows w (HaltClear h ∷ j) = either-fronts (same_point p (HaltClear h)) _ _ _ _ (goes (passed (HaltClear h) w) j) (front_same w.lines)
+taking-cut p next more goes grows w (ResumeReq h ∷ j) = either-fronts (same_point p (ResumeReq h)) _ _ _ _ (goes (passed (ResumeReq h) w) j) (front_same w.lines)
+taking-cut p next more goes grows w (Access ∷ j) = either-fronts (same_point p Access) _ _ _ _ (goes (passed Access w) j) (front_same w.lines)
 
 pub cut_lines : CutLinesAreAFront
 unfolding replay

@@ -17,7 +17,8 @@ use Rattle.debugger_laws.specs.Plan.Change.{WriteReg, WriteMem, ArmSlot, FreeSlo
 use Rattle.debugger_laws.specs.Slots.{hits_forgotten, over, with_slots}
 use Rattle.debugger_laws.specs.Turns.{after_turns}
 use Rattle.debugger_laws.proofs.HartLemmas.{frozen_place}
-use Rattle.debugger_laws.proofs.OverLemmas.{over_none, set_same, slice_get-over_same, slice_get-over_other}
+use Rattle.debugger_laws.proofs.OverLemmas.{over_none, slice_get-over_same, slice_get-over_other}
+use Rattle.rv_model.proofs.MapLemmas.{set_same}
 
 -- ---- its own turn
 

@@ -27,17 +27,13 @@ use Rattle.debugger_laws.specs.Slots.{any_hit, first_free, slots_at}
 use Rattle.debugger_laws.specs.Slots.Use.{Armed, Unused}
 use Rattle.debugger_laws.specs.Trace.{What}
 use Rattle.debugger_laws.specs.Transcript.{Outcome, World, changed, passed, replay, said, same_point, start, taking}
-use Rattle.debugger_laws.proofs.FrontLemmas.{finish-lines, front_same, lines_grow}
+use Rattle.debugger_laws.proofs.FrontLemmas.{either-fronts, finish-lines, front_same, lines_grow}
 
 -- along every journal, the first plan's lines are the front of the second's
 record Fronts (p q : Plan) : Type 0 where
   goes : (w : World) (j : List Point) → IsFront (replay p w j).world.lines (replay q w j).world.lines
 
 -- ---- the five constructors
-
-either-fronts : (b : Bool) (x y x' y' : Outcome) → IsFront x.world.lines x'.world.lines → IsFront y.world.lines y'.world.lines → IsFront (if b then x else y).world.lines (if b then x' else y').world.lines
-either-fronts true x y x' y' fx fy = fx
-either-fronts false x y x' y' fx fy = fy
 
 taking-fronts : (q : Point) (next more : Plan) → Fronts next more → (w : World) (j : List Point) → IsFront (taking q (replay next) w j).world.lines (taking q (replay more) w j).world.lines
 taking-fronts q next more f w [] = front_same w.lines

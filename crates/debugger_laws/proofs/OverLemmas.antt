@@ -19,11 +19,6 @@ slice_get-set_here [] i x v is = absurd (cc)
 slice_get-set_here (y ∷ xs) zero x v is = refl
 slice_get-set_here (y ∷ xs) (suc i) x v is = slice_get-set_here xs i x v is
 
-pub set_same : {A : Type 0} (xs : List A) (i : ℕ) (x : A) → slice_get xs i ≡ Some x → set xs i x ≡ xs
-set_same [] i x is = refl
-set_same (y ∷ xs) zero x is = ap (λ z. z ∷ xs) (let e : x ≡ y = cc in e)
-set_same (y ∷ xs) (suc i) x is = ap (λ zs. y ∷ zs) (set_same xs i x is)
-
 -- a place that is written with what f makes of it
 pub set-over : {A : Type 0} (f : A → A) (xs : List A) (i : ℕ) (x : A) → slice_get xs i ≡ Some x → set xs i (f x) ≡ over i f xs
 set-over f [] i x is = refl
@@ -34,3 +29,9 @@ pub over_none : {A : Type 0} (f : A → A) (xs : List A) (i : ℕ) → slice_get
 over_none f [] i is = refl
 over_none f (y ∷ xs) zero is = absurd (cc)
 over_none f (y ∷ xs) (suc i) is = ap (λ zs. y ∷ zs) (over_none f xs i is)
+
+-- two changes at one place are one
+pub over_twice : {A : Type 0} (f g : A → A) (h : ℕ) (xs : List A) → over h g (over h f xs) ≡ over h (λ x. g (f x)) xs
+over_twice f g h [] = refl
+over_twice f g zero (x ∷ xs) = refl
+over_twice f g (suc h) (x ∷ xs) = ap (λ zs. x ∷ zs) (over_twice f g h xs)

@@ -3,20 +3,16 @@ use Rattle.std.proofs.Common.{◌≡◌, ◌∙◌, ◌≤◌, ◌<◌, ◌+◌,
 use Rattle.std.specs.Prelude.{◌==◌, nat_lt}
 use Rattle.std.proofs.lemmas.Bool.{cases_eq, cases_lt, eq-eqb, ne_eqb, eqb-true, lt-ltb, false≢true, or_from, false_from_ne_true}
 use Rattle.std.proofs.Math.Bool.{and-false, or-false}
-use Rattle.rv_model.specs.declared.insn.Insn.{Insn}
-use Rattle.rv_model.specs.declared.insn.Insn.TheVariants.{Lb}
-use Rattle.rv_model.specs.declared.mem_fault.MemFault.{MemFault}
-use Rattle.rv_model.specs.declared.size.Size.TheVariants.{B4}
 use Rattle.rv_model.specs.declared.slot.Comparison.TheVariants.{Equal}
 use Rattle.rv_model.specs.declared.slot.Slot.{Slot}
 use Rattle.rv_model.specs.declared.slot.Trigger.{Trigger}
 use Rattle.rv_model.specs.declared.slot.Trigger.TheVariants as kind
 use Rattle.rv_model.specs.declared.touch.Touch.{Touch}
 use Rattle.rv_model.specs.Core.{Core}
-use Rattle.rv_model.specs.Memory.{Memory, loaded}
-use Rattle.rv_model.specs.Rows.{meaning}
-use Rattle.rv_model.specs.Touch.{touch, touch_fetched, touch_meant, touch_of}
+use Rattle.rv_model.specs.Memory.{Memory}
+use Rattle.rv_model.specs.Touch.{touch_of}
 use Rattle.rv_model.specs.Triggers.{access_compares, slot_counted, slot_fires, slot_marked, trigger_counted, trigger_fires, trigger_hit}
+use Rattle.rv_model.proofs.TouchLemmas.{touch_of-pc}
 use Rattle.debug_model.specs.declared.command.WatchKind.TheVariants.{Load, Store, Access}
 use Rattle.debugger_laws.specs.FirstMatch.{armed_matches, has_here, matches}
 use Rattle.debugger_laws.specs.Slots.{armed_for, freed, trigger_back, trigger_forgotten, trigger_has_hit, trigger_held, with_trigger}
@@ -24,30 +20,12 @@ use Rattle.debugger_laws.specs.Trace.{What}
 use Rattle.debugger_laws.specs.Trace.What.{Break, Watch, Count}
 use Rattle.debugger_laws.specs.Ways.{HasRunDown, IsAt, IsSlotFor, Like, trigger_like}
 
--- ---- what an instruction touches stands at its pc
-
-touch-pc_insn : (insn : Insn) (c : Core) → (touch insn c).pc ≡ c.pc
-touch-pc_insn (Lb p) c = refl
-touch-pc_insn _ c = refl
-
-touch-pc_meant : (o : Option Insn) (c : Core) → (touch_meant o c).pc ≡ c.pc
-touch-pc_meant (Some insn) c = touch-pc_insn insn c
-touch-pc_meant None c = refl
-
-touch-pc_fetched : (r : Result ℕ MemFault) (c : Core) → (touch_fetched r c).pc ≡ c.pc
-touch-pc_fetched (Ok w) c = touch-pc_meant (meaning w) c
-touch-pc_fetched (Err fault) c = refl
-
-pub touch-pc : (c : Core) (m : Memory) → (touch_of c m).pc ≡ c.pc
-unfolding touch_of
-touch-pc c m = touch-pc_fetched (loaded m c.pc B4) c
-
 -- ---- when it fires
 
 trigger-fires : (c : Core) (mem : Memory) (m hit : Bool) (what : What) (n : ℕ) (st : Bool) (tdata2 : ℕ) → IsAt what tdata2
     → trigger_fires (trigger_like m hit what n st) tdata2 (touch_of c mem) ≡ (m && matches what c mem n st)
 trigger-fires c mem m hit (Break a) n st tdata2 at =
-    ap (λ b. m && b) (or-false ((touch_of c mem).pc == tdata2) ∙ ap (λ p. p == tdata2) (touch-pc c mem) ∙ ap (λ t. c.pc == t) at)
+    ap (λ b. m && b) (or-false ((touch_of c mem).pc == tdata2) ∙ ap (λ p. p == tdata2) (touch_of-pc c mem) ∙ ap (λ t. c.pc == t) at)
 trigger-fires c mem m hit (Watch Load a) n st tdata2 at =
     ap (λ b. m && b) (or-false (access_compares Equal tdata2 (touch_of c mem).load) ∙ ap (λ t. access_compares Equal t (touch_of c mem).load) at)
 trigger-fires c mem m hit (Watch Store a) n st tdata2 at = ap (λ t. m && access_compares Equal t (touch_of c mem).store) at

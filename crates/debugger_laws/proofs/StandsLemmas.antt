@@ -17,6 +17,7 @@ use Rattle.debugger_laws.specs.Plan.{Change, Plan, PlanEnd, changed_board, hart_
 use Rattle.debugger_laws.specs.Plan.Plan.{take, see, change, say, stop}
 use Rattle.debugger_laws.specs.Slots.{over}
 use Rattle.debugger_laws.specs.Stands.{Cut, CutWith, IsTranscribed, Left, Looked, Origin, Pointed, PointedWith, Rewrote, Stands, Target, WentOn}
+use Rattle.debugger_laws.proofs.OverLemmas.{over_twice}
 use Rattle.debugger_laws.specs.Transcript.{End, Outcome, World, changed, finish, graded, passed, replay, said, same_point, start, taking, trace}
 use Rattle.debugger_laws.specs.Turns.{after_turns, turns}
 use Rattle.debugger_laws.proofs.CutLemmas.{cut_boards}
@@ -304,11 +305,6 @@ rewrote_then f g h first second third frozen keeps a b = record {
   where
     still_frozen : (h : ℕ) (b : Board) (harts : List ℕ) → IsFrozenAt h b → IsFrozenAt h (after_turns harts b)
     still_frozen h b harts frozen x is = frozen x (sym (stays_same h b harts frozen) ∙ is)
-
-    over_twice : (f g : Hart → Hart) (h : ℕ) (hs : List Hart) → over h g (over h f hs) ≡ over h (λ x. g (f x)) hs
-    over_twice f g h [] = refl
-    over_twice f g zero (x ∷ xs) = refl
-    over_twice f g (suc h) (x ∷ xs) = ap (λ (l : List Hart). x ∷ l) (over_twice f g h xs)
 
     over_both : (f g : Hart → Hart) (h : ℕ) (b : Board) → hart_over g h (hart_over f h b) ≡ hart_over (λ x. g (f x)) h b
     over_both f g h b = ap (λ (hs : List Hart). let c : Board = record { harts = hs; memory = b.memory } in c) (over_twice f g h b.harts)

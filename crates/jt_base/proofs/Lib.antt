@@ -1,3 +1,4 @@
 pub mod BitLists
+pub mod FaultLemmas
 pub mod Fronts
 pub mod Pieces

@@ -1,6 +1,8 @@
 -- What was heard of scripted scans: the scans of an operation so far, and where a bad answer stood.
 use Rattle.std.proofs.Common.{◌≡◌, ◌≢◌, ◌∙◌, ◌⊎◌, ◌+◌, ◌<◌, ◌≤◌, ℕ, zero, suc, List, [], ◌∷◌, ◌++◌, Bool, true, false, map, Option, Some, None, IfSome, option_map, refl, sym, ap, subst, arith, inl, inr, append_assoc, Result, Ok, Err, IfErr, IsErrAnd}
+use Rattle.jt_base.proofs.FaultLemmas.{rises_from}
 use Rattle.jt_base.specs.Faults.{Rises}
+use Rattle.debug_model.proofs.HeardLemmas.{wrong_behind}
 use Rattle.debug_model.specs.declared.dmi.DmiFault.{DmiFault}
 use Rattle.debug_model.specs.declared.dmi.DmiFault.TheVariants.{Wire}
 use Rattle.debug_model.specs.declared.dmi_scan.DmiScan.{DmiScan}
@@ -140,17 +142,6 @@ heard_busy n taken (Some script) mid many s = record { taken = taken; outs = s.o
 abbrev pub Through : Option Script → Option Script → Type 0
 Through old new = (b : ℕ) → IfSome new (WrongIn b) → IfSome old (WrongIn b)
 
-wrong_behind : (b : ℕ) (out : List Bool) (bytes rest : List ℕ) → bytes ≡ map answer_byte out ++ rest → CameWrong b rest → CameWrong b bytes
-wrong_behind b out bytes rest is w = record {
-  good = out ++ w.good;
-  rest = w.rest;
-  is = is ∙ ap (λ xs. map answer_byte out ++ xs) w.is ∙ sym (append_assoc (map answer_byte out) (map answer_byte w.good) (b ∷ w.rest)) ∙ ap (λ xs. xs ++ b ∷ w.rest) (sym (map_two out w.good));
-}
-  where
-    map_two : (xs ys : List Bool) → map answer_byte (xs ++ ys) ≡ map answer_byte xs ++ map answer_byte ys
-    map_two [] ys = refl
-    map_two (x ∷ xs) ys = ap (λ zs. answer_byte x ∷ zs) (map_two xs ys)
-
 took_through : (b : ℕ) (out : List Bool) (s : Script) (new : Option Script) → TookOut out s new → IfSome new (WrongIn b) → WrongIn b s
 took_through b out (Numbers numbers) new t w = subst (λ m. IfSome m (WrongIn b)) t.4 w
 took_through b out (Answers bytes) new t w = wrong_behind b out bytes t.0 t.1 (subst (λ m. IfSome m (WrongIn b)) t.2 w)
@@ -169,11 +160,8 @@ dmi_through out (Some script) new h b w = took_through b h.bits script new h.too
 
 -- ---- causes
 
-pub rises_back : (old mid new : ℕ) → old ≤ mid → mid ≤ new → Rises mid new → Rises old new
-rises_back old mid new e f r = λ small. grind (arith, r)
-
 end_back : (old mid new : ℕ) (told : Option Far) → old ≤ mid → mid ≤ new → EndCause mid new told → EndCause old new told
-end_back old mid new told e f (inl r) = inl (rises_back old mid new e f r)
+end_back old mid new told e f (inl r) = inl (rises_from old mid new e f r)
 end_back old mid new told e f (inr m) = inr m
 
 bad_back : (b : ℕ) (told : Option Far) (old mid : Option Script) → Through old mid → BadCause b told mid → BadCause b told (scanned_script (option_map Scans old))
@@ -182,8 +170,8 @@ bad_back b told (Some s) mid through c = (c.0, c.1, c.2, through b c.3)
 
 pub scan_cause : (old mid new : ℕ) (told : Option Far) (before script : Option Script) (fault : WireFault) → old ≤ mid → mid ≤ new → Through before script → ScanCause mid new told script fault
     → ScanCause old new told (scanned_script (option_map Scans before)) fault
-scan_cause old mid new told before script SendFailed e f through c = rises_back old mid new e f c
-scan_cause old mid new told before script RecvFailed e f through c = rises_back old mid new e f c
+scan_cause old mid new told before script SendFailed e f through c = rises_from old mid new e f c
+scan_cause old mid new told before script RecvFailed e f through c = rises_from old mid new e f c
 scan_cause old mid new told before script Ended e f through c = end_back old mid new told e f c
 scan_cause old mid new told before script (BadAnswer b) e f through c = bad_back b told before script through c
 

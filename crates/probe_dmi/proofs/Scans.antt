@@ -1,5 +1,6 @@
 -- Scans of a register laid end to end: the rounds of a reset and of an instruction's path go before those of the scan.
 use Rattle.std.proofs.Common.{◌≡◌, ◌∙◌, ◌+◌, ℕ, zero, suc, List, Bool, Option, Some, None, OnErr, Result, Ok, Err, refl, sym, ap, subst, arith}
+use Rattle.debug_model.proofs.Rounds.{ticks_join}
 use Rattle.jt_base.specs.BitList.{bits_of, number_of}
 use Rattle.debug_model.specs.declared.data_register.DataRegister.{DataRegister}
 use Rattle.debug_model.specs.declared.data_register.DataRegister.TheVariants.{Idcode, Dmi}
@@ -13,13 +14,6 @@ use Rattle.debug_model.specs.Told.{Far, chip_of}
 use Rattle.debug_model.specs.TransportWords.{dmi_word}
 use Rattle.probe_dmi.specs.Registers.{CutFrom, DmiScanned, IsWidth, Part, Prepared, ScannedFrom, Waited, WordScanned}
 use Rattle.probe_dmi.specs.Registers.Part.{before_capture, behind_capture, behind_update}
-
--- ---- rounds
-
-pub ticks_join : (n m : ℕ) (i : Inside) → ticks m (ticks n i) ≡ ticks (n + m) i
-unfolding ticks
-ticks_join zero m i = let e : m ≡ zero + m = omega arith in ap (λ k. ticks k i) e
-ticks_join (suc n) m i = let e : suc (n + m) ≡ suc n + m = omega arith in ticks_join n m (tick i) ∙ ap (λ k. ticks k i) e
 
 -- a scan, from the inside at its capture on
 abbrev pub scanned_at : ℕ → ℕ → List Bool → DataRegister → Inside → Inside
@@ -110,7 +104,3 @@ word_of r sent bits out value (Some f) new e v d = record { out = out; value_is 
 pub dmi_of_scan : (abits : ℕ) (sent out : DmiScan) (bits took : List Bool) (old new : Option Far) → bits ≡ bits_of (34 + abits) (dmi_word sent) → out ≡ heard took → IsWidth abits old → WhereTold (ScannedFrom Dmi bits took) old new → WhereTold (DmiScanned sent out) old new
 dmi_of_scan abits sent out bits took None new e h w d = d
 dmi_of_scan abits sent out bits took (Some f) new e h w d = record { bits = took; out_is = h; scanned = subst (λ b. ScannedFrom Dmi b took (chip_of f) new) (e ∙ ap (λ n. bits_of (34 + n) (dmi_word sent)) w) d }
-
-pub on_err : {T E P : Type 0} (result : Result T E) → P → OnErr result P
-on_err (Ok x) p = tt
-on_err (Err e) p = p

@@ -16,16 +16,9 @@ use Rattle.debug_model.specs.Scan.{comes_out, dr_out, dr_stays, dtm_of, stays}
 use Rattle.debug_model.specs.Tap.{idcode}
 use Rattle.debug_model.specs.Transport.{Dtm, captured_bits, dmi_seen, dtmcs_seen, fresh_dtm, operation_of}
 use Rattle.debug_model.specs.TransportWords.{dmi_of, dmi_word, dtmcs_of, dtmcs_word}
+use Rattle.debug_model.proofs.Cuts.{comes_out_all, stays_all}
 use Rattle.probe_dmi.specs.Operations.{IsOperation, carrying, nop}
 use Rattle.probe_dmi.specs.Registers.{dmi_bits, idcode_bits, reset_bits}
-
--- ---- two cuts at a register's length
-
-all_come : (was bits : List Bool) → length was ≡ length bits → comes_out was bits ≡ was
-all_come was bits e = ap (λ n. take n (was ++ bits)) (sym e) ∙ take-append_seam was bits
-
-all_stay : (was bits : List Bool) → length was ≡ length bits → stays was bits ≡ bits
-all_stay was bits e = ap (λ n. drop n (was ++ bits)) (sym e) ∙ drop-append_seam was bits
 
 same_length : (n v w : ℕ) → length (bits_of n v) ≡ length (bits_of n w)
 same_length n v w = length-bits_of n v ∙ sym (length-bits_of n w)
@@ -34,11 +27,11 @@ same_length n v w = length-bits_of n v ∙ sym (length-bits_of n w)
 
 pub dmi_left : (sent : DmiScan) (m : Inside) → dr_stays (dmi_bits sent) Dmi m ≡ dmi_bits sent
 unfolding captured_bits
-dmi_left sent m = all_stay (bits_of 41 (dmi_word (dmi_seen (dtm_of m)))) (dmi_bits sent) (same_length 41 _ _)
+dmi_left sent m = stays_all (bits_of 41 (dmi_word (dmi_seen (dtm_of m)))) (dmi_bits sent) (same_length 41 _ _)
 
 dmi_out : (sent : DmiScan) (m : Inside) → dr_out (dmi_bits sent) Dmi m ≡ bits_of 41 (dmi_word (dmi_seen (dtm_of m)))
 unfolding captured_bits
-dmi_out sent m = all_come (bits_of 41 (dmi_word (dmi_seen (dtm_of m)))) (dmi_bits sent) (same_length 41 _ _)
+dmi_out sent m = comes_out_all (bits_of 41 (dmi_word (dmi_seen (dtm_of m)))) (dmi_bits sent) (same_length 41 _ _)
 
 -- each field is cut to its width
 abbrev pub cut_scan : DmiScan → DmiScan
@@ -81,19 +74,19 @@ asks_for (Write a v) small = ap operation_of (read_back (carrying (Write a v))) 
 
 pub dtmcs_left : (m : Inside) → dr_stays reset_bits Dtmcs m ≡ reset_bits
 unfolding captured_bits
-dtmcs_left m = all_stay (bits_of 32 (dtmcs_word (dtmcs_seen (dtm_of m)))) reset_bits (same_length 32 _ _)
+dtmcs_left m = stays_all (bits_of 32 (dtmcs_word (dtmcs_seen (dtm_of m)))) reset_bits (same_length 32 _ _)
 
 dtmcs_out : (m : Inside) → dr_out reset_bits Dtmcs m ≡ bits_of 32 (dtmcs_word (dtmcs_seen (dtm_of m)))
 unfolding captured_bits
-dtmcs_out m = all_come (bits_of 32 (dtmcs_word (dtmcs_seen (dtm_of m)))) reset_bits (same_length 32 _ _)
+dtmcs_out m = comes_out_all (bits_of 32 (dtmcs_word (dtmcs_seen (dtm_of m)))) reset_bits (same_length 32 _ _)
 
 idcode_out : (m : Inside) → dr_out idcode_bits Idcode m ≡ bits_of 32 idcode
 unfolding captured_bits
-idcode_out m = all_come (bits_of 32 idcode) idcode_bits (same_length 32 _ _)
+idcode_out m = comes_out_all (bits_of 32 idcode) idcode_bits (same_length 32 _ _)
 
 pub idcode_left : (m : Inside) → dr_stays idcode_bits Idcode m ≡ idcode_bits
 unfolding captured_bits
-idcode_left m = all_stay (bits_of 32 idcode) idcode_bits (same_length 32 _ _)
+idcode_left m = stays_all (bits_of 32 idcode) idcode_bits (same_length 32 _ _)
 
 pub idcode_read : (m : Inside) → number_of (dr_out idcode_bits Idcode m) ≡ idcode
 idcode_read m = ap number_of (idcode_out m) ∙ number_of-bits_of_mod 32 idcode

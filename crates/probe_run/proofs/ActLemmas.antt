@@ -1,5 +1,6 @@
 -- Calls made one after another: two stretches are one, and a failed call behind more of them.
 use Rattle.std.proofs.Common.{◌≡◌, ◌≤◌, ◌++◌, ℕ, List, [], ◌∷◌, Option, Result, Ok, Err, IfErr, IsErrAnd, sym, subst, append_assoc, append-nil, arith, inl, inr}
+use Rattle.jt_base.proofs.FaultLemmas.{rises_from}
 use Rattle.jt_base.specs.Faults.{Rises}
 use Rattle.debug_model.specs.declared.dmi.DmiFault.{DmiFault}
 use Rattle.debug_model.specs.declared.dmi.DmiFault.TheVariants.{Wire, Failed, StillBusy}
@@ -28,9 +29,6 @@ did_then xs old mid d ys new (further zs act at new' before does) =
     (further (xs ++ zs) act at new (did_then xs old mid d zs at before) does)
 
 -- ---- causes
-
-rises_from : (old mid new : ℕ) → old ≤ mid → mid ≤ new → Rises mid new → Rises old new
-rises_from old mid new le later r below = grind arith
 
 scan_cause_from : (old mid new : ℕ) (told : Option Far) (script : Option Script) (fault : WireFault) → old ≤ mid → mid ≤ new → ScanCause mid new told script fault → ScanCause old new told script fault
 scan_cause_from old mid new told script SendFailed le later c = rises_from old mid new le later c

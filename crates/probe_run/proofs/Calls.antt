@@ -1,7 +1,6 @@
 -- From the calls that were made to what they did at a told chip, and what is known of it behind them.
 use Rattle.std.proofs.Common.{◌≡◌, ◌++◌, ℕ, List, [], ◌∷◌, Option, Some, None, IfSome, refl, sym, subst}
 use Rattle.std.specs.Prelude.{◌⊎◌}
-use Rattle.std.proofs.lemmas.Option.{none-some}
 use Rattle.debug_model.specs.declared.dmi.DmiFault.{DmiFault}
 use Rattle.debug_model.specs.declared.dmi_op.DmiOp.{DmiOp}
 use Rattle.debug_model.specs.Chip.{Chip}
@@ -14,7 +13,7 @@ use Rattle.probe_run.specs.Acts.{Act, Broke, Did, Tells}
 use Rattle.probe_run.specs.Acts.Attempt.{Operation}
 use Rattle.probe_run.specs.Happens.{Leaves, LeftBy, target_of}
 use Rattle.probe_run.proofs.Moves.{selected_in}
-use Rattle.probe_run.proofs.RanLemmas.{FarRan, Ran, far_ran, none_ran, where_told}
+use Rattle.probe_run.proofs.RanLemmas.{FarRan, Ran, far_ran, none_ran, untold, where_told}
 
 -- ---- two stretches
 
@@ -53,10 +52,6 @@ did_by acts E P old new (Some f) at p leads d =
 
 pub did_outcome : (acts : List Act) (E : Site → Site → Type 0) (P : Site → Type 0) (old new : Tells) → Holds P old.far → ((s t : Site) → P s → Ran acts s t → E s t) → Did old acts new → Outcome E old.far new.far
 did_outcome acts E P old new p leads d = did_by acts E P old new old.far refl p leads d
-
-untold : (R : Chip → Option Far → Type 0) (o n : Option Far) → o ≡ None → WhereTold R o n → n ≡ None
-untold R None n e w = w
-untold R (Some x) n e w = absurd (none-some x (sym e))
 
 broke_by : (acts : List Act) (op : DmiOp) (E : Site → Site → Type 0) (P : Site → Type 0) (old_count new_count : ℕ) (old : Tells) (new : Option Far) (fault : DmiFault) (told : Option Far) → old.far ≡ told → Holds P told
     → ((s e t : Site) → P s → Ran acts s e → SiteCut op e t → E s t) → Broke acts (Operation op) old_count new_count old new fault → Outcome E told new

@@ -13,14 +13,14 @@ use Rattle.rv_model.specs.Board.{Hart, IsHart, free_slot, reset_hart}
 use Rattle.rv_model.specs.Core.{reset_core}
 use Rattle.rv_model.specs.Image.{with_image}
 use Rattle.rv_model.specs.Memory.{Bytes, map_of, ram_base}
-use Rattle.rv_model.proofs.SlotLemmas.{free_slots_fit}
+use Rattle.rv_model.proofs.WholeBoards.{reset_is_hart}
 use Rattle.debug_model.specs.Chip.{Live}
 use Rattle.debug_model.specs.Loaded.{AsLoaded, loaded_board, loaded_memory, reset_harts}
 use Rattle.debug_model.specs.Module.{reset_module}
 use Rattle.debug_model.specs.Told.{Far, MemoryReady, site_of}
 use Rattle.probe_run.proofs.Asking.{Unasked}
 use Rattle.probe_run.proofs.Fresh.{Fresh}
-use Rattle.probe_run.proofs.WideCore.{CoreWide, zero_wide}
+use Rattle.probe_run.proofs.WideCore.{CoreWide, zero_by, zero_wide}
 use Rattle.probe_run.proofs.WideHart.{HartWide, registers_wide}
 use Rattle.probe_run.proofs.WideWords.{IsWide}
 
@@ -30,19 +30,6 @@ zeros : (n i : ℕ) → get_or (replicate n zero) i zero ≡ zero
 zeros zero i = refl
 zeros (suc n) zero = refl
 zeros (suc n) (suc i) = zeros n i
-
-zero_by : (b : Bool) (v : ℕ) → v ≡ 0 → IsWide (if b then 0 else v)
-zero_by true v is = zero_wide
-zero_by false v is = subst (λ n. IsWide n) (sym is) zero_wide
-
-reset_whole : (n : ℕ) (halted : Option Cause) → IsHart n (reset_hart n halted)
-reset_whole n halted = record {
-  number = refl;
-  core = record { registers = refl; pc_aligned = refl; mtvec_aligned = refl; mepc_aligned = refl; mpp_fixed = refl };
-  slots = refl;
-  counts = free_slots_fit 4;
-  selected = omega arith;
-}
 
 reset_wide : (n : ℕ) → IsWide n → CoreWide (reset_core n)
 reset_wide n small = record {
@@ -70,8 +57,8 @@ pub record ResetAs (n : ℕ) (x : Hart) : Type 0 where
 reset_hart_wide : (n : ℕ) (x : Hart) → ResetAs n x → HartWide n x
 reset_hart_wide n x r =
     subst (λ y. HartWide n y) (sym r.is) (record {
-      whole = reset_whole n r.halted;
-      registers = registers_wide n (reset_hart n r.halted) (reset_whole n r.halted) (reset_wide n r.small) (free_compared 4);
+      whole = reset_is_hart n r.halted;
+      registers = registers_wide n (reset_hart n r.halted) (reset_is_hart n r.halted) (reset_wide n r.small) (free_compared 4);
       compared = free_compared 4;
     })
 

@@ -65,11 +65,11 @@ far_ran old f is acts new (further before act mid last did does) =
     let b : FarDid act a.far last.far = far_did act a.far last.far (where_told (chip_did act) mid.far last.far a.far a.is does.told) in
     record { far = b.far; is = b.is; ran = ran_snoc before act (site_of f) (site_of a.far) (site_of b.far) a.ran b.did }
 
--- where no chip is told, none is told behind the calls
+-- where no chip is told, none is told behind a call, nor behind any number of them
+pub untold : (R : Chip → Option Far → Type 0) (o n : Option Far) → o ≡ None → WhereTold R o n → n ≡ None
+untold R None n e w = w
+untold R (Some x) n e w = absurd (none-some x (sym e))
+
 pub none_ran : (old : Tells) → old.far ≡ None → (acts : List Act) (new : Tells) → Did old acts new → new.far ≡ None
 none_ran old is acts new nothing = is
 none_ran old is acts new (further before act mid last did does) = untold (chip_did act) mid.far last.far (none_ran old is before mid did) does.told
-  where
-    untold : (R : Chip → Option Far → Type 0) (o n : Option Far) → o ≡ None → WhereTold R o n → n ≡ None
-    untold R None n e w = w
-    untold R (Some x) n e w = absurd (none-some x (sym e))

@@ -57,7 +57,7 @@ bus_rests_by : (pending : Option BusAccess) (size : Option Size) (s : Site) → 
 bus_rests_by None size s is = same_site (with_bus_done (bus_done_by None size s.board.memory s.unit.bus) s) s refl refl (append-nil s.journal)
 bus_rests_by (Some a) size s is = absurd (none-some a (sym is))
 
-bus_rests : (s : Site) → s.unit.bus.pending ≡ None → bus_stepped s ≡ s
+pub bus_rests : (s : Site) → s.unit.bus.pending ≡ None → bus_stepped s ≡ s
 unfolding bus_done
 bus_rests s is = bus_rests_by s.unit.bus.pending (access_size s.unit.bus.access) s is
 

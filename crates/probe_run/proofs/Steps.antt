@@ -16,7 +16,7 @@ use Rattle.debug_model.specs.Told.{ModuleReady}
 use Rattle.debugger_laws.specs.Debugger.{seen_at}
 use Rattle.debugger_laws.specs.Stands.{Pointed, WentOn}
 use Rattle.debugger_laws.specs.Turns.{turns}
-use Rattle.debugger_laws.proofs.OverLemmas.{set_same}
+use Rattle.rv_model.proofs.MapLemmas.{set_same}
 use Rattle.debugger_laws.proofs.StandsLemmas.{after_turns-append, turns-append}
 use Rattle.probe_run.specs.declared.control.Request.{Request}
 use Rattle.probe_run.specs.Happens.{target_of}

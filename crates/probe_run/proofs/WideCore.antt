@@ -1,5 +1,5 @@
 -- A core none of whose registers has more than 64 bits, and what each kind of step leaves of it.
-use Rattle.std.proofs.Common.{◌≡◌, ◌+◌, ◌-◌, ◌%◌, ◌^◌, ◌<◌, ◌≤◌, ◌==◌, ◌&&◌, ℕ, zero, suc, Bool, true, false, cond, List, [], ◌∷◌, set, get_or, Option, Some, None, Result, Ok, Err, find, option_map, arith, refl, subst, bit_and, if◌then◌else◌}
+use Rattle.std.proofs.Common.{◌≡◌, ◌+◌, ◌-◌, ◌%◌, ◌^◌, ◌<◌, ◌≤◌, ◌==◌, ◌&&◌, ℕ, zero, suc, Bool, true, false, cond, List, [], ◌∷◌, set, get_or, Option, Some, None, Result, Ok, Err, find, option_map, arith, refl, sym, subst, bit_and, if◌then◌else◌}
 use Rattle.std.specs.Prelude.{⊤}
 use Rattle.std.proofs.lemmas.Nat.{and_le_r}
 use Rattle.std.proofs.lemmas.Option.{none-some, same_Some}
@@ -27,6 +27,11 @@ pub record CoreWide (c : Core) : Type 0 where
 
 pub zero_wide : IsWide 0
 zero_wide = omega arith
+
+-- what is 0 either way
+pub zero_by : (b : Bool) (v : ℕ) → v ≡ 0 → IsWide (if b then 0 else v)
+zero_by true v is = zero_wide
+zero_by false v is = subst (λ n. IsWide n) (sym is) zero_wide
 
 pub x_wide : (c : Core) (r : ℕ) → CoreWide c → IsWide (x_of c r)
 x_wide c r w = w.x r

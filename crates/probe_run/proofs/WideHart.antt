@@ -19,7 +19,8 @@ use Rattle.rv_model.specs.DebugRegisters.{debug_csr_value, debug_value, value_or
 use Rattle.rv_model.specs.Fields.{bit_value}
 use Rattle.rv_model.specs.Registers.{csr_value, is_x_number, reg_value}
 use Rattle.rv_model.specs.TriggerWords.{CountFits, comparison_number, selected_slot, tdata1_of, trigger_csr_value, triggers_of}
-use Rattle.probe_run.proofs.WideCore.{CoreWide, csr_value_wide, x_wide, zero_wide}
+use Rattle.rv_model.proofs.DebugRegisterLemmas.{is_x}
+use Rattle.probe_run.proofs.WideCore.{CoreWide, csr_value_wide, x_wide, zero_by}
 use Rattle.probe_run.proofs.WideWords.{IsWide}
 
 pub record HartWide (h : ℕ) (hart : Hart) : Type 0 where
@@ -32,9 +33,6 @@ pub record HartWide (h : ℕ) (hart : Hart) : Type 0 where
 abbrev RegistersWide : Hart → Type 0
 RegistersWide x = (number value : ℕ) → debug_value x number ≡ Some value → value < 2 ^ 64
 
-x_number : (i : ℕ) → i < 32 → is_x_number (0x1000 + i) ≡ true
-x_number i small = grind (arith, nat_tests)
-
 x_by : (b : Bool) (c : Core) (d : DebugPart) (number : ℕ) (other : Option ℕ) (v : ℕ) → b ≡ true → x_of c (number - 0x1000) ≡ v
     → value_or (if b then Some (x_of c (number - 0x1000)) else other) (debug_csr_value d number) ≡ Some v
 x_by true c d number other v is e = ap Some e
@@ -44,11 +42,7 @@ x_debug : (x : Hart) (i : ℕ) → i < 32 → debug_value x (0x1000 + i) ≡ Som
 unfolding debug_value
 x_debug x i small =
     let e : (0x1000 + i) - 0x1000 ≡ i = omega arith in
-    x_by (is_x_number (0x1000 + i)) x.core x.debug (0x1000 + i) _ (x_of x.core i) (x_number i small) (ap (x_of x.core) e)
-
-past_by : (b : Bool) (v : ℕ) → v ≡ 0 → IsWide (if b then 0 else v)
-past_by true v is = zero_wide
-past_by false v is = subst (λ n. IsWide n) (sym is) zero_wide
+    x_by (is_x_number (0x1000 + i)) x.core x.debug (0x1000 + i) _ (x_of x.core i) (is_x i small) (ap (x_of x.core) e)
 
 pub core_wide : (h : ℕ) (x : Hart) → IsHart h x → RegistersWide x → CoreWide x.core
 unfolding debug_value csr_value
@@ -56,7 +50,7 @@ core_wide h x whole wide = record {
   id = wide 0xf14 x.core.id refl;
   x = λ i. elim (cases_lt i 32) [
     | inl small ↦ wide (0x1000 + i) (x_of x.core i) (x_debug x i small)
-    | inr past ↦ past_by (i == 0) (get_or x.core.x i 0) (get_or_past x.core.x i 0 (let e : length x.core.x ≡ 32 = whole.core.registers in omega arith))
+    | inr past ↦ zero_by (i == 0) (get_or x.core.x i 0) (get_or_past x.core.x i 0 (let e : length x.core.x ≡ 32 = whole.core.registers in omega arith))
   ];
   pc = wide 0x7b1 x.core.pc refl;
   mstatus = wide 0x300 x.core.mstatus refl;

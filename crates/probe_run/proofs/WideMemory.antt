@@ -4,7 +4,6 @@ use Rattle.std.specs.Cmp.{nat_cmp_total}
 use Rattle.std.specs.FinMap.{get, get-insert, insert}
 use Rattle.std.specs.Ordering.{eq_by_cmp, nat_cmp}
 use Rattle.std.proofs.lemmas.Option.{none-some, same_Some}
-use Rattle.std.proofs.Math.Nat.{pow-suc}
 use Rattle.rv_model.specs.declared.mem_fault.MemFault.{MemFault}
 use Rattle.rv_model.specs.declared.mem_fault.MemFault.TheVariants.{Misaligned}
 use Rattle.rv_model.specs.declared.size.Size.{Size}
@@ -14,18 +13,12 @@ use Rattle.rv_model.specs.Core.{Core}
 use Rattle.rv_model.specs.Memory.{Bytes, Memory, after_store, is_aligned, is_inside, loaded, or_outside, value_at, with_byte, with_value}
 use Rattle.rv_model.specs.Size.{count_of}
 use Rattle.debug_model.specs.Told.{MemoryReady}
+use Rattle.rv_model.proofs.MapLemmas.{small_with}
 
 abbrev pub BytesReady : Bytes → Type 0
 BytesReady m = (address byte : ℕ) → get m address ≡ Some byte → byte < 256
 
 -- ---- loads
-
-small_with : (b : ℕ) (o : Option ℕ) (n v : ℕ) → b < 256 → with_byte (Some b) o ≡ Some v → ((u : ℕ) → o ≡ Some u → u < 256 ^ n) → v < 256 ^ suc n
-small_with b None n v h is rest = absurd (none-some v is)
-small_with b (Some u) n v h is rest =
-    let e : b + 256 * u ≡ v = same_Some (b + 256 * u) v is in
-    let k : u < 256 ^ n = rest u refl in
-    rw pow-suc (omega arith)
 
 value_by : (o : Option ℕ) (rest : Option ℕ) (n v : ℕ) → ((b : ℕ) → o ≡ Some b → b < 256) → ((u : ℕ) → rest ≡ Some u → u < 256 ^ n) → with_byte o rest ≡ Some v → v < 256 ^ suc n
 value_by None rest n v small later is = absurd (none-some v is)
@@ -60,7 +53,7 @@ with_value_ready : (m : Bytes) (a n v : ℕ) → BytesReady m → BytesReady (wi
 with_value_ready m a zero v ready = ready
 with_value_ready m a (suc n) v ready = with_value_ready (insert m a (v % 256)) (a + 1) n (v / 256) (insert_ready m a (v % 256) (omega arith) ready)
 
-if_ready : (b : Bool) (m n : Memory) → MemoryReady m → MemoryReady n → MemoryReady (if b then m else n)
+pub if_ready : (b : Bool) (m n : Memory) → MemoryReady m → MemoryReady n → MemoryReady (if b then m else n)
 if_ready true m n p q = p
 if_ready false m n p q = q
 

@@ -15,6 +15,7 @@ use Rattle.rv_model.proofs.WholeBoards.{turn_keeps_hart}
 use Rattle.debug_model.specs.Told.{MemoryReady}
 use Rattle.probe_run.proofs.WideCore.{CoreWide}
 use Rattle.probe_run.proofs.WideEffects.{OutcomeWide, exec_wide}
+use Rattle.probe_run.proofs.WideMemory.{if_ready}
 use Rattle.probe_run.proofs.WideHart.{HartWide, core_wide, registers_wide}
 
 abbrev SlotsWide : List Slot → Type 0
@@ -69,10 +70,6 @@ place_wide h x m w r =
     (core_wide h x w.whole w.registers) (executed_wide h x m w r).core in
     record { whole = turn_keeps_hart h x m w.whole; registers = registers_wide h y (turn_keeps_hart h x m w.whole) core slots; compared = slots }
 
-if_memory : (b : Bool) (m n : Memory) → MemoryReady m → MemoryReady n → MemoryReady (if b then m else n)
-if_memory true m n p q = p
-if_memory false m n p q = q
-
 pub memory_wide : (h : ℕ) (x : Hart) (m : Memory) → HartWide h x → MemoryReady m → MemoryReady (memory_after x m)
 unfolding memory_after
-memory_wide h x m w r = if_memory (executes x m) (exec_of x.core m).memory m (executed_wide h x m w r).memory r
+memory_wide h x m w r = if_ready (executes x m) (exec_of x.core m).memory m (executed_wide h x m w r).memory r

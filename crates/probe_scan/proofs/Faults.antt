@@ -189,7 +189,3 @@ bad_cause bits answers fault (Some f) between new before after coming left full 
 pub err_cause : {T : Type 0} (old new : ℕ) (told : Option Far) (script : Option Script) (fault : WireFault) (result : Result T WireFault) → IsErrAnd result (λ e. e ≡ fault) → ScanCause old new told script fault → IfErr result (ScanCause old new told script)
 err_cause old new told script fault (Ok x) h cause = tt
 err_cause old new told script fault (Err e) h cause = subst (ScanCause old new told script) (sym h) cause
-
-pub on_err : {T E P : Type 0} (result : Result T E) → P → OnErr result P
-on_err (Ok x) p = tt
-on_err (Err e) p = p

@@ -8,31 +8,11 @@ use Rattle.debug_model.specs.declared.counts.Counts.{Counts}
 use Rattle.debug_model.specs.declared.dmi_op.DmiOp.{DmiOp}
 use Rattle.debug_model.specs.declared.event.Event.{Event}
 use Rattle.debug_model.specs.declared.event.Event.TheVariants.{Turn, DmiDone, DmiFail, CmdStep, BusDone}
+use Rattle.debug_model.proofs.Rounds.{busy_rounds, events_rounds}
 use Rattle.probe_scan.proofs.Along.{Along}
 
 abbrev pub rounds_of : Inside → ℕ
 rounds_of i = i.works.counts.rounds
-
-done_rounds : (flight : Option DmiOp) (w : Works) → (performed_by flight w).counts.rounds ≡ w.counts.rounds
-done_rounds (Some op) w = refl
-done_rounds None w = refl
-
-lost_rounds : (flight : Option DmiOp) (w : Works) → (lost_by flight w).counts.rounds ≡ w.counts.rounds
-lost_rounds (Some op) w = refl
-lost_rounds None w = refl
-
-event_rounds : (e : Event) (w : Works) → (after_event e w).counts.rounds ≡ w.counts.rounds
-unfolding after_event
-event_rounds (Turn h) w = refl
-event_rounds DmiDone w = done_rounds w.dtm.flight w
-event_rounds DmiFail w = lost_rounds w.dtm.flight w
-event_rounds CmdStep w = refl
-event_rounds BusDone w = refl
-
-events_rounds : (es : List Event) (w : Works) → (after_events es w).counts.rounds ≡ w.counts.rounds
-unfolding after_events
-events_rounds [] w = refl
-events_rounds (e ∷ es) w = events_rounds es (after_event e w) ∙ event_rounds e w
 
 tick_rounds : (i : Inside) → rounds_of (tick i) ≡ rounds_of i + 1
 unfolding tick
@@ -42,10 +22,6 @@ pub ticks_rounds : (n : ℕ) (i : Inside) → rounds_of (ticks n i) ≡ rounds_o
 unfolding ticks
 ticks_rounds zero i = omega arith
 ticks_rounds (suc n) i = ticks_rounds n (tick i) ∙ ap (λ k. k + n) (tick_rounds i) ∙ omega arith
-
-busy_rounds : (found : Bool) (k : Counts) → (busy_counted found k).rounds ≡ k.rounds
-busy_rounds true k = refl
-busy_rounds false k = refl
 
 rise_rounds : (tms tdi : Bool) (c : Chip) → rounds_of (rise tms tdi c).inside ≡ rounds_of c.inside + 1
 rise_rounds tms tdi c = tick_rounds (record c.inside { works = works_risen c.port c.inside.works }) ∙ ap (λ n. n + 1) (busy_rounds (rise_finds_busy c.port c.inside.works.dtm) c.inside.works.counts)

@@ -11,15 +11,10 @@ use Rattle.std.proofs.lemmas.List.{length-take}
 use Rattle.std.proofs.lemmas.Bool.{cases_lt, ne_eqb}
 use Rattle.std.proofs.lemmas.Option.{slice_get-get_or}
 use Rattle.rv_model.specs.Memory.{map_of, ram_base, Bytes}
-use Rattle.rv_model.proofs.MapLemmas.{get-map_of, get-map_of_below, get-map_of_above}
+use Rattle.rv_model.proofs.MapLemmas.{find_below, get-map_of, get-map_of_below, get-map_of_above}
 use Rattle.rv_model.specs.Image.{with_image}
 
 -- ---- RAM's bytes
-
-find_below : (xs : List ℕ) (n q : ℕ) → q < n → map.find nat_cmp q (enumerate_from n xs) ≡ None
-find_below [] n q h = refl
-find_below (x ∷ xs) n q h =
-    ap (λ b. cond b (Some x) (map.find nat_cmp q (enumerate_from (n + 1) xs))) (unsigned_tied q n ∙ ne_eqb q n (λ e. omega arith)) ∙ find_below xs (n + 1) q (omega arith)
 
 abbrev from : ℕ → List ℕ → Bytes
 from n xs = map.from_entries (enumerate_from n xs)

@@ -122,7 +122,7 @@ writes_keep h number v = hart_keeps h _ (reg_written_keeps h.core number v) (deb
 
 -- ---- written and read back
 
-is_x : (r : ℕ) → r < 32 → is_x_number (0x1000 + r) ≡ true
+pub is_x : (r : ℕ) → r < 32 → is_x_number (0x1000 + r) ≡ true
 is_x r inside = ap (λ b. cond b false (ltb (0x1000 + r) (0x1000 + 32))) (le-ltb (0x1000 + r) 0x1000 (omega arith)) ∙ lt-ltb (0x1000 + r) (0x1000 + 32) (omega arith)
 
 x_read_back : (c : Core) (r v : ℕ) → 0 < r → r < length c.x → x_of (with_x c r v) r ≡ v

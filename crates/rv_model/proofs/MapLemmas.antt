@@ -129,7 +129,7 @@ value_at_inside xs a (suc n) low high =
     ap (λ o. is_some (with_byte o (value_at (map_of xs) (a + 1) n))) here
     ∙ some_rest (get_or xs (a - ram_base) 0) (value_at (map_of xs) (a + 1) n) (value_at_inside xs (a + 1) n (omega arith) (omega arith))
 
-small_with : (b : ℕ) (o : Option ℕ) (n v : ℕ) → b < 256 → with_byte (Some b) o ≡ Some v → ((u : ℕ) → o ≡ Some u → u < 256 ^ n) → v < 256 ^ suc n
+pub small_with : (b : ℕ) (o : Option ℕ) (n v : ℕ) → b < 256 → with_byte (Some b) o ≡ Some v → ((u : ℕ) → o ≡ Some u → u < 256 ^ n) → v < 256 ^ suc n
 small_with b None n v h is rest = absurd (none-some v is)
 small_with b (Some u) n v h is rest =
     let e : b + 256 * u ≡ v = same_Some (b + 256 * u) v is in

@@ -24,7 +24,7 @@ use Rattle.rv_model.proofs.SlotLemmas.{counted_fits, marked_fits, map_fits, free
 reset_is_core : (id : ℕ) → IsCore (reset_core id)
 reset_is_core id = record { registers = refl; pc_aligned = refl; mtvec_aligned = refl; mepc_aligned = refl; mpp_fixed = refl }
 
-reset_is_hart : (id : ℕ) (halted : Option Cause) → IsHart id (reset_hart id halted)
+pub reset_is_hart : (id : ℕ) (halted : Option Cause) → IsHart id (reset_hart id halted)
 reset_is_hart id halted = record { number = refl; core = reset_is_core id; slots = refl; counts = free_slots_fit 4; selected = omega arith }
 
 reset_count : (id : ℕ) (halted : List (Option Cause)) → length (reset_harts id halted) ≡ length halted

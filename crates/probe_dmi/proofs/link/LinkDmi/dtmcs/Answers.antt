@@ -3,7 +3,7 @@ use Rattle.debug_model.specs.declared.dtmcs.Dtmcs.{Dtmcs as TheDtmcs}
 use Rattle.probe_dmi.specs.Operations.{abits_behind}
 use Rattle.debug_model.specs.declared.data_register.DataRegister.TheVariants.{Dtmcs}
 use Rattle.probe_dmi.specs.Registers.{reset_bits}
-use Rattle.probe_dmi.proofs.Scans.{on_err}
+use Rattle.jt_base.proofs.Pieces.{on_err}
 use Rattle.probe_dmi.proofs.Stages.{reset_harmless}
 use Rattle.probe_dmi.proofs.Conditions.{can_operate}
 use Rattle.probe_dmi.proofs.Readings.{abits_told, dtmcs_value, none_cut, read_clean, read_none, read_then}

@@ -1,6 +1,6 @@
 use Rattle.debug_model.specs.declared.data_register.DataRegister.TheVariants.{Idcode}
 use Rattle.probe_dmi.specs.Registers.{idcode_bits}
-use Rattle.probe_dmi.proofs.Scans.{on_err}
+use Rattle.jt_base.proofs.Pieces.{on_err}
 use Rattle.probe_dmi.proofs.Stages.{idcode_harmless}
 use Rattle.probe_dmi.proofs.Conditions.{can_operate}
 use Rattle.probe_dmi.proofs.Readings.{idcode_value, none_cut, read_clean, read_none, read_then}

@@ -2,7 +2,8 @@ use Rattle.debug_model.specs.declared.data_register.DataRegister.TheVariants.{Id
 use Rattle.std.proofs.Common.{refl, subst}
 use Rattle.debug_model.specs.Scan.{WhereTold}
 use Rattle.probe_dmi.specs.Registers.{CutFrom, idcode_bits}
-use Rattle.probe_dmi.proofs.Scans.{cut_then, on_err, scan_then, waited_cut, word_of}
+use Rattle.jt_base.proofs.Pieces.{on_err}
+use Rattle.probe_dmi.proofs.Scans.{cut_then, scan_then, waited_cut, word_of}
 use Rattle.probe_dmi.proofs.register.Registers.idcode.Goals as goal
 
 pub returns-in_err-rest-clause-cut : goal.returns-in_err-rest-clause-cut

@@ -1,7 +1,7 @@
 use Rattle.std.proofs.Common.{◌∙◌, ◌+◌, true, false, refl, subst, arith}
 use Rattle.debug_model.specs.Scan.{WhereTold}
 use Rattle.probe_dmi.proofs.Heard.{SoFar, dmi_through, heard_again, heard_busy, heard_carried, heard_failed, heard_result, nothing_heard, scan_cause, so_far_through, wire_cause}
-use Rattle.probe_dmi.proofs.Scans.{on_err}
+use Rattle.jt_base.proofs.Pieces.{on_err}
 use Rattle.probe_dmi.proofs.Conditions.{can_again, can_first, can_operate, width_kept}
 use Rattle.probe_dmi.proofs.Told.{Underway, begun, busy_cut, busy_found, carried, clear_cut, cleared, cut_as, dmi_cut, failed, failed_cut, failed_lost, fetched, fetched_clean, fetched_operated, found_again, sent_as, under_as}
 use Rattle.probe_dmi.proofs.register.Registers.operate.Goals as goal

@@ -1,5 +1,6 @@
 use Rattle.debug_model.specs.Port.{data_register_of}
-use Rattle.probe_dmi.proofs.Scans.{cut_then, on_err, scan_then, waited_cut}
+use Rattle.jt_base.proofs.Pieces.{on_err}
+use Rattle.probe_dmi.proofs.Scans.{cut_then, scan_then, waited_cut}
 use Rattle.probe_dmi.proofs.register.Registers.register.Goals as goal
 
 pub returns-in_err-select-clause-cut : goal.returns-in_err-select-clause-cut

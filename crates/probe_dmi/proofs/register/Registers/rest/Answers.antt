@@ -1,5 +1,6 @@
 use Rattle.debug_model.specs.declared.data_register.DataRegister.TheVariants.{Idcode}
-use Rattle.probe_dmi.proofs.Scans.{on_err, prepared_waited, reset_prepared, reset_waited, waited_none}
+use Rattle.jt_base.proofs.Pieces.{on_err}
+use Rattle.probe_dmi.proofs.Scans.{prepared_waited, reset_prepared, reset_waited, waited_none}
 use Rattle.probe_dmi.proofs.register.Registers.rest.Goals as goal
 
 pub returns-then-eq-clause-waited : goal.returns-then-eq-clause-waited

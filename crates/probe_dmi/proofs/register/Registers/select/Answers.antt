@@ -1,4 +1,5 @@
-use Rattle.probe_dmi.proofs.Scans.{on_err, selected_then, waited_then}
+use Rattle.jt_base.proofs.Pieces.{on_err}
+use Rattle.probe_dmi.proofs.Scans.{selected_then, waited_then}
 use Rattle.probe_dmi.proofs.register.Registers.select.Goals as goal
 
 pub returns-in_err-ir-clause-cut : goal.returns-in_err-ir-clause-cut

@@ -1,6 +1,7 @@
 use Rattle.std.proofs.Common.{◌∙◌, arith, inl}
 use Rattle.std.proofs.lemmas.Grind.{common_steps}
-use Rattle.probe_scan.proofs.Faults.{bad_cause, bad_cut, err_cause, lost_cut, on_err, scan_cut_behind}
+use Rattle.jt_base.proofs.Pieces.{on_err}
+use Rattle.probe_scan.proofs.Faults.{bad_cause, bad_cut, err_cause, lost_cut, scan_cut_behind}
 use Rattle.probe_scan.proofs.Scans.{remembers, scan_between, scan_done, waiting}
 use Rattle.probe_scan.proofs.scanner.ScannerScan.dr.Goals as goal
 

@@ -1,6 +1,7 @@
 use Rattle.std.proofs.Common.{◌≡◌, ◌∙◌, arith, Some, inl}
 use Rattle.std.proofs.lemmas.Grind.{common_steps}
-use Rattle.probe_scan.proofs.Faults.{ir_cut_behind, on_err}
+use Rattle.jt_base.proofs.Pieces.{on_err}
+use Rattle.probe_scan.proofs.Faults.{ir_cut_behind}
 use Rattle.probe_scan.proofs.Scans.{ir_behind, ir_remembered}
 use Rattle.probe_scan.proofs.scanner.ScannerScan.ir.Goals as goal
 

@@ -1,5 +1,6 @@
 use Rattle.std.proofs.Common.{◌∙◌, inl}
-use Rattle.probe_scan.proofs.Faults.{on_err, reset_cut_behind}
+use Rattle.jt_base.proofs.Pieces.{on_err}
+use Rattle.probe_scan.proofs.Faults.{reset_cut_behind}
 use Rattle.probe_scan.proofs.Scans.{reset_behind}
 use Rattle.probe_scan.proofs.scanner.ScannerScan.reset.Goals as goal
 
