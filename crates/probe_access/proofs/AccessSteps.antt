@@ -14,7 +14,8 @@ use Rattle.debug_model.specs.Deeds.Deed.{Turned, CommandStepped, BusStepped}
 use Rattle.debug_model.specs.Module.{DebugModule, Site}
 use Rattle.debug_model.specs.SystemBus.{BusUnit}
 use Rattle.probe_access.proofs.Aside.{Frozen, HartAt, accessed, aside, passed, with_unit}
-use Rattle.probe_access.proofs.Quiet.{bus_quiet, command_quiet}
+use Rattle.probe_run.proofs.SiteLemmas.{bus_rests}
+use Rattle.probe_access.proofs.Quiet.{command_quiet}
 use Rattle.probe_access.proofs.ReadyUnit.{Held, Kept, commands_of, unit_of, unit_with}
 use Rattle.probe_access.proofs.Steps.{Does, does_aside, stepped_aside}
 use Rattle.probe_access.proofs.Turns.{aside_turned, passed-append, stays_passed}
@@ -115,13 +116,13 @@ stage_step P Q k h bus y base w s r (at_fault before harts q is) =
 
 stage_bus : (P : Memory → Hart → Memory → Type 0) (Q : Memory → Type 0) (k : Kept) (h : ℕ) (bus : BusUnit) (y : Hart) (base : Site) (s : Site) → bus.pending ≡ None
     → Stage P Q k h bus y base s → Stage P Q k h bus y base (bus_stepped s)
-stage_bus P Q k h bus y base s idle (at_start harts is) = at_start harts (ap bus_stepped is ∙ bus_quiet (aside (running k (program_of k) h bus) h y (passed harts base)) idle)
+stage_bus P Q k h bus y base s idle (at_start harts is) = at_start harts (ap bus_stepped is ∙ bus_rests (aside (running k (program_of k) h bus) h y (passed harts base)) idle)
 stage_bus P Q k h bus y base s idle (in_middle before harts z n p fz is) =
-    in_middle before harts z n p fz (ap bus_stepped is ∙ bus_quiet (aside (running k (rest_of k) h bus) h z (passed harts (accessed n (passed before base)))) idle)
+    in_middle before harts z n p fz (ap bus_stepped is ∙ bus_rests (aside (running k (rest_of k) h bus) h z (passed harts (accessed n (passed before base)))) idle)
 stage_bus P Q k h bus y base s idle (at_end before harts z n p fz is) =
-    at_end before harts z n p fz (ap bus_stepped is ∙ bus_quiet (aside (unit_of k h bus) h z (passed harts (accessed n (passed before base)))) idle)
+    at_end before harts z n p fz (ap bus_stepped is ∙ bus_rests (aside (unit_of k h bus) h z (passed harts (accessed n (passed before base)))) idle)
 stage_bus P Q k h bus y base s idle (at_fault before harts q is) =
-    at_fault before harts q (ap bus_stepped is ∙ bus_quiet (aside (unit_with k Exception [] h bus) h y (passed harts (accessed (passed before base).board.memory (passed before base)))) idle)
+    at_fault before harts q (ap bus_stepped is ∙ bus_rests (aside (unit_with k Exception [] h bus) h y (passed harts (accessed (passed before base).board.memory (passed before base)))) idle)
 
 pub stage_ran : (ds : List Deed) (P : Memory → Hart → Memory → Type 0) (Q : Memory → Type 0) (k : Kept) (h : ℕ) (bus : BusUnit) (y : Hart) (base : Site) (w : Hart) (s : Site) → Running P Q k h bus y base w
     → Stage P Q k h bus y base s → Stage P Q k h bus y base (ran ds s)

@@ -57,10 +57,10 @@ back_told x8 x9 p q h bus x base w old new all is8 is9 st s =
 
 -- ---- the program
 
-abbrev with_program : ℕ → Kept → Kept
+abbrev pub with_program : ℕ → Kept → Kept
 with_program word k = record { data0 = k.data0; data1 = k.data1; progbuf0 = word; progbuf1 = ebreak_word; progbuf2 = k.progbuf2; progbuf3 = k.progbuf3; command = k.command }
 
-abbrev with_first : ℕ → Kept → Kept
+abbrev pub with_first : ℕ → Kept → Kept
 with_first word k = record { data0 = k.data0; data1 = k.data1; progbuf0 = word; progbuf1 = k.progbuf1; progbuf2 = k.progbuf2; progbuf3 = k.progbuf3; command = k.command }
 
 program_put : (word h : ℕ) (bus : BusUnit) (y : Hart) (base : Site) (w : Hart) (k : Kept) (s t : Site) → Stood h bus y base w k s → SiteActs (program_written word) s t → Stood h bus y base w (with_program word k) t
@@ -94,7 +94,7 @@ addressed_told word address h bus y base w old written new st did x8 =
     let a : WrittenTold x8_number address h bus y base w (with_program word st.kept) new.far = written_told x8_number address h bus y base w written new (omega arith) mid x8 in
     record { then = a.then; progbuf0 = a.progbuf0; progbuf1 = a.progbuf1 }
 
-decided : (P : Memory → Hart → Memory → Type 0) (Q : Memory → Type 0) (word other : ℕ) (y : Hart) → other ≡ word → ((m : Memory) → WordDid P Q word y m) → (m : Memory) → WordDid P Q other y m
+pub decided : (P : Memory → Hart → Memory → Type 0) (Q : Memory → Type 0) (word other : ℕ) (y : Hart) → other ≡ word → ((m : Memory) → WordDid P Q word y m) → (m : Memory) → WordDid P Q other y m
 decided P Q word other y is d m = subst (λ n. WordDid P Q n y m) (sym is) (d m)
 
 pub ran_told : (P : Memory → Hart → Memory → Type 0) (Q : Memory → Type 0) (word address last h : ℕ) (bus : BusUnit) (y : Hart) (base : Site) (w : Hart) (old new : Tells) → (a : Addressed word address h bus y base w old.far)

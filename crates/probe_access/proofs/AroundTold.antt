@@ -172,7 +172,7 @@ lost_only address G H access_fault.StillBusy loses p = tt
 lost_only address G H (access_fault.Run why) loses p = p
 lost_only address G H (access_fault.Odd word) loses p = p
 
-recovered : (address : ℕ) (G : Type 0) (e : AccessFault) → Recovers e → OnlyMemory address G e → G
+pub recovered : (address : ℕ) (G : Type 0) (e : AccessFault) → Recovers e → OnlyMemory address G e → G
 recovered address G (access_fault.Dmi why) r p = absurd r
 recovered address G (access_fault.Memory at) r p = p.1
 recovered address G (access_fault.Register number) r p = absurd p

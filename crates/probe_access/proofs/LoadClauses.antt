@@ -85,7 +85,7 @@ load_performed size a error h bus x base old new all small st p =
     ran_told (Loads size a (debug_written x x8_number a)) (LoadFaults size a) (load_word size) a p.ran.last h bus x base x p.addressed new ad
     (λ m. load_did size a (debug_written x x8_number a) m ad.then.stood.frozen (addressed_in x a all small)) p.ran.ran
 
-load_went : (size : Size) (a h : ℕ) (bus : BusUnit) (x : Hart) (base : Site) (old new : Tells) → length x.core.x ≡ 32 → a < 2 ^ 64 → StoodTold h bus x base x old.far → Performed (load_word size) a 0 old new → LoadWent size a h bus x base new.far
+pub load_went : (size : Size) (a h : ℕ) (bus : BusUnit) (x : Hart) (base : Site) (old new : Tells) → length x.core.x ≡ 32 → a < 2 ^ 64 → StoodTold h bus x base x old.far → Performed (load_word size) a 0 old new → LoadWent size a h bus x base new.far
 load_went size a h bus x base old new all small st p =
     let r = load_performed size a 0 h bus x base old new all small st p in
     load_went_by size a h bus x base new.far (went_told (Loads size a (debug_written x x8_number a)) (LoadFaults size a) p.ran.last h bus (debug_written x x8_number a) base x new.far r.far r.is p.ran.error_is r.program)
@@ -162,7 +162,7 @@ load_faulted size a h bus x base old new all small st p =
     fault_at (LoadFaults size a) a h bus x base new.far all
     (faulted_told (Loads size a (debug_written x x8_number a)) (LoadFaults size a) p.ran.last h bus (debug_written x x8_number a) base x new.far r.far r.is p.ran.error_is r.program)
 
-load_badly : (size : Size) (a h : ℕ) (bus : BusUnit) (x : Hart) (base : Site) (old_count new_count : ℕ) (first last : Tells) (e : AccessFault) → length x.core.x ≡ 32 → a < 2 ^ 64 → StoodTold h bus x base x first.far
+pub load_badly : (size : Size) (a h : ℕ) (bus : BusUnit) (x : Hart) (base : Site) (old_count new_count : ℕ) (first last : Tells) (e : AccessFault) → length x.core.x ≡ 32 → a < 2 ^ 64 → StoodTold h bus x base x first.far
     → LoadFailedInside size a old_count new_count first last e → OnlyMemory a (FaultInside (LoadFaults size a) h bus x base last.far) e
 load_badly size a h bus x base old_count new_count first last e all small st (performing f) =
     only_map a (Performed (load_word size) a 3 first last) (FaultInside (LoadFaults size a) h bus x base last.far) e (λ p. load_faulted size a h bus x base first last all small st p)

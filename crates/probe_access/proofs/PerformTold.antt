@@ -26,7 +26,7 @@ use Rattle.probe_access.proofs.WordLemmas.{program_back}
 
 -- ---- the start
 
-program_starts : (y : Hart) → Frozen y → refusal (Some y) program_command ≡ Fine
+pub program_starts : (y : Hart) → Frozen y → refusal (Some y) program_command ≡ Fine
 unfolding refusal
 program_starts y f =
     ap (λ (p : Option Cause). cond (not (is_held p y.debug.resume_request)) HaltResume Fine) f.halted
@@ -43,7 +43,7 @@ pub data PerformEnd (P : Memory → Hart → Memory → Type 0) (Q : Memory → 
   ran_badly : (before : List ℕ) → Q (passed before base).board.memory
       → Ended 3 (unit_with k Exception [] h bus) h y (accessed (passed before base).board.memory (passed before base)) last t → PerformEnd P Q last k h bus y base t
 
-held_behind : (h : ℕ) (w : Hart) (base : Site) (before : List ℕ) (n : Memory) → Held h w base → Held h w (accessed n (passed before base))
+pub held_behind : (h : ℕ) (w : Hart) (base : Site) (before : List ℕ) (n : Memory) → Held h w base → Held h w (accessed n (passed before base))
 held_behind h w base before n held = record { here = stays_passed h before base w held.here held.frozen; frozen = held.frozen }
 
 still_some : (m : Micro) (ms steps : List Micro) → steps ≡ m ∷ ms → steps ≡ [] → ⊥
@@ -64,7 +64,7 @@ stage_ends P Q last k h bus y base w shown t behind r on last_is none moved (at_
     (ended_at (unit_with k Exception [] h bus) h y (accessed (passed before base).board.memory (passed before base)) w last shown t behind (held_behind h w base before (passed before base).board.memory r.held) r.frozen refl r.idle on last_is moved
     (record { harts = harts; is = is }))
 
-program_ends : (P : Memory → Hart → Memory → Type 0) (Q : Memory → Type 0) (last : ℕ) (k : Kept) (h : ℕ) (bus : BusUnit) (y : Hart) (base : Site) (w : Hart) (t : Site) → Running P Q (programmed k) h bus y base w
+pub program_ends : (P : Memory → Hart → Memory → Type 0) (Q : Memory → Type 0) (last : ℕ) (k : Kept) (h : ℕ) (bus : BusUnit) (y : Hart) (base : Site) (w : Hart) (t : Site) → Running P Q (programmed k) h bus y base w
     → Commanded program_word last (unit_of k h bus) h y base t → shows_busy last ≡ false → PerformEnd P Q last (programmed k) h bus y base t
 program_ends P Q last k h bus y base w t r c not_busy =
     let start : Site = after_write command_address program_word (aside (unit_of k h bus) h y (passed c.harts base)) in

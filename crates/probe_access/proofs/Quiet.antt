@@ -8,20 +8,12 @@ use Rattle.debug_model.specs.Deeds.{Deed, after_deed, bus_stepped, command_stepp
 use Rattle.debug_model.specs.Deeds.Deed.{Turned, CommandStepped, BusStepped}
 use Rattle.debug_model.specs.Module.{DebugModule, Site, selected_hart}
 use Rattle.debug_model.specs.SystemBus.{BusDone, BusUnit, bus_done, bus_done_by, access_size}
+use Rattle.probe_run.proofs.SiteLemmas.{bus_rests}
 use Rattle.probe_access.proofs.Aside.{harts_of, passed}
 use Rattle.probe_access.proofs.Turns.{unit_turned}
 
 pub command_quiet : (s : Site) → s.unit.commands.steps ≡ [] → command_stepped s ≡ s
 command_quiet s is = ap (λ steps. stepped_by steps (selected_hart s) s) is
-
-bus_quiet_done : (m : Memory) (u : BusUnit) → u.pending ≡ None → bus_done m u ≡ record { unit = u; memory = m; accessed = false }
-unfolding bus_done
-bus_quiet_done m u is = ap (λ p. bus_done_by p (access_size u.access) m u) is
-
-pub bus_quiet : (s : Site) → s.unit.bus.pending ≡ None → bus_stepped s ≡ s
-bus_quiet s is =
-    ap (λ (d : BusDone). with_bus_done d s) (bus_quiet_done s.board.memory s.unit.bus is)
-    ∙ ap (λ (j : List Point). let t : Site = record { unit = s.unit; board = s.board; journal = j } in t) (append-nil s.journal)
 
 pub quiet_ran : (ds : List Deed) (s : Site) → s.unit.commands.steps ≡ [] → s.unit.bus.pending ≡ None → ran ds s ≡ passed (harts_of ds) s
 unfolding ran after_deed passed
@@ -29,7 +21,7 @@ quiet_ran [] s none idle = refl
 quiet_ran (Turned h ∷ ds) s none idle =
     quiet_ran ds (turned h s) (ap (λ (m : DebugModule). m.commands.steps) (unit_turned h s) ∙ none) (ap (λ (m : DebugModule). m.bus.pending) (unit_turned h s) ∙ idle)
 quiet_ran (CommandStepped ∷ ds) s none idle = ap (ran ds) (command_quiet s none) ∙ quiet_ran ds s none idle
-quiet_ran (BusStepped ∷ ds) s none idle = ap (ran ds) (bus_quiet s idle) ∙ quiet_ran ds s none idle
+quiet_ran (BusStepped ∷ ds) s none idle = ap (ran ds) (bus_rests s idle) ∙ quiet_ran ds s none idle
 
 -- ---- a module that works goes on working
 
@@ -44,8 +36,3 @@ active_ran [] s = refl
 active_ran (Turned h ∷ ds) s = active_ran ds (turned h s) ∙ ap (λ (m : DebugModule). m.active) (unit_turned h s)
 active_ran (CommandStepped ∷ ds) s = active_ran ds (command_stepped s) ∙ active_by s.unit.commands.steps (selected_hart s) s
 active_ran (BusStepped ∷ ds) s = active_ran ds (bus_stepped s)
-
-pub ran-append : (ds es : List Deed) (s : Site) → ran (ds ++ es) s ≡ ran es (ran ds s)
-unfolding ran
-ran-append [] es s = refl
-ran-append (d ∷ ds) es s = ran-append ds es (after_deed d s)

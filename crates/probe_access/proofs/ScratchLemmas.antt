@@ -52,7 +52,7 @@ x9_other y v = get_or-set_other y.core.x 8 9 v 0 (apart 9 8 refl refl)
 abbrev pub scratched : ℕ → ℕ → Hart → Hart
 scratched p q x = with_core_x (with_core_x x 8 p) 9 q
 
-set_itself : (xs : List ℕ) (i : ℕ) → i < length xs → set xs i (slice_index xs i) ≡ xs
+pub set_itself : (xs : List ℕ) (i : ℕ) → i < length xs → set xs i (slice_index xs i) ≡ xs
 set_itself xs i lt = set_same xs i (slice_index xs i) (slice_get-get_or xs i 0 lt)
 
 put_back_list : (xs : List ℕ) (p q : ℕ) → 9 < length xs → set (set (set (set xs 8 p) 9 q) 8 (slice_index xs 8)) 9 (slice_index xs 9) ≡ xs

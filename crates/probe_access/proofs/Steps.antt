@@ -11,7 +11,8 @@ use Rattle.debug_model.specs.Deeds.Deed.{Turned, CommandStepped, BusStepped}
 use Rattle.debug_model.specs.Module.{DebugModule, Site}
 use Rattle.probe_access.proofs.Aside.{Frozen, HartAt, aside, passed, with_unit}
 use Rattle.probe_access.proofs.Turns.{aside_turned, hart_aside, passed-append, stays_passed}
-use Rattle.probe_access.proofs.Quiet.{bus_quiet, command_quiet}
+use Rattle.probe_run.proofs.SiteLemmas.{bus_rests}
+use Rattle.probe_access.proofs.Quiet.{command_quiet}
 
 -- ---- one micro step
 
@@ -76,8 +77,8 @@ between_step m v h x y base w a s c one none does (done harts is) =
     done harts (ap command_stepped is ∙ command_quiet (aside (with_unit v m) h y (passed harts base)) none)
 
 between_bus : (m n : DebugModule) (h : ℕ) (x y : Hart) (base s : Site) → m.bus.pending ≡ None → n.bus.pending ≡ None → Between m n h x y base s → Between m n h x y base (bus_stepped s)
-between_bus m n h x y base s idle still_idle (still harts is) = still harts (ap bus_stepped is ∙ bus_quiet (aside m h x (passed harts base)) idle)
-between_bus m n h x y base s idle still_idle (done harts is) = done harts (ap bus_stepped is ∙ bus_quiet (aside n h y (passed harts base)) still_idle)
+between_bus m n h x y base s idle still_idle (still harts is) = still harts (ap bus_stepped is ∙ bus_rests (aside m h x (passed harts base)) idle)
+between_bus m n h x y base s idle still_idle (done harts is) = done harts (ap bus_stepped is ∙ bus_rests (aside n h y (passed harts base)) still_idle)
 
 pub between_ran : (ds : List Deed) (m : DebugModule) (v : CommandUnit) (h : ℕ) (x y : Hart) (base : Site) (w : Hart) (a : Micro) (s : Site) → Course m h x base w → Frozen y → m.commands.steps ≡ a ∷ [] → v.steps ≡ [] → Does x m.commands y v
     → Between m (with_unit v m) h x y base s → Between m (with_unit v m) h x y base (ran ds s)

@@ -32,7 +32,7 @@ dpc_value : (y : Hart) → debug_value y dpc_number ≡ Some y.core.pc
 unfolding debug_value
 dpc_value y = refl
 
-dcsr_held : (y : Hart) → debug_value y dcsr_number ≡ Some (dcsr_value y.debug)
+pub dcsr_held : (y : Hart) → debug_value y dcsr_number ≡ Some (dcsr_value y.debug)
 unfolding debug_value csr_value
 dcsr_held y = refl
 
@@ -40,7 +40,7 @@ reads_dpc : (y : Hart) → reaches false y dpc_number ≡ true
 unfolding debug_value
 reads_dpc y = refl
 
-reads_dcsr : (y : Hart) → reaches false y dcsr_number ≡ true
+pub reads_dcsr : (y : Hart) → reaches false y dcsr_number ≡ true
 unfolding debug_value csr_value
 reads_dcsr y = refl
 
@@ -51,7 +51,7 @@ small_cause cause.HaltReq = omega arith
 small_cause cause.Step = omega arith
 small_cause cause.Reset = omega arith
 
-small_shown : (o : Option Cause) → shown_cause o < 8
+pub small_shown : (o : Option Cause) → shown_cause o < 8
 small_shown None = omega arith
 small_shown (Some c) = small_cause c
 

@@ -34,19 +34,19 @@ use Rattle.probe_access.proofs.WordAccess.{StoreFaults, Stores, address_in, in_x
 -- ---- the hart of a store
 
 -- x9 has the value, and x8 the address
-abbrev valued : Hart → ℕ → Hart
+abbrev pub valued : Hart → ℕ → Hart
 valued x v = debug_written x x9_number v
 
-abbrev aimed : Hart → ℕ → ℕ → Hart
+abbrev pub aimed : Hart → ℕ → ℕ → Hart
 aimed x a v = debug_written (valued x v) x8_number a
 
 valued_all : (x : Hart) (v : ℕ) → length x.core.x ≡ 32 → length (valued x v).core.x ≡ 32
 valued_all x v all = ap (λ (y : Hart). length y.core.x) (x9_written x v) ∙ length-set x.core.x 9 v ∙ all
 
-aimed_at : (x : Hart) (a v : ℕ) → length x.core.x ≡ 32 → a < 2 ^ 64 → address_in (aimed x a v) ≡ a
+pub aimed_at : (x : Hart) (a v : ℕ) → length x.core.x ≡ 32 → a < 2 ^ 64 → address_in (aimed x a v) ≡ a
 aimed_at x a v all small = in_x8 (aimed x a v) a (ap (λ (y : Hart). x_of y.core 8) (x8_written (valued x v) a) ∙ x8_holds (valued x v) a (valued_all x v all)) small
 
-aimed_value : (x : Hart) (a v : ℕ) → length x.core.x ≡ 32 → x_of (aimed x a v).core 9 ≡ v
+pub aimed_value : (x : Hart) (a v : ℕ) → length x.core.x ≡ 32 → x_of (aimed x a v).core 9 ≡ v
 aimed_value x a v all =
     ap (λ (y : Hart). x_of y.core 9) (x8_written (valued x v) a) ∙ x9_other (valued x v) a ∙ ap (λ (y : Hart). x_of y.core 9) (x9_written x v) ∙ x9_holds x v all
 
@@ -75,7 +75,7 @@ store_performed size a v error h bus x base old new all small st p =
     ran_told (Stores size a v (aimed x a v)) (StoreFaults size a) (store_word size) a p.ran.last h bus (valued x v) base x p.addressed new ad
     (λ m. store_did size a v (aimed x a v) m ad.then.stood.frozen (aimed_at x a v all small) (aimed_value x a v all)) p.ran.ran
 
-store_went : (size : Size) (a v h : ℕ) (bus : BusUnit) (x : Hart) (base : Site) (old new : Tells) → length x.core.x ≡ 32 → a < 2 ^ 64 → StoodTold h bus x base x old.far → StoredInside size a v old new → StoreWent size a v h bus x base new.far
+pub store_went : (size : Size) (a v h : ℕ) (bus : BusUnit) (x : Hart) (base : Site) (old new : Tells) → length x.core.x ≡ 32 → a < 2 ^ 64 → StoodTold h bus x base x old.far → StoredInside size a v old new → StoreWent size a v h bus x base new.far
 store_went size a v h bus x base old new all small st i =
     let wr : WrittenTold x9_number v h bus x base x st.kept i.mid.far = written_told x9_number v h bus x base x old i.mid (omega arith) st i.x9 in
     let r = store_performed size a v 0 h bus x base i.mid new all small wr.then i.performed in
@@ -134,7 +134,7 @@ store_faulted size a v h bus x base old new all small st p =
     store_fault_at (StoreFaults size a) a v h bus x base new.far
     (faulted_told (Stores size a v (aimed x a v)) (StoreFaults size a) p.ran.last h bus (aimed x a v) base x new.far r.far r.is p.ran.error_is r.program)
 
-store_badly : (size : Size) (a v h : ℕ) (bus : BusUnit) (x : Hart) (base : Site) (old_count new_count : ℕ) (first last : Tells) (e : AccessFault) → length x.core.x ≡ 32 → a < 2 ^ 64 → StoodTold h bus x base x first.far
+pub store_badly : (size : Size) (a v h : ℕ) (bus : BusUnit) (x : Hart) (base : Site) (old_count new_count : ℕ) (first last : Tells) (e : AccessFault) → length x.core.x ≡ 32 → a < 2 ^ 64 → StoodTold h bus x base x first.far
     → StoreFailedInside size a v old_count new_count first last e → OnlyMemory a (FaultInside (StoreFaults size a) h bus x base last.far) e
 store_badly size a v h bus x base old_count new_count first last e all small st (writing f) =
     clean_only a (FaultInside (StoreFaults size a) h bus x base last.far) e (write_clean x9_number v h bus x base x old_count new_count first last e (omega arith) (writes_x9 x) st f)

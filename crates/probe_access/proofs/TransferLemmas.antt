@@ -22,7 +22,8 @@ use Rattle.probe_run.specs.Acts.Act.{Got, Put}
 use Rattle.probe_access.proofs.Aside.{Frozen, HartAt, aside, passed, with_unit}
 use Rattle.probe_access.specs.Words.{abstractcs_address, command_address, transfer_command, transfer_word}
 use Rattle.probe_access.proofs.Along.{SiteActs, Split, site_acts-split}
-use Rattle.probe_access.proofs.Quiet.{active_ran, ran-append}
+use Rattle.chip_laws.proofs.PathLemmas.{ran-append}
+use Rattle.probe_access.proofs.Quiet.{active_ran}
 use Rattle.probe_access.proofs.ReadyUnit.{Held, Kept, OpAt, commands_of, done_ran, op_at, unit_of, unit_with}
 use Rattle.probe_access.proofs.Steps.{Between, Course, Does, DoneAt, between_done, between_ran}
 use Rattle.probe_access.proofs.Steps.Between.{still}
@@ -126,7 +127,7 @@ command_starts word c why k h bus y z w here is reason =
 abbrev pub refusing : Bool → ℕ → Bool
 refusing write number = write && debug_refuses number
 
-transfer_refusal_by : (y : Hart) (write : Bool) (number : ℕ) (o : Option ℕ) (r : Bool) → Frozen y → debug_value y number ≡ o → refusing write number ≡ r
+pub transfer_refusal_by : (y : Hart) (write : Bool) (number : ℕ) (o : Option ℕ) (r : Bool) → Frozen y → debug_value y number ≡ o → refusing write number ≡ r
     → refusal (Some y) (transfer_command write number) ≡ cond (not (is_some o && not r)) Exception Fine
 unfolding refusal
 transfer_refusal_by y write number o r f is refuses =
@@ -186,7 +187,7 @@ abbrev pub hart_behind : Bool → ℕ → Kept → Hart → Hart
 hart_behind true number k y = debug_written y number (joined_halves k.data0 k.data1)
 hart_behind false number k y = y
 
-transfer_does : (write : Bool) (number v : ℕ) (k : Kept) (y : Hart) → debug_value y number ≡ Some v
+pub transfer_does : (write : Bool) (number v : ℕ) (k : Kept) (y : Hart) → debug_value y number ≡ Some v
     → Does y (commands_of (with_command (transfer_command write number) k) Fine (Transfer (transfer_command write number) ∷ [])) (hart_behind write number k y) (commands_of (words_behind write number v k) Fine [])
 unfolding micro_step
 transfer_does true number v k y is = record { each = λ m. rw is refl }

@@ -22,11 +22,16 @@ pub record Fallen (far : Option Far) (alive : Bool) (why : DmiFault) : Type 0 wh
   pub stream : LeavesStream far why
   pub dead : alive ≡ false
 
+-- calls can be made, also of a chip that has met its limit
+pub record Operates (far : Option Far) (alive : Bool) : Type 0 where
+  pub link : CanOperate far
+  pub alive_is : alive ≡ true
+
 -- behind a fault of run control
 abbrev pub RunBehind : Option Far → Bool → RunFault → Type 0
 RunBehind far alive (run_fault.Dmi why) = Fallen far alive why
-RunBehind far alive (run_fault.NoHalt looks) = Stands far alive
-RunBehind far alive (run_fault.NoAck looks) = Stands far alive
+RunBehind far alive (run_fault.NoHalt looks) = Operates far alive
+RunBehind far alive (run_fault.NoAck looks) = Operates far alive
 
 -- behind any other fault than one of the link it stands as before
 abbrev pub LinkBehind : Option Far → Bool → AccessFault → Type 0

@@ -1,9 +1,16 @@
 pub mod Accesses
+pub mod BlockCuts
+pub mod BlockRuns
+pub mod Blocks
+pub mod BusRuns
 pub mod CommandRuns
+pub mod Cuts
 pub mod Faults
 pub mod MemoryRuns
 pub mod Registers
 pub mod RegisterRuns
 pub mod Scratches
+pub mod SingleSteps
+pub mod StepRuns
 pub mod Stops
 pub mod Words

@@ -17,21 +17,21 @@ const DATA0: u8 = 0x04;
 const DATA1: u8 = 0x05;
 
 /// The lower 32 bits.
-fn low_word(value: u64) -> u32
+pub fn low_word(value: u64) -> u32
     ensures { result ≡ low_half value }
 {
     (value & 0xffff_ffff) as u32
 }
 
 /// The upper 32 bits.
-fn high_word(value: u64) -> u32
+pub fn high_word(value: u64) -> u32
     ensures { result ≡ high_half value }
 {
     (value >> 32) as u32
 }
 
 /// The number of these two words.
-fn join(low: u32, high: u32) -> u64
+pub fn join(low: u32, high: u32) -> u64
     ensures { result ≡ joined low high }
 {
     u64::from(low) + (u64::from(high) << 32)

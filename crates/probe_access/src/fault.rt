@@ -1,5 +1,6 @@
 ghost use Rattle.std.specs.Prelude.{◌≡◌};
 ghost use Rattle.probe_access.specs.declared.fault.AccessFault.TheVariants as access_fault;
+ghost use Rattle.probe_access.specs.StepRuns.{of_run};
 
 use debug_model::DmiFault;
 use probe_run::RunFault;
@@ -33,5 +34,16 @@ impl From<DmiFault> for AccessFault {
 
     fn from(fault: DmiFault) -> AccessFault {
         AccessFault::Dmi(fault)
+    }
+}
+
+impl From<RunFault> for AccessFault {
+    ghost from_gives = { λ r e. e ≡ of_run r };
+
+    fn from(fault: RunFault) -> AccessFault {
+        match fault {
+            RunFault::Dmi(why) => AccessFault::Dmi(why),
+            _ => AccessFault::Run(fault),
+        }
     }
 }

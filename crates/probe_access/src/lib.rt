@@ -3,6 +3,9 @@
 //! of harts are all else that happened, that just the named register was changed or one access made, and that the chip is ready again.
 #![tactic(auto)]
 
+mod blocks;
+mod bus;
+mod bus_parts;
 mod commands;
 mod doubles;
 mod fault;
@@ -12,15 +15,21 @@ mod polling;
 mod program;
 mod registers;
 mod scratch;
+#[cfg(test)]
+mod scripted_tests;
+mod single;
 mod stopped;
 mod stops;
 #[cfg(test)]
 mod tests;
 mod transfers;
 
+pub use blocks::{load_block, store_block};
+pub use bus::{bus_load, bus_store};
 pub use fault::AccessFault;
 pub use memory::{is_aligned, load, store};
 pub use registers::{reg, set_reg};
 pub use scratch::{Scratch, save};
+pub use single::step;
 pub use stopped::Stop;
 pub use stops::stop;

@@ -5,6 +5,7 @@ ghost use Rattle.probe_access.specs.Accesses.{AccessLeft, IfMemory, LoadRefused,
 ghost use Rattle.debug_model.specs.Dmi.{CanOperate};
 ghost use Rattle.debug_model.specs.Told.{IsHalted, IsIdle, IsLive, IsReady, Selects};
 ghost use Rattle.probe_run.specs.Acts.{tells};
+ghost use Rattle.probe_access.specs.Cuts.{AccessLeftOff, IfCut, Leaves, LoadLeaves, Scratched, StoreLeaves};
 ghost use Rattle.probe_access.specs.Faults.{LinkBehind};
 ghost use Rattle.probe_access.specs.MemoryRuns.{Around, AroundFailed, LoadFailedInside, LoadedAny, LoadedInside, StoreFailedInside, StoredInside};
 
@@ -99,6 +100,7 @@ pub fn load<D: Dmi>(
     ensures around { IfOk result (λ value. Around (LoadedInside size address value) (tells (D.far link.old) (D.script link.old)) (tells (D.far link.new) (D.script link.new))) }
     ensures left { IfErr result (AccessLeft (LoadRefused size address) address (D.far link.old) (D.far link.new)) }
     ensures failed { IfErr result (AroundFailed (LoadedAny size address) (LoadFailedInside size address) (D.fault_count link.old) (D.fault_count link.new) (tells (D.far link.old) (D.script link.old)) (tells (D.far link.new) (D.script link.new))) }
+    ensures cut { IfErr result (IfCut (Leaves (AccessLeftOff Scratched LoadLeaves halted.now.number) (D.far link.old) (D.far link.new))) }
     ensures ready { OnOk result (IsReady (D.far link.new)) }
     ensures selects { OnOk result (Selects halted.now.number (D.far link.new)) }
     ensures halted { OnOk result (IsHalted halted.now.number (D.far link.new)) }
@@ -138,6 +140,7 @@ pub fn store<D: Dmi>(
     ensures around { OnOk result (Around (StoredInside size address value) (tells (D.far link.old) (D.script link.old)) (tells (D.far link.new) (D.script link.new))) }
     ensures left { IfErr result (AccessLeft (StoreRefused size address) address (D.far link.old) (D.far link.new)) }
     ensures failed { IfErr result (AroundFailed (StoredInside size address value) (StoreFailedInside size address value) (D.fault_count link.old) (D.fault_count link.new) (tells (D.far link.old) (D.script link.old)) (tells (D.far link.new) (D.script link.new))) }
+    ensures cut { IfErr result (IfCut (Leaves (AccessLeftOff Scratched (StoreLeaves size address value) halted.now.number) (D.far link.old) (D.far link.new))) }
     ensures ready { OnOk result (IsReady (D.far link.new)) }
     ensures selects { OnOk result (Selects halted.now.number (D.far link.new)) }
     ensures halted { OnOk result (IsHalted halted.now.number (D.far link.new)) }

@@ -13,7 +13,7 @@ use debug_model::{Abstractcs, Dmi};
 pub const ABSTRACTCS: u8 = 0x16;
 
 /// How many polls a call makes at most.
-const POLLS_MOST: u32 = 64;
+pub const POLLS_MOST: u32 = 64;
 
 /// Polls `abstractcs` until it shows no command under way, at most 64 times, and answers it as it was then.
 pub fn poll<D: Dmi>(link: &mut D) -> Result<u32, AccessFault>

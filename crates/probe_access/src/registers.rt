@@ -3,6 +3,7 @@ ghost use Rattle.debug_model.specs.Dmi.{CanOperate};
 ghost use Rattle.debug_model.specs.Scan.{WhereTold};
 ghost use Rattle.debug_model.specs.Told.{IsHalted, IsIdle, IsLive, IsReady, Selects};
 ghost use Rattle.probe_run.specs.Acts.{tells};
+ghost use Rattle.probe_access.specs.Cuts.{IfCut, LeftAside, Leaves, MaybeWritten, Unchanged};
 ghost use Rattle.probe_access.specs.Faults.{LinkBehind};
 ghost use Rattle.probe_access.specs.RegisterRuns.{ReadFailed, RegisterRead, RegisterWritten, WriteFailed};
 ghost use Rattle.probe_access.specs.Registers.{GotRegister, IfRegister, RegisterLeft, SetRegister};
@@ -24,6 +25,7 @@ pub fn reg<D: Dmi>(link: &mut D, halted: &Halted, register: u16) -> Result<u64, 
     ensures read { IfOk result (λ value. RegisterRead register value (tells (D.far link.old) (D.script link.old)) (tells (D.far link.new) (D.script link.new))) }
     ensures left { IfErr result (RegisterLeft false halted.now.number register (D.far link.old) (D.far link.new)) }
     ensures failed { IfErr result (ReadFailed register (D.fault_count link.old) (D.fault_count link.new) (tells (D.far link.old) (D.script link.old)) (tells (D.far link.new) (D.script link.new))) }
+    ensures cut { IfErr result (IfCut (Leaves (LeftAside Unchanged halted.now.number) (D.far link.old) (D.far link.new))) }
     ensures ready { OnOk result (IsReady (D.far link.new)) }
     ensures selects { OnOk result (Selects halted.now.number (D.far link.new)) }
     ensures halted { OnOk result (IsHalted halted.now.number (D.far link.new)) }
@@ -61,6 +63,7 @@ pub fn set_reg<D: Dmi>(
     ensures written { OnOk result (RegisterWritten register value (tells (D.far link.old) (D.script link.old)) (tells (D.far link.new) (D.script link.new))) }
     ensures left { IfErr result (RegisterLeft true halted.now.number register (D.far link.old) (D.far link.new)) }
     ensures failed { IfErr result (WriteFailed register value (D.fault_count link.old) (D.fault_count link.new) (tells (D.far link.old) (D.script link.old)) (tells (D.far link.new) (D.script link.new))) }
+    ensures cut { IfErr result (IfCut (Leaves (LeftAside (MaybeWritten register value) halted.now.number) (D.far link.old) (D.far link.new))) }
     ensures ready { OnOk result (IsReady (D.far link.new)) }
     ensures selects { OnOk result (Selects halted.now.number (D.far link.new)) }
     ensures halted { OnOk result (IsHalted halted.now.number (D.far link.new)) }

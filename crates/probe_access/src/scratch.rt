@@ -2,6 +2,7 @@ ghost use Rattle.std.specs.Prelude.{◌≡◌, ◌≤◌, ◌<◌, ◌^◌, true
 ghost use Rattle.debug_model.specs.Dmi.{CanOperate};
 ghost use Rattle.debug_model.specs.Told.{IsHalted, IsIdle, IsLive, IsReady, Selects};
 ghost use Rattle.probe_run.specs.Acts.{Did, tells};
+ghost use Rattle.probe_access.specs.Cuts.{IfCut, LeftAside, Leaves, MaybePutBack, Unchanged};
 ghost use Rattle.probe_access.specs.Faults.{BrokeIn, LinkBehind};
 ghost use Rattle.debug_model.specs.Scan.{WhereTold};
 ghost use Rattle.probe_access.specs.Scratches.{PutBackAt, SavedAt, ScratchLeft};
@@ -72,6 +73,7 @@ impl Scratch {
         ensures put_back { OnOk result (PutBack self.x8 self.x9 (tells (D.far link.old) (D.script link.old)) (tells (D.far link.new) (D.script link.new))) }
         ensures left { IfErr result (ScratchLeft (D.far link.old)) }
         ensures failed { IfErr result (PutBackFailed self.x8 self.x9 (D.fault_count link.old) (D.fault_count link.new) (tells (D.far link.old) (D.script link.old)) (tells (D.far link.new) (D.script link.new))) }
+        ensures cut { IfErr result (IfCut (Leaves (LeftAside (MaybePutBack self.x8 self.x9) halted.now.number) (D.far link.old) (D.far link.new))) }
         ensures ready { OnOk result (IsReady (D.far link.new)) }
         ensures selects { OnOk result (Selects halted.now.number (D.far link.new)) }
         ensures halted { OnOk result (IsHalted halted.now.number (D.far link.new)) }
@@ -132,6 +134,7 @@ pub fn save<D: Dmi>(link: &mut D, halted: &Halted) -> Result<Scratch, AccessFaul
     ensures saved { IfOk result (λ scratch. Saved scratch.x8 scratch.x9 (tells (D.far link.old) (D.script link.old)) (tells (D.far link.new) (D.script link.new))) }
     ensures left { IfErr result (ScratchLeft (D.far link.old)) }
     ensures failed { IfErr result (SaveFailed (D.fault_count link.old) (D.fault_count link.new) (tells (D.far link.old) (D.script link.old)) (tells (D.far link.new) (D.script link.new))) }
+    ensures cut { IfErr result (IfCut (Leaves (LeftAside Unchanged halted.now.number) (D.far link.old) (D.far link.new))) }
     ensures ready { OnOk result (IsReady (D.far link.new)) }
     ensures selects { OnOk result (Selects halted.now.number (D.far link.new)) }
     ensures halted { OnOk result (IsHalted halted.now.number (D.far link.new)) }

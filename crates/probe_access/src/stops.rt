@@ -3,6 +3,7 @@ ghost use Rattle.debug_model.specs.Dmi.{CanOperate};
 ghost use Rattle.debug_model.specs.Scan.{WhereTold};
 ghost use Rattle.debug_model.specs.Told.{IsHalted, IsIdle, IsLive, IsReady, Selects};
 ghost use Rattle.probe_run.specs.Acts.{tells};
+ghost use Rattle.probe_access.specs.Cuts.{IfCut, LeftAside, Leaves, Unchanged};
 ghost use Rattle.probe_access.specs.Faults.{LinkBehind};
 ghost use Rattle.probe_access.specs.Scratches.{ScratchLeft};
 ghost use Rattle.probe_access.specs.Stops.{StopFailed, StopRead, StoppedAt};
@@ -17,7 +18,7 @@ use rv_model::Dcsr;
 /// The numbers of `dpc` and `dcsr`.
 const DPC: u16 = 0x7b1;
 
-const DCSR: u16 = 0x7b0;
+pub const DCSR: u16 = 0x7b0;
 
 /// Where the halted hart stands, which is selected, and why it halted: its `dpc`, and the cause in its `dcsr`.
 pub fn stop<D: Dmi>(link: &mut D, halted: &Halted) -> Result<Stop, AccessFault>
@@ -30,6 +31,7 @@ pub fn stop<D: Dmi>(link: &mut D, halted: &Halted) -> Result<Stop, AccessFault>
     ensures read { IfOk result (λ stop. StopRead stop.pc stop.cause (tells (D.far link.old) (D.script link.old)) (tells (D.far link.new) (D.script link.new))) }
     ensures left { IfErr result (ScratchLeft (D.far link.old)) }
     ensures failed { IfErr result (StopFailed (D.fault_count link.old) (D.fault_count link.new) (tells (D.far link.old) (D.script link.old)) (tells (D.far link.new) (D.script link.new))) }
+    ensures cut { IfErr result (IfCut (Leaves (LeftAside Unchanged halted.now.number) (D.far link.old) (D.far link.new))) }
     ensures ready { OnOk result (IsReady (D.far link.new)) }
     ensures selects { OnOk result (Selects halted.now.number (D.far link.new)) }
     ensures halted { OnOk result (IsHalted halted.now.number (D.far link.new)) }

@@ -1,3 +1,4 @@
+use Rattle.probe_access.proofs.CutClauses.{store_left_off}
 use Rattle.std.proofs.Common.{arith}
 use Rattle.debug_model.specs.Told.{IsHalted, IsReady, Selects}
 use Rattle.probe_access.proofs.StoreClauses.{store_err, store_ok}
@@ -35,3 +36,8 @@ pub returns-in_err-store_around-clause-halted_still : goal.returns-in_err-store_
 returns-in_err-store_around-clause-halted_still g c =
     err_failed c.from_residual.result c.in_err-store_around.field-0.0 _ c.from_residual.ensures.1
     (if_memory (Serving c.args.halted.now.number (g.D.Dmi.far c.store_around.new.link)) (IsHalted c.args.halted.now.number (g.D.Dmi.far c.store_around.new.link)) c.in_err-store_around.field-0.0 (λ s. s.halted) (store_err c.args.size c.args.address c.args.value c.args.halted.now.number _ _ _ _ _ c.in_err-store_around.field-0.0 (omega arith) c.requires.ready c.requires.selects c.requires.halted c.in_err-store_around.ensures.failed).serving)
+
+pub returns-in_err-store_around-clause-cut : goal.returns-in_err-store_around-clause-cut
+returns-in_err-store_around-clause-cut g c =
+    err_failed c.from_residual.result c.in_err-store_around.field-0.0 _ c.from_residual.ensures.1
+    (store_left_off c.args.size c.args.address c.args.value c.args.halted.now.number _ _ _ _ _ c.in_err-store_around.field-0.0 (omega arith) c.requires.ready c.requires.selects c.requires.halted c.in_err-store_around.ensures.failed)

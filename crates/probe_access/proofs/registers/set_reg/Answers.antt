@@ -1,5 +1,6 @@
 use Rattle.std.proofs.Common.{arith}
 use Rattle.debug_model.specs.Told.{IsHalted, IsReady, Selects}
+use Rattle.probe_access.proofs.CutClauses.{set_reg_cut}
 use Rattle.probe_access.proofs.RegClauses.{Serving, if_register}
 use Rattle.probe_access.proofs.SetClauses.{set_err, set_ok}
 use Rattle.probe_access.proofs.RegisterCalls.{err_failed}
@@ -43,3 +44,8 @@ returns-in_err-write_register-clause-halted_still g c =
     err_failed c.from_residual.result c.in_err-write_register.field-0.0 _ c.from_residual.ensures.1
     (if_register (Serving c.args.halted.now.number (g.D.Dmi.far c.write_register.new.link)) (IsHalted c.args.halted.now.number (g.D.Dmi.far c.write_register.new.link)) c.in_err-write_register.field-0.0 (λ s. s.halted)
     (set_err c.args.halted.now.number c.args.register c.args.value _ _ _ _ _ c.in_err-write_register.field-0.0 (omega arith) c.requires.ready c.requires.selects c.requires.halted c.in_err-write_register.ensures.failed).serving)
+
+pub returns-in_err-write_register-clause-cut : goal.returns-in_err-write_register-clause-cut
+returns-in_err-write_register-clause-cut g c =
+    err_failed c.from_residual.result c.in_err-write_register.field-0.0 _ c.from_residual.ensures.1
+    (set_reg_cut c.args.halted.now.number c.args.register c.args.value _ _ _ _ _ c.in_err-write_register.field-0.0 (omega arith) c.requires.ready c.requires.selects c.requires.halted c.in_err-write_register.ensures.failed)

@@ -1,3 +1,4 @@
+use Rattle.probe_access.proofs.CutClauses.{save_cut}
 use Rattle.probe_access.proofs.ScratchClauses.{save_err, save_ok}
 use Rattle.probe_access.proofs.RegisterCalls.{err_failed}
 use Rattle.probe_access.proofs.scratch.save.Goals as goal
@@ -16,3 +17,8 @@ returns-clause-halted g c = (save_ok c.args.halted.now.number c.in_ok-scratch.sc
 
 pub returns-in_err-scratch-clause-left : goal.returns-in_err-scratch-clause-left
 returns-in_err-scratch-clause-left g c = err_failed c.from_residual.result c.in_err-scratch.field-0.0 _ c.from_residual.ensures.1 (save_err c.args.halted.now.number _ _ _ _ _ c.in_err-scratch.field-0.0 c.requires.ready c.requires.selects c.requires.halted c.in_err-scratch.ensures.failed)
+
+pub returns-in_err-scratch-clause-cut : goal.returns-in_err-scratch-clause-cut
+returns-in_err-scratch-clause-cut g c =
+    err_failed c.from_residual.result c.in_err-scratch.field-0.0 _ c.from_residual.ensures.1
+    (save_cut c.args.halted.now.number _ _ _ _ _ c.in_err-scratch.field-0.0 c.requires.ready c.requires.selects c.requires.halted c.in_err-scratch.ensures.failed)

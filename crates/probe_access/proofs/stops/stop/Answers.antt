@@ -1,3 +1,4 @@
+use Rattle.probe_access.proofs.CutClauses.{stop_cut}
 use Rattle.std.proofs.Common.{ap}
 use Rattle.rv_model.specs.declared.dcsr.Dcsr.{Dcsr}
 use Rattle.probe_access.specs.Stops.StopFailed.{at_dcsr, at_dpc}
@@ -36,3 +37,14 @@ pub returns-in_err-word-clause-left : goal.returns-in_err-word-clause-left
 returns-in_err-word-clause-left g c =
     err_failed c.from_residual-in_err-word.result c.in_err-word.field-0.0 _ c.from_residual-in_err-word.ensures.1
     (stop_err c.args.halted.now.number _ _ _ _ _ c.in_err-word.field-0.0 c.requires.ready c.requires.selects c.requires.halted (at_dcsr c.in_ok-pc.pc _ c.in_ok-pc.ensures.read (read_counted 0x7b0 _ _ _ _ _ c.in_err-word.field-0.0 c.read_register.ensures.later c.read_register-2.ensures.later c.in_err-word.ensures.failed)))
+
+pub returns-in_err-pc-clause-cut : goal.returns-in_err-pc-clause-cut
+returns-in_err-pc-clause-cut g c =
+    err_failed c.from_residual.result c.in_err-pc.field-0.0 _ c.from_residual.ensures.1
+    (stop_cut c.args.halted.now.number _ _ _ _ _ c.in_err-pc.field-0.0 c.requires.ready c.requires.selects c.requires.halted (at_dpc c.in_err-pc.ensures.failed))
+
+pub returns-in_err-word-clause-cut : goal.returns-in_err-word-clause-cut
+returns-in_err-word-clause-cut g c =
+    err_failed c.from_residual-in_err-word.result c.in_err-word.field-0.0 _ c.from_residual-in_err-word.ensures.1
+    (stop_cut c.args.halted.now.number _ _ _ _ _ c.in_err-word.field-0.0 c.requires.ready c.requires.selects c.requires.halted
+    (at_dcsr c.in_ok-pc.pc _ c.in_ok-pc.ensures.read (read_counted 0x7b0 _ _ _ _ _ c.in_err-word.field-0.0 c.read_register.ensures.later c.read_register-2.ensures.later c.in_err-word.ensures.failed)))

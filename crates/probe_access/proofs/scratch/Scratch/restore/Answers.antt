@@ -1,3 +1,4 @@
+use Rattle.probe_access.proofs.CutClauses.{restore_cut}
 use Rattle.std.proofs.Common.{arith}
 use Rattle.probe_access.proofs.ScratchClauses.{put_back_err, put_back_ok}
 use Rattle.probe_access.proofs.RegisterCalls.{err_failed}
@@ -17,3 +18,8 @@ returns-clause-halted g c = (put_back_ok c.args.halted.now.number c.args.self.x8
 
 pub returns-in_err-put_back-clause-left : goal.returns-in_err-put_back-clause-left
 returns-in_err-put_back-clause-left g c = err_failed c.from_residual.result c.in_err-put_back.field-0.0 _ c.from_residual.ensures.1 (put_back_err c.args.halted.now.number c.args.self.x8 c.args.self.x9 _ _ _ _ _ c.in_err-put_back.field-0.0 c.requires.ready c.requires.selects c.requires.halted c.in_err-put_back.ensures.failed)
+
+pub returns-in_err-put_back-clause-cut : goal.returns-in_err-put_back-clause-cut
+returns-in_err-put_back-clause-cut g c =
+    err_failed c.from_residual.result c.in_err-put_back.field-0.0 _ c.from_residual.ensures.1
+    (restore_cut c.args.halted.now.number c.args.self.x8 c.args.self.x9 _ _ _ _ _ c.in_err-put_back.field-0.0 c.requires.ready c.requires.selects c.requires.halted c.in_err-put_back.ensures.failed)

@@ -1,0 +1,361 @@
+-- What a fault of an access follows, however far its calls came, and where a value was read.
+use Rattle.std.proofs.Common.{◌≡◌, ◌∙◌, ◌≤◌, ◌++◌, ℕ, List, [], ◌∷◌, map, Bool, true, false, sym, ap, subst, append_assoc, arith}
+use Rattle.rv_model.specs.declared.size.Size.{Size}
+use Rattle.debug_model.specs.declared.dmi.DmiFault.{DmiFault}
+use Rattle.probe_access.specs.declared.fault.AccessFault.{AccessFault}
+use Rattle.probe_access.specs.declared.fault.AccessFault.TheVariants as access_fault
+use Rattle.probe_run.specs.Acts.{Act, Did, Tells}
+use Rattle.probe_run.specs.Acts.Act.{Got, Put}
+use Rattle.probe_run.specs.Acts.Did.{nothing}
+use Rattle.probe_access.specs.Accesses.{IfMemory}
+use Rattle.probe_access.specs.BlockRuns.{Causes, Denied, Fetched, Fetches, Reported, ReportedOddly}
+use Rattle.probe_access.specs.BlockRuns.Fetches.{nothing as none_fetched, further as fetched_further}
+use Rattle.probe_access.specs.BlockRuns.WordsRead.{lower_first}
+use Rattle.probe_access.specs.CommandRuns.{CommandFailed, clearing, command_acts, error_shown, poll_act}
+use Rattle.probe_access.specs.MemoryRuns.{Around, AroundFailed, LoadFailedInside, LoadedAny, LoadedInside, PerformFailed, Performed, PutBack, PutBackFailed, Recovers, SaveFailed, Saved, StoreFailedInside, StoredInside, program_written}
+use Rattle.probe_access.specs.MemoryRuns.AroundFailed.{behind, in_restore, in_restore_behind, in_save, inside}
+use Rattle.probe_access.specs.MemoryRuns.LoadFailedInside.{performing as load_performing, reading as load_reading}
+use Rattle.probe_access.specs.MemoryRuns.PerformFailed.{in_program, in_address, in_run, faulted, oddly}
+use Rattle.probe_access.specs.MemoryRuns.PutBackFailed.{at_x8 as put_x8, at_x9 as put_x9}
+use Rattle.probe_access.specs.MemoryRuns.SaveFailed.{at_x8 as save_x8, at_x9 as save_x9}
+use Rattle.probe_access.specs.MemoryRuns.StoreFailedInside.{performing as store_performing, writing as store_writing}
+use Rattle.probe_access.specs.RegisterRuns.{RanOddly, RanTo, ReadFailed, ReadFailedAt, RegisterRead, RegisterWritten, WriteFailed, WriteFailedAt}
+use Rattle.probe_access.specs.RegisterRuns.ReadFailedAt.{in_command as read_in_command, in_words as read_in_words}
+use Rattle.probe_access.specs.RegisterRuns.WriteFailedAt.{in_command as written_in_command, in_words as written_in_words}
+use Rattle.probe_access.specs.Words.{command_address, data0_address, data1_address, joined, load_word, program_word, store_word, transfer_word, x8_number, x9_number}
+use Rattle.probe_access.proofs.RegisterCalls.{none_cleared}
+use Rattle.probe_run.proofs.ActLemmas.{broke_then, did_list, did_then}
+
+-- ---- some calls
+
+pub record Calls (old new : Tells) : Type 0 where
+  pub acts : List Act
+  pub did : Did old acts new
+
+pub calls : (acts : List Act) (old new : Tells) → Did old acts new → Calls old new
+calls acts old new did = record { acts = acts; did = did }
+
+pub calls_then : (a b c : Tells) → Calls a b → Calls b c → Calls a c
+calls_then a b c p q = record { acts = p.acts ++ q.acts; did = did_then p.acts a b p.did q.acts c q.did }
+
+read_calls : (number value : ℕ) (a b : Tells) → RegisterRead number value a b → Calls a b
+read_calls number value a b r = calls_then a r.mid b (calls _ a r.mid r.ran.ran.did) (calls _ r.mid b r.words.did)
+
+written_calls : (number value : ℕ) (a b : Tells) → RegisterWritten number value a b → Calls a b
+written_calls number value a b r = calls_then a r.mid b (calls _ a r.mid r.words) (calls _ r.mid b r.ran.ran.did)
+
+saved_calls : (x8 x9 : ℕ) (a b : Tells) → Saved x8 x9 a b → Calls a b
+saved_calls x8 x9 a b s = calls_then a s.mid b (read_calls x8_number x8 a s.mid s.first) (read_calls x9_number x9 s.mid b s.second)
+
+back_calls : (x8 x9 : ℕ) (a b : Tells) → PutBack x8 x9 a b → Calls a b
+back_calls x8 x9 a b s = calls_then a s.mid b (written_calls x8_number x8 a s.mid s.first) (written_calls x9_number x9 s.mid b s.second)
+
+addressed_calls : (word address : ℕ) (a b c : Tells) → Did a (program_written word) b → RegisterWritten x8_number address b c → Calls a c
+addressed_calls word address a b c did x8 = calls_then a b c (calls _ a b did) (written_calls x8_number address b c x8)
+
+performed_calls : (word address error : ℕ) (a b : Tells) → Performed word address error a b → Calls a b
+performed_calls word address error a b p = calls_then a p.addressed b (addressed_calls word address a p.written p.addressed p.program p.x8) (calls _ p.addressed b p.ran.ran.did)
+
+loaded_calls : (size : Size) (address value : ℕ) (a b : Tells) → LoadedInside size address value a b → Calls a b
+loaded_calls size address value a b l = calls_then a l.mid b (performed_calls (load_word size) address 0 a l.mid l.performed) (read_calls x9_number value l.mid b l.x9)
+
+stored_calls : (size : Size) (address value : ℕ) (a b : Tells) → StoredInside size address value a b → Calls a b
+stored_calls size address value a b l = calls_then a l.mid b (written_calls x9_number value a l.mid l.x9) (performed_calls (store_word size) address 0 l.mid b l.performed)
+
+-- ---- a fault behind more calls
+
+behind_list : (xs front rest : List Act) (y : Act) (a c : Tells) → Did a (xs ++ (front ++ y ∷ rest)) c → Did a ((xs ++ front) ++ y ∷ rest) c
+behind_list xs front rest y a c did = did_list (xs ++ (front ++ y ∷ rest)) ((xs ++ front) ++ y ∷ rest) a c (sym (append_assoc xs front (y ∷ rest))) did
+
+pub causes_behind : (a b c : Tells) → Calls a b → (count mid_count new_count : ℕ) (e : AccessFault) → count ≤ mid_count → mid_count ≤ new_count → Causes mid_count new_count b c e → Causes count new_count a c e
+causes_behind a b c p count mid_count new_count (access_fault.Dmi why) le later f = (p.acts ++ f.0, f.1, broke_then p.acts a b p.did f.0 f.1 count mid_count new_count c.far why le later f.2)
+causes_behind a b c p count mid_count new_count (access_fault.Memory address) le later f = record {
+  front = p.acts ++ f.front;
+  last = f.last;
+  rest = f.rest;
+  idle = f.idle;
+  error_is = f.error_is;
+  did = behind_list p.acts f.front f.rest (poll_act f.last) a c (did_then p.acts a b p.did (f.front ++ poll_act f.last ∷ f.rest) c f.did);
+}
+causes_behind a b c p count mid_count new_count (access_fault.Register number) le later f = record {
+  front = p.acts ++ f.front;
+  write = f.write;
+  words = f.words;
+  last = f.last;
+  rest = f.rest;
+  idle = f.idle;
+  error_is = f.error_is;
+  did = behind_list p.acts f.front (map poll_act f.words ++ poll_act f.last ∷ f.rest) (Put command_address (transfer_word f.write number)) a c
+      (did_then p.acts a b p.did (f.front ++ Put command_address (transfer_word f.write number) ∷ (map poll_act f.words ++ poll_act f.last ∷ f.rest)) c f.did);
+}
+causes_behind a b c p count mid_count new_count access_fault.StillBusy le later f = record {
+  front = p.acts ++ f.front;
+  busy = record {
+    words = f.busy.words;
+    busy = f.busy.busy;
+    all = f.busy.all;
+    did = did_list (p.acts ++ (f.front ++ map poll_act f.busy.words)) ((p.acts ++ f.front) ++ map poll_act f.busy.words) a c (sym (append_assoc p.acts f.front (map poll_act f.busy.words)))
+        (did_then p.acts a b p.did (f.front ++ map poll_act f.busy.words) c f.busy.did);
+  };
+}
+causes_behind a b c p count mid_count new_count (access_fault.Run why) le later f = f
+causes_behind a b c p count mid_count new_count (access_fault.Odd word) le later f = record {
+  front = p.acts ++ f.front;
+  rest = f.rest;
+  idle = f.idle;
+  some = f.some;
+  other = f.other;
+  did = behind_list p.acts f.front f.rest (poll_act word) a c (did_then p.acts a b p.did (f.front ++ poll_act word ∷ f.rest) c f.did);
+}
+
+-- a fault behind which calls went on
+causes_then : (a b c : Tells) (was_count is_count count new_count : ℕ) (e : AccessFault) → Causes was_count is_count a b e → Recovers e → Calls b c → Causes count new_count a c e
+causes_then a b c was_count is_count count new_count (access_fault.Dmi why) f r q = absurd r
+causes_then a b c was_count is_count count new_count (access_fault.Memory address) f r q = record {
+  front = f.front;
+  last = f.last;
+  rest = f.rest ++ q.acts;
+  idle = f.idle;
+  error_is = f.error_is;
+  did = did_list ((f.front ++ poll_act f.last ∷ f.rest) ++ q.acts) (f.front ++ poll_act f.last ∷ (f.rest ++ q.acts)) a c (append_assoc f.front (poll_act f.last ∷ f.rest) q.acts)
+      (did_then (f.front ++ poll_act f.last ∷ f.rest) a b f.did q.acts c q.did);
+}
+causes_then a b c was_count is_count count new_count (access_fault.Register number) f r q =
+    let command : Act = Put command_address (transfer_word f.write number) in
+    let polls : List Act = map poll_act f.words in
+    record {
+      front = f.front;
+      write = f.write;
+      words = f.words;
+      last = f.last;
+      rest = f.rest ++ q.acts;
+      idle = f.idle;
+      error_is = f.error_is;
+      did = did_list ((f.front ++ command ∷ (polls ++ poll_act f.last ∷ f.rest)) ++ q.acts) (f.front ++ command ∷ (polls ++ poll_act f.last ∷ (f.rest ++ q.acts))) a c
+          (append_assoc f.front (command ∷ (polls ++ poll_act f.last ∷ f.rest)) q.acts ∙ ap (λ xs. f.front ++ command ∷ xs) (append_assoc polls (poll_act f.last ∷ f.rest) q.acts))
+          (did_then (f.front ++ command ∷ (polls ++ poll_act f.last ∷ f.rest)) a b f.did q.acts c q.did);
+    }
+causes_then a b c was_count is_count count new_count access_fault.StillBusy f r q = absurd r
+causes_then a b c was_count is_count count new_count (access_fault.Run why) f r q = absurd r
+causes_then a b c was_count is_count count new_count (access_fault.Odd word) f r q = absurd r
+
+-- a fault behind which calls can go on came behind calls that were Ok
+causes_calls : (a b : Tells) (was_count is_count : ℕ) (e : AccessFault) → Causes was_count is_count a b e → Recovers e → Calls a b
+causes_calls a b was_count is_count (access_fault.Dmi why) f r = absurd r
+causes_calls a b was_count is_count (access_fault.Memory address) f r = calls _ a b f.did
+causes_calls a b was_count is_count (access_fault.Register number) f r = calls _ a b f.did
+causes_calls a b was_count is_count access_fault.StillBusy f r = absurd r
+causes_calls a b was_count is_count (access_fault.Run why) f r = absurd r
+causes_calls a b was_count is_count (access_fault.Odd word) f r = absurd r
+
+-- ---- of each part
+
+command_causes : (word old_count new_count : ℕ) (a b : Tells) (e : AccessFault) → CommandFailed word old_count new_count a b e → Causes old_count new_count a b e
+command_causes word old_count new_count a b (access_fault.Dmi why) f = (f.acts, f.failed, f.broke)
+command_causes word old_count new_count a b (access_fault.Memory address) f = absurd f
+command_causes word old_count new_count a b (access_fault.Register number) f = absurd f
+command_causes word old_count new_count a b (access_fault.Run why) f = f
+command_causes word old_count new_count a b access_fault.StillBusy f = record { front = Put command_address word ∷ []; busy = f }
+command_causes word old_count new_count a b (access_fault.Odd last) f = absurd f
+
+ran_oddly : (word last : ℕ) (a b : Tells) → RanOddly word last a b → ReportedOddly last a b
+ran_oddly word last a b r = record {
+  front = Put command_address word ∷ map poll_act r.ran.words;
+  rest = clearing (error_shown last);
+  idle = r.ran.idle;
+  some = r.some;
+  other = r.other;
+  did = r.ran.did;
+}
+
+ran_reported : (word error : ℕ) (a b : Tells) → RanTo word error a b → Reported error a b
+ran_reported word error a b r = record {
+  front = Put command_address word ∷ map poll_act r.ran.words;
+  last = r.last;
+  rest = clearing (error_shown r.last);
+  idle = r.ran.idle;
+  error_is = r.error_is;
+  did = r.ran.did;
+}
+
+ran_denied : (write : Bool) (number asked : ℕ) (a b : Tells) → asked ≡ number → RanTo (transfer_word write number) 3 a b → Denied asked a b
+ran_denied write number asked a b same r = subst (λ n. Denied n a b) (sym same) (record {
+  front = [];
+  write = write;
+  words = r.ran.words;
+  last = r.last;
+  rest = clearing (error_shown r.last);
+  idle = r.ran.idle;
+  error_is = r.error_is;
+  did = r.ran.did;
+})
+
+-- the counts matter to a fault of the link alone
+abbrev pub LinkLater : ℕ → ℕ → AccessFault → Type 0
+LinkLater count new_count (access_fault.Dmi why) = count ≤ new_count
+LinkLater count new_count (access_fault.Memory address) = Unit {0}
+LinkLater count new_count (access_fault.Register number) = Unit {0}
+LinkLater count new_count access_fault.StillBusy = Unit {0}
+LinkLater count new_count (access_fault.Run why) = Unit {0}
+LinkLater count new_count (access_fault.Odd word) = Unit {0}
+
+pub link_later : (count new_count : ℕ) (e : AccessFault) → count ≤ new_count → LinkLater count new_count e
+link_later count new_count (access_fault.Dmi why) later = later
+link_later count new_count (access_fault.Memory address) later = tt
+link_later count new_count (access_fault.Register number) later = tt
+link_later count new_count access_fault.StillBusy later = tt
+link_later count new_count (access_fault.Run why) later = tt
+link_later count new_count (access_fault.Odd word) later = tt
+
+no_link : (count new_count : ℕ) (e : AccessFault) → Recovers e → LinkLater count new_count e
+no_link count new_count (access_fault.Dmi why) r = absurd r
+no_link count new_count (access_fault.Memory address) r = tt
+no_link count new_count (access_fault.Register number) r = tt
+no_link count new_count access_fault.StillBusy r = tt
+no_link count new_count (access_fault.Run why) r = tt
+no_link count new_count (access_fault.Odd word) r = tt
+
+-- behind calls in this same call
+causes_same : (a b c : Tells) → Calls a b → (count new_count : ℕ) (e : AccessFault) → LinkLater count new_count e → Causes count new_count b c e → Causes count new_count a c e
+causes_same a b c p count new_count (access_fault.Dmi why) later f = causes_behind a b c p count count new_count (access_fault.Dmi why) (omega arith) later f
+causes_same a b c p count new_count (access_fault.Memory address) later f = causes_behind a b c p 0 0 0 (access_fault.Memory address) (omega arith) (omega arith) f
+causes_same a b c p count new_count (access_fault.Register number) later f = causes_behind a b c p 0 0 0 (access_fault.Register number) (omega arith) (omega arith) f
+causes_same a b c p count new_count access_fault.StillBusy later f = causes_behind a b c p 0 0 0 access_fault.StillBusy (omega arith) (omega arith) f
+causes_same a b c p count new_count (access_fault.Run why) later f = f
+causes_same a b c p count new_count (access_fault.Odd word) later f = causes_behind a b c p 0 0 0 (access_fault.Odd word) (omega arith) (omega arith) f
+
+read_at_causes : (number count new_count : ℕ) (a b : Tells) (why : DmiFault) → count ≤ new_count → ReadFailedAt number count new_count a b (access_fault.Dmi why) → Causes count new_count a b (access_fault.Dmi why)
+read_at_causes number count new_count a b why later (read_in_command _ f) = command_causes (transfer_word false number) count new_count a b (access_fault.Dmi why) f
+read_at_causes number count new_count a b why later (read_in_words mid ran _ f) = causes_same a mid b (calls _ a mid ran.ran.did) count new_count (access_fault.Dmi why) later (f.acts, f.failed, f.broke)
+
+read_causes : (number count new_count : ℕ) (a b : Tells) (e : AccessFault) → LinkLater count new_count e → ReadFailed number count new_count a b e → Causes count new_count a b e
+read_causes number count new_count a b (access_fault.Dmi why) later f = read_at_causes number count new_count a b why later f
+read_causes number count new_count a b (access_fault.Memory address) later f = absurd f
+read_causes number count new_count a b (access_fault.Register asked) later f = ran_denied false number asked a b f.same f.ran
+read_causes number count new_count a b (access_fault.Run why) later f = f
+read_causes number count new_count a b access_fault.StillBusy later f = command_causes (transfer_word false number) count new_count a b access_fault.StillBusy f
+read_causes number count new_count a b (access_fault.Odd word) later f = ran_oddly (transfer_word false number) word a b f
+
+write_at_causes : (number value count new_count : ℕ) (a b : Tells) (why : DmiFault) → count ≤ new_count → WriteFailedAt number value count new_count a b (access_fault.Dmi why) → Causes count new_count a b (access_fault.Dmi why)
+write_at_causes number value count new_count a b why later (written_in_words _ f) = (f.acts, f.failed, f.broke)
+write_at_causes number value count new_count a b why later (written_in_command mid did _ f) =
+    causes_same a mid b (calls _ a mid did) count new_count (access_fault.Dmi why) later (command_causes (transfer_word true number) count new_count mid b (access_fault.Dmi why) f)
+
+write_causes : (number value count new_count : ℕ) (a b : Tells) (e : AccessFault) → LinkLater count new_count e → WriteFailed number value count new_count a b e → Causes count new_count a b e
+write_causes number value count new_count a b (access_fault.Dmi why) later f = write_at_causes number value count new_count a b why later f
+write_causes number value count new_count a b (access_fault.Memory address) later f = absurd f
+write_causes number value count new_count a b (access_fault.Register asked) later f =
+    causes_same a f.mid b (calls _ a f.mid f.words) count new_count (access_fault.Register asked) later (ran_denied true number asked f.mid b f.then.same f.then.ran)
+write_causes number value count new_count a b (access_fault.Run why) later f = f
+write_causes number value count new_count a b access_fault.StillBusy later f =
+    causes_same a f.mid b (calls _ a f.mid f.words) count new_count access_fault.StillBusy later (command_causes (transfer_word true number) count new_count f.mid b access_fault.StillBusy f.then)
+write_causes number value count new_count a b (access_fault.Odd word) later f =
+    causes_same a f.mid b (calls _ a f.mid f.words) count new_count (access_fault.Odd word) later (ran_oddly (transfer_word true number) word f.mid b f.then)
+
+perform_causes : (word address count new_count : ℕ) (a b : Tells) (e : AccessFault) → LinkLater count new_count e → PerformFailed word address count new_count a b e → Causes count new_count a b e
+perform_causes word address count new_count a b _ later (in_program why f) = (f.acts, f.failed, f.broke)
+perform_causes word address count new_count a b _ later (in_address written did e f) = causes_same a written b (calls _ a written did) count new_count e later (write_causes x8_number address count new_count written b e later f)
+perform_causes word address count new_count a b _ later (in_run written addressed did x8 e f) =
+    causes_same a addressed b (addressed_calls word address a written addressed did x8) count new_count e later (command_causes program_word count new_count addressed b e f)
+perform_causes word address count new_count a b _ later (faulted p) =
+    causes_same a p.addressed b (addressed_calls word address a p.written p.addressed p.program p.x8) count new_count (access_fault.Memory address) later (ran_reported program_word 3 p.addressed b p.ran)
+perform_causes word address count new_count a b _ later (oddly written addressed did x8 last ran) =
+    causes_same a addressed b (addressed_calls word address a written addressed did x8) count new_count (access_fault.Odd last) later (ran_oddly program_word last addressed b ran)
+
+pub load_causes : (size : Size) (address count new_count : ℕ) (a b : Tells) (e : AccessFault) → LinkLater count new_count e → LoadFailedInside size address count new_count a b e → Causes count new_count a b e
+load_causes size address count new_count a b e later (load_performing f) = perform_causes (load_word size) address count new_count a b e later f
+load_causes size address count new_count a b e later (load_reading mid p f) =
+    causes_same a mid b (performed_calls (load_word size) address 0 a mid p) count new_count e later (read_causes x9_number count new_count mid b e later f)
+
+pub store_causes : (size : Size) (address value count new_count : ℕ) (a b : Tells) (e : AccessFault) → LinkLater count new_count e → StoreFailedInside size address value count new_count a b e → Causes count new_count a b e
+store_causes size address value count new_count a b e later (store_writing f) = write_causes x9_number value count new_count a b e later f
+store_causes size address value count new_count a b e later (store_performing mid w f) =
+    causes_same a mid b (written_calls x9_number value a mid w) count new_count e later (perform_causes (store_word size) address count new_count mid b e later f)
+
+save_causes : (count new_count : ℕ) (a b : Tells) (e : AccessFault) → LinkLater count new_count e → SaveFailed count new_count a b e → Causes count new_count a b e
+save_causes count new_count a b e later (save_x8 f) = read_causes x8_number count new_count a b e later f
+save_causes count new_count a b e later (save_x9 x8 mid r f) = causes_same a mid b (read_calls x8_number x8 a mid r) count new_count e later (read_causes x9_number count new_count mid b e later f)
+
+back_causes : (x8 x9 count new_count : ℕ) (a b : Tells) (e : AccessFault) → LinkLater count new_count e → PutBackFailed x8 x9 count new_count a b e → Causes count new_count a b e
+back_causes x8 x9 count new_count a b e later (put_x8 f) = write_causes x8_number x8 count new_count a b e later f
+back_causes x8 x9 count new_count a b e later (put_x9 mid w f) = causes_same a mid b (written_calls x8_number x8 a mid w) count new_count e later (write_causes x9_number x9 count new_count mid b e later f)
+
+-- ---- of a whole access
+
+pub record InsideCauses (R : Tells → Tells → Type 0) (F : ℕ → ℕ → Tells → Tells → AccessFault → Type 0) : Type 0 where
+  pub went : (a b : Tells) → R a b → Calls a b
+  pub failed : (count new_count : ℕ) (a b : Tells) (e : AccessFault) → LinkLater count new_count e → F count new_count a b e → Causes count new_count a b e
+
+pub around_causes : (R : Tells → Tells → Type 0) (F : ℕ → ℕ → Tells → Tells → AccessFault → Type 0) (count new_count : ℕ) (a b : Tells) (e : AccessFault) → InsideCauses R F → LinkLater count new_count e → AroundFailed R F count new_count a b e
+    → Causes count new_count a b e
+around_causes R F count new_count a b e i later (in_save f) = save_causes count new_count a b e later f
+around_causes R F count new_count a b e i later (inside x8 x9 first saved f lost) = causes_same a first b (saved_calls x8 x9 a first saved) count new_count e later (i.failed count new_count first b e later f)
+around_causes R F count new_count a b e i later (behind x8 x9 first last was_count is_count saved f recovers back) =
+    causes_same a first b (saved_calls x8 x9 a first saved) count new_count e later
+    (causes_then first last b was_count is_count count new_count e (i.failed was_count is_count first last e (no_link was_count is_count e recovers) f) recovers (back_calls x8 x9 last b back))
+around_causes R F count new_count a b e i later (in_restore x8 x9 first last saved r f) =
+    causes_same a last b (calls_then a first last (saved_calls x8 x9 a first saved) (i.went first last r)) count new_count e later (back_causes x8 x9 count new_count last b e later f)
+around_causes R F count new_count a b e i later (in_restore_behind x8 x9 first last was_count is_count was saved f recovers g) =
+    causes_same a last b
+    (calls_then a first last (saved_calls x8 x9 a first saved) (causes_calls first last was_count is_count was (i.failed was_count is_count first last was (no_link was_count is_count was recovers) f) recovers)) count new_count e later
+    (back_causes x8 x9 count new_count last b e later g)
+
+pub load_inside_causes : (size : Size) (address : ℕ) → InsideCauses (LoadedAny size address) (LoadFailedInside size address)
+load_inside_causes size address = record { went = λ a b r. loaded_calls size address r.0 a b r.1; failed = λ count new_count a b e later f. load_causes size address count new_count a b e later f }
+
+pub store_inside_causes : (size : Size) (address value : ℕ) → InsideCauses (StoredInside size address value) (StoreFailedInside size address value)
+store_inside_causes size address value = record { went = λ a b r. stored_calls size address value a b r; failed = λ count new_count a b e later f. store_causes size address value count new_count a b e later f }
+
+pub store_around_calls : (size : Size) (address value : ℕ) (a b : Tells) → Around (StoredInside size address value) a b → Calls a b
+store_around_calls size address value a b r =
+    calls_then a r.first b (saved_calls r.x8 r.x9 a r.first r.saved) (calls_then r.first r.last b (stored_calls size address value r.first r.last r.inside) (back_calls r.x8 r.x9 r.last b r.put_back))
+
+-- ---- what was read
+
+more_fetched : (values : List ℕ) (acts more : List Act) → Fetches values acts → Fetches values (acts ++ more)
+more_fetched _ _ more (none_fetched acts) = none_fetched (acts ++ more)
+more_fetched _ _ more (fetched_further values front rest words last low high before idle fine read) =
+    subst (λ xs. Fetches (values ++ joined low high ∷ []) xs) (sym (append_assoc front (poll_act last ∷ (words ++ rest)) more ∙ ap (λ xs. front ++ poll_act last ∷ xs) (append_assoc words rest more)))
+    (fetched_further values front (rest ++ more) words last low high before idle fine read)
+
+pub fetched_none : (told : Tells) → Fetched [] told told
+fetched_none told = record { acts = []; did = nothing; fetches = none_fetched [] }
+
+-- the poll in front of the words of a register that was read
+register_fetched : (number value : ℕ) (values : List ℕ) (old mid new : Tells) → Fetched values old mid → RegisterRead number value mid new → Fetched (values ++ value ∷ []) old new
+register_fetched number value values old mid new f r =
+    let last : ℕ = r.ran.last in
+    let polls : List Act = Put command_address (transfer_word false number) ∷ map poll_act r.ran.ran.words in
+    let words : List Act = Got data0_address r.words.low ∷ Got data1_address r.words.high ∷ [] in
+    let none : [] ≡ clearing (error_shown last) = none_cleared (error_shown last) r.ran.error_is in
+    let command : Did mid (polls ++ poll_act last ∷ []) r.mid = did_list (command_acts (transfer_word false number) r.ran.ran.words last) (polls ++ poll_act last ∷ []) mid r.mid (ap (λ cs. polls ++ poll_act last ∷ cs) (sym none)) r.ran.ran.did in
+    let both : Did mid ((polls ++ poll_act last ∷ []) ++ words) new = did_then (polls ++ poll_act last ∷ []) mid r.mid command words new r.words.did in
+    let shaped : Did mid (polls ++ poll_act last ∷ (words ++ [])) new = did_list ((polls ++ poll_act last ∷ []) ++ words) (polls ++ poll_act last ∷ (words ++ [])) mid new (append_assoc polls (poll_act last ∷ []) words) both in
+    let all : Did old (f.acts ++ (polls ++ poll_act last ∷ (words ++ []))) new = did_then f.acts old mid f.did (polls ++ poll_act last ∷ (words ++ [])) new shaped in
+    record {
+      acts = (f.acts ++ polls) ++ poll_act last ∷ (words ++ []);
+      did = did_list (f.acts ++ (polls ++ poll_act last ∷ (words ++ []))) ((f.acts ++ polls) ++ poll_act last ∷ (words ++ [])) old new (sym (append_assoc f.acts polls (poll_act last ∷ (words ++ [])))) all;
+      fetches = subst (λ v. Fetches (values ++ v ∷ []) ((f.acts ++ polls) ++ poll_act last ∷ (words ++ []))) (sym r.words.is)
+          (fetched_further values (f.acts ++ polls) [] words last r.words.low r.words.high (more_fetched values f.acts polls f.fetches) r.ran.ran.idle r.ran.error_is lower_first);
+    }
+
+fetched_calls : (values : List ℕ) (old mid new : Tells) → Fetched values old mid → Calls mid new → Fetched values old new
+fetched_calls values old mid new f p = record { acts = f.acts ++ p.acts; did = did_then f.acts old mid f.did p.acts new p.did; fetches = more_fetched values f.acts p.acts f.fetches }
+
+pub fetched_more : (size : Size) (address value : ℕ) (values : List ℕ) (old mid new : Tells) → Fetched values old mid → Around (LoadedInside size address value) mid new → Fetched (values ++ value ∷ []) old new
+fetched_more size address value values old mid new f r =
+    let at : Fetched values old r.inside.mid = fetched_calls values old mid r.inside.mid f
+    (calls_then mid r.first r.inside.mid (saved_calls r.x8 r.x9 mid r.first r.saved) (performed_calls (load_word size) address 0 r.first r.inside.mid r.inside.performed)) in
+    fetched_calls (values ++ value ∷ []) old r.last new (register_fetched x9_number value values old r.inside.mid r.last at r.inside.x9) (back_calls r.x8 r.x9 r.last new r.put_back)
+
+pub fetched_made : (values : List ℕ) (old new : Tells) → Fetched values old new → Calls old new
+fetched_made values old new f = calls f.acts old new f.did
+
+-- behind a fault of memory it is known still
+pub fetched_behind : (values : List ℕ) (old mid new : Tells) (old_count new_count : ℕ) (e : AccessFault) → Fetched values old mid → Causes old_count new_count mid new e → IfMemory (Fetched values old new) e
+fetched_behind values old mid new old_count new_count (access_fault.Dmi why) f c = tt
+fetched_behind values old mid new old_count new_count (access_fault.Memory address) f c = fetched_calls values old mid new f (calls (c.front ++ poll_act c.last ∷ c.rest) mid new c.did)
+fetched_behind values old mid new old_count new_count (access_fault.Register number) f c = tt
+fetched_behind values old mid new old_count new_count access_fault.StillBusy f c = tt
+fetched_behind values old mid new old_count new_count (access_fault.Run why) f c = tt
+fetched_behind values old mid new old_count new_count (access_fault.Odd word) f c = tt

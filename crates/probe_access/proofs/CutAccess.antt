@@ -1,0 +1,320 @@
+-- Where an access to memory by the program buffer broke off: before it was made, or behind it.
+use Rattle.std.proofs.Common.{◌≡◌, ◌∙◌, ◌<◌, ◌^◌, ℕ, List, [], ◌∷◌, length, set, Option, Some, refl, sym, ap, subst, arith, inl, inr}
+use Rattle.std.proofs.Math.Seq.{set-set}
+use Rattle.rv_model.specs.declared.size.Size.{Size}
+use Rattle.rv_model.specs.Board.{Hart}
+use Rattle.rv_model.specs.Core.{x_of}
+use Rattle.rv_model.specs.DebugRegisters.{debug_written}
+use Rattle.rv_model.specs.Memory.{Memory, after_store}
+use Rattle.rv_model.proofs.MemoryLemmas.{after_store_refused}
+use Rattle.debug_model.specs.declared.cmderr.Cmderr.TheVariants.{Fine, Exception}
+use Rattle.debug_model.specs.declared.dmi.DmiFault.{DmiFault}
+use Rattle.debug_model.specs.declared.dmi_op.DmiOp.TheVariants.{Write}
+use Rattle.debug_model.specs.Deeds.{ran}
+use Rattle.debug_model.specs.Dmi.{SiteCut}
+use Rattle.debug_model.specs.Module.{Site, after_write, register_at}
+use Rattle.debug_model.specs.SystemBus.{BusUnit}
+use Rattle.debug_model.specs.Told.{Far, site_of}
+use Rattle.probe_access.specs.declared.fault.AccessFault.{AccessFault}
+use Rattle.probe_run.specs.Acts.{Act, Attempt, Broke, Tells}
+use Rattle.probe_run.specs.Acts.Act.{Put}
+use Rattle.probe_access.specs.CommandRuns.{error_shown}
+use Rattle.probe_access.specs.Cuts.{IfCut, LoadLeaves, StoreLeaves}
+use Rattle.probe_access.specs.MemoryRuns.{AroundFailed, LoadFailedInside, LoadedAny, LoadedInside, PerformFailed, ProgramBegun, StoreFailedInside, StoredInside}
+use Rattle.probe_access.specs.MemoryRuns.AroundFailed.{behind, in_restore, in_restore_behind, in_save, inside}
+use Rattle.probe_access.specs.MemoryRuns.LoadFailedInside.{performing as load_performing, reading as load_reading}
+use Rattle.probe_access.specs.MemoryRuns.PerformFailed.{in_program, in_address, in_run, faulted, oddly}
+use Rattle.probe_access.specs.MemoryRuns.ProgramBegun.{first as first_word, second as second_word}
+use Rattle.probe_access.specs.MemoryRuns.StoreFailedInside.{performing as store_performing, writing as store_writing}
+use Rattle.probe_access.specs.Words.{abstractcs_address, clears_cmderr, command_address, ebreak_word, load_word, progbuf0_address, progbuf1_address, program_command, program_word, store_word, x8_number, x9_number}
+use Rattle.probe_access.proofs.AccessSteps.{Running, Stage, WordDid, program_of, rest_of, running, stage_ran}
+use Rattle.probe_access.proofs.AccessSteps.Stage.{at_start, in_middle, at_end, at_fault}
+use Rattle.probe_access.proofs.AccessTold.{Addressed, SavedTold, addressed_told, decided, program_stood, saved_told, with_first, with_program}
+use Rattle.probe_access.proofs.AroundTold.{FaultInside, OnlyMemory, recovered}
+use Rattle.probe_access.proofs.Aside.{Frozen, accessed, aside, passed}
+use Rattle.probe_access.proofs.CutHarts.{Hung, HungAt, PutBack, Written, back_hung, clear_cut, hung_map, hung_stood, read_hung, save_hung, write_hung}
+use Rattle.probe_access.proofs.CutSites.{CommandCutAt, CommandCutTold, CutAt, Rests, command_cut_told, cut_at, if_cut, put_cut, recovers_uncut}
+use Rattle.probe_access.proofs.CutSites.CommandCutAt.{unsent, sent, ended}
+use Rattle.probe_access.proofs.LoadClauses.{LoadWent, addressed_in, load_badly, load_went}
+use Rattle.probe_access.proofs.PerformTold.{PerformEnd, held_behind, program_ends, program_starts, programmed}
+use Rattle.probe_access.proofs.PerformTold.PerformEnd.{ran_well, ran_badly}
+use Rattle.probe_access.proofs.ReadyUnit.{Kept, unit_of, unit_with}
+use Rattle.probe_access.proofs.RegAnswers.{ReadTold, StoodTold, WrittenTold, read_told, written_told}
+use Rattle.probe_access.proofs.RegisterTold.{Stood, put_at}
+use Rattle.probe_access.proofs.ScratchLemmas.{after_load_scratched, after_store_scratched, scratched, set_itself, with_core_x, x8_written, x9_written}
+use Rattle.probe_access.proofs.StoreClauses.{StoreWent, aimed, aimed_at, aimed_value, store_badly, store_went, valued}
+use Rattle.probe_access.proofs.TransferLemmas.{command_starts}
+use Rattle.probe_access.proofs.Turns.{set-swap, stays_passed}
+use Rattle.probe_access.proofs.WordAccess.{LoadFaults, Loads, StoreFaults, Stores, load_did, store_did}
+use Rattle.probe_access.proofs.WordLemmas.{program_back}
+
+-- ---- before or behind the access
+
+pub data InsideAt (Y : Hart → Type 0) (N : Memory → Memory → Type 0) (h : ℕ) (bus : BusUnit) (base t : Site) : Type 0 where
+  not_yet : HungAt Y h bus base t → InsideAt Y N h bus base t
+  made : (before : List ℕ) (n : Memory) → N (passed before base).board.memory n → HungAt Y h bus (accessed n (passed before base)) t → InsideAt Y N h bus base t
+
+pub record HungInside (Y : Hart → Type 0) (N : Memory → Memory → Type 0) (h : ℕ) (bus : BusUnit) (base : Site) (told : Option Far) : Type 0 where
+  pub far : Far
+  pub is : told ≡ Some far
+  pub inside : InsideAt Y N h bus base (site_of far)
+
+outside : (X Y : Hart → Type 0) (N : Memory → Memory → Type 0) (h : ℕ) (bus : BusUnit) (base : Site) (told : Option Far) → ((z : Hart) → X z → Y z) → Hung X h bus base told → HungInside Y N h bus base told
+outside X Y N h bus base told f p = let q : Hung Y h bus base told = hung_map X Y h bus base told f p in record { far = q.far; is = q.is; inside = not_yet q.hung }
+
+behind_access : (X Y : Hart → Type 0) (N : Memory → Memory → Type 0) (h : ℕ) (bus : BusUnit) (base : Site) (before : List ℕ) (n : Memory) (told : Option Far) → N (passed before base).board.memory n → ((z : Hart) → X z → Y z)
+    → Hung X h bus (accessed n (passed before base)) told → HungInside Y N h bus base told
+behind_access X Y N h bus base before n told left f p =
+    let q : Hung Y h bus (accessed n (passed before base)) told = hung_map X Y h bus (accessed n (passed before base)) told f p in record { far = q.far; is = q.is; inside = made before n left q.hung }
+
+-- ---- the program
+
+-- what a word leaves of the hart and of memory
+pub record Fits (P : Memory → Hart → Memory → Type 0) (Q : Memory → Type 0) (Y : Hart → Type 0) (N : Memory → Memory → Type 0) (y : Hart) : Type 0 where
+  pub first : Y y
+  pub hart : (m : Memory) (z : Hart) (n : Memory) → P m z n → Y z
+  pub memory : (m : Memory) (z : Hart) (n : Memory) → P m z n → N m n
+  pub refused : (m : Memory) → Q m → N m m
+
+stage_hung : (P : Memory → Hart → Memory → Type 0) (Q : Memory → Type 0) (Y : Hart → Type 0) (N : Memory → Memory → Type 0) (k : Kept) (h : ℕ) (bus : BusUnit) (y : Hart) (base t : Site) → Fits P Q Y N y → Stage P Q k h bus y base t → InsideAt Y N h bus base t
+stage_hung P Q Y N k h bus y base t f (at_start harts is) = not_yet (record { unit = running k (program_of k) h bus; bus_is = refl; hart = y; one = f.first; harts = harts; at = is })
+stage_hung P Q Y N k h bus y base t f (in_middle before harts z n p fz is) =
+    made before n (f.memory (passed before base).board.memory z n p) (record { unit = running k (rest_of k) h bus; bus_is = refl; hart = z; one = f.hart (passed before base).board.memory z n p; harts = harts; at = is })
+stage_hung P Q Y N k h bus y base t f (at_end before harts z n p fz is) =
+    made before n (f.memory (passed before base).board.memory z n p) (record { unit = unit_of k h bus; bus_is = refl; hart = z; one = f.hart (passed before base).board.memory z n p; harts = harts; at = is })
+stage_hung P Q Y N k h bus y base t f (at_fault before harts q is) =
+    made before (passed before base).board.memory (f.refused (passed before base).board.memory q) (record { unit = unit_with k Exception [] h bus; bus_is = refl; hart = y; one = f.first; harts = harts; at = is })
+
+program_end_cut : (P : Memory → Hart → Memory → Type 0) (Q : Memory → Type 0) (Y : Hart → Type 0) (N : Memory → Memory → Type 0) (last : ℕ) (k : Kept) (h : ℕ) (bus : BusUnit) (y : Hart) (base : Site) (w : Hart) (mid t : Site) → Fits P Q Y N y
+    → Running P Q k h bus y base w → (error_shown last ≡ 0 → ⊥) → PerformEnd P Q last k h bus y base mid → SiteCut (Write abstractcs_address clears_cmderr) mid t → InsideAt Y N h bus base t
+program_end_cut P Q Y N last k h bus y base w mid t f r error (ran_well before z n p fz end) cut = absurd (error end.error_is)
+program_end_cut P Q Y N last k h bus y base w mid t f r error (ran_badly before q end) cut =
+    let m : Memory = (passed before base).board.memory in
+    made before m (f.refused m q) (clear_cut Y last h bus y (accessed m (passed before base)) w k mid t end.error_is (held_behind h w base before m r.held) r.frozen r.idle f.first end.done_at cut)
+
+program_cut : (P : Memory → Hart → Memory → Type 0) (Q : Memory → Type 0) (Y : Hart → Type 0) (N : Memory → Memory → Type 0) (h : ℕ) (bus : BusUnit) (y : Hart) (base : Site) (w : Hart) (k : Kept) (s t : Site) → Fits P Q Y N y
+    → Stood h bus y base w k s → k.progbuf1 ≡ 0x00100073 → ((m : Memory) → WordDid P Q k.progbuf0 y m) → CommandCutAt program_word h bus y base w k t → InsideAt Y N h bus base t
+program_cut P Q Y N h bus y base w k s t f st ebreak decides (unsent u) = not_yet (hung_stood Y h bus y base w k t f.first u)
+program_cut P Q Y N h bus y base w k s t f st ebreak decides (sent e) =
+    let r : Running P Q (programmed k) h bus y base w = record { held = st.held; frozen = st.frozen; idle = st.idle; ebreak = ebreak; decides = decides } in
+    let start : Site = after_write command_address program_word (aside (unit_of k h bus) h y (passed e.harts base)) in
+    let starts : start ≡ aside (running (programmed k) (program_of (programmed k)) h bus) h y (passed e.harts base) =
+    command_starts program_word program_command Fine k h bus y (passed e.harts base) w (stays_passed h e.harts base w r.held.here r.held.frozen) program_back (program_starts y r.frozen) in
+    stage_hung P Q Y N (programmed k) h bus y base t f
+    (subst (λ u. Stage P Q (programmed k) h bus y base u) (sym e.is) (stage_ran e.during P Q (programmed k) h bus y base w start r (at_start e.harts starts)))
+program_cut P Q Y N h bus y base w k s t f st ebreak decides (ended last mid idle error c cut) =
+    let r : Running P Q (programmed k) h bus y base w = record { held = st.held; frozen = st.frozen; idle = st.idle; ebreak = ebreak; decides = decides } in
+    program_end_cut P Q Y N last (programmed k) h bus y base w mid t f r error (program_ends P Q last k h bus y base w mid r c idle) cut
+
+-- ---- its words
+
+word_hung : (h : ℕ) (bus : BusUnit) (y : Hart) (base : Site) (w : Hart) (told : Option Far) (far : Far) → told ≡ Some far → Rests h bus y base w (site_of far) → Hung (λ z. z ≡ y) h bus base told
+word_hung h bus y base w told far is r = record { far = far; is = is; hung = hung_stood (λ z. z ≡ y) h bus y base w r.kept (site_of far) refl r.stood }
+
+program_write_cut : (word h : ℕ) (bus : BusUnit) (y : Hart) (base : Site) (w : Hart) (old_count new_count : ℕ) (old : Tells) (told : Option Far) (why : DmiFault) (acts : List Act) (failed : Attempt) → StoodTold h bus y base w old.far
+    → ProgramBegun word acts failed → Broke acts failed old_count new_count old told why → Hung (λ z. z ≡ y) h bus base told
+unfolding register_at
+program_write_cut word h bus y base w old_count new_count old told why _ _ st first_word b =
+    let c : CutAt [] (Write progbuf0_address word) st.far told = cut_at [] (Write progbuf0_address word) old_count new_count old told why st.far st.is b in
+    word_hung h bus y base w told c.far c.is
+    (put_cut progbuf0_address word h bus y base w st.kept (with_first word st.kept) c.mid (site_of c.far) (subst (λ s. Stood h bus y base w st.kept s) (sym c.acts_are) st.stood) (λ z. refl) c.cut)
+program_write_cut word h bus y base w old_count new_count old told why _ _ st second_word b =
+    let c : CutAt (Put progbuf0_address word ∷ []) (Write progbuf1_address ebreak_word) st.far told =
+    cut_at (Put progbuf0_address word ∷ []) (Write progbuf1_address ebreak_word) old_count new_count old told why st.far st.is b in
+    let mid : Stood h bus y base w (with_first word st.kept) c.mid = put_at progbuf0_address word h bus y base w st.kept (with_first word st.kept) (site_of st.far) c.mid st.stood c.acts_are (λ z. refl) in
+    word_hung h bus y base w told c.far c.is (put_cut progbuf1_address ebreak_word h bus y base w (with_first word st.kept) (with_program word st.kept) c.mid (site_of c.far) mid (λ z. refl) c.cut)
+
+-- ---- the whole instruction
+
+addressed_y : (Y : Hart → Type 0) (y : Hart) (address : ℕ) (z : Hart) → Y y → Y (debug_written y x8_number address) → Written x8_number address y z → Y z
+addressed_y Y y address z first second (inl e) = subst Y (sym e) first
+addressed_y Y y address z first second (inr e) = subst Y (sym e) second
+
+perform_hung : (P : Memory → Hart → Memory → Type 0) (Q : Memory → Type 0) (Y : Hart → Type 0) (N : Memory → Memory → Type 0) (word address h : ℕ) (bus : BusUnit) (y : Hart) (base : Site) (w : Hart) (old_count new_count : ℕ) (old new : Tells) (e : AccessFault)
+    → Y y → Fits P Q Y N (debug_written y x8_number address) → StoodTold h bus y base w old.far → (Frozen (debug_written y x8_number address) → (m : Memory) → WordDid P Q word (debug_written y x8_number address) m)
+    → PerformFailed word address old_count new_count old new e → IfCut (HungInside Y N h bus base new.far) e
+perform_hung P Q Y N word address h bus y base w old_count new_count old new _ one f st decides (in_program why b) =
+    outside (λ z. z ≡ y) Y N h bus base new.far (λ z e. subst Y (sym e) one) (program_write_cut word h bus y base w old_count new_count old new.far why b.acts b.failed st b.begun b.broke)
+perform_hung P Q Y N word address h bus y base w old_count new_count old new _ one f st decides (in_address written did e g) =
+    if_cut (Hung (Written x8_number address y) h bus base new.far) (HungInside Y N h bus base new.far) e
+    (outside (Written x8_number address y) Y N h bus base new.far (λ z p. addressed_y Y y address z one f.first p))
+    (write_hung x8_number address h bus y base w old_count new_count written new e (omega arith) (program_stood word h bus y base w old written st did) g)
+perform_hung P Q Y N word address h bus y base w old_count new_count old new _ one f st decides (in_run written addressed did x8 e g) =
+    let a : Addressed word address h bus y base w addressed.far = addressed_told word address h bus y base w old written addressed st did x8 in
+    let z : Hart = debug_written y x8_number address in
+    if_cut (CommandCutTold program_word h bus z base w a.then.kept new.far) (HungInside Y N h bus base new.far) e
+    (λ c. record {
+      far = c.far;
+      is = c.is;
+      inside = program_cut P Q Y N h bus z base w a.then.kept (site_of a.then.far) (site_of c.far) f a.then.stood a.progbuf1 (decided P Q word a.then.kept.progbuf0 z a.progbuf0 (decides a.then.stood.frozen)) c.cut;
+    })
+    (command_cut_told program_word h bus z base w old_count new_count addressed new e a.then g)
+perform_hung P Q Y N word address h bus y base w old_count new_count old new _ one f st decides (faulted p) = tt
+perform_hung P Q Y N word address h bus y base w old_count new_count old new _ one f st decides (oddly written addressed did x8 last ran) = tt
+
+-- ---- a hart with any x8 and x9
+
+pub record AnyScratch (x z : Hart) : Type 0 where
+  pub p : ℕ
+  pub q : ℕ
+  pub is : z ≡ scratched p q x
+
+abbrev hart_with : Hart → List ℕ → Hart
+hart_with x xs = record {
+  core = record { id = x.core.id; x = xs; pc = x.core.pc; mstatus = x.core.mstatus; mtvec = x.core.mtvec; mscratch = x.core.mscratch; mepc = x.core.mepc; mcause = x.core.mcause; mtval = x.core.mtval };
+  debug = x.debug;
+}
+
+eight_itself : (x : Hart) (q : ℕ) → length x.core.x ≡ 32 → scratched (x_of x.core 8) q x ≡ with_core_x x 9 q
+eight_itself x q all = ap (λ (xs : List ℕ). hart_with x (set xs 9 q)) (set_itself x.core.x 8 (omega arith))
+
+itself : (x : Hart) → length x.core.x ≡ 32 → AnyScratch x x
+itself x all = record { p = x_of x.core 8; q = x_of x.core 9; is = sym (eight_itself x (x_of x.core 9) all ∙ ap (hart_with x) (set_itself x.core.x 9 (omega arith))) }
+
+any_same : (x y z : Hart) → z ≡ y → AnyScratch x y → AnyScratch x z
+any_same x y z e a = record { p = a.p; q = a.q; is = e ∙ a.is }
+
+any_x8 : (x : Hart) (p q v : ℕ) → AnyScratch x (debug_written (scratched p q x) x8_number v)
+any_x8 x p q v = record {
+  p = v;
+  q = q;
+  is =
+      x8_written (scratched p q x) v
+      ∙ ap (hart_with x) (set-swap (set x.core.x 8 p) 9 8 q v (λ e. omega arith) ∙ ap (λ (xs : List ℕ). set xs 9 q) (set-set x.core.x 8 p v));
+}
+
+any_x9 : (x : Hart) (p q v : ℕ) → AnyScratch x (debug_written (scratched p q x) x9_number v)
+any_x9 x p q v = record { p = p; q = v; is = x9_written (scratched p q x) v ∙ ap (hart_with x) (set-set (set x.core.x 8 p) 9 q v) }
+
+any_written8 : (x y : Hart) (v : ℕ) → AnyScratch x y → AnyScratch x (debug_written y x8_number v)
+any_written8 x y v a = any_same x (debug_written (scratched a.p a.q x) x8_number v) (debug_written y x8_number v) (ap (λ (z : Hart). debug_written z x8_number v) a.is) (any_x8 x a.p a.q v)
+
+any_written9 : (x y : Hart) (v : ℕ) → AnyScratch x y → AnyScratch x (debug_written y x9_number v)
+any_written9 x y v a = any_same x (debug_written (scratched a.p a.q x) x9_number v) (debug_written y x9_number v) (ap (λ (z : Hart). debug_written z x9_number v) a.is) (any_x9 x a.p a.q v)
+
+any_back : (x y : Hart) (x8 x9 : ℕ) (z : Hart) → AnyScratch x y → PutBack x8 x9 y z → AnyScratch x z
+any_back x y x8 x9 z a (inl (inl e)) = any_same x y z e a
+any_back x y x8 x9 z a (inl (inr e)) = any_same x (debug_written y x8_number x8) z e (any_written8 x y x8 a)
+any_back x y x8 x9 z a (inr e) = any_same x (debug_written (debug_written y x8_number x8) x9_number x9) z e (any_written9 x (debug_written y x8_number x8) x9 (any_written8 x y x8 a))
+
+-- ---- the whole access
+
+-- what is Ok inside: the access was made
+pub record MadeInside (N : Memory → Memory → Type 0) (h : ℕ) (bus : BusUnit) (x : Hart) (base : Site) (told : Option Far) : Type 0 where
+  pub before : List ℕ
+  pub memory : Memory
+  pub left : N (passed before base).board.memory memory
+  pub hart : Hart
+  pub any : AnyScratch x hart
+  pub then : StoodTold h bus hart (accessed memory (passed before base)) x told
+
+pub record CutInside (R : Tells → Tells → Type 0) (F : ℕ → ℕ → Tells → Tells → AccessFault → Type 0) (Q : Memory → Type 0) (N : Memory → Memory → Type 0) (address h : ℕ) (bus : BusUnit) (x : Hart) (base : Site) : Type 0 where
+  pub well : (first last : Tells) → StoodTold h bus x base x first.far → R first last → MadeInside N h bus x base last.far
+  pub badly : (old_count new_count : ℕ) (first last : Tells) (e : AccessFault) → StoodTold h bus x base x first.far → F old_count new_count first last e → OnlyMemory address (FaultInside Q h bus x base last.far) e
+  pub cut : (old_count new_count : ℕ) (first last : Tells) (e : AccessFault) → StoodTold h bus x base x first.far → F old_count new_count first last e → IfCut (HungInside (AnyScratch x) N h bus base last.far) e
+  pub refused : (m : Memory) → Q m → N m m
+
+pub around_hung : (R : Tells → Tells → Type 0) (F : ℕ → ℕ → Tells → Tells → AccessFault → Type 0) (Q : Memory → Type 0) (N : Memory → Memory → Type 0) (address h : ℕ) (bus : BusUnit) (x : Hart) (base : Site) (old_count new_count : ℕ) (old new : Tells) (e : AccessFault)
+    → length x.core.x ≡ 32 → CutInside R F Q N address h bus x base → StoodTold h bus x base x old.far → AroundFailed R F old_count new_count old new e → IfCut (HungInside (AnyScratch x) N h bus base new.far) e
+around_hung R F Q N address h bus x base old_count new_count old new e all i st (in_save f) =
+    if_cut (Hung (λ z. z ≡ x) h bus base new.far) (HungInside (AnyScratch x) N h bus base new.far) e (outside (λ z. z ≡ x) (AnyScratch x) N h bus base new.far (λ z s. any_same x x z s (itself x all)))
+    (save_hung h bus x base x old_count new_count old new e st f)
+around_hung R F Q N address h bus x base old_count new_count old new e all i st (inside x8 x9 first saved f loses) =
+    let sv : SavedTold x8 x9 h bus x base x first.far = saved_told x8 x9 h bus x base x old first st saved in i.cut old_count new_count first new e sv.then f
+around_hung R F Q N address h bus x base old_count new_count old new e all i st (behind x8 x9 first last was_count is_count saved f recovers back) = recovers_uncut (HungInside (AnyScratch x) N h bus base new.far) e recovers
+around_hung R F Q N address h bus x base old_count new_count old new e all i st (in_restore x8 x9 first last saved r f) =
+    let sv : SavedTold x8 x9 h bus x base x first.far = saved_told x8 x9 h bus x base x old first st saved in
+    let ok : MadeInside N h bus x base last.far = i.well first last sv.then r in
+    let b : Site = accessed ok.memory (passed ok.before base) in
+    if_cut (Hung (PutBack x8 x9 ok.hart) h bus b new.far) (HungInside (AnyScratch x) N h bus base new.far) e
+    (behind_access (PutBack x8 x9 ok.hart) (AnyScratch x) N h bus base ok.before ok.memory new.far ok.left (λ z p. any_back x ok.hart x8 x9 z ok.any p))
+    (back_hung x8 x9 h bus ok.hart b x old_count new_count last new e ok.then f)
+around_hung R F Q N address h bus x base old_count new_count old new e all i st (in_restore_behind x8 x9 first last was_count is_count was saved f recovers back) =
+    let sv : SavedTold x8 x9 h bus x base x first.far = saved_told x8 x9 h bus x base x old first st saved in
+    let g : FaultInside Q h bus x base last.far = recovered address (FaultInside Q h bus x base last.far) was recovers (i.badly was_count is_count first last was sv.then f) in
+    let m : Memory = (passed g.fault.before base).board.memory in
+    if_cut (Hung (PutBack x8 x9 (scratched g.p g.q x)) h bus (accessed m (passed g.fault.before base)) new.far) (HungInside (AnyScratch x) N h bus base new.far) e
+    (behind_access (PutBack x8 x9 (scratched g.p g.q x)) (AnyScratch x) N h bus base g.fault.before m new.far (i.refused m g.fault.did) (λ z p. any_back x (scratched g.p g.q x) x8 x9 z (record { p = g.p; q = g.q; is = refl }) p))
+    (back_hung x8 x9 h bus (scratched g.p g.q x) (accessed m (passed g.fault.before base)) x old_count new_count last new e g.fault.then back)
+
+-- ---- a load
+
+load_fits : (size : Size) (a : ℕ) (x : Hart) → length x.core.x ≡ 32 → Fits (Loads size a (debug_written x x8_number a)) (LoadFaults size a) (AnyScratch x) LoadLeaves (debug_written x x8_number a)
+load_fits size a x all = record {
+  first = any_written8 x x a (itself x all);
+  hart = λ m z n l. record { p = a; q = l.value; is = l.hart ∙ after_load_scratched x a l.value };
+  memory = λ m z n l. l.memory;
+  refused = λ m q. refl;
+}
+
+load_inside_hung : (size : Size) (a h : ℕ) (bus : BusUnit) (x : Hart) (base : Site) (old_count new_count : ℕ) (first last : Tells) (e : AccessFault) → length x.core.x ≡ 32 → a < 2 ^ 64 → StoodTold h bus x base x first.far
+    → LoadFailedInside size a old_count new_count first last e → IfCut (HungInside (AnyScratch x) LoadLeaves h bus base last.far) e
+load_inside_hung size a h bus x base old_count new_count first last e all small st (load_performing f) =
+    perform_hung (Loads size a (debug_written x x8_number a)) (LoadFaults size a) (AnyScratch x) LoadLeaves (load_word size) a h bus x base x old_count new_count first last e (itself x all) (load_fits size a x all) st
+    (λ fy m. load_did size a (debug_written x x8_number a) m fy (addressed_in x a all small)) f
+load_inside_hung size a h bus x base old_count new_count first last e all small st (load_reading mid p f) =
+    let w : LoadWent size a h bus x base mid.far = load_went size a h bus x base first mid all small st p in
+    let z : Hart = with_core_x (debug_written x x8_number a) 9 w.value in
+    let m : Memory = (passed w.before base).board.memory in
+    let b : Site = accessed m (passed w.before base) in
+    if_cut (Hung (λ u. u ≡ z) h bus b last.far) (HungInside (AnyScratch x) LoadLeaves h bus base last.far) e
+    (behind_access (λ u. u ≡ z) (AnyScratch x) LoadLeaves h bus base w.before m last.far refl (λ u s. record { p = a; q = w.value; is = s ∙ after_load_scratched x a w.value }))
+    (read_hung x9_number h bus z b x old_count new_count mid last e (omega arith) w.then f)
+
+load_made : (size : Size) (a h : ℕ) (bus : BusUnit) (x : Hart) (base : Site) (first last : Tells) → length x.core.x ≡ 32 → a < 2 ^ 64 → StoodTold h bus x base x first.far → LoadedAny size a first last → MadeInside LoadLeaves h bus x base last.far
+load_made size a h bus x base first last all small st r =
+    let i : LoadedInside size a r.0 first last = r.1 in
+    let w : LoadWent size a h bus x base i.mid.far = load_went size a h bus x base first i.mid all small st i.performed in
+    let z : Hart = with_core_x (debug_written x x8_number a) 9 w.value in
+    let m : Memory = (passed w.before base).board.memory in
+    let rd : ReadTold x9_number r.0 h bus z (accessed m (passed w.before base)) x last.far = read_told x9_number r.0 h bus z (accessed m (passed w.before base)) x i.mid last (omega arith) w.then i.x9 in
+    record { before = w.before; memory = m; left = refl; hart = z; any = record { p = a; q = w.value; is = after_load_scratched x a w.value }; then = rd.then }
+
+pub load_cut : (size : Size) (a h : ℕ) (bus : BusUnit) (x : Hart) (base : Site) → length x.core.x ≡ 32 → a < 2 ^ 64 → CutInside (LoadedAny size a) (LoadFailedInside size a) (LoadFaults size a) LoadLeaves a h bus x base
+load_cut size a h bus x base all small = record {
+  well = λ first last st r. load_made size a h bus x base first last all small st r;
+  badly = λ oc nc first last e st g. load_badly size a h bus x base oc nc first last e all small st g;
+  cut = λ oc nc first last e st g. load_inside_hung size a h bus x base oc nc first last e all small st g;
+  refused = λ m q. refl;
+}
+
+-- ---- a store
+
+valued_scratch : (x : Hart) (v : ℕ) → length x.core.x ≡ 32 → AnyScratch x (valued x v)
+valued_scratch x v all = any_written9 x x v (itself x all)
+
+store_fits : (size : Size) (a v : ℕ) (x : Hart) → length x.core.x ≡ 32 → Fits (Stores size a v (aimed x a v)) (StoreFaults size a) (AnyScratch x) (StoreLeaves size a v) (aimed x a v)
+store_fits size a v x all = record {
+  first = any_written8 x (valued x v) a (valued_scratch x v all);
+  hart = λ m z n l. record { p = a; q = v; is = l.hart ∙ after_store_scratched x a v };
+  memory = λ m z n l. l.memory;
+  refused = λ m q. sym (after_store_refused m a size v q.why q.is);
+}
+
+value_y : (x : Hart) (v : ℕ) (z : Hart) → length x.core.x ≡ 32 → Written x9_number v x z → AnyScratch x z
+value_y x v z all (inl e) = any_same x x z e (itself x all)
+value_y x v z all (inr e) = any_same x (valued x v) z e (valued_scratch x v all)
+
+store_inside_hung : (size : Size) (a v h : ℕ) (bus : BusUnit) (x : Hart) (base : Site) (old_count new_count : ℕ) (first last : Tells) (e : AccessFault) → length x.core.x ≡ 32 → a < 2 ^ 64 → StoodTold h bus x base x first.far
+    → StoreFailedInside size a v old_count new_count first last e → IfCut (HungInside (AnyScratch x) (StoreLeaves size a v) h bus base last.far) e
+store_inside_hung size a v h bus x base old_count new_count first last e all small st (store_writing f) =
+    if_cut (Hung (Written x9_number v x) h bus base last.far) (HungInside (AnyScratch x) (StoreLeaves size a v) h bus base last.far) e
+    (outside (Written x9_number v x) (AnyScratch x) (StoreLeaves size a v) h bus base last.far (λ z p. value_y x v z all p))
+    (write_hung x9_number v h bus x base x old_count new_count first last e (omega arith) st f)
+store_inside_hung size a v h bus x base old_count new_count first last e all small st (store_performing mid x9 f) =
+    let wr : WrittenTold x9_number v h bus x base x st.kept mid.far = written_told x9_number v h bus x base x first mid (omega arith) st x9 in
+    perform_hung (Stores size a v (aimed x a v)) (StoreFaults size a) (AnyScratch x) (StoreLeaves size a v) (store_word size) a h bus (valued x v) base x old_count new_count mid last e (valued_scratch x v all) (store_fits size a v x all) wr.then
+    (λ fy m. store_did size a v (aimed x a v) m fy (aimed_at x a v all small) (aimed_value x a v all)) f
+
+store_made : (size : Size) (a v h : ℕ) (bus : BusUnit) (x : Hart) (base : Site) (first last : Tells) → length x.core.x ≡ 32 → a < 2 ^ 64 → StoodTold h bus x base x first.far → StoredInside size a v first last → MadeInside (StoreLeaves size a v) h bus x base last.far
+store_made size a v h bus x base first last all small st i =
+    let w : StoreWent size a v h bus x base last.far = store_went size a v h bus x base first last all small st i in
+    record { before = w.before; memory = after_store (passed w.before base).board.memory a size v; left = refl; hart = scratched a v x; any = record { p = a; q = v; is = refl }; then = w.then }
+
+pub store_cut : (size : Size) (a v h : ℕ) (bus : BusUnit) (x : Hart) (base : Site) → length x.core.x ≡ 32 → a < 2 ^ 64 → CutInside (StoredInside size a v) (StoreFailedInside size a v) (StoreFaults size a) (StoreLeaves size a v) a h bus x base
+store_cut size a v h bus x base all small = record {
+  well = λ first last st r. store_made size a v h bus x base first last all small st r;
+  badly = λ oc nc first last e st g. store_badly size a v h bus x base oc nc first last e all small st g;
+  cut = λ oc nc first last e st g. store_inside_hung size a v h bus x base oc nc first last e all small st g;
+  refused = λ m q. sym (after_store_refused m a size v q.why q.is);
+}

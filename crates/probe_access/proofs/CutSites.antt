@@ -1,0 +1,179 @@
+-- Where a call broke off, as what stands behind the transport sees it.
+use Rattle.std.proofs.Common.{◌≡◌, ◌∙◌, ◌++◌, ℕ, List, [], ◌∷◌, map, false, Option, Some, refl, sym, ap, subst}
+use Rattle.rv_model.specs.Board.{Hart}
+use Rattle.debug_model.specs.declared.dmi.DmiFault.{DmiFault}
+use Rattle.debug_model.specs.declared.dmi_op.DmiOp.{DmiOp}
+use Rattle.debug_model.specs.declared.dmi_op.DmiOp.TheVariants.{Read, Write}
+use Rattle.debug_model.specs.Course.{DeedsAlone, OneOperation}
+use Rattle.debug_model.specs.Deeds.{Deed, ran}
+use Rattle.debug_model.specs.Dmi.{OperationCut, SiteCut, value_of}
+use Rattle.debug_model.specs.Dmi.SiteCut.{unperformed, was_performed}
+use Rattle.debug_model.specs.Module.{DebugModule, Site, after_write, operated}
+use Rattle.debug_model.specs.Scan.{WhereTold}
+use Rattle.debug_model.specs.SystemBus.{BusUnit}
+use Rattle.debug_model.specs.Told.{Far, site_of}
+use Rattle.probe_access.specs.declared.fault.AccessFault.{AccessFault}
+use Rattle.probe_access.specs.declared.fault.AccessFault.TheVariants as access_fault
+use Rattle.probe_run.specs.Acts.{Act, Attempt, Broke, Tells}
+use Rattle.probe_run.specs.Acts.Act.{Put}
+use Rattle.probe_run.specs.Acts.Attempt.{Operation}
+use Rattle.probe_access.specs.CommandRuns.{CommandBegun, CommandFailed, error_shown, poll_act, shows_busy}
+use Rattle.probe_access.specs.CommandRuns.CommandBegun.{writes, polls, clears}
+use Rattle.probe_access.specs.Cuts.{IfCut}
+use Rattle.probe_access.specs.MemoryRuns.{Recovers}
+use Rattle.probe_access.specs.Words.{abstractcs_address, clears_cmderr, command_address}
+use Rattle.probe_access.proofs.Along.{AtSites, SiteActs, did_sites}
+use Rattle.probe_access.proofs.Aside.{aside, passed}
+use Rattle.chip_laws.proofs.PathLemmas.{ran-append}
+use Rattle.probe_access.proofs.ReadyUnit.{Kept, OpAt, done_ran, op_at, unit_of}
+use Rattle.probe_access.proofs.RegAnswers.{StoodTold}
+use Rattle.probe_access.proofs.RegisterTold.{Stood, got_at, put_at}
+use Rattle.probe_access.proofs.TransferLemmas.{Commanded, RanAlone, commanded, polls_ran, read_status}
+
+-- ---- the calls that were Ok, and the one that was cut
+
+pub record CutAt (acts : List Act) (op : DmiOp) (f : Far) (told : Option Far) : Type 0 where
+  pub mid : Site
+  pub acts_are : SiteActs acts (site_of f) mid
+  pub far : Far
+  pub is : told ≡ Some far
+  pub cut : SiteCut op mid (site_of far)
+
+pub cut_at : (acts : List Act) (op : DmiOp) (old_count new_count : ℕ) (old : Tells) (told : Option Far) (why : DmiFault) (f : Far) → old.far ≡ Some f → Broke acts (Operation op) old_count new_count old told why → CutAt acts op f told
+cut_at acts op old_count new_count old told why f is b =
+    let at : AtSites acts f b.mid.far = did_sites old acts b.mid f b.did is in
+    let c : OperationCut op at.far.live.chip told = subst (λ (m : Option Far). WhereTold (OperationCut op) m told) at.is b.cut in
+    record { mid = site_of at.far; acts_are = at.acts_are; far = c.far; is = c.is; cut = c.site }
+
+-- ---- operations that leave the module quiet
+
+stood_ran : (h : ℕ) (bus : BusUnit) (y : Hart) (base : Site) (w : Hart) (k : Kept) (s t : Site) → Stood h bus y base w k s → DeedsAlone s t → Stood h bus y base w k t
+stood_ran h bus y base w k s t st d = record {
+  held = st.held;
+  frozen = st.frozen;
+  idle = st.idle;
+  at = done_ran (unit_of k h bus) h y base w d.deeds s t st.held st.frozen refl st.idle d.is st.at;
+}
+
+-- it is quiet, with some words
+pub record Rests (h : ℕ) (bus : BusUnit) (y : Hart) (base : Site) (w : Hart) (t : Site) : Type 0 where
+  pub kept : Kept
+  pub stood : Stood h bus y base w kept t
+
+pub rests : (h : ℕ) (bus : BusUnit) (y : Hart) (base : Site) (w : Hart) (k : Kept) (t : Site) → Stood h bus y base w k t → Rests h bus y base w t
+rests h bus y base w k t st = record { kept = k; stood = st }
+
+pub got_cut : (a : ℕ) (h : ℕ) (bus : BusUnit) (y : Hart) (base : Site) (w : Hart) (k : Kept) (s t : Site) → Stood h bus y base w k s → ((z : Site) → operated (Read a) (aside (unit_of k h bus) h y z) ≡ aside (unit_of k h bus) h y z)
+    → SiteCut (Read a) s t → Rests h bus y base w t
+got_cut a h bus y base w k s t st same (unperformed d) = rests h bus y base w k t (stood_ran h bus y base w k s t st d)
+got_cut a h bus y base w k s t st same (was_performed result o) = rests h bus y base w k t (got_at a (value_of result) h bus y base w k s t st (record { result = result; one = o; value_is = refl }) same)
+
+pub put_cut : (a value : ℕ) (h : ℕ) (bus : BusUnit) (y : Hart) (base : Site) (w : Hart) (k l : Kept) (s t : Site) → Stood h bus y base w k s → ((z : Site) → operated (Write a value) (aside (unit_of k h bus) h y z) ≡ aside (unit_of l h bus) h y z)
+    → SiteCut (Write a value) s t → Rests h bus y base w t
+put_cut a value h bus y base w k l s t st changes (unperformed d) = rests h bus y base w k t (stood_ran h bus y base w k s t st d)
+put_cut a value h bus y base w k l s t st changes (was_performed result o) =
+    rests h bus y base w l t (put_at a value h bus y base w k l s t st (t, record { before = o.before; behind = o.behind; is = o.is; result_is = refl }, refl) changes)
+
+-- ---- a command that was written, with whatever deeds followed
+
+pub record SentAt (word : ℕ) (n : DebugModule) (h : ℕ) (y : Hart) (base t : Site) : Type 0 where
+  pub harts : List ℕ
+  pub during : List Deed
+  pub is : t ≡ ran during (after_write command_address word (aside n h y (passed harts base)))
+
+sent_more : (word : ℕ) (n : DebugModule) (h : ℕ) (y : Hart) (base s t : Site) → SentAt word n h y base s → RanAlone s t → SentAt word n h y base t
+sent_more word n h y base s t e r = record {
+  harts = e.harts;
+  during = e.during ++ r.deeds;
+  is = r.is ∙ ap (ran r.deeds) e.is ∙ sym (ran-append e.during r.deeds (after_write command_address word (aside n h y (passed e.harts base))));
+}
+
+status_cut : (s t : Site) → SiteCut (Read abstractcs_address) s t → RanAlone s t
+status_cut s t (unperformed d) = record { deeds = d.deeds; is = d.is }
+status_cut s t (was_performed result o) = record { deeds = o.before ++ o.behind; is = o.is ∙ ap (ran o.behind) (read_status (ran o.before s)) ∙ sym (ran-append o.before o.behind s) }
+
+sent_first : (word h : ℕ) (bus : BusUnit) (y : Hart) (base : Site) (w : Hart) (k : Kept) (s t : Site) → Stood h bus y base w k s → OneOperation (Write command_address word) word s t → SentAt word (unit_of k h bus) h y base t
+sent_first word h bus y base w k s t st o =
+    let first : OpAt (Write command_address word) word (unit_of k h bus) h y base t = op_at (Write command_address word) word (unit_of k h bus) h y base w s t st.held st.frozen refl st.idle st.at o in
+    record { harts = first.harts; during = first.behind; is = first.is }
+
+-- it was written, and polled for in vain
+pub sent_polls : (word : ℕ) (words : List ℕ) (h : ℕ) (bus : BusUnit) (y : Hart) (base : Site) (w : Hart) (k : Kept) (s t : Site) → Stood h bus y base w k s → SiteActs (Put command_address word ∷ map poll_act words) s t
+    → SentAt word (unit_of k h bus) h y base t
+sent_polls word words h bus y base w k s t st p =
+    sent_more word (unit_of k h bus) h y base p.0 t (sent_first word h bus y base w k s p.0 st p.1) (polls_ran words p.0 t p.2)
+
+-- where a command broke off
+pub data CommandCutAt (word : ℕ) (h : ℕ) (bus : BusUnit) (y : Hart) (base : Site) (w : Hart) (k : Kept) (t : Site) : Type 0 where
+  unsent : Stood h bus y base w k t → CommandCutAt word h bus y base w k t
+  sent : SentAt word (unit_of k h bus) h y base t → CommandCutAt word h bus y base w k t
+  ended : (last : ℕ) (mid : Site) → shows_busy last ≡ false → (error_shown last ≡ 0 → ⊥) → Commanded word last (unit_of k h bus) h y base mid → SiteCut (Write abstractcs_address clears_cmderr) mid t
+      → CommandCutAt word h bus y base w k t
+
+written_cut : (word h : ℕ) (bus : BusUnit) (y : Hart) (base : Site) (w : Hart) (k : Kept) (s t : Site) → Stood h bus y base w k s → SiteCut (Write command_address word) s t → CommandCutAt word h bus y base w k t
+written_cut word h bus y base w k s t st (unperformed d) = unsent (stood_ran h bus y base w k s t st d)
+written_cut word h bus y base w k s t st (was_performed result o) = sent (sent_first word h bus y base w k s t st (record { before = o.before; behind = o.behind; is = o.is; result_is = refl }))
+
+pub record CommandCutTold (word : ℕ) (h : ℕ) (bus : BusUnit) (y : Hart) (base : Site) (w : Hart) (k : Kept) (told : Option Far) : Type 0 where
+  pub far : Far
+  pub is : told ≡ Some far
+  pub cut : CommandCutAt word h bus y base w k (site_of far)
+
+cut_begun : (word h : ℕ) (bus : BusUnit) (y : Hart) (base : Site) (w : Hart) (old_count new_count : ℕ) (old : Tells) (told : Option Far) (why : DmiFault) (acts : List Act) (failed : Attempt) → (st : StoodTold h bus y base w old.far)
+    → CommandBegun word acts failed → Broke acts failed old_count new_count old told why → CommandCutTold word h bus y base w st.kept told
+cut_begun word h bus y base w old_count new_count old told why _ _ st writes b =
+    let c : CutAt [] (Write command_address word) st.far told = cut_at [] (Write command_address word) old_count new_count old told why st.far st.is b in
+    record { far = c.far; is = c.is; cut = written_cut word h bus y base w st.kept c.mid (site_of c.far) (subst (λ s. Stood h bus y base w st.kept s) (sym c.acts_are) st.stood) c.cut }
+cut_begun word h bus y base w old_count new_count old told why _ _ st (polls words vain) b =
+    let c : CutAt (Put command_address word ∷ map poll_act words) (Read abstractcs_address) st.far told = cut_at (Put command_address word ∷ map poll_act words) (Read abstractcs_address) old_count new_count old told why st.far st.is b in
+    record {
+      far = c.far;
+      is = c.is;
+      cut = sent (sent_more word (unit_of st.kept h bus) h y base c.mid (site_of c.far) (sent_polls word words h bus y base w st.kept (site_of st.far) c.mid st.stood c.acts_are) (status_cut c.mid (site_of c.far) c.cut));
+    }
+cut_begun word h bus y base w old_count new_count old told why _ _ st (clears words last vain idle error) b =
+    let c : CutAt (Put command_address word ∷ (map poll_act words ++ poll_act last ∷ [])) (Write abstractcs_address clears_cmderr) st.far told =
+    cut_at (Put command_address word ∷ (map poll_act words ++ poll_act last ∷ [])) (Write abstractcs_address clears_cmderr) old_count new_count old told why st.far st.is b in
+    record {
+      far = c.far;
+      is = c.is;
+      cut = ended last c.mid idle error (commanded word words last (unit_of st.kept h bus) h y base w (site_of st.far) c.mid st.stood.held st.stood.frozen refl st.stood.idle st.stood.at c.acts_are) c.cut;
+    }
+
+-- by the fault
+pub command_cut_told : (word h : ℕ) (bus : BusUnit) (y : Hart) (base : Site) (w : Hart) (old_count new_count : ℕ) (old new : Tells) (e : AccessFault) → (st : StoodTold h bus y base w old.far) → CommandFailed word old_count new_count old new e
+    → IfCut (CommandCutTold word h bus y base w st.kept new.far) e
+command_cut_told word h bus y base w old_count new_count old new (access_fault.Dmi why) st f = cut_begun word h bus y base w old_count new_count old new.far why f.acts f.failed st f.begun f.broke
+command_cut_told word h bus y base w old_count new_count old new (access_fault.Memory at) st f = tt
+command_cut_told word h bus y base w old_count new_count old new (access_fault.Register number) st f = tt
+command_cut_told word h bus y base w old_count new_count old new access_fault.StillBusy st f =
+    let at : AtSites (Put command_address word ∷ map poll_act f.words) st.far new.far = did_sites old _ new st.far f.did st.is in
+    record { far = at.far; is = at.is; cut = sent (sent_polls word f.words h bus y base w st.kept (site_of st.far) (site_of at.far) st.stood at.acts_are) }
+command_cut_told word h bus y base w old_count new_count old new (access_fault.Run why) st f = tt
+command_cut_told word h bus y base w old_count new_count old new (access_fault.Odd last) st f = tt
+
+pub if_cut : (P Q : Type 0) (e : AccessFault) → (P → Q) → IfCut P e → IfCut Q e
+if_cut P Q (access_fault.Dmi why) f p = f p
+if_cut P Q (access_fault.Memory at) f p = tt
+if_cut P Q (access_fault.Register number) f p = tt
+if_cut P Q access_fault.StillBusy f p = f p
+if_cut P Q (access_fault.Run why) f p = tt
+if_cut P Q (access_fault.Odd word) f p = tt
+
+-- where it holds whatever the fault
+pub cut_always : (P : Type 0) (e : AccessFault) → P → IfCut P e
+cut_always P (access_fault.Dmi why) p = p
+cut_always P (access_fault.Memory at) p = tt
+cut_always P (access_fault.Register number) p = tt
+cut_always P access_fault.StillBusy p = p
+cut_always P (access_fault.Run why) p = tt
+cut_always P (access_fault.Odd word) p = tt
+
+-- behind a fault of memory or of a register nothing was cut
+pub recovers_uncut : (P : Type 0) (e : AccessFault) → Recovers e → IfCut P e
+recovers_uncut P (access_fault.Dmi why) r = absurd r
+recovers_uncut P (access_fault.Memory at) r = tt
+recovers_uncut P (access_fault.Register number) r = tt
+recovers_uncut P access_fault.StillBusy r = absurd r
+recovers_uncut P (access_fault.Run why) r = tt
+recovers_uncut P (access_fault.Odd word) r = tt

@@ -1,0 +1,54 @@
+-- What is left of a told chip where a block of accesses or a single step broke off.
+-- It is this project's own: elements in front were done, and the one that was under way is left as a single access is; a step has come so far.
+use Rattle.std.specs.Prelude.{◌≡◌, ◌⊎◌, ◌<◌, ℕ, List, Bool, true, false}
+use Rattle.rv_model.specs.declared.size.Size.{Size}
+use Rattle.rv_model.specs.Board.{Hart}
+use Rattle.debug_model.specs.declared.point.Point.TheVariants.{ResumeReq}
+use Rattle.debug_model.specs.Module.{Site}
+use Rattle.debugger_laws.specs.Debugger.{sees_both}
+use Rattle.debugger_laws.specs.Stands.{Rewrote, Target}
+use Rattle.probe_run.specs.Happens.{RunCut, StepsAt, target_of}
+use Rattle.probe_access.specs.Blocks.{LoadedEach, StoredEach, element_at}
+use Rattle.probe_access.specs.Cuts.{AccessLeftOff, LeftAside, LoadLeaves, Scratched, StoreLeaves}
+use Rattle.probe_access.specs.SingleSteps.{with_step}
+
+-- ---- blocks
+
+pub record BlockLoadCut (size : Size) (address : ℕ) (values : List ℕ) (h : ℕ) (s t : Site) : Type 0 where
+  pub mid : Site
+  pub each : LoadedEach size address s values mid
+  pub left : AccessLeftOff Scratched LoadLeaves h mid t
+
+pub record BlockStoreCut (size : Size) (address value count h : ℕ) (s t : Site) : Type 0 where
+  pub done : ℕ
+  pub below : done < count
+  pub mid : Site
+  pub each : StoredEach size address value s done mid
+  pub left : AccessLeftOff Scratched (StoreLeaves size (element_at size address done) value) h mid t
+
+-- ---- a single step
+
+-- the step flag was written, or not yet
+abbrev pub MaybeFlagged : Bool → Hart → Hart → Type 0
+MaybeFlagged on x y = (y ≡ x) ⊎ (y ≡ with_step on x)
+
+-- while the hart ran
+pub record CutRunning (h : ℕ) (s t : Site) : Type 0 where
+  pub begun : Target
+  pub sets : Rewrote (with_step true) h (target_of s) begun
+  pub runs : RunCut (ResumeReq h) sees_both h begun (target_of t)
+  pub bus : t.unit.bus ≡ s.unit.bus
+
+-- while the flag was cleared
+pub record CutClearing (h : ℕ) (s t : Site) : Type 0 where
+  pub begun : Target
+  pub ran : Site
+  pub sets : Rewrote (with_step true) h (target_of s) begun
+  pub runs : StepsAt h begun (target_of ran)
+  pub clears : LeftAside (MaybeFlagged false) h ran t
+  pub bus : t.unit.bus ≡ s.unit.bus
+
+pub data StepCut (h : ℕ) (s t : Site) : Type 0 where
+  setting : LeftAside (MaybeFlagged true) h s t → StepCut h s t
+  running : CutRunning h s t → StepCut h s t
+  clearing : CutClearing h s t → StepCut h s t

@@ -1,0 +1,73 @@
+-- The calls of a block of accesses, as far as they don't depend on how the accesses are made: where its values were read, and what a fault follows.
+-- RISC-V Debug Specification 1.0, "Abstract Control and Status" and "Abstract Data 0".
+use Rattle.std.specs.Prelude.{◌≡◌, ◌≢◌, ◌++◌, ◌∷◌, ℕ, List, [], map, Bool, false}
+use Rattle.probe_access.specs.declared.fault.AccessFault.{AccessFault}
+use Rattle.probe_access.specs.declared.fault.AccessFault.TheVariants as fault
+use Rattle.probe_run.specs.Acts.{Act, Attempt, Broke, Did, Tells}
+use Rattle.probe_run.specs.Acts.Act.{Got, Put}
+use Rattle.probe_access.specs.CommandRuns.{AlwaysBusy, error_shown, poll_act, shows_busy}
+use Rattle.probe_access.specs.RegisterRuns.{exception_error, no_error}
+use Rattle.probe_access.specs.Words.{command_address, data0_address, data1_address, joined, transfer_word}
+
+-- ---- what was read
+
+-- both data words, in either order
+pub data WordsRead (low high : ℕ) : List Act → Type 0 where
+  lower_first : WordsRead low high (Got data0_address low ∷ Got data1_address high ∷ [])
+  upper_first : WordsRead low high (Got data1_address high ∷ Got data0_address low ∷ [])
+
+-- each value was read from the data words, behind a poll that showed neither a command under way nor an error
+pub data Fetches : List ℕ → List Act → Type 0 where
+  nothing : (acts : List Act) → Fetches [] acts
+  further : (values : List ℕ) (front rest words : List Act) (last low high : ℕ) → Fetches values front → shows_busy last ≡ false → error_shown last ≡ no_error → WordsRead low high words
+      → Fetches (values ++ joined low high ∷ []) (front ++ poll_act last ∷ (words ++ rest))
+
+pub record Fetched (values : List ℕ) (old new : Tells) : Type 0 where
+  pub acts : List Act
+  pub did : Did old acts new
+  pub fetches : Fetches values acts
+
+-- ---- what a fault follows
+
+-- a poll showed the end of a command with this cmderr
+pub record Reported (error : ℕ) (old new : Tells) : Type 0 where
+  pub front : List Act
+  pub last : ℕ
+  pub rest : List Act
+  pub idle : shows_busy last ≡ false
+  pub error_is : error_shown last ≡ error
+  pub did : Did old (front ++ poll_act last ∷ rest) new
+
+-- the transfer of this register was refused
+pub record Denied (number : ℕ) (old new : Tells) : Type 0 where
+  pub front : List Act
+  pub write : Bool
+  pub words : List ℕ
+  pub last : ℕ
+  pub rest : List Act
+  pub idle : shows_busy last ≡ false
+  pub error_is : error_shown last ≡ exception_error
+  pub did : Did old (front ++ Put command_address (transfer_word write number) ∷ (map poll_act words ++ poll_act last ∷ rest)) new
+
+-- the end of a command was shown with an error that is neither
+pub record ReportedOddly (word : ℕ) (old new : Tells) : Type 0 where
+  pub front : List Act
+  pub rest : List Act
+  pub idle : shows_busy word ≡ false
+  pub some : error_shown word ≢ no_error
+  pub other : error_shown word ≢ exception_error
+  pub did : Did old (front ++ poll_act word ∷ rest) new
+
+-- 64 polls in a row, behind any calls, showed a command under way
+pub record StaysBusy (old new : Tells) : Type 0 where
+  pub front : List Act
+  pub busy : AlwaysBusy front old new
+
+-- a fault of the link came behind calls that were Ok
+abbrev pub Causes : ℕ → ℕ → Tells → Tells → AccessFault → Type 0
+Causes old_count new_count old new (fault.Dmi why) = (acts : List Act) × (failed : Attempt) × Broke acts failed old_count new_count old new.far why
+Causes old_count new_count old new (fault.Memory address) = Reported exception_error old new
+Causes old_count new_count old new (fault.Register number) = Denied number old new
+Causes old_count new_count old new fault.StillBusy = StaysBusy old new
+Causes old_count new_count old new (fault.Run why) = ⊥
+Causes old_count new_count old new (fault.Odd word) = ReportedOddly word old new

@@ -1,0 +1,46 @@
+-- The calls of a single step: dcsr is written with its step flag set, the hart does one instruction, and dcsr is written with the flag cleared.
+-- RISC-V Debug Specification 1.0, "Single Step" and "Debug Control and Status".
+use Rattle.std.specs.Prelude.{◌≡◌, ℕ, Bool, true, false}
+use Rattle.rv_model.specs.Dcsr.{dcsr_of_word, dcsr_word}
+use Rattle.probe_access.specs.declared.fault.AccessFault.{AccessFault}
+use Rattle.probe_access.specs.declared.fault.AccessFault.TheVariants as fault
+use Rattle.probe_run.specs.declared.fault.RunFault.{RunFault}
+use Rattle.probe_run.specs.declared.fault.RunFault.TheVariants as run_fault
+use Rattle.probe_run.specs.Acts.{Tells}
+use Rattle.probe_run.specs.Outcomes.{StepFails, SteppedBy}
+use Rattle.probe_access.specs.RegisterRuns.{ReadFailed, RegisterRead, RegisterWritten, WriteFailed}
+use Rattle.probe_access.specs.Stops.{dcsr_number}
+
+-- a word of dcsr with its step flag so, and its other fields as they were
+abbrev pub with_flag : Bool → ℕ → ℕ
+with_flag on word = dcsr_word (record (dcsr_of_word word) { step = on })
+
+-- dcsr was read, and written with the flag so
+pub record FlagWritten (on : Bool) (old new : Tells) : Type 0 where
+  pub word : ℕ
+  pub mid : Tells
+  pub first : RegisterRead dcsr_number word old mid
+  pub second : RegisterWritten dcsr_number (with_flag on word) mid new
+
+pub data FlagFailed (on : Bool) (old_count new_count : ℕ) (old new : Tells) (e : AccessFault) : Type 0 where
+  at_read : ReadFailed dcsr_number old_count new_count old new e → FlagFailed on old_count new_count old new e
+  at_write : (word : ℕ) (mid : Tells) → RegisterRead dcsr_number word old mid → WriteFailed dcsr_number (with_flag on word) old_count new_count mid new e → FlagFailed on old_count new_count old new e
+
+-- a fault of run control among those of accesses: one of the link is the same here as there
+abbrev pub of_run : RunFault → AccessFault
+of_run (run_fault.Dmi why) = fault.Dmi why
+of_run (run_fault.NoHalt looks) = fault.Run (run_fault.NoHalt looks)
+of_run (run_fault.NoAck looks) = fault.Run (run_fault.NoAck looks)
+
+-- the flag was set, the hart has gone and halted again, and the flag was cleared
+pub record SteppedOnce (h : ℕ) (old new : Tells) : Type 0 where
+  pub begun : Tells
+  pub ran : Tells
+  pub sets : FlagWritten true old begun
+  pub runs : SteppedBy h begun ran
+  pub clears : FlagWritten false ran new
+
+pub data StepFailed (h old_count new_count : ℕ) (old new : Tells) (e : AccessFault) : Type 0 where
+  in_set : FlagFailed true old_count new_count old new e → StepFailed h old_count new_count old new e
+  in_run : (begun : Tells) → FlagWritten true old begun → (why : RunFault) → StepFails h old_count new_count begun new why → e ≡ of_run why → StepFailed h old_count new_count old new e
+  in_clear : (begun ran : Tells) → FlagWritten true old begun → SteppedBy h begun ran → FlagFailed false old_count new_count ran new e → StepFailed h old_count new_count old new e
