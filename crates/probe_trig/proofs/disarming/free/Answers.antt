@@ -1,0 +1,56 @@
+use Rattle.std.proofs.Common.{[], ◌∷◌, ◌++◌, ◌∙◌, false, refl, sym, arith}
+use Rattle.probe_trig.specs.declared.register.Register.TheVariants.{Tselect}
+use Rattle.probe_trig.specs.Runs.{freed, put_back, word_read}
+use Rattle.probe_trig.specs.Transfers.Transfer.{Got}
+use Rattle.probe_trig.proofs.ArmFits.{frees_back, frees_keep, frees_none, frees_set, frees_word}
+use Rattle.probe_run.proofs.ActLemmas.{if_err}
+use Rattle.probe_trig.proofs.TransferLemmas.{failed_behind, failed_first, made_then}
+use Rattle.probe_trig.proofs.disarming.free.Goals as goal
+
+pub returns-in_err-kept-clause-failed : goal.returns-in_err-kept-clause-failed
+returns-in_err-kept-clause-failed g c =
+    if_err _ c.from_residual.result _ c.from_residual.ensures.1 (failed_first _ _ _ _ _ _ _ _ (frees_keep c.args.slot) c.in_err-kept.ensures.failed)
+
+pub returns-in_err-tdata1-clause-failed : goal.returns-in_err-tdata1-clause-failed
+returns-in_err-tdata1-clause-failed g c =
+    if_err _ c.from_residual-in_err-tdata1.result _ c.from_residual-in_err-tdata1.ensures.1
+    (failed_behind _ _ (Got Tselect c.in_ok-kept.kept ∷ []) _ _ _ _ _ _ _ _ c.get.ensures.later c.read_word.ensures.later c.in_ok-kept.ensures.made (frees_word c.args.slot c.in_ok-kept.kept) c.in_err-tdata1.ensures.failed)
+
+pub returns-in_err-set-clause-failed : goal.returns-in_err-set-clause-failed
+returns-in_err-set-clause-failed g c =
+    if_err _ c.from_residual-in_err-set.result _ c.from_residual-in_err-set.ensures.1
+    (failed_behind _ _ (Got Tselect c.in_ok-kept.kept ∷ word_read c.args.slot c.in_ok-tdata1.tdata1) _ _ _ _ _ _ _ _ (omega (arith, c.get.ensures.later, c.read_word.ensures.later)) c.set.ensures.later
+    (made_then c.args.halted.now.number (Got Tselect c.in_ok-kept.kept ∷ []) (word_read c.args.slot c.in_ok-tdata1.tdata1) _ _ _ c.in_ok-kept.ensures.made c.in_ok-tdata1.ensures.made)
+    (frees_none c.args.slot c.in_ok-kept.kept c.in_ok-tdata1.tdata1 (sym c.shows_free.ensures ∙ c.if-shows_free.true)) c.in_err-set.ensures.failed)
+
+pub returns-then-shows_free-clause-did : goal.returns-then-shows_free-clause-did
+returns-then-shows_free-clause-did g c = record {
+  transfers = Got Tselect c.in_ok-kept.kept ∷ (word_read c.args.slot c.in_ok-tdata1.tdata1 ++ put_back c.in_ok-kept.kept);
+  whole = record { kept = c.in_ok-kept.kept; tdata1 = c.in_ok-tdata1.tdata1; shows = sym c.shows_free.ensures ∙ c.if-shows_free.true; is = refl };
+  made = made_then c.args.halted.now.number (Got Tselect c.in_ok-kept.kept ∷ []) (word_read c.args.slot c.in_ok-tdata1.tdata1 ++ put_back c.in_ok-kept.kept) _ _ _ c.in_ok-kept.ensures.made
+      (made_then c.args.halted.now.number (word_read c.args.slot c.in_ok-tdata1.tdata1) (put_back c.in_ok-kept.kept) _ _ _ c.in_ok-tdata1.ensures.made c.in_ok-set.ensures.made);
+}
+
+pub returns-in_err-set-2-clause-failed : goal.returns-in_err-set-2-clause-failed
+returns-in_err-set-2-clause-failed g c =
+    if_err _ c.from_residual-in_err-set-2.result _ c.from_residual-in_err-set-2.ensures.1
+    (failed_behind _ _ (Got Tselect c.in_ok-kept.kept ∷ word_read c.args.slot c.in_ok-tdata1.tdata1) _ _ _ _ _ _ _ _ (omega (arith, c.get.ensures.later, c.read_word.ensures.later)) c.set-2.ensures.later
+    (made_then c.args.halted.now.number (Got Tselect c.in_ok-kept.kept ∷ []) (word_read c.args.slot c.in_ok-tdata1.tdata1) _ _ _ c.in_ok-kept.ensures.made c.in_ok-tdata1.ensures.made)
+    (frees_set c.args.slot c.in_ok-kept.kept c.in_ok-tdata1.tdata1 (sym c.shows_free.ensures ∙ c.if-shows_free.false)) (rw (c.tdata1.ensures) at c.in_err-set-2.ensures.failed))
+
+pub returns-in_err-set-3-clause-failed : goal.returns-in_err-set-3-clause-failed
+returns-in_err-set-3-clause-failed g c =
+    if_err _ c.from_residual-in_err-set-3.result _ c.from_residual-in_err-set-3.ensures.1
+    (failed_behind _ _ (Got Tselect c.in_ok-kept.kept ∷ (word_read c.args.slot c.in_ok-tdata1.tdata1 ++ freed false)) _ _ _ _ _ _ _ _ (omega (arith, c.get.ensures.later, c.read_word.ensures.later, c.set-2.ensures.later)) c.set-3.ensures.later
+    (made_then c.args.halted.now.number (Got Tselect c.in_ok-kept.kept ∷ []) (word_read c.args.slot c.in_ok-tdata1.tdata1 ++ freed false) _ _ _ c.in_ok-kept.ensures.made
+    (made_then c.args.halted.now.number (word_read c.args.slot c.in_ok-tdata1.tdata1) (freed false) _ _ _ c.in_ok-tdata1.ensures.made (rw (c.tdata1.ensures) at c.in_ok-set-2.ensures.made)))
+    (frees_back c.args.slot c.in_ok-kept.kept c.in_ok-tdata1.tdata1 (sym c.shows_free.ensures ∙ c.if-shows_free.false)) c.in_err-set-3.ensures.failed)
+
+pub returns-clause-did : goal.returns-clause-did
+returns-clause-did g c = record {
+  transfers = Got Tselect c.in_ok-kept.kept ∷ (word_read c.args.slot c.in_ok-tdata1.tdata1 ++ (freed false ++ put_back c.in_ok-kept.kept));
+  whole = record { kept = c.in_ok-kept.kept; tdata1 = c.in_ok-tdata1.tdata1; shows = sym c.shows_free.ensures ∙ c.if-shows_free.false; is = refl };
+  made = made_then c.args.halted.now.number (Got Tselect c.in_ok-kept.kept ∷ []) (word_read c.args.slot c.in_ok-tdata1.tdata1 ++ (freed false ++ put_back c.in_ok-kept.kept)) _ _ _ c.in_ok-kept.ensures.made
+      (made_then c.args.halted.now.number (word_read c.args.slot c.in_ok-tdata1.tdata1) (freed false ++ put_back c.in_ok-kept.kept) _ _ _ c.in_ok-tdata1.ensures.made
+      (made_then c.args.halted.now.number (freed false) (put_back c.in_ok-kept.kept) _ _ _ (rw (c.tdata1.ensures) at c.in_ok-set-2.ensures.made) c.in_ok-set-3.ensures.made));
+}

@@ -1,0 +1,23 @@
+use Rattle.std.proofs.Common.{[], ◌∷◌}
+use Rattle.probe_trig.specs.declared.register.Register.TheVariants.{Dcsr}
+use Rattle.probe_trig.specs.Transfers.Transfer.{Got}
+use Rattle.probe_trig.proofs.Calls.{changed_any}
+use Rattle.probe_trig.proofs.EndFits.{ends_changes, ends_did, ends_word}
+use Rattle.probe_run.proofs.ActLemmas.{if_err}
+use Rattle.probe_trig.proofs.TransferLemmas.{failed_behind, failed_first}
+use Rattle.probe_trig.proofs.stepping.put_back.Goals as goal
+
+pub returns-in_err-word-clause-failed : goal.returns-in_err-word-clause-failed
+returns-in_err-word-clause-failed g c =
+    if_err _ c.from_residual.result _ c.from_residual.ensures.1 (failed_first _ _ _ _ _ _ _ _ ends_word c.in_err-word.ensures.failed)
+
+pub returns-in_err-_some-clause-failed : goal.returns-in_err-_some-clause-failed
+returns-in_err-_some-clause-failed g c =
+    if_err _ c.from_residual-in_err-_some.result _ c.from_residual-in_err-_some.ensures.1
+    (failed_behind _ _ (Got Dcsr c.in_ok-word.word ∷ []) _ _ _ _ _ _ _ _ c.get.ensures.later c.change_hits.ensures.later c.in_ok-word.ensures.made
+    (ends_changes c.shows_step-executed.result c.in_ok-word.word c.shows_step-executed.ensures) (rw (c.ending.ensures) at c.in_err-_some.ensures.failed))
+
+pub returns-clause-did : goal.returns-clause-did
+returns-clause-did g c =
+    ends_did c.shows_step-executed.result c.in_ok-word.word c.args.halted.now.number _ _ _ c.shows_step-executed.ensures c.in_ok-word.ensures.made
+    (changed_any _ _ c.args.halted.now.number _ _ (rw (c.ending.ensures) at c.in_ok-_some.ensures.did))

@@ -1,0 +1,28 @@
+use Rattle.probe_access.proofs.StepClauses.{flag_left}
+use Rattle.probe_trig.specs.Stepping.BackFailed.{in_end, in_step}
+use Rattle.probe_trig.proofs.OverFaults.{failed_counted}
+use Rattle.probe_trig.proofs.Overs.{at_back, back_at, steps_at}
+use Rattle.probe_run.proofs.ActLemmas.{if_err}
+use Rattle.probe_trig.proofs.Untold.{failed_left}
+use Rattle.probe_trig.proofs.stepping.step_back.Goals as goal
+
+pub returns-in_err-again-clause-failed : goal.returns-in_err-again-clause-failed
+returns-in_err-again-clause-failed g c = if_err _ c.from_residual.result _ c.from_residual.ensures.1 (in_step c.in_err-again.ensures.failed c.in_err-again.ensures.cut)
+
+pub returns-in_err-executed-clause-left : goal.returns-in_err-executed-clause-left
+returns-in_err-executed-clause-left g c =
+    if_err _ c.from_residual-in_err-executed.result _ c.from_residual-in_err-executed.ensures.1
+    (flag_left c.args.halted.number _ _ _ c.in_err-executed.field-0.0 (at_back _ _ _ (steps_at c.args.halted.number _ _ c.in_ok-again.ensures.stepped_at)) (failed_left _ _ _ _ _ _ _ c.in_err-executed.field-0.0 c.in_err-executed.ensures.failed))
+
+pub returns-in_err-executed-clause-failed : goal.returns-in_err-executed-clause-failed
+returns-in_err-executed-clause-failed g c =
+    if_err _ c.from_residual-in_err-executed.result _ c.from_residual-in_err-executed.ensures.1
+    (in_end _ c.in_ok-again.ensures.stepped
+    (failed_counted _ c.args.halted.number _ _ _ _ _ c.in_err-executed.field-0.0 c.step.ensures.later c.put_back.ensures.later (rw (c.in_ok-again.ensures.hart) at c.in_err-executed.ensures.failed)))
+
+pub returns-clause-back_at : goal.returns-clause-back_at
+returns-clause-back_at g c =
+    back_at c.in_ok-executed.executed c.args.halted.number _ _ _ _ c.in_ok-again.ensures.stepped_at c.in_ok-again.ensures.ready c.in_ok-again.ensures.halted (rw (c.in_ok-again.ensures.hart) at c.in_ok-executed.ensures.did)
+
+pub returns-clause-stepped : goal.returns-clause-stepped
+returns-clause-stepped g c = record { ran = _; steps = c.in_ok-again.ensures.stepped; ends = rw (c.in_ok-again.ensures.hart) at c.in_ok-executed.ensures.did }

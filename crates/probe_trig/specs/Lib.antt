@@ -1,0 +1,9 @@
+pub mod Transfers
+pub mod Words
+pub mod Runs
+pub mod Single
+pub mod Slots
+pub mod Faults
+pub mod Stepping
+pub mod Going
+pub mod StepLaws

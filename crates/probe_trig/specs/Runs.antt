@@ -1,0 +1,123 @@
+-- The transfers of each call on a hart's slots, in order.
+-- RISC-V Debug Specification 1.0, "Trigger Select": a slot's registers are reached while tselect names it. That tselect is read first and put back last,
+-- and that slots are visited from the lowest on, is this project's own.
+use Rattle.std.specs.Prelude.{◌≡◌, ◌++◌, ◌<◌, ℕ, suc, List, [], ◌∷◌, All, length, Bool, true, false, Option, Some, None, if◌then◌else◌}
+use Rattle.rv_model.specs.TriggerWords.{tdata1_of}
+use Rattle.rv_model.specs.declared.slot.Trigger.TheVariants.{Disabled}
+use Rattle.rv_model.specs.Board.{slot_count}
+use Rattle.probe_trig.specs.declared.change.Change.{Change}
+use Rattle.probe_trig.specs.declared.register.Register.TheVariants.{Tselect, Tdata1, Tdata2}
+use Rattle.probe_trig.specs.declared.slot_use.SlotUse.{SlotUse}
+use Rattle.probe_trig.specs.declared.slot_words.SlotWords.{SlotWords}
+use Rattle.probe_trig.specs.Transfers.{Transfer}
+use Rattle.probe_trig.specs.Transfers.Transfer.{Got, Set}
+use Rattle.probe_trig.specs.Words.{address_named, shows_free, shows_hit, trigger_named, word_changed}
+
+-- the slot that was selected is selected again
+abbrev pub put_back : ℕ → List Transfer
+put_back kept = Set Tselect kept ∷ []
+
+-- a slot is selected, and its tdata1 read
+abbrev pub word_read : ℕ → ℕ → List Transfer
+word_read slot tdata1 = Set Tselect slot ∷ Got Tdata1 tdata1 ∷ []
+
+-- ---- the slots are read
+
+abbrev pub slot_read : ℕ → SlotWords → List Transfer
+slot_read slot words = word_read slot words.tdata1 ++ Got Tdata2 words.tdata2 ∷ []
+
+pub record Reads (a b c d : SlotWords) (ts : List Transfer) : Type 0 where
+  pub kept : ℕ
+  pub is : ts ≡ Got Tselect kept ∷ (slot_read 0 a ++ (slot_read 1 b ++ (slot_read 2 c ++ (slot_read 3 d ++ put_back kept))))
+
+abbrev pub ReadsAny : List Transfer → Type 0
+ReadsAny ts = (a : SlotWords) × (b : SlotWords) × (c : SlotWords) × (d : SlotWords) × Reads a b c d ts
+
+-- ---- the slots with a hit are changed, and no other is written
+
+abbrev pub hit_changed : Change → ℕ → List Transfer
+hit_changed how tdata1 = if shows_hit tdata1 then Set Tdata1 (word_changed how tdata1) ∷ [] else []
+
+abbrev pub slot_changed : Change → ℕ → ℕ → List Transfer
+slot_changed how slot tdata1 = word_read slot tdata1 ++ hit_changed how tdata1
+
+pub record Changes (how : Change) (a b c d : ℕ) (ts : List Transfer) : Type 0 where
+  pub kept : ℕ
+  pub is : ts ≡ Got Tselect kept ∷ (slot_changed how 0 a ++ (slot_changed how 1 b ++ (slot_changed how 2 c ++ (slot_changed how 3 d ++ put_back kept))))
+
+abbrev pub ChangesAny : Change → List Transfer → Type 0
+ChangesAny how ts = (a : ℕ) × (b : ℕ) × (c : ℕ) × (d : ℕ) × Changes how a b c d ts
+
+-- ---- the lowest free slot is sought, and armed
+
+abbrev pub IsInUse : ℕ → Type 0
+IsInUse tdata1 = shows_free tdata1 ≡ false
+
+-- from a slot on
+abbrev pub words_read : ℕ → List ℕ → List Transfer
+words_read slot [] = []
+words_read slot (w ∷ words) = word_read slot w ++ words_read (suc slot) words
+
+-- so many are in use
+pub record InUse (words : List ℕ) : Type 0 where
+  pub all : All IsInUse words
+  pub few : length words < slot_count
+
+-- a slot that is armed for a count keeps its tdata2
+abbrev pub address_set : Option ℕ → List Transfer
+address_set (Some address) = Set Tdata2 address ∷ []
+address_set None = []
+
+abbrev pub armed : SlotUse → List Transfer
+armed what = address_set (address_named what) ++ Set Tdata1 (tdata1_of (trigger_named what)) ∷ []
+
+-- this slot is the lowest free one
+pub record Finds (slot : ℕ) (ts : List Transfer) : Type 0 where
+  pub vain : List ℕ
+  pub used : InUse vain
+  pub here : length vain ≡ slot
+  pub tdata1 : ℕ
+  pub free : shows_free tdata1 ≡ true
+  pub is : ts ≡ words_read 0 vain ++ word_read slot tdata1
+
+-- all four are in use
+pub record FindsNone (ts : List Transfer) : Type 0 where
+  pub words : List ℕ
+  pub used : All IsInUse words
+  pub four : length words ≡ slot_count
+  pub is : ts ≡ words_read 0 words
+
+abbrev pub Seeks : Option ℕ → List Transfer → Type 0
+Seeks (Some slot) ts = Finds slot ts
+Seeks None ts = FindsNone ts
+
+abbrev pub SeeksAny : List Transfer → Type 0
+SeeksAny ts = (found : Option ℕ) × Seeks found ts
+
+abbrev pub armed_at : SlotUse → Option ℕ → List Transfer
+armed_at what (Some slot) = armed what
+armed_at what None = []
+
+pub record Arms (what : SlotUse) (found : Option ℕ) (ts : List Transfer) : Type 0 where
+  pub kept : ℕ
+  pub sought : List Transfer
+  pub seeks : Seeks found sought
+  pub is : ts ≡ Got Tselect kept ∷ (sought ++ (armed_at what found ++ put_back kept))
+
+abbrev pub ArmsAny : SlotUse → List Transfer → Type 0
+ArmsAny what ts = (found : Option ℕ) × Arms what found ts
+
+-- ---- a slot is freed, if it is in use
+
+abbrev pub freed : Bool → List Transfer
+freed true = []
+freed false = Set Tdata1 (tdata1_of Disabled) ∷ []
+
+pub record Frees (slot : ℕ) (free : Bool) (ts : List Transfer) : Type 0 where
+  pub kept : ℕ
+  pub tdata1 : ℕ
+  pub shows : shows_free tdata1 ≡ free
+  pub is : ts ≡ Got Tselect kept ∷ (word_read slot tdata1 ++ (freed free ++ put_back kept))
+
+abbrev pub FreesAny : ℕ → List Transfer → Type 0
+FreesAny slot ts = (free : Bool) × Frees slot free ts

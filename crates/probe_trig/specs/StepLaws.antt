@@ -1,0 +1,20 @@
+-- What stepping over and letting go do for a session: each leads from its place in a debugger's plan to the next.
+-- It is this project's own: the plans are those of the abstract debugger, over every origin, every plan that follows and all lines said before.
+use Rattle.std.specs.Prelude.{◌≡◌, ℕ, List, true, false}
+use Rattle.rv_model.specs.Board.{Machine}
+use Rattle.debugger_laws.specs.Debugger.{one}
+use Rattle.debugger_laws.specs.Lines.{Line}
+use Rattle.debugger_laws.specs.Plan.{Plan}
+use Rattle.debugger_laws.specs.Stands.{Deals, Origin, Target}
+use Rattle.debugger_laws.specs.Ways.Way.{Ready, Still}
+use Rattle.probe_trig.specs.Stepping.{OverAt, executed_at}
+
+-- a whole step
+abbrev pub WholeStepsLead : Type 0
+WholeStepsLead = (m : Machine) (h : ℕ) (o : Origin) (stepped other : Plan) (lines : List Line) (old new : Target)
+    → OverAt h old new → executed_at h new ≡ true → Deals m h Still o (one h stepped other) lines old → Deals m h Ready o stepped lines new
+
+-- one that ended for another cause
+abbrev pub OtherStepsLead : Type 0
+OtherStepsLead = (m : Machine) (h : ℕ) (o : Origin) (stepped other : Plan) (lines : List Line) (old new : Target)
+    → OverAt h old new → executed_at h new ≡ false → Deals m h Still o (one h stepped other) lines old → Deals m h Still o other lines new

@@ -1,0 +1,241 @@
+ghost use Rattle.std.specs.Prelude.{◌≡◌, ◌≤◌, ◌<◌, ◌++◌, ◌∷◌, [], Bool, true, false, Some, None, IfOk, IfErr, OnOk};
+ghost use Rattle.debug_model.specs.Dmi.{CanOperate};
+ghost use Rattle.debug_model.specs.Scan.{WhereTold};
+ghost use Rattle.debug_model.specs.Told.{IsHalted, IsIdle, IsLive, IsReady, Selects};
+ghost use Rattle.probe_run.specs.Acts.{tells};
+ghost use Rattle.probe_access.specs.Cuts.{IfCut, LeftAside, Leaves};
+ghost use Rattle.probe_access.specs.Faults.{LinkBehind};
+ghost use Rattle.probe_access.specs.Scratches.{ScratchLeft};
+ghost use Rattle.debugger_laws.specs.Slots.{address_trigger};
+ghost use Rattle.rv_model.specs.TriggerWords.{CountFits};
+ghost use Rattle.probe_trig.specs.Faults.{Behind, ByFault, IfAccess, UnlessAccess};
+ghost use Rattle.probe_trig.specs.Runs.{Arms, ArmsAny, Seeks, SeeksAny, address_set, armed};
+ghost use Rattle.probe_trig.specs.Single.{AddressSet, Armed};
+ghost use Rattle.probe_trig.specs.Slots.{ArmedAt, AtHarts, DebugAlone, FullAt};
+ghost use Rattle.probe_trig.specs.Transfers.{Did, FailedIn, Made};
+ghost use Rattle.probe_trig.specs.Words.{CanArm, address_named, trigger_named};
+
+use crate::fault::TrigFault;
+use crate::register::{Register, get, read_word, set};
+use crate::slot_use::SlotUse;
+use crate::words::shows_free;
+use debug_model::{Dmi, WatchKind};
+use probe_access::AccessFault;
+use probe_run::Halted;
+use rv_model::{Comparison, Icount, Mcontrol6, Trigger};
+
+/// How many slots a hart has.
+const SLOTS: u8 = 4;
+
+/// A trigger at an address.
+fn at_address(execute: bool, load: bool, store: bool) -> Trigger
+    ensures is { result ≡ address_trigger execute load store }
+    ensures fits { CountFits result }
+{
+    Trigger::Mcontrol6(Mcontrol6 {
+        hit: false,
+        comparison: Comparison::Equal,
+        m: true,
+        execute,
+        store,
+        load,
+    })
+}
+
+/// The trigger of a slot that is armed for this.
+fn trigger_for(what: SlotUse) -> Trigger
+    requires can { CanArm what }
+    ensures is { result ≡ trigger_named what }
+    ensures fits { CountFits result }
+{
+    match what {
+        SlotUse::Break(_) => at_address(true, false, false),
+        SlotUse::Watch(WatchKind::Load, _) => at_address(false, true, false),
+        SlotUse::Watch(WatchKind::Store, _) => at_address(false, false, true),
+        SlotUse::Watch(WatchKind::Access, _) => at_address(false, true, true),
+        SlotUse::Count(turns) => Trigger::Icount(Icount {
+            hit: false,
+            count: turns,
+            m: true,
+            pending: false,
+        }),
+        SlotUse::Free | SlotUse::Other(_) => Trigger::Disabled,
+    }
+}
+
+/// The address that it compares with, if it does.
+fn address_of(what: SlotUse) -> Option<u64>
+    ensures { result ≡ address_named what }
+{
+    match what {
+        SlotUse::Break(address) | SlotUse::Watch(_, address) => Some(address),
+        SlotUse::Free | SlotUse::Count(_) | SlotUse::Other(_) => None,
+    }
+}
+
+/// Writes the address of what the selected slot is to be armed for, where it has one.
+fn set_address<D: Dmi>(link: &mut D, halted: &Halted, what: SlotUse) -> Result<(), AccessFault>
+    requires alive { D.is_alive link.old ≡ true }
+    requires link { CanOperate (D.far link.old) }
+    requires ready { IsReady (D.far link.old) }
+    requires selects { Selects halted.now.number (D.far link.old) }
+    requires halted { IsHalted halted.now.number (D.far link.old) }
+    requires live { IsLive (D.far link.old) }
+    requires idle { IsIdle (D.far link.old) }
+    ensures made { OnOk result (Made halted.now.number (tells (D.far link.old) (D.script link.old)) (address_set (address_named what)) (tells (D.far link.new) (D.script link.new))) }
+    ensures failed { IfErr result (FailedIn (AddressSet what) halted.now.number (D.fault_count link.old) (D.fault_count link.new) (tells (D.far link.old) (D.script link.old)) (tells (D.far link.new) (D.script link.new))) }
+    ensures ready { OnOk result (IsReady (D.far link.new)) }
+    ensures selects { OnOk result (Selects halted.now.number (D.far link.new)) }
+    ensures halted { OnOk result (IsHalted halted.now.number (D.far link.new)) }
+    ensures state { IfErr result (LinkBehind (D.far link.new) (D.is_alive link.new)) }
+    ensures link { OnOk result (CanOperate (D.far link.new)) }
+    ensures live { OnOk result (IsLive (D.far link.new)) }
+    ensures idle { OnOk result (IsIdle (D.far link.new)) }
+    ensures alive { OnOk result (D.is_alive link.new ≡ true) }
+    ensures later { D.fault_count link.old ≤ D.fault_count link.new }
+    ensures slack { D.slack link.new ≡ D.slack link.old }
+    ensures ties { D.ties link.new ≡ D.ties link.old }
+{
+    match address_of(what) {
+        Some(address) => {
+            set(link, halted, Register::Tdata2, address)?;
+            Ok(())
+        }
+        None => Ok(()),
+    }
+}
+
+/// Arms the selected slot.
+fn arm_selected<D: Dmi>(link: &mut D, halted: &Halted, what: SlotUse) -> Result<(), AccessFault>
+    requires can { CanArm what }
+    requires alive { D.is_alive link.old ≡ true }
+    requires link { CanOperate (D.far link.old) }
+    requires ready { IsReady (D.far link.old) }
+    requires selects { Selects halted.now.number (D.far link.old) }
+    requires halted { IsHalted halted.now.number (D.far link.old) }
+    requires live { IsLive (D.far link.old) }
+    requires idle { IsIdle (D.far link.old) }
+    ensures made { OnOk result (Made halted.now.number (tells (D.far link.old) (D.script link.old)) (armed what) (tells (D.far link.new) (D.script link.new))) }
+    ensures failed { IfErr result (FailedIn (Armed what) halted.now.number (D.fault_count link.old) (D.fault_count link.new) (tells (D.far link.old) (D.script link.old)) (tells (D.far link.new) (D.script link.new))) }
+    ensures ready { OnOk result (IsReady (D.far link.new)) }
+    ensures selects { OnOk result (Selects halted.now.number (D.far link.new)) }
+    ensures halted { OnOk result (IsHalted halted.now.number (D.far link.new)) }
+    ensures state { IfErr result (LinkBehind (D.far link.new) (D.is_alive link.new)) }
+    ensures link { OnOk result (CanOperate (D.far link.new)) }
+    ensures live { OnOk result (IsLive (D.far link.new)) }
+    ensures idle { OnOk result (IsIdle (D.far link.new)) }
+    ensures alive { OnOk result (D.is_alive link.new ≡ true) }
+    ensures later { D.fault_count link.old ≤ D.fault_count link.new }
+    ensures slack { D.slack link.new ≡ D.slack link.old }
+    ensures ties { D.ties link.new ≡ D.ties link.old }
+{
+    set_address(link, halted, what)?;
+    set(link, halted, Register::Tdata1, trigger_for(what).tdata1())?;
+    Ok(())
+}
+
+/// Selects the lowest free slot, if there is one.
+fn seek_free<D: Dmi>(link: &mut D, halted: &Halted) -> Result<Option<u8>, AccessFault>
+    requires alive { D.is_alive link.old ≡ true }
+    requires link { CanOperate (D.far link.old) }
+    requires ready { IsReady (D.far link.old) }
+    requires selects { Selects halted.now.number (D.far link.old) }
+    requires halted { IsHalted halted.now.number (D.far link.old) }
+    ensures did { IfOk result (λ found. Did (Seeks found) halted.now.number (tells (D.far link.old) (D.script link.old)) (tells (D.far link.new) (D.script link.new))) }
+    ensures failed { IfErr result (FailedIn (SeeksAny) halted.now.number (D.fault_count link.old) (D.fault_count link.new) (tells (D.far link.old) (D.script link.old)) (tells (D.far link.new) (D.script link.new))) }
+    ensures ready { OnOk result (IsReady (D.far link.new)) }
+    ensures selects { OnOk result (Selects halted.now.number (D.far link.new)) }
+    ensures halted { OnOk result (IsHalted halted.now.number (D.far link.new)) }
+    ensures state { IfErr result (LinkBehind (D.far link.new) (D.is_alive link.new)) }
+    ensures link { OnOk result (CanOperate (D.far link.new)) }
+    ensures live { OnOk result (IsLive (D.far link.new)) }
+    ensures idle { OnOk result (IsIdle (D.far link.new)) }
+    ensures alive { OnOk result (D.is_alive link.new ≡ true) }
+    ensures later { D.fault_count link.old ≤ D.fault_count link.new }
+    ensures slack { D.slack link.new ≡ D.slack link.old }
+    ensures ties { D.ties link.new ≡ D.ties link.old }
+{
+    'seeking: for slot in 0..SLOTS {
+        let tdata1 = read_word(link, halted, slot)?;
+        if shows_free(tdata1) {
+            return Ok(Some(slot));
+        }
+    }
+    Ok(None)
+}
+
+/// Arms the lowest free slot, if there is one.
+fn arm_lowest<D: Dmi>(
+    link: &mut D,
+    halted: &Halted,
+    what: SlotUse,
+) -> Result<Option<u8>, AccessFault>
+    requires can { CanArm what }
+    requires alive { D.is_alive link.old ≡ true }
+    requires link { CanOperate (D.far link.old) }
+    requires ready { IsReady (D.far link.old) }
+    requires selects { Selects halted.now.number (D.far link.old) }
+    requires halted { IsHalted halted.now.number (D.far link.old) }
+    ensures did { IfOk result (λ found. Did (Arms what found) halted.now.number (tells (D.far link.old) (D.script link.old)) (tells (D.far link.new) (D.script link.new))) }
+    ensures failed { IfErr result (FailedIn (ArmsAny what) halted.now.number (D.fault_count link.old) (D.fault_count link.new) (tells (D.far link.old) (D.script link.old)) (tells (D.far link.new) (D.script link.new))) }
+    ensures ready { OnOk result (IsReady (D.far link.new)) }
+    ensures selects { OnOk result (Selects halted.now.number (D.far link.new)) }
+    ensures halted { OnOk result (IsHalted halted.now.number (D.far link.new)) }
+    ensures state { IfErr result (LinkBehind (D.far link.new) (D.is_alive link.new)) }
+    ensures link { OnOk result (CanOperate (D.far link.new)) }
+    ensures live { OnOk result (IsLive (D.far link.new)) }
+    ensures idle { OnOk result (IsIdle (D.far link.new)) }
+    ensures alive { OnOk result (D.is_alive link.new ≡ true) }
+    ensures later { D.fault_count link.old ≤ D.fault_count link.new }
+    ensures slack { D.slack link.new ≡ D.slack link.old }
+    ensures ties { D.ties link.new ≡ D.ties link.old }
+{
+    let kept = get(link, halted, Register::Tselect)?;
+    match seek_free(link, halted)? {
+        Some(slot) => {
+            arm_selected(link, halted, what)?;
+            set(link, halted, Register::Tselect, kept)?;
+            Ok(Some(slot))
+        }
+        None => {
+            set(link, halted, Register::Tselect, kept)?;
+            Ok(None)
+        }
+    }
+}
+
+/// Arms the lowest free slot of the halted hart, which is selected, for a break, a watch, or a count from 1 to 16,383, and answers which it is,
+/// below 4. `NoFreeSlot` where all four are in use.
+pub fn arm<D: Dmi>(link: &mut D, halted: &Halted, what: SlotUse) -> Result<u8, TrigFault>
+    requires can { CanArm what }
+    requires alive { D.is_alive link.old ≡ true }
+    requires link { CanOperate (D.far link.old) }
+    requires ready { IsReady (D.far link.old) }
+    requires selects { Selects halted.now.number (D.far link.old) }
+    requires halted { IsHalted halted.now.number (D.far link.old) }
+    ensures armed { IfOk result (λ slot. WhereTold (AtHarts (ArmedAt what slot halted.now.number)) (D.far link.old) (D.far link.new)) }
+    ensures did { IfOk result (λ slot. Did (Arms what (Some slot)) halted.now.number (tells (D.far link.old) (D.script link.old)) (tells (D.far link.new) (D.script link.new))) }
+    ensures below { IfOk result (λ slot. slot < 4) }
+    ensures left { IfErr result (ByFault (ScratchLeft (D.far link.old)) (WhereTold (AtHarts (FullAt halted.now.number)) (D.far link.old) (D.far link.new)) ⊥) }
+    ensures failed { IfErr result (ByFault (FailedIn (ArmsAny what) halted.now.number (D.fault_count link.old) (D.fault_count link.new) (tells (D.far link.old) (D.script link.old)) (tells (D.far link.new) (D.script link.new))) (Did (Arms what None) halted.now.number (tells (D.far link.old) (D.script link.old)) (tells (D.far link.new) (D.script link.new))) ⊥) }
+    ensures cut { IfErr result (IfAccess (IfCut (Leaves (LeftAside DebugAlone halted.now.number) (D.far link.old) (D.far link.new)))) }
+    ensures ready_again { IfErr result (UnlessAccess (IsReady (D.far link.new))) }
+    ensures selects_still { IfErr result (UnlessAccess (Selects halted.now.number (D.far link.new))) }
+    ensures halted_still { IfErr result (UnlessAccess (IsHalted halted.now.number (D.far link.new))) }
+    ensures ready { OnOk result (IsReady (D.far link.new)) }
+    ensures selects { OnOk result (Selects halted.now.number (D.far link.new)) }
+    ensures halted { OnOk result (IsHalted halted.now.number (D.far link.new)) }
+    ensures state { IfErr result (Behind (D.far link.new) (D.is_alive link.new)) }
+    ensures link { OnOk result (CanOperate (D.far link.new)) }
+    ensures live { OnOk result (IsLive (D.far link.new)) }
+    ensures idle { OnOk result (IsIdle (D.far link.new)) }
+    ensures alive { OnOk result (D.is_alive link.new ≡ true) }
+    ensures later { D.fault_count link.old ≤ D.fault_count link.new }
+    ensures slack { D.slack link.new ≡ D.slack link.old }
+    ensures ties { D.ties link.new ≡ D.ties link.old }
+{
+    match arm_lowest(link, halted, what)? {
+        Some(slot) => Ok(slot),
+        None => Err(TrigFault::NoFreeSlot),
+    }
+}

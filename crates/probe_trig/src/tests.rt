@@ -1,0 +1,265 @@
+//! The calls on slots over operations whose answers are given beforehand: words of `abstractcs` and `dmstatus` by the layouts of RISC-V Debug
+//! Specification 1.0, "Abstract Control and Status" and "Debug Module Status", and of `tdata1` by "Match Control Type 6" and "Instruction Count".
+
+ghost use Rattle.std.specs.Prelude.{◌≡◌, true};
+
+use crate::{
+    Gone, SlotUse, SlotView, TrigFault, arm, disarm, forget_hits, let_go, slots, step_over,
+};
+use arrayvec::ArrayVec;
+use debug_model::{DmiFault, ScriptedDmi, WireFault};
+use probe_access::AccessFault;
+use probe_run::{Seen, connect};
+use rv_model::SlotSet;
+use std::process::Abort;
+
+/// What the opening and a Look of hart 0, which is halted, are answered.
+const OPENING: [u32; 6] = [
+    0x1071,
+    1,
+    0x000c_0c83,
+    0x0400_0002,
+    0x2004_080f,
+    0x0000_0383,
+];
+
+/// No command is under way, and no error is set.
+const IDLE: u32 = 0x0400_0002;
+
+/// `cmderr` 3, and `cmderr` 1.
+const EXCEPTION: u32 = 0x0400_0302;
+
+const ODD: u32 = 0x0400_0102;
+
+/// A Look that shows the resume acknowledged, of a hart that runs, and of one that is halted again.
+const GONE: u32 = 0x0003_0c83;
+
+const BACK: u32 = 0x0003_0383;
+
+/// The upper words of `tdata1`: an address trigger, a count, a free slot, and a type that is not known here.
+const ADDRESS: u32 = 0x6800_0000;
+
+const COUNT: u32 = 0x3800_0000;
+
+const FREE: u32 = 0xf800_0000;
+
+const OTHER: u32 = 0x2000_0000;
+
+/// The lower words of `tdata1`: a break with a hit, the same switched off, and a count of 5 with a hit.
+const HIT: u32 = 0x0040_1044;
+
+const HELD: u32 = 0x0040_1004;
+
+const RAN_OUT: u32 = 0x0100_1601;
+
+/// The address of the break, and `dcsr` of a hart that a trigger stopped.
+const PLACE: u32 = 0x8000_0008;
+
+const BEFORE: u32 = 0x4000_0083;
+
+/// The script has ended.
+const ENDED: AccessFault = AccessFault::Dmi(DmiFault::Wire(WireFault::RecvFailed));
+
+#[derive(Clone, Copy)]
+enum Call {
+    See,
+    Break,
+    Count,
+    Disarm,
+    Forget,
+    Over,
+    Go,
+}
+
+#[derive(Clone, Copy, Debug, PartialEq, Eq)]
+enum Answer {
+    Saw(SlotView),
+    Armed(u8),
+    Done,
+    Free,
+    Stopped,
+    NotOpened,
+}
+
+/// The opening's answers, so many of these words, and one more.
+fn script(words: &[u32], cut: usize, last: Option<u32>) -> ScriptedDmi
+    ensures { result.alive ≡ true }
+{
+    let mut answers: ArrayVec<u32, 64> = ArrayVec::new();
+    for word in OPENING {
+        let _room = answers.try_push(word);
+    }
+    for word in words.iter().take(cut) {
+        let _room = answers.try_push(*word);
+    }
+    if let Some(word) = last {
+        let _room = answers.try_push(word);
+    }
+    ScriptedDmi::new(answers)
+}
+
+fn play(call: Call, words: &[u32], cut: usize, last: Option<u32>) -> Result<Answer, TrigFault> {
+    let mut link = script(words, cut, last);
+    let Ok(target) = connect(&mut link) else {
+        return Ok(Answer::NotOpened);
+    };
+    let Ok(Seen::Halted(halted)) = target.look(&mut link, 0) else {
+        return Ok(Answer::NotOpened);
+    };
+    match call {
+        Call::See => Ok(Answer::Saw(slots(&mut link, &halted)?)),
+        Call::Break => {
+            let slot = arm(&mut link, &halted, SlotUse::Break(0x8000_0008))?;
+            Ok(Answer::Armed(slot))
+        }
+        Call::Count => Ok(Answer::Armed(arm(&mut link, &halted, SlotUse::Count(5))?)),
+        Call::Disarm => {
+            disarm(&mut link, &halted, 1)?;
+            Ok(Answer::Done)
+        }
+        Call::Forget => {
+            forget_hits(&mut link, &halted)?;
+            Ok(Answer::Done)
+        }
+        Call::Over => {
+            let _again = step_over(&mut link, halted)?;
+            Ok(Answer::Done)
+        }
+        Call::Go => match let_go(&mut link, halted)? {
+            Gone::Free(_) => Ok(Answer::Free),
+            Gone::Stopped(_) => Ok(Answer::Stopped),
+        },
+    }
+}
+
+/// What a call answers to these words; and that each operation that fails, and each command that ends with an error, ends it with that fault.
+fn check(rt: &impl Abort, call: Call, words: &[u32], wanted: Result<Answer, TrigFault>) {
+    assert_eq!(rt; play(call, words, words.len(), None), wanted);
+    for (cut, word) in words.iter().enumerate() {
+        assert_eq!(rt; play(call, words, cut, None), Err(TrigFault::Access(ENDED)));
+        if *word == IDLE {
+            let refused = play(call, words, cut, Some(EXCEPTION));
+            let named = matches!(
+                refused,
+                Err(TrigFault::Access(AccessFault::Register(0x7a0..=0x7b0)))
+            );
+            assert!(rt; named);
+            assert_eq!(rt;
+                play(call, words, cut, Some(ODD)),
+                Err(TrigFault::Access(AccessFault::Odd(ODD)))
+            );
+        }
+    }
+}
+
+#[test]
+fn each_operation_may_fail(rt: HostRuntime) {
+    let view = SlotView {
+        used: [
+            SlotUse::Break(0x8000_0008),
+            SlotUse::Free,
+            SlotUse::Count(5),
+            SlotUse::Other(0x2000_0000_0000_0044),
+        ],
+        hits: SlotSet(1),
+    };
+    check(
+        &rt,
+        Call::See,
+        &[
+            IDLE, 2, 0, // tselect
+            IDLE, IDLE, HIT, ADDRESS, IDLE, PLACE, 0, // slot 0
+            IDLE, IDLE, 0, FREE, IDLE, 7, 0, // slot 1
+            IDLE, IDLE, 0x1601, COUNT, IDLE, 0, 0, // slot 2
+            IDLE, IDLE, 0x44, OTHER, IDLE, 0, 0, // slot 3
+            IDLE,
+        ],
+        Ok(Answer::Saw(view)),
+    );
+    let second = [
+        IDLE, 2, 0, // tselect
+        IDLE, IDLE, 0x44, OTHER, // slot 0
+        IDLE, IDLE, 0, FREE, // slot 1
+        IDLE, IDLE, IDLE,
+    ];
+    check(&rt, Call::Break, &second, Ok(Answer::Armed(1)));
+    check(&rt, Call::Count, &second[..13], Ok(Answer::Armed(1)));
+    check(
+        &rt,
+        Call::Break,
+        &[
+            IDLE, 0, 0, // tselect
+            IDLE, IDLE, 0x44, OTHER, // slot 0
+            IDLE, IDLE, 0x201, COUNT, // slot 1
+            IDLE, IDLE, 0x1044, ADDRESS, // slot 2
+            IDLE, IDLE, 0, 0, // slot 3
+            IDLE,
+        ],
+        Err(TrigFault::NoFreeSlot),
+    );
+    check(
+        &rt,
+        Call::Disarm,
+        &[IDLE, 0, 0, IDLE, IDLE, 0x44, OTHER, IDLE, IDLE],
+        Ok(Answer::Done),
+    );
+    check(
+        &rt,
+        Call::Disarm,
+        &[IDLE, 0, 0, IDLE, IDLE, 0, FREE, IDLE],
+        Err(TrigFault::NotInUse),
+    );
+    check(
+        &rt,
+        Call::Forget,
+        &[
+            IDLE, 0, 0, // tselect
+            IDLE, IDLE, HIT, ADDRESS, IDLE, // slot 0
+            IDLE, IDLE, 0, FREE, // slot 1
+            IDLE, IDLE, RAN_OUT, COUNT, IDLE, // slot 2
+            IDLE, IDLE, 0x44, OTHER, // slot 3
+            IDLE,
+        ],
+        Ok(Answer::Done),
+    );
+}
+
+#[test]
+fn a_hart_goes_by_its_hits_and_the_cause(rt: HostRuntime) {
+    let none = [
+        IDLE, 0, 0, // tselect
+        IDLE, IDLE, 0x1044, ADDRESS, // slot 0
+        IDLE, IDLE, 0, FREE, // slot 1
+        IDLE, IDLE, 0, FREE, // slot 2
+        IDLE, IDLE, 0, FREE, // slot 3
+        IDLE, GONE,
+    ];
+    check(&rt, Call::Go, &none, Ok(Answer::Free));
+    for (cause, wanted) in [(1, Answer::Stopped), (4, Answer::Free)] {
+        let dcsr = 0x4000_0003 + (cause << 6);
+        let words = [
+            IDLE, 0, 0, // tselect
+            IDLE, IDLE, HIT, ADDRESS, IDLE, // slot 0 is held
+            IDLE, IDLE, 0, FREE, // slot 1
+            IDLE, IDLE, 0, FREE, // slot 2
+            IDLE, IDLE, 0, FREE, // slot 3
+            IDLE, // tselect
+            IDLE, BEFORE, 0, IDLE, BACK, IDLE, dcsr, 0, IDLE, // the step
+            IDLE, dcsr, 0, // its cause
+            IDLE, 0, 0, // tselect
+            IDLE, IDLE, HELD, ADDRESS, IDLE, // slot 0 is put back
+            IDLE, IDLE, 0, FREE, // slot 1
+            IDLE, IDLE, 0, FREE, // slot 2
+            IDLE, IDLE, 0, FREE, // slot 3
+            IDLE, // tselect
+            GONE,
+        ];
+        let stepped = &words[..54];
+        check(&rt, Call::Over, stepped, Ok(Answer::Done));
+        if wanted == Answer::Stopped {
+            check(&rt, Call::Go, stepped, Ok(wanted));
+        } else {
+            check(&rt, Call::Go, &words, Ok(wanted));
+        }
+    }
+}
