@@ -6,8 +6,15 @@
 #[cfg(test)]
 mod accesses;
 #[cfg(test)]
+mod breaks;
 mod fault;
 #[cfg(test)]
 mod operations;
 #[cfg(test)]
 mod run_control;
+#[cfg(test)]
+mod slots;
+#[cfg(test)]
+mod standing;
+
+pub use fault::Fault;

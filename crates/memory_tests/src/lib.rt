@@ -1,0 +1,9 @@
+//! Tests of accesses to memory and of single steps over a chip on its bench, which take longer than those of `link_tests` and so stand beside them.
+#![tactic(auto)]
+
+#[cfg(test)]
+mod memory;
+#[cfg(test)]
+mod reservations;
+#[cfg(test)]
+mod stepping;

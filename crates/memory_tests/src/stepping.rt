@@ -1,0 +1,130 @@
+//! Single steps of loaded chips. Each does one instruction, and the step flag is off again.
+
+ghost use Rattle.std.specs.Prelude.{◌≡◌, ◌≤◌, ◌^◌, IfOk, IfSome, IsSome, true};
+ghost use Rattle.chip_core.specs.Loads.{IsFirst};
+ghost use Rattle.debug_model.specs.Dmi.{CanOperate};
+ghost use Rattle.debug_model.specs.Loaded.{AsLoaded};
+ghost use Rattle.debug_model.specs.Told.{IsAsLoaded};
+
+use chip_core::{Bench, BenchWire};
+use debug_model::{Dmi, Event, Round, Schedule};
+use hart_debug::Start;
+use link_tests::Fault;
+use probe_access::{AccessFault, Stop, reg, step, stop};
+use probe_dmi::Link;
+use probe_run::{RunFault, Seen, connect};
+use probe_scan::Scanner;
+use std::alloc::Global;
+use std::test::Fail;
+use sys_events::{ListSchedule, SeedSchedule};
+
+/// x5 = 5; then x5 = x5 + 1 again and again.
+const PROGRAM: &[u8] = &[
+    0x93, 0x02, 0x50, 0x00, 0x93, 0x82, 0x12, 0x00, 0x6f, 0xf0, 0xdf, 0xff,
+];
+
+/// The bytes of the smallest RAM.
+const RAM_LEAST: u64 = 65_536;
+
+/// The bytes of a piece.
+const PIECE: usize = 256;
+
+/// Register numbers of the standard: x5 and dcsr.
+const X5: u16 = 0x1005;
+
+const DCSR: u16 = 0x7b0;
+
+/// Where the hart stands behind two steps.
+#[derive(Clone, Copy, Debug, PartialEq, Eq)]
+struct Stepped {
+    first: Stop,
+    second: Stop,
+    x5: u64,
+    dcsr: u64,
+}
+
+/// Opens the chip and makes two steps with hart 0, which is halted.
+fn step_twice<D: Dmi>(link: &mut D) -> Result<Stepped, Fault>
+    requires alive { D.is_alive link.old ≡ true }
+    requires link { CanOperate (D.far link.old) }
+    requires loaded { IsAsLoaded (D.far link.old) }
+{
+    let target = connect(link)?;
+    let Seen::Halted(halted) = target.look(link, 0)? else {
+        return Err(Fault::SeenOtherwise);
+    };
+    let once = step(link, halted)?;
+    let first = stop(link, &once)?;
+    let twice = step(link, once)?;
+    let second = stop(link, &twice)?;
+    let x5 = reg(link, &twice, X5)?;
+    let dcsr = reg(link, &twice, DCSR)?;
+    Ok(Stepped {
+        first,
+        second,
+        x5,
+        dcsr,
+    })
+}
+
+fn step_over<Q: Schedule>(bench: &mut Bench<Q>) -> Result<Stepped, Fault>
+    requires loaded { IsSome bench.old }
+    requires fresh { IfSome bench.old AsLoaded }
+{
+    let mut link = Link::new(Scanner::new(BenchWire::new(bench, PIECE)));
+    step_twice(&mut link)
+}
+
+#[test]
+fn a_step_does_one_instruction(rt: HostRuntime) -> Result<(), Fail> {
+    for busy in [1, 32] {
+        let mut bench = Bench::blank();
+        let schedule = SeedSchedule::new(7, busy, 2);
+        bench.load(rt.alloc(), PROGRAM, 2, RAM_LEAST, Start::Halted, schedule)?;
+        let wanted = Stepped {
+            first: Stop {
+                pc: 0x8000_0004,
+                cause: 4,
+            },
+            second: Stop {
+                pc: 0x8000_0008,
+                cause: 4,
+            },
+            x5: 6,
+            dcsr: 0x4000_0103,
+        };
+        assert_eq!(rt; step_over(&mut bench), Ok(wanted));
+    }
+    Ok(())
+}
+
+/// A schedule in which every part of the debug module has its event in each round, and no hart a turn.
+fn without_turns(alloc: Global) -> Result<ListSchedule, Fail>
+    ensures { IfOk result (λ schedule. IsFirst schedule) }
+{
+    let mut round = Round::new();
+    round.push(Event::DmiDone);
+    round.push(Event::CmdStep);
+    let mut rounds = Vec::new(alloc);
+    rounds.push(round)?;
+    Ok(ListSchedule::new(rounds))
+}
+
+#[test]
+fn a_hart_without_turns_makes_no_step(rt: HostRuntime) -> Result<(), Fail> {
+    let alloc = rt.alloc();
+    let mut bench = Bench::blank();
+    bench.load(
+        alloc,
+        PROGRAM,
+        1,
+        RAM_LEAST,
+        Start::Halted,
+        without_turns(alloc)?,
+    )?;
+    assert_eq!(rt;
+        step_over(&mut bench),
+        Err(Fault::Access(AccessFault::Run(RunFault::NoAck(64))))
+    );
+    Ok(())
+}
