@@ -1,0 +1,2 @@
+mod HitLemmas
+mod WordLemmas
