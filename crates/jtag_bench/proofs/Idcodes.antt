@@ -1,12 +1,13 @@
 -- One reading of the IDCODE at a told chip, over plain variables.
-use Rattle.std.proofs.Common.{◌≡◌, ◌∙◌, ℕ, zero, suc, ◌+◌, List, Bool, Option, Some, None, IfSome, refl, sym, ap, subst, inr, arith}
+use Rattle.std.proofs.Common.{◌≡◌, ◌∙◌, ℕ, zero, suc, ◌+◌, List, Bool, Option, Some, None, IfSome, refl, ap, subst, inr, arith}
 use Rattle.std.proofs.lemmas.Option.{none-some, same_Some}
 use Rattle.jt_base.specs.BitList.{bits_of, number_of}
 use Rattle.debug_model.specs.declared.data_register.DataRegister.TheVariants.{Idcode}
 use Rattle.debug_model.specs.Chip.{Chip, Inside, tick}
 use Rattle.debug_model.specs.Dmi.{IsAtRest}
-use Rattle.debug_model.specs.Scan.{ResetCut, ScanCut, Scanned, Stage, StoodAtRest, WasReset, WhereTold, capture, comes_out, dr_inside, dtm_of, ticks, update}
+use Rattle.debug_model.specs.Scan.{ResetCut, ScanCut, Scanned, Stage, WasReset, WhereTold, capture, comes_out, dr_inside, dtm_of, ticks, update}
 use Rattle.debug_model.specs.Scan.Stage.{not_captured, captured, updated}
+use Rattle.debug_model.proofs.Rounds.{ticks_join}
 use Rattle.debug_model.specs.Tap.{idcode}
 use Rattle.debug_model.specs.Told.{Far, IsIdle, IsLive, IsOpen, chip_of}
 use Rattle.debug_model.specs.Transport.{Dtm, captured_bits, updated_dtm}
@@ -24,11 +25,6 @@ rest_of_idle (Some f) idle = inr idle
 
 -- ---- rounds
 
-pub ticks-add : (n m : ℕ) (i : Inside) → ticks m (ticks n i) ≡ ticks (n + m) i
-unfolding ticks
-ticks-add zero m i = let e : m ≡ 0 + m = omega arith in ap (λ k. ticks k i) e
-ticks-add (suc n) m i = let e : suc (n + m) ≡ suc n + m = omega arith in ticks-add n m (tick i) ∙ ap (λ k. ticks k i) e
-
 -- a capture and an update of IDCODE change nothing
 still_captured : (i : Inside) → capture Idcode i ≡ i
 still_captured i = refl
@@ -39,8 +35,8 @@ still_updated bits i = refl
 
 dr_rounds : (before between behind : ℕ) (bits : List Bool) (i : Inside) → dr_inside before between behind bits Idcode i ≡ ticks (before + between + behind) i
 dr_rounds before between behind bits i =
-    ap (ticks behind) (still_updated _ (ticks between (capture Idcode (ticks before i))) ∙ ap (ticks between) (still_captured (ticks before i)) ∙ ticks-add before between i)
-    ∙ ticks-add (before + between) behind i
+    ap (ticks behind) (still_updated _ (ticks between (capture Idcode (ticks before i))) ∙ ap (ticks between) (still_captured (ticks before i)) ∙ ticks_join before between i)
+    ∙ ticks_join (before + between) behind i
 
 rounds_at : (f g : Far) (new : Option Far) → RoundsAlone (chip_of f) (Some g) → RoundsAlone (chip_of g) new → RoundsAlone (chip_of f) new
 rounds_at f g new first more = record {
@@ -51,7 +47,7 @@ rounds_at f g new first more = record {
       more.passed
       ∙ ap (λ (x : Far). ticks more.rises (chip_of x).inside) (same_Some _ _ first.is)
       ∙ ap (ticks more.rises) first.passed
-      ∙ ticks-add first.rises more.rises (chip_of f).inside;
+      ∙ ticks_join first.rises more.rises (chip_of f).inside;
 }
 
 rounds_by : (f : Far) (mid new : Option Far) → RoundsAlone (chip_of f) mid → WhereTold RoundsAlone mid new → RoundsAlone (chip_of f) new
@@ -87,7 +83,7 @@ reset_selects slack (Some f) new was = rw was.is refl
 
 stage_rounds : (bits : List Bool) (i : Inside) (rises : ℕ) (j : Inside) → Stage bits Idcode i rises j → j ≡ ticks rises i
 stage_rounds bits i _ _ (not_captured before) = refl
-stage_rounds bits i _ _ (captured before between) = ap (ticks between) (still_captured (ticks before i)) ∙ ticks-add before between i
+stage_rounds bits i _ _ (captured before between) = ap (ticks between) (still_captured (ticks before i)) ∙ ticks_join before between i
 stage_rounds bits i _ _ (updated before between behind) = dr_rounds before between behind bits i
 
 scan_at : (slack : Option ℕ) (bits out : List Bool) (c : Chip) (new : Option Far) → c.port.selected ≡ Idcode → Scanned slack bits out c new → RoundsAlone c new

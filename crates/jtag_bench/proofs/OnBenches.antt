@@ -1,31 +1,29 @@
 -- A session over a bench's wire, and the end of its stream, over plain variables.
-use Rattle.std.proofs.Common.{◌≡◌, ◌∙◌, ◌≤◌, ◌<◌, ◌^◌, ◌-◌, ◌+◌, ℕ, zero, suc, List, [], ◌∷◌, ◌++◌, length, map, replicate, Option, Some, None, IfSome, Result, Ok, Err, IfErr, OnOk, option_map, append_assoc, refl, sym, ap, subst, inl, inr, arith}
+use Rattle.std.proofs.Common.{◌≡◌, ◌∙◌, ◌≤◌, ◌<◌, ◌-◌, ◌+◌, ℕ, List, [], ◌∷◌, ◌++◌, map, replicate, Option, Some, None, IfSome, Result, Ok, Err, IfErr, OnOk, append_assoc, refl, sym, ap, subst, inl, inr, arith}
 use Rattle.std.specs.Prelude.{⊤}
 use Rattle.std.proofs.lemmas.Option.{none-some, same_Some}
-use Rattle.std.proofs.lemmas.List.{append-nil, map-append, replicate-append-replicate}
+use Rattle.std.proofs.lemmas.List.{map-append, replicate-append-replicate}
 use Rattle.chip_core.specs.Feeds.{far_of, feed_of}
 use Rattle.chip_core.specs.Offered.{RoundsOfferTurns}
 use Rattle.debug_model.specs.declared.chip_end.ChipEnd.{ChipEnd}
-use Rattle.debug_model.specs.declared.chip_end.ChipEnd.TheVariants.{AtLimit, Quitted, BadByte}
+use Rattle.debug_model.specs.declared.chip_end.ChipEnd.TheVariants.{AtLimit, Quitted}
 use Rattle.debug_model.specs.declared.command.Command.{Command}
-use Rattle.debug_model.specs.declared.sign.Sign.TheVariants.{Quit}
-use Rattle.debug_model.specs.declared.wire.WireFault.{WireFault}
 use Rattle.debug_model.specs.declared.wire.WireFault.TheVariants.{SendFailed, RecvFailed, Ended, BadAnswer}
-use Rattle.debug_model.specs.Chip.{Chip, Live, after, feed, end_of, signed, taken_by, unless_ended}
+use Rattle.debug_model.specs.Chip.{Chip, Live, after, feed, unless_ended}
 use Rattle.debug_model.specs.Loaded.{AsLoaded}
 use Rattle.debug_model.specs.Scan.{Script, WhereTold, ticks}
 use Rattle.debug_model.specs.Tap.{idcode}
-use Rattle.debug_model.specs.Told.{Far, IsLive, MetLimit, chip_of}
-use Rattle.debug_model.specs.Wire.{EndCause, SendCause, SentFront, sent}
+use Rattle.debug_model.specs.Told.{Far, IsLive, MetLimit}
+use Rattle.debug_model.specs.Wire.{EndCause}
 use Rattle.jt_base.specs.Faults.{Rises}
-use Rattle.jt_base.specs.Sink.{grown, GrewByPrefix, TookFront}
+use Rattle.jt_base.specs.Sink.{grown, GrewByPrefix}
 use Rattle.debugger_laws.specs.Lines.{text_of_all}
 use Rattle.debugger_laws.specs.Lines.Line.{Idcode as idcode_line}
 use Rattle.jtag_bench.specs.declared.failure.Failure.{Failure}
 use Rattle.jtag_bench.specs.declared.failure.Failure.TheVariants.{Wire, Sink}
 use Rattle.jtag_bench.specs.Ended.{IsFresh, Left}
-use Rattle.jtag_bench.specs.OnBench.{EndAfter, IsAtLimit, IsUnended, PassedOn, PrintedAfter, PrintedFront}
-use Rattle.jtag_bench.specs.Session.{CanScan, CanScanAfter, Cut, FailureCause, Printed, Ran, RoundsAlone, idcodes, text_of_numbers, text_printed}
+use Rattle.jtag_bench.specs.OnBench.{EndAfter, IsAtLimit, IsUnended, PassedOn, PrintedAfter}
+use Rattle.jtag_bench.specs.Session.{CanScan, CanScanAfter, Cut, FailureCause, Ran, RoundsAlone, idcodes, text_of_numbers, text_printed}
 use Rattle.jtag_bench.proofs.Stood.{text_of_all-append}
 
 abbrev quit : List ℕ

@@ -1,20 +1,21 @@
 -- What is read and loaded before a session, over plain variables.
-use Rattle.std.proofs.Common.{◌≡◌, ◌⊎◌, ◌≤◌, ◌∙◌, ℕ, List, Option, Some, None, IfSome, refl, sym, ap, subst, inl, inr}
+use Rattle.std.proofs.Common.{◌≡◌, ◌⊎◌, ◌≤◌, ◌∙◌, ℕ, List, Option, Some, IfSome, ap, subst, inl, inr}
 use Rattle.chip_core.specs.declared.load_fault.LoadFault.{LoadFault}
 use Rattle.chip_core.specs.declared.load_fault.LoadFault.TheVariants.{TooLong, BadSize, BadHarts, NoMemory}
 use Rattle.debug_model.specs.declared.command.Command.{Command}
 use Rattle.debug_model.specs.Chip.{Live}
-use Rattle.debug_model.specs.Loaded.{AsLoaded, Fits, RightHarts}
+use Rattle.debug_model.specs.Loaded.{AsLoaded}
 use Rattle.jt_base.specs.Files.{Holds, HoldsMore, NamedFile, asked_more}
-use Rattle.jtag_bench.specs.Ended.{Prepared, first_chip}
+use Rattle.jtag_bench.specs.Ended.{Prepared}
+use Rattle.jtag_bench.specs.First.{CanLoad, first_chip}
 use Rattle.jtag_bench.specs.Outside.{FilesSeen}
-use Rattle.jtag_bench.specs.Refusal.{AskedFront, BadImage, FailedFile, HoldsScript, ImageFileCause, JobCause, LongImage, asked_both, asked_script, most_image}
-use Rattle.jtag_bench.specs.Refusal.FailedFile.{of_image, of_script}
-use Rattle.jtag_bench.specs.Words.{Both}
+use Rattle.jtag_bench.specs.Refusal.{AskedFront, ChipCause, HoldsScript, ImageFileCause, JobCause, LongImage, asked_script, most_image}
+use Rattle.jtag_bench.specs.Refusal.FailedFile.{of_image}
+use Rattle.jtag_bench.specs.ServedChip.{PreparedChip}
+use Rattle.jtag_bench.specs.Words.{Both, Chip}
 use Rattle.jtag_bench.specs.declared.refusal.Refusal.{Refusal}
-use Rattle.jtag_bench.specs.declared.refusal.Refusal.TheVariants.{Words, File, Script, Image, OutOfMemory}
-use Rattle.rv_model.specs.Memory.{IsRamSize}
-use Rattle.jtag_bench.proofs.Stood.{rises_then}
+use Rattle.jtag_bench.specs.declared.refusal.Refusal.TheVariants.{Words, File, Script, Image, Open, OutOfMemory}
+use Rattle.jt_base.proofs.FaultLemmas.{rises_from}
 
 long_before : (name : List ℕ) (mid old : FilesSeen) (fault : LoadFault) → mid.held ≡ old.held → LongImage name mid fault → LongImage name old fault
 long_before name mid old TooLong same long = subst (λ h. HoldsMore h name most_image) same long
@@ -31,7 +32,7 @@ pub image_cause : (job : Both) (old mid new : FilesSeen) (commands : List Comman
     → old.faults ≤ mid.faults → mid.faults ≤ new.faults → ImageFileCause job.image mid new refusal → JobCause job old new refusal
 image_cause job old mid new commands Words script same asked later more cause = absurd cause
 image_cause job old mid new commands (File name) script same asked later more cause =
-    (rises_then old.faults mid.faults new.faults later more cause.0, of_image commands script cause.1 (cause.2 ∙ ap (asked_more job.image) asked))
+    (rises_from old.faults mid.faults new.faults later more cause.0, of_image commands script cause.1 (cause.2 ∙ ap (asked_more job.image) asked))
 image_cause job old mid new commands (Script error) script same asked later more cause = absurd cause
 image_cause job old mid new commands (Image fault) script same asked later more cause = record {
   commands = commands;
@@ -39,20 +40,33 @@ image_cause job old mid new commands (Image fault) script same asked later more 
   image = inl (long_before job.image mid old fault same cause.0);
   asked = cause.1 ∙ ap (asked_more job.image) asked;
 }
+image_cause job old mid new commands Open script same asked later more cause = absurd cause
 image_cause job old mid new commands OutOfMemory script same asked later more cause = memory_front job old mid new asked cause
 
 at_first : (bench : Option Live) (first : Live) → bench ≡ Some first → IfSome bench AsLoaded → AsLoaded first
 at_first bench first is loaded = subst (λ b. IfSome b AsLoaded) is loaded
 
 pub prepared_by : (job : Both) (held mid : Option (List NamedFile)) (commands : List Command) (image : List ℕ) (bench : Option Live) → HoldsScript held job.script commands → mid ≡ held → Holds mid job.image image
-    → RightHarts job.options.harts → IsRamSize job.options.ram → Fits image job.options.ram → bench ≡ Some (first_chip job image) → IfSome bench AsLoaded → Prepared job held commands bench
-prepared_by job held mid commands image bench script same holds harts size fits is loaded = record {
+    → CanLoad job.options image → bench ≡ Some (first_chip job.options image) → IfSome bench AsLoaded → Prepared job held commands bench
+prepared_by job held mid commands image bench script same holds loads is loaded = record {
   image = image;
   script_reads = script;
   image_is = subst (λ h. Holds h job.image image) same holds;
-  harts = harts;
-  size = size;
-  fits = fits;
+  loads = loads;
   is = is;
-  as_loaded = at_first bench (first_chip job image) is loaded;
+  as_loaded = at_first bench (first_chip job.options image) is loaded;
 }
+
+-- ---- a chip that is to be served
+
+-- a refusal of its image's file
+pub chip_file_cause : (job : Chip) (old new : FilesSeen) (refusal : Refusal) → ImageFileCause job.image old new refusal → ChipCause job old new refusal
+chip_file_cause job old new Words cause = absurd cause
+chip_file_cause job old new (File name) cause = (cause.0, cause.1, cause.2)
+chip_file_cause job old new (Script error) cause = absurd cause
+chip_file_cause job old new (Image fault) cause = (inl cause.0, cause.1)
+chip_file_cause job old new Open cause = absurd cause
+chip_file_cause job old new OutOfMemory cause = cause
+
+pub prepared_chip_by : (job : Chip) (held : Option (List NamedFile)) (image : List ℕ) (bench : Option Live) → Holds held job.image image → CanLoad job.options image → bench ≡ Some (first_chip job.options image) → PreparedChip job held bench
+prepared_chip_by job held image bench holds loads is = record { image = image; image_is = holds; loads = loads; is = is }

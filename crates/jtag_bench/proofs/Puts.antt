@@ -1,5 +1,5 @@
 -- Pieces that a sink takes one after another, and where one of them fails.
-use Rattle.std.proofs.Common.{◌≡◌, ◌∙◌, ℕ, List, [], ◌++◌, Option, Some, None, refl, sym, ap, subst, append_assoc, append-nil}
+use Rattle.std.proofs.Common.{◌≡◌, ◌∙◌, ℕ, List, [], ◌++◌, Option, Some, None, ap, subst, append_assoc, append-nil}
 use Rattle.jt_base.specs.Sink.{grown, GrewByPrefix}
 use Rattle.jtag_bench.proofs.Stood.{grew_behind, grown_twice}
 

@@ -1,16 +1,18 @@
 -- Where a session stands between two commands: the numbers read so far, and what is left to do.
-use Rattle.std.proofs.Common.{◌≡◌, ◌≤◌, ◌<◌, ◌^◌, ◌-◌, ◌∙◌, ℕ, zero, suc, ◌+◌, List, [], ◌∷◌, ◌++◌, length, map, replicate, Bool, true, false, Option, Some, None, IfSome, Result, Ok, Err, IfErr, IsErrAnd, OnErr, refl, sym, ap, subst, append_assoc, append-nil, inl, inr, arith}
+use Rattle.std.proofs.Common.{◌≡◌, ◌≤◌, ◌<◌, ◌^◌, ◌-◌, ◌∙◌, ℕ, suc, ◌+◌, List, [], ◌∷◌, ◌++◌, length, map, replicate, Bool, true, false, Option, Some, None, IfSome, Result, Ok, Err, IfErr, IsErrAnd, OnErr, refl, sym, ap, subst, append_assoc, append-nil, inl, inr, arith}
 use Rattle.std.proofs.lemmas.Bool.{false≢true, ltb-false, ltb-true}
 use Rattle.std.proofs.Math.Dec.{ltb}
 use Rattle.std.proofs.lemmas.Option.{none-some, same_Some}
 use Rattle.std.proofs.lemmas.List.{length-append, map-append, replicate-append-replicate}
+use Rattle.jt_base.proofs.FaultLemmas.{rises_from}
 use Rattle.jt_base.specs.Faults.{Rises}
-use Rattle.jt_base.specs.Sink.{grown, GrewByPrefix, TookFront}
+use Rattle.debug_model.proofs.HeardLemmas.{wrong_behind}
+use Rattle.jt_base.specs.Sink.{grown, GrewByPrefix}
 use Rattle.debug_model.specs.declared.command.Command.{Command}
 use Rattle.debug_model.specs.declared.command.Command.TheVariants.{Idcode, End}
 use Rattle.debug_model.specs.Chip.{answer_byte}
 use Rattle.debug_model.specs.Dmi.{TookWord}
-use Rattle.debug_model.specs.Scan.{CameWrong, Script, ScanCause, TookOut, WhereTold, WrongIn}
+use Rattle.debug_model.specs.Scan.{CameWrong, Script, WhereTold, WrongIn}
 use Rattle.debug_model.specs.Wire.{EndCause}
 use Rattle.debug_model.specs.declared.wire.WireFault.{WireFault}
 use Rattle.debug_model.specs.declared.wire.WireFault.TheVariants.{SendFailed, RecvFailed, Ended, BadAnswer}
@@ -122,17 +124,6 @@ abbrev is_numbers : Script → Bool
 is_numbers (Numbers ns) = true
 is_numbers (Answers bytes) = false
 
-wrong_behind : (b : ℕ) (out : List Bool) (bytes rest : List ℕ) → bytes ≡ map answer_byte out ++ rest → CameWrong b rest → CameWrong b bytes
-wrong_behind b out bytes rest cut wrong = record {
-  good = out ++ wrong.good;
-  rest = wrong.rest;
-  is =
-      cut
-      ∙ ap (λ bs. map answer_byte out ++ bs) wrong.is
-      ∙ sym (append_assoc (map answer_byte out) (map answer_byte wrong.good) (b ∷ wrong.rest))
-      ∙ ap (λ bs. bs ++ b ∷ wrong.rest) (sym (map-append answer_byte out wrong.good));
-}
-
 word_back : (b number : ℕ) (script mid : Script) → TookWord number script mid → WrongIn b mid → WrongIn b script
 word_back b number script (Numbers ms) word wrong = absurd wrong
 word_back b number (Numbers ns) (Answers rest) word wrong = absurd (false≢true (ap is_numbers (same_Some _ _ word.took.4)))
@@ -146,24 +137,17 @@ heard_back : (b : ℕ) (numbers : List ℕ) (script mid : Option Script) → Hea
 heard_back b numbers None mid heard wrong = tt
 heard_back b numbers (Some script) mid heard wrong = took_back b script numbers heard.next heard.took (subst (λ m. IfSome m (WrongIn b)) heard.is wrong)
 
-pub rises_then : (old between new : ℕ) → old ≤ between → between ≤ new → Rises between new → Rises old new
-rises_then old between new later more rises below = by_cases (ltb between (2 ^ 64 - 1)) refl
-  where
-    by_cases : (b : Bool) → ltb between (2 ^ 64 - 1) ≡ b → old < new
-    by_cases true is = let h : between < 2 ^ 64 - 1 = ltb-true _ _ is in let r : between < new = rises h in omega (arith, later, r)
-    by_cases false is = let h : 2 ^ 64 - 1 ≤ between = ltb-false _ _ is in omega (arith, h, more, below)
-
 cause_back : (numbers : List ℕ) (script mid : Option Script) (old between new : ℕ) (told : Option Far) (sink_old sink_mid sink_new : ℕ) (failure : Failure)
     → Heard numbers script mid → old ≤ between → between ≤ new → sink_old ≤ sink_mid → sink_mid ≤ sink_new → FailureCause between new told mid sink_mid sink_new failure → FailureCause old new told script sink_old sink_new failure
-cause_back numbers script mid old between new told so sm sn (Wire SendFailed) heard later more slater smore cause = rises_then old between new later more cause
-cause_back numbers script mid old between new told so sm sn (Wire RecvFailed) heard later more slater smore cause = rises_then old between new later more cause
+cause_back numbers script mid old between new told so sm sn (Wire SendFailed) heard later more slater smore cause = rises_from old between new later more cause
+cause_back numbers script mid old between new told so sm sn (Wire RecvFailed) heard later more slater smore cause = rises_from old between new later more cause
 cause_back numbers script mid old between new told so sm sn (Wire Ended) heard later more slater smore cause = rises_or cause
   where
     rises_or : EndCause between new told → EndCause old new told
-    rises_or (inl rises) = inl (rises_then old between new later more rises)
+    rises_or (inl rises) = inl (rises_from old between new later more rises)
     rises_or (inr limit) = inr limit
 cause_back numbers script mid old between new told so sm sn (Wire (BadAnswer b)) heard later more slater smore cause = (cause.0, cause.1, cause.2, heard_back b numbers script mid heard cause.3)
-cause_back numbers script mid old between new told so sm sn Sink heard later more slater smore cause = rises_then so sm sn slater smore cause
+cause_back numbers script mid old between new told so sm sn Sink heard later more slater smore cause = rises_from so sm sn slater smore cause
 
 pub stood_cause : (script rest : List Command) (was told far : Option Far) (begun mid : Option Script) (before after : Option (List ℕ)) (old between new : ℕ) (so sm sn : ℕ) (failure : Failure)
     → Stood script rest was told begun mid before after → old ≤ between → between ≤ new → so ≤ sm → sm ≤ sn → FailureCause between new far mid sm sn failure → FailureCause old new far begun so sn failure

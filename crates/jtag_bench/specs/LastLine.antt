@@ -1,11 +1,19 @@
--- The last line of a run that is refused, or that met the event limit.
+-- The last line of a run that is refused, that failed or that met the event limit, and how it is put.
 -- The lines are this project's own (docs/FORMATS.md, "Last lines").
-use Rattle.std.specs.Prelude.{ℕ, List, [], ◌∷◌, ◌++◌, codes, decimal}
+use Rattle.std.specs.Prelude.{◌≡◌, ℕ, List, [], ◌∷◌, ◌++◌, codes, decimal}
 use Rattle.chip_core.specs.Loads.{load_fault_number}
 use Rattle.chip_core.specs.declared.load_fault.LoadFault.{LoadFault}
 use Rattle.debug_model.specs.ScriptFault.{fault_number}
 use Rattle.debug_model.specs.ScriptText.{line_feed}
+use Rattle.debug_model.specs.Spelling.{hexadecimal}
 use Rattle.debug_model.specs.declared.script_error.ScriptError.{ScriptError}
+use Rattle.debug_model.specs.declared.wire.WireFault.{WireFault}
+use Rattle.debug_model.specs.declared.wire.WireFault.TheVariants.{SendFailed, RecvFailed, Ended, BadAnswer}
+use Rattle.jt_base.specs.Faults.{Rises}
+use Rattle.jt_base.specs.Sink.{grown, GrewByPrefix}
+use Rattle.jtag_bench.specs.Outside.{SinkSeen}
+use Rattle.jtag_bench.specs.declared.status.Status.{Status}
+use Rattle.jtag_bench.specs.declared.status.Status.TheVariants.{Sink}
 
 abbrev pub words_refused : List ℕ
 words_refused = codes "words refused" ++ line_feed ∷ []
@@ -24,3 +32,24 @@ event_limit = codes "event limit" ++ line_feed ∷ []
 
 abbrev pub out_of_memory : List ℕ
 out_of_memory = codes "out of memory" ++ line_feed ∷ []
+
+abbrev pub open_failed : List ℕ
+open_failed = codes "wire failed: open" ++ line_feed ∷ []
+
+abbrev pub failed_at : WireFault → List ℕ
+failed_at SendFailed = codes "send"
+failed_at RecvFailed = codes "receive"
+failed_at Ended = codes "ended"
+failed_at (BadAnswer byte) = codes "answer 0x" ++ hexadecimal 2 byte
+
+abbrev pub wire_failed : WireFault → List ℕ
+wire_failed fault = codes "wire failed: " ++ failed_at fault ++ line_feed ∷ []
+
+-- a byte that is no sign, and its place in the whole stream
+abbrev pub bad_byte : ℕ → ℕ → List ℕ
+bad_byte place byte = codes "bad byte 0x" ++ hexadecimal 2 byte ++ codes " at " ++ decimal place ++ line_feed ∷ []
+
+-- a last line was put, and this is the status; or a front of it, and the status is the sink's
+pub data Closed (line : List ℕ) (wanted : Status) (old new : SinkSeen) : Status → Type 0 where
+  said : new.printed ≡ grown line old.printed → Closed line wanted old new wanted
+  unsaid : GrewByPrefix line old.printed new.printed → Rises old.faults new.faults → Closed line wanted old new Sink

@@ -1,10 +1,13 @@
 pub mod Ended
+pub mod First
 pub mod LastLine
 pub mod OnBench
 pub mod Outside
 pub mod Refusal
 pub mod ScriptFault
 pub mod ScriptText
+pub mod Served
+pub mod ServedChip
 pub mod Session
 pub mod Status
 pub mod Words

@@ -1,6 +1,6 @@
 -- Why a run is refused before its session, and what it prints and answers then.
--- The order of the tests is this project's own: the words, the script, the image, the load (docs/FORMATS.md, "Statuses").
-use Rattle.std.specs.Prelude.{◌≡◌, ◌⊎◌, ◌++◌, ℕ, List, [], ◌∷◌, Option, Some, None, IfSome, IsSomeAnd}
+-- The order of the tests is this project's own: the words, the script, the image, the load, the opening of the net (docs/FORMATS.md, "Statuses").
+use Rattle.std.specs.Prelude.{◌≡◌, ◌⊎◌, ℕ, List, Option, Some, IfSome, IsSomeAnd}
 use Rattle.chip_core.specs.declared.load_fault.LoadFault.{LoadFault}
 use Rattle.chip_core.specs.declared.load_fault.LoadFault.TheVariants as load
 use Rattle.debug_model.specs.Loaded.{Fits, RightHarts}
@@ -8,14 +8,15 @@ use Rattle.debug_model.specs.declared.command.Command.{Command}
 use Rattle.debug_model.specs.declared.script_error.ScriptError.{ScriptError}
 use Rattle.jt_base.specs.Faults.{Rises}
 use Rattle.jt_base.specs.Files.{Holds, HoldsMore, NamedFile, asked_more, content_of}
-use Rattle.jtag_bench.specs.LastLine.{words_refused, file_failed, script_refused, image_refused, out_of_memory}
-use Rattle.jtag_bench.specs.Outside.{FilesSeen}
+use Rattle.jtag_bench.specs.LastLine.{Closed, words_refused, file_failed, script_refused, image_refused, open_failed, out_of_memory}
+use Rattle.jtag_bench.specs.Outside.{FilesSeen, SinkSeen}
 use Rattle.jtag_bench.specs.ScriptText.{IsAcceptedText, IsRefusedText}
-use Rattle.jtag_bench.specs.Words.{Both, both_job}
+use Rattle.jtag_bench.specs.Words.{Both, Chip, WriteNoWork, both_job, chip_job}
 use Rattle.jtag_bench.specs.declared.refusal.Refusal.{Refusal}
-use Rattle.jtag_bench.specs.declared.refusal.Refusal.TheVariants.{Words, File, Script, Image, OutOfMemory}
+use Rattle.jtag_bench.specs.declared.refusal.Refusal.TheVariants.{Words, File, Script, Image, Open, OutOfMemory}
 use Rattle.jtag_bench.specs.declared.status.Status.{Status}
 use Rattle.jtag_bench.specs.declared.status.Status.TheVariants as status
+use Rattle.jtag_words.specs.Words.{job_of}
 use Rattle.jtag_words.specs.declared.job.ChipOptions.{ChipOptions}
 use Rattle.rv_model.specs.Memory.{IsRamSize}
 
@@ -24,6 +25,7 @@ status_of Words = status.Words
 status_of (File name) = status.File
 status_of (Script error) = status.Script
 status_of (Image fault) = status.Image
+status_of Open = status.Wire
 status_of OutOfMemory = status.OutOfMemory
 
 abbrev pub last_line : Refusal → List ℕ
@@ -31,6 +33,7 @@ last_line Words = words_refused
 last_line (File name) = file_failed name.now
 last_line (Script error) = script_refused error
 last_line (Image fault) = image_refused fault
+last_line Open = open_failed
 last_line OutOfMemory = out_of_memory
 
 -- ---- what the files hold, where they are told
@@ -53,6 +56,10 @@ asked_script job old = asked_more job.script old.asked
 abbrev pub asked_both : Both → FilesSeen → Option (List (List ℕ))
 asked_both job old = asked_more job.image (asked_script job old)
 
+-- the image of a served chip, and no other file
+abbrev pub asked_image : Chip → FilesSeen → Option (List (List ℕ))
+asked_image job old = asked_more job.image old.asked
+
 -- ---- causes of one file
 
 -- the most bytes of an image's file
@@ -65,6 +72,7 @@ ScriptFileCause name old new Words = ⊥
 ScriptFileCause name old new (File asked) = Rises old.faults new.faults × (asked.now ≡ name) × (new.asked ≡ asked_more name old.asked)
 ScriptFileCause name old new (Script error) = HoldsBadScript old.held name error × (new.asked ≡ asked_more name old.asked)
 ScriptFileCause name old new (Image fault) = ⊥
+ScriptFileCause name old new Open = ⊥
 ScriptFileCause name old new OutOfMemory = (new.asked ≡ old.asked) ⊎ (new.asked ≡ asked_more name old.asked)
 
 -- the image's file was not read: it failed, or it has too many bytes for any chip
@@ -79,6 +87,7 @@ ImageFileCause name old new Words = ⊥
 ImageFileCause name old new (File asked) = Rises old.faults new.faults × (asked.now ≡ name) × (new.asked ≡ asked_more name old.asked)
 ImageFileCause name old new (Script error) = ⊥
 ImageFileCause name old new (Image fault) = LongImage name old fault × (new.asked ≡ asked_more name old.asked)
+ImageFileCause name old new Open = ⊥
 ImageFileCause name old new OutOfMemory = (new.asked ≡ old.asked) ⊎ (new.asked ≡ asked_more name old.asked)
 
 -- ---- causes of the load
@@ -91,10 +100,14 @@ UnfitChip image o load.TooLong = RightHarts o.harts × (IsRamSize o.ram × ¬ Fi
 UnfitChip image o load.NoMemory = ⊥
 
 -- the image was read, and can't be loaded with these options
-pub record Unloadable (job : Both) (old : FilesSeen) (fault : LoadFault) : Type 0 where
+pub record Unloadable (name : List ℕ) (options : ChipOptions) (old : FilesSeen) (fault : LoadFault) : Type 0 where
   pub image : List ℕ
-  pub held : Holds old.held job.image image
-  pub unfit : UnfitChip image job.options fault
+  pub held : Holds old.held name image
+  pub unfit : UnfitChip image options fault
+
+-- an image is refused so: for its length in the file, or for what it is to be loaded into
+abbrev pub IsBadImage : List ℕ → ChipOptions → FilesSeen → LoadFault → Type 0
+IsBadImage name options old fault = LongImage name old fault ⊎ Unloadable name options old fault
 
 -- why an image that was read is not loaded
 abbrev pub LoadCause : List ℕ → ChipOptions → Refusal → Type 0
@@ -102,6 +115,7 @@ LoadCause image o Words = ⊥
 LoadCause image o (File name) = ⊥
 LoadCause image o (Script error) = ⊥
 LoadCause image o (Image fault) = UnfitChip image o fault
+LoadCause image o Open = ⊥
 LoadCause image o OutOfMemory = Unit {0}
 
 -- ---- the cause of each refusal of a job
@@ -115,7 +129,7 @@ pub data FailedFile (job : Both) (old new : FilesSeen) (name : List ℕ) : Type 
 pub record BadImage (job : Both) (old new : FilesSeen) (fault : LoadFault) : Type 0 where
   pub commands : List Command
   pub script : HoldsScript old.held job.script commands
-  pub image : (LongImage job.image old fault) ⊎ (Unloadable job old fault)
+  pub image : IsBadImage job.image job.options old fault
   pub asked : new.asked ≡ asked_both job old
 
 -- no other file than the job's was asked for, and none before its turn
@@ -127,17 +141,38 @@ JobCause job old new Words = ⊥
 JobCause job old new (File name) = Rises old.faults new.faults × FailedFile job old new name.now
 JobCause job old new (Script error) = HoldsBadScript old.held job.script error × (new.asked ≡ asked_script job old)
 JobCause job old new (Image fault) = BadImage job old new fault
+JobCause job old new Open = ⊥
 JobCause job old new OutOfMemory = AskedFront job old new
+
+-- ---- the cause of each refusal of a served chip
+
+abbrev pub ChipCause : Chip → FilesSeen → FilesSeen → Refusal → Type 0
+ChipCause job old new Words = ⊥
+ChipCause job old new (File name) = Rises old.faults new.faults × (name.now ≡ job.image) × (new.asked ≡ asked_image job old)
+ChipCause job old new (Script error) = ⊥
+ChipCause job old new (Image fault) = IsBadImage job.image job.options old fault × (new.asked ≡ asked_image job old)
+ChipCause job old new Open = ⊥
+ChipCause job old new OutOfMemory = (new.asked ≡ old.asked) ⊎ (new.asked ≡ asked_image job old)
+
+-- ---- every cause
 
 -- the causes that lie in the words alone
 abbrev pub WordsCause : List (List ℕ) → Refusal → Type 0
-WordsCause words Words = both_job words ≡ None
+WordsCause words Words = WriteNoWork (job_of words)
 WordsCause words (File name) = ⊥
 WordsCause words (Script error) = ⊥
 WordsCause words (Image fault) = ⊥
+WordsCause words Open = ⊥
 WordsCause words OutOfMemory = Unit {0}
 
--- the cause of each refusal: the words alone, before any file is asked for, or what their job meets. Want of memory is free.
+-- the cause of each refusal before a net is opened: the words alone, before any file is asked for, or what their job meets. Want of memory is free.
 pub data RefusalCause (words : List (List ℕ)) (old new : FilesSeen) (refusal : Refusal) : Type 0 where
   of_words : WordsCause words refusal → new ≡ old → RefusalCause words old new refusal
   of_job : (job : Both) → both_job words ≡ Some job → JobCause job old new refusal → RefusalCause words old new refusal
+  of_chip : (job : Chip) → chip_job words ≡ Some job → ChipCause job old new refusal → RefusalCause words old new refusal
+
+-- ---- a refusal
+
+-- by its status: the last line and nothing else, or a front of it
+abbrev pub Refused : Refusal → SinkSeen → SinkSeen → Status → Type 0
+Refused refusal old new status = Closed (last_line refusal) (status_of refusal) old new status

@@ -1,6 +1,6 @@
 -- Which scripts the program runs today, and how it refuses the others.
 -- The language is that of docs/SCRIPT.md; the limit and the commands that are built are this project's own.
-use Rattle.std.specs.Prelude.{◌≡◌, ◌⊎◌, ◌<◌, ◌≤◌, ℕ, List, Bool, true, false, length}
+use Rattle.std.specs.Prelude.{◌≡◌, ◌⊎◌, ◌<◌, ◌≤◌, ℕ, List, true, false, length}
 use Rattle.std.specs.List.{list_all}
 use Rattle.debug_model.specs.Grammar.{IsReadAs, HasFirstFault}
 use Rattle.debug_model.specs.declared.command.Command.{Command}

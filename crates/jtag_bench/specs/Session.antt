@@ -1,6 +1,6 @@
 -- What a session of today reads, prints and lets pass: an IDCODE for each command `idcode` up to `end`, and rounds of the chip's schedule.
 -- IEEE 1149.1 for the register; the commands are this project's own (docs/SCRIPT.md).
-use Rattle.std.specs.Prelude.{◌≡◌, ◌⊎◌, ◌<◌, ◌≤◌, ◌++◌, ℕ, zero, suc, List, [], ◌∷◌, length, map, replicate, Bool, true, false, Option, Some, None, IfSome}
+use Rattle.std.specs.Prelude.{◌≡◌, ◌≤◌, ◌++◌, ℕ, suc, List, [], ◌∷◌, length, map, replicate, Bool, true, false, Option, Some, None, IfSome}
 use Rattle.jt_base.specs.Faults.{Rises}
 use Rattle.jt_base.specs.Sink.{grown, GrewByPrefix}
 use Rattle.debug_model.specs.declared.command.Command.{Command}
@@ -10,7 +10,7 @@ use Rattle.debug_model.specs.Dmi.{IsAtRest, TookWord}
 use Rattle.debug_model.specs.Scan.{ScanCause, Script, WhereTold, ticks}
 use Rattle.debug_model.specs.Tap.{idcode}
 use Rattle.debug_model.specs.Told.{Far, IsFree, IsLive, IsRead, chip_of}
-use Rattle.debugger_laws.specs.Lines.{Line, text_of, text_of_all}
+use Rattle.debugger_laws.specs.Lines.{text_of, text_of_all}
 use Rattle.debugger_laws.specs.Lines.Line.{Idcode as idcode_line}
 use Rattle.jtag_bench.specs.declared.failure.Failure.{Failure}
 use Rattle.jtag_bench.specs.declared.failure.Failure.TheVariants.{Wire, Sink}

@@ -2,6 +2,7 @@
 #![tactic(auto)]
 
 mod both_with;
+mod chip;
 mod failure;
 mod last_line;
 mod lines;
@@ -9,6 +10,8 @@ mod prepare;
 mod refusal;
 mod run;
 mod script_text;
+mod served;
+mod serving;
 mod session;
 mod status;
 #[cfg(test)]
@@ -17,8 +20,10 @@ mod words;
 
 use chip_core::Bench;
 use jt_base::{DiskFiles, StdSink};
+use jtag_net::TcpNet;
+use last_line::refuse;
 use refusal::Refusal;
-use run::{refuse, run};
+use run::run;
 use std::io::ErrorKind;
 use std::process::ExitCode;
 use std::rt::Env;
@@ -47,8 +52,16 @@ fn main(rt: HostRuntime) -> ExitCode {
     let status = match words_given(&rt) {
         Ok(words) => {
             let mut files = DiskFiles::new(&rt);
+            let mut net = TcpNet::new(&rt);
             let mut bench = Bench::blank();
-            run(rt.alloc(), &words, &mut files, &mut out, &mut bench)
+            run(
+                rt.alloc(),
+                &words,
+                &mut files,
+                &mut net,
+                &mut out,
+                &mut bench,
+            )
         }
         Err(error) => refuse(&mut out, words_refusal(&error)),
     };

@@ -1,20 +1,21 @@
-//! What is read and judged before a session.
+//! What is read and judged before a session, and before a chip is served.
 
 ghost use Rattle.std.specs.Prelude.{◌≡◌, ◌≤◌, IfOk, IfErr, IfSome, OnErr, OnOk, Some, true};
 ghost use Rattle.std.specs.List.{list_all};
-ghost use Rattle.chip_core.specs.Loads.{IsFirst, loaded};
-ghost use Rattle.debug_model.specs.Loaded.{AsLoaded, Fits, RightHarts};
+ghost use Rattle.chip_core.specs.Loads.{IsFirst};
+ghost use Rattle.debug_model.specs.Loaded.{AsLoaded};
 ghost use Rattle.jt_base.specs.Files.{Holds, asked_more};
 ghost use Rattle.jtag_bench.specs.Ended.{Prepared};
-ghost use Rattle.jtag_bench.specs.Refusal.{HoldsScript, ImageFileCause, JobCause, LoadCause, ScriptFileCause, asked_both};
+ghost use Rattle.jtag_bench.specs.First.{CanLoad, first_chip};
+ghost use Rattle.jtag_bench.specs.Refusal.{ChipCause, HoldsScript, ImageFileCause, JobCause, LoadCause, ScriptFileCause, asked_both, asked_image};
+ghost use Rattle.jtag_bench.specs.ServedChip.{PreparedChip};
 ghost use Rattle.jtag_bench.specs.Session.{is_built};
-ghost use Rattle.jtag_bench.specs.Words.{plan_of, start_of, value_of};
+ghost use Rattle.jtag_bench.specs.Words.{chip_value, plan_of, start_of, value_of};
 ghost use Rattle.jtag_words.specs.Words.{InRange, least_busy, most_busy};
-ghost use Rattle.rv_model.specs.Memory.{IsRamSize};
 
 use crate::refusal::Refusal;
 use crate::script_text::{ScriptRefusal, read_script};
-use crate::words::BothJob;
+use crate::words::{BothJob, ChipJob};
 use chip_core::{Bench, LoadFault};
 use debug_model::{Script, ScriptError, ScriptFault};
 use hart_debug::Start;
@@ -113,10 +114,8 @@ fn load_chip(
     options: &ChipOptions,
 ) -> Result<(), Refusal<'static>>
     requires busy { InRange least_busy most_busy options.now.busy }
-    ensures chip { OnOk result (bench.new ≡ Some (loaded image.now options.now.harts options.now.ram (start_of options.now.halted) (plan_of options.now))) }
-    ensures harts { OnOk result (RightHarts options.now.harts) }
-    ensures size { OnOk result (IsRamSize options.now.ram) }
-    ensures fits { OnOk result (Fits image.now options.now.ram) }
+    ensures chip { OnOk result (bench.new ≡ Some (first_chip options.now image.now)) }
+    ensures loads { OnOk result (CanLoad options.now image.now) }
     ensures as_loaded { OnOk result (IfSome bench.new AsLoaded) }
     ensures cause { IfErr result (LoadCause image.now options.now) }
     ensures kept { OnErr result (bench.new ≡ bench.old) }
@@ -154,4 +153,22 @@ pub fn prepare<'a, F: Files>(
     let image = read_image(alloc, files, job.image.as_str())?;
     load_chip(alloc, bench, &image, &job.options)?;
     Ok(script)
+}
+
+/// Reads the image of a chip that is to be served, and loads it. The first refusal ends it, and no chip is loaded then.
+pub fn prepare_chip<'a, F: Files>(
+    alloc: Global,
+    job: &'a ChipJob,
+    files: &mut F,
+    bench: &mut Bench<SeedSchedule>,
+) -> Result<(), Refusal<'a>>
+    requires busy { InRange least_busy most_busy job.now.options.busy }
+    ensures prepared { OnOk result (PreparedChip (chip_value job.now) (F.held files.old) bench.new) }
+    ensures asked { OnOk result (F.asked files.new ≡ asked_image (chip_value job.now) (record { held = F.held files.old; asked = F.asked files.old; faults = F.fault_count files.old })) }
+    ensures cause { IfErr result (ChipCause (chip_value job.now) (record { held = F.held files.old; asked = F.asked files.old; faults = F.fault_count files.old }) (record { held = F.held files.new; asked = F.asked files.new; faults = F.fault_count files.new })) }
+    ensures kept { OnErr result (bench.new ≡ bench.old) }
+{
+    let bytes = read_image(alloc, files, job.image.as_str())?;
+    load_chip(alloc, bench, &bytes, &job.options)?;
+    Ok(())
 }

@@ -13,6 +13,8 @@ pub enum Refusal<'a> {
     Script(ScriptError),
     /// The image, or the chip that it is to be loaded into.
     Image(LoadFault),
+    /// The net could not be opened.
+    Open,
     /// No memory was left.
     OutOfMemory,
 }
@@ -30,6 +32,7 @@ impl Refusal<'_> {
             Refusal::File(_) => Status::File,
             Refusal::Script(_) => Status::Script,
             Refusal::Image(_) => Status::Image,
+            Refusal::Open => Status::Wire,
             Refusal::OutOfMemory => Status::OutOfMemory,
         }
     }

@@ -14,12 +14,16 @@ pub enum Status {
     Script,
     /// The image was refused.
     Image,
+    /// The net failed.
+    Wire,
     /// Not all of the output could be written.
     Sink,
     /// The chip met its limit of events.
     EventLimit,
     /// No memory was left before the session.
     OutOfMemory,
+    /// A byte that is no sign came over the net.
+    BadByte,
 }
 
 impl Status {
@@ -33,9 +37,11 @@ impl Status {
             Status::File => 3,
             Status::Script => 4,
             Status::Image => 5,
+            Status::Wire => 7,
             Status::Sink => 8,
             Status::EventLimit => 10,
             Status::OutOfMemory => 11,
+            Status::BadByte => 12,
         }
     }
 }

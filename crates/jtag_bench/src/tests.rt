@@ -1,12 +1,20 @@
 //! Runs as a person makes them, over files and a sink in memory. Expected values are the printed formats' and the standard's.
 
+ghost use Rattle.std.specs.Prelude.{◌≡◌, None, IfOk};
+
+mod served;
+
 use crate::run::run;
 use crate::status::Status;
 use chip_core::Bench;
-use jt_base::{DiskFiles, Files, MemoryFile, MemoryFiles, MemorySink};
+use debug_model::Net;
+use jt_base::{DiskFiles, Files, MemoryFile, MemoryFiles, MemorySink, Sink};
+use jtag_net::MemoryNet;
 use std::alloc::{AllocError, Global};
+use std::process::Abort;
 use std::test::Fail;
 use std::{fs, process};
+use sys_events::SeedSchedule;
 
 /// Room for everything that a run prints.
 const AMPLE: usize = 4096;
@@ -37,6 +45,27 @@ fn two_files(
     Ok(MemoryFiles::new(alloc, files, listed))
 }
 
+/// One run, of which nothing is known here but that it ends: a test looks at what came out.
+fn run_once<F: Files, N: Net, K: Sink>(
+    alloc: Global,
+    words: &[String],
+    files: &mut F,
+    net: &mut N,
+    out: &mut K,
+    bench: &mut Bench<SeedSchedule>,
+) -> Status
+    requires { (N.state net.old).ties.opening ≡ None }
+{
+    run(alloc, words, files, net, out, bench)
+}
+
+/// A net that no run of these opens.
+fn quiet_net(alloc: Global) -> Result<MemoryNet, AllocError>
+    ensures { IfOk result (λ net. net.opening ≡ None) }
+{
+    MemoryNet::new(alloc, Vec::new(alloc), 1, 0, Vec::new(alloc))
+}
+
 const NO_FAILURE: u32 = 1000;
 
 /// x5 = 5; then x5 = x5 + 1 again and again.
@@ -47,148 +76,154 @@ const PROGRAM: &[u8] = &[
 /// The bytes of RAM where the words say nothing.
 const RAM_UNSAID: usize = 65_536;
 
+/// What the files hold, and which of the calls on them fails.
+#[derive(Clone, Copy)]
+struct Held<'a> {
+    image: &'a [u8],
+    script: &'a [u8],
+    fail_at: u32,
+}
+
+/// A run of these words: its status, and what it prints.
+fn check_words(
+    rt: &impl Abort,
+    alloc: Global,
+    words: &[&str],
+    held: Held,
+    status: Status,
+    printed: &str,
+) -> Result<(), Fail> {
+    let words = word_list(alloc, words)?;
+    let mut files = two_files(alloc, held.image, held.script, held.fail_at)?;
+    let mut net = quiet_net(alloc)?;
+    let mut out = MemorySink::new(alloc, AMPLE, Vec::new(alloc))?;
+    let mut bench = Bench::blank();
+    let ended = run_once(alloc, &words, &mut files, &mut net, &mut out, &mut bench);
+    assert_eq!(rt; ended, status);
+    assert_eq!(rt; out.bytes(), printed.as_bytes());
+    Ok(())
+}
+
+/// The same of a chip with this image, and of this script.
+fn check_script(
+    rt: &impl Abort,
+    alloc: Global,
+    image: &[u8],
+    script: &[u8],
+    status: Status,
+    printed: &str,
+) -> Result<(), Fail> {
+    let held = Held {
+        image,
+        script,
+        fail_at: NO_FAILURE,
+    };
+    let words = ["both", "--image", "i", "--script", "s"];
+    check_words(rt, alloc, &words, held, status, printed)
+}
+
 #[test]
-fn runs_over_memory(rt: HostRuntime) -> Result<(), Fail> {
+fn scripts_are_run_or_refused(rt: HostRuntime) -> Result<(), Fail> {
     let alloc = rt.alloc();
-    let both = ["both", "--image", "i", "--script", "s"].as_slice();
-    let cases: [(&[&str], &[u8], &[u8], u32, Status, &str); 17] = [
-        (both, b"", b"", NO_FAILURE, Status::Clean, ""),
+    let cases: [(&[u8], &[u8], Status, &str); 8] = [
+        (b"", b"", Status::Clean, ""),
+        (b"", b"idcode", Status::Clean, "idcode 0x10d64001\n"),
         (
-            both,
-            b"",
-            b"idcode",
-            NO_FAILURE,
-            Status::Clean,
-            "idcode 0x10d64001\n",
-        ),
-        (
-            both,
             b"",
             b" idcode # twice\r\n\nidcode\n",
-            NO_FAILURE,
             Status::Clean,
             "idcode 0x10d64001\nidcode 0x10d64001\n",
         ),
         (
-            both,
             b"",
             b"idcode\nend\nidcode\n",
-            NO_FAILURE,
             Status::Clean,
             "idcode 0x10d64001\n",
         ),
         (
-            both,
             b"",
             b"state\nread 3 0x80000000\n",
-            NO_FAILURE,
             Status::Script,
             "script refused: line 2 fault 6\n",
         ),
         (
-            both,
             b"",
             b"idcode\nstate\n",
-            NO_FAILURE,
             Status::Script,
             "script refused: line 0 fault 2\n",
         ),
         (
-            both,
             b"x",
             b"idcodes",
-            NO_FAILURE,
             Status::Script,
             "script refused: line 1 fault 2\n",
         ),
-        (
-            both,
-            PROGRAM,
-            b"idcode",
-            NO_FAILURE,
-            Status::Clean,
-            "idcode 0x10d64001\n",
-        ),
-        (
-            &["both", "--image", "j", "--script", "s"],
-            b"",
-            b"foo",
-            NO_FAILURE,
-            Status::Script,
-            "script refused: line 1 fault 2\n",
-        ),
-        (
-            &["both", "--image", "i", "--script", "s", "--harts", "5"],
-            b"",
-            b"idcode",
-            NO_FAILURE,
-            Status::Image,
-            "image refused: fault 3\n",
-        ),
-        (
-            &[
-                "both", "--image", "i", "--script", "s", "--harts", "0", "--ram", "1",
-            ],
-            b"",
-            b"idcode",
-            NO_FAILURE,
-            Status::Image,
-            "image refused: fault 3\n",
-        ),
-        (
-            &["both", "--image", "i", "--script", "s", "--ram", "65537"],
-            b"",
-            b"idcode",
-            NO_FAILURE,
-            Status::Image,
-            "image refused: fault 2\n",
-        ),
-        (both, b"", b"idcode\n", 0, Status::File, "file failed: s\n"),
-        (both, b"", b"idcode\n", 1, Status::File, "file failed: i\n"),
-        (
-            &["both", "--image", "i", "--script", "t"],
-            b"",
-            b"",
-            NO_FAILURE,
-            Status::File,
-            "file failed: t\n",
-        ),
-        (
-            &["both", "--image", "j", "--script", "s"],
-            b"",
-            b"",
-            NO_FAILURE,
-            Status::File,
-            "file failed: j\n",
-        ),
-        (
-            &[
-                "both", "--script", "s", "--harts", "4", "--ram", "0x10000", "--halted", "--seed",
-                "7", "--busy", "32", "--piece", "1", "--image", "i",
-            ],
-            b"",
-            b"idcode",
-            NO_FAILURE,
-            Status::Clean,
-            "idcode 0x10d64001\n",
-        ),
+        (PROGRAM, b"idcode", Status::Clean, "idcode 0x10d64001\n"),
     ];
-    for (words, image, script, fail_at, status, printed) in cases {
-        let words = word_list(alloc, words)?;
-        let mut files = two_files(alloc, image, script, fail_at)?;
-        let mut out = MemorySink::new(alloc, AMPLE, Vec::new(alloc))?;
-        let mut bench = Bench::blank();
-        let ended = run(alloc, &words, &mut files, &mut out, &mut bench);
-        assert_eq!(rt; ended, status);
-        assert_eq!(rt; out.bytes(), printed.as_bytes());
+    for (image, script, status, printed) in cases {
+        check_script(&rt, alloc, image, script, status, printed)?;
     }
     Ok(())
+}
+
+/// An empty image, and a script of one command.
+const ONE: Held = Held {
+    image: b"",
+    script: b"idcode",
+    fail_at: NO_FAILURE,
+};
+
+#[test]
+fn words_say_what_chip_is_loaded(rt: HostRuntime) -> Result<(), Fail> {
+    let alloc = rt.alloc();
+    let five = ["both", "--image", "i", "--script", "s", "--harts", "5"];
+    let refused = "image refused: fault 3\n";
+    check_words(&rt, alloc, &five, ONE, Status::Image, refused)?;
+    let none = [
+        "both", "--image", "i", "--script", "s", "--harts", "0", "--ram", "1",
+    ];
+    check_words(&rt, alloc, &none, ONE, Status::Image, refused)?;
+    let uneven = ["both", "--image", "i", "--script", "s", "--ram", "65537"];
+    let refused = "image refused: fault 2\n";
+    check_words(&rt, alloc, &uneven, ONE, Status::Image, refused)?;
+    let all = [
+        "both", "--script", "s", "--harts", "4", "--ram", "0x10000", "--halted", "--seed", "7",
+        "--busy", "32", "--piece", "1", "--image", "i",
+    ];
+    check_words(&rt, alloc, &all, ONE, Status::Clean, "idcode 0x10d64001\n")
+}
+
+#[test]
+fn files_are_asked_for_in_order(rt: HostRuntime) -> Result<(), Fail> {
+    let alloc = rt.alloc();
+    let both = ["both", "--image", "i", "--script", "s"];
+    let first = Held { fail_at: 0, ..ONE };
+    check_words(&rt, alloc, &both, first, Status::File, "file failed: s\n")?;
+    let second = Held { fail_at: 1, ..ONE };
+    check_words(&rt, alloc, &both, second, Status::File, "file failed: i\n")?;
+    let no_script = ["both", "--image", "i", "--script", "t"];
+    check_words(
+        &rt,
+        alloc,
+        &no_script,
+        ONE,
+        Status::File,
+        "file failed: t\n",
+    )?;
+    let no_image = ["both", "--image", "j", "--script", "s"];
+    check_words(&rt, alloc, &no_image, ONE, Status::File, "file failed: j\n")?;
+    let faulty = Held {
+        script: b"foo",
+        ..ONE
+    };
+    let refused = "script refused: line 1 fault 2\n";
+    check_words(&rt, alloc, &no_image, faulty, Status::Script, refused)
 }
 
 #[test]
 fn words_that_write_no_built_job_are_refused(rt: HostRuntime) -> Result<(), Fail> {
     let alloc = rt.alloc();
-    let cases: [&[&str]; 8] = [
+    let cases: [&[&str]; 9] = [
         &[],
         &["both"],
         &["both", "--image", "i", "--script", "s", "x"],
@@ -196,16 +231,11 @@ fn words_that_write_no_built_job_are_refused(rt: HostRuntime) -> Result<(), Fail
         &["both", "--image", "i", "--script", "s", "--loopback"],
         &["both", "--gen", "1"],
         &["probe", "--at", "x", "--script", "s"],
-        &["chip", "--at", "x", "--image", "i"],
+        &["chip", "--image", "i"],
+        &["chip", "--at", "x", "--image", "i", "--script", "s"],
     ];
     for words in cases {
-        let words = word_list(alloc, words)?;
-        let mut files = two_files(alloc, b"", b"idcode", NO_FAILURE)?;
-        let mut out = MemorySink::new(alloc, AMPLE, Vec::new(alloc))?;
-        let mut bench = Bench::blank();
-        let ended = run(alloc, &words, &mut files, &mut out, &mut bench);
-        assert_eq!(rt; ended.code(), 2);
-        assert_eq!(rt; out.bytes(), b"words refused\n".as_slice());
+        check_words(&rt, alloc, words, ONE, Status::Words, "words refused\n")?;
     }
     Ok(())
 }
@@ -218,7 +248,14 @@ fn a_script_over_the_limit_is_refused(rt: HostRuntime) -> Result<(), Fail> {
     let mut files = two_files(alloc, b"", &long, NO_FAILURE)?;
     let mut out = MemorySink::new(alloc, AMPLE, Vec::new(alloc))?;
     let mut bench = Bench::blank();
-    let ended = run(alloc, &words, &mut files, &mut out, &mut bench);
+    let ended = run_once(
+        alloc,
+        &words,
+        &mut files,
+        &mut quiet_net(alloc)?,
+        &mut out,
+        &mut bench,
+    );
     assert_eq!(rt; ended, Status::Script);
     assert_eq!(rt; out.bytes(), b"script refused: line 0 fault 7\n".as_slice());
     Ok(())
@@ -233,7 +270,14 @@ fn an_image_fits_into_ram_or_is_refused(rt: HostRuntime) -> Result<(), Fail> {
         let mut files = two_files(alloc, &image, b"", NO_FAILURE)?;
         let mut out = MemorySink::new(alloc, AMPLE, Vec::new(alloc))?;
         let mut bench = Bench::blank();
-        let ended = run(alloc, &words, &mut files, &mut out, &mut bench);
+        let ended = run_once(
+            alloc,
+            &words,
+            &mut files,
+            &mut quiet_net(alloc)?,
+            &mut out,
+            &mut bench,
+        );
         assert_eq!(rt; ended, status);
         assert_eq!(rt; bench.is_loaded(), status == Status::Clean);
     }
@@ -261,7 +305,14 @@ fn rounds_pass_while_the_idcode_is_read(rt: HostRuntime) -> Result<(), Fail> {
         let mut files = two_files(alloc, PROGRAM, b"idcode", NO_FAILURE)?;
         let mut out = MemorySink::new(alloc, AMPLE, Vec::new(alloc))?;
         let mut bench = Bench::blank();
-        let ended = run(alloc, &words, &mut files, &mut out, &mut bench);
+        let ended = run_once(
+            alloc,
+            &words,
+            &mut files,
+            &mut quiet_net(alloc)?,
+            &mut out,
+            &mut bench,
+        );
         assert_eq!(rt; ended, Status::Clean);
         assert_eq!(rt; bench.counts().rounds, 43);
         assert!(rt; least <= bench.journal().len() && bench.journal().len() <= most);
@@ -288,7 +339,14 @@ fn a_sink_that_fails_gives_its_status(rt: HostRuntime) -> Result<(), Fail> {
         }
         let mut out = MemorySink::new(alloc, room, listed)?;
         let mut bench = Bench::blank();
-        let ended = run(alloc, &words, &mut files, &mut out, &mut bench);
+        let ended = run_once(
+            alloc,
+            &words,
+            &mut files,
+            &mut quiet_net(alloc)?,
+            &mut out,
+            &mut bench,
+        );
         assert_eq!(rt; ended.code(), 8);
         assert_eq!(rt; out.bytes(), printed.as_bytes());
     }
@@ -315,7 +373,14 @@ fn files_on_disk_are_read(rt: HostRuntime) -> Result<(), Fail> {
     let mut files = DiskFiles::new(&rt);
     let mut out = MemorySink::new(alloc, AMPLE, Vec::new(alloc))?;
     let mut bench = Bench::blank();
-    let ended = run(alloc, &words, &mut files, &mut out, &mut bench);
+    let ended = run_once(
+        alloc,
+        &words,
+        &mut files,
+        &mut quiet_net(alloc)?,
+        &mut out,
+        &mut bench,
+    );
     assert_eq!(rt; ended, Status::Clean);
     assert_eq!(rt; out.bytes(), b"idcode 0x10d64001\n".as_slice());
 
@@ -330,7 +395,14 @@ fn files_on_disk_are_read(rt: HostRuntime) -> Result<(), Fail> {
         ],
     )?;
     let mut out = MemorySink::new(alloc, AMPLE, Vec::new(alloc))?;
-    let ended = run(alloc, &absent, &mut files, &mut out, &mut bench);
+    let ended = run_once(
+        alloc,
+        &absent,
+        &mut files,
+        &mut quiet_net(alloc)?,
+        &mut out,
+        &mut bench,
+    );
     assert_eq!(rt; ended.code(), 3);
     assert_eq!(rt; out.bytes(), b"file failed: /tmp/no/such\n".as_slice());
     assert_eq!(rt; files.faults(), 1);

@@ -1,5 +1,4 @@
-use Rattle.std.proofs.Common.{◌≡◌, ◌∷◌, [], codes, arith}
-use Rattle.std.proofs.lemmas.Grind.{common_steps}
+use Rattle.std.proofs.Common.{◌∷◌, [], codes}
 use Rattle.debug_model.specs.ScriptText.{line_feed}
 use Rattle.jtag_bench.proofs.Puts.{first_failed, second_failed, third_failed, three_put}
 use Rattle.jtag_bench.proofs.Stood.{wrote_by}

@@ -15,4 +15,4 @@ pub returns-clause-prepared : goal.returns-clause-prepared
 returns-clause-prepared g c =
     prepared_by (value_of c.args.job.now) _ (g.F.Files.held c.load_script.new.files) _ c.in_ok-image.image.items _
     (rw c.as_str.ensures.value at c.in_ok-script.ensures.commands) c.load_script.ensures.held (rw c.as_str-2.ensures.value at c.in_ok-image.ensures.image)
-    c.in_ok-load_chip.ensures.harts c.in_ok-load_chip.ensures.size (rw c.deref.ensures.value at c.in_ok-load_chip.ensures.fits) (rw c.deref.ensures.value at c.in_ok-load_chip.ensures.chip) c.in_ok-load_chip.ensures.as_loaded
+    (rw c.deref.ensures.value at c.in_ok-load_chip.ensures.loads) (rw c.deref.ensures.value at c.in_ok-load_chip.ensures.chip) c.in_ok-load_chip.ensures.as_loaded

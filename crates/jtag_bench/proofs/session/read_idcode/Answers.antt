@@ -1,5 +1,4 @@
-use Rattle.std.proofs.Common.{◌≡◌}
-use Rattle.jtag_bench.proofs.Idcodes.{open_of_live, reset_cut_rounds, reset_rounds, reset_selects, rounds_then, scan_cut_rounds, scan_rounds, scan_told, told_before}
+use Rattle.jtag_bench.proofs.Idcodes.{reset_cut_rounds, reset_rounds, reset_selects, rounds_then, scan_cut_rounds, scan_rounds, scan_told, told_before}
 use Rattle.jtag_bench.proofs.session.read_idcode.Goals as goal
 
 pub returns-in_err-reset-clause-passed : goal.returns-in_err-reset-clause-passed

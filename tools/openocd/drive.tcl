@@ -1,0 +1,181 @@
+# What OpenOCD is asked to do at a chip that holds the program of loop.s, and what each answer must be. The chip's harts start halted at its first word.
+# The values are worked out by hand from the program, beside each check.
+
+gdb_port disabled
+telnet_port disabled
+tcl_port disabled
+
+set failures 0
+
+# One answer. A command that fails answers its message.
+proc check {name wanted command} {
+    global failures
+    if {[catch {uplevel #0 $command} got]} { set got "error: $got" }
+    set got [string trim $got]
+    if {$got eq $wanted} {
+        echo "ok $name"
+    } else {
+        incr failures
+        echo "FAILED $name: '$got' and not '$wanted'"
+    }
+}
+
+# The values of registers, as numbers in hexadecimal without leading zeros.
+proc regs {args} {
+    set values {}
+    foreach {name value} [get_reg -force $args] { lappend values [format 0x%llx $value] }
+    return $values
+}
+
+# Goes on until the next stop.
+proc go {} {
+    resume
+    wait_halt 5000
+}
+
+# Whether t0 of the running hart grows: a halt later it holds more than before.
+proc grows {} {
+    set before [regs t0]
+    resume
+    sleep 20
+    halt
+    wait_halt 5000
+    set after [regs t0]
+    return [expr {$after > $before}]
+}
+
+# The hart's number, and what it holds behind its steps: they begin at the program's first word.
+proc drive {hart} {
+    # Debug Specification: a hart's registers through abstract commands. misa is RV64 with A, I and M.
+    check "examined as RV64IMA" "0x8000000000001101 [format 0x%x $hart]" {regs misa mhartid}
+    check "stands at the first word" 0x80000000 {regs pc}
+
+    # addi t0, zero, 5; then t0 + 1 = 6; then t1 = pc of the auipc.
+    check "step" "0x80000004 0x5" {step; regs pc t0}
+    check "two more steps" "0x8000000c 0x6 0x80000008" {step; step; regs pc t0 t1}
+
+    # The store writes t0 = 41, the load brings it to t2, and t3 = t3 + t2 = 1000 + 41 = 1041.
+    check "registers are written" "0x29 0x3e8" {set_reg {t0 41}; set_reg {t3 1000}; regs t0 t3}
+    check "steps use them" "0x80000018 0x29 0x411" {step; step; step; regs pc t2 t3}
+    check "a jump is stepped" 0x80000004 {step; regs pc}
+    check "pc is written" "0x80000008 0x2a" {set_reg {pc 0x80000004}; step; regs pc t0}
+    check "a register of Machine Mode" 0x1234 {set_reg {mscratch 0x1234}; regs mscratch}
+
+    # The words of the program, which stand in loop.s.
+    set words "0x500293 0x128293 0x317 0x6533c23 0x7833383 0x7e0e33 0xfedff06f"
+    riscv set_mem_access progbuf
+    check "program buffer reads words" $words {read_memory 0x80000000 32 7}
+    check "program buffer reads what was stored" 0x29 {read_memory 0x80000080 64 1}
+    riscv set_mem_access sysbus
+    check "system bus reads words" $words {read_memory 0x80000000 32 7}
+    check "system bus reads what was stored" 0x29 {read_memory 0x80000080 64 1}
+
+    # Each path writes in sizes of its own, and the other reads the bytes back, the lowest first.
+    check "system bus writes bytes" "0x4030201" {write_memory 0x80001000 8 {1 2 3 4}; riscv set_mem_access progbuf; read_memory 0x80001000 32 1}
+    check "program buffer writes doublewords" "0x55667788 0x11223344" {write_memory 0x80001000 64 0x1122334455667788; riscv set_mem_access sysbus; read_memory 0x80001000 32 2}
+    check "system bus writes halfwords" "0x66 0x77 0x55 0x44" {write_memory 0x80001002 16 {0x7766 0x4455}; riscv set_mem_access progbuf; read_memory 0x80001002 8 4}
+    check "program buffer writes words" "0xcafe 0xf00d" {write_memory 0x80001008 32 0xf00dcafe; riscv set_mem_access sysbus; read_memory 0x80001008 16 2}
+    set block {}
+    for {set i 0} {$i < 64} {incr i} { lappend block [format 0x%x [expr {$i * 0x1010101}]] }
+    check "blocks by both paths" $block "write_memory 0x80002000 32 {$block}; riscv set_mem_access progbuf; read_memory 0x80002000 32 64"
+    check "no memory is refused" "error: read_memory: failed to read memory" {read_memory 0x90000000 32 1}
+    check "reads go on behind it" 0x29 {read_memory 0x80000080 64 1}
+
+    # A breakpoint at the add behind the load: the hart runs from 0x80000008, stores t0 = 42 there, and stops before the add, with t3 still 1041.
+    # One turn of the loop later t0 is 43 and t3 is 1041 + 42 = 1083.
+    check "hardware breakpoint" "0x80000014 0x2a 0x2a 0x411" {bp 0x80000014 4 hw; go; regs pc t0 t2 t3}
+    check "hardware breakpoint again" "0x80000014 0x2b 0x2b 0x43b" {go; regs pc t0 t2 t3}
+    # dcsr.cause, bits 8 to 6, is 2 for a trigger.
+    check "cause of the breakpoint" 2 {expr {([regs dcsr] >> 6) & 7}}
+    check "step from a breakpoint" "0x80000018 0x466" {step; regs pc t3}
+    check "four breakpoints, and no fifth" "0x80000004 0x80000008 0x80000010 refused" {
+        bp 0x80000004 4 hw
+        bp 0x80000008 4 hw
+        bp 0x80000010 4 hw
+        go; set a [regs pc]; go; set b [regs pc]; go; set c [regs pc]
+        if {[catch {bp 0x80000018 4 hw}]} { set d refused } else { set d taken }
+        list $a $b $c $d
+    }
+    rbp all
+    take_free_slots
+
+    # A store watchpoint stops before the store: memory still holds t0 of the turn before, 44, and t0 is 45.
+    check "store watchpoint" "0x8000000c 0x2d 0x2c" {wp 0x80000080 8 w; go; list {*}[regs pc t0] {*}[read_memory 0x80000080 64 1]}
+    check "store watchpoint again" "0x8000000c 0x2e 0x2d" {go; list {*}[regs pc t0] {*}[read_memory 0x80000080 64 1]}
+    rwp 0x80000080
+    take_free_slots
+    # A load watchpoint on a part of the doubleword stops before the load, at 0x80000010, behind the store of t0 = 46. t2 still holds 45.
+    check "load watchpoint" "0x80000010 0x2e 0x2d" {wp 0x80000084 4 r; go; regs pc t0 t2}
+    rwp 0x80000084
+    take_free_slots
+    # An access watchpoint stops at both: behind the load where the hart stands comes the store of 47, and then its load.
+    check "access watchpoint" "0x8000000c 0x80000010 0x8000000c" {wp 0x80000080 8 a; go; set a [regs pc]; go; set b [regs pc]; go; list $a $b [regs pc]}
+    rwp 0x80000080
+    take_free_slots
+
+    # A breakpoint of software is a word ebreak in the place of the add; behind it the word is as before. It has cause 1.
+    check "software breakpoint" "0x80000014 1 0x100073" {bp 0x80000014 4; go; list [regs pc] [expr {([regs dcsr] >> 6) & 7}] {*}[read_memory 0x80000014 32 1]}
+    check "software breakpoint is taken back" 0x7e0e33 {rbp 0x80000014; read_memory 0x80000014 32 1}
+
+    check "runs and halts" 1 grows
+    # 3 is a halt request.
+    check "cause of the halt" 3 {expr {([regs dcsr] >> 6) & 7}}
+    # From the first word t0 is 5 and then 6.
+    check "resumes at an address" "0x80000008 0x6" {bp 0x80000008 4 hw; resume 0x80000000; wait_halt 5000; regs pc t0}
+    rbp 0x80000008
+    take_free_slots
+}
+
+# What only several harts can show: each is stopped, held and let go alone.
+proc drive_together {harts} {
+    foreach hart $harts { targets chip.cpu$hart; set_reg [list t0 [expr {$hart * 100 + 7}]]; set_reg {pc 0x80000004} }
+    targets chip.cpu0
+    check "each hart has its registers" "0x7 0x6b 0xcf 0x133" {
+        set all {}
+        foreach hart {0 1 2 3} { targets chip.cpu$hart; lappend all [regs t0] }
+        set all
+    }
+    # One instruction of hart 2 alone: its t0 is 208.
+    check "one steps and the others stand" "0x7 0x6b 0xd0 0x133" {
+        targets chip.cpu2
+        step
+        set all {}
+        foreach hart {0 1 2 3} { targets chip.cpu$hart; lappend all [regs t0] }
+        set all
+    }
+    check "one runs and the others stand" "running halted halted halted" {
+        targets chip.cpu0
+        resume
+        sleep 20
+        poll
+        list [chip.cpu0 curstate] [chip.cpu1 curstate] [chip.cpu2 curstate] [chip.cpu3 curstate]
+    }
+    # The slots of a hart are its own: hart 0 runs past the address of the breakpoint of hart 3, which stops there with t0 = 307 + 1.
+    check "a breakpoint is one hart's" "0x80000008 0x134 running" {
+        targets chip.cpu3
+        bp 0x80000008 4 hw
+        go
+        list {*}[regs pc t0] [chip.cpu0 curstate]
+    }
+    rbp 0x80000008
+    check "the running one halts" halted {
+        targets chip.cpu0
+        halt
+        wait_halt 5000
+        chip.cpu0 curstate
+    }
+}
+
+init
+for {set hart 0} {$hart < $HARTS} {incr hart} {
+    targets chip.cpu$hart
+    halt
+    wait_halt 5000
+    take_free_slots
+    drive $hart
+    # The next hart finds the program as it was.
+    write_memory 0x80000080 64 0
+}
+if {$HARTS == 4} { drive_together {0 1 2 3} }
+echo "driven with $failures failures"
+shutdown
