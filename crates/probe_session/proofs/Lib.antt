@@ -1,0 +1,14 @@
+pub mod LinkLemmas
+pub mod WentLemmas
+pub mod CallLemmas
+pub mod SeenLemmas
+pub mod HartLines
+pub mod OneLine
+pub mod RegisterLemmas
+pub mod Spoken
+pub mod MemoryLines
+pub mod Tolds
+pub mod ToldWrites
+pub mod LedSteps
+pub mod GoingLines
+pub mod Lines

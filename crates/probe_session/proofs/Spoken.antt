@@ -1,0 +1,145 @@
+-- Lines that are said and written, one behind another.
+use Rattle.std.proofs.Common.{◌≡◌, ◌≤◌, ◌∙◌, ◌++◌, ℕ, Bool, true, false, List, [], ◌∷◌, Option, Some, None, refl, sym, ap, subst, append_assoc, append-nil}
+use Rattle.std.specs.Prelude.{◌||◌}
+use Rattle.std.proofs.lemmas.List.Folds.{list_any-append}
+use Rattle.jt_base.specs.Faults.{Rises}
+use Rattle.jt_base.specs.Sink.{GrewByPrefix, grown}
+use Rattle.debugger_laws.specs.Lines.{Line, any_error, is_error, text_of, text_of_all}
+use Rattle.debugger_laws.specs.Plan.{Plan}
+use Rattle.debugger_laws.specs.Plan.Plan.{say}
+use Rattle.debugger_laws.specs.Ways.{Way}
+use Rattle.printed_lines.specs.declared.line.Line.{Line as PrintedLine}
+use Rattle.printed_lines.specs.declared.line.Line.TheVariants as printed
+use Rattle.printed_lines.specs.Line.{line_of}
+use Rattle.probe_run.specs.Acts.{Tells}
+use Rattle.probe_session.specs.declared.fault.Failure.{Failure}
+use Rattle.probe_session.specs.declared.fault.Failure.TheVariants as failure
+use Rattle.probe_session.specs.Goes.{Falls, Fell, Spoke, Went}
+use Rattle.probe_session.specs.Goes.Fell.{at_line, in_call}
+use Rattle.probe_session.specs.Places.{Place, place}
+use Rattle.probe_session.specs.Said.{said_by}
+use Rattle.probe_session.specs.Steps.Step.{says}
+use Rattle.probe_session.proofs.WentLemmas.{falls_then, falls_within, went_none, went_one, went_then, within}
+
+pub text_of_all-append : (xs ys : List Line) → text_of_all (xs ++ ys) ≡ text_of_all xs ++ text_of_all ys
+text_of_all-append [] ys = refl
+text_of_all-append (x ∷ xs) ys = ap (λ text. text_of x ++ text) (text_of_all-append xs ys) ∙ sym (append_assoc (text_of x) (text_of_all xs) (text_of_all ys))
+
+grown_none : (c : Option (List ℕ)) → c ≡ grown [] c
+grown_none None = refl
+grown_none (Some bytes) = ap (λ (x : List ℕ). Some x) (sym (append-nil bytes))
+
+grown_twice : (a b : List ℕ) (c : Option (List ℕ)) → grown b (grown a c) ≡ grown (a ++ b) c
+grown_twice a b None = refl
+grown_twice a b (Some bytes) = ap (λ (x : List ℕ). Some x) (append_assoc bytes a b)
+
+pub grown_lines : (xs ys : List Line) (c d e : Option (List ℕ)) → d ≡ grown (text_of_all xs) c → e ≡ grown (text_of_all ys) d → e ≡ grown (text_of_all (xs ++ ys)) c
+grown_lines xs ys c d e first second =
+    second ∙ ap (grown (text_of_all ys)) first ∙ grown_twice (text_of_all xs) (text_of_all ys) c ∙ ap (λ (text : List ℕ). grown text c) (sym (text_of_all-append xs ys))
+
+one_text : (line : Line) (c : Option (List ℕ)) → grown (text_of line) c ≡ grown (text_of_all (line ∷ [])) c
+one_text line c = ap (λ (text : List ℕ). grown text c) (sym (append-nil (text_of line)))
+
+-- ---- lines that were written
+
+pub spoke_none : {K : Type 0} {a : K → Place} {t : Tells} (c : Option (List ℕ)) → Spoke a a false t t c c
+spoke_none c = record { said = []; went = went_none; put = grown_none c; wrong_is = refl }
+
+pub spoke_went : {K : Type 0} {a b d : K → Place} {wrong : Bool} {t u v : Tells} {c e : Option (List ℕ)} → Spoke a b wrong t u c e → Went b d [] u v → Spoke a d wrong t v c e
+spoke_went {K} {a} {b} {d} {wrong} {t} {u} {v} {c} {e} s w = record {
+  said = s.said;
+  went = subst (λ l. Went a d l t v) (append-nil s.said) (went_then s.went w);
+  put = s.put;
+  wrong_is = s.wrong_is;
+}
+
+pub went_spoke : {K : Type 0} {a b d : K → Place} {wrong : Bool} {t u v : Tells} {c e : Option (List ℕ)} → Went a b [] t u → Spoke b d wrong u v c e → Spoke a d wrong t v c e
+went_spoke w s = record { said = s.said; went = went_then w s.went; put = s.put; wrong_is = s.wrong_is }
+
+pub spoke_then : {K : Type 0} {a b d : K → Place} {x y : Bool} {t u v : Tells} {c e f : Option (List ℕ)} → Spoke a b x t u c e → Spoke b d y u v e f → Spoke a d (x || y) t v c f
+spoke_then {K} {a} {b} {d} {x} {y} {t} {u} {v} {c} {e} {f} p q = record {
+  said = p.said ++ q.said;
+  went = went_then p.went q.went;
+  put = grown_lines p.said q.said c e f p.put q.put;
+  wrong_is = list_any-append is_error p.said q.said ∙ ap (λ (z : Bool). z || any_error q.said) p.wrong_is ∙ ap (λ (z : Bool). x || z) q.wrong_is;
+}
+
+or_false : (b : Bool) → (b || false) ≡ b
+or_false true = refl
+or_false false = refl
+
+-- a line that is said and written
+pub says_line : {K : Type 0} (way : Way) (h : ℕ) (line : Line) (p : K → Plan) {t : Tells} {c d : Option (List ℕ)} → d ≡ grown (text_of line) c → Spoke (λ k. place way h (say line (p k))) (λ k. place way h (p k)) (is_error line) t t c d
+says_line way h line p {t} {c} {d} put = record {
+  said = line ∷ [];
+  went = went_one (λ k. says);
+  put = put ∙ one_text line c;
+  wrong_is = or_false (is_error line);
+}
+
+pub spoke_says : {K : Type 0} {a : K → Place} (way : Way) (h : ℕ) (line : Line) (p : K → Plan) {wrong : Bool} {t u : Tells} {c d e : Option (List ℕ)} → Spoke a (λ k. place way h (say line (p k))) wrong t u c d → e ≡ grown (text_of line) d
+    → Spoke a (λ k. place way h (p k)) (wrong || is_error line) t u c e
+spoke_says way h line p s put = spoke_then s (says_line way h line p put)
+
+pub spoke_within : {K L : Type 0} {a b : L → Place} {wrong : Bool} {t u : Tells} {c d : Option (List ℕ)} (f : K → L) → Spoke a b wrong t u c d → Spoke (λ k. a (f k)) (λ k. b (f k)) wrong t u c d
+spoke_within f s = record { said = s.said; went = within f s.went; put = s.put; wrong_is = s.wrong_is }
+
+-- ---- and what fell
+
+falls_said : {K : Type 0} {a : K → Place} {xs ys : List Line} {old_count new_count : ℕ} {t u : Tells} {f : Failure} → xs ≡ ys → Falls a xs old_count new_count t u f → Falls a ys old_count new_count t u f
+falls_said {K} {a} {xs} {ys} {old_count} {new_count} {t} {u} {f} is p = subst (λ l. Falls a l old_count new_count t u f) is p
+
+-- a call failed behind lines that were written
+pub fell_call : {K : Type 0} {a b : K → Place} {wrong : Bool} {old_count count new_count : ℕ} {t u v : Tells} (sink_old sink_new : ℕ) {c d : Option (List ℕ)} {f : Failure} → Spoke a b wrong t u c d → old_count ≤ count
+    → Falls b [] count new_count u v f → Fell a old_count new_count t v sink_old sink_new c d f
+fell_call sink_old sink_new s le p = in_call s.said (falls_said (append-nil s.said) (falls_then s.went le p)) s.put
+
+front_at : (line : Line) (c d e : Option (List ℕ)) → d ≡ c → GrewByPrefix (text_of line) d e → GrewByPrefix (text_of line) c e
+front_at line c d e is g = subst (λ x. GrewByPrefix (text_of line) x e) is g
+
+-- a line could not be written, behind others
+pub fell_line : {K : Type 0} {a : K → Place} (way : Way) (h : ℕ) (line : Line) (p : K → Plan) {wrong : Bool} (old_count new_count : ℕ) {t u : Tells} {sink_old sink_new : ℕ} {c d e : Option (List ℕ)} {f : Failure} → f ≡ failure.Sink
+    → Spoke a (λ k. place way h (say line (p k))) wrong t u c d → GrewByPrefix (text_of line) d e → Rises sink_old sink_new → Fell a old_count new_count t u sink_old sink_new c e f
+fell_line {K} {a} way h line p old_count new_count {t} {u} {sink_old} {sink_new} {c} {d} {e} {f} is s front rises =
+    subst (λ (x : Failure). Fell a old_count new_count t u sink_old sink_new c e x) (sym is)
+    (at_line s.said line way h p s.went (front_at line (grown (text_of_all s.said) c) d e s.put front) rises)
+
+pub fell_within : {K L : Type 0} {a : L → Place} {old_count new_count : ℕ} {t u : Tells} {sink_old sink_new : ℕ} {c d : Option (List ℕ)} {f : Failure} (g : K → L) → Fell a old_count new_count t u sink_old sink_new c d f
+    → Fell (λ k. a (g k)) old_count new_count t u sink_old sink_new c d f
+fell_within g (in_call said p put) = in_call said (falls_within g p) put
+fell_within g (at_line said line way h p w front rises) = at_line said line way h (λ k. p (g k)) (within g w) front rises
+
+-- ---- one line
+
+pub fell_first : {K : Type 0} {a : K → Place} {old_count new_count : ℕ} {t u : Tells} (sink_old sink_new : ℕ) (c : Option (List ℕ)) {f : Failure} → Falls a [] old_count new_count t u f → Fell a old_count new_count t u sink_old sink_new c c f
+fell_first sink_old sink_new c p = in_call [] p (grown_none c)
+
+pub spoke_first : {K : Type 0} {a b : K → Place} {t u : Tells} (c : Option (List ℕ)) → Went a b [] t u → Spoke a b false t u c c
+spoke_first c w = spoke_went (spoke_none c) w
+
+-- an error line is one however it is kept
+same_error : (l : PrintedLine) → is_error (line_of l) ≡ is_error (said_by l)
+same_error (printed.Idcode n) = refl
+same_error (printed.Selected h) = refl
+same_error (printed.Halted pc cause hits) = refl
+same_error printed.Running = refl
+same_error printed.Resumed = refl
+same_error (printed.Register n v) = refl
+same_error (printed.Element a size v) = refl
+same_error (printed.Wrote n) = refl
+same_error (printed.Row a bytes) = refl
+same_error (printed.Via path) = refl
+same_error (printed.Ebreak on) = refl
+same_error (printed.Slot n used hit) = refl
+same_error (printed.NoHart h) = refl
+same_error (printed.IsRunning h) = refl
+same_error (printed.MemoryFault a) = refl
+same_error (printed.RegisterRefused n) = refl
+same_error printed.NoFreeSlot = refl
+same_error (printed.SlotNotInUse n) = refl
+
+-- a command of one line, which is said and written
+pub one_line : {K : Type 0} {a : K → Place} (way : Way) (h : ℕ) (l : PrintedLine) (p : K → Plan) (wrong : Bool) {t u : Tells} {c d : Option (List ℕ)} → wrong ≡ is_error (line_of l) → Went a (λ k. place way h (say (said_by l) (p k))) [] t u
+    → d ≡ grown (text_of (said_by l)) c → Spoke a (λ k. place way h (p k)) wrong t u c d
+one_line {K} {a} way h l p wrong {t} {u} {c} {d} is w put =
+    subst (λ b. Spoke a (λ k. place way h (p k)) b t u c d) (sym (is ∙ same_error l)) (spoke_says way h (said_by l) p (spoke_first c w) put)

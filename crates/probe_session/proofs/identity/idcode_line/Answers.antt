@@ -1,0 +1,23 @@
+use Rattle.std.proofs.Common.{refl}
+use Rattle.probe_session.specs.Failures.{failure_of_dmi}
+use Rattle.probe_session.proofs.LinkLemmas.{if_err}
+use Rattle.probe_session.proofs.Lines.{idcode_falls, identified, ready_on}
+use Rattle.probe_session.proofs.identity.idcode_line.Goals as goal
+
+pub returns-in_err-number-clause-falls : goal.returns-in_err-number-clause-falls
+returns-in_err-number-clause-falls g c =
+    if_err _ (failure_of_dmi c.in_err-number.field-0.0) _ c.from_residual.ensures.1
+    (idcode_falls (record { why = c.in_err-number.field-0.0; cause = c.in_err-number.ensures.cause; told = c.in_err-number.ensures.cut; ready = c.requires.serving.ready; is = refl }))
+
+pub returns-clause-went : goal.returns-clause-went
+returns-clause-went g c =
+    identified c.in_ok-number.number (record { heard = c.in_ok-number.ensures.shows; number_is = c.in_ok-number.ensures.value; told = c.in_ok-number.ensures.path; ready = c.requires.serving.ready })
+
+pub returns-clause-serving : goal.returns-clause-serving
+returns-clause-serving g c = record {
+  alive_is = c.in_ok-number.ensures.alive;
+  link = c.in_ok-number.ensures.link;
+  live = c.in_ok-number.ensures.live;
+  idle = c.in_ok-number.ensures.idle;
+  ready = ready_on _ _ c.requires.serving.ready c.in_ok-number.ensures.path;
+}

@@ -1,0 +1,15 @@
+use Rattle.probe_session.specs.Calls.{StoreFell}
+use Rattle.probe_session.proofs.CallLemmas.{bus_stored_none}
+use Rattle.probe_session.proofs.LinkLemmas.{access_left}
+use Rattle.probe_session.proofs.memory.bus_keep.Goals as goal
+
+pub returns-in-Err-Memory-clause-stored : goal.returns-in-Err-Memory-clause-stored
+returns-in-Err-Memory-clause-stored g c = bus_stored_none c.args.size c.args.address c.args.value _ _ _ _ _ c.in-Err-Memory.field-0 c.in-Err-Memory.field-0-is c.in-Err-Memory.ensures.left c.in-Err-Memory.ensures.failed
+
+pub returns-in-Err-clause-fell : goal.returns-in-Err-clause-fell
+returns-in-Err-clause-fell g c =
+    StoreFell.by_bus c.in-Err.fault c.requires.serving.ready
+    c.in-Err.ensures.failed c.in-Err.ensures.left c.lost_by.ensures
+
+pub returns-in-Err-clause-left : goal.returns-in-Err-clause-left
+returns-in-Err-clause-left g c = access_left _ _ c.in-Err.fault _ c.in-Err.ensures.state c.lost_by.ensures

@@ -1,0 +1,15 @@
+use Rattle.probe_session.specs.Commands.{state_of}
+use Rattle.probe_session.proofs.MemoryLines.{reached_at, reached_bus, reached_says}
+use Rattle.probe_session.proofs.OneLine.{met_as}
+use Rattle.probe_session.proofs.session.Session.reach.Goals as goal
+
+pub returns-in-Bus-clause-reached : goal.returns-in-Bus-clause-reached
+returns-in-Bus-clause-reached g c = reached_bus (state_of c.args.self.now) _ c.in-Bus.is
+
+pub returns-in-Says-clause-reached : goal.returns-in-Says-clause-reached
+returns-in-Says-clause-reached g c = reached_says (state_of c.args.self.now) _ c.in-Progbuf.is (met_as _ _ _ c.in-Says.is c.in_ok-line-in-Progbuf.ensures.met)
+
+pub returns-in-At-clause-reached : goal.returns-in-At-clause-reached
+returns-in-At-clause-reached g c =
+    let m = met_as _ _ _ c.in-At.is c.in_ok-line-in-Progbuf.ensures.met in
+    reached_at (state_of c.args.self.now) c.in-At.halted c.in-Progbuf.is m.0 m.1

@@ -1,0 +1,40 @@
+-- What a session's answer to a command says: the way that it went along the abstract debugger's plan, and what it has written.
+-- It is this project's own.
+use Rattle.std.specs.Prelude.{◌≡◌, ℕ, Bool, true, false, List, Option}
+use Rattle.debug_model.specs.Dmi.{CanQuit}
+use Rattle.debug_model.specs.Told.{Far}
+use Rattle.debug_model.specs.declared.command.Command.{Command}
+use Rattle.debug_model.specs.declared.command.Command.TheVariants as command
+use Rattle.debugger_laws.specs.Debugger.{State}
+use Rattle.probe_run.specs.Acts.{Tells}
+use Rattle.probe_session.specs.declared.acted.Acted.{Acted}
+use Rattle.probe_session.specs.declared.acted.Acted.TheVariants as acted
+use Rattle.probe_session.specs.declared.fault.Failure.TheVariants as failure
+use Rattle.probe_session.specs.Commands.{before, behind, is_one_line}
+use Rattle.probe_session.specs.Goes.{Fell, Spoke}
+use Rattle.probe_session.specs.Links.{Serving}
+
+-- nothing was done
+pub record Untouched (s t : State) (old new : Tells) (was is : Option (List ℕ)) : Type 0 where
+  pub state : t ≡ s
+  pub link : new ≡ old
+  pub written : is ≡ was
+
+abbrev pub ActedAs : Command → (s t : State) → (old_count new_count : ℕ) → (old new : Tells) → (sink_old sink_new : ℕ) → (was is : Option (List ℕ)) → Acted → Type 0
+ActedAs c s t old_count new_count old new sink_old sink_new was is acted.Done = Spoke (before c s) (behind t) false old new was is
+ActedAs c s t old_count new_count old new sink_old sink_new was is acted.Error = Spoke (before c s) (behind t) true old new was is
+ActedAs c s t old_count new_count old new sink_old sink_new was is acted.End = (c ≡ command.End) × Untouched s t old new was is
+ActedAs c s t old_count new_count old new sink_old sink_new was is (acted.Wire why) = Fell (before c s) old_count new_count old new sink_old sink_new was is (failure.Wire why)
+ActedAs c s t old_count new_count old new sink_old sink_new was is (acted.Lost why) = Fell (before c s) old_count new_count old new sink_old sink_new was is (failure.Lost why)
+ActedAs c s t old_count new_count old new sink_old sink_new was is acted.Sink = Fell (before c s) old_count new_count old new sink_old sink_new was is failure.Sink
+ActedAs c s t old_count new_count old new sink_old sink_new was is acted.NotBuilt = (is_one_line c ≡ false) × Untouched s t old new was is
+
+-- the session goes on; or the stream can be ended, but behind a fault of the wire
+abbrev pub ServingAfter : Option Far → Bool → Acted → Type 0
+ServingAfter far alive acted.Done = Serving far alive
+ServingAfter far alive acted.Error = Serving far alive
+ServingAfter far alive acted.End = Serving far alive
+ServingAfter far alive (acted.Wire why) = Unit {0}
+ServingAfter far alive (acted.Lost why) = CanQuit far
+ServingAfter far alive acted.Sink = CanQuit far
+ServingAfter far alive acted.NotBuilt = Serving far alive

@@ -1,0 +1,237 @@
+-- One call of the layers below that a session made: what was heard of the link, and what happened at a chip that is told.
+-- It is this project's own.
+use Rattle.std.specs.Prelude.{◌≡◌, ℕ, true, false, IfSome, List, Some, None, is_some}
+use Rattle.rv_model.specs.declared.size.Size.{Size}
+use Rattle.rv_model.specs.Core.{Core}
+use Rattle.rv_model.specs.Registers.{reg_value}
+use Rattle.debug_model.specs.declared.dmi.DmiFault.{DmiFault}
+use Rattle.debug_model.specs.Dmi.{NoneOperated, ScannedCause, Shows}
+use Rattle.debug_model.specs.Scan.{WhereTold}
+use Rattle.debug_model.specs.Tap.{idcode}
+use Rattle.debug_model.specs.Told.{IsReady}
+use Rattle.probe_access.specs.declared.fault.AccessFault.{AccessFault}
+use Rattle.probe_access.specs.declared.fault.AccessFault.TheVariants as fault
+use Rattle.probe_access.specs.Accesses.{AccessLeft, BusLoadRefused, BusLoadedAt, BusStoreRefused, BusStoredAt, LoadRefused, LoadedAt, StoreRefused, StoredAt}
+use Rattle.probe_access.specs.BusRuns.{BusLoadFailed, BusLoaded, BusStoreFailed, BusStored}
+use Rattle.probe_access.specs.MemoryRuns.{Around, AroundFailed, LoadFailedInside, LoadedAny, LoadedInside, StoreFailedInside, StoredInside}
+use Rattle.probe_access.specs.RegisterRuns.{BehindWords, ReadFailed, RefusedAs, RegisterRead, RegisterWritten, WriteFailed}
+use Rattle.probe_access.specs.Registers.{DeniedRegister, GotRegister, RegisterLeft, SetRegister}
+use Rattle.probe_access.specs.Scratches.{ScratchLeft}
+use Rattle.probe_access.specs.Stops.{StopFailed, StopRead, StoppedAt}
+use Rattle.probe_access.specs.Words.{transfer_word}
+use Rattle.probe_run.specs.declared.fault.RunFault.{RunFault}
+use Rattle.probe_run.specs.declared.hart.Seen.{Seen}
+use Rattle.probe_run.specs.Acts.{Tells}
+use Rattle.probe_run.specs.Happens.{HaltLeft, HaltsAt, Leaves, LookLeft, ResumeLeft, ResumesAt, SeesAt}
+use Rattle.probe_run.specs.Outcomes.{HaltFails, HaltedBy, LookFails, LookedAt, ResumeFails, ResumedBy}
+use Rattle.probe_trig.specs.declared.change.Change.TheVariants.{Forget}
+use Rattle.probe_trig.specs.declared.slot_use.SlotUse.{SlotUse}
+use Rattle.probe_trig.specs.declared.slot_use.SlotView.{SlotView}
+use Rattle.probe_trig.specs.Runs.{Arms, ChangesAny, Frees}
+use Rattle.probe_trig.specs.Slots.{ArmedAt, AtHarts, ForgotAt, FreedAt, FullAt, SawAll, UnusedAt, ViewedAt}
+use Rattle.probe_trig.specs.Stepping.{OverAt, OverFailed, OverLeft, SteppedOverAny}
+use Rattle.probe_trig.specs.Transfers.{Did, FailedIn, Transfer}
+use Rattle.rv_model.specs.Board.{Hart}
+use Rattle.rv_model.specs.DebugRegisters.{debug_value}
+use Rattle.probe_session.specs.declared.fault.Failure.{Failure}
+use Rattle.probe_session.specs.Failures.{Became, failure_of_dmi, failure_of_run}
+use Rattle.probe_session.specs.Links.{AtHart}
+
+-- ---- calls that were Ok
+
+pub record Identified (number : ℕ) (old new : Tells) : Type 0 where
+  pub heard : Shows number old.script new.script
+  pub number_is : IfSome old.far (λ _. number ≡ idcode)
+  pub told : WhereTold NoneOperated old.far new.far
+  pub ready : IsReady old.far
+
+pub record Saw (h : ℕ) (old new : Tells) (seen : Seen) : Type 0 where
+  pub heard : LookedAt h old new seen
+  pub told : WhereTold (Leaves (SeesAt h seen) h) old.far new.far
+
+pub record HaltMade (h : ℕ) (old new : Tells) : Type 0 where
+  pub heard : HaltedBy h old new
+  pub told : WhereTold (Leaves (HaltsAt h) h) old.far new.far
+
+pub record Got (h number value : ℕ) (old new : Tells) : Type 0 where
+  pub heard : RegisterRead number value old new
+  pub told : WhereTold (GotRegister h number value) old.far new.far
+
+-- the chip refused to read it
+pub record GotNone (h number : ℕ) (old new : Tells) : Type 0 where
+  pub heard : RefusedAs number number (transfer_word false number) old new
+  pub told : WhereTold (DeniedRegister false h number) old.far new.far
+
+pub record Gave (h number value : ℕ) (old new : Tells) : Type 0 where
+  pub heard : RegisterWritten number value old new
+  pub told : WhereTold (SetRegister h number value) old.far new.far
+
+-- the chip refused to write it
+pub record GaveNone (h number value : ℕ) (old new : Tells) : Type 0 where
+  pub heard : BehindWords value old (λ mid. RefusedAs number number (transfer_word true number) mid new)
+  pub told : WhereTold (DeniedRegister true h number) old.far new.far
+
+pub record FoundStop (h pc cause : ℕ) (old new : Tells) : Type 0 where
+  pub heard : StopRead pc cause old new
+  pub told : WhereTold (StoppedAt h pc cause) old.far new.far
+
+-- memory was read, by the halted hart or by the bus
+pub data Loaded (size : Size) (address value : ℕ) (old new : Tells) : Type 0 where
+  by_hart : Around (LoadedInside size address value) old new → WhereTold (LoadedAt size address value) old.far new.far → Loaded size address value old new
+  by_bus : BusLoaded size address value old new → WhereTold (BusLoadedAt size address value) old.far new.far → Loaded size address value old new
+
+-- the chip refused the access
+pub data LoadedNone (size : Size) (address : ℕ) (old new : Tells) : Type 0 where
+  by_hart : (old_count new_count : ℕ) → AroundFailed (LoadedAny size address) (LoadFailedInside size address) old_count new_count old new (fault.Memory address)
+      → WhereTold (LoadRefused size address) old.far new.far → LoadedNone size address old new
+  by_bus : (old_count new_count : ℕ) → BusLoadFailed size address old_count new_count old new (fault.Memory address) → WhereTold (BusLoadRefused size address) old.far new.far
+      → LoadedNone size address old new
+
+-- memory was written
+pub data Stored (size : Size) (address value : ℕ) (old new : Tells) : Type 0 where
+  by_hart : Around (StoredInside size address value) old new → WhereTold (StoredAt size address value) old.far new.far → Stored size address value old new
+  by_bus : BusStored size address value old new → WhereTold (BusStoredAt size address value) old.far new.far → Stored size address value old new
+
+pub data StoredNone (size : Size) (address value : ℕ) (old new : Tells) : Type 0 where
+  by_hart : (old_count new_count : ℕ) → AroundFailed (StoredInside size address value) (StoreFailedInside size address value) old_count new_count old new (fault.Memory address)
+      → WhereTold (StoreRefused size address) old.far new.far → StoredNone size address value old new
+  by_bus : (old_count new_count : ℕ) → BusStoreFailed size address value old_count new_count old new (fault.Memory address) → WhereTold (BusStoreRefused size address) old.far new.far
+      → StoredNone size address value old new
+
+-- the hart was let go
+pub record ResumeMade (h : ℕ) (old new : Tells) : Type 0 where
+  pub heard : ResumedBy h old new
+  pub told : WhereTold (Leaves (ResumesAt h) h) old.far new.far
+
+-- it did one instruction with its slots off that have a hit
+pub record OverMade (h : ℕ) (old new : Tells) : Type 0 where
+  pub heard : SteppedOverAny h old new
+  pub told : WhereTold (AtHarts (OverAt h)) old.far new.far
+
+-- the slots were seen
+pub record Viewed (h : ℕ) (view : SlotView) (old new : Tells) : Type 0 where
+  pub heard : SawAll view h old new
+  pub told : WhereTold (AtHarts (ViewedAt view h)) old.far new.far
+
+-- the lowest free slot was armed, and was this one
+pub record SlotTaken (h : ℕ) (meant : SlotUse) (slot : ℕ) (old new : Tells) : Type 0 where
+  pub heard : Did (Arms meant (Some slot)) h old new
+  pub told : WhereTold (AtHarts (ArmedAt meant slot h)) old.far new.far
+
+-- no slot is free
+pub record NoneFree (h : ℕ) (meant : SlotUse) (old new : Tells) : Type 0 where
+  pub heard : Did (Arms meant None) h old new
+  pub told : WhereTold (AtHarts (FullAt h)) old.far new.far
+
+pub record SlotFreed (h slot : ℕ) (old new : Tells) : Type 0 where
+  pub heard : Did (Frees slot false) h old new
+  pub told : WhereTold (AtHarts (FreedAt slot h)) old.far new.far
+
+-- the slot is free
+pub record NotUsed (h slot : ℕ) (old new : Tells) : Type 0 where
+  pub heard : Did (Frees slot true) h old new
+  pub told : WhereTold (AtHarts (UnusedAt slot h)) old.far new.far
+
+pub record HitsForgotten (h : ℕ) (old new : Tells) : Type 0 where
+  pub heard : Did (ChangesAny Forget) h old new
+  pub told : WhereTold (AtHarts (ForgotAt h)) old.far new.far
+
+-- a register that each hart has
+abbrev pub IsOfHarts : ℕ → Type 0
+IsOfHarts number = (x : Hart) → is_some (debug_value x number) ≡ true
+
+-- a register that each core has
+abbrev pub IsOfCores : ℕ → Type 0
+IsOfCores number = (c : Core) → is_some (reg_value c number) ≡ true
+
+-- ---- calls that failed, by the counts of faults before and behind, and the failure that it made
+
+pub record IdcodeFell (old_count new_count : ℕ) (old new : Tells) (f : Failure) : Type 0 where
+  pub why : DmiFault
+  pub cause : ScannedCause old_count new_count new.far old.script why
+  pub told : WhereTold NoneOperated old.far new.far
+  pub ready : IsReady old.far
+  pub is : f ≡ failure_of_dmi why
+
+pub record LookFell (h old_count new_count : ℕ) (old new : Tells) (f : Failure) : Type 0 where
+  pub why : RunFault
+  pub heard : LookFails h old_count new_count old new why
+  pub told : LookLeft h old.far new.far why
+  pub is : f ≡ failure_of_run why
+
+pub record HaltFell (h old_count new_count : ℕ) (old new : Tells) (f : Failure) : Type 0 where
+  pub why : RunFault
+  pub heard : HaltFails h old_count new_count old new why
+  pub told : HaltLeft h old.far new.far why
+  pub is : f ≡ failure_of_run why
+
+pub record ReadFell (h number old_count new_count : ℕ) (old new : Tells) (f : Failure) : Type 0 where
+  pub why : AccessFault
+  pub at : AtHart h old.far
+  pub heard : ReadFailed number old_count new_count old new why
+  pub told : RegisterLeft false h number old.far new.far why
+  pub is : Became why f
+
+pub record WriteFell (h number value old_count new_count : ℕ) (old new : Tells) (f : Failure) : Type 0 where
+  pub why : AccessFault
+  pub at : AtHart h old.far
+  pub heard : WriteFailed number value old_count new_count old new why
+  pub told : RegisterLeft true h number old.far new.far why
+  pub is : Became why f
+
+-- one that could have been refused, and failed otherwise
+abbrev pub IsNotRegister : AccessFault → Type 0
+IsNotRegister (fault.Dmi why) = Unit {0}
+IsNotRegister (fault.Memory address) = Unit {0}
+IsNotRegister (fault.Register number) = ⊥
+IsNotRegister fault.StillBusy = Unit {0}
+IsNotRegister (fault.Run why) = Unit {0}
+IsNotRegister (fault.Odd word) = Unit {0}
+
+pub record AskFell (h number old_count new_count : ℕ) (old new : Tells) (f : Failure) : Type 0 where
+  pub fell : ReadFell h number old_count new_count old new f
+  pub other : IsNotRegister fell.why
+
+pub record GiveFell (h number value old_count new_count : ℕ) (old new : Tells) (f : Failure) : Type 0 where
+  pub fell : WriteFell h number value old_count new_count old new f
+  pub other : IsNotRegister fell.why
+
+-- in the course of a call on a hart's slots
+pub record SlotsFell (Whole : List Transfer → Type 0) (h old_count new_count : ℕ) (old new : Tells) (f : Failure) : Type 0 where
+  pub why : AccessFault
+  pub at : AtHart h old.far
+  pub heard : FailedIn Whole h old_count new_count old new why
+  pub told : ScratchLeft old.far why
+  pub is : Became why f
+
+pub record StopFell (h old_count new_count : ℕ) (old new : Tells) (f : Failure) : Type 0 where
+  pub why : AccessFault
+  pub at : AtHart h old.far
+  pub heard : StopFailed old_count new_count old new why
+  pub told : ScratchLeft old.far why
+  pub is : Became why f
+
+pub data LoadFell (size : Size) (address old_count new_count : ℕ) (old new : Tells) (f : Failure) : Type 0 where
+  by_hart : (h : ℕ) (why : AccessFault) → AtHart h old.far → AroundFailed (LoadedAny size address) (LoadFailedInside size address) old_count new_count old new why
+      → AccessLeft (LoadRefused size address) address old.far new.far why → Became why f → LoadFell size address old_count new_count old new f
+  by_bus : (why : AccessFault) → IsReady old.far → BusLoadFailed size address old_count new_count old new why
+      → AccessLeft (BusLoadRefused size address) address old.far new.far why → Became why f → LoadFell size address old_count new_count old new f
+
+pub data StoreFell (size : Size) (address value old_count new_count : ℕ) (old new : Tells) (f : Failure) : Type 0 where
+  by_hart : (h : ℕ) (why : AccessFault) → AtHart h old.far → AroundFailed (StoredInside size address value) (StoreFailedInside size address value) old_count new_count old new why
+      → AccessLeft (StoreRefused size address) address old.far new.far why → Became why f → StoreFell size address value old_count new_count old new f
+  by_bus : (why : AccessFault) → IsReady old.far → BusStoreFailed size address value old_count new_count old new why
+      → AccessLeft (BusStoreRefused size address) address old.far new.far why → Became why f → StoreFell size address value old_count new_count old new f
+
+pub record ResumeFell (h old_count new_count : ℕ) (old new : Tells) (f : Failure) : Type 0 where
+  pub why : RunFault
+  pub heard : ResumeFails h old_count new_count old new why
+  pub told : ResumeLeft h old.far new.far why
+  pub is : f ≡ failure_of_run why
+
+pub record OverFell (h old_count new_count : ℕ) (old new : Tells) (f : Failure) : Type 0 where
+  pub why : AccessFault
+  pub at : AtHart h old.far
+  pub heard : OverFailed h old_count new_count old new why
+  pub told : OverLeft h old.far new.far why
+  pub is : Became why f

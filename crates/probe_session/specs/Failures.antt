@@ -1,0 +1,39 @@
+-- What a fault of a layer below makes of a session.
+-- It is this project's own.
+use Rattle.std.specs.Prelude.{◌≡◌}
+use Rattle.debug_model.specs.declared.dmi.DmiFault.{DmiFault}
+use Rattle.debug_model.specs.declared.dmi.DmiFault.TheVariants as dmi_fault
+use Rattle.probe_access.specs.declared.fault.AccessFault.{AccessFault}
+use Rattle.probe_access.specs.declared.fault.AccessFault.TheVariants as access_fault
+use Rattle.probe_run.specs.declared.fault.RunFault.{RunFault}
+use Rattle.probe_run.specs.declared.fault.RunFault.TheVariants as run_fault
+use Rattle.probe_session.specs.declared.fault.Failure.{Failure}
+use Rattle.probe_session.specs.declared.fault.Failure.TheVariants as failure
+use Rattle.probe_session.specs.declared.fault.LostCause.TheVariants as lost
+
+abbrev pub failure_of_dmi : DmiFault → Failure
+failure_of_dmi (dmi_fault.Wire why) = failure.Wire why
+failure_of_dmi dmi_fault.Failed = failure.Lost lost.DmiFailed
+failure_of_dmi dmi_fault.StillBusy = failure.Lost lost.StillBusy
+
+abbrev pub failure_of_run : RunFault → Failure
+failure_of_run (run_fault.Dmi why) = failure_of_dmi why
+failure_of_run (run_fault.NoHalt looks) = failure.Lost (lost.NoHalt looks)
+failure_of_run (run_fault.NoAck looks) = failure.Lost (lost.NoAck looks)
+
+-- memory is what a command asks about: its fault ends no session
+abbrev pub IsNotMemory : AccessFault → Type 0
+IsNotMemory (access_fault.Dmi why) = Unit {0}
+IsNotMemory (access_fault.Memory address) = ⊥
+IsNotMemory (access_fault.Register number) = Unit {0}
+IsNotMemory access_fault.StillBusy = Unit {0}
+IsNotMemory (access_fault.Run why) = Unit {0}
+IsNotMemory (access_fault.Odd word) = Unit {0}
+
+abbrev pub Became : AccessFault → Failure → Type 0
+Became (access_fault.Dmi why) f = f ≡ failure_of_dmi why
+Became (access_fault.Memory address) f = ⊥
+Became (access_fault.Register number) f = f ≡ failure.Lost (lost.Odd number)
+Became access_fault.StillBusy f = f ≡ failure.Lost lost.StillBusy
+Became (access_fault.Run why) f = f ≡ failure_of_run why
+Became (access_fault.Odd word) f = f ≡ failure.Lost (lost.Odd word)

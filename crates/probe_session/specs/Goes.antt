@@ -1,0 +1,104 @@
+-- How a session went: steps from one place of the plan to another, and where it broke off.
+-- It is this project's own.
+use Rattle.std.specs.Prelude.{◌≡◌, ◌≤◌, ◌++◌, ℕ, suc, Bool, false, List, [], Option}
+use Rattle.jt_base.specs.Faults.{Rises}
+use Rattle.jt_base.specs.Sink.{GrewByPrefix, grown}
+use Rattle.rv_model.specs.declared.size.Size.{Size}
+use Rattle.rv_model.specs.Board.{Board}
+use Rattle.debug_model.specs.declared.point.Point.TheVariants.{Access}
+use Rattle.debugger_laws.specs.Debugger.{Seen, going, halting, look, one, sees_halted, unseen, until}
+use Rattle.debugger_laws.specs.Lines.{Line, any_error, text_of, text_of_all}
+use Rattle.debugger_laws.specs.Plan.{Plan}
+use Rattle.debugger_laws.specs.Plan.Plan.{say, see, take}
+use Rattle.debugger_laws.specs.Ways.{Way}
+use Rattle.probe_run.specs.Acts.{Tells}
+use Rattle.probe_trig.specs.declared.change.Change.TheVariants.{Forget}
+use Rattle.probe_trig.specs.declared.slot_use.SlotUse.{SlotUse}
+use Rattle.probe_trig.specs.Runs.{ArmsAny, ChangesAny, FreesAny, ReadsAny}
+use Rattle.rv_model.specs.DebugRegisters.{debug_refuses}
+use Rattle.probe_session.specs.declared.fault.Failure.{Failure}
+use Rattle.probe_session.specs.declared.fault.Failure.TheVariants as failure
+use Rattle.probe_session.specs.Calls.{AskFell, FoundStop, Gave, GiveFell, Got, HaltFell, IdcodeFell, IsOfHarts, LoadFell, LookFell, OverFell, ReadFell, ResumeFell, SlotsFell, StopFell, StoreFell, WriteFell}
+use Rattle.probe_session.specs.Places.{Place, idle, place, ready, still}
+use Rattle.probe_session.specs.Steps.{Step}
+
+-- from one place to another, with these lines said on the way
+pub data Goes (from : Place) (old : Tells) : List Line → Place → Tells → Type 0 where
+  start : Goes from old [] from old
+  step : {said more : List Line} {mid to : Place} {between new : Tells} → Goes from old said mid between → Step mid between more to new → Goes from old (said ++ more) to new
+
+-- the same, whatever follows in the plan
+pub record Went {K : Type 0} (before after : K → Place) (said : List Line) (old new : Tells) : Type 0 where
+  pub goes : (next : K) → Goes (before next) old said (after next) new
+
+-- ---- where a session broke off
+
+-- a call that reads or writes a register of the halted hart, which the plan does not see by itself
+pub data Passing (h : ℕ) (old new : Tells) : Type 0 where
+  got : {number value : ℕ} → Got h number value old new → Passing h old new
+  gave : {number value : ℕ} → Gave h number value old new → Passing h old new
+  found : {pc cause : ℕ} → FoundStop h pc cause old new → Passing h old new
+
+-- the call that this place asks for failed; a register may be read or written at any place of a halted hart, and the IDCODE at any place
+pub data Fault : Place → ℕ → ℕ → Tells → Tells → Failure → Type 0 where
+  idcode : {p : Place} {old_count new_count : ℕ} {old new : Tells} {f : Failure} → IdcodeFell old_count new_count old new f → Fault p old_count new_count old new f
+  looking : {h old_count new_count : ℕ} (next : Seen → Plan) {old new : Tells} {f : Failure} → LookFell h old_count new_count old new f
+      → Fault (idle (look h next)) old_count new_count old new f
+  waiting : {h old_count new_count : ℕ} (n : ℕ) (failed found : Plan) {old new : Tells} {f : Failure} → LookFell h old_count new_count old new f
+      → Fault (idle (until (suc n) h sees_halted (λ _. failed) found unseen)) old_count new_count old new f
+  halt : {h old_count new_count : ℕ} (next : Plan) {old new : Tells} {f : Failure} → HaltFell h old_count new_count old new f
+      → Fault (idle (halting h next)) old_count new_count old new f
+  resuming : {h old_count new_count : ℕ} (next : Plan) {old new : Tells} {f : Failure} → ResumeFell h old_count new_count old new f
+      → Fault (ready h (going h next)) old_count new_count old new f
+  stepping_over : {h old_count new_count : ℕ} (stepped other : Plan) {old new : Tells} {f : Failure} → OverFell h old_count new_count old new f
+      → Fault (still h (one h stepped other)) old_count new_count old new f
+  asking : {h number old_count new_count : ℕ} {p : Plan} {old new : Tells} {f : Failure} → AskFell h number old_count new_count old new f
+      → Fault (still h p) old_count new_count old new f
+  reading : {h number old_count new_count : ℕ} {p : Plan} {old new : Tells} {f : Failure} → ReadFell h number old_count new_count old new f → IsOfHarts number
+      → Fault (still h p) old_count new_count old new f
+  giving : {h number value old_count new_count : ℕ} {p : Plan} {old new : Tells} {f : Failure} → GiveFell h number value old_count new_count old new f
+      → Fault (still h p) old_count new_count old new f
+  writing : {h number value old_count new_count : ℕ} {p : Plan} {old new : Tells} {f : Failure} → WriteFell h number value old_count new_count old new f → IsOfHarts number → debug_refuses number ≡ false
+      → Fault (still h p) old_count new_count old new f
+  viewing : {h old_count new_count : ℕ} {p : Plan} {old new : Tells} {f : Failure} → SlotsFell ReadsAny h old_count new_count old new f
+      → Fault (still h p) old_count new_count old new f
+  arming : {h old_count new_count : ℕ} {p : Plan} {meant : SlotUse} {old new : Tells} {f : Failure} → SlotsFell (ArmsAny meant) h old_count new_count old new f
+      → Fault (still h p) old_count new_count old new f
+  freeing : {h slot old_count new_count : ℕ} {p : Plan} {old new : Tells} {f : Failure} → SlotsFell (FreesAny slot) h old_count new_count old new f
+      → Fault (still h p) old_count new_count old new f
+  forgetting : {h old_count new_count : ℕ} {p : Plan} {old new : Tells} {f : Failure} → SlotsFell (ChangesAny Forget) h old_count new_count old new f
+      → Fault (still h p) old_count new_count old new f
+  behind : {h old_count count new_count : ℕ} {p : Plan} {old mid new : Tells} {f : Failure} → Passing h old mid → old_count ≤ count → Fault (still h p) count new_count mid new f
+      → Fault (still h p) old_count new_count old new f
+  stopping : {h old_count new_count : ℕ} {p : Plan} {old new : Tells} {f : Failure} → StopFell h old_count new_count old new f
+      → Fault (still h p) old_count new_count old new f
+  loading : {way : Way} {h address old_count new_count : ℕ} {size : Size} (next : Board → Plan) {old new : Tells} {f : Failure} → LoadFell size address old_count new_count old new f
+      → Fault (place way h (take Access (see next))) old_count new_count old new f
+  storing : {way : Way} {h address value old_count new_count : ℕ} {size : Size} (next : Board → Plan) {old new : Tells} {f : Failure} → StoreFell size address value old_count new_count old new f
+      → Fault (place way h (take Access (see next))) old_count new_count old new f
+
+-- it went so far, and there a call failed
+pub record Falls {K : Type 0} (before : K → Place) (said : List Line) (old_count new_count : ℕ) (old new : Tells) (f : Failure) : Type 0 where
+  pub at : K → Place
+  pub mid : Tells
+  pub count : ℕ
+  pub went : Went before at said old mid
+  pub later : old_count ≤ count
+  pub fault : (next : K) → Fault (at next) count new_count mid new f
+
+-- ---- with what was written of it
+
+-- some lines were said and written, and maybe one of them is an error line
+pub record Spoke {K : Type 0} (before after : K → Place) (wrong : Bool) (old new : Tells) (was is : Option (List ℕ)) : Type 0 where
+  pub said : List Line
+  pub went : Went before after said old new
+  pub put : is ≡ grown (text_of_all said) was
+  pub wrong_is : any_error said ≡ wrong
+
+-- all lines that were said were written, and there a call failed; or a line could not be written
+pub data Fell {K : Type 0} (before : K → Place) (old_count new_count : ℕ) (old new : Tells) (sink_old sink_new : ℕ) (was is : Option (List ℕ)) : Failure → Type 0 where
+  in_call : {f : Failure} (said : List Line) → Falls before said old_count new_count old new f → is ≡ grown (text_of_all said) was
+      → Fell before old_count new_count old new sink_old sink_new was is f
+  at_line : (said : List Line) (line : Line) (way : Way) (h : ℕ) (next : K → Plan) → Went before (λ k. place way h (say line (next k))) said old new
+      → GrewByPrefix (text_of line) (grown (text_of_all said) was) is → Rises sink_old sink_new
+      → Fell before old_count new_count old new sink_old sink_new was is failure.Sink

@@ -1,0 +1,15 @@
+pub mod Said
+pub mod Failures
+pub mod Links
+pub mod Seen
+pub mod Places
+pub mod Calls
+pub mod Answers
+pub mod Steps
+pub mod Goes
+pub mod Met
+pub mod Slots
+pub mod Commands
+pub mod Reach
+pub mod Led
+pub mod Acts

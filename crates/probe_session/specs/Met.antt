@@ -1,0 +1,30 @@
+-- What a command's Look of its hart answers: the hart, which is halted, or the line that says why there is none to work on.
+-- It is this project's own.
+use Rattle.std.specs.Prelude.{◌≡◌, ℕ, [], Bool, Option}
+use Rattle.debug_model.specs.Told.{Far}
+use Rattle.debugger_laws.specs.Debugger.{at_halted}
+use Rattle.debugger_laws.specs.Plan.{Plan}
+use Rattle.debugger_laws.specs.Plan.Plan.{say}
+use Rattle.probe_run.specs.Acts.{Tells}
+use Rattle.probe_session.specs.declared.met.Met.{Met}
+use Rattle.probe_session.specs.declared.met.Met.TheVariants as met
+use Rattle.probe_session.specs.Goes.{Went}
+use Rattle.probe_session.specs.Links.{Serving, ServingHalted}
+use Rattle.probe_session.specs.Places.{Place, idle, still}
+use Rattle.probe_session.specs.Said.{said_by}
+
+-- what follows in the plan: the command that a halted hart does, and what is behind the command
+pub record Rest : Type 0 where
+  pub body : Plan
+  pub next : Plan
+
+abbrev pub before_look : ℕ → Rest → Place
+before_look h r = idle (at_halted h r.next r.body)
+
+abbrev pub MetAs : (h : ℕ) → (old new : Tells) → Met → Type 0
+MetAs h old new (met.At x) = (x.number ≡ h) × Went (before_look h) (λ r. still h r.body) [] old new
+MetAs h old new (met.Says line) = Went (before_look h) (λ r. idle (say (said_by line) r.next)) [] old new
+
+abbrev pub ServingMet : Option Far → Bool → Met → Type 0
+ServingMet far alive (met.At x) = ServingHalted x.number far alive
+ServingMet far alive (met.Says line) = Serving far alive

@@ -1,0 +1,73 @@
+-- The way on which a command reaches memory, and the place of a session that goes it.
+-- It is this project's own.
+use Rattle.std.specs.Prelude.{ℕ, List, [], Bool, Option, map}
+use Rattle.rv_model.specs.declared.size.Size.{Size}
+use Rattle.debug_model.specs.Told.{Far}
+use Rattle.debugger_laws.specs.Debugger.{State, at_aligned, at_path, dumping, reading, register_line, saying, shown_registers, slot_lines, stepping, stop_line, writing}
+use Rattle.debugger_laws.specs.Lines.{Line}
+use Rattle.debugger_laws.specs.Plan.{Plan}
+use Rattle.debugger_laws.specs.Plan.Plan.{say, see}
+use Rattle.debugger_laws.specs.Slots.{slots_at}
+use Rattle.debugger_laws.specs.Ways.{Way}
+use Rattle.debugger_laws.specs.Ways.Way.{Idle, Still}
+use Rattle.probe_run.specs.Acts.{Tells}
+use Rattle.probe_session.specs.declared.reach.Reach.{Reach}
+use Rattle.probe_session.specs.declared.reach.Reach.TheVariants as reach
+use Rattle.probe_session.specs.declared.reach.Reached.{Reached}
+use Rattle.probe_session.specs.declared.reach.Reached.TheVariants as reached
+use Rattle.probe_session.specs.Goes.{Went}
+use Rattle.probe_session.specs.Links.{Serving, ServingHalted}
+use Rattle.probe_session.specs.Met.{Rest}
+use Rattle.probe_session.specs.Places.{Place, idle, place}
+use Rattle.probe_session.specs.Said.{said_by}
+
+abbrev pub way_by : Reach → Way
+way_by (reach.Hart x) = Still
+way_by reach.Bus = Idle
+
+abbrev pub hart_by : Reach → ℕ
+hart_by (reach.Hart x) = x.number
+hart_by reach.Bus = 0
+
+abbrev pub place_by : Reach → Plan → Place
+place_by r p = place (way_by r) (hart_by r) p
+
+abbrev pub ServingBy : Option Far → Bool → Reach → Type 0
+ServingBy far alive (reach.Hart x) = ServingHalted x.number far alive
+ServingBy far alive reach.Bus = Serving far alive
+
+abbrev pub before_reach : State → Rest → Place
+before_reach s r = idle (at_path s r.next r.body)
+
+abbrev pub ReachedAs : State → (old new : Tells) → Reached → Type 0
+ReachedAs s old new (reached.By r) = Went (before_reach s) (λ rest. place_by r rest.body) [] old new
+ReachedAs s old new (reached.Says line) = Went (before_reach s) (λ rest. idle (say (said_by line) rest.next)) [] old new
+
+abbrev pub ServingReached : Option Far → Bool → Reached → Type 0
+ServingReached far alive (reached.By r) = ServingBy far alive r
+ServingReached far alive (reached.Says line) = Serving far alive
+
+-- ---- the bodies of the commands that reach memory
+
+abbrev pub written : Size → ℕ → ℕ → ℕ → Plan → Plan
+written size address value count next = at_aligned address size next (writing count size address value next (say (Line.Wrote count) next))
+
+abbrev pub read : Size → ℕ → ℕ → Plan → Plan
+read size address count next = at_aligned address size next (reading count size address next)
+
+abbrev pub dumped : ℕ → ℕ → Plan → Plan
+dumped address count next = dumping count address [] next
+
+-- ---- and of those that a halted hart does, with several lines or steps
+
+abbrev pub all_shown : ℕ → Plan → Plan
+all_shown h next = see (λ b. saying (map (register_line h b) shown_registers) next)
+
+abbrev pub some_shown : ℕ → List ℕ → Plan → Plan
+some_shown h numbers next = see (λ b. saying (map (register_line h b) numbers) next)
+
+abbrev pub slots_shown : ℕ → Plan → Plan
+slots_shown h next = see (λ b. saying (slot_lines 0 (slots_at h b)) next)
+
+abbrev pub stepped : ℕ → ℕ → Plan → Plan
+stepped count h next = stepping count h (stop_line h next)

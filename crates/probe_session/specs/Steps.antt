@@ -1,0 +1,143 @@
+-- One step of a session along the abstract debugger's plan: a line that is said, something that follows without a call, or an answered call.
+-- A plan goes on by what the call answered, so that a line that a step leads to shows what was answered and nothing else.
+-- It is this project's own.
+use Rattle.std.specs.Prelude.{◌≡◌, ◌≢◌, ℕ, suc, Bool, true, false, List, [], ◌∷◌, map, slice_get, if◌then◌else◌}
+use Rattle.std.specs.List.{list_any}
+use Rattle.rv_model.specs.declared.size.Size.{Size}
+use Rattle.rv_model.specs.Memory.{loaded, store_answer}
+use Rattle.rv_model.specs.Registers.{csr_read_only, pc_number}
+use Rattle.rv_model.specs.Size.{count_of}
+use Rattle.debug_model.specs.declared.point.Point.TheVariants.{Access}
+use Rattle.debug_model.specs.Tap.{idcode}
+use Rattle.debugger_laws.specs.Debugger.{arming, by_load, by_state, by_store, freeing, going, halted_of, halting, look, one, register_line, saying, sees_halted, slot_lines, stop_line, unseen, until, value_here}
+use Rattle.debugger_laws.specs.Lines.{Line}
+use Rattle.debugger_laws.specs.Plan.{Plan, is_step}
+use Rattle.debugger_laws.specs.Plan.Change.{EbreakHalts, WriteMem, WriteReg}
+use Rattle.debugger_laws.specs.Slots.{Use, any_hit, slots_at}
+use Rattle.debugger_laws.specs.Slots.Use.{Armed, Unused}
+use Rattle.debugger_laws.specs.Trace.{What}
+use Rattle.debugger_laws.proofs.SlotLemmas.{CanArm}
+use Rattle.probe_trig.specs.declared.slot_use.SlotUse.{SlotUse}
+use Rattle.probe_trig.specs.declared.slot_use.SlotView.{SlotView}
+use Rattle.probe_trig.specs.Slots.{hits_in}
+use Rattle.probe_trig.specs.Words.{use_named}
+use Rattle.rv_model.specs.Dcsr.{dcsr_of_word, dcsr_word}
+use Rattle.rv_model.specs.DebugRegisters.{dcsr_number}
+use Rattle.debugger_laws.specs.Plan.Plan.{change, say, see, take}
+use Rattle.debugger_laws.specs.Ways.{Way}
+use Rattle.probe_run.specs.declared.hart.Seen.{Seen}
+use Rattle.probe_run.specs.declared.hart.Seen.TheVariants as seen
+use Rattle.probe_run.specs.Acts.{Tells}
+use Rattle.probe_session.specs.Calls.{FoundStop, Gave, GaveNone, Got, GotNone, HaltMade, HitsForgotten, Identified, IsOfCores, Loaded, LoadedNone, NoneFree, NotUsed, OverMade, ResumeMade, Saw, SlotFreed, SlotTaken, Stored, StoredNone, Viewed}
+use Rattle.probe_session.specs.Places.{Place, idle, place, ready, still}
+
+-- where a command stands behind its Look
+abbrev pub behind_look : Seen → ℕ → (absent running halted : Plan) → Place
+behind_look seen.Absent h absent running halted = idle absent
+behind_look (seen.Running r) h absent running halted = idle running
+behind_look (seen.Halted x) h absent running halted = still h halted
+
+abbrev pub is_halted : Seen → Bool
+is_halted seen.Absent = false
+is_halted (seen.Running r) = false
+is_halted (seen.Halted x) = true
+
+-- dcsr's number for a halt by a trigger, beside which the slots with a hit are shown
+abbrev pub trigger_cause : ℕ
+trigger_cause = 2
+
+-- and for one by a step
+abbrev pub step_cause : ℕ
+step_cause = 4
+
+-- behind a step: was it a whole one?
+abbrev pub behind_step : ℕ → (stepped other : Plan) → Plan
+behind_step h stepped other = see (λ b. if is_step (halted_of (slice_get b.harts h)) then stepped else other)
+
+-- has any slot a hit?
+abbrev pub any_in : SlotView → Bool
+any_in view = list_any (λ b. b) (hits_in view.hits)
+
+-- a line for each slot
+abbrev pub lines_by : ℕ → List Use → List Bool → List Line
+lines_by first [] hits = []
+lines_by first (u ∷ uses) [] = []
+lines_by first (u ∷ uses) (b ∷ hits) = Line.Slot first u b ∷ lines_by (suc first) uses hits
+
+abbrev pub lines_of_view : SlotView → List Line
+lines_of_view view = lines_by 0 (map use_named view.used) (hits_in view.hits)
+
+-- a word of dcsr with ebreakm so, and its other fields as they were
+abbrev pub with_ebreakm : Bool → ℕ → ℕ
+with_ebreakm on word = dcsr_word (record (dcsr_of_word word) { ebreakm = on })
+
+-- with these lines said; a session that tells of no chip goes on by what it has heard
+pub data Step : Place → Tells → List Line → Place → Tells → Type 0 where
+  -- without a call
+  same : {way : Way} {h : ℕ} {p q : Plan} {t : Tells} → p ≡ q → Step (place way h p) t [] (place way h q) t
+  rests : {h : ℕ} {p : Plan} {t : Tells} → Step (still h p) t [] (idle p) t
+  unspent : {h : ℕ} {p : Plan} {t : Tells} → Step (ready h p) t [] (still h p) t
+  overlooks : {way : Way} {h : ℕ} {p : Plan} {t : Tells} → Step (place way h (see (λ _. p))) t [] (place way h p) t
+  says : {way : Way} {h : ℕ} {line : Line} {next : Plan} {t : Tells} → Step (place way h (say line next)) t (line ∷ []) (place way h next) t
+  -- the transport
+  identifies : {number : ℕ} {next : Plan} {old new : Tells} → Identified number old new
+      → Step (idle (say (Line.Idcode idcode) next)) old [] (idle (say (Line.Idcode number) next)) new
+  -- Looks
+  looks : {h : ℕ} {s : Seen} (absent running halted : Plan) {old new : Tells} → Saw h old new s
+      → Step (idle (look h (by_state absent running halted))) old [] (behind_look s h absent running halted) new
+  looks_again : {h : ℕ} {s : Seen} (n : ℕ) (failed found : Plan) {old new : Tells} → Saw h old new s → is_halted s ≡ false
+      → Step (idle (until (suc n) h sees_halted (λ _. failed) found unseen)) old [] (idle (until n h sees_halted (λ _. failed) found unseen)) new
+  looks_enough : {h : ℕ} {s : Seen} (n : ℕ) (failed found : Plan) {old new : Tells} → Saw h old new s → is_halted s ≡ true
+      → Step (idle (until (suc n) h sees_halted (λ _. failed) found unseen)) old [] (still h found) new
+  -- run control
+  halts : {h : ℕ} (next : Plan) {old new : Tells} → HaltMade h old new → Step (idle (halting h next)) old [] (still h next) new
+  resumes : {h : ℕ} (next : Plan) {old new : Tells} → ResumeMade h old new → Step (ready h (going h next)) old [] (idle next) new
+  steps_over : {h : ℕ} (stepped other : Plan) {old new : Tells} → OverMade h old new → Step (still h (one h stepped other)) old [] (still h (behind_step h stepped other)) new
+  finds_step : {h pc : ℕ} (stepped other : Plan) {old new : Tells} → FoundStop h pc step_cause old new → Step (still h (behind_step h stepped other)) old [] (ready h stepped) new
+  finds_other : {h pc cause : ℕ} (stepped other : Plan) {old new : Tells} → FoundStop h pc cause old new → cause ≢ step_cause
+      → Step (still h (behind_step h stepped other)) old [] (still h other) new
+  views_hits : {h : ℕ} {view : SlotView} (held free : Plan) {old new : Tells} → Viewed h view old new → any_in view ≡ true
+      → Step (still h (see (λ b. if any_hit (slots_at h b) then held else free))) old [] (still h held) new
+  views_none : {h : ℕ} {view : SlotView} (held free : Plan) {old new : Tells} → Viewed h view old new → any_in view ≡ false
+      → Step (still h (see (λ b. if any_hit (slots_at h b) then held else free))) old [] (ready h free) new
+  stands : {h pc cause : ℕ} (next : Plan) {old new : Tells} → FoundStop h pc cause old new → cause ≢ trigger_cause
+      → Step (still h (stop_line h next)) old [] (still h (say (Line.Halted pc cause []) next)) new
+  stands_by_trigger : {h pc : ℕ} {view : SlotView} (next : Plan) {old mid new : Tells} → FoundStop h pc trigger_cause old mid → Viewed h view mid new
+      → Step (still h (stop_line h next)) old [] (still h (say (Line.Halted pc trigger_cause (hits_in view.hits)) next)) new
+  -- registers
+  reads : {h number value : ℕ} (next : ℕ → Plan) {old new : Tells} → Got h number value old new → IsOfCores number
+      → Step (still h (see (λ b. next (value_here (slice_get b.harts h) number)))) old [] (still h (next value)) new
+  reads_next : {h number value : ℕ} (numbers : List ℕ) (next : Plan) {old new : Tells} → Got h number value old new → IsOfCores number
+      → Step (still h (see (λ b. saying (map (register_line h b) (number ∷ numbers)) next))) old []
+      (still h (say (Line.Register number value) (see (λ b. saying (map (register_line h b) numbers) next)))) new
+  reads_none : {h number : ℕ} (next : Plan) {old new : Tells} → GotNone h number old new → IsOfCores number
+      → Step (still h (see (λ b. say (register_line h b number) next))) old [] (still h (say (Line.RegisterRefused number) next)) new
+  writes : {h number value : ℕ} (refused next : Plan) {old new : Tells} → Gave h number value old new → IsOfCores number → number ≢ pc_number
+      → Step (still h (if csr_read_only number then refused else change (WriteReg h number value) next)) old [] (still h next) new
+  writes_pc : {h value : ℕ} (refused next : Plan) {old mid new : Tells} → Gave h pc_number value old mid → HitsForgotten h mid new
+      → Step (still h (if csr_read_only pc_number then refused else change (WriteReg h pc_number value) next)) old [] (still h next) new
+  writes_none : {h number value : ℕ} (refused written : Plan) {old new : Tells} → GaveNone h number value old new → IsOfCores number
+      → Step (still h (if csr_read_only number then refused else written)) old [] (still h refused) new
+  sets_ebreakm : {h word : ℕ} {on : Bool} (next : Plan) {old mid new : Tells} → Got h dcsr_number word old mid → Gave h dcsr_number (with_ebreakm on word) mid new
+      → Step (still h (change (EbreakHalts h on) next)) old [] (still h next) new
+  -- slots
+  shows_slots : {h : ℕ} {view : SlotView} (next : Plan) {old new : Tells} → Viewed h view old new
+      → Step (still h (see (λ b. saying (slot_lines 0 (slots_at h b)) next))) old [] (still h (saying (lines_of_view view) next)) new
+  arms : {h slot : ℕ} {meant : SlotUse} (what : What) (next : Plan) {old new : Tells} → SlotTaken h meant slot old new → use_named meant ≡ Armed what → CanArm what
+      → Step (still h (arming h what next)) old [] (still h (say (Line.Slot slot (Armed what) false) next)) new
+  arms_none : {h : ℕ} {meant : SlotUse} (what : What) (next : Plan) {old new : Tells} → NoneFree h meant old new
+      → Step (still h (arming h what next)) old [] (still h (say Line.NoFreeSlot next)) new
+  frees : {h slot : ℕ} (next : Plan) {old new : Tells} → SlotFreed h slot old new
+      → Step (still h (freeing h slot next)) old [] (still h (say (Line.Slot slot Unused false) next)) new
+  frees_none : {h slot : ℕ} (next : Plan) {old new : Tells} → NotUsed h slot old new
+      → Step (still h (freeing h slot next)) old [] (still h (say (Line.SlotNotInUse slot) next)) new
+  -- memory
+  loads : {way : Way} {h address value : ℕ} {size : Size} (faulted : Plan) (read : ℕ → Plan) {old new : Tells} → Loaded size address value old new
+      → Step (place way h (take Access (see (λ b. by_load (loaded b.memory address size) faulted read)))) old [] (place way h (read value)) new
+  loads_none : {way : Way} {h address : ℕ} {size : Size} (faulted : Plan) (read : ℕ → Plan) {old new : Tells} → LoadedNone size address old new
+      → Step (place way h (take Access (see (λ b. by_load (loaded b.memory address size) faulted read)))) old [] (place way h faulted) new
+  stores : {way : Way} {h address value : ℕ} {size : Size} (faulted next : Plan) {old new : Tells} → Stored size address value old new
+      → Step (place way h (take Access (see (λ b. by_store (store_answer b.memory address size) faulted (change (WriteMem address (count_of size) value) next))))) old []
+      (place way h next) new
+  stores_none : {way : Way} {h address value : ℕ} {size : Size} (faulted stored : Plan) {old new : Tells} → StoredNone size address value old new
+      → Step (place way h (take Access (see (λ b. by_store (store_answer b.memory address size) faulted stored)))) old [] (place way h faulted) new

@@ -1,0 +1,99 @@
+//! `step` and `resume`: a halted hart goes on.
+
+ghost use Rattle.std.specs.Prelude.{◌≡◌, ◌≤◌, ◌<◌, ◌^◌, [], true, false, IfOk, IfErr, IsTrue, OnOk};
+ghost use Rattle.probe_run.specs.Acts.{tells};
+ghost use Rattle.debugger_laws.specs.Debugger.{going};
+ghost use Rattle.debugger_laws.specs.Lines.Line.{Resumed};
+ghost use Rattle.debugger_laws.specs.Plan.Plan.{say};
+ghost use Rattle.probe_session.specs.Commands.{at_letting_go, ends_with};
+ghost use Rattle.probe_session.specs.Goes.{Falls, Went};
+ghost use Rattle.probe_session.specs.Links.{LeftBy, Serving, ServingHalted};
+ghost use Rattle.probe_session.specs.Places.{ready, still};
+ghost use Rattle.probe_session.specs.Reach.{stepped};
+ghost use Rattle.probe_session.specs.Said.{said_by};
+ghost use Rattle.probe_session.specs.Steps.{any_in};
+
+use crate::fault::Failure;
+use crate::hart_lines::stop_line;
+use crate::looks::make_resume;
+use crate::slots::{over, view};
+use crate::stops::find_stop;
+use debug_model::Dmi;
+use printed_lines::Line;
+use probe_run::Halted;
+use probe_trig::SlotView;
+
+/// The cause of a halt by a single step in `dcsr` (RISC-V Debug Specification 1.0, "Debug Control and Status").
+const STEP: u8 = 4;
+
+/// Makes up to so many single steps, until one stops for another cause, and says where the hart stands then.
+pub(crate) fn stepped_line<D: Dmi>(
+    link: &mut D,
+    halted: Halted,
+    count: u16,
+) -> Result<Line, Failure>
+    requires serving { ServingHalted halted.number (D.far link.old) (D.is_alive link.old) }
+    ensures went { IfOk result (λ line. Went (λ next. still halted.number (stepped count halted.number next)) (ends_with (said_by line)) [] (tells (D.far link.old) (D.script link.old)) (tells (D.far link.new) (D.script link.new))) }
+    ensures falls { IfErr result (Falls (λ next. still halted.number (stepped count halted.number next)) [] (D.fault_count link.old) (D.fault_count link.new) (tells (D.far link.old) (D.script link.old)) (tells (D.far link.new) (D.script link.new))) }
+    ensures serving { OnOk result (Serving (D.far link.new) (D.is_alive link.new)) }
+    ensures left { IfErr result (LeftBy (D.far link.new)) }
+    ensures later { D.fault_count link.old ≤ D.fault_count link.new }
+    ensures slack { D.slack link.new ≡ D.slack link.old }
+    ensures ties { D.ties link.new ≡ D.ties link.old }
+{
+    let mut now = halted;
+    'stepping: for _step in 0..count {
+        now = over(link, now)?;
+        let at = find_stop(link, &now)?;
+        if at.cause != STEP {
+            return stop_line(link, &now);
+        }
+    }
+    stop_line(link, &now)
+}
+
+/// Whether any slot has a hit.
+fn has_any(view: &SlotView) -> bool
+    ensures { result ≡ any_in view.now }
+{
+    let hits = view.hits;
+    hits.has(0) || hits.has(1) || hits.has(2) || hits.has(3)
+}
+
+/// Lets a hart go that none of its slots holds back.
+fn free_line<D: Dmi>(link: &mut D, halted: Halted) -> Result<Line, Failure>
+    requires serving { ServingHalted halted.number (D.far link.old) (D.is_alive link.old) }
+    ensures went { IfOk result (λ line. Went (λ next. ready halted.number (going halted.number (say Resumed next))) (ends_with (said_by line)) [] (tells (D.far link.old) (D.script link.old)) (tells (D.far link.new) (D.script link.new))) }
+    ensures falls { IfErr result (Falls (λ next. ready halted.number (going halted.number (say Resumed next))) [] (D.fault_count link.old) (D.fault_count link.new) (tells (D.far link.old) (D.script link.old)) (tells (D.far link.new) (D.script link.new))) }
+    ensures serving { OnOk result (Serving (D.far link.new) (D.is_alive link.new)) }
+    ensures left { IfErr result (LeftBy (D.far link.new)) }
+    ensures later { D.fault_count link.old ≤ D.fault_count link.new }
+    ensures slack { D.slack link.new ≡ D.slack link.old }
+    ensures ties { D.ties link.new ≡ D.ties link.old }
+{
+    make_resume(link, halted)?;
+    Ok(Line::Resumed)
+}
+
+/// Lets a hart go. Where slots have a hit it is stepped over them first; if that stops it for another cause, the line says where it stands.
+pub(crate) fn let_go_line<D: Dmi>(link: &mut D, halted: Halted) -> Result<Line, Failure>
+    requires serving { ServingHalted halted.number (D.far link.old) (D.is_alive link.old) }
+    ensures went { IfOk result (λ line. Went (at_letting_go halted.number) (ends_with (said_by line)) [] (tells (D.far link.old) (D.script link.old)) (tells (D.far link.new) (D.script link.new))) }
+    ensures falls { IfErr result (Falls (at_letting_go halted.number) [] (D.fault_count link.old) (D.fault_count link.new) (tells (D.far link.old) (D.script link.old)) (tells (D.far link.new) (D.script link.new))) }
+    ensures serving { OnOk result (Serving (D.far link.new) (D.is_alive link.new)) }
+    ensures left { IfErr result (LeftBy (D.far link.new)) }
+    ensures later { D.fault_count link.old ≤ D.fault_count link.new }
+    ensures slack { D.slack link.new ≡ D.slack link.old }
+    ensures ties { D.ties link.new ≡ D.ties link.old }
+{
+    let seen = view(link, &halted)?;
+    if !has_any(&seen) {
+        return free_line(link, halted);
+    }
+    let again = over(link, halted)?;
+    let at = find_stop(link, &again)?;
+    if at.cause == STEP {
+        return free_line(link, again);
+    }
+    stop_line(link, &again)
+}

@@ -1,0 +1,195 @@
+//! The lines that a halted hart answers.
+
+ghost use Rattle.std.specs.Prelude.{◌≡◌, ◌≤◌, ◌<◌, ◌^◌, [], true, false, IfOk, IfErr, IsTrue, OnOk};
+ghost use Rattle.probe_run.specs.Acts.{tells};
+ghost use Rattle.debug_model.specs.Registers.{is_register};
+ghost use Rattle.debugger_laws.specs.Slots.Use.{Armed};
+ghost use Rattle.debugger_laws.specs.Trace.{What};
+ghost use Rattle.probe_session.specs.Calls.{IsOfCores};
+ghost use Rattle.probe_session.specs.Commands.{at_arming, at_ebreak, at_freeing, at_register, at_stop_line, at_written_register, ends_with};
+ghost use Rattle.probe_session.specs.Goes.{Falls, Went};
+ghost use Rattle.probe_session.specs.Links.{LeftBy, Serving, ServingHalted};
+ghost use Rattle.probe_session.specs.Said.{said_by};
+ghost use Rattle.printed_lines.specs.Line.{use_of_slot_use};
+ghost use Rattle.probe_session.specs.Slots.{what_of};
+ghost use Rattle.probe_session.specs.Steps.{with_ebreakm};
+ghost use Rattle.probe_trig.specs.Words.{CanArm, use_named};
+
+use crate::fault::Failure;
+use crate::registers::{ask, get, give, set};
+use crate::slots::{forget, free_slot, take_slot, view};
+use crate::stops::find_stop;
+use debug_model::Dmi;
+use printed_lines::{Line, SlotUse as LineUse};
+use probe_run::Halted;
+use probe_trig::SlotUse;
+use rv_model::{Dcsr, SlotSet, register_number};
+
+/// The cause of a halt by a trigger in `dcsr` (RISC-V Debug Specification 1.0, "Debug Control and Status").
+const TRIGGER: u8 = 2;
+
+/// The line that says where the hart stands, and why; beside a trigger, with the slots that have a hit.
+pub(crate) fn stop_line<D: Dmi>(link: &mut D, halted: &Halted) -> Result<Line, Failure>
+    requires serving { ServingHalted halted.now.number (D.far link.old) (D.is_alive link.old) }
+    ensures went { IfOk result (λ line. Went (at_stop_line halted.now.number) (ends_with (said_by line)) [] (tells (D.far link.old) (D.script link.old)) (tells (D.far link.new) (D.script link.new))) }
+    ensures falls { IfErr result (Falls (at_stop_line halted.now.number) [] (D.fault_count link.old) (D.fault_count link.new) (tells (D.far link.old) (D.script link.old)) (tells (D.far link.new) (D.script link.new))) }
+    ensures serving { OnOk result (Serving (D.far link.new) (D.is_alive link.new)) }
+    ensures left { IfErr result (LeftBy (D.far link.new)) }
+    ensures later { D.fault_count link.old ≤ D.fault_count link.new }
+    ensures slack { D.slack link.new ≡ D.slack link.old }
+    ensures ties { D.ties link.new ≡ D.ties link.old }
+{
+    let at = find_stop(link, halted)?;
+    if at.cause == TRIGGER {
+        let seen = view(link, halted)?;
+        return Ok(Line::Halted {
+            pc: at.pc,
+            cause: at.cause,
+            hits: seen.hits,
+        });
+    }
+    Ok(Line::Halted {
+        pc: at.pc,
+        cause: at.cause,
+        hits: SlotSet(0),
+    })
+}
+
+/// The line that shows a register.
+pub(crate) fn register_line<D: Dmi>(
+    link: &mut D,
+    halted: &Halted,
+    number: u16,
+) -> Result<Line, Failure>
+    requires of { IsOfCores number }
+    requires serving { ServingHalted halted.now.number (D.far link.old) (D.is_alive link.old) }
+    ensures went { IfOk result (λ line. Went (at_register halted.now.number number) (ends_with (said_by line)) [] (tells (D.far link.old) (D.script link.old)) (tells (D.far link.new) (D.script link.new))) }
+    ensures falls { IfErr result (Falls (at_register halted.now.number number) [] (D.fault_count link.old) (D.fault_count link.new) (tells (D.far link.old) (D.script link.old)) (tells (D.far link.new) (D.script link.new))) }
+    ensures serving { OnOk result (Serving (D.far link.new) (D.is_alive link.new)) }
+    ensures left { IfErr result (LeftBy (D.far link.new)) }
+    ensures later { D.fault_count link.old ≤ D.fault_count link.new }
+    ensures slack { D.slack link.new ≡ D.slack link.old }
+    ensures ties { D.ties link.new ≡ D.ties link.old }
+{
+    match ask(link, halted, number)? {
+        Some(value) => Ok(Line::Register(number, value)),
+        None => Ok(Line::RegisterRefused(number)),
+    }
+}
+
+/// Writes a register, and the line that shows it then. A written pc forgets the slots' hits.
+pub(crate) fn written_register_line<D: Dmi>(
+    link: &mut D,
+    halted: &Halted,
+    number: u16,
+    value: u64,
+) -> Result<Line, Failure>
+    requires of { IsOfCores number }
+    requires serving { ServingHalted halted.now.number (D.far link.old) (D.is_alive link.old) }
+    ensures went { IfOk result (λ line. Went (at_written_register halted.now.number number value) (ends_with (said_by line)) [] (tells (D.far link.old) (D.script link.old)) (tells (D.far link.new) (D.script link.new))) }
+    ensures falls { IfErr result (Falls (at_written_register halted.now.number number value) [] (D.fault_count link.old) (D.fault_count link.new) (tells (D.far link.old) (D.script link.old)) (tells (D.far link.new) (D.script link.new))) }
+    ensures serving { OnOk result (Serving (D.far link.new) (D.is_alive link.new)) }
+    ensures left { IfErr result (LeftBy (D.far link.new)) }
+    ensures later { D.fault_count link.old ≤ D.fault_count link.new }
+    ensures slack { D.slack link.new ≡ D.slack link.old }
+    ensures ties { D.ties link.new ≡ D.ties link.old }
+{
+    if !give(link, halted, number, value)? {
+        return Ok(Line::RegisterRefused(number));
+    }
+    if number == register_number::DPC {
+        forget(link, halted)?;
+        return register_line(link, halted, number);
+    }
+    register_line(link, halted, number)
+}
+
+/// A word of `dcsr` with `ebreakm` so.
+fn with_ebreakm(word: u64, is_on: bool) -> u64
+    ensures { result ≡ with_ebreakm is_on word }
+{
+    let dcsr = Dcsr {
+        ebreakm: is_on,
+        ..Dcsr::from_word(word)
+    };
+    dcsr.word()
+}
+
+/// Says whether the hart's ebreak halts it.
+pub(crate) fn ebreak_line<D: Dmi>(
+    link: &mut D,
+    halted: &Halted,
+    is_on: bool,
+) -> Result<Line, Failure>
+    requires serving { ServingHalted halted.now.number (D.far link.old) (D.is_alive link.old) }
+    ensures went { IfOk result (λ line. Went (at_ebreak halted.now.number is_on) (ends_with (said_by line)) [] (tells (D.far link.old) (D.script link.old)) (tells (D.far link.new) (D.script link.new))) }
+    ensures falls { IfErr result (Falls (at_ebreak halted.now.number is_on) [] (D.fault_count link.old) (D.fault_count link.new) (tells (D.far link.old) (D.script link.old)) (tells (D.far link.new) (D.script link.new))) }
+    ensures serving { OnOk result (Serving (D.far link.new) (D.is_alive link.new)) }
+    ensures left { IfErr result (LeftBy (D.far link.new)) }
+    ensures later { D.fault_count link.old ≤ D.fault_count link.new }
+    ensures slack { D.slack link.new ≡ D.slack link.old }
+    ensures ties { D.ties link.new ≡ D.ties link.old }
+{
+    let word = get(link, halted, register_number::DCSR)?;
+    set(
+        link,
+        halted,
+        register_number::DCSR,
+        with_ebreakm(word, is_on),
+    )?;
+    Ok(Line::Ebreak(is_on))
+}
+
+/// Arms the lowest free slot.
+pub(crate) fn armed_line<D: Dmi>(
+    link: &mut D,
+    halted: &Halted,
+    what: SlotUse,
+) -> Result<Line, Failure>
+    requires can { CanArm what }
+    requires serving { ServingHalted halted.now.number (D.far link.old) (D.is_alive link.old) }
+    ensures went { IfOk result (λ line. Went (at_arming halted.now.number (what_of what)) (ends_with (said_by line)) [] (tells (D.far link.old) (D.script link.old)) (tells (D.far link.new) (D.script link.new))) }
+    ensures falls { IfErr result (Falls (at_arming halted.now.number (what_of what)) [] (D.fault_count link.old) (D.fault_count link.new) (tells (D.far link.old) (D.script link.old)) (tells (D.far link.new) (D.script link.new))) }
+    ensures serving { OnOk result (Serving (D.far link.new) (D.is_alive link.new)) }
+    ensures left { IfErr result (LeftBy (D.far link.new)) }
+    ensures later { D.fault_count link.old ≤ D.fault_count link.new }
+    ensures slack { D.slack link.new ≡ D.slack link.old }
+    ensures ties { D.ties link.new ≡ D.ties link.old }
+{
+    match take_slot(link, halted, what)? {
+        Some(slot) => Ok(Line::Slot(slot, line_use(what), false)),
+        None => Ok(Line::NoFreeSlot),
+    }
+}
+
+/// Frees a slot.
+pub(crate) fn freed_line<D: Dmi>(link: &mut D, halted: &Halted, slot: u8) -> Result<Line, Failure>
+    requires slot { slot < 4 }
+    requires serving { ServingHalted halted.now.number (D.far link.old) (D.is_alive link.old) }
+    ensures went { IfOk result (λ line. Went (at_freeing halted.now.number slot) (ends_with (said_by line)) [] (tells (D.far link.old) (D.script link.old)) (tells (D.far link.new) (D.script link.new))) }
+    ensures falls { IfErr result (Falls (at_freeing halted.now.number slot) [] (D.fault_count link.old) (D.fault_count link.new) (tells (D.far link.old) (D.script link.old)) (tells (D.far link.new) (D.script link.new))) }
+    ensures serving { OnOk result (Serving (D.far link.new) (D.is_alive link.new)) }
+    ensures left { IfErr result (LeftBy (D.far link.new)) }
+    ensures later { D.fault_count link.old ≤ D.fault_count link.new }
+    ensures slack { D.slack link.new ≡ D.slack link.old }
+    ensures ties { D.ties link.new ≡ D.ties link.old }
+{
+    if free_slot(link, halted, slot)? {
+        Ok(Line::Slot(slot, LineUse::Free, false))
+    } else {
+        Ok(Line::SlotNotInUse(slot))
+    }
+}
+
+/// What a slot is used for, as a line shows it.
+pub(crate) fn line_use(what: SlotUse) -> LineUse
+    ensures { use_of_slot_use result ≡ use_named what }
+{
+    match what {
+        SlotUse::Free => LineUse::Free,
+        SlotUse::Break(address) => LineUse::Break(address),
+        SlotUse::Watch(kind, address) => LineUse::Watch(kind, address),
+        SlotUse::Count(turns) => LineUse::Count(turns),
+        SlotUse::Other(tdata1) => LineUse::Other(tdata1),
+    }
+}

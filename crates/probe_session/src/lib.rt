@@ -1,0 +1,30 @@
+//! Sessions of a debugger: each command of a script as calls of the layers below, and the lines that it prints.
+//! Each contract says by which answered calls a session went from one place of the abstract debugger's plan to the next, and what it
+//! printed on the way; where the chip is told, that is the transcript of the chip's journal.
+#![tactic(auto)]
+
+mod act;
+mod acted;
+mod begin;
+mod fault;
+mod going;
+mod hart_lines;
+mod identity;
+mod laws;
+mod line_of;
+mod looks;
+mod memory;
+mod met;
+mod one_line;
+mod put;
+mod reach;
+mod registers;
+mod session;
+mod slots;
+mod stops;
+mod write;
+
+pub use acted::Acted;
+pub use fault::LostCause;
+pub use laws::sessions_lead;
+pub use session::Session;

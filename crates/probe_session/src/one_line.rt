@@ -1,0 +1,315 @@
+//! The commands of one line.
+
+ghost use Rattle.std.specs.Prelude.{◌≡◌, ◌≤◌, ◌<◌, ◌^◌, [], true, false, IfOk, IfErr, IsTrue, OnOk};
+ghost use Rattle.probe_run.specs.Acts.{tells};
+ghost use Rattle.debug_model.specs.Command.{IsBlock, last_slot, most_turns};
+ghost use Rattle.debugger_laws.specs.Lines.Line.{Via};
+ghost use Rattle.rv_model.specs.Size.{count_of};
+ghost use Rattle.debug_model.specs.Registers.{is_register};
+ghost use Rattle.debug_model.specs.declared.command.Command.TheVariants as command;
+ghost use Rattle.probe_session.specs.Commands.{at_line, before, state_of};
+ghost use Rattle.probe_session.specs.Goes.{Falls, Went};
+ghost use Rattle.probe_session.specs.Links.{LeftBy, Serving};
+ghost use Rattle.probe_session.specs.Said.{said_by};
+
+use crate::fault::Failure;
+use crate::going::{let_go_line, stepped_line};
+use crate::hart_lines::{
+    armed_line, ebreak_line, freed_line, register_line, stop_line, written_register_line,
+};
+use crate::looks::{make_halt, see};
+use crate::met::{Met, meet};
+use crate::reach::Reached;
+use crate::session::Session;
+use crate::write::written_line;
+use debug_model::{Dmi, Path, RegName, WatchKind};
+use printed_lines::Line;
+use probe_run::Seen;
+use probe_trig::SlotUse;
+use rv_model::Size;
+
+impl Session {
+    /// Selects a hart, from 0 to 1023; one that is not there is not selected.
+    pub(crate) fn select<D: Dmi>(&mut self, link: &mut D, hart: u16) -> Result<Line, Failure>
+        requires hart { hart < 2 ^ 10 }
+        requires serving { Serving (D.far link.old) (D.is_alive link.old) }
+        ensures went { IfOk result (λ line. Went (before (command.Hart hart) (state_of self.old)) (at_line (said_by line) (state_of self.new)) [] (tells (D.far link.old) (D.script link.old)) (tells (D.far link.new) (D.script link.new))) }
+        ensures falls { IfErr result (Falls (before (command.Hart hart) (state_of self.old)) [] (D.fault_count link.old) (D.fault_count link.new) (tells (D.far link.old) (D.script link.old)) (tells (D.far link.new) (D.script link.new))) }
+        ensures serving { OnOk result (Serving (D.far link.new) (D.is_alive link.new)) }
+        ensures left { IfErr result (LeftBy (D.far link.new)) }
+        ensures later { D.fault_count link.old ≤ D.fault_count link.new }
+        ensures slack { D.slack link.new ≡ D.slack link.old }
+        ensures ties { D.ties link.new ≡ D.ties link.old }
+    {
+        match see(link, &self.target, hart)? {
+            Seen::Absent => Ok(Line::NoHart(hart)),
+            Seen::Running(_) => {
+                self.hart = hart;
+                Ok(Line::Selected(hart))
+            }
+            Seen::Halted(_) => {
+                self.hart = hart;
+                Ok(Line::Selected(hart))
+            }
+        }
+    }
+
+    /// Says where the hart stands, or that it runs.
+    pub(crate) fn state<D: Dmi>(&self, link: &mut D) -> Result<Line, Failure>
+        requires serving { Serving (D.far link.old) (D.is_alive link.old) }
+        ensures went { IfOk result (λ line. Went (before (command.State) (state_of self.now)) (at_line (said_by line) (state_of self.now)) [] (tells (D.far link.old) (D.script link.old)) (tells (D.far link.new) (D.script link.new))) }
+        ensures falls { IfErr result (Falls (before (command.State) (state_of self.now)) [] (D.fault_count link.old) (D.fault_count link.new) (tells (D.far link.old) (D.script link.old)) (tells (D.far link.new) (D.script link.new))) }
+        ensures serving { OnOk result (Serving (D.far link.new) (D.is_alive link.new)) }
+        ensures left { IfErr result (LeftBy (D.far link.new)) }
+        ensures later { D.fault_count link.old ≤ D.fault_count link.new }
+        ensures slack { D.slack link.new ≡ D.slack link.old }
+        ensures ties { D.ties link.new ≡ D.ties link.old }
+    {
+        match see(link, &self.target, self.hart)? {
+            Seen::Absent => Ok(Line::NoHart(self.hart)),
+            Seen::Running(_) => Ok(Line::Running),
+            Seen::Halted(halted) => stop_line(link, &halted),
+        }
+    }
+
+    /// Halts the hart, and says where it stands.
+    pub(crate) fn halt<D: Dmi>(&self, link: &mut D) -> Result<Line, Failure>
+        requires serving { Serving (D.far link.old) (D.is_alive link.old) }
+        ensures went { IfOk result (λ line. Went (before (command.Halt) (state_of self.now)) (at_line (said_by line) (state_of self.now)) [] (tells (D.far link.old) (D.script link.old)) (tells (D.far link.new) (D.script link.new))) }
+        ensures falls { IfErr result (Falls (before (command.Halt) (state_of self.now)) [] (D.fault_count link.old) (D.fault_count link.new) (tells (D.far link.old) (D.script link.old)) (tells (D.far link.new) (D.script link.new))) }
+        ensures serving { OnOk result (Serving (D.far link.new) (D.is_alive link.new)) }
+        ensures left { IfErr result (LeftBy (D.far link.new)) }
+        ensures later { D.fault_count link.old ≤ D.fault_count link.new }
+        ensures slack { D.slack link.new ≡ D.slack link.old }
+        ensures ties { D.ties link.new ≡ D.ties link.old }
+    {
+        match see(link, &self.target, self.hart)? {
+            Seen::Absent => Ok(Line::NoHart(self.hart)),
+            Seen::Running(running) => {
+                let halted = make_halt(link, running)?;
+                stop_line(link, &halted)
+            }
+            Seen::Halted(halted) => stop_line(link, &halted),
+        }
+    }
+
+    /// Looks at the hart until it is halted, at most so often, and says where it stands, or that it runs.
+    pub(crate) fn wait<D: Dmi>(&self, link: &mut D, looks: u16) -> Result<Line, Failure>
+        requires serving { Serving (D.far link.old) (D.is_alive link.old) }
+        ensures went { IfOk result (λ line. Went (before (command.Wait looks) (state_of self.now)) (at_line (said_by line) (state_of self.now)) [] (tells (D.far link.old) (D.script link.old)) (tells (D.far link.new) (D.script link.new))) }
+        ensures falls { IfErr result (Falls (before (command.Wait looks) (state_of self.now)) [] (D.fault_count link.old) (D.fault_count link.new) (tells (D.far link.old) (D.script link.old)) (tells (D.far link.new) (D.script link.new))) }
+        ensures serving { OnOk result (Serving (D.far link.new) (D.is_alive link.new)) }
+        ensures left { IfErr result (LeftBy (D.far link.new)) }
+        ensures later { D.fault_count link.old ≤ D.fault_count link.new }
+        ensures slack { D.slack link.new ≡ D.slack link.old }
+        ensures ties { D.ties link.new ≡ D.ties link.old }
+    {
+        'looking: for _look in 0..looks {
+            if let Seen::Halted(halted) = see(link, &self.target, self.hart)? {
+                return stop_line(link, &halted);
+            }
+        }
+        Ok(Line::Running)
+    }
+
+    /// Shows a register.
+    pub(crate) fn reg<D: Dmi>(&self, link: &mut D, name: RegName) -> Result<Line, Failure>
+        requires known { IsTrue (is_register name.0) }
+        requires serving { Serving (D.far link.old) (D.is_alive link.old) }
+        ensures went { IfOk result (λ line. Went (before (command.Reg name) (state_of self.now)) (at_line (said_by line) (state_of self.now)) [] (tells (D.far link.old) (D.script link.old)) (tells (D.far link.new) (D.script link.new))) }
+        ensures falls { IfErr result (Falls (before (command.Reg name) (state_of self.now)) [] (D.fault_count link.old) (D.fault_count link.new) (tells (D.far link.old) (D.script link.old)) (tells (D.far link.new) (D.script link.new))) }
+        ensures serving { OnOk result (Serving (D.far link.new) (D.is_alive link.new)) }
+        ensures left { IfErr result (LeftBy (D.far link.new)) }
+        ensures later { D.fault_count link.old ≤ D.fault_count link.new }
+        ensures slack { D.slack link.new ≡ D.slack link.old }
+        ensures ties { D.ties link.new ≡ D.ties link.old }
+    {
+        match meet(link, &self.target, self.hart)? {
+            Met::Says(line) => Ok(line),
+            Met::At(halted) => register_line(link, &halted, name.0),
+        }
+    }
+
+    /// Writes a register, and shows it.
+    pub(crate) fn set_reg<D: Dmi>(
+        &self,
+        link: &mut D,
+        name: RegName,
+        value: u64,
+    ) -> Result<Line, Failure>
+        requires known { IsTrue (is_register name.0) }
+        requires serving { Serving (D.far link.old) (D.is_alive link.old) }
+        ensures went { IfOk result (λ line. Went (before (command.SetReg name value) (state_of self.now)) (at_line (said_by line) (state_of self.now)) [] (tells (D.far link.old) (D.script link.old)) (tells (D.far link.new) (D.script link.new))) }
+        ensures falls { IfErr result (Falls (before (command.SetReg name value) (state_of self.now)) [] (D.fault_count link.old) (D.fault_count link.new) (tells (D.far link.old) (D.script link.old)) (tells (D.far link.new) (D.script link.new))) }
+        ensures serving { OnOk result (Serving (D.far link.new) (D.is_alive link.new)) }
+        ensures left { IfErr result (LeftBy (D.far link.new)) }
+        ensures later { D.fault_count link.old ≤ D.fault_count link.new }
+        ensures slack { D.slack link.new ≡ D.slack link.old }
+        ensures ties { D.ties link.new ≡ D.ties link.old }
+    {
+        match meet(link, &self.target, self.hart)? {
+            Met::Says(line) => Ok(line),
+            Met::At(halted) => written_register_line(link, &halted, name.0, value),
+        }
+    }
+
+    /// Sets whether the hart's ebreak halts it.
+    pub(crate) fn ebreak<D: Dmi>(&self, link: &mut D, is_on: bool) -> Result<Line, Failure>
+        requires serving { Serving (D.far link.old) (D.is_alive link.old) }
+        ensures went { IfOk result (λ line. Went (before (command.Ebreak is_on) (state_of self.now)) (at_line (said_by line) (state_of self.now)) [] (tells (D.far link.old) (D.script link.old)) (tells (D.far link.new) (D.script link.new))) }
+        ensures falls { IfErr result (Falls (before (command.Ebreak is_on) (state_of self.now)) [] (D.fault_count link.old) (D.fault_count link.new) (tells (D.far link.old) (D.script link.old)) (tells (D.far link.new) (D.script link.new))) }
+        ensures serving { OnOk result (Serving (D.far link.new) (D.is_alive link.new)) }
+        ensures left { IfErr result (LeftBy (D.far link.new)) }
+        ensures later { D.fault_count link.old ≤ D.fault_count link.new }
+        ensures slack { D.slack link.new ≡ D.slack link.old }
+        ensures ties { D.ties link.new ≡ D.ties link.old }
+    {
+        match meet(link, &self.target, self.hart)? {
+            Met::Says(line) => Ok(line),
+            Met::At(halted) => ebreak_line(link, &halted, is_on),
+        }
+    }
+
+    /// Arms a slot that stops the hart before the instruction at an address.
+    pub(crate) fn break_at<D: Dmi>(&self, link: &mut D, address: u64) -> Result<Line, Failure>
+        requires serving { Serving (D.far link.old) (D.is_alive link.old) }
+        ensures went { IfOk result (λ line. Went (before (command.Break address) (state_of self.now)) (at_line (said_by line) (state_of self.now)) [] (tells (D.far link.old) (D.script link.old)) (tells (D.far link.new) (D.script link.new))) }
+        ensures falls { IfErr result (Falls (before (command.Break address) (state_of self.now)) [] (D.fault_count link.old) (D.fault_count link.new) (tells (D.far link.old) (D.script link.old)) (tells (D.far link.new) (D.script link.new))) }
+        ensures serving { OnOk result (Serving (D.far link.new) (D.is_alive link.new)) }
+        ensures left { IfErr result (LeftBy (D.far link.new)) }
+        ensures later { D.fault_count link.old ≤ D.fault_count link.new }
+        ensures slack { D.slack link.new ≡ D.slack link.old }
+        ensures ties { D.ties link.new ≡ D.ties link.old }
+    {
+        match meet(link, &self.target, self.hart)? {
+            Met::Says(line) => Ok(line),
+            Met::At(halted) => armed_line(link, &halted, SlotUse::Break(address)),
+        }
+    }
+
+    /// Arms a slot that stops the hart before an access to an address.
+    pub(crate) fn watch<D: Dmi>(
+        &self,
+        link: &mut D,
+        kind: WatchKind,
+        address: u64,
+    ) -> Result<Line, Failure>
+        requires serving { Serving (D.far link.old) (D.is_alive link.old) }
+        ensures went { IfOk result (λ line. Went (before (command.Watch kind address) (state_of self.now)) (at_line (said_by line) (state_of self.now)) [] (tells (D.far link.old) (D.script link.old)) (tells (D.far link.new) (D.script link.new))) }
+        ensures falls { IfErr result (Falls (before (command.Watch kind address) (state_of self.now)) [] (D.fault_count link.old) (D.fault_count link.new) (tells (D.far link.old) (D.script link.old)) (tells (D.far link.new) (D.script link.new))) }
+        ensures serving { OnOk result (Serving (D.far link.new) (D.is_alive link.new)) }
+        ensures left { IfErr result (LeftBy (D.far link.new)) }
+        ensures later { D.fault_count link.old ≤ D.fault_count link.new }
+        ensures slack { D.slack link.new ≡ D.slack link.old }
+        ensures ties { D.ties link.new ≡ D.ties link.old }
+    {
+        match meet(link, &self.target, self.hart)? {
+            Met::Says(line) => Ok(line),
+            Met::At(halted) => armed_line(link, &halted, SlotUse::Watch(kind, address)),
+        }
+    }
+
+    /// Arms a slot that stops the hart behind so many executed turns, from 1 to 16,383.
+    pub(crate) fn count<D: Dmi>(&self, link: &mut D, turns: u16) -> Result<Line, Failure>
+        requires turns { (1 ≤ turns) × (turns ≤ most_turns) }
+        requires serving { Serving (D.far link.old) (D.is_alive link.old) }
+        ensures went { IfOk result (λ line. Went (before (command.Count turns) (state_of self.now)) (at_line (said_by line) (state_of self.now)) [] (tells (D.far link.old) (D.script link.old)) (tells (D.far link.new) (D.script link.new))) }
+        ensures falls { IfErr result (Falls (before (command.Count turns) (state_of self.now)) [] (D.fault_count link.old) (D.fault_count link.new) (tells (D.far link.old) (D.script link.old)) (tells (D.far link.new) (D.script link.new))) }
+        ensures serving { OnOk result (Serving (D.far link.new) (D.is_alive link.new)) }
+        ensures left { IfErr result (LeftBy (D.far link.new)) }
+        ensures later { D.fault_count link.old ≤ D.fault_count link.new }
+        ensures slack { D.slack link.new ≡ D.slack link.old }
+        ensures ties { D.ties link.new ≡ D.ties link.old }
+    {
+        match meet(link, &self.target, self.hart)? {
+            Met::Says(line) => Ok(line),
+            Met::At(halted) => armed_line(link, &halted, SlotUse::Count(turns)),
+        }
+    }
+
+    /// Frees a slot, from 0 to 3.
+    pub(crate) fn clear<D: Dmi>(&self, link: &mut D, slot: u8) -> Result<Line, Failure>
+        requires slot { slot ≤ last_slot }
+        requires serving { Serving (D.far link.old) (D.is_alive link.old) }
+        ensures went { IfOk result (λ line. Went (before (command.Clear slot) (state_of self.now)) (at_line (said_by line) (state_of self.now)) [] (tells (D.far link.old) (D.script link.old)) (tells (D.far link.new) (D.script link.new))) }
+        ensures falls { IfErr result (Falls (before (command.Clear slot) (state_of self.now)) [] (D.fault_count link.old) (D.fault_count link.new) (tells (D.far link.old) (D.script link.old)) (tells (D.far link.new) (D.script link.new))) }
+        ensures serving { OnOk result (Serving (D.far link.new) (D.is_alive link.new)) }
+        ensures left { IfErr result (LeftBy (D.far link.new)) }
+        ensures later { D.fault_count link.old ≤ D.fault_count link.new }
+        ensures slack { D.slack link.new ≡ D.slack link.old }
+        ensures ties { D.ties link.new ≡ D.ties link.old }
+    {
+        match meet(link, &self.target, self.hart)? {
+            Met::Says(line) => Ok(line),
+            Met::At(halted) => freed_line(link, &halted, slot),
+        }
+    }
+
+    /// Makes up to so many single steps, and says where the hart stands.
+    pub(crate) fn step<D: Dmi>(&self, link: &mut D, count: u16) -> Result<Line, Failure>
+        requires serving { Serving (D.far link.old) (D.is_alive link.old) }
+        ensures went { IfOk result (λ line. Went (before (command.Step count) (state_of self.now)) (at_line (said_by line) (state_of self.now)) [] (tells (D.far link.old) (D.script link.old)) (tells (D.far link.new) (D.script link.new))) }
+        ensures falls { IfErr result (Falls (before (command.Step count) (state_of self.now)) [] (D.fault_count link.old) (D.fault_count link.new) (tells (D.far link.old) (D.script link.old)) (tells (D.far link.new) (D.script link.new))) }
+        ensures serving { OnOk result (Serving (D.far link.new) (D.is_alive link.new)) }
+        ensures left { IfErr result (LeftBy (D.far link.new)) }
+        ensures later { D.fault_count link.old ≤ D.fault_count link.new }
+        ensures slack { D.slack link.new ≡ D.slack link.old }
+        ensures ties { D.ties link.new ≡ D.ties link.old }
+    {
+        match meet(link, &self.target, self.hart)? {
+            Met::Says(line) => Ok(line),
+            Met::At(halted) => stepped_line(link, halted, count),
+        }
+    }
+
+    /// Lets the hart go.
+    pub(crate) fn resume<D: Dmi>(&self, link: &mut D) -> Result<Line, Failure>
+        requires serving { Serving (D.far link.old) (D.is_alive link.old) }
+        ensures went { IfOk result (λ line. Went (before (command.Resume) (state_of self.now)) (at_line (said_by line) (state_of self.now)) [] (tells (D.far link.old) (D.script link.old)) (tells (D.far link.new) (D.script link.new))) }
+        ensures falls { IfErr result (Falls (before (command.Resume) (state_of self.now)) [] (D.fault_count link.old) (D.fault_count link.new) (tells (D.far link.old) (D.script link.old)) (tells (D.far link.new) (D.script link.new))) }
+        ensures serving { OnOk result (Serving (D.far link.new) (D.is_alive link.new)) }
+        ensures left { IfErr result (LeftBy (D.far link.new)) }
+        ensures later { D.fault_count link.old ≤ D.fault_count link.new }
+        ensures slack { D.slack link.new ≡ D.slack link.old }
+        ensures ties { D.ties link.new ≡ D.ties link.old }
+    {
+        match meet(link, &self.target, self.hart)? {
+            Met::Says(line) => Ok(line),
+            Met::At(halted) => let_go_line(link, halted),
+        }
+    }
+
+    /// Stores a value so many times from an address upwards.
+    pub(crate) fn write<D: Dmi>(
+        &self,
+        link: &mut D,
+        size: Size,
+        address: u64,
+        value: u64,
+        count: u16,
+    ) -> Result<Line, Failure>
+        requires block { IsBlock (count_of size) address count }
+        requires serving { Serving (D.far link.old) (D.is_alive link.old) }
+        ensures went { IfOk result (λ line. Went (before (command.Write size address value count) (state_of self.now)) (at_line (said_by line) (state_of self.now)) [] (tells (D.far link.old) (D.script link.old)) (tells (D.far link.new) (D.script link.new))) }
+        ensures falls { IfErr result (Falls (before (command.Write size address value count) (state_of self.now)) [] (D.fault_count link.old) (D.fault_count link.new) (tells (D.far link.old) (D.script link.old)) (tells (D.far link.new) (D.script link.new))) }
+        ensures serving { OnOk result (Serving (D.far link.new) (D.is_alive link.new)) }
+        ensures left { IfErr result (LeftBy (D.far link.new)) }
+        ensures later { D.fault_count link.old ≤ D.fault_count link.new }
+        ensures slack { D.slack link.new ≡ D.slack link.old }
+        ensures ties { D.ties link.new ≡ D.ties link.old }
+    {
+        match self.reach(link)? {
+            Reached::Says(line) => Ok(line),
+            Reached::By(reach) => written_line(link, &reach, size, address, value, count),
+        }
+    }
+
+    /// Chooses the way on which memory is reached.
+    pub(crate) fn choose(&mut self, path: Path) -> Line
+        ensures line { said_by result ≡ Via path }
+        ensures state { state_of self.new ≡ record (state_of self.old) { path = path } }
+    {
+        self.path = path;
+        Line::Via(path)
+    }
+}
