@@ -82,7 +82,26 @@ struct Held<'a> {
     fail_at: u32,
 }
 
-/// A run of these words: its status, and what it prints.
+/// A run of these words over these files: its status, and what it prints.
+fn check_files<F: Files>(
+    rt: &impl Abort,
+    alloc: Global,
+    words: &[&str],
+    files: &mut F,
+    status: Status,
+    printed: &str,
+) -> Result<(), Fail> {
+    let words = word_list(alloc, words)?;
+    let mut net = quiet_net(alloc)?;
+    let mut out = MemorySink::new(alloc, AMPLE, Vec::new(alloc))?;
+    let mut bench = Bench::blank();
+    let ended = run_once(alloc, &words, files, &mut net, &mut out, &mut bench);
+    assert_eq!(rt; ended, status);
+    assert_eq!(rt; out.bytes(), printed.as_bytes());
+    Ok(())
+}
+
+/// The same over files in memory.
 fn check_words(
     rt: &impl Abort,
     alloc: Global,
@@ -91,15 +110,8 @@ fn check_words(
     status: Status,
     printed: &str,
 ) -> Result<(), Fail> {
-    let words = word_list(alloc, words)?;
     let mut files = two_files(alloc, held.image, held.script, held.fail_at)?;
-    let mut net = quiet_net(alloc)?;
-    let mut out = MemorySink::new(alloc, AMPLE, Vec::new(alloc))?;
-    let mut bench = Bench::blank();
-    let ended = run_once(alloc, &words, &mut files, &mut net, &mut out, &mut bench);
-    assert_eq!(rt; ended, status);
-    assert_eq!(rt; out.bytes(), printed.as_bytes());
-    Ok(())
+    check_files(rt, alloc, words, &mut files, status, printed)
 }
 
 /// The same of a chip with this image, and of this script.
@@ -241,22 +253,9 @@ fn words_that_write_no_built_job_are_refused(rt: HostRuntime) -> Result<(), Fail
 #[test]
 fn a_script_over_the_limit_is_refused(rt: HostRuntime) -> Result<(), Fail> {
     let alloc = rt.alloc();
-    let words = word_list(alloc, &["both", "--image", "i", "--script", "s"])?;
     let long = vec![in alloc; b'#'; SCRIPT_MOST + 1]?;
-    let mut files = two_files(alloc, b"", &long, NO_FAILURE)?;
-    let mut out = MemorySink::new(alloc, AMPLE, Vec::new(alloc))?;
-    let mut bench = Bench::blank();
-    let ended = run_once(
-        alloc,
-        &words,
-        &mut files,
-        &mut quiet_net(alloc)?,
-        &mut out,
-        &mut bench,
-    );
-    assert_eq!(rt; ended, Status::Script);
-    assert_eq!(rt; out.bytes(), b"script refused: line 0 fault 7\n".as_slice());
-    Ok(())
+    let refused = "script refused: line 0 fault 7\n";
+    check_script(&rt, alloc, b"", &long, Status::Script, refused)
 }
 
 #[test]
@@ -358,51 +357,25 @@ fn files_on_disk_are_read(rt: HostRuntime) -> Result<(), Fail> {
     let image = format!(in alloc; "/tmp/jtag_bench_image_{}", process::id(rt.process()))?;
     fs::write(&rt, script.as_str(), "idcode\n")?;
     fs::write(&rt, image.as_str(), "")?;
-    let words = word_list(
-        alloc,
-        &[
-            "both",
-            "--image",
-            image.as_str(),
-            "--script",
-            script.as_str(),
-        ],
-    )?;
+    let found = [
+        "both",
+        "--image",
+        image.as_str(),
+        "--script",
+        script.as_str(),
+    ];
+    let absent = [
+        "both",
+        "--image",
+        image.as_str(),
+        "--script",
+        "/tmp/no/such",
+    ];
     let mut files = DiskFiles::new(&rt);
-    let mut out = MemorySink::new(alloc, AMPLE, Vec::new(alloc))?;
-    let mut bench = Bench::blank();
-    let ended = run_once(
-        alloc,
-        &words,
-        &mut files,
-        &mut quiet_net(alloc)?,
-        &mut out,
-        &mut bench,
-    );
-    assert_eq!(rt; ended, Status::Clean);
-    assert_eq!(rt; out.bytes(), b"idcode 0x10d64001\n".as_slice());
-
-    let absent = word_list(
-        alloc,
-        &[
-            "both",
-            "--image",
-            image.as_str(),
-            "--script",
-            "/tmp/no/such",
-        ],
-    )?;
-    let mut out = MemorySink::new(alloc, AMPLE, Vec::new(alloc))?;
-    let ended = run_once(
-        alloc,
-        &absent,
-        &mut files,
-        &mut quiet_net(alloc)?,
-        &mut out,
-        &mut bench,
-    );
-    assert_eq!(rt; ended.code(), 3);
-    assert_eq!(rt; out.bytes(), b"file failed: /tmp/no/such\n".as_slice());
+    let line = "idcode 0x10d64001\n";
+    check_files(&rt, alloc, &found, &mut files, Status::Clean, line)?;
+    let refused = "file failed: /tmp/no/such\n";
+    check_files(&rt, alloc, &absent, &mut files, Status::File, refused)?;
     assert_eq!(rt; files.faults(), 1);
     fs::remove_file(&rt, script.as_str())?;
     fs::remove_file(&rt, image.as_str())?;
