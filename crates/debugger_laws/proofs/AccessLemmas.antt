@@ -12,7 +12,8 @@ use Rattle.debug_model.specs.declared.command.Path.TheVariants.{Bus}
 use Rattle.debug_model.specs.declared.point.Point.{Point}
 use Rattle.debug_model.specs.declared.point.Point.TheVariants.{Access}
 use Rattle.debugger_laws.specs.Debugger.{by_load, by_store, commands, dumping, first_state, reading, row_bytes, saying_row, writing}
-use Rattle.debugger_laws.specs.Examples.{AccessesHappen, DumpFaults, IsOutcome, ReadFaults, SecondReadFaults, WriteFaults, WriteStores, halted_board, running_board}
+use Rattle.debugger_laws.specs.AccessExamples.{AccessesHappen, DumpFaults, ReadFaults, SecondReadFaults, WriteFaults, WriteStores}
+use Rattle.debugger_laws.specs.ExampleCases.{IsOutcome, halted_board, running_board}
 use Rattle.debugger_laws.specs.Lines.{Line}
 use Rattle.debugger_laws.specs.Plan.{Plan}
 use Rattle.debugger_laws.specs.Plan.Change.{WriteMem}

@@ -24,7 +24,9 @@ use Rattle.debugger_laws.specs.Trace.{What}
 use Rattle.debugger_laws.proofs.SlotLemmas.{CanArm}
 use Rattle.debugger_laws.proofs.StoryLemmas.{same_number}
 use Rattle.debugger_laws.proofs.StandsLemmas.{IsTaken, at_plan, looked, point_board, put, seen_hart, shown, spin, starts, taken, taken_seen, taken_with, went_on, wrote}
-use Rattle.debugger_laws.proofs.WorldLemmas.{HasSlot, known-arm, known-asked, known-ebreak, known-free, known-going, known-gone, known-halt_clear, known-halt_req, known-over, known-ready, known-rests, known-said, known-start, known-step_done, known-step_over, known-stepped, known-still, known-turn, known-unspent, known-write_mem, known-write_reg, known_idle}
+use Rattle.debugger_laws.proofs.KnownChanges.{HasSlot, known-arm, known-ebreak, known-free, known-step_done, known-step_over, known-write_mem, known-write_reg}
+use Rattle.debugger_laws.proofs.KnownHarts.{known-said, known-start, known_idle}
+use Rattle.debugger_laws.proofs.KnownPoints.{known-asked, known-going, known-gone, known-halt_clear, known-halt_req, known-over, known-ready, known-rests, known-stepped, known-still, known-turn, known-unspent}
 
 -- ---- turns
 

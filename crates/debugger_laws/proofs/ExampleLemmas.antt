@@ -10,7 +10,11 @@ use Rattle.rv_model.specs.Rows.{meaning}
 use Rattle.debug_model.specs.Registers.{name_of_register, named_registers}
 use Rattle.debug_model.specs.Spelling.{hexadecimal}
 use Rattle.debugger_laws.specs.Debugger.{session, stepping, until}
-use Rattle.debugger_laws.specs.Examples.{Case, Happens, Holds, step_from_reset, break_twice, pc_onto_break, pc_onto_the_same_break, step_onto_break, count_five, watched_store, ebreak_halts, halt_running, five_breaks, hart_7, hart_1_running, read_only_register, misaligned_read, no_halt, no_ack, step_without_halt, step_without_ack, wait_in_vain, cut_in_a_step, foreign_request, StopsHappen, RefusalsHappen, LossesHappen, LinesRead}
+use Rattle.debugger_laws.specs.ExampleCases.{Case, Happens, Holds}
+use Rattle.debugger_laws.specs.LineExamples.{LinesRead}
+use Rattle.debugger_laws.specs.LossExamples.{no_halt, no_ack, step_without_halt, step_without_ack, wait_in_vain, cut_in_a_step, foreign_request, LossesHappen}
+use Rattle.debugger_laws.specs.RefusalExamples.{five_breaks, hart_7, hart_1_running, read_only_register, misaligned_read, RefusalsHappen}
+use Rattle.debugger_laws.specs.StopExamples.{step_from_reset, break_twice, pc_onto_break, pc_onto_the_same_break, step_onto_break, count_five, watched_store, ebreak_halts, halt_running, StopsHappen}
 use Rattle.debugger_laws.specs.Transcript.{End, Outcome, start, transcript}
 use Rattle.debugger_laws.proofs.Fetched.{computed, computed-agrees, some-unwrap}
 

@@ -19,7 +19,7 @@ use Rattle.debug_model.specs.Journal.{debug_changed_by, halt_requested, resume_a
 use Rattle.rv_model.specs.Board.{DebugPart}
 use Rattle.debug_model.specs.declared.point.Point.{Point}
 use Rattle.debug_model.specs.declared.point.Point.TheVariants.{Turn, Look, HaltReq, HaltClear, ResumeReq, Access}
-use Rattle.debugger_laws.specs.Examples.{Holds, Program}
+use Rattle.debugger_laws.specs.ExampleCases.{Holds, Program}
 use Rattle.debugger_laws.specs.Plan.{Change, Plan, PlanEnd}
 use Rattle.debugger_laws.specs.Plan.Change.{WriteReg, WriteMem, ArmSlot, FreeSlot, StepOver, StepDone, EbreakHalts}
 use Rattle.debugger_laws.specs.Plan.Plan.{take, see, change, say, stop}

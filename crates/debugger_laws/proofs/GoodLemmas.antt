@@ -16,7 +16,9 @@ use Rattle.debugger_laws.specs.Transcript.{Outcome, World, changed, finish, pass
 use Rattle.debugger_laws.specs.Ways.{Way}
 use Rattle.debugger_laws.specs.Ways.Way.{Idle, Still, Ready, Going, Holding, Asked, Over}
 use Rattle.debugger_laws.proofs.PointLemmas.{same_point-equal}
-use Rattle.debugger_laws.proofs.WorldLemmas.{known-asked, known-going, known-gone, known-halt_clear, known-halt_req, known-over, known-rests, known-said, known-step_done, known-step_over, known-stepped, known-still, known-turn, known-unspent, known_idle}
+use Rattle.debugger_laws.proofs.KnownChanges.{known-step_done, known-step_over}
+use Rattle.debugger_laws.proofs.KnownHarts.{known-said, known_idle}
+use Rattle.debugger_laws.proofs.KnownPoints.{known-asked, known-going, known-gone, known-halt_clear, known-halt_req, known-over, known-rests, known-stepped, known-still, known-turn, known-unspent}
 
 -- from every world of which this is known, along every journal, first match is kept
 pub record Good (m : Machine) (sel : ℕ) (way : Way) (p : Plan) : Type 0 where

@@ -7,7 +7,9 @@ pub mod AccessLemmas
 pub mod SlotLemmas
 pub mod StoryLemmas
 pub mod HartLemmas
-pub mod WorldLemmas
+pub mod KnownHarts
+pub mod KnownPoints
+pub mod KnownChanges
 pub mod PointLemmas
 pub mod GoodLemmas
 pub mod ScriptLemmas

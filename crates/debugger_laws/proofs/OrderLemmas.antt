@@ -26,7 +26,7 @@ use Rattle.debugger_laws.specs.Plan.PlanEnd.{Done, NoAck, NoHalt}
 use Rattle.debugger_laws.specs.Slots.{any_hit, first_free, slots_at}
 use Rattle.debugger_laws.specs.Slots.Use.{Armed, Unused}
 use Rattle.debugger_laws.specs.Trace.{What}
-use Rattle.debugger_laws.specs.Transcript.{Outcome, World, changed, passed, replay, said, same_point, start, taking}
+use Rattle.debugger_laws.specs.Transcript.{World, changed, passed, replay, said, same_point, start, taking}
 use Rattle.debugger_laws.proofs.FrontLemmas.{either-fronts, finish-lines, front_same, lines_grow}
 
 -- along every journal, the first plan's lines are the front of the second's

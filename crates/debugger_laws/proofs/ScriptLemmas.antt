@@ -39,7 +39,9 @@ use Rattle.debugger_laws.specs.Ways.{Way}
 use Rattle.debugger_laws.specs.Ways.Way.{Idle, Still, Ready}
 use Rattle.debugger_laws.proofs.GoodLemmas.{Fine, Good, chosen, fine_idle, fine_still, good-change, good-going, good-halted, good-halting, good-if, good-look_all, good-look_by, good-one, good-say, good-see, good-stop, good-stop_line, good-take, good-until, idle_fine, still_ready}
 use Rattle.debugger_laws.proofs.SlotLemmas.{CanArm}
-use Rattle.debugger_laws.proofs.WorldLemmas.{HasSlot, known-arm, known-ebreak, known-free, known-ready, known-start, known-still, known-write_mem, known-write_reg}
+use Rattle.debugger_laws.proofs.KnownChanges.{HasSlot, known-arm, known-ebreak, known-free, known-write_mem, known-write_reg}
+use Rattle.debugger_laws.proofs.KnownHarts.{known-start}
+use Rattle.debugger_laws.proofs.KnownPoints.{known-ready, known-still}
 
 -- ---- loops
 

@@ -1,5 +1,5 @@
 -- One slot, as its story says it is: when it fires, and what a stop, an execution and a debugger make of it.
-use Rattle.std.proofs.Common.{◌≡◌, ◌∙◌, ◌≤◌, ◌<◌, ◌+◌, ◌-◌, ℕ, Bool, true, false, not, ◌&&◌, ◌||◌, Option, Some, None, Result, Ok, Err, option_map, refl, sym, ap, if◌then◌else◌, inl, inr, arith}
+use Rattle.std.proofs.Common.{◌≡◌, ◌∙◌, ◌≤◌, ◌<◌, ◌+◌, ◌-◌, ℕ, Bool, true, false, not, ◌&&◌, ◌||◌, Option, Some, None, option_map, refl, sym, ap, if◌then◌else◌, inl, inr, arith}
 use Rattle.std.specs.Prelude.{◌==◌, nat_lt}
 use Rattle.std.proofs.lemmas.Bool.{cases_eq, cases_lt, eq-eqb, ne_eqb, eqb-true, lt-ltb, false≢true, or_from, false_from_ne_true}
 use Rattle.std.proofs.Math.Bool.{and-false, or-false}

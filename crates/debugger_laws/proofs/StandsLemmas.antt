@@ -1,6 +1,6 @@
 -- The steps of a session: how each call on the link moves the place where the replay stands.
 -- What builds a place is an abbreviation, so that the world in it is seen through.
-use Rattle.std.proofs.Common.{◌≡◌, ◌∙◌, ℕ, zero, suc, List, [], ◌∷◌, ◌++◌, Bool, true, false, Option, slice_get, refl, sym, ap, subst, append_assoc, append-nil, if◌then◌else◌}
+use Rattle.std.proofs.Common.{◌≡◌, ◌∙◌, ℕ, List, [], ◌∷◌, ◌++◌, Bool, true, false, Option, slice_get, refl, sym, ap, subst, append_assoc, append-nil, if◌then◌else◌}
 use Rattle.std.specs.Prelude.{◌≢◌}
 use Rattle.std.proofs.lemmas.Bool.{eq-eqb, false≢true}
 use Rattle.rv_model.specs.Board.{Board, Hart, machine_of}
@@ -15,7 +15,6 @@ use Rattle.debugger_laws.specs.Lines.{Line}
 use Rattle.debugger_laws.specs.Own.{own}
 use Rattle.debugger_laws.specs.Plan.{Change, Plan, PlanEnd, changed_board, hart_over}
 use Rattle.debugger_laws.specs.Plan.Plan.{take, see, change, say, stop}
-use Rattle.debugger_laws.specs.Slots.{over}
 use Rattle.debugger_laws.specs.Stands.{Cut, CutWith, IsTranscribed, Left, Looked, Origin, Pointed, PointedWith, Rewrote, Stands, Target, WentOn}
 use Rattle.debugger_laws.proofs.OverLemmas.{over_twice}
 use Rattle.debugger_laws.specs.Transcript.{End, Outcome, World, changed, finish, graded, passed, replay, said, same_point, start, taking, trace}

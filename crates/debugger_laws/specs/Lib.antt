@@ -8,7 +8,12 @@ pub mod Turns
 pub mod Transcript
 pub mod FirstMatch
 pub mod Laws
-pub mod Examples
+pub mod ExampleCases
+pub mod StopExamples
+pub mod RefusalExamples
+pub mod LossExamples
+pub mod AccessExamples
+pub mod LineExamples
 pub mod Ways
 pub mod Known
 pub mod Stands

@@ -1,6 +1,6 @@
 -- What a debugger makes of a hart's trigger slots: arming and freeing one, and holding those with a hit while it steps over them.
 -- RISC-V Debug Specification 1.0, "Sdtrig (ISA Extension)"; the values that arming writes and the choice of the lowest free slot are this project's own.
-use Rattle.std.specs.Prelude.{ℕ, zero, suc, ◌+◌, ◌*◌, ◌^◌, Bool, true, false, not, ◌&&◌, ◌||◌, List, [], ◌∷◌, map, Option, Some, None, option_map, slice_get, if◌then◌else◌}
+use Rattle.std.specs.Prelude.{ℕ, zero, suc, Bool, true, false, not, ◌&&◌, ◌||◌, List, [], ◌∷◌, map, Option, Some, None, option_map, slice_get, if◌then◌else◌}
 use Rattle.std.specs.List.{list_any}
 use Rattle.rv_model.specs.declared.slot.Comparison.{Comparison}
 use Rattle.rv_model.specs.declared.slot.Comparison.TheVariants.{Equal, AtLeast, Below}

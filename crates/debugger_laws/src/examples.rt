@@ -1,6 +1,11 @@
-//! Worked examples of sessions. Each is the contract of a function that does nothing; `specs/Examples.antt` has the statements.
+//! Worked examples of sessions. Each is the contract of a function that does nothing; the files `specs/*Examples.antt` have the statements,
+//! and `specs/ExampleCases.antt` what they are made of.
 
-ghost use Rattle.debugger_laws.specs.Examples.{AccessesHappen, LinesRead, LossesHappen, RefusalsHappen, StopsHappen};
+ghost use Rattle.debugger_laws.specs.AccessExamples.{AccessesHappen};
+ghost use Rattle.debugger_laws.specs.LineExamples.{LinesRead};
+ghost use Rattle.debugger_laws.specs.LossExamples.{LossesHappen};
+ghost use Rattle.debugger_laws.specs.RefusalExamples.{RefusalsHappen};
+ghost use Rattle.debugger_laws.specs.StopExamples.{StopsHappen};
 
 /// Single steps, breaks, a count, a watch and an ebreak, from reset.
 pub fn stops_happen()
