@@ -92,7 +92,7 @@ makes_end executed h x ts old new is whole frozen r sh w =
 
 -- ---- a change made after turns
 
-rewrote_behind : (f : Hart → Hart) (h : ℕ) (old mid new : Target) → WentOn old mid → Rewrote f h mid new → Rewrote f h old new
+pub rewrote_behind : (f : Hart → Hart) (h : ℕ) (old mid new : Target) → WentOn old mid → Rewrote f h mid new → Rewrote f h old new
 rewrote_behind f h old mid new p w = record {
   harts = p.harts ++ w.harts;
   board = w.board ∙ ap (λ b. hart_over f h (after_turns w.harts b)) p.board ∙ ap (hart_over f h) (sym (after_turns-append p.harts w.harts old.board));
@@ -100,7 +100,7 @@ rewrote_behind f h old mid new p w = record {
       ∙ ap (λ (j : List Point). old.journal ++ j) (sym (turns-append p.harts w.harts));
 }
 
-over_back : (f : Hart → Hart) (h : ℕ) (x z : Hart) (hs : List Hart) → slice_get (over h f hs) h ≡ Some z → slice_get hs h ≡ Some x → f x ≡ z
+pub over_back : (f : Hart → Hart) (h : ℕ) (x z : Hart) (hs : List Hart) → slice_get (over h f hs) h ≡ Some z → slice_get hs h ≡ Some x → f x ≡ z
 over_back f h x z hs there here = same_Some (f x) z (sym (ap (option_map f) here) ∙ sym (slice_get-over_same f h hs) ∙ there)
 
 -- the flag is cleared, and the slots are changed behind it

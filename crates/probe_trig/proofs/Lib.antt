@@ -16,3 +16,5 @@ pub mod OverFaults
 pub mod EndFits
 pub mod StepLawLemmas
 pub mod CutLemmas
+pub mod OverRegisters
+pub mod StepCutLemmas

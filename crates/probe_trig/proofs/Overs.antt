@@ -79,7 +79,7 @@ pub held_at : (some : Bool) (h : ℕ) (far : Option Far) (script : Option DmiScr
 held_at some h far script new ready halted c = did_at (Changes Hold c.a c.b c.c c.d) (HeldAt some h) h far script new ready halted (makes_held some h (tells far script) new c) c.did
 
 -- held, and the flag set
-begun_by : (some : Bool) (h : ℕ) (old mid new : Target) → HeldAt some h old mid → Rewrote (with_step true) h mid new → Rewrote (with_debug_part step_begun) h old new
+pub begun_by : (some : Bool) (h : ℕ) (old mid new : Target) → HeldAt some h old mid → Rewrote (with_step true) h mid new → Rewrote (with_debug_part step_begun) h old new
 begun_by some h old mid new held sets =
     rewrote_then (changes_all Hold) (with_step true) h old mid new held.frozen (λ x f. record { why = f.why; halted = f.halted; not_asked = f.not_asked }) held.changed.wrote sets
 

@@ -6,4 +6,5 @@ pub mod Slots
 pub mod Faults
 pub mod Stepping
 pub mod Going
+pub mod StepCuts
 pub mod StepLaws

@@ -3,14 +3,16 @@ ghost use Rattle.debug_model.specs.Dmi.{CanOperate};
 ghost use Rattle.debug_model.specs.Scan.{WhereTold};
 ghost use Rattle.debug_model.specs.Told.{IsHalted, IsIdle, IsLive, IsReady, Selects};
 ghost use Rattle.probe_run.specs.Acts.{tells};
+ghost use Rattle.probe_access.specs.Cuts.{IfCut};
 ghost use Rattle.probe_access.specs.Faults.{LinkBehind};
 ghost use Rattle.probe_access.specs.Scratches.{ScratchLeft};
 ghost use Rattle.probe_access.specs.SingleSteps.{StepLeft};
 ghost use Rattle.probe_run.specs.Happens.{Exists};
 ghost use Rattle.probe_trig.specs.declared.change.Change.TheVariants.{Hold};
-ghost use Rattle.probe_trig.specs.Faults.{Behind, ByFault};
+ghost use Rattle.probe_trig.specs.Faults.{Behind, ByFault, IfAccess};
 ghost use Rattle.probe_trig.specs.Going.{GoFailed, GoLeft, GoesAt, IfStopped, IsOfHart, WentBy};
 ghost use Rattle.probe_trig.specs.Slots.{AtHarts};
+ghost use Rattle.probe_trig.specs.StepCuts.{BackCut, GoCut, LeavesAt, OverCut};
 ghost use Rattle.probe_trig.specs.Stepping.{BackAt, BackFailed, Ends, EndsAny, OverAt, OverFailed, OverLeft, SteppedBack, SteppedOverAny, ending, shows_step};
 ghost use Rattle.probe_trig.specs.Transfers.{Did, FailedIn};
 
@@ -89,6 +91,7 @@ fn step_back<D: Dmi>(link: &mut D, halted: Halted) -> Result<Stepped, AccessFaul
     ensures hart { IfOk result (λ stepped. stepped.halted.number ≡ halted.number) }
     ensures left { IfErr result (StepLeft halted.number (D.far link.old) (D.far link.new)) }
     ensures failed { IfErr result (BackFailed halted.number (D.fault_count link.old) (D.fault_count link.new) (tells (D.far link.old) (D.script link.old)) (tells (D.far link.new) (D.script link.new))) }
+    ensures cut { IfErr result (IfCut (LeavesAt (BackCut halted.number) (D.far link.old) (D.far link.new))) }
     ensures ready { OnOk result (IsReady (D.far link.new)) }
     ensures selects { OnOk result (Selects halted.number (D.far link.new)) }
     ensures halted { OnOk result (IsHalted halted.number (D.far link.new)) }
@@ -122,6 +125,7 @@ pub fn step_over<D: Dmi>(link: &mut D, halted: Halted) -> Result<Halted, TrigFau
     ensures hart { IfOk result (λ again. again.number ≡ halted.number) }
     ensures left { IfErr result (ByFault (OverLeft halted.number (D.far link.old) (D.far link.new)) ⊥ ⊥) }
     ensures failed { IfErr result (ByFault (OverFailed halted.number (D.fault_count link.old) (D.fault_count link.new) (tells (D.far link.old) (D.script link.old)) (tells (D.far link.new) (D.script link.new))) ⊥ ⊥) }
+    ensures cut { IfErr result (IfAccess (IfCut (LeavesAt (OverCut halted.number) (D.far link.old) (D.far link.new)))) }
     ensures ready { OnOk result (IsReady (D.far link.new)) }
     ensures selects { OnOk result (Selects halted.number (D.far link.new)) }
     ensures halted { OnOk result (IsHalted halted.number (D.far link.new)) }
@@ -152,6 +156,7 @@ pub fn let_go<D: Dmi>(link: &mut D, halted: Halted) -> Result<Gone, TrigFault>
     ensures hart { IfOk result (IsOfHart halted.number) }
     ensures left { IfErr result (ByFault (GoLeft halted.number (D.far link.old) (D.far link.new)) ⊥ ⊥) }
     ensures failed { IfErr result (ByFault (GoFailed halted.number (D.fault_count link.old) (D.fault_count link.new) (tells (D.far link.old) (D.script link.old)) (tells (D.far link.new) (D.script link.new))) ⊥ ⊥) }
+    ensures cut { IfErr result (IfAccess (IfCut (LeavesAt (GoCut halted.number) (D.far link.old) (D.far link.new)))) }
     ensures exists { OnOk result (Exists halted.number (D.far link.new)) }
     ensures ready { OnOk result (IsReady (D.far link.new)) }
     ensures selects { OnOk result (Selects halted.number (D.far link.new)) }

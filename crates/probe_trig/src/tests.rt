@@ -153,7 +153,7 @@ fn check(rt: &impl Abort, call: Call, words: &[u32], wanted: Result<Answer, Trig
 }
 
 #[test]
-fn each_operation_may_fail(rt: HostRuntime) {
+fn each_operation_of_a_view_may_fail(rt: HostRuntime) {
     let view = SlotView {
         used: [
             SlotUse::Break(0x8000_0008),
@@ -176,6 +176,10 @@ fn each_operation_may_fail(rt: HostRuntime) {
         ],
         Ok(Answer::Saw(view)),
     );
+}
+
+#[test]
+fn each_operation_of_an_arming_may_fail(rt: HostRuntime) {
     let second = [
         IDLE, 2, 0, // tselect
         IDLE, IDLE, 0x44, OTHER, // slot 0
@@ -197,6 +201,10 @@ fn each_operation_may_fail(rt: HostRuntime) {
         ],
         Err(TrigFault::NoFreeSlot),
     );
+}
+
+#[test]
+fn each_operation_of_a_freeing_may_fail(rt: HostRuntime) {
     check(
         &rt,
         Call::Disarm,

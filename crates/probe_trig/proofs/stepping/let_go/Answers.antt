@@ -1,3 +1,4 @@
+use Rattle.probe_trig.proofs.StepCutLemmas.{go_in_back, go_in_hold, go_in_resume}
 use Rattle.std.proofs.Common.{true, false, refl, arith}
 use Rattle.probe_access.proofs.Polls.{not_false, not_true}
 use Rattle.probe_trig.specs.Going.GoFailed.{in_back, in_resume}
@@ -55,3 +56,23 @@ returns-clause-goes_at g c = free_at c.args.halted.number _ _ _ (through_over c.
 
 pub returns-clause-went : goal.returns-clause-went
 returns-clause-went g c = record { mid = _; through = (over (record { held = _; holds = (rw (c.if-not-some.false) at c.in_ok-some.ensures.did); back = stepped_is c.in_ok-stepped.stepped.executed true c.args.halted.number _ _ (not_false c.in_ok-stepped.stepped.executed c.if-not-stepped.false) c.in_ok-stepped.ensures.stepped })); resumed = (rw (c.in_ok-stepped.ensures.hart) at c.in_ok-running-2.ensures.did) }
+
+pub returns-in_err-some-clause-cut : goal.returns-in_err-some-clause-cut
+returns-in_err-some-clause-cut g c =
+    if_err _ c.from_residual.result _ c.from_residual.ensures.1
+    (go_in_hold c.args.halted.number _ _ _ _ _ c.in_err-some.field-0.0 c.requires.ready c.requires.halted c.in_err-some.ensures.failed)
+
+pub returns-in_err-running-clause-cut : goal.returns-in_err-running-clause-cut
+returns-in_err-running-clause-cut g c =
+    if_err _ c.from_residual-in_err-running.result _ c.from_residual-in_err-running.ensures.1
+    (go_in_resume c.args.halted.number _ _ _ c.in_err-running.field-0.0 (through_none c.args.halted.number _ _ (held_at false c.args.halted.number _ _ _ c.requires.ready c.requires.halted (rw (c.if-not-some.true) at c.in_ok-some.ensures.did))) c.in_err-running.ensures.left)
+
+pub returns-in_err-stepped-clause-cut : goal.returns-in_err-stepped-clause-cut
+returns-in_err-stepped-clause-cut g c =
+    if_err _ c.from_residual-in_err-stepped.result _ c.from_residual-in_err-stepped.ensures.1
+    (go_in_back c.args.halted.number _ _ _ c.in_err-stepped.field-0.0 (held_at true c.args.halted.number _ _ _ c.requires.ready c.requires.halted (rw (c.if-not-some.false) at c.in_ok-some.ensures.did)) c.in_err-stepped.ensures.cut)
+
+pub returns-in_err-running-2-clause-cut : goal.returns-in_err-running-2-clause-cut
+returns-in_err-running-2-clause-cut g c =
+    if_err _ c.from_residual-in_err-running-2.result _ c.from_residual-in_err-running-2.ensures.1
+    (go_in_resume c.args.halted.number _ _ _ c.in_err-running-2.field-0.0 (through_over c.args.halted.number _ _ (over_as true true c.args.halted.number _ _ _ (held_at true c.args.halted.number _ _ _ c.requires.ready c.requires.halted (rw (c.if-not-some.false) at c.in_ok-some.ensures.did)) (back_is c.in_ok-stepped.stepped.executed true c.args.halted.number _ _ (not_false c.in_ok-stepped.stepped.executed c.if-not-stepped.false) c.in_ok-stepped.ensures.back_at))) (rw (c.in_ok-stepped.ensures.hart) at c.in_err-running-2.ensures.left))

@@ -1,3 +1,4 @@
+use Rattle.probe_trig.proofs.StepCutLemmas.{back_in_end, back_in_step}
 use Rattle.probe_access.proofs.StepClauses.{flag_left}
 use Rattle.probe_trig.specs.Stepping.BackFailed.{in_end, in_step}
 use Rattle.probe_trig.proofs.OverFaults.{failed_counted}
@@ -26,3 +27,12 @@ returns-clause-back_at g c =
 
 pub returns-clause-stepped : goal.returns-clause-stepped
 returns-clause-stepped g c = record { ran = _; steps = c.in_ok-again.ensures.stepped; ends = rw (c.in_ok-again.ensures.hart) at c.in_ok-executed.ensures.did }
+
+pub returns-in_err-again-clause-cut : goal.returns-in_err-again-clause-cut
+returns-in_err-again-clause-cut g c =
+    if_err _ c.from_residual.result _ c.from_residual.ensures.1 (back_in_step c.args.halted.number _ _ c.in_err-again.field-0.0 c.in_err-again.ensures.cut)
+
+pub returns-in_err-executed-clause-cut : goal.returns-in_err-executed-clause-cut
+returns-in_err-executed-clause-cut g c =
+    if_err _ c.from_residual-in_err-executed.result _ c.from_residual-in_err-executed.ensures.1
+    (back_in_end c.args.halted.number _ _ _ _ _ _ c.in_err-executed.field-0.0 c.in_ok-again.ensures.stepped_at c.in_ok-again.ensures.ready c.in_ok-again.ensures.halted (rw (c.in_ok-again.ensures.hart) at c.in_err-executed.ensures.failed))

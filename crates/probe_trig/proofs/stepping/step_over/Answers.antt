@@ -1,3 +1,4 @@
+use Rattle.probe_trig.proofs.StepCutLemmas.{over_in_back, over_in_hold}
 use Rattle.probe_trig.specs.Stepping.OverFailed.{in_back, in_hold}
 use Rattle.probe_trig.proofs.OverFaults.{back_counted, scratch_over, step_over_left}
 use Rattle.probe_trig.proofs.Overs.{at_as, held_at, over_as}
@@ -31,3 +32,13 @@ returns-clause-over_at g c =
 
 pub returns-clause-did : goal.returns-clause-did
 returns-clause-did g c = (c.in_ok-_some._some, c.in_ok-stepped.stepped.executed, record { held = _; holds = c.in_ok-_some.ensures.did; back = c.in_ok-stepped.ensures.stepped })
+
+pub returns-in_err-_some-clause-cut : goal.returns-in_err-_some-clause-cut
+returns-in_err-_some-clause-cut g c =
+    if_err _ c.from_residual.result _ c.from_residual.ensures.1
+    (over_in_hold c.args.halted.number _ _ _ _ _ c.in_err-_some.field-0.0 c.requires.ready c.requires.halted c.in_err-_some.ensures.failed)
+
+pub returns-in_err-stepped-clause-cut : goal.returns-in_err-stepped-clause-cut
+returns-in_err-stepped-clause-cut g c =
+    if_err _ c.from_residual-in_err-stepped.result _ c.from_residual-in_err-stepped.ensures.1
+    (over_in_back c.in_ok-_some._some c.args.halted.number _ _ _ c.in_err-stepped.field-0.0 (held_at c.in_ok-_some._some c.args.halted.number _ _ _ c.requires.ready c.requires.halted c.in_ok-_some.ensures.did) c.in_err-stepped.ensures.cut)
