@@ -6,6 +6,8 @@
 mod blocks;
 mod bus;
 mod bus_parts;
+#[cfg(test)]
+mod bus_tests;
 mod commands;
 mod doubles;
 mod fault;

@@ -1,13 +1,11 @@
-//! Accesses by the system bus, single steps and blocks over operations whose answers are given beforehand: words of `sbcs` by the layout of
-//! RISC-V Debug Specification 1.0, "System Bus Access Control and Status" (version 1, addresses of 64 bits, accesses of 1 to 8 bytes), words of
-//! `dmstatus` by "Debug Module Status".
+//! Single steps and blocks over operations whose answers are given beforehand: words of `abstractcs` and `dmstatus` by the layouts of RISC-V Debug
+//! Specification 1.0, "Abstract Control and Status" and "Debug Module Status".
 
 ghost use Rattle.std.specs.Prelude.{◌≡◌, [], true};
 ghost use Rattle.debug_model.specs.Dmi.{CanOperate};
 ghost use Rattle.debug_model.specs.Told.{IsAsLoaded};
 
 use crate::blocks::{load_block, store_block};
-use crate::bus::{bus_load, bus_store};
 use crate::fault::AccessFault;
 use crate::single::step;
 use arrayvec::ArrayVec;
@@ -15,23 +13,17 @@ use debug_model::{Dmi, DmiFault, ScriptedDmi, WireFault};
 use probe_run::{ConnectFault, RunFault, Seen, connect};
 use rv_model::Size;
 
-/// No access of the bus is under way, and no error is set.
-const BUS_IDLE: u32 = 0x2016_080f;
-
-/// An access is under way.
-const BUS_BUSY: u32 = 0x2036_080f;
-
-/// `sberror` 2.
-const BUS_OUTSIDE: u32 = 0x2016_280f;
-
 /// No command is under way, and no error is set.
 const IDLE: u32 = 0x0400_0002;
 
 /// `cmderr` 3.
 const EXCEPTION: u32 = 0x0400_0302;
 
+/// `cmderr` 2.
+const UNSUPPORTED: u32 = 0x0400_0202;
+
 /// The script has ended.
-const ENDED: AccessFault = AccessFault::Dmi(DmiFault::Wire(WireFault::RecvFailed));
+pub(crate) const ENDED: AccessFault = AccessFault::Dmi(DmiFault::Wire(WireFault::RecvFailed));
 
 /// The words of an opening, and of a Look that sees the hart halted.
 const OPENING: [u32; 6] = [
@@ -46,20 +38,6 @@ const OPENING: [u32; 6] = [
 /// A Look that sees the hart halted again, with its resume acknowledged.
 const STEPPED: u32 = 0x000f_0383;
 
-/// Operations that answer so many times the first word, and then these.
-fn behind(times: usize, first: u32, words: &[u32]) -> ScriptedDmi
-    ensures { result.alive ≡ true }
-{
-    let mut answers: ArrayVec<u32, 64> = ArrayVec::new();
-    for _time in 0..times {
-        let _room = answers.try_push(first);
-    }
-    for word in words {
-        let _room = answers.try_push(*word);
-    }
-    ScriptedDmi::new(answers)
-}
-
 /// Operations that answer the words of an opening, and then these.
 fn opened(words: &[u32]) -> ScriptedDmi
     ensures { result.alive ≡ true }
@@ -72,79 +50,6 @@ fn opened(words: &[u32]) -> ScriptedDmi
         let _room = answers.try_push(*word);
     }
     ScriptedDmi::new(answers)
-}
-
-#[test]
-fn loads_by_the_bus(rt: HostRuntime) {
-    let address = 0x8000_0010;
-    let cases: [(Size, usize, &[u32], Result<u64, AccessFault>); 12] = [
-        (
-            Size::B8,
-            0,
-            &[BUS_IDLE, 0x89ab_cdef, 0x0123_4567],
-            Ok(0x0123_4567_89ab_cdef),
-        ),
-        (Size::B4, 1, &[BUS_IDLE, 0x89ab_cdef, 7], Ok(0x89ab_cdef)),
-        (Size::B2, 0, &[BUS_IDLE, 0x89ab_cdef, 7], Ok(0xcdef)),
-        (Size::B1, 61, &[BUS_IDLE, 0x89ab_cdef, 7], Ok(0xef)),
-        (
-            Size::B8,
-            63,
-            &[BUS_OUTSIDE],
-            Err(AccessFault::Memory(address)),
-        ),
-        (Size::B8, 64, &[], Err(AccessFault::StillBusy)),
-        (
-            Size::B8,
-            0,
-            &[0x2016_380f],
-            Err(AccessFault::Odd(0x2016_380f)),
-        ),
-        (
-            Size::B8,
-            3,
-            &[0x2016_480f],
-            Err(AccessFault::Odd(0x2016_480f)),
-        ),
-        (
-            Size::B8,
-            0,
-            &[0x2016_780f],
-            Err(AccessFault::Odd(0x2016_780f)),
-        ),
-        (
-            Size::B8,
-            0,
-            &[0x2056_080f],
-            Err(AccessFault::Odd(0x2056_080f)),
-        ),
-        (
-            Size::B8,
-            0,
-            &[0x2056_280f],
-            Err(AccessFault::Memory(address)),
-        ),
-        (Size::B8, 2, &[BUS_IDLE, 7], Err(ENDED)),
-    ];
-    for (size, busy, words, wanted) in cases {
-        let mut link = behind(busy, BUS_BUSY, words);
-        assert_eq!(rt; bus_load(&mut link, size, 0x8000_0010), wanted);
-    }
-}
-
-#[test]
-fn stores_by_the_bus(rt: HostRuntime) {
-    let cases: [(usize, &[u32], Result<(), AccessFault>); 5] = [
-        (0, &[BUS_IDLE], Ok(())),
-        (63, &[BUS_IDLE], Ok(())),
-        (64, &[], Err(AccessFault::StillBusy)),
-        (63, &[BUS_OUTSIDE], Err(AccessFault::Memory(0x8000_0010))),
-        (1, &[], Err(ENDED)),
-    ];
-    for (busy, words, wanted) in cases {
-        let mut link = behind(busy, BUS_BUSY, words);
-        assert_eq!(rt; bus_store(&mut link, Size::B2, 0x8000_0010, 0xffff), wanted);
-    }
 }
 
 /// Why a test's session failed, or that the Look saw the hart otherwise.
@@ -174,6 +79,38 @@ impl From<AccessFault> for Fault {
     }
 }
 
+/// `dcsr` was refused, and an error was shown that is another.
+const NO_DCSR: Fault = Fault::Access(AccessFault::Register(0x7b0));
+
+const ODDLY: Fault = Fault::Access(AccessFault::Odd(UNSUPPORTED));
+
+/// A step whose first Look sees the hart halted again, and one whose third does.
+const AT_ONCE: [u32; 9] = [
+    IDLE,
+    0x4000_0143,
+    0,
+    IDLE,
+    STEPPED,
+    IDLE,
+    0x4000_0107,
+    0,
+    IDLE,
+];
+
+const LATER: [u32; 11] = [
+    IDLE,
+    0x4000_0143,
+    0,
+    IDLE,
+    0x000c_0c83,
+    0x000f_0c83,
+    STEPPED,
+    IDLE,
+    7,
+    0,
+    IDLE,
+];
+
 /// Opens the chip and makes one step.
 fn step_once<D: Dmi>(link: &mut D) -> Result<u16, Fault>
     requires alive { D.is_alive link.old ≡ true }
@@ -191,49 +128,12 @@ fn step_once<D: Dmi>(link: &mut D) -> Result<u16, Fault>
 #[test]
 fn steps(rt: HostRuntime) {
     let cases: [(&[u32], Result<u16, Fault>); 6] = [
-        (
-            &[
-                IDLE,
-                0x4000_0143,
-                0,
-                IDLE,
-                STEPPED,
-                IDLE,
-                0x4000_0107,
-                0,
-                IDLE,
-            ],
-            Ok(1),
-        ),
-        (
-            &[
-                IDLE,
-                0x4000_0143,
-                0,
-                IDLE,
-                0x000c_0c83,
-                0x000f_0c83,
-                STEPPED,
-                IDLE,
-                7,
-                0,
-                IDLE,
-            ],
-            Ok(1),
-        ),
-        (
-            &[EXCEPTION],
-            Err(Fault::Access(AccessFault::Register(0x7b0))),
-        ),
-        (
-            &[IDLE, 7, 0, EXCEPTION],
-            Err(Fault::Access(AccessFault::Register(0x7b0))),
-        ),
+        (&AT_ONCE, Ok(1)),
+        (&LATER, Ok(1)),
+        (&[EXCEPTION], Err(NO_DCSR)),
+        (&[IDLE, 7, 0, EXCEPTION], Err(NO_DCSR)),
         (&[IDLE, 7, 0, IDLE], Err(Fault::Access(ENDED))),
-        (
-            &[IDLE, 7, 0, IDLE, STEPPED, 0x0400_0202],
-            Err(Fault::Access(AccessFault::Odd(0x0400_0202))),
-        ),
+        (&[IDLE, 7, 0, IDLE, STEPPED, UNSUPPORTED], Err(ODDLY)),
     ];
     for (words, wanted) in cases {
         let mut link = opened(words);
