@@ -8,7 +8,6 @@ mod halted;
 mod line;
 mod line_text;
 mod slot_line;
-mod slot_use;
 #[cfg(test)]
 mod tests;
 mod text;
@@ -17,4 +16,3 @@ mod words;
 pub use digits::{ADDRESS_LENGTH, DECIMAL_MOST, push_address, push_decimal, push_hex};
 pub use line::Line;
 pub use line_text::{LINE_MOST, LineText, push_word};
-pub use slot_use::SlotUse;

@@ -2,9 +2,9 @@ ghost use Rattle.std.specs.Prelude.{◌≡◌};
 ghost use Rattle.debugger_laws.specs.Lines.{is_error};
 ghost use Rattle.printed_lines.specs.Line.{line_of};
 
-use crate::slot_use::SlotUse;
 use arrayvec::ArrayVec;
 use debug_model::Path;
+use probe_trig::SlotUse;
 use rv_model::{Size, SlotSet};
 
 /// One line that a session prints. Registers go by their number for abstract commands

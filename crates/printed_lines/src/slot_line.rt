@@ -1,12 +1,12 @@
 ghost use Rattle.std.specs.Prelude.{◌≡◌, ◌≤◌, ◌<◌, ◌+◌, ◌++◌, codes, decimal};
 ghost use Rattle.arrayvec.specs.ArrayVec.{array_vec_len};
 ghost use Rattle.debugger_laws.specs.Lines.{spelled_hit, spelled_use};
-ghost use Rattle.printed_lines.specs.Line.{use_of_slot_use};
+ghost use Rattle.probe_trig.specs.Words.{use_named};
 
 use crate::digits::{push_address, push_decimal};
 use crate::line_text::{LINE_MOST, LineText, push_word};
-use crate::slot_use::SlotUse;
 use crate::words::watch_word;
+use probe_trig::SlotUse;
 
 /// The most bytes of a slot's use: `watch access ` and an address.
 const USE_MOST: usize = 31;
@@ -14,7 +14,7 @@ const USE_MOST: usize = 31;
 /// Appends what a slot is used for.
 fn push_use(text: &mut LineText, used: SlotUse)
     requires { array_vec_len text.old + USE_MOST ≤ LINE_MOST }
-    ensures words { text.new.items ≡ text.old.items ++ spelled_use (use_of_slot_use used) }
+    ensures words { text.new.items ≡ text.old.items ++ spelled_use (use_named used) }
     ensures room { array_vec_len text.new ≤ array_vec_len text.old + USE_MOST }
 {
     match used {
@@ -43,7 +43,7 @@ fn push_use(text: &mut LineText, used: SlotUse)
 /// Appends the words of a slot: its number, its use, and its hit where that is to be shown.
 pub(crate) fn push_slot(text: &mut LineText, slot: u8, used: SlotUse, hit: bool)
     requires { array_vec_len text.old ≡ 0 }
-    ensures words { text.new.items ≡ text.old.items ++ (codes "slot " ++ decimal slot ++ codes " " ++ spelled_use (use_of_slot_use used) ++ spelled_hit hit) }
+    ensures words { text.new.items ≡ text.old.items ++ (codes "slot " ++ decimal slot ++ codes " " ++ spelled_use (use_named used) ++ spelled_hit hit) }
     ensures room { array_vec_len text.new < LINE_MOST }
 {
     push_word(text, b"slot ");

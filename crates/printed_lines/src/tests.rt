@@ -1,9 +1,11 @@
 //! Each line's text, as docs/FORMATS.md has it under "Printed lines".
 
-use crate::{Line, SlotUse};
+use crate::Line;
 use arrayvec::ArrayVec;
 use debug_model::{Path, WatchKind};
+use probe_trig::SlotUse;
 use rv_model::{Size, SlotSet};
+use std::process::Abort;
 use std::test::Fail;
 
 /// Where RAM starts.
@@ -26,13 +28,36 @@ fn row(address: u64, bytes: &[u8]) -> Line {
     }
 }
 
+/// A line has this text, and says an error where that begins with `error: `.
+fn check(rt: &impl Abort, line: Line, printed: &str) -> Result<(), Fail> {
+    let text = line.text();
+    assert_eq!(rt; text.as_slice(), printed.as_bytes());
+    assert_eq!(rt; line.is_error(), printed.starts_with("error: "));
+    Ok(())
+}
+
 #[test]
-fn texts_of_lines(rt: HostRuntime) -> Result<(), Fail> {
-    let watched = SlotUse::Watch(WatchKind::Store, RAM + 0x12);
+fn a_line_of_words_has_its_text(rt: HostRuntime) -> Result<(), Fail> {
     let cases = [
         (Line::Idcode(0x10d6_4001), "idcode 0x10d64001\n"),
         (Line::Idcode(0xabc), "idcode 0x00000abc\n"),
         (Line::Selected(1023), "hart 1023\n"),
+        (Line::Running, "running\n"),
+        (Line::Resumed, "resumed\n"),
+        (Line::Via(Path::Progbuf), "via progbuf\n"),
+        (Line::Via(Path::Bus), "via bus\n"),
+        (Line::Ebreak(true), "ebreak on\n"),
+        (Line::Ebreak(false), "ebreak off\n"),
+    ];
+    for (line, printed) in cases {
+        check(&rt, line, printed)?;
+    }
+    Ok(())
+}
+
+#[test]
+fn a_stop_has_its_cause_and_hits(rt: HostRuntime) -> Result<(), Fail> {
+    let cases = [
         (
             halted(RAM, 1, 0),
             "halted at 0x0000000080000000 by ebreak\n",
@@ -68,8 +93,16 @@ fn texts_of_lines(rt: HostRuntime) -> Result<(), Fail> {
             "halted at 0xffffffffffffffff by cause 255\n",
         ),
         (halted(0, 0, 0), "halted at 0x0000000000000000 by cause 0\n"),
-        (Line::Running, "running\n"),
-        (Line::Resumed, "resumed\n"),
+    ];
+    for (line, printed) in cases {
+        check(&rt, line, printed)?;
+    }
+    Ok(())
+}
+
+#[test]
+fn a_value_has_its_width(rt: HostRuntime) -> Result<(), Fail> {
+    let cases = [
         (
             Line::Register(0x300, 0x1880),
             "mstatus 0x0000000000001880\n",
@@ -103,10 +136,17 @@ fn texts_of_lines(rt: HostRuntime) -> Result<(), Fail> {
             row(RAM + 16, &[0xa5; 16]),
             "0x0000000080000010 a5a5a5a5a5a5a5a5a5a5a5a5a5a5a5a5\n",
         ),
-        (Line::Via(Path::Progbuf), "via progbuf\n"),
-        (Line::Via(Path::Bus), "via bus\n"),
-        (Line::Ebreak(true), "ebreak on\n"),
-        (Line::Ebreak(false), "ebreak off\n"),
+    ];
+    for (line, printed) in cases {
+        check(&rt, line, printed)?;
+    }
+    Ok(())
+}
+
+#[test]
+fn a_slot_has_its_use(rt: HostRuntime) -> Result<(), Fail> {
+    let watched = SlotUse::Watch(WatchKind::Store, RAM + 0x12);
+    let cases = [
         (
             Line::Slot(0, watched, true),
             "slot 0 watch store 0x0000000080000012 hit\n",
@@ -132,6 +172,16 @@ fn texts_of_lines(rt: HostRuntime) -> Result<(), Fail> {
             "slot 1 other 0x6000000000000044\n",
         ),
         (Line::Slot(2, SlotUse::Free, false), "slot 2 free\n"),
+    ];
+    for (line, printed) in cases {
+        check(&rt, line, printed)?;
+    }
+    Ok(())
+}
+
+#[test]
+fn an_error_says_so(rt: HostRuntime) -> Result<(), Fail> {
+    let cases = [
         (Line::NoHart(7), "error: no hart 7\n"),
         (Line::IsRunning(0), "error: hart 0 is running\n"),
         (
@@ -146,9 +196,7 @@ fn texts_of_lines(rt: HostRuntime) -> Result<(), Fail> {
         (Line::SlotNotInUse(2), "error: slot 2 not in use\n"),
     ];
     for (line, printed) in cases {
-        let text = line.text();
-        assert_eq!(rt; text.as_slice(), printed.as_bytes());
-        assert_eq!(rt; line.is_error(), printed.starts_with("error: "));
+        check(&rt, line, printed)?;
     }
     Ok(())
 }

@@ -86,7 +86,7 @@ reset_length : (n : ℕ) (halted : Option Cause) → length (reset_harts n halte
 reset_length zero halted = refl
 reset_length (suc n) halted = length_end (reset_harts n halted) (reset_hart n halted) ∙ ap suc (reset_length n halted)
 
-each_reset : (n : ℕ) (halted : Option Cause) → n ≤ 4 → (j : ℕ) (x : Hart) → slice_get (reset_harts n halted) j ≡ Some x → ResetAs j x
+pub each_reset : (n : ℕ) (halted : Option Cause) → n ≤ 4 → (j : ℕ) (x : Hart) → slice_get (reset_harts n halted) j ≡ Some x → ResetAs j x
 each_reset zero halted most j x is = absurd (none-some x is)
 each_reset (suc n) halted most j x is =
     let zero_plus : 0 + j ≡ j = omega arith in

@@ -18,7 +18,7 @@ use Rattle.probe_run.specs.Happens.{InVain, MetAt}
 use Rattle.probe_run.specs.Happens.InVain.{none, again}
 use Rattle.probe_run.specs.SessionLaws.{HaltsLead, ResumesLead, StepsLead}
 
-vain : (m : Machine) (sel : ℕ) (way : Way) (o : Origin) (test : Seen → Bool) (failed : Seen → Plan) (found : Plan) (lines : List Line) (old : Target) (k : ℕ) (last : Seen) (mid : Target) → InVain test sel old k last mid
+pub vain : (m : Machine) (sel : ℕ) (way : Way) (o : Origin) (test : Seen → Bool) (failed : Seen → Plan) (found : Plan) (lines : List Line) (old : Target) (k : ℕ) (last : Seen) (mid : Target) → InVain test sel old k last mid
     → (n all : ℕ) → k + n ≡ all → Deals m sel way o (until all sel test failed found unseen) lines old → Deals m sel way o (until n sel test failed found last) lines mid
 vain m sel way o test failed found lines old k last mid none n all is d =
     let e : all ≡ n = omega arith in
@@ -27,7 +27,7 @@ vain m sel way o test failed found lines old k last mid (again j before now betw
     deals_again m sel way o n test failed found before now lines between end shown
     (vain m sel way o test failed found lines old j before between v (suc n) all (omega arith) d) look
 
-met : (m : Machine) (sel : ℕ) (way way' : Way) (o : Origin) (p : Point) (test : Seen → Bool) (failed : Seen → Plan) (found : Plan) (lines : List Line) (old new : Target) (a : MetAt p test sel old new)
+pub met : (m : Machine) (sel : ℕ) (way way' : Way) (o : Origin) (p : Point) (test : Seen → Bool) (failed : Seen → Plan) (found : Plan) (lines : List Line) (old new : Target) (a : MetAt p test sel old new)
     → ((w : World) → test (seen_at sel w.board) ≡ true → IsKnown m sel way w → IsKnown m sel way' w) → Deals m sel way o (until most_looks sel test failed found unseen) lines a.asked → Deals m sel way' o found lines new
 met m sel way way' o p test failed found lines old new a sees d =
     let n : ℕ = 64 - (a.looks + 1) in

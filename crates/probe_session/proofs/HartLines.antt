@@ -1,12 +1,11 @@
 -- What a halted hart's lines come from.
-use Rattle.std.proofs.Common.{◌≡◌, ◌≢◌, ◌≤◌, ◌∙◌, ℕ, Bool, false, List, [], subst, sym, ap, refl, if◌then◌else◌}
+use Rattle.std.proofs.Common.{◌≡◌, ◌≢◌, ◌≤◌, ℕ, Bool, false, List, [], subst, sym, ap, refl, if◌then◌else◌}
 use Rattle.std.proofs.lemmas.Bool.{ne_eqb}
 use Rattle.rv_model.specs.DebugRegisters.{dcsr_number, debug_refuses}
 use Rattle.rv_model.specs.Registers.{pc_number}
 use Rattle.debugger_laws.specs.Lines.{Line}
 use Rattle.debugger_laws.specs.Plan.{Plan}
 use Rattle.debugger_laws.specs.Plan.Plan.{say}
-use Rattle.debugger_laws.specs.Slots.{Use}
 use Rattle.debugger_laws.specs.Slots.Use.{Armed, Unused}
 use Rattle.debugger_laws.proofs.SlotLemmas.{CanArm}
 use Rattle.probe_run.specs.Acts.{Tells}
@@ -24,7 +23,7 @@ use Rattle.probe_session.specs.Commands.{at_arming, at_ebreak, at_freeing, at_re
 use Rattle.probe_session.specs.Goes.{Falls, Went}
 use Rattle.probe_session.specs.Goes.{Fault}
 use Rattle.probe_session.specs.Goes.Goes.{step}
-use Rattle.probe_session.specs.Goes.Passing.{found, gave, got}
+use Rattle.probe_session.specs.Goes.Passing.{found, got}
 use Rattle.probe_session.specs.Places.{Place, still}
 use Rattle.probe_session.specs.Said.{shown_beside}
 use Rattle.probe_session.specs.Slots.{what_of}
@@ -88,7 +87,7 @@ write_falls h number value fell = falls_at (λ next. Fault.giving fell)
 
 pub forget_falls : (h number value : ℕ) {old_count count new_count : ℕ} {t u v : Tells} {f : Failure} → Gave h number value t u → old_count ≤ count → SlotsFell (ChangesAny Forget) h count new_count u v f
     → Falls (at_written_register h number value) [] old_count new_count t v f
-forget_falls h number value at le fell = falls_at (λ next. Fault.behind (gave at) le (Fault.forgetting fell))
+forget_falls h number value at le fell = falls_at (λ next. Fault.forgetting_behind at le fell)
 
 -- ---- dcsr
 
@@ -111,11 +110,10 @@ armable (slot_use.Watch kind address) can = (refl, tt)
 armable (slot_use.Count turns) can = (refl, can.0)
 armable (slot_use.Other tdata1) can = absurd can
 
-pub slot_armed : (h slot : ℕ) (meant : SlotUse) (used : Use) {t u : Tells} → trig.CanArm meant → used ≡ use_named meant → SlotTaken h meant slot t u
-    → Went (at_arming h (what_of meant)) (ends_with (Line.Slot slot used false)) [] t u
-slot_armed h slot meant used {t} {u} can is at =
+pub slot_armed : (h slot : ℕ) (meant : SlotUse) {t u : Tells} → trig.CanArm meant → SlotTaken h meant slot t u → Went (at_arming h (what_of meant)) (ends_with (Line.Slot slot (use_named meant) false)) [] t u
+slot_armed h slot meant {t} {u} can at =
     let a = armable meant can in
-    subst (λ x. Went (at_arming h (what_of meant)) (ends_with (Line.Slot slot x false)) [] t u) (sym (is ∙ a.0)) (rested (λ next. arms (what_of meant) next at a.0 a.1))
+    subst (λ x. Went (at_arming h (what_of meant)) (ends_with (Line.Slot slot x false)) [] t u) (sym a.0) (rested (λ next. arms (what_of meant) next at a.0 a.1))
 
 pub none_free : (h : ℕ) (meant : SlotUse) {t u : Tells} → NoneFree h meant t u → Went (at_arming h (what_of meant)) (ends_with Line.NoFreeSlot) [] t u
 none_free h meant at = rested (λ next. arms_none (what_of meant) next at)

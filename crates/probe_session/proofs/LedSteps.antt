@@ -103,7 +103,7 @@ ebreak_given h word on next m o lines c f new x here is passed g d =
 
 loaded_at : (m : Machine) (h : ℕ) (way : Way) (size : Size) (address v : ℕ) (o : Origin) (faulted : Plan) (read : ℕ → Plan) (lines : List Line) (old new : Tells) → Loaded size address v old new
     → At m h way o (take Access (see (λ b. by_load (loaded b.memory address size) faulted read))) lines (target_at old.far) → At m h way o (read v) lines (target_at new.far)
-loaded_at m h way size address v o faulted read lines old new (Loaded.by_hart heard told) a =
+loaded_at m h way size address v o faulted read lines old new (Loaded.by_hart held cut heard told) a =
     told_case (access.LoadedAt size address v) m h way o _ lines (λ n. At m h way o (read v) lines (target_at n)) old.far new.far
     (λ c d l. at_far m h way o (read v) lines l.far _ l.is (load_deals m h way size address v o faulted read lines l.before l.behind (site_of c) (site_of l.far) l.value_is (record { board = l.access.board; journal = l.access.journal }) d)) told a
 loaded_at m h way size address v o faulted read lines old new (Loaded.by_bus heard told) a =

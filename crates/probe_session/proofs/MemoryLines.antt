@@ -73,13 +73,13 @@ block_below size a count k block below =
     let more : k + 1 ≤ count = omega arith in
     omega (arith, mul-le-mul_left (count_of size) more)
 
-next_address : (size : Size) (a k : ℕ) → (a + k * count_of size) + count_of size ≡ a + (k + 1) * count_of size
+pub next_address : (size : Size) (a k : ℕ) → (a + k * count_of size) + count_of size ≡ a + (k + 1) * count_of size
 next_address size a k = omega arith
 
-aligned_body : (size : Size) (a : ℕ) (next body : Plan) → is_aligned a size ≡ true → at_aligned a size next body ≡ body
+pub aligned_body : (size : Size) (a : ℕ) (next body : Plan) → is_aligned a size ≡ true → at_aligned a size next body ≡ body
 aligned_body size a next body is = ap (λ (b : Bool). if b then body else say (Line.MemoryFault a) next) is
 
-misaligned_body : (size : Size) (a : ℕ) (next body : Plan) → is_aligned a size ≡ false → at_aligned a size next body ≡ say (Line.MemoryFault a) next
+pub misaligned_body : (size : Size) (a : ℕ) (next body : Plan) → is_aligned a size ≡ false → at_aligned a size next body ≡ say (Line.MemoryFault a) next
 misaligned_body size a next body is = ap (λ (b : Bool). if b then body else say (Line.MemoryFault a) next) is
 
 -- ---- `write`
@@ -105,7 +105,7 @@ pub record Writes (r : Reach) (size : Size) (a v count done : ℕ) (t u : Tells)
   pub all : done + left ≡ count
   pub went : Went (at_write r size a v count) (λ next. place_by r (writing left size (a + done * count_of size) v next (done_line count next))) [] t u
 
-first_address : (size : Size) (a : ℕ) → a ≡ a + 0 * count_of size
+pub first_address : (size : Size) (a : ℕ) → a ≡ a + 0 * count_of size
 first_address size a = omega arith
 
 pub writes_none_yet : (r : Reach) (size : Size) (a v count : ℕ) (t : Tells) → is_aligned a size ≡ true → Writes r size a v count 0 t t

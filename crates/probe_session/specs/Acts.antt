@@ -10,7 +10,7 @@ use Rattle.probe_run.specs.Acts.{Tells}
 use Rattle.probe_session.specs.declared.acted.Acted.{Acted}
 use Rattle.probe_session.specs.declared.acted.Acted.TheVariants as acted
 use Rattle.probe_session.specs.declared.fault.Failure.TheVariants as failure
-use Rattle.probe_session.specs.Commands.{before, behind, is_one_line}
+use Rattle.probe_session.specs.Commands.{before, behind}
 use Rattle.probe_session.specs.Goes.{Fell, Spoke}
 use Rattle.probe_session.specs.Links.{Serving}
 
@@ -27,7 +27,6 @@ ActedAs c s t old_count new_count old new sink_old sink_new was is acted.End = (
 ActedAs c s t old_count new_count old new sink_old sink_new was is (acted.Wire why) = Fell (before c s) old_count new_count old new sink_old sink_new was is (failure.Wire why)
 ActedAs c s t old_count new_count old new sink_old sink_new was is (acted.Lost why) = Fell (before c s) old_count new_count old new sink_old sink_new was is (failure.Lost why)
 ActedAs c s t old_count new_count old new sink_old sink_new was is acted.Sink = Fell (before c s) old_count new_count old new sink_old sink_new was is failure.Sink
-ActedAs c s t old_count new_count old new sink_old sink_new was is acted.NotBuilt = (is_one_line c ≡ false) × Untouched s t old new was is
 
 -- the session goes on; or the stream can be ended, but behind a fault of the wire
 abbrev pub ServingAfter : Option Far → Bool → Acted → Type 0
@@ -37,4 +36,3 @@ ServingAfter far alive acted.End = Serving far alive
 ServingAfter far alive (acted.Wire why) = Unit {0}
 ServingAfter far alive (acted.Lost why) = CanQuit far
 ServingAfter far alive acted.Sink = CanQuit far
-ServingAfter far alive acted.NotBuilt = Serving far alive

@@ -12,7 +12,8 @@ use Rattle.debug_model.specs.Told.{IsReady}
 use Rattle.probe_access.specs.declared.fault.AccessFault.{AccessFault}
 use Rattle.probe_access.specs.declared.fault.AccessFault.TheVariants as fault
 use Rattle.probe_access.specs.Accesses.{AccessLeft, BusLoadRefused, BusLoadedAt, BusStoreRefused, BusStoredAt, LoadRefused, LoadedAt, StoreRefused, StoredAt}
-use Rattle.probe_access.specs.BusRuns.{BusLoadFailed, BusLoaded, BusStoreFailed, BusStored}
+use Rattle.probe_access.specs.BusRuns.{BusLoadFailed, BusLoaded, BusStoreFailed, BusStored, cut_to}
+use Rattle.probe_access.specs.Cuts.{AccessLeftOff, BusLeftOff, IfCut, Leaves as LeavesChip, LeftAside, LoadLeaves, MaybeWritten, Scratched, StoreLeaves, Unchanged}
 use Rattle.probe_access.specs.MemoryRuns.{Around, AroundFailed, LoadFailedInside, LoadedAny, LoadedInside, StoreFailedInside, StoredInside}
 use Rattle.probe_access.specs.RegisterRuns.{BehindWords, ReadFailed, RefusedAs, RegisterRead, RegisterWritten, WriteFailed}
 use Rattle.probe_access.specs.Registers.{DeniedRegister, GotRegister, RegisterLeft, SetRegister}
@@ -28,7 +29,8 @@ use Rattle.probe_trig.specs.declared.change.Change.TheVariants.{Forget}
 use Rattle.probe_trig.specs.declared.slot_use.SlotUse.{SlotUse}
 use Rattle.probe_trig.specs.declared.slot_use.SlotView.{SlotView}
 use Rattle.probe_trig.specs.Runs.{Arms, ChangesAny, Frees}
-use Rattle.probe_trig.specs.Slots.{ArmedAt, AtHarts, ForgotAt, FreedAt, FullAt, SawAll, UnusedAt, ViewedAt}
+use Rattle.probe_trig.specs.Slots.{ArmedAt, AtHarts, DebugAlone, ForgotAt, FreedAt, FullAt, SawAll, UnusedAt, ViewedAt}
+use Rattle.probe_trig.specs.StepCuts.{LeavesAt, OverCut}
 use Rattle.probe_trig.specs.Stepping.{OverAt, OverFailed, OverLeft, SteppedOverAny}
 use Rattle.probe_trig.specs.Transfers.{Did, FailedIn, Transfer}
 use Rattle.rv_model.specs.Board.{Hart}
@@ -75,9 +77,9 @@ pub record FoundStop (h pc cause : ℕ) (old new : Tells) : Type 0 where
   pub heard : StopRead pc cause old new
   pub told : WhereTold (StoppedAt h pc cause) old.far new.far
 
--- memory was read, by the halted hart or by the bus
+-- memory was read, by the halted hart or by the bus; what the hart's register holds above the size is left out
 pub data Loaded (size : Size) (address value : ℕ) (old new : Tells) : Type 0 where
-  by_hart : Around (LoadedInside size address value) old new → WhereTold (LoadedAt size address value) old.far new.far → Loaded size address value old new
+  by_hart : (held : ℕ) → value ≡ cut_to size held → Around (LoadedInside size address held) old new → WhereTold (LoadedAt size address value) old.far new.far → Loaded size address value old new
   by_bus : BusLoaded size address value old new → WhereTold (BusLoadedAt size address value) old.far new.far → Loaded size address value old new
 
 -- the chip refused the access
@@ -170,6 +172,7 @@ pub record ReadFell (h number old_count new_count : ℕ) (old new : Tells) (f : 
   pub at : AtHart h old.far
   pub heard : ReadFailed number old_count new_count old new why
   pub told : RegisterLeft false h number old.far new.far why
+  pub cut : IfCut (LeavesChip (LeftAside Unchanged h) old.far new.far) why
   pub is : Became why f
 
 pub record WriteFell (h number value old_count new_count : ℕ) (old new : Tells) (f : Failure) : Type 0 where
@@ -177,6 +180,7 @@ pub record WriteFell (h number value old_count new_count : ℕ) (old new : Tells
   pub at : AtHart h old.far
   pub heard : WriteFailed number value old_count new_count old new why
   pub told : RegisterLeft true h number old.far new.far why
+  pub cut : IfCut (LeavesChip (LeftAside (MaybeWritten number value) h) old.far new.far) why
   pub is : Became why f
 
 -- one that could have been refused, and failed otherwise
@@ -202,6 +206,7 @@ pub record SlotsFell (Whole : List Transfer → Type 0) (h old_count new_count :
   pub at : AtHart h old.far
   pub heard : FailedIn Whole h old_count new_count old new why
   pub told : ScratchLeft old.far why
+  pub cut : IfCut (LeavesChip (LeftAside DebugAlone h) old.far new.far) why
   pub is : Became why f
 
 pub record StopFell (h old_count new_count : ℕ) (old new : Tells) (f : Failure) : Type 0 where
@@ -209,19 +214,20 @@ pub record StopFell (h old_count new_count : ℕ) (old new : Tells) (f : Failure
   pub at : AtHart h old.far
   pub heard : StopFailed old_count new_count old new why
   pub told : ScratchLeft old.far why
+  pub cut : IfCut (LeavesChip (LeftAside Unchanged h) old.far new.far) why
   pub is : Became why f
 
 pub data LoadFell (size : Size) (address old_count new_count : ℕ) (old new : Tells) (f : Failure) : Type 0 where
   by_hart : (h : ℕ) (why : AccessFault) → AtHart h old.far → AroundFailed (LoadedAny size address) (LoadFailedInside size address) old_count new_count old new why
-      → AccessLeft (LoadRefused size address) address old.far new.far why → Became why f → LoadFell size address old_count new_count old new f
+      → AccessLeft (LoadRefused size address) address old.far new.far why → IfCut (LeavesChip (AccessLeftOff Scratched LoadLeaves h) old.far new.far) why → Became why f → LoadFell size address old_count new_count old new f
   by_bus : (why : AccessFault) → IsReady old.far → BusLoadFailed size address old_count new_count old new why
-      → AccessLeft (BusLoadRefused size address) address old.far new.far why → Became why f → LoadFell size address old_count new_count old new f
+      → AccessLeft (BusLoadRefused size address) address old.far new.far why → IfCut (LeavesChip (BusLeftOff LoadLeaves) old.far new.far) why → Became why f → LoadFell size address old_count new_count old new f
 
 pub data StoreFell (size : Size) (address value old_count new_count : ℕ) (old new : Tells) (f : Failure) : Type 0 where
   by_hart : (h : ℕ) (why : AccessFault) → AtHart h old.far → AroundFailed (StoredInside size address value) (StoreFailedInside size address value) old_count new_count old new why
-      → AccessLeft (StoreRefused size address) address old.far new.far why → Became why f → StoreFell size address value old_count new_count old new f
+      → AccessLeft (StoreRefused size address) address old.far new.far why → IfCut (LeavesChip (AccessLeftOff Scratched (StoreLeaves size address value) h) old.far new.far) why → Became why f → StoreFell size address value old_count new_count old new f
   by_bus : (why : AccessFault) → IsReady old.far → BusStoreFailed size address value old_count new_count old new why
-      → AccessLeft (BusStoreRefused size address) address old.far new.far why → Became why f → StoreFell size address value old_count new_count old new f
+      → AccessLeft (BusStoreRefused size address) address old.far new.far why → IfCut (LeavesChip (BusLeftOff (StoreLeaves size address value)) old.far new.far) why → Became why f → StoreFell size address value old_count new_count old new f
 
 pub record ResumeFell (h old_count new_count : ℕ) (old new : Tells) (f : Failure) : Type 0 where
   pub why : RunFault
@@ -234,4 +240,5 @@ pub record OverFell (h old_count new_count : ℕ) (old new : Tells) (f : Failure
   pub at : AtHart h old.far
   pub heard : OverFailed h old_count new_count old new why
   pub told : OverLeft h old.far new.far why
+  pub cut : IfCut (LeavesAt (OverCut h) old.far new.far) why
   pub is : Became why f

@@ -89,3 +89,8 @@ is_one_line (command.Dump address count) = false
 is_one_line command.Slots = false
 is_one_line command.End = false
 is_one_line _ = true
+
+-- the one that ends a session
+abbrev pub is_end : Command → Bool
+is_end command.End = true
+is_end _ = false

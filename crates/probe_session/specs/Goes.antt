@@ -33,10 +33,9 @@ pub record Went {K : Type 0} (before after : K → Place) (said : List Line) (ol
 
 -- ---- where a session broke off
 
--- a call that reads or writes a register of the halted hart, which the plan does not see by itself
+-- a call that reads registers of the halted hart, which the plan does not see by itself
 pub data Passing (h : ℕ) (old new : Tells) : Type 0 where
   got : {number value : ℕ} → Got h number value old new → Passing h old new
-  gave : {number value : ℕ} → Gave h number value old new → Passing h old new
   found : {pc cause : ℕ} → FoundStop h pc cause old new → Passing h old new
 
 -- the call that this place asks for failed; a register may be read or written at any place of a halted hart, and the IDCODE at any place
@@ -68,6 +67,8 @@ pub data Fault : Place → ℕ → ℕ → Tells → Tells → Failure → Type 
       → Fault (still h p) old_count new_count old new f
   forgetting : {h old_count new_count : ℕ} {p : Plan} {old new : Tells} {f : Failure} → SlotsFell (ChangesAny Forget) h old_count new_count old new f
       → Fault (still h p) old_count new_count old new f
+  forgetting_behind : {h number value old_count count new_count : ℕ} {p : Plan} {old mid new : Tells} {f : Failure} → Gave h number value old mid → old_count ≤ count
+      → SlotsFell (ChangesAny Forget) h count new_count mid new f → Fault (still h p) old_count new_count old new f
   behind : {h old_count count new_count : ℕ} {p : Plan} {old mid new : Tells} {f : Failure} → Passing h old mid → old_count ≤ count → Fault (still h p) count new_count mid new f
       → Fault (still h p) old_count new_count old new f
   stopping : {h old_count new_count : ℕ} {p : Plan} {old new : Tells} {f : Failure} → StopFell h old_count new_count old new f

@@ -11,5 +11,8 @@ pub mod Met
 pub mod Slots
 pub mod Commands
 pub mod Reach
+pub mod Showing
 pub mod Led
 pub mod Acts
+pub mod Scripts
+pub mod Transcribed

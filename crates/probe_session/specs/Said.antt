@@ -4,7 +4,8 @@ use Rattle.std.specs.Prelude.{ℕ, Bool, List, [], if◌then◌else◌, ◌==◌
 use Rattle.debugger_laws.specs.Lines.{Line}
 use Rattle.printed_lines.specs.declared.line.Line.{Line as PrintedLine}
 use Rattle.printed_lines.specs.declared.line.Line.TheVariants as printed
-use Rattle.printed_lines.specs.Line.{hits_in, line_of}
+use Rattle.printed_lines.specs.Line.{line_of}
+use Rattle.probe_trig.specs.Slots.{hits_in}
 
 -- the slots with a hit are shown beside the cause trigger alone
 abbrev pub shown_beside : ℕ → List Bool → List Bool

@@ -4,7 +4,7 @@ ghost use Rattle.std.specs.Prelude.{◌≡◌, ◌≤◌, ◌<◌, ◌^◌, [], 
 ghost use Rattle.probe_run.specs.Acts.{tells};
 ghost use Rattle.debug_model.specs.Command.{IsWithinRanges};
 ghost use Rattle.probe_session.specs.Acts.{ActedAs, ServingAfter};
-ghost use Rattle.probe_session.specs.Commands.{before, behind, is_one_line, state_of};
+ghost use Rattle.probe_session.specs.Commands.{before, behind, is_end, is_one_line, state_of};
 ghost use Rattle.probe_session.specs.Goes.{Fell, Spoke};
 ghost use Rattle.probe_session.specs.Links.{LeftBy, Serving};
 
@@ -40,6 +40,34 @@ impl Session {
         Ok(line.is_error())
     }
 
+    /// Does a command other than `end`, and puts its lines. It answers whether one of them is an error line.
+    fn put_lines<D: Dmi, K: Sink>(
+        &mut self,
+        link: &mut D,
+        command: Command,
+        out: &mut K,
+    ) -> Result<bool, Failure>
+        requires within { IsWithinRanges command }
+        requires more { is_end command ≡ false }
+        requires serving { Serving (D.far link.old) (D.is_alive link.old) }
+        ensures spoke { IfOk result (λ wrong. Spoke (before command (state_of self.old)) (behind (state_of self.new)) wrong (tells (D.far link.old) (D.script link.old)) (tells (D.far link.new) (D.script link.new)) (K.contents out.old) (K.contents out.new)) }
+        ensures fell { IfErr result (Fell (before command (state_of self.old)) (D.fault_count link.old) (D.fault_count link.new) (tells (D.far link.old) (D.script link.old)) (tells (D.far link.new) (D.script link.new)) (K.fault_count out.old) (K.fault_count out.new) (K.contents out.old) (K.contents out.new)) }
+        ensures serving { OnOk result (Serving (D.far link.new) (D.is_alive link.new)) }
+        ensures left { IfErr result (LeftBy (D.far link.new)) }
+        ensures later { D.fault_count link.old ≤ D.fault_count link.new }
+        ensures slack { D.slack link.new ≡ D.slack link.old }
+        ensures ties { D.ties link.new ≡ D.ties link.old }
+        ensures sink_later { K.fault_count out.old ≤ K.fault_count out.new }
+    {
+        match command {
+            Command::Regs => self.show_registers(link, out),
+            Command::Read(size, address, count) => self.read(link, size, address, count, out),
+            Command::Dump(address, count) => self.dump(link, address, count, out),
+            Command::Slots => self.show_slots(link, out),
+            _ => self.put_command(link, command, out),
+        }
+    }
+
     /// Does a command, which is within its ranges, and puts its lines.
     pub fn act<D: Dmi, K: Sink>(&mut self, link: &mut D, command: &Command, out: &mut K) -> Acted
         requires within { IsWithinRanges command.now }
@@ -53,10 +81,7 @@ impl Session {
     {
         match command {
             Command::End => Acted::End,
-            Command::Regs | Command::Read(..) | Command::Dump(..) | Command::Slots => {
-                Acted::NotBuilt
-            }
-            _ => match self.put_command(link, *command, out) {
+            _ => match self.put_lines(link, *command, out) {
                 Ok(false) => Acted::Done,
                 Ok(true) => Acted::Error,
                 Err(Failure::Wire(fault)) => Acted::Wire(fault),

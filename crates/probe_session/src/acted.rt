@@ -16,6 +16,4 @@ pub enum Acted {
     Lost(LostCause),
     /// A line could not be written.
     Sink,
-    /// This command is not built yet: nothing was done.
-    NotBuilt,
 }

@@ -10,17 +10,16 @@ ghost use Rattle.probe_session.specs.Commands.{at_arming, at_ebreak, at_freeing,
 ghost use Rattle.probe_session.specs.Goes.{Falls, Went};
 ghost use Rattle.probe_session.specs.Links.{LeftBy, Serving, ServingHalted};
 ghost use Rattle.probe_session.specs.Said.{said_by};
-ghost use Rattle.printed_lines.specs.Line.{use_of_slot_use};
 ghost use Rattle.probe_session.specs.Slots.{what_of};
 ghost use Rattle.probe_session.specs.Steps.{with_ebreakm};
-ghost use Rattle.probe_trig.specs.Words.{CanArm, use_named};
+ghost use Rattle.probe_trig.specs.Words.{CanArm};
 
 use crate::fault::Failure;
 use crate::registers::{ask, get, give, set};
 use crate::slots::{forget, free_slot, take_slot, view};
 use crate::stops::find_stop;
 use debug_model::Dmi;
-use printed_lines::{Line, SlotUse as LineUse};
+use printed_lines::Line;
 use probe_run::Halted;
 use probe_trig::SlotUse;
 use rv_model::{Dcsr, SlotSet, register_number};
@@ -157,7 +156,7 @@ pub(crate) fn armed_line<D: Dmi>(
     ensures ties { D.ties link.new ≡ D.ties link.old }
 {
     match take_slot(link, halted, what)? {
-        Some(slot) => Ok(Line::Slot(slot, line_use(what), false)),
+        Some(slot) => Ok(Line::Slot(slot, what, false)),
         None => Ok(Line::NoFreeSlot),
     }
 }
@@ -175,21 +174,8 @@ pub(crate) fn freed_line<D: Dmi>(link: &mut D, halted: &Halted, slot: u8) -> Res
     ensures ties { D.ties link.new ≡ D.ties link.old }
 {
     if free_slot(link, halted, slot)? {
-        Ok(Line::Slot(slot, LineUse::Free, false))
+        Ok(Line::Slot(slot, SlotUse::Free, false))
     } else {
         Ok(Line::SlotNotInUse(slot))
-    }
-}
-
-/// What a slot is used for, as a line shows it.
-pub(crate) fn line_use(what: SlotUse) -> LineUse
-    ensures { use_of_slot_use result ≡ use_named what }
-{
-    match what {
-        SlotUse::Free => LineUse::Free,
-        SlotUse::Break(address) => LineUse::Break(address),
-        SlotUse::Watch(kind, address) => LineUse::Watch(kind, address),
-        SlotUse::Count(turns) => LineUse::Count(turns),
-        SlotUse::Other(tdata1) => LineUse::Other(tdata1),
     }
 }

@@ -5,7 +5,10 @@
 
 mod act;
 mod acted;
+mod all_registers;
 mod begin;
+mod dumping;
+mod ended;
 mod fault;
 mod going;
 mod hart_lines;
@@ -18,13 +21,18 @@ mod met;
 mod one_line;
 mod put;
 mod reach;
+mod reading;
 mod registers;
+mod script;
 mod session;
 mod slots;
+mod slots_shown;
 mod stops;
 mod write;
 
 pub use acted::Acted;
+pub use ended::Ended;
 pub use fault::LostCause;
 pub use laws::sessions_lead;
+pub use script::run_script;
 pub use session::Session;

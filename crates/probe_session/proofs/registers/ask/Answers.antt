@@ -9,6 +9,7 @@ returns-in_default-clause-fell g c = record {
     at = record { ready = c.requires.serving.serving.ready; selects = c.requires.serving.selects; halted = c.requires.serving.halted };
     heard = c.in-Err.ensures.failed;
     told = c.in-Err.ensures.left;
+    cut = c.in-Err.ensures.cut;
     is = c.lost_by.ensures;
   };
   other = is_other c.in-Err.fault c.in_default.not-Register;

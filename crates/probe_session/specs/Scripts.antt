@@ -1,0 +1,112 @@
+-- How a whole script went: the opening, then the commands along the abstract debugger's plan, and where it broke off.
+-- It is this project's own.
+use Rattle.std.specs.Prelude.{◌≡◌, ◌≤◌, ℕ, Bool, true, false, List, Option}
+use Rattle.debug_model.specs.declared.command.Command.{Command}
+use Rattle.debug_model.specs.declared.dmi.DmiFault.{DmiFault}
+use Rattle.debug_model.specs.declared.dmi.DmiFault.TheVariants as dmi_fault
+use Rattle.debug_model.specs.Dmi.{CanOperate, CanQuit}
+use Rattle.debug_model.specs.Told.{Far}
+use Rattle.debugger_laws.specs.Debugger.{State, commands, first_state}
+use Rattle.debugger_laws.specs.Plan.Plan.{stop}
+use Rattle.debugger_laws.specs.Plan.PlanEnd.{Done}
+use Rattle.probe_run.specs.declared.fault.ConnectFault.{ConnectFault}
+use Rattle.probe_run.specs.declared.fault.ConnectFault.TheVariants as connect
+use Rattle.probe_run.specs.Acts.{Tells}
+use Rattle.probe_run.specs.Opening.{ConnectFails, IfOpeningDmi, LosesLoaded, Opened, OpensLoaded}
+use Rattle.probe_session.specs.declared.ended.Ended.{Ended}
+use Rattle.probe_session.specs.declared.ended.Ended.TheVariants as ended
+use Rattle.probe_session.specs.declared.fault.Failure.{Failure}
+use Rattle.probe_session.specs.declared.fault.Failure.TheVariants as failure
+use Rattle.probe_session.specs.declared.fault.LostCause.TheVariants as lost
+use Rattle.probe_session.specs.Failures.{failure_of_dmi}
+use Rattle.probe_session.specs.Goes.{Fell, Spoke}
+use Rattle.probe_session.specs.Links.{Serving}
+use Rattle.probe_session.specs.Places.{Place, idle}
+
+-- ---- the plan of a script, behind the opening
+
+abbrev pub at_commands : List Command → State → Unit {0} → Place
+at_commands script s _ = idle (commands script s)
+
+abbrev pub at_stop : Unit {0} → Place
+at_stop _ = idle (stop Done)
+
+-- ---- how it ended
+
+-- the chip was opened, and the plan followed to its end
+pub record Ran (script : List Command) (wrong : Bool) (old new : Tells) (was is : Option (List ℕ)) : Type 0 where
+  pub mid : Tells
+  pub opened : Opened old mid
+  pub told : OpensLoaded old.far mid.far
+  pub spoke : Spoke (at_commands script first_state) at_stop wrong mid new was is
+
+-- the chip was opened, and the plan followed until it broke off
+pub record RanInto (script : List Command) (old_count new_count : ℕ) (old new : Tells) (sink_old sink_new : ℕ) (was is : Option (List ℕ)) (f : Failure) : Type 0 where
+  pub mid : Tells
+  pub count : ℕ
+  pub opened : Opened old mid
+  pub told : OpensLoaded old.far mid.far
+  pub later : old_count ≤ count
+  pub fell : Fell (at_commands script first_state) count new_count mid new sink_old sink_new was is f
+
+-- the chip was not opened, and nothing was written
+pub record Unopened (old_count new_count : ℕ) (old new : Tells) (was is : Option (List ℕ)) (fault : ConnectFault) : Type 0 where
+  pub fails : ConnectFails old_count new_count old new fault
+  pub told : LosesLoaded old.far new.far fault
+  pub written : is ≡ was
+
+pub data BrokeOff (script : List Command) (old_count new_count : ℕ) (old new : Tells) (sink_old sink_new : ℕ) (was is : Option (List ℕ)) (f : Failure) : Type 0 where
+  in_opening : (why : DmiFault) → Unopened old_count new_count old new was is (connect.Dmi why) → f ≡ failure_of_dmi why
+      → BrokeOff script old_count new_count old new sink_old sink_new was is f
+  in_script : RanInto script old_count new_count old new sink_old sink_new was is f → BrokeOff script old_count new_count old new sink_old sink_new was is f
+
+-- a register of the chip is not as the opening asks
+pub record Unfit (old_count new_count : ℕ) (old new : Tells) (was is : Option (List ℕ)) (fault : ConnectFault) : Type 0 where
+  pub unopened : Unopened old_count new_count old new was is fault
+  pub register : IfOpeningDmi (λ _. ⊥) fault
+
+abbrev pub EndedAs : List Command → (old_count new_count : ℕ) → (old new : Tells) → (sink_old sink_new : ℕ) → (was is : Option (List ℕ)) → Ended → Type 0
+EndedAs script old_count new_count old new sink_old sink_new was is ended.Clean = Ran script false old new was is
+EndedAs script old_count new_count old new sink_old sink_new was is ended.WithErrors = Ran script true old new was is
+EndedAs script old_count new_count old new sink_old sink_new was is (ended.Target fault) = Unfit old_count new_count old new was is fault
+EndedAs script old_count new_count old new sink_old sink_new was is (ended.Wire why) = BrokeOff script old_count new_count old new sink_old sink_new was is (failure.Wire why)
+EndedAs script old_count new_count old new sink_old sink_new was is (ended.Lost why) = BrokeOff script old_count new_count old new sink_old sink_new was is (failure.Lost why)
+EndedAs script old_count new_count old new sink_old sink_new was is ended.Sink = RanInto script old_count new_count old new sink_old sink_new was is failure.Sink
+
+-- behind anything but a fault of the wire the stream can be ended
+pub record Operable (far : Option Far) (alive : Bool) : Type 0 where
+  pub alive_is : alive ≡ true
+  pub link : CanOperate far
+
+abbrev pub LeavesLink : Option Far → Bool → Ended → Type 0
+LeavesLink far alive ended.Clean = Serving far alive
+LeavesLink far alive ended.WithErrors = Serving far alive
+LeavesLink far alive (ended.Target fault) = Operable far alive
+LeavesLink far alive (ended.Wire why) = Unit {0}
+LeavesLink far alive (ended.Lost why) = CanQuit far
+LeavesLink far alive ended.Sink = CanQuit far
+
+-- ---- the commands alone
+
+abbrev pub FollowedAs : List Command → State → (old_count new_count : ℕ) → (old new : Tells) → (sink_old sink_new : ℕ) → (was is : Option (List ℕ)) → Ended → Type 0
+FollowedAs script s old_count new_count old new sink_old sink_new was is ended.Clean = Spoke (at_commands script s) at_stop false old new was is
+FollowedAs script s old_count new_count old new sink_old sink_new was is ended.WithErrors = Spoke (at_commands script s) at_stop true old new was is
+FollowedAs script s old_count new_count old new sink_old sink_new was is (ended.Target fault) = ⊥
+FollowedAs script s old_count new_count old new sink_old sink_new was is (ended.Wire why) = Fell (at_commands script s) old_count new_count old new sink_old sink_new was is (failure.Wire why)
+FollowedAs script s old_count new_count old new sink_old sink_new was is (ended.Lost why) = Fell (at_commands script s) old_count new_count old new sink_old sink_new was is (failure.Lost why)
+FollowedAs script s old_count new_count old new sink_old sink_new was is ended.Sink = Fell (at_commands script s) old_count new_count old new sink_old sink_new was is failure.Sink
+
+-- whose chip was not opened
+abbrev pub ended_unopened : ConnectFault → Ended
+ended_unopened (connect.Dmi (dmi_fault.Wire why)) = ended.Wire why
+ended_unopened (connect.Dmi dmi_fault.Failed) = ended.Lost lost.DmiFailed
+ended_unopened (connect.Dmi dmi_fault.StillBusy) = ended.Lost lost.StillBusy
+ended_unopened (connect.Dtm word) = ended.Target (connect.Dtm word)
+ended_unopened (connect.Module word control) = ended.Target (connect.Module word control)
+ended_unopened (connect.Abstract word) = ended.Target (connect.Abstract word)
+ended_unopened (connect.Bus word) = ended.Target (connect.Bus word)
+
+-- at the end, by whether some line says an error
+abbrev pub graded : Bool → Ended
+graded true = ended.WithErrors
+graded false = ended.Clean

@@ -1,0 +1,64 @@
+-- What a session over a chip as it was loaded has written and left, by its end: the transcript of the chip's journal, or a front of its lines.
+-- It is this project's own (docs/HEADLINE.md).
+use Rattle.std.specs.Prelude.{◌≡◌, ◌≢◌, ℕ, List, Option, Some, IfSome}
+use Rattle.jt_base.specs.Sink.{GrewByPrefix, grown}
+use Rattle.debug_model.specs.declared.command.Command.{Command}
+use Rattle.debug_model.specs.declared.point.Point.{Point}
+use Rattle.debug_model.specs.Told.{Far, site_of}
+use Rattle.debugger_laws.specs.Debugger.{session}
+use Rattle.debugger_laws.specs.Laws.{IsFront}
+use Rattle.debugger_laws.specs.Lines.{Line, text_of_all}
+use Rattle.debugger_laws.specs.Stands.{Origin}
+use Rattle.debugger_laws.specs.Transcript.{End, Outcome, replay, start, transcript}
+use Rattle.debugger_laws.specs.Transcript.End.{Astray}
+use Rattle.probe_session.specs.declared.ended.Ended.{Ended}
+use Rattle.probe_session.specs.declared.ended.Ended.TheVariants as ended
+use Rattle.probe_session.specs.declared.fault.LostCause.TheVariants as lost
+
+-- of the chip's board before the session and its journal behind it
+abbrev pub shown : List Command → (first last : Far) → Outcome
+shown script first last = transcript (site_of first).board script (site_of last).journal
+
+-- it ends so, its lines were written, and the chip's board is its board
+pub record IsTranscript (script : List Command) (end : End) (was is : Option (List ℕ)) (first last : Far) : Type 0 where
+  pub end_is : (shown script first last).end ≡ end
+  pub written : is ≡ grown (text_of_all (shown script first last).world.lines) was
+  pub board_is : (shown script first last).world.board ≡ (site_of last).board
+
+-- no point stands in the journal that the abstract debugger does not take there, and a front of its text was written
+pub record IsFrontOf (script : List Command) (was is : Option (List ℕ)) (first last : Far) : Type 0 where
+  pub on_the_way : (shown script first last).end ≢ Astray
+  pub written : GrewByPrefix (text_of_all (shown script first last).world.lines) was is
+
+-- the link tells of a chip still
+pub record Still (P : Far → Type 0) (new : Option Far) : Type 0 where
+  pub far : Far
+  pub is : new ≡ Some far
+  pub holds : P far
+
+-- no register of a chip as loaded is refused, and none of its answers is odd
+abbrev pub WrittenAs : List Command → (was is : Option (List ℕ)) → (first last : Far) → Ended → Type 0
+WrittenAs script was is first last ended.Clean = IsTranscript script End.Clean was is first last
+WrittenAs script was is first last ended.WithErrors = IsTranscript script End.WithErrors was is first last
+WrittenAs script was is first last (ended.Target fault) = ⊥
+WrittenAs script was is first last (ended.Wire why) = IsFrontOf script was is first last
+WrittenAs script was is first last (ended.Lost lost.DmiFailed) = IsFrontOf script was is first last
+WrittenAs script was is first last (ended.Lost lost.StillBusy) = IsFrontOf script was is first last
+WrittenAs script was is first last (ended.Lost (lost.NoHalt looks)) = IsTranscript script (End.NoHalt looks) was is first last
+WrittenAs script was is first last (ended.Lost (lost.NoAck looks)) = IsTranscript script (End.NoAck looks) was is first last
+WrittenAs script was is first last (ended.Lost (lost.Odd word)) = ⊥
+WrittenAs script was is first last ended.Sink = IsFrontOf script was is first last
+
+abbrev pub TranscribedAs : List Command → (was is : Option (List ℕ)) → (old new : Option Far) → Ended → Type 0
+TranscribedAs script was is old new e = IfSome old (λ first. Still (λ last. WrittenAs script was is first last e) new)
+
+-- ---- on the way
+
+-- where a session with this script begins
+abbrev pub origin_of : List Command → Far → Origin
+origin_of script first = record { plan = session script; world = start (site_of first).board }
+
+-- the journal leads along the plan, and these lines have been said
+pub record OnTheWay (o : Origin) (lines : List Line) (journal : List Point) : Type 0 where
+  pub not_astray : (replay o.plan o.world journal).end ≢ Astray
+  pub front : IsFront lines (replay o.plan o.world journal).world.lines

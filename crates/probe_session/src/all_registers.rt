@@ -1,0 +1,97 @@
+//! `regs`: the registers of the hart, a line each.
+
+ghost use Rattle.std.specs.Prelude.{◌≡◌, ◌≤◌, ◌<◌, ◌^◌, [], true, false, IfOk, IfErr, IsTrue, OnOk};
+ghost use Rattle.probe_run.specs.Acts.{tells};
+ghost use Rattle.debug_model.specs.declared.command.Command.TheVariants as command;
+ghost use Rattle.probe_session.specs.Calls.{IsOfCores};
+ghost use Rattle.probe_session.specs.Commands.{before, behind, state_of};
+ghost use Rattle.probe_session.specs.Goes.{Fell, Spoke};
+ghost use Rattle.probe_session.specs.Links.{LeftBy, Serving, ServingHalted};
+ghost use Rattle.probe_session.specs.Places.{idle};
+ghost use Rattle.probe_session.specs.Showing.{at_all_registers, at_next_register, at_registers};
+
+use crate::fault::Failure;
+use crate::met::{Met, meet};
+use crate::put::put_line;
+use crate::registers::get;
+use crate::session::Session;
+use debug_model::Dmi;
+use jt_base::Sink;
+use printed_lines::Line;
+use probe_run::Halted;
+use rv_model::register_number;
+
+/// The number of x0 (RISC-V Debug Specification 1.0, "Abstract Register Numbers"), and behind it those of x1 to x31.
+const X0: u16 = 0x1000;
+
+/// Puts the line of a register that each hart has.
+fn put_register<D: Dmi, K: Sink>(
+    link: &mut D,
+    halted: &Halted,
+    number: u16,
+    out: &mut K,
+) -> Result<(), Failure>
+    requires of { IsOfCores number }
+    requires serving { ServingHalted halted.now.number (D.far link.old) (D.is_alive link.old) }
+    ensures spoke { OnOk result (Spoke (at_next_register halted.now.number number) (at_registers halted.now.number) false (tells (D.far link.old) (D.script link.old)) (tells (D.far link.new) (D.script link.new)) (K.contents out.old) (K.contents out.new)) }
+    ensures fell { IfErr result (Fell (at_next_register halted.now.number number) (D.fault_count link.old) (D.fault_count link.new) (tells (D.far link.old) (D.script link.old)) (tells (D.far link.new) (D.script link.new)) (K.fault_count out.old) (K.fault_count out.new) (K.contents out.old) (K.contents out.new)) }
+    ensures serving { OnOk result (ServingHalted halted.now.number (D.far link.new) (D.is_alive link.new)) }
+    ensures left { IfErr result (LeftBy (D.far link.new)) }
+    ensures later { D.fault_count link.old ≤ D.fault_count link.new }
+    ensures slack { D.slack link.new ≡ D.slack link.old }
+    ensures ties { D.ties link.new ≡ D.ties link.old }
+    ensures sink_later { K.fault_count out.old ≤ K.fault_count out.new }
+{
+    let value = get(link, halted, number)?;
+    put_line(out, &Line::Register(number, value))?;
+    Ok(())
+}
+
+/// Puts the lines of pc and of x1 to x31.
+fn put_registers<D: Dmi, K: Sink>(link: &mut D, halted: &Halted, out: &mut K) -> Result<(), Failure>
+    requires serving { ServingHalted halted.now.number (D.far link.old) (D.is_alive link.old) }
+    ensures spoke { OnOk result (Spoke (at_all_registers halted.now.number) idle false (tells (D.far link.old) (D.script link.old)) (tells (D.far link.new) (D.script link.new)) (K.contents out.old) (K.contents out.new)) }
+    ensures fell { IfErr result (Fell (at_all_registers halted.now.number) (D.fault_count link.old) (D.fault_count link.new) (tells (D.far link.old) (D.script link.old)) (tells (D.far link.new) (D.script link.new)) (K.fault_count out.old) (K.fault_count out.new) (K.contents out.old) (K.contents out.new)) }
+    ensures serving { OnOk result (Serving (D.far link.new) (D.is_alive link.new)) }
+    ensures left { IfErr result (LeftBy (D.far link.new)) }
+    ensures later { D.fault_count link.old ≤ D.fault_count link.new }
+    ensures slack { D.slack link.new ≡ D.slack link.old }
+    ensures ties { D.ties link.new ≡ D.ties link.old }
+    ensures sink_later { K.fault_count out.old ≤ K.fault_count out.new }
+{
+    put_register(link, halted, register_number::DPC, out)?;
+    'showing: for x in 1..32u16 {
+        put_register(link, halted, X0 + x, out)?;
+    }
+    Ok(())
+}
+
+impl Session {
+    /// Shows pc and x1 to x31 of the hart.
+    pub(crate) fn show_registers<D: Dmi, K: Sink>(
+        &self,
+        link: &mut D,
+        out: &mut K,
+    ) -> Result<bool, Failure>
+        requires serving { Serving (D.far link.old) (D.is_alive link.old) }
+        ensures spoke { IfOk result (λ wrong. Spoke (before command.Regs (state_of self.now)) (behind (state_of self.now)) wrong (tells (D.far link.old) (D.script link.old)) (tells (D.far link.new) (D.script link.new)) (K.contents out.old) (K.contents out.new)) }
+        ensures fell { IfErr result (Fell (before command.Regs (state_of self.now)) (D.fault_count link.old) (D.fault_count link.new) (tells (D.far link.old) (D.script link.old)) (tells (D.far link.new) (D.script link.new)) (K.fault_count out.old) (K.fault_count out.new) (K.contents out.old) (K.contents out.new)) }
+        ensures serving { OnOk result (Serving (D.far link.new) (D.is_alive link.new)) }
+        ensures left { IfErr result (LeftBy (D.far link.new)) }
+        ensures later { D.fault_count link.old ≤ D.fault_count link.new }
+        ensures slack { D.slack link.new ≡ D.slack link.old }
+        ensures ties { D.ties link.new ≡ D.ties link.old }
+        ensures sink_later { K.fault_count out.old ≤ K.fault_count out.new }
+    {
+        match meet(link, &self.target, self.hart)? {
+            Met::Says(line) => {
+                put_line(out, &line)?;
+                Ok(line.is_error())
+            }
+            Met::At(halted) => {
+                put_registers(link, &halted, out)?;
+                Ok(false)
+            }
+        }
+    }
+}

@@ -1,0 +1,172 @@
+//! `dump`: bytes of memory, sixteen to a row.
+
+ghost use Rattle.std.specs.Prelude.{◌≡◌, ◌≤◌, ◌<◌, ◌+◌, ◌^◌, [], true, false, IfOk, IfErr, IsTrue, OnErr, OnOk};
+ghost use Rattle.arrayvec.specs.ArrayVec.{array_vec_len};
+ghost use Rattle.probe_run.specs.Acts.{tells};
+ghost use Rattle.debug_model.specs.Command.{IsBlock};
+ghost use Rattle.debug_model.specs.declared.command.Command.TheVariants as command;
+ghost use Rattle.debugger_laws.specs.Lines.{text_of_all};
+ghost use Rattle.jt_base.specs.Faults.{Rises};
+ghost use Rattle.jt_base.specs.Sink.{grown};
+ghost use Rattle.rv_model.specs.declared.size.Size.TheVariants.{B1};
+ghost use Rattle.probe_session.specs.declared.fault.Failure.TheVariants as failure;
+ghost use Rattle.probe_session.specs.Answers.{LoadedAs};
+ghost use Rattle.probe_session.specs.Calls.{LoadFell};
+ghost use Rattle.probe_session.specs.Commands.{before, behind, state_of};
+ghost use Rattle.probe_session.specs.Goes.{Fell, Spoke};
+ghost use Rattle.probe_session.specs.Links.{LeftBy, Serving};
+ghost use Rattle.probe_session.specs.Places.{idle};
+ghost use Rattle.probe_session.specs.Reach.{ServingBy};
+ghost use Rattle.probe_session.specs.Showing.{DumpedAs, RowCut, at_dump, at_next_byte, row_lines};
+
+use crate::fault::Failure;
+use crate::put::put_line;
+use crate::reach::{Reach, Reached, load_by};
+use crate::session::Session;
+use arrayvec::ArrayVec;
+use debug_model::Dmi;
+use jt_base::Sink;
+use printed_lines::Line;
+use rv_model::Size;
+
+/// The bytes of a row.
+const ROW_BYTES: usize = 16;
+
+/// Bytes that were read and not yet shown.
+type Row = ArrayVec<u8, ROW_BYTES>;
+
+/// Loads a byte: none where it lies outside memory.
+fn load_byte<D: Dmi>(link: &mut D, reach: &Reach, address: u64) -> Result<Option<u8>, Failure>
+    requires serving { ServingBy (D.far link.old) (D.is_alive link.old) reach.now }
+    ensures loaded { IfOk result (LoadedAs B1 address (tells (D.far link.old) (D.script link.old)) (tells (D.far link.new) (D.script link.new))) }
+    ensures fell { IfErr result (LoadFell B1 address (D.fault_count link.old) (D.fault_count link.new) (tells (D.far link.old) (D.script link.old)) (tells (D.far link.new) (D.script link.new))) }
+    ensures serving { OnOk result (ServingBy (D.far link.new) (D.is_alive link.new) reach.now) }
+    ensures left { IfErr result (LeftBy (D.far link.new)) }
+    ensures later { D.fault_count link.old ≤ D.fault_count link.new }
+    ensures slack { D.slack link.new ≡ D.slack link.old }
+    ensures ties { D.ties link.new ≡ D.ties link.old }
+{
+    match load_by(link, reach, Size::B1, address)? {
+        Some(value) => Ok(Some(value as u8)),
+        None => Ok(None),
+    }
+}
+
+/// Puts the bytes of a row, where there are any.
+fn put_row<K: Sink>(out: &mut K, first: u64, row: Row) -> Result<(), Failure>
+    ensures put { OnOk result (K.contents out.new ≡ grown (text_of_all (row_lines first row.items)) (K.contents out.old)) }
+    ensures cut { OnErr result (RowCut first row.items (K.contents out.old) (K.contents out.new)) }
+    ensures sink { IfErr result (λ f. f ≡ failure.Sink) }
+    ensures cause { OnErr result (Rises (K.fault_count out.old) (K.fault_count out.new)) }
+    ensures later { K.fault_count out.old ≤ K.fault_count out.new }
+{
+    if row.is_empty() {
+        return Ok(());
+    }
+    put_line(out, &Line::Row(first, row))
+}
+
+/// Loads the byte behind those of a row, and puts the row where it is then whole; or the row and the error line where memory refuses
+/// the byte. It answers whether it did.
+fn put_byte<D: Dmi, K: Sink>(
+    link: &mut D,
+    reach: &Reach,
+    first: u64,
+    row: &mut Row,
+    out: &mut K,
+) -> Result<bool, Failure>
+    requires room { array_vec_len row.old < 16 }
+    requires address { first + array_vec_len row.old < 2 ^ 64 }
+    requires serving { ServingBy (D.far link.old) (D.is_alive link.old) reach.now }
+    ensures dumped { IfOk result (DumpedAs reach.now first row.old.items row.new.items (tells (D.far link.old) (D.script link.old)) (tells (D.far link.new) (D.script link.new)) (K.contents out.old) (K.contents out.new)) }
+    ensures fell { IfErr result (Fell (at_next_byte reach.now first row.old.items) (D.fault_count link.old) (D.fault_count link.new) (tells (D.far link.old) (D.script link.old)) (tells (D.far link.new) (D.script link.new)) (K.fault_count out.old) (K.fault_count out.new) (K.contents out.old) (K.contents out.new)) }
+    ensures room { OnOk result (array_vec_len row.new < 16) }
+    ensures along { OnOk result (array_vec_len row.new ≤ array_vec_len row.old + 1) }
+    ensures serving { OnOk result (ServingBy (D.far link.new) (D.is_alive link.new) reach.now) }
+    ensures left { IfErr result (LeftBy (D.far link.new)) }
+    ensures later { D.fault_count link.old ≤ D.fault_count link.new }
+    ensures slack { D.slack link.new ≡ D.slack link.old }
+    ensures ties { D.ties link.new ≡ D.ties link.old }
+    ensures sink_later { K.fault_count out.old ≤ K.fault_count out.new }
+{
+    let address = first + row.len() as u64;
+    match load_byte(link, reach, address)? {
+        Some(byte) => {
+            row.push(byte);
+            if !row.is_full() {
+                return Ok(false);
+            }
+            put_line(out, &Line::Row(first, row.take()))?;
+            Ok(false)
+        }
+        None => {
+            put_row(out, first, row.take())?;
+            put_line(out, &Line::MemoryFault(address))?;
+            Ok(true)
+        }
+    }
+}
+
+/// Puts the rows of so many bytes, until memory refuses one. It answers whether it did.
+fn put_rows<D: Dmi, K: Sink>(
+    link: &mut D,
+    reach: &Reach,
+    address: u64,
+    count: u16,
+    out: &mut K,
+) -> Result<bool, Failure>
+    requires block { IsBlock 1 address count }
+    requires serving { ServingBy (D.far link.old) (D.is_alive link.old) reach.now }
+    ensures spoke { IfOk result (λ wrong. Spoke (at_dump reach.now address count) idle wrong (tells (D.far link.old) (D.script link.old)) (tells (D.far link.new) (D.script link.new)) (K.contents out.old) (K.contents out.new)) }
+    ensures fell { IfErr result (Fell (at_dump reach.now address count) (D.fault_count link.old) (D.fault_count link.new) (tells (D.far link.old) (D.script link.old)) (tells (D.far link.new) (D.script link.new)) (K.fault_count out.old) (K.fault_count out.new) (K.contents out.old) (K.contents out.new)) }
+    ensures serving { OnOk result (Serving (D.far link.new) (D.is_alive link.new)) }
+    ensures left { IfErr result (LeftBy (D.far link.new)) }
+    ensures later { D.fault_count link.old ≤ D.fault_count link.new }
+    ensures slack { D.slack link.new ≡ D.slack link.old }
+    ensures ties { D.ties link.new ≡ D.ties link.old }
+    ensures sink_later { K.fault_count out.old ≤ K.fault_count out.new }
+{
+    let mut row = Row::new();
+    'loading: for done in 0..count {
+        let first = address + (u64::from(done) - row.len() as u64);
+        if put_byte(link, reach, first, &mut row, out)? {
+            return Ok(true);
+        }
+    }
+    if row.is_empty() {
+        return Ok(false);
+    }
+    let first = address + (u64::from(count) - row.len() as u64);
+    put_line(out, &Line::Row(first, row))?;
+    Ok(false)
+}
+
+impl Session {
+    /// Shows so many bytes of memory from an address upwards.
+    pub(crate) fn dump<D: Dmi, K: Sink>(
+        &self,
+        link: &mut D,
+        address: u64,
+        count: u16,
+        out: &mut K,
+    ) -> Result<bool, Failure>
+        requires block { IsBlock 1 address count }
+        requires serving { Serving (D.far link.old) (D.is_alive link.old) }
+        ensures spoke { IfOk result (λ wrong. Spoke (before (command.Dump address count) (state_of self.now)) (behind (state_of self.now)) wrong (tells (D.far link.old) (D.script link.old)) (tells (D.far link.new) (D.script link.new)) (K.contents out.old) (K.contents out.new)) }
+        ensures fell { IfErr result (Fell (before (command.Dump address count) (state_of self.now)) (D.fault_count link.old) (D.fault_count link.new) (tells (D.far link.old) (D.script link.old)) (tells (D.far link.new) (D.script link.new)) (K.fault_count out.old) (K.fault_count out.new) (K.contents out.old) (K.contents out.new)) }
+        ensures serving { OnOk result (Serving (D.far link.new) (D.is_alive link.new)) }
+        ensures left { IfErr result (LeftBy (D.far link.new)) }
+        ensures later { D.fault_count link.old ≤ D.fault_count link.new }
+        ensures slack { D.slack link.new ≡ D.slack link.old }
+        ensures ties { D.ties link.new ≡ D.ties link.old }
+        ensures sink_later { K.fault_count out.old ≤ K.fault_count out.new }
+    {
+        match self.reach(link)? {
+            Reached::Says(line) => {
+                put_line(out, &line)?;
+                Ok(line.is_error())
+            }
+            Reached::By(reach) => put_rows(link, &reach, address, count, out),
+        }
+    }
+}

@@ -1,0 +1,98 @@
+//! A whole session.
+
+ghost use Rattle.std.specs.Prelude.{◌≡◌, ◌≤◌, true, All};
+ghost use Rattle.debug_model.specs.Command.{IsWithinRanges};
+ghost use Rattle.debug_model.specs.Dmi.{CanOperate};
+ghost use Rattle.debug_model.specs.Told.{IsAsLoaded};
+ghost use Rattle.probe_run.specs.Acts.{tells};
+ghost use Rattle.probe_session.specs.Commands.{state_of};
+ghost use Rattle.probe_session.specs.Links.{Serving};
+ghost use Rattle.probe_session.specs.Scripts.{EndedAs, FollowedAs, LeavesLink, ended_unopened, graded};
+ghost use Rattle.probe_session.specs.Transcribed.{TranscribedAs};
+
+use crate::acted::Acted;
+use crate::ended::Ended;
+use crate::fault::LostCause;
+use crate::session::Session;
+use debug_model::{Command, Dmi, DmiFault, Script};
+use jt_base::Sink;
+use probe_run::ConnectFault;
+
+/// How a session ends at its script's end.
+fn finished(has_errors: bool) -> Ended
+    ensures { result ≡ graded has_errors }
+{
+    if has_errors {
+        Ended::WithErrors
+    } else {
+        Ended::Clean
+    }
+}
+
+/// How a session ends whose chip was not opened.
+fn unopened(fault: ConnectFault) -> Ended
+    ensures { result ≡ ended_unopened fault }
+{
+    match fault {
+        ConnectFault::Dmi(DmiFault::Wire(why)) => Ended::Wire(why),
+        ConnectFault::Dmi(DmiFault::Failed) => Ended::Lost(LostCause::DmiFailed),
+        ConnectFault::Dmi(DmiFault::StillBusy) => Ended::Lost(LostCause::StillBusy),
+        _ => Ended::Target(fault),
+    }
+}
+
+/// Does the commands in order, up to `end`, and puts their lines.
+fn run_commands<D: Dmi, K: Sink>(
+    begun: Session,
+    link: &mut D,
+    commands: &[Command],
+    out: &mut K,
+) -> Ended
+    requires within { All IsWithinRanges commands.now }
+    requires serving { Serving (D.far link.old) (D.is_alive link.old) }
+    ensures followed { FollowedAs commands.now (state_of begun) (D.fault_count link.old) (D.fault_count link.new) (tells (D.far link.old) (D.script link.old)) (tells (D.far link.new) (D.script link.new)) (K.fault_count out.old) (K.fault_count out.new) (K.contents out.old) (K.contents out.new) result }
+    ensures leaves { LeavesLink (D.far link.new) (D.is_alive link.new) result }
+    ensures later { D.fault_count link.old ≤ D.fault_count link.new }
+    ensures slack { D.slack link.new ≡ D.slack link.old }
+    ensures ties { D.ties link.new ≡ D.ties link.old }
+    ensures sink_later { K.fault_count out.old ≤ K.fault_count out.new }
+{
+    let mut session = begun;
+    let mut has_errors = false;
+    let mut rest = commands;
+    'commands: while let Some((command, after)) = rest.split_first() {
+        match session.act(link, command, out) {
+            Acted::Done => rest = after,
+            Acted::Error => {
+                has_errors = true;
+                rest = after;
+            }
+            Acted::End => return finished(has_errors),
+            Acted::Wire(fault) => return Ended::Wire(fault),
+            Acted::Lost(cause) => return Ended::Lost(cause),
+            Acted::Sink => return Ended::Sink,
+        }
+    }
+    finished(has_errors)
+}
+
+/// Opens the chip, does the commands of a script in order, up to `end`, and puts the lines of each as they are whole.
+///
+/// The link is alive; where it tells its chip, that is as it was loaded, and the link is ready for an operation. It takes no memory.
+pub fn run_script<D: Dmi, K: Sink>(link: &mut D, script: &Script, out: &mut K) -> Ended
+    requires alive { D.is_alive link.old ≡ true }
+    requires link { CanOperate (D.far link.old) }
+    requires loaded { IsAsLoaded (D.far link.old) }
+    ensures ended { EndedAs script.now (D.fault_count link.old) (D.fault_count link.new) (tells (D.far link.old) (D.script link.old)) (tells (D.far link.new) (D.script link.new)) (K.fault_count out.old) (K.fault_count out.new) (K.contents out.old) (K.contents out.new) result }
+    ensures transcribed { TranscribedAs script.now (K.contents out.old) (K.contents out.new) (D.far link.old) (D.far link.new) result }
+    ensures leaves { LeavesLink (D.far link.new) (D.is_alive link.new) result }
+    ensures later { D.fault_count link.old ≤ D.fault_count link.new }
+    ensures slack { D.slack link.new ≡ D.slack link.old }
+    ensures ties { D.ties link.new ≡ D.ties link.old }
+    ensures sink_later { K.fault_count out.old ≤ K.fault_count out.new }
+{
+    match Session::begin(link) {
+        Ok(session) => run_commands(session, link, script.commands(), out),
+        Err(fault) => unopened(fault),
+    }
+}
