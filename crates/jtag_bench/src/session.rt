@@ -10,9 +10,9 @@ ghost use Rattle.debug_model.specs.Tap.{idcode};
 ghost use Rattle.jtag_bench.specs.Session.{CanScan, CanScanAfter, Cut, FailedIdcode, FailureCause, HeardOne, Ran, RoundsAlone, is_built};
 
 use crate::failure::Failure;
-use crate::lines::idcode_line;
 use debug_model::{Command, Scan, Wire, WireFault};
 use jt_base::{Bits, Sink};
+use printed_lines::Line;
 use probe_scan::Scanner;
 
 /// The bits of the device identification register.
@@ -51,7 +51,8 @@ fn print_idcode<S: Scan, K: Sink>(scan: &mut S, out: &mut K) -> Result<u32, Fail
     ensures ties { S.ties scan.new ≡ S.ties scan.old }
 {
     let number = read_idcode(scan)?;
-    out.put(&idcode_line(number))?;
+    let text = Line::Idcode(number).text();
+    out.put(&text)?;
     Ok(number)
 }
 

@@ -2,6 +2,8 @@
 
 ghost use Rattle.std.specs.Prelude.{◌≡◌, None, IfOk};
 
+mod served;
+
 use crate::run::run;
 use crate::status::Status;
 use chip_core::Bench;
