@@ -18,10 +18,12 @@ use Rattle.probe_session.specs.declared.fault.Failure.{Failure}
 use Rattle.probe_session.specs.declared.fault.Failure.TheVariants as failure
 use Rattle.probe_session.specs.declared.reach.Reach.{Reach}
 use Rattle.probe_session.specs.Calls.{LoadFell, Loaded, LoadedNone}
+use Rattle.debugger_laws.specs.Laws.{Quiet}
+use Rattle.probe_session.proofs.QuietTails.{quiet_dumping}
 use Rattle.probe_session.specs.Goes.{Fault, Fell, Spoke, Went}
 use Rattle.probe_session.specs.Places.{Place, idle, place}
 use Rattle.probe_session.specs.Reach.{hart_by, place_by, way_by}
-use Rattle.probe_session.specs.Showing.{ByteShown, Bytes, DumpedAs, RowCut, at_bytes, at_dump, at_next_byte, behind_bytes, row_lines}
+use Rattle.probe_session.specs.Showing.{CalmBytes, ByteShown, Bytes, DumpedAs, RowCut, at_bytes, at_dump, at_next_byte, behind_bytes, row_lines}
 use Rattle.probe_session.specs.Steps.Step.{loads, loads_none, same, says}
 use Rattle.probe_session.proofs.MemoryLines.{reach_rests}
 use Rattle.probe_session.proofs.SeveralLines.{spoke_fell, went_fell}
@@ -52,7 +54,7 @@ at_load r first at row is =
     went_one (λ k. same (dumping-suc k.left first row k.next ∙ ap (λ a. take Access (see (λ b. by_load (loaded b.memory a B1) (faulted first row k.next) (behind_byte k.left first row k.next)))) (sym is)))
 
 pub byte_fell : (r : Reach) (first at : ℕ) (row : List ℕ) {old_count new_count : ℕ} {t u : Tells} (sink_old sink_new : ℕ) (c : Option (List ℕ)) {f : Failure} → at ≡ first + length row → LoadFell B1 at old_count new_count t u f
-    → Fell (at_next_byte r first row) old_count new_count t u sink_old sink_new c c f
+    → Fell CalmBytes (at_next_byte r first row) old_count new_count t u sink_old sink_new c c f
 byte_fell r first at row sink_old sink_new c is fell = went_fell (at_load r first at row is) (omega arith) (fell_first sink_old sink_new c (falls_at (λ k. Fault.loading _ fell)))
 
 -- ---- the bytes that wait in a row
@@ -62,10 +64,10 @@ row_said : {K : Type 0} (way : Way) (h first : ℕ) (row : List ℕ) (p : K → 
 row_said way h first [] p put = record { said = []; went = went_none; put = put; wrong_is = refl }
 row_said way h first (byte ∷ bytes) p put = record { said = Line.Row first (byte ∷ bytes) ∷ []; went = went_one (λ k. says); put = put; wrong_is = refl }
 
-row_fell : {K : Type 0} {a : K → Place} (way : Way) (h first : ℕ) (row : List ℕ) (p : K → Plan) (old_count new_count : ℕ) {t u : Tells} {sink_old sink_new : ℕ} {c d e : Option (List ℕ)} {f : Failure} → f ≡ failure.Sink
-    → Spoke a (λ k. place way h (saying_row first row (p k))) false t u c d → RowCut first row d e → Rises sink_old sink_new → Fell a old_count new_count t u sink_old sink_new c e f
-row_fell way h first [] p old_count new_count sink s cut rises = absurd cut
-row_fell way h first (byte ∷ bytes) p old_count new_count sink s cut rises = fell_line way h (Line.Row first (byte ∷ bytes)) p old_count new_count sink s cut rises
+row_fell : {K : Type 0} {T : K → Type 0} {a : K → Place} (way : Way) (h first : ℕ) (row : List ℕ) (p : K → Plan) (quiet : (k : K) → T k → Quiet (p k)) (old_count new_count : ℕ) {t u : Tells} {sink_old sink_new : ℕ} {c d e : Option (List ℕ)} {f : Failure} → f ≡ failure.Sink
+    → Spoke a (λ k. place way h (saying_row first row (p k))) false t u c d → RowCut first row d e → Rises sink_old sink_new → Fell T a old_count new_count t u sink_old sink_new c e f
+row_fell way h first [] p quiet old_count new_count sink s cut rises = absurd cut
+row_fell way h first (byte ∷ bytes) p quiet old_count new_count sink s cut rises = fell_line way h (Line.Row first (byte ∷ bytes)) p quiet old_count new_count sink s cut rises
 
 -- ---- a byte that memory refused
 
@@ -88,15 +90,15 @@ byte_refused r first at row items {c = c} {d = d} is items_are none put more =
     spoke_went (spoke_says (way_by r) (hart_by r) (Line.MemoryFault at) (λ (k : Bytes). k.next) (row_at r first at row is none (put_as first items row c d items_are put)) more) (reach_rests r (λ (k : Bytes). k.next))
 
 pub left_row_cut : (r : Reach) (first at : ℕ) (row items : List ℕ) (old_count new_count : ℕ) {t u : Tells} {sink_old sink_new : ℕ} {c d : Option (List ℕ)} {f : Failure} → f ≡ failure.Sink → at ≡ first + length row → items ≡ row
-    → LoadedNone B1 at t u → RowCut first items c d → Rises sink_old sink_new → Fell (at_next_byte r first row) old_count new_count t u sink_old sink_new c d f
+    → LoadedNone B1 at t u → RowCut first items c d → Rises sink_old sink_new → Fell CalmBytes (at_next_byte r first row) old_count new_count t u sink_old sink_new c d f
 left_row_cut r first at row items old_count new_count {c = c} {d = d} sink is items_are none cut rises =
-    row_fell (way_by r) (hart_by r) first row (λ (k : Bytes). say (Line.MemoryFault at) k.next) old_count new_count sink (refused_at r first at row c is none) (subst (λ x. RowCut first x c d) items_are cut) rises
+    row_fell (way_by r) (hart_by r) first row (λ (k : Bytes). say (Line.MemoryFault at) k.next) (λ (k : Bytes) calm. calm) old_count new_count sink (refused_at r first at row c is none) (subst (λ x. RowCut first x c d) items_are cut) rises
 
 pub fault_cut : (r : Reach) (first at : ℕ) (row items : List ℕ) (old_count new_count : ℕ) {t u : Tells} {sink_old sink_new : ℕ} {c d e : Option (List ℕ)} {f : Failure} → f ≡ failure.Sink → at ≡ first + length row → items ≡ row
     → LoadedNone B1 at t u → d ≡ grown (text_of_all (row_lines first items)) c → GrewByPrefix (text_of (Line.MemoryFault at)) d e → Rises sink_old sink_new
-    → Fell (at_next_byte r first row) old_count new_count t u sink_old sink_new c e f
+    → Fell CalmBytes (at_next_byte r first row) old_count new_count t u sink_old sink_new c e f
 fault_cut r first at row items old_count new_count {c = c} {d = d} sink is items_are none put front rises =
-    fell_line (way_by r) (hart_by r) (Line.MemoryFault at) (λ (k : Bytes). k.next) old_count new_count sink (row_at r first at row is none (put_as first items row c d items_are put)) front rises
+    fell_line (way_by r) (hart_by r) (Line.MemoryFault at) (λ (k : Bytes). k.next) (λ (k : Bytes) calm. calm) old_count new_count sink (row_at r first at row is none (put_as first items row c d items_are put)) front rises
 
 -- ---- a byte that was loaded
 
@@ -142,9 +144,10 @@ row_shown r first at v row items left_row {t} {u} {c} {d} is full items_are left
 })
 
 pub row_cut : (r : Reach) (first at v : ℕ) (row items : List ℕ) (old_count new_count : ℕ) {t u : Tells} {sink_old sink_new : ℕ} {c d : Option (List ℕ)} {f : Failure} → f ≡ failure.Sink → at ≡ first + length row → length row + 1 ≡ 16
-    → items ≡ row ++ v ∷ [] → Loaded B1 at v t u → GrewByPrefix (text_of (Line.Row first items)) c d → Rises sink_old sink_new → Fell (at_next_byte r first row) old_count new_count t u sink_old sink_new c d f
+    → items ≡ row ++ v ∷ [] → Loaded B1 at v t u → GrewByPrefix (text_of (Line.Row first items)) c d → Rises sink_old sink_new → Fell CalmBytes (at_next_byte r first row) old_count new_count t u sink_old sink_new c d f
 row_cut r first at v row items old_count new_count {c = c} {d = d} sink is full items_are l front rises =
-    fell_line (way_by r) (hart_by r) (Line.Row first (row ++ v ∷ [])) (λ (k : Bytes). dumping k.left (first + row_bytes) [] k.next) old_count new_count sink (whole_at r first at v row c is full l)
+    fell_line (way_by r) (hart_by r) (Line.Row first (row ++ v ∷ [])) (λ (k : Bytes). dumping k.left (first + row_bytes) [] k.next)
+    (λ (k : Bytes) calm. quiet_dumping k.left (first + row_bytes) [] k.next calm) old_count new_count sink (whole_at r first at v row c is full l)
     (subst (λ (x : List ℕ). GrewByPrefix (text_of (Line.Row first x)) c d) items_are front) rises
 
 -- ---- all of them
@@ -198,8 +201,8 @@ pub dump_refused : (r : Reach) (a count done first : ℕ) (row : List ℕ) {t u 
 dump_refused r a count done first row n s = spoke_then n.spoke (spoke_within (bytes_left n.left) s)
 
 pub dump_fell : (r : Reach) (a count done first : ℕ) (row : List ℕ) {old_count mid_count new_count : ℕ} {t u v : Tells} {sink_old sink_count sink_new : ℕ} {c d e : Option (List ℕ)} {f : Failure} → NextByte r a count done first row t u c d
-    → old_count ≤ mid_count → sink_old ≤ sink_count → sink_count ≤ sink_new → Fell (at_next_byte r first row) mid_count new_count u v sink_count sink_new d e f → Fell (at_dump r a count) old_count new_count t v sink_old sink_new c e f
-dump_fell r a count done first row n le later more fell = spoke_fell n.spoke le later more (fell_within (bytes_left n.left) fell)
+    → old_count ≤ mid_count → sink_old ≤ sink_count → sink_count ≤ sink_new → Fell CalmBytes (at_next_byte r first row) mid_count new_count u v sink_count sink_new d e f → Fell Quiet (at_dump r a count) old_count new_count t v sink_old sink_new c e f
+dump_fell r a count done first row n le later more fell = spoke_fell n.spoke le later more (fell_within (bytes_left n.left) (λ next calm. calm) fell)
 
 pub dumped_true : (r : Reach) (first : ℕ) (row left_row : List ℕ) (t u : Tells) (c d : Option (List ℕ)) (b : Bool) → b ≡ true → DumpedAs r first row left_row t u c d b → Spoke (at_next_byte r first row) behind_bytes true t u c d
 dumped_true r first row left_row t u c d b is p = subst (DumpedAs r first row left_row t u c d) is p
@@ -239,16 +242,16 @@ last_by : {K : Type 0} {a : K → Place} (way : Way) (h first : ℕ) (row : List
 last_by way h first [] p some s put = absurd (some refl)
 last_by way h first (byte ∷ bytes) p some s put = spoke_says way h (Line.Row first (byte ∷ bytes)) p s put
 
-last_cut_by : {K : Type 0} {a : K → Place} (way : Way) (h first : ℕ) (row : List ℕ) (p : K → Plan) (old_count new_count : ℕ) {t u : Tells} {sink_old sink_new : ℕ} {c d e : Option (List ℕ)} {f : Failure} → (length row ≡ 0 → ⊥) → f ≡ failure.Sink
-    → Spoke a (λ k. place way h (saying_row first row (p k))) false t u c d → GrewByPrefix (text_of (Line.Row first row)) d e → Rises sink_old sink_new → Fell a old_count new_count t u sink_old sink_new c e f
-last_cut_by way h first [] p old_count new_count some sink s front rises = absurd (some refl)
-last_cut_by way h first (byte ∷ bytes) p old_count new_count some sink s front rises = fell_line way h (Line.Row first (byte ∷ bytes)) p old_count new_count sink s front rises
+last_cut_by : {K : Type 0} {T : K → Type 0} {a : K → Place} (way : Way) (h first : ℕ) (row : List ℕ) (p : K → Plan) (quiet : (k : K) → T k → Quiet (p k)) (old_count new_count : ℕ) {t u : Tells} {sink_old sink_new : ℕ} {c d e : Option (List ℕ)} {f : Failure} → (length row ≡ 0 → ⊥) → f ≡ failure.Sink
+    → Spoke a (λ k. place way h (saying_row first row (p k))) false t u c d → GrewByPrefix (text_of (Line.Row first row)) d e → Rises sink_old sink_new → Fell T a old_count new_count t u sink_old sink_new c e f
+last_cut_by way h first [] p quiet old_count new_count some sink s front rises = absurd (some refl)
+last_cut_by way h first (byte ∷ bytes) p quiet old_count new_count some sink s front rises = fell_line way h (Line.Row first (byte ∷ bytes)) p quiet old_count new_count sink s front rises
 
 pub dumped_last : (r : Reach) (a count done first : ℕ) (row : List ℕ) {t u : Tells} {c d e : Option (List ℕ)} → done ≡ count → first + length row ≡ a + count → (length row ≡ 0 → ⊥) → Dumped r a count done row t u c d
     → e ≡ grown (text_of (Line.Row first row)) d → Spoke (at_dump r a count) idle false t u c e
 dumped_last r a count done first row is along some p put = spoke_went (last_by (way_by r) (hart_by r) first row (λ next. next) some (at_end r a count done first row is along p) put) (reach_rests r (λ next. next))
 
 pub last_cut : (r : Reach) (a count done first : ℕ) (row : List ℕ) (old_count new_count : ℕ) {t u : Tells} {sink_old sink_new : ℕ} {c d e : Option (List ℕ)} {f : Failure} → f ≡ failure.Sink → done ≡ count → first + length row ≡ a + count
-    → (length row ≡ 0 → ⊥) → Dumped r a count done row t u c d → GrewByPrefix (text_of (Line.Row first row)) d e → Rises sink_old sink_new → Fell (at_dump r a count) old_count new_count t u sink_old sink_new c e f
+    → (length row ≡ 0 → ⊥) → Dumped r a count done row t u c d → GrewByPrefix (text_of (Line.Row first row)) d e → Rises sink_old sink_new → Fell Quiet (at_dump r a count) old_count new_count t u sink_old sink_new c e f
 last_cut r a count done first row old_count new_count sink is along some p front rises =
-    last_cut_by (way_by r) (hart_by r) first row (λ next. next) old_count new_count some sink (at_end r a count done first row is along p) front rises
+    last_cut_by (way_by r) (hart_by r) first row (λ next. next) (λ next calm. calm) old_count new_count some sink (at_end r a count done first row is along p) front rises

@@ -11,9 +11,10 @@ use Rattle.debug_model.specs.Told.{Far, IsAsLoaded, site_of}
 use Rattle.debugger_laws.specs.Debugger.{first_state}
 use Rattle.debugger_laws.specs.Lines.{Line, text_of_all}
 use Rattle.debugger_laws.specs.Plan.Plan.{say}
-use Rattle.debugger_laws.specs.Stands.{Deals, IsTranscribed, Origin}
+use Rattle.debugger_laws.specs.Stands.{Deals, IsTranscribed, Origin, Stands}
 use Rattle.debugger_laws.specs.Transcript.{End}
 use Rattle.debugger_laws.proofs.DealsLemmas.{deals_put}
+use Rattle.debugger_laws.proofs.StandsLemmas.{quiet_board}
 use Rattle.probe_run.specs.declared.fault.ConnectFault.{ConnectFault}
 use Rattle.probe_run.specs.declared.fault.ConnectFault.TheVariants as connect
 use Rattle.probe_run.specs.Acts.{Tells}
@@ -25,11 +26,11 @@ use Rattle.probe_session.specs.declared.fault.Failure.{Failure}
 use Rattle.probe_session.specs.declared.fault.Failure.TheVariants as failure
 use Rattle.probe_session.specs.declared.fault.LostCause.TheVariants as lost
 use Rattle.probe_session.specs.Failures.{failure_of_dmi}
-use Rattle.probe_session.specs.Goes.{Fell, Spoke}
+use Rattle.probe_session.specs.Goes.{Anyhow, Fell, Spoke}
 use Rattle.probe_session.specs.Led.{DealsAt}
 use Rattle.probe_session.specs.Places.{place}
 use Rattle.probe_session.specs.Scripts.{BrokeOff, EndedAs, RanInto, Unfit, Unopened, at_commands, at_stop}
-use Rattle.probe_session.specs.Transcribed.{IsFrontOf, IsTranscript, OnTheWay, Still, TranscribedAs, WrittenAs, origin_of}
+use Rattle.probe_session.specs.Transcribed.{IsCutTranscript, IsFrontOf, IsTranscript, OnTheWay, Still, TranscribedAs, WrittenAs, origin_of}
 use Rattle.probe_session.proofs.BrokeOff.{LeftAs, OnWay, still_as}
 use Rattle.probe_session.proofs.Faults.{fault_left}
 use Rattle.probe_session.proofs.LedSteps.{goes_lead}
@@ -49,7 +50,7 @@ at_end script wrong mid new was is None loaded opened s = tt
 at_end script wrong mid new was is (Some first) loaded opened s =
     let m : Machine = machine_of (site_of first).board in
     let d : DealsAt m (origin_of script first) (at_stop tt) s.said new.far =
-        goes_lead (at_commands script first_state tt) (at_stop tt) mid new s.said (s.went.goes tt) m (origin_of script first) [] (opened_deals script first mid.far loaded (opened loaded)) in
+    goes_lead (at_commands script first_state tt) (at_stop tt) mid new s.said (s.went.goes tt) m (origin_of script first) [] (opened_deals script first mid.far loaded (opened loaded)) in
     ran_transcribed script wrong first was is new.far s.said d s.wrong_is s.put
 
 -- ---- in the middle
@@ -70,20 +71,24 @@ left_written (failure.Lost (lost.NoAck looks)) script first last said was is lef
 left_written (failure.Lost (lost.Odd word)) script first last said was is left put = left
 left_written failure.Sink script first last said was is left put = absurd left
 
-fell_by : (f : Failure) (script : List Command) (first : Far) (old_count new_count : ℕ) (mid new : Tells) (sink_old sink_new : ℕ) (was is : Option (List ℕ)) → Fell (at_commands script first_state) old_count new_count mid new sink_old sink_new was is f
+fell_by : (f : Failure) (script : List Command) (first : Far) (old_count new_count : ℕ) (mid new : Tells) (sink_old sink_new : ℕ) (was is : Option (List ℕ)) → Fell Anyhow (at_commands script first_state) old_count new_count mid new sink_old sink_new was is f
     → DealsAt (machine_of (site_of first).board) (origin_of script first) (at_commands script first_state tt) [] mid.far → Still (λ last. WrittenAs script was is first last (ended_by f)) new.far
 fell_by f script first old_count new_count mid new sink_old sink_new was is (Fell.in_call said falls put) d =
     let m : Machine = machine_of (site_of first).board in
     let at : DealsAt m (origin_of script first) (falls.at tt) said falls.mid.far = goes_lead (at_commands script first_state tt) (falls.at tt) mid falls.mid said (falls.went.goes tt) m (origin_of script first) [] d in
     still_as new.far (λ last left. left_written f script first last said was is left put)
     (fault_left (falls.at tt) falls.count new_count falls.mid new f (falls.fault tt) m (origin_of script first) said at)
-fell_by f script first old_count new_count mid new sink_old sink_new was is (Fell.at_line said line way h next went front rises) d =
+fell_by f script first old_count new_count mid new sink_old sink_new was is (Fell.at_line said line way h next quiet went front rises) d =
     let m : Machine = machine_of (site_of first).board in
     let o : Origin = origin_of script first in
     let at : DealsAt m o (place way h (say line (next tt))) said new.far = goes_lead (at_commands script first_state tt) (place way h (say line (next tt))) mid new said (went.goes tt) m o [] d in
-    found_far (λ t. Deals m h way o (say line (next tt)) said t) (λ last. IsFrontOf script was is first last) new.far at.target at.is at.holds (λ last e.
-    let w : OnTheWay o (said ++ line ∷ []) (site_of last).journal = on_way o (next tt) (said ++ line ∷ []) (target_of (site_of last)) (site_of last).journal (deals_put m h way o line (next tt) said (target_of (site_of last)) e).stands refl in
-    record { on_the_way = w.not_astray; written = line_written said _ line was is w.front front })
+    found_far (λ t. Deals m h way o (say line (next tt)) said t) (λ last. IsCutTranscript script was is first last) new.far at.target at.is at.holds (λ last e.
+    let s : Stands o (next tt) (said ++ line ∷ []) (target_of (site_of last)) = (deals_put m h way o line (next tt) said (target_of (site_of last)) e).stands in
+    let w : OnTheWay o (said ++ line ∷ []) (site_of last).journal = on_way o (next tt) (said ++ line ∷ []) (target_of (site_of last)) (site_of last).journal s refl in
+    record {
+      front = record { on_the_way = w.not_astray; written = line_written said _ line was is w.front front };
+      board_is = quiet_board o (next tt) (said ++ line ∷ []) (target_of (site_of last)) (quiet tt tt) s;
+    })
 
 ran_into : (f : Failure) (script : List Command) (old_count new_count : ℕ) (old new : Tells) (sink_old sink_new : ℕ) (was is : Option (List ℕ)) → RanInto script old_count new_count old new sink_old sink_new was is f
     → (far : Option Far) → far ≡ old.far → IsAsLoaded far → IfSome far (λ first. Still (λ last. WrittenAs script was is first last (ended_by f)) new.far)

@@ -6,6 +6,7 @@ pub mod SeenLemmas
 pub mod HartLines
 pub mod OneLine
 pub mod RegisterLemmas
+pub mod QuietTails
 pub mod Spoken
 pub mod SeveralLines
 pub mod SlotLines

@@ -15,6 +15,8 @@ use Rattle.probe_session.specs.declared.fault.Failure.{Failure}
 use Rattle.probe_session.specs.declared.fault.Failure.TheVariants as failure
 use Rattle.probe_session.specs.declared.reach.Reach.{Reach}
 use Rattle.probe_session.specs.Calls.{LoadFell, Loaded, LoadedNone}
+use Rattle.debugger_laws.specs.Laws.{Quiet}
+use Rattle.probe_session.proofs.QuietTails.{quiet_reading}
 use Rattle.probe_session.specs.Goes.{Fault, Fell, Spoke, Went}
 use Rattle.probe_session.specs.Places.{idle}
 use Rattle.probe_session.specs.Reach.{hart_by, place_by, way_by}
@@ -41,8 +43,8 @@ pub read_misaligned : (r : Reach) (size : Size) (a count : ℕ) {t : Tells} {c d
 read_misaligned r size a count {c = c} is put = spoke_went (spoke_says (way_by r) (hart_by r) (Line.MemoryFault a) (λ next. next) (spoke_first c (misaligned_at r size a count is)) put) (reach_rests r (λ next. next))
 
 pub misaligned_cut : (r : Reach) (size : Size) (a count old_count new_count : ℕ) {t : Tells} {sink_old sink_new : ℕ} {c d : Option (List ℕ)} {f : Failure} → is_aligned a size ≡ false → f ≡ failure.Sink
-    → GrewByPrefix (text_of (Line.MemoryFault a)) c d → Rises sink_old sink_new → Fell (at_read r size a count) old_count new_count t t sink_old sink_new c d f
-misaligned_cut r size a count old_count new_count {c = c} is sink front rises = fell_line (way_by r) (hart_by r) (Line.MemoryFault a) (λ next. next) old_count new_count sink (spoke_first c (misaligned_at r size a count is)) front rises
+    → GrewByPrefix (text_of (Line.MemoryFault a)) c d → Rises sink_old sink_new → Fell Quiet (at_read r size a count) old_count new_count t t sink_old sink_new c d f
+misaligned_cut r size a count old_count new_count {c = c} is sink front rises = fell_line (way_by r) (hart_by r) (Line.MemoryFault a) (λ next. next) (λ next calm. calm) old_count new_count sink (spoke_first c (misaligned_at r size a count is)) front rises
 
 -- ---- elements
 
@@ -80,7 +82,7 @@ pub next_element : (r : Reach) (size : Size) (a count done at : ℕ) {t u : Tell
 next_element r size a count done at is below e = next_by r size a count done e.left at is below e.all e.spoke
 
 pub element_fell : (r : Reach) (size : Size) (a count done at : ℕ) {old_count mid_count new_count : ℕ} {t u v : Tells} (sink_old sink_new : ℕ) {c d : Option (List ℕ)} {f : Failure} → NextElement r size a count done at t u c d → old_count ≤ mid_count
-    → LoadFell size at mid_count new_count u v f → Fell (at_read r size a count) old_count new_count t v sink_old sink_new c d f
+    → LoadFell size at mid_count new_count u v f → Fell Quiet (at_read r size a count) old_count new_count t v sink_old sink_new c d f
 element_fell r size a count done at sink_old sink_new n le fell = fell_call sink_old sink_new n.spoke le (falls_at (λ next. Fault.loading _ fell))
 
 refused_at : (r : Reach) (size : Size) (a count done at : ℕ) {t u v : Tells} {c d : Option (List ℕ)} → NextElement r size a count done at t u c d → LoadedNone size at u v
@@ -92,8 +94,8 @@ pub element_refused : (r : Reach) (size : Size) (a count done at : ℕ) {t u v :
 element_refused r size a count done at n none put = spoke_went (spoke_says (way_by r) (hart_by r) (Line.MemoryFault at) (λ next. next) (refused_at r size a count done at n none) put) (reach_rests r (λ next. next))
 
 pub refused_cut : (r : Reach) (size : Size) (a count done at old_count new_count : ℕ) {t u v : Tells} {sink_old sink_new : ℕ} {c d e : Option (List ℕ)} {f : Failure} → f ≡ failure.Sink → NextElement r size a count done at t u c d
-    → LoadedNone size at u v → GrewByPrefix (text_of (Line.MemoryFault at)) d e → Rises sink_old sink_new → Fell (at_read r size a count) old_count new_count t v sink_old sink_new c e f
-refused_cut r size a count done at old_count new_count sink n none front rises = fell_line (way_by r) (hart_by r) (Line.MemoryFault at) (λ next. next) old_count new_count sink (refused_at r size a count done at n none) front rises
+    → LoadedNone size at u v → GrewByPrefix (text_of (Line.MemoryFault at)) d e → Rises sink_old sink_new → Fell Quiet (at_read r size a count) old_count new_count t v sink_old sink_new c e f
+refused_cut r size a count done at old_count new_count sink n none front rises = fell_line (way_by r) (hart_by r) (Line.MemoryFault at) (λ next. next) (λ next calm. calm) old_count new_count sink (refused_at r size a count done at n none) front rises
 
 loaded_at : (r : Reach) (size : Size) (a count done at value : ℕ) {t u v : Tells} {c d : Option (List ℕ)} (n : NextElement r size a count done at t u c d) → Loaded size at value u v
     → Spoke (at_read r size a count) (λ next. place_by r (say (Line.Element at size value) (reading n.left size (at + count_of size) next))) false t v c d
@@ -110,9 +112,9 @@ element_shown r size a count done at value n l put = record {
 }
 
 pub element_cut : (r : Reach) (size : Size) (a count done at value old_count new_count : ℕ) {t u v : Tells} {sink_old sink_new : ℕ} {c d e : Option (List ℕ)} {f : Failure} → f ≡ failure.Sink → NextElement r size a count done at t u c d
-    → Loaded size at value u v → GrewByPrefix (text_of (Line.Element at size value)) d e → Rises sink_old sink_new → Fell (at_read r size a count) old_count new_count t v sink_old sink_new c e f
+    → Loaded size at value u v → GrewByPrefix (text_of (Line.Element at size value)) d e → Rises sink_old sink_new → Fell Quiet (at_read r size a count) old_count new_count t v sink_old sink_new c e f
 element_cut r size a count done at value old_count new_count sink n l front rises =
-    fell_line (way_by r) (hart_by r) (Line.Element at size value) (λ next. reading n.left size (at + count_of size) next) old_count new_count sink (loaded_at r size a count done at value n l) front rises
+    fell_line (way_by r) (hart_by r) (Line.Element at size value) (λ next. reading n.left size (at + count_of size) next) (λ next calm. quiet_reading n.left size (at + count_of size) next calm) old_count new_count sink (loaded_at r size a count done at value n l) front rises
 
 all_by : (r : Reach) (size : Size) (a count done left : ℕ) {t u : Tells} {c d : Option (List ℕ)} → left ≡ 0 → Spoke (at_read r size a count) (λ next. place_by r (reading left size (a + done * count_of size) next)) false t u c d
     → Spoke (at_read r size a count) idle false t u c d

@@ -1,5 +1,5 @@
 -- `regs`: the lines of a hart's registers, one behind another.
-use Rattle.std.proofs.Common.{◌≡◌, ◌≤◌, ◌<◌, ◌+◌, ℕ, zero, suc, Bool, true, false, List, Option, Some, refl, sym, ap, subst, arith, if◌then◌else◌}
+use Rattle.std.proofs.Common.{map, ◌≡◌, ◌≤◌, ◌<◌, ◌+◌, ℕ, zero, suc, Bool, true, false, List, Option, Some, refl, sym, ap, subst, arith, if◌then◌else◌}
 use Rattle.std.specs.Prelude.{is_some, nat_lt}
 use Rattle.std.specs.List.{range_with_len}
 use Rattle.std.proofs.lemmas.Bool.{false≢true, le-ltb, lt-ltb}
@@ -13,10 +13,13 @@ use Rattle.probe_run.specs.Acts.{Tells}
 use Rattle.probe_session.specs.declared.fault.Failure.{Failure}
 use Rattle.probe_session.specs.declared.fault.Failure.TheVariants as failure
 use Rattle.probe_session.specs.Calls.{Got, IsOfCores, ReadFell}
+use Rattle.debugger_laws.specs.Debugger.{register_line}
+use Rattle.debugger_laws.specs.Laws.{Quiet}
+use Rattle.probe_session.proofs.QuietTails.{quiet_saying}
 use Rattle.probe_session.specs.Goes.{Fault, Fell, Spoke}
 use Rattle.probe_session.specs.Places.{idle}
 use Rattle.probe_session.specs.Reach.{some_shown}
-use Rattle.probe_session.specs.Showing.{Registers, at_all_registers, at_next_register, at_registers}
+use Rattle.probe_session.specs.Showing.{CalmRegisters, Registers, at_all_registers, at_next_register, at_registers}
 use Rattle.probe_session.specs.Steps.Step.{overlooks, reads_next, rests, same}
 use Rattle.probe_session.proofs.RegisterLemmas.{of_harts}
 use Rattle.probe_session.proofs.SeveralLines.{spoke_fell}
@@ -45,13 +48,13 @@ register_put h number value {c = c} of got put =
     spoke_says Still h (Line.Register number value) (λ (r : Registers). some_shown h r.numbers r.next) (spoke_first c (went_one (λ r. reads_next r.numbers r.next got of))) put
 
 pub register_fell : (h number : ℕ) {old_count new_count : ℕ} {t u : Tells} (sink_old sink_new : ℕ) (c : Option (List ℕ)) {f : Failure} → IsOfCores number → ReadFell h number old_count new_count t u f
-    → Fell (at_next_register h number) old_count new_count t u sink_old sink_new c c f
+    → Fell CalmRegisters (at_next_register h number) old_count new_count t u sink_old sink_new c c f
 register_fell h number sink_old sink_new c of fell = fell_first sink_old sink_new c (falls_at (λ r. Fault.reading fell (of_harts number of)))
 
 pub register_cut : (h number value old_count new_count : ℕ) {t u : Tells} {sink_old sink_new : ℕ} {c d : Option (List ℕ)} {f : Failure} → IsOfCores number → f ≡ failure.Sink → Got h number value t u
-    → GrewByPrefix (text_of (Line.Register number value)) c d → Rises sink_old sink_new → Fell (at_next_register h number) old_count new_count t u sink_old sink_new c d f
+    → GrewByPrefix (text_of (Line.Register number value)) c d → Rises sink_old sink_new → Fell CalmRegisters (at_next_register h number) old_count new_count t u sink_old sink_new c d f
 register_cut h number value old_count new_count {c = c} of sink got front rises =
-    fell_line Still h (Line.Register number value) (λ (r : Registers). some_shown h r.numbers r.next) old_count new_count sink (spoke_first c (went_one (λ r. reads_next r.numbers r.next got of))) front rises
+    fell_line Still h (Line.Register number value) (λ (r : Registers). some_shown h r.numbers r.next) (λ (r : Registers) calm b. quiet_saying (map (register_line h b) r.numbers) r.next calm) old_count new_count sink (spoke_first c (went_one (λ r. reads_next r.numbers r.next got of))) front rises
 
 -- ---- all of them
 
@@ -67,9 +70,9 @@ pub record RegistersShown (h x : ℕ) (t u : Tells) (c d : Option (List ℕ)) : 
 pub pc_shown : (h : ℕ) {t u : Tells} {c d : Option (List ℕ)} → Spoke (at_next_register h pc_number) (at_registers h) false t u c d → RegistersShown h 1 t u c d
 pc_shown h s = record { left = 31; all = omega arith; spoke = spoke_within (left_from 1 31) s }
 
-pub pc_fell : (h : ℕ) {old_count new_count : ℕ} {t u : Tells} {sink_old sink_new : ℕ} {c d : Option (List ℕ)} {f : Failure} → Fell (at_next_register h pc_number) old_count new_count t u sink_old sink_new c d f
-    → Fell (at_all_registers h) old_count new_count t u sink_old sink_new c d f
-pc_fell h fell = fell_within (left_from 1 31) fell
+pub pc_fell : (h : ℕ) {old_count new_count : ℕ} {t u : Tells} {sink_old sink_new : ℕ} {c d : Option (List ℕ)} {f : Failure} → Fell CalmRegisters (at_next_register h pc_number) old_count new_count t u sink_old sink_new c d f
+    → Fell Quiet (at_all_registers h) old_count new_count t u sink_old sink_new c d f
+pc_fell h fell = fell_within (left_from 1 31) (λ next calm. calm) fell
 
 next_address : (x : ℕ) → (first_x_number + x) + 1 ≡ first_x_number + (x + 1)
 next_address x = omega arith
@@ -91,12 +94,12 @@ x_shown h x below s one = x_shown_by h x s.left below s.all s.spoke one
 
 x_fell_by : (h x left : ℕ) {old_count count new_count : ℕ} {t u v : Tells} {sink_old sink_count sink_new : ℕ} {c d e : Option (List ℕ)} {f : Failure} → x < 32 → x + left ≡ 32
     → Spoke (at_all_registers h) (λ next. at_registers h (left_from x left next)) false t u c d → old_count ≤ count → sink_old ≤ sink_count → sink_count ≤ sink_new
-    → Fell (at_next_register h (first_x_number + x)) count new_count u v sink_count sink_new d e f → Fell (at_all_registers h) old_count new_count t v sink_old sink_new c e f
+    → Fell CalmRegisters (at_next_register h (first_x_number + x)) count new_count u v sink_count sink_new d e f → Fell Quiet (at_all_registers h) old_count new_count t v sink_old sink_new c e f
 x_fell_by h x zero below all s le later more fell = absurd (omega arith)
-x_fell_by h x (suc n) below all s le later more fell = spoke_fell s le later more (fell_within (rest_from x n) fell)
+x_fell_by h x (suc n) below all s le later more fell = spoke_fell s le later more (fell_within (rest_from x n) (λ next calm. calm) fell)
 
 pub x_fell : (h x : ℕ) {old_count count new_count : ℕ} {t u v : Tells} {sink_old sink_count sink_new : ℕ} {c d e : Option (List ℕ)} {f : Failure} → x < 32 → RegistersShown h x t u c d → old_count ≤ count
-    → sink_old ≤ sink_count → sink_count ≤ sink_new → Fell (at_next_register h (first_x_number + x)) count new_count u v sink_count sink_new d e f → Fell (at_all_registers h) old_count new_count t v sink_old sink_new c e f
+    → sink_old ≤ sink_count → sink_count ≤ sink_new → Fell CalmRegisters (at_next_register h (first_x_number + x)) count new_count u v sink_count sink_new d e f → Fell Quiet (at_all_registers h) old_count new_count t v sink_old sink_new c e f
 x_fell h x below s le later more fell = x_fell_by h x s.left below s.all s.spoke le later more fell
 
 all_by : (h x left : ℕ) {t u : Tells} {c d : Option (List ℕ)} → left ≡ 0 → Spoke (at_all_registers h) (λ next. at_registers h (left_from x left next)) false t u c d → Spoke (at_all_registers h) idle false t u c d

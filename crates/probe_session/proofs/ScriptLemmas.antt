@@ -20,7 +20,8 @@ use Rattle.probe_session.specs.declared.fault.Failure.{Failure}
 use Rattle.probe_session.specs.declared.fault.Failure.TheVariants as failure
 use Rattle.probe_session.specs.Acts.{Untouched}
 use Rattle.probe_session.specs.Commands.{before, behind}
-use Rattle.probe_session.specs.Goes.{Fell, Spoke}
+use Rattle.debugger_laws.proofs.QuietLemmas.{commands_are_quiet}
+use Rattle.probe_session.specs.Goes.{Anyhow, CalmNext, Fell, Spoke}
 use Rattle.probe_session.specs.Goes.Fell.{at_line, in_call}
 use Rattle.probe_session.specs.Places.{Place}
 use Rattle.probe_session.specs.Scripts.{BrokeOff, EndedAs, FollowedAs, RanInto, at_commands, at_stop, ended_unopened, graded}
@@ -61,18 +62,18 @@ wrong_one script s c rest after t u wrong {old} {now} {new} {was} {mid} {is} e s
 text_behind : (xs ys : List Line) (line : Line) (c d e : Option (List ℕ)) → d ≡ grown (text_of_all xs) c → GrewByPrefix (text_of line) (grown (text_of_all ys) d) e → GrewByPrefix (text_of line) (grown (text_of_all (xs ++ ys)) c) e
 text_behind xs ys line c d e first front = subst (λ x. GrewByPrefix (text_of line) x e) (grown_lines xs ys c d (grown (text_of_all ys) d) first refl) front
 
-pub fell_then : {K : Type 0} {a b : K → Place} {wrong : Bool} (old_count count new_count sink_old sink_mid sink_new : ℕ) {t u v : Tells} {c d e : Option (List ℕ)} {f : Failure} → Spoke a b wrong t u c d → old_count ≤ count → sink_old ≤ sink_mid → sink_mid ≤ sink_new
-    → Fell b count new_count u v sink_mid sink_new d e f → Fell a old_count new_count t v sink_old sink_new c e f
-fell_then {K} {a} {b} {wrong} old_count count new_count sink_old sink_mid sink_new {t} {u} {v} {c} {d} {e} {f} s le sink_le later (in_call said p put) =
+pub fell_then : {K : Type 0} {T : K → Type 0} {a b : K → Place} {wrong : Bool} (old_count count new_count sink_old sink_mid sink_new : ℕ) {t u v : Tells} {c d e : Option (List ℕ)} {f : Failure} → Spoke a b wrong t u c d → old_count ≤ count → sink_old ≤ sink_mid → sink_mid ≤ sink_new
+    → Fell T b count new_count u v sink_mid sink_new d e f → Fell T a old_count new_count t v sink_old sink_new c e f
+fell_then {K} {T} {a} {b} {wrong} old_count count new_count sink_old sink_mid sink_new {t} {u} {v} {c} {d} {e} {f} s le sink_le later (in_call said p put) =
     in_call (s.said ++ said) (falls_then s.went le p) (grown_lines s.said said c d e s.put put)
-fell_then {K} {a} {b} {wrong} old_count count new_count sink_old sink_mid sink_new {t} {u} {v} {c} {d} {e} {f} s le sink_le later (at_line said line way h next w front rises) =
-    at_line (s.said ++ said) line way h next (went_then s.went w) (text_behind s.said said line c d e s.put front) (rises_from sink_old sink_mid sink_new sink_le later rises)
+fell_then {K} {T} {a} {b} {wrong} old_count count new_count sink_old sink_mid sink_new {t} {u} {v} {c} {d} {e} {f} s le sink_le later (at_line said line way h next quiet w front rises) =
+    at_line (s.said ++ said) line way h next quiet (went_then s.went w) (text_behind s.said said line c d e s.put front) (rises_from sink_old sink_mid sink_new sink_le later rises)
 
 pub fell_one : (script : List Command) (s : State) (c : Command) (rest after : List Command) (t : State) (wrong : Bool) (old_count count new_count sink_old sink_mid sink_new : ℕ) {old now new : Tells} {was mid is : Option (List ℕ)} {f : Failure} → rest ≡ c ∷ after
-    → SoFar script s rest t wrong old now was mid → old_count ≤ count → sink_old ≤ sink_mid → sink_mid ≤ sink_new → Fell (before c t) count new_count now new sink_mid sink_new mid is f
-    → Fell (at_commands script s) old_count new_count old new sink_old sink_new was is f
+    → SoFar script s rest t wrong old now was mid → old_count ≤ count → sink_old ≤ sink_mid → sink_mid ≤ sink_new → Fell CalmNext (before c t) count new_count now new sink_mid sink_new mid is f
+    → Fell Anyhow (at_commands script s) old_count new_count old new sink_old sink_new was is f
 fell_one script s c rest after t wrong old_count count new_count sink_old sink_mid sink_new e so le sink_le later fell =
-    fell_then old_count count new_count sink_old sink_mid sink_new (at_rest script s rest (c ∷ after) t wrong e so) le sink_le later (fell_within (λ (_ : Unit {0}). commands after) fell)
+    fell_then old_count count new_count sink_old sink_mid sink_new (at_rest script s rest (c ∷ after) t wrong e so) le sink_le later (fell_within (λ (_ : Unit {0}). commands after) (λ _ calm u. commands_are_quiet after u) fell)
 
 -- ---- the script's end
 
@@ -123,8 +124,9 @@ pub opened_ended : (script : List Command) (s : State) (e : Ended) (old_count co
 opened_ended script s e old_count count new_count old mid new sink_old sink_new was is first opened told le followed =
     by_end e (subst (λ x. FollowedAs script x count new_count mid new sink_old sink_new was is e) first followed)
   where
-    into : (f : Failure) → Fell (at_commands script first_state) count new_count mid new sink_old sink_new was is f → RanInto script old_count new_count old new sink_old sink_new was is f
+    into : (f : Failure) → Fell Anyhow (at_commands script first_state) count new_count mid new sink_old sink_new was is f → RanInto script old_count new_count old new sink_old sink_new was is f
     into f fell = record { mid = mid; count = count; opened = opened; told = told; later = le; fell = fell }
+
     by_end : (x : Ended) → FollowedAs script first_state count new_count mid new sink_old sink_new was is x → EndedAs script old_count new_count old new sink_old sink_new was is x
     by_end ended.Clean f = record { mid = mid; opened = opened; told = told; spoke = f }
     by_end ended.WithErrors f = record { mid = mid; opened = opened; told = told; spoke = f }

@@ -19,7 +19,8 @@ use Rattle.probe_session.specs.declared.fault.Failure.{Failure}
 use Rattle.probe_session.specs.declared.fault.Failure.TheVariants as failure
 use Rattle.probe_session.specs.declared.reach.Reach.{Reach}
 use Rattle.probe_session.specs.Commands.{before, behind, is_end, is_one_line}
-use Rattle.probe_session.specs.Goes.{Falls, Fell, Spoke, Went}
+use Rattle.debugger_laws.specs.Laws.{Quiet}
+use Rattle.probe_session.specs.Goes.{CalmNext, Falls, Fell, Spoke, Went}
 use Rattle.probe_session.specs.Goes.Fell.{at_line, in_call}
 use Rattle.probe_session.specs.Met.{Rest, before_look}
 use Rattle.probe_session.specs.Places.{Place, idle, still}
@@ -35,17 +36,17 @@ use Rattle.probe_session.proofs.WentLemmas.{falls_then, went_then, within}
 front_as : (line : Line) (c d e : Option (List ℕ)) → d ≡ c → GrewByPrefix (text_of line) d e → GrewByPrefix (text_of line) c e
 front_as line c d e is g = subst (λ x. GrewByPrefix (text_of line) x e) is g
 
-pub spoke_fell : {K : Type 0} {a b : K → Place} {wrong : Bool} {old_count count new_count : ℕ} {t u v : Tells} {sink_old sink_count sink_new : ℕ} {c d e : Option (List ℕ)} {f : Failure} → Spoke a b wrong t u c d
-    → old_count ≤ count → sink_old ≤ sink_count → sink_count ≤ sink_new → Fell b count new_count u v sink_count sink_new d e f → Fell a old_count new_count t v sink_old sink_new c e f
+pub spoke_fell : {K : Type 0} {T : K → Type 0} {a b : K → Place} {wrong : Bool} {old_count count new_count : ℕ} {t u v : Tells} {sink_old sink_count sink_new : ℕ} {c d e : Option (List ℕ)} {f : Failure} → Spoke a b wrong t u c d
+    → old_count ≤ count → sink_old ≤ sink_count → sink_count ≤ sink_new → Fell T b count new_count u v sink_count sink_new d e f → Fell T a old_count new_count t v sink_old sink_new c e f
 spoke_fell {c = c} {d = d} {e = e} s le later more (in_call said p put) = in_call (s.said ++ said) (falls_then s.went le p) (grown_lines s.said said c d e s.put put)
-spoke_fell {sink_old = sink_old} {sink_count = sink_count} {sink_new = sink_new} {c = c} {d = d} {e = e} s le later more (at_line said line way h p w front rises) =
-    at_line (s.said ++ said) line way h p (went_then s.went w) (front_as line (grown (text_of_all (s.said ++ said)) c) (grown (text_of_all said) d) e (grown_lines s.said said c d (grown (text_of_all said) d) s.put refl) front)
+spoke_fell {sink_old = sink_old} {sink_count = sink_count} {sink_new = sink_new} {c = c} {d = d} {e = e} s le later more (at_line said line way h p quiet w front rises) =
+    at_line (s.said ++ said) line way h p quiet (went_then s.went w) (front_as line (grown (text_of_all (s.said ++ said)) c) (grown (text_of_all said) d) e (grown_lines s.said said c d (grown (text_of_all said) d) s.put refl) front)
     (rises_from sink_old sink_count sink_new later more rises)
 
-pub went_fell : {K : Type 0} {a b : K → Place} {old_count count new_count : ℕ} {t u v : Tells} {sink_old sink_new : ℕ} {c d : Option (List ℕ)} {f : Failure} → Went a b [] t u → old_count ≤ count
-    → Fell b count new_count u v sink_old sink_new c d f → Fell a old_count new_count t v sink_old sink_new c d f
+pub went_fell : {K : Type 0} {T : K → Type 0} {a b : K → Place} {old_count count new_count : ℕ} {t u v : Tells} {sink_old sink_new : ℕ} {c d : Option (List ℕ)} {f : Failure} → Went a b [] t u → old_count ≤ count
+    → Fell T b count new_count u v sink_old sink_new c d f → Fell T a old_count new_count t v sink_old sink_new c d f
 went_fell w le (in_call said p put) = in_call said (falls_then w le p) put
-went_fell w le (at_line said line way h p x front rises) = at_line said line way h p (went_then w x) front rises
+went_fell w le (at_line said line way h p quiet x front rises) = at_line said line way h p quiet (went_then w x) front rises
 
 -- ---- a command that a halted hart does
 
@@ -60,11 +61,11 @@ pub look_says : (s : State) (body : Plan → Plan) (l : PrintedLine) (wrong : Bo
 look_says s body l wrong is w put = one_line Idle 0 l (next_of s) wrong is (met_says s body (said_by l) w) put
 
 pub look_cut : (s : State) (body : Plan → Plan) (line : Line) (old_count new_count : ℕ) {t u : Tells} {sink_old sink_new : ℕ} {c d : Option (List ℕ)} {f : Failure} → f ≡ failure.Sink → Went (before_look s.hart) (λ r. idle (say line r.next)) [] t u
-    → GrewByPrefix (text_of line) c d → Rises sink_old sink_new → Fell (for_halted s body) old_count new_count t u sink_old sink_new c d f
-look_cut s body line old_count new_count {c = c} is w front rises = fell_line Idle 0 line (next_of s) old_count new_count is (spoke_first c (met_says s body line w)) front rises
+    → GrewByPrefix (text_of line) c d → Rises sink_old sink_new → Fell CalmNext (for_halted s body) old_count new_count t u sink_old sink_new c d f
+look_cut s body line old_count new_count {c = c} is w front rises = fell_line Idle 0 line (next_of s) (λ next calm. calm s) old_count new_count is (spoke_first c (met_says s body line w)) front rises
 
 pub look_fell : (s : State) (body : Plan → Plan) {old_count new_count : ℕ} {t u : Tells} (sink_old sink_new : ℕ) (c : Option (List ℕ)) {f : Failure} → Falls (before_look s.hart) [] old_count new_count t u f
-    → Fell (for_halted s body) old_count new_count t u sink_old sink_new c c f
+    → Fell CalmNext (for_halted s body) old_count new_count t u sink_old sink_new c c f
 look_fell s body sink_old sink_new c p = fell_first sink_old sink_new c (met_falls s body p)
 
 pub look_spoke : (s : State) (body : ℕ → Plan → Plan) (x : ℕ) (wrong : Bool) {t u v : Tells} {c d : Option (List ℕ)} → x ≡ s.hart → Went (before_look s.hart) (λ r. still s.hart r.body) [] t u
@@ -73,11 +74,11 @@ look_spoke s body x wrong {u = u} {v = v} {c = c} {d = d} is first sp =
     went_spoke (within (rest s (body s.hart)) first) (spoke_within (next_of s) (subst (λ n. Spoke (λ next. still n (body n next)) idle wrong u v c d) is sp))
 
 pub look_spoke_fell : (s : State) (body : ℕ → Plan → Plan) (x : ℕ) {old_count count new_count : ℕ} {t u v : Tells} {sink_old sink_new : ℕ} {c d : Option (List ℕ)} {f : Failure} → x ≡ s.hart
-    → Went (before_look s.hart) (λ r. still s.hart r.body) [] t u → old_count ≤ count → Fell (λ next. still x (body x next)) count new_count u v sink_old sink_new c d f
-    → Fell (for_halted s (body s.hart)) old_count new_count t v sink_old sink_new c d f
+    → Went (before_look s.hart) (λ r. still s.hart r.body) [] t u → old_count ≤ count → Fell Quiet (λ next. still x (body x next)) count new_count u v sink_old sink_new c d f
+    → Fell CalmNext (for_halted s (body s.hart)) old_count new_count t v sink_old sink_new c d f
 look_spoke_fell s body x {count = count} {new_count = new_count} {u = u} {v = v} {sink_old = sink_old} {sink_new = sink_new} {c = c} {d = d} {f = f} is first le fell =
     went_fell (within (rest s (body s.hart)) first) le
-    (fell_within (next_of s) (subst (λ n. Fell (λ next. still n (body n next)) count new_count u v sink_old sink_new c d f) is fell))
+    (fell_within (next_of s) (λ next calm. calm s) (subst (λ n. Fell Quiet (λ next. still n (body n next)) count new_count u v sink_old sink_new c d f) is fell))
 
 -- ---- a command that reaches memory
 
@@ -89,11 +90,11 @@ pub reached_says_line : (s : State) (body : Plan → Plan) (l : PrintedLine) (wr
 reached_says_line s body l wrong is w put = one_line Idle 0 l (next_of s) wrong is (reach_says s body (said_by l) w) put
 
 pub reached_cut : (s : State) (body : Plan → Plan) (line : Line) (old_count new_count : ℕ) {t u : Tells} {sink_old sink_new : ℕ} {c d : Option (List ℕ)} {f : Failure} → f ≡ failure.Sink → Went (before_reach s) (λ r. idle (say line r.next)) [] t u
-    → GrewByPrefix (text_of line) c d → Rises sink_old sink_new → Fell (for_memory s body) old_count new_count t u sink_old sink_new c d f
-reached_cut s body line old_count new_count {c = c} is w front rises = fell_line Idle 0 line (next_of s) old_count new_count is (spoke_first c (reach_says s body line w)) front rises
+    → GrewByPrefix (text_of line) c d → Rises sink_old sink_new → Fell CalmNext (for_memory s body) old_count new_count t u sink_old sink_new c d f
+reached_cut s body line old_count new_count {c = c} is w front rises = fell_line Idle 0 line (next_of s) (λ next calm. calm s) old_count new_count is (spoke_first c (reach_says s body line w)) front rises
 
 pub reached_fell : (s : State) (body : Plan → Plan) {old_count new_count : ℕ} {t u : Tells} (sink_old sink_new : ℕ) (c : Option (List ℕ)) {f : Failure} → Falls (before_reach s) [] old_count new_count t u f
-    → Fell (for_memory s body) old_count new_count t u sink_old sink_new c c f
+    → Fell CalmNext (for_memory s body) old_count new_count t u sink_old sink_new c c f
 reached_fell s body sink_old sink_new c p = fell_first sink_old sink_new c (reach_falls s body p)
 
 pub reached_spoke : (s : State) (r : Reach) (body : Plan → Plan) (wrong : Bool) {t u v : Tells} {c d : Option (List ℕ)} → Went (before_reach s) (λ k. place_by r k.body) [] t u
@@ -101,17 +102,17 @@ pub reached_spoke : (s : State) (r : Reach) (body : Plan → Plan) (wrong : Bool
 reached_spoke s r body wrong first sp = went_spoke (within (rest s body) first) (spoke_within (next_of s) sp)
 
 pub reached_spoke_fell : (s : State) (r : Reach) (body : Plan → Plan) {old_count count new_count : ℕ} {t u v : Tells} {sink_old sink_new : ℕ} {c d : Option (List ℕ)} {f : Failure} → Went (before_reach s) (λ k. place_by r k.body) [] t u
-    → old_count ≤ count → Fell (λ next. place_by r (body next)) count new_count u v sink_old sink_new c d f → Fell (for_memory s body) old_count new_count t v sink_old sink_new c d f
-reached_spoke_fell s r body first le fell = went_fell (within (rest s body) first) le (fell_within (next_of s) fell)
+    → old_count ≤ count → Fell Quiet (λ next. place_by r (body next)) count new_count u v sink_old sink_new c d f → Fell CalmNext (for_memory s body) old_count new_count t v sink_old sink_new c d f
+reached_spoke_fell s r body first le fell = went_fell (within (rest s body) first) le (fell_within (next_of s) (λ next calm. calm s) fell)
 
 -- ---- a command by what it is
 
 pub spoke_as : (k j : Command) (s t : State) (r : Result Bool Failure) (u v : Tells) (c d : Option (List ℕ)) → k ≡ j → IfOk r (λ wrong. Spoke (before j s) (behind t) wrong u v c d) → IfOk r (λ wrong. Spoke (before k s) (behind t) wrong u v c d)
 spoke_as k j s t r u v c d is w = subst (λ x. IfOk r (λ wrong. Spoke (before x s) (behind t) wrong u v c d)) (sym is) w
 
-pub fell_as : (k j : Command) (s : State) (r : Result Bool Failure) (old_count new_count : ℕ) (u v : Tells) (sink_old sink_new : ℕ) (c d : Option (List ℕ)) → k ≡ j → IfErr r (Fell (before j s) old_count new_count u v sink_old sink_new c d)
-    → IfErr r (Fell (before k s) old_count new_count u v sink_old sink_new c d)
-fell_as k j s r old_count new_count u v sink_old sink_new c d is p = subst (λ x. IfErr r (Fell (before x s) old_count new_count u v sink_old sink_new c d)) (sym is) p
+pub fell_as : (k j : Command) (s : State) (r : Result Bool Failure) (old_count new_count : ℕ) (u v : Tells) (sink_old sink_new : ℕ) (c d : Option (List ℕ)) → k ≡ j → IfErr r (Fell CalmNext (before j s) old_count new_count u v sink_old sink_new c d)
+    → IfErr r (Fell CalmNext (before k s) old_count new_count u v sink_old sink_new c d)
+fell_as k j s r old_count new_count u v sink_old sink_new c d is p = subst (λ x. IfErr r (Fell CalmNext (before x s) old_count new_count u v sink_old sink_new c d)) (sym is) p
 
 -- what is left says one line
 pub one_line_left : (c : Command) → is_end c ≡ false → (c ≡ command.Regs → ⊥) → ((size : Size) (address count : ℕ) → c ≡ command.Read size address count → ⊥) → ((address count : ℕ) → c ≡ command.Dump address count → ⊥) → (c ≡ command.Slots → ⊥)

@@ -19,6 +19,8 @@ use Rattle.probe_trig.specs.Words.{use_named}
 use Rattle.probe_session.specs.declared.fault.Failure.{Failure}
 use Rattle.probe_session.specs.declared.fault.Failure.TheVariants as failure
 use Rattle.probe_session.specs.Calls.{SlotsFell, Viewed}
+use Rattle.debugger_laws.specs.Laws.{Quiet}
+use Rattle.probe_session.proofs.QuietTails.{quiet_saying}
 use Rattle.probe_session.specs.Goes.{Falls, Fault, Fell, Spoke}
 use Rattle.probe_session.specs.Places.{idle, still}
 use Rattle.probe_session.specs.Showing.{at_slots}
@@ -86,9 +88,10 @@ slot_said h view slot used hit {d = d} four is hit_is s put =
 
 pub slot_cut : (h : ℕ) (view : SlotView) (slot : ℕ) (used : SlotUse) (hit : Bool) (old_count new_count : ℕ) {t u : Tells} {sink_old sink_new : ℕ} {c d e : Option (List ℕ)} {f : Failure} → length view.used ≡ 4
     → slice_get view.used slot ≡ Some used → hit ≡ has_slot view.hits slot → f ≡ failure.Sink → SlotsSaid h view slot t u c d → GrewByPrefix (text_of (Line.Slot slot (use_named used) hit)) d e
-    → Rises sink_old sink_new → Fell (at_slots h) old_count new_count t u sink_old sink_new c e f
+    → Rises sink_old sink_new → Fell Quiet (at_slots h) old_count new_count t u sink_old sink_new c e f
 slot_cut h view slot used hit old_count new_count {d = d} {e = e} four is hit_is sink s front rises =
-    fell_line Still h (line_at slot used view.hits) (λ next. saying (lines_from (slot + 1) view.used view.hits) next) old_count new_count sink (at_next h view slot used four is s)
+    fell_line Still h (line_at slot used view.hits) (λ next. saying (lines_from (slot + 1) view.used view.hits) next)
+    (λ next calm. quiet_saying (lines_from (slot + 1) view.used view.hits) next calm) old_count new_count sink (at_next h view slot used four is s)
     (subst (λ (b : Bool). GrewByPrefix (text_of (Line.Slot slot (use_named used) b)) d e) hit_is front) rises
 
 pub slots_all : (h : ℕ) (view : SlotView) (slot : ℕ) {t u : Tells} {c d : Option (List ℕ)} → length view.used ≡ 4 → slot ≡ 4 → SlotsSaid h view slot t u c d → Spoke (at_slots h) idle false t u c d

@@ -14,6 +14,7 @@ use Rattle.printed_lines.specs.Line.{line_of}
 use Rattle.probe_run.specs.Acts.{Tells}
 use Rattle.probe_session.specs.declared.fault.Failure.{Failure}
 use Rattle.probe_session.specs.declared.fault.Failure.TheVariants as failure
+use Rattle.debugger_laws.specs.Laws.{Quiet}
 use Rattle.probe_session.specs.Goes.{Falls, Fell, Spoke, Went}
 use Rattle.probe_session.specs.Goes.Fell.{at_line, in_call}
 use Rattle.probe_session.specs.Places.{Place, place}
@@ -90,28 +91,28 @@ falls_said : {K : Type 0} {a : K → Place} {xs ys : List Line} {old_count new_c
 falls_said {K} {a} {xs} {ys} {old_count} {new_count} {t} {u} {f} is p = subst (λ l. Falls a l old_count new_count t u f) is p
 
 -- a call failed behind lines that were written
-pub fell_call : {K : Type 0} {a b : K → Place} {wrong : Bool} {old_count count new_count : ℕ} {t u v : Tells} (sink_old sink_new : ℕ) {c d : Option (List ℕ)} {f : Failure} → Spoke a b wrong t u c d → old_count ≤ count
-    → Falls b [] count new_count u v f → Fell a old_count new_count t v sink_old sink_new c d f
+pub fell_call : {K : Type 0} {T : K → Type 0} {a b : K → Place} {wrong : Bool} {old_count count new_count : ℕ} {t u v : Tells} (sink_old sink_new : ℕ) {c d : Option (List ℕ)} {f : Failure} → Spoke a b wrong t u c d → old_count ≤ count
+    → Falls b [] count new_count u v f → Fell T a old_count new_count t v sink_old sink_new c d f
 fell_call sink_old sink_new s le p = in_call s.said (falls_said (append-nil s.said) (falls_then s.went le p)) s.put
 
 front_at : (line : Line) (c d e : Option (List ℕ)) → d ≡ c → GrewByPrefix (text_of line) d e → GrewByPrefix (text_of line) c e
 front_at line c d e is g = subst (λ x. GrewByPrefix (text_of line) x e) is g
 
 -- a line could not be written, behind others
-pub fell_line : {K : Type 0} {a : K → Place} (way : Way) (h : ℕ) (line : Line) (p : K → Plan) {wrong : Bool} (old_count new_count : ℕ) {t u : Tells} {sink_old sink_new : ℕ} {c d e : Option (List ℕ)} {f : Failure} → f ≡ failure.Sink
-    → Spoke a (λ k. place way h (say line (p k))) wrong t u c d → GrewByPrefix (text_of line) d e → Rises sink_old sink_new → Fell a old_count new_count t u sink_old sink_new c e f
-fell_line {K} {a} way h line p old_count new_count {t} {u} {sink_old} {sink_new} {c} {d} {e} {f} is s front rises =
-    subst (λ (x : Failure). Fell a old_count new_count t u sink_old sink_new c e x) (sym is)
-    (at_line s.said line way h p s.went (front_at line (grown (text_of_all s.said) c) d e s.put front) rises)
+pub fell_line : {K : Type 0} {T : K → Type 0} {a : K → Place} (way : Way) (h : ℕ) (line : Line) (p : K → Plan) (quiet : (k : K) → T k → Quiet (p k)) {wrong : Bool} (old_count new_count : ℕ) {t u : Tells} {sink_old sink_new : ℕ} {c d e : Option (List ℕ)} {f : Failure} → f ≡ failure.Sink
+    → Spoke a (λ k. place way h (say line (p k))) wrong t u c d → GrewByPrefix (text_of line) d e → Rises sink_old sink_new → Fell T a old_count new_count t u sink_old sink_new c e f
+fell_line {K} {T} {a} way h line p quiet old_count new_count {t} {u} {sink_old} {sink_new} {c} {d} {e} {f} is s front rises =
+    subst (λ (x : Failure). Fell T a old_count new_count t u sink_old sink_new c e x) (sym is)
+    (at_line s.said line way h p quiet s.went (front_at line (grown (text_of_all s.said) c) d e s.put front) rises)
 
-pub fell_within : {K L : Type 0} {a : L → Place} {old_count new_count : ℕ} {t u : Tells} {sink_old sink_new : ℕ} {c d : Option (List ℕ)} {f : Failure} (g : K → L) → Fell a old_count new_count t u sink_old sink_new c d f
-    → Fell (λ k. a (g k)) old_count new_count t u sink_old sink_new c d f
-fell_within g (in_call said p put) = in_call said (falls_within g p) put
-fell_within g (at_line said line way h p w front rises) = at_line said line way h (λ k. p (g k)) (within g w) front rises
+pub fell_within : {K L : Type 0} {T : K → Type 0} {U : L → Type 0} {a : L → Place} {old_count new_count : ℕ} {t u : Tells} {sink_old sink_new : ℕ} {c d : Option (List ℕ)} {f : Failure} (g : K → L) (calm : (k : K) → T k → U (g k)) → Fell U a old_count new_count t u sink_old sink_new c d f
+    → Fell T (λ k. a (g k)) old_count new_count t u sink_old sink_new c d f
+fell_within g calm (in_call said p put) = in_call said (falls_within g p) put
+fell_within g calm (at_line said line way h p quiet w front rises) = at_line said line way h (λ k. p (g k)) (λ k t. quiet (g k) (calm k t)) (within g w) front rises
 
 -- ---- one line
 
-pub fell_first : {K : Type 0} {a : K → Place} {old_count new_count : ℕ} {t u : Tells} (sink_old sink_new : ℕ) (c : Option (List ℕ)) {f : Failure} → Falls a [] old_count new_count t u f → Fell a old_count new_count t u sink_old sink_new c c f
+pub fell_first : {K : Type 0} {T : K → Type 0} {a : K → Place} {old_count new_count : ℕ} {t u : Tells} (sink_old sink_new : ℕ) (c : Option (List ℕ)) {f : Failure} → Falls a [] old_count new_count t u f → Fell T a old_count new_count t u sink_old sink_new c c f
 fell_first sink_old sink_new c p = in_call [] p (grown_none c)
 
 pub spoke_first : {K : Type 0} {a b : K → Place} {t u : Tells} (c : Option (List ℕ)) → Went a b [] t u → Spoke a b false t u c c

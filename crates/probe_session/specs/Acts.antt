@@ -11,7 +11,7 @@ use Rattle.probe_session.specs.declared.acted.Acted.{Acted}
 use Rattle.probe_session.specs.declared.acted.Acted.TheVariants as acted
 use Rattle.probe_session.specs.declared.fault.Failure.TheVariants as failure
 use Rattle.probe_session.specs.Commands.{before, behind}
-use Rattle.probe_session.specs.Goes.{Fell, Spoke}
+use Rattle.probe_session.specs.Goes.{CalmNext, Fell, Spoke}
 use Rattle.probe_session.specs.Links.{Serving}
 
 -- nothing was done
@@ -24,9 +24,9 @@ abbrev pub ActedAs : Command → (s t : State) → (old_count new_count : ℕ) �
 ActedAs c s t old_count new_count old new sink_old sink_new was is acted.Done = Spoke (before c s) (behind t) false old new was is
 ActedAs c s t old_count new_count old new sink_old sink_new was is acted.Error = Spoke (before c s) (behind t) true old new was is
 ActedAs c s t old_count new_count old new sink_old sink_new was is acted.End = (c ≡ command.End) × Untouched s t old new was is
-ActedAs c s t old_count new_count old new sink_old sink_new was is (acted.Wire why) = Fell (before c s) old_count new_count old new sink_old sink_new was is (failure.Wire why)
-ActedAs c s t old_count new_count old new sink_old sink_new was is (acted.Lost why) = Fell (before c s) old_count new_count old new sink_old sink_new was is (failure.Lost why)
-ActedAs c s t old_count new_count old new sink_old sink_new was is acted.Sink = Fell (before c s) old_count new_count old new sink_old sink_new was is failure.Sink
+ActedAs c s t old_count new_count old new sink_old sink_new was is (acted.Wire why) = Fell CalmNext (before c s) old_count new_count old new sink_old sink_new was is (failure.Wire why)
+ActedAs c s t old_count new_count old new sink_old sink_new was is (acted.Lost why) = Fell CalmNext (before c s) old_count new_count old new sink_old sink_new was is (failure.Lost why)
+ActedAs c s t old_count new_count old new sink_old sink_new was is acted.Sink = Fell CalmNext (before c s) old_count new_count old new sink_old sink_new was is failure.Sink
 
 -- the session goes on; or the stream can be ended, but behind a fault of the wire
 abbrev pub ServingAfter : Option Far → Bool → Acted → Type 0

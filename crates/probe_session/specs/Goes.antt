@@ -6,7 +6,8 @@ use Rattle.jt_base.specs.Sink.{GrewByPrefix, grown}
 use Rattle.rv_model.specs.declared.size.Size.{Size}
 use Rattle.rv_model.specs.Board.{Board}
 use Rattle.debug_model.specs.declared.point.Point.TheVariants.{Access}
-use Rattle.debugger_laws.specs.Debugger.{Seen, going, halting, look, one, sees_halted, unseen, until}
+use Rattle.debugger_laws.specs.Debugger.{Seen, State, going, halting, look, one, sees_halted, unseen, until}
+use Rattle.debugger_laws.specs.Laws.{Quiet}
 use Rattle.debugger_laws.specs.Lines.{Line, any_error, text_of, text_of_all}
 use Rattle.debugger_laws.specs.Plan.{Plan}
 use Rattle.debugger_laws.specs.Plan.Plan.{say, see, take}
@@ -87,6 +88,16 @@ pub record Falls {K : Type 0} (before : K → Place) (said : List Line) (old_cou
   pub later : old_count ≤ count
   pub fault : (next : K) → Fault (at next) count new_count mid new f
 
+-- ---- what follows a line
+
+-- what may follow a command or a line: no change up to the next point, so that a session whose sink failed has left nothing undone
+abbrev pub CalmNext : (State → Plan) → Type 0
+CalmNext next = (s : State) → Quiet (next s)
+
+-- what follows a whole script is its own end
+abbrev pub Anyhow : Unit {0} → Type 0
+Anyhow _ = Unit {0}
+
 -- ---- with what was written of it
 
 -- some lines were said and written, and maybe one of them is an error line
@@ -96,10 +107,11 @@ pub record Spoke {K : Type 0} (before after : K → Place) (wrong : Bool) (old n
   pub put : is ≡ grown (text_of_all said) was
   pub wrong_is : any_error said ≡ wrong
 
--- all lines that were said were written, and there a call failed; or a line could not be written
-pub data Fell {K : Type 0} (before : K → Place) (old_count new_count : ℕ) (old new : Tells) (sink_old sink_new : ℕ) (was is : Option (List ℕ)) : Failure → Type 0 where
+-- all lines that were said were written, and there a call failed; or a line could not be written, behind which nothing is changed up to the next point
+-- where what follows the whole is as T says
+pub data Fell {K : Type 0} (T : K → Type 0) (before : K → Place) (old_count new_count : ℕ) (old new : Tells) (sink_old sink_new : ℕ) (was is : Option (List ℕ)) : Failure → Type 0 where
   in_call : {f : Failure} (said : List Line) → Falls before said old_count new_count old new f → is ≡ grown (text_of_all said) was
-      → Fell before old_count new_count old new sink_old sink_new was is f
-  at_line : (said : List Line) (line : Line) (way : Way) (h : ℕ) (next : K → Plan) → Went before (λ k. place way h (say line (next k))) said old new
+      → Fell T before old_count new_count old new sink_old sink_new was is f
+  at_line : (said : List Line) (line : Line) (way : Way) (h : ℕ) (next : K → Plan) → ((k : K) → T k → Quiet (next k)) → Went before (λ k. place way h (say line (next k))) said old new
       → GrewByPrefix (text_of line) (grown (text_of_all said) was) is → Rises sink_old sink_new
-      → Fell before old_count new_count old new sink_old sink_new was is failure.Sink
+      → Fell T before old_count new_count old new sink_old sink_new was is failure.Sink

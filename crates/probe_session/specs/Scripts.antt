@@ -19,7 +19,7 @@ use Rattle.probe_session.specs.declared.fault.Failure.{Failure}
 use Rattle.probe_session.specs.declared.fault.Failure.TheVariants as failure
 use Rattle.probe_session.specs.declared.fault.LostCause.TheVariants as lost
 use Rattle.probe_session.specs.Failures.{failure_of_dmi}
-use Rattle.probe_session.specs.Goes.{Fell, Spoke}
+use Rattle.probe_session.specs.Goes.{Anyhow, Fell, Spoke}
 use Rattle.probe_session.specs.Links.{Serving}
 use Rattle.probe_session.specs.Places.{Place, idle}
 
@@ -47,7 +47,7 @@ pub record RanInto (script : List Command) (old_count new_count : ℕ) (old new 
   pub opened : Opened old mid
   pub told : OpensLoaded old.far mid.far
   pub later : old_count ≤ count
-  pub fell : Fell (at_commands script first_state) count new_count mid new sink_old sink_new was is f
+  pub fell : Fell Anyhow (at_commands script first_state) count new_count mid new sink_old sink_new was is f
 
 -- the chip was not opened, and nothing was written
 pub record Unopened (old_count new_count : ℕ) (old new : Tells) (was is : Option (List ℕ)) (fault : ConnectFault) : Type 0 where
@@ -92,9 +92,9 @@ abbrev pub FollowedAs : List Command → State → (old_count new_count : ℕ) �
 FollowedAs script s old_count new_count old new sink_old sink_new was is ended.Clean = Spoke (at_commands script s) at_stop false old new was is
 FollowedAs script s old_count new_count old new sink_old sink_new was is ended.WithErrors = Spoke (at_commands script s) at_stop true old new was is
 FollowedAs script s old_count new_count old new sink_old sink_new was is (ended.Target fault) = ⊥
-FollowedAs script s old_count new_count old new sink_old sink_new was is (ended.Wire why) = Fell (at_commands script s) old_count new_count old new sink_old sink_new was is (failure.Wire why)
-FollowedAs script s old_count new_count old new sink_old sink_new was is (ended.Lost why) = Fell (at_commands script s) old_count new_count old new sink_old sink_new was is (failure.Lost why)
-FollowedAs script s old_count new_count old new sink_old sink_new was is ended.Sink = Fell (at_commands script s) old_count new_count old new sink_old sink_new was is failure.Sink
+FollowedAs script s old_count new_count old new sink_old sink_new was is (ended.Wire why) = Fell Anyhow (at_commands script s) old_count new_count old new sink_old sink_new was is (failure.Wire why)
+FollowedAs script s old_count new_count old new sink_old sink_new was is (ended.Lost why) = Fell Anyhow (at_commands script s) old_count new_count old new sink_old sink_new was is (failure.Lost why)
+FollowedAs script s old_count new_count old new sink_old sink_new was is ended.Sink = Fell Anyhow (at_commands script s) old_count new_count old new sink_old sink_new was is failure.Sink
 
 -- whose chip was not opened
 abbrev pub ended_unopened : ConnectFault → Ended

@@ -3,6 +3,7 @@
 use Rattle.std.specs.Prelude.{◌≡◌, ◌+◌, ℕ, suc, Bool, true, false, List, [], ◌∷◌, length, Option}
 use Rattle.jt_base.specs.Sink.{GrewByPrefix}
 use Rattle.rv_model.specs.declared.size.Size.{Size}
+use Rattle.debugger_laws.specs.Laws.{Quiet}
 use Rattle.debugger_laws.specs.Debugger.{dumping}
 use Rattle.debugger_laws.specs.Lines.{Line, text_of}
 use Rattle.debugger_laws.specs.Plan.{Plan}
@@ -30,6 +31,10 @@ at_registers h r = still h (some_shown h r.numbers r.next)
 abbrev pub at_next_register : (h number : ℕ) → Registers → Place
 at_next_register h number r = still h (some_shown h (number ∷ r.numbers) r.next)
 
+-- what follows them is calm
+abbrev pub CalmRegisters : Registers → Type 0
+CalmRegisters r = Quiet r.next
+
 -- ---- of memory
 
 abbrev pub at_read : Reach → Size → (address count : ℕ) → Plan → Place
@@ -41,6 +46,9 @@ at_dump r address count next = place_by r (dumped address count next)
 pub record Bytes : Type 0 where
   pub left : ℕ
   pub next : Plan
+
+abbrev pub CalmBytes : Bytes → Type 0
+CalmBytes k = Quiet k.next
 
 -- behind these bytes of the row that begins at `first`
 abbrev pub at_bytes : Reach → (first : ℕ) → (row : List ℕ) → Bytes → Place

@@ -30,6 +30,11 @@ pub record IsFrontOf (script : List Command) (was is : Option (List ℕ)) (first
   pub on_the_way : (shown script first last).end ≢ Astray
   pub written : GrewByPrefix (text_of_all (shown script first last).world.lines) was is
 
+-- the same, and the chip's board is the transcript's: no command was left half done
+pub record IsCutTranscript (script : List Command) (was is : Option (List ℕ)) (first last : Far) : Type 0 where
+  pub front : IsFrontOf script was is first last
+  pub board_is : (shown script first last).world.board ≡ (site_of last).board
+
 -- the link tells of a chip still
 pub record Still (P : Far → Type 0) (new : Option Far) : Type 0 where
   pub far : Far
@@ -47,7 +52,7 @@ WrittenAs script was is first last (ended.Lost lost.StillBusy) = IsFrontOf scrip
 WrittenAs script was is first last (ended.Lost (lost.NoHalt looks)) = IsTranscript script (End.NoHalt looks) was is first last
 WrittenAs script was is first last (ended.Lost (lost.NoAck looks)) = IsTranscript script (End.NoAck looks) was is first last
 WrittenAs script was is first last (ended.Lost (lost.Odd word)) = ⊥
-WrittenAs script was is first last ended.Sink = IsFrontOf script was is first last
+WrittenAs script was is first last ended.Sink = IsCutTranscript script was is first last
 
 abbrev pub TranscribedAs : List Command → (was is : Option (List ℕ)) → (old new : Option Far) → Ended → Type 0
 TranscribedAs script was is old new e = IfSome old (λ first. Still (λ last. WrittenAs script was is first last e) new)

@@ -5,7 +5,7 @@ ghost use Rattle.probe_run.specs.Acts.{tells};
 ghost use Rattle.debug_model.specs.Command.{IsWithinRanges};
 ghost use Rattle.probe_session.specs.Acts.{ActedAs, ServingAfter};
 ghost use Rattle.probe_session.specs.Commands.{before, behind, is_end, is_one_line, state_of};
-ghost use Rattle.probe_session.specs.Goes.{Fell, Spoke};
+ghost use Rattle.probe_session.specs.Goes.{CalmNext, Fell, Spoke};
 ghost use Rattle.probe_session.specs.Links.{LeftBy, Serving};
 
 use crate::acted::Acted;
@@ -27,7 +27,7 @@ impl Session {
         requires one { IsTrue (is_one_line command) }
         requires serving { Serving (D.far link.old) (D.is_alive link.old) }
         ensures spoke { IfOk result (λ wrong. Spoke (before command (state_of self.old)) (behind (state_of self.new)) wrong (tells (D.far link.old) (D.script link.old)) (tells (D.far link.new) (D.script link.new)) (K.contents out.old) (K.contents out.new)) }
-        ensures fell { IfErr result (Fell (before command (state_of self.old)) (D.fault_count link.old) (D.fault_count link.new) (tells (D.far link.old) (D.script link.old)) (tells (D.far link.new) (D.script link.new)) (K.fault_count out.old) (K.fault_count out.new) (K.contents out.old) (K.contents out.new)) }
+        ensures fell { IfErr result (Fell CalmNext (before command (state_of self.old)) (D.fault_count link.old) (D.fault_count link.new) (tells (D.far link.old) (D.script link.old)) (tells (D.far link.new) (D.script link.new)) (K.fault_count out.old) (K.fault_count out.new) (K.contents out.old) (K.contents out.new)) }
         ensures serving { OnOk result (Serving (D.far link.new) (D.is_alive link.new)) }
         ensures left { IfErr result (LeftBy (D.far link.new)) }
         ensures later { D.fault_count link.old ≤ D.fault_count link.new }
@@ -51,7 +51,7 @@ impl Session {
         requires more { is_end command ≡ false }
         requires serving { Serving (D.far link.old) (D.is_alive link.old) }
         ensures spoke { IfOk result (λ wrong. Spoke (before command (state_of self.old)) (behind (state_of self.new)) wrong (tells (D.far link.old) (D.script link.old)) (tells (D.far link.new) (D.script link.new)) (K.contents out.old) (K.contents out.new)) }
-        ensures fell { IfErr result (Fell (before command (state_of self.old)) (D.fault_count link.old) (D.fault_count link.new) (tells (D.far link.old) (D.script link.old)) (tells (D.far link.new) (D.script link.new)) (K.fault_count out.old) (K.fault_count out.new) (K.contents out.old) (K.contents out.new)) }
+        ensures fell { IfErr result (Fell CalmNext (before command (state_of self.old)) (D.fault_count link.old) (D.fault_count link.new) (tells (D.far link.old) (D.script link.old)) (tells (D.far link.new) (D.script link.new)) (K.fault_count out.old) (K.fault_count out.new) (K.contents out.old) (K.contents out.new)) }
         ensures serving { OnOk result (Serving (D.far link.new) (D.is_alive link.new)) }
         ensures left { IfErr result (LeftBy (D.far link.new)) }
         ensures later { D.fault_count link.old ≤ D.fault_count link.new }

@@ -5,10 +5,11 @@ ghost use Rattle.probe_run.specs.Acts.{tells};
 ghost use Rattle.debug_model.specs.declared.command.Command.TheVariants as command;
 ghost use Rattle.probe_session.specs.Calls.{IsOfCores};
 ghost use Rattle.probe_session.specs.Commands.{before, behind, state_of};
-ghost use Rattle.probe_session.specs.Goes.{Fell, Spoke};
+ghost use Rattle.debugger_laws.specs.Laws.{Quiet};
+ghost use Rattle.probe_session.specs.Goes.{CalmNext, Fell, Spoke};
 ghost use Rattle.probe_session.specs.Links.{LeftBy, Serving, ServingHalted};
 ghost use Rattle.probe_session.specs.Places.{idle};
-ghost use Rattle.probe_session.specs.Showing.{at_all_registers, at_next_register, at_registers};
+ghost use Rattle.probe_session.specs.Showing.{CalmRegisters, at_all_registers, at_next_register, at_registers};
 
 use crate::fault::Failure;
 use crate::met::{Met, meet};
@@ -34,7 +35,7 @@ fn put_register<D: Dmi, K: Sink>(
     requires of { IsOfCores number }
     requires serving { ServingHalted halted.now.number (D.far link.old) (D.is_alive link.old) }
     ensures spoke { OnOk result (Spoke (at_next_register halted.now.number number) (at_registers halted.now.number) false (tells (D.far link.old) (D.script link.old)) (tells (D.far link.new) (D.script link.new)) (K.contents out.old) (K.contents out.new)) }
-    ensures fell { IfErr result (Fell (at_next_register halted.now.number number) (D.fault_count link.old) (D.fault_count link.new) (tells (D.far link.old) (D.script link.old)) (tells (D.far link.new) (D.script link.new)) (K.fault_count out.old) (K.fault_count out.new) (K.contents out.old) (K.contents out.new)) }
+    ensures fell { IfErr result (Fell CalmRegisters (at_next_register halted.now.number number) (D.fault_count link.old) (D.fault_count link.new) (tells (D.far link.old) (D.script link.old)) (tells (D.far link.new) (D.script link.new)) (K.fault_count out.old) (K.fault_count out.new) (K.contents out.old) (K.contents out.new)) }
     ensures serving { OnOk result (ServingHalted halted.now.number (D.far link.new) (D.is_alive link.new)) }
     ensures left { IfErr result (LeftBy (D.far link.new)) }
     ensures later { D.fault_count link.old ≤ D.fault_count link.new }
@@ -51,7 +52,7 @@ fn put_register<D: Dmi, K: Sink>(
 fn put_registers<D: Dmi, K: Sink>(link: &mut D, halted: &Halted, out: &mut K) -> Result<(), Failure>
     requires serving { ServingHalted halted.now.number (D.far link.old) (D.is_alive link.old) }
     ensures spoke { OnOk result (Spoke (at_all_registers halted.now.number) idle false (tells (D.far link.old) (D.script link.old)) (tells (D.far link.new) (D.script link.new)) (K.contents out.old) (K.contents out.new)) }
-    ensures fell { IfErr result (Fell (at_all_registers halted.now.number) (D.fault_count link.old) (D.fault_count link.new) (tells (D.far link.old) (D.script link.old)) (tells (D.far link.new) (D.script link.new)) (K.fault_count out.old) (K.fault_count out.new) (K.contents out.old) (K.contents out.new)) }
+    ensures fell { IfErr result (Fell Quiet (at_all_registers halted.now.number) (D.fault_count link.old) (D.fault_count link.new) (tells (D.far link.old) (D.script link.old)) (tells (D.far link.new) (D.script link.new)) (K.fault_count out.old) (K.fault_count out.new) (K.contents out.old) (K.contents out.new)) }
     ensures serving { OnOk result (Serving (D.far link.new) (D.is_alive link.new)) }
     ensures left { IfErr result (LeftBy (D.far link.new)) }
     ensures later { D.fault_count link.old ≤ D.fault_count link.new }
@@ -75,7 +76,7 @@ impl Session {
     ) -> Result<bool, Failure>
         requires serving { Serving (D.far link.old) (D.is_alive link.old) }
         ensures spoke { IfOk result (λ wrong. Spoke (before command.Regs (state_of self.now)) (behind (state_of self.now)) wrong (tells (D.far link.old) (D.script link.old)) (tells (D.far link.new) (D.script link.new)) (K.contents out.old) (K.contents out.new)) }
-        ensures fell { IfErr result (Fell (before command.Regs (state_of self.now)) (D.fault_count link.old) (D.fault_count link.new) (tells (D.far link.old) (D.script link.old)) (tells (D.far link.new) (D.script link.new)) (K.fault_count out.old) (K.fault_count out.new) (K.contents out.old) (K.contents out.new)) }
+        ensures fell { IfErr result (Fell CalmNext (before command.Regs (state_of self.now)) (D.fault_count link.old) (D.fault_count link.new) (tells (D.far link.old) (D.script link.old)) (tells (D.far link.new) (D.script link.new)) (K.fault_count out.old) (K.fault_count out.new) (K.contents out.old) (K.contents out.new)) }
         ensures serving { OnOk result (Serving (D.far link.new) (D.is_alive link.new)) }
         ensures left { IfErr result (LeftBy (D.far link.new)) }
         ensures later { D.fault_count link.old ≤ D.fault_count link.new }

@@ -13,11 +13,12 @@ ghost use Rattle.probe_session.specs.declared.fault.Failure.TheVariants as failu
 ghost use Rattle.probe_session.specs.Answers.{LoadedAs};
 ghost use Rattle.probe_session.specs.Calls.{LoadFell};
 ghost use Rattle.probe_session.specs.Commands.{before, behind, state_of};
-ghost use Rattle.probe_session.specs.Goes.{Fell, Spoke};
+ghost use Rattle.debugger_laws.specs.Laws.{Quiet};
+ghost use Rattle.probe_session.specs.Goes.{CalmNext, Fell, Spoke};
 ghost use Rattle.probe_session.specs.Links.{LeftBy, Serving};
 ghost use Rattle.probe_session.specs.Places.{idle};
 ghost use Rattle.probe_session.specs.Reach.{ServingBy};
-ghost use Rattle.probe_session.specs.Showing.{DumpedAs, RowCut, at_dump, at_next_byte, row_lines};
+ghost use Rattle.probe_session.specs.Showing.{CalmBytes, DumpedAs, RowCut, at_dump, at_next_byte, row_lines};
 
 use crate::fault::Failure;
 use crate::put::put_line;
@@ -79,7 +80,7 @@ fn put_byte<D: Dmi, K: Sink>(
     requires address { first + array_vec_len row.old < 2 ^ 64 }
     requires serving { ServingBy (D.far link.old) (D.is_alive link.old) reach.now }
     ensures dumped { IfOk result (DumpedAs reach.now first row.old.items row.new.items (tells (D.far link.old) (D.script link.old)) (tells (D.far link.new) (D.script link.new)) (K.contents out.old) (K.contents out.new)) }
-    ensures fell { IfErr result (Fell (at_next_byte reach.now first row.old.items) (D.fault_count link.old) (D.fault_count link.new) (tells (D.far link.old) (D.script link.old)) (tells (D.far link.new) (D.script link.new)) (K.fault_count out.old) (K.fault_count out.new) (K.contents out.old) (K.contents out.new)) }
+    ensures fell { IfErr result (Fell CalmBytes (at_next_byte reach.now first row.old.items) (D.fault_count link.old) (D.fault_count link.new) (tells (D.far link.old) (D.script link.old)) (tells (D.far link.new) (D.script link.new)) (K.fault_count out.old) (K.fault_count out.new) (K.contents out.old) (K.contents out.new)) }
     ensures room { OnOk result (array_vec_len row.new < 16) }
     ensures along { OnOk result (array_vec_len row.new ≤ array_vec_len row.old + 1) }
     ensures serving { OnOk result (ServingBy (D.far link.new) (D.is_alive link.new) reach.now) }
@@ -118,7 +119,7 @@ fn put_rows<D: Dmi, K: Sink>(
     requires block { IsBlock 1 address count }
     requires serving { ServingBy (D.far link.old) (D.is_alive link.old) reach.now }
     ensures spoke { IfOk result (λ wrong. Spoke (at_dump reach.now address count) idle wrong (tells (D.far link.old) (D.script link.old)) (tells (D.far link.new) (D.script link.new)) (K.contents out.old) (K.contents out.new)) }
-    ensures fell { IfErr result (Fell (at_dump reach.now address count) (D.fault_count link.old) (D.fault_count link.new) (tells (D.far link.old) (D.script link.old)) (tells (D.far link.new) (D.script link.new)) (K.fault_count out.old) (K.fault_count out.new) (K.contents out.old) (K.contents out.new)) }
+    ensures fell { IfErr result (Fell Quiet (at_dump reach.now address count) (D.fault_count link.old) (D.fault_count link.new) (tells (D.far link.old) (D.script link.old)) (tells (D.far link.new) (D.script link.new)) (K.fault_count out.old) (K.fault_count out.new) (K.contents out.old) (K.contents out.new)) }
     ensures serving { OnOk result (Serving (D.far link.new) (D.is_alive link.new)) }
     ensures left { IfErr result (LeftBy (D.far link.new)) }
     ensures later { D.fault_count link.old ≤ D.fault_count link.new }
@@ -153,7 +154,7 @@ impl Session {
         requires block { IsBlock 1 address count }
         requires serving { Serving (D.far link.old) (D.is_alive link.old) }
         ensures spoke { IfOk result (λ wrong. Spoke (before (command.Dump address count) (state_of self.now)) (behind (state_of self.now)) wrong (tells (D.far link.old) (D.script link.old)) (tells (D.far link.new) (D.script link.new)) (K.contents out.old) (K.contents out.new)) }
-        ensures fell { IfErr result (Fell (before (command.Dump address count) (state_of self.now)) (D.fault_count link.old) (D.fault_count link.new) (tells (D.far link.old) (D.script link.old)) (tells (D.far link.new) (D.script link.new)) (K.fault_count out.old) (K.fault_count out.new) (K.contents out.old) (K.contents out.new)) }
+        ensures fell { IfErr result (Fell CalmNext (before (command.Dump address count) (state_of self.now)) (D.fault_count link.old) (D.fault_count link.new) (tells (D.far link.old) (D.script link.old)) (tells (D.far link.new) (D.script link.new)) (K.fault_count out.old) (K.fault_count out.new) (K.contents out.old) (K.contents out.new)) }
         ensures serving { OnOk result (Serving (D.far link.new) (D.is_alive link.new)) }
         ensures left { IfErr result (LeftBy (D.far link.new)) }
         ensures later { D.fault_count link.old ≤ D.fault_count link.new }

@@ -4,7 +4,8 @@ ghost use Rattle.std.specs.Prelude.{◌≡◌, ◌≤◌, ◌<◌, ◌^◌, [], 
 ghost use Rattle.probe_run.specs.Acts.{tells};
 ghost use Rattle.debug_model.specs.declared.command.Command.TheVariants as command;
 ghost use Rattle.probe_session.specs.Commands.{before, behind, state_of};
-ghost use Rattle.probe_session.specs.Goes.{Fell, Spoke};
+ghost use Rattle.debugger_laws.specs.Laws.{Quiet};
+ghost use Rattle.probe_session.specs.Goes.{CalmNext, Fell, Spoke};
 ghost use Rattle.probe_session.specs.Links.{LeftBy, Serving, ServingHalted};
 ghost use Rattle.probe_session.specs.Places.{idle};
 ghost use Rattle.probe_session.specs.Showing.{at_slots};
@@ -23,7 +24,7 @@ use probe_run::Halted;
 fn put_slots<D: Dmi, K: Sink>(link: &mut D, halted: &Halted, out: &mut K) -> Result<(), Failure>
     requires serving { ServingHalted halted.now.number (D.far link.old) (D.is_alive link.old) }
     ensures spoke { OnOk result (Spoke (at_slots halted.now.number) idle false (tells (D.far link.old) (D.script link.old)) (tells (D.far link.new) (D.script link.new)) (K.contents out.old) (K.contents out.new)) }
-    ensures fell { IfErr result (Fell (at_slots halted.now.number) (D.fault_count link.old) (D.fault_count link.new) (tells (D.far link.old) (D.script link.old)) (tells (D.far link.new) (D.script link.new)) (K.fault_count out.old) (K.fault_count out.new) (K.contents out.old) (K.contents out.new)) }
+    ensures fell { IfErr result (Fell Quiet (at_slots halted.now.number) (D.fault_count link.old) (D.fault_count link.new) (tells (D.far link.old) (D.script link.old)) (tells (D.far link.new) (D.script link.new)) (K.fault_count out.old) (K.fault_count out.new) (K.contents out.old) (K.contents out.new)) }
     ensures serving { OnOk result (Serving (D.far link.new) (D.is_alive link.new)) }
     ensures left { IfErr result (LeftBy (D.far link.new)) }
     ensures later { D.fault_count link.old ≤ D.fault_count link.new }
@@ -48,7 +49,7 @@ impl Session {
     ) -> Result<bool, Failure>
         requires serving { Serving (D.far link.old) (D.is_alive link.old) }
         ensures spoke { IfOk result (λ wrong. Spoke (before command.Slots (state_of self.now)) (behind (state_of self.now)) wrong (tells (D.far link.old) (D.script link.old)) (tells (D.far link.new) (D.script link.new)) (K.contents out.old) (K.contents out.new)) }
-        ensures fell { IfErr result (Fell (before command.Slots (state_of self.now)) (D.fault_count link.old) (D.fault_count link.new) (tells (D.far link.old) (D.script link.old)) (tells (D.far link.new) (D.script link.new)) (K.fault_count out.old) (K.fault_count out.new) (K.contents out.old) (K.contents out.new)) }
+        ensures fell { IfErr result (Fell CalmNext (before command.Slots (state_of self.now)) (D.fault_count link.old) (D.fault_count link.new) (tells (D.far link.old) (D.script link.old)) (tells (D.far link.new) (D.script link.new)) (K.fault_count out.old) (K.fault_count out.new) (K.contents out.old) (K.contents out.new)) }
         ensures serving { OnOk result (Serving (D.far link.new) (D.is_alive link.new)) }
         ensures left { IfErr result (LeftBy (D.far link.new)) }
         ensures later { D.fault_count link.old ≤ D.fault_count link.new }

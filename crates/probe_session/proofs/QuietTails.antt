@@ -1,0 +1,22 @@
+-- What follows a line in the middle of a command changes nothing before the next point, where what follows the command does not.
+use Rattle.std.proofs.Common.{ℕ, zero, suc, List, [], ◌∷◌}
+use Rattle.rv_model.specs.declared.size.Size.{Size}
+use Rattle.debugger_laws.specs.Debugger.{dumping, reading, saying}
+use Rattle.debugger_laws.specs.Laws.{Quiet}
+use Rattle.debugger_laws.specs.Lines.{Line}
+use Rattle.debugger_laws.specs.Plan.{Plan}
+
+pub quiet_saying : (lines : List Line) (next : Plan) → Quiet next → Quiet (saying lines next)
+quiet_saying [] next calm = calm
+quiet_saying (line ∷ lines) next calm = quiet_saying lines next calm
+
+pub quiet_reading : (n : ℕ) (size : Size) (address : ℕ) (next : Plan) → Quiet next → Quiet (reading n size address next)
+unfolding reading
+quiet_reading zero size address next calm = calm
+quiet_reading (suc n) size address next calm = tt
+
+pub quiet_dumping : (n first : ℕ) (row : List ℕ) (next : Plan) → Quiet next → Quiet (dumping n first row next)
+unfolding dumping
+quiet_dumping zero first [] next calm = calm
+quiet_dumping zero first (byte ∷ bytes) next calm = calm
+quiet_dumping (suc n) first row next calm = tt
