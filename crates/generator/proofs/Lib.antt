@@ -1,0 +1,5 @@
+pub mod ImageWords
+pub mod OneImage
+pub mod RandomWords
+pub mod Ranges
+pub mod Sessions
