@@ -205,7 +205,7 @@ pub deals_halted : (m : Machine) (sel : ℕ) (o : Origin) (next : Seen → Plan)
 deals_halted m sel o next now lines old new is d at =
     deals_looked m sel Idle Still o sel next now lines old new (λ w e k. known-still m sel w (ap sees_halted e ∙ is) k) d at
 
-until-suc : (n h : ℕ) (test : Seen → Bool) (failed : Seen → Plan) (found : Plan) (last : Seen) → until (suc n) h test failed found last ≡ look h (λ s. if test s then found else until n h test failed found s)
+pub until-suc : (n h : ℕ) (test : Seen → Bool) (failed : Seen → Plan) (found : Plan) (last : Seen) → until (suc n) h test failed found last ≡ look h (λ s. if test s then found else until n h test failed found s)
 unfolding until
 until-suc n h test failed found last = refl
 
@@ -213,11 +213,11 @@ pub until-zero : (h : ℕ) (test : Seen → Bool) (failed : Seen → Plan) (foun
 unfolding until
 until-zero h test failed found last = refl
 
-if_true : (b : Bool) (p q : Plan) → b ≡ true → (if b then p else q) ≡ p
+pub if_true : (b : Bool) (p q : Plan) → b ≡ true → (if b then p else q) ≡ p
 if_true true p q is = refl
 if_true false p q is = absurd (false≢true is)
 
-if_false : (b : Bool) (p q : Plan) → b ≡ false → (if b then p else q) ≡ q
+pub if_false : (b : Bool) (p q : Plan) → b ≡ false → (if b then p else q) ≡ q
 if_false false p q is = refl
 if_false true p q is = absurd (false≢true (sym is))
 
@@ -237,16 +237,6 @@ deals_again m sel way o n test failed found last now lines old new is d at =
     deals_at_plan m sel way o (if test now then found else until n sel test failed found now) (until n sel test failed found now) lines new (if_false (test now) found (until n sel test failed found now) is)
     (deals_looked m sel way way o sel (λ s. if test s then found else until n sel test failed found s) now lines old new (λ w e k. k)
     (deals_at_plan m sel way o _ _ lines old (until-suc n sel test failed found last) d) at)
-
--- what the three waits see
-pub sees_still : (m : Machine) (sel : ℕ) (w : World) → sees_halted (seen_at sel w.board) ≡ true → IsKnown m sel Idle w → IsKnown m sel Still w
-sees_still = known-still
-
-pub sees_gone : (m : Machine) (sel : ℕ) (w : World) → sees_ack (seen_at sel w.board) ≡ true → IsKnown m sel Going w → IsKnown m sel Idle w
-sees_gone = known-gone
-
-pub sees_over : (m : Machine) (sel : ℕ) (w : World) → sees_both (seen_at sel w.board) ≡ true → IsKnown m sel Asked w → IsKnown m sel Over w
-sees_over = known-over
 
 -- ---- behind a step, and where nothing has a hit: by what the chip shows
 

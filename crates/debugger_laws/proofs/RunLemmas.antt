@@ -13,8 +13,9 @@ use Rattle.debugger_laws.specs.Stands.{Deals, Looked, Origin, Pointed, Rewrote, 
 use Rattle.debugger_laws.specs.Transcript.{World}
 use Rattle.debugger_laws.specs.Ways.{Way}
 use Rattle.debugger_laws.specs.Ways.Way.{Asked, Going, Idle, Over, Ready, Still}
-use Rattle.debugger_laws.proofs.DealsLemmas.{deals_again, deals_ask, deals_at_plan, deals_done, deals_found, deals_go, deals_halt_clear, deals_halt_req, deals_hold, deals_otherwise, deals_stepped, sees_gone, sees_over, sees_still, until-zero}
+use Rattle.debugger_laws.proofs.DealsLemmas.{deals_again, deals_ask, deals_at_plan, deals_done, deals_found, deals_go, deals_halt_clear, deals_halt_req, deals_hold, deals_otherwise, deals_stepped, until-zero}
 use Rattle.debugger_laws.proofs.FrozenLemmas.{hart_change}
+use Rattle.debugger_laws.proofs.KnownPoints.{known-still, known-gone, known-over}
 
 -- Looks of hart h, at most so many, of which the last alone showed what was wanted
 pub data Waited (test : Seen → Bool) (h : ℕ) : ℕ → Target → Target → Type 0 where
@@ -40,13 +41,13 @@ pub halted : (m : Machine) (sel : ℕ) (o : Origin) (next : Plan) (lines : List 
     → Waited sees_halted sel most_looks second third → Pointed (HaltClear sel) third fourth → Deals m sel Idle o (halting sel next) lines first → Deals m sel Still o next lines fourth
 halted m sel o next lines first second third fourth asks waits clears d =
     deals_halt_clear m sel Still sel o next lines third fourth
-    (waited m sel Idle Still o sees_halted (λ s. stop (NoHalt most_looks)) (take (HaltClear sel) next) lines (sees_still m sel) most_looks second third unseen waits
+    (waited m sel Idle Still o sees_halted (λ s. stop (NoHalt most_looks)) (take (HaltClear sel) next) lines (known-still m sel) most_looks second third unseen waits
     (deals_halt_req m sel Idle sel o _ lines first second d asks)) clears
 
 pub resumed : (m : Machine) (sel : ℕ) (o : Origin) (next : Plan) (lines : List Line) (first second third : Target) → Pointed (ResumeReq sel) first second
     → Waited sees_ack sel most_looks second third → Deals m sel Ready o (going sel next) lines first → Deals m sel Idle o next lines third
 resumed m sel o next lines first second third asks waits d =
-    waited m sel Going Idle o sees_ack (λ s. stop (NoAck most_looks)) next lines (sees_gone m sel) most_looks second third unseen waits (deals_go m sel o _ lines first second d asks)
+    waited m sel Going Idle o sees_ack (λ s. stop (NoAck most_looks)) next lines (known-gone m sel) most_looks second third unseen waits (deals_go m sel o _ lines first second d asks)
 
 -- ---- one single step
 
@@ -58,7 +59,7 @@ made : (m : Machine) (sel : ℕ) (o : Origin) (stepped other : Plan) (lines : Li
     → Deals m sel Still o (one sel stepped other) lines first → Deals m sel Still o (after_step sel stepped other) lines fifth
 made m sel o stepped other lines first second third fourth fifth holds asks waits ends d =
     deals_done m sel o (after_step sel stepped other) lines fourth fifth
-    (waited m sel Asked Over o sees_both lost_step (change (StepDone sel) (after_step sel stepped other)) lines (sees_over m sel) most_looks third fourth unseen waits
+    (waited m sel Asked Over o sees_both lost_step (change (StepDone sel) (after_step sel stepped other)) lines (known-over m sel) most_looks third fourth unseen waits
     (deals_ask m sel o _ lines second third (deals_hold m sel o _ lines first second d holds) asks)) ends
 
 -- a whole one

@@ -120,7 +120,7 @@ free_there false s slots slot there is = later (first_free slots) refl is
     later None e at = absurd (none-some slot at)
     later (Some k) e at = ((there k e).0, ap (slice_get (s ∷ slots)) (sym (same_Some (suc k) slot at)) ∙ (there k e).1)
 
-first_free-there : (slots : List Slot) (slot : ℕ) → first_free slots ≡ Some slot → (t : Slot) × (slice_get slots slot ≡ Some t)
+pub first_free-there : (slots : List Slot) (slot : ℕ) → first_free slots ≡ Some slot → (t : Slot) × (slice_get slots slot ≡ Some t)
 first_free-there [] slot is = absurd (none-some slot is)
 first_free-there (s ∷ slots) slot is = free_there (is_free s.trigger) s slots slot (first_free-there slots) is
 
@@ -140,7 +140,7 @@ arming-good m h what next can fine =
     good-see m h Still (λ b. arming_at (first_free (slots_at h b)) h what next)
     (λ w k j. arming_at-good m h what next can fine w k j (first_free (slots_at h w.board)) refl)
 
-used_there : (o : Option Slot) → is_free_slot o ≡ false → (t : Slot) × (o ≡ Some t)
+pub used_there : (o : Option Slot) → is_free_slot o ≡ false → (t : Slot) × (o ≡ Some t)
 used_there (Some t) is = (t, refl)
 used_there None is = absurd (false≢true (sym is))
 

@@ -63,7 +63,7 @@ since_over m sel way o limit test failed found lines tries told all since =
 
 -- ---- the steps of `step`
 
-stepping-suc : (n h : ℕ) (next : Plan) → stepping (suc n) h next ≡ one h (stepping n h next) next
+pub stepping-suc : (n h : ℕ) (next : Plan) → stepping (suc n) h next ≡ one h (stepping n h next) next
 unfolding stepping
 stepping-suc n h next = refl
 

@@ -38,10 +38,6 @@ performed_untold word address error old new p is = did_untold p.addressed _ new 
 
 -- ---- of a told one
 
--- what the turns before it leave
-pub turned_before : (before : List ℕ) (s : Site) → Passed s (passed before s)
-turned_before before s = passed_turns before s
-
 pub record AccessEnd (n : Memory) (before : List ℕ) (s : Site) (t : Site) : Type 0 where
   pub behind : List ℕ
   pub board : t.board ≡ after_turns behind (with_memory n (after_turns (passed_turns before s).harts s.board))

@@ -95,7 +95,7 @@ leaves_map R S (Some c) new f p = record { far = p.far; is = p.is; left = f (sit
 pub setting_cut : (h : ℕ) (old new : Option Far) (e : AccessFault) → IfCut (Leaves (LeftAside (MaybeFlagged true) h) old new) e → IfCut (Leaves (StepCut h) old new) e
 setting_cut h old new e f = if_cut (Leaves (LeftAside (MaybeFlagged true) h) old new) (Leaves (StepCut h) old new) e (leaves_map (LeftAside (MaybeFlagged true) h) (StepCut h) old new (λ s t p. setting p)) f
 
-left_bus : (m n : DebugModule) (h : ℕ) → (m ≡ n) ⊎ (m ≡ record n { hartsel = h }) → m.bus ≡ n.bus
+pub left_bus : (m n : DebugModule) (h : ℕ) → (m ≡ n) ⊎ (m ≡ record n { hartsel = h }) → m.bus ≡ n.bus
 left_bus m n h (inl e) = ap (λ (k : DebugModule). k.bus) e
 left_bus m n h (inr e) = ap (λ (k : DebugModule). k.bus) e
 

@@ -6,11 +6,12 @@ ghost use Rattle.debug_model.specs.Dmi.{CanOperate, LeavesStream};
 ghost use Rattle.debug_model.specs.Told.{IsIdle, IsLive};
 ghost use Rattle.debug_model.specs.ModuleWords.{sbcs_of};
 ghost use Rattle.probe_run.specs.Acts.{Did, tells};
-ghost use Rattle.probe_access.specs.BusRuns.{BusEndFailed, BusEnded, BusFetched, BusFetching, BusPollFailed, BusPolled, Starting, access_number, addressed, cut_to, read_started, setting, write_started};
+ghost use Rattle.probe_access.specs.BusRuns.{BusEndFailed, BusEnded, BusFetched, BusFetching, BusPollFailed, BusPolled, Starting, access_number, addressed, read_started, setting, write_started};
 ghost use Rattle.probe_access.specs.Faults.{BrokeIn, LinkBehind};
 
 use crate::doubles::{high_word, join, low_word};
 use crate::fault::AccessFault;
+use crate::memory::cut_to;
 use crate::polling::POLLS_MOST;
 use debug_model::{Dmi, DmiFault, Sbcs};
 use rv_model::Size;
@@ -61,18 +62,6 @@ fn setting_of(on_address: bool, size: Size) -> u32
         sizes: 0,
     };
     bus.word()
-}
-
-/// The lowest bits of a value, as many as this size has.
-fn cut(size: Size, value: u64) -> u64
-    ensures { result ≡ cut_to size value }
-{
-    match size {
-        Size::B1 => value % 0x100,
-        Size::B2 => value % 0x1_0000,
-        Size::B4 => value % 0x1_0000_0000,
-        Size::B8 => value,
-    }
 }
 
 /// Writes a word of `sbcs` and the address.
@@ -214,5 +203,5 @@ pub fn fetch<D: Dmi>(link: &mut D, size: Size) -> Result<u64, DmiFault>
 {
     let low = link.read(SBDATA0)?;
     let high = link.read(SBDATA1)?;
-    Ok(cut(size, join(low, high)))
+    Ok(cut_to(size, join(low, high)))
 }

@@ -29,7 +29,7 @@ mod transfers;
 pub use blocks::{load_block, store_block};
 pub use bus::{bus_load, bus_store};
 pub use fault::AccessFault;
-pub use memory::{is_aligned, load, store};
+pub use memory::{cut_to, is_aligned, load, store};
 pub use registers::{reg, set_reg};
 pub use scratch::{Scratch, save};
 pub use single::step;

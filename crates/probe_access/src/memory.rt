@@ -5,6 +5,7 @@ ghost use Rattle.probe_access.specs.Accesses.{AccessLeft, IfMemory, LoadRefused,
 ghost use Rattle.debug_model.specs.Dmi.{CanOperate};
 ghost use Rattle.debug_model.specs.Told.{IsHalted, IsIdle, IsLive, IsReady, Selects};
 ghost use Rattle.probe_run.specs.Acts.{tells};
+ghost use Rattle.probe_access.specs.BusRuns.{cut_to};
 ghost use Rattle.probe_access.specs.Cuts.{AccessLeftOff, IfCut, Leaves, LoadLeaves, Scratched, StoreLeaves};
 ghost use Rattle.probe_access.specs.Faults.{LinkBehind};
 ghost use Rattle.probe_access.specs.MemoryRuns.{Around, AroundFailed, LoadFailedInside, LoadedAny, LoadedInside, StoreFailedInside, StoredInside};
@@ -72,6 +73,18 @@ pub(crate) fn store_around<D: Dmi>(
             Ok(())
         }
         Err(fault) => Err(scratch.give_up(link, fault)),
+    }
+}
+
+/// The lowest bits of a value, as many as this size has.
+pub fn cut_to(size: Size, value: u64) -> u64
+    ensures { result ≡ cut_to size value }
+{
+    match size {
+        Size::B1 => value % 0x100,
+        Size::B2 => value % 0x1_0000,
+        Size::B4 => value % 0x1_0000_0000,
+        Size::B8 => value,
     }
 }
 

@@ -13,10 +13,11 @@ use Rattle.debugger_laws.specs.Stands.{Deals, Origin, Target}
 use Rattle.debugger_laws.specs.Transcript.{World}
 use Rattle.debugger_laws.specs.Ways.{Way}
 use Rattle.debugger_laws.specs.Ways.Way.{Asked, Going, Idle, Over, Still}
-use Rattle.debugger_laws.proofs.DealsLemmas.{deals_again, deals_ask, deals_at_plan, deals_found, deals_go, deals_halt_clear, deals_halt_req, sees_gone, sees_over, sees_still}
+use Rattle.debugger_laws.proofs.DealsLemmas.{deals_again, deals_ask, deals_at_plan, deals_found, deals_go, deals_halt_clear, deals_halt_req}
 use Rattle.probe_run.specs.Happens.{InVain, MetAt}
 use Rattle.probe_run.specs.Happens.InVain.{none, again}
 use Rattle.probe_run.specs.SessionLaws.{HaltsLead, ResumesLead, StepsLead}
+use Rattle.debugger_laws.proofs.KnownPoints.{known-still, known-gone, known-over}
 
 pub vain : (m : Machine) (sel : ℕ) (way : Way) (o : Origin) (test : Seen → Bool) (failed : Seen → Plan) (found : Plan) (lines : List Line) (old : Target) (k : ℕ) (last : Seen) (mid : Target) → InVain test sel old k last mid
     → (n all : ℕ) → k + n ≡ all → Deals m sel way o (until all sel test failed found unseen) lines old → Deals m sel way o (until n sel test failed found last) lines mid
@@ -39,13 +40,13 @@ met m sel way way' o p test failed found lines old new a sees d =
 pub halts_lead : HaltsLead
 halts_lead m h o next lines old new a d =
     deals_halt_clear m h Still h o next lines a.mid new
-    (met m h Idle Still o (HaltReq h) sees_halted (λ s. stop (NoHalt most_looks)) (take (HaltClear h) next) lines old a.mid a.met (sees_still m h)
+    (met m h Idle Still o (HaltReq h) sees_halted (λ s. stop (NoHalt most_looks)) (take (HaltClear h) next) lines old a.mid a.met (known-still m h)
     (deals_halt_req m h Idle h o _ lines old a.met.asked d a.met.asks)) a.clears
 
 pub resumes_lead : ResumesLead
 resumes_lead m h o next lines old new a d =
-    met m h Going Idle o (ResumeReq h) sees_ack (λ s. stop (NoAck most_looks)) next lines old new a (sees_gone m h) (deals_go m h o _ lines old a.asked d a.asks)
+    met m h Going Idle o (ResumeReq h) sees_ack (λ s. stop (NoAck most_looks)) next lines old new a (known-gone m h) (deals_go m h o _ lines old a.asked d a.asks)
 
 pub steps_lead : StepsLead
 steps_lead m h o next lines old new a d =
-    met m h Asked Over o (ResumeReq h) sees_both lost_step next lines old new a (sees_over m h) (deals_ask m h o _ lines old a.asked d a.asks)
+    met m h Asked Over o (ResumeReq h) sees_both lost_step next lines old new a (known-over m h) (deals_ask m h o _ lines old a.asked d a.asks)

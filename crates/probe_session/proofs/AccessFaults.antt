@@ -114,20 +114,20 @@ bus_still N m sel way o next lines old new a l = left_still (BusLeftOff N) m sel
 
 pub load_fell : (size : Size) (address : ℕ) (m : Machine) (sel : ℕ) (way : Way) (o : Origin) (next : Board → Plan) (lines : List Line) (old_count new_count : ℕ) (old new : Tells) (f : Failure) → LoadFell size address old_count new_count old new f
     → At m sel way o (take Access (see next)) lines (target_at old.far) → Still (LeftAs o lines f) new.far
-load_fell size address m sel way o next lines old_count new_count old new f (LoadFell.by_hart h why at heard told cut is) a =
+load_fell size address m sel way o next lines old_count new_count old new f (LoadFell.by_hart h why at later heard told cut is) a =
     by_access why f o lines new.far (Leaves (AccessLeftOff Scratched LoadLeaves h) old.far new.far) is
     (access_of_link (LoadRefused size address) address why old.far new.far (is_told m sel way o (take Access (see next)) lines old.far a) told) cut (access_still Scratched LoadLeaves h m sel way o next lines old.far new.far a)
-load_fell size address m sel way o next lines old_count new_count old new f (LoadFell.by_bus why at heard told cut is) a =
+load_fell size address m sel way o next lines old_count new_count old new f (LoadFell.by_bus why at later heard told cut is) a =
     by_access why f o lines new.far (Leaves (BusLeftOff LoadLeaves) old.far new.far) is
     (access_of_link (BusLoadRefused size address) address why old.far new.far (is_told m sel way o (take Access (see next)) lines old.far a) told) cut (bus_still LoadLeaves m sel way o next lines old.far new.far a)
 
 pub store_fell : (size : Size) (address value : ℕ) (m : Machine) (sel : ℕ) (way : Way) (o : Origin) (next : Board → Plan) (lines : List Line) (old_count new_count : ℕ) (old new : Tells) (f : Failure) → StoreFell size address value old_count new_count old new f
     → At m sel way o (take Access (see next)) lines (target_at old.far) → Still (LeftAs o lines f) new.far
-store_fell size address value m sel way o next lines old_count new_count old new f (StoreFell.by_hart h why at heard told cut is) a =
+store_fell size address value m sel way o next lines old_count new_count old new f (StoreFell.by_hart h why at later heard told cut is) a =
     by_access why f o lines new.far (Leaves (AccessLeftOff Scratched (StoreLeaves size address value) h) old.far new.far) is
     (access_of_link (StoreRefused size address) address why old.far new.far (is_told m sel way o (take Access (see next)) lines old.far a) told) cut
     (access_still Scratched (StoreLeaves size address value) h m sel way o next lines old.far new.far a)
-store_fell size address value m sel way o next lines old_count new_count old new f (StoreFell.by_bus why at heard told cut is) a =
+store_fell size address value m sel way o next lines old_count new_count old new f (StoreFell.by_bus why at later heard told cut is) a =
     by_access why f o lines new.far (Leaves (BusLeftOff (StoreLeaves size address value)) old.far new.far) is
     (access_of_link (BusStoreRefused size address) address why old.far new.far (is_told m sel way o (take Access (see next)) lines old.far a) told) cut (bus_still (StoreLeaves size address value) m sel way o next lines old.far new.far a)
 

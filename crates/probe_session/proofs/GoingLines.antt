@@ -16,14 +16,11 @@ use Rattle.probe_session.specs.Reach.{stepped}
 use Rattle.probe_session.specs.Steps.{any_in, behind_step, step_cause}
 use Rattle.probe_session.specs.Steps.Step.{finds_other, finds_step, resumes, same, steps_over, unspent, views_hits, views_none}
 use Rattle.probe_session.proofs.WentLemmas.{falls_at, falls_then, went_none, went_one, went_then}
+use Rattle.debugger_laws.proofs.ToldLemmas.{stepping-suc}
 
 stepping-zero : (h : ℕ) (next : Plan) → stepping zero h next ≡ next
 unfolding stepping
 stepping-zero h next = refl
-
-stepping-suc : (n h : ℕ) (next : Plan) → stepping (suc n) h next ≡ one h (stepping n h next) next
-unfolding stepping
-stepping-suc n h next = refl
 
 abbrev pub at_steps : ℕ → ℕ → Plan → Place
 at_steps count h next = still h (stepped count h next)

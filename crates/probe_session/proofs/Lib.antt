@@ -29,3 +29,6 @@ pub mod AccessFaults
 pub mod OverFaults
 pub mod Faults
 pub mod Endings
+pub mod RunCauses
+pub mod AccessCauses
+pub mod WireCauses

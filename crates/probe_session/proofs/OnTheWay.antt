@@ -14,11 +14,12 @@ use Rattle.debugger_laws.specs.Transcript.{End}
 use Rattle.debugger_laws.specs.Turns.{after_turns, turns}
 use Rattle.debugger_laws.specs.Ways.{Way}
 use Rattle.debugger_laws.specs.Ways.Way.{Idle, Still}
-use Rattle.debugger_laws.proofs.DealsLemmas.{deals_at_plan, deals_halt_req, sees_still, until-zero}
+use Rattle.debugger_laws.proofs.DealsLemmas.{deals_at_plan, deals_halt_req, until-zero, until-suc}
 use Rattle.debugger_laws.proofs.StandsLemmas.{IsTaken, not_astray, said_front, taken, transcribed, turns-append, went_on}
 use Rattle.probe_run.specs.Happens.{HaltCut, MissedAt, RunCut}
 use Rattle.probe_run.proofs.SessionLemmas.{met, vain}
 use Rattle.probe_session.specs.Transcribed.{OnTheWay}
+use Rattle.debugger_laws.proofs.KnownPoints.{known-still}
 
 pub on_way : (o : Origin) (p : Plan) (lines : List Line) (t : Target) (j : List Point) → Stands o p lines t → t.journal ≡ j → OnTheWay o lines j
 on_way o p lines t j s is = subst (OnTheWay o lines) is (record { not_astray = not_astray o p lines t s; front = said_front o p lines t s })
@@ -47,14 +48,10 @@ cut_way o q next lines old new ok s (Cut.behind at) = point_way o q next lines o
 
 -- ---- a wait
 
-until_more : (n h : ℕ) (test : Seen → Bool) (failed : Seen → Plan) (found : Plan) (last : Seen) → until (suc n) h test failed found last ≡ look h (λ s. if test s then found else until n h test failed found s)
-unfolding until
-until_more n h test failed found last = refl
-
 pub look_cut_way : (m : Machine) (sel : ℕ) (way : Way) (o : Origin) (n : ℕ) (test : Seen → Bool) (failed : Seen → Plan) (found : Plan) (last : Seen) (lines : List Line) (old new : Target) → Deals m sel way o (until (suc n) sel test failed found last) lines old
     → Cut (Look sel) old new → OnTheWay o lines new.journal
 look_cut_way m sel way o n test failed found last lines old new d c =
-    cut_way o (Look sel) _ lines old new tt (deals_at_plan m sel way o _ _ lines old (until_more n sel test failed found last) d).stands c
+    cut_way o (Look sel) _ lines old new tt (deals_at_plan m sel way o _ _ lines old (until-suc n sel test failed found last) d).stands c
 
 pub run_cut_way : (m : Machine) (sel : ℕ) (way way' : Way) (o : Origin) (q : Point) (test : Seen → Bool) (failed : Seen → Plan) (found : Plan) (lines : List Line) (old new : Target) → IsTaken q
     → ((asked : Target) → Pointed q old asked → Deals m sel way' o (until most_looks sel test failed found unseen) lines asked)
@@ -85,7 +82,7 @@ halt_cut_way m h o next lines old new d (HaltCut.before_halt c) =
     run_cut_way m h Idle Idle o (HaltReq h) sees_halted (λ s. stop (NoHalt most_looks)) (take (HaltClear h) next) lines old new tt (λ asked at. halt_asked m h o next lines old asked d at) d c
 halt_cut_way m h o next lines old new d (HaltCut.at_clear c) =
     cut_way o (HaltClear h) next lines c.mid new tt
-    (met m h Idle Still o (HaltReq h) sees_halted (λ s. stop (NoHalt most_looks)) (take (HaltClear h) next) lines old c.mid c.met (sees_still m h) (halt_asked m h o next lines old c.met.asked d c.met.asks)).stands c.cut
+    (met m h Idle Still o (HaltReq h) sees_halted (λ s. stop (NoHalt most_looks)) (take (HaltClear h) next) lines old c.mid c.met (known-still m h) (halt_asked m h o next lines old c.met.asked d c.met.asks)).stands c.cut
 
 pub halt_missed : (m : Machine) (h : ℕ) (o : Origin) (next : Plan) (last : Seen) (lines : List Line) (old new : Target) → Deals m h Idle o (halting h next) lines old → MissedAt (HaltReq h) sees_halted h last old new
     → IsTranscribed o (End.NoHalt most_looks) lines new

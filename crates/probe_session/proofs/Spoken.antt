@@ -30,7 +30,7 @@ grown_none : (c : Option (List ℕ)) → c ≡ grown [] c
 grown_none None = refl
 grown_none (Some bytes) = ap (λ (x : List ℕ). Some x) (sym (append-nil bytes))
 
-grown_twice : (a b : List ℕ) (c : Option (List ℕ)) → grown b (grown a c) ≡ grown (a ++ b) c
+pub grown_twice : (a b : List ℕ) (c : Option (List ℕ)) → grown b (grown a c) ≡ grown (a ++ b) c
 grown_twice a b None = refl
 grown_twice a b (Some bytes) = ap (λ (x : List ℕ). Some x) (append_assoc bytes a b)
 

@@ -35,7 +35,7 @@ use Rattle.debugger_laws.specs.Transcript.{replay}
 use Rattle.debugger_laws.specs.Turns.{after_turns, turns}
 use Rattle.debugger_laws.specs.Ways.{Way}
 use Rattle.debugger_laws.specs.Ways.Way.{Ready, Still}
-use Rattle.debugger_laws.proofs.DealsLemmas.{deals_armed, deals_at_plan, deals_ebreak, deals_freed, deals_frozen, deals_loaded, deals_ready, deals_register, deals_seen, deals_stored, deals_went_on, target_frozen}
+use Rattle.debugger_laws.proofs.DealsLemmas.{deals_armed, deals_at_plan, deals_ebreak, deals_freed, deals_frozen, deals_loaded, deals_ready, deals_register, deals_seen, deals_stored, deals_went_on, target_frozen, if_false, if_true}
 use Rattle.debugger_laws.proofs.SlotLemmas.{CanArm}
 use Rattle.debugger_laws.proofs.StandsLemmas.{rewrote_then, shown}
 use Rattle.probe_access.specs.Accesses.{with_memory}
@@ -52,6 +52,7 @@ use Rattle.probe_session.specs.Calls.{IsOfCores}
 use Rattle.probe_session.specs.Steps.{any_in, lines_by, lines_of_view, with_ebreakm}
 use Rattle.probe_session.proofs.RegisterLemmas.{of_harts}
 use Rattle.probe_session.proofs.Tolds.{same_hart, sees_hart, went_by}
+use Rattle.debugger_laws.proofs.ScriptLemmas.{first_free-there, used_there}
 
 -- ---- a register that is read
 
@@ -148,14 +149,6 @@ wrote_reg : (m : Machine) (h number v : ℕ) (o : Origin) (p : Plan) (lines : Li
 wrote_reg m h number v o p lines s t x f here is passed d =
     passed_rewrote f h x s t here (frozen_of x (target_frozen m h Still o p lines (target_of s) tt d x here)) (subst (λ y. TurnsPassedBut h y s t) is passed)
 
-taken_plan : (b : Bool) (refused p : Plan) → b ≡ false → (if b then refused else p) ≡ p
-taken_plan true refused p is = absurd (false≢true (sym is))
-taken_plan false refused p is = refl
-
-pub refused_plan : (b : Bool) (refused p : Plan) → b ≡ true → (if b then refused else p) ≡ refused
-refused_plan true refused p is = refl
-refused_plan false refused p is = absurd (false≢true is)
-
 pub read_only_is : (number : ℕ) → debug_refuses number ≡ csr_read_only number
 unfolding debug_refuses
 read_only_is number = refl
@@ -164,14 +157,14 @@ pub write_deals : (m : Machine) (h number v : ℕ) (o : Origin) (refused next : 
     → TurnsPassedBut h (debug_written x number v) s t → Deals m h Still o (if csr_read_only number then refused else change (WriteReg h number v) next) lines (target_of s) → Deals m h Still o next lines (target_of t)
 write_deals m h number v o refused next lines s t x of other here takes passed d =
     deals_register m h number v o next lines (target_of s) (target_of t)
-    (deals_at_plan m h Still o _ _ lines (target_of s) (taken_plan (csr_read_only number) refused (change (WriteReg h number v) next) (sym (read_only_is number) ∙ takes)) d)
+    (deals_at_plan m h Still o _ _ lines (target_of s) (if_false (csr_read_only number) refused (change (WriteReg h number v) next) (sym (read_only_is number) ∙ takes)) d)
     (wrote_reg m h number v o _ lines s t x (register_set number v) here (written_as_set number v x of other) passed d)
 
 pub write_refused_deals : (m : Machine) (h number : ℕ) (o : Origin) (refused p : Plan) (lines : List Line) (s t : Site) (x : Hart) → IsOfCores number → reaches true x number ≡ false → TurnsPassed s t
     → Deals m h Still o (if csr_read_only number then refused else p) lines (target_of s) → Deals m h Still o refused lines (target_of t)
 write_refused_deals m h number o refused p lines s t x of denied passed d =
     deals_went_on m h Still o refused lines (target_of s) (target_of t)
-    (deals_at_plan m h Still o _ _ lines (target_of s) (refused_plan (csr_read_only number) refused p (sym (read_only_is number) ∙ refuses (is_some (debug_value x number)) (debug_refuses number) (of_harts number of x) denied)) d) (went_by s t passed)
+    (deals_at_plan m h Still o _ _ lines (target_of s) (if_true (csr_read_only number) refused p (sym (read_only_is number) ∙ refuses (is_some (debug_value x number)) (debug_refuses number) (of_harts number of x) denied)) d) (went_by s t passed)
   where
     refuses : (a r : Bool) → a ≡ true → (a && not (true && r)) ≡ false → r ≡ true
     refuses a true there is = refl
@@ -192,7 +185,7 @@ pub write_pc_deals : (m : Machine) (h v : ℕ) (o : Origin) (refused next : Plan
     → TurnsPassedBut h (debug_written x pc_number v) s t → ForgotAt h (target_of t) new → Deals m h Still o (if csr_read_only pc_number then refused else change (WriteReg h pc_number v) next) lines (target_of s) → Deals m h Still o next lines new
 write_pc_deals m h v o refused next lines s t new x here takes passed forgot d =
     deals_register m h pc_number v o next lines (target_of s) new
-    (deals_at_plan m h Still o _ _ lines (target_of s) (taken_plan (csr_read_only pc_number) refused (change (WriteReg h pc_number v) next) (sym (read_only_is pc_number) ∙ takes)) d)
+    (deals_at_plan m h Still o _ _ lines (target_of s) (if_false (csr_read_only pc_number) refused (change (WriteReg h pc_number v) next) (sym (read_only_is pc_number) ∙ takes)) d)
     (rewrote_then (pc_set v) (with_debug_part (with_slots hits_forgotten)) h (target_of s) (target_of t) new (target_frozen m h Still o _ lines (target_of s) tt d) (λ y f. record { why = f.why; halted = f.halted; not_asked = f.not_asked })
     (wrote_reg m h pc_number v o _ lines s t x (pc_set v) here (pc_written v x) passed d) forgot)
 
@@ -251,36 +244,21 @@ hits_plan m h view o held free lines old new v d =
 pub hits_deals : (m : Machine) (h : ℕ) (view : SlotView) (o : Origin) (held free : Plan) (lines : List Line) (old new : Target) → any_in view ≡ true → ViewedAt view h old new
     → Deals m h Still o (see (λ b. if any_hit (slots_at h b) then held else free)) lines old → Deals m h Still o held lines new
 hits_deals m h view o held free lines old new is v d =
-    deals_went_on m h Still o held lines old new (deals_at_plan m h Still o _ _ lines old (refused_plan (any_in view) held free is) (hits_plan m h view o held free lines old new v d)) v.went
+    deals_went_on m h Still o held lines old new (deals_at_plan m h Still o _ _ lines old (if_true (any_in view) held free is) (hits_plan m h view o held free lines old new v d)) v.went
 
 pub no_hits_deals : (m : Machine) (h : ℕ) (view : SlotView) (o : Origin) (held free : Plan) (lines : List Line) (old new : Target) → any_in view ≡ false → ViewedAt view h old new
     → Deals m h Still o (see (λ b. if any_hit (slots_at h b) then held else free)) lines old → Deals m h Ready o free lines new
 no_hits_deals m h view o held free lines old new is v d =
     deals_went_on m h Ready o free lines old new
     (deals_ready m h o free lines old (ap (list_any (λ b. b)) (sym v.shows.hits_are) ∙ is)
-    (deals_at_plan m h Still o _ _ lines old (taken_plan (any_in view) held free is) (hits_plan m h view o held free lines old new v d))) v.went
-
-later_there : (s : Slot) (slots : List Slot) (o : Option ℕ) (k : ℕ) → ((j : ℕ) → first_free slots ≡ Some j → (t : Slot) × (slice_get slots j ≡ Some t)) → first_free slots ≡ o → option_map suc o ≡ Some k
-    → (t : Slot) × (slice_get (s ∷ slots) k ≡ Some t)
-later_there s slots None k ih at is = absurd (none-some k is)
-later_there s slots (Some j) k ih at is =
-    let t = ih j at in (t.0, subst (λ n. slice_get (s ∷ slots) n ≡ Some t.0) (same_Some (suc j) k is) t.1)
-
-there_by : (s : Slot) (slots : List Slot) (b : Bool) (o : Option ℕ) (k : ℕ) → ((j : ℕ) → first_free slots ≡ Some j → (t : Slot) × (slice_get slots j ≡ Some t)) → first_free slots ≡ o → (if b then Some 0 else option_map suc o) ≡ Some k
-    → (t : Slot) × (slice_get (s ∷ slots) k ≡ Some t)
-there_by s slots true o k ih at is = (s, subst (λ n. slice_get (s ∷ slots) n ≡ Some s) (same_Some 0 k is) refl)
-there_by s slots false o k ih at is = later_there s slots o k ih at is
-
-first_there : (slots : List Slot) (k : ℕ) → first_free slots ≡ Some k → (s : Slot) × (slice_get slots k ≡ Some s)
-first_there [] k is = absurd (none-some k is)
-first_there (s ∷ slots) k is = there_by s slots (is_free s.trigger) (first_free slots) k (first_there slots) refl is
+    (deals_at_plan m h Still o _ _ lines old (if_false (any_in view) held free is) (hits_plan m h view o held free lines old new v d))) v.went
 
 pub armed_deals : (m : Machine) (h slot : ℕ) (meant : SlotUse) (what : What) (o : Origin) (next : Plan) (lines : List Line) (old new : Target) → use_named meant ≡ Armed what → CanArm what → ArmedAt meant slot h old new
     → Deals m h Still o (arming h what next) lines old → Deals m h Still o (say (Line.Slot slot (Armed what) false) next) lines new
 armed_deals m h slot meant what o next lines old new is can a d =
     let same : a.what ≡ what = cc (a.what_is, is) in
     deals_armed m h slot what o (say (Line.Slot slot (Armed what) false) next) lines old new can
-    (λ x here. first_there x.debug.slots slot (sym (ap (λ (y : Option Hart). first_free (slots_here y)) here) ∙ a.lowest))
+    (λ x here. first_free-there x.debug.slots slot (sym (ap (λ (y : Option Hart). first_free (slots_here y)) here) ∙ a.lowest))
     (deals_at_plan m h Still o _ _ lines old (ap (λ (k : Option ℕ). arming_at k h what next) a.lowest) (deals_seen m h Still o (λ y. arming_at (first_free (slots_here y)) h what next) lines old tt d))
     (subst (λ w. Rewrote (with_debug_part (slot_changed slot w)) h old new) same a.wrote)
 
@@ -289,10 +267,6 @@ full_deals m h what o next lines old new a d =
     deals_went_on m h Still o _ lines old new
     (deals_at_plan m h Still o _ _ lines old (ap (λ (k : Option ℕ). arming_at k h what next) a.none) (deals_seen m h Still o (λ y. arming_at (first_free (slots_here y)) h what next) lines old tt d)) a.went
 
-slot_there : (o : Option Slot) → is_free_slot o ≡ false → (s : Slot) × (o ≡ Some s)
-slot_there (Some s) is = (s, refl)
-slot_there None is = absurd (false≢true (sym is))
-
 abbrev freeing_by : ℕ → ℕ → Plan → Bool → Plan
 freeing_by h slot next free = if free then say (Line.SlotNotInUse slot) next else change (FreeSlot h slot) (say (Line.Slot slot Unused false) next)
 
@@ -300,7 +274,7 @@ pub freed_deals : (m : Machine) (h slot : ℕ) (o : Origin) (next : Plan) (lines
     → Deals m h Still o (say (Line.Slot slot Unused false) next) lines new
 freed_deals m h slot o next lines old new a d =
     deals_freed m h slot o (say (Line.Slot slot Unused false) next) lines old new
-    (λ x here. slot_there (slice_get x.debug.slots slot) (ap (λ (y : Option Hart). is_free_slot (slice_get (slots_here y) slot)) (sym here) ∙ a.in_use))
+    (λ x here. used_there (slice_get x.debug.slots slot) (ap (λ (y : Option Hart). is_free_slot (slice_get (slots_here y) slot)) (sym here) ∙ a.in_use))
     (deals_at_plan m h Still o _ _ lines old (ap (freeing_by h slot next) a.in_use) (deals_seen m h Still o (λ y. freeing_by h slot next (is_free_slot (slice_get (slots_here y) slot))) lines old tt d)) a.wrote
 
 pub unused_deals : (m : Machine) (h slot : ℕ) (o : Origin) (next : Plan) (lines : List Line) (old new : Target) → UnusedAt slot h old new → Deals m h Still o (freeing h slot next) lines old

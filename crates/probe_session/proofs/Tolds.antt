@@ -19,7 +19,7 @@ use Rattle.debugger_laws.specs.Slots.{hits_of, slots_at, slots_here}
 use Rattle.debugger_laws.specs.Stands.{At, Deals, Looked, Origin, Target, WentOn}
 use Rattle.debugger_laws.specs.Ways.{Way}
 use Rattle.debugger_laws.specs.Ways.Way.{Idle, Ready, Still}
-use Rattle.debugger_laws.proofs.DealsLemmas.{deals_again, deals_at_plan, deals_done, deals_found, deals_halted, deals_hold, deals_looked, deals_otherwise, deals_seen, deals_selects, deals_stepped, deals_went_on, sees_still, target_frozen}
+use Rattle.debugger_laws.proofs.DealsLemmas.{deals_again, deals_at_plan, deals_done, deals_found, deals_halted, deals_hold, deals_looked, deals_otherwise, deals_seen, deals_selects, deals_stepped, deals_went_on, target_frozen}
 use Rattle.debugger_laws.proofs.FrozenLemmas.{stays_same}
 use Rattle.probe_access.specs.Registers.{TurnsPassed}
 use Rattle.probe_run.specs.declared.hart.Seen.{Seen}
@@ -30,6 +30,7 @@ use Rattle.probe_run.proofs.SessionLemmas.{halts_lead, resumes_lead, steps_lead}
 use Rattle.probe_trig.specs.Stepping.{OverAt}
 use Rattle.probe_session.specs.Led.{target_at}
 use Rattle.probe_session.specs.Steps.{behind_look, behind_step, is_halted, step_cause, trigger_cause}
+use Rattle.debugger_laws.proofs.KnownPoints.{known-still}
 
 -- ---- an object that tells
 
@@ -93,7 +94,7 @@ again_deals s m h o n failed found lines old new not_yet l d =
 pub enough_deals : (s : Seen) (m : Machine) (h : ℕ) (o : Origin) (n : ℕ) (failed found : Plan) (lines : List Line) (old new : Target) → is_halted s ≡ true → SeesAt h s old new
     → Deals m 0 Idle o (until (suc n) h sees_halted (λ _. failed) found unseen) lines old → Deals m h Still o found lines new
 enough_deals s m h o n failed found lines old new halted l d =
-    deals_found m h Idle Still o n sees_halted (λ _. failed) found unseen l.now lines old new (seen_so s l.now h l.is halted) (sees_still m h)
+    deals_found m h Idle Still o n sees_halted (λ _. failed) found unseen l.now lines old new (seen_so s l.now h l.is halted) (known-still m h)
     (deals_selects m 0 h o (until (suc n) h sees_halted (λ _. failed) found unseen) lines old d) l.look
 
 -- ---- run control

@@ -1,6 +1,6 @@
 -- One call of the layers below that a session made: what was heard of the link, and what happened at a chip that is told.
 -- It is this project's own.
-use Rattle.std.specs.Prelude.{◌≡◌, ℕ, true, false, IfSome, List, Some, None, is_some}
+use Rattle.std.specs.Prelude.{◌≡◌, ◌≤◌, ℕ, true, false, IfSome, List, Some, None, is_some}
 use Rattle.rv_model.specs.declared.size.Size.{Size}
 use Rattle.rv_model.specs.Core.{Core}
 use Rattle.rv_model.specs.Registers.{reg_value}
@@ -146,10 +146,11 @@ IsOfHarts number = (x : Hart) → is_some (debug_value x number) ≡ true
 abbrev pub IsOfCores : ℕ → Type 0
 IsOfCores number = (c : Core) → is_some (reg_value c number) ≡ true
 
--- ---- calls that failed, by the counts of faults before and behind, and the failure that it made
+-- ---- calls that failed, by the counts of faults before and behind, which did not fall, and the failure that it made
 
 pub record IdcodeFell (old_count new_count : ℕ) (old new : Tells) (f : Failure) : Type 0 where
   pub why : DmiFault
+  pub later : old_count ≤ new_count
   pub cause : ScannedCause old_count new_count new.far old.script why
   pub told : WhereTold NoneOperated old.far new.far
   pub ready : IsReady old.far
@@ -157,18 +158,21 @@ pub record IdcodeFell (old_count new_count : ℕ) (old new : Tells) (f : Failure
 
 pub record LookFell (h old_count new_count : ℕ) (old new : Tells) (f : Failure) : Type 0 where
   pub why : RunFault
+  pub later : old_count ≤ new_count
   pub heard : LookFails h old_count new_count old new why
   pub told : LookLeft h old.far new.far why
   pub is : f ≡ failure_of_run why
 
 pub record HaltFell (h old_count new_count : ℕ) (old new : Tells) (f : Failure) : Type 0 where
   pub why : RunFault
+  pub later : old_count ≤ new_count
   pub heard : HaltFails h old_count new_count old new why
   pub told : HaltLeft h old.far new.far why
   pub is : f ≡ failure_of_run why
 
 pub record ReadFell (h number old_count new_count : ℕ) (old new : Tells) (f : Failure) : Type 0 where
   pub why : AccessFault
+  pub later : old_count ≤ new_count
   pub at : AtHart h old.far
   pub heard : ReadFailed number old_count new_count old new why
   pub told : RegisterLeft false h number old.far new.far why
@@ -177,6 +181,7 @@ pub record ReadFell (h number old_count new_count : ℕ) (old new : Tells) (f : 
 
 pub record WriteFell (h number value old_count new_count : ℕ) (old new : Tells) (f : Failure) : Type 0 where
   pub why : AccessFault
+  pub later : old_count ≤ new_count
   pub at : AtHart h old.far
   pub heard : WriteFailed number value old_count new_count old new why
   pub told : RegisterLeft true h number old.far new.far why
@@ -203,6 +208,7 @@ pub record GiveFell (h number value old_count new_count : ℕ) (old new : Tells)
 -- in the course of a call on a hart's slots
 pub record SlotsFell (Whole : List Transfer → Type 0) (h old_count new_count : ℕ) (old new : Tells) (f : Failure) : Type 0 where
   pub why : AccessFault
+  pub later : old_count ≤ new_count
   pub at : AtHart h old.far
   pub heard : FailedIn Whole h old_count new_count old new why
   pub told : ScratchLeft old.far why
@@ -211,6 +217,7 @@ pub record SlotsFell (Whole : List Transfer → Type 0) (h old_count new_count :
 
 pub record StopFell (h old_count new_count : ℕ) (old new : Tells) (f : Failure) : Type 0 where
   pub why : AccessFault
+  pub later : old_count ≤ new_count
   pub at : AtHart h old.far
   pub heard : StopFailed old_count new_count old new why
   pub told : ScratchLeft old.far why
@@ -218,25 +225,27 @@ pub record StopFell (h old_count new_count : ℕ) (old new : Tells) (f : Failure
   pub is : Became why f
 
 pub data LoadFell (size : Size) (address old_count new_count : ℕ) (old new : Tells) (f : Failure) : Type 0 where
-  by_hart : (h : ℕ) (why : AccessFault) → AtHart h old.far → AroundFailed (LoadedAny size address) (LoadFailedInside size address) old_count new_count old new why
+  by_hart : (h : ℕ) (why : AccessFault) → AtHart h old.far → old_count ≤ new_count → AroundFailed (LoadedAny size address) (LoadFailedInside size address) old_count new_count old new why
       → AccessLeft (LoadRefused size address) address old.far new.far why → IfCut (LeavesChip (AccessLeftOff Scratched LoadLeaves h) old.far new.far) why → Became why f → LoadFell size address old_count new_count old new f
-  by_bus : (why : AccessFault) → IsReady old.far → BusLoadFailed size address old_count new_count old new why
+  by_bus : (why : AccessFault) → IsReady old.far → old_count ≤ new_count → BusLoadFailed size address old_count new_count old new why
       → AccessLeft (BusLoadRefused size address) address old.far new.far why → IfCut (LeavesChip (BusLeftOff LoadLeaves) old.far new.far) why → Became why f → LoadFell size address old_count new_count old new f
 
 pub data StoreFell (size : Size) (address value old_count new_count : ℕ) (old new : Tells) (f : Failure) : Type 0 where
-  by_hart : (h : ℕ) (why : AccessFault) → AtHart h old.far → AroundFailed (StoredInside size address value) (StoreFailedInside size address value) old_count new_count old new why
+  by_hart : (h : ℕ) (why : AccessFault) → AtHart h old.far → old_count ≤ new_count → AroundFailed (StoredInside size address value) (StoreFailedInside size address value) old_count new_count old new why
       → AccessLeft (StoreRefused size address) address old.far new.far why → IfCut (LeavesChip (AccessLeftOff Scratched (StoreLeaves size address value) h) old.far new.far) why → Became why f → StoreFell size address value old_count new_count old new f
-  by_bus : (why : AccessFault) → IsReady old.far → BusStoreFailed size address value old_count new_count old new why
+  by_bus : (why : AccessFault) → IsReady old.far → old_count ≤ new_count → BusStoreFailed size address value old_count new_count old new why
       → AccessLeft (BusStoreRefused size address) address old.far new.far why → IfCut (LeavesChip (BusLeftOff (StoreLeaves size address value)) old.far new.far) why → Became why f → StoreFell size address value old_count new_count old new f
 
 pub record ResumeFell (h old_count new_count : ℕ) (old new : Tells) (f : Failure) : Type 0 where
   pub why : RunFault
+  pub later : old_count ≤ new_count
   pub heard : ResumeFails h old_count new_count old new why
   pub told : ResumeLeft h old.far new.far why
   pub is : f ≡ failure_of_run why
 
 pub record OverFell (h old_count new_count : ℕ) (old new : Tells) (f : Failure) : Type 0 where
   pub why : AccessFault
+  pub later : old_count ≤ new_count
   pub at : AtHart h old.far
   pub heard : OverFailed h old_count new_count old new why
   pub told : OverLeft h old.far new.far why

@@ -15,4 +15,5 @@ pub mod Showing
 pub mod Led
 pub mod Acts
 pub mod Scripts
+pub mod Causes
 pub mod Transcribed

@@ -1,6 +1,5 @@
 ghost use Rattle.std.specs.Prelude.{◌≡◌, ◌≤◌, ◌<◌, ◌^◌, true, IfOk, IfErr, OnOk};
 ghost use Rattle.probe_run.specs.Acts.{tells};
-ghost use Rattle.probe_access.specs.BusRuns.{cut_to};
 ghost use Rattle.rv_model.specs.Memory.{is_aligned};
 ghost use Rattle.probe_session.specs.Calls.{LoadFell, StoreFell};
 ghost use Rattle.probe_session.specs.Links.{LeftBy, Serving, ServingHalted};
@@ -8,21 +7,9 @@ ghost use Rattle.probe_session.specs.Answers.{LoadedAs, StoredAs};
 
 use crate::fault::{Failure, lost_by};
 use debug_model::Dmi;
-use probe_access::{AccessFault, bus_load, bus_store, load, store};
+use probe_access::{AccessFault, bus_load, bus_store, cut_to, load, store};
 use probe_run::Halted;
 use rv_model::Size;
-
-/// The lowest bits of a value, as many as this size has.
-fn cut(size: Size, value: u64) -> u64
-    ensures { result ≡ cut_to size value }
-{
-    match size {
-        Size::B1 => value % 0x100,
-        Size::B2 => value % 0x1_0000,
-        Size::B4 => value % 0x1_0000_0000,
-        Size::B8 => value,
-    }
-}
 
 /// Loads by the halted hart: none where a byte lies outside memory.
 pub(crate) fn fetch<D: Dmi>(
@@ -42,7 +29,7 @@ pub(crate) fn fetch<D: Dmi>(
     ensures ties { D.ties link.new ≡ D.ties link.old }
 {
     match load(link, halted, size, address) {
-        Ok(value) => Ok(Some(cut(size, value))),
+        Ok(value) => Ok(Some(cut_to(size, value))),
         Err(AccessFault::Memory(_)) => Ok(None),
         Err(fault) => Err(lost_by(fault)),
     }

@@ -40,6 +40,7 @@ use Rattle.probe_trig.proofs.Ends.{over_back, rewrote_behind}
 use Rattle.probe_trig.proofs.OverRegisters.{mild_changes, mild_cut, mild_ends, over_changed, over_flag, over_flagged, over_then}
 use Rattle.probe_trig.proofs.Overs.{HeldAt, begun_by, steps_at}
 use Rattle.probe_trig.proofs.Told.{becomes, board_with, frozen_halted}
+use Rattle.probe_access.proofs.BlockCutClauses.{left_bus}
 
 -- ---- one behind the other, where a chip is told
 
@@ -218,10 +219,6 @@ pub go_in_back : (h : ℕ) (x y z : Option Far) (e : AccessFault) → WhereTold 
 go_in_back h x y z e held =
     if_cut (LeavesAt (BackCut h) y z) (LeavesAt (GoCut h) x z) e (cut_then (HeldAt true h) (BackCut h) (GoCut h) x y z (λ a b c k r. in_over (sym k.changed.some_is) (held_cut true h a b c k r)) held)
 
-same_bus : (m n : DebugModule) (h : ℕ) → (m ≡ n) ⊎ (m ≡ record n { hartsel = h }) → m.bus ≡ n.bus
-same_bus m n h (inl e) = ap (λ (k : DebugModule). k.bus) e
-same_bus m n h (inr e) = ap (λ (k : DebugModule). k.bus) e
-
 resume_by : (h : ℕ) (x y z : Option Far) → WhereTold (AtHarts (IsThroughAt h)) x y → WhereTold (LeftBy (RunCut (ResumeReq h) sees_ack h) h) y z → LeavesAt (GoCut h) x z
 resume_by h None y z t left = tt
 resume_by h (Some x) y z t left =
@@ -230,7 +227,7 @@ resume_by h (Some x) y z t left =
       far = l.far;
       is = l.is;
       happened = in_resume (record { mid = target_of (site_of t.far); through = t.happened; runs = l.happened });
-      bus = same_bus (site_of l.far).unit (site_of t.far).unit h l.unit ∙ t.bus;
+      bus = left_bus (site_of l.far).unit (site_of t.far).unit h l.unit ∙ t.bus;
     }
 
 pub go_in_resume : (h : ℕ) (x y z : Option Far) (why : RunFault) → WhereTold (AtHarts (IsThroughAt h)) x y → ResumeLeft h y z why → IfCut (LeavesAt (GoCut h) x z) (of_run why)

@@ -25,6 +25,6 @@ pub returns-clause-fetched : goal.returns-clause-fetched
 returns-clause-fetched g c = record {
   low = c.in_ok-low.low;
   high = c.in_ok-high.high;
-  is = c.cut.ensures ∙ ap (cut_to c.args.size) c.join.ensures;
+  is = c.cut_to.ensures ∙ ap (cut_to c.args.size) c.join.ensures;
   did = did_then _ _ _ (read_did 60 c.in_ok-low.low _ _ c.in_ok-low.ensures.operated c.in_ok-low.ensures.answers) _ _ (read_did 61 c.in_ok-high.high _ _ c.in_ok-high.ensures.operated c.in_ok-high.ensures.answers);
 }

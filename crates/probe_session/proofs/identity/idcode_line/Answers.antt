@@ -7,7 +7,7 @@ use Rattle.probe_session.proofs.identity.idcode_line.Goals as goal
 pub returns-in_err-number-clause-falls : goal.returns-in_err-number-clause-falls
 returns-in_err-number-clause-falls g c =
     if_err _ (failure_of_dmi c.in_err-number.field-0.0) _ c.from_residual.ensures.1
-    (idcode_falls (record { why = c.in_err-number.field-0.0; cause = c.in_err-number.ensures.cause; told = c.in_err-number.ensures.cut; ready = c.requires.serving.ready; is = refl }))
+    (idcode_falls (record { why = c.in_err-number.field-0.0; later = c.idcode.ensures.later; cause = c.in_err-number.ensures.cause; told = c.in_err-number.ensures.cut; ready = c.requires.serving.ready; is = refl }))
 
 pub returns-clause-went : goal.returns-clause-went
 returns-clause-went g c =

@@ -5,7 +5,7 @@ use Rattle.probe_session.proofs.LinkLemmas.{access_left}
 use Rattle.probe_session.proofs.memory.fetch.Goals as goal
 
 pub returns-in-Ok-clause-loaded : goal.returns-in-Ok-clause-loaded
-returns-in-Ok-clause-loaded g c = loaded_cut c.args.size c.args.address c.in-Ok.value _ _ _ c.cut.ensures c.requires.serving.serving.ready c.in-Ok.ensures.around c.in-Ok.ensures.loaded
+returns-in-Ok-clause-loaded g c = loaded_cut c.args.size c.args.address c.in-Ok.value _ _ _ c.cut_to.ensures c.requires.serving.serving.ready c.in-Ok.ensures.around c.in-Ok.ensures.loaded
 
 pub returns-in-Err-Memory-clause-loaded : goal.returns-in-Err-Memory-clause-loaded
 returns-in-Err-Memory-clause-loaded g c = loaded_none c.args.size c.args.address _ _ _ _ _ c.in-Err-Memory.field-0 c.in-Err-Memory.field-0-is c.in-Err-Memory.ensures.left c.in-Err-Memory.ensures.failed
@@ -13,7 +13,7 @@ returns-in-Err-Memory-clause-loaded g c = loaded_none c.args.size c.args.address
 pub returns-in-Err-clause-fell : goal.returns-in-Err-clause-fell
 returns-in-Err-clause-fell g c =
     LoadFell.by_hart c.args.halted.now.number c.in-Err.fault (record { ready = c.requires.serving.serving.ready; selects = c.requires.serving.selects; halted = c.requires.serving.halted })
-    c.in-Err.ensures.failed c.in-Err.ensures.left c.in-Err.ensures.cut c.lost_by.ensures
+    c.load.ensures.later c.in-Err.ensures.failed c.in-Err.ensures.left c.in-Err.ensures.cut c.lost_by.ensures
 
 pub returns-in-Err-clause-left : goal.returns-in-Err-clause-left
 returns-in-Err-clause-left g c = access_left _ _ c.in-Err.fault _ c.in-Err.ensures.state c.lost_by.ensures

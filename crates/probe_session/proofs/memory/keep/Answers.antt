@@ -9,7 +9,7 @@ returns-in-Err-Memory-clause-stored g c = stored_none c.args.size c.args.address
 pub returns-in-Err-clause-fell : goal.returns-in-Err-clause-fell
 returns-in-Err-clause-fell g c =
     StoreFell.by_hart c.args.halted.now.number c.in-Err.fault (record { ready = c.requires.serving.serving.ready; selects = c.requires.serving.selects; halted = c.requires.serving.halted })
-    c.in-Err.ensures.failed c.in-Err.ensures.left c.in-Err.ensures.cut c.lost_by.ensures
+    c.store.ensures.later c.in-Err.ensures.failed c.in-Err.ensures.left c.in-Err.ensures.cut c.lost_by.ensures
 
 pub returns-in-Err-clause-left : goal.returns-in-Err-clause-left
 returns-in-Err-clause-left g c = access_left _ _ c.in-Err.fault _ c.in-Err.ensures.state c.lost_by.ensures

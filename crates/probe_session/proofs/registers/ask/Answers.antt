@@ -6,6 +6,7 @@ pub returns-in_default-clause-fell : goal.returns-in_default-clause-fell
 returns-in_default-clause-fell g c = record {
   fell = record {
     why = c.in-Err.fault;
+    later = c.reg.ensures.later;
     at = record { ready = c.requires.serving.serving.ready; selects = c.requires.serving.selects; halted = c.requires.serving.halted };
     heard = c.in-Err.ensures.failed;
     told = c.in-Err.ensures.left;
