@@ -1,9 +1,8 @@
 mod Counts
 mod Ends
-mod Events
 mod Feeding
 mod Firsts
 mod Loads
 mod Turning
-mod Turns
 mod Tells
+mod Timed

@@ -2,7 +2,6 @@ pub mod Counted
 pub mod Fed
 pub mod Feeds
 pub mod Loads
-pub mod Offered
 pub mod Parts
 pub mod Pieces
 pub mod Tells

@@ -3,7 +3,7 @@
 ghost use Rattle.std.specs.Prelude.{◌≡◌, ◌+◌, ◌<◌, ◌≤◌, ◌++◌, ◌↔◌, [], Err, IfErr, IfSome, IsSome, IsTrue, OnErr, OnOk, length, option_map, true};
 ghost use Rattle.arrayvec.specs.ArrayVec.{array_vec_len};
 ghost use Rattle.debug_model.specs.Told.{IsLive, IsOpen, IsRead};
-ghost use Rattle.debug_model.specs.Ties.{lent_by, no_ties};
+ghost use Rattle.debug_model.specs.Ties.{lent_by, ties_told};
 ghost use Rattle.debug_model.specs.Wire.{IsPiece, KeepsChip, LosesComing, ReadsFront, RecvCause, SendCause, SentFront, TakesComing, are_open, piece_most, sent};
 ghost use Rattle.chip_core.specs.Feeds.{far_of, feed_of, limit_met, nothing_coming, said_of};
 
@@ -64,7 +64,7 @@ impl<'a, Q: Schedule> Wire for BenchWire<'a, Q> {
 
     ghost fault_count = { λ _. 0 };
 
-    ghost ties = { λ w. lent_by w.bench.ghost_name no_ties };
+    ghost ties = { λ w. lent_by w.bench.ghost_name (ties_told (far_of w.bench.now w.unread.items)) };
 
     fn send(&mut self, bytes: &[u8]) -> Result<(), WireFault>
         requires most { length bytes.now ≤ piece_most }
@@ -77,7 +77,7 @@ impl<'a, Q: Schedule> Wire for BenchWire<'a, Q> {
         ensures coming { nothing_coming ≡ nothing_coming }
         ensures later { 0 ≤ 0 }
         ensures cause { IfErr result (SendCause 0 0 (far_of self.new.bench.now self.new.unread.items)) }
-        ensures ties { lent_by self.new.bench.ghost_name no_ties ≡ lent_by self.old.bench.ghost_name no_ties }
+        ensures ties { lent_by self.new.bench.ghost_name (ties_told (far_of self.new.bench.now self.new.unread.items)) ≡ lent_by self.old.bench.ghost_name (ties_told (far_of self.old.bench.now self.old.unread.items)) }
         ensures limit { (result ≡ Err WireFault.Ended) ↔ (limit_met self.new.bench.now ≡ true) }
     {
         feed_pieces(self.bench, bytes, self.piece, &mut self.unread);
@@ -96,7 +96,7 @@ impl<'a, Q: Schedule> Wire for BenchWire<'a, Q> {
         ensures lost { OnErr result (LosesComing nothing_coming nothing_coming) }
         ensures later { 0 ≤ 0 }
         ensures cause { IfErr result (RecvCause 0 0 (far_of self.new.bench.now self.new.unread.items)) }
-        ensures ties { lent_by self.new.bench.ghost_name no_ties ≡ lent_by self.old.bench.ghost_name no_ties }
+        ensures ties { lent_by self.new.bench.ghost_name (ties_told (far_of self.new.bench.now self.new.unread.items)) ≡ lent_by self.old.bench.ghost_name (ties_told (far_of self.old.bench.now self.old.unread.items)) }
         ensures limit { (result ≡ Err WireFault.Ended) ↔ (limit_met self.new.bench.now ≡ true) }
     {
         if self.bench.at_limit() {

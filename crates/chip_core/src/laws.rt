@@ -1,6 +1,5 @@
 //! Laws of feeding. Each is the contract of a function that does nothing.
 
-ghost use Rattle.chip_core.specs.Offered.{RoundsOfferTurns};
 ghost use Rattle.chip_core.specs.Pieces.{EndedStaysEnded, PiecesJoin};
 ghost use Rattle.chip_core.specs.Tells.{FeedsTell};
 
@@ -17,9 +16,4 @@ pub fn ended_stays_ended()
 /// The answer of a feed tells where the first end stands: the bytes before it are taken and end nothing.
 pub fn feeds_tell()
     ensures { FeedsTell }
-{}
-
-/// Rounds of the schedule give the harts of a loaded chip exactly the turns that the schedule offers.
-pub fn rounds_offer_turns()
-    ensures { RoundsOfferTurns }
 {}

@@ -19,5 +19,5 @@ mod tests;
 pub use bench::{ANSWERS_MOST, Answers, Bench};
 pub use bench_wire::BenchWire;
 pub use fed::Fed;
-pub use laws::{ended_stays_ended, feeds_tell, pieces_join, rounds_offer_turns};
+pub use laws::{ended_stays_ended, feeds_tell, pieces_join};
 pub use load_fault::LoadFault;

@@ -1,5 +1,5 @@
 -- The worked examples, by computing.
-use Rattle.std.proofs.Common.{◌≡◌, ℕ, [], ◌∷◌, Bool, true, false, List, Option, Some, None, refl}
+use Rattle.std.proofs.Common.{◌≡◌, ℕ, [], true, Option, Some, None, refl}
 use Rattle.rv_model.specs.Board.{Hart}
 use Rattle.rv_model.specs.DebugRegisters.{debug_value}
 use Rattle.rv_model.specs.Effects.{Outcome, effect_of}

@@ -2,3 +2,6 @@ pub mod StreamLemmas
 pub mod PathLemmas
 pub mod ModuleLemmas
 pub mod ExampleLemmas
+pub mod Events
+pub mod Turns
+pub mod Timing

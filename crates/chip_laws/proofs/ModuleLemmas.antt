@@ -1,17 +1,17 @@
 -- Operations that ask no hart, reads that change nothing, micro steps and other harts, and harts that rest.
-use Rattle.std.proofs.Common.{◌≡◌, ◌≢◌, ◌∙◌, ℕ, List, [], ◌∷◌, Bool, true, false, Option, Some, None, refl, sym, ap, length, slice_get, length-set, if◌then◌else◌}
+use Rattle.std.proofs.Common.{◌≡◌, ◌≢◌, ℕ, List, [], ◌∷◌, Bool, true, false, Option, Some, None, refl, length-set, if◌then◌else◌}
 use Rattle.rv_model.proofs.MapLemmas.{slice_get-set_other}
 use Rattle.rv_model.specs.declared.cause.Cause.{Cause}
 use Rattle.rv_model.specs.Board.{Hart}
 use Rattle.rv_model.specs.Memory.{Memory}
-use Rattle.rv_model.specs.Turn.{memory_after, place_of, executes, executes_by, place_by}
+use Rattle.rv_model.specs.Turn.{memory_after, place_of, executes}
 use Rattle.debug_model.specs.declared.dmi_op.DmiOp.{DmiOp}
 use Rattle.debug_model.specs.declared.dmi_op.DmiOp.TheVariants.{Read, Write}
 use Rattle.debug_model.specs.declared.micro.Micro.{Micro}
 use Rattle.debug_model.specs.declared.module_register.ModuleRegister.{ModuleRegister}
 use Rattle.debug_model.specs.declared.module_register.ModuleRegister.TheVariants.{Word, Dmcontrol, Dmstatus, Abstractcs, Command, Abstractauto, Sbcs, Sbaddress0, Sbaddress1, Sbdata0, Sbdata1, Haltsum0, Nothing}
 use Rattle.debug_model.specs.Deeds.{command_stepped, stepped_by}
-use Rattle.debug_model.specs.Module.{Site, after_read, after_write, operated, read_by, register_at, selected_hart, write_by, written_by}
+use Rattle.debug_model.specs.Module.{Site, after_read, operated, read_by, register_at, selected_hart, write_by, written_by}
 use Rattle.chip_laws.specs.ModuleLaws.{AsksNoHart, IsPlain, KeepsOtherHarts, Rests}
 
 -- ---- boards

@@ -1,5 +1,5 @@
 -- The fold of the stream's bytes: pieces joined, what has ended, and the fold without ends.
-use Rattle.std.proofs.Common.{◌≡◌, ◌∙◌, ℕ, List, [], ◌∷◌, ◌++◌, Bool, true, false, Option, Some, None, refl, sym, ap, append_assoc}
+use Rattle.std.proofs.Common.{◌≡◌, ◌∙◌, ℕ, List, [], ◌∷◌, ◌++◌, Option, Some, None, refl, sym, ap, append_assoc}
 use Rattle.debug_model.specs.declared.chip_end.ChipEnd.{ChipEnd}
 use Rattle.debug_model.specs.Chip.{Chip, Live, after, answer, answered, end_of, feed, said, run, signed, taken_by, told_by}
 use Rattle.debug_model.specs.Signs.{sign_of}

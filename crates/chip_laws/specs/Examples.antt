@@ -1,23 +1,21 @@
 -- Worked examples of the chip's registers and commands, with the values of the standard.
 -- RISC-V Debug Specification 1.0: "DTM Control and Status", "Debug Module Status", "Abstract Control and Status", "Abstract Commands",
 -- "System Bus Access Control and Status".
-use Rattle.std.specs.Prelude.{◌≡◌, ℕ, Bool, ◌∷◌, [], List, true, false, Option, Some, None}
-use Rattle.rv_model.specs.declared.cause.Cause.{Cause}
-use Rattle.rv_model.specs.Board.{Board, Hart, DebugPart, halted_by_reset, reset_hart, runs}
+use Rattle.std.specs.Prelude.{◌≡◌, ℕ, Bool, ◌∷◌, [], List, true, false, Some, None}
+use Rattle.rv_model.specs.Board.{Hart, halted_by_reset, reset_hart, runs}
 use Rattle.rv_model.specs.Memory.{Memory}
 use Rattle.debug_model.specs.declared.cmderr.Cmderr.TheVariants as cmderr
 use Rattle.debug_model.specs.declared.data_register.DataRegister.TheVariants.{Dmi}
 use Rattle.debug_model.specs.declared.dmi_op.DmiOp.{DmiOp}
 use Rattle.debug_model.specs.declared.micro.Micro.TheVariants.{Transfer, Run}
-use Rattle.debug_model.specs.declared.point.Point.{Point}
 use Rattle.debug_model.specs.declared.point.Point.TheVariants.{Look, HaltClear, ResumeReq}
 use Rattle.debug_model.specs.declared.sberror.Sberror.TheVariants as sberror
-use Rattle.debug_model.specs.declared.sticky.Sticky.TheVariants.{Clear, Busy}
-use Rattle.debug_model.specs.Commands.{CommandUnit, Stepped, abstractcs_shown, command_written, micro_step, no_command, reset_commands}
-use Rattle.debug_model.specs.Module.{DebugModule, Site, after_read, after_write, hart_status, reset_module}
+use Rattle.debug_model.specs.declared.sticky.Sticky.TheVariants.{Busy}
+use Rattle.debug_model.specs.Commands.{CommandUnit, abstractcs_shown, command_written, micro_step, no_command, reset_commands}
+use Rattle.debug_model.specs.Module.{Site, after_read, after_write, hart_status, reset_module}
 use Rattle.debug_model.specs.ModuleWords.{abstractcs_word, dmstatus_word, sbcs_word}
-use Rattle.debug_model.specs.SystemBus.{BusUnit, reset_bus, sbcs_shown, sbdata0_written}
-use Rattle.debug_model.specs.Transport.{Dtm, captured_dtm, dtmcs_seen, fresh_dtm, launched, updated_dtm}
+use Rattle.debug_model.specs.SystemBus.{reset_bus, sbcs_shown, sbdata0_written}
+use Rattle.debug_model.specs.Transport.{Dtm, captured_dtm, dtmcs_seen, fresh_dtm, updated_dtm}
 use Rattle.debug_model.specs.TransportWords.{dtmcs_word}
 
 -- ---- words

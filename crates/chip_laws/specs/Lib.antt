@@ -1,3 +1,4 @@
 pub mod Examples
 pub mod ModuleLaws
 pub mod StreamLaws
+pub mod TurnLaws

@@ -8,6 +8,7 @@ mod examples;
 mod module_laws;
 mod path_laws;
 mod stream_laws;
+mod turn_laws;
 
 pub use examples::{command_examples, module_examples, transport_examples, word_examples};
 pub use module_laws::{
@@ -16,3 +17,6 @@ pub use module_laws::{
 };
 pub use path_laws::{courses_are_site_paths, no_operation_is_deeds, one_operation_between_deeds};
 pub use stream_laws::{ended_chips_take_nothing, pieces_join, unended_chips_run};
+pub use turn_laws::{
+    feeds_keep_timing, feeds_offer_turns, loaded_chips_offer, rounds_offer_turns, timing_tells,
+};

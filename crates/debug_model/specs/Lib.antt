@@ -10,6 +10,7 @@ pub mod Loaded
 pub mod Module
 pub mod ModuleWords
 pub mod Net
+pub mod Offered
 pub mod Port
 pub mod Registers
 pub mod Scan

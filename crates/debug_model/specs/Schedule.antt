@@ -13,9 +13,17 @@ pub record Plan : Type 0 where
 abbrev pub round_of : Plan → List Event
 round_of p = slice_index_or p.rounds p.place []
 
--- the plan one place on, and from the list's end back at its start
+-- the place one on in a list of so many rounds, and from the list's end back at its start; a place behind the end stays
+abbrev pub following : (count place : ℕ) → ℕ
+following count place = if nat_lt (place + 1) count then place + 1 else if nat_lt place count then 0 else place
+
+-- the plan one place on
 abbrev pub moved : Plan → Plan
-moved p = record p { place = if nat_lt (p.place + 1) (length p.rounds) then p.place + 1 else 0 }
+moved p = record p { place = following (length p.rounds) p.place }
+
+-- the same list with its first round next
+abbrev pub at_start : Plan → Plan
+at_start p = record p { place = 0 }
 
 -- the k-th round to come, from 0
 abbrev pub round_after : ℕ → Plan → List Event

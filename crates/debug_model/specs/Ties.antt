@@ -1,7 +1,9 @@
--- What an object that carries a link keeps through every call: the references that it borrows through, and, where a net
--- lies below it, which call opened that net, and where.
-use Rattle.std.specs.Prelude.{ℕ, List, [], ◌∷◌, Bool, false, Option, None}
+-- What an object that carries a link keeps through every call: the references that it borrows through; where a net
+-- lies below it, which call opened that net, and where; and where it tells its chip, what stays of that chip's schedule.
+use Rattle.std.specs.Prelude.{ℕ, List, [], ◌∷◌, Bool, Option, None, false, option_map}
 use Rattle.std.specs.Borrow.{GName}
+use Rattle.debug_model.specs.Offered.{Timing, timing_of}
+use Rattle.debug_model.specs.Told.{Far, chip_of}
 use Rattle.debug_model.specs.declared.net.Call.{Call}
 
 -- which call opened a net, and its address, where that is told
@@ -17,13 +19,21 @@ pub record NetTies : Type 0 where
 pub record Ties : Type 0 where
   pub lenders : List GName
   pub net : NetTies
+  pub timing : Option Timing
 
 abbrev pub no_net : NetTies
 no_net = record { tells_pipe = false; opening = None }
 
--- of an object that borrows nothing and lies over no net
+-- of an object that borrows nothing, lies over no net and tells no chip
 abbrev pub no_ties : Ties
-no_ties = record { lenders = []; net = no_net }
+no_ties = record { lenders = []; net = no_net; timing = None }
+
+abbrev pub timing_told : Option Far → Option Timing
+timing_told told = option_map (λ f. timing_of (chip_of f)) told
+
+-- of an object that borrows nothing and lies over no net, and tells this
+abbrev pub ties_told : Option Far → Ties
+ties_told told = record { lenders = []; net = no_net; timing = timing_told told }
 
 -- of an object that is reached through one more reference
 abbrev pub lent_by : GName → Ties → Ties

@@ -4,7 +4,7 @@ use Rattle.std.specs.Prelude.{◌≡◌, ℕ, ◌+◌, ◌-◌, ◌^◌, ◌&&�
 use Rattle.jt_base.specs.Faults.{Rises}
 use Rattle.std.specs.Borrow.{GName}
 use Rattle.debug_model.specs.Net.{NetState, after_take}
-use Rattle.debug_model.specs.Ties.{Ties}
+use Rattle.debug_model.specs.Ties.{Ties, timing_told}
 use Rattle.debug_model.specs.declared.net.End.TheVariants as ends
 use Rattle.debug_model.specs.declared.wire.WireFault.{WireFault}
 use Rattle.debug_model.specs.declared.wire.WireFault.TheVariants.{SendFailed, RecvFailed, Ended, BadAnswer}
@@ -42,6 +42,6 @@ pub record TookSome (old new : NetState) : Type 0 where
   pub into : List ℕ
   pub took : Took count into old new
 
--- what a wire over a net keeps: its reference to the net, those of the net, and how the net was opened
+-- what a wire over a net keeps: its reference to the net, those of the net, how the net was opened, and of a told chip's schedule
 abbrev pub wired_ties : GName → List GName → NetState → Ties
-wired_ties name lenders s = record { lenders = name ∷ lenders; net = s.ties }
+wired_ties name lenders s = record { lenders = name ∷ lenders; net = s.ties; timing = timing_told s.chip }

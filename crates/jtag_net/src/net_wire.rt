@@ -61,7 +61,7 @@ impl<'a, N: Net> Wire for NetWire<'a, N> {
         }
     }
 
-    #[tactic(auto, using(crate::proofs::Takes::keeps_chip, crate::proofs::Takes::reads_front, crate::proofs::Takes::takes_coming, crate::proofs::Takes::loses_coming))]
+    #[tactic(auto, using(crate::proofs::Takes::keeps_chip, crate::proofs::Takes::reads_front, crate::proofs::Takes::takes_coming, crate::proofs::Takes::loses_coming, crate::proofs::Timed::took_ties, crate::proofs::Timed::some_ties))]
     fn recv(&mut self, into: &mut [u8]) -> Result<(), WireFault>
         requires open { IsOpen (N.state self.old.net.now).chip }
         requires waiting { IfSome (N.state self.old.net.now).chip (λ f. length into.old ≤ length f.unread) }

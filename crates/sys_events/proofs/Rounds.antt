@@ -21,8 +21,8 @@ moved-below : (f : ℕ → List Event) (n m : ℕ) → m + 1 < n → moved (made
 moved-below f n m h = rw (length-map-range_with_len f 0 n, lt-ltb (m + 1) n h) refl
 
 -- from the end back at the start
-moved-last : (f : ℕ → List Event) (n m : ℕ) → n ≤ m + 1 → moved (made f n m) ≡ made f n 0
-moved-last f n m h = rw (length-map-range_with_len f 0 n, le-ltb (m + 1) n h) refl
+moved-last : (f : ℕ → List Event) (n m : ℕ) → m < n → n ≤ m + 1 → moved (made f n m) ≡ made f n 0
+moved-last f n m below h = rw (length-map-range_with_len f 0 n, le-ltb (m + 1) n h, lt-ltb m n below) refl
 
 -- both at once
 moved-made : (f : ℕ → List Event) (n m : ℕ) → m < n → moved (made f n m) ≡ made f n ((m + 1) % n)
@@ -30,7 +30,7 @@ moved-made f n m h = elim (cases_lt (m + 1) n) [
   | inl below ↦ moved-below f n m below ∙ ap (made f n) (sym (mod-eq_of_lt below))
   | inr last ↦
       let at_end : m + 1 ≡ n = omega arith in
-      moved-last f n m last ∙ ap (made f n) (rw at_end (sym (mod_self n)))
+      moved-last f n m h last ∙ ap (made f n) (rw at_end (sym (mod_self n)))
 ]
 
 -- the k-th round to come is the one whose number is k more, from the end back at the start

@@ -6,7 +6,7 @@ ghost use Rattle.debug_model.specs.Chip.{feed, said};
 ghost use Rattle.debug_model.specs.Schedule.{Plan};
 ghost use Rattle.chip_core.specs.Fed.{fed};
 ghost use Rattle.chip_core.specs.Feeds.{fed_of, feed_of, said_of};
-ghost use Rattle.chip_core.specs.Offered.{TurnsOffered};
+ghost use Rattle.debug_model.specs.Offered.{TurnsOffered};
 
 use super::{Answers, Bench};
 use crate::chip::Chip;

@@ -5,7 +5,7 @@ ghost use Rattle.rv_model.specs.Memory.{IsRamSize, hart_places};
 ghost use Rattle.debug_model.specs.Loaded.{AsLoaded, Fits, RightHarts, loaded_memory, reset_harts};
 ghost use Rattle.hart_debug.specs.Changes.{start_cause};
 ghost use Rattle.chip_core.specs.Loads.{IsFirst, loaded};
-ghost use Rattle.chip_core.specs.Offered.{TurnsOffered};
+ghost use Rattle.debug_model.specs.Offered.{TurnsOffered};
 
 use super::Bench;
 use crate::chip::Chip;

@@ -1,6 +1,6 @@
 use Rattle.std.proofs.Common.{IfSome, subst, sym, ◌∙◌}
-use Rattle.chip_core.specs.Offered.{TurnsOffered}
-use Rattle.chip_core.proofs.Turns.{feed_offered}
+use Rattle.debug_model.specs.Offered.{TurnsOffered}
+use Rattle.chip_laws.proofs.Turns.{feed_offered}
 use Rattle.chip_core.proofs.bench.Bench.feed.Goals as goal
 
 pub returns-clause-turns : goal.returns-clause-turns

@@ -2,7 +2,7 @@ use Rattle.std.proofs.Common.{◌≡◌, arith}
 use Rattle.std.proofs.lemmas.Grind.{common_steps}
 use Rattle.chip_core.specs.Loads.{loaded}
 use Rattle.chip_core.proofs.Loads.{as_loaded}
-use Rattle.chip_core.proofs.Turns.{loaded_offers}
+use Rattle.chip_laws.proofs.Turns.{board_offers}
 use Rattle.chip_core.proofs.bench.Bench.load.Goals as goal
 
 pub returns-clause-as_loaded : goal.returns-clause-as_loaded
@@ -14,4 +14,4 @@ returns-clause-as_loaded g c = λ first.
 pub returns-clause-turns : goal.returns-clause-turns
 returns-clause-turns g c =
     let is : c.new-2.result ≡ loaded c.args.image.now c.args.harts c.args.ram c.args.start (g.Q.Schedule.plan c.args.schedule) = grind (arith, common_steps) in
-    rw is (loaded_offers c.args.image.now c.args.harts c.args.ram c.args.start (g.Q.Schedule.plan c.args.schedule))
+    rw is (board_offers _ (g.Q.Schedule.plan c.args.schedule))

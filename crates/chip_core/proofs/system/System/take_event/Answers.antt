@@ -1,5 +1,5 @@
 use Rattle.chip_core.proofs.Counts.{event_counted}
-use Rattle.chip_core.proofs.Events.{event_adds}
+use Rattle.chip_laws.proofs.Events.{event_adds}
 use Rattle.chip_core.proofs.system.System.take_event.Goals as goal
 
 pub returns-clause-room : goal.returns-clause-room

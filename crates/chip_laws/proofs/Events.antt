@@ -22,7 +22,7 @@ use Rattle.debug_model.specs.Deeds.{access_points, bus_stepped, stepped_by, turn
 use Rattle.debug_model.specs.Journal.{after_journal, after_point, debug_changed_by, halt_requested, resume_asked}
 use Rattle.debug_model.specs.Module.{Site, acknowledged, asked, control_points, controlled_by, halt_points, operated, read_by, register_at, reset_known, resume_points, selected_hart, write_by, written_by}
 use Rattle.debug_model.specs.ModuleWords.{dmcontrol_of}
-use Rattle.chip_core.specs.Offered.{offered_by, turn_at, turns_of}
+use Rattle.debug_model.specs.Offered.{offered_by, turn_at, turns_of}
 
 pub turns-append : (xs ys : List Point) → turns_of (xs ++ ys) ≡ turns_of xs ++ turns_of ys
 unfolding turns_of

@@ -2,40 +2,36 @@
 use Rattle.std.proofs.Common.{◌≡◌, ℕ, zero, suc, Bool, true, false, List, [], ◌∷◌, ◌++◌, length, Option, Some, None, refl, subst, sym, ap, ◌∙◌, append_assoc, add-one}
 use Rattle.std.proofs.lemmas.List.{append-nil}
 use Rattle.debug_model.specs.declared.chip_end.ChipEnd.{ChipEnd}
-use Rattle.debug_model.specs.declared.counts.Counts.{Counts}
-use Rattle.debug_model.specs.declared.dmi_op.DmiOp.{DmiOp}
 use Rattle.debug_model.specs.declared.event.Event.{Event}
-use Rattle.debug_model.specs.declared.event.Event.TheVariants as event
 use Rattle.debug_model.specs.declared.sign.Sign.{Sign}
 use Rattle.debug_model.specs.declared.sign.Sign.TheVariants.{Pins, Ask, Light, Reset, Quit}
-use Rattle.debug_model.specs.Chip.{Chip, Inside, Live, Works, after, after_event, after_events, busy_counted, counted, end_of, feed, lost_by, performed_by, pins, rise, signed, taken_by, tick, unless_ended, works_risen}
+use Rattle.debug_model.specs.Chip.{Chip, Inside, Live, Works, after, after_event, after_events, counted, end_of, feed, pins, rise, signed, taken_by, tick, unless_ended, works_risen}
 use Rattle.debug_model.specs.Loaded.{AsLoaded, loaded_chip}
 use Rattle.debug_model.specs.Module.{Site}
 use Rattle.rv_model.specs.Board.{Board}
 use Rattle.debug_model.specs.Port.{Port, rise_finds_busy}
 use Rattle.debug_model.specs.Scan.{ticks}
-use Rattle.debug_model.specs.Schedule.{Plan, moved, round_of}
+use Rattle.debug_model.specs.Schedule.{Plan, at_start, moved, round_of}
 use Rattle.debug_model.specs.Signs.{sign_of}
-use Rattle.hart_debug.specs.declared.start.Start.{Start}
-use Rattle.chip_core.specs.Loads.{loaded}
-use Rattle.chip_core.specs.Offered.{RoundsOfferTurns, TurnsOffered, first_rounds, moved_on, offered, offered_by, turns_of}
+use Rattle.debug_model.specs.Offered.{TurnsOffered, first_rounds, moved_on, offered, offered_by, turns_of}
+use Rattle.chip_laws.specs.TurnLaws.{FeedsOfferTurns, LoadedChipsOffer, RoundsOfferTurns}
 use Rattle.debug_model.proofs.Rounds.{busy_rounds, events_rounds}
-use Rattle.chip_core.proofs.Events.{Added, event_adds}
+use Rattle.chip_laws.proofs.Events.{Added, event_adds}
 
 -- ---- schedules
 
-moved_on-more : (k : ℕ) (p : Plan) → moved_on (suc k) p ≡ moved (moved_on k p)
+pub moved_on-more : (k : ℕ) (p : Plan) → moved_on (suc k) p ≡ moved (moved_on k p)
 unfolding moved_on
 moved_on-more zero p = refl
 moved_on-more (suc k) p = moved_on-more k (moved p)
 
-first_rounds-more : (k : ℕ) (p : Plan) → first_rounds (suc k) p ≡ first_rounds k p ++ round_of (moved_on k p)
+pub first_rounds-more : (k : ℕ) (p : Plan) → first_rounds (suc k) p ≡ first_rounds k p ++ round_of (moved_on k p)
 unfolding first_rounds moved_on
 first_rounds-more zero p = append-nil (round_of p)
 first_rounds-more (suc k) p =
     ap (λ es. round_of p ++ es) (first_rounds-more k (moved p)) ∙ sym (append_assoc (round_of p) (first_rounds k (moved p)) (round_of (moved_on k (moved p))))
 
-offered-append : (n : ℕ) (xs ys : List Event) → offered n (xs ++ ys) ≡ offered n xs ++ offered n ys
+pub offered-append : (n : ℕ) (xs ys : List Event) → offered n (xs ++ ys) ≡ offered n xs ++ offered n ys
 unfolding offered
 offered-append n [] ys = refl
 offered-append n (e ∷ xs) ys = ap (λ zs. offered_by n e ++ zs) (offered-append n xs ys) ∙ sym (append_assoc (offered_by n e) (offered n xs) (offered n ys))
@@ -48,7 +44,7 @@ added_then xs ys s t u first second = record {
   harts = second.harts ∙ first.harts;
 }
 
-events_added : (n : ℕ) (es : List Event) (w : Works) → length w.site.board.harts ≡ n → Added (offered n es) w.site (after_events es w).site
+pub events_added : (n : ℕ) (es : List Event) (w : Works) → length w.site.board.harts ≡ n → Added (offered n es) w.site (after_events es w).site
 unfolding offered after_events
 events_added n [] w here = record { turns = sym (append-nil (turns_of w.site.journal)); harts = refl }
 events_added n (e ∷ es) w here =
@@ -60,7 +56,7 @@ events_added n (e ∷ es) w here =
 -- ---- edges
 
 -- a round of the schedule, whatever clock and port are
-tick_offered : (first : Plan) (tck tck' : Bool) (port port' : Port) (i : Inside) → TurnsOffered first (record { tck = tck; port = port; inside = i })
+pub tick_offered : (first : Plan) (tck tck' : Bool) (port port' : Port) (i : Inside) → TurnsOffered first (record { tck = tck; port = port; inside = i })
     → TurnsOffered first (record { tck = tck'; port = port'; inside = tick i })
 unfolding tick
 tick_offered first tck tck' port port' i is =
@@ -83,7 +79,7 @@ unfolding ticks
 ticks_offered first zero tck tck' port port' i is = record { turns = is.turns; plan = is.plan }
 ticks_offered first (suc n) tck tck' port port' i is = ticks_offered first n tck tck' port port' (tick i) (tick_offered first tck tck port port i is)
 
-works_offered : (first : Plan) (c : Chip) → TurnsOffered first c → TurnsOffered first (record c { inside = record c.inside { works = works_risen c.port c.inside.works } })
+pub works_offered : (first : Plan) (c : Chip) → TurnsOffered first c → TurnsOffered first (record c { inside = record c.inside { works = works_risen c.port c.inside.works } })
 works_offered first c is =
     let rounds : (works_risen c.port c.inside.works).counts.rounds ≡ c.inside.works.counts.rounds = busy_rounds (rise_finds_busy c.port c.inside.works.dtm) c.inside.works.counts in
     record {
@@ -123,21 +119,27 @@ feed_offered first (b ∷ bs) l is =
     feed_offered first bs (after l b)
     (taken_offered first l.ended (end_of b (sign_of b) l.chip) (signed (sign_of b) l.chip) l is (sign_offered first (sign_of b) l.chip is))
 
--- ---- a bench
+pub feeds_offer : FeedsOfferTurns
+feeds_offer first l bytes is = feed_offered first bytes l is
 
-board_offers : (board : Board) (plan : Plan) → TurnsOffered plan (loaded_chip board plan)
+-- ---- a loaded chip
+
+pub board_offers : (board : Board) (plan : Plan) → TurnsOffered plan (loaded_chip board plan)
 unfolding turns_of offered first_rounds moved_on
 board_offers board plan = record { turns = refl; plan = refl }
 
-pub loaded_offers : (image : List ℕ) (harts ram : ℕ) (start : Start) (plan : Plan) → TurnsOffered plan (loaded image harts ram start plan).chip
-loaded_offers image harts ram start plan = board_offers _ plan
+plan_offers : (l : Live) → AsLoaded l → TurnsOffered l.chip.inside.plan l.chip
+plan_offers l a = subst (λ (m : Live). TurnsOffered m.chip.inside.plan m.chip) (sym a.is) (board_offers _ _)
+
+pub at_its_start : (l : Live) → AsLoaded l → at_start l.chip.inside.plan ≡ l.chip.inside.plan
+at_its_start l a = subst (λ (m : Live). at_start m.chip.inside.plan ≡ m.chip.inside.plan) (sym a.is) (ap (λ place. record a.plan { place = place }) (sym a.first))
+
+pub fresh_offers : LoadedChipsOffer
+fresh_offers l a = rw (at_its_start l a) (plan_offers l a)
 
 -- ---- rounds alone
-
-fresh_offers : (l : Live) → AsLoaded l → TurnsOffered l.chip.inside.plan l.chip
-fresh_offers l a = subst (λ (m : Live). TurnsOffered m.chip.inside.plan m.chip) (sym a.is) (board_offers _ _)
 
 pub rounds_offer : RoundsOfferTurns
 rounds_offer l rises c a passed =
     subst (λ (i : Inside). TurnsOffered l.chip.inside.plan (record { tck = c.tck; port = c.port; inside = i })) (sym passed)
-    (ticks_offered l.chip.inside.plan rises l.chip.tck c.tck l.chip.port c.port l.chip.inside (fresh_offers l a))
+    (ticks_offered l.chip.inside.plan rises l.chip.tck c.tck l.chip.port c.port l.chip.inside (plan_offers l a))

@@ -1,14 +1,13 @@
 -- The turns that a chip's harts had are exactly those that its schedule offered: of each round that was taken, the turns of harts that are there, in order.
 -- So nothing but the schedule gives a hart time; the standard has no word for it.
-use Rattle.std.specs.Prelude.{◌≡◌, ℕ, zero, suc, List, [], ◌∷◌, ◌++◌, length, if◌then◌else◌, nat_lt}
+use Rattle.std.specs.Prelude.{◌≡◌, ◌&&◌, ℕ, zero, suc, Bool, List, [], ◌∷◌, ◌++◌, length, if◌then◌else◌, nat_eq, nat_lt}
+use Rattle.std.specs.Str.{bytes_eq as same_numbers}
 use Rattle.debug_model.specs.declared.event.Event.{Event}
 use Rattle.debug_model.specs.declared.event.Event.TheVariants as event
 use Rattle.debug_model.specs.declared.point.Point.{Point}
 use Rattle.debug_model.specs.declared.point.Point.TheVariants.{Turn, Look, HaltReq, HaltClear, ResumeReq, Access}
-use Rattle.debug_model.specs.Chip.{Chip, Live}
-use Rattle.debug_model.specs.Loaded.{AsLoaded}
-use Rattle.debug_model.specs.Scan.{ticks}
-use Rattle.debug_model.specs.Schedule.{Plan, round_of, moved}
+use Rattle.debug_model.specs.Chip.{Chip}
+use Rattle.debug_model.specs.Schedule.{Plan, at_start, round_of, moved}
 
 -- ---- the turns in a journal
 
@@ -56,8 +55,23 @@ pub record TurnsOffered (first : Plan) (c : Chip) : Type 0 where
   pub turns : turns_of c.inside.works.site.journal ≡ offered (length c.inside.works.site.board.harts) (first_rounds c.inside.works.counts.rounds first)
   pub plan : c.inside.plan ≡ moved_on c.inside.works.counts.rounds first
 
--- ---- law
+-- ---- from the list's first round on
 
--- a chip that comes by rounds of its schedule alone from one as it was loaded, whatever clock and TAP did meanwhile
-abbrev pub RoundsOfferTurns : Type 0
-RoundsOfferTurns = (l : Live) (rises : ℕ) (c : Chip) → AsLoaded l → c.inside ≡ ticks rises l.chip.inside → TurnsOffered l.chip.inside.plan c
+abbrev pub HasOfferedTurns : Chip → Type 0
+HasOfferedTurns c = TurnsOffered (at_start c.inside.plan) c
+
+-- whether it is so
+abbrev pub has_offered_turns : Chip → Bool
+has_offered_turns c =
+    let first : Plan = at_start c.inside.plan in
+    let rounds : ℕ = c.inside.works.counts.rounds in
+    nat_eq c.inside.plan.place (moved_on rounds first).place
+    && same_numbers (turns_of c.inside.works.site.journal) (offered (length c.inside.works.site.board.harts) (first_rounds rounds first))
+
+-- what no byte changes of a chip's schedule: its list of rounds, and whether the harts have had just the turns that these offered
+pub record Timing : Type 0 where
+  pub rounds : List (List Event)
+  pub offered : Bool
+
+abbrev pub timing_of : Chip → Timing
+timing_of c = record { rounds = c.inside.plan.rounds; offered = has_offered_turns c }
