@@ -1,8 +1,8 @@
-pub mod Idcodes
 pub mod OnBenches
 pub mod Prepares
 pub mod Puts
 pub mod Runs
 pub mod ServedPieces
 pub mod Serves
-pub mod Stood
+pub mod Answered
+pub mod Headlines

@@ -1,7 +1,17 @@
 -- Pieces that a sink takes one after another, and where one of them fails.
 use Rattle.std.proofs.Common.{◌≡◌, ◌∙◌, ℕ, List, [], ◌++◌, Option, Some, None, ap, subst, append_assoc, append-nil}
 use Rattle.jt_base.specs.Sink.{grown, GrewByPrefix}
-use Rattle.jtag_bench.proofs.Stood.{grew_behind, grown_twice}
+use Rattle.probe_session.proofs.Spoken.{grown_twice}
+
+-- bytes that were taken whole, and then a front of what comes next
+grew_behind : (xs ys zs : List ℕ) (held new : Option (List ℕ)) → GrewByPrefix ys (grown xs held) new → GrewByPrefix (xs ++ (ys ++ zs)) held new
+grew_behind xs ys zs None new g = g
+grew_behind xs ys zs (Some hs) new g = record {
+  front = xs ++ g.front;
+  back = g.back ++ zs;
+  cut = ap (λ part. xs ++ (part ++ zs)) g.cut ∙ simp append_assoc;
+  is = g.is ∙ ap Some (append_assoc hs xs g.front);
+}
 
 -- a front of the first piece is one of all of them
 pub first_failed : (xs zs : List ℕ) (held new : Option (List ℕ)) → GrewByPrefix xs held new → GrewByPrefix (xs ++ zs) held new

@@ -1,67 +1,25 @@
 -- How a session and a run end, over plain variables.
-use Rattle.std.proofs.Common.{◌≡◌, ◌≤◌, ◌∙◌, ◌++◌, ℕ, List, Option, Some, None, IfSome, sym, ap, subst}
-use Rattle.debug_model.specs.declared.chip_end.ChipEnd.TheVariants.{AtLimit, Quitted}
+use Rattle.std.proofs.Common.{◌≡◌, ◌∙◌, ℕ, List, Option, Some, None, IfSome, sym, subst}
 use Rattle.debug_model.specs.declared.command.Command.{Command}
 use Rattle.debug_model.specs.Chip.{Live}
 use Rattle.jt_base.specs.Faults.{Rises}
 use Rattle.jt_base.specs.Files.{NamedFile}
 use Rattle.jt_base.specs.Sink.{grown, GrewByPrefix}
-use Rattle.jtag_bench.specs.Ended.{CutBefore, Ended, IsFresh, Left, Prepared, PrintedBefore, Session}
+use Rattle.jtag_bench.specs.Ended.{Ended, IsFresh, Prepared}
 use Rattle.jtag_bench.specs.Ended.Ended.{refused, ran, served}
-use Rattle.jtag_bench.specs.Ended.Session.{clean, limit, unwritten, unwritten_last}
 use Rattle.jtag_bench.specs.First.{first_chip}
-use Rattle.jtag_bench.specs.LastLine.{Closed, event_limit}
+use Rattle.jtag_bench.specs.Headline.{Session}
+use Rattle.jtag_bench.specs.LastLine.{Closed}
 use Rattle.jtag_bench.specs.LastLine.Closed.{said, unsaid}
-use Rattle.jtag_bench.specs.OnBench.{PrintedFront}
 use Rattle.jtag_bench.specs.Outside.{Outside, SinkSeen}
 use Rattle.jtag_bench.specs.Refusal.{ChipCause, JobCause, Refused, WordsCause, asked_both, asked_image}
 use Rattle.jtag_bench.specs.Refusal.RefusalCause.{of_chip, of_job, of_words}
 use Rattle.jtag_bench.specs.ServedChip.{EndedChip, PreparedChip, ServedAt}
 use Rattle.jtag_bench.specs.ServedChip.EndedChip.{refused as refused_chip, served as served_chip}
-use Rattle.jtag_bench.specs.Session.{text_printed}
 use Rattle.jtag_bench.specs.Words.{Both, Chip, both_job, chip_job}
 use Rattle.jtag_bench.specs.declared.refusal.Refusal.{Refusal}
 use Rattle.jtag_bench.specs.declared.status.Status.{Status}
-use Rattle.jtag_bench.specs.declared.status.Status.TheVariants.{Clean, EventLimit, Sink}
-use Rattle.jtag_bench.proofs.Stood.{grew_on, grown_twice}
-use Rattle.jt_base.proofs.FaultLemmas.{rises_from}
-
--- ---- a session
-
-pub clean_ended : (commands : List Command) (old new : Option Live) (s t : SinkSeen) → t.printed ≡ grown (text_printed commands) s.printed → IfSome old (λ first. Left first Quitted new)
-    → IfSome old (λ first. Session first commands s t new Clean)
-clean_ended commands None new s t put left = tt
-clean_ended commands (Some first) new s t put left = clean put left
-
-pub sink_ended : (commands : List Command) (old new : Option Live) (s t : SinkSeen) → GrewByPrefix (text_printed commands) s.printed t.printed → Rises s.faults t.faults → IfSome old (λ first. Left first Quitted new)
-    → IfSome old (λ first. Session first commands s t new Sink)
-sink_ended commands None new s t wrote rises left = tt
-sink_ended commands (Some first) new s t wrote rises left = unwritten wrote rises left
-
-limit_line : (whole : List ℕ) (before mid after : Option (List ℕ)) → PrintedFront whole before mid → after ≡ grown event_limit mid → PrintedBefore event_limit whole before after
-limit_line whole before mid after p put = record { front = p.front; back = p.back; cut = p.cut; put = put ∙ ap (grown event_limit) p.put ∙ grown_twice p.front event_limit before }
-
-pub limit_ended : (commands : List Command) (old new : Option Live) (s : SinkSeen) (mid : Option (List ℕ)) (t : SinkSeen) → PrintedFront (text_printed commands) s.printed mid → t.printed ≡ grown event_limit mid → IfSome old (λ first. Left first AtLimit new)
-    → IfSome old (λ first. Session first commands s t new EventLimit)
-limit_ended commands None new s mid t p put left = tt
-limit_ended commands (Some first) new s mid t p put left = limit (limit_line (text_printed commands) s.printed mid t.printed p put) left
-
-line_lost : (whole : List ℕ) (before mid after : Option (List ℕ)) → PrintedFront whole before mid → GrewByPrefix event_limit mid after → CutBefore event_limit whole before after
-line_lost whole before mid after p wrote = record {
-  front = p.front;
-  back = p.back;
-  cut = p.cut;
-  put = grew_then p.front event_limit before mid after p.put wrote;
-}
-  where
-    grew_then : (xs ys : List ℕ) (before mid after : Option (List ℕ)) → mid ≡ grown xs before → GrewByPrefix ys mid after → GrewByPrefix (xs ++ ys) before after
-    grew_then xs ys before mid after is g = grew_on xs ys before after (subst (λ m. GrewByPrefix ys m after) is g)
-
-pub limit_lost : (commands : List Command) (old new : Option Live) (s : SinkSeen) (mid : Option (List ℕ)) (between : ℕ) (t : SinkSeen) → PrintedFront (text_printed commands) s.printed mid → GrewByPrefix event_limit mid t.printed
-    → s.faults ≤ between → between ≤ t.faults → Rises between t.faults → IfSome old (λ first. Left first AtLimit new)
-    → IfSome old (λ first. Session first commands s t new Sink)
-limit_lost commands None new s mid between t p wrote later more rises left = tt
-limit_lost commands (Some first) new s mid between t p wrote later more rises left = unwritten_last (line_lost (text_printed commands) s.printed mid t.printed p wrote) (rises_from s.faults between t.faults later more rises) left
+use Rattle.jtag_bench.specs.declared.status.Status.TheVariants.{Sink}
 
 -- ---- a last line
 

@@ -9,6 +9,8 @@ use Rattle.debug_model.specs.Spelling.{hexadecimal}
 use Rattle.debug_model.specs.declared.script_error.ScriptError.{ScriptError}
 use Rattle.debug_model.specs.declared.wire.WireFault.{WireFault}
 use Rattle.debug_model.specs.declared.wire.WireFault.TheVariants.{SendFailed, RecvFailed, Ended, BadAnswer}
+use Rattle.probe_session.specs.declared.fault.LostCause.{LostCause}
+use Rattle.probe_session.specs.declared.fault.LostCause.TheVariants.{DmiFailed, StillBusy, NoHalt, NoAck, Odd}
 use Rattle.jt_base.specs.Faults.{Rises}
 use Rattle.jt_base.specs.Sink.{grown, GrewByPrefix}
 use Rattle.jtag_bench.specs.Outside.{SinkSeen}
@@ -44,6 +46,16 @@ failed_at (BadAnswer byte) = codes "answer 0x" ++ hexadecimal 2 byte
 
 abbrev pub wire_failed : WireFault → List ℕ
 wire_failed fault = codes "wire failed: " ++ failed_at fault ++ line_feed ∷ []
+
+abbrev pub lost_by : LostCause → List ℕ
+lost_by DmiFailed = codes "dmi failed"
+lost_by StillBusy = codes "still busy"
+lost_by (NoHalt looks) = codes "no halt after " ++ decimal looks ++ codes " looks"
+lost_by (NoAck looks) = codes "no resume after " ++ decimal looks ++ codes " looks"
+lost_by (Odd word) = codes "register 0x" ++ hexadecimal 8 word
+
+abbrev pub lost_line : LostCause → List ℕ
+lost_line cause = codes "lost: " ++ lost_by cause ++ line_feed ∷ []
 
 -- a byte that is no sign, and its place in the whole stream
 abbrev pub bad_byte : ℕ → ℕ → List ℕ

@@ -1,5 +1,6 @@
 pub mod Ended
 pub mod First
+pub mod Headline
 pub mod LastLine
 pub mod OnBench
 pub mod Outside

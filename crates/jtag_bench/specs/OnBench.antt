@@ -1,48 +1,33 @@
--- What the commands of a script did to the chip on a bench, before its stream is ended and the program says its last line.
+-- What a session did to the chip on a bench, before its stream is ended and the program says its last line.
 -- The program is this project's own.
-use Rattle.std.specs.Prelude.{◌≡◌, ◌++◌, ℕ, List, None, Option, Some, IfSome}
-use Rattle.debug_model.specs.declared.chip_end.ChipEnd.TheVariants.{AtLimit, Quitted}
+use Rattle.std.specs.Prelude.{◌≡◌, Bool, true, List, Option, Some, None}
 use Rattle.debug_model.specs.declared.command.Command.{Command}
 use Rattle.debug_model.specs.Chip.{Live}
-use Rattle.debug_model.specs.Scan.{ticks}
-use Rattle.jt_base.specs.Faults.{Rises}
-use Rattle.jt_base.specs.Sink.{grown, GrewByPrefix}
-use Rattle.jtag_bench.specs.Ended.{Left}
-use Rattle.jtag_bench.specs.Session.{text_printed}
-use Rattle.jtag_bench.specs.declared.failure.Failure.{Failure}
-use Rattle.jtag_bench.specs.declared.failure.Failure.TheVariants.{Wire, Sink}
+use Rattle.debug_model.specs.Offered.{timing_of}
+use Rattle.debug_model.specs.Told.{Far, StaysOpen, chip_of, read_out}
+use Rattle.probe_run.specs.Acts.{tells}
+use Rattle.probe_session.specs.declared.ended.Ended.{Ended as End}
+use Rattle.probe_session.specs.declared.ended.Ended.TheVariants as ends
+use Rattle.probe_session.specs.Scripts.{EndedAs}
+use Rattle.probe_session.specs.Transcribed.{WrittenAs}
+use Rattle.chip_core.specs.Feeds.{is_limit}
+use Rattle.jtag_bench.specs.Outside.{SinkSeen}
 
--- rounds have passed at the chip that the bench had first, and nothing else
-pub record PassedOn (bench : Option Live) (first : Live) : Type 0 where
-  pub live : Live
-  pub is : bench ≡ Some live
-  pub rises : ℕ
-  pub passed : live.chip.inside ≡ ticks rises first.chip.inside
+-- no register of a chip on a bench is refused, and no wire to it fails before the limit
+abbrev pub IsBenchEnd : End → (limit : Bool) → Type 0
+IsBenchEnd ends.Clean limit = Unit {0}
+IsBenchEnd ends.WithErrors limit = Unit {0}
+IsBenchEnd (ends.Target fault) limit = ⊥
+IsBenchEnd (ends.Wire why) limit = limit ≡ true
+IsBenchEnd (ends.Lost why) limit = Unit {0}
+IsBenchEnd ends.Sink limit = Unit {0}
 
--- what is on the bench has not ended
-abbrev pub IsUnended : Option Live → Type 0
-IsUnended bench = IfSome bench (λ l. l.ended ≡ None)
-
-abbrev pub IsAtLimit : Option Live → Type 0
-IsAtLimit bench = IfSome bench (λ l. l.ended ≡ Some AtLimit)
-
--- a session that failed: at the limit the wire fails, and at no other time
-abbrev pub EndAfter : Option Live → Failure → Type 0
-EndAfter bench (Wire fault) = IsAtLimit bench
-EndAfter bench Sink = IsUnended bench
-
--- whole lines, the first ones of the session's
-pub record PrintedFront (whole : List ℕ) (before after : Option (List ℕ)) : Type 0 where
-  pub front : List ℕ
-  pub back : List ℕ
-  pub cut : whole ≡ front ++ back
-  pub put : after ≡ grown front before
-
-abbrev pub PrintedAfter : List Command → Option (List ℕ) → Option (List ℕ) → ℕ → ℕ → Failure → Type 0
-PrintedAfter commands before after old new (Wire fault) = PrintedFront (text_printed commands) before after
-PrintedAfter commands before after old new Sink = GrewByPrefix (text_printed commands) before after × Rises old new
-
--- and behind the end of the stream
-abbrev pub LeftAfter : Option Live → Option Live → Failure → Type 0
-LeftAfter old new (Wire fault) = IfSome old (λ first. Left first AtLimit new)
-LeftAfter old new Sink = IfSome old (λ first. Left first Quitted new)
+-- the session over the chip that the bench had first
+pub record Ran (first : Live) (script : List Command) (old new : SinkSeen) (bench : Option Live) (end : End) : Type 0 where
+  pub last : Far
+  pub is : bench ≡ Some last.live
+  pub ended : EndedAs script 0 0 (tells (Some (read_out first)) None) (tells (Some last) None) old.faults new.faults old.printed new.printed end
+  pub written : WrittenAs script old.printed new.printed (read_out first) last end
+  pub timing : timing_of (chip_of last) ≡ timing_of first.chip
+  pub stays_open : StaysOpen last.live.ended
+  pub possible : IsBenchEnd end (is_limit last.live.ended)

@@ -1,16 +1,26 @@
 //! The text of the last lines that a run prints.
 
-ghost use Rattle.std.specs.Prelude.{◌≡◌, ◌≤◌, ◌+◌, ◌++◌, decimal};
+ghost use Rattle.std.specs.Prelude.{◌≡◌, ◌≤◌, ◌+◌, ◌++◌, codes, decimal, length};
 ghost use Rattle.arrayvec.specs.ArrayVec.{array_vec_len};
-ghost use Rattle.jtag_bench.specs.LastLine.{bad_byte, failed_at, image_refused, script_refused, wire_failed};
+ghost use Rattle.jtag_bench.specs.LastLine.{bad_byte, failed_at, image_refused, lost_by, lost_line, script_refused, wire_failed};
 
 use chip_core::LoadFault;
 use debug_model::{ScriptError, WireFault};
 use itoa::Buffer;
 use printed_lines::{LINE_MOST, LineText, push_decimal, push_hex, push_word};
+use probe_session::LostCause;
 
 /// The digits of a byte.
 const BYTE_DIGITS: u8 = 2;
+
+/// The digits of a word.
+const WORD_DIGITS: u8 = 8;
+
+/// The most bytes of what several Looks did not see.
+const UNSEEN_MOST: usize = 16;
+
+/// The most bytes of why a session was lost.
+const LOST_BY_MOST: usize = 32;
 
 /// The most digits of a `u64` in decimal.
 const PLACE_MOST: usize = 20;
@@ -66,6 +76,47 @@ pub fn wire_failed_line(fault: WireFault) -> LineText
     let mut text = LineText::new();
     push_word(&mut text, b"wire failed: ");
     push_failed_at(&mut text, fault);
+    text.push(b'\n');
+    text
+}
+
+/// Appends why a session was lost.
+fn push_lost_by(text: &mut LineText, cause: LostCause)
+    requires { array_vec_len text.old + LOST_BY_MOST ≤ LINE_MOST }
+    ensures cause { text.new.items ≡ text.old.items ++ lost_by cause }
+    ensures room { array_vec_len text.new ≤ array_vec_len text.old + LOST_BY_MOST }
+{
+    match cause {
+        LostCause::DmiFailed => push_word(text, b"dmi failed"),
+        LostCause::StillBusy => push_word(text, b"still busy"),
+        LostCause::NoHalt(looks) => push_looks(text, b"no halt after ", looks),
+        LostCause::NoAck(looks) => push_looks(text, b"no resume after ", looks),
+        LostCause::Odd(word) => {
+            push_word(text, b"register 0x");
+            push_hex(text, WORD_DIGITS, u64::from(word));
+        }
+    }
+}
+
+/// Appends what was not seen, and by how many Looks.
+fn push_looks(text: &mut LineText, unseen: &[u8], looks: u32)
+    requires short { length unseen.now ≤ UNSEEN_MOST }
+    requires room { array_vec_len text.old + LOST_BY_MOST ≤ LINE_MOST }
+    ensures looks { text.new.items ≡ text.old.items ++ (unseen.now ++ decimal looks ++ codes " looks") }
+    ensures room { array_vec_len text.new ≤ array_vec_len text.old + LOST_BY_MOST }
+{
+    push_word(text, unseen);
+    push_decimal(text, looks);
+    push_word(text, b" looks");
+}
+
+/// The last line of a run whose session was lost.
+pub fn lost_line(cause: LostCause) -> LineText
+    ensures { result.items ≡ lost_line cause }
+{
+    let mut text = LineText::new();
+    push_word(&mut text, b"lost: ");
+    push_lost_by(&mut text, cause);
     text.push(b'\n');
     text
 }

@@ -3,7 +3,6 @@
 
 mod both_with;
 mod chip;
-mod failure;
 mod last_line;
 mod lines;
 mod prepare;

@@ -1,7 +1,6 @@
 //! What is read and judged before a session, and before a chip is served.
 
-ghost use Rattle.std.specs.Prelude.{◌≡◌, ◌≤◌, IfOk, IfErr, IfSome, OnErr, OnOk, Some, true};
-ghost use Rattle.std.specs.List.{list_all};
+ghost use Rattle.std.specs.Prelude.{◌≡◌, ◌≤◌, IfOk, IfErr, IfSome, OnErr, OnOk, Some};
 ghost use Rattle.chip_core.specs.Loads.{IsFirst};
 ghost use Rattle.debug_model.specs.Loaded.{AsLoaded};
 ghost use Rattle.jt_base.specs.Files.{Holds, asked_more};
@@ -9,7 +8,6 @@ ghost use Rattle.jtag_bench.specs.Ended.{Prepared};
 ghost use Rattle.jtag_bench.specs.First.{CanLoad, first_chip};
 ghost use Rattle.jtag_bench.specs.Refusal.{ChipCause, HoldsScript, ImageFileCause, JobCause, LoadCause, ScriptFileCause, asked_both, asked_image};
 ghost use Rattle.jtag_bench.specs.ServedChip.{PreparedChip};
-ghost use Rattle.jtag_bench.specs.Session.{is_built};
 ghost use Rattle.jtag_bench.specs.Words.{chip_value, plan_of, start_of, value_of};
 ghost use Rattle.jtag_words.specs.Words.{InRange, least_busy, most_busy};
 
@@ -37,7 +35,6 @@ fn load_script<'a, F: Files>(
     name: &'a str,
 ) -> Result<Script, Refusal<'a>>
     ensures commands { IfOk result (HoldsScript (F.held files.old) name.now) }
-    ensures built { IfOk result (λ script. list_all is_built script ≡ true) }
     ensures cause { IfErr result (ScriptFileCause name.now (record { held = F.held files.old; asked = F.asked files.old; faults = F.fault_count files.old }) (record { held = F.held files.new; asked = F.asked files.new; faults = F.fault_count files.new })) }
     ensures held { F.held files.new ≡ F.held files.old }
     ensures asked { OnOk result (F.asked files.new ≡ asked_more name.now (F.asked files.old)) }
@@ -144,7 +141,6 @@ pub fn prepare<'a, F: Files>(
 ) -> Result<Script, Refusal<'a>>
     requires busy { InRange least_busy most_busy job.now.options.busy }
     ensures prepared { IfOk result (λ script. Prepared (value_of job.now) (F.held files.old) script bench.new) }
-    ensures built { IfOk result (λ script. list_all is_built script ≡ true) }
     ensures asked { OnOk result (F.asked files.new ≡ asked_both (value_of job.now) (record { held = F.held files.old; asked = F.asked files.old; faults = F.fault_count files.old })) }
     ensures cause { IfErr result (JobCause (value_of job.now) (record { held = F.held files.old; asked = F.asked files.old; faults = F.fault_count files.old }) (record { held = F.held files.new; asked = F.asked files.new; faults = F.fault_count files.new })) }
     ensures kept { OnErr result (bench.new ≡ bench.old) }

@@ -1,110 +1,68 @@
-//! A session: the commands of a script, run over any wire.
+//! A session over a wire.
 
-ghost use Rattle.std.specs.Prelude.{◌≡◌, ◌≤◌, IfOk, IfErr, IfSome, IsTrue, OnOk, option_map};
-ghost use Rattle.jt_base.specs.Sink.{grown};
-ghost use Rattle.debugger_laws.specs.Lines.{text_of};
-ghost use Rattle.debugger_laws.specs.Lines.Line.{Idcode};
-ghost use Rattle.std.specs.List.{list_all};
-ghost use Rattle.debug_model.specs.Scan.{Answers, ScanCause, WhereTold};
-ghost use Rattle.debug_model.specs.Tap.{idcode};
-ghost use Rattle.jtag_bench.specs.Session.{CanScan, CanScanAfter, Cut, FailedIdcode, FailureCause, HeardOne, Ran, RoundsAlone, is_built};
+ghost use Rattle.std.specs.Prelude.{◌≡◌, ◌≤◌, option_map};
+ghost use Rattle.debug_model.specs.Dmi.{CanOperate};
+ghost use Rattle.debug_model.specs.Dmi.DmiScript.{Scans};
+ghost use Rattle.debug_model.specs.Told.{IsAsLoaded};
+ghost use Rattle.jtag_bench.specs.Session.{LeavesWire, told_by};
+ghost use Rattle.probe_run.specs.Acts.{tells};
+ghost use Rattle.probe_session.specs.Causes.{EndCaused};
+ghost use Rattle.probe_session.specs.Scripts.{EndedAs};
+ghost use Rattle.probe_session.specs.Transcribed.{TranscribedAs};
 
-use crate::failure::Failure;
-use debug_model::{Command, Scan, Wire, WireFault};
-use jt_base::{Bits, Sink};
-use printed_lines::Line;
+use debug_model::{Scan, Script, Wire};
+use jt_base::Sink;
+use probe_dmi::Link;
 use probe_scan::Scanner;
+use probe_session::{Ended, run_script};
 
-/// The bits of the device identification register.
-const IDCODE_BITS: u8 = 32;
-
-/// Resets the TAP, which selects its IDCODE, and reads it.
-fn read_idcode<S: Scan>(scan: &mut S) -> Result<u32, WireFault>
-    requires ready { CanScan (S.far scan.old) }
-    ensures told { IfOk result (λ number. IfSome (S.far scan.old) (λ _. number ≡ idcode)) }
-    ensures heard { IfOk result (λ number. HeardOne number (S.script scan.old) (S.script scan.new)) }
-    ensures passed { WhereTold RoundsAlone (S.far scan.old) (S.far scan.new) }
-    ensures ready { OnOk result (CanScan (S.far scan.new)) }
-    ensures later { S.fault_count scan.old ≤ S.fault_count scan.new }
-    ensures cause { IfErr result (ScanCause (S.fault_count scan.old) (S.fault_count scan.new) (S.far scan.new) (S.script scan.old)) }
-    ensures ties { S.ties scan.new ≡ S.ties scan.old }
-{
-    scan.reset()?;
-    let out = scan.dr(Bits::from_u64(0, IDCODE_BITS))?;
-    let number = out.value() as u32;
-    Ok(number)
-}
-
-/// Reads the IDCODE and puts its line. It answers the number that is printed.
-fn print_idcode<S: Scan, K: Sink>(scan: &mut S, out: &mut K) -> Result<u32, Failure>
-    requires ready { CanScan (S.far scan.old) }
-    ensures told { IfOk result (λ number. IfSome (S.far scan.old) (λ _. number ≡ idcode)) }
-    ensures heard { IfOk result (λ number. HeardOne number (S.script scan.old) (S.script scan.new)) }
-    ensures put { IfOk result (λ number. K.contents out.new ≡ grown (text_of (Idcode number)) (K.contents out.old)) }
-    ensures failed { IfErr result (FailedIdcode (S.far scan.old) (S.script scan.old) (S.script scan.new) (K.contents out.old) (K.contents out.new)) }
-    ensures passed { WhereTold RoundsAlone (S.far scan.old) (S.far scan.new) }
-    ensures ready { OnOk result (CanScan (S.far scan.new)) }
-    ensures ready_after { IfErr result (CanScanAfter (S.far scan.new)) }
-    ensures cause { IfErr result (FailureCause (S.fault_count scan.old) (S.fault_count scan.new) (S.far scan.new) (S.script scan.old) (K.fault_count out.old) (K.fault_count out.new)) }
-    ensures scan_later { S.fault_count scan.old ≤ S.fault_count scan.new }
+/// Runs a script over these scans, puts its lines, and hands the scans back.
+fn run_over_scans<S: Scan, K: Sink>(scan: S, script: &Script, out: &mut K) -> (Ended, S)
+    requires link { CanOperate (S.far scan) }
+    requires loaded { IsAsLoaded (S.far scan) }
+    ensures ended { EndedAs script.now (S.fault_count scan) (S.fault_count result.1) (tells (S.far scan) (option_map Scans (S.script scan))) (tells (S.far result.1) (option_map Scans (S.script result.1))) (K.fault_count out.old) (K.fault_count out.new) (K.contents out.old) (K.contents out.new) result.0 }
+    ensures cause { EndCaused (S.fault_count scan) (S.fault_count result.1) (S.far result.1) result.0 }
+    ensures transcribed { TranscribedAs script.now (K.contents out.old) (K.contents out.new) (S.far scan) (S.far result.1) result.0 }
+    ensures leaves { LeavesWire (S.far result.1) result.0 }
+    ensures later { S.fault_count scan ≤ S.fault_count result.1 }
+    ensures ties { S.ties result.1 ≡ S.ties scan }
     ensures sink_later { K.fault_count out.old ≤ K.fault_count out.new }
-    ensures ties { S.ties scan.new ≡ S.ties scan.old }
 {
-    let number = read_idcode(scan)?;
-    let text = Line::Idcode(number).text();
-    out.put(&text)?;
-    Ok(number)
+    let mut link = Link::new(scan);
+    let ended = run_script(&mut link, script, out);
+    (ended, link.into_scan())
 }
 
-/// Does the commands of a script up to `end`, and puts a line for each.
-fn run_commands<S: Scan, K: Sink>(
-    scan: &mut S,
-    script: &[Command],
-    out: &mut K,
-) -> Result<(), Failure>
-    requires built { IsTrue (list_all is_built script.now) }
-    requires ready { CanScan (S.far scan.old) }
-    ensures ran { OnOk result (Ran script.now (S.far scan.old) (S.far scan.new) (S.script scan.old) (S.script scan.new) (K.contents out.old) (K.contents out.new)) }
-    ensures cut { IfErr result (λ failure. Cut script.now failure (S.far scan.old) (S.far scan.new) (S.script scan.old) (K.contents out.old) (K.contents out.new)) }
-    ensures ready { OnOk result (CanScan (S.far scan.new)) }
-    ensures ready_after { IfErr result (CanScanAfter (S.far scan.new)) }
-    ensures cause { IfErr result (FailureCause (S.fault_count scan.old) (S.fault_count scan.new) (S.far scan.new) (S.script scan.old) (K.fault_count out.old) (K.fault_count out.new)) }
+/// Runs a script over this wire, puts its lines, and hands the wire back.
+fn run_over_wire<W: Wire, K: Sink>(wire: W, script: &Script, out: &mut K) -> (Ended, W)
+    requires link { CanOperate (W.far wire) }
+    requires loaded { IsAsLoaded (W.far wire) }
+    ensures ended { EndedAs script.now (W.fault_count wire) (W.fault_count result.1) (told_by (W.far wire) (W.coming wire)) (told_by (W.far result.1) (W.coming result.1)) (K.fault_count out.old) (K.fault_count out.new) (K.contents out.old) (K.contents out.new) result.0 }
+    ensures cause { EndCaused (W.fault_count wire) (W.fault_count result.1) (W.far result.1) result.0 }
+    ensures transcribed { TranscribedAs script.now (K.contents out.old) (K.contents out.new) (W.far wire) (W.far result.1) result.0 }
+    ensures leaves { LeavesWire (W.far result.1) result.0 }
+    ensures later { W.fault_count wire ≤ W.fault_count result.1 }
+    ensures ties { W.ties result.1 ≡ W.ties wire }
     ensures sink_later { K.fault_count out.old ≤ K.fault_count out.new }
-    ensures ties { S.ties scan.new ≡ S.ties scan.old }
 {
-    let mut rest = script;
-    'commands: while let Some((command, after)) = rest.split_first() {
-        match command {
-            Command::Idcode => {
-                print_idcode(scan, out)?;
-                rest = after;
-            }
-            Command::End => return Ok(()),
-            _ => unreachable!(),
-        }
-    }
-    Ok(())
+    let (ended, scan) = run_over_scans(Scanner::new(wire), script, out);
+    (ended, scan.into_wire())
 }
 
-/// Runs the commands of a script up to `end` over any wire, and puts a line for each.
+/// Runs a script over any wire, and puts its lines. It takes no memory.
 ///
-/// The commands are all built; where the wire tells its chip, no `Q` and no bad byte has ended it, no answer is unread, TRST is 0 and the TAP stands in
-/// Test-Logic-Reset or in Run-Test/Idle.
-pub fn session<W: Wire, K: Sink>(
-    wire: &mut W,
-    script: &[Command],
-    out: &mut K,
-) -> Result<(), Failure>
-    requires built { IsTrue (list_all is_built script.now) }
-    requires ready { CanScan (W.far wire.old) }
-    ensures ran { OnOk result (Ran script.now (W.far wire.old) (W.far wire.new) (option_map Answers (W.coming wire.old)) (option_map Answers (W.coming wire.new)) (K.contents out.old) (K.contents out.new)) }
-    ensures cut { IfErr result (λ failure. Cut script.now failure (W.far wire.old) (W.far wire.new) (option_map Answers (W.coming wire.old)) (K.contents out.old) (K.contents out.new)) }
-    ensures ready { OnOk result (CanScan (W.far wire.new)) }
-    ensures ready_after { IfErr result (CanScanAfter (W.far wire.new)) }
-    ensures cause { IfErr result (FailureCause (W.fault_count wire.old) (W.fault_count wire.new) (W.far wire.new) (option_map Answers (W.coming wire.old)) (K.fault_count out.old) (K.fault_count out.new)) }
-    ensures sink_later { K.fault_count out.old ≤ K.fault_count out.new }
+/// Where the wire tells its chip, that is as it was loaded, and no answer is unread.
+pub fn session<W: Wire, K: Sink>(wire: &mut W, script: &Script, out: &mut K) -> Ended
+    requires link { CanOperate (W.far wire.old) }
+    requires loaded { IsAsLoaded (W.far wire.old) }
+    ensures ended { EndedAs script.now (W.fault_count wire.old) (W.fault_count wire.new) (told_by (W.far wire.old) (W.coming wire.old)) (told_by (W.far wire.new) (W.coming wire.new)) (K.fault_count out.old) (K.fault_count out.new) (K.contents out.old) (K.contents out.new) result }
+    ensures cause { EndCaused (W.fault_count wire.old) (W.fault_count wire.new) (W.far wire.new) result }
+    ensures transcribed { TranscribedAs script.now (K.contents out.old) (K.contents out.new) (W.far wire.old) (W.far wire.new) result }
+    ensures leaves { LeavesWire (W.far wire.new) result }
+    ensures later { W.fault_count wire.old ≤ W.fault_count wire.new }
     ensures ties { W.ties wire.new ≡ W.ties wire.old }
+    ensures sink_later { K.fault_count out.old ≤ K.fault_count out.new }
 {
-    let mut scan = Scanner::new(wire);
-    run_commands(&mut scan, script, out)
+    let (ended, _wire) = run_over_wire(wire, script, out);
+    ended
 }

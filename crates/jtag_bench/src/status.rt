@@ -4,8 +4,10 @@ ghost use Rattle.jtag_bench.specs.Status.{code_of};
 /// How a run ended.
 #[derive(Clone, Copy, Debug, PartialEq, Eq)]
 pub enum Status {
-    /// The session ran to its end.
+    /// The session ran to its end, and no line says an error.
     Clean,
+    /// The session ran to its end, and some line says an error.
+    WithErrors,
     /// The words were refused.
     Words,
     /// A file could not be read.
@@ -14,10 +16,14 @@ pub enum Status {
     Script,
     /// The image was refused.
     Image,
-    /// The net failed.
+    /// A register of the chip is not as the opening of a session asks.
+    Target,
+    /// The wire or the net failed.
     Wire,
     /// Not all of the output could be written.
     Sink,
+    /// The session was lost: the chip may have been left in the middle of a command.
+    Lost,
     /// The chip met its limit of events.
     EventLimit,
     /// No memory was left before the session.
@@ -33,12 +39,15 @@ impl Status {
     {
         match self {
             Status::Clean => 0,
+            Status::WithErrors => 1,
             Status::Words => 2,
             Status::File => 3,
             Status::Script => 4,
             Status::Image => 5,
+            Status::Target => 6,
             Status::Wire => 7,
             Status::Sink => 8,
+            Status::Lost => 9,
             Status::EventLimit => 10,
             Status::OutOfMemory => 11,
             Status::BadByte => 12,

@@ -2,6 +2,7 @@
 
 ghost use Rattle.std.specs.Prelude.{◌≡◌, None, IfOk};
 
+mod ended;
 mod served;
 
 use crate::run::run;
@@ -159,10 +160,10 @@ fn scripts_are_run_or_refused(rt: HostRuntime) -> Result<(), Fail> {
             "script refused: line 2 fault 6\n",
         ),
         (
-            b"",
-            b"idcode\nstate\n",
-            Status::Script,
-            "script refused: line 0 fault 2\n",
+            PROGRAM,
+            b"state\nhart 1\n",
+            Status::WithErrors,
+            "running\nerror: no hart 1\n",
         ),
         (
             b"x",
@@ -283,40 +284,41 @@ fn an_image_fits_into_ram_or_is_refused(rt: HostRuntime) -> Result<(), Fail> {
     Ok(())
 }
 
-// The IDCODE takes 43 clocks: six of the reset, three to Shift-DR, 32 of the bits and two back. Each is a round, in which at busy 1 each of the
-// harts has its turn, and at busy 2 in every second one.
+/// How many rounds pass, and how many points are noted, in a session that reads the IDCODE of a chip with so many harts.
+fn counted(alloc: Global, harts: &str, busy: &str) -> Result<(u64, u64), Fail> {
+    let words = word_list(
+        alloc,
+        &[
+            "both", "--image", "i", "--script", "s", "--harts", harts, "--busy", busy, "--piece",
+            "3",
+        ],
+    )?;
+    let mut files = two_files(alloc, PROGRAM, b"idcode", NO_FAILURE)?;
+    let mut out = MemorySink::new(alloc, AMPLE, Vec::new(alloc))?;
+    let mut bench = Bench::blank();
+    run_once(
+        alloc,
+        &words,
+        &mut files,
+        &mut quiet_net(alloc)?,
+        &mut out,
+        &mut bench,
+    );
+    Ok((bench.counts().rounds, u64::from(bench.journal().len())))
+}
+
+// At busy 1 each running hart has its turn in each round, and at busy 2 in every second one. The opening of a session takes one Look.
 #[test]
-fn rounds_pass_while_the_idcode_is_read(rt: HostRuntime) -> Result<(), Fail> {
+fn harts_have_the_turns_of_their_schedule(rt: HostRuntime) -> Result<(), Fail> {
     let alloc = rt.alloc();
-    let cases: [(&str, &str, u32, u32); 3] = [
-        ("1", "1", 43, 43),
-        ("4", "1", 172, 172),
-        ("1", "2", 21, 22),
-    ];
-    for (harts, busy, least, most) in cases {
-        let words = word_list(
-            alloc,
-            &[
-                "both", "--image", "i", "--script", "s", "--harts", harts, "--busy", busy,
-                "--piece", "3",
-            ],
-        )?;
-        let mut files = two_files(alloc, PROGRAM, b"idcode", NO_FAILURE)?;
-        let mut out = MemorySink::new(alloc, AMPLE, Vec::new(alloc))?;
-        let mut bench = Bench::blank();
-        let ended = run_once(
-            alloc,
-            &words,
-            &mut files,
-            &mut quiet_net(alloc)?,
-            &mut out,
-            &mut bench,
-        );
-        assert_eq!(rt; ended, Status::Clean);
-        assert_eq!(rt; bench.counts().rounds, 43);
-        assert!(rt; least <= bench.journal().len() && bench.journal().len() <= most);
-        assert!(rt; !bench.at_limit());
-    }
+    let (rounds, points) = counted(alloc, "1", "1")?;
+    assert!(rt; rounds > 43);
+    assert_eq!(rt; points.wrapping_sub(1), rounds);
+    let (rounds, points) = counted(alloc, "4", "1")?;
+    assert_eq!(rt; points.wrapping_sub(1), rounds.wrapping_mul(4));
+    let (rounds, points) = counted(alloc, "1", "2")?;
+    let turns = points.wrapping_sub(1);
+    assert!(rt; rounds / 2 <= turns && turns <= (rounds / 2).wrapping_add(1));
     Ok(())
 }
 

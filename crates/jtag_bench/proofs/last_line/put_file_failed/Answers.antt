@@ -1,7 +1,7 @@
 use Rattle.std.proofs.Common.{◌∷◌, [], codes}
 use Rattle.debug_model.specs.ScriptText.{line_feed}
 use Rattle.jtag_bench.proofs.Puts.{first_failed, second_failed, third_failed, three_put}
-use Rattle.jtag_bench.proofs.Stood.{wrote_by}
+use Rattle.jtag_bench.proofs.Answered.{wrote_by}
 use Rattle.jtag_bench.proofs.last_line.put_file_failed.Goals as goal
 
 pub returns-in_err-put-clause-front : goal.returns-in_err-put-clause-front

@@ -1,6 +1,6 @@
 use Rattle.jtag_bench.specs.Words.{value_of}
 use Rattle.jtag_bench.proofs.Prepares.{image_cause, prepared_by}
-use Rattle.jtag_bench.proofs.Stood.{if_err}
+use Rattle.jtag_bench.proofs.Answered.{if_err}
 use Rattle.jtag_bench.proofs.prepare.prepare.Goals as goal
 
 pub returns-in_err-image-clause-cause : goal.returns-in_err-image-clause-cause

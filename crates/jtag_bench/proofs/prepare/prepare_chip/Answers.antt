@@ -1,6 +1,6 @@
 use Rattle.jtag_bench.specs.Words.{chip_value}
 use Rattle.jtag_bench.proofs.Prepares.{chip_file_cause, prepared_chip_by}
-use Rattle.jtag_bench.proofs.Stood.{if_err}
+use Rattle.jtag_bench.proofs.Answered.{if_err}
 use Rattle.jtag_bench.proofs.prepare.prepare_chip.Goals as goal
 
 pub returns-in_err-bytes-clause-cause : goal.returns-in_err-bytes-clause-cause
