@@ -35,14 +35,6 @@ pub is_fresh : (bench : Option Live) → IsSome bench → IfSome bench AsLoaded 
 is_fresh (Some l) some loaded = record { first = l; is = refl; as_loaded = loaded }
 is_fresh None some loaded = absurd (let none : ⊥ = cc in none)
 
-pub fresh_operates : (bench : Option Live) → IsFresh bench → CanOperate (far_of bench [])
-fresh_operates bench f =
-    subst (λ b. CanOperate (far_of b [])) (sym (f.is ∙ ap Some f.as_loaded.is))
-    (record { unended = tt; read = refl; free = refl; rest = inl refl; clean = record { none_in_flight = refl; clear = refl; not_failed = refl } })
-
-pub fresh_loaded : (bench : Option Live) → IsFresh bench → IsAsLoaded (far_of bench [])
-fresh_loaded bench f = subst (λ b. IsAsLoaded (far_of b [])) (sym f.is) f.as_loaded
-
 -- ---- what a wire to a bench tells
 
 bench_told : (bench : Option Live) (unread : List ℕ) (f : Far) → far_of bench unread ≡ Some f → bench ≡ Some f.live

@@ -16,6 +16,8 @@ use probe_dmi::Link;
 use probe_scan::Scanner;
 use probe_session::{Ended, run_script};
 
+// The scans and the wire are handed on by value and come back by value: what becomes of a wire that is only lent is known where it is lent, in `session`.
+
 /// Runs a script over these scans, puts its lines, and hands the scans back.
 fn run_over_scans<S: Scan, K: Sink>(scan: S, script: &Script, out: &mut K) -> (Ended, S)
     requires link { CanOperate (S.far scan) }

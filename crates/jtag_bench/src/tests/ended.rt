@@ -53,66 +53,77 @@ fn run_fresh<Q: Schedule, K: Sink>(script: &Script, bench: &mut Bench<Q>, out: &
     both_with(script, bench, PIECE, out)
 }
 
+/// A round in which one hart of two has its turn.
+const ONE_HART: &[Event] = &[
+    Event::Turn(0),
+    Event::DmiDone,
+    Event::CmdStep,
+    Event::BusDone,
+];
+
+/// A round in which an operation fails.
+const FAILING: &[Event] = &[Event::Turn(0), Event::DmiFail];
+
+/// A round in which no operation is done.
+const SILENT: &[Event] = &[Event::Turn(0), Event::Turn(1)];
+
+/// A round of five turns, so that 16,777,200 points are met early.
+const CROWDED: &[Event] = &[
+    Event::Turn(0),
+    Event::Turn(1),
+    Event::Turn(0),
+    Event::Turn(1),
+    Event::Turn(0),
+    Event::DmiDone,
+    Event::CmdStep,
+    Event::BusDone,
+];
+
+/// The status of a session with this script, whether the chip has met its limit, and what was printed.
+fn ended_over(
+    alloc: Global,
+    start: Start,
+    events: &[Event],
+    script: &str,
+) -> Result<(Status, bool, MemorySink), Fail> {
+    let mut bench = chip_with(alloc, start, events)?;
+    let script = parse(alloc, script.as_bytes())?;
+    let mut out = MemorySink::new(alloc, AMPLE, Vec::new(alloc))?;
+    let status = run_fresh(&script, &mut bench, &mut out);
+    Ok((status, bench.at_limit(), out))
+}
+
 #[test]
 fn sessions_that_are_lost_say_why(rt: HostRuntime) -> Result<(), Fail> {
-    let alloc = rt.alloc();
-    let one = [
-        Event::Turn(0),
-        Event::DmiDone,
-        Event::CmdStep,
-        Event::BusDone,
-    ];
-    let failing = [Event::Turn(0), Event::DmiFail];
-    let silent = [Event::Turn(0), Event::Turn(1)];
-    let crowded = [
-        Event::Turn(0),
-        Event::Turn(1),
-        Event::Turn(0),
-        Event::Turn(1),
-        Event::Turn(0),
-        Event::DmiDone,
-        Event::CmdStep,
-        Event::BusDone,
-    ];
-    let dumps = "dump 0x80000000 256\n".repeat(alloc, 32)?;
-    let cases: [(Start, &[Event], &str, Status, &str); 4] = [
+    let cases: [(&[Event], &str, &str); 3] = [
         (
-            Start::Running,
-            &one,
+            ONE_HART,
             "hart 1\nhalt\nidcode\n",
-            Status::Lost,
             "hart 1\nlost: no halt after 64 looks\n",
         ),
-        (
-            Start::Running,
-            &failing,
-            "idcode\n",
-            Status::Lost,
-            "lost: dmi failed\n",
-        ),
-        (
-            Start::Running,
-            &silent,
-            "idcode\n",
-            Status::Lost,
-            "lost: still busy\n",
-        ),
-        (
-            Start::Halted,
-            &crowded,
-            dumps.as_str(),
-            Status::EventLimit,
-            "0000\nevent limit\n",
-        ),
+        (FAILING, "idcode\n", "lost: dmi failed\n"),
+        (SILENT, "idcode\n", "lost: still busy\n"),
     ];
-    for (start, events, script, status, printed) in cases {
-        let mut bench = chip_with(alloc, start, events)?;
-        let script = parse(alloc, script.as_bytes())?;
-        let mut out = MemorySink::new(alloc, AMPLE, Vec::new(alloc))?;
-        let ended = run_fresh(&script, &mut bench, &mut out);
-        assert_eq!(rt; ended, status);
-        assert!(rt; out.bytes().ends_with(printed.as_bytes()));
-        assert_eq!(rt; bench.at_limit(), status == Status::EventLimit);
+    for (events, script, printed) in cases {
+        let (status, limit, out) = ended_over(rt.alloc(), Start::Running, events, script)?;
+        assert_eq!(rt; status.code(), 9);
+        assert_eq!(rt; out.bytes(), printed.as_bytes());
+        assert!(rt; !limit);
     }
+    Ok(())
+}
+
+#[test]
+fn a_session_that_meets_the_limit_says_so(rt: HostRuntime) -> Result<(), Fail> {
+    let alloc = rt.alloc();
+    let dumps = "dump 0x80000000 256\n".repeat(alloc, 32)?;
+    let (status, limit, out) = ended_over(alloc, Start::Halted, CROWDED, dumps.as_str())?;
+    assert_eq!(rt; status.code(), 10);
+    assert!(rt;
+        out.bytes()
+            .starts_with(b"0x0000000080000000 93025000938212006ff0dfff00000000\n")
+    );
+    assert!(rt; out.bytes().ends_with(b"00\nevent limit\n"));
+    assert!(rt; limit);
     Ok(())
 }
