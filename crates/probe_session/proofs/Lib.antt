@@ -32,3 +32,4 @@ pub mod Endings
 pub mod RunCauses
 pub mod AccessCauses
 pub mod WireCauses
+pub mod SinkCauses

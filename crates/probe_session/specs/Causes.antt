@@ -1,6 +1,7 @@
--- Why the wire failed under a session: the cause that the scan gave which failed.
+-- Why the wire failed under a session: the cause that the scan gave which failed. And why the sink failed: its count of faults rose.
 -- It is this project's own.
 use Rattle.std.specs.Prelude.{ℕ, Option}
+use Rattle.jt_base.specs.Faults.{Rises}
 use Rattle.debug_model.specs.declared.wire.WireFault.{WireFault}
 use Rattle.debug_model.specs.Scan.{ScanCause, Script}
 use Rattle.debug_model.specs.Told.{Far}
@@ -20,3 +21,12 @@ EndCaused old_count new_count told (ended.Target fault) = Unit {0}
 EndCaused old_count new_count told (ended.Wire why) = WireCause old_count new_count told why
 EndCaused old_count new_count told (ended.Lost why) = Unit {0}
 EndCaused old_count new_count told ended.Sink = Unit {0}
+
+-- an end by the sink is one behind a rise of the sink's count of faults, and no other end needs one
+abbrev pub SinkCaused : (old_count new_count : ℕ) → Ended → Type 0
+SinkCaused old_count new_count ended.Clean = Unit {0}
+SinkCaused old_count new_count ended.WithErrors = Unit {0}
+SinkCaused old_count new_count (ended.Target fault) = Unit {0}
+SinkCaused old_count new_count (ended.Wire why) = Unit {0}
+SinkCaused old_count new_count (ended.Lost why) = Unit {0}
+SinkCaused old_count new_count ended.Sink = Rises old_count new_count

@@ -5,7 +5,7 @@ ghost use Rattle.debug_model.specs.Command.{IsWithinRanges};
 ghost use Rattle.debug_model.specs.Dmi.{CanOperate};
 ghost use Rattle.debug_model.specs.Told.{IsAsLoaded};
 ghost use Rattle.probe_run.specs.Acts.{tells};
-ghost use Rattle.probe_session.specs.Causes.{EndCaused};
+ghost use Rattle.probe_session.specs.Causes.{EndCaused, SinkCaused};
 ghost use Rattle.probe_session.specs.Commands.{state_of};
 ghost use Rattle.probe_session.specs.Links.{Serving};
 ghost use Rattle.probe_session.specs.Scripts.{EndedAs, FollowedAs, LeavesLink, ended_unopened, graded};
@@ -86,6 +86,7 @@ pub fn run_script<D: Dmi, K: Sink>(link: &mut D, script: &Script, out: &mut K) -
     requires loaded { IsAsLoaded (D.far link.old) }
     ensures ended { EndedAs script.now (D.fault_count link.old) (D.fault_count link.new) (tells (D.far link.old) (D.script link.old)) (tells (D.far link.new) (D.script link.new)) (K.fault_count out.old) (K.fault_count out.new) (K.contents out.old) (K.contents out.new) result }
     ensures cause { EndCaused (D.fault_count link.old) (D.fault_count link.new) (D.far link.new) result }
+    ensures sink_cause { SinkCaused (K.fault_count out.old) (K.fault_count out.new) result }
     ensures transcribed { TranscribedAs script.now (K.contents out.old) (K.contents out.new) (D.far link.old) (D.far link.new) result }
     ensures leaves { LeavesLink (D.far link.new) (D.is_alive link.new) result }
     ensures later { D.fault_count link.old ≤ D.fault_count link.new }
