@@ -24,7 +24,12 @@ pub struct BenchWire<'a, Q: Schedule> {
 }
 
 /// Feeds all the bytes, at most `piece` at once, whatever each feed answers.
-fn feed_pieces<Q: Schedule>(bench: &mut Bench<Q>, bytes: &[u8], piece: usize, answers: &mut Answers)
+pub fn feed_pieces<Q: Schedule>(
+    bench: &mut Bench<Q>,
+    bytes: &[u8],
+    piece: usize,
+    answers: &mut Answers,
+)
     requires some { 1 ≤ piece }
     requires loaded { IsSome bench.old }
     requires room { array_vec_len answers.old + length bytes.now ≤ 256 }

@@ -17,7 +17,7 @@ mod system;
 mod tests;
 
 pub use bench::{ANSWERS_MOST, Answers, Bench};
-pub use bench_wire::BenchWire;
+pub use bench_wire::{BenchWire, feed_pieces};
 pub use fed::Fed;
 pub use laws::{ended_stays_ended, feeds_tell, pieces_join};
 pub use load_fault::LoadFault;

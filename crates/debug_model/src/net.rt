@@ -1,6 +1,7 @@
 ghost use Rattle.std.specs.Prelude.{◌≡◌, ◌≢◌, ◌+◌, ◌^◌, ◌<◌, ◌≤◌, ◌∷◌, ℕ, List, None, Some, length, true, OnOk, OnErr, IfOk, IfErr};
 ghost use Rattle.std.specs.Borrow.{GName};
 ghost use Rattle.debug_model.specs.Net.{LivesOn, Called, CallCause, Gives, IsAccepted, IsConnected, IsJoined, MayPut, MayTake, NetState, OpenCause, Peer, PutFront, after_put, after_take, given, is_open};
+ghost use Rattle.debug_model.specs.Told.{IsAsLoaded};
 ghost use Rattle.debug_model.specs.declared.net.Call.TheVariants as call;
 ghost use Rattle.jt_base.specs.Faults.{Rises};
 
@@ -61,11 +62,12 @@ pub trait Net: Drop {
     /// The references that the net borrows through.
     ghost lenders: { Self → List GName };
 
-    /// Opens the near end to this address. Each net is opened by one call alone.
+    /// Opens the near end to this address. Each net is opened by one call alone. A chip that is told there is as it was loaded.
     fn connect(&mut self, alloc: Global, at: &str) -> Result<(), NetFault>
         requires { (state self.old).ties.opening ≡ None }
         ensures called { Called call.Connect (Some at.now) (state self.old).ties (state self.new).ties }
         ensures opened { OnOk result (IsConnected (peer self.old) (state self.new)) }
+        ensures loaded { OnOk result (IsAsLoaded (state self.new).chip) }
         ensures cause { IfErr result (OpenCause (fault_count self.old) (fault_count self.new)) }
         ensures later { fault_count self.old ≤ fault_count self.new }
         ensures ends { end_count self.new ≡ end_count self.old }
