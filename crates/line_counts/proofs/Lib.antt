@@ -1,0 +1,6 @@
+mod Walks
+mod SplitLemmas
+pub mod WholeLineLemmas
+mod CountLemmas
+mod CleanLemmas
+pub mod LineLemmas
