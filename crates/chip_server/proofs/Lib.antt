@@ -1,0 +1,2 @@
+mod ServedPieces
+mod Serves
