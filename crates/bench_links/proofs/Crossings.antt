@@ -1,0 +1,160 @@
+-- What comes out of the ends of a joined net, piece after piece.
+use Rattle.std.proofs.Common.{◌≡◌, ℕ, ◌+◌, ◌<◌, ◌≤◌, List, ◌++◌, length, take, drop, true, Option, None, Some, IfSome, IsTrue, is_none, ◌&&◌, option_map, refl, sym, ap, subst, ◌∙◌, add_assoc, add-zero, arith}
+use Rattle.std.proofs.lemmas.Bool.{and_parts}
+use Rattle.std.proofs.lemmas.List.{drop-drop, length-drop, length-take-le, take-append-le}
+use Rattle.std.proofs.Math.Seq.{take-add, take-append-add}
+use borrow.Rule.Slice.PartMut.{put_mid, post_of}
+use Rattle.debug_model.specs.Net.{Exchange, Gives, IsFront, MayPut, MaySend, MayTake, NetState, Pipe, after_take, is_open, read_on, take_far, take_near, without}
+use Rattle.debug_model.specs.Told.{Far}
+use Rattle.debug_model.specs.declared.net.End.{End}
+use Rattle.debug_model.specs.declared.net.End.TheVariants as ends
+use Rattle.bench_links.specs.Looped.{Came, Holds, is_looped, unread_at}
+
+-- ---- a looped net
+
+pub opens : (at : End) (s : NetState) → IsTrue (is_looped s) → is_open at s ≡ true
+opens ends.Near s looped = (and_parts s.near_open (s.far_open && is_none s.chip) looped).0
+opens ends.Far s looped = (and_parts s.far_open (is_none s.chip) (and_parts s.near_open (s.far_open && is_none s.chip) looped).1).0
+
+none_is : (o : Option Far) → is_none o ≡ true → o ≡ None
+none_is None is = refl
+none_is (Some f) is = absurd (let none : ⊥ = cc in none)
+
+no_chip : (s : NetState) → IsTrue (is_looped s) → s.chip ≡ None
+no_chip s looped = none_is s.chip (and_parts s.far_open (is_none s.chip) (and_parts s.near_open (s.far_open && is_none s.chip) looped).1).1
+
+pub may_put : (bytes : List ℕ) (s : NetState) → IsTrue (is_looped s) → MayPut ends.Near bytes s
+may_put bytes s looped = subst (λ o. MaySend bytes o) (sym (no_chip s looped)) (record { most = tt; piece = tt; stays_open = tt; read = tt })
+
+none_still : (n : ℕ) (told : Option Far) → is_none (option_map (read_on n) told) ≡ is_none told
+none_still n None = refl
+none_still n (Some f) = refl
+
+looped_after : (at : End) (n : ℕ) (s : NetState) → is_looped (after_take at n s) ≡ is_looped s
+looped_after ends.Near n s = ap (λ b. s.near_open && (s.far_open && b)) (none_still n s.chip)
+looped_after ends.Far n s = refl
+
+pub still_looped : (at : End) (n : ℕ) (old new : NetState) → IsTrue (is_looped old) → new ≡ after_take at n old → IsTrue (is_looped new)
+still_looped at n old new looped is = subst IsTrue (sym (ap is_looped is ∙ looped_after at n old)) looped
+
+ties_after : (at : End) (n : ℕ) (s : NetState) → (after_take at n s).ties ≡ s.ties
+ties_after ends.Near n s = refl
+ties_after ends.Far n s = refl
+
+pub still_tied : (at : End) (n : ℕ) (first old new : NetState) → old.ties ≡ first.ties → new ≡ after_take at n old → new.ties ≡ first.ties
+still_tied at n first old new tied is = ap (λ s. s.ties) is ∙ ties_after at n old ∙ tied
+
+-- ---- takes
+
+abbrev taken_at : End → ℕ → Pipe → Pipe
+taken_at ends.Near n p = take_near n p
+taken_at ends.Far n p = take_far n p
+
+pipe_after : (at : End) (n : ℕ) (s : NetState) → (after_take at n s).pipe ≡ option_map (taken_at at n) s.pipe
+pipe_after ends.Near n s = refl
+pipe_after ends.Far n s = refl
+
+left : (at : End) (n m : ℕ) (told : Option Pipe) → Holds at m told → n < m → IfSome (option_map (taken_at at n) told) (λ p. 0 < length (unread_at at p))
+left at n m None holds below = tt
+left ends.Near n m (Some p) holds below = omega (arith, length-drop n p.near, holds, below)
+left ends.Far n m (Some p) holds below = omega (arith, length-drop n p.far, holds, below)
+
+takes : (at : End) (s : NetState) → s.chip ≡ None → IfSome s.pipe (λ p. 0 < length (unread_at at p)) → MayTake at s
+takes ends.Near s none some = record { of_chip = subst (λ o. IfSome o (λ f. 0 < length f.unread)) (sym none) tt; of_pipe = some }
+takes ends.Far s none some = some
+
+pub may_take : (at : End) (n : ℕ) (into : List ℕ) (m : ℕ) (old s : NetState) → Came at n into old s → Holds at m old.pipe → n < m → IsTrue (is_looped s) → MayTake at s
+may_take at n into m old s came holds below looped =
+    takes at s (no_chip s looped) (subst (λ o. IfSome o (λ p. 0 < length (unread_at at p))) (sym (ap (λ x. x.pipe) came.is ∙ pipe_after at n old)) (left at n m old.pipe holds below))
+
+same_far : (told : Option Far) → told ≡ option_map (read_on 0) told
+same_far None = refl
+same_far (Some f) = refl
+
+same_script : (told : Option Exchange) → told ≡ option_map (without 0) told
+same_script None = refl
+same_script (Some e) = refl
+
+same_pipe : (at : End) (told : Option Pipe) → told ≡ option_map (taken_at at 0) told
+same_pipe at None = refl
+same_pipe ends.Near (Some p) = refl
+same_pipe ends.Far (Some p) = refl
+
+nothing_taken : (at : End) (s : NetState) → s ≡ after_take at 0 s
+nothing_taken ends.Near s =
+    ap (λ g. record s { near_given = g }) (sym (add-zero s.near_given))
+    ∙ ap (λ c. record s { near_given = s.near_given + 0; chip = c }) (same_far s.chip)
+    ∙ ap (λ e. record s { near_given = s.near_given + 0; chip = option_map (read_on 0) s.chip; script = e }) (same_script s.script)
+    ∙ ap (λ p. record s { near_given = s.near_given + 0; chip = option_map (read_on 0) s.chip; script = option_map (without 0) s.script; pipe = p }) (same_pipe ends.Near s.pipe)
+nothing_taken ends.Far s =
+    ap (λ g. record s { far_given = g }) (sym (add-zero s.far_given))
+    ∙ ap (λ p. record s { far_given = s.far_given + 0; pipe = p }) (same_pipe ends.Far s.pipe)
+
+none_first : (at : End) (into : List ℕ) (told : Option Pipe) → IfSome told (λ p. take 0 (unread_at at p) ≡ take 0 into)
+none_first at into None = tt
+none_first at into (Some p) = refl
+
+pub nothing_came : (at : End) (into : List ℕ) (s : NetState) → Came at 0 into s s
+nothing_came at into s = record { is = nothing_taken at s; of_pipe = none_first at into s.pipe }
+
+read_twice : (a n : ℕ) (told : Option Far) → option_map (read_on n) (option_map (read_on a) told) ≡ option_map (read_on (a + n)) told
+read_twice a n None = refl
+read_twice a n (Some f) = ap (λ xs. Some (record f { unread = xs })) (drop-drop n a f.unread)
+
+without_twice : (a n : ℕ) (told : Option Exchange) → option_map (without n) (option_map (without a) told) ≡ option_map (without (a + n)) told
+without_twice a n None = refl
+without_twice a n (Some e) = ap (λ xs. Some (record e { coming = xs })) (drop-drop n a e.coming)
+
+taken_twice : (at : End) (a n : ℕ) (told : Option Pipe) → option_map (taken_at at n) (option_map (taken_at at a) told) ≡ option_map (taken_at at (a + n)) told
+taken_twice at a n None = refl
+taken_twice ends.Near a n (Some p) = ap (λ xs. Some (record p { near = xs })) (drop-drop n a p.near)
+taken_twice ends.Far a n (Some p) = ap (λ xs. Some (record p { far = xs })) (drop-drop n a p.far)
+
+after_twice : (at : End) (a n : ℕ) (s : NetState) → after_take at n (after_take at a s) ≡ after_take at (a + n) s
+after_twice ends.Near a n s =
+    ap (λ g. record s { near_given = g; chip = option_map (read_on n) (option_map (read_on a) s.chip); script = option_map (without n) (option_map (without a) s.script); pipe = option_map (take_near n) (option_map (take_near a) s.pipe) }) (add_assoc s.near_given a n)
+    ∙ ap (λ c. record s { near_given = s.near_given + (a + n); chip = c; script = option_map (without n) (option_map (without a) s.script); pipe = option_map (take_near n) (option_map (take_near a) s.pipe) }) (read_twice a n s.chip)
+    ∙ ap (λ e. record s { near_given = s.near_given + (a + n); chip = option_map (read_on (a + n)) s.chip; script = e; pipe = option_map (take_near n) (option_map (take_near a) s.pipe) }) (without_twice a n s.script)
+    ∙ ap (λ p. record s { near_given = s.near_given + (a + n); chip = option_map (read_on (a + n)) s.chip; script = option_map (without (a + n)) s.script; pipe = p }) (taken_twice ends.Near a n s.pipe)
+after_twice ends.Far a n s =
+    ap (λ g. record s { far_given = g; pipe = option_map (take_far n) (option_map (take_far a) s.pipe) }) (add_assoc s.far_given a n)
+    ∙ ap (λ p. record s { far_given = s.far_given + (a + n); pipe = p }) (taken_twice ends.Far a n s.pipe)
+
+-- the front of a list behind a write into the part from `a` on
+front_of_mid : (a k n : ℕ) (xs ys : List ℕ) → a ≤ length xs → n ≤ length ys → take (a + n) (put_mid a k xs ys) ≡ take a xs ++ take n ys
+front_of_mid a k n xs ys within most =
+    ap (λ m. take (m + n) (put_mid a k xs ys)) (sym (length-take-le a xs within))
+    ∙ take-append-add (take a xs) (ys ++ post_of a k xs) n
+    ∙ ap (λ l. take a xs ++ l) (take-append-le n ys (post_of a k xs) most)
+
+front_more : (a k n : ℕ) (unread into piece : List ℕ) → take a unread ≡ take a into → IsFront n piece (drop a unread) → a ≤ length into → n ≤ length piece → take (a + n) unread ≡ take (a + n) (put_mid a k into piece)
+front_more a k n unread into piece front next within most =
+    take-add a n unread ∙ ap (λ l. l ++ take n (drop a unread)) front ∙ ap (λ l. take a into ++ l) next ∙ sym (front_of_mid a k n into piece within most)
+
+fronts : (n : ℕ) (piece : List ℕ) (told : Option Pipe) → IfSome told (λ p. IsFront n piece p.near × (0 < n)) → IfSome told (λ p. IsFront n piece p.near)
+fronts n piece None gives = tt
+fronts n piece (Some p) gives = gives.0
+
+far_fronts : (n : ℕ) (piece : List ℕ) (told : Option Pipe) → IfSome told (λ p. IsFront n piece p.far × (0 < n)) → IfSome told (λ p. IsFront n piece p.far)
+far_fronts n piece None gives = tt
+far_fronts n piece (Some p) gives = gives.0
+
+given_front : (at : End) (n : ℕ) (piece : List ℕ) (s : NetState) → Gives at n piece s → IfSome s.pipe (λ p. IsFront n piece (unread_at at p))
+given_front ends.Near n piece s gives = fronts n piece s.pipe gives.of_pipe
+given_front ends.Far n piece s gives = far_fronts n piece s.pipe gives
+
+pipe_more : (at : End) (a k n : ℕ) (told : Option Pipe) (into piece : List ℕ) → IfSome told (λ p. take a (unread_at at p) ≡ take a into) → IfSome (option_map (taken_at at a) told) (λ p. IsFront n piece (unread_at at p))
+    → a ≤ length into → n ≤ length piece → IfSome told (λ p. take (a + n) (unread_at at p) ≡ take (a + n) (put_mid a k into piece))
+pipe_more at a k n None into piece front next within most = tt
+pipe_more ends.Near a k n (Some p) into piece front next within most = front_more a k n p.near into piece front next within most
+pipe_more ends.Far a k n (Some p) into piece front next within most = front_more a k n p.far into piece front next within most
+
+-- one piece more
+pub came_more : (at : End) (a k n : ℕ) (into piece : List ℕ) (old mid new : NetState) → Came at a into old mid → Gives at n piece mid → new ≡ after_take at n mid → a ≤ length into → n ≤ length piece
+    → Came at (a + n) (put_mid a k into piece) old new
+came_more at a k n into piece old mid new came gives is within most =
+    let next : IfSome (option_map (taken_at at a) old.pipe) (λ p. IsFront n piece (unread_at at p)) = subst (λ o. IfSome o (λ p. IsFront n piece (unread_at at p))) (ap (λ s. s.pipe) came.is ∙ pipe_after at a old) (given_front at n piece mid gives) in
+    record {
+      is = is ∙ ap (after_take at n) came.is ∙ after_twice at a n old;
+      of_pipe = pipe_more at a k n old.pipe into piece came.of_pipe next within most;
+    }

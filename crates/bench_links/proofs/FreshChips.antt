@@ -1,0 +1,149 @@
+-- A chip as it was loaded, and the one proof of it that a net keeps.
+use Rattle.std.proofs.Common.{◌≡◌, ◌⊎◌, ℕ, zero, suc, ◌+◌, ◌<◌, ◌≤◌, List, [], ◌∷◌, ◌++◌, length, drop, replicate, All, Option, None, Some, IfSome, slice_get, unwrap_or, refl, sym, ap, subst, ◌∙◌, append_assoc, arith, inl, inr}
+use Rattle.std.proofs.lemmas.List.{append-nil, drop_all, length-append, length-drop, length-replicate}
+use Rattle.std.proofs.lemmas.List.Elements.{All-append, All-drop, All-replicate}
+use Rattle.std.specs.FinMap.{len}
+use Rattle.rv_model.specs.declared.cause.Cause.{Cause}
+use Rattle.rv_model.specs.Board.{Hart, halted_by_reset, reset_hart, runs}
+use Rattle.rv_model.specs.Image.{ram_size}
+use Rattle.rv_model.specs.Memory.{Bytes, IsRamSize, map_of, ram_base}
+use Rattle.rv_model.proofs.MapLemmas.{get-map_of}
+use Rattle.rv_mem.proofs.ImageLemmas.{len-map_of, with_image-map_of}
+use Rattle.debug_model.specs.Chip.{Live}
+use Rattle.debug_model.specs.Loaded.{AsLoaded, Fits, RightHarts, live, loaded_board, loaded_chip, loaded_memory, reset_harts}
+use Rattle.debug_model.specs.Told.{IsAsLoaded}
+use Rattle.chip_core.specs.Feeds.{far_of}
+use Rattle.bench_links.specs.Fresh.{IsFresh, IsJustLoaded, bytes_at, image_of, reloaded, start_by, start_of}
+
+-- ---- memory
+
+seam : (ys xs : List ℕ) (x : ℕ) → slice_get (ys ++ x ∷ xs) (length ys) ≡ Some x
+seam [] xs x = refl
+seam (y ∷ ys) xs x = seam ys xs x
+
+bytes_behind : (ys xs : List ℕ) (a : ℕ) → a ≡ ram_base + length ys → bytes_at (map_of (ys ++ xs)) a (length xs) ≡ xs
+unfolding bytes_at
+bytes_behind ys [] a is = refl
+bytes_behind ys (x ∷ xs) a is =
+    let next : a + 1 ≡ ram_base + length (ys ++ x ∷ []) = omega (arith, is, length-append ys (x ∷ [])) in
+    ap (λ o. unwrap_or o 0 ∷ bytes_at (map_of (ys ++ x ∷ xs)) (a + 1) (length xs)) (get-map_of (ys ++ x ∷ xs) (length ys) a is ∙ seam ys xs x)
+    ∙ ap (λ l. x ∷ bytes_at (map_of l) (a + 1) (length xs)) (sym (append_assoc ys (x ∷ []) xs))
+    ∙ ap (λ l. x ∷ l) (bytes_behind (ys ++ x ∷ []) xs (a + 1) next)
+
+bytes_of_map : (xs : List ℕ) → bytes_at (map_of xs) ram_base (length xs) ≡ xs
+bytes_of_map xs = bytes_behind [] xs ram_base (omega arith)
+
+length_bytes : (m : Bytes) (a n : ℕ) → length (bytes_at m a n) ≡ n
+unfolding bytes_at
+length_bytes m a zero = refl
+length_bytes m a (suc n) = ap suc (length_bytes m (a + 1) n)
+
+abbrev whole : List ℕ → ℕ → List ℕ
+whole image ram = image ++ drop (length image) (replicate ram 0)
+
+length_whole : (image : List ℕ) (ram : ℕ) → Fits image ram → length (whole image ram) ≡ ram
+length_whole image ram fits =
+    omega (arith, fits, length-append image (drop (length image) (replicate ram 0)), length-drop {A = ℕ} (length image) (replicate ram 0), length-replicate {A = ℕ} ram 0)
+
+memory_is : (image : List ℕ) (ram : ℕ) → (loaded_memory image ram).bytes ≡ map_of (whole image ram)
+memory_is image ram = with_image-map_of (replicate ram 0) image
+
+size_is : (image : List ℕ) (ram : ℕ) → Fits image ram → ram_size (loaded_memory image ram) ≡ ram
+size_is image ram fits = ap len (memory_is image ram) ∙ len-map_of (whole image ram) ∙ length_whole image ram fits
+
+image_is : (image : List ℕ) (ram : ℕ) → Fits image ram → image_of (loaded_memory image ram) ≡ whole image ram
+image_is image ram fits =
+    ap (λ n. bytes_at (loaded_memory image ram).bytes ram_base n) (size_is image ram fits ∙ sym (length_whole image ram fits))
+    ∙ ap (λ m. bytes_at m ram_base (length (whole image ram))) (memory_is image ram)
+    ∙ bytes_of_map (whole image ram)
+
+memory_again : (image : List ℕ) (ram : ℕ) → Fits image ram → loaded_memory (whole image ram) ram ≡ loaded_memory image ram
+memory_again image ram fits =
+    let long : length (replicate ram 0) ≤ length (whole image ram) = omega (arith, length_whole image ram fits, length-replicate {A = ℕ} ram 0) in
+    let bytes : (loaded_memory (whole image ram) ram).bytes ≡ (loaded_memory image ram).bytes =
+    memory_is (whole image ram) ram
+    ∙ ap (λ l. map_of (whole image ram ++ l)) (drop_all (length (whole image ram)) (replicate ram 0) long)
+    ∙ ap map_of (append-nil (whole image ram)) ∙ sym (memory_is image ram) in
+    ap (λ m. record (loaded_memory image ram) { bytes = m }) bytes
+
+-- ---- harts
+
+length_harts : (harts : ℕ) (halted : Option Cause) → length (reset_harts harts halted) ≡ harts
+length_harts zero halted = refl
+length_harts (suc n) halted = let more : _ = length-append (reset_harts n halted) (reset_hart n halted ∷ []) in omega (arith, more, length_harts n halted)
+
+starts : (harts : ℕ) (halted : Option Cause) → RightHarts harts → start_of (reset_harts harts halted) ≡ start_by halted
+starts zero halted right = absurd (omega (arith, right.some))
+starts (suc zero) halted right = refl
+starts (suc (suc zero)) halted right = refl
+starts (suc (suc (suc zero))) halted right = refl
+starts (suc (suc (suc (suc zero)))) halted right = refl
+starts (suc (suc (suc (suc (suc n))))) halted right = absurd (omega (arith, right.most))
+
+start_is : (halted : Option Cause) → (halted ≡ runs) ⊎ (halted ≡ halted_by_reset) → start_by halted ≡ halted
+start_is halted (inl is) = subst (λ o. start_by o ≡ o) (sym is) refl
+start_is halted (inr is) = subst (λ o. start_by o ≡ o) (sym is) refl
+
+start_one : (halted : Option Cause) → (start_by halted ≡ runs) ⊎ (start_by halted ≡ halted_by_reset)
+start_one None = inl refl
+start_one (Some cause) = inr refl
+
+start_either : (harts : List Hart) → (start_of harts ≡ runs) ⊎ (start_of harts ≡ halted_by_reset)
+start_either [] = inl refl
+start_either (h ∷ hs) = start_one h.debug.halted
+
+-- ---- the board
+
+reloaded_is : (image : List ℕ) (harts ram : ℕ) (halted : Option Cause) → Fits image ram → RightHarts harts → (halted ≡ runs) ⊎ (halted ≡ halted_by_reset)
+    → reloaded (loaded_board image harts ram halted) ≡ loaded_board image harts ram halted
+reloaded_is image harts ram halted fits right start =
+    let board = loaded_board image harts ram halted in
+    ap (λ i. loaded_board i (length board.harts) (ram_size board.memory) (start_of board.harts)) (image_is image ram fits)
+    ∙ ap (λ n. loaded_board (whole image ram) n (ram_size board.memory) (start_of board.harts)) (length_harts harts halted)
+    ∙ ap (λ n. loaded_board (whole image ram) harts n (start_of board.harts)) (size_is image ram fits)
+    ∙ ap (λ o. loaded_board (whole image ram) harts ram o) (starts harts halted right ∙ start_is halted start)
+    ∙ ap (λ m. record board { memory = m }) (memory_again image ram fits)
+
+whole_bytes : (image : List ℕ) (ram : ℕ) → All (λ x. x < 256) image → All (λ x. x < 256) (whole image ram)
+whole_bytes image ram bytes =
+    All-append (λ x. x < 256) image (drop (length image) (replicate ram 0)) bytes (All-drop (λ x. x < 256) (length image) (replicate ram 0) (All-replicate (λ x. x < 256) ram 0 (omega arith)))
+
+just_loaded : (l : Live) → AsLoaded l → IsJustLoaded l
+just_loaded l a =
+    let board = loaded_board a.image a.harts a.ram a.halted in
+    subst IsJustLoaded (sym a.is) (record {
+      board = record {
+        right = subst RightHarts (sym (length_harts a.harts a.halted)) a.right;
+        size = subst IsRamSize (sym (size_is a.image a.ram a.fits)) a.size;
+        bytes = subst (All (λ x. x < 256)) (sym (image_is a.image a.ram a.fits)) (whole_bytes a.image a.ram a.bytes);
+      };
+      plan = record { rounds = a.rounds; first = a.first };
+      is = ap (λ b. live (loaded_chip b a.plan)) (sym (reloaded_is a.image a.harts a.ram a.halted a.fits a.right a.start));
+    })
+
+as_loaded : (l : Live) → IsJustLoaded l → AsLoaded l
+as_loaded l j =
+    let board = l.chip.inside.works.site.board in
+    record {
+      image = image_of board.memory;
+      harts = length board.harts;
+      ram = ram_size board.memory;
+      halted = start_of board.harts;
+      plan = l.chip.inside.plan;
+      right = j.board.right;
+      size = j.board.size;
+      fits = let all : _ = length_bytes board.memory.bytes ram_base (ram_size board.memory) in omega (arith, all);
+      bytes = j.board.bytes;
+      start = start_either board.harts;
+      rounds = j.plan.rounds;
+      first = j.plan.first;
+      is = j.is;
+    }
+
+pub fresh : (bench : Option Live) (unread : List ℕ) → IfSome bench AsLoaded → unread ≡ [] → IsFresh bench unread
+fresh None unread loaded none = record { chip = tt; none = none }
+fresh (Some l) unread loaded none = record { chip = just_loaded l loaded; none = none }
+
+pub loaded_still : (bench : Option Live) (unread : List ℕ) → IsFresh bench unread → IsAsLoaded (far_of bench unread)
+loaded_still None unread f = tt
+loaded_still (Some l) unread f = as_loaded l f.chip

@@ -1,0 +1,3 @@
+pub mod Benched
+pub mod Fresh
+pub mod Looped
