@@ -1,28 +1,10 @@
-//! The program: the probe, the chip on its bench, and the words that bring them together.
+//! The program: the words behind its name, and what lies outside for real.
 #![tactic(auto)]
-
-mod both_with;
-mod chip;
-mod last_line;
-mod lines;
-mod prepare;
-mod refusal;
-mod run;
-mod script_text;
-mod served;
-mod serving;
-mod session;
-mod status;
-#[cfg(test)]
-mod tests;
-mod words;
 
 use chip_core::Bench;
 use jt_base::{DiskFiles, StdSink};
 use jtag_net::TcpNet;
-use last_line::refuse;
-use refusal::Refusal;
-use run::run;
+use jtag_run::{Refusal, refuse, run};
 use std::io::ErrorKind;
 use std::process::ExitCode;
 use std::rt::Env;

@@ -1,0 +1,7 @@
+pub mod Answered
+pub mod BenchEnds
+mod Countings
+mod Numbers
+pub mod Prepares
+pub mod Puts
+pub mod Runs

@@ -1,0 +1,19 @@
+use Rattle.std.proofs.Common.{refl}
+use Rattle.jtag_run.specs.Words.{both_value, chip_value, gen_value, probe_value}
+use Rattle.jtag_run.proofs.Runs.{refused_words, run_both, run_gen, run_probe, run_served}
+use Rattle.jtag_run.proofs.program.run.Goals as goal
+
+pub returns-in-Err : goal.returns-in-Err
+returns-in-Err g c = record { ended = refused_words _ _ _ _ _ c.in-Err.refusal c.in-Err.ensures.cause c.refuse.ensures.refused refl refl c.blank.ensures }
+
+pub returns-in-Both : goal.returns-in-Both
+returns-in-Both g c = record { ended = run_both _ _ _ _ _ _ (both_value c.in-Both.job) (rw c.in-Both.is at c.in-Ok.ensures.work) c.blank.ensures c.run_both.ensures.ended }
+
+pub returns-in-Gen : goal.returns-in-Gen
+returns-in-Gen g c = record { ended = run_gen _ _ _ _ _ _ (gen_value c.in-Gen.job) (rw c.in-Gen.is at c.in-Ok.ensures.work) c.blank.ensures refl c.run_gen.ensures.ended }
+
+pub returns-in-Probe : goal.returns-in-Probe
+returns-in-Probe g c = record { ended = run_probe _ _ _ _ _ (probe_value c.in-Probe.job) (rw c.in-Probe.is at c.in-Ok.ensures.work) c.blank.ensures c.run_probe.ensures.ended }
+
+pub returns : goal.returns
+returns g c = record { ended = run_served _ _ _ _ _ _ (chip_value c.in-Chip.job) (rw c.in-Chip.is at c.in-Ok.ensures.work) c.blank.ensures c.run_chip.ensures.ended }

@@ -1,0 +1,98 @@
+-- How a run ends: what it has printed by its status, why, and the chip that it leaves.
+-- The program is this project's own (docs/FORMATS.md, "Statuses").
+use Rattle.std.specs.Prelude.{◌≡◌, ℕ, Bool, true, false, List, Option, Some, None}
+use Rattle.debug_model.specs.declared.command.Command.{Command}
+use Rattle.debug_model.specs.Chip.{Live}
+use Rattle.debug_model.specs.Loaded.{AsLoaded}
+use Rattle.generator.specs.Commands.{commands}
+use Rattle.generator.specs.Image.{IsImageOf, program}
+use Rattle.jt_base.specs.Files.{Holds, NamedFile, asked_more}
+use Rattle.jtag_run.specs.First.{CanLoad, first_chip}
+use Rattle.jtag_run.specs.Outside.{NetSeen, Outside}
+use Rattle.jtag_run.specs.Ran.{BenchEnd, GenEnd, LoopEnd, ProbeEnd}
+use Rattle.jtag_run.specs.Refusal.{GenCause, HoldsScript, JobCause, RefusalCause, Refused, ScriptFileCause, asked_both, asked_image}
+use Rattle.jtag_run.specs.ServedChip.{IsAcceptedChip, ServedAt}
+use Rattle.jtag_run.specs.Words.{Both, Chip, Gen, Probe, said_both, said_gen, said_probe}
+use Rattle.jtag_run.specs.declared.refusal.Refusal.{Refusal}
+use Rattle.jtag_run.specs.declared.status.Status.{Status}
+use Rattle.jtag_words.specs.Words.{job_of}
+use Rattle.wire_session.specs.Seen.{SinkSeen}
+
+-- ---- what was accepted
+
+-- the words write this job, its script is read as these commands, and its image can be loaded
+pub record IsAccepted (words : List (List ℕ)) (held : Option (List NamedFile)) (job : Both) (commands : List Command) (image : List ℕ) : Type 0 where
+  pub words_write : job_of words ≡ Some (said_both job)
+  pub script_reads : HoldsScript held job.script commands
+  pub image_is : Holds held job.image image
+  pub loads : CanLoad job.options image
+
+-- the words write this job, and the image of its number can be loaded
+pub record IsAcceptedGen (words : List (List ℕ)) (job : Gen) (image : List ℕ) : Type 0 where
+  pub words_write : job_of words ≡ Some (said_gen job)
+  pub made : IsImageOf (program job.number) image
+  pub loads : CanLoad job.options image
+
+-- the words write this job, and its script is read as these commands
+pub record IsAcceptedProbe (words : List (List ℕ)) (held : Option (List NamedFile)) (job : Probe) (commands : List Command) : Type 0 where
+  pub words_write : job_of words ≡ Some (said_probe job)
+  pub script_reads : HoldsScript held job.script commands
+
+-- behind what is read and judged first: the chip is on the bench
+pub record Prepared (job : Both) (held : Option (List NamedFile)) (commands : List Command) (bench : Option Live) : Type 0 where
+  pub image : List ℕ
+  pub script_reads : HoldsScript held job.script commands
+  pub image_is : Holds held job.image image
+  pub loads : CanLoad job.options image
+  pub is : bench ≡ Some (first_chip job.options image)
+  pub as_loaded : AsLoaded (first_chip job.options image)
+
+-- behind what is made first: the chip is on the bench
+pub record Made (job : Gen) (script : List Command) (bench : Option Live) : Type 0 where
+  pub image : List ℕ
+  pub script_is : script ≡ commands job.number
+  pub made : IsImageOf (program job.number) image
+  pub loads : CanLoad job.options image
+  pub is : bench ≡ Some (first_chip job.options image)
+  pub as_loaded : AsLoaded (first_chip job.options image)
+
+-- ---- each job, once its words are read
+
+-- by its way: straight to the bench, and the net stays as it is, or over the net
+abbrev pub BothEnd : (loopback : Bool) → Live → List Command → (net_was net_is : NetSeen) → (old new : SinkSeen) → Option Live → Status → Type 0
+BothEnd false first script net_was net_is old new bench status = (net_is ≡ net_was) × BenchEnd first script old new bench status
+BothEnd true first script net_was net_is old new bench status = LoopEnd first script net_was net_is old new bench status
+
+-- the script or the image was refused, and nothing was opened; or just the two were asked for, and the session ran
+pub data RanBoth (job : Both) (old new : Outside) (bench left : Option Live) (status : Status) : Type 0 where
+  refused : (refusal : Refusal) → JobCause job old.files new.files refusal → Refused refusal old.sink new.sink status → new.net ≡ old.net → left ≡ bench → RanBoth job old new bench left status
+  ran : (commands : List Command) (image : List ℕ) → HoldsScript old.files.held job.script commands → Holds old.files.held job.image image → CanLoad job.options image
+      → new.files.asked ≡ asked_both job old.files → BothEnd job.loopback (first_chip job.options image) commands old.net new.net old.sink new.sink left status → RanBoth job old new bench left status
+
+-- the image can't be loaded, and nothing was opened; or the session ran
+pub data RanGen (job : Gen) (net_was net_is : NetSeen) (old new : SinkSeen) (bench left : Option Live) (status : Status) : Type 0 where
+  refused : (refusal : Refusal) → GenCause job refusal → Refused refusal old new status → net_is ≡ net_was → left ≡ bench → RanGen job net_was net_is old new bench left status
+  ran : (image : List ℕ) → IsImageOf (program job.number) image → CanLoad job.options image
+      → GenEnd job.loopback (first_chip job.options image) (commands job.number) net_was net_is old new left status → RanGen job net_was net_is old new bench left status
+
+-- the script was refused, and nothing was opened; or just the script was asked for, and the net was opened
+pub data RanProbe (job : Probe) (old new : Outside) (status : Status) : Type 0 where
+  refused : (refusal : Refusal) → ScriptFileCause job.script old.files new.files refusal → Refused refusal old.sink new.sink status → new.net ≡ old.net → RanProbe job old new status
+  ran : (commands : List Command) → HoldsScript old.files.held job.script commands → new.files.asked ≡ asked_more job.script old.files.asked
+      → ProbeEnd job.at commands old.net new.net old.sink new.sink status → RanProbe job old new status
+
+-- ---- a run
+
+-- a run of these words was refused before a net was opened, and has loaded no chip; or what it asks for was accepted, just its files were asked for, in their order, and: the
+-- session of a script ran on a chip on the bench; or that of a number; or a script's over a net, and no chip was loaded; or a chip was served over a net
+pub data Ended (words : List (List ℕ)) (old new : Outside) (bench : Option Live) (status : Status) : Type 0 where
+  refused : (refusal : Refusal) → RefusalCause words old.files new.files refusal → Refused refusal old.sink new.sink status → new.net ≡ old.net → bench ≡ None
+      → Ended words old new bench status
+  ran : (job : Both) (commands : List Command) (image : List ℕ) → IsAccepted words old.files.held job commands image → new.files.asked ≡ asked_both job old.files
+      → BothEnd job.loopback (first_chip job.options image) commands old.net new.net old.sink new.sink bench status → Ended words old new bench status
+  generated : (job : Gen) (image : List ℕ) → IsAcceptedGen words job image → new.files ≡ old.files
+      → GenEnd job.loopback (first_chip job.options image) (commands job.number) old.net new.net old.sink new.sink bench status → Ended words old new bench status
+  probed : (job : Probe) (commands : List Command) → IsAcceptedProbe words old.files.held job commands → new.files.asked ≡ asked_more job.script old.files.asked
+      → ProbeEnd job.at commands old.net new.net old.sink new.sink status → bench ≡ None → Ended words old new bench status
+  served : (job : Chip) (image : List ℕ) → IsAcceptedChip words old.files.held job image → new.files.asked ≡ asked_image job old.files
+      → ServedAt job.at old.net new.net old.sink new.sink (Some (first_chip job.options image)) bench status → Ended words old new bench status

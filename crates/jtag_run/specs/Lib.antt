@@ -1,0 +1,15 @@
+pub mod Ended
+pub mod Ending
+pub mod First
+pub mod LastLine
+pub mod Opening
+pub mod Outside
+pub mod Ran
+pub mod Refusal
+pub mod ScriptFault
+pub mod ScriptText
+pub mod ServedChip
+pub mod Sessions
+pub mod Status
+pub mod Summary
+pub mod Words

@@ -1,0 +1,65 @@
+-- A session over the chip on a bench, straight or over a connection of the machine to itself, and a session over a net: what it did there.
+-- The program is this project's own.
+use Rattle.std.specs.Prelude.{◌≡◌, ℕ, List, [], Bool, true, false, Option, Some}
+use Rattle.bench_links.specs.Looped.{looped}
+use Rattle.chip_core.specs.Feeds.{far_of, nothing_coming}
+use Rattle.debug_model.specs.declared.command.Command.{Command}
+use Rattle.debug_model.specs.Chip.{Live}
+use Rattle.debug_model.specs.Loaded.{AsLoaded}
+use Rattle.debug_model.specs.Net.{coming_of}
+use Rattle.jtag_net.specs.Wired.{summed}
+use Rattle.jtag_run.specs.Opening.{Joined}
+use Rattle.jtag_run.specs.Outside.{NetSeen}
+use Rattle.probe_session.specs.declared.ended.Ended.{Ended as End}
+use Rattle.probe_session.specs.declared.ended.Ended.TheVariants as ends
+use Rattle.wire_session.specs.Seen.{SinkSeen, WireSeen}
+use Rattle.wire_session.specs.WireSession.{WireSession}
+
+-- a bench whose chip is as it was loaded
+pub record IsFresh (bench : Option Live) : Type 0 where
+  pub first : Live
+  pub is : bench ≡ Some first
+  pub as_loaded : AsLoaded first
+
+-- ---- over the chip on a bench
+
+-- a wire that ends at a bench, with these answers unread and so many faults counted
+abbrev pub at_bench : Option Live → List ℕ → ℕ → WireSeen
+at_bench bench unread faults = record { far = far_of bench unread; coming = nothing_coming; faults = faults }
+
+-- over a wire that is the bench's own no register of the chip is refused, and none fails before the limit
+abbrev pub IsBenchEnd : End → (limit : Bool) → Type 0
+IsBenchEnd ends.Clean limit = Unit {0}
+IsBenchEnd ends.WithErrors limit = Unit {0}
+IsBenchEnd (ends.Target fault) limit = ⊥
+IsBenchEnd (ends.Wire why) limit = limit ≡ true
+IsBenchEnd (ends.Lost why) limit = Unit {0}
+IsBenchEnd ends.Sink limit = Unit {0}
+
+-- by the chip that the bench had first, the sink before and behind the session, and the bench behind the end of the stream
+pub record OnBench (first : Live) (script : List Command) (was is : SinkSeen) (bench : Option Live) (limit : Bool) (closed : End) : Type 0 where
+  pub unread : List ℕ
+  pub session : WireSession script (at_bench (Some first) [] 0) (at_bench bench unread 0) was is closed
+  pub possible : IsBenchEnd closed limit
+
+-- the same over both ends of a net that was joined: its faults, its ends, and bytes that came out otherwise than they were put are faults of the wire
+pub record OnLoop (first : Live) (script : List Command) (net_was net_is : NetSeen) (was is : SinkSeen) (bench : Option Live) (closed : End) : Type 0 where
+  pub unread : List ℕ
+  pub differences : ℕ
+  pub session : WireSession script (at_bench (Some first) [] (looped 0 net_was.faults net_was.ends)) (at_bench bench unread (looped differences net_is.faults net_is.ends)) was is closed
+  pub ties : net_is.state.ties ≡ net_was.state.ties
+
+-- straight, and the net stays as it is; or over the net, which was joined for it
+pub data Carried (loopback : Bool) (first : Live) (script : List Command) (net_was net_is : NetSeen) (was is : SinkSeen) (bench : Option Live) (limit : Bool) (closed : End) : Type 0 where
+  straight : loopback ≡ false → net_is ≡ net_was → OnBench first script was is bench limit closed → Carried loopback first script net_was net_is was is bench limit closed
+  over_net : (mid : NetSeen) → loopback ≡ true → Joined net_was mid → OnLoop first script mid net_is was is bench closed → Carried loopback first script net_was net_is was is bench limit closed
+
+-- ---- over a net
+
+-- the near end of a net as a wire: its faults and its ends are faults of the wire
+abbrev pub wired : NetSeen → WireSeen
+wired net = record { far = net.state.chip; coming = coming_of net.state; faults = summed net.faults net.ends }
+
+pub record OnNet (script : List Command) (net_was net_is : NetSeen) (was is : SinkSeen) (closed : End) : Type 0 where
+  pub session : WireSession script (wired net_was) (wired net_is) was is closed
+  pub ties : net_is.state.ties ≡ net_was.state.ties

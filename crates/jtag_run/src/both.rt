@@ -1,0 +1,83 @@
+//! A chip and a probe in one process: the session of a script, straight to the chip on the bench or over a connection of the machine to itself.
+
+ghost use Rattle.std.specs.Prelude.{◌≡◌, ◌≤◌, IfSome, None};
+ghost use Rattle.jtag_run.specs.Ended.{RanBoth};
+ghost use Rattle.jtag_run.specs.Ran.{BenchEnd, LoopEnd};
+ghost use Rattle.jtag_run.specs.Sessions.{IsFresh};
+ghost use Rattle.jtag_run.specs.Words.{both_value};
+ghost use Rattle.jtag_words.specs.Words.{InRange, least_busy, least_piece, most_busy, most_piece};
+
+use crate::last_line::{refuse, tell};
+use crate::opening::refusal_of;
+use crate::prepare::prepare;
+use crate::sessions::{run_on_bench, run_on_loop};
+use crate::status::Status;
+use crate::words::BothJob;
+use chip_core::Bench;
+use debug_model::{Net, Schedule, Script};
+use jt_base::{Files, Sink};
+use std::alloc::Global;
+use sys_events::SeedSchedule;
+
+/// Runs the session of a script on a bench, whose chip is as it was loaded, over a wire that carries pieces of at most `piece` bytes, from 1 to 256; ends
+/// the stream, and says what came of it. It takes no memory.
+pub fn both_with<Q: Schedule, K: Sink>(
+    script: &Script,
+    bench: &mut Bench<Q>,
+    piece: usize,
+    out: &mut K,
+) -> Status
+    requires piece { (1 ≤ piece) × (piece ≤ 256) }
+    requires fresh { IsFresh bench.old }
+    ensures ended { IfSome bench.old (λ first. BenchEnd first script.now (record { printed = K.contents out.old; faults = K.fault_count out.old }) (record { printed = K.contents out.new; faults = K.fault_count out.new }) bench.new result) }
+{
+    let ended = run_on_bench(script, bench, piece, out);
+    tell(out, ended, bench.at_limit())
+}
+
+/// The same over a connection of the machine to itself, which this opens.
+fn loop_with<N: Net, Q: Schedule, K: Sink>(
+    alloc: Global,
+    script: &Script,
+    net: &mut N,
+    bench: &mut Bench<Q>,
+    out: &mut K,
+) -> Status
+    requires unopened { (N.state net.old).ties.opening ≡ None }
+    requires fresh { IsFresh bench.old }
+    ensures ended { IfSome bench.old (λ first. LoopEnd first script.now (record { state = N.state net.old; peer = N.peer net.old; faults = N.fault_count net.old; ends = N.end_count net.old }) (record { state = N.state net.new; peer = N.peer net.new; faults = N.fault_count net.new; ends = N.end_count net.new }) (record { printed = K.contents out.old; faults = K.fault_count out.old }) (record { printed = K.contents out.new; faults = K.fault_count out.new }) bench.new result) }
+{
+    match net.join(alloc) {
+        Ok(()) => {
+            let ended = run_on_loop(script, net, bench, out);
+            tell(out, ended, bench.at_limit())
+        }
+        Err(fault) => refuse(out, refusal_of(fault)),
+    }
+}
+
+/// Reads and loads what this job names, and runs its session. Nothing is opened where the script or the image is refused, and the bench stays as it was then.
+pub fn run_both<F: Files, N: Net, K: Sink>(
+    alloc: Global,
+    job: &BothJob,
+    files: &mut F,
+    net: &mut N,
+    out: &mut K,
+    bench: &mut Bench<SeedSchedule>,
+) -> Status
+    requires piece { InRange least_piece most_piece job.now.piece }
+    requires busy { InRange least_busy most_busy job.now.options.busy }
+    requires unopened { (N.state net.old).ties.opening ≡ None }
+    ensures ended { RanBoth (both_value job.now) (record { files = record { held = F.held files.old; asked = F.asked files.old; faults = F.fault_count files.old }; net = record { state = N.state net.old; peer = N.peer net.old; faults = N.fault_count net.old; ends = N.end_count net.old }; sink = record { printed = K.contents out.old; faults = K.fault_count out.old } }) (record { files = record { held = F.held files.new; asked = F.asked files.new; faults = F.fault_count files.new }; net = record { state = N.state net.new; peer = N.peer net.new; faults = N.fault_count net.new; ends = N.end_count net.new }; sink = record { printed = K.contents out.new; faults = K.fault_count out.new } }) bench.old bench.new result }
+{
+    match prepare(alloc, job, files, bench) {
+        Ok(script) => {
+            if job.loopback {
+                loop_with(alloc, &script, net, bench, out)
+            } else {
+                both_with(&script, bench, usize::from(job.piece), out)
+            }
+        }
+        Err(refusal) => refuse(out, refusal),
+    }
+}

@@ -1,0 +1,27 @@
+//! The whole program as one call: words, files, image and script, the chip on its bench, the session or the serving, and the status with its last line.
+//!
+//! `run` says of every run of every list of words what was printed and left, and why it ended so. `both_with` is a session over a chip on a bench with any schedule.
+//! Whatever lies outside, files, net and sink, is a bound: what they tell is what the clauses speak of.
+#![tactic(auto)]
+
+mod both;
+mod chip;
+mod generated;
+mod last_line;
+mod lines;
+mod opening;
+mod prepare;
+mod probe;
+mod program;
+mod refusal;
+mod script_text;
+mod sessions;
+mod status;
+mod summary;
+mod words;
+
+pub use both::both_with;
+pub use last_line::refuse;
+pub use refusal::Refusal;
+pub use program::run;
+pub use status::Status;

@@ -1,0 +1,68 @@
+//! Sessions over the wires that a job has: to a bench, over both ends of a joined net to a bench, and over a net.
+
+ghost use Rattle.std.specs.Prelude.{◌≡◌, ◌≤◌, IfSome, None, true};
+ghost use Rattle.chip_core.specs.Feeds.{limit_met};
+ghost use Rattle.debug_model.specs.Net.{IsJoined};
+ghost use Rattle.debug_model.specs.Told.{IsAsLoaded, IsRead};
+ghost use Rattle.jtag_run.specs.Sessions.{IsFresh, OnBench, OnLoop, OnNet};
+ghost use Rattle.probe_session.specs.Causes.{SinkCaused};
+ghost use Rattle.wire_session.specs.Closing.{IsOfRegister};
+
+use bench_links::LoopWire;
+use chip_core::{Bench, BenchWire};
+use debug_model::{Net, Schedule, Script};
+use jt_base::Sink;
+use jtag_net::NetWire;
+use probe_session::Ended;
+use wire_session::run_session;
+
+/// Runs the script over a wire to the bench, in pieces of at most `piece` bytes, from 1 to 256.
+pub fn run_on_bench<Q: Schedule, K: Sink>(
+    script: &Script,
+    bench: &mut Bench<Q>,
+    piece: usize,
+    out: &mut K,
+) -> Ended
+    requires piece { (1 ≤ piece) × (piece ≤ 256) }
+    requires fresh { IsFresh bench.old }
+    ensures ran { IfSome bench.old (λ first. OnBench first script.now (record { printed = K.contents out.old; faults = K.fault_count out.old }) (record { printed = K.contents out.new; faults = K.fault_count out.new }) bench.new (limit_met bench.new) result) }
+    ensures of_register { IsOfRegister result }
+    ensures sink_cause { SinkCaused (K.fault_count out.old) (K.fault_count out.new) result }
+    ensures sink_later { K.fault_count out.old ≤ K.fault_count out.new }
+{
+    let mut wire = BenchWire::new(bench, piece);
+    run_session(&mut wire, script, out)
+}
+
+/// Runs the script over both ends of a joined net, with the bench at its far end.
+pub fn run_on_loop<N: Net, Q: Schedule, K: Sink>(
+    script: &Script,
+    net: &mut N,
+    bench: &mut Bench<Q>,
+    out: &mut K,
+) -> Ended
+    requires joined { IsJoined (N.state net.old) }
+    requires fresh { IsFresh bench.old }
+    ensures ran { IfSome bench.old (λ first. OnLoop first script.now (record { state = N.state net.old; peer = N.peer net.old; faults = N.fault_count net.old; ends = N.end_count net.old }) (record { state = N.state net.new; peer = N.peer net.new; faults = N.fault_count net.new; ends = N.end_count net.new }) (record { printed = K.contents out.old; faults = K.fault_count out.old }) (record { printed = K.contents out.new; faults = K.fault_count out.new }) bench.new result) }
+    ensures of_register { IsOfRegister result }
+    ensures sink_cause { SinkCaused (K.fault_count out.old) (K.fault_count out.new) result }
+    ensures sink_later { K.fault_count out.old ≤ K.fault_count out.new }
+{
+    let mut wire = LoopWire::new(net, bench);
+    run_session(&mut wire, script, out)
+}
+
+/// Runs the script over the near end of a net. Where the net tells its chip, that is as it was loaded, and no answer is unread.
+pub fn run_on_net<N: Net, K: Sink>(script: &Script, net: &mut N, out: &mut K) -> Ended
+    requires opened { (N.state net.old).near_open ≡ true }
+    requires plain { (N.state net.old).pipe ≡ None }
+    requires loaded { IsAsLoaded (N.state net.old).chip }
+    requires read { IsRead (N.state net.old).chip }
+    ensures ran { OnNet script.now (record { state = N.state net.old; peer = N.peer net.old; faults = N.fault_count net.old; ends = N.end_count net.old }) (record { state = N.state net.new; peer = N.peer net.new; faults = N.fault_count net.new; ends = N.end_count net.new }) (record { printed = K.contents out.old; faults = K.fault_count out.old }) (record { printed = K.contents out.new; faults = K.fault_count out.new }) result }
+    ensures of_register { IsOfRegister result }
+    ensures sink_cause { SinkCaused (K.fault_count out.old) (K.fault_count out.new) result }
+    ensures sink_later { K.fault_count out.old ≤ K.fault_count out.new }
+{
+    let mut wire = NetWire::new(net);
+    run_session(&mut wire, script, out)
+}

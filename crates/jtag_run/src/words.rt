@@ -1,0 +1,119 @@
+//! The job that the words behind the program's name write.
+
+ghost use Rattle.std.specs.Prelude.{◌≡◌, IfOk, IfErr, Some, map, string_bytes};
+ghost use Rattle.jtag_run.specs.Refusal.{WordsCause};
+ghost use Rattle.jtag_run.specs.Words.{IsWork, HasWorkRanges};
+ghost use Rattle.jtag_words.specs.Job.{both, inputs_value, job_value};
+ghost use Rattle.jtag_words.specs.Words.{HasRanges, job_of};
+
+use crate::refusal::Refusal;
+use jtag_words::{ChipOptions, Inputs, Job, WordsFault, read_words};
+use std::alloc::Global;
+
+/// A chip and a probe in one process, with an image and a script from two files.
+#[derive(Drop)]
+pub struct BothJob {
+    /// The file of the chip's image.
+    pub image: String,
+    /// The file of the session's script.
+    pub script: String,
+    /// How the chip is made.
+    pub options: ChipOptions,
+    /// The most bytes of a piece of the stream, from 1 to 256.
+    pub piece: u16,
+    /// Whether the stream goes over a connection of the machine to itself.
+    pub loopback: bool,
+}
+
+/// A chip and a probe in one process, with an image and a script that are made from a number.
+#[derive(Drop)]
+pub struct GenJob {
+    /// The number that both are made from.
+    pub number: u64,
+    /// How the chip is made.
+    pub options: ChipOptions,
+    /// The most bytes of a piece of the stream, from 1 to 256.
+    pub piece: u16,
+    /// Whether the stream goes over a connection of the machine to itself.
+    pub loopback: bool,
+}
+
+/// A probe alone, which connects to a chip over a net.
+#[derive(Drop)]
+pub struct ProbeJob {
+    /// The address of the chip.
+    pub at: String,
+    /// The file of the session's script.
+    pub script: String,
+}
+
+/// A chip that another debugger drives over a net.
+#[derive(Drop)]
+pub struct ChipJob {
+    /// The address at which the chip waits for its client.
+    pub at: String,
+    /// The file of the chip's image.
+    pub image: String,
+    /// How the chip is made.
+    pub options: ChipOptions,
+}
+
+/// What the program is to do.
+#[derive(Drop)]
+pub enum Work {
+    /// Chip and probe in one process.
+    Both(BothJob),
+    /// The same, with what is made from a number.
+    Gen(GenJob),
+    /// The probe alone.
+    Probe(ProbeJob),
+    /// The chip alone.
+    Chip(ChipJob),
+}
+
+/// A chip and a probe in one process, by where the image and the script come from.
+fn work_over(inputs: Inputs, options: ChipOptions, piece: u16, loopback: bool) -> Work
+    ensures work { IsWork (Some (both (inputs_value inputs) options piece loopback)) result }
+    ensures ranges { HasRanges (both (inputs_value inputs) options piece loopback) → HasWorkRanges result }
+{
+    match inputs {
+        Inputs::Files { image, script } => Work::Both(BothJob {
+            image,
+            script,
+            options,
+            piece,
+            loopback,
+        }),
+        Inputs::Gen(number) => Work::Gen(GenJob {
+            number,
+            options,
+            piece,
+            loopback,
+        }),
+    }
+}
+
+/// The work of a job.
+fn work_of(job: Job) -> Work
+    ensures work { IsWork (Some (job_value job)) result }
+    ensures ranges { HasRanges (job_value job) → HasWorkRanges result }
+{
+    match job {
+        Job::Both(inputs, options, piece, loopback) => work_over(inputs, options, piece, loopback),
+        Job::Probe { at, script } => Work::Probe(ProbeJob { at, script }),
+        Job::Chip { at, image, options } => Work::Chip(ChipJob { at, image, options }),
+    }
+}
+
+/// The job that the words behind the program's name write.
+pub fn read_work(alloc: Global, words: &[String]) -> Result<Work, Refusal<'static>>
+    ensures work { IfOk result (IsWork (job_of (map string_bytes words.now))) }
+    ensures ranges { IfOk result HasWorkRanges }
+    ensures cause { IfErr result (WordsCause (map string_bytes words.now)) }
+{
+    match read_words(alloc, words) {
+        Ok(job) => Ok(work_of(job)),
+        Err(WordsFault::Refused) => Err(Refusal::Words),
+        Err(WordsFault::NoMemory) => Err(Refusal::OutOfMemory),
+    }
+}

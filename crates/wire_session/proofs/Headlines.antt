@@ -1,0 +1,66 @@
+-- The sentences of the headline, of a session over a wire that tells a chip as it was loaded.
+use Rattle.std.proofs.Common.{◌≡◌, ◌∙◌, ℕ, All, Bool, List, Option, Some, None, IfSome, refl, sym, ap, subst}
+use Rattle.std.proofs.lemmas.Option.{same_Some}
+use Rattle.rv_model.specs.Board.{machine_of}
+use Rattle.chip_laws.proofs.Timing.{timing_decides}
+use Rattle.chip_laws.proofs.Turns.{at_its_start, fresh_offers}
+use Rattle.debug_model.specs.declared.command.Command.{Command}
+use Rattle.debug_model.specs.declared.event.Event.{Event}
+use Rattle.debug_model.specs.Chip.{Chip, Live}
+use Rattle.debug_model.specs.Command.{IsWithinRanges}
+use Rattle.debug_model.specs.Loaded.{AsLoaded}
+use Rattle.debug_model.specs.Offered.{HasOfferedTurns, Timing, TurnsOffered, timing_of}
+use Rattle.debug_model.specs.Schedule.{Plan, at_start}
+use Rattle.debug_model.specs.Ties.{timing_told}
+use Rattle.debug_model.specs.Told.{Far, IsAsLoaded, chip_of}
+use Rattle.debugger_laws.specs.Debugger.{session}
+use Rattle.debugger_laws.proofs.ScriptLemmas.{first_match}
+use Rattle.debugger_laws.proofs.Transparency.{transparent}
+use Rattle.probe_session.specs.declared.ended.Ended.{Ended as End}
+use Rattle.probe_session.specs.declared.ended.Ended.TheVariants as ends
+use Rattle.probe_session.specs.declared.fault.LostCause.TheVariants as lost
+use Rattle.probe_session.specs.Transcribed.{Still, TranscribedAs, WrittenAs, shown}
+use Rattle.probe_session.proofs.Transcribing.{loaded_fresh}
+use Rattle.wire_session.specs.Headline.{Headline, IsUndebugged, UndebuggedBehind, board_of, journal_of}
+
+undebugged_by : (script : List Command) (first last : Far) → (shown script first last).world.board ≡ board_of last.live → IsUndebugged script first.live last.live
+undebugged_by script first last same = ap machine_of (sym same) ∙ transparent (session script) (board_of first.live) (journal_of last.live)
+
+undebugged_behind : (script : List Command) (was is : Option (List ℕ)) (first last : Far) (e : End) → WrittenAs script was is first last e → UndebuggedBehind e script first.live last.live
+undebugged_behind script was is first last ends.Clean w = undebugged_by script first last w.board_is
+undebugged_behind script was is first last ends.WithErrors w = undebugged_by script first last w.board_is
+undebugged_behind script was is first last (ends.Target fault) w = tt
+undebugged_behind script was is first last (ends.Wire why) w = tt
+undebugged_behind script was is first last (ends.Lost lost.DmiFailed) w = tt
+undebugged_behind script was is first last (ends.Lost lost.StillBusy) w = tt
+undebugged_behind script was is first last (ends.Lost (lost.NoHalt looks)) w = undebugged_by script first last w.board_is
+undebugged_behind script was is first last (ends.Lost (lost.NoAck looks)) w = undebugged_by script first last w.board_is
+undebugged_behind script was is first last (ends.Lost (lost.Odd word)) w = tt
+undebugged_behind script was is first last ends.Sink w = undebugged_by script first last w.board_is
+
+-- the harts have had just the turns of the schedule with which the chip was loaded
+turns_behind : (first : Live) (c : Chip) → AsLoaded first → timing_of c ≡ timing_of first.chip → TurnsOffered first.chip.inside.plan c
+turns_behind first c a same =
+    let offered : HasOfferedTurns c = (timing_decides c).0 (ap (λ (t : Timing). t.offered) same ∙ (timing_decides first.chip).1 (fresh_offers first a)) in
+    let plan : at_start c.inside.plan ≡ first.chip.inside.plan =
+    ap (λ (r : List (List Event)). record { rounds = r; place = 0 }) (ap (λ (t : Timing). t.rounds) same) ∙ at_its_start first a in
+    subst (λ (p : Plan). TurnsOffered p c) plan offered
+
+headline_of : (script : List Command) (was is : Option (List ℕ)) (first last : Far) (e : End) → AsLoaded first.live → All IsWithinRanges script → WrittenAs script was is first last e
+    → timing_of (chip_of last) ≡ timing_of (chip_of first) → Headline script was is first last e
+headline_of script was is first last e a within w same = record {
+  written = w;
+  undebugged = undebugged_behind script was is first last e w;
+  first_match = first_match (board_of first.live) script (journal_of last.live) within (loaded_fresh first.live a);
+  turns = turns_behind first.live (chip_of last) a same;
+}
+
+-- where the wire tells its chip
+pub headline_told : (script : List Command) (was is : Option (List ℕ)) (old mid : Option Far) (e : End) → IsAsLoaded old → All IsWithinRanges script → TranscribedAs script was is old mid e
+    → timing_told mid ≡ timing_told old → IfSome old (λ first. Still (λ last. Headline script was is first last e) mid)
+headline_told script was is None mid e a within told same = tt
+headline_told script was is (Some first) mid e a within told same = record {
+  far = told.far;
+  is = told.is;
+  holds = headline_of script was is first told.far e a within told.holds (same_Some _ _ (ap timing_told (sym told.is) ∙ same));
+}

@@ -1,0 +1,3 @@
+pub mod Headlines
+mod StreamEnds
+mod Loads

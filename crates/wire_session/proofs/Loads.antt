@@ -1,0 +1,23 @@
+-- A chip as it was loaded, of which no answer is unread, may be operated.
+use Rattle.std.proofs.Common.{◌≡◌, ℕ, List, [], Option, Some, None, refl, sym, subst, inl, inr}
+use Rattle.rv_model.specs.Board.{Board}
+use Rattle.debug_model.specs.Chip.{Live}
+use Rattle.debug_model.specs.Dmi.{CanOperate}
+use Rattle.debug_model.specs.Loaded.{live, loaded_board, loaded_chip}
+use Rattle.debug_model.specs.Schedule.{Plan}
+use Rattle.debug_model.specs.Told.{Far, IsAsLoaded, IsRead}
+
+operates_at : (board : Board) (plan : Plan) (unread : List ℕ) → unread ≡ [] → CanOperate (Some (record { live = live (loaded_chip board plan); unread = unread }))
+operates_at board plan unread read = record {
+  unended = tt;
+  read = read;
+  free = refl;
+  rest = inl refl;
+  clean = record { none_in_flight = refl; clear = refl; not_failed = refl };
+}
+
+pub loaded_operates : (told : Option Far) → IsAsLoaded told → IsRead told → CanOperate told
+loaded_operates None loaded read = record { unended = tt; read = tt; free = tt; rest = tt; clean = tt }
+loaded_operates (Some f) loaded read =
+    subst (λ (l : Live). CanOperate (Some (record { live = l; unread = f.unread }))) (sym loaded.is)
+    (operates_at (loaded_board loaded.image loaded.harts loaded.ram loaded.halted) loaded.plan f.unread read)

@@ -1,0 +1,104 @@
+-- The end of a stream, over plain variables: `Q` ends the chip and changes nothing else of it.
+use Rattle.std.proofs.Common.{◌≡◌, ◌∙◌, ◌++◌, ℕ, Bool, true, false, List, [], ◌∷◌, Option, Some, None, option_map, refl, sym, ap, subst}
+use Rattle.debug_model.specs.declared.chip_end.ChipEnd.{ChipEnd}
+use Rattle.debug_model.specs.declared.command.Command.{Command}
+use Rattle.debug_model.specs.declared.wire.WireFault.{WireFault}
+use Rattle.debug_model.specs.Chip.{Chip, Live, feed}
+use Rattle.debug_model.specs.Dmi.{CanQuit}
+use Rattle.debug_model.specs.Offered.{Timing, timing_of}
+use Rattle.debug_model.specs.Ties.{Ties, timing_told}
+use Rattle.debug_model.specs.Told.{Far, chip_of}
+use Rattle.debug_model.specs.Wire.{SentFront, sent}
+use Rattle.probe_session.specs.declared.ended.Ended.{Ended as End}
+use Rattle.probe_session.specs.declared.ended.Ended.TheVariants as ends
+use Rattle.probe_run.specs.Acts.{Tells}
+use Rattle.probe_session.specs.Causes.{SinkCaused}
+use Rattle.probe_session.specs.Scripts.{EndedAs}
+use Rattle.wire_session.specs.Closing.{Closes, IsOfRegister, quit, sends_quit, unclosed}
+use Rattle.wire_session.specs.Closing.Closes.{behind_fault, quitted, unquitted}
+use Rattle.wire_session.specs.Seen.{WireSeen}
+use Rattle.wire_session.specs.Session.{LeavesWire}
+use Rattle.wire_session.specs.WireSession.{IsTimed}
+
+pub can_quit : (far : Option Far) (e : End) → sends_quit e ≡ true → LeavesWire far e → CanQuit far
+can_quit far ends.Clean sends left = left
+can_quit far ends.WithErrors sends left = left
+can_quit far (ends.Target fault) sends left = left
+can_quit far (ends.Wire why) sends left = absurd (let none : ⊥ = cc in none)
+can_quit far (ends.Lost why) sends left = left
+can_quit far ends.Sink sends left = left
+
+-- ---- the chip
+
+quits_at : (c : Chip) (ended : Option ChipEnd) → (feed (record { chip = c; ended = ended }) quit).chip ≡ c
+unfolding feed
+quits_at c None = refl
+quits_at c (Some end) = refl
+
+sent_chip : (f : Far) → chip_of (sent quit f) ≡ chip_of f
+sent_chip f = quits_at f.live.chip f.live.ended
+
+unsent_chip : (f : Far) → chip_of (sent [] f) ≡ chip_of f
+unfolding feed
+unsent_chip f = refl
+
+front_chip : (f : Far) (front back : List ℕ) → quit ≡ front ++ back → chip_of (sent front f) ≡ chip_of f
+front_chip f [] back cut = unsent_chip f
+front_chip f (b ∷ []) back cut = let same : b ≡ 81 = cc in ap (λ x. chip_of (sent (x ∷ []) f)) same ∙ sent_chip f
+front_chip f (b ∷ c ∷ more) back cut = absurd (let none : ⊥ = cc in none)
+
+sent_timing : (mid : Option Far) → timing_told (option_map (sent quit) mid) ≡ timing_told mid
+sent_timing None = refl
+sent_timing (Some f) = ap (λ c. Some (timing_of c)) (sent_chip f)
+
+front_timing : (mid new : Option Far) → SentFront quit mid new → timing_told new ≡ timing_told mid
+front_timing None new none = ap timing_told none
+front_timing (Some f) new some = ap timing_told some.3 ∙ ap (λ c. Some (timing_of c)) (front_chip f some.0 some.1 some.2)
+
+closes_timing : (mid new : WireSeen) (end closed : End) → Closes mid new end closed → timing_told new.far ≡ timing_told mid.far
+closes_timing mid new end closed (behind_fault sends is same) = ap (λ (w : WireSeen). timing_told w.far) same
+closes_timing mid new end closed (quitted sends is done) = ap timing_told done.far ∙ sent_timing mid.far
+closes_timing mid new end closed (unquitted why sends is done) = front_timing mid.far new.far done.far
+
+-- what stays of a told chip's schedule is what the ties of the wire keep
+pub timing_kept : (was is : Ties) (old mid new : WireSeen) (end closed : End) → is ≡ was → IsTimed was old.far → IsTimed is new.far → Closes mid new end closed → timing_told mid.far ≡ timing_told old.far
+timing_kept was is old mid new end closed same before behind closes =
+    sym (closes_timing mid new end closed closes) ∙ sym behind ∙ ap (λ (t : Ties). t.timing) same ∙ before
+
+-- ---- a chip that was refused
+
+register_end : (script : List Command) (a b c d : ℕ) (old new : Tells) (was is : Option (List ℕ)) (e : End) → EndedAs script a b old new c d was is e → IsOfRegister e
+register_end script a b c d old new was is ends.Clean ended = tt
+register_end script a b c d old new was is ends.WithErrors ended = tt
+register_end script a b c d old new was is (ends.Target fault) ended = ended.register
+register_end script a b c d old new was is (ends.Wire why) ended = tt
+register_end script a b c d old new was is (ends.Lost why) ended = tt
+register_end script a b c d old new was is ends.Sink ended = tt
+
+unclosed_register : (why : WireFault) (e : End) → IsOfRegister (unclosed why e)
+unclosed_register why ends.Clean = tt
+unclosed_register why ends.WithErrors = tt
+unclosed_register why (ends.Target fault) = tt
+unclosed_register why (ends.Wire first) = tt
+unclosed_register why (ends.Lost cause) = tt
+unclosed_register why ends.Sink = tt
+
+pub of_register : (script : List Command) (a b c d : ℕ) (old new : Tells) (was is : Option (List ℕ)) (mid last : WireSeen) (e closed : End) → EndedAs script a b old new c d was is e → Closes mid last e closed → IsOfRegister closed
+of_register script a b c d old new was is mid last e closed ended (behind_fault sends same kept) = subst IsOfRegister (sym same) (register_end script a b c d old new was is e ended)
+of_register script a b c d old new was is mid last e closed ended (quitted sends same done) = subst IsOfRegister (sym same) (register_end script a b c d old new was is e ended)
+of_register script a b c d old new was is mid last e closed ended (unquitted why sends same done) = subst IsOfRegister (sym same) (unclosed_register why e)
+
+-- ---- a line that could not be written
+
+unclosed_sink : (a b : ℕ) (why : WireFault) (e : End) → SinkCaused a b e → SinkCaused a b (unclosed why e)
+unclosed_sink a b why ends.Clean caused = tt
+unclosed_sink a b why ends.WithErrors caused = tt
+unclosed_sink a b why (ends.Target fault) caused = tt
+unclosed_sink a b why (ends.Wire first) caused = tt
+unclosed_sink a b why (ends.Lost cause) caused = tt
+unclosed_sink a b why ends.Sink caused = caused
+
+pub closes_sink : (a b : ℕ) (mid last : WireSeen) (e closed : End) → SinkCaused a b e → Closes mid last e closed → SinkCaused a b closed
+closes_sink a b mid last e closed caused (behind_fault sends same kept) = subst (SinkCaused a b) (sym same) caused
+closes_sink a b mid last e closed caused (quitted sends same done) = subst (SinkCaused a b) (sym same) caused
+closes_sink a b mid last e closed caused (unquitted why sends same done) = subst (SinkCaused a b) (sym same) (unclosed_sink a b why e caused)

@@ -1,0 +1,5 @@
+pub mod Closing
+pub mod Headline
+pub mod Seen
+pub mod Session
+pub mod WireSession
