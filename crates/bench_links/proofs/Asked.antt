@@ -9,7 +9,7 @@ use Rattle.debug_model.specs.Told.{IsOpen, StaysOpen}
 use Rattle.debug_model.specs.Wire.{are_open}
 use Rattle.chip_core.specs.Feeds.{far_of, feed_of}
 use Rattle.bench_links.specs.Looped.{FedFront}
-use Rattle.bench_links.proofs.Lives.{fed_open}
+use Rattle.chip_core.proofs.Ends.{feed_stays_open}
 
 pub same_open : (bench next : Option Live) (unread kept : List ℕ) → next ≡ bench → IsOpen (far_of bench unread) → IsOpen (far_of next kept)
 same_open bench next unread kept same opens = subst (λ b. IsOpen (far_of b kept)) (sym same) (by bench opens) where
@@ -19,7 +19,7 @@ same_open bench next unread kept same opens = subst (λ b. IsOpen (far_of b kept
 
 still_open : (bench : Option Live) (unread kept bytes : List ℕ) → IsOpen (far_of bench unread) → IsTrue (are_open bytes) → IsOpen (far_of (feed_of bench bytes) kept)
 still_open None unread kept bytes opens signs = tt
-still_open (Some l) unread kept bytes opens signs = fed_open bytes l opens signs
+still_open (Some l) unread kept bytes opens signs = feed_stays_open bytes l opens signs
 
 pub fed_open_still : (bench next : Option Live) (unread kept bytes : List ℕ) → next ≡ feed_of bench bytes → IsOpen (far_of bench unread) → IsTrue (are_open bytes) → IsOpen (far_of next kept)
 fed_open_still bench next unread kept bytes fed opens signs = subst (λ b. IsOpen (far_of b kept)) (sym fed) (still_open bench unread kept bytes opens signs)

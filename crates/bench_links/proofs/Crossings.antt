@@ -8,6 +8,7 @@ use Rattle.debug_model.specs.Net.{Exchange, Gives, IsFront, MayPut, MaySend, May
 use Rattle.debug_model.specs.Told.{Far}
 use Rattle.debug_model.specs.declared.net.End.{End}
 use Rattle.debug_model.specs.declared.net.End.TheVariants as ends
+use Rattle.jtag_net.proofs.Takes.{after_twice as near_twice, front_more}
 use Rattle.bench_links.specs.Looped.{Came, Holds, is_looped, unread_at}
 
 -- ---- a looped net
@@ -97,39 +98,15 @@ none_first at into (Some p) = refl
 pub nothing_came : (at : End) (into : List ℕ) (s : NetState) → Came at 0 into s s
 nothing_came at into s = record { is = nothing_taken at s; of_pipe = none_first at into s.pipe }
 
-read_twice : (a n : ℕ) (told : Option Far) → option_map (read_on n) (option_map (read_on a) told) ≡ option_map (read_on (a + n)) told
-read_twice a n None = refl
-read_twice a n (Some f) = ap (λ xs. Some (record f { unread = xs })) (drop-drop n a f.unread)
-
-without_twice : (a n : ℕ) (told : Option Exchange) → option_map (without n) (option_map (without a) told) ≡ option_map (without (a + n)) told
-without_twice a n None = refl
-without_twice a n (Some e) = ap (λ xs. Some (record e { coming = xs })) (drop-drop n a e.coming)
-
-taken_twice : (at : End) (a n : ℕ) (told : Option Pipe) → option_map (taken_at at n) (option_map (taken_at at a) told) ≡ option_map (taken_at at (a + n)) told
-taken_twice at a n None = refl
-taken_twice ends.Near a n (Some p) = ap (λ xs. Some (record p { near = xs })) (drop-drop n a p.near)
-taken_twice ends.Far a n (Some p) = ap (λ xs. Some (record p { far = xs })) (drop-drop n a p.far)
+taken_twice : (a n : ℕ) (told : Option Pipe) → option_map (take_far n) (option_map (take_far a) told) ≡ option_map (take_far (a + n)) told
+taken_twice a n None = refl
+taken_twice a n (Some p) = ap (λ xs. Some (record p { far = xs })) (drop-drop n a p.far)
 
 after_twice : (at : End) (a n : ℕ) (s : NetState) → after_take at n (after_take at a s) ≡ after_take at (a + n) s
-after_twice ends.Near a n s =
-    ap (λ g. record s { near_given = g; chip = option_map (read_on n) (option_map (read_on a) s.chip); script = option_map (without n) (option_map (without a) s.script); pipe = option_map (take_near n) (option_map (take_near a) s.pipe) }) (add_assoc s.near_given a n)
-    ∙ ap (λ c. record s { near_given = s.near_given + (a + n); chip = c; script = option_map (without n) (option_map (without a) s.script); pipe = option_map (take_near n) (option_map (take_near a) s.pipe) }) (read_twice a n s.chip)
-    ∙ ap (λ e. record s { near_given = s.near_given + (a + n); chip = option_map (read_on (a + n)) s.chip; script = e; pipe = option_map (take_near n) (option_map (take_near a) s.pipe) }) (without_twice a n s.script)
-    ∙ ap (λ p. record s { near_given = s.near_given + (a + n); chip = option_map (read_on (a + n)) s.chip; script = option_map (without (a + n)) s.script; pipe = p }) (taken_twice ends.Near a n s.pipe)
+after_twice ends.Near a n s = near_twice a n s
 after_twice ends.Far a n s =
     ap (λ g. record s { far_given = g; pipe = option_map (take_far n) (option_map (take_far a) s.pipe) }) (add_assoc s.far_given a n)
-    ∙ ap (λ p. record s { far_given = s.far_given + (a + n); pipe = p }) (taken_twice ends.Far a n s.pipe)
-
--- the front of a list behind a write into the part from `a` on
-front_of_mid : (a k n : ℕ) (xs ys : List ℕ) → a ≤ length xs → n ≤ length ys → take (a + n) (put_mid a k xs ys) ≡ take a xs ++ take n ys
-front_of_mid a k n xs ys within most =
-    ap (λ m. take (m + n) (put_mid a k xs ys)) (sym (length-take-le a xs within))
-    ∙ take-append-add (take a xs) (ys ++ post_of a k xs) n
-    ∙ ap (λ l. take a xs ++ l) (take-append-le n ys (post_of a k xs) most)
-
-front_more : (a k n : ℕ) (unread into piece : List ℕ) → take a unread ≡ take a into → IsFront n piece (drop a unread) → a ≤ length into → n ≤ length piece → take (a + n) unread ≡ take (a + n) (put_mid a k into piece)
-front_more a k n unread into piece front next within most =
-    take-add a n unread ∙ ap (λ l. l ++ take n (drop a unread)) front ∙ ap (λ l. take a into ++ l) next ∙ sym (front_of_mid a k n into piece within most)
+    ∙ ap (λ p. record s { far_given = s.far_given + (a + n); pipe = p }) (taken_twice a n s.pipe)
 
 fronts : (n : ℕ) (piece : List ℕ) (told : Option Pipe) → IfSome told (λ p. IsFront n piece p.near × (0 < n)) → IfSome told (λ p. IsFront n piece p.near)
 fronts n piece None gives = tt

@@ -3,6 +3,7 @@ use Rattle.std.proofs.Common.{◌≡◌, ◌≢◌, ℕ, ◌-◌, ◌^◌, ◌<�
 use Rattle.std.proofs.lemmas.Bool.{cases_lt}
 use Rattle.std.proofs.lemmas.List.{append-nil, take_all}
 use Rattle.std.proofs.Math.Seq.{drop-length, take-length}
+use Rattle.jt_base.proofs.FaultLemmas.{rises_from}
 use Rattle.jt_base.specs.Faults.{Rises}
 use Rattle.debug_model.specs.Chip.{Live, feed, said}
 use Rattle.debug_model.specs.Net.{NetState, Pipe, PutFront, after_put, after_take, put_far, put_near, take_far}
@@ -68,17 +69,11 @@ crossed_whole bytes came old mid new room is whole = whole.is ∙ ap (λ s. afte
 
 -- ---- causes
 
-rises_later : (f m f' : ℕ) → f ≤ m → m ≤ f' → Rises m f' → Rises f f'
-rises_later f m f' more still rises below = elim (cases_lt m (2 ^ 64 - 1)) [
-  | inl under ↦ let up : m < f' = rises under in omega (arith, more, up)
-  | inr full ↦ omega (arith, still, full, below)
-]
-
 rises_same : (e k e' : ℕ) → k ≡ e → Rises k e' → Rises e e'
 rises_same e k e' same rises = subst (λ n. Rises n e') same rises
 
 pub lost_later : (why : Lost) (told : Option Pipe) (bench : Option Live) (f m f' e k e' : ℕ) → f ≤ m → m ≤ f' → k ≡ e → TakeLost m f' k e' why → LostBy told f f' e e' bench why
-lost_later lost.Failed told bench f m f' e k e' more still same cause = rises_later f m f' more still cause
+lost_later lost.Failed told bench f m f' e k e' more still same cause = rises_from f m f' more still cause
 lost_later lost.Ended told bench f m f' e k e' more still same cause = rises_same e k e' same cause
 lost_later lost.Differs told bench f m f' e k e' more still same cause = absurd cause
 lost_later lost.AtLimit told bench f m f' e k e' more still same cause = absurd cause

@@ -8,7 +8,7 @@ use Rattle.debug_model.specs.Offered.{Timing}
 use Rattle.debug_model.specs.Ties.{NetTies, Ties, timing_told}
 use Rattle.debug_model.specs.Told.{IsRead}
 use Rattle.debug_model.specs.Wire.{KeepsChip, ReadsFront, SentFront, sent}
-use Rattle.chip_laws.proofs.Timing.{feed_timing}
+use Rattle.chip_core.proofs.Timed.{fed_timing}
 use Rattle.chip_core.specs.Feeds.{far_of, feed_of, said_of}
 use Rattle.bench_links.specs.Looped.{FedFront, loop_ties, looped}
 
@@ -46,10 +46,6 @@ chip_kept (Some l) unread kept same = ([], unread, refl, ap (λ u. Some (record 
 
 -- ---- ties
 
-timing_fed : (bench : Option Live) (bytes unread kept : List ℕ) → timing_told (far_of (feed_of bench bytes) kept) ≡ timing_told (far_of bench unread)
-timing_fed None bytes unread kept = refl
-timing_fed (Some l) bytes unread kept = ap (λ (t : Timing). Some t) (feed_timing l bytes)
-
 timing_kept : (bench : Option Live) (unread kept : List ℕ) → timing_told (far_of bench kept) ≡ timing_told (far_of bench unread)
 timing_kept None unread kept = refl
 timing_kept (Some l) unread kept = refl
@@ -63,7 +59,7 @@ pub fed_ties : (net bench : GName) (lenders lenders' : List GName) (old new : Ne
     → loop_ties net bench lenders' new (far_of next kept) ≡ loop_ties net bench lenders old (far_of chip unread)
 fed_ties net bench lenders lenders' old new chip next bytes unread kept same tied fed =
     ties_of (net ∷ bench ∷ lenders) old.ties (timing_told (far_of chip unread)) (net ∷ bench ∷ lenders') new.ties (timing_told (far_of next kept))
-    (ap (λ l. net ∷ bench ∷ l) same) tied (ap (λ b. timing_told (far_of b kept)) fed ∙ timing_fed chip bytes unread kept)
+    (ap (λ l. net ∷ bench ∷ l) same) tied (ap (λ b. timing_told (far_of b kept)) fed ∙ fed_timing chip bytes unread kept)
 
 pub front_ties : (net bench : GName) (lenders lenders' : List GName) (old new : NetState) (chip next : Option Live) (bytes unread kept : List ℕ) → lenders' ≡ lenders → new.ties ≡ old.ties → FedFront bytes chip next unread kept
     → loop_ties net bench lenders' new (far_of next kept) ≡ loop_ties net bench lenders old (far_of chip unread)

@@ -40,7 +40,7 @@ taken_stays None None next l here there = tt
 taken_stays None (Some end) next l here there = there
 taken_stays (Some ended) end next l here there = here
 
-feed_stays_open : (bytes : List ℕ) (l : Live) → StaysOpen l.ended → IsTrue (are_open bytes) → StaysOpen (feed l bytes).ended
+pub feed_stays_open : (bytes : List ℕ) (l : Live) → StaysOpen l.ended → IsTrue (are_open bytes) → StaysOpen (feed l bytes).ended
 unfolding feed
 feed_stays_open [] l here opens = here
 feed_stays_open (b ∷ bs) l here opens =

@@ -1,8 +1,8 @@
 mod Counts
-mod Ends
+pub mod Ends
 mod Feeding
 mod Firsts
 mod Loads
 mod Turning
 mod Tells
-mod Timed
+pub mod Timed

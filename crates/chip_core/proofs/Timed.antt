@@ -6,7 +6,7 @@ use Rattle.debug_model.specs.Ties.{no_net, ties_told, timing_told}
 use Rattle.chip_laws.proofs.Timing.{feed_timing}
 use Rattle.chip_core.specs.Feeds.{far_of, feed_of}
 
-fed_timing : (bench : Option Live) (bytes unread items : List ℕ) → timing_told (far_of (feed_of bench bytes) items) ≡ timing_told (far_of bench unread)
+pub fed_timing : (bench : Option Live) (bytes unread items : List ℕ) → timing_told (far_of (feed_of bench bytes) items) ≡ timing_told (far_of bench unread)
 fed_timing None bytes unread items = refl
 fed_timing (Some l) bytes unread items = ap (λ (t : Timing). Some t) (feed_timing l bytes)
 

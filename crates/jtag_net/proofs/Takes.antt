@@ -9,11 +9,11 @@ use Rattle.debug_model.specs.Wire.{KeepsChip, LosesComing, ReadsFront, TakesComi
 use Rattle.debug_model.specs.declared.net.End.TheVariants as ends
 use Rattle.jtag_net.specs.Wired.{Took, TookSome, is_wired}
 
-read_twice : (a n : ℕ) (told : Option Far) → option_map (read_on n) (option_map (read_on a) told) ≡ option_map (read_on (a + n)) told
+pub read_twice : (a n : ℕ) (told : Option Far) → option_map (read_on n) (option_map (read_on a) told) ≡ option_map (read_on (a + n)) told
 read_twice a n None = refl
 read_twice a n (Some f) = ap (λ xs. Some (record f { unread = xs })) (drop-drop n a f.unread)
 
-without_twice : (a n : ℕ) (told : Option Exchange) → option_map (without n) (option_map (without a) told) ≡ option_map (without (a + n)) told
+pub without_twice : (a n : ℕ) (told : Option Exchange) → option_map (without n) (option_map (without a) told) ≡ option_map (without (a + n)) told
 without_twice a n None = refl
 without_twice a n (Some e) = ap (λ xs. Some (record e { coming = xs })) (drop-drop n a e.coming)
 
@@ -21,7 +21,7 @@ taken_twice : (a n : ℕ) (told : Option Pipe) → option_map (take_near n) (opt
 taken_twice a n None = refl
 taken_twice a n (Some p) = ap (λ xs. Some (record p { near = xs })) (drop-drop n a p.near)
 
-after_twice : (a n : ℕ) (s : NetState) → after_take ends.Near n (after_take ends.Near a s) ≡ after_take ends.Near (a + n) s
+pub after_twice : (a n : ℕ) (s : NetState) → after_take ends.Near n (after_take ends.Near a s) ≡ after_take ends.Near (a + n) s
 after_twice a n s =
     ap (λ g. record s { near_given = g; chip = option_map (read_on n) (option_map (read_on a) s.chip); script = option_map (without n) (option_map (without a) s.script); pipe = option_map (take_near n) (option_map (take_near a) s.pipe) }) (add_assoc s.near_given a n)
     ∙ ap (λ c. record s { near_given = s.near_given + (a + n); chip = c; script = option_map (without n) (option_map (without a) s.script); pipe = option_map (take_near n) (option_map (take_near a) s.pipe) }) (read_twice a n s.chip)
@@ -35,7 +35,7 @@ front_of_mid a k n xs ys within most =
     ∙ take-append-add (take a xs) (ys ++ post_of a k xs) n
     ∙ ap (λ l. take a xs ++ l) (take-append-le n ys (post_of a k xs) most)
 
-front_more : (a k n : ℕ) (unread into piece : List ℕ) → take a unread ≡ take a into → IsFront n piece (drop a unread) → a ≤ length into → n ≤ length piece → take (a + n) unread ≡ take (a + n) (put_mid a k into piece)
+pub front_more : (a k n : ℕ) (unread into piece : List ℕ) → take a unread ≡ take a into → IsFront n piece (drop a unread) → a ≤ length into → n ≤ length piece → take (a + n) unread ≡ take (a + n) (put_mid a k into piece)
 front_more a k n unread into piece front next within most =
     take-add a n unread ∙ ap (λ l. l ++ take n (drop a unread)) front ∙ ap (λ l. take a into ++ l) next ∙ sym (front_of_mid a k n into piece within most)
 
