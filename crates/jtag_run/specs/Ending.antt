@@ -4,7 +4,6 @@ use Rattle.std.specs.Prelude.{◌≡◌, Bool, true, false}
 use Rattle.jtag_run.specs.LastLine.{Closed, event_limit, lost_line, target_refused, wire_failed}
 use Rattle.jtag_run.specs.declared.status.Status.{Status}
 use Rattle.jtag_run.specs.declared.status.Status.TheVariants as status_as
-
 use Rattle.probe_session.specs.declared.ended.Ended.{Ended as End}
 use Rattle.probe_session.specs.declared.ended.Ended.TheVariants as ends
 use Rattle.wire_session.specs.Seen.{SinkSeen}

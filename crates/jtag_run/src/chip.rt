@@ -8,8 +8,8 @@ ghost use Rattle.jtag_words.specs.Words.{InRange, least_busy, most_busy};
 
 use crate::last_line::{EVENT_LIMIT, close, refuse};
 use crate::lines::{bad_byte_line, wire_failed_line};
-use crate::prepare::prepare_chip;
 use crate::opening::refusal_of;
+use crate::prepare::prepare_chip;
 use crate::status::Status;
 use crate::words::ChipJob;
 use chip_core::Bench;

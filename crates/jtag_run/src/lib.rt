@@ -22,6 +22,6 @@ mod words;
 
 pub use both::both_with;
 pub use last_line::refuse;
-pub use refusal::Refusal;
 pub use program::run;
+pub use refusal::Refusal;
 pub use status::Status;

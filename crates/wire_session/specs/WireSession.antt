@@ -5,7 +5,7 @@ use Rattle.debug_model.specs.declared.command.Command.{Command}
 use Rattle.debug_model.specs.Ties.{Ties, timing_told}
 use Rattle.debug_model.specs.Told.{Far}
 use Rattle.probe_session.specs.declared.ended.Ended.{Ended as End}
-use Rattle.probe_session.specs.Causes.{EndCaused}
+use Rattle.probe_session.specs.Causes.{EndCaused, SinkCaused}
 use Rattle.probe_session.specs.Scripts.{EndedAs}
 use Rattle.probe_session.specs.Transcribed.{Still}
 use Rattle.wire_session.specs.Closing.{Closes}
@@ -26,6 +26,8 @@ pub record WireSession (script : List Command) (old new : WireSeen) (was is : Si
   -- a wire fails by a cause that its own counts show
   pub cause : EndCaused old.faults mid.faults mid.far end
   pub later : old.faults ≤ mid.faults
+  -- a line could not be written only where the sink's own count shows it
+  pub sink_cause : SinkCaused was.faults is.faults closed
   -- where the wire tells its chip
   pub headline : IfSome old.far (λ first. Still (λ last. Headline script was.printed is.printed first last end) mid.far)
   pub leaves : LeavesWire mid.far end

@@ -13,13 +13,12 @@ ghost use Rattle.probe_session.specs.Causes.{EndCaused, SinkCaused};
 ghost use Rattle.probe_session.specs.Scripts.{EndedAs};
 ghost use Rattle.probe_session.specs.Transcribed.{TranscribedAs};
 
+use crate::stream_end::end_stream;
 use debug_model::{Scan, Script, Wire};
 use jt_base::Sink;
 use probe_dmi::Link;
 use probe_scan::Scanner;
 use probe_session::{Ended, run_script};
-
-use crate::stream_end::end_stream;
 
 // The scans and the wire are handed on by value and come back by value: what becomes of a wire that is only lent is known where it is lent, in `session`.
 

@@ -15,6 +15,7 @@ returns-clause-ran g c before behind =
       ended = c.session-ended.ensures.ended;
       cause = c.session-ended.ensures.cause;
       later = c.session-ended.ensures.later;
+      sink_cause = closes_sink _ _ mid new _ _ c.session-ended.ensures.sink_cause c.end_stream.ensures.closes;
       headline = headline_told c.args.script.now _ _ old.far mid.far c.session-ended.result c.requires.loaded c.know_ranges.ensures c.session-ended.ensures.transcribed
           (timing_kept _ _ old mid new c.session-ended.result c.end_stream.result (c.end_stream.ensures.ties ∙ c.session-ended.ensures.ties) before behind c.end_stream.ensures.closes);
       leaves = c.session-ended.ensures.leaves;
