@@ -1,12 +1,11 @@
 //! Chips that are served over nets. The stream is IEEE 1149.1's path to the device identification register, and the answers are its bits, the lowest first.
 
-ghost use Rattle.std.specs.Prelude.{◌≡◌, ◌<◌, IfOk, None};
+ghost use Rattle.std.specs.Prelude.{◌<◌};
 
-use super::{AMPLE, NO_FAILURE, PROGRAM, run_once, two_files, word_list};
+use super::{AMPLE, NO_FAILURE, PROGRAM, net_of, outcome_of, run_once, two_files, word_list};
 use chip_core::Bench;
 use debug_model::Net;
 use jt_base::MemorySink;
-use jtag_net::MemoryNet;
 use std::alloc::{AllocError, Global};
 use std::process::Abort;
 use std::test::Fail;
@@ -32,22 +31,6 @@ fn front(alloc: Global, count: usize, then: &[u8]) -> Result<Vec<u8>, AllocError
 /// The bits of 0x10d64001.
 const IDCODE_BITS: &[u8] = b"10000000000000100110101100001000";
 
-/// This input, in pieces of at most so many bytes, and the calls that are to fail: the first is the opening.
-fn net_of(
-    alloc: Global,
-    input: &[u8],
-    piece: usize,
-    room: usize,
-    fail_at: u32,
-) -> Result<MemoryNet, AllocError>
-    requires { 0 < piece }
-    ensures { IfOk result (λ net. net.opening ≡ None) }
-{
-    let mut listed = Vec::new(alloc);
-    listed.push(fail_at)?;
-    MemoryNet::new(alloc, input.to_vec(alloc)?, piece, room, listed)
-}
-
 /// What comes to a chip, and how it is given.
 #[derive(Clone, Copy)]
 struct Given<'a> {
@@ -70,15 +53,12 @@ struct Wanted<'a> {
 fn check_run(rt: &impl Abort, alloc: Global, given: &Given, wanted: &Wanted) -> Result<(), Fail>
     requires { 0 < given.now.piece }
 {
-    let words = word_list(alloc, &["chip", "--at", "here", "--image", "i"])?;
     let mut files = two_files(alloc, PROGRAM, b"", NO_FAILURE)?;
     let mut net = net_of(alloc, given.input, given.piece, given.room, given.fail_at)?;
-    let mut out = MemorySink::new(alloc, AMPLE, Vec::new(alloc))?;
-    let mut bench = Bench::blank();
-    let ended = run_once(alloc, &words, &mut files, &mut net, &mut out, &mut bench);
-    assert_eq!(rt; ended.code(), wanted.status);
+    let outcome = outcome_of(alloc, "chip --at here --image i", &mut files, &mut net)?;
+    assert_eq!(rt; outcome.status, wanted.status);
     assert_eq!(rt; net.sent(), wanted.answers);
-    assert_eq!(rt; out.bytes(), wanted.printed.as_bytes());
+    assert_eq!(rt; outcome.out.bytes(), wanted.printed.as_bytes());
     assert_eq!(rt; net.ends(), wanted.ends);
     Ok(())
 }
@@ -184,48 +164,37 @@ fn a_net_that_fails_gives_its_status(rt: HostRuntime) -> Result<(), Fail> {
 fn check_unopened(
     rt: &impl Abort,
     alloc: Global,
-    words: &[&str],
+    line: &str,
     status: u8,
     printed: &str,
 ) -> Result<(), Fail> {
-    let words = word_list(alloc, words)?;
     let mut files = two_files(alloc, PROGRAM, b"", NO_FAILURE)?;
     let mut net = net_of(alloc, b"0R4", 1, AMPLE, 0)?;
-    let mut out = MemorySink::new(alloc, AMPLE, Vec::new(alloc))?;
-    let mut bench = Bench::blank();
-    let ended = run_once(alloc, &words, &mut files, &mut net, &mut out, &mut bench);
-    assert_eq!(rt; ended.code(), status);
-    assert_eq!(rt; out.bytes(), printed.as_bytes());
-    assert_eq!(rt; bench.is_loaded(), status == 7);
+    let outcome = outcome_of(alloc, line, &mut files, &mut net)?;
+    assert_eq!(rt; outcome.status, status);
+    assert_eq!(rt; outcome.out.bytes(), printed.as_bytes());
+    assert_eq!(rt; outcome.bench.is_loaded(), status == 7);
     Ok(())
 }
 
 #[test]
 fn nothing_is_opened_before_the_image_is_loaded(rt: HostRuntime) -> Result<(), Fail> {
-    let cases: [(&[&str], u8, &str); 4] = [
+    let cases = [
+        ("chip --at here --image j", 3, "file failed: j\n"),
         (
-            &["chip", "--at", "here", "--image", "j"],
-            3,
-            "file failed: j\n",
-        ),
-        (
-            &["chip", "--at", "here", "--image", "i", "--ram", "65537"],
+            "chip --at here --image i --ram 65537",
             5,
             "image refused: fault 2\n",
         ),
+        ("chip --at here --image i --busy 33", 2, "words refused\n"),
         (
-            &["chip", "--at", "here", "--image", "i", "--busy", "33"],
-            2,
-            "words refused\n",
-        ),
-        (
-            &["chip", "--at", "here", "--image", "i", "--harts", "4"],
+            "chip --at here --image i --harts 4",
             7,
             "wire failed: open\n",
         ),
     ];
-    for (words, status, printed) in cases {
-        check_unopened(&rt, rt.alloc(), words, status, printed)?;
+    for (line, status, printed) in cases {
+        check_unopened(&rt, rt.alloc(), line, status, printed)?;
     }
     Ok(())
 }
@@ -238,7 +207,7 @@ fn check_unwritten(
     room: usize,
     printed: &str,
 ) -> Result<(), Fail> {
-    let words = word_list(alloc, &["chip", "--at", "here", "--image", "i"])?;
+    let words = word_list(alloc, "chip --at here --image i")?;
     let mut files = two_files(alloc, PROGRAM, b"", NO_FAILURE)?;
     let mut net = net_of(alloc, b"x", 1, AMPLE, NO_FAILURE)?;
     let mut listed = Vec::new(alloc);

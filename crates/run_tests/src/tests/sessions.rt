@@ -1,0 +1,172 @@
+//! Sessions straight to the chip on a bench.
+
+ghost use Rattle.std.specs.Prelude.{◌≡◌, None};
+
+use super::{Held, NO_FAILURE, PROGRAM, check_words, outcome_of, quiet_net, two_files};
+use chip_core::Bench;
+use debug_model::Net;
+use jtag_run::Status;
+use std::alloc::Global;
+use std::process::Abort;
+use std::test::Fail;
+use sys_events::SeedSchedule;
+
+#[test]
+fn scripts_are_run_or_refused(rt: HostRuntime) -> Result<(), Fail> {
+    let cases: [(&[u8], &[u8], Status, &str); 8] = [
+        (b"", b"", Status::Clean, ""),
+        (b"", b"idcode", Status::Clean, "idcode 0x10d64001\n"),
+        (
+            b"",
+            b" idcode # twice\r\n\nidcode\n",
+            Status::Clean,
+            "idcode 0x10d64001\nidcode 0x10d64001\n",
+        ),
+        (
+            b"",
+            b"idcode\nend\nidcode\n",
+            Status::Clean,
+            "idcode 0x10d64001\n",
+        ),
+        (
+            b"",
+            b"state\nread 3 0x80000000\n",
+            Status::Script,
+            "script refused: line 2 fault 6\n",
+        ),
+        (
+            PROGRAM,
+            b"state\nhart 1\n",
+            Status::WithErrors,
+            "running\nerror: no hart 1\n",
+        ),
+        (
+            b"x",
+            b"idcodes",
+            Status::Script,
+            "script refused: line 1 fault 2\n",
+        ),
+        (PROGRAM, b"idcode", Status::Clean, "idcode 0x10d64001\n"),
+    ];
+    let line = "both --image i --script s";
+    for (image, script, status, printed) in cases {
+        let held = Held {
+            image,
+            script,
+            fail_at: NO_FAILURE,
+        };
+        check_words(&rt, rt.alloc(), line, held, status, printed)?;
+    }
+    Ok(())
+}
+
+/// How many rounds pass, and how many points are noted, in a session that reads the IDCODE of a chip that these words describe.
+fn counted(alloc: Global, chip: &str) -> Result<(u64, u64), Fail> {
+    let line = format!(in alloc; "both --image i --script s --piece 3 {chip}")?;
+    let mut files = two_files(alloc, PROGRAM, b"idcode", NO_FAILURE)?;
+    let outcome = outcome_of(alloc, line.as_str(), &mut files, &mut quiet_net(alloc)?)?;
+    let points = u64::from(outcome.bench.journal().len());
+    Ok((outcome.bench.counts().rounds, points))
+}
+
+// At busy 1 each running hart has its turn in each round, and at busy 2 in every second one. The opening of a session takes one Look.
+#[test]
+fn harts_have_the_turns_of_their_schedule(rt: HostRuntime) -> Result<(), Fail> {
+    let alloc = rt.alloc();
+    let (rounds, points) = counted(alloc, "--harts 1 --busy 1")?;
+    assert!(rt; rounds > 43);
+    assert_eq!(rt; points.wrapping_sub(1), rounds);
+    let (rounds, points) = counted(alloc, "--harts 4 --busy 1")?;
+    assert_eq!(rt; points.wrapping_sub(1), rounds.wrapping_mul(4));
+    let (rounds, points) = counted(alloc, "--harts 1 --busy 2")?;
+    let turns = points.wrapping_sub(1);
+    assert!(rt; rounds / 2 <= turns && turns <= (rounds / 2).wrapping_add(1));
+    Ok(())
+}
+
+/// A script for the program on a halted hart, and what its session comes to.
+#[derive(Clone, Copy)]
+pub struct Row {
+    pub script: &'static [u8],
+    pub status: u8,
+    pub printed: &'static str,
+}
+
+/// One step.
+pub const STEPPED: Row = Row {
+    script: b"step\nreg x5\n",
+    status: 0,
+    printed: "halted at 0x0000000080000004 by step\nx5 0x0000000000000005\n",
+};
+
+/// Two stops at the jump.
+const STOPPED: Row = Row {
+    script: b"break 0x80000008\nresume\nwait\nreg x5\nresume\nwait\nreg x5\n",
+    status: 0,
+    printed: "slot 0 break 0x0000000080000008
+resumed
+halted at 0x0000000080000008 by trigger 0
+x5 0x0000000000000006
+resumed
+halted at 0x0000000080000008 by trigger 0
+x5 0x0000000000000007
+",
+};
+
+/// A read behind the end of RAM, which leaves the registers that reads go through.
+const FAULTY: Row = Row {
+    script: b"reg x8 0x11\nreg x9 0x22\nread 8 0x80010000\nreg x8\nreg x9\n",
+    status: 1,
+    printed: "x8 0x0000000000000011
+x9 0x0000000000000022
+error: memory fault at 0x0000000080010000
+x8 0x0000000000000011
+x9 0x0000000000000022
+",
+};
+
+/// The same over the system bus.
+const FAULTY_BUS: Row = Row {
+    script: b"via bus\nreg x8 0x11\nreg x9 0x22\nread 8 0x80010000\nreg x8\nreg x9\n",
+    status: 1,
+    printed: "via bus
+x8 0x0000000000000011
+x9 0x0000000000000022
+error: memory fault at 0x0000000080010000
+x8 0x0000000000000011
+x9 0x0000000000000022
+",
+};
+
+/// The rows that each way to a chip has to give alike.
+pub const ROWS: [Row; 4] = [STEPPED, STOPPED, FAULTY, FAULTY_BUS];
+
+/// A session of `both` on a row's script, with these further words, over this net: the bench behind it.
+pub fn check_row<N: Net>(
+    rt: &impl Abort,
+    alloc: Global,
+    more: &str,
+    row: &Row,
+    net: &mut N,
+) -> Result<Bench<SeedSchedule>, Fail>
+    requires { (N.state net.old).ties.opening ≡ None }
+{
+    let line = format!(in alloc; "both --image i --script s --halted {more}")?;
+    let mut files = two_files(alloc, PROGRAM, row.script, NO_FAILURE)?;
+    let outcome = outcome_of(alloc, line.as_str(), &mut files, net)?;
+    assert_eq!(rt; outcome.out.bytes(), row.printed.as_bytes(), "{more}");
+    assert_eq!(rt; outcome.status, row.status, "{more}");
+    Ok(outcome.bench)
+}
+
+#[test]
+fn rows_print_their_lines(rt: HostRuntime) -> Result<(), Fail> {
+    let alloc = rt.alloc();
+    for row in ROWS {
+        check_row(&rt, alloc, "", &row, &mut quiet_net(alloc)?)?;
+        check_row(&rt, alloc, "--piece 1", &row, &mut quiet_net(alloc)?)?;
+        let slow = check_row(&rt, alloc, "--busy 32", &row, &mut quiet_net(alloc)?)?;
+        assert!(rt; slow.counts().dmi_busy > 0);
+    }
+    Ok(())
+}
