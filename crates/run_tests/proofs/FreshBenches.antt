@@ -1,5 +1,5 @@
 -- A bench whose chip is as it was loaded, by the two clauses of a load.
-use Rattle.std.proofs.Common.{◌≡◌, Option, Some, None, IfSome, IsSome, refl}
+use Rattle.std.proofs.Common.{Option, Some, None, IfSome, IsSome, refl}
 use Rattle.debug_model.specs.Chip.{Live}
 use Rattle.debug_model.specs.Loaded.{AsLoaded}
 use Rattle.jtag_run.specs.Sessions.{IsFresh}

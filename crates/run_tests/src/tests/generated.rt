@@ -34,8 +34,8 @@ fn generated_sessions_print_their_summary(rt: HostRuntime) -> Result<(), Fail> {
     let alloc = rt.alloc();
     let cases = [
         "both --gen 1",
-        "both --gen 2 --harts 4 --busy 3",
-        "both --gen 2 --halted",
+        "both --gen 2 --harts 4 --busy 32",
+        "both --gen 2 --halted --piece 1",
         "both --gen 2 --loopback",
     ];
     for line in cases {
