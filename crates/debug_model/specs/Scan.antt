@@ -235,6 +235,20 @@ abbrev pub ComesOut : List Bool → Option Script → Option Script → Type 0
 ComesOut out None new = new ≡ None
 ComesOut out (Some script) new = TookOut out script new
 
+-- a scan that failed took nothing but answers that are bits
+pub record TookBits (bytes : List ℕ) (new : Option Script) : Type 0 where
+  pub good : List Bool
+  pub left : List ℕ
+  pub are : bytes ≡ map answer_byte good ++ left
+  pub is : new ≡ Some (Answers left)
+
+-- a scan that failed judged all that it took: only the fault that keeps a bad answer may have taken one
+abbrev pub Judged : Option Script → Option Script → WireFault → Type 0
+Judged script new (BadAnswer b) = Unit {0}
+Judged None new fault = new ≡ None
+Judged (Some (Numbers numbers)) new fault = new ≡ Some (Numbers numbers)
+Judged (Some (Answers bytes)) new fault = TookBits bytes new
+
 -- ---- why a scan failed
 
 -- this byte came where an answer was wanted: behind answers that are bits
@@ -247,7 +261,7 @@ abbrev pub WrongIn : ℕ → Script → Type 0
 WrongIn b (Numbers numbers) = ⊥
 WrongIn b (Answers bytes) = CameWrong b bytes
 
--- an answer that is neither 0 nor 1: no told chip gives one, and of a scripted object it is the first such
+-- an answer that is neither 0 nor 1, also one that came before the wire failed: no told chip gives one, and of a scripted object it is the first such
 abbrev pub BadCause : ℕ → Option Far → Option Script → Type 0
 BadCause b told script = (told ≡ None) × (b ≢ 48) × (b ≢ 49) × IfSome script (WrongIn b)
 

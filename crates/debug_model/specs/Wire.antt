@@ -1,5 +1,5 @@
 -- A wire to a chip: what the bytes that it carries do at its far end, where that is told, and the answers that it has to come, where those are told.
-use Rattle.std.specs.Prelude.{◌≡◌, ◌++◌, ◌⊎◌, ℕ, List, [], ◌∷◌, Bool, IsTrue, Option, Some, None}
+use Rattle.std.specs.Prelude.{◌≡◌, ◌++◌, ◌⊎◌, ℕ, List, [], ◌∷◌, replicate, Bool, IsTrue, Option, Some, None}
 use Rattle.std.specs.List.{list_all}
 use Rattle.debug_model.specs.Chip.{feed, said}
 use Rattle.debug_model.specs.Signs.{sign_of, stays_open}
@@ -11,6 +11,10 @@ use Rattle.jt_base.specs.Faults.{Rises}
 -- the most bytes of one piece
 abbrev pub piece_most : ℕ
 piece_most = 256
+
+-- what a buffer holds in place of an answer that did not come: the character 0, which reads as one that says nothing
+abbrev pub no_answer : ℕ
+no_answer = 48
 
 -- whether each byte is a sign that leaves the stream open
 unfoldable pub are_open : List ℕ → Bool
@@ -36,10 +40,17 @@ abbrev pub ReadsFront : List ℕ → Option Far → Option Far → Type 0
 ReadsFront bytes None new = new ≡ None
 ReadsFront bytes (Some f) new = (rest : List ℕ) × (f.unread ≡ bytes ++ rest) × (new ≡ Some (record f { unread = rest }))
 
--- some of the unread answers, the first of them, may be lost, and the chip stays as it is
-abbrev pub KeepsChip : Option Far → Option Far → Type 0
-KeepsChip None new = new ≡ None
-KeepsChip (Some f) new = (taken rest : List ℕ) × (f.unread ≡ taken ++ rest) × (new ≡ Some (record f { unread = rest }))
+-- before a fault the first of these bytes came and no other was taken: they stand at the front of a buffer, with `0` in each place behind them
+pub record CutShort (into bytes left : List ℕ) : Type 0 where
+  pub came : List ℕ
+  pub missing : ℕ
+  pub are : bytes ≡ came ++ left
+  pub stand : into ≡ came ++ replicate missing no_answer
+
+-- some of the unread answers came, the first of them, and the chip stays as it is
+abbrev pub ReadsSome : List ℕ → Option Far → Option Far → Type 0
+ReadsSome into None new = new ≡ None
+ReadsSome into (Some f) new = (left : List ℕ) × CutShort into f.unread left × (new ≡ Some (record f { unread = left }))
 
 -- ---- a scripted wire: the answers that are to come
 
@@ -48,10 +59,10 @@ abbrev pub TakesComing : List ℕ → Option (List ℕ) → Option (List ℕ) �
 TakesComing bytes None new = new ≡ None
 TakesComing bytes (Some coming) new = (rest : List ℕ) × (coming ≡ bytes ++ rest) × (new ≡ Some rest)
 
--- some of them, the first, may be lost
-abbrev pub LosesComing : Option (List ℕ) → Option (List ℕ) → Type 0
-LosesComing None new = new ≡ None
-LosesComing (Some coming) new = (taken rest : List ℕ) × (coming ≡ taken ++ rest) × (new ≡ Some rest)
+-- some of them came, the first of them
+abbrev pub TakesSome : List ℕ → Option (List ℕ) → Option (List ℕ) → Type 0
+TakesSome into None new = new ≡ None
+TakesSome into (Some coming) new = (left : List ℕ) × CutShort into coming left × (new ≡ Some left)
 
 -- ---- why a call of a wire failed. A wire hands answers on as they came, and judges none.
 

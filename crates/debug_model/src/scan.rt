@@ -1,5 +1,5 @@
 ghost use Rattle.std.specs.Prelude.{◌≡◌, ◌<◌, ◌≤◌, ℕ, Option, length, OnOk, OnErr, IfOk, IfErr};
-ghost use Rattle.debug_model.specs.Scan.{Script, Scanned, Selected, WasReset, ScanCut, RoundsPassed, ResetCut, WhereTold, ComesOut, ScanCause, ir_clocks};
+ghost use Rattle.debug_model.specs.Scan.{Judged, Script, Scanned, Selected, WasReset, ScanCut, RoundsPassed, ResetCut, WhereTold, ComesOut, ScanCause, ir_clocks};
 ghost use Rattle.debug_model.specs.Ties.{Ties, lent_by};
 ghost use Rattle.debug_model.specs.Told.{Far, IsOpen, IsLive, IsRead, IsFree, IsIdle};
 
@@ -78,6 +78,7 @@ pub trait Scan: Drop {
         ensures free { OnOk result (IsFree (far self.new)) }
         ensures idle { OnOk result (IsIdle (far self.new)) }
         ensures cut { OnErr result (WhereTold (ScanCut (slack self.old) bits) (far self.old) (far self.new)) }
+        ensures judged { IfErr result (Judged (script self.old) (script self.new)) }
         ensures later { fault_count self.old ≤ fault_count self.new }
         ensures cause { IfErr result (ScanCause (fault_count self.old) (fault_count self.new) (far self.new) (script self.old)) }
         ensures slack { slack self.new ≡ slack self.old }

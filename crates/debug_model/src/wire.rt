@@ -1,12 +1,15 @@
 ghost use Rattle.std.specs.Prelude.{◌≡◌, ◌≤◌, ℕ, List, Option, length, IsTrue, OnOk, OnErr, IfErr, IfSome, option_map};
 ghost use Rattle.debug_model.specs.Ties.{Ties, lent_by};
 ghost use Rattle.debug_model.specs.Told.{Far, IsOpen, IsLive, IsRead};
-ghost use Rattle.debug_model.specs.Wire.{IsPiece, are_open, piece_most, sent, SentFront, ReadsFront, KeepsChip, TakesComing, LosesComing, SendCause, RecvCause};
+ghost use Rattle.debug_model.specs.Wire.{IsPiece, are_open, piece_most, sent, SentFront, ReadsFront, ReadsSome, TakesComing, TakesSome, SendCause, RecvCause};
 
 use thiserror::Error;
 
 /// The most bytes that one [`Wire::send`] takes.
 pub const PIECE_MOST: usize = 256;
+
+/// What stands in a buffer in place of an answer that did not come: an answer of 0, which is refused by nobody.
+pub const NO_ANSWER: u8 = b'0';
 
 /// Why bytes did not cross a wire, or what crossed it in place of an answer.
 #[derive(Clone, Copy, Debug, PartialEq, Eq, Error)]
@@ -55,14 +58,15 @@ pub trait Wire: Drop {
         ensures cause { IfErr result (SendCause (fault_count self.old) (fault_count self.new) (far self.new)) }
         ensures ties { ties self.new ≡ ties self.old };
 
-    /// Fills `into` with the next answers, as they came. On a fault what it holds is left open.
+    /// Fills `into` with the next answers, as they came. On a fault those that came before it stand at its front, with [`NO_ANSWER`] in each place behind
+    /// them, and no other was taken.
     fn recv(&mut self, into: &mut [u8]) -> Result<(), WireFault>
         requires open { IsOpen (far self.old) }
         requires waiting { IfSome (far self.old) (λ f. length into.old ≤ length f.unread) }
         ensures read { OnOk result (ReadsFront into.new (far self.old) (far self.new)) }
         ensures came { OnOk result (TakesComing into.new (coming self.old) (coming self.new)) }
-        ensures chip { OnErr result (KeepsChip (far self.old) (far self.new)) }
-        ensures lost { OnErr result (LosesComing (coming self.old) (coming self.new)) }
+        ensures chip { OnErr result (ReadsSome into.new (far self.old) (far self.new)) }
+        ensures some { OnErr result (TakesSome into.new (coming self.old) (coming self.new)) }
         ensures later { fault_count self.old ≤ fault_count self.new }
         ensures cause { IfErr result (RecvCause (fault_count self.old) (fault_count self.new) (far self.new)) }
         ensures ties { ties self.new ≡ ties self.old };
