@@ -1,8 +1,8 @@
 -- A net: one connection of bytes, which one call opens, and what each call does to what the net tells. A net may tell the
 -- chip at its far side, or a pipe from each of its ends to the other, or the bytes that are to come.
 -- No public standard defines this.
-use Rattle.std.specs.Prelude.{◌≡◌, ℕ, ◌+◌, ◌<◌, ◌≤◌, List, [], ◌++◌, length, take, drop, Bool, true, false, Option, None, Some, IfSome, IsTrue, option_map}
-use Rattle.jt_base.specs.Faults.{Rises}
+use Rattle.std.specs.Prelude.{◌≡◌, ℕ, ◌+◌, ◌<◌, ◌≤◌, List, [], ◌++◌, length, take, drop, Bool, true, false, Option, None, Some, IfSome, IsTrue, option_map, Result, Ok, Err}
+use Rattle.jt_base.specs.Faults.{Rises, counted}
 use Rattle.debug_model.specs.Chip.{Live}
 use Rattle.debug_model.specs.Ties.{NetTies}
 use Rattle.debug_model.specs.Told.{Far, IsLive, IsOpen, IsRead, read_out}
@@ -91,6 +91,12 @@ pub record IsJoined (s : NetState) : Type 0 where
   pub chip : s.chip ≡ None
   pub script : s.script ≡ None
   pub pipe : s.pipe ≡ told_if s.ties.tells_pipe empty_pipe
+
+-- the count of faults behind a call: one more where the net failed, and the same behind every other answer
+abbrev pub faults_after : {T : Type 0} → Result T NetFault → ℕ → ℕ
+faults_after (Ok x) count = count
+faults_after (Err faults.Failed) count = counted count
+faults_after (Err faults.NoMemory) count = count
 
 -- a call that opens fails where the count rose, or for want of memory
 abbrev pub OpenCause : ℕ → ℕ → NetFault → Type 0

@@ -69,4 +69,4 @@ pub use scripted_dmi::ScriptedDmi;
 pub use sign::Sign;
 pub use sticky::Sticky;
 pub use tap_state::TapState;
-pub use wire::{NO_ANSWER, PIECE_MOST, Wire, WireFault};
+pub use wire::{NO_ANSWER, PIECE_MOST, Wire, WireFault, fill_unanswered};

@@ -1,9 +1,9 @@
 ghost use Rattle.std.specs.Prelude.{◌≡◌, ◌≢◌, ◌+◌, ◌^◌, ◌<◌, ◌≤◌, ◌∷◌, ℕ, List, None, Some, length, true, OnOk, OnErr, IfOk, IfErr};
 ghost use Rattle.std.specs.Borrow.{GName};
-ghost use Rattle.debug_model.specs.Net.{LivesOn, Called, CallCause, Gives, IsAccepted, IsConnected, IsJoined, MayPut, MayTake, NetState, OpenCause, Peer, PutFront, after_put, after_take, given, is_open};
+ghost use Rattle.debug_model.specs.Net.{LivesOn, Called, CallCause, Gives, IsAccepted, IsConnected, IsJoined, MayPut, MayTake, NetState, OpenCause, Peer, PutFront, after_put, after_take, faults_after, given, is_open};
 ghost use Rattle.debug_model.specs.Told.{IsAsLoaded};
 ghost use Rattle.debug_model.specs.declared.net.Call.TheVariants as call;
-ghost use Rattle.jt_base.specs.Faults.{Rises};
+ghost use Rattle.jt_base.specs.Faults.{Rises, counted};
 
 use std::alloc::Global;
 use thiserror::Error;
@@ -70,6 +70,7 @@ pub trait Net: Drop {
         ensures loaded { OnOk result (IsAsLoaded (state self.new).chip) }
         ensures cause { IfErr result (OpenCause (fault_count self.old) (fault_count self.new)) }
         ensures later { fault_count self.old ≤ fault_count self.new }
+        ensures counts { fault_count self.new ≡ faults_after result (fault_count self.old) }
         ensures ends { end_count self.new ≡ end_count self.old }
         ensures lenders { lenders self.new ≡ lenders self.old };
 
@@ -80,6 +81,7 @@ pub trait Net: Drop {
         ensures opened { OnOk result (IsAccepted (peer self.old) (state self.new)) }
         ensures cause { IfErr result (OpenCause (fault_count self.old) (fault_count self.new)) }
         ensures later { fault_count self.old ≤ fault_count self.new }
+        ensures counts { fault_count self.new ≡ faults_after result (fault_count self.old) }
         ensures ends { end_count self.new ≡ end_count self.old }
         ensures lenders { lenders self.new ≡ lenders self.old };
 
@@ -90,6 +92,7 @@ pub trait Net: Drop {
         ensures opened { OnOk result (IsJoined (state self.new)) }
         ensures cause { IfErr result (OpenCause (fault_count self.old) (fault_count self.new)) }
         ensures later { fault_count self.old ≤ fault_count self.new }
+        ensures counts { fault_count self.new ≡ faults_after result (fault_count self.old) }
         ensures ends { end_count self.new ≡ end_count self.old }
         ensures lenders { lenders self.new ≡ lenders self.old };
 
@@ -102,6 +105,7 @@ pub trait Net: Drop {
         ensures front { OnErr result (PutFront end bytes.now (state self.old) (state self.new)) }
         ensures cause { IfErr result (CallCause (fault_count self.old) (fault_count self.new)) }
         ensures later { fault_count self.old ≤ fault_count self.new }
+        ensures counts { fault_count self.new ≡ faults_after result (fault_count self.old) }
         ensures ends { end_count self.new ≡ end_count self.old }
         ensures lenders { lenders self.new ≡ lenders self.old };
 
@@ -119,7 +123,9 @@ pub trait Net: Drop {
         ensures kept { OnErr result (state self.new ≡ state self.old) }
         ensures cause { IfErr result (CallCause (fault_count self.old) (fault_count self.new)) }
         ensures later { fault_count self.old ≤ fault_count self.new }
+        ensures counts { fault_count self.new ≡ faults_after result (fault_count self.old) }
         ensures ended { IfOk result (λ n. n ≡ 0 → Rises (end_count self.old) (end_count self.new)) }
+        ensures one_end { IfOk result (λ n. n ≡ 0 → end_count self.new ≡ counted (end_count self.old)) }
         ensures goes_on { IfOk result (λ n. n ≢ 0 → end_count self.new ≡ end_count self.old) }
         ensures ends { OnErr result (end_count self.new ≡ end_count self.old) }
         ensures ends_later { end_count self.old ≤ end_count self.new }

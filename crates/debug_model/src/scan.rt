@@ -12,6 +12,8 @@ use jt_base::Bits;
 /// Run-Test/Idle. Whatever a call answers, the chip behind it comes from the one before it by the schedule's next rounds; a scan
 /// updates the selected register at most once, and nothing else updates it.
 pub trait Scan: Drop {
+    ghost use Rattle.debug_model.specs.declared.wire.WireFault.{WireFault};
+
     /// The chip at the far end and its unread answers, where they are told.
     ghost far: { Self → Option Far };
 
@@ -23,6 +25,9 @@ pub trait Scan: Drop {
 
     /// How much oftener than its path has clocks a call may let TCK rise, where that is bounded.
     ghost slack: { Self → Option ℕ };
+
+    /// The faults that a call may answer. What stands on a wire has that wire's and those that keep a bad answer, so it hands each of the wire's on as it is.
+    ghost gives: { WireFault → Type 0 };
 
     /// What it keeps of the things below it.
     ghost ties: { Self → Ties };
@@ -41,6 +46,7 @@ pub trait Scan: Drop {
         ensures script { script self.new ≡ script self.old }
         ensures later { fault_count self.old ≤ fault_count self.new }
         ensures cause { IfErr result (ScanCause (fault_count self.old) (fault_count self.new) (far self.new) (script self.old)) }
+        ensures own { IfErr result gives }
         ensures slack { slack self.new ≡ slack self.old }
         ensures ties { ties self.new ≡ ties self.old };
 
@@ -60,6 +66,7 @@ pub trait Scan: Drop {
         ensures script { script self.new ≡ script self.old }
         ensures later { fault_count self.old ≤ fault_count self.new }
         ensures cause { IfErr result (ScanCause (fault_count self.old) (fault_count self.new) (far self.new) (script self.old)) }
+        ensures own { IfErr result gives }
         ensures slack { slack self.new ≡ slack self.old }
         ensures ties { ties self.new ≡ ties self.old };
 
@@ -81,6 +88,7 @@ pub trait Scan: Drop {
         ensures judged { IfErr result (Judged (script self.old) (script self.new)) }
         ensures later { fault_count self.old ≤ fault_count self.new }
         ensures cause { IfErr result (ScanCause (fault_count self.old) (fault_count self.new) (far self.new) (script self.old)) }
+        ensures own { IfErr result gives }
         ensures slack { slack self.new ≡ slack self.old }
         ensures ties { ties self.new ≡ ties self.old };
 
@@ -97,6 +105,8 @@ impl<S: Scan> Scan for &mut S {
     ghost fault_count = { λ s. S.fault_count s.now };
 
     ghost slack = { λ s. S.slack s.now };
+
+    ghost gives = { S.gives };
 
     ghost ties = { λ s. lent_by s.ghost_name (S.ties s.now) };
 

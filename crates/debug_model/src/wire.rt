@@ -1,7 +1,7 @@
-ghost use Rattle.std.specs.Prelude.{◌≡◌, ◌≤◌, ℕ, List, Option, length, IsTrue, OnOk, OnErr, IfErr, IfSome, option_map};
+ghost use Rattle.std.specs.Prelude.{◌≡◌, ◌≤◌, ℕ, List, Option, length, replicate, IsTrue, OnOk, OnErr, IfErr, IfSome, option_map};
 ghost use Rattle.debug_model.specs.Ties.{Ties, lent_by};
 ghost use Rattle.debug_model.specs.Told.{Far, IsOpen, IsLive, IsRead};
-ghost use Rattle.debug_model.specs.Wire.{IsPiece, are_open, piece_most, sent, SentFront, ReadsFront, ReadsSome, TakesComing, TakesSome, SendCause, RecvCause};
+ghost use Rattle.debug_model.specs.Wire.{IsPiece, are_open, no_answer, piece_most, sent, SentFront, ReadsFront, ReadsSome, TakesComing, TakesSome, SendCause, RecvCause};
 
 use thiserror::Error;
 
@@ -10,6 +10,13 @@ pub const PIECE_MOST: usize = 256;
 
 /// What stands in a buffer in place of an answer that did not come: an answer of 0, which is refused by nobody.
 pub const NO_ANSWER: u8 = b'0';
+
+/// Fills a buffer, or what is left of it, with [`NO_ANSWER`].
+pub fn fill_unanswered(into: &mut [u8])
+    ensures { into.new ≡ replicate (length into.old) no_answer }
+{
+    into.fill(NO_ANSWER);
+}
 
 /// Why bytes did not cross a wire, or what crossed it in place of an answer.
 #[derive(Clone, Copy, Debug, PartialEq, Eq, Error)]
@@ -32,6 +39,8 @@ pub enum WireFault {
 ///
 /// Where it tells its far end, or the answers that are to come, the clauses say what each call does there.
 pub trait Wire: Drop {
+    ghost use Rattle.debug_model.specs.declared.wire.WireFault.{WireFault};
+
     /// The chip at the far end and its unread answers, where they are told.
     ghost far: { Self → Option Far };
 
@@ -40,6 +49,9 @@ pub trait Wire: Drop {
 
     /// How many calls have failed.
     ghost fault_count: { Self → ℕ };
+
+    /// The faults that a call may answer. What stands on another wire has that wire's, so it hands each on as it is.
+    ghost gives: { WireFault → Type 0 };
 
     /// What the wire keeps of the things below it: the references that it borrows through, and how a net there was opened.
     ghost ties: { Self → Ties };
@@ -55,7 +67,9 @@ pub trait Wire: Drop {
         ensures prefix { OnErr result (SentFront bytes.now (far self.old) (far self.new)) }
         ensures coming { coming self.new ≡ coming self.old }
         ensures later { fault_count self.old ≤ fault_count self.new }
+        ensures still { OnOk result (fault_count self.new ≡ fault_count self.old) }
         ensures cause { IfErr result (SendCause (fault_count self.old) (fault_count self.new) (far self.new)) }
+        ensures own { IfErr result gives }
         ensures ties { ties self.new ≡ ties self.old };
 
     /// Fills `into` with the next answers, as they came. On a fault those that came before it stand at its front, with [`NO_ANSWER`] in each place behind
@@ -68,7 +82,9 @@ pub trait Wire: Drop {
         ensures chip { OnErr result (ReadsSome into.new (far self.old) (far self.new)) }
         ensures some { OnErr result (TakesSome into.new (coming self.old) (coming self.new)) }
         ensures later { fault_count self.old ≤ fault_count self.new }
+        ensures still { OnOk result (fault_count self.new ≡ fault_count self.old) }
         ensures cause { IfErr result (RecvCause (fault_count self.old) (fault_count self.new) (far self.new)) }
+        ensures own { IfErr result gives }
         ensures ties { ties self.new ≡ ties self.old };
 
     /// How many calls have failed. The count stays at the top of a `u64`.
@@ -82,6 +98,8 @@ impl<W: Wire> Wire for &mut W {
     ghost coming = { λ w. W.coming w.now };
 
     ghost fault_count = { λ w. W.fault_count w.now };
+
+    ghost gives = { W.gives };
 
     ghost ties = { λ w. lent_by w.ghost_name (W.ties w.now) };
 
