@@ -1,15 +1,15 @@
 //! A wire to the chip on a bench.
 
-ghost use Rattle.std.specs.Prelude.{◌≡◌, ◌+◌, ◌<◌, ◌≤◌, ◌++◌, ◌↔◌, [], Err, IfErr, IfSome, IsSome, IsTrue, OnErr, OnOk, length, option_map, true};
+ghost use Rattle.std.specs.Prelude.{◌≡◌, ℕ, ◌+◌, ◌<◌, ◌≤◌, ◌++◌, ◌↔◌, [], Err, IfErr, IfSome, IsSome, IsTrue, OnErr, OnOk, length, option_map, true};
 ghost use Rattle.arrayvec.specs.ArrayVec.{array_vec_len};
 ghost use Rattle.debug_model.specs.Told.{IsLive, IsOpen, IsRead};
 ghost use Rattle.debug_model.specs.Ties.{lent_by, ties_told};
-ghost use Rattle.debug_model.specs.Wire.{IsPiece, KeepsChip, LosesComing, ReadsFront, RecvCause, SendCause, SentFront, TakesComing, are_open, piece_most, sent};
+ghost use Rattle.debug_model.specs.Wire.{IsPiece, ReadsFront, ReadsSome, RecvCause, SendCause, SentFront, TakesComing, TakesSome, are_open, piece_most, sent};
 ghost use Rattle.chip_core.specs.Feeds.{far_of, feed_of, limit_met, nothing_coming, said_of};
 
 use crate::bench::{Answers, Bench};
 use arrayvec::ArrayVec;
-use debug_model::{Schedule, Wire, WireFault};
+use debug_model::{Schedule, Wire, WireFault, fill_unanswered};
 
 /// A wire to the chip on a bench, which the caller keeps. It tells the chip, and hands bytes on in pieces of at most the given size.
 ///
@@ -32,7 +32,7 @@ pub fn feed_pieces<Q: Schedule>(
 )
     requires some { 1 ≤ piece }
     requires loaded { IsSome bench.old }
-    requires room { array_vec_len answers.old + length bytes.now ≤ 256 }
+    requires room { array_vec_len answers.old + length bytes.now ≤ piece_most }
     ensures chip { bench.new ≡ feed_of bench.old bytes.now }
     ensures answers { answers.new.items ≡ answers.old.items ++ said_of bench.old bytes.now }
     ensures loaded { IsSome bench.new }
@@ -63,11 +63,15 @@ impl<'a, Q: Schedule> BenchWire<'a, Q> {
 }
 
 impl<'a, Q: Schedule> Wire for BenchWire<'a, Q> {
+    ghost use Rattle.debug_model.specs.declared.wire.WireFault.TheVariants as faults;
+
     ghost far = { λ w. far_of w.bench.now w.unread.items };
 
     ghost coming = { λ _. nothing_coming };
 
     ghost fault_count = { λ _. 0 };
+
+    ghost gives = { λ fault. fault ≡ faults.Ended };
 
     ghost ties = { λ w. lent_by w.bench.ghost_name (ties_told (far_of w.bench.now w.unread.items)) };
 
@@ -81,6 +85,8 @@ impl<'a, Q: Schedule> Wire for BenchWire<'a, Q> {
         ensures prefix { OnErr result (SentFront bytes.now (far_of self.old.bench.now self.old.unread.items) (far_of self.new.bench.now self.new.unread.items)) }
         ensures coming { nothing_coming ≡ nothing_coming }
         ensures later { 0 ≤ 0 }
+        ensures still { OnOk result (◌≡◌ {A = ℕ} 0 0) }
+        ensures own { IfErr result (λ fault. fault ≡ faults.Ended) }
         ensures cause { IfErr result (SendCause 0 0 (far_of self.new.bench.now self.new.unread.items)) }
         ensures ties { lent_by self.new.bench.ghost_name (ties_told (far_of self.new.bench.now self.new.unread.items)) ≡ lent_by self.old.bench.ghost_name (ties_told (far_of self.old.bench.now self.old.unread.items)) }
         ensures limit { (result ≡ Err WireFault.Ended) ↔ (limit_met self.new.bench.now ≡ true) }
@@ -92,19 +98,23 @@ impl<'a, Q: Schedule> Wire for BenchWire<'a, Q> {
         Ok(())
     }
 
+    #[tactic(auto, using(debug_model::proofs::WireLemmas::none_came))]
     fn recv(&mut self, into: &mut [u8]) -> Result<(), WireFault>
         requires open { IsOpen (far_of self.old.bench.now self.old.unread.items) }
         requires waiting { IfSome (far_of self.old.bench.now self.old.unread.items) (λ f. length into.old ≤ length f.unread) }
         ensures read { OnOk result (ReadsFront into.new (far_of self.old.bench.now self.old.unread.items) (far_of self.new.bench.now self.new.unread.items)) }
         ensures came { OnOk result (TakesComing into.new nothing_coming nothing_coming) }
-        ensures chip { OnErr result (KeepsChip (far_of self.old.bench.now self.old.unread.items) (far_of self.new.bench.now self.new.unread.items)) }
-        ensures lost { OnErr result (LosesComing nothing_coming nothing_coming) }
+        ensures chip { OnErr result (ReadsSome into.new (far_of self.old.bench.now self.old.unread.items) (far_of self.new.bench.now self.new.unread.items)) }
+        ensures some { OnErr result (TakesSome into.new nothing_coming nothing_coming) }
         ensures later { 0 ≤ 0 }
+        ensures still { OnOk result (◌≡◌ {A = ℕ} 0 0) }
+        ensures own { IfErr result (λ fault. fault ≡ faults.Ended) }
         ensures cause { IfErr result (RecvCause 0 0 (far_of self.new.bench.now self.new.unread.items)) }
         ensures ties { lent_by self.new.bench.ghost_name (ties_told (far_of self.new.bench.now self.new.unread.items)) ≡ lent_by self.old.bench.ghost_name (ties_told (far_of self.old.bench.now self.old.unread.items)) }
         ensures limit { (result ≡ Err WireFault.Ended) ↔ (limit_met self.new.bench.now ≡ true) }
     {
         if self.bench.at_limit() {
+            fill_unanswered(into);
             return Err(WireFault::Ended);
         }
         let count = into.len();

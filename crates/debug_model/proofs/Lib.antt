@@ -1,5 +1,6 @@
 pub mod Cuts
-pub mod RegisterLemmas
-pub mod JournalLemmas
-pub mod Rounds
 pub mod HeardLemmas
+pub mod JournalLemmas
+pub mod RegisterLemmas
+pub mod Rounds
+pub mod WireLemmas

@@ -1,11 +1,12 @@
 -- Bytes that are taken at the near end of a net, piece after piece, into one list.
-use Rattle.std.proofs.Common.{◌≡◌, ℕ, ◌+◌, ◌<◌, ◌≤◌, List, [], ◌++◌, length, take, drop, Option, None, Some, IfSome, IsTrue, is_none, ◌&&◌, option_map, refl, sym, ap, subst, ◌∙◌, add_assoc, arith}
-use Rattle.std.proofs.lemmas.List.{drop-drop, length-take-le, take-append-drop, take-append-le, take_all}
+use Rattle.std.proofs.Common.{◌≡◌, ℕ, ◌+◌, ◌<◌, ◌≤◌, List, [], ◌++◌, length, replicate, take, drop, Option, None, Some, IfSome, IsTrue, is_none, ◌&&◌, option_map, refl, sym, ap, subst, ◌∙◌, add_assoc, arith}
+use Rattle.std.proofs.lemmas.Slice.{take-put_mid, take-put_mid_below}
+use Rattle.std.proofs.lemmas.List.{drop-drop, length-replicate, length-take-le, take-append-drop, take-append-le, take_all}
 use Rattle.std.proofs.Math.Seq.{take-add, take-append-add}
 use borrow.Rule.Slice.PartMut.{put_mid, post_of}
 use Rattle.debug_model.specs.Net.{Exchange, GivesNear, IsFront, NetState, Pipe, after_take, coming_in, coming_of, read_on, take_near, without}
 use Rattle.debug_model.specs.Told.{Far}
-use Rattle.debug_model.specs.Wire.{KeepsChip, LosesComing, ReadsFront, TakesComing}
+use Rattle.debug_model.specs.Wire.{CutShort, ReadsFront, ReadsSome, TakesComing, TakesSome, no_answer}
 use Rattle.debug_model.specs.declared.net.End.TheVariants as ends
 use Rattle.jtag_net.specs.Wired.{Took, TookSome, is_wired}
 
@@ -76,12 +77,21 @@ reads into (Some f) new front is = (drop (length into) f.unread, sym (take-appen
 pub reads_front : (into : List ℕ) (old new : NetState) → Took (length into) into old new → ReadsFront into old.chip new.chip
 reads_front into old new took = reads into old.chip new.chip took.of_chip (ap (λ s. s.chip) took.is)
 
-keeps : (n : ℕ) (told new : Option Far) → new ≡ option_map (read_on n) told → KeepsChip told new
-keeps n None new is = is
-keeps n (Some f) new is = (take n f.unread, drop n f.unread, sym (take-append-drop n f.unread), is)
+-- of unread bytes of which the first are those of a padded buffer
+cut_short : (n missing : ℕ) (into bytes : List ℕ) → take n bytes ≡ take n into → into ≡ take n into ++ replicate missing no_answer → CutShort into bytes (drop n bytes)
+cut_short n missing into bytes front padded = record {
+  came = take n into;
+  missing = missing;
+  are = sym (take-append-drop n bytes) ∙ ap (λ l. l ++ drop n bytes) front;
+  stand = padded;
+}
 
-pub keeps_chip : (old new : NetState) → TookSome old new → KeepsChip old.chip new.chip
-keeps_chip old new some = keeps some.count old.chip new.chip (ap (λ s. s.chip) some.took.is)
+reads_some_at : (n missing : ℕ) (into : List ℕ) (told new : Option Far) → IfSome told (λ f. take n f.unread ≡ take n into) → into ≡ take n into ++ replicate missing no_answer → new ≡ option_map (read_on n) told → ReadsSome into told new
+reads_some_at n missing into None new front padded is = is
+reads_some_at n missing into (Some f) new front padded is = (drop n f.unread, cut_short n missing into f.unread front padded, is)
+
+pub reads_some : (into : List ℕ) (old new : NetState) → TookSome into old new → ReadsSome into old.chip new.chip
+reads_some into old new some = reads_some_at some.count some.missing into old.chip new.chip some.took.of_chip some.padded (ap (λ s. s.chip) some.took.is)
 
 -- what a script's bytes to come are behind the takes
 comes : (into : List ℕ) (told new : Option Exchange) → IfSome told (λ e. take (length into) e.coming ≡ take (length into) into) → new ≡ option_map (without (length into)) told
@@ -92,9 +102,42 @@ comes into (Some e) new front is = (drop (length into) e.coming, sym (take-appen
 pub takes_coming : (into : List ℕ) (old new : NetState) → Took (length into) into old new → TakesComing into (coming_of old) (coming_of new)
 takes_coming into old new took = comes into old.script new.script took.of_script (ap (λ s. s.script) took.is)
 
-loses : (n : ℕ) (told new : Option Exchange) → new ≡ option_map (without n) told → LosesComing (option_map coming_in told) (option_map coming_in new)
-loses n None new is = ap (option_map coming_in) is
-loses n (Some e) new is = (take n e.coming, drop n e.coming, sym (take-append-drop n e.coming), ap (option_map coming_in) is)
+takes_some_at : (n missing : ℕ) (into : List ℕ) (told new : Option Exchange) → IfSome told (λ e. take n e.coming ≡ take n into) → into ≡ take n into ++ replicate missing no_answer → new ≡ option_map (without n) told
+    → TakesSome into (option_map coming_in told) (option_map coming_in new)
+takes_some_at n missing into None new front padded is = ap (option_map coming_in) is
+takes_some_at n missing into (Some e) new front padded is = (drop n e.coming, cut_short n missing into e.coming front padded, ap (option_map coming_in) is)
 
-pub loses_coming : (old new : NetState) → TookSome old new → LosesComing (coming_of old) (coming_of new)
-loses_coming old new some = loses some.count old.script new.script (ap (λ s. s.script) some.took.is)
+pub takes_some : (into : List ℕ) (old new : NetState) → TookSome into old new → TakesSome into (coming_of old) (coming_of new)
+takes_some into old new some = takes_some_at some.count some.missing into old.script new.script some.took.of_script some.padded (ap (λ s. s.script) some.took.is)
+
+-- ---- takes that were cut short
+
+-- what a failed take wrote into the part that it was given is no matter
+pub took_front : (a k : ℕ) (into piece : List ℕ) (old new : NetState) → Took a into old new → a ≤ length into → Took a (put_mid a k into piece) old new
+took_front a k into piece old new took within =
+    let same = take-put_mid_below a k into piece a (omega arith) within in
+    record {
+      is = took.is;
+      of_chip = front_still old.chip (λ f. f.unread) took.of_chip same;
+      of_script = front_still old.script (λ e. e.coming) took.of_script same;
+    }
+  where
+    front_still : {X : Type 0} (told : Option X) (bytes : X → List ℕ) → IfSome told (λ x. take a (bytes x) ≡ take a into) → take a (put_mid a k into piece) ≡ take a into → IfSome told (λ x. take a (bytes x) ≡ take a (put_mid a k into piece))
+    front_still None bytes front same = tt
+    front_still (Some x) bytes front same = front ∙ sym same
+
+-- no byte more
+pub took_none : (a n : ℕ) (into : List ℕ) (old new : NetState) → n ≡ 0 → Took (a + n) into old new → Took a into old new
+took_none a n into old new none took = subst (λ m. Took m into old new) (omega (arith, none)) took
+
+-- the rest of the buffer was filled
+pub took_some : (a k n : ℕ) (into : List ℕ) (old new : NetState) → Took a into old new → a ≤ length into → length (put_mid a k into (replicate n no_answer)) ≡ a + n → TookSome (put_mid a k into (replicate n no_answer)) old new
+took_some a k n into old new took within long =
+    let filled = put_mid a k into (replicate n no_answer) in
+    let front = take-put_mid_below a k into (replicate n no_answer) a (omega arith) within in
+    record {
+      count = a;
+      missing = n;
+      took = took_front a k into (replicate n no_answer) old new took within;
+      padded = sym (take_all (a + n) filled (omega (arith, long))) ∙ take-put_mid a k into (replicate n no_answer) (a + n) (omega (arith, length-replicate n no_answer)) within ∙ ap (λ l. l ++ replicate n no_answer) (sym front);
+    }

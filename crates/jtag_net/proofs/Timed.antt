@@ -32,5 +32,5 @@ take_ties name lenders n old new is =
 pub took_ties : (name : GName) (lenders : List GName) (count : ℕ) (into : List ℕ) (old new : NetState) → Took count into old new → wired_ties name lenders new ≡ wired_ties name lenders old
 took_ties name lenders count into old new took = take_ties name lenders count old new took.is
 
-pub some_ties : (name : GName) (lenders : List GName) (old new : NetState) → TookSome old new → wired_ties name lenders new ≡ wired_ties name lenders old
-some_ties name lenders old new some = take_ties name lenders some.count old new some.took.is
+pub some_ties : (name : GName) (lenders : List GName) (into : List ℕ) (old new : NetState) → TookSome into old new → wired_ties name lenders new ≡ wired_ties name lenders old
+some_ties name lenders into old new some = take_ties name lenders some.count old new some.took.is

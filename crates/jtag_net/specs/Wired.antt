@@ -1,9 +1,10 @@
 -- A wire over the near end of a net: over which nets it works, what a take of many bytes does, and why its calls fail.
 -- No public standard defines this.
-use Rattle.std.specs.Prelude.{◌≡◌, ℕ, ◌+◌, ◌-◌, ◌^◌, ◌&&◌, min, List, ◌∷◌, take, Bool, is_none, IfSome}
+use Rattle.std.specs.Prelude.{◌≡◌, ℕ, ◌+◌, ◌-◌, ◌^◌, ◌&&◌, min, List, ◌∷◌, ◌++◌, replicate, take, Bool, is_none, IfSome}
 use Rattle.jt_base.specs.Faults.{Rises}
 use Rattle.std.specs.Borrow.{GName}
 use Rattle.debug_model.specs.Net.{NetState, after_take}
+use Rattle.debug_model.specs.Wire.{no_answer}
 use Rattle.debug_model.specs.Ties.{Ties, timing_told}
 use Rattle.debug_model.specs.declared.net.End.TheVariants as ends
 use Rattle.debug_model.specs.declared.wire.WireFault.{WireFault}
@@ -36,11 +37,19 @@ TakeCause faults faults' ends ends' RecvFailed = Rises faults faults'
 TakeCause faults faults' ends ends' Ended = Rises ends ends'
 TakeCause faults faults' ends ends' (BadAnswer _) = ⊥
 
--- some bytes were taken at the near end, and no told chip or script lost more
-pub record TookSome (old new : NetState) : Type 0 where
+-- the faults that a wire over a net may answer: it judges no answer
+abbrev pub OfNet : WireFault → Type 0
+OfNet SendFailed = Unit {0}
+OfNet RecvFailed = Unit {0}
+OfNet Ended = Unit {0}
+OfNet (BadAnswer _) = ⊥
+
+-- fewer bytes were taken at the near end than were wanted: they stand at the front of `into`, with the character 0 in each place behind them
+pub record TookSome (into : List ℕ) (old new : NetState) : Type 0 where
   pub count : ℕ
-  pub into : List ℕ
+  pub missing : ℕ
   pub took : Took count into old new
+  pub padded : into ≡ take count into ++ replicate missing no_answer
 
 -- what a wire over a net keeps: its reference to the net, those of the net, how the net was opened, and of a told chip's schedule
 abbrev pub wired_ties : GName → List GName → NetState → Ties

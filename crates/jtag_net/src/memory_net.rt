@@ -1,7 +1,7 @@
 //! Nets in memory, for tests.
 ghost use Rattle.std.specs.Prelude.{◌≡◌, ◌+◌, ◌-◌, ◌^◌, ◌<◌, ◌≤◌, ◌++◌, [], List, None, Some, Option, take, drop, length, min, nat_le, false, true, vec_len, vec_capacity, IfOk, IfErr, OnOk, OnErr, IfSome, IfNone, OnSome};
 ghost use Rattle.jt_base.specs.FileStore.{is_listed};
-ghost use Rattle.jt_base.specs.Faults.{Rises};
+ghost use Rattle.jt_base.specs.Faults.{Rises, counted};
 
 use crate::stream::tally;
 use debug_model::{Call, End, GIVEN_MOST, Net, NetFault};
@@ -224,7 +224,7 @@ impl MemoryNet {
 impl Net for MemoryNet {
     ghost use Rattle.std.specs.Prelude.{◌≢◌, is_ok};
     ghost use Rattle.std.specs.Borrow.{GName};
-    ghost use Rattle.debug_model.specs.Net.{Called, CallCause, Gives, IsAccepted, IsConnected, IsJoined, MayPut, MayTake, OpenCause, PutFront, is_open, after_put as net_after_put, after_take};
+    ghost use Rattle.debug_model.specs.Net.{Called, CallCause, Gives, IsAccepted, IsConnected, IsJoined, MayPut, MayTake, OpenCause, PutFront, is_open, after_put as net_after_put, after_take, faults_after};
     ghost use Rattle.debug_model.specs.declared.net.Call.TheVariants as calls;
     ghost use Rattle.jtag_net.specs.Store.{Opens, Refused, after_put, called, count_at, counted_end, failed, fails_here, given, gives_any, opened_both, opened_near, peer_of, refused_at, started, state_of, taken_at, takes_all};
 
@@ -243,6 +243,7 @@ impl Net for MemoryNet {
         ensures opened { OnOk result (IsConnected (peer_of self.old) (state_of self.new)) }
         ensures cause { IfErr result (OpenCause self.old.faults self.new.faults) }
         ensures later { self.old.faults ≤ self.new.faults }
+        ensures counts { self.new.faults ≡ faults_after result self.old.faults }
         ensures ends { self.new.ends ≡ self.old.ends }
         ensures lenders { ◌≡◌ {A = List GName} [] [] }
         ensures answer { Opens (fails_here self.old) result }
@@ -263,6 +264,7 @@ impl Net for MemoryNet {
         ensures opened { OnOk result (IsAccepted (peer_of self.old) (state_of self.new)) }
         ensures cause { IfErr result (OpenCause self.old.faults self.new.faults) }
         ensures later { self.old.faults ≤ self.new.faults }
+        ensures counts { self.new.faults ≡ faults_after result self.old.faults }
         ensures ends { self.new.ends ≡ self.old.ends }
         ensures lenders { ◌≡◌ {A = List GName} [] [] }
         ensures answer { Opens (fails_here self.old) result }
@@ -283,6 +285,7 @@ impl Net for MemoryNet {
         ensures opened { OnOk result (IsJoined (state_of self.new)) }
         ensures cause { IfErr result (OpenCause self.old.faults self.new.faults) }
         ensures later { self.old.faults ≤ self.new.faults }
+        ensures counts { self.new.faults ≡ faults_after result self.old.faults }
         ensures ends { self.new.ends ≡ self.old.ends }
         ensures lenders { ◌≡◌ {A = List GName} [] [] }
         ensures answer { Opens (fails_here self.old) result }
@@ -303,6 +306,7 @@ impl Net for MemoryNet {
         ensures front { OnErr result (PutFront end bytes.now (state_of self.old) (state_of self.new)) }
         ensures cause { IfErr result (CallCause self.old.faults self.new.faults) }
         ensures later { self.old.faults ≤ self.new.faults }
+        ensures counts { self.new.faults ≡ faults_after result self.old.faults }
         ensures ends { self.new.ends ≡ self.old.ends }
         ensures lenders { ◌≡◌ {A = List GName} [] [] }
         ensures answer { is_ok result ≡ takes_all end bytes.now self.old }
@@ -329,7 +333,9 @@ impl Net for MemoryNet {
         ensures kept { OnErr result (state_of self.new ≡ state_of self.old) }
         ensures cause { IfErr result (CallCause self.old.faults self.new.faults) }
         ensures later { self.old.faults ≤ self.new.faults }
+        ensures counts { self.new.faults ≡ faults_after result self.old.faults }
         ensures ended { IfOk result (λ n. n ≡ 0 → Rises self.old.ends self.new.ends) }
+        ensures one_end { IfOk result (λ n. n ≡ 0 → self.new.ends ≡ counted self.old.ends) }
         ensures goes_on { IfOk result (λ n. n ≢ 0 → self.new.ends ≡ self.old.ends) }
         ensures ends { OnErr result (self.new.ends ≡ self.old.ends) }
         ensures ends_later { self.old.ends ≤ self.new.ends }

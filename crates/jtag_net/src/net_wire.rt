@@ -3,8 +3,8 @@ ghost use Rattle.std.specs.Prelude.{◌≡◌, ◌≤◌, ◌∷◌, None, true,
 ghost use Rattle.debug_model.specs.Net.{PutFront, after_put, coming_of, is_open};
 ghost use Rattle.debug_model.specs.declared.net.End.TheVariants as end;
 ghost use Rattle.debug_model.specs.Told.{IsLive, IsOpen, IsRead};
-ghost use Rattle.debug_model.specs.Wire.{IsPiece, KeepsChip, LosesComing, ReadsFront, RecvCause, SendCause, SentFront, TakesComing, are_open, piece_most, sent};
-ghost use Rattle.jtag_net.specs.Wired.{PutCause, TakeCause, Took, TookSome, is_wired, summed, wired_ties};
+ghost use Rattle.debug_model.specs.Wire.{IsPiece, ReadsFront, ReadsSome, RecvCause, SendCause, SentFront, TakesComing, TakesSome, are_open, piece_most, sent};
+ghost use Rattle.jtag_net.specs.Wired.{OfNet, PutCause, TakeCause, Took, TookSome, is_wired, summed, wired_ties};
 
 use crate::take_all::take_all;
 use debug_model::{End, Net, Wire, WireFault};
@@ -36,6 +36,8 @@ impl<'a, N: Net> Wire for NetWire<'a, N> {
 
     ghost fault_count = { λ w. summed (N.fault_count w.net.now) (N.end_count w.net.now) };
 
+    ghost gives = { OfNet };
+
     ghost ties = { λ w. wired_ties w.net.ghost_name (N.lenders w.net.now) (N.state w.net.now) };
 
     #[tactic(auto, using(crate::proofs::Puts::coming_stays, crate::proofs::Puts::coming_stays_cut))]
@@ -49,6 +51,8 @@ impl<'a, N: Net> Wire for NetWire<'a, N> {
         ensures prefix { OnErr result (SentFront bytes.now (N.state self.old.net.now).chip (N.state self.new.net.now).chip) }
         ensures coming { coming_of (N.state self.new.net.now) ≡ coming_of (N.state self.old.net.now) }
         ensures later { summed (N.fault_count self.old.net.now) (N.end_count self.old.net.now) ≤ summed (N.fault_count self.new.net.now) (N.end_count self.new.net.now) }
+        ensures still { OnOk result (summed (N.fault_count self.new.net.now) (N.end_count self.new.net.now) ≡ summed (N.fault_count self.old.net.now) (N.end_count self.old.net.now)) }
+        ensures own { IfErr result OfNet }
         ensures cause { IfErr result (SendCause (summed (N.fault_count self.old.net.now) (N.end_count self.old.net.now)) (summed (N.fault_count self.new.net.now) (N.end_count self.new.net.now)) (N.state self.new.net.now).chip) }
         ensures ties { wired_ties self.new.net.ghost_name (N.lenders self.new.net.now) (N.state self.new.net.now) ≡ wired_ties self.old.net.ghost_name (N.lenders self.old.net.now) (N.state self.old.net.now) }
         ensures net { OnOk result (N.state self.new.net.now ≡ after_put end.Near bytes.now (N.state self.old.net.now)) }
@@ -61,19 +65,21 @@ impl<'a, N: Net> Wire for NetWire<'a, N> {
         }
     }
 
-    #[tactic(auto, using(crate::proofs::Takes::keeps_chip, crate::proofs::Takes::reads_front, crate::proofs::Takes::takes_coming, crate::proofs::Takes::loses_coming, crate::proofs::Timed::took_ties, crate::proofs::Timed::some_ties))]
+    #[tactic(auto, using(crate::proofs::Takes::reads_some, crate::proofs::Takes::reads_front, crate::proofs::Takes::takes_coming, crate::proofs::Takes::takes_some, crate::proofs::Timed::took_ties, crate::proofs::Timed::some_ties))]
     fn recv(&mut self, into: &mut [u8]) -> Result<(), WireFault>
         requires open { IsOpen (N.state self.old.net.now).chip }
         requires waiting { IfSome (N.state self.old.net.now).chip (λ f. length into.old ≤ length f.unread) }
         ensures read { OnOk result (ReadsFront into.new (N.state self.old.net.now).chip (N.state self.new.net.now).chip) }
-        ensures chip { OnErr result (KeepsChip (N.state self.old.net.now).chip (N.state self.new.net.now).chip) }
+        ensures chip { OnErr result (ReadsSome into.new (N.state self.old.net.now).chip (N.state self.new.net.now).chip) }
         ensures came { OnOk result (TakesComing into.new (coming_of (N.state self.old.net.now)) (coming_of (N.state self.new.net.now))) }
-        ensures lost { OnErr result (LosesComing (coming_of (N.state self.old.net.now)) (coming_of (N.state self.new.net.now))) }
+        ensures some { OnErr result (TakesSome into.new (coming_of (N.state self.old.net.now)) (coming_of (N.state self.new.net.now))) }
         ensures later { summed (N.fault_count self.old.net.now) (N.end_count self.old.net.now) ≤ summed (N.fault_count self.new.net.now) (N.end_count self.new.net.now) }
+        ensures still { OnOk result (summed (N.fault_count self.new.net.now) (N.end_count self.new.net.now) ≡ summed (N.fault_count self.old.net.now) (N.end_count self.old.net.now)) }
+        ensures own { IfErr result OfNet }
         ensures cause { IfErr result (RecvCause (summed (N.fault_count self.old.net.now) (N.end_count self.old.net.now)) (summed (N.fault_count self.new.net.now) (N.end_count self.new.net.now)) (N.state self.new.net.now).chip) }
         ensures ties { wired_ties self.new.net.ghost_name (N.lenders self.new.net.now) (N.state self.new.net.now) ≡ wired_ties self.old.net.ghost_name (N.lenders self.old.net.now) (N.state self.old.net.now) }
         ensures net { OnOk result (Took (length into.new) into.new (N.state self.old.net.now) (N.state self.new.net.now)) }
-        ensures net_some { OnErr result (TookSome (N.state self.old.net.now) (N.state self.new.net.now)) }
+        ensures net_some { OnErr result (TookSome into.new (N.state self.old.net.now) (N.state self.new.net.now)) }
         ensures faults { IfErr result (TakeCause (N.fault_count self.old.net.now) (N.fault_count self.new.net.now) (N.end_count self.old.net.now) (N.end_count self.new.net.now)) }
     {
         take_all(self.net, into)

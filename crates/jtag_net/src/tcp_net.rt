@@ -1,7 +1,7 @@
 //! Real connections: the trusted edge, which tells nothing of what crosses them.
 ghost use Rattle.std.specs.Prelude.{◌≡◌, ◌≤◌, false, true, None, is_some, IfErr, OnOk, OnErr};
 ghost use Rattle.std.specs.Io.KnownBytes.{Appends};
-ghost use Rattle.debug_model.specs.Net.{CallCause};
+ghost use Rattle.debug_model.specs.Net.{CallCause, faults_after};
 ghost use Rattle.jtag_net.specs.Stream.{AppendsFront, held};
 
 use crate::stream::{read_some, tally, write_whole};
@@ -88,6 +88,7 @@ fn put_at<S: Write>(end: &mut Option<S>, failed: &mut u64, bytes: &[u8]) -> Resu
     ensures front { OnErr result (AppendsFront (held S.contents end.old) (held S.contents end.new) bytes.now) }
     ensures cause { IfErr result (CallCause failed.old failed.new) }
     ensures later { failed.old ≤ failed.new }
+    ensures counts { failed.new ≡ faults_after result failed.old }
 {
     if write_whole(end.as_mut().unwrap(), bytes).is_err() {
         count_fault(failed);

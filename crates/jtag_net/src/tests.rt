@@ -27,7 +27,7 @@ fn memory(
 #[tactic(auto, unfolding(debug_model::specs::Wire::are_open))]
 fn wire_gives_input_in_any_pieces(rt: HostRuntime) -> Result<(), Fail> {
     for piece in [1, 2, 3, 256] {
-        let mut net = memory(&rt, b"10110", piece, 8, &[])?;
+        let mut net = memory(&rt, b"10110x", piece, 8, &[])?;
         net.accept(rt.alloc(), "here")?;
         let mut wire = NetWire::new(&mut net);
         let mut three = [0; 3];
@@ -37,11 +37,13 @@ fn wire_gives_input_in_any_pieces(rt: HostRuntime) -> Result<(), Fail> {
         wire.send(b"2R6")?;
         wire.recv(&mut two)?;
         assert_eq!(rt; (&three, &two), (b"101", b"10"), "pieces of {piece}");
+        // what came before the end is handed on, and `0` in the place of what did not come
         assert_eq!(rt;
-            (wire.recv(&mut two), wire.faults()),
+            (wire.recv(&mut three), wire.faults()),
             (Err(WireFault::Ended), 1),
             "pieces of {piece}"
         );
+        assert_eq!(rt; &three, b"x00", "pieces of {piece}");
         assert_eq!(rt; (net.faults(), net.ends()), (0, 1), "pieces of {piece}");
         assert_eq!(rt; net.sent(), b"0R42R6".as_slice());
     }

@@ -1,20 +1,22 @@
 -- What a fault leaves behind and why it came: a told chip has taken a front of the call's bytes, and gives no bad answer.
 use Rattle.std.proofs.Common.{◌≡◌, ◌≢◌, ◌∙◌, ◌<◌, ◌≤◌, ◌+◌, ◌⊎◌, ℕ, suc, List, [], ◌∷◌, ◌++◌, Bool, true, false, length, map, drop, Option, Some, None, option_map, IfSome, refl, sym, ap, subst, arith, inl, inr, append_assoc, Result, Ok, Err, IsErrAnd, IfErr, OnErr}
-use Rattle.debug_model.specs.Chip.{Chip, Inside, answer_byte}
-use Rattle.debug_model.specs.Scan.{ResetCut, RoundsPassed, ScanCause, ScanCut, Script, Stage, WhereTold, WrongIn, dr_bytes, ir_bytes, reset_bytes, ticks}
+use Rattle.jt_base.specs.Faults.{Rises}
+use Rattle.debug_model.specs.Chip.{Chip, Inside, Live, answer_byte}
+use Rattle.debug_model.specs.Scan.{BadCause, CameWrong, ResetCut, RoundsPassed, ScanCause, ScanCut, Script, Stage, WhereTold, WrongIn, dr_bytes, ir_bytes, reset_bytes, ticks}
 use Rattle.debug_model.specs.Scan.{Answers, not_captured, captured, updated}
 use Rattle.debug_model.specs.Told.{Far, IsFree, IsIdle}
-use Rattle.debug_model.specs.Wire.{KeepsChip, ReadsFront, SentFront, TakesComing, sent}
+use Rattle.debug_model.specs.Wire.{EndCause, SentFront, sent}
 use Rattle.debug_model.specs.declared.data_register.DataRegister.{DataRegister}
 use Rattle.debug_model.specs.declared.tap_state.TapState.{TapState}
 use Rattle.debug_model.specs.declared.tap_state.TapState.TheVariants.{TestLogicReset, RunTestIdle}
 use Rattle.debug_model.specs.declared.wire.WireFault.{WireFault}
+use Rattle.debug_model.specs.declared.wire.WireFault.TheVariants.{SendFailed, RecvFailed, Ended, BadAnswer}
 use Rattle.probe_scan.proofs.Along.{Along, along_front, dr_along, idle_along, ir_along, still_along}
 use Rattle.probe_scan.proofs.Ends.{TookFront, took_front}
 use Rattle.probe_scan.proofs.Paths.{chip_at, scan_inside}
 use Rattle.probe_scan.proofs.Rounds.{Counted, path_counted, rounds_of, ticks_rounds}
-use Rattle.probe_scan.proofs.Scans.{Between, IsAsked, any_at, out_of, received, state_at}
-use Rattle.probe_scan.specs.Answers.{IsFirstBad}
+use Rattle.probe_scan.proofs.Scans.{Between, IsAsked, any_at, out_of, state_at}
+use Rattle.probe_scan.specs.Answers.{IsWrong, KeepsChip, ReceiveCause}
 
 -- ---- a front was taken
 
@@ -147,15 +149,11 @@ whole_cut_at bits f new g is inside_is = record {
 lost_cut_at : (bits : List Bool) (f : Far) (between new : Option Far) → IsAsked bits f between → KeepsChip between new → ScanCut (Some 0) bits f.live.chip new
 lost_cut_at bits f between new a keeps =
     let at = subst (λ t. KeepsChip t new) a.is keeps in
-    whole_cut_at bits f new _ at.3 refl
+    whole_cut_at bits f new _ at.1 refl
 
 pub lost_cut : (bits : List Bool) (old between new : Option Far) → Between bits old between → KeepsChip between new → WhereTold (ScanCut (Some 0) bits) old new
 lost_cut bits None between new b keeps = subst (λ t. KeepsChip t new) b.is keeps
 lost_cut bits (Some f) between new b keeps = lost_cut_at bits f between new b.asked keeps
-
-pub bad_cut : (bits : List Bool) (answers : List ℕ) (old between new : Option Far) → Between bits old between → length answers ≡ length bits → ReadsFront answers between new → WhereTold (ScanCut (Some 0) bits) old new
-bad_cut bits answers None between new b full read = subst (λ t. ReadsFront answers t new) b.is read
-bad_cut bits answers (Some f) between new b full read = whole_cut_at bits f new _ (received bits answers f between new full b.asked read).is refl
 
 -- ---- causes
 
@@ -172,20 +170,21 @@ no_bad [] (false ∷ bits) bad rest p q e = p (sym (ap (first_or bad) e))
 no_bad (g ∷ good) [] bad rest p q e = absurd (omega (arith, ap length e))
 no_bad (g ∷ good) (b ∷ bits) bad rest p q e = no_bad good bits bad rest p q (ap (drop 1) e)
 
-script_bad : (answers : List ℕ) (good : List Bool) (bad : ℕ) (rest : List ℕ) (coming left : Option (List ℕ)) → answers ≡ map answer_byte good ++ bad ∷ rest → TakesComing answers coming left → IfSome (option_map Answers coming) (WrongIn bad)
-script_bad answers good bad rest None left found takes = tt
-script_bad answers good bad rest (Some coming) left found takes = record {
-  good = good;
-  rest = rest ++ takes.0;
-  is = takes.1 ∙ ap (λ xs. xs ++ takes.0) found ∙ append_assoc (map answer_byte good) (bad ∷ rest) takes.0;
-}
+none_wrong : (b : ℕ) (bits : List Bool) (coming : Option (List ℕ)) (l : Live) → IsWrong b (Some (record { live = l; unread = map answer_byte bits })) coming → ⊥
+none_wrong b bits coming l wrong = no_bad wrong.of_chip.good bits b wrong.of_chip.rest wrong.not_zero wrong.not_one wrong.of_chip.is
 
--- why a scan refuses an answer
-pub bad_cause : (bits : List Bool) (answers : List ℕ) (fault : WireFault) (old between new : Option Far) (before after : ℕ) (coming left : Option (List ℕ)) → length answers ≡ length bits → Between bits old between → ReadsFront answers between new → TakesComing answers coming left → IsFirstBad answers fault → ScanCause before after new (option_map Answers coming) fault
-bad_cause bits answers fault None between new before after coming left full b read takes bad = subst (ScanCause before after new (option_map Answers coming)) (sym bad.kept) (subst (λ t. ReadsFront answers t new) b.is read, bad.not_zero, bad.not_one, script_bad answers bad.good bad.bad bad.rest coming left bad.found takes)
-bad_cause bits answers fault (Some f) between new before after coming left full b read takes bad = absurd (no_bad bad.good (out_of bits f.live.chip) bad.bad bad.rest bad.not_zero bad.not_one (sym (received bits answers f between new full b.asked read).answers_are ∙ bad.found))
+script_wrong : (b : ℕ) (coming : Option (List ℕ)) → IfSome coming (CameWrong b) → IfSome (option_map Answers coming) (WrongIn b)
+script_wrong b None wrong = tt
+script_wrong b (Some coming) wrong = wrong
 
--- a scan that answers this fault has its cause
-pub err_cause : {T : Type 0} (old new : ℕ) (told : Option Far) (script : Option Script) (fault : WireFault) (result : Result T WireFault) → IsErrAnd result (λ e. e ≡ fault) → ScanCause old new told script fault → IfErr result (ScanCause old new told script)
-err_cause old new told script fault (Ok x) h cause = tt
-err_cause old new told script fault (Err e) h cause = subst (ScanCause old new told script) (sym h) cause
+bad_cause : (bits : List Bool) (b : ℕ) (old between new : Option Far) (coming : Option (List ℕ)) → Between bits old between → KeepsChip between new → IsWrong b between coming → BadCause b new (option_map Answers coming)
+bad_cause bits b None between new coming was keeps wrong = (subst (λ t. KeepsChip t new) was.is keeps, wrong.not_zero, wrong.not_one, script_wrong b coming wrong.of_script)
+bad_cause bits b (Some f) between new coming was keeps wrong = absurd (none_wrong b (out_of bits f.live.chip) coming _ (subst (λ t. IsWrong b t coming) was.asked.is wrong))
+
+-- why a scan has no answers: a fault of the wire's, or a bad answer
+pub scan_cause : (bits : List Bool) (before between_count after : ℕ) (old between new : Option Far) (coming coming' : Option (List ℕ)) (fault : WireFault) → between_count ≡ before → coming' ≡ coming → Between bits old between → KeepsChip between new
+    → ReceiveCause between_count after between new coming' fault → ScanCause before after new (option_map Answers coming) fault
+scan_cause bits before between_count after old between new coming coming' SendFailed same alike was keeps cause = absurd cause
+scan_cause bits before between_count after old between new coming coming' RecvFailed same alike was keeps cause = subst (λ n. Rises n after) same cause
+scan_cause bits before between_count after old between new coming coming' Ended same alike was keeps cause = subst (λ n. EndCause n after new) same cause
+scan_cause bits before between_count after old between new coming coming' (BadAnswer b) same alike was keeps cause = subst (λ c. BadCause b new (option_map Answers c)) alike (bad_cause bits b old between new coming' was keeps cause)

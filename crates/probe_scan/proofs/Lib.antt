@@ -2,5 +2,6 @@ pub mod Along
 pub mod Ends
 pub mod Faults
 pub mod Paths
+pub mod Received
 pub mod Rounds
 pub mod Scans

@@ -3,7 +3,8 @@
 ghost use Rattle.std.specs.Prelude.{◌≡◌, ◌≤◌, ◌<◌, ◌+◌, ◌*◌, ◌++◌, length, map, IfOk, IfErr};
 ghost use Rattle.debug_model.specs.Chip.{answer_byte};
 ghost use Rattle.debug_model.specs.Scan.{asked_bits, dr_bytes, ir_bytes, path, reset_bytes, sent_bits};
-ghost use Rattle.probe_scan.specs.Answers.{IsFirstBad};
+ghost use Rattle.debug_model.specs.Wire.{piece_most};
+ghost use Rattle.probe_scan.specs.Answers.{IsFirstBad, bits_most};
 
 use bitbang_stream::{Batch, answer_bit};
 use debug_model::WireFault;
@@ -26,7 +27,7 @@ const IDLE_PATH: [bool; 2] = [true, false];
 
 /// Appends a clock for each level of TMS, with TDI 0.
 fn push_path(batch: &mut Batch, levels: &[bool])
-    requires { length batch.old + 3 * length levels.now ≤ 256 }
+    requires { length batch.old + 3 * length levels.now ≤ piece_most }
     ensures bytes { batch.new ≡ batch.old ++ path levels.now }
     ensures room { length batch.new ≤ length batch.old + 3 * length levels.now }
 {
@@ -39,7 +40,7 @@ fn push_path(batch: &mut Batch, levels: &[bool])
 
 /// Appends an asked clock for each bit, the last of them with TMS 1.
 fn push_asked(batch: &mut Batch, bits: Bits)
-    requires { length batch.old + 3 * length bits ≤ 256 }
+    requires { length batch.old + 3 * length bits ≤ piece_most }
     ensures bytes { batch.new ≡ batch.old ++ asked_bits bits }
     ensures room { length batch.new ≤ length batch.old + 3 * length bits }
 {
@@ -51,7 +52,7 @@ fn push_asked(batch: &mut Batch, bits: Bits)
 
 /// Appends a clock for each bit, the last of them with TMS 1.
 fn push_sent(batch: &mut Batch, bits: Bits)
-    requires { length batch.old + 3 * length bits ≤ 256 }
+    requires { length batch.old + 3 * length bits ≤ piece_most }
     ensures bytes { batch.new ≡ batch.old ++ sent_bits bits }
     ensures room { length batch.new ≤ length batch.old + 3 * length bits }
 {
@@ -86,7 +87,7 @@ pub fn ir_batch(code: u8) -> Batch
 
 /// The bytes of a scan of these bits, at most 64.
 pub fn dr_batch(bits: Bits) -> Batch
-    requires { length bits ≤ 64 }
+    requires { length bits ≤ bits_most }
     ensures { result ≡ dr_bytes bits }
 {
     let mut batch = Batch::new();
@@ -98,7 +99,7 @@ pub fn dr_batch(bits: Bits) -> Batch
 
 /// The bits of at most 64 answers, in order. The first that is neither `0` nor `1` is refused.
 pub fn read_bits(answers: &[u8]) -> Result<Bits, WireFault>
-    requires { length answers.now ≤ 64 }
+    requires { length answers.now ≤ bits_most }
     ensures bits { IfOk result (λ bits. answers.now ≡ map answer_byte bits) }
     ensures bad { IfErr result (IsFirstBad answers.now) }
 {

@@ -1,10 +1,14 @@
-ghost use Rattle.std.specs.Prelude.{◌≡◌, Some, None, option_map};
+ghost use Rattle.std.specs.Prelude.{◌≡◌, ◌≤◌, Some, None, IfErr, IfOk, IfSome, OnErr, OnOk, length, map, option_map};
 ghost use Rattle.std.proofs.Props.{props};
-ghost use Rattle.debug_model.specs.Scan.{Answers};
+ghost use Rattle.debug_model.specs.Chip.{answer_byte};
+ghost use Rattle.debug_model.specs.Scan.{Answers, Judged};
+ghost use Rattle.debug_model.specs.Told.{IsOpen};
+ghost use Rattle.debug_model.specs.Wire.{ReadsFront, TakesComing};
+ghost use Rattle.probe_scan.specs.Answers.{KeepsChip, OrBad, ReceiveCause, bits_most};
 ghost use Rattle.probe_scan.specs.Remembered.{IsRemembered};
 
 use crate::batch::{dr_batch, ir_batch, read_bits, reset_batch};
-use debug_model::{Scan, Wire, WireFault};
+use debug_model::{NO_ANSWER, Scan, Wire, WireFault};
 use jt_base::Bits;
 
 /// The most bits of one scan.
@@ -40,6 +44,29 @@ impl<W: Wire> Scanner<W> {
     }
 }
 
+#[tactic(auto, using(crate::proofs::Received::bad_judged, crate::proofs::Received::bad_own, crate::proofs::Received::bad_kept, crate::proofs::Received::fault_cause))]
+/// Receives as many answers as `into` holds, at most 64, and reads their bits. What came before a fault is judged too: a bad answer is told before the fault.
+fn receive<W: Wire>(wire: &mut W, into: &mut [u8]) -> Result<Bits, WireFault>
+    requires most { length into.old ≤ bits_most }
+    requires open { IsOpen (W.far wire.old) }
+    requires waiting { IfSome (W.far wire.old) (λ f. length into.old ≤ length f.unread) }
+    ensures length { length into.new ≡ length into.old }
+    ensures bits { IfOk result (λ bits. into.new ≡ map answer_byte bits) }
+    ensures read { OnOk result (ReadsFront into.new (W.far wire.old) (W.far wire.new)) }
+    ensures came { OnOk result (TakesComing into.new (W.coming wire.old) (W.coming wire.new)) }
+    ensures kept { OnErr result (KeepsChip (W.far wire.old) (W.far wire.new)) }
+    ensures judged { IfErr result (Judged (option_map Answers (W.coming wire.old)) (option_map Answers (W.coming wire.new))) }
+    ensures later { W.fault_count wire.old ≤ W.fault_count wire.new }
+    ensures cause { IfErr result (ReceiveCause (W.fault_count wire.old) (W.fault_count wire.new) (W.far wire.old) (W.far wire.new) (W.coming wire.old)) }
+    ensures own { IfErr result (OrBad W.gives) }
+    ensures ties { W.ties wire.new ≡ W.ties wire.old }
+{
+    let received = wire.recv(into);
+    let bits = read_bits(into)?;
+    received?;
+    Ok(bits)
+}
+
 impl<W: Wire> Scan for Scanner<W> {
     ghost far = { λ s. W.far s.wire };
 
@@ -48,6 +75,8 @@ impl<W: Wire> Scan for Scanner<W> {
     ghost fault_count = { λ s. W.fault_count s.wire };
 
     ghost slack = { λ _. Some 0 };
+
+    ghost gives = { OrBad W.gives };
 
     ghost ties = { λ s. W.ties s.wire };
 
@@ -71,10 +100,8 @@ impl<W: Wire> Scan for Scanner<W> {
     fn dr(&mut self, bits: Bits) -> Result<Bits, WireFault> {
         let remembered = self.remembered.take();
         self.wire.send(dr_batch(bits).bytes())?;
-        let mut answers = [0; BITS_MOST];
-        let asked = &mut answers[..bits.len() as usize];
-        self.wire.recv(asked)?;
-        let out = read_bits(asked)?;
+        let mut answers = [NO_ANSWER; BITS_MOST];
+        let out = receive(&mut self.wire, &mut answers[..bits.len() as usize])?;
         self.remembered = remembered;
         Ok(out)
     }

@@ -44,6 +44,8 @@ fn take_first(numbers: &mut ArrayVec<u64, NUMBERS_MOST>) -> Option<u64>
 }
 
 impl Scan for ScriptedScan {
+    ghost use Rattle.debug_model.specs.declared.wire.WireFault.TheVariants as faults;
+
     ghost far = { λ _. None };
 
     ghost script = { λ s. Some (Numbers s.numbers.items) };
@@ -51,6 +53,8 @@ impl Scan for ScriptedScan {
     ghost fault_count = { λ s. s.failed };
 
     ghost slack = { λ _. None };
+
+    ghost gives = { λ fault. fault ≡ faults.RecvFailed };
 
     ghost ties = { λ _. no_ties };
 

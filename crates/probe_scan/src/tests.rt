@@ -25,6 +25,8 @@ impl<'a> Wire for FakeWire<'a> {
 
     ghost fault_count = { λ w. w.failed };
 
+    ghost gives = { λ _. Unit {0} };
+
     ghost ties = { λ _. no_ties };
 
     fn send(&mut self, bytes: &[u8]) -> Result<(), WireFault> {

@@ -8,7 +8,7 @@ invariant-pieces g l = record {
   chip : feed_of l.bench l.rest ≡ feed_of l.fn.bench l.fn.bytes;
   answers : l.answers.items ++ said_of l.bench l.rest ≡ l.fn.answers.items ++ said_of l.fn.bench l.fn.bytes;
   loaded : IsSome l.bench;
-  room : array_vec_len l.answers + length l.rest ≤ 256;
+  room : array_vec_len l.answers + length l.rest ≤ piece_most;
 }
 
 abbrev pub decreases-pieces : goal.decreases-pieces

@@ -1,17 +1,17 @@
 use Rattle.std.proofs.Common.{◌≡◌, ◌≤◌, ◌-◌, length, IsTrue}
 use Rattle.jtag_net.specs.Wired.{Took, is_wired}
-use Rattle.jtag_net.proofs.take_all.take_all.Given as goal
+use Rattle.jtag_net.proofs.take_all.take_front.Given as goal
 
 abbrev pub invariant-pieces : goal.invariant-pieces
 invariant-pieces g l = record {
-  took : Took l.at l.into (g.N.Net.state l.fn.net) (g.N.Net.state l.net);
-  within : l.at ≤ length l.into;
+  took : Took l.came l.into (g.N.Net.state l.fn.net) (g.N.Net.state l.net);
+  within : l.came ≤ length l.into;
   whole : length l.into ≡ length l.fn.into;
   wired : IsTrue (is_wired (g.N.Net.state l.net));
-  later : g.N.Net.fault_count l.fn.net ≤ g.N.Net.fault_count l.net;
-  ends_later : g.N.Net.end_count l.fn.net ≤ g.N.Net.end_count l.net;
+  still : g.N.Net.fault_count l.net ≡ g.N.Net.fault_count l.fn.net;
+  none_ended : g.N.Net.end_count l.net ≡ g.N.Net.end_count l.fn.net;
   lenders : g.N.Net.lenders l.net ≡ g.N.Net.lenders l.fn.net;
 }
 
 abbrev pub decreases-pieces : goal.decreases-pieces
-decreases-pieces g l = length l.into - l.at
+decreases-pieces g l = length l.into - l.came
