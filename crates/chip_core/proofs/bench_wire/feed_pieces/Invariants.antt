@@ -1,5 +1,6 @@
 use Rattle.std.proofs.Common.{◌≡◌, ◌+◌, ◌≤◌, ◌++◌, IsSome, length}
 use Rattle.arrayvec.specs.ArrayVec.{array_vec_len}
+use Rattle.debug_model.specs.Wire.{piece_most}
 use Rattle.chip_core.specs.Feeds.{feed_of, said_of}
 use Rattle.chip_core.proofs.bench_wire.feed_pieces.Given as goal
 
