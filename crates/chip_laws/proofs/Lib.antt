@@ -5,3 +5,4 @@ pub mod ExampleLemmas
 pub mod Events
 pub mod Turns
 pub mod Timing
+pub mod TapLemmas
