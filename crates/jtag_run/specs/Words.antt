@@ -1,7 +1,7 @@
 -- The jobs that the program does, each with its texts as lists of bytes, and the job that words write.
 -- The words are this project's own (docs/FORMATS.md, "Words"); what they write is what `jtag_words` says.
 use Rattle.std.specs.Prelude.{◌≡◌, ℕ, List, Bool, true, false, Option, Some, string_bytes, if◌then◌else◌, nat_le, ◌&&◌}
-use Rattle.debug_model.specs.Schedule.{Plan}
+use Rattle.debug_model.specs.Schedule.{RoundPlan}
 use Rattle.debug_model.specs.Wire.{piece_most}
 use Rattle.hart_debug.specs.declared.start.Start.{Start}
 use Rattle.hart_debug.specs.declared.start.Start.TheVariants.{Running, Halted}
@@ -98,5 +98,5 @@ start_of false = Running
 abbrev pub schedule_harts : ℕ → ℕ
 schedule_harts harts = if nat_le 1 harts && nat_le harts 4 then harts else 1
 
-abbrev pub plan_of : ChipOptions → Plan
+abbrev pub plan_of : ChipOptions → RoundPlan
 plan_of o = seed_plan o.seed o.busy (schedule_harts o.harts)

@@ -3,7 +3,7 @@
 ghost use Rattle.std.specs.Prelude.{◌≡◌, ◌+◌, ◌≤◌, ◌++◌, IfSome, IsSome, None, length};
 ghost use Rattle.arrayvec.specs.ArrayVec.{array_vec_len};
 ghost use Rattle.debug_model.specs.Chip.{feed, said};
-ghost use Rattle.debug_model.specs.Schedule.{Plan};
+ghost use Rattle.debug_model.specs.Schedule.{RoundPlan};
 ghost use Rattle.debug_model.specs.Wire.{piece_most};
 ghost use Rattle.chip_core.specs.Fed.{fed};
 ghost use Rattle.chip_core.specs.Feeds.{fed_of, feed_of, said_of};
@@ -69,7 +69,7 @@ impl<Q: Schedule> Bench<Q> {
         ensures fed { result ≡ fed_of self.old bytes.now }
         ensures loaded { IsSome self.new }
         ensures room { array_vec_len answers.new ≤ array_vec_len answers.old + length bytes.now }
-        ensures turns { (first : Plan) → IfSome self.old (λ l. TurnsOffered first l.chip) → IfSome self.new (λ l. TurnsOffered first l.chip) }
+        ensures turns { (first : RoundPlan) → IfSome self.old (λ l. TurnsOffered first l.chip) → IfSome self.new (λ l. TurnsOffered first l.chip) }
     {
         match &mut self.chip {
             Some(chip) => chip.feed(bytes, answers),
