@@ -1,6 +1,6 @@
 ghost use Rattle.std.specs.Prelude.{◌≡◌, ◌≤◌, ◌+◌, [], ◌++◌, IsTrue, length};
 ghost use Rattle.debug_model.specs.Scan.{high, low};
-ghost use Rattle.debug_model.specs.Wire.{are_open};
+ghost use Rattle.debug_model.specs.Wire.{are_open, piece_most};
 ghost use Rattle.bitbang_stream.specs.Clock.{pulsed};
 
 use arrayvec::ArrayVec;
@@ -66,7 +66,7 @@ impl Batch {
     ///
     /// Source: OpenOCD, remote_bitbang; IEEE 1149.1, where TDO changes at a fall and TMS and TDI are sampled at a rise.
     pub fn pulse(&mut self, tms: bool, tdi: bool, ask: bool)
-        requires room { length self.old + 3 ≤ 256 }
+        requires room { length self.old + 3 ≤ piece_most }
         ensures { self.new ≡ self.old ++ pulsed ask tms tdi }
     {
         self.signs.push(low_digit(tms, tdi));
@@ -79,7 +79,7 @@ impl Batch {
     /// The bytes, in the order in which they are sent: at most 256, and one piece for a wire.
     pub fn bytes(&self) -> &[u8]
         ensures bytes { result.now ≡ self.now }
-        ensures most { length result.now ≤ 256 }
+        ensures most { length result.now ≤ piece_most }
         ensures signs { IsTrue (are_open result.now) }
     {
         &self.signs

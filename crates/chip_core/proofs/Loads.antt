@@ -9,7 +9,7 @@ use Rattle.rv_model.specs.Image.{ram_size}
 use Rattle.rv_model.specs.Memory.{IsRamSize, zero_memory}
 use Rattle.debug_model.specs.Chip.{Live}
 use Rattle.debug_model.specs.Loaded.{AsLoaded, Fits, reset_harts}
-use Rattle.debug_model.specs.Schedule.{Plan}
+use Rattle.debug_model.specs.Schedule.{RoundPlan}
 use Rattle.hart_debug.specs.Changes.{start_cause}
 use Rattle.hart_debug.specs.declared.start.Start.{Start}
 use Rattle.hart_debug.specs.declared.start.Start.TheVariants.{Running, Halted}
@@ -26,7 +26,7 @@ start_known : (start : Start) → (start_cause start ≡ runs) ⊎ (start_cause 
 start_known Running = inl refl
 start_known Halted = inr refl
 
-pub as_loaded : (l : Live) (image : List ℕ) (harts ram : ℕ) (start : Start) (plan : Plan)
+pub as_loaded : (l : Live) (image : List ℕ) (harts ram : ℕ) (start : Start) (plan : RoundPlan)
     → 1 ≤ harts → harts ≤ 4 → IsRamSize ram → Fits image ram → ((i : ℕ) → get_or image i 0 < 256) → IsFirst plan
     → l ≡ loaded image harts ram start plan → AsLoaded l
 as_loaded l image harts ram start plan some most size fits bytes first is = record {

@@ -4,17 +4,17 @@ use Rattle.std.specs.Prelude.{◌≡◌, ℕ, ◌≤◌, List, length, All}
 use Rattle.debug_model.specs.declared.event.Event.{Event}
 use Rattle.debug_model.specs.Chip.{Live}
 use Rattle.debug_model.specs.Loaded.{live, loaded_board, loaded_chip}
-use Rattle.debug_model.specs.Schedule.{Plan}
+use Rattle.debug_model.specs.Schedule.{RoundPlan}
 use Rattle.hart_debug.specs.Changes.{start_cause}
 use Rattle.hart_debug.specs.declared.start.Start.{Start}
 use Rattle.chip_core.specs.declared.load_fault.LoadFault.{LoadFault}
 use Rattle.chip_core.specs.declared.load_fault.LoadFault.TheVariants.{BadHarts, BadSize, TooLong, NoMemory}
 
-abbrev pub loaded : List ℕ → ℕ → ℕ → Start → Plan → Live
+abbrev pub loaded : List ℕ → ℕ → ℕ → Start → RoundPlan → Live
 loaded image harts ram start plan = live (loaded_chip (loaded_board image harts ram (start_cause start)) plan)
 
 -- a schedule that has given no round yet
-pub record IsFirst (plan : Plan) : Type 0 where
+pub record IsFirst (plan : RoundPlan) : Type 0 where
   pub rounds : All (λ (r : List Event). length r ≤ 8) plan.rounds
   pub place : plan.place ≡ 0
 

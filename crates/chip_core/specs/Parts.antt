@@ -4,7 +4,7 @@ use Rattle.std.specs.Prelude.{Bool}
 use Rattle.debug_model.specs.Chip.{Chip, Works, works_risen}
 use Rattle.debug_model.specs.Module.{Site}
 use Rattle.debug_model.specs.Port.{Port, dtm_fallen, port_fallen, port_held, port_risen}
-use Rattle.debug_model.specs.Schedule.{Plan}
+use Rattle.debug_model.specs.Schedule.{RoundPlan}
 
 pub record Parts : Type 0 where
   pub port : Port
@@ -27,5 +27,5 @@ abbrev pub parts_held : Bool → Parts → Parts
 parts_held on p = record p { port = port_held on p.port }
 
 -- the chip of such parts
-abbrev pub chip_of : Bool → Parts → Plan → Chip
+abbrev pub chip_of : Bool → Parts → RoundPlan → Chip
 chip_of tck p plan = record { tck = tck; port = p.port; inside = record { works = p.works; plan = plan } }

@@ -3,6 +3,7 @@
 ghost use Rattle.std.specs.Prelude.{◌≡◌, ◌+◌, ◌<◌, ◌≤◌, ◌++◌, Some, None, false, true, List};
 ghost use Rattle.arrayvec.specs.ArrayVec.{array_vec_len};
 ghost use Rattle.debug_model.specs.Chip.{after, answer, answer_byte, at_limit, end_of, fall, pins, rise, rise_end, taken_by};
+ghost use Rattle.debug_model.specs.Wire.{piece_most};
 ghost use Rattle.chip_core.specs.Counted.{IsCounted};
 ghost use Rattle.chip_core.specs.Parts.{Parts, chip_of};
 
@@ -127,7 +128,7 @@ impl<Q: Schedule> Chip<Q> {
     #[inline(always)]
     pub(crate) fn take(&mut self, byte: u8, answers: &mut Answers)
         requires live { self.old.ended ≡ None }
-        requires room { array_vec_len answers.old < 256 }
+        requires room { array_vec_len answers.old < piece_most }
         ensures chip { self.new ≡ after self.old byte }
         ensures answers { answers.new.items ≡ answers.old.items ++ answer self.old byte }
         ensures room { array_vec_len answers.new ≤ array_vec_len answers.old + 1 }

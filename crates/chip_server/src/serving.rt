@@ -9,8 +9,8 @@ use crate::served::Served;
 use chip_core::{Answers, Bench, Fed, pieces_join};
 use debug_model::{End, Net, Schedule, WireFault};
 
-/// The most bytes of a piece.
-const PIECE_MOST: usize = 256;
+/// The most bytes of a piece that is served at once.
+const SERVED_MOST: usize = 256;
 
 /// Takes one piece at the near end of the net, feeds it, and puts what the chip answers. It answers the bytes of the piece, or how the serving ended in it:
 /// the place of a bad byte counts in the piece.
@@ -29,7 +29,7 @@ fn serve_piece<N: Net, Q: Schedule>(net: &mut N, bench: &mut Bench<Q>) -> Result
     ensures loaded { IsSome bench.new }
     ensures lenders { N.lenders net.new ≡ N.lenders net.old }
 {
-    let mut piece = [0; PIECE_MOST];
+    let mut piece = [0; SERVED_MOST];
     let count = match net.take(End::Near, &mut piece) {
         Ok(0) => return Err(Served::PeerEnded),
         Ok(count) => count,

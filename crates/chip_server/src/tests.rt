@@ -1,6 +1,7 @@
 //! Chips that are served over nets. The stream is IEEE 1149.1's path to the device identification register, and the answers are its bits, the lowest first.
 
 ghost use Rattle.std.specs.Prelude.{◌≡◌, ◌<◌, ◌≤◌, IsSome, None, length};
+ghost use Rattle.debug_model.specs.Wire.{piece_most};
 
 use crate::{Served, serve};
 use chip_core::{Answers, Bench};
@@ -195,7 +196,7 @@ fn a_net_that_fails_is_told(rt: HostRuntime) -> Result<(), Fail> {
 
 /// Feeds these bytes so often.
 fn feed_often(rt: &impl Abort, bench: &mut Bench<ListSchedule>, bytes: &[u8], times: u32)
-    requires { length bytes.now ≤ 256 }
+    requires { length bytes.now ≤ piece_most }
 {
     for _ in 0..times {
         assert!(rt; bench.is_loaded());

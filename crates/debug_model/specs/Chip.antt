@@ -13,7 +13,7 @@ use Rattle.debug_model.specs.declared.sign.Sign.TheVariants.{Pins, Ask, Light, R
 use Rattle.debug_model.specs.Deeds.{turned, command_stepped, bus_stepped}
 use Rattle.debug_model.specs.Module.{Site, operated, operation_result}
 use Rattle.debug_model.specs.Port.{Port, port_risen, dtm_risen, rise_finds_busy, port_fallen, dtm_fallen, port_held}
-use Rattle.debug_model.specs.Schedule.{Plan, round_of, moved}
+use Rattle.debug_model.specs.Schedule.{RoundPlan, round_of, moved}
 use Rattle.debug_model.specs.Signs.{sign_of}
 use Rattle.debug_model.specs.Transport.{Dtm, finished, dropped}
 
@@ -29,7 +29,7 @@ pub record Works : Type 0 where
 -- all of a chip but its pins and its TAP
 pub record Inside : Type 0 where
   pub works : Works
-  pub plan : Plan  -- the rounds to come
+  pub plan : RoundPlan  -- the rounds to come
 
 -- of the pins only TCK is kept, for the next edge: TMS and TDI come with each byte, and TRST stands in the port
 pub record Chip : Type 0 where

@@ -9,7 +9,7 @@ use Rattle.rv_model.specs.Memory.{IsRamSize, Memory, hart_places, map_of}
 use Rattle.debug_model.specs.Chip.{Chip, Inside, Live, no_counts}
 use Rattle.debug_model.specs.Module.{reset_module}
 use Rattle.debug_model.specs.Port.{reset_port}
-use Rattle.debug_model.specs.Schedule.{Plan}
+use Rattle.debug_model.specs.Schedule.{RoundPlan}
 use Rattle.debug_model.specs.Transport.{fresh_dtm}
 
 -- so many harts, numbered from 0, halted for this reason or running
@@ -24,7 +24,7 @@ loaded_memory image ram = record { bytes = with_image (map_of (replicate ram 0))
 abbrev pub loaded_board : List ℕ → ℕ → ℕ → Option Cause → Board
 loaded_board image harts ram halted = record { harts = reset_harts harts halted; memory = loaded_memory image ram }
 
-abbrev pub loaded_inside : Board → Plan → Inside
+abbrev pub loaded_inside : Board → RoundPlan → Inside
 loaded_inside board plan = record {
   works = record {
     dtm = fresh_dtm;
@@ -34,7 +34,7 @@ loaded_inside board plan = record {
   plan = plan;
 }
 
-abbrev pub loaded_chip : Board → Plan → Chip
+abbrev pub loaded_chip : Board → RoundPlan → Chip
 loaded_chip board plan = record { tck = false; port = reset_port; inside = loaded_inside board plan }
 
 abbrev pub live : Chip → Live
@@ -55,7 +55,7 @@ pub record AsLoaded (l : Live) : Type 0 where
   pub harts : ℕ
   pub ram : ℕ
   pub halted : Option Cause
-  pub plan : Plan
+  pub plan : RoundPlan
   pub right : RightHarts harts
   pub size : IsRamSize ram
   pub fits : Fits image ram

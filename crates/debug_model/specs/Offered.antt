@@ -7,7 +7,7 @@ use Rattle.debug_model.specs.declared.event.Event.TheVariants as event
 use Rattle.debug_model.specs.declared.point.Point.{Point}
 use Rattle.debug_model.specs.declared.point.Point.TheVariants.{Turn, Look, HaltReq, HaltClear, ResumeReq, Access}
 use Rattle.debug_model.specs.Chip.{Chip}
-use Rattle.debug_model.specs.Schedule.{Plan, at_start, round_of, moved}
+use Rattle.debug_model.specs.Schedule.{RoundPlan, at_start, round_of, moved}
 
 -- ---- the turns in a journal
 
@@ -39,19 +39,19 @@ offered harts [] = []
 offered harts (e ∷ es) = offered_by harts e ++ offered harts es
 
 -- the events of so many rounds to come
-unfoldable pub first_rounds : ℕ → Plan → List Event
+unfoldable pub first_rounds : ℕ → RoundPlan → List Event
 first_rounds zero p = []
 first_rounds (suc k) p = round_of p ++ first_rounds k (moved p)
 
 -- the schedule behind so many rounds
-unfoldable pub moved_on : ℕ → Plan → Plan
+unfoldable pub moved_on : ℕ → RoundPlan → RoundPlan
 moved_on zero p = p
 moved_on (suc k) p = moved_on k (moved p)
 
 -- ---- both
 
 -- since the schedule stood like this the chip's harts have had the turns that it offered, in as many rounds as were counted
-pub record TurnsOffered (first : Plan) (c : Chip) : Type 0 where
+pub record TurnsOffered (first : RoundPlan) (c : Chip) : Type 0 where
   pub turns : turns_of c.inside.works.site.journal ≡ offered (length c.inside.works.site.board.harts) (first_rounds c.inside.works.counts.rounds first)
   pub plan : c.inside.plan ≡ moved_on c.inside.works.counts.rounds first
 
@@ -63,7 +63,7 @@ HasOfferedTurns c = TurnsOffered (at_start c.inside.plan) c
 -- whether it is so
 abbrev pub has_offered_turns : Chip → Bool
 has_offered_turns c =
-    let first : Plan = at_start c.inside.plan in
+    let first : RoundPlan = at_start c.inside.plan in
     let rounds : ℕ = c.inside.works.counts.rounds in
     nat_eq c.inside.plan.place (moved_on rounds first).place
     && same_numbers (turns_of c.inside.works.site.journal) (offered (length c.inside.works.site.board.harts) (first_rounds rounds first))

@@ -5,12 +5,16 @@ use Rattle.debug_model.specs.declared.event.Event.{Event}
 use Rattle.debug_model.specs.declared.event.Event.TheVariants.{Turn, DmiDone, DmiFail, CmdStep, BusDone}
 
 -- the rounds, each of at most eight events, and the place of the round that comes next
-pub record Plan : Type 0 where
+pub record RoundPlan : Type 0 where
   pub rounds : List (List Event)
   pub place : ℕ
 
+-- the same, under the name that chip_laws and bench_links still import
+abbrev pub Plan : Type 0
+Plan = RoundPlan
+
 -- the round at the place, the empty round where the list is empty
-abbrev pub round_of : Plan → List Event
+abbrev pub round_of : RoundPlan → List Event
 round_of p = slice_index_or p.rounds p.place []
 
 -- the place one on in a list of so many rounds, and from the list's end back at its start; a place behind the end stays
@@ -18,25 +22,25 @@ abbrev pub following : (count place : ℕ) → ℕ
 following count place = if nat_lt (place + 1) count then place + 1 else if nat_lt place count then 0 else place
 
 -- the plan one place on
-abbrev pub moved : Plan → Plan
+abbrev pub moved : RoundPlan → RoundPlan
 moved p = record p { place = following (length p.rounds) p.place }
 
 -- the same list with its first round next
-abbrev pub at_start : Plan → Plan
+abbrev pub at_start : RoundPlan → RoundPlan
 at_start p = record p { place = 0 }
 
 -- the k-th round to come, from 0
-abbrev pub round_after : ℕ → Plan → List Event
+abbrev pub round_after : ℕ → RoundPlan → List Event
 round_after zero p = round_of p
 round_after (suc k) p = round_after k (moved p)
 
 -- the event stands in one of the w rounds from the k-th on
-abbrev pub ComesWithin : ℕ → ℕ → Plan → Event → Type 0
+abbrev pub ComesWithin : ℕ → ℕ → RoundPlan → Event → Type 0
 ComesWithin w k p e = (i : ℕ) × (i < w) × Contains (round_after (k + i) p) e
 
 -- in every w consecutive rounds each hart below `harts` and each part of the debug module has its turn,
 -- and in no round a DMI operation fails
-pub record Fair (w harts : ℕ) (p : Plan) : Type 0 where
+pub record Fair (w harts : ℕ) (p : RoundPlan) : Type 0 where
   pub turns : (k h : ℕ) → h < harts → ComesWithin w k p (Turn h)
   pub dmi_done : (k : ℕ) → ComesWithin w k p DmiDone
   pub cmd_step : (k : ℕ) → ComesWithin w k p CmdStep

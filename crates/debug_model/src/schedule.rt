@@ -1,12 +1,12 @@
 ghost use Rattle.std.specs.Prelude.{◌≡◌, ◌≤◌, length};
-ghost use Rattle.debug_model.specs.Schedule.{Plan, round_of, moved};
+ghost use Rattle.debug_model.specs.Schedule.{RoundPlan, round_of, moved};
 
 use crate::event::{Event, Round};
 
 /// The rounds of a chip: at each rising edge of TCK it takes the next one.
 pub trait Schedule: Drop {
     // A list of rounds, each of at most eight events, and the place of the next one.
-    ghost plan: { Self → Plan };
+    ghost plan: { Self → RoundPlan };
 
     /// The events of the next round, which stays the next one. An empty list of rounds gives empty rounds.
     fn round(&self) -> &[Event]

@@ -7,12 +7,13 @@ use Rattle.debug_model.specs.Loaded.{Fits, RightHarts}
 use Rattle.generator.specs.Image.{IsImageOf, program}
 use Rattle.debug_model.specs.declared.command.Command.{Command}
 use Rattle.debug_model.specs.declared.script_error.ScriptError.{ScriptError}
+use Rattle.debug_model.specs.Grammar.{IsRefusedAs}
 use Rattle.jt_base.specs.Faults.{Rises}
 use Rattle.jt_base.specs.Files.{Holds, HoldsMore, NamedFile, asked_more, content_of}
 use Rattle.jtag_run.specs.LastLine.{Closed, words_refused, file_failed, script_refused, image_refused, open_failed, out_of_memory}
 use Rattle.jtag_run.specs.Outside.{FilesSeen}
 use Rattle.wire_session.specs.Seen.{SinkSeen}
-use Rattle.jtag_run.specs.ScriptText.{IsAcceptedText, IsRefusedText}
+use Rattle.jtag_run.specs.ScriptText.{IsAcceptedText}
 use Rattle.jtag_run.specs.Words.{Both, Chip, Gen, Probe, said_both, said_chip, said_gen, said_probe}
 use Rattle.jtag_run.specs.declared.refusal.Refusal.{Refusal}
 use Rattle.jtag_run.specs.declared.refusal.Refusal.TheVariants.{Words, File, Script, Image, Open, OutOfMemory}
@@ -46,7 +47,7 @@ HoldsScript held name commands = IfSome held (λ files. IsSomeAnd (content_of na
 
 -- the file of this name holds a text that is refused so
 abbrev pub HoldsBadScript : Option (List NamedFile) → List ℕ → ScriptError → Type 0
-HoldsBadScript held name error = IfSome held (λ files. IsSomeAnd (content_of name files) (λ text. IsRefusedText text error))
+HoldsBadScript held name error = IfSome held (λ files. IsSomeAnd (content_of name files) (λ text. IsRefusedAs text error))
 
 -- ---- names
 

@@ -1,12 +1,13 @@
 -- The jobs that the program does, each with its texts as lists of bytes, and the job that words write.
 -- The words are this project's own (docs/FORMATS.md, "Words"); what they write is what `jtag_words` says.
 use Rattle.std.specs.Prelude.{◌≡◌, ℕ, List, Bool, true, false, Option, Some, string_bytes, if◌then◌else◌, nat_le, ◌&&◌}
-use Rattle.debug_model.specs.Schedule.{Plan}
+use Rattle.debug_model.specs.Schedule.{RoundPlan}
+use Rattle.debug_model.specs.Wire.{piece_most}
 use Rattle.hart_debug.specs.declared.start.Start.{Start}
 use Rattle.hart_debug.specs.declared.start.Start.TheVariants.{Running, Halted}
 use Rattle.jtag_words.specs.declared.job.ChipOptions.{ChipOptions}
 use Rattle.jtag_words.specs.Job.{JobValue, both, probe, chip, files, gen}
-use Rattle.jtag_words.specs.Words.{InRange, least_busy, least_piece, most_busy, most_piece}
+use Rattle.jtag_words.specs.Words.{InRange, least_busy, least_piece, most_busy}
 use Rattle.jtag_run.specs.declared.words.BothJob.{BothJob}
 use Rattle.jtag_run.specs.declared.words.ChipJob.{ChipJob}
 use Rattle.jtag_run.specs.declared.words.GenJob.{GenJob}
@@ -82,8 +83,8 @@ IsWork said (work.Chip job) = said ≡ Some (said_chip (chip_value job))
 
 -- the numbers of a job are within their ranges
 abbrev pub HasWorkRanges : Work → Type 0
-HasWorkRanges (work.Both job) = InRange least_piece most_piece job.piece × InRange least_busy most_busy job.options.busy
-HasWorkRanges (work.Gen job) = InRange least_piece most_piece job.piece × InRange least_busy most_busy job.options.busy
+HasWorkRanges (work.Both job) = InRange least_piece piece_most job.piece × InRange least_busy most_busy job.options.busy
+HasWorkRanges (work.Gen job) = InRange least_piece piece_most job.piece × InRange least_busy most_busy job.options.busy
 HasWorkRanges (work.Probe job) = Unit {0}
 HasWorkRanges (work.Chip job) = InRange least_busy most_busy job.options.busy
 
@@ -97,5 +98,5 @@ start_of false = Running
 abbrev pub schedule_harts : ℕ → ℕ
 schedule_harts harts = if nat_le 1 harts && nat_le harts 4 then harts else 1
 
-abbrev pub plan_of : ChipOptions → Plan
+abbrev pub plan_of : ChipOptions → RoundPlan
 plan_of o = seed_plan o.seed o.busy (schedule_harts o.harts)

@@ -1,13 +1,14 @@
 //! A session that is made from a number: it runs into a sink that counts, and a summary takes the transcript's place.
 
 ghost use Rattle.std.specs.Prelude.{◌≡◌, [], IfErr, IfOk, IfSome, None, OnErr};
+ghost use Rattle.debug_model.specs.Wire.{piece_most};
 ghost use Rattle.jtag_run.specs.Ended.{Made, RanGen};
 ghost use Rattle.jtag_run.specs.Ran.{Counted, GenEnd, Unjoined};
 ghost use Rattle.jtag_run.specs.Refusal.{GenCause};
 ghost use Rattle.jtag_run.specs.Sessions.{IsFresh};
 ghost use Rattle.jtag_run.specs.Words.{gen_value};
 ghost use Rattle.wire_session.specs.Closing.{IsOfRegister};
-ghost use Rattle.jtag_words.specs.Words.{InRange, least_busy, least_piece, most_busy, most_piece};
+ghost use Rattle.jtag_words.specs.Words.{InRange, least_busy, least_piece, most_busy};
 
 use crate::last_line::{refuse, tell};
 use crate::opening::refusal_of;
@@ -53,7 +54,7 @@ fn count<N: Net>(
     bench: &mut Bench<SeedSchedule>,
     counts: &mut LineCounts,
 ) -> Result<Ended, NetFault>
-    requires piece { InRange least_piece most_piece job.now.piece }
+    requires piece { InRange least_piece piece_most job.now.piece }
     requires unopened { (N.state net.old).ties.opening ≡ None }
     requires fresh { IsFresh bench.old }
     requires nothing { counts.old ≡ [] }
@@ -80,7 +81,7 @@ pub fn run_gen<N: Net, K: Sink>(
     out: &mut K,
     bench: &mut Bench<SeedSchedule>,
 ) -> Status
-    requires piece { InRange least_piece most_piece job.now.piece }
+    requires piece { InRange least_piece piece_most job.now.piece }
     requires busy { InRange least_busy most_busy job.now.options.busy }
     requires unopened { (N.state net.old).ties.opening ≡ None }
     ensures ended { RanGen (gen_value job.now) (record { state = N.state net.old; peer = N.peer net.old; faults = N.fault_count net.old; ends = N.end_count net.old }) (record { state = N.state net.new; peer = N.peer net.new; faults = N.fault_count net.new; ends = N.end_count net.new }) (record { printed = K.contents out.old; faults = K.fault_count out.old }) (record { printed = K.contents out.new; faults = K.fault_count out.new }) bench.old bench.new result }

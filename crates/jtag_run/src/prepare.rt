@@ -19,11 +19,9 @@ use debug_model::{Script, ScriptError, ScriptFault};
 use hart_debug::Start;
 use jt_base::{FileFault, Files};
 use jtag_words::ChipOptions;
+use script_lang::MOST_TEXT;
 use std::alloc::Global;
 use sys_events::SeedSchedule;
-
-/// The most bytes of a script's file.
-const SCRIPT_MOST: usize = 1_048_576;
 
 /// The most bytes of an image's file.
 const IMAGE_MOST: usize = 16_777_216;
@@ -40,7 +38,7 @@ pub fn load_script<'a, F: Files>(
     ensures asked { OnOk result (F.asked files.new ≡ asked_more name.now (F.asked files.old)) }
     ensures later { F.fault_count files.old ≤ F.fault_count files.new }
 {
-    let text = match files.read(alloc, name, SCRIPT_MOST) {
+    let text = match files.read(alloc, name, MOST_TEXT) {
         Ok(text) => text,
         Err(FileFault::Failed) => return Err(Refusal::File(name)),
         Err(FileFault::TooLong) => {

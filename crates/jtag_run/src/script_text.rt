@@ -1,6 +1,7 @@
 ghost use Rattle.std.specs.Prelude.{◌≡◌, ◌⊎◌, ◌≤◌, IfOk, IfErr, length};
+ghost use Rattle.debug_model.specs.Grammar.{most_text};
 ghost use Rattle.jtag_run.specs.ScriptFault.{ScriptCause};
-ghost use Rattle.jtag_run.specs.ScriptText.{IsAcceptedText, IsRefusedText};
+ghost use Rattle.jtag_run.specs.ScriptText.{IsAcceptedText};
 
 use debug_model::{Script, ScriptError, ScriptFault};
 use script_lang::parse;
@@ -17,7 +18,7 @@ pub enum ScriptRefusal {
 
 /// The script of a text of at most 1,048,576 bytes.
 pub fn read_script(alloc: Global, text: &[u8]) -> Result<Script, ScriptRefusal>
-    requires { length text.now ≤ 1048576 }
+    requires { length text.now ≤ most_text }
     ensures accepted { IfOk result (IsAcceptedText text.now) }
     ensures refused { IfErr result (ScriptCause text.now) }
 {

@@ -4,6 +4,7 @@ ghost use Rattle.std.specs.Prelude.{◌≡◌, ◌≤◌, IfSome, None, true};
 ghost use Rattle.chip_core.specs.Feeds.{limit_met};
 ghost use Rattle.debug_model.specs.Net.{IsJoined};
 ghost use Rattle.debug_model.specs.Told.{IsAsLoaded, IsRead};
+ghost use Rattle.debug_model.specs.Wire.{piece_most};
 ghost use Rattle.jtag_run.specs.Sessions.{IsFresh, OnBench, OnLoop, OnNet};
 ghost use Rattle.probe_session.specs.Causes.{SinkCaused};
 ghost use Rattle.wire_session.specs.Closing.{IsOfRegister};
@@ -23,7 +24,7 @@ pub fn run_on_bench<Q: Schedule, K: Sink>(
     piece: usize,
     out: &mut K,
 ) -> Ended
-    requires piece { (1 ≤ piece) × (piece ≤ 256) }
+    requires piece { (1 ≤ piece) × (piece ≤ piece_most) }
     requires fresh { IsFresh bench.old }
     ensures ran { IfSome bench.old (λ first. OnBench first script.now (record { printed = K.contents out.old; faults = K.fault_count out.old }) (record { printed = K.contents out.new; faults = K.fault_count out.new }) bench.new (limit_met bench.new) result) }
     ensures of_register { IsOfRegister result }

@@ -3,12 +3,13 @@ use Rattle.std.proofs.Common.{◌≡◌, ℕ, ◌&&◌, Bool, true, false, cond,
 use Rattle.std.proofs.lemmas.Bool.Decides.{nat_tests}
 use Rattle.std.proofs.lemmas.Option.{none-some, same_Some}
 use Rattle.clap.specs.Words.{Row}
+use Rattle.debug_model.specs.Wire.{piece_most}
 use Rattle.jtag_words.specs.declared.job.ChipOptions.{ChipOptions}
 use Rattle.jtag_words.specs.declared.job.Job.{Job}
 use Rattle.jtag_words.specs.declared.fault.WordsFault.{WordsFault}
 use Rattle.jtag_words.specs.Job.{Gives, InputsValue, JobValue, Text, job_value}
 use Rattle.jtag_words.specs.Options.{both_command, chip_command, probe_command}
-use Rattle.jtag_words.specs.Words.{◌>>=◌, HasRanges, InRange, both_from, both_in, both_of, busy_unsaid, chip_from, chip_in, chip_of, flag_in, harts_unsaid, inputs_in, job_by, job_of, least_busy, least_piece, most_busy, most_piece, number_in, options_from, options_in, piece_unsaid, probe_from, probe_in, probe_of, ram_unsaid, ranged_in, rows_in, seed_unsaid, value_in, within}
+use Rattle.jtag_words.specs.Words.{◌>>=◌, HasRanges, InRange, both_from, both_in, both_of, busy_unsaid, chip_from, chip_in, chip_of, flag_in, harts_unsaid, inputs_in, job_by, job_of, least_busy, least_piece, most_busy, number_in, options_from, options_in, piece_unsaid, probe_from, probe_in, probe_of, ram_unsaid, ranged_in, rows_in, seed_unsaid, value_in, within}
 
 none : {A : Type 0} {B : Type 0} (x : A) → None ≡ Some x → B
 none x e = absurd (none-some x e)
@@ -40,7 +41,7 @@ options_range rows options e = ranged_is rows (codes "busy") busy_unsaid least_b
     (ranged_in rows (codes "busy") busy_unsaid least_busy most_busy) (flag_in rows (codes "halted")) options e)
 
 both_ranges_by : (inputs : Option InputsValue) (options : Option ChipOptions) (piece : Option ℕ) (loopback : Bool) (v : JobValue)
-    → ((o : ChipOptions) → options ≡ Some o → InRange least_busy most_busy o.busy) → ((n : ℕ) → piece ≡ Some n → InRange least_piece most_piece n)
+    → ((o : ChipOptions) → options ≡ Some o → InRange least_busy most_busy o.busy) → ((n : ℕ) → piece ≡ Some n → InRange least_piece piece_most n)
     → both_from inputs options piece loopback ≡ Some v → HasRanges v
 both_ranges_by (Some i) (Some o) (Some n) loopback v busy small e = subst HasRanges (same_Some _ v e) (small n refl, busy o refl)
 both_ranges_by (Some i) (Some o) None loopback v busy small e = none v e
@@ -49,8 +50,8 @@ both_ranges_by None options piece loopback v busy small e = none v e
 
 both_ranges : (rows : List Row) (v : JobValue) → both_in rows ≡ Some v → HasRanges v
 unfolding both_in
-both_ranges rows v e = both_ranges_by (inputs_in rows) (options_in rows) (ranged_in rows (codes "piece") piece_unsaid least_piece most_piece) (flag_in rows (codes "loopback")) v
-    (λ o is. options_range rows o is) (λ n is. ranged_is rows (codes "piece") piece_unsaid least_piece most_piece n is) e
+both_ranges rows v e = both_ranges_by (inputs_in rows) (options_in rows) (ranged_in rows (codes "piece") piece_unsaid least_piece piece_most) (flag_in rows (codes "loopback")) v
+    (λ o is. options_range rows o is) (λ n is. ranged_is rows (codes "piece") piece_unsaid least_piece piece_most n is) e
 
 probe_ranges_by : (at script : Option Text) (v : JobValue) → probe_from at script ≡ Some v → HasRanges v
 probe_ranges_by (Some a) (Some s) v e = subst HasRanges (same_Some _ v e) tt

@@ -5,6 +5,7 @@ use Rattle.std.specs.Borrow.{Bor}
 use Rattle.clap.specs.Words.{App, Kinds, Row, fault_of, first_of, found_of, matches_of, rows_of}
 use Rattle.clap.specs.declared.parser.matches.ArgMatches.{ArgMatches}
 use Rattle.debug_model.specs.ScriptNumber.{number_read}
+use Rattle.debug_model.specs.Wire.{piece_most}
 use Rattle.debug_model.specs.declared.script_error.ScriptFault.{ScriptFault}
 use Rattle.jtag_words.specs.Job.{Text, InputsValue, files, gen, JobValue, both, probe, chip}
 use Rattle.jtag_words.specs.Options.{both_command, probe_command, chip_command}
@@ -31,11 +32,8 @@ most_busy = 32
 abbrev pub least_piece : ℕ
 least_piece = 1
 
-abbrev pub most_piece : ℕ
-most_piece = 256
-
 abbrev pub piece_unsaid : ℕ
-piece_unsaid = most_piece
+piece_unsaid = piece_most
 
 infixl 10 ◌>>=◌
 abbrev pub ◌>>=◌ : {A B : Type 0} → Option A → (A → Option B) → Option B
@@ -127,7 +125,7 @@ both_from said_inputs said_options said_piece loopback = do
   Some (both inputs options piece loopback)
 
 unfoldable pub both_in : List Row → Option JobValue
-both_in rows = both_from (inputs_in rows) (options_in rows) (ranged_in rows (codes "piece") piece_unsaid least_piece most_piece) (flag_in rows (codes "loopback"))
+both_in rows = both_from (inputs_in rows) (options_in rows) (ranged_in rows (codes "piece") piece_unsaid least_piece piece_most) (flag_in rows (codes "loopback"))
 
 abbrev pub probe_from : Option Text → Option Text → Option JobValue
 probe_from said_at said_script = do
@@ -179,6 +177,6 @@ pub record InRange (least most n : ℕ) : Type 0 where
 
 -- the numbers of a job that have a range are within it; of the others `load` judges
 abbrev pub HasRanges : JobValue → Type 0
-HasRanges (both inputs options piece loopback) = InRange least_piece most_piece piece × InRange least_busy most_busy options.busy
+HasRanges (both inputs options piece loopback) = InRange least_piece piece_most piece × InRange least_busy most_busy options.busy
 HasRanges (probe at script) = Unit {0}
 HasRanges (chip at image options) = InRange least_busy most_busy options.busy

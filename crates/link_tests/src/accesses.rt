@@ -4,6 +4,7 @@ ghost use Rattle.std.specs.Prelude.{◌≡◌, ◌<◌, ◌≤◌, ◌^◌, IfSo
 ghost use Rattle.debug_model.specs.Dmi.{CanOperate};
 ghost use Rattle.debug_model.specs.Loaded.{AsLoaded};
 ghost use Rattle.debug_model.specs.Told.{IsAsLoaded, IsHalted, IsReady, Selects};
+ghost use Rattle.debug_model.specs.Wire.{piece_most};
 
 use crate::fault::Fault;
 use chip_core::{Bench, BenchWire};
@@ -104,7 +105,7 @@ fn open_and_visit<D: Dmi>(link: &mut D, hart: u16) -> Result<Found, Fault>
 }
 
 fn visit_over<Q: Schedule>(bench: &mut Bench<Q>, piece: usize, hart: u16) -> Result<Found, Fault>
-    requires piece { (1 ≤ piece) × (piece ≤ 256) }
+    requires piece { (1 ≤ piece) × (piece ≤ piece_most) }
     requires hart { hart < 2 ^ 10 }
     requires loaded { IsSome bench.old }
     requires fresh { IfSome bench.old AsLoaded }
@@ -116,7 +117,7 @@ fn visit_over<Q: Schedule>(bench: &mut Bench<Q>, piece: usize, hart: u16) -> Res
 fn check(rt: &impl Abort, alloc: Global, harts: u8, busy: u8, piece: usize) -> Result<(), Fail>
     requires harts { (1 ≤ harts) × (harts ≤ 4) }
     requires busy { (1 ≤ busy) × (busy ≤ 32) }
-    requires piece { (1 ≤ piece) × (piece ≤ 256) }
+    requires piece { (1 ≤ piece) × (piece ≤ piece_most) }
 {
     let schedule = SeedSchedule::new(7, busy, harts);
     let mut bench = Bench::blank();

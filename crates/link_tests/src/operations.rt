@@ -4,6 +4,7 @@
 ghost use Rattle.std.specs.Prelude.{◌≡◌, ◌≤◌, IfSome, IsSome, true};
 ghost use Rattle.debug_model.specs.Dmi.{CanOperate};
 ghost use Rattle.debug_model.specs.Loaded.{AsLoaded};
+ghost use Rattle.debug_model.specs.Wire.{piece_most};
 
 use chip_core::{Bench, BenchWire};
 use debug_model::{Dmi, DmiFault, Schedule};
@@ -41,7 +42,7 @@ fn five_operations<D: Dmi>(link: &mut D) -> Result<(u32, u32), DmiFault>
 
 /// The same over a loaded chip, in pieces of at most so many bytes.
 fn over_a_bench<Q: Schedule>(bench: &mut Bench<Q>, piece: usize) -> Result<(u32, u32), DmiFault>
-    requires piece { (1 ≤ piece) × (piece ≤ 256) }
+    requires piece { (1 ≤ piece) × (piece ≤ piece_most) }
     requires loaded { IsSome bench.old }
     requires fresh { IfSome bench.old AsLoaded }
 {
@@ -51,7 +52,7 @@ fn over_a_bench<Q: Schedule>(bench: &mut Bench<Q>, piece: usize) -> Result<(u32,
 
 fn check(rt: &impl Abort, alloc: Global, seed: u64, busy: u8, piece: usize) -> Result<u64, Fail>
     requires busy { (1 ≤ busy) × (busy ≤ 32) }
-    requires piece { (1 ≤ piece) × (piece ≤ 256) }
+    requires piece { (1 ≤ piece) × (piece ≤ piece_most) }
 {
     let mut bench = Bench::blank();
     bench.load(

@@ -3,6 +3,7 @@
 ghost use Rattle.std.specs.Prelude.{◌≡◌, ◌≤◌, ◌+◌, ◌*◌, ◌^◌, [], OnOk, IfSome, IsSome, true};
 ghost use Rattle.rv_model.specs.Memory.{is_aligned};
 ghost use Rattle.rv_model.specs.Size.{count_of};
+ghost use Rattle.debug_model.specs.Command.{most_elements};
 ghost use Rattle.debug_model.specs.Dmi.{CanOperate};
 ghost use Rattle.debug_model.specs.Loaded.{AsLoaded};
 ghost use Rattle.debug_model.specs.Told.{IsAsLoaded, IsHalted, IsReady, Selects};
@@ -48,7 +49,7 @@ fn try_store_block<D: Dmi>(
     requires selects { Selects halted.now.number (D.far link.old) }
     requires halted { IsHalted halted.now.number (D.far link.old) }
     requires aligned { is_aligned address size ≡ true }
-    requires some { (1 ≤ count) × (count ≤ 512) }
+    requires some { (1 ≤ count) × (count ≤ most_elements) }
     requires ends { address + count * count_of size ≤ 2 ^ 64 }
     ensures alive { OnOk result (D.is_alive link.new ≡ true) }
     ensures link { OnOk result (CanOperate (D.far link.new)) }
@@ -78,7 +79,7 @@ fn try_load_block<D: Dmi>(
     requires selects { Selects halted.now.number (D.far link.old) }
     requires halted { IsHalted halted.now.number (D.far link.old) }
     requires aligned { is_aligned address size ≡ true }
-    requires some { (1 ≤ count) × (count ≤ 512) }
+    requires some { (1 ≤ count) × (count ≤ most_elements) }
     requires ends { address + count * count_of size ≤ 2 ^ 64 }
     requires empty { into.old.items ≡ [] }
     ensures alive { OnOk result (D.is_alive link.new ≡ true) }
@@ -100,7 +101,7 @@ fn visit_block<D: Dmi>(link: &mut D, size: Size, address: u64, count: u16) -> Re
     requires link { CanOperate (D.far link.old) }
     requires loaded { IsAsLoaded (D.far link.old) }
     requires aligned { is_aligned address size ≡ true }
-    requires some { (1 ≤ count) × (count ≤ 512) }
+    requires some { (1 ≤ count) × (count ≤ most_elements) }
     requires ends { address + count * count_of size ≤ 2 ^ 64 }
 {
     let target = connect(link)?;
@@ -133,7 +134,7 @@ fn visit_block_over<Q: Schedule>(
     requires loaded { IsSome bench.old }
     requires fresh { IfSome bench.old AsLoaded }
     requires aligned { is_aligned address size ≡ true }
-    requires some { (1 ≤ count) × (count ≤ 512) }
+    requires some { (1 ≤ count) × (count ≤ most_elements) }
     requires ends { address + count * count_of size ≤ 2 ^ 64 }
 {
     let mut link = Link::new(Scanner::new(BenchWire::new(bench, PIECE)));
@@ -150,7 +151,7 @@ fn check_block(
 ) -> Result<(), Fail>
     requires busy { (1 ≤ busy) × (busy ≤ 32) }
     requires aligned { is_aligned address Size.B8 ≡ true }
-    requires some { (1 ≤ count) × (count ≤ 512) }
+    requires some { (1 ≤ count) × (count ≤ most_elements) }
     requires ends { address + count * 8 ≤ 2 ^ 64 }
 {
     let mut bench = Bench::blank();

@@ -3,6 +3,7 @@
 ghost use Rattle.std.specs.Prelude.{◌≡◌, ◌≤◌, ◌<◌, ◌+◌, ◌*◌, ◌^◌, [], true, false, length, IfOk, IfErr, OnOk};
 ghost use Rattle.rv_model.specs.Memory.{is_aligned};
 ghost use Rattle.rv_model.specs.Size.{count_of};
+ghost use Rattle.debug_model.specs.Command.{most_elements};
 ghost use Rattle.debug_model.specs.Dmi.{CanOperate};
 ghost use Rattle.debug_model.specs.Scan.{WhereTold};
 ghost use Rattle.debug_model.specs.Told.{IsHalted, IsIdle, IsLive, IsReady, Selects};
@@ -50,7 +51,7 @@ pub fn load_block<D: Dmi>(
     requires halted { IsHalted halted.now.number (D.far link.old) }
     requires aligned { is_aligned address size ≡ true }
     requires some { 1 ≤ count }
-    requires room { count ≤ 512 }
+    requires room { count ≤ most_elements }
     requires ends { address + count * count_of size ≤ 2 ^ 64 }
     requires empty { into.old.items ≡ [] }
     ensures all { OnOk result (length into.new.items ≡ count) }
@@ -100,7 +101,7 @@ pub fn store_block<D: Dmi>(
     requires halted { IsHalted halted.now.number (D.far link.old) }
     requires aligned { is_aligned address size ≡ true }
     requires some { 1 ≤ count }
-    requires room { count ≤ 512 }
+    requires room { count ≤ most_elements }
     requires ends { address + count * count_of size ≤ 2 ^ 64 }
     ensures stored { OnOk result (WhereTold (BlockStoredAt size address value count) (D.far link.old) (D.far link.new)) }
     ensures left { IfErr result (BlockStoreLeft size address count value (D.far link.old) (D.far link.new)) }

@@ -84,6 +84,10 @@ ReadFit act test old new = (word : ℕ) × ReadAs act test true word old new
 abbrev pub active_act : ℕ → Act
 active_act word = Got dmcontrol_address word
 
+-- how often dmcontrol is read at most until dmactive is 1
+abbrev pub reads_most : ℕ
+reads_most = 64
+
 -- dmactive was written, and read until it was 1
 pub record Activated (old new : Tells) : Type 0 where
   pub vain : List ℕ
@@ -91,20 +95,20 @@ pub record Activated (old new : Tells) : Type 0 where
   pub did : Did old (asks Nothing 0 ++ (map active_act vain ++ active_act last ∷ [])) new
   pub none : All (λ w. is_active w ≡ false) vain
   pub active : is_active last ≡ true
-  pub few : length vain < 64
+  pub few : length vain < reads_most
 
--- and 64 times it was not
+-- and in so many reads it was not
 pub record NotActivated (last : ℕ) (old new : Tells) : Type 0 where
   pub front : List ℕ
   pub did : Did old (asks Nothing 0 ++ (map active_act front ++ active_act last ∷ [])) new
   pub none : All (λ w. is_active w ≡ false) front
   pub inactive : is_active last ≡ false
-  pub all : length front + 1 ≡ 64
+  pub all : length front + 1 ≡ reads_most
 
 pub record ActivationBroke (old_count new_count : ℕ) (old : Tells) (told : Option Far) (fault : DmiFault) : Type 0 where
   pub vain : List ℕ
   pub none : All (λ w. is_active w ≡ false) vain
-  pub few : length vain < 64
+  pub few : length vain < reads_most
   pub broke : Broke (asks Nothing 0 ++ map active_act vain) (Operation (Read dmcontrol_address)) old_count new_count old told fault
 
 abbrev pub commands_act : ℕ → Act

@@ -28,19 +28,16 @@ use Rattle.probe_session.specs.Reach.{before_reach, place_by}
 use Rattle.probe_session.specs.Said.{said_by}
 use Rattle.probe_session.proofs.MemoryLines.{reach_falls, reach_says}
 use Rattle.probe_session.proofs.OneLine.{for_halted, met_falls, met_says}
-use Rattle.probe_session.proofs.Spoken.{fell_first, fell_line, fell_within, grown_lines, one_line, spoke_first, spoke_within, went_spoke}
+use Rattle.probe_session.proofs.Spoken.{fell_first, fell_line, fell_within, front_at, grown_lines, one_line, spoke_first, spoke_within, went_spoke}
 use Rattle.probe_session.proofs.WentLemmas.{falls_then, went_then, within}
 
 -- ---- what fell behind lines that were written
-
-front_as : (line : Line) (c d e : Option (List ℕ)) → d ≡ c → GrewByPrefix (text_of line) d e → GrewByPrefix (text_of line) c e
-front_as line c d e is g = subst (λ x. GrewByPrefix (text_of line) x e) is g
 
 pub spoke_fell : {K : Type 0} {T : K → Type 0} {a b : K → Place} {wrong : Bool} {old_count count new_count : ℕ} {t u v : Tells} {sink_old sink_count sink_new : ℕ} {c d e : Option (List ℕ)} {f : Failure} → Spoke a b wrong t u c d
     → old_count ≤ count → sink_old ≤ sink_count → sink_count ≤ sink_new → Fell T b count new_count u v sink_count sink_new d e f → Fell T a old_count new_count t v sink_old sink_new c e f
 spoke_fell {c = c} {d = d} {e = e} s le later more (in_call said p put) = in_call (s.said ++ said) (falls_then s.went le p) (grown_lines s.said said c d e s.put put)
 spoke_fell {sink_old = sink_old} {sink_count = sink_count} {sink_new = sink_new} {c = c} {d = d} {e = e} s le later more (at_line said line way h p quiet w front rises) =
-    at_line (s.said ++ said) line way h p quiet (went_then s.went w) (front_as line (grown (text_of_all (s.said ++ said)) c) (grown (text_of_all said) d) e (grown_lines s.said said c d (grown (text_of_all said) d) s.put refl) front)
+    at_line (s.said ++ said) line way h p quiet (went_then s.went w) (front_at line (grown (text_of_all (s.said ++ said)) c) (grown (text_of_all said) d) e (grown_lines s.said said c d (grown (text_of_all said) d) s.put refl) front)
     (rises_from sink_old sink_count sink_new later more rises)
 
 pub went_fell : {K : Type 0} {T : K → Type 0} {a b : K → Place} {old_count count new_count : ℕ} {t u v : Tells} {sink_old sink_new : ℕ} {c d : Option (List ℕ)} {f : Failure} → Went a b [] t u → old_count ≤ count

@@ -95,7 +95,7 @@ pub fell_call : {K : Type 0} {T : K → Type 0} {a b : K → Place} {wrong : Boo
     → Falls b [] count new_count u v f → Fell T a old_count new_count t v sink_old sink_new c d f
 fell_call sink_old sink_new s le p = in_call s.said (falls_said (append-nil s.said) (falls_then s.went le p)) s.put
 
-front_at : (line : Line) (c d e : Option (List ℕ)) → d ≡ c → GrewByPrefix (text_of line) d e → GrewByPrefix (text_of line) c e
+pub front_at : (line : Line) (c d e : Option (List ℕ)) → d ≡ c → GrewByPrefix (text_of line) d e → GrewByPrefix (text_of line) c e
 front_at line c d e is g = subst (λ x. GrewByPrefix (text_of line) x e) is g
 
 -- a line could not be written, behind others

@@ -4,7 +4,7 @@ use Rattle.std.proofs.lemmas.List.Elements.{All-nil, All-push}
 use Rattle.rv_model.specs.TriggerWords.{tdata1_of}
 use Rattle.rv_model.specs.declared.slot.Trigger.TheVariants.{Disabled}
 use Rattle.probe_run.specs.Acts.{Tells}
-use Rattle.probe_trig.specs.declared.register.Register.TheVariants.{Tdata1, Tdata2, Tselect}
+use Rattle.probe_trig.specs.declared.register.TriggerRegister.TheVariants.{Tdata1, Tdata2, Tselect}
 use Rattle.probe_trig.specs.declared.slot_use.SlotUse.{SlotUse}
 use Rattle.probe_trig.specs.Runs.{Arms, ArmsAny, Finds, FindsNone, FreesAny, IsInUse, Seeks, SeeksAny, address_set, armed, armed_at, freed, put_back, word_read, words_read}
 use Rattle.probe_trig.specs.Single.{AddressSet, Armed, OneGot, OneSet, WordRead}

@@ -16,7 +16,7 @@ use Rattle.debugger_laws.specs.Slots.{address_trigger, armed_for, count_trigger,
 use Rattle.debugger_laws.specs.Slots.Use.{Armed}
 use Rattle.debugger_laws.specs.Trace.{What}
 use Rattle.debugger_laws.specs.Trace.What.{Break, Count, Watch}
-use Rattle.probe_trig.specs.declared.register.Register.TheVariants.{Tdata1, Tdata2}
+use Rattle.probe_trig.specs.declared.register.TriggerRegister.TheVariants.{Tdata1, Tdata2}
 use Rattle.probe_trig.specs.declared.slot_use.SlotUse.{SlotUse}
 use Rattle.probe_trig.specs.declared.slot_use.SlotUse.TheVariants as slot_use
 use Rattle.probe_trig.specs.Runs.{IsInUse, armed, freed, words_read}

@@ -19,8 +19,8 @@ use Rattle.probe_access.specs.declared.fault.AccessFault.TheVariants as access_f
 use Rattle.probe_access.specs.Cuts.{IfCut, IsLeft, LeftAside, Leaves, MaybeWritten, Unchanged}
 use Rattle.probe_run.specs.Acts.{Tells, tells}
 use Rattle.probe_run.specs.Happens.{target_of}
-use Rattle.probe_trig.specs.declared.register.Register.{Register}
-use Rattle.probe_trig.specs.declared.register.Register.TheVariants.{Dcsr, Tdata1, Tdata2, Tselect}
+use Rattle.probe_trig.specs.declared.register.TriggerRegister.{TriggerRegister}
+use Rattle.probe_trig.specs.declared.register.TriggerRegister.TheVariants.{Dcsr, Tdata1, Tdata2, Tselect}
 use Rattle.probe_trig.specs.Slots.{DebugAlone}
 use Rattle.probe_trig.specs.Transfers.{Attempt, AttemptFailed, FailedIn, Transfer, number_of}
 use Rattle.probe_trig.specs.Transfers.Attempt.{Getting, Setting}
@@ -29,14 +29,14 @@ use Rattle.probe_trig.proofs.Told.{Led, becomes, board_with, but_wrote, frozen_a
 
 -- ---- the hart
 
-core_kept : (x : Hart) (r : Register) (v : ℕ) → (debug_written x (number_of r) v).core ≡ x.core
+core_kept : (x : Hart) (r : TriggerRegister) (v : ℕ) → (debug_written x (number_of r) v).core ≡ x.core
 unfolding debug_written csr_written
 core_kept x Tselect v = refl
 core_kept x Tdata1 v = refl
 core_kept x Tdata2 v = refl
 core_kept x Dcsr v = refl
 
-pub alone_written : (x y : Hart) (r : Register) (v : ℕ) → DebugAlone x y → DebugAlone x (debug_written y (number_of r) v)
+pub alone_written : (x y : Hart) (r : TriggerRegister) (v : ℕ) → DebugAlone x y → DebugAlone x (debug_written y (number_of r) v)
 alone_written x y r v d =
     let k : WriteKeeps y (debug_written y (number_of r) v) = writes_keep y (number_of r) v in
     record {

@@ -1,7 +1,7 @@
 -- Where in the ending of a step each of its parts stands.
 use Rattle.std.proofs.Common.{◌≡◌, ◌++◌, ℕ, Bool, List, [], ◌∷◌, refl, ap, append-nil}
 use Rattle.probe_run.specs.Acts.{Tells}
-use Rattle.probe_trig.specs.declared.register.Register.TheVariants.{Dcsr}
+use Rattle.probe_trig.specs.declared.register.TriggerRegister.TheVariants.{Dcsr}
 use Rattle.probe_trig.specs.Runs.{ChangesAny}
 use Rattle.probe_trig.specs.Single.{OneGot}
 use Rattle.probe_trig.specs.Stepping.{Ends, EndsAny, ending, shows_step}

@@ -23,7 +23,7 @@ use Rattle.debugger_laws.proofs.StandsLemmas.{after_turns-append, rewrote_then, 
 use Rattle.probe_access.specs.SingleSteps.{with_step}
 use Rattle.rv_model.specs.declared.slot.Slot.{Slot}
 use Rattle.probe_trig.specs.declared.change.Change.TheVariants.{PutBackAndForget}
-use Rattle.probe_trig.specs.declared.register.Register.TheVariants.{Dcsr}
+use Rattle.probe_trig.specs.declared.register.TriggerRegister.TheVariants.{Dcsr}
 use Rattle.probe_trig.specs.Stepping.{Ends, ending, executed_at, shows_step}
 use Rattle.probe_trig.specs.Transfers.{number_of}
 use Rattle.probe_trig.specs.Transfers.Transfer.{Got}

@@ -1,7 +1,7 @@
 -- Where in a call each of its parts stands: behind which transfers, and that others may follow to its end.
 use Rattle.std.proofs.Common.{◌≡◌, ◌∙◌, ◌++◌, ℕ, true, false, List, [], ◌∷◌, sym, ap, subst, append_assoc, if◌then◌else◌}
 use Rattle.probe_trig.specs.declared.change.Change.{Change}
-use Rattle.probe_trig.specs.declared.register.Register.TheVariants.{Tdata1, Tdata2, Tselect}
+use Rattle.probe_trig.specs.declared.register.TriggerRegister.TheVariants.{Tdata1, Tdata2, Tselect}
 use Rattle.probe_trig.specs.declared.slot_words.SlotWords.{SlotWords}
 use Rattle.probe_trig.specs.Runs.{ChangesAny, ReadsAny, hit_changed, put_back, slot_changed, slot_read, word_read}
 use Rattle.probe_trig.specs.Single.{OneGot, OneSet, SlotChanged, SlotRead, WordRead}

@@ -6,7 +6,7 @@ use Rattle.rv_model.specs.TriggerWords.{CountFits, tdata1_of}
 use Rattle.rv_model.specs.Triggers.{CountsFit}
 use Rattle.debugger_laws.specs.Slots.{hits_of, trigger_has_hit, use_of, with_trigger}
 use Rattle.probe_trig.specs.declared.change.Change.{Change}
-use Rattle.probe_trig.specs.declared.register.Register.TheVariants.{Tdata2, Tselect}
+use Rattle.probe_trig.specs.declared.register.TriggerRegister.TheVariants.{Tdata2, Tselect}
 use Rattle.probe_trig.specs.declared.slot_words.SlotWords.{SlotWords}
 use Rattle.probe_trig.specs.Runs.{put_back, slot_changed, slot_read}
 use Rattle.probe_trig.specs.Slots.{hit_of_words, use_of_words}

@@ -18,8 +18,8 @@ use Rattle.probe_access.specs.SingleSteps.{with_step}
 use Rattle.probe_access.proofs.CutSites.{cut_always, if_cut}
 use Rattle.probe_run.specs.Acts.{Tells, tells}
 use Rattle.probe_trig.specs.declared.change.Change.{Change}
-use Rattle.probe_trig.specs.declared.register.Register.{Register}
-use Rattle.probe_trig.specs.declared.register.Register.TheVariants.{Dcsr, Tdata1, Tdata2, Tselect}
+use Rattle.probe_trig.specs.declared.register.TriggerRegister.{TriggerRegister}
+use Rattle.probe_trig.specs.declared.register.TriggerRegister.TheVariants.{Dcsr, Tdata1, Tdata2, Tselect}
 use Rattle.probe_trig.specs.Runs.{ChangesAny, put_back, slot_changed}
 use Rattle.probe_trig.specs.StepCuts.{OverAlone, addresses_of}
 use Rattle.probe_trig.specs.Stepping.{EndsAny, ending}
@@ -135,7 +135,7 @@ over_tdata1 : (x : Hart) (v : ℕ) → OverAlone x (debug_written x (number_of T
 unfolding debug_written csr_written trigger_csr_written
 over_tdata1 x v = record { alone = alone_written x x Tdata1 v (alone x); stepie = refl; ebreakm = refl; addresses = trigger_set x.debug.slots x.debug.tselect (trigger_of v) }
 
-over_written : (x y : Hart) (r : Register) (v : ℕ) → Mild (Set r v) → OverAlone x y → OverAlone x (debug_written y (number_of r) v)
+over_written : (x y : Hart) (r : TriggerRegister) (v : ℕ) → Mild (Set r v) → OverAlone x y → OverAlone x (debug_written y (number_of r) v)
 over_written x y Tselect v m p = over_then x y (debug_written y (number_of Tselect) v) p (over_selected y v)
 over_written x y Tdata1 v m p = over_then x y (debug_written y (number_of Tdata1) v) p (over_tdata1 y v)
 over_written x y Tdata2 v m p = absurd m

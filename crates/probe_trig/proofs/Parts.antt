@@ -17,8 +17,8 @@ use Rattle.rv_model.proofs.MapLemmas.{set_same}
 use Rattle.debugger_laws.specs.Slots.{trigger_has_hit, with_trigger}
 use Rattle.probe_trig.specs.declared.change.Change.{Change}
 use Rattle.probe_trig.specs.declared.change.Change.TheVariants as change
-use Rattle.probe_trig.specs.declared.register.Register.{Register}
-use Rattle.probe_trig.specs.declared.register.Register.TheVariants.{Tdata1, Tdata2, Tselect}
+use Rattle.probe_trig.specs.declared.register.TriggerRegister.{TriggerRegister}
+use Rattle.probe_trig.specs.declared.register.TriggerRegister.TheVariants.{Tdata1, Tdata2, Tselect}
 use Rattle.probe_trig.specs.Runs.{hit_changed, slot_changed, word_read}
 use Rattle.probe_trig.specs.Transfers.{Transfer, number_of}
 use Rattle.probe_trig.specs.Transfers.Transfer.{Got, Set}
@@ -63,10 +63,10 @@ pub record Passed (all : List Transfer) (x : Hart) (rest : List Transfer) (y : H
   pub shown : Shown rest y
   pub is : played all x ≡ played rest y
 
-pub passed_set : (r : Register) (v : ℕ) (rest : List Transfer) (x y : Hart) → debug_written x (number_of r) v ≡ y → Shown (Set r v ∷ rest) x → Passed (Set r v ∷ rest) x rest y
+pub passed_set : (r : TriggerRegister) (v : ℕ) (rest : List Transfer) (x y : Hart) → debug_written x (number_of r) v ≡ y → Shown (Set r v ∷ rest) x → Passed (Set r v ∷ rest) x rest y
 passed_set r v rest x y e s = record { shown = subst (λ (z : Hart). Shown rest z) e s; is = ap (played rest) e }
 
-pub passed_got : (r : Register) (v : ℕ) (rest : List Transfer) (x : Hart) → Shown (Got r v ∷ rest) x → Passed (Got r v ∷ rest) x rest x
+pub passed_got : (r : TriggerRegister) (v : ℕ) (rest : List Transfer) (x : Hart) → Shown (Got r v ∷ rest) x → Passed (Got r v ∷ rest) x rest x
 passed_got r v rest x s = record { shown = s.1; is = refl }
 
 pub passed_then : (all some rest : List Transfer) (x y z : Hart) → Passed all x some y → Passed some y rest z → Passed all x rest z

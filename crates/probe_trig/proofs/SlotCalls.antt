@@ -7,7 +7,7 @@ use Rattle.debugger_laws.specs.Debugger.{is_free_slot}
 use Rattle.debugger_laws.specs.Plan.{slot_changed, slot_freed, with_debug_part}
 use Rattle.debugger_laws.specs.Slots.{armed_for, first_free, freed as slot_free, is_free}
 use Rattle.debugger_laws.proofs.OverLemmas.{set-over}
-use Rattle.probe_trig.specs.declared.register.Register.TheVariants.{Tselect}
+use Rattle.probe_trig.specs.declared.register.TriggerRegister.TheVariants.{Tselect}
 use Rattle.probe_trig.specs.declared.slot_use.SlotUse.{SlotUse}
 use Rattle.probe_trig.specs.Runs.{Arms, Finds, FindsNone, Frees, armed, freed, put_back, word_read, words_read}
 use Rattle.probe_trig.specs.Slots.{ArmedAt, FreedAt, FullAt, UnusedAt}

@@ -6,7 +6,7 @@ use Rattle.probe_access.specs.Cuts.{IfCut, LeftAside, Leaves, MaybeWritten, Unch
 use Rattle.probe_access.specs.Registers.{RegisterLeft}
 use Rattle.probe_access.proofs.Counted.{read_counted, write_counted}
 use Rattle.probe_run.specs.Acts.{Tells}
-use Rattle.probe_trig.specs.declared.register.Register.{Register}
+use Rattle.probe_trig.specs.declared.register.TriggerRegister.{TriggerRegister}
 use Rattle.probe_trig.specs.Single.{OneGot, OneSet}
 use Rattle.probe_trig.specs.Transfers.{Attempt, AttemptFailed, Begins, FailedIn, Made, Transfer, Transferred, number_of}
 use Rattle.probe_trig.specs.Transfers.Attempt.{Getting, Setting}
@@ -61,12 +61,12 @@ failed_first Part Whole h count new_count old new e fits f = record {
   failed = f.failed;
 }
 
-pub get_failed : (r : Register) (h old_count new_count : ℕ) (old new : Tells) (e : AccessFault) → ReadFailed (number_of r) old_count new_count old new e → RegisterLeft false h (number_of r) old.far new.far e
+pub get_failed : (r : TriggerRegister) (h old_count new_count : ℕ) (old new : Tells) (e : AccessFault) → ReadFailed (number_of r) old_count new_count old new e → RegisterLeft false h (number_of r) old.far new.far e
     → IfCut (Leaves (LeftAside Unchanged h) old.far new.far) e → FailedIn (OneGot r) h old_count new_count old new e
 get_failed r h old_count new_count old new e read left cut =
     record { done = []; attempt = Getting r; begins = (0, [], (0, refl)); mid = old; made = nothing; failed = record { read = read; left = left; cut = cut } }
 
-pub set_failed : (r : Register) (value h old_count new_count : ℕ) (old new : Tells) (e : AccessFault) → WriteFailed (number_of r) value old_count new_count old new e → RegisterLeft true h (number_of r) old.far new.far e
+pub set_failed : (r : TriggerRegister) (value h old_count new_count : ℕ) (old new : Tells) (e : AccessFault) → WriteFailed (number_of r) value old_count new_count old new e → RegisterLeft true h (number_of r) old.far new.far e
     → IfCut (Leaves (LeftAside (MaybeWritten (number_of r) value) h) old.far new.far) e → FailedIn (OneSet r value) h old_count new_count old new e
 set_failed r value h old_count new_count old new e written left cut =
     record { done = []; attempt = Setting r value; begins = ([], refl); mid = old; made = nothing; failed = record { written = written; left = left; cut = cut } }

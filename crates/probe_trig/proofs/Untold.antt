@@ -14,8 +14,8 @@ use Rattle.probe_access.specs.Registers.{DeniedRegister, GotRegister, RegisterLe
 use Rattle.probe_access.specs.Scratches.{ScratchLeft}
 use Rattle.probe_run.specs.Acts.{Tells, tells}
 use Rattle.debug_model.specs.Dmi.{DmiScript}
-use Rattle.probe_trig.specs.declared.register.Register.{Register}
-use Rattle.probe_trig.specs.declared.register.Register.TheVariants.{Dcsr, Tdata1, Tdata2, Tselect}
+use Rattle.probe_trig.specs.declared.register.TriggerRegister.{TriggerRegister}
+use Rattle.probe_trig.specs.declared.register.TriggerRegister.TheVariants.{Dcsr, Tdata1, Tdata2, Tselect}
 use Rattle.probe_trig.specs.Transfers.{Attempt, AttemptFailed, FailedIn, Made, Transfer, Transferred, number_of}
 use Rattle.probe_trig.specs.Transfers.Attempt.{Getting, Setting}
 use Rattle.probe_trig.specs.Transfers.Made.{first, nothing}
@@ -57,7 +57,7 @@ made_none h ts old new (first {mid = now} {t = t} {ts = more} d rest) end = made
 
 -- ---- no register of a slot is refused
 
-reached : (write : Bool) (x : Hart) (r : Register) → reaches write x (number_of r) ≡ true
+reached : (write : Bool) (x : Hart) (r : TriggerRegister) → reaches write x (number_of r) ≡ true
 unfolding debug_value csr_value trigger_csr_value debug_refuses csr_read_only
 reached true x Tselect = refl
 reached true x Tdata1 = refl
@@ -68,11 +68,11 @@ reached false x Tdata1 = refl
 reached false x Tdata2 = refl
 reached false x Dcsr = refl
 
-not_denied : (write : Bool) (h : ℕ) (r : Register) (old new : Option Far) → WhereTold (DeniedRegister write h (number_of r)) old new → old ≡ None
+not_denied : (write : Bool) (h : ℕ) (r : TriggerRegister) (old new : Option Far) → WhereTold (DeniedRegister write h (number_of r)) old new → old ≡ None
 not_denied write h r None new d = refl
 not_denied write h r (Some f) new d = absurd (false≢true (sym d.denied ∙ reached write d.hart r))
 
-register_left : (write : Bool) (h : ℕ) (r : Register) (old new : Option Far) (e : AccessFault) → RegisterLeft write h (number_of r) old new e → ScratchLeft old e
+register_left : (write : Bool) (h : ℕ) (r : TriggerRegister) (old new : Option Far) (e : AccessFault) → RegisterLeft write h (number_of r) old new e → ScratchLeft old e
 register_left write h r old new (access_fault.Dmi why) f = tt
 register_left write h r old new (access_fault.Memory at) f = f
 register_left write h r old new (access_fault.Register asked) f = not_denied write h r old new f

@@ -3,7 +3,7 @@
 use Rattle.std.specs.Prelude.{◌≡◌, ◌∷◌, ◌||◌, ℕ, List, [], Bool}
 use Rattle.probe_run.specs.Acts.{Tells}
 use Rattle.probe_trig.specs.declared.change.Change.{Change}
-use Rattle.probe_trig.specs.declared.register.Register.{Register}
+use Rattle.probe_trig.specs.declared.register.TriggerRegister.{TriggerRegister}
 use Rattle.probe_trig.specs.declared.slot_use.SlotUse.{SlotUse}
 use Rattle.probe_trig.specs.declared.slot_words.SlotWords.{SlotWords}
 use Rattle.probe_trig.specs.Runs.{Changes, Reads, address_set, armed, slot_changed, slot_read, word_read}
@@ -11,10 +11,10 @@ use Rattle.probe_trig.specs.Transfers.{Did, Transfer}
 use Rattle.probe_trig.specs.Transfers.Transfer.{Got, Set}
 use Rattle.probe_trig.specs.Words.{address_named, shows_hit}
 
-abbrev pub OneGot : Register → List Transfer → Type 0
+abbrev pub OneGot : TriggerRegister → List Transfer → Type 0
 OneGot r ts = (value : ℕ) × (ts ≡ Got r value ∷ [])
 
-abbrev pub OneSet : Register → ℕ → List Transfer → Type 0
+abbrev pub OneSet : TriggerRegister → ℕ → List Transfer → Type 0
 OneSet r value ts = ts ≡ Set r value ∷ []
 
 abbrev pub WordRead : ℕ → List Transfer → Type 0

@@ -20,7 +20,7 @@ use Rattle.probe_run.specs.Acts.{Tells}
 use Rattle.probe_run.specs.Happens.{MissedAt, StepsAt}
 use Rattle.probe_trig.specs.declared.change.Change.{Change}
 use Rattle.probe_trig.specs.declared.change.Change.TheVariants.{Hold, PutBack, PutBackAndForget}
-use Rattle.probe_trig.specs.declared.register.Register.TheVariants.{Dcsr}
+use Rattle.probe_trig.specs.declared.register.TriggerRegister.TheVariants.{Dcsr}
 use Rattle.probe_trig.specs.Runs.{ChangesAny}
 use Rattle.probe_trig.specs.Single.{ChangedAll}
 use Rattle.probe_trig.specs.Slots.{AtHarts}

@@ -9,10 +9,10 @@ use Rattle.probe_access.specs.Cuts.{IfCut, LeftAside, Leaves, MaybeWritten, Unch
 use Rattle.probe_access.specs.RegisterRuns.{ReadFailed, RegisterRead, RegisterWritten, WriteFailed}
 use Rattle.probe_access.specs.Registers.{GotRegister, RegisterLeft, SetRegister}
 use Rattle.probe_run.specs.Acts.{Tells}
-use Rattle.probe_trig.specs.declared.register.Register.{Register}
-use Rattle.probe_trig.specs.declared.register.Register.TheVariants.{Tselect, Tdata1, Tdata2, Dcsr}
+use Rattle.probe_trig.specs.declared.register.TriggerRegister.{TriggerRegister}
+use Rattle.probe_trig.specs.declared.register.TriggerRegister.TheVariants.{Tselect, Tdata1, Tdata2, Dcsr}
 
-abbrev pub number_of : Register → ℕ
+abbrev pub number_of : TriggerRegister → ℕ
 number_of Tselect = tselect_number
 number_of Tdata1 = tdata1_number
 number_of Tdata2 = tdata2_number
@@ -21,15 +21,15 @@ number_of Dcsr = dcsr_number
 -- ---- transfers that were Ok
 
 pub data Transfer : Type 0 where
-  Got : (register : Register) → (value : ℕ) → Transfer  -- it was read as this
-  Set : (register : Register) → (value : ℕ) → Transfer  -- this was written
+  Got : (register : TriggerRegister) → (value : ℕ) → Transfer  -- it was read as this
+  Set : (register : TriggerRegister) → (value : ℕ) → Transfer  -- this was written
 
 -- along the link, and at hart h of a told chip
-pub record DidGet (h : ℕ) (r : Register) (value : ℕ) (old new : Tells) : Type 0 where
+pub record DidGet (h : ℕ) (r : TriggerRegister) (value : ℕ) (old new : Tells) : Type 0 where
   pub read : RegisterRead (number_of r) value old new
   pub got : WhereTold (GotRegister h (number_of r) value) old.far new.far
 
-pub record DidSet (h : ℕ) (r : Register) (value : ℕ) (old new : Tells) : Type 0 where
+pub record DidSet (h : ℕ) (r : TriggerRegister) (value : ℕ) (old new : Tells) : Type 0 where
   pub written : RegisterWritten (number_of r) value old new
   pub set_to : WhereTold (SetRegister h (number_of r) value) old.far new.far
 
@@ -51,8 +51,8 @@ pub record Did (Whole : List Transfer → Type 0) (h : ℕ) (old new : Tells) : 
 -- ---- a transfer that failed
 
 pub data Attempt : Type 0 where
-  Getting : (register : Register) → Attempt
-  Setting : (register : Register) → (value : ℕ) → Attempt
+  Getting : (register : TriggerRegister) → Attempt
+  Setting : (register : TriggerRegister) → (value : ℕ) → Attempt
 
 -- the transfers so far, and this one, stand at the front of a whole call
 abbrev pub Begins : (List Transfer → Type 0) → List Transfer → Attempt → Type 0
@@ -60,12 +60,12 @@ Begins Whole done (Attempt.Getting r) = (value : ℕ) × (rest : List Transfer) 
 Begins Whole done (Attempt.Setting r value) = (rest : List Transfer) × Whole (done ++ Transfer.Set r value ∷ rest)
 
 -- along the link, and at hart h of a told chip
-pub record GetFailed (h : ℕ) (r : Register) (old_count new_count : ℕ) (old new : Tells) (e : AccessFault) : Type 0 where
+pub record GetFailed (h : ℕ) (r : TriggerRegister) (old_count new_count : ℕ) (old new : Tells) (e : AccessFault) : Type 0 where
   pub read : ReadFailed (number_of r) old_count new_count old new e
   pub left : RegisterLeft false h (number_of r) old.far new.far e
   pub cut : IfCut (Leaves (LeftAside Unchanged h) old.far new.far) e
 
-pub record SetFailed (h : ℕ) (r : Register) (value old_count new_count : ℕ) (old new : Tells) (e : AccessFault) : Type 0 where
+pub record SetFailed (h : ℕ) (r : TriggerRegister) (value old_count new_count : ℕ) (old new : Tells) (e : AccessFault) : Type 0 where
   pub written : WriteFailed (number_of r) value old_count new_count old new e
   pub left : RegisterLeft true h (number_of r) old.far new.far e
   pub cut : IfCut (Leaves (LeftAside (MaybeWritten (number_of r) value) h) old.far new.far) e

@@ -16,7 +16,7 @@ ghost use Rattle.probe_trig.specs.Transfers.{Did, FailedIn, Made};
 ghost use Rattle.probe_trig.specs.Words.{CanArm, address_named, trigger_named};
 
 use crate::fault::TrigFault;
-use crate::register::{Register, get, read_word, set};
+use crate::register::{TriggerRegister, get, read_word, set};
 use crate::slot_use::SlotUse;
 use crate::words::shows_free;
 use debug_model::{Dmi, WatchKind};
@@ -98,7 +98,7 @@ fn set_address<D: Dmi>(link: &mut D, halted: &Halted, what: SlotUse) -> Result<(
 {
     match address_of(what) {
         Some(address) => {
-            set(link, halted, Register::Tdata2, address)?;
+            set(link, halted, TriggerRegister::Tdata2, address)?;
             Ok(())
         }
         None => Ok(()),
@@ -130,7 +130,12 @@ fn arm_selected<D: Dmi>(link: &mut D, halted: &Halted, what: SlotUse) -> Result<
     ensures ties { D.ties link.new ≡ D.ties link.old }
 {
     set_address(link, halted, what)?;
-    set(link, halted, Register::Tdata1, trigger_for(what).tdata1())?;
+    set(
+        link,
+        halted,
+        TriggerRegister::Tdata1,
+        trigger_for(what).tdata1(),
+    )?;
     Ok(())
 }
 
@@ -190,15 +195,15 @@ fn arm_lowest<D: Dmi>(
     ensures slack { D.slack link.new ≡ D.slack link.old }
     ensures ties { D.ties link.new ≡ D.ties link.old }
 {
-    let kept = get(link, halted, Register::Tselect)?;
+    let kept = get(link, halted, TriggerRegister::Tselect)?;
     match seek_free(link, halted)? {
         Some(slot) => {
             arm_selected(link, halted, what)?;
-            set(link, halted, Register::Tselect, kept)?;
+            set(link, halted, TriggerRegister::Tselect, kept)?;
             Ok(Some(slot))
         }
         None => {
-            set(link, halted, Register::Tselect, kept)?;
+            set(link, halted, TriggerRegister::Tselect, kept)?;
             Ok(None)
         }
     }

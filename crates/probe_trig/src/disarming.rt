@@ -12,7 +12,7 @@ ghost use Rattle.probe_trig.specs.Slots.{AtHarts, DebugAlone, FreedAt, UnusedAt}
 ghost use Rattle.probe_trig.specs.Transfers.{Did, FailedIn};
 
 use crate::fault::TrigFault;
-use crate::register::{Register, get, read_word, set};
+use crate::register::{TriggerRegister, get, read_word, set};
 use crate::words::shows_free;
 use debug_model::Dmi;
 use probe_access::AccessFault;
@@ -40,14 +40,19 @@ fn free<D: Dmi>(link: &mut D, halted: &Halted, slot: u8) -> Result<bool, AccessF
     ensures slack { D.slack link.new ≡ D.slack link.old }
     ensures ties { D.ties link.new ≡ D.ties link.old }
 {
-    let kept = get(link, halted, Register::Tselect)?;
+    let kept = get(link, halted, TriggerRegister::Tselect)?;
     let tdata1 = read_word(link, halted, slot)?;
     if shows_free(tdata1) {
-        set(link, halted, Register::Tselect, kept)?;
+        set(link, halted, TriggerRegister::Tselect, kept)?;
         return Ok(true);
     }
-    set(link, halted, Register::Tdata1, Trigger::Disabled.tdata1())?;
-    set(link, halted, Register::Tselect, kept)?;
+    set(
+        link,
+        halted,
+        TriggerRegister::Tdata1,
+        Trigger::Disabled.tdata1(),
+    )?;
+    set(link, halted, TriggerRegister::Tselect, kept)?;
     Ok(false)
 }
 

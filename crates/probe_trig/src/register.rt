@@ -8,7 +8,7 @@ ghost use Rattle.probe_access.specs.Scratches.{ScratchLeft};
 ghost use Rattle.probe_trig.specs.Runs.{word_read};
 ghost use Rattle.probe_trig.specs.Transfers.{FailedIn, GetFailed, Made, SetFailed, number_of};
 ghost use Rattle.probe_trig.specs.Transfers.Transfer.{Got, Set};
-ghost use Rattle.probe_trig.specs.declared.register.Register.TheVariants.{Tselect, Tdata1};
+ghost use Rattle.probe_trig.specs.declared.register.TriggerRegister.TheVariants.{Tselect, Tdata1};
 ghost use Rattle.probe_trig.specs.Single.{OneGot, OneSet, WordRead};
 
 use debug_model::Dmi;
@@ -18,7 +18,7 @@ use rv_model::register_number;
 
 /// A register of a halted hart that a call on its slots reads or writes.
 #[derive(Clone, Copy)]
-pub enum Register {
+pub enum TriggerRegister {
     /// Which slot the next two show.
     Tselect,
     /// The slot's trigger.
@@ -29,22 +29,26 @@ pub enum Register {
     Dcsr,
 }
 
-impl Register {
+impl TriggerRegister {
     /// Its number.
     fn number(self) -> u16
         ensures { result ≡ number_of self }
     {
         match self {
-            Register::Tselect => register_number::TSELECT,
-            Register::Tdata1 => register_number::TDATA1,
-            Register::Tdata2 => register_number::TDATA2,
-            Register::Dcsr => register_number::DCSR,
+            TriggerRegister::Tselect => register_number::TSELECT,
+            TriggerRegister::Tdata1 => register_number::TDATA1,
+            TriggerRegister::Tdata2 => register_number::TDATA2,
+            TriggerRegister::Dcsr => register_number::DCSR,
         }
     }
 }
 
 /// Reads a register of the halted hart.
-pub fn get<D: Dmi>(link: &mut D, halted: &Halted, register: Register) -> Result<u64, AccessFault>
+pub fn get<D: Dmi>(
+    link: &mut D,
+    halted: &Halted,
+    register: TriggerRegister,
+) -> Result<u64, AccessFault>
     requires alive { D.is_alive link.old ≡ true }
     requires link { CanOperate (D.far link.old) }
     requires ready { IsReady (D.far link.old) }
@@ -72,7 +76,7 @@ pub fn get<D: Dmi>(link: &mut D, halted: &Halted, register: Register) -> Result<
 pub fn set<D: Dmi>(
     link: &mut D,
     halted: &Halted,
-    register: Register,
+    register: TriggerRegister,
     value: u64,
 ) -> Result<(), AccessFault>
     requires alive { D.is_alive link.old ≡ true }
@@ -119,7 +123,7 @@ pub fn read_word<D: Dmi>(link: &mut D, halted: &Halted, slot: u8) -> Result<u64,
     ensures slack { D.slack link.new ≡ D.slack link.old }
     ensures ties { D.ties link.new ≡ D.ties link.old }
 {
-    set(link, halted, Register::Tselect, u64::from(slot))?;
-    let tdata1 = get(link, halted, Register::Tdata1)?;
+    set(link, halted, TriggerRegister::Tselect, u64::from(slot))?;
+    let tdata1 = get(link, halted, TriggerRegister::Tdata1)?;
     Ok(tdata1)
 }

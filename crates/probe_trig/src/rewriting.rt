@@ -11,7 +11,7 @@ ghost use Rattle.probe_trig.specs.Words.{shows_hit};
 ghost use Rattle.probe_trig.specs.Transfers.{Did, FailedIn, Made};
 
 use crate::change::Change;
-use crate::register::{Register, get, read_word, set};
+use crate::register::{TriggerRegister, get, read_word, set};
 use crate::words::shows_hit;
 use debug_model::Dmi;
 use probe_access::AccessFault;
@@ -47,7 +47,12 @@ fn change_slot<D: Dmi>(
     if !shows_hit(tdata1) {
         return Ok(tdata1);
     }
-    set(link, halted, Register::Tdata1, change.of_word(tdata1))?;
+    set(
+        link,
+        halted,
+        TriggerRegister::Tdata1,
+        change.of_word(tdata1),
+    )?;
     Ok(tdata1)
 }
 
@@ -83,11 +88,11 @@ pub fn change_hits<D: Dmi>(
     ensures slack { D.slack link.new ≡ D.slack link.old }
     ensures ties { D.ties link.new ≡ D.ties link.old }
 {
-    let kept = get(link, halted, Register::Tselect)?;
+    let kept = get(link, halted, TriggerRegister::Tselect)?;
     let a = change_slot(link, halted, 0, change)?;
     let b = change_slot(link, halted, 1, change)?;
     let c = change_slot(link, halted, 2, change)?;
     let d = change_slot(link, halted, 3, change)?;
-    set(link, halted, Register::Tselect, kept)?;
+    set(link, halted, TriggerRegister::Tselect, kept)?;
     Ok(some_hit(a, b, c, d))
 }

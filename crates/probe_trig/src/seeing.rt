@@ -14,7 +14,7 @@ ghost use Rattle.probe_trig.specs.Words.{use_named};
 ghost use Rattle.probe_trig.specs.Transfers.{Did, FailedIn, Made};
 
 use crate::fault::TrigFault;
-use crate::register::{Register, get, read_word, set};
+use crate::register::{TriggerRegister, get, read_word, set};
 use crate::slot_use::{SlotUse, SlotView};
 use crate::slot_words::SlotWords;
 use crate::words::{shows_hit, use_shown};
@@ -45,7 +45,7 @@ fn read_slot<D: Dmi>(link: &mut D, halted: &Halted, slot: u8) -> Result<SlotWord
     ensures ties { D.ties link.new ≡ D.ties link.old }
 {
     let tdata1 = read_word(link, halted, slot)?;
-    let tdata2 = get(link, halted, Register::Tdata2)?;
+    let tdata2 = get(link, halted, TriggerRegister::Tdata2)?;
     Ok(SlotWords { tdata1, tdata2 })
 }
 
@@ -70,12 +70,12 @@ fn read_slots<D: Dmi>(link: &mut D, halted: &Halted) -> Result<[SlotWords; 4], A
     ensures slack { D.slack link.new ≡ D.slack link.old }
     ensures ties { D.ties link.new ≡ D.ties link.old }
 {
-    let kept = get(link, halted, Register::Tselect)?;
+    let kept = get(link, halted, TriggerRegister::Tselect)?;
     let a = read_slot(link, halted, 0)?;
     let b = read_slot(link, halted, 1)?;
     let c = read_slot(link, halted, 2)?;
     let d = read_slot(link, halted, 3)?;
-    set(link, halted, Register::Tselect, kept)?;
+    set(link, halted, TriggerRegister::Tselect, kept)?;
     Ok([a, b, c, d])
 }
 

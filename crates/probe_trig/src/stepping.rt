@@ -19,7 +19,7 @@ ghost use Rattle.probe_trig.specs.Transfers.{Did, FailedIn};
 use crate::change::Change;
 use crate::fault::TrigFault;
 use crate::gone::Gone;
-use crate::register::{Register, get};
+use crate::register::{TriggerRegister, get};
 use crate::rewriting::change_hits;
 use debug_model::Dmi;
 use probe_access::{AccessFault, step};
@@ -73,7 +73,7 @@ fn put_back<D: Dmi>(link: &mut D, halted: &Halted) -> Result<bool, AccessFault>
     ensures slack { D.slack link.new ≡ D.slack link.old }
     ensures ties { D.ties link.new ≡ D.ties link.old }
 {
-    let word = get(link, halted, Register::Dcsr)?;
+    let word = get(link, halted, TriggerRegister::Dcsr)?;
     let executed = shows_step(word);
     let _some = change_hits(link, halted, ending(executed))?;
     Ok(executed)

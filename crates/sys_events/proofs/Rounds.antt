@@ -5,11 +5,11 @@ use Rattle.std.specs.List.{range_with_len}
 use Rattle.std.proofs.Math.Nat.{mod-eq_of_lt, mod-lt, mod-add-mod, mod_self}
 use Rattle.std.proofs.lemmas.Bool.{cases_lt, lt-ltb, le-ltb}
 use Rattle.std.proofs.lemmas.List.FromFn.{length-map-range_with_len, get_or-map-range_with_len}
-use Rattle.debug_model.specs.Schedule.{Plan, round_of, moved, round_after}
+use Rattle.debug_model.specs.Schedule.{RoundPlan, round_of, moved, round_after}
 use Rattle.debug_model.specs.declared.event.Event.{Event}
 
 -- a list of n rounds, at a place
-abbrev pub made : (ℕ → List Event) → ℕ → ℕ → Plan
+abbrev pub made : (ℕ → List Event) → ℕ → ℕ → RoundPlan
 made f n place = record { rounds = map f (range_with_len 0 n); place = place }
 
 -- the round that comes next

@@ -5,7 +5,7 @@ use Rattle.std.specs.List.{range_with_len}
 use Rattle.std.specs.Int.{w64, from_le_bytes, to_le_bytes}
 use Rattle.rand_core.specs.Steps.{first_words}
 use Rattle.rand_xoshiro.specs.SplitMix64.{mix_u64}
-use Rattle.debug_model.specs.Schedule.{Plan}
+use Rattle.debug_model.specs.Schedule.{RoundPlan}
 use Rattle.debug_model.specs.declared.event.Event.{Event}
 use Rattle.debug_model.specs.declared.event.Event.TheVariants.{Turn, DmiDone, CmdStep, BusDone}
 
@@ -28,5 +28,5 @@ abbrev pub rounds_of : ℕ → List (Event × ℕ) → List (List Event)
 rounds_of busy pairs = map (round_at busy pairs) (range_with_len 0 busy)
 
 -- the schedule of a seed, before its first round
-abbrev pub seed_plan : ℕ → ℕ → ℕ → Plan
+abbrev pub seed_plan : ℕ → ℕ → ℕ → RoundPlan
 seed_plan seed busy harts = record { rounds = rounds_of busy (paired harts (words_of seed)); place = 0 }

@@ -17,9 +17,9 @@ pub struct ListSchedule {
 
 impl Model for ListSchedule {
     ghost use Rattle.std.specs.Prelude.{◌≤◌, ◌-◌, map, vec_len};
-    ghost use Rattle.debug_model.specs.Schedule.{Plan};
+    ghost use Rattle.debug_model.specs.Schedule.{RoundPlan};
 
-    ghost Value = { Plan };
+    ghost Value = { RoundPlan };
 
     ghost view = { λ s. record { rounds = map (λ r. r.items) s.rounds.items; place = s.place } };
 

@@ -36,9 +36,9 @@ pub struct SeedSchedule {
 impl Model for SeedSchedule {
     ghost use Rattle.std.specs.Prelude.{◌<◌, map};
     ghost use Rattle.arrayvec.specs.ArrayVec.{array_vec_len};
-    ghost use Rattle.debug_model.specs.Schedule.{Plan};
+    ghost use Rattle.debug_model.specs.Schedule.{RoundPlan};
 
-    ghost Value = { Plan };
+    ghost Value = { RoundPlan };
 
     ghost view = { λ s. record { rounds = map (λ r. r.items) s.rounds.items; place = s.place } };
 

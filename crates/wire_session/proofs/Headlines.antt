@@ -10,7 +10,7 @@ use Rattle.debug_model.specs.Chip.{Chip, Live}
 use Rattle.debug_model.specs.Command.{IsWithinRanges}
 use Rattle.debug_model.specs.Loaded.{AsLoaded}
 use Rattle.debug_model.specs.Offered.{HasOfferedTurns, Timing, TurnsOffered, timing_of}
-use Rattle.debug_model.specs.Schedule.{Plan, at_start}
+use Rattle.debug_model.specs.Schedule.{RoundPlan, at_start}
 use Rattle.debug_model.specs.Ties.{timing_told}
 use Rattle.debug_model.specs.Told.{Far, IsAsLoaded, chip_of}
 use Rattle.debugger_laws.specs.Debugger.{session}
@@ -44,7 +44,7 @@ turns_behind first c a same =
     let offered : HasOfferedTurns c = (timing_decides c).0 (ap (λ (t : Timing). t.offered) same ∙ (timing_decides first.chip).1 (fresh_offers first a)) in
     let plan : at_start c.inside.plan ≡ first.chip.inside.plan =
     ap (λ (r : List (List Event)). record { rounds = r; place = 0 }) (ap (λ (t : Timing). t.rounds) same) ∙ at_its_start first a in
-    subst (λ (p : Plan). TurnsOffered p c) plan offered
+    subst (λ (p : RoundPlan). TurnsOffered p c) plan offered
 
 headline_of : (script : List Command) (was is : Option (List ℕ)) (first last : Far) (e : End) → AsLoaded first.live → All IsWithinRanges script → WrittenAs script was is first last e
     → timing_of (chip_of last) ≡ timing_of (chip_of first) → Headline script was is first last e

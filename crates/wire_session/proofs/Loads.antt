@@ -4,10 +4,10 @@ use Rattle.rv_model.specs.Board.{Board}
 use Rattle.debug_model.specs.Chip.{Live}
 use Rattle.debug_model.specs.Dmi.{CanOperate}
 use Rattle.debug_model.specs.Loaded.{live, loaded_board, loaded_chip}
-use Rattle.debug_model.specs.Schedule.{Plan}
+use Rattle.debug_model.specs.Schedule.{RoundPlan}
 use Rattle.debug_model.specs.Told.{Far, IsAsLoaded, IsRead}
 
-operates_at : (board : Board) (plan : Plan) (unread : List ℕ) → unread ≡ [] → CanOperate (Some (record { live = live (loaded_chip board plan); unread = unread }))
+operates_at : (board : Board) (plan : RoundPlan) (unread : List ℕ) → unread ≡ [] → CanOperate (Some (record { live = live (loaded_chip board plan); unread = unread }))
 operates_at board plan unread read = record {
   unended = tt;
   read = read;

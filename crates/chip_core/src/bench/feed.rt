@@ -3,7 +3,8 @@
 ghost use Rattle.std.specs.Prelude.{◌≡◌, ◌+◌, ◌≤◌, ◌++◌, IfSome, IsSome, None, length};
 ghost use Rattle.arrayvec.specs.ArrayVec.{array_vec_len};
 ghost use Rattle.debug_model.specs.Chip.{feed, said};
-ghost use Rattle.debug_model.specs.Schedule.{Plan};
+ghost use Rattle.debug_model.specs.Schedule.{RoundPlan};
+ghost use Rattle.debug_model.specs.Wire.{piece_most};
 ghost use Rattle.chip_core.specs.Fed.{fed};
 ghost use Rattle.chip_core.specs.Feeds.{fed_of, feed_of, said_of};
 ghost use Rattle.debug_model.specs.Offered.{TurnsOffered};
@@ -17,7 +18,7 @@ impl<Q: Schedule> Chip<Q> {
     /// These bytes, where nothing has ended the chip.
     fn feed_live(&mut self, bytes: &[u8], answers: &mut Answers) -> Fed
         requires live { self.old.ended ≡ None }
-        requires room { array_vec_len answers.old + length bytes.now ≤ 256 }
+        requires room { array_vec_len answers.old + length bytes.now ≤ piece_most }
         ensures chip { self.new ≡ feed self.old bytes.now }
         ensures answers { answers.new.items ≡ answers.old.items ++ said self.old bytes.now }
         ensures fed { result ≡ fed self.old bytes.now }
@@ -38,7 +39,7 @@ impl<Q: Schedule> Chip<Q> {
 
     /// These bytes; nothing behind what ended the chip.
     pub(crate) fn feed(&mut self, bytes: &[u8], answers: &mut Answers) -> Fed
-        requires room { array_vec_len answers.old + length bytes.now ≤ 256 }
+        requires room { array_vec_len answers.old + length bytes.now ≤ piece_most }
         ensures chip { self.new ≡ feed self.old bytes.now }
         ensures answers { answers.new.items ≡ answers.old.items ++ said self.old bytes.now }
         ensures fed { result ≡ fed self.old bytes.now }
@@ -62,13 +63,13 @@ impl<Q: Schedule> Bench<Q> {
     /// behind it no byte is taken, and the answer is the same with place 0.
     pub fn feed(&mut self, bytes: &[u8], answers: &mut Answers) -> Fed
         requires loaded { IsSome self.old }
-        requires room { array_vec_len answers.old + length bytes.now ≤ 256 }
+        requires room { array_vec_len answers.old + length bytes.now ≤ piece_most }
         ensures chip { self.new ≡ feed_of self.old bytes.now }
         ensures answers { answers.new.items ≡ answers.old.items ++ said_of self.old bytes.now }
         ensures fed { result ≡ fed_of self.old bytes.now }
         ensures loaded { IsSome self.new }
         ensures room { array_vec_len answers.new ≤ array_vec_len answers.old + length bytes.now }
-        ensures turns { (first : Plan) → IfSome self.old (λ l. TurnsOffered first l.chip) → IfSome self.new (λ l. TurnsOffered first l.chip) }
+        ensures turns { (first : RoundPlan) → IfSome self.old (λ l. TurnsOffered first l.chip) → IfSome self.new (λ l. TurnsOffered first l.chip) }
     {
         match &mut self.chip {
             Some(chip) => chip.feed(bytes, answers),

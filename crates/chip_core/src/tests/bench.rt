@@ -1,6 +1,7 @@
 //! Benches as the tests use them.
 
 ghost use Rattle.std.specs.Prelude.{◌≤◌, IfOk, IsSome, length};
+ghost use Rattle.debug_model.specs.Wire.{piece_most};
 
 use crate::{Answers, Bench, Fed, LoadFault};
 use arrayvec::ArrayVec;
@@ -43,7 +44,7 @@ pub fn listed(alloc: Global, round: &[Event]) -> Result<ListSchedule, LoadFault>
 /// What a feed of these bytes answers, and the answers of the chip.
 pub fn feed(bench: &mut Listed, bytes: &[u8]) -> (Fed, Answers)
     requires loaded { IsSome bench.old }
-    requires few { length bytes.now ≤ 256 }
+    requires few { length bytes.now ≤ piece_most }
     ensures { IsSome bench.new }
 {
     let mut answers = ArrayVec::new();

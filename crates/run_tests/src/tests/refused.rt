@@ -2,10 +2,8 @@
 
 use super::{Held, NO_FAILURE, check_words, outcome_of, quiet_net, two_files};
 use jtag_run::Status;
+use script_lang::MOST_TEXT;
 use std::test::Fail;
-
-/// The most bytes of a script's file.
-const SCRIPT_MOST: usize = 1_048_576;
 
 /// The bytes of RAM where the words say nothing.
 const RAM_UNSAID: usize = 65_536;
@@ -109,7 +107,7 @@ fn words_that_write_no_job_are_refused(rt: HostRuntime) -> Result<(), Fail> {
 
 #[test]
 fn a_script_over_the_limit_is_refused(rt: HostRuntime) -> Result<(), Fail> {
-    let script = vec![in rt.alloc(); b'#'; SCRIPT_MOST + 1]?;
+    let script = vec![in rt.alloc(); b'#'; MOST_TEXT + 1]?;
     let held = Held {
         script: &script,
         ..ONE

@@ -1,5 +1,5 @@
 use Rattle.std.proofs.Common.{[], ◌∷◌, ◌++◌, Some, None, arith}
-use Rattle.probe_trig.specs.declared.register.Register.TheVariants.{Tselect}
+use Rattle.probe_trig.specs.declared.register.TriggerRegister.TheVariants.{Tselect}
 use Rattle.probe_trig.specs.Runs.{armed}
 use Rattle.probe_trig.specs.Transfers.Transfer.{Got}
 use Rattle.probe_trig.proofs.ArmFits.{arms_armed, arms_back, arms_keep, arms_none, arms_seek, armed_did, none_did, sought_behind}

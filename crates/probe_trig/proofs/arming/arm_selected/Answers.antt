@@ -1,6 +1,6 @@
 use Rattle.std.proofs.Common.{[], ◌∷◌}
 use Rattle.rv_model.specs.TriggerWords.{tdata1_of}
-use Rattle.probe_trig.specs.declared.register.Register.TheVariants.{Tdata1}
+use Rattle.probe_trig.specs.declared.register.TriggerRegister.TheVariants.{Tdata1}
 use Rattle.probe_trig.specs.Runs.{address_set}
 use Rattle.probe_trig.specs.Transfers.Transfer.{Set}
 use Rattle.probe_trig.specs.Words.{address_named, trigger_named}

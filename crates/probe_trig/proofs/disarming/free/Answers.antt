@@ -1,5 +1,5 @@
 use Rattle.std.proofs.Common.{[], ◌∷◌, ◌++◌, ◌∙◌, false, refl, sym, arith}
-use Rattle.probe_trig.specs.declared.register.Register.TheVariants.{Tselect}
+use Rattle.probe_trig.specs.declared.register.TriggerRegister.TheVariants.{Tselect}
 use Rattle.probe_trig.specs.Runs.{freed, put_back, word_read}
 use Rattle.probe_trig.specs.Transfers.Transfer.{Got}
 use Rattle.probe_trig.proofs.ArmFits.{frees_back, frees_keep, frees_none, frees_set, frees_word}

@@ -1,5 +1,5 @@
 use Rattle.std.proofs.Common.{[], ◌∷◌}
-use Rattle.probe_trig.specs.declared.register.Register.TheVariants.{Tselect, Tdata1}
+use Rattle.probe_trig.specs.declared.register.TriggerRegister.TheVariants.{Tselect, Tdata1}
 use Rattle.probe_trig.specs.Transfers.Transfer.{Got, Set}
 use Rattle.probe_trig.proofs.Fitting.{word_gets, word_selects}
 use Rattle.probe_run.proofs.ActLemmas.{if_err}

@@ -1,5 +1,5 @@
 use Rattle.std.proofs.Common.{[], ◌∷◌, ◌++◌, refl, arith}
-use Rattle.probe_trig.specs.declared.register.Register.TheVariants.{Tselect}
+use Rattle.probe_trig.specs.declared.register.TriggerRegister.TheVariants.{Tselect}
 use Rattle.probe_trig.specs.Runs.{put_back, slot_changed}
 use Rattle.probe_trig.specs.Transfers.Transfer.{Got}
 use Rattle.probe_trig.proofs.Fitting.{changes_0, changes_1, changes_2, changes_3, changes_back, changes_keep}

@@ -1,5 +1,5 @@
 use Rattle.std.proofs.Common.{[], ◌∷◌}
-use Rattle.probe_trig.specs.declared.register.Register.TheVariants.{Tdata2}
+use Rattle.probe_trig.specs.declared.register.TriggerRegister.TheVariants.{Tdata2}
 use Rattle.probe_trig.specs.Runs.{word_read}
 use Rattle.probe_trig.specs.Transfers.Transfer.{Got}
 use Rattle.probe_trig.proofs.Fitting.{slot_gets, slot_words}

@@ -1,5 +1,5 @@
 use Rattle.std.proofs.Common.{[], ◌∷◌}
-use Rattle.probe_trig.specs.declared.register.Register.TheVariants.{Dcsr}
+use Rattle.probe_trig.specs.declared.register.TriggerRegister.TheVariants.{Dcsr}
 use Rattle.probe_trig.specs.Transfers.Transfer.{Got}
 use Rattle.probe_trig.proofs.Calls.{changed_any}
 use Rattle.probe_trig.proofs.EndFits.{ends_changes, ends_did, ends_word}

@@ -1,5 +1,5 @@
 use Rattle.std.proofs.Common.{subst, sym, arith}
-use Rattle.debug_model.specs.Schedule.{Plan, Fair}
+use Rattle.debug_model.specs.Schedule.{RoundPlan, Fair}
 use Rattle.sys_events.specs.Seed.{words_of}
 use Rattle.sys_events.proofs.Fairness.{paired-fair}
 use Rattle.sys_events.proofs.Short.{short_rounds}
@@ -10,7 +10,7 @@ returns-clause-plan c = cc
 
 pub returns-clause-fair : goal.returns-clause-fair
 returns-clause-fair c =
-    subst (λ (p : Plan). Fair 32 c.args.harts p) (sym (returns-clause-plan c))
+    subst (λ (p : RoundPlan). Fair 32 c.args.harts p) (sym (returns-clause-plan c))
     (paired-fair 32 c.args.busy c.args.harts (words_of c.args.seed) (omega arith) (omega arith))
 
 pub returns-clause-few : goal.returns-clause-few
