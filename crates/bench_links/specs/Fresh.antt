@@ -9,7 +9,7 @@ use Rattle.rv_model.specs.Memory.{Bytes, IsRamSize, Memory, ram_base}
 use Rattle.debug_model.specs.declared.event.Event.{Event}
 use Rattle.debug_model.specs.Chip.{Live}
 use Rattle.debug_model.specs.Loaded.{RightHarts, live, loaded_board, loaded_chip}
-use Rattle.debug_model.specs.Schedule.{Plan}
+use Rattle.debug_model.specs.Schedule.{RoundPlan}
 
 -- so many bytes from an address on, and 0 where memory has none
 unfoldable pub bytes_at : Bytes → ℕ → ℕ → List ℕ
@@ -32,7 +32,7 @@ start_of (h ∷ hs) = start_by h.debug.halted
 abbrev pub board_of : Live → Board
 board_of l = l.chip.inside.works.site.board
 
-abbrev pub plan_of : Live → Plan
+abbrev pub plan_of : Live → RoundPlan
 plan_of l = l.chip.inside.plan
 
 -- the board with what it has in memory as its image, as a load leaves it
@@ -44,7 +44,7 @@ pub record IsLoadedBoard (b : Board) : Type 0 where
   pub size : IsRamSize (ram_size b.memory)
   pub bytes : All (λ x. x < 256) (image_of b.memory)
 
-pub record IsFirstPlan (p : Plan) : Type 0 where
+pub record IsFirstPlan (p : RoundPlan) : Type 0 where
   pub rounds : All (λ (r : List Event). length r ≤ 8) p.rounds
   pub first : p.place ≡ 0
 

@@ -12,7 +12,7 @@ use Rattle.debug_model.specs.declared.sign.Sign.TheVariants.{Pins, Ask, Light, R
 use Rattle.debug_model.specs.Chip.{Chip, Inside, Live, Works, after, after_events, counted, end_of, feed, pins, rise, signed, taken_by, tick, unless_ended, works_risen}
 use Rattle.debug_model.specs.Offered.{HasOfferedTurns, first_rounds, has_offered_turns, moved_on, offered, timing_of}
 use Rattle.debug_model.specs.Port.{Port, rise_finds_busy}
-use Rattle.debug_model.specs.Schedule.{Plan, at_start, following, moved, round_of}
+use Rattle.debug_model.specs.Schedule.{RoundPlan, at_start, following, moved, round_of}
 use Rattle.debug_model.specs.Signs.{sign_of}
 use Rattle.debug_model.proofs.Rounds.{busy_rounds, events_rounds}
 use Rattle.chip_laws.specs.TurnLaws.{FeedsKeepTiming, TimingTells}
@@ -58,12 +58,12 @@ following_apart n a b e = elim (cases_lt (a + 1) n) [
   ]
 ]
 
-moved_on-rounds : (k : ℕ) (p : Plan) → (moved_on k p).rounds ≡ p.rounds
+moved_on-rounds : (k : ℕ) (p : RoundPlan) → (moved_on k p).rounds ≡ p.rounds
 unfolding moved_on
 moved_on-rounds zero p = refl
 moved_on-rounds (suc k) p = moved_on-rounds k (moved p)
 
-at_place : (p : Plan) (q : Plan) → q.rounds ≡ p.rounds → p.place ≡ q.place → p ≡ q
+at_place : (p : RoundPlan) (q : RoundPlan) → q.rounds ≡ p.rounds → p.place ≡ q.place → p ≡ q
 at_place p q rounds place = ap (λ n. record p { place = n }) place ∙ ap (λ (r : List (List Event)). record { rounds = r; place = q.place }) (sym rounds)
 
 -- ---- the truth value
@@ -73,13 +73,13 @@ both_parts a b first second = ap (λ x. x && b) first ∙ second
 
 pub timing_decides : TimingTells
 timing_decides c =
-    let first : Plan = at_start c.inside.plan in
+    let first : RoundPlan = at_start c.inside.plan in
     let k : ℕ = c.inside.works.counts.rounds in (
       λ e. record {
         turns = (bytes_eq-Decides _ _).0 (and_parts _ _ e).1;
         plan = at_place c.inside.plan (moved_on k first) (moved_on-rounds k first) ((unsigned_Decides _ _).0 (and_parts _ _ e).0);
       },
-      λ is. both_parts _ _ ((unsigned_Decides _ _).1 (ap (λ (p : Plan). p.place) is.plan)) ((bytes_eq-Decides _ _).1 is.turns),
+      λ is. both_parts _ _ ((unsigned_Decides _ _).1 (ap (λ (p : RoundPlan). p.place) is.plan)) ((bytes_eq-Decides _ _).1 is.turns),
     )
 
 same_timing : (c d : Chip) → d.inside.plan.rounds ≡ c.inside.plan.rounds → (HasOfferedTurns c → HasOfferedTurns d) → (HasOfferedTurns d → HasOfferedTurns c) → timing_of d ≡ timing_of c
@@ -95,7 +95,7 @@ unfolding tick
 tick_back tck tck' port port' i is =
     let n : ℕ = length i.works.site.board.harts in
     let k : ℕ = i.works.counts.rounds in
-    let s : Plan = at_start i.plan in
+    let s : RoundPlan = at_start i.plan in
     let es : List Event = round_of i.plan in
     let w : Works = counted i.works in
     let added : Added (offered n es) i.works.site (after_events es w).site = events_added n es w refl in
@@ -103,7 +103,7 @@ tick_back tck tck' port port' i is =
     let moved_both : moved i.plan ≡ moved (moved_on k s) = is.plan ∙ ap (λ r. moved_on r s) rounds ∙ moved_on-more k s in
     let places : i.plan.place ≡ (moved_on k s).place =
     following_apart (length i.plan.rounds) i.plan.place (moved_on k s).place
-    (ap (λ (p : Plan). p.place) moved_both ∙ ap (λ (r : List (List Event)). following (length r) (moved_on k s).place) (moved_on-rounds k s)) in
+    (ap (λ (p : RoundPlan). p.place) moved_both ∙ ap (λ (r : List (List Event)). following (length r) (moved_on k s).place) (moved_on-rounds k s)) in
     let plan : i.plan ≡ moved_on k s = at_place i.plan (moved_on k s) (moved_on-rounds k s) places in
     let list : first_rounds (suc k) s ≡ first_rounds k s ++ es = first_rounds-more k s ∙ ap (λ p. first_rounds k s ++ round_of p) (sym plan) in
     record {
@@ -127,7 +127,7 @@ works_timing : (c : Chip) → timing_of (record c { inside = record c.inside { w
 works_timing c =
     let d : Chip = record c { inside = record c.inside { works = works_risen c.port c.inside.works } } in
     let rounds : d.inside.works.counts.rounds ≡ c.inside.works.counts.rounds = busy_rounds (rise_finds_busy c.port c.inside.works.dtm) c.inside.works.counts in
-    let first : Plan = at_start c.inside.plan in
+    let first : RoundPlan = at_start c.inside.plan in
     same_timing c d refl (works_offered first c) (λ is. record {
       turns = is.turns ∙ ap (λ r. offered (length c.inside.works.site.board.harts) (first_rounds r first)) rounds;
       plan = is.plan ∙ ap (λ r. moved_on r first) rounds;

@@ -11,7 +11,7 @@ use Rattle.debug_model.specs.Module.{Site}
 use Rattle.rv_model.specs.Board.{Board}
 use Rattle.debug_model.specs.Port.{Port, rise_finds_busy}
 use Rattle.debug_model.specs.Scan.{ticks}
-use Rattle.debug_model.specs.Schedule.{Plan, at_start, moved, round_of}
+use Rattle.debug_model.specs.Schedule.{RoundPlan, at_start, moved, round_of}
 use Rattle.debug_model.specs.Signs.{sign_of}
 use Rattle.debug_model.specs.Offered.{TurnsOffered, first_rounds, moved_on, offered, offered_by, turns_of}
 use Rattle.chip_laws.specs.TurnLaws.{FeedsOfferTurns, LoadedChipsOffer, RoundsOfferTurns}
@@ -20,12 +20,12 @@ use Rattle.chip_laws.proofs.Events.{Added, event_adds}
 
 -- ---- schedules
 
-pub moved_on-more : (k : ℕ) (p : Plan) → moved_on (suc k) p ≡ moved (moved_on k p)
+pub moved_on-more : (k : ℕ) (p : RoundPlan) → moved_on (suc k) p ≡ moved (moved_on k p)
 unfolding moved_on
 moved_on-more zero p = refl
 moved_on-more (suc k) p = moved_on-more k (moved p)
 
-pub first_rounds-more : (k : ℕ) (p : Plan) → first_rounds (suc k) p ≡ first_rounds k p ++ round_of (moved_on k p)
+pub first_rounds-more : (k : ℕ) (p : RoundPlan) → first_rounds (suc k) p ≡ first_rounds k p ++ round_of (moved_on k p)
 unfolding first_rounds moved_on
 first_rounds-more zero p = append-nil (round_of p)
 first_rounds-more (suc k) p =
@@ -56,7 +56,7 @@ events_added n (e ∷ es) w here =
 -- ---- edges
 
 -- a round of the schedule, whatever clock and port are
-pub tick_offered : (first : Plan) (tck tck' : Bool) (port port' : Port) (i : Inside) → TurnsOffered first (record { tck = tck; port = port; inside = i })
+pub tick_offered : (first : RoundPlan) (tck tck' : Bool) (port port' : Port) (i : Inside) → TurnsOffered first (record { tck = tck; port = port; inside = i })
     → TurnsOffered first (record { tck = tck'; port = port'; inside = tick i })
 unfolding tick
 tick_offered first tck tck' port port' i is =
@@ -73,13 +73,13 @@ tick_offered first tck tck' port port' i is =
       plan = ap moved is.plan ∙ sym (moved_on-more k first) ∙ ap (λ r. moved_on r first) (sym rounds);
     }
 
-ticks_offered : (first : Plan) (n : ℕ) (tck tck' : Bool) (port port' : Port) (i : Inside) → TurnsOffered first (record { tck = tck; port = port; inside = i })
+ticks_offered : (first : RoundPlan) (n : ℕ) (tck tck' : Bool) (port port' : Port) (i : Inside) → TurnsOffered first (record { tck = tck; port = port; inside = i })
     → TurnsOffered first (record { tck = tck'; port = port'; inside = ticks n i })
 unfolding ticks
 ticks_offered first zero tck tck' port port' i is = record { turns = is.turns; plan = is.plan }
 ticks_offered first (suc n) tck tck' port port' i is = ticks_offered first n tck tck' port port' (tick i) (tick_offered first tck tck port port i is)
 
-pub works_offered : (first : Plan) (c : Chip) → TurnsOffered first c → TurnsOffered first (record c { inside = record c.inside { works = works_risen c.port c.inside.works } })
+pub works_offered : (first : RoundPlan) (c : Chip) → TurnsOffered first c → TurnsOffered first (record c { inside = record c.inside { works = works_risen c.port c.inside.works } })
 works_offered first c is =
     let rounds : (works_risen c.port c.inside.works).counts.rounds ≡ c.inside.works.counts.rounds = busy_rounds (rise_finds_busy c.port c.inside.works.dtm) c.inside.works.counts in
     record {
@@ -87,10 +87,10 @@ works_offered first c is =
       plan = is.plan ∙ ap (λ r. moved_on r first) (sym rounds);
     }
 
-rise_offered : (first : Plan) (tms tdi : Bool) (c : Chip) → TurnsOffered first c → TurnsOffered first (rise tms tdi c)
+rise_offered : (first : RoundPlan) (tms tdi : Bool) (c : Chip) → TurnsOffered first c → TurnsOffered first (rise tms tdi c)
 rise_offered first tms tdi c is = tick_offered first c.tck true c.port _ (record c.inside { works = works_risen c.port c.inside.works }) (works_offered first c is)
 
-pins_offered : (first : Plan) (old new tms tdi : Bool) (c : Chip) → TurnsOffered first c → TurnsOffered first (pins old new tms tdi c)
+pins_offered : (first : RoundPlan) (old new tms tdi : Bool) (c : Chip) → TurnsOffered first c → TurnsOffered first (pins old new tms tdi c)
 pins_offered first false true tms tdi c is = rise_offered first tms tdi c is
 pins_offered first true false tms tdi c is = record { turns = is.turns; plan = is.plan }
 pins_offered first false false tms tdi c is = is
@@ -98,7 +98,7 @@ pins_offered first true true tms tdi c is = is
 
 -- ---- bytes
 
-sign_offered : (first : Plan) (s : Option Sign) (c : Chip) → TurnsOffered first c → TurnsOffered first (signed s c)
+sign_offered : (first : RoundPlan) (s : Option Sign) (c : Chip) → TurnsOffered first c → TurnsOffered first (signed s c)
 sign_offered first (Some (Pins tck tms tdi)) c is = pins_offered first c.tck tck tms tdi c is
 sign_offered first (Some Ask) c is = is
 sign_offered first (Some Light) c is = is
@@ -106,13 +106,13 @@ sign_offered first (Some (Reset trst)) c is = record { turns = is.turns; plan = 
 sign_offered first (Some Quit) c is = is
 sign_offered first None c is = is
 
-taken_offered : (first : Plan) (ended end : Option ChipEnd) (next : Chip) (l : Live) → TurnsOffered first l.chip → TurnsOffered first next
+taken_offered : (first : RoundPlan) (ended end : Option ChipEnd) (next : Chip) (l : Live) → TurnsOffered first l.chip → TurnsOffered first next
     → TurnsOffered first (unless_ended ended (taken_by end next l.chip) l).chip
 taken_offered first None None next l here there = there
 taken_offered first None (Some end) next l here there = here
 taken_offered first (Some ended) end next l here there = here
 
-pub feed_offered : (first : Plan) (bytes : List ℕ) (l : Live) → TurnsOffered first l.chip → TurnsOffered first (feed l bytes).chip
+pub feed_offered : (first : RoundPlan) (bytes : List ℕ) (l : Live) → TurnsOffered first l.chip → TurnsOffered first (feed l bytes).chip
 unfolding feed
 feed_offered first [] l is = is
 feed_offered first (b ∷ bs) l is =
@@ -124,7 +124,7 @@ feeds_offer first l bytes is = feed_offered first bytes l is
 
 -- ---- a loaded chip
 
-pub board_offers : (board : Board) (plan : Plan) → TurnsOffered plan (loaded_chip board plan)
+pub board_offers : (board : Board) (plan : RoundPlan) → TurnsOffered plan (loaded_chip board plan)
 unfolding turns_of offered first_rounds moved_on
 board_offers board plan = record { turns = refl; plan = refl }
 

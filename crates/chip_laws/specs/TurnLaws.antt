@@ -5,7 +5,7 @@ use Rattle.debug_model.specs.Chip.{Chip, Live, feed}
 use Rattle.debug_model.specs.Loaded.{AsLoaded}
 use Rattle.debug_model.specs.Offered.{HasOfferedTurns, TurnsOffered, timing_of}
 use Rattle.debug_model.specs.Scan.{ticks}
-use Rattle.debug_model.specs.Schedule.{Plan}
+use Rattle.debug_model.specs.Schedule.{RoundPlan}
 
 -- a chip as it was loaded has had no turn and no round
 abbrev pub LoadedChipsOffer : Type 0
@@ -13,7 +13,7 @@ LoadedChipsOffer = (l : Live) → AsLoaded l → HasOfferedTurns l.chip
 
 -- bytes give the harts the turns of the rounds that they take, and no other, since any start of the schedule
 abbrev pub FeedsOfferTurns : Type 0
-FeedsOfferTurns = (first : Plan) (l : Live) (bytes : List ℕ) → TurnsOffered first l.chip → TurnsOffered first (feed l bytes).chip
+FeedsOfferTurns = (first : RoundPlan) (l : Live) (bytes : List ℕ) → TurnsOffered first l.chip → TurnsOffered first (feed l bytes).chip
 
 -- no byte changes the schedule's list, nor whether the harts have had just the turns that it offered from its first round on
 abbrev pub FeedsKeepTiming : Type 0

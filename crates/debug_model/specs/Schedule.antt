@@ -9,10 +9,6 @@ pub record RoundPlan : Type 0 where
   pub rounds : List (List Event)
   pub place : ℕ
 
--- the same, under the name that chip_laws and bench_links still import
-abbrev pub Plan : Type 0
-Plan = RoundPlan
-
 -- the round at the place, the empty round where the list is empty
 abbrev pub round_of : RoundPlan → List Event
 round_of p = slice_index_or p.rounds p.place []
