@@ -1,5 +1,5 @@
 -- What a wire through a joined net tells and counts, from what crossed the net.
-use Rattle.std.proofs.Common.{◌≡◌, ℕ, ◌<◌, ◌≤◌, List, [], ◌∷◌, ◌++◌, Option, None, Some, IsSome, option_map, refl, sym, ap, subst, ◌∙◌, arith}
+use Rattle.std.proofs.Common.{◌≡◌, ℕ, ◌<◌, ◌≤◌, List, [], ◌∷◌, ◌++◌, replicate, Option, None, Some, IsSome, option_map, refl, sym, ap, subst, ◌∙◌, arith}
 use Rattle.std.specs.Borrow.{GName}
 use Rattle.jt_base.specs.Faults.{Rises}
 use Rattle.debug_model.specs.Chip.{Live, feed, said}
@@ -7,7 +7,8 @@ use Rattle.debug_model.specs.Net.{NetState}
 use Rattle.debug_model.specs.Offered.{Timing}
 use Rattle.debug_model.specs.Ties.{NetTies, Ties, timing_told}
 use Rattle.debug_model.specs.Told.{IsRead}
-use Rattle.debug_model.specs.Wire.{KeepsChip, ReadsFront, SentFront, sent}
+use Rattle.debug_model.specs.Wire.{ReadsFront, ReadsSome, SentFront, no_answer, sent}
+use Rattle.debug_model.proofs.WireLemmas.{none_came}
 use Rattle.chip_core.proofs.Timed.{fed_timing}
 use Rattle.chip_core.specs.Feeds.{far_of, feed_of, said_of}
 use Rattle.bench_links.specs.Looped.{FedFront, loop_ties, looped}
@@ -40,9 +41,8 @@ pub answers_read : (bench : Option Live) (into unread kept : List ℕ) → unrea
 answers_read None into unread kept gave = refl
 answers_read (Some l) into unread kept gave = (kept, gave, refl)
 
-pub chip_kept : (bench : Option Live) (unread kept : List ℕ) → kept ≡ unread → KeepsChip (far_of bench unread) (far_of bench kept)
-chip_kept None unread kept same = refl
-chip_kept (Some l) unread kept same = ([], unread, refl, ap (λ u. Some (record { live = l; unread = u })) same)
+pub chip_kept : (bench : Option Live) (n : ℕ) (into unread kept : List ℕ) → into ≡ replicate n no_answer → kept ≡ unread → ReadsSome into (far_of bench unread) (far_of bench kept)
+chip_kept bench n into unread kept filled same = subst (λ u. ReadsSome into (far_of bench unread) (far_of bench u)) (sym same) (none_came n into (far_of bench unread) filled)
 
 -- ---- ties
 

@@ -8,7 +8,7 @@ ghost use Rattle.std.specs.Borrow.{GName};
 ghost use Rattle.jt_base.specs.Faults.{Rises, count_after, counted};
 ghost use Rattle.jt_base.specs.FileStore.{is_listed};
 ghost use Rattle.debug_model.specs.Loaded.{AsLoaded};
-ghost use Rattle.debug_model.specs.Net.{Called, CallCause, Gives, IsAccepted, IsConnected, IsJoined, LivesOn, MayPut, MayTake, OpenCause, PutFront, after_put, after_take, given, is_open};
+ghost use Rattle.debug_model.specs.Net.{Called, CallCause, Gives, IsAccepted, IsConnected, IsJoined, LivesOn, MayPut, MayTake, OpenCause, PutFront, after_put, after_take, faults_after, given, is_open};
 ghost use Rattle.debug_model.specs.Told.{IsAsLoaded};
 ghost use Rattle.debug_model.specs.Wire.{piece_most};
 ghost use Rattle.debug_model.specs.declared.net.Call.TheVariants as calls;
@@ -117,6 +117,7 @@ impl<'a, Q: Schedule> Net for BenchNet<'a, Q> {
         ensures loaded { OnOk result (IsAsLoaded (net_state self.new.opening self.new.is_open self.new.given self.new.bench.now self.new.unread.items).chip) }
         ensures cause { IfErr result (OpenCause self.old.failed self.new.failed) }
         ensures later { self.old.failed ≤ self.new.failed }
+        ensures counts { self.new.failed ≡ faults_after result self.old.failed }
         ensures ends { ◌≡◌ {A = ℕ} 0 0 }
         ensures lenders { self.new.bench.ghost_name ∷ [] ≡ self.old.bench.ghost_name ∷ [] }
         ensures answer { is_ok result ≡ not (is_listed self.old.calls self.old.fail_at.items) }
@@ -138,6 +139,7 @@ impl<'a, Q: Schedule> Net for BenchNet<'a, Q> {
         ensures opened { OnOk result (IsAccepted (peer_of self.old.bench.now) (net_state self.new.opening self.new.is_open self.new.given self.new.bench.now self.new.unread.items)) }
         ensures cause { IfErr result (OpenCause self.old.failed self.new.failed) }
         ensures later { self.old.failed ≤ self.new.failed }
+        ensures counts { self.new.failed ≡ faults_after result self.old.failed }
         ensures ends { ◌≡◌ {A = ℕ} 0 0 }
         ensures lenders { self.new.bench.ghost_name ∷ [] ≡ self.old.bench.ghost_name ∷ [] }
         ensures answer { is_ok result ≡ false }
@@ -156,6 +158,7 @@ impl<'a, Q: Schedule> Net for BenchNet<'a, Q> {
         ensures opened { OnOk result (IsJoined (net_state self.new.opening self.new.is_open self.new.given self.new.bench.now self.new.unread.items)) }
         ensures cause { IfErr result (OpenCause self.old.failed self.new.failed) }
         ensures later { self.old.failed ≤ self.new.failed }
+        ensures counts { self.new.failed ≡ faults_after result self.old.failed }
         ensures ends { ◌≡◌ {A = ℕ} 0 0 }
         ensures lenders { self.new.bench.ghost_name ∷ [] ≡ self.old.bench.ghost_name ∷ [] }
         ensures answer { is_ok result ≡ false }
@@ -178,6 +181,7 @@ impl<'a, Q: Schedule> Net for BenchNet<'a, Q> {
         ensures front { OnErr result (PutFront _end bytes.now (net_state self.old.opening self.old.is_open self.old.given self.old.bench.now self.old.unread.items) (net_state self.new.opening self.new.is_open self.new.given self.new.bench.now self.new.unread.items)) }
         ensures cause { IfErr result (CallCause self.old.failed self.new.failed) }
         ensures later { self.old.failed ≤ self.new.failed }
+        ensures counts { self.new.failed ≡ faults_after result self.old.failed }
         ensures ends { ◌≡◌ {A = ℕ} 0 0 }
         ensures lenders { self.new.bench.ghost_name ∷ [] ≡ self.old.bench.ghost_name ∷ [] }
         ensures answer { is_ok result ≡ (not (is_listed self.old.calls self.old.fail_at.items) && not (limit_met self.new.bench.now)) }
@@ -209,7 +213,9 @@ impl<'a, Q: Schedule> Net for BenchNet<'a, Q> {
         ensures kept { OnErr result (net_state self.new.opening self.new.is_open self.new.given self.new.bench.now self.new.unread.items ≡ net_state self.old.opening self.old.is_open self.old.given self.old.bench.now self.old.unread.items) }
         ensures cause { IfErr result (CallCause self.old.failed self.new.failed) }
         ensures later { self.old.failed ≤ self.new.failed }
+        ensures counts { self.new.failed ≡ faults_after result self.old.failed }
         ensures ended { IfOk result (λ n. n ≡ 0 → Rises 0 0) }
+        ensures one_end { IfOk result (λ n. n ≡ 0 → 0 ≡ counted 0) }
         ensures goes_on { IfOk result (λ n. n ≢ 0 → ◌≡◌ {A = ℕ} 0 0) }
         ensures ends { OnErr result (◌≡◌ {A = ℕ} 0 0) }
         ensures ends_later { 0 ≤ 0 }

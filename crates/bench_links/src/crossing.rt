@@ -1,13 +1,13 @@
 //! Bytes that cross a net from one of its ends to the other.
-ghost use Rattle.std.specs.Prelude.{◌≡◌, ◌≢◌, ◌≤◌, ◌++◌, [], None, false, true, length, IfErr, IfSome, IsErrOf, IsSome, IsTrue, OnErr, OnOk};
+ghost use Rattle.std.specs.Prelude.{◌≡◌, ◌≢◌, ◌≤◌, ◌++◌, [], None, false, true, length, replicate, IfErr, IfSome, IsErrOf, IsSome, IsTrue, OnErr, OnOk};
 ghost use Rattle.debug_model.specs.Net.{after_take};
 ghost use Rattle.debug_model.specs.declared.net.End.TheVariants as end;
-ghost use Rattle.debug_model.specs.Wire.{piece_most};
+ghost use Rattle.debug_model.specs.Wire.{no_answer, piece_most};
 ghost use Rattle.chip_core.specs.Feeds.{feed_of, limit_met, said_of};
 ghost use Rattle.bench_links.specs.Looped.{Came, FedFront, Holds, InStep, LostBy, TakeLost, crossed, exchanged, is_looped};
 
 use chip_core::{Answers, Bench};
-use debug_model::{End, Net, Schedule};
+use debug_model::{End, Net, Schedule, fill_unanswered};
 
 /// Why bytes did not cross.
 #[derive(Clone, Copy, Debug, PartialEq, Eq)]
@@ -38,6 +38,8 @@ fn take_whole<N: Net>(net: &mut N, end: End, into: &mut [u8]) -> Result<(), Lost
     ensures looped { IsTrue (is_looped (N.state net.new)) }
     ensures ties { (N.state net.new).ties ≡ (N.state net.old).ties }
     ensures cause { IfErr result (TakeLost (N.fault_count net.old) (N.fault_count net.new) (N.end_count net.old) (N.end_count net.new)) }
+    ensures still { OnOk result (N.fault_count net.new ≡ N.fault_count net.old) }
+    ensures none_ended { OnOk result (N.end_count net.new ≡ N.end_count net.old) }
     ensures later { N.fault_count net.old ≤ N.fault_count net.new }
     ensures ends_later { N.end_count net.old ≤ N.end_count net.new }
     ensures lenders { N.lenders net.new ≡ N.lenders net.old }
@@ -64,6 +66,8 @@ fn cross<N: Net>(net: &mut N, bytes: &[u8], came: &mut [u8]) -> Result<(), Lost>
     ensures looped { IsTrue (is_looped (N.state net.new)) }
     ensures ties { (N.state net.new).ties ≡ (N.state net.old).ties }
     ensures cause { IfErr result (LostBy (N.state net.old).pipe (N.fault_count net.old) (N.fault_count net.new) (N.end_count net.old) (N.end_count net.new) None) }
+    ensures still { OnOk result (N.fault_count net.new ≡ N.fault_count net.old) }
+    ensures none_ended { OnOk result (N.end_count net.new ≡ N.end_count net.old) }
     ensures later { N.fault_count net.old ≤ N.fault_count net.new }
     ensures ends_later { N.end_count net.old ≤ N.end_count net.new }
     ensures lenders { N.lenders net.new ≡ N.lenders net.old }
@@ -105,6 +109,8 @@ pub fn exchange<N: Net, Q: Schedule>(
     ensures ties { (N.state net.new).ties ≡ (N.state net.old).ties }
     ensures cause { IfErr result (LostBy (N.state net.old).pipe (N.fault_count net.old) (N.fault_count net.new) (N.end_count net.old) (N.end_count net.new) bench.new) }
     ensures limit { limit_met bench.new ≡ true → limit_met bench.old ≡ false → IsErrOf result Lost.AtLimit }
+    ensures still { OnOk result (N.fault_count net.new ≡ N.fault_count net.old) }
+    ensures none_ended { OnOk result (N.end_count net.new ≡ N.end_count net.old) }
     ensures later { N.fault_count net.old ≤ N.fault_count net.new }
     ensures ends_later { N.end_count net.old ≤ N.end_count net.new }
     ensures lenders { N.lenders net.new ≡ N.lenders net.old }
@@ -120,7 +126,8 @@ pub fn exchange<N: Net, Q: Schedule>(
     Ok(())
 }
 
-/// Takes as many answers at the near end as `into` holds, and compares them with the first of those that are kept, which are then kept no more.
+/// Takes as many answers at the near end as `into` holds, and compares them with the first of those that are kept, which are then kept no more. After a fault
+/// `into` holds none.
 pub fn take_answers<N: Net>(net: &mut N, answers: &mut Answers, into: &mut [u8]) -> Result<(), Lost>
     requires looped { IsTrue (is_looped (N.state net.old)) }
     requires in_step { InStep answers.old.items (N.state net.old).pipe }
@@ -129,16 +136,23 @@ pub fn take_answers<N: Net>(net: &mut N, answers: &mut Answers, into: &mut [u8])
     ensures took { OnOk result (N.state net.new ≡ after_take end.Near (length into.new) (N.state net.old)) }
     ensures in_step { OnOk result (InStep answers.new.items (N.state net.new).pipe) }
     ensures kept { OnErr result (answers.new.items ≡ answers.old.items) }
+    ensures blank { OnErr result (into.new ≡ replicate (length into.old) no_answer) }
     ensures looped { IsTrue (is_looped (N.state net.new)) }
     ensures ties { (N.state net.new).ties ≡ (N.state net.old).ties }
     ensures cause { IfErr result (LostBy (N.state net.old).pipe (N.fault_count net.old) (N.fault_count net.new) (N.end_count net.old) (N.end_count net.new) None) }
+    ensures still { OnOk result (N.fault_count net.new ≡ N.fault_count net.old) }
+    ensures none_ended { OnOk result (N.end_count net.new ≡ N.end_count net.old) }
     ensures later { N.fault_count net.old ≤ N.fault_count net.new }
     ensures ends_later { N.end_count net.old ≤ N.end_count net.new }
     ensures lenders { N.lenders net.new ≡ N.lenders net.old }
 {
     let count = into.len();
-    take_whole(net, End::Near, into)?;
+    if let Err(lost) = take_whole(net, End::Near, into) {
+        fill_unanswered(into);
+        return Err(lost);
+    }
     if differ(into, &answers.as_slice()[..count]) {
+        fill_unanswered(into);
         return Err(Lost::Differs);
     }
     answers.drain(..count);

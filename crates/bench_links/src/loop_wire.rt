@@ -4,14 +4,15 @@ ghost use Rattle.std.proofs.Props.{props};
 ghost use Rattle.jt_base.specs.Faults.{counted};
 ghost use Rattle.debug_model.specs.Net.{IsJoined, after_take};
 ghost use Rattle.debug_model.specs.Told.{IsLive, IsOpen, IsRead};
-ghost use Rattle.debug_model.specs.Wire.{IsPiece, KeepsChip, LosesComing, ReadsFront, RecvCause, SendCause, SentFront, TakesComing, are_open, piece_most, sent};
+ghost use Rattle.debug_model.specs.Wire.{IsPiece, ReadsFront, ReadsSome, RecvCause, SendCause, SentFront, TakesComing, TakesSome, are_open, piece_most, sent};
 ghost use Rattle.debug_model.specs.declared.net.End.TheVariants as end;
 ghost use Rattle.chip_core.specs.Feeds.{far_of, feed_of, limit_met, nothing_coming, said_of};
+ghost use Rattle.jtag_net.specs.Wired.{OfNet};
 ghost use Rattle.bench_links.specs.Looped.{FedFront, InStep, LoopCause, counts, exchanged, is_looped, loop_ties, looped};
 
 use crate::crossing::{Lost, exchange, take_answers};
 use chip_core::{Answers, Bench};
-use debug_model::{Net, PIECE_MOST, Schedule, Wire, WireFault};
+use debug_model::{Net, PIECE_MOST, Schedule, Wire, WireFault, fill_unanswered};
 use jt_base::count_fault;
 
 /// A wire through both ends of a joined net to the chip on a bench at its far end, in one thread; the caller keeps both.
@@ -61,6 +62,8 @@ impl<'a, N: Net, Q: Schedule> Wire for LoopWire<'a, N, Q> {
 
     ghost fault_count = { λ w. looped w.differences (N.fault_count w.net.now) (N.end_count w.net.now) };
 
+    ghost gives = { OfNet };
+
     ghost ties = { λ w. loop_ties w.net.ghost_name w.bench.ghost_name (N.lenders w.net.now) (N.state w.net.now) (far_of w.bench.now w.unread.items) };
 
     #[tactic(auto, using(crate::proofs::Loops::read_none, crate::proofs::Loops::sent_whole, crate::proofs::Loops::sent_front, crate::proofs::Loops::fed_ties, crate::proofs::Loops::front_ties, crate::proofs::Loops::kept_ties, crate::proofs::Loops::fault_rises, crate::proofs::Loops::end_rises, crate::proofs::Loops::difference_rises, crate::proofs::Lives::lives_on, crate::proofs::Lives::met_limit, crate::proofs::Exchanges::none_fed))]
@@ -74,6 +77,8 @@ impl<'a, N: Net, Q: Schedule> Wire for LoopWire<'a, N, Q> {
         ensures prefix { OnErr result (SentFront bytes.now (far_of self.old.bench.now self.old.unread.items) (far_of self.new.bench.now self.new.unread.items)) }
         ensures coming { nothing_coming ≡ nothing_coming }
         ensures later { looped self.old.differences (N.fault_count self.old.net.now) (N.end_count self.old.net.now) ≤ looped self.new.differences (N.fault_count self.new.net.now) (N.end_count self.new.net.now) }
+        ensures still { OnOk result (looped self.new.differences (N.fault_count self.new.net.now) (N.end_count self.new.net.now) ≡ looped self.old.differences (N.fault_count self.old.net.now) (N.end_count self.old.net.now)) }
+        ensures own { IfErr result OfNet }
         ensures cause { IfErr result (SendCause (looped self.old.differences (N.fault_count self.old.net.now) (N.end_count self.old.net.now)) (looped self.new.differences (N.fault_count self.new.net.now) (N.end_count self.new.net.now)) (far_of self.new.bench.now self.new.unread.items)) }
         ensures ties { loop_ties self.new.net.ghost_name self.new.bench.ghost_name (N.lenders self.new.net.now) (N.state self.new.net.now) (far_of self.new.bench.now self.new.unread.items) ≡ loop_ties self.old.net.ghost_name self.old.bench.ghost_name (N.lenders self.old.net.now) (N.state self.old.net.now) (far_of self.old.bench.now self.old.unread.items) }
         ensures net { OnOk result (N.state self.new.net.now ≡ exchanged bytes.now (said_of self.old.bench.now bytes.now) (N.state self.old.net.now)) }
@@ -118,9 +123,11 @@ impl<'a, N: Net, Q: Schedule> Wire for LoopWire<'a, N, Q> {
         requires waiting { IfSome (far_of self.old.bench.now self.old.unread.items) (λ f. length into.old ≤ length f.unread) }
         ensures read { OnOk result (ReadsFront into.new (far_of self.old.bench.now self.old.unread.items) (far_of self.new.bench.now self.new.unread.items)) }
         ensures came { OnOk result (TakesComing into.new nothing_coming nothing_coming) }
-        ensures chip { OnErr result (KeepsChip (far_of self.old.bench.now self.old.unread.items) (far_of self.new.bench.now self.new.unread.items)) }
-        ensures lost { OnErr result (LosesComing nothing_coming nothing_coming) }
+        ensures chip { OnErr result (ReadsSome into.new (far_of self.old.bench.now self.old.unread.items) (far_of self.new.bench.now self.new.unread.items)) }
+        ensures some { OnErr result (TakesSome into.new nothing_coming nothing_coming) }
         ensures later { looped self.old.differences (N.fault_count self.old.net.now) (N.end_count self.old.net.now) ≤ looped self.new.differences (N.fault_count self.new.net.now) (N.end_count self.new.net.now) }
+        ensures still { OnOk result (looped self.new.differences (N.fault_count self.new.net.now) (N.end_count self.new.net.now) ≡ looped self.old.differences (N.fault_count self.old.net.now) (N.end_count self.old.net.now)) }
+        ensures own { IfErr result OfNet }
         ensures cause { IfErr result (RecvCause (looped self.old.differences (N.fault_count self.old.net.now) (N.end_count self.old.net.now)) (looped self.new.differences (N.fault_count self.new.net.now) (N.end_count self.new.net.now)) (far_of self.new.bench.now self.new.unread.items)) }
         ensures ties { loop_ties self.new.net.ghost_name self.new.bench.ghost_name (N.lenders self.new.net.now) (N.state self.new.net.now) (far_of self.new.bench.now self.new.unread.items) ≡ loop_ties self.old.net.ghost_name self.old.bench.ghost_name (N.lenders self.old.net.now) (N.state self.old.net.now) (far_of self.old.bench.now self.old.unread.items) }
         ensures net { OnOk result (N.state self.new.net.now ≡ after_take end.Near (length into.new) (N.state self.old.net.now)) }
@@ -134,6 +141,7 @@ impl<'a, N: Net, Q: Schedule> Wire for LoopWire<'a, N, Q> {
         ensures unsound { OnErr result (limit_met self.new.bench.now ≡ false → self.new.sound ≡ false) }
         ensures fails_on { self.old.sound ≡ false → limit_met self.old.bench.now ≡ false → (result ≡ Err WireFault.RecvFailed) × (self.new.differences ≡ counted self.old.differences) }
     {
+        fill_unanswered(into);
         if self.bench.at_limit() {
             return Err(WireFault::Ended);
         }

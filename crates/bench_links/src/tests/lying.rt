@@ -1,8 +1,8 @@
 //! A net that tells nothing and lies: of the first bytes that come out of one end.
 
 ghost use Rattle.std.specs.Prelude.{◌≡◌, ◌≢◌, ◌+◌, ◌^◌, ◌<◌, ◌≤◌, [], None, IfErr, IfOk, OnErr, OnOk, length};
-ghost use Rattle.jt_base.specs.Faults.{Rises};
-ghost use Rattle.debug_model.specs.Net.{CallCause};
+ghost use Rattle.jt_base.specs.Faults.{Rises, counted};
+ghost use Rattle.debug_model.specs.Net.{CallCause, faults_after};
 ghost use Rattle.jtag_net.specs.Connection.{nobody, untold};
 
 use super::loops::{lost, outcome_over};
@@ -96,6 +96,8 @@ fn give(
     ensures kept { OnErr result (given.new ≡ given.old) }
     ensures cause { IfErr result (CallCause failed.old failed.new) }
     ensures later { failed.old ≤ failed.new }
+    ensures counts { failed.new ≡ faults_after result failed.old }
+    ensures one_end { IfOk result (λ n. n ≡ 0 → ended.new ≡ counted ended.old) }
     ensures ended { IfOk result (λ n. n ≡ 0 → Rises ended.old ended.new) }
     ensures goes_on { IfOk result (λ n. n ≢ 0 → ended.new ≡ ended.old) }
     ensures ends { OnErr result (ended.new ≡ ended.old) }

@@ -14,7 +14,7 @@ pieces-preserved g c =
       whole = grind (arith, common_steps);
       looped = still_looped end _ mid new c.pieces.invariant.looped c.in-Ok.ensures.took;
       ties = still_tied end _ (g.N.Net.state c.args.net.now) mid new c.pieces.invariant.ties c.in-Ok.ensures.took;
-      later = grind (arith, common_steps);
-      ends_later = grind (arith, common_steps);
+      still = grind (arith, common_steps);
+      none_ended = grind (arith, common_steps);
       lenders = grind (arith, common_steps);
     }

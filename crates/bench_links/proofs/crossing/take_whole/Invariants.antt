@@ -9,8 +9,8 @@ invariant-pieces g l = record {
   whole : length l.into ≡ length l.fn.into;
   looped : IsTrue (is_looped (g.N.Net.state l.net));
   ties : (g.N.Net.state l.net).ties ≡ (g.N.Net.state l.fn.net).ties;
-  later : g.N.Net.fault_count l.fn.net ≤ g.N.Net.fault_count l.net;
-  ends_later : g.N.Net.end_count l.fn.net ≤ g.N.Net.end_count l.net;
+  still : g.N.Net.fault_count l.net ≡ g.N.Net.fault_count l.fn.net;
+  none_ended : g.N.Net.end_count l.net ≡ g.N.Net.end_count l.fn.net;
   lenders : g.N.Net.lenders l.net ≡ g.N.Net.lenders l.fn.net;
 }
 
