@@ -8,7 +8,7 @@ use Rattle.debug_model.specs.declared.wire.WireFault.TheVariants.{SendFailed, Re
 use Rattle.chip_core.specs.Feeds.{fed_of, feed_of, said_of}
 use Rattle.chip_core.specs.declared.fed.Fed.{Fed}
 use Rattle.chip_core.specs.declared.fed.Fed.TheVariants as fed
-use Rattle.jt_base.specs.Faults.{Rises}
+use Rattle.jt_base.specs.Faults.{counted}
 use Rattle.chip_server.specs.declared.served.Served.{Served}
 use Rattle.chip_server.specs.declared.served.Served.TheVariants.{Quit, PeerEnded, Bad, Limit, NetFailed}
 
@@ -83,13 +83,13 @@ pub record WasServed (served : Served) (old new : NetState) (bench left : Option
   pub passed : Passed taken put old new bench left
   pub end : EndOf served bench taken put new
 
--- which count of the net rose: the faults before and after, and the ends
+-- the counts of the net behind a serving, of its faults and of its ends: one more of what ended it, and no other
 abbrev pub Counts : ℕ → ℕ → ℕ → ℕ → Served → Type 0
-Counts faults faults' ends ends' Quit = ends' ≡ ends
-Counts faults faults' ends ends' PeerEnded = Rises ends ends'
-Counts faults faults' ends ends' (Bad place byte) = ends' ≡ ends
-Counts faults faults' ends ends' Limit = ends' ≡ ends
-Counts faults faults' ends ends' (NetFailed fault) = Rises faults faults' × (ends' ≡ ends)
+Counts faults faults' ends ends' Quit = (faults' ≡ faults) × (ends' ≡ ends)
+Counts faults faults' ends ends' PeerEnded = (faults' ≡ faults) × (ends' ≡ counted ends)
+Counts faults faults' ends ends' (Bad place byte) = (faults' ≡ faults) × (ends' ≡ ends)
+Counts faults faults' ends ends' Limit = (faults' ≡ faults) × (ends' ≡ ends)
+Counts faults faults' ends ends' (NetFailed fault) = (faults' ≡ counted faults) × (ends' ≡ ends)
 
 -- ---- a piece within the stream
 

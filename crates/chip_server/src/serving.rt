@@ -22,6 +22,7 @@ fn serve_piece<N: Net, Q: Schedule>(net: &mut N, bench: &mut Bench<Q>) -> Result
     ensures some { IfOk result (λ count. 0 < count) }
     ensures bound { OnOk result ((N.state net.new).near_given ≤ 2 ^ 40) }
     ensures goes_on { OnOk result (N.end_count net.new ≡ N.end_count net.old) }
+    ensures still { OnOk result (N.fault_count net.new ≡ N.fault_count net.old) }
     ensures served { IfErr result (λ served. WasServed served (N.state net.old) (N.state net.new) bench.old bench.new) }
     ensures place { IfErr result IsInPiece }
     ensures counts { IfErr result (Counts (N.fault_count net.old) (N.fault_count net.new) (N.end_count net.old) (N.end_count net.new)) }

@@ -77,12 +77,14 @@ fn check_input(
     Ok(())
 }
 
-// The first register that is read is dtmcs, which has 32 bits. Its scan ends with the byte 4.
+// The first register that is read is dtmcs, which has 32 bits. Its scan ends with the byte 4. What comes before the end is judged too.
 #[test]
 fn what_comes_over_a_net_is_judged(rt: HostRuntime) -> Result<(), Fail> {
     let zeros = [b'0'; 4096];
     let refused = "target refused: dtmcs 0x00000000\n";
-    let cases: [(&[u8], u8, &str, u8); 3] = [
+    let cases: [(&[u8], u8, &str, u8); 5] = [
+        (b"x", 7, "wire failed: answer 0x78\n", b'4'),
+        (b"0110", 7, "wire failed: ended\n", b'4'),
         (
             b"x0000000000000000000000000000000",
             7,

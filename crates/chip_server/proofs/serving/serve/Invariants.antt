@@ -12,7 +12,7 @@ invariant-pieces g l = Serving l.taken (g.N.Net.state l.fn.net) (g.N.Net.state l
     × ((g.N.Net.state l.net).near_given ≡ (g.N.Net.state l.fn.net).near_given + l.taken)
     × (l.taken ≤ 2 ^ 40)
     × (g.N.Net.end_count l.net ≡ g.N.Net.end_count l.fn.net)
-    × (g.N.Net.fault_count l.fn.net ≤ g.N.Net.fault_count l.net)
+    × (g.N.Net.fault_count l.net ≡ g.N.Net.fault_count l.fn.net)
     × (g.N.Net.lenders l.net ≡ g.N.Net.lenders l.fn.net)
 
 abbrev pub decreases-pieces : goal.decreases-pieces
