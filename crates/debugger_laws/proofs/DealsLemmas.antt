@@ -4,7 +4,7 @@ use Rattle.std.proofs.lemmas.Bool.{false≢true}
 use Rattle.rv_model.specs.Board.{Board, DebugPart, Hart, Machine, machine_of}
 use Rattle.debug_model.specs.declared.point.Point.{Point}
 use Rattle.debug_model.specs.declared.point.Point.TheVariants.{Turn, Look, HaltReq, HaltClear, ResumeReq, Access}
-use Rattle.debugger_laws.specs.Debugger.{Seen, halted_of, look, seen_at, sees_ack, sees_both, sees_halted, until}
+use Rattle.debugger_laws.specs.Debugger.{Seen, halted_of, look, seen_at, sees_halted, until}
 use Rattle.debugger_laws.specs.Known.{IsFresh, IsKnown}
 use Rattle.debugger_laws.specs.Laws.{IsChangeOf, IsFrozen, IsFrozenAt}
 use Rattle.debugger_laws.specs.Lines.{Line}
@@ -26,7 +26,7 @@ use Rattle.debugger_laws.proofs.StoryLemmas.{same_number}
 use Rattle.debugger_laws.proofs.StandsLemmas.{IsTaken, at_plan, looked, point_board, put, seen_hart, shown, spin, starts, taken, taken_seen, taken_with, went_on, wrote}
 use Rattle.debugger_laws.proofs.KnownChanges.{HasSlot, known-arm, known-ebreak, known-free, known-step_done, known-step_over, known-write_mem, known-write_reg}
 use Rattle.debugger_laws.proofs.KnownHarts.{known-said, known-start, known_idle}
-use Rattle.debugger_laws.proofs.KnownPoints.{known-asked, known-going, known-gone, known-halt_clear, known-halt_req, known-over, known-ready, known-rests, known-stepped, known-still, known-turn, known-unspent}
+use Rattle.debugger_laws.proofs.KnownPoints.{known-asked, known-going, known-halt_clear, known-halt_req, known-ready, known-rests, known-stepped, known-still, known-turn, known-unspent}
 
 -- ---- turns
 

@@ -63,7 +63,7 @@ memory_kept (Some _) c m is = absurd (cc)
 
 abbrev executes_with : Result ℕ MemFault → Hart → Bool
 executes_with r hart =
-    executes_by hart.debug.halted hart.debug.halt_request (some_fires (touch_fetched r hart.core) hart) (hart.debug.ebreakm && is_ebreak_word r)
+    executes_by hart.debug.halted hart.debug.resume_request hart.debug.halt_request (some_fires (touch_fetched r hart.core) hart) (hart.debug.ebreakm && is_ebreak_word r)
 
 abbrev memory_with : Result ℕ MemFault → Hart → Memory → Memory
 memory_with r hart m = if executes_with r hart then (fetched r hart.core m).memory else m

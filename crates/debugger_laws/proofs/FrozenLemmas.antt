@@ -22,15 +22,16 @@ use Rattle.rv_model.proofs.MapLemmas.{set_same}
 
 -- ---- its own turn
 
-halted_executes : (halted : Option Cause) (request fired at_ebreak : Bool) (why : Cause) → halted ≡ Some why → executes_by halted request fired at_ebreak ≡ false
-halted_executes (Some w) request fired at_ebreak why is = refl
-halted_executes None request fired at_ebreak why is = absurd (none-some why is)
+halted_executes : (halted : Option Cause) (resume request fired at_ebreak : Bool) (why : Cause) → halted ≡ Some why → executes_by halted resume request fired at_ebreak ≡ false
+halted_executes (Some w) true request fired at_ebreak why is = refl
+halted_executes (Some w) false request fired at_ebreak why is = refl
+halted_executes None resume request fired at_ebreak why is = absurd (none-some why is)
 
 frozen_memory : (hart : Hart) (m : Memory) → IsFrozen hart.debug → memory_after hart m ≡ m
 unfolding memory_after executes
 frozen_memory hart m f =
     ap (λ b. if b then (exec_of hart.core m).memory else m)
-    (halted_executes hart.debug.halted hart.debug.halt_request (some_fires (touch_of hart.core m) hart) (stops_at_ebreak hart m) f.why f.halted)
+    (halted_executes hart.debug.halted hart.debug.resume_request hart.debug.halt_request (some_fires (touch_of hart.core m) hart) (stops_at_ebreak hart m) f.why f.halted)
 
 abbrev board_of : Memory → List Hart → Board
 board_of m hs = record { harts = hs; memory = m }

@@ -45,21 +45,22 @@ pasts_are_undebugged m (Free h slot ∷ past) = own_last m past (Free h slot) �
 
 -- ---- a point
 
-noted_by-lived : (halted : Option Cause) (request fired at_ebreak step : Bool) (h : ℕ) (slots : List Bool) (past : Past) (m now : Machine)
-    → now ≡ lived m past → (if executes_by halted request fired at_ebreak then execute h now else now) ≡ lived m (noted_by halted request fired at_ebreak step h slots past)
-noted_by-lived (Some why) request fired at_ebreak step h slots past m now is = is
-noted_by-lived None true fired at_ebreak step h slots past m now is = is
-noted_by-lived None false true at_ebreak step h slots past m now is = is
-noted_by-lived None false false true step h slots past m now is = is
-noted_by-lived None false false false true h slots past m now is = ap (execute h) is
-noted_by-lived None false false false false h slots past m now is = ap (execute h) is
+noted_by-lived : (halted : Option Cause) (resume request fired at_ebreak step : Bool) (h : ℕ) (slots : List Bool) (past : Past) (m now : Machine)
+    → now ≡ lived m past → (if executes_by halted resume request fired at_ebreak then execute h now else now) ≡ lived m (noted_by halted request fired at_ebreak step h slots past)
+noted_by-lived (Some why) true request fired at_ebreak step h slots past m now is = is
+noted_by-lived (Some why) false request fired at_ebreak step h slots past m now is = is
+noted_by-lived None resume true fired at_ebreak step h slots past m now is = is
+noted_by-lived None resume false true at_ebreak step h slots past m now is = is
+noted_by-lived None resume false false true step h slots past m now is = is
+noted_by-lived None resume false false false true h slots past m now is = ap (execute h) is
+noted_by-lived None resume false false false false h slots past m now is = ap (execute h) is
 
 noted_here-lived : (o : Option Hart) (h : ℕ) (memory : Memory) (past : Past) (m now : Machine)
     → now ≡ lived m past → (if executes_here o memory then execute h now else now) ≡ lived m (noted_here o h memory past)
 unfolding executes
 noted_here-lived None h memory past m now is = is
 noted_here-lived (Some hart) h memory past m now is =
-    noted_by-lived hart.debug.halted hart.debug.halt_request (some_fires (touch_of hart.core memory) hart) (stops_at_ebreak hart memory) hart.debug.step
+    noted_by-lived hart.debug.halted hart.debug.resume_request hart.debug.halt_request (some_fires (touch_of hart.core memory) hart) (stops_at_ebreak hart memory) hart.debug.step
     h (fires (touch_of hart.core memory) hart.debug.slots) past m now is
 
 pub point-lived : (q : Point) (b : Board) (past : Past) (m : Machine) → machine_of b ≡ lived m past → machine_after_point q b ≡ lived m (noted q b past)

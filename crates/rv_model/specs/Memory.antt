@@ -24,11 +24,21 @@ pub record Memory : Type 0 where
 abbrev pub ram_base : ℕ
 ram_base = 0x80000000
 
+-- the fewest and the most bytes that RAM has, and what its size is a multiple of
+abbrev pub smallest_ram : ℕ
+smallest_ram = 65536
+
+abbrev pub largest_ram : ℕ
+largest_ram = 16777216
+
+abbrev pub page_size : ℕ
+page_size = 4096
+
 -- a number of bytes that RAM may have
 pub record IsRamSize (size : ℕ) : Type 0 where
-  pub smallest : 65536 ≤ size
-  pub largest : size ≤ 16777216
-  pub whole : size % 4096 ≡ 0
+  pub smallest : smallest_ram ≤ size
+  pub largest : size ≤ largest_ram
+  pub whole : size % page_size ≡ 0
 
 -- the map of a list of bytes, the first of which stands at RAM's base
 unfoldable pub map_of : List ℕ → Bytes

@@ -51,13 +51,21 @@ is_ebreak_at c m = is_ebreak_word (loaded m c.pc B4)
 
 -- ---- the cases of a turn, in order
 
--- does the hart execute in its turn?
-abbrev pub executes_by : Option Cause → Bool → Bool → Bool → Bool
-executes_by (Some why) request fired at_ebreak = false
-executes_by None true fired at_ebreak = false
-executes_by None false true at_ebreak = false
-executes_by None false false true = false
-executes_by None false false false = true
+-- what a hart does in its turn
+pub data TurnCase : Type 0 where
+  resumes : TurnCase
+  rests : TurnCase
+  stops : (why : Cause) → TurnCase
+  goes_on : TurnCase
+
+-- by: halted, a resume request, a halt request, some slot fires, an ebreak that halts
+abbrev pub case_by : Option Cause → Bool → Bool → Bool → Bool → TurnCase
+case_by (Some why) true request fired at_ebreak = resumes
+case_by (Some why) false request fired at_ebreak = rests
+case_by None resume true fired at_ebreak = stops cause.HaltReq
+case_by None resume false true at_ebreak = stops cause.Trigger
+case_by None resume false false true = stops cause.Ebreak
+case_by None resume false false false = goes_on
 
 abbrev pub some_fires : Touch → Hart → Bool
 some_fires touch h = list_any (λ fired. fired) (fires touch h.debug.slots)
@@ -65,8 +73,16 @@ some_fires touch h = list_any (λ fired. fired) (fires touch h.debug.slots)
 abbrev pub stops_at_ebreak : Hart → Memory → Bool
 stops_at_ebreak h m = h.debug.ebreakm && is_ebreak_at h.core m
 
+-- does the hart execute in its turn?
+abbrev pub executes_in : TurnCase → Bool
+executes_in goes_on = true
+executes_in _ = false
+
+abbrev pub executes_by : Option Cause → Bool → Bool → Bool → Bool → Bool
+executes_by halted resume request fired at_ebreak = executes_in (case_by halted resume request fired at_ebreak)
+
 unfoldable pub executes : Hart → Memory → Bool
-executes h m = executes_by h.debug.halted h.debug.halt_request (some_fires (touch_of h.core m) h) (stops_at_ebreak h m)
+executes h m = executes_by h.debug.halted h.debug.resume_request h.debug.halt_request (some_fires (touch_of h.core m) h) (stops_at_ebreak h m)
 
 -- the debug part behind an executed turn: counts fall, and a single step halts
 abbrev pub stepped : DebugPart → DebugPart
@@ -78,17 +94,19 @@ ran o h = record {
   turned = if h.debug.step then Halted cause.Step else Ran o.step.did;
 }
 
--- by: halted, a resume request, a halt request, some slot fires, an ebreak that halts
+-- the debug part behind a stop: only a trigger's marks the slots
+abbrev pub stopped_for : Cause → Touch → DebugPart → DebugPart
+stopped_for cause.Trigger touch d = halted_for cause.Trigger (record d { slots = marked touch d.slots })
+stopped_for why touch d = halted_for why d
+
+abbrev pub place_in : TurnCase → Touch → Outcome → Hart → Place
+place_in resumes touch o h = record { hart = record h { debug = resumed h.debug }; turned = Resumed }
+place_in rests touch o h = record { hart = h; turned = Idle }
+place_in (stops why) touch o h = record { hart = record h { debug = stopped_for why touch h.debug }; turned = Halted why }
+place_in goes_on touch o h = ran o h
+
 abbrev pub place_by : Option Cause → Bool → Bool → Bool → Bool → Touch → Outcome → Hart → Place
-place_by (Some why) true request fired at_ebreak touch o h = record { hart = record h { debug = resumed h.debug }; turned = Resumed }
-place_by (Some why) false request fired at_ebreak touch o h = record { hart = h; turned = Idle }
-place_by None resume true fired at_ebreak touch o h = record { hart = record h { debug = halted_for cause.HaltReq h.debug }; turned = Halted cause.HaltReq }
-place_by None resume false true at_ebreak touch o h = record {
-  hart = record h { debug = halted_for cause.Trigger (record h.debug { slots = marked touch h.debug.slots }) };
-  turned = Halted cause.Trigger;
-}
-place_by None resume false false true touch o h = record { hart = record h { debug = halted_for cause.Ebreak h.debug }; turned = Halted cause.Ebreak }
-place_by None resume false false false touch o h = ran o h
+place_by halted resume request fired at_ebreak touch o h = place_in (case_by halted resume request fired at_ebreak) touch o h
 
 -- a hart's turn over a memory
 unfoldable pub place_of : Hart → Memory → Place
