@@ -1,9 +1,9 @@
-ghost use Rattle.std.specs.Prelude.{◌≡◌, ◌≤◌, ◌<◌, ◌+◌, ◌++◌, decimal};
-ghost use Rattle.std.specs.Char.{digit_char};
+ghost use Rattle.std.specs.Prelude.{◌≡◌, ◌≤◌, ◌+◌, ◌++◌, decimal};
 ghost use Rattle.arrayvec.specs.ArrayVec.{array_vec_len};
 ghost use Rattle.debug_model.specs.Spelling.{hexadecimal, spelled_address};
 
 use crate::line_text::{LINE_MOST, LineText, push_word};
+use debug_model::hex_digit;
 use itoa::Buffer;
 
 /// The hexadecimal digits of an address or a value.
@@ -14,18 +14,6 @@ pub const ADDRESS_LENGTH: usize = 18;
 
 /// The most digits of a `u32` in decimal.
 pub const DECIMAL_MOST: usize = 10;
-
-/// One hexadecimal digit, lower case.
-fn hex_digit(value: u8) -> u8
-    requires { value < 16 }
-    ensures { result ≡ digit_char value }
-{
-    if value < 10 {
-        b'0' + value
-    } else {
-        b'a' + (value - 10)
-    }
-}
 
 /// Appends the lowest so many hexadecimal digits of a number, the highest first.
 #[tactic(auto, unfolding(debug_model::specs::Spelling::hexadecimal))]

@@ -5,7 +5,7 @@ ghost use Rattle.probe_trig.specs.Words.{use_named};
 
 use crate::digits::{push_address, push_decimal};
 use crate::line_text::{LINE_MOST, LineText, push_word};
-use crate::words::watch_word;
+use debug_model::watch_word;
 use probe_trig::SlotUse;
 
 /// The most bytes of a slot's use: `watch access ` and an address.

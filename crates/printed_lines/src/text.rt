@@ -11,8 +11,9 @@ use crate::halted::push_halted;
 use crate::line::Line;
 use crate::line_text::{LINE_MOST, LineText, push_word};
 use crate::slot_line::push_slot;
-use crate::words::{path_word, register_word, switch_word};
+use crate::words::register_word;
 use arrayvec::ArrayVec;
+use debug_model::{path_word, switch_word};
 use rv_model::Size;
 
 /// The digits of an IDCODE, which has 32 bits.

@@ -1,8 +1,7 @@
 ghost use Rattle.std.specs.Prelude.{◌≡◌, ◌≤◌, length};
 ghost use Rattle.debug_model.specs.Registers.{is_register, name_of_register};
-ghost use Rattle.debug_model.specs.Spelling.{spelled_path, spelled_switch, spelled_watch_kind};
 
-use debug_model::{Path, RegName, WatchKind};
+use debug_model::RegName;
 
 /// The most bytes of a register's name: `mvendorid`.
 pub(crate) const NAME_MOST: usize = 9;
@@ -30,32 +29,4 @@ pub(crate) fn register_word(number: u16) -> &'static [u8]
     } else {
         b""
     }
-}
-
-/// The word of a path.
-pub(crate) fn path_word(path: Path) -> &'static [u8]
-    ensures { result.now ≡ spelled_path path }
-{
-    match path {
-        Path::Progbuf => b"progbuf",
-        Path::Bus => b"bus",
-    }
-}
-
-/// The word of what a watchpoint stops at.
-pub(crate) fn watch_word(kind: WatchKind) -> &'static [u8]
-    ensures { result.now ≡ spelled_watch_kind kind }
-{
-    match kind {
-        WatchKind::Load => b"load",
-        WatchKind::Store => b"store",
-        WatchKind::Access => b"access",
-    }
-}
-
-/// The word of a switch.
-pub(crate) fn switch_word(is_on: bool) -> &'static [u8]
-    ensures { result.now ≡ spelled_switch is_on }
-{
-    if is_on { b"on" } else { b"off" }
 }

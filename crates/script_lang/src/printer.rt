@@ -1,12 +1,12 @@
 ghost use Rattle.std.specs.Prelude.{◌≡◌, ◌++◌, ◌∷◌, [], map, OnOk, IfOk};
 ghost use Rattle.std.specs.List.{join_with_byte};
 ghost use Rattle.debug_model.specs.ScriptText.{space};
-ghost use Rattle.debug_model.specs.Spelling.{spelling, spelled_script, spelled_path, spelled_watch_kind, spelled_switch};
+ghost use Rattle.debug_model.specs.Spelling.{spelling, spelled_script};
 ghost use Rattle.debug_model.specs.Grammar.{IsReadAs};
 ghost use Rattle.debug_model.specs.Command.{IsWithinRanges};
 
 use crate::spelled::{Argument, write_words};
-use debug_model::{Command, Path, Script, WatchKind};
+use debug_model::{Command, Script, path_word, switch_word, watch_word};
 use std::alloc::{AllocError, Global};
 
 /// The script's text: the one spelling of each command, with a line feed at its end.
@@ -81,29 +81,4 @@ fn write_command(text: &mut Vec<u8>, command: Command) -> Result<(), AllocError>
         Command::Ebreak(is_on) => write_words(text, b"ebreak", &[Word(switch_word(is_on))]),
         Command::End => write_words(text, b"end", &[]),
     }
-}
-
-fn path_word(path: Path) -> &'static [u8]
-    ensures { result.now ≡ spelled_path path }
-{
-    match path {
-        Path::Progbuf => b"progbuf",
-        Path::Bus => b"bus",
-    }
-}
-
-fn watch_word(kind: WatchKind) -> &'static [u8]
-    ensures { result.now ≡ spelled_watch_kind kind }
-{
-    match kind {
-        WatchKind::Load => b"load",
-        WatchKind::Store => b"store",
-        WatchKind::Access => b"access",
-    }
-}
-
-fn switch_word(is_on: bool) -> &'static [u8]
-    ensures { result.now ≡ spelled_switch is_on }
-{
-    if is_on { b"on" } else { b"off" }
 }

@@ -1,10 +1,10 @@
-ghost use Rattle.std.specs.Prelude.{◌≡◌, ◌<◌, ◌++◌, ◌∷◌, [], map, OnOk};
+ghost use Rattle.std.specs.Prelude.{◌≡◌, ◌++◌, ◌∷◌, [], map, OnOk};
 ghost use Rattle.std.specs.List.{join_with_byte};
-ghost use Rattle.std.specs.Char.{digit_char};
 ghost use Rattle.debug_model.specs.ScriptText.{space};
 ghost use Rattle.debug_model.specs.Spelling.{spelled_address, hexadecimal};
 ghost use Rattle.script_lang.specs.Argument.{spelled_argument};
 
+use debug_model::hex_digit;
 use itoa::Buffer;
 use std::alloc::AllocError;
 
@@ -66,14 +66,6 @@ fn write_digits(text: &mut Vec<u8>, count: u8, number: u64) -> Result<(), AllocE
         return Ok(());
     }
     write_digits(text, count - 1, number / 16)?;
-    text.push(digit((number % 16) as u8))?;
+    text.push(hex_digit((number % 16) as u8))?;
     Ok(())
-}
-
-/// A hexadecimal digit, in lower case.
-fn digit(value: u8) -> u8
-    requires { value < 16 }
-    ensures { result ≡ digit_char value }
-{
-    char::from_digit(u32::from(value), 16).unwrap() as u8
 }
