@@ -101,4 +101,4 @@ commands_keep_others s = keeps_others s.unit.commands.steps (selected_hart s) s
 
 pub rests : (hart : Hart) (m : Memory) (why : Cause) → hart.debug.halted ≡ Some why → hart.debug.resume_request ≡ false → Rests hart m
 unfolding place_of memory_after executes
-rests hart m why halted quiet = record { same = rw (halted, quiet) refl; memory = rw halted refl }
+rests hart m why halted quiet = record { same = rw (halted, quiet) refl; memory = rw (halted, quiet) refl }
