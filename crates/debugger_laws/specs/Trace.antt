@@ -7,7 +7,8 @@ use Rattle.rv_model.specs.Board.{Board, Hart}
 use Rattle.rv_model.specs.Memory.{Memory}
 use Rattle.rv_model.specs.Touch.{touch_of}
 use Rattle.rv_model.specs.Triggers.{fires}
-use Rattle.rv_model.specs.Turn.{some_fires, stops_at_ebreak}
+use Rattle.rv_model.specs.Turn.{TurnCase, case_by, some_fires, stops_at_ebreak}
+use Rattle.rv_model.specs.Turn.{resumes, rests, stops, goes_on}
 use Rattle.rv_model.specs.Undebugged.{Entry, Exec}
 use Rattle.debug_model.specs.declared.command.WatchKind.{WatchKind}
 use Rattle.debug_model.specs.declared.point.Point.{Point}
@@ -39,14 +40,18 @@ trace_of (note ∷ past) = trace_of past ++ note ∷ []
 abbrev pub no_slots : List Bool
 no_slots = []
 
--- a past behind a turn of hart h, by: halted, a halt request, some slot fires, an ebreak that halts, a single step; and the slots that fire
+-- a past after what hart h did in its turn; in a single step or not, with the slots that fired
+abbrev pub noted_in : TurnCase → Bool → ℕ → List Bool → Past → Past
+noted_in resumes step h slots past = past
+noted_in rests step h slots past = past
+noted_in (stops cause.Trigger) step h slots past = Stop h cause.Trigger slots ∷ past
+noted_in (stops why) step h slots past = Stop h why no_slots ∷ past
+noted_in goes_on true h slots past = Stop h cause.Step no_slots ∷ Did (Exec h) ∷ past
+noted_in goes_on false h slots past = Did (Exec h) ∷ past
+
+-- by: halted, a halt request, some slot fires, an ebreak that halts; whether a resume is asked is no matter
 abbrev pub noted_by : Option Cause → Bool → Bool → Bool → Bool → ℕ → List Bool → Past → Past
-noted_by (Some why) request fired at_ebreak step h slots past = past
-noted_by None true fired at_ebreak step h slots past = Stop h cause.HaltReq no_slots ∷ past
-noted_by None false true at_ebreak step h slots past = Stop h cause.Trigger slots ∷ past
-noted_by None false false true step h slots past = Stop h cause.Ebreak no_slots ∷ past
-noted_by None false false false true h slots past = Stop h cause.Step no_slots ∷ Did (Exec h) ∷ past
-noted_by None false false false false h slots past = Did (Exec h) ∷ past
+noted_by halted request fired at_ebreak step h slots past = noted_in (case_by halted false request fired at_ebreak) step h slots past
 
 abbrev pub noted_turn : ℕ → Hart → Memory → Past → Past
 noted_turn h hart m past =
