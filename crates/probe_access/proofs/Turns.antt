@@ -19,7 +19,7 @@ record Rests (hart : Hart) (m : Memory) : Type 0 where
 
 rests : (hart : Hart) (m : Memory) → Frozen hart → Rests hart m
 unfolding place_of memory_after executes
-rests hart m f = let halted = f.halted in let quiet = f.not_asked in record { same = rw (halted, quiet) refl; memory = rw halted refl }
+rests hart m f = let halted = f.halted in let quiet = f.not_asked in record { same = rw (halted, quiet) refl; memory = rw (halted, quiet) refl }
 
 -- ---- turns of one hart at a site
 
