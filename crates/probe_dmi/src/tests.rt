@@ -63,6 +63,8 @@ impl<'a> Scan for Recorder<'a> {
 
     ghost slack = { λ _. None };
 
+    ghost gives = { λ _. Unit {0} };
+
     ghost ties = { λ _. no_ties };
 
     fn reset(&mut self) -> Result<(), WireFault> {
