@@ -3,10 +3,10 @@
 
 use crate::{Scanner, ScriptedScan};
 use arrayvec::ArrayVec;
-use debug_model::{Scan, Wire, WireFault};
+use debug_model::{NO_ANSWER, Scan, Wire, WireFault};
 use jt_base::{Bits, count_fault};
 
-/// A wire that keeps what is sent, gives these answers, and fails once so many calls were good.
+/// A wire that keeps what is sent, gives these answers, and fails once so many calls were good; a reading that fails hands them on too.
 #[derive(Drop)]
 struct FakeWire<'a> {
     sent: ArrayVec<u8, 256>,
@@ -39,16 +39,14 @@ impl<'a> Wire for FakeWire<'a> {
     }
 
     fn recv(&mut self, into: &mut [u8]) -> Result<(), WireFault> {
+        for i in 0..into.len() {
+            into[i] = *self.answers.get(i).unwrap_or(&NO_ANSWER);
+        }
         if self.good_calls == 0 {
             count_fault(&mut self.failed);
             return Err(WireFault::RecvFailed);
         }
         self.good_calls -= 1;
-        for i in 0..into.len() {
-            if let Some(answer) = self.answers.get(i) {
-                into[i] = *answer;
-            }
-        }
         Ok(())
     }
 
@@ -114,7 +112,7 @@ fn selects_once(rt: HostRuntime) {
 fn scans_two_bits(rt: HostRuntime) {
     const SENT: &[u8] = b"2604041R52R62604";
     // the answers, the good calls, what `dr` answers, what was sent, and the faults
-    let cases: [(&[u8], u8, Result<u64, WireFault>, &[u8], u64); 7] = [
+    let cases: [(&[u8], u8, Result<u64, WireFault>, &[u8], u64); 10] = [
         (b"10", 2, Ok(0b01), SENT, 0),
         (b"01", 2, Ok(0b10), SENT, 0),
         (b"1x", 2, Err(WireFault::BadAnswer(b'x')), SENT, 0),
@@ -122,6 +120,9 @@ fn scans_two_bits(rt: HostRuntime) {
         (b"2\x00", 2, Err(WireFault::BadAnswer(b'2')), SENT, 0),
         (b"10", 0, Err(WireFault::SendFailed), b"", 1),
         (b"10", 1, Err(WireFault::RecvFailed), SENT, 1),
+        (b"1", 1, Err(WireFault::RecvFailed), SENT, 1),
+        (b"x", 1, Err(WireFault::BadAnswer(b'x')), SENT, 1),
+        (b"1x", 1, Err(WireFault::BadAnswer(b'x')), SENT, 1),
     ];
     for (answers, good_calls, wanted, sent, faults) in cases {
         let mut scanner = scanner_over(answers, good_calls);
