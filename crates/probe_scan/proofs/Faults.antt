@@ -14,6 +14,7 @@ use Rattle.debug_model.specs.declared.wire.WireFault.TheVariants.{SendFailed, Re
 use Rattle.probe_scan.proofs.Along.{Along, along_front, dr_along, idle_along, ir_along, still_along}
 use Rattle.probe_scan.proofs.Ends.{TookFront, took_front}
 use Rattle.probe_scan.proofs.Paths.{chip_at, scan_inside}
+use Rattle.probe_scan.proofs.Received.{first_or}
 use Rattle.probe_scan.proofs.Rounds.{Counted, path_counted, rounds_of, ticks_rounds}
 use Rattle.probe_scan.proofs.Scans.{Between, IsAsked, any_at, out_of, state_at}
 use Rattle.probe_scan.specs.Answers.{IsWrong, KeepsChip, ReceiveCause}
@@ -156,10 +157,6 @@ lost_cut bits None between new b keeps = subst (λ t. KeepsChip t new) b.is keep
 lost_cut bits (Some f) between new b keeps = lost_cut_at bits f between new b.asked keeps
 
 -- ---- causes
-
-first_or : ℕ → List ℕ → ℕ
-first_or n [] = n
-first_or n (x ∷ xs) = x
 
 -- no answer of a told chip is bad
 no_bad : (good bits : List Bool) (bad : ℕ) (rest : List ℕ) → bad ≢ 48 → bad ≢ 49 → map answer_byte bits ≡ map answer_byte good ++ bad ∷ rest → ⊥
