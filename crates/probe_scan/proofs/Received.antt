@@ -9,7 +9,7 @@ use Rattle.debug_model.specs.declared.wire.WireFault.{WireFault}
 use Rattle.debug_model.specs.declared.wire.WireFault.TheVariants.{SendFailed, RecvFailed, Ended, BadAnswer}
 use Rattle.probe_scan.specs.Answers.{IsFirstBad, IsWrong, KeepsAnswer, KeepsChip, OrBad, ReceiveCause}
 
-pub first_or : ℕ → List ℕ → ℕ
+unfoldable pub first_or : ℕ → List ℕ → ℕ
 first_or n [] = n
 first_or n (x ∷ xs) = x
 
