@@ -14,7 +14,7 @@ returns t c =
     let front = hexadecimal (c.args.count - 1) (c.args.number / 16) in
     let last = digit_char (c.args.number % 16) ∷ [] in
     c.in_ok-push.ensures.items
-    ∙ ap (λ d. c.write_digits.new.text.items ++ (d ∷ [])) c.digit.ensures
+    ∙ ap (λ d. c.write_digits.new.text.items ++ (d ∷ [])) c.hex_digit.ensures
     ∙ ap (λ ds. ds ++ last) c.in_ok-write_digits.ensures
     ∙ append_assoc c.args.text.now.items front last
     ∙ sym (ap (λ ds. c.args.text.now.items ++ ds) (hexadecimal-more c.args.count c.args.number (omega arith)))
