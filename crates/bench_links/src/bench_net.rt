@@ -1,5 +1,5 @@
 //! A net that ends at the chip on a bench.
-ghost use Rattle.std.specs.Prelude.{◌≡◌, ◌≢◌, ℕ, ◌+◌, ◌-◌, ◌^◌, ◌<◌, ◌≤◌, ◌&&◌, ◌∷◌, ◌++◌, [], List, None, Some, true, false, drop, if◌then◌else◌, is_none, is_ok, length, min, nat_lt, not, take, IfErr, IfOk, IfSome, IsSome, OnErr, OnOk};
+ghost use Rattle.std.specs.Prelude.{◌≡◌, ◌≢◌, ℕ, ◌+◌, ◌-◌, ◌<◌, ◌≤◌, ◌&&◌, ◌∷◌, ◌++◌, [], List, None, Some, true, false, drop, if◌then◌else◌, is_none, is_ok, length, min, nat_lt, not, take, IfErr, IfOk, IfSome, IsSome, OnErr, OnOk};
 ghost use Rattle.rv_model.specs.Codes.{hart_code};
 ghost use Rattle.rv_model.specs.Memory.{memory_code};
 ghost use Rattle.std.proofs.Props.{props};
@@ -8,7 +8,7 @@ ghost use Rattle.std.specs.Borrow.{GName};
 ghost use Rattle.jt_base.specs.Faults.{Rises, count_after, counted};
 ghost use Rattle.jt_base.specs.FileStore.{is_listed};
 ghost use Rattle.debug_model.specs.Loaded.{AsLoaded};
-ghost use Rattle.debug_model.specs.Net.{Called, CallCause, Gives, IsAccepted, IsConnected, IsJoined, LivesOn, MayPut, MayTake, OpenCause, PutFront, after_put, after_take, faults_after, given, is_open};
+ghost use Rattle.debug_model.specs.Net.{Called, CallCause, Gives, IsAccepted, IsConnected, IsJoined, LivesOn, MayPut, MayTake, OpenCause, PutFront, after_put, after_take, faults_after, given, given_most, is_open};
 ghost use Rattle.debug_model.specs.Told.{IsAsLoaded};
 ghost use Rattle.debug_model.specs.Wire.{piece_most};
 ghost use Rattle.debug_model.specs.declared.net.Call.TheVariants as calls;
@@ -208,8 +208,8 @@ impl<'a, Q: Schedule> Net for BenchNet<'a, Q> {
         ensures most { IfOk result (λ n. n ≤ length into.new) }
         ensures gave { IfOk result (λ n. Gives _end n into.new (net_state self.old.opening self.old.is_open self.old.given self.old.bench.now self.old.unread.items)) }
         ensures took { IfOk result (λ n. net_state self.new.opening self.new.is_open self.new.given self.new.bench.now self.new.unread.items ≡ after_take _end n (net_state self.old.opening self.old.is_open self.old.given self.old.bench.now self.old.unread.items)) }
-        ensures spent { OnOk result (given _end (net_state self.old.opening self.old.is_open self.old.given self.old.bench.now self.old.unread.items) < 2 ^ 40) }
-        ensures bound { IfOk result (λ n. given _end (net_state self.old.opening self.old.is_open self.old.given self.old.bench.now self.old.unread.items) + n ≤ 2 ^ 40) }
+        ensures spent { OnOk result (given _end (net_state self.old.opening self.old.is_open self.old.given self.old.bench.now self.old.unread.items) < given_most) }
+        ensures bound { IfOk result (λ n. given _end (net_state self.old.opening self.old.is_open self.old.given self.old.bench.now self.old.unread.items) + n ≤ given_most) }
         ensures kept { OnErr result (net_state self.new.opening self.new.is_open self.new.given self.new.bench.now self.new.unread.items ≡ net_state self.old.opening self.old.is_open self.old.given self.old.bench.now self.old.unread.items) }
         ensures cause { IfErr result (CallCause self.old.failed self.new.failed) }
         ensures later { self.old.failed ≤ self.new.failed }
@@ -220,8 +220,8 @@ impl<'a, Q: Schedule> Net for BenchNet<'a, Q> {
         ensures ends { OnErr result (◌≡◌ {A = ℕ} 0 0) }
         ensures ends_later { 0 ≤ 0 }
         ensures lenders { self.new.bench.ghost_name ∷ [] ≡ self.old.bench.ghost_name ∷ [] }
-        ensures answer { is_ok result ≡ (not (is_listed self.old.calls self.old.fail_at.items) && nat_lt self.old.given (2 ^ 40)) }
-        ensures count { IfOk result (λ n. n ≡ min (length into.old) (min (length self.old.unread.items) (2 ^ 40 - self.old.given))) }
+        ensures answer { is_ok result ≡ (not (is_listed self.old.calls self.old.fail_at.items) && nat_lt self.old.given given_most) }
+        ensures count { IfOk result (λ n. n ≡ min (length into.old) (min (length self.old.unread.items) (given_most - self.old.given))) }
         ensures calls { self.new.calls ≡ counted self.old.calls }
         ensures faults { self.new.failed ≡ count_after result self.old.failed }
         ensures listed { self.new.fail_at.items ≡ self.old.fail_at.items }

@@ -1,4 +1,5 @@
-ghost use Rattle.std.specs.Prelude.{◌≡◌, ◌≤◌, ◌^◌};
+ghost use Rattle.std.specs.Prelude.{◌≡◌, ◌≤◌};
+ghost use Rattle.debug_model.specs.Net.{given_most};
 ghost use Rattle.chip_server.specs.Served.{IsInPiece, behind};
 
 use debug_model::WireFault;
@@ -21,7 +22,7 @@ pub enum Served {
 impl Served {
     /// The same end of a stream in which so many bytes stand before the piece.
     pub(crate) fn behind(self, count: u64) -> Served
-        requires count { count ≤ 2 ^ 40 }
+        requires count { count ≤ given_most }
         requires place { IsInPiece self }
         ensures { result ≡ behind count self }
     {

@@ -1,7 +1,7 @@
 //! Serving a chip over a net.
 
-ghost use Rattle.std.specs.Prelude.{◌≡◌, ◌+◌, ◌<◌, ◌≤◌, ◌^◌, IfErr, IfOk, IsSome, OnErr, OnOk, true};
-ghost use Rattle.debug_model.specs.Net.{is_open};
+ghost use Rattle.std.specs.Prelude.{◌≡◌, ◌+◌, ◌<◌, ◌≤◌, IfErr, IfOk, IsSome, OnErr, OnOk, true};
+ghost use Rattle.debug_model.specs.Net.{given_most, is_open};
 ghost use Rattle.debug_model.specs.declared.net.End.TheVariants as end;
 ghost use Rattle.chip_server.specs.Served.{Counts, IsInPiece, IsPlain, Serving, WasServed};
 
@@ -20,7 +20,7 @@ fn serve_piece<N: Net, Q: Schedule>(net: &mut N, bench: &mut Bench<Q>) -> Result
     requires loaded { IsSome bench.old }
     ensures serving { IfOk result (λ count. Serving count (N.state net.old) (N.state net.new) bench.old bench.new) }
     ensures some { IfOk result (λ count. 0 < count) }
-    ensures bound { OnOk result ((N.state net.new).near_given ≤ 2 ^ 40) }
+    ensures bound { OnOk result ((N.state net.new).near_given ≤ given_most) }
     ensures goes_on { OnOk result (N.end_count net.new ≡ N.end_count net.old) }
     ensures still { OnOk result (N.fault_count net.new ≡ N.fault_count net.old) }
     ensures served { IfErr result (λ served. WasServed served (N.state net.old) (N.state net.new) bench.old bench.new) }

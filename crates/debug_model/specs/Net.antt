@@ -1,7 +1,7 @@
 -- A net: one connection of bytes, which one call opens, and what each call does to what the net tells. A net may tell the
 -- chip at its far side, or a pipe from each of its ends to the other, or the bytes that are to come.
 -- No public standard defines this.
-use Rattle.std.specs.Prelude.{◌≡◌, ℕ, ◌+◌, ◌<◌, ◌≤◌, List, [], ◌++◌, length, take, drop, Bool, true, false, Option, None, Some, IfSome, IsTrue, option_map, Result, Ok, Err}
+use Rattle.std.specs.Prelude.{◌≡◌, ℕ, ◌+◌, ◌^◌, ◌<◌, ◌≤◌, List, [], ◌++◌, length, take, drop, Bool, true, false, Option, None, Some, IfSome, IsTrue, option_map, Result, Ok, Err}
 use Rattle.jt_base.specs.Faults.{Rises, counted}
 use Rattle.debug_model.specs.Chip.{Live}
 use Rattle.debug_model.specs.Ties.{NetTies}
@@ -12,6 +12,10 @@ use Rattle.debug_model.specs.declared.net.End.{End}
 use Rattle.debug_model.specs.declared.net.End.TheVariants as ends
 use Rattle.debug_model.specs.declared.net.NetFault.{NetFault}
 use Rattle.debug_model.specs.declared.net.NetFault.TheVariants as faults
+
+-- the most bytes that one end gives
+abbrev pub given_most : ℕ
+given_most = 2 ^ 40
 
 -- who answers once the net is open, where that is told before: the chip behind `connect`, or the bytes that come behind
 -- `connect` or `accept`

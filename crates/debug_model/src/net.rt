@@ -1,6 +1,6 @@
-ghost use Rattle.std.specs.Prelude.{◌≡◌, ◌≢◌, ◌+◌, ◌^◌, ◌<◌, ◌≤◌, ◌∷◌, ℕ, List, None, Some, length, true, OnOk, OnErr, IfOk, IfErr};
+ghost use Rattle.std.specs.Prelude.{◌≡◌, ◌≢◌, ◌+◌, ◌<◌, ◌≤◌, ◌∷◌, ℕ, List, None, Some, length, true, OnOk, OnErr, IfOk, IfErr};
 ghost use Rattle.std.specs.Borrow.{GName};
-ghost use Rattle.debug_model.specs.Net.{LivesOn, Called, CallCause, Gives, IsAccepted, IsConnected, IsJoined, MayPut, MayTake, NetState, OpenCause, Peer, PutFront, after_put, after_take, faults_after, given, is_open};
+ghost use Rattle.debug_model.specs.Net.{LivesOn, Called, CallCause, Gives, IsAccepted, IsConnected, IsJoined, MayPut, MayTake, NetState, OpenCause, Peer, PutFront, after_put, after_take, faults_after, given, given_most, is_open};
 ghost use Rattle.debug_model.specs.Told.{IsAsLoaded};
 ghost use Rattle.debug_model.specs.declared.net.Call.TheVariants as call;
 ghost use Rattle.jt_base.specs.Faults.{Rises, counted};
@@ -118,8 +118,8 @@ pub trait Net: Drop {
         ensures most { IfOk result (λ n. n ≤ length into.new) }
         ensures gave { IfOk result (λ n. Gives end n into.new (state self.old)) }
         ensures took { IfOk result (λ n. state self.new ≡ after_take end n (state self.old)) }
-        ensures spent { OnOk result (given end (state self.old) < 2 ^ 40) }
-        ensures bound { IfOk result (λ n. given end (state self.old) + n ≤ 2 ^ 40) }
+        ensures spent { OnOk result (given end (state self.old) < given_most) }
+        ensures bound { IfOk result (λ n. given end (state self.old) + n ≤ given_most) }
         ensures kept { OnErr result (state self.new ≡ state self.old) }
         ensures cause { IfErr result (CallCause (fault_count self.old) (fault_count self.new)) }
         ensures later { fault_count self.old ≤ fault_count self.new }

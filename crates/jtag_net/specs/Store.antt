@@ -1,10 +1,10 @@
 -- A net in memory: what it holds, what each call answers and changes, and what it tells. It gives its input in pieces of a
 -- set size, keeps what is put within a set room, and fails at the calls of the listed numbers. Behind `join` what is put at
 -- one end is unread at the other. No public standard defines this.
-use Rattle.std.specs.Prelude.{◌≡◌, ℕ, ◌+◌, ◌-◌, ◌^◌, ◌&&◌, ◌==◌, min, List, [], ◌++◌, length, take, drop, Bool, true, false, not, if◌then◌else◌, nat_le, nat_lt, Option, None, Some, option_map, Result, Ok, Err}
+use Rattle.std.specs.Prelude.{◌≡◌, ℕ, ◌+◌, ◌-◌, ◌&&◌, ◌==◌, min, List, [], ◌++◌, length, take, drop, Bool, true, false, not, if◌then◌else◌, nat_le, nat_lt, Option, None, Some, option_map, Result, Ok, Err}
 use Rattle.jt_base.specs.Faults.{counted}
 use Rattle.jt_base.specs.FileStore.{is_listed}
-use Rattle.debug_model.specs.Net.{Exchange, NetState, Peer, Pipe}
+use Rattle.debug_model.specs.Net.{given_most, Exchange, NetState, Peer, Pipe}
 use Rattle.debug_model.specs.Ties.{NetTies, Opening}
 use Rattle.debug_model.specs.declared.net.Call.{Call}
 use Rattle.debug_model.specs.declared.net.NetFault.{NetFault}
@@ -119,7 +119,7 @@ given ends.Far s = s.far_given
 
 -- how many bytes come out of an end for so many that are wanted
 abbrev pub count_at : End → ℕ → Store → ℕ
-count_at at wanted s = min (min s.piece (2 ^ 40 - given at s)) (min wanted (length (unread at s)))
+count_at at wanted s = min (min s.piece (given_most - given at s)) (min wanted (length (unread at s)))
 
 abbrev pub taken_at : End → ℕ → Store → Store
 taken_at ends.Near n s = record s { coming = drop n s.coming; near_given = s.near_given + n }
@@ -129,7 +129,7 @@ abbrev pub takes_all : End → List ℕ → Store → Bool
 takes_all at bytes s = not (fails_here s) && nat_le (length bytes) (left_at at s)
 
 abbrev pub gives_any : End → Store → Bool
-gives_any at s = not (fails_here s) && nat_lt (given at s) (2 ^ 40)
+gives_any at s = not (fails_here s) && nat_lt (given at s) given_most
 
 -- the answers of a call that opens: it fails where its number is listed, or for want of memory
 abbrev pub Opens : {T : Type 0} → Bool → Result T NetFault → Type 0

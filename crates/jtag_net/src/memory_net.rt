@@ -1,7 +1,8 @@
 //! Nets in memory, for tests.
-ghost use Rattle.std.specs.Prelude.{◌≡◌, ◌+◌, ◌-◌, ◌^◌, ◌<◌, ◌≤◌, ◌++◌, [], List, None, Some, Option, take, drop, length, min, nat_le, false, true, vec_len, vec_capacity, IfOk, IfErr, OnOk, OnErr, IfSome, IfNone, OnSome};
+ghost use Rattle.std.specs.Prelude.{◌≡◌, ◌+◌, ◌-◌, ◌<◌, ◌≤◌, ◌++◌, [], List, None, Some, Option, take, drop, length, min, nat_le, false, true, vec_len, vec_capacity, IfOk, IfErr, OnOk, OnErr, IfSome, IfNone, OnSome};
 ghost use Rattle.jt_base.specs.FileStore.{is_listed};
 ghost use Rattle.jt_base.specs.Faults.{Rises, counted};
+ghost use Rattle.debug_model.specs.Net.{given_most};
 
 use crate::stream::tally;
 use debug_model::{Call, End, GIVEN_MOST, Net, NetFault};
@@ -68,9 +69,9 @@ fn keep(kept: &mut Vec<u8>, room: usize, bytes: &[u8]) -> bool
 
 // Moves the next bytes into `into`, at most `piece`, and answers how many. None where as many came as one end gives.
 fn give(coming: &mut Vec<u8>, piece: usize, given: &mut u64, into: &mut [u8]) -> Option<usize>
-    ensures spent { OnSome result (given.old < 2 ^ 40) }
-    ensures none { IfNone result (2 ^ 40 ≤ given.old) }
-    ensures count { IfSome result (λ n. n ≡ min (min piece (2 ^ 40 - given.old)) (min (length into.old) (length coming.old.items))) }
+    ensures spent { OnSome result (given.old < given_most) }
+    ensures none { IfNone result (given_most ≤ given.old) }
+    ensures count { IfSome result (λ n. n ≡ min (min piece (given_most - given.old)) (min (length into.old) (length coming.old.items))) }
     ensures gave { IfSome result (λ n. take n coming.old.items ≡ take n into.new) }
     ensures left { IfSome result (λ n. coming.new.items ≡ drop n coming.old.items) }
     ensures given { IfSome result (λ n. given.new ≡ given.old + n) }
@@ -207,8 +208,8 @@ impl MemoryNet {
 
     // Gives what comes next, and answers how many bytes. None where as many came as one end gives.
     fn give_at(&mut self, end: End, into: &mut [u8]) -> Option<usize>
-        ensures spent { OnSome result (given end self.old < 2 ^ 40) }
-        ensures none { IfNone result (2 ^ 40 ≤ given end self.old) }
+        ensures spent { OnSome result (given end self.old < given_most) }
+        ensures none { IfNone result (given_most ≤ given end self.old) }
         ensures count { IfSome result (λ n. n ≡ count_at end (length into.old) self.old) }
         ensures gave { IfSome result (λ n. take n (unread end self.old) ≡ take n into.new) }
         ensures store { IfSome result (λ n. self.new ≡ taken_at end n self.old) }
@@ -328,8 +329,8 @@ impl Net for MemoryNet {
         ensures most { IfOk result (λ n. n ≤ length into.new) }
         ensures gave { IfOk result (λ n. Gives end n into.new (state_of self.old)) }
         ensures took { IfOk result (λ n. state_of self.new ≡ after_take end n (state_of self.old)) }
-        ensures spent { OnOk result (given end self.old < 2 ^ 40) }
-        ensures bound { IfOk result (λ n. given end self.old + n ≤ 2 ^ 40) }
+        ensures spent { OnOk result (given end self.old < given_most) }
+        ensures bound { IfOk result (λ n. given end self.old + n ≤ given_most) }
         ensures kept { OnErr result (state_of self.new ≡ state_of self.old) }
         ensures cause { IfErr result (CallCause self.old.faults self.new.faults) }
         ensures later { self.old.faults ≤ self.new.faults }

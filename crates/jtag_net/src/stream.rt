@@ -1,7 +1,7 @@
 //! What a call of a net does on one stream, over any reader and any writer.
-ghost use Rattle.std.specs.Prelude.{◌≡◌, ◌≢◌, ◌==◌, if◌then◌else◌, is_ok, ◌+◌, ◌^◌, ◌<◌, ◌≤◌, take, length, IfOk, IfErr, OnOk, OnErr, IfSome, IfNone, OnSome, None, Some};
+ghost use Rattle.std.specs.Prelude.{◌≡◌, ◌≢◌, ◌==◌, if◌then◌else◌, is_ok, ◌+◌, ◌<◌, ◌≤◌, take, length, IfOk, IfErr, OnOk, OnErr, IfSome, IfNone, OnSome, None, Some};
 ghost use Rattle.std.specs.Io.KnownBytes.{Appends, Consumes, IsAtEnd, Keeps};
-ghost use Rattle.debug_model.specs.Net.{CallCause};
+ghost use Rattle.debug_model.specs.Net.{CallCause, given_most};
 ghost use Rattle.jt_base.specs.Faults.{Rises, counted};
 ghost use Rattle.jtag_net.specs.Stream.{AppendsFront};
 
@@ -32,8 +32,8 @@ pub fn read_some<S: Read>(stream: &mut S, given: &mut u64, into: &mut [u8]) -> O
     ensures bytes { IfSome result (λ n. Consumes (S.remaining stream.old) (S.remaining stream.new) (take n into.new)) }
     ensures kept { IfNone result (Keeps (S.remaining stream.old) (S.remaining stream.new)) }
     ensures end { IfSome result (λ n. n ≡ 0 → 0 < length into.old → IsAtEnd (S.remaining stream.new)) }
-    ensures spent { OnSome result (given.old < 2 ^ 40) }
-    ensures bound { IfSome result (λ n. given.old + n ≤ 2 ^ 40) }
+    ensures spent { OnSome result (given.old < given_most) }
+    ensures bound { IfSome result (λ n. given.old + n ≤ given_most) }
     ensures given { IfSome result (λ n. given.new ≡ given.old + n) }
     ensures given_kept { IfNone result (given.new ≡ given.old) }
 {

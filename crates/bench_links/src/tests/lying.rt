@@ -1,8 +1,8 @@
 //! A net that tells nothing and lies: of the first bytes that come out of one end.
 
-ghost use Rattle.std.specs.Prelude.{◌≡◌, ◌≢◌, ◌+◌, ◌^◌, ◌<◌, ◌≤◌, [], None, IfErr, IfOk, OnErr, OnOk, length};
+ghost use Rattle.std.specs.Prelude.{◌≡◌, ◌≢◌, ◌+◌, ◌<◌, ◌≤◌, [], None, IfErr, IfOk, OnErr, OnOk, length};
 ghost use Rattle.jt_base.specs.Faults.{Rises, counted};
-ghost use Rattle.debug_model.specs.Net.{CallCause, faults_after};
+ghost use Rattle.debug_model.specs.Net.{CallCause, faults_after, given_most};
 ghost use Rattle.jtag_net.specs.Connection.{nobody, untold};
 
 use super::loops::{lost, outcome_over};
@@ -91,8 +91,8 @@ fn give(
 ) -> Result<usize, NetFault>
     ensures most { IfOk result (λ n. n ≤ length into.new) }
     ensures given { IfOk result (λ n. given.new ≡ given.old + n) }
-    ensures spent { OnOk result (given.old < 2 ^ 40) }
-    ensures bound { IfOk result (λ n. given.old + n ≤ 2 ^ 40) }
+    ensures spent { OnOk result (given.old < given_most) }
+    ensures bound { IfOk result (λ n. given.old + n ≤ given_most) }
     ensures kept { OnErr result (given.new ≡ given.old) }
     ensures cause { IfErr result (CallCause failed.old failed.new) }
     ensures later { failed.old ≤ failed.new }

@@ -1,5 +1,5 @@
-use Rattle.std.proofs.Common.{◌≡◌, ◌≤◌, ◌+◌, ◌-◌, ◌^◌, IsSome, true}
-use Rattle.debug_model.specs.Net.{is_open}
+use Rattle.std.proofs.Common.{◌≡◌, ◌≤◌, ◌+◌, ◌-◌, IsSome, true}
+use Rattle.debug_model.specs.Net.{given_most, is_open}
 use Rattle.debug_model.specs.declared.net.End.TheVariants as end
 use Rattle.chip_server.specs.Served.{IsPlain, Serving}
 use Rattle.chip_server.proofs.serving.serve.Given as goal
@@ -10,10 +10,10 @@ invariant-pieces g l = Serving l.taken (g.N.Net.state l.fn.net) (g.N.Net.state l
     × (is_open end.Near (g.N.Net.state l.net) ≡ true)
     × IsSome l.bench
     × ((g.N.Net.state l.net).near_given ≡ (g.N.Net.state l.fn.net).near_given + l.taken)
-    × (l.taken ≤ 2 ^ 40)
+    × (l.taken ≤ given_most)
     × (g.N.Net.end_count l.net ≡ g.N.Net.end_count l.fn.net)
     × (g.N.Net.fault_count l.net ≡ g.N.Net.fault_count l.fn.net)
     × (g.N.Net.lenders l.net ≡ g.N.Net.lenders l.fn.net)
 
 abbrev pub decreases-pieces : goal.decreases-pieces
-decreases-pieces g l = 2 ^ 40 - (g.N.Net.state l.net).near_given
+decreases-pieces g l = given_most - (g.N.Net.state l.net).near_given
