@@ -5,7 +5,7 @@ use crate::operands::{
 /// An instruction of RV64IMA with Zicsr and Zifencei, of Machine Mode's `mret` and `wfi`, with its operands.
 ///
 /// `m` is what lies in memory at `rs1`. Section names are those of the unprivileged manual.
-#[derive(Clone, Copy, PartialEq, Eq)]
+#[derive(Clone, Copy, Debug, PartialEq, Eq)]
 pub enum Insn {
     // RV64I, integer register-immediate instructions.
     /// `rd = imm`.
