@@ -1,5 +1,5 @@
 -- A board's machine behind a point: a change of a debug part leaves it as it is.
-use Rattle.std.proofs.Common.{◌≡◌, ◌∙◌, ℕ, zero, suc, List, [], ◌∷◌, true, false, set, Option, Some, None, slice_get, option_map, refl, ap}
+use Rattle.std.proofs.Common.{◌≡◌, ◌∙◌, ℕ, List, true, false, Option, Some, None, slice_get, option_map, refl, ap}
 use Rattle.rv_model.specs.Board.{Board, DebugPart, Hart, Machine, cores, machine_of}
 use Rattle.rv_model.specs.Core.{Core}
 use Rattle.rv_model.proofs.BoardLemmas.{cores-set, slice_get-cores}

@@ -5,7 +5,7 @@ use Rattle.std.specs.Prelude.{ℕ, ◌+◌, ◌*◌, ◌/◌, ◌%◌, ◌^◌, 
 use Rattle.rv_model.specs.declared.cause.Cause.{Cause}
 use Rattle.rv_model.specs.declared.debug_did.DebugDid.{DebugDid}
 use Rattle.rv_model.specs.declared.debug_did.DebugDid.TheVariants as ended
-use Rattle.rv_model.specs.Board.{DebugPart, Hart}
+use Rattle.rv_model.specs.Board.{Hart}
 use Rattle.rv_model.specs.DebugRegisters.{debug_value, debug_refuses, debug_written}
 use Rattle.rv_model.specs.Memory.{Memory}
 use Rattle.rv_model.specs.ProgramBuffer.{Debugged, ran_word}
@@ -18,7 +18,7 @@ use Rattle.debug_model.specs.declared.command_word.CommandWord.{CommandWord}
 use Rattle.debug_model.specs.declared.command_word.CommandWord.TheVariants.{Data0, Data1, Progbuf0, Progbuf1, Progbuf2, Progbuf3}
 use Rattle.debug_model.specs.declared.micro.Micro.{Micro}
 use Rattle.debug_model.specs.declared.micro.Micro.TheVariants.{Transfer, Run}
-use Rattle.debug_model.specs.ModuleWords.{abstractauto_of, abstractauto_word, abstractcs_of, abstractcs_word, cmderr_cleared, cmderr_number, command_of}
+use Rattle.debug_model.specs.ModuleWords.{abstractauto_of, abstractcs_of, cmderr_cleared, cmderr_number, command_of}
 
 pub record CommandUnit : Type 0 where
   pub data0 : ℕ  -- each word is below 2^32

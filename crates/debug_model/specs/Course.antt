@@ -10,7 +10,7 @@ use Rattle.debug_model.specs.declared.sticky.Sticky.{Sticky}
 use Rattle.debug_model.specs.declared.sticky.Sticky.TheVariants.{Clear, Failed, Busy}
 use Rattle.jt_base.specs.BitList.{number_of}
 use Rattle.debug_model.specs.Deeds.{Deed, after_deed, ran}
-use Rattle.debug_model.specs.Module.{Site, after_read, after_write, operated, operation_result, result_of}
+use Rattle.debug_model.specs.Module.{Site, operated, operation_result}
 use Rattle.debug_model.specs.Chip.{Inside, Works, after_event, counted, tick}
 use Rattle.debug_model.specs.Scan.{capture, dtm_of, update}
 use Rattle.debug_model.specs.Schedule.{round_of}

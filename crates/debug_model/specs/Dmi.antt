@@ -1,7 +1,7 @@
 -- Operations on the debug module interface: what a call does to a told chip, what is heard of a scripted one, and why a call fails.
 -- RISC-V Debug Specification 1.0, "Debug Module Interface Access". That the reserved op 1 is taken as busy, and that a call gives up behind 64 busy
 -- answers, are this project's own choices.
-use Rattle.std.specs.Prelude.{◌≡◌, ◌⊎◌, ◌++◌, ℕ, zero, suc, ◌+◌, ◌%◌, ◌^◌, ◌<◌, ◌≤◌, List, [], ◌∷◌, length, Bool, true, false, Option, Some, None, IfSome}
+use Rattle.std.specs.Prelude.{◌≡◌, ◌⊎◌, ◌++◌, ℕ, suc, ◌+◌, ◌%◌, ◌^◌, ◌<◌, ◌≤◌, List, [], ◌∷◌, length, Bool, true, false, Option, Some, None, IfSome}
 use Rattle.jt_base.specs.BitList.{number_of}
 use Rattle.debug_model.specs.declared.dmi.DmiFault.{DmiFault}
 use Rattle.debug_model.specs.declared.dmi.DmiFault.TheVariants.{Wire, Failed, StillBusy}
@@ -9,7 +9,7 @@ use Rattle.debug_model.specs.declared.counts.Counts.{Counts}
 use Rattle.debug_model.specs.declared.dmi_op.DmiOp.{DmiOp}
 use Rattle.debug_model.specs.declared.dmi_scan.DmiScan.{DmiScan}
 use Rattle.debug_model.specs.Chip.{Chip}
-use Rattle.debug_model.specs.Course.{Course, DeedsAlone, Happening, OneOperation, Operation, Spans}
+use Rattle.debug_model.specs.Course.{Course, DeedsAlone, Happening, OneOperation, Spans}
 use Rattle.debug_model.specs.Course.Happening.{Launched, Performed, Lost}
 use Rattle.debug_model.specs.Module.{Site}
 use Rattle.debug_model.specs.Scan.{ScanCause, Script, StoodAtRest, TookOut}

@@ -1,7 +1,7 @@
 -- The debug module: what a read or a write of each of its addresses gives, changes in module and board, and appends to the journal.
 -- RISC-V Debug Specification 1.0, "Debug Module Registers", "Selecting Harts", "Run Control". That only hartsello and dmactive are kept, that requests of
 -- harts outlive a reset of the module, and that a busy module ignores dmcontrol, are this project's own choices (docs/DEBUG_MODULE.md).
-use Rattle.std.specs.Prelude.{ℕ, ◌==◌, ◌&&◌, Bool, true, false, if◌then◌else◌, nat_lt, List, [], ◌∷◌, ◌++◌, map, Option, Some, None, is_some, slice_get}
+use Rattle.std.specs.Prelude.{ℕ, ◌==◌, Bool, true, false, if◌then◌else◌, nat_lt, List, [], ◌∷◌, ◌++◌, map, Option, Some, None, is_some, slice_get}
 use Rattle.jt_base.specs.BitList.{number_of}
 use Rattle.rv_model.specs.Board.{Board, DebugPart, Hart}
 use Rattle.debug_model.specs.declared.command_word.CommandWord.TheVariants as word

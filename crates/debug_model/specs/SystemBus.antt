@@ -1,11 +1,10 @@
 -- The system bus: its registers, what starts an access, and the access.
 -- RISC-V Debug Specification 1.0, "System Bus Access" and the registers sbcs, sbaddress0, sbaddress1, sbdata0 and sbdata1. What a write of sbcs and a read of
 -- sbaddress do while the bus is busy is this project's own choice (docs/DEBUG_MODULE.md).
-use Rattle.std.specs.Prelude.{ℕ, ◌+◌, ◌^◌, ◌%◌, ◌==◌, Bool, true, false, ◌&&◌, if◌then◌else◌, Option, Some, None, is_some, Result, Ok, Err, ⊤}
+use Rattle.std.specs.Prelude.{ℕ, ◌+◌, ◌^◌, ◌%◌, ◌==◌, Bool, true, false, if◌then◌else◌, Option, Some, None, is_some, Result, Ok, Err, ⊤}
 use Rattle.rv_model.specs.declared.mem_fault.MemFault.{MemFault}
 use Rattle.rv_model.specs.declared.size.Size.{Size}
 use Rattle.rv_model.specs.declared.size.Size.TheVariants.{B1, B2, B4, B8}
-use Rattle.rv_model.specs.Fields.{bit}
 use Rattle.rv_model.specs.Memory.{Memory, after_store, is_aligned, loaded, store_answer}
 use Rattle.rv_model.specs.Size.{count_of}
 use Rattle.debug_model.specs.declared.bus_access.BusAccess.{BusAccess}

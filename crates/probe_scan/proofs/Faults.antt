@@ -1,8 +1,8 @@
 -- What a fault leaves behind and why it came: a told chip has taken a front of the call's bytes, and gives no bad answer.
-use Rattle.std.proofs.Common.{◌≡◌, ◌≢◌, ◌∙◌, ◌<◌, ◌≤◌, ◌+◌, ◌⊎◌, ℕ, suc, List, [], ◌∷◌, ◌++◌, Bool, true, false, length, map, drop, Option, Some, None, option_map, IfSome, refl, sym, ap, subst, arith, inl, inr, append_assoc, Result, Ok, Err, IsErrAnd, IfErr, OnErr}
+use Rattle.std.proofs.Common.{◌≡◌, ◌≢◌, ◌∙◌, ◌<◌, ◌≤◌, ◌+◌, ◌⊎◌, ℕ, suc, List, [], ◌∷◌, ◌++◌, Bool, true, false, length, map, drop, Option, Some, None, option_map, IfSome, refl, sym, ap, subst, arith, inl, inr, append_assoc}
 use Rattle.jt_base.specs.Faults.{Rises}
 use Rattle.debug_model.specs.Chip.{Chip, Inside, Live, answer_byte}
-use Rattle.debug_model.specs.Scan.{BadCause, CameWrong, ResetCut, RoundsPassed, ScanCause, ScanCut, Script, Stage, WhereTold, WrongIn, dr_bytes, ir_bytes, reset_bytes, ticks}
+use Rattle.debug_model.specs.Scan.{BadCause, CameWrong, ResetCut, RoundsPassed, ScanCause, ScanCut, Stage, WhereTold, WrongIn, dr_bytes, ir_bytes, reset_bytes, ticks}
 use Rattle.debug_model.specs.Scan.{Answers, not_captured, captured, updated}
 use Rattle.debug_model.specs.Told.{Far, IsFree, IsIdle}
 use Rattle.debug_model.specs.Wire.{EndCause, SentFront, sent}

@@ -1,13 +1,12 @@
 -- Answers that a wire hands on, whole or cut short by a fault, and what their judgement says of those that were to come.
-use Rattle.std.proofs.Common.{◌≡◌, ◌≢◌, ◌∙◌, ℕ, zero, suc, List, [], ◌∷◌, ◌++◌, Bool, true, false, length, map, take, drop, replicate, Option, Some, None, option_map, IfSome, Result, Ok, Err, OnOk, OnErr, IfErr, IsErrAnd, refl, sym, ap, subst, arith, append_assoc, inl, inr, ◌⊎◌}
-use Rattle.std.proofs.Math.Seq.{take-append_seam}
+use Rattle.std.proofs.Common.{◌≡◌, ◌≢◌, ◌∙◌, ℕ, zero, suc, List, [], ◌∷◌, ◌++◌, Bool, length, map, take, drop, replicate, Option, Some, None, option_map, IfSome, Result, Ok, Err, OnOk, OnErr, IfErr, IsErrAnd, refl, sym, ap, subst, arith, append_assoc, inr}
 use Rattle.debug_model.specs.Chip.{answer_byte}
 use Rattle.debug_model.specs.Scan.{Answers, CameWrong, Judged, TookBits}
 use Rattle.debug_model.specs.Told.{Far}
 use Rattle.debug_model.specs.Wire.{CutShort, ReadsFront, ReadsSome, RecvCause, TakesComing, TakesSome, no_answer}
 use Rattle.debug_model.specs.declared.wire.WireFault.{WireFault}
 use Rattle.debug_model.specs.declared.wire.WireFault.TheVariants.{SendFailed, RecvFailed, Ended, BadAnswer}
-use Rattle.probe_scan.specs.Answers.{IsFirstBad, IsWrong, KeepsAnswer, KeepsChip, OrBad, ReceiveCause}
+use Rattle.probe_scan.specs.Answers.{IsFirstBad, KeepsAnswer, KeepsChip, OrBad, ReceiveCause}
 
 unfoldable pub first_or : ℕ → List ℕ → ℕ
 first_or n [] = n

@@ -1,13 +1,9 @@
 -- How often TCK rose: each rise takes one round and counts it, whatever the TAP, the round and the module do.
-use Rattle.std.proofs.Common.{◌≡◌, ◌∙◌, ◌+◌, ◌≤◌, ℕ, zero, suc, List, [], ◌∷◌, Bool, true, false, length, Option, Some, None, refl, ap, arith}
-use Rattle.debug_model.specs.Chip.{Chip, Inside, Works, after_event, after_events, busy_counted, counted, fall, lost_by, performed_by, rise, run, tick, works_risen}
+use Rattle.std.proofs.Common.{◌≡◌, ◌∙◌, ◌+◌, ◌≤◌, ℕ, zero, suc, List, [], ◌∷◌, Bool, true, false, length, ap, arith}
+use Rattle.debug_model.specs.Chip.{Chip, Inside, counted, fall, rise, run, tick, works_risen}
 use Rattle.debug_model.specs.Port.{Port, rise_finds_busy}
 use Rattle.debug_model.specs.Scan.{path, ticks}
 use Rattle.debug_model.specs.Schedule.{round_of}
-use Rattle.debug_model.specs.declared.counts.Counts.{Counts}
-use Rattle.debug_model.specs.declared.dmi_op.DmiOp.{DmiOp}
-use Rattle.debug_model.specs.declared.event.Event.{Event}
-use Rattle.debug_model.specs.declared.event.Event.TheVariants.{Turn, DmiDone, DmiFail, CmdStep, BusDone}
 use Rattle.debug_model.proofs.Rounds.{busy_rounds, events_rounds}
 use Rattle.probe_scan.proofs.Along.{Along}
 

@@ -44,8 +44,8 @@ impl<W: Wire> Scanner<W> {
     }
 }
 
-#[tactic(auto, using(crate::proofs::Received::bad_judged, crate::proofs::Received::bad_own, crate::proofs::Received::bad_kept, crate::proofs::Received::fault_cause))]
 /// Receives as many answers as `into` holds, at most 64, and reads their bits. What came before a fault is judged too: a bad answer is told before the fault.
+#[tactic(auto, using(crate::proofs::Received::bad_judged, crate::proofs::Received::bad_own, crate::proofs::Received::bad_kept, crate::proofs::Received::fault_cause))]
 fn receive<W: Wire>(wire: &mut W, into: &mut [u8]) -> Result<Bits, WireFault>
     requires most { length into.old ≤ bits_most }
     requires open { IsOpen (W.far wire.old) }

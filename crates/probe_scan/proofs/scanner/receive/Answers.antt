@@ -1,6 +1,3 @@
-use Rattle.std.proofs.Common.{option_map}
-use Rattle.debug_model.specs.Scan.{Answers, Judged}
-use Rattle.probe_scan.specs.Answers.{ReceiveCause}
 use Rattle.probe_scan.proofs.Received.{bad_cause, err_with, fault_judged}
 use Rattle.probe_scan.proofs.scanner.receive.Goals as goal
 
