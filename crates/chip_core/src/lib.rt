@@ -13,8 +13,6 @@ mod laws;
 mod load_fault;
 mod notes;
 mod system;
-#[cfg(test)]
-mod tests;
 
 pub use bench::{ANSWERS_MOST, Answers, Bench};
 pub use bench_wire::{BenchWire, feed_pieces};

@@ -5,8 +5,6 @@
 
 mod served;
 mod serving;
-#[cfg(test)]
-mod tests;
 
 pub use served::Served;
 pub use serving::serve;

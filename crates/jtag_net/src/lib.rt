@@ -10,8 +10,6 @@ mod net_wire;
 mod stream;
 mod take_all;
 mod tcp_net;
-#[cfg(test)]
-mod tests;
 
 pub use memory_net::MemoryNet;
 pub use net_wire::NetWire;

@@ -13,6 +13,3 @@ mod values;
 pub use fault::WordsFault;
 pub use job::{ChipOptions, Inputs, Job};
 pub use reading::read_words;
-
-#[cfg(test)]
-mod tests;

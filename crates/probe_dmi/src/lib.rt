@@ -8,7 +8,5 @@ mod link;
 mod operation;
 mod register;
 mod state;
-#[cfg(test)]
-mod tests;
 
 pub use link::Link;

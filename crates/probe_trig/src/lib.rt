@@ -16,8 +16,6 @@ mod seeing;
 mod slot_use;
 mod slot_words;
 mod stepping;
-#[cfg(test)]
-mod tests;
 mod words;
 
 pub use arming::arm;

@@ -16,6 +16,3 @@ pub use laws::{one_reading_of_a_line, one_reading_of_a_text};
 pub use number::read_number;
 pub use printer::print;
 pub use reader::{MOST_TEXT, parse};
-
-#[cfg(test)]
-mod tests;

@@ -3,8 +3,8 @@
 ghost use Rattle.std.specs.Prelude.{IfOk, IfSome};
 ghost use Rattle.debug_model.specs.Loaded.{AsLoaded};
 
-use super::bench::{bench_of, feed, listed};
-use crate::{Bench, Fed, LoadFault};
+use crate::bench::{bench_of, feed, listed};
+use chip_core::{Bench, Fed, LoadFault};
 use debug_model::{Counts, Event};
 use hart_debug::Start;
 use rv_model::Size;

@@ -3,8 +3,8 @@
 ghost use Rattle.std.specs.Prelude.{◌≤◌, IfOk, IsSome, length};
 ghost use Rattle.debug_model.specs.Wire.{piece_most};
 
-use crate::{Answers, Bench, Fed, LoadFault};
 use arrayvec::ArrayVec;
+use chip_core::{Answers, Bench, Fed, LoadFault};
 use debug_model::{Event, Round};
 use hart_debug::Start;
 use std::alloc::Global;

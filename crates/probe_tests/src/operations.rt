@@ -3,10 +3,10 @@
 
 ghost use Rattle.std.specs.Prelude.{◌≡◌};
 
-use crate::Link;
 use arrayvec::ArrayVec;
 use debug_model::{Dmi, DmiFault, Scan, WireFault};
 use jt_base::{Bits, count_fault};
+use probe_dmi::Link;
 use probe_scan::ScriptedScan;
 
 /// One call of a scan.

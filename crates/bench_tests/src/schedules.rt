@@ -1,7 +1,7 @@
 //! Rounds: one at each rise of TCK, the turns of harts that are there, and a schedule without rounds.
 
-use super::bench::{Listed, bench_of, feed};
-use crate::{Bench, Fed, LoadFault};
+use crate::bench::{Listed, bench_of, feed};
+use chip_core::{Bench, Fed, LoadFault};
 use debug_model::{Event, Point};
 use hart_debug::Start;
 use std::alloc::Global;

@@ -1,7 +1,7 @@
 ghost use Rattle.std.specs.Prelude.{◌≡◌, ◌<◌, None, IfOk};
 
-use crate::{MemoryNet, NetWire, TcpNet};
 use debug_model::{End, Net, NetFault, Wire, WireFault};
+use jtag_net::{MemoryNet, NetWire, TcpNet};
 use std::io::{Read, Write};
 use std::net::TcpListener;
 use std::rt::HostRuntime;

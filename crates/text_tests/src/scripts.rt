@@ -1,5 +1,5 @@
-use super::*;
 use debug_model::Command;
+use script_lang::{parse, print};
 use std::alloc::{AllocError, Global};
 use std::test::Fail;
 

@@ -1,7 +1,7 @@
 //! The limit of points, which a rise meets.
 
-use super::bench::{Listed, bench_of, feed};
-use crate::Fed;
+use crate::bench::{Listed, bench_of, feed};
+use chip_core::Fed;
 use debug_model::Event;
 use hart_debug::Start;
 use std::test::Fail;

@@ -3,13 +3,13 @@
 
 ghost use Rattle.std.specs.Prelude.{◌≡◌, true};
 
-use crate::{
-    Gone, SlotUse, SlotView, TrigFault, arm, disarm, forget_hits, let_go, slots, step_over,
-};
 use arrayvec::ArrayVec;
 use debug_model::{DmiFault, ScriptedDmi, WireFault};
 use probe_access::AccessFault;
 use probe_run::{Seen, connect};
+use probe_trig::{
+    Gone, SlotUse, SlotView, TrigFault, arm, disarm, forget_hits, let_go, slots, step_over,
+};
 use rv_model::SlotSet;
 use std::process::Abort;
 

@@ -1,8 +1,8 @@
 //! The bytes of the stream: the device identification in pieces, and ends at their places.
 
-use super::bench::{Listed, bench_of, feed};
-use crate::{Answers, Fed};
+use crate::bench::{Listed, bench_of, feed};
 use arrayvec::ArrayVec;
+use chip_core::{Answers, Fed};
 use debug_model::Event;
 use hart_debug::Start;
 use std::process::Abort;

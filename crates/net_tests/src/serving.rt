@@ -3,8 +3,8 @@
 ghost use Rattle.std.specs.Prelude.{◌≡◌, ◌<◌, ◌≤◌, IsSome, None, length};
 ghost use Rattle.debug_model.specs.Wire.{piece_most};
 
-use crate::{Served, serve};
 use chip_core::{Answers, Bench};
+use chip_server::{Served, serve};
 use debug_model::{End, Event, Net, NetFault, Round, Schedule, WireFault};
 use hart_debug::Start;
 use jtag_net::{MemoryNet, TcpNet};
