@@ -62,12 +62,12 @@ byte_fell r first at row sink_old sink_new c is fell = went_fell (at_load r firs
 row_said : {K : Type 0} (way : Way) (h first : ℕ) (row : List ℕ) (p : K → Plan) {t : Tells} {c d : Option (List ℕ)} → d ≡ grown (text_of_all (row_lines first row)) c
     → Spoke (λ k. place way h (saying_row first row (p k))) (λ k. place way h (p k)) false t t c d
 row_said way h first [] p put = record { said = []; went = went_none; put = put; wrong_is = refl }
-row_said way h first (byte ∷ bytes) p put = record { said = Line.Row first (byte ∷ bytes) ∷ []; went = went_one (λ k. says); put = put; wrong_is = refl }
+row_said way h first (byte ∷ bytes) p put = record { said = Line.Row first (byte ∷ bytes) ∷ []; went = went_one (λ k. says refl); put = put; wrong_is = refl }
 
 row_fell : {K : Type 0} {T : K → Type 0} {a : K → Place} (way : Way) (h first : ℕ) (row : List ℕ) (p : K → Plan) (quiet : (k : K) → T k → Quiet (p k)) (old_count new_count : ℕ) {t u : Tells} {sink_old sink_new : ℕ} {c d e : Option (List ℕ)} {f : Failure} → f ≡ failure.Sink
     → Spoke a (λ k. place way h (saying_row first row (p k))) false t u c d → RowCut first row d e → Rises sink_old sink_new → Fell T a old_count new_count t u sink_old sink_new c e f
 row_fell way h first [] p quiet old_count new_count sink s cut rises = absurd cut
-row_fell way h first (byte ∷ bytes) p quiet old_count new_count sink s cut rises = fell_line way h (Line.Row first (byte ∷ bytes)) p quiet old_count new_count sink s cut rises
+row_fell way h first (byte ∷ bytes) p quiet old_count new_count sink s cut rises = fell_line way h (Line.Row first (byte ∷ bytes)) p refl quiet old_count new_count sink s cut rises
 
 -- ---- a byte that memory refused
 
@@ -87,7 +87,7 @@ put_as first items row c d is put = subst (λ x. d ≡ grown (text_of_all (row_l
 pub byte_refused : (r : Reach) (first at : ℕ) (row items : List ℕ) {t u : Tells} {c d e : Option (List ℕ)} → at ≡ first + length row → items ≡ row → LoadedNone B1 at t u → d ≡ grown (text_of_all (row_lines first items)) c
     → e ≡ grown (text_of (Line.MemoryFault at)) d → Spoke (at_next_byte r first row) behind_bytes true t u c e
 byte_refused r first at row items {c = c} {d = d} is items_are none put more =
-    spoke_went (spoke_says (way_by r) (hart_by r) (Line.MemoryFault at) (λ (k : Bytes). k.next) (row_at r first at row is none (put_as first items row c d items_are put)) more) (reach_rests r (λ (k : Bytes). k.next))
+    spoke_went (spoke_says (way_by r) (hart_by r) (Line.MemoryFault at) (λ (k : Bytes). k.next) refl (row_at r first at row is none (put_as first items row c d items_are put)) more) (reach_rests r (λ (k : Bytes). k.next))
 
 pub left_row_cut : (r : Reach) (first at : ℕ) (row items : List ℕ) (old_count new_count : ℕ) {t u : Tells} {sink_old sink_new : ℕ} {c d : Option (List ℕ)} {f : Failure} → f ≡ failure.Sink → at ≡ first + length row → items ≡ row
     → LoadedNone B1 at t u → RowCut first items c d → Rises sink_old sink_new → Fell CalmBytes (at_next_byte r first row) old_count new_count t u sink_old sink_new c d f
@@ -98,7 +98,7 @@ pub fault_cut : (r : Reach) (first at : ℕ) (row items : List ℕ) (old_count n
     → LoadedNone B1 at t u → d ≡ grown (text_of_all (row_lines first items)) c → GrewByPrefix (text_of (Line.MemoryFault at)) d e → Rises sink_old sink_new
     → Fell CalmBytes (at_next_byte r first row) old_count new_count t u sink_old sink_new c e f
 fault_cut r first at row items old_count new_count {c = c} {d = d} sink is items_are none put front rises =
-    fell_line (way_by r) (hart_by r) (Line.MemoryFault at) (λ (k : Bytes). k.next) (λ (k : Bytes) calm. calm) old_count new_count sink (row_at r first at row is none (put_as first items row c d items_are put)) front rises
+    fell_line (way_by r) (hart_by r) (Line.MemoryFault at) (λ (k : Bytes). k.next) refl (λ (k : Bytes) calm. calm) old_count new_count sink (row_at r first at row is none (put_as first items row c d items_are put)) front rises
 
 -- ---- a byte that was loaded
 
@@ -139,14 +139,14 @@ row_shown r first at v row items left_row {t} {u} {c} {d} is full items_are left
   begins = first + 16;
   along = omega (arith, full);
   spoke =
-      spoke_says (way_by r) (hart_by r) (Line.Row first (row ++ v ∷ [])) (λ (k : Bytes). dumping k.left (first + row_bytes) [] k.next) (whole_at r first at v row c is full l)
+      spoke_says (way_by r) (hart_by r) (Line.Row first (row ++ v ∷ [])) (λ (k : Bytes). dumping k.left (first + row_bytes) [] k.next) refl (whole_at r first at v row c is full l)
       (put ∙ ap (λ (x : List ℕ). grown (text_of (Line.Row first x)) c) items_are);
 })
 
 pub row_cut : (r : Reach) (first at v : ℕ) (row items : List ℕ) (old_count new_count : ℕ) {t u : Tells} {sink_old sink_new : ℕ} {c d : Option (List ℕ)} {f : Failure} → f ≡ failure.Sink → at ≡ first + length row → length row + 1 ≡ 16
     → items ≡ row ++ v ∷ [] → Loaded B1 at v t u → GrewByPrefix (text_of (Line.Row first items)) c d → Rises sink_old sink_new → Fell CalmBytes (at_next_byte r first row) old_count new_count t u sink_old sink_new c d f
 row_cut r first at v row items old_count new_count {c = c} {d = d} sink is full items_are l front rises =
-    fell_line (way_by r) (hart_by r) (Line.Row first (row ++ v ∷ [])) (λ (k : Bytes). dumping k.left (first + row_bytes) [] k.next)
+    fell_line (way_by r) (hart_by r) (Line.Row first (row ++ v ∷ [])) (λ (k : Bytes). dumping k.left (first + row_bytes) [] k.next) refl
     (λ (k : Bytes) calm. quiet_dumping k.left (first + row_bytes) [] k.next calm) old_count new_count sink (whole_at r first at v row c is full l)
     (subst (λ (x : List ℕ). GrewByPrefix (text_of (Line.Row first x)) c d) items_are front) rises
 
@@ -240,12 +240,12 @@ dumped_whole r a count done row is none p = empty_by r a count (a + count) row n
 last_by : {K : Type 0} {a : K → Place} (way : Way) (h first : ℕ) (row : List ℕ) (p : K → Plan) {t u : Tells} {c d e : Option (List ℕ)} → (length row ≡ 0 → ⊥) → Spoke a (λ k. place way h (saying_row first row (p k))) false t u c d
     → e ≡ grown (text_of (Line.Row first row)) d → Spoke a (λ k. place way h (p k)) false t u c e
 last_by way h first [] p some s put = absurd (some refl)
-last_by way h first (byte ∷ bytes) p some s put = spoke_says way h (Line.Row first (byte ∷ bytes)) p s put
+last_by way h first (byte ∷ bytes) p some s put = spoke_says way h (Line.Row first (byte ∷ bytes)) p refl s put
 
 last_cut_by : {K : Type 0} {T : K → Type 0} {a : K → Place} (way : Way) (h first : ℕ) (row : List ℕ) (p : K → Plan) (quiet : (k : K) → T k → Quiet (p k)) (old_count new_count : ℕ) {t u : Tells} {sink_old sink_new : ℕ} {c d e : Option (List ℕ)} {f : Failure} → (length row ≡ 0 → ⊥) → f ≡ failure.Sink
     → Spoke a (λ k. place way h (saying_row first row (p k))) false t u c d → GrewByPrefix (text_of (Line.Row first row)) d e → Rises sink_old sink_new → Fell T a old_count new_count t u sink_old sink_new c e f
 last_cut_by way h first [] p quiet old_count new_count some sink s front rises = absurd (some refl)
-last_cut_by way h first (byte ∷ bytes) p quiet old_count new_count some sink s front rises = fell_line way h (Line.Row first (byte ∷ bytes)) p quiet old_count new_count sink s front rises
+last_cut_by way h first (byte ∷ bytes) p quiet old_count new_count some sink s front rises = fell_line way h (Line.Row first (byte ∷ bytes)) p refl quiet old_count new_count sink s front rises
 
 pub dumped_last : (r : Reach) (a count done first : ℕ) (row : List ℕ) {t u : Tells} {c d e : Option (List ℕ)} → done ≡ count → first + length row ≡ a + count → (length row ≡ 0 → ⊥) → Dumped r a count done row t u c d
     → e ≡ grown (text_of (Line.Row first row)) d → Spoke (at_dump r a count) idle false t u c e

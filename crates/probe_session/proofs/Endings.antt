@@ -28,7 +28,7 @@ use Rattle.probe_session.specs.declared.fault.LostCause.TheVariants as lost
 use Rattle.probe_session.specs.Failures.{failure_of_dmi}
 use Rattle.probe_session.specs.Goes.{Anyhow, Fell, Spoke}
 use Rattle.probe_session.specs.Led.{DealsAt}
-use Rattle.probe_session.specs.Places.{place}
+use Rattle.probe_session.specs.Places.{spot}
 use Rattle.probe_session.specs.Scripts.{BrokeOff, EndedAs, RanInto, Unfit, Unopened, at_commands, at_stop}
 use Rattle.probe_session.specs.Transcribed.{IsCutTranscript, IsFrontOf, IsTranscript, OnTheWay, Still, TranscribedAs, WrittenAs, origin_of}
 use Rattle.probe_session.proofs.BrokeOff.{LeftAs, OnWay, still_as}
@@ -78,10 +78,10 @@ fell_by f script first old_count new_count mid new sink_old sink_new was is (Fel
     let at : DealsAt m (origin_of script first) (falls.at tt) said falls.mid.far = goes_lead (at_commands script first_state tt) (falls.at tt) mid falls.mid said (falls.went.goes tt) m (origin_of script first) [] d in
     still_as new.far (λ last left. left_written f script first last said was is left put)
     (fault_left (falls.at tt) falls.count new_count falls.mid new f (falls.fault tt) m (origin_of script first) said at)
-fell_by f script first old_count new_count mid new sink_old sink_new was is (Fell.at_line said line way h next quiet went front rises) d =
+fell_by f script first old_count new_count mid new sink_old sink_new was is (Fell.at_line said line heard way h next may quiet went front rises) d =
     let m : Machine = machine_of (site_of first).board in
     let o : Origin = origin_of script first in
-    let at : DealsAt m o (place way h (say line (next tt))) said new.far = goes_lead (at_commands script first_state tt) (place way h (say line (next tt))) mid new said (went.goes tt) m o [] d in
+    let at : DealsAt m o (spot heard way h (say line (next tt))) said new.far = goes_lead (at_commands script first_state tt) (spot heard way h (say line (next tt))) mid new said (went.goes tt) m o [] d in
     found_far (λ t. Deals m h way o (say line (next tt)) said t) (λ last. IsCutTranscript script was is first last) new.far at.target at.is at.holds (λ last e.
     let s : Stands o (next tt) (said ++ line ∷ []) (target_of (site_of last)) = (deals_put m h way o line (next tt) said (target_of (site_of last)) e).stands in
     let w : OnTheWay o (said ++ line ∷ []) (site_of last).journal = on_way o (next tt) (said ++ line ∷ []) (target_of (site_of last)) (site_of last).journal s refl in

@@ -22,9 +22,11 @@ use Rattle.probe_session.specs.Calls.{AskFell, FoundStop, Gave, GaveNone, GiveFe
 use Rattle.probe_session.specs.Commands.{at_arming, at_ebreak, at_freeing, at_register, at_stop_line, at_written_register, ends_with, shown}
 use Rattle.probe_session.specs.Goes.{Falls, Went}
 use Rattle.probe_session.specs.Goes.{Fault}
+use Rattle.probe_session.specs.Goes.{Goes}
 use Rattle.probe_session.specs.Goes.Goes.{step}
 use Rattle.probe_session.specs.Goes.Passing.{found, got}
-use Rattle.probe_session.specs.Places.{Place, still}
+use Rattle.probe_session.specs.Places.{Place, is_identity, spot, still}
+use Rattle.debugger_laws.specs.Ways.Way.{Idle}
 use Rattle.probe_session.specs.Said.{shown_beside}
 use Rattle.probe_session.specs.Slots.{what_of}
 use Rattle.probe_session.specs.Steps.{Step, trigger_cause, with_ebreakm}
@@ -32,8 +34,8 @@ use Rattle.probe_session.specs.Steps.Step.{arms, arms_none, frees, frees_none, r
 use Rattle.probe_session.proofs.WentLemmas.{falls_at, one, went_one}
 
 -- a step behind which the hart is left to itself
-rested : {h : ℕ} {line : Line} {from : Plan → Place} {t u : Tells} → ((next : Plan) → Step (from next) t [] (still h (say line next)) u) → Went from (ends_with line) [] t u
-rested s = record { goes = λ next. step (one (s next)) rests }
+rested : {h : ℕ} {line : Line} {from : Plan → Place} {t u : Tells} → ((next : Plan) → Step (from next) t [] (still h (say line next)) u) → is_identity line ≡ false → Went from (ends_with line) [] t u
+rested {h} {line} {from} {t} {u} s plain = record { goes = λ next. subst (λ b. Goes (from next) t [] (spot b Idle 0 (say line next)) u) (sym plain) (step (one (s next)) rests) }
 
 -- ---- the stop line
 
@@ -42,7 +44,7 @@ hits_hidden cause hits other = ap (λ (x : Bool). if x then hits else []) (ne_eq
 
 plain_line : (h pc cause : ℕ) (hits shown : List Bool) {t u : Tells} → shown ≡ [] → FoundStop h pc cause t u → cause ≢ trigger_cause → Went (at_stop_line h) (ends_with (Line.Halted pc cause shown)) [] t u
 plain_line h pc cause hits shown {t} {u} is at other =
-    subst (λ l. Went (at_stop_line h) (ends_with (Line.Halted pc cause l)) [] t u) (sym is) (rested (λ next. stands next at other))
+    subst (λ l. Went (at_stop_line h) (ends_with (Line.Halted pc cause l)) [] t u) (sym is) (rested (λ next. stands next at other) refl)
 
 pub stop_plain : (h pc cause : ℕ) (hits : List Bool) {t u : Tells} → FoundStop h pc cause t u → cause ≢ trigger_cause → Went (at_stop_line h) (ends_with (Line.Halted pc cause (shown_beside cause hits))) [] t u
 stop_plain h pc cause hits at other = plain_line h pc cause hits (shown_beside cause hits) (hits_hidden cause hits other) at other
@@ -51,7 +53,7 @@ pub stop_trigger : (h pc cause : ℕ) (view : SlotView) {t u v : Tells} → Foun
     → Went (at_stop_line h) (ends_with (Line.Halted pc cause (shown_beside cause (hits_in view.hits)))) [] t v
 stop_trigger h pc cause view {t} {u} {v} at is viewed =
     subst (λ n. Went (at_stop_line h) (ends_with (Line.Halted pc n (shown_beside n (hits_in view.hits)))) [] t v) (sym is)
-    (rested (λ next. stands_by_trigger next (subst (λ n. FoundStop h pc n t u) is at) viewed))
+    (rested (λ next. stands_by_trigger next (subst (λ n. FoundStop h pc n t u) is at) viewed) refl)
 
 pub stop_falls : (h : ℕ) {old_count new_count : ℕ} {t u : Tells} {f : Failure} → StopFell h old_count new_count t u f → Falls (at_stop_line h) [] old_count new_count t u f
 stop_falls h fell = falls_at (λ next. Fault.stopping fell)
@@ -63,16 +65,16 @@ stop_view_falls h pc cause at le fell = falls_at (λ next. Fault.behind (found a
 -- ---- registers
 
 pub register_shown : (h number value : ℕ) {t u : Tells} → IsOfCores number → Got h number value t u → Went (at_register h number) (ends_with (Line.Register number value)) [] t u
-register_shown h number value of at = rested (λ next. reads (λ v. say (Line.Register number v) next) at of)
+register_shown h number value of at = rested (λ next. reads (λ v. say (Line.Register number v) next) at of) refl
 
 pub register_refused : (h number : ℕ) {t u : Tells} → IsOfCores number → GotNone h number t u → Went (at_register h number) (ends_with (Line.RegisterRefused number)) [] t u
-register_refused h number of at = rested (λ next. reads_none next at of)
+register_refused h number of at = rested (λ next. reads_none next at of) refl
 
 pub register_falls : (h number : ℕ) {old_count new_count : ℕ} {t u : Tells} {f : Failure} → AskFell h number old_count new_count t u f → Falls (at_register h number) [] old_count new_count t u f
 register_falls h number fell = falls_at (λ next. Fault.asking fell)
 
 pub write_refused : (h number value : ℕ) {t u : Tells} → IsOfCores number → GaveNone h number value t u → Went (at_written_register h number value) (ends_with (Line.RegisterRefused number)) [] t u
-write_refused h number value of at = rested (λ next. writes_none _ _ at of)
+write_refused h number value of at = rested (λ next. writes_none _ _ at of) refl
 
 pub written : (h number value : ℕ) {t u : Tells} → IsOfCores number → number ≢ pc_number → Gave h number value t u → Went (at_written_register h number value) (at_register h number) [] t u
 written h number value of other at = went_one (λ next. writes _ _ at of other)
@@ -92,7 +94,7 @@ forget_falls h number value at le fell = falls_at (λ next. Fault.forgetting_beh
 -- ---- dcsr
 
 pub ebreak_said : (h word written : ℕ) (on : Bool) {t u v : Tells} → Got h dcsr_number word t u → written ≡ with_ebreakm on word → Gave h dcsr_number written u v → Went (at_ebreak h on) (ends_with (Line.Ebreak on)) [] t v
-ebreak_said h word written on {t} {u} {v} at is gives = rested (λ next. sets_ebreakm (say (Line.Ebreak on) next) at (subst (λ n. Gave h dcsr_number n u v) is gives))
+ebreak_said h word written on {t} {u} {v} at is gives = rested (λ next. sets_ebreakm (say (Line.Ebreak on) next) at (subst (λ n. Gave h dcsr_number n u v) is gives)) refl
 
 pub ebreak_falls : (h : ℕ) (on : Bool) {old_count new_count : ℕ} {t u : Tells} {f : Failure} → IsOfHarts dcsr_number → ReadFell h dcsr_number old_count new_count t u f → Falls (at_ebreak h on) [] old_count new_count t u f
 ebreak_falls h on of fell = falls_at (λ next. Fault.reading fell of)
@@ -113,19 +115,19 @@ armable (slot_use.Other tdata1) can = absurd can
 pub slot_armed : (h slot : ℕ) (meant : SlotUse) {t u : Tells} → trig.CanArm meant → SlotTaken h meant slot t u → Went (at_arming h (what_of meant)) (ends_with (Line.Slot slot (use_named meant) false)) [] t u
 slot_armed h slot meant {t} {u} can at =
     let a = armable meant can in
-    subst (λ x. Went (at_arming h (what_of meant)) (ends_with (Line.Slot slot x false)) [] t u) (sym a.0) (rested (λ next. arms (what_of meant) next at a.0 a.1))
+    subst (λ x. Went (at_arming h (what_of meant)) (ends_with (Line.Slot slot x false)) [] t u) (sym a.0) (rested (λ next. arms (what_of meant) next at a.0 a.1) refl)
 
 pub none_free : (h : ℕ) (meant : SlotUse) {t u : Tells} → NoneFree h meant t u → Went (at_arming h (what_of meant)) (ends_with Line.NoFreeSlot) [] t u
-none_free h meant at = rested (λ next. arms_none (what_of meant) next at)
+none_free h meant at = rested (λ next. arms_none (what_of meant) next at) refl
 
 pub arm_falls : (h : ℕ) (meant : SlotUse) {old_count new_count : ℕ} {t u : Tells} {f : Failure} → SlotsFell (ArmsAny meant) h old_count new_count t u f → Falls (at_arming h (what_of meant)) [] old_count new_count t u f
 arm_falls h meant fell = falls_at (λ next. Fault.arming fell)
 
 pub slot_freed : (h slot : ℕ) {t u : Tells} → SlotFreed h slot t u → Went (at_freeing h slot) (ends_with (Line.Slot slot Unused false)) [] t u
-slot_freed h slot at = rested (λ next. frees next at)
+slot_freed h slot at = rested (λ next. frees next at) refl
 
 pub not_used : (h slot : ℕ) {t u : Tells} → NotUsed h slot t u → Went (at_freeing h slot) (ends_with (Line.SlotNotInUse slot)) [] t u
-not_used h slot at = rested (λ next. frees_none next at)
+not_used h slot at = rested (λ next. frees_none next at) refl
 
 pub free_falls : (h slot : ℕ) {old_count new_count : ℕ} {t u : Tells} {f : Failure} → SlotsFell (FreesAny slot) h old_count new_count t u f → Falls (at_freeing h slot) [] old_count new_count t u f
 free_falls h slot fell = falls_at (λ next. Fault.freeing fell)

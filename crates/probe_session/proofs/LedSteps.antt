@@ -146,7 +146,7 @@ step_leads from to old new said (Step.rests {h} {p} {t}) m o lines a =
     none_said m o to lines new.far (kept m m Still Idle h 0 o p p lines lines (target_at t.far) (λ x d. deals_selects m h 0 o p lines x (deals_rests m h o p lines x d)) a)
 step_leads from to old new said (Step.unspent {h} {p} {t}) m o lines a =
     none_said m o to lines new.far (kept m m Ready Still h h o p p lines lines (target_at t.far) (λ x d. deals_unspent m h o p lines x d) a)
-step_leads from to old new said (Step.says {way} {h} {line} {next} {t}) m o lines a =
+step_leads from to old new said (Step.says {heard} {way} {h} {line} {next} {t} may) m o lines a =
     kept m m way way h h o (say line next) next lines (lines ++ line ∷ []) (target_at t.far) (λ x d. deals_put m h way o line next lines x d) a
 step_leads from to old new said (Step.looks {h} {s} absent running halted saw) m o lines a =
     none_said m o to lines new.far (left_so (SeesAt h s) h m 0 (behind_look s h absent running halted).hart Idle (behind_look s h absent running halted).way o _ (behind_look s h absent running halted).plan lines old.far new.far

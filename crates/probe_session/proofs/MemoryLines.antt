@@ -25,7 +25,7 @@ use Rattle.probe_session.specs.Goes.{Falls, Fault, Went}
 use Rattle.debug_model.specs.Told.{Far}
 use Rattle.probe_session.specs.Links.{Serving}
 use Rattle.probe_session.specs.Met.{Rest, before_look}
-use Rattle.probe_session.specs.Places.{Place, idle, still}
+use Rattle.probe_session.specs.Places.{Place, at_say, idle, still}
 use Rattle.probe_session.specs.Reach.{ReachedAs, ServingBy, ServingReached, before_reach, place_by, written}
 use Rattle.probe_session.specs.Steps.Step.{rests, same, stores, stores_none}
 use Rattle.probe_session.proofs.WentLemmas.{falls_at, falls_then, falls_within, went_none, went_one, went_then, within}
@@ -38,7 +38,7 @@ by_progbuf s r is = ap (λ p. by_path p (at_halted s.hart r.next r.body) r.body)
 pub reached_bus : (s : State) (t : Tells) → s.path ≡ Bus → Went (before_reach s) (λ r. idle r.body) [] t t
 reached_bus s t is = went_one (λ r. same (ap (λ p. by_path p (at_halted s.hart r.next r.body) r.body) is))
 
-pub reached_says : (s : State) (line : Line) {t u : Tells} → s.path ≡ Progbuf → Went (before_look s.hart) (λ r. idle (say line r.next)) [] t u → Went (before_reach s) (λ r. idle (say line r.next)) [] t u
+pub reached_says : (s : State) (line : Line) {t u : Tells} → s.path ≡ Progbuf → Went (before_look s.hart) (λ r. at_say line r.next) [] t u → Went (before_reach s) (λ r. at_say line r.next) [] t u
 reached_says s line is w = went_then (went_one (λ r. same (by_progbuf s r is))) w
 
 pub reached_at : (s : State) (x : Halted) {t u : Tells} → s.path ≡ Progbuf → x.number ≡ s.hart → Went (before_look s.hart) (λ r. still s.hart r.body) [] t u → Went (before_reach s) (λ r. still x.number r.body) [] t u
@@ -179,7 +179,7 @@ for_memory s body next = idle (at_path s (next s) (body (next s)))
 abbrev rest : State → (Plan → Plan) → (State → Plan) → Rest
 rest s body next = record { body = body (next s); next = next s }
 
-pub reach_says : (s : State) (body : Plan → Plan) (line : Line) {t u : Tells} → Went (before_reach s) (λ r. idle (say line r.next)) [] t u → Went (for_memory s body) (at_line line s) [] t u
+pub reach_says : (s : State) (body : Plan → Plan) (line : Line) {t u : Tells} → Went (before_reach s) (λ r. at_say line r.next) [] t u → Went (for_memory s body) (at_line line s) [] t u
 reach_says s body line w = within (rest s body) w
 
 pub reach_falls : (s : State) (body : Plan → Plan) {old_count new_count : ℕ} {t u : Tells} {f : Failure} → Falls (before_reach s) [] old_count new_count t u f → Falls (for_memory s body) [] old_count new_count t u f

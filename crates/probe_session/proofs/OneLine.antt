@@ -19,7 +19,7 @@ use Rattle.probe_session.specs.Commands.{at_line, at_stop_line, before, ends_wit
 use Rattle.probe_session.specs.Goes.{Falls, Went}
 use Rattle.probe_session.specs.Goes.{Fault}
 use Rattle.probe_session.specs.Met.{MetAs, Rest, ServingMet, before_look}
-use Rattle.probe_session.specs.Places.{Place, idle, still}
+use Rattle.probe_session.specs.Places.{Place, at_say, idle, still}
 use Rattle.probe_session.specs.Seen.{IsOf}
 use Rattle.probe_session.specs.Steps.{is_halted}
 use Rattle.probe_session.specs.Steps.Step.{looks, looks_again, looks_enough, halts, rests, same}
@@ -94,7 +94,7 @@ rest s body next = record { body = body (next s); next = next s }
 abbrev pub for_halted : State → (Plan → Plan) → (State → Plan) → Place
 for_halted s body next = idle (at_halted s.hart (next s) (body (next s)))
 
-pub met_says : (s : State) (body : Plan → Plan) (line : Line) {t u : Tells} → Went (before_look s.hart) (λ r. idle (say line r.next)) [] t u → Went (for_halted s body) (at_line line s) [] t u
+pub met_says : (s : State) (body : Plan → Plan) (line : Line) {t u : Tells} → Went (before_look s.hart) (λ r. at_say line r.next) [] t u → Went (for_halted s body) (at_line line s) [] t u
 met_says s body line w = within (rest s body) w
 
 pub met_at : (s : State) (body : ℕ → Plan → Plan) (line : Line) (x : ℕ) {t u v : Tells} → x ≡ s.hart → Went (before_look s.hart) (λ r. still s.hart r.body) [] t u

@@ -40,11 +40,11 @@ misaligned_at : (r : Reach) (size : Size) (a count : ℕ) {t : Tells} → is_ali
 misaligned_at r size a count is = went_one (λ next. same (misaligned_body size a next (reading count size a next) is))
 
 pub read_misaligned : (r : Reach) (size : Size) (a count : ℕ) {t : Tells} {c d : Option (List ℕ)} → is_aligned a size ≡ false → d ≡ grown (text_of (Line.MemoryFault a)) c → Spoke (at_read r size a count) idle true t t c d
-read_misaligned r size a count {c = c} is put = spoke_went (spoke_says (way_by r) (hart_by r) (Line.MemoryFault a) (λ next. next) (spoke_first c (misaligned_at r size a count is)) put) (reach_rests r (λ next. next))
+read_misaligned r size a count {c = c} is put = spoke_went (spoke_says (way_by r) (hart_by r) (Line.MemoryFault a) (λ next. next) refl (spoke_first c (misaligned_at r size a count is)) put) (reach_rests r (λ next. next))
 
 pub misaligned_cut : (r : Reach) (size : Size) (a count old_count new_count : ℕ) {t : Tells} {sink_old sink_new : ℕ} {c d : Option (List ℕ)} {f : Failure} → is_aligned a size ≡ false → f ≡ failure.Sink
     → GrewByPrefix (text_of (Line.MemoryFault a)) c d → Rises sink_old sink_new → Fell Quiet (at_read r size a count) old_count new_count t t sink_old sink_new c d f
-misaligned_cut r size a count old_count new_count {c = c} is sink front rises = fell_line (way_by r) (hart_by r) (Line.MemoryFault a) (λ next. next) (λ next calm. calm) old_count new_count sink (spoke_first c (misaligned_at r size a count is)) front rises
+misaligned_cut r size a count old_count new_count {c = c} is sink front rises = fell_line (way_by r) (hart_by r) (Line.MemoryFault a) (λ next. next) refl (λ next calm. calm) old_count new_count sink (spoke_first c (misaligned_at r size a count is)) front rises
 
 -- ---- elements
 
@@ -91,11 +91,11 @@ refused_at r size a count done at n none = spoke_went n.spoke (went_one (λ next
 
 pub element_refused : (r : Reach) (size : Size) (a count done at : ℕ) {t u v : Tells} {c d e : Option (List ℕ)} → NextElement r size a count done at t u c d → LoadedNone size at u v → e ≡ grown (text_of (Line.MemoryFault at)) d
     → Spoke (at_read r size a count) idle true t v c e
-element_refused r size a count done at n none put = spoke_went (spoke_says (way_by r) (hart_by r) (Line.MemoryFault at) (λ next. next) (refused_at r size a count done at n none) put) (reach_rests r (λ next. next))
+element_refused r size a count done at n none put = spoke_went (spoke_says (way_by r) (hart_by r) (Line.MemoryFault at) (λ next. next) refl (refused_at r size a count done at n none) put) (reach_rests r (λ next. next))
 
 pub refused_cut : (r : Reach) (size : Size) (a count done at old_count new_count : ℕ) {t u v : Tells} {sink_old sink_new : ℕ} {c d e : Option (List ℕ)} {f : Failure} → f ≡ failure.Sink → NextElement r size a count done at t u c d
     → LoadedNone size at u v → GrewByPrefix (text_of (Line.MemoryFault at)) d e → Rises sink_old sink_new → Fell Quiet (at_read r size a count) old_count new_count t v sink_old sink_new c e f
-refused_cut r size a count done at old_count new_count sink n none front rises = fell_line (way_by r) (hart_by r) (Line.MemoryFault at) (λ next. next) (λ next calm. calm) old_count new_count sink (refused_at r size a count done at n none) front rises
+refused_cut r size a count done at old_count new_count sink n none front rises = fell_line (way_by r) (hart_by r) (Line.MemoryFault at) (λ next. next) refl (λ next calm. calm) old_count new_count sink (refused_at r size a count done at n none) front rises
 
 loaded_at : (r : Reach) (size : Size) (a count done at value : ℕ) {t u v : Tells} {c d : Option (List ℕ)} (n : NextElement r size a count done at t u c d) → Loaded size at value u v
     → Spoke (at_read r size a count) (λ next. place_by r (say (Line.Element at size value) (reading n.left size (at + count_of size) next))) false t v c d
@@ -107,14 +107,14 @@ element_shown r size a count done at value n l put = record {
   left = n.left;
   all = n.all;
   spoke =
-      spoke_went (spoke_says (way_by r) (hart_by r) (Line.Element at size value) (λ next. reading n.left size (at + count_of size) next) (loaded_at r size a count done at value n l) put)
+      spoke_went (spoke_says (way_by r) (hart_by r) (Line.Element at size value) (λ next. reading n.left size (at + count_of size) next) refl (loaded_at r size a count done at value n l) put)
       (went_one (λ next. same (ap (λ x. reading n.left size x next) n.along)));
 }
 
 pub element_cut : (r : Reach) (size : Size) (a count done at value old_count new_count : ℕ) {t u v : Tells} {sink_old sink_new : ℕ} {c d e : Option (List ℕ)} {f : Failure} → f ≡ failure.Sink → NextElement r size a count done at t u c d
     → Loaded size at value u v → GrewByPrefix (text_of (Line.Element at size value)) d e → Rises sink_old sink_new → Fell Quiet (at_read r size a count) old_count new_count t v sink_old sink_new c e f
 element_cut r size a count done at value old_count new_count sink n l front rises =
-    fell_line (way_by r) (hart_by r) (Line.Element at size value) (λ next. reading n.left size (at + count_of size) next) (λ next calm. quiet_reading n.left size (at + count_of size) next calm) old_count new_count sink (loaded_at r size a count done at value n l) front rises
+    fell_line (way_by r) (hart_by r) (Line.Element at size value) (λ next. reading n.left size (at + count_of size) next) refl (λ next calm. quiet_reading n.left size (at + count_of size) next calm) old_count new_count sink (loaded_at r size a count done at value n l) front rises
 
 all_by : (r : Reach) (size : Size) (a count done left : ℕ) {t u : Tells} {c d : Option (List ℕ)} → left ≡ 0 → Spoke (at_read r size a count) (λ next. place_by r (reading left size (a + done * count_of size) next)) false t u c d
     → Spoke (at_read r size a count) idle false t u c d

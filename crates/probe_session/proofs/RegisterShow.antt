@@ -45,7 +45,7 @@ x_of_cores x below c = x_value (nat_lt (first_x_number + x) first_x_number) (nat
 pub register_put : (h number value : ℕ) {t u : Tells} {c d : Option (List ℕ)} → IsOfCores number → Got h number value t u → d ≡ grown (text_of (Line.Register number value)) c
     → Spoke (at_next_register h number) (at_registers h) false t u c d
 register_put h number value {c = c} of got put =
-    spoke_says Still h (Line.Register number value) (λ (r : Registers). some_shown h r.numbers r.next) (spoke_first c (went_one (λ r. reads_next r.numbers r.next got of))) put
+    spoke_says Still h (Line.Register number value) (λ (r : Registers). some_shown h r.numbers r.next) refl (spoke_first c (went_one (λ r. reads_next r.numbers r.next got of))) put
 
 pub register_fell : (h number : ℕ) {old_count new_count : ℕ} {t u : Tells} (sink_old sink_new : ℕ) (c : Option (List ℕ)) {f : Failure} → IsOfCores number → ReadFell h number old_count new_count t u f
     → Fell CalmRegisters (at_next_register h number) old_count new_count t u sink_old sink_new c c f
@@ -54,7 +54,7 @@ register_fell h number sink_old sink_new c of fell = fell_first sink_old sink_ne
 pub register_cut : (h number value old_count new_count : ℕ) {t u : Tells} {sink_old sink_new : ℕ} {c d : Option (List ℕ)} {f : Failure} → IsOfCores number → f ≡ failure.Sink → Got h number value t u
     → GrewByPrefix (text_of (Line.Register number value)) c d → Rises sink_old sink_new → Fell CalmRegisters (at_next_register h number) old_count new_count t u sink_old sink_new c d f
 register_cut h number value old_count new_count {c = c} of sink got front rises =
-    fell_line Still h (Line.Register number value) (λ (r : Registers). some_shown h r.numbers r.next) (λ (r : Registers) calm b. quiet_saying (map (register_line h b) r.numbers) r.next calm) old_count new_count sink (spoke_first c (went_one (λ r. reads_next r.numbers r.next got of))) front rises
+    fell_line Still h (Line.Register number value) (λ (r : Registers). some_shown h r.numbers r.next) refl (λ (r : Registers) calm b. quiet_saying (map (register_line h b) r.numbers) r.next calm) old_count new_count sink (spoke_first c (went_one (λ r. reads_next r.numbers r.next got of))) front rises
 
 -- ---- all of them
 

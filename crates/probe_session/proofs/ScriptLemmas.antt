@@ -66,8 +66,8 @@ pub fell_then : {K : Type 0} {T : K → Type 0} {a b : K → Place} {wrong : Boo
     → Fell T b count new_count u v sink_mid sink_new d e f → Fell T a old_count new_count t v sink_old sink_new c e f
 fell_then {K} {T} {a} {b} {wrong} old_count count new_count sink_old sink_mid sink_new {t} {u} {v} {c} {d} {e} {f} s le sink_le later (in_call said p put) =
     in_call (s.said ++ said) (falls_then s.went le p) (grown_lines s.said said c d e s.put put)
-fell_then {K} {T} {a} {b} {wrong} old_count count new_count sink_old sink_mid sink_new {t} {u} {v} {c} {d} {e} {f} s le sink_le later (at_line said line way h next quiet w front rises) =
-    at_line (s.said ++ said) line way h next quiet (went_then s.went w) (text_behind s.said said line c d e s.put front) (rises_from sink_old sink_mid sink_new sink_le later rises)
+fell_then {K} {T} {a} {b} {wrong} old_count count new_count sink_old sink_mid sink_new {t} {u} {v} {c} {d} {e} {f} s le sink_le later (at_line said line heard way h next may quiet w front rises) =
+    at_line (s.said ++ said) line heard way h next may quiet (went_then s.went w) (text_behind s.said said line c d e s.put front) (rises_from sink_old sink_mid sink_new sink_le later rises)
 
 pub fell_one : (script : List Command) (s : State) (c : Command) (rest after : List Command) (t : State) (wrong : Bool) (old_count count new_count sink_old sink_mid sink_new : ℕ) {old now new : Tells} {was mid is : Option (List ℕ)} {f : Failure} → rest ≡ c ∷ after
     → SoFar script s rest t wrong old now was mid → old_count ≤ count → sink_old ≤ sink_mid → sink_mid ≤ sink_new → Fell CalmNext (before c t) count new_count now new sink_mid sink_new mid is f

@@ -11,7 +11,6 @@ use Rattle.debugger_laws.specs.Debugger.{State, at_path}
 use Rattle.debugger_laws.specs.Lines.{Line, is_error, text_of, text_of_all}
 use Rattle.debugger_laws.specs.Plan.{Plan}
 use Rattle.debugger_laws.specs.Plan.Plan.{say}
-use Rattle.debugger_laws.specs.Ways.Way.{Idle}
 use Rattle.printed_lines.specs.declared.line.Line.{Line as PrintedLine}
 use Rattle.printed_lines.specs.Line.{line_of}
 use Rattle.probe_run.specs.Acts.{Tells}
@@ -23,12 +22,12 @@ use Rattle.debugger_laws.specs.Laws.{Quiet}
 use Rattle.probe_session.specs.Goes.{CalmNext, Falls, Fell, Spoke, Went}
 use Rattle.probe_session.specs.Goes.Fell.{at_line, in_call}
 use Rattle.probe_session.specs.Met.{Rest, before_look}
-use Rattle.probe_session.specs.Places.{Place, idle, still}
+use Rattle.probe_session.specs.Places.{Place, at_say, idle, still}
 use Rattle.probe_session.specs.Reach.{before_reach, place_by}
 use Rattle.probe_session.specs.Said.{said_by}
 use Rattle.probe_session.proofs.MemoryLines.{reach_falls, reach_says}
 use Rattle.probe_session.proofs.OneLine.{for_halted, met_falls, met_says}
-use Rattle.probe_session.proofs.Spoken.{fell_first, fell_line, fell_within, front_at, grown_lines, one_line, spoke_first, spoke_within, went_spoke}
+use Rattle.probe_session.proofs.Spoken.{fell_first, fell_said, fell_within, front_at, grown_lines, one_line, spoke_first, spoke_within, went_spoke}
 use Rattle.probe_session.proofs.WentLemmas.{falls_then, went_then, within}
 
 -- ---- what fell behind lines that were written
@@ -36,14 +35,14 @@ use Rattle.probe_session.proofs.WentLemmas.{falls_then, went_then, within}
 pub spoke_fell : {K : Type 0} {T : K → Type 0} {a b : K → Place} {wrong : Bool} {old_count count new_count : ℕ} {t u v : Tells} {sink_old sink_count sink_new : ℕ} {c d e : Option (List ℕ)} {f : Failure} → Spoke a b wrong t u c d
     → old_count ≤ count → sink_old ≤ sink_count → sink_count ≤ sink_new → Fell T b count new_count u v sink_count sink_new d e f → Fell T a old_count new_count t v sink_old sink_new c e f
 spoke_fell {c = c} {d = d} {e = e} s le later more (in_call said p put) = in_call (s.said ++ said) (falls_then s.went le p) (grown_lines s.said said c d e s.put put)
-spoke_fell {sink_old = sink_old} {sink_count = sink_count} {sink_new = sink_new} {c = c} {d = d} {e = e} s le later more (at_line said line way h p quiet w front rises) =
-    at_line (s.said ++ said) line way h p quiet (went_then s.went w) (front_at line (grown (text_of_all (s.said ++ said)) c) (grown (text_of_all said) d) e (grown_lines s.said said c d (grown (text_of_all said) d) s.put refl) front)
+spoke_fell {sink_old = sink_old} {sink_count = sink_count} {sink_new = sink_new} {c = c} {d = d} {e = e} s le later more (at_line said line heard way h p may quiet w front rises) =
+    at_line (s.said ++ said) line heard way h p may quiet (went_then s.went w) (front_at line (grown (text_of_all (s.said ++ said)) c) (grown (text_of_all said) d) e (grown_lines s.said said c d (grown (text_of_all said) d) s.put refl) front)
     (rises_from sink_old sink_count sink_new later more rises)
 
 pub went_fell : {K : Type 0} {T : K → Type 0} {a b : K → Place} {old_count count new_count : ℕ} {t u v : Tells} {sink_old sink_new : ℕ} {c d : Option (List ℕ)} {f : Failure} → Went a b [] t u → old_count ≤ count
     → Fell T b count new_count u v sink_old sink_new c d f → Fell T a old_count new_count t v sink_old sink_new c d f
 went_fell w le (in_call said p put) = in_call said (falls_then w le p) put
-went_fell w le (at_line said line way h p quiet x front rises) = at_line said line way h p quiet (went_then w x) front rises
+went_fell w le (at_line said line heard way h p may quiet x front rises) = at_line said line heard way h p may quiet (went_then w x) front rises
 
 -- ---- a command that a halted hart does
 
@@ -53,13 +52,13 @@ rest s body next = record { body = body (next s); next = next s }
 abbrev next_of : State → (State → Plan) → Plan
 next_of s next = next s
 
-pub look_says : (s : State) (body : Plan → Plan) (l : PrintedLine) (wrong : Bool) {t u : Tells} {c d : Option (List ℕ)} → wrong ≡ is_error (line_of l) → Went (before_look s.hart) (λ r. idle (say (said_by l) r.next)) [] t u
+pub look_says : (s : State) (body : Plan → Plan) (l : PrintedLine) (wrong : Bool) {t u : Tells} {c d : Option (List ℕ)} → wrong ≡ is_error (line_of l) → Went (before_look s.hart) (λ r. at_say (said_by l) r.next) [] t u
     → d ≡ grown (text_of (said_by l)) c → Spoke (for_halted s body) (behind s) wrong t u c d
-look_says s body l wrong is w put = one_line Idle 0 l (next_of s) wrong is (met_says s body (said_by l) w) put
+look_says s body l wrong is w put = one_line l (next_of s) wrong is (met_says s body (said_by l) w) put
 
-pub look_cut : (s : State) (body : Plan → Plan) (line : Line) (old_count new_count : ℕ) {t u : Tells} {sink_old sink_new : ℕ} {c d : Option (List ℕ)} {f : Failure} → f ≡ failure.Sink → Went (before_look s.hart) (λ r. idle (say line r.next)) [] t u
+pub look_cut : (s : State) (body : Plan → Plan) (line : Line) (old_count new_count : ℕ) {t u : Tells} {sink_old sink_new : ℕ} {c d : Option (List ℕ)} {f : Failure} → f ≡ failure.Sink → Went (before_look s.hart) (λ r. at_say line r.next) [] t u
     → GrewByPrefix (text_of line) c d → Rises sink_old sink_new → Fell CalmNext (for_halted s body) old_count new_count t u sink_old sink_new c d f
-look_cut s body line old_count new_count {c = c} is w front rises = fell_line Idle 0 line (next_of s) (λ next calm. calm s) old_count new_count is (spoke_first c (met_says s body line w)) front rises
+look_cut s body line old_count new_count {c = c} is w front rises = fell_said line (next_of s) (λ next calm. calm s) old_count new_count is (spoke_first c (met_says s body line w)) front rises
 
 pub look_fell : (s : State) (body : Plan → Plan) {old_count new_count : ℕ} {t u : Tells} (sink_old sink_new : ℕ) (c : Option (List ℕ)) {f : Failure} → Falls (before_look s.hart) [] old_count new_count t u f
     → Fell CalmNext (for_halted s body) old_count new_count t u sink_old sink_new c c f
@@ -82,13 +81,13 @@ look_spoke_fell s body x {count = count} {new_count = new_count} {u = u} {v = v}
 abbrev for_memory : State → (Plan → Plan) → (State → Plan) → Place
 for_memory s body next = idle (at_path s (next s) (body (next s)))
 
-pub reached_says_line : (s : State) (body : Plan → Plan) (l : PrintedLine) (wrong : Bool) {t u : Tells} {c d : Option (List ℕ)} → wrong ≡ is_error (line_of l) → Went (before_reach s) (λ r. idle (say (said_by l) r.next)) [] t u
+pub reached_says_line : (s : State) (body : Plan → Plan) (l : PrintedLine) (wrong : Bool) {t u : Tells} {c d : Option (List ℕ)} → wrong ≡ is_error (line_of l) → Went (before_reach s) (λ r. at_say (said_by l) r.next) [] t u
     → d ≡ grown (text_of (said_by l)) c → Spoke (for_memory s body) (behind s) wrong t u c d
-reached_says_line s body l wrong is w put = one_line Idle 0 l (next_of s) wrong is (reach_says s body (said_by l) w) put
+reached_says_line s body l wrong is w put = one_line l (next_of s) wrong is (reach_says s body (said_by l) w) put
 
-pub reached_cut : (s : State) (body : Plan → Plan) (line : Line) (old_count new_count : ℕ) {t u : Tells} {sink_old sink_new : ℕ} {c d : Option (List ℕ)} {f : Failure} → f ≡ failure.Sink → Went (before_reach s) (λ r. idle (say line r.next)) [] t u
+pub reached_cut : (s : State) (body : Plan → Plan) (line : Line) (old_count new_count : ℕ) {t u : Tells} {sink_old sink_new : ℕ} {c d : Option (List ℕ)} {f : Failure} → f ≡ failure.Sink → Went (before_reach s) (λ r. at_say line r.next) [] t u
     → GrewByPrefix (text_of line) c d → Rises sink_old sink_new → Fell CalmNext (for_memory s body) old_count new_count t u sink_old sink_new c d f
-reached_cut s body line old_count new_count {c = c} is w front rises = fell_line Idle 0 line (next_of s) (λ next calm. calm s) old_count new_count is (spoke_first c (reach_says s body line w)) front rises
+reached_cut s body line old_count new_count {c = c} is w front rises = fell_said line (next_of s) (λ next calm. calm s) old_count new_count is (spoke_first c (reach_says s body line w)) front rises
 
 pub reached_fell : (s : State) (body : Plan → Plan) {old_count new_count : ℕ} {t u : Tells} (sink_old sink_new : ℕ) (c : Option (List ℕ)) {f : Failure} → Falls (before_reach s) [] old_count new_count t u f
     → Fell CalmNext (for_memory s body) old_count new_count t u sink_old sink_new c c f

@@ -95,7 +95,7 @@ falls_not_sink before said old_count new_count old new r = fault_not_sink (r.at 
 
 fell_sink : (f : Failure) → f ≡ failure.Sink → (before : Unit {0} → Place) (old_count new_count : ℕ) (old new : Tells) (sink_old sink_new : ℕ) (was is : Option (List ℕ)) → Fell Anyhow before old_count new_count old new sink_old sink_new was is f → Rises sink_old sink_new
 fell_sink f e before old_count new_count old new sink_old sink_new was is (Fell.in_call said r put) = absurd (falls_not_sink before said old_count new_count old new (subst (Falls before said old_count new_count old new) e r))
-fell_sink f e before old_count new_count old new sink_old sink_new was is (Fell.at_line said line way h next quiet went front rises) = rises
+fell_sink f e before old_count new_count old new sink_old sink_new was is (Fell.at_line said line heard way h next may quiet went front rises) = rises
 
 pub sink_caused : (e : Ended) (script : List Command) (old_count new_count : ℕ) (old new : Tells) (sink_old sink_new : ℕ) (was is : Option (List ℕ)) → EndedAs script old_count new_count old new sink_old sink_new was is e → SinkCaused sink_old sink_new e
 sink_caused ended.Clean script old_count new_count old new sink_old sink_new was is r = tt

@@ -83,14 +83,14 @@ at_next h view slot used four is s = spoke_went s (went_one (λ next. same (ap (
 pub slot_said : (h : ℕ) (view : SlotView) (slot : ℕ) (used : SlotUse) (hit : Bool) {t u : Tells} {c d e : Option (List ℕ)} → length view.used ≡ 4 → slice_get view.used slot ≡ Some used
     → hit ≡ has_slot view.hits slot → SlotsSaid h view slot t u c d → e ≡ grown (text_of (Line.Slot slot (use_named used) hit)) d → SlotsSaid h view (slot + 1) t u c e
 slot_said h view slot used hit {d = d} four is hit_is s put =
-    spoke_says Still h (line_at slot used view.hits) (λ next. saying (lines_from (slot + 1) view.used view.hits) next) (at_next h view slot used four is s)
+    spoke_says Still h (line_at slot used view.hits) (λ next. saying (lines_from (slot + 1) view.used view.hits) next) refl (at_next h view slot used four is s)
     (put ∙ ap (λ (b : Bool). grown (text_of (Line.Slot slot (use_named used) b)) d) hit_is)
 
 pub slot_cut : (h : ℕ) (view : SlotView) (slot : ℕ) (used : SlotUse) (hit : Bool) (old_count new_count : ℕ) {t u : Tells} {sink_old sink_new : ℕ} {c d e : Option (List ℕ)} {f : Failure} → length view.used ≡ 4
     → slice_get view.used slot ≡ Some used → hit ≡ has_slot view.hits slot → f ≡ failure.Sink → SlotsSaid h view slot t u c d → GrewByPrefix (text_of (Line.Slot slot (use_named used) hit)) d e
     → Rises sink_old sink_new → Fell Quiet (at_slots h) old_count new_count t u sink_old sink_new c e f
 slot_cut h view slot used hit old_count new_count {d = d} {e = e} four is hit_is sink s front rises =
-    fell_line Still h (line_at slot used view.hits) (λ next. saying (lines_from (slot + 1) view.used view.hits) next)
+    fell_line Still h (line_at slot used view.hits) (λ next. saying (lines_from (slot + 1) view.used view.hits) next) refl
     (λ next calm. quiet_saying (lines_from (slot + 1) view.used view.hits) next calm) old_count new_count sink (at_next h view slot used four is s)
     (subst (λ (b : Bool). GrewByPrefix (text_of (Line.Slot slot (use_named used) b)) d e) hit_is front) rises
 

@@ -1,6 +1,6 @@
 -- Lines that are said and written, one behind another.
 use Rattle.std.proofs.Common.{◌≡◌, ◌≤◌, ◌∙◌, ◌++◌, ℕ, Bool, true, false, List, [], ◌∷◌, Option, Some, None, refl, sym, ap, subst, append_assoc, append-nil}
-use Rattle.std.specs.Prelude.{◌||◌}
+use Rattle.std.specs.Prelude.{◌||◌, not}
 use Rattle.std.proofs.lemmas.List.Folds.{list_any-append}
 use Rattle.jt_base.specs.Faults.{Rises}
 use Rattle.jt_base.specs.Sink.{GrewByPrefix, grown}
@@ -8,6 +8,7 @@ use Rattle.debugger_laws.specs.Lines.{Line, any_error, is_error, text_of, text_o
 use Rattle.debugger_laws.specs.Plan.{Plan}
 use Rattle.debugger_laws.specs.Plan.Plan.{say}
 use Rattle.debugger_laws.specs.Ways.{Way}
+use Rattle.debugger_laws.specs.Ways.Way.{Idle}
 use Rattle.printed_lines.specs.declared.line.Line.{Line as PrintedLine}
 use Rattle.printed_lines.specs.declared.line.Line.TheVariants as printed
 use Rattle.printed_lines.specs.Line.{line_of}
@@ -17,7 +18,7 @@ use Rattle.probe_session.specs.declared.fault.Failure.TheVariants as failure
 use Rattle.debugger_laws.specs.Laws.{Quiet}
 use Rattle.probe_session.specs.Goes.{Falls, Fell, Spoke, Went}
 use Rattle.probe_session.specs.Goes.Fell.{at_line, in_call}
-use Rattle.probe_session.specs.Places.{Place, place}
+use Rattle.probe_session.specs.Places.{Place, at_say, idle, is_identity, may_say, place, spot}
 use Rattle.probe_session.specs.Said.{said_by}
 use Rattle.probe_session.specs.Steps.Step.{says}
 use Rattle.probe_session.proofs.WentLemmas.{falls_then, falls_within, went_none, went_one, went_then, within}
@@ -70,17 +71,35 @@ or_false true = refl
 or_false false = refl
 
 -- a line that is said and written
-pub says_line : {K : Type 0} (way : Way) (h : ℕ) (line : Line) (p : K → Plan) {t : Tells} {c d : Option (List ℕ)} → d ≡ grown (text_of line) c → Spoke (λ k. place way h (say line (p k))) (λ k. place way h (p k)) (is_error line) t t c d
-says_line way h line p {t} {c} {d} put = record {
+says_at : {K : Type 0} (heard : Bool) (way : Way) (h : ℕ) (line : Line) (p : K → Plan) {t : Tells} {c d : Option (List ℕ)} → may_say heard line ≡ true → d ≡ grown (text_of line) c
+    → Spoke (λ k. spot heard way h (say line (p k))) (λ k. place way h (p k)) (is_error line) t t c d
+says_at heard way h line p {t} {c} {d} may put = record {
   said = line ∷ [];
-  went = went_one (λ k. says);
+  went = went_one (λ k. says may);
   put = put ∙ one_text line c;
   wrong_is = or_false (is_error line);
 }
 
-pub spoke_says : {K : Type 0} {a : K → Place} (way : Way) (h : ℕ) (line : Line) (p : K → Plan) {wrong : Bool} {t u : Tells} {c d e : Option (List ℕ)} → Spoke a (λ k. place way h (say line (p k))) wrong t u c d → e ≡ grown (text_of line) d
-    → Spoke a (λ k. place way h (p k)) (wrong || is_error line) t u c e
-spoke_says way h line p s put = spoke_then s (says_line way h line p put)
+-- a line that wants no call
+pub says_line : {K : Type 0} (way : Way) (h : ℕ) (line : Line) (p : K → Plan) {t : Tells} {c d : Option (List ℕ)} → is_identity line ≡ false → d ≡ grown (text_of line) c
+    → Spoke (λ k. place way h (say line (p k))) (λ k. place way h (p k)) (is_error line) t t c d
+says_line way h line p plain put = says_at false way h line p (ap not plain) put
+
+pub spoke_says : {K : Type 0} {a : K → Place} (way : Way) (h : ℕ) (line : Line) (p : K → Plan) {wrong : Bool} {t u : Tells} {c d e : Option (List ℕ)} → is_identity line ≡ false → Spoke a (λ k. place way h (say line (p k))) wrong t u c d
+    → e ≡ grown (text_of line) d → Spoke a (λ k. place way h (p k)) (wrong || is_error line) t u c e
+spoke_says way h line p plain s put = spoke_then s (says_line way h line p plain put)
+
+-- any line at its place
+said_where : (b : Bool) → (b || not b) ≡ true
+said_where true = refl
+said_where false = refl
+
+pub may_at_say : (line : Line) → may_say (is_identity line) line ≡ true
+may_at_say line = said_where (is_identity line)
+
+spoke_at : {K : Type 0} {a : K → Place} (line : Line) (p : K → Plan) {wrong : Bool} {t u : Tells} {c d e : Option (List ℕ)} → Spoke a (λ k. at_say line (p k)) wrong t u c d → e ≡ grown (text_of line) d
+    → Spoke a (λ k. idle (p k)) (wrong || is_error line) t u c e
+spoke_at line p s put = spoke_then s (says_at (is_identity line) Idle 0 line p (may_at_say line) put)
 
 pub spoke_within : {K L : Type 0} {a b : L → Place} {wrong : Bool} {t u : Tells} {c d : Option (List ℕ)} (f : K → L) → Spoke a b wrong t u c d → Spoke (λ k. a (f k)) (λ k. b (f k)) wrong t u c d
 spoke_within f s = record { said = s.said; went = within f s.went; put = s.put; wrong_is = s.wrong_is }
@@ -99,16 +118,25 @@ pub front_at : (line : Line) (c d e : Option (List ℕ)) → d ≡ c → GrewByP
 front_at line c d e is g = subst (λ x. GrewByPrefix (text_of line) x e) is g
 
 -- a line could not be written, behind others
-pub fell_line : {K : Type 0} {T : K → Type 0} {a : K → Place} (way : Way) (h : ℕ) (line : Line) (p : K → Plan) (quiet : (k : K) → T k → Quiet (p k)) {wrong : Bool} (old_count new_count : ℕ) {t u : Tells} {sink_old sink_new : ℕ} {c d e : Option (List ℕ)} {f : Failure} → f ≡ failure.Sink
-    → Spoke a (λ k. place way h (say line (p k))) wrong t u c d → GrewByPrefix (text_of line) d e → Rises sink_old sink_new → Fell T a old_count new_count t u sink_old sink_new c e f
-fell_line {K} {T} {a} way h line p quiet old_count new_count {t} {u} {sink_old} {sink_new} {c} {d} {e} {f} is s front rises =
+fell_where : {K : Type 0} {T : K → Type 0} {a : K → Place} (heard : Bool) (way : Way) (h : ℕ) (line : Line) (p : K → Plan) (may : may_say heard line ≡ true) (quiet : (k : K) → T k → Quiet (p k)) {wrong : Bool} (old_count new_count : ℕ) {t u : Tells} {sink_old sink_new : ℕ} {c d e : Option (List ℕ)} {f : Failure} → f ≡ failure.Sink
+    → Spoke a (λ k. spot heard way h (say line (p k))) wrong t u c d → GrewByPrefix (text_of line) d e → Rises sink_old sink_new → Fell T a old_count new_count t u sink_old sink_new c e f
+fell_where {K} {T} {a} heard way h line p may quiet old_count new_count {t} {u} {sink_old} {sink_new} {c} {d} {e} {f} is s front rises =
     subst (λ (x : Failure). Fell T a old_count new_count t u sink_old sink_new c e x) (sym is)
-    (at_line s.said line way h p quiet s.went (front_at line (grown (text_of_all s.said) c) d e s.put front) rises)
+    (at_line s.said line heard way h p may quiet s.went (front_at line (grown (text_of_all s.said) c) d e s.put front) rises)
+
+pub fell_line : {K : Type 0} {T : K → Type 0} {a : K → Place} (way : Way) (h : ℕ) (line : Line) (p : K → Plan) (plain : is_identity line ≡ false) (quiet : (k : K) → T k → Quiet (p k)) {wrong : Bool} (old_count new_count : ℕ) {t u : Tells} {sink_old sink_new : ℕ} {c d e : Option (List ℕ)} {f : Failure} → f ≡ failure.Sink
+    → Spoke a (λ k. place way h (say line (p k))) wrong t u c d → GrewByPrefix (text_of line) d e → Rises sink_old sink_new → Fell T a old_count new_count t u sink_old sink_new c e f
+fell_line way h line p plain quiet old_count new_count is s front rises = fell_where false way h line p (ap not plain) quiet old_count new_count is s front rises
+
+-- any line at its place
+pub fell_said : {K : Type 0} {T : K → Type 0} {a : K → Place} (line : Line) (p : K → Plan) (quiet : (k : K) → T k → Quiet (p k)) {wrong : Bool} (old_count new_count : ℕ) {t u : Tells} {sink_old sink_new : ℕ} {c d e : Option (List ℕ)} {f : Failure} → f ≡ failure.Sink
+    → Spoke a (λ k. at_say line (p k)) wrong t u c d → GrewByPrefix (text_of line) d e → Rises sink_old sink_new → Fell T a old_count new_count t u sink_old sink_new c e f
+fell_said line p quiet old_count new_count is s front rises = fell_where (is_identity line) Idle 0 line p (may_at_say line) quiet old_count new_count is s front rises
 
 pub fell_within : {K L : Type 0} {T : K → Type 0} {U : L → Type 0} {a : L → Place} {old_count new_count : ℕ} {t u : Tells} {sink_old sink_new : ℕ} {c d : Option (List ℕ)} {f : Failure} (g : K → L) (calm : (k : K) → T k → U (g k)) → Fell U a old_count new_count t u sink_old sink_new c d f
     → Fell T (λ k. a (g k)) old_count new_count t u sink_old sink_new c d f
 fell_within g calm (in_call said p put) = in_call said (falls_within g p) put
-fell_within g calm (at_line said line way h p quiet w front rises) = at_line said line way h (λ k. p (g k)) (λ k t. quiet (g k) (calm k t)) (within g w) front rises
+fell_within g calm (at_line said line heard way h p may quiet w front rises) = at_line said line heard way h (λ k. p (g k)) may (λ k t. quiet (g k) (calm k t)) (within g w) front rises
 
 -- ---- one line
 
@@ -140,7 +168,7 @@ same_error printed.NoFreeSlot = refl
 same_error (printed.SlotNotInUse n) = refl
 
 -- a command of one line, which is said and written
-pub one_line : {K : Type 0} {a : K → Place} (way : Way) (h : ℕ) (l : PrintedLine) (p : K → Plan) (wrong : Bool) {t u : Tells} {c d : Option (List ℕ)} → wrong ≡ is_error (line_of l) → Went a (λ k. place way h (say (said_by l) (p k))) [] t u
-    → d ≡ grown (text_of (said_by l)) c → Spoke a (λ k. place way h (p k)) wrong t u c d
-one_line {K} {a} way h l p wrong {t} {u} {c} {d} is w put =
-    subst (λ b. Spoke a (λ k. place way h (p k)) b t u c d) (sym (is ∙ same_error l)) (spoke_says way h (said_by l) p (spoke_first c w) put)
+pub one_line : {K : Type 0} {a : K → Place} (l : PrintedLine) (p : K → Plan) (wrong : Bool) {t u : Tells} {c d : Option (List ℕ)} → wrong ≡ is_error (line_of l) → Went a (λ k. at_say (said_by l) (p k)) [] t u
+    → d ≡ grown (text_of (said_by l)) c → Spoke a (λ k. idle (p k)) wrong t u c d
+one_line {K} {a} l p wrong {t} {u} {c} {d} is w put =
+    subst (λ b. Spoke a (λ k. idle (p k)) b t u c d) (sym (is ∙ same_error l)) (spoke_at (said_by l) p (spoke_first c w) put)

@@ -141,7 +141,7 @@ fell_wire : (f : Failure) (script : List Command) (old_count count new_count : �
     → Fell Anyhow (at_commands script first_state) count new_count mid new sink_old sink_new was is f → FailureWire old_count new_count new.far f
 fell_wire f script old_count count new_count mid new sink_old sink_new was is le (Fell.in_call said p put) =
     (wired_since f old_count p.count new_count new.far (omega (arith, le, p.later)) (fault_wired (p.at tt) p.count new_count p.mid new f (p.fault tt))).cause
-fell_wire f script old_count count new_count mid new sink_old sink_new was is le (Fell.at_line said line way h next quiet went front rises) = tt
+fell_wire f script old_count count new_count mid new sink_old sink_new was is le (Fell.at_line said line heard way h next may quiet went front rises) = tt
 
 broke_wire : (f : Failure) (script : List Command) (old_count new_count : ℕ) (old new : Tells) (sink_old sink_new : ℕ) (was is : Option (List ℕ)) → BrokeOff script old_count new_count old new sink_old sink_new was is f → FailureWire old_count new_count new.far f
 broke_wire f script old_count new_count old new sink_old sink_new was is (BrokeOff.in_opening why u e) = of_dmi why f old_count new_count new.far e (opening_wire why old_count new_count old new u.fails)

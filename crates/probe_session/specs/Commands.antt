@@ -13,7 +13,7 @@ use Rattle.debugger_laws.specs.Plan.Plan.{change, say, see}
 use Rattle.debugger_laws.specs.Slots.{any_hit, slots_at}
 use Rattle.debugger_laws.specs.Trace.{What}
 use Rattle.probe_session.specs.declared.session.Session.{Session}
-use Rattle.probe_session.specs.Places.{Place, idle, still}
+use Rattle.probe_session.specs.Places.{Place, at_say, idle, still}
 
 -- what the session has chosen for the commands to come
 abbrev pub state_of : Session → State
@@ -25,7 +25,7 @@ before command s next = idle (act command s next)
 
 -- at the line that ends a command
 abbrev pub at_line : Line → State → (State → Plan) → Place
-at_line line s next = idle (say line (next s))
+at_line line s next = at_say line (next s)
 
 -- behind it
 abbrev pub behind : State → (State → Plan) → Place
@@ -35,7 +35,7 @@ behind s next = idle (next s)
 
 -- at the last line, and nothing more of the hart
 abbrev pub ends_with : Line → Plan → Place
-ends_with line next = idle (say line next)
+ends_with line next = at_say line next
 
 abbrev pub at_stop_line : ℕ → Plan → Place
 at_stop_line h next = still h (stop_line h next)

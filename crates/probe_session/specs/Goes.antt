@@ -1,6 +1,6 @@
 -- How a session went: steps from one place of the plan to another, and where it broke off.
 -- It is this project's own.
-use Rattle.std.specs.Prelude.{◌≡◌, ◌≤◌, ◌++◌, ℕ, suc, Bool, false, List, [], Option}
+use Rattle.std.specs.Prelude.{◌≡◌, ◌≤◌, ◌++◌, ℕ, suc, Bool, true, false, List, [], Option}
 use Rattle.jt_base.specs.Faults.{Rises}
 use Rattle.jt_base.specs.Sink.{GrewByPrefix, grown}
 use Rattle.rv_model.specs.declared.size.Size.{Size}
@@ -20,7 +20,7 @@ use Rattle.rv_model.specs.DebugRegisters.{debug_refuses}
 use Rattle.probe_session.specs.declared.fault.Failure.{Failure}
 use Rattle.probe_session.specs.declared.fault.Failure.TheVariants as failure
 use Rattle.probe_session.specs.Calls.{AskFell, FoundStop, Gave, GiveFell, Got, HaltFell, IdcodeFell, IsOfHarts, LoadFell, LookFell, OverFell, ReadFell, ResumeFell, SlotsFell, StopFell, StoreFell, WriteFell}
-use Rattle.probe_session.specs.Places.{Place, idle, place, ready, still}
+use Rattle.probe_session.specs.Places.{Place, idle, may_say, place, ready, spot, still}
 use Rattle.probe_session.specs.Steps.{Step}
 
 -- from one place to another, with these lines said on the way
@@ -112,6 +112,6 @@ pub record Spoke {K : Type 0} (before after : K → Place) (wrong : Bool) (old n
 pub data Fell {K : Type 0} (T : K → Type 0) (before : K → Place) (old_count new_count : ℕ) (old new : Tells) (sink_old sink_new : ℕ) (was is : Option (List ℕ)) : Failure → Type 0 where
   in_call : {f : Failure} (said : List Line) → Falls before said old_count new_count old new f → is ≡ grown (text_of_all said) was
       → Fell T before old_count new_count old new sink_old sink_new was is f
-  at_line : (said : List Line) (line : Line) (way : Way) (h : ℕ) (next : K → Plan) → ((k : K) → T k → Quiet (next k)) → Went before (λ k. place way h (say line (next k))) said old new
+  at_line : (said : List Line) (line : Line) (heard : Bool) (way : Way) (h : ℕ) (next : K → Plan) → may_say heard line ≡ true → ((k : K) → T k → Quiet (next k)) → Went before (λ k. spot heard way h (say line (next k))) said old new
       → GrewByPrefix (text_of line) (grown (text_of_all said) was) is → Rises sink_old sink_new
       → Fell T before old_count new_count old new sink_old sink_new was is failure.Sink

@@ -10,7 +10,7 @@ use Rattle.probe_session.specs.declared.met.Met.{Met}
 use Rattle.probe_session.specs.declared.met.Met.TheVariants as met
 use Rattle.probe_session.specs.Goes.{Went}
 use Rattle.probe_session.specs.Links.{Serving, ServingHalted}
-use Rattle.probe_session.specs.Places.{Place, idle, still}
+use Rattle.probe_session.specs.Places.{Place, at_say, idle, still}
 use Rattle.probe_session.specs.Said.{said_by}
 
 -- what follows in the plan: the command that a halted hart does, and what is behind the command
@@ -23,7 +23,7 @@ before_look h r = idle (at_halted h r.next r.body)
 
 abbrev pub MetAs : (h : ℕ) → (old new : Tells) → Met → Type 0
 MetAs h old new (met.At x) = (x.number ≡ h) × Went (before_look h) (λ r. still h r.body) [] old new
-MetAs h old new (met.Says line) = Went (before_look h) (λ r. idle (say (said_by line) r.next)) [] old new
+MetAs h old new (met.Says line) = Went (before_look h) (λ r. at_say (said_by line) r.next) [] old new
 
 abbrev pub ServingMet : Option Far → Bool → Met → Type 0
 ServingMet far alive (met.At x) = ServingHalted x.number far alive

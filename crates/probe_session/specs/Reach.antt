@@ -18,7 +18,7 @@ use Rattle.probe_session.specs.declared.reach.Reached.TheVariants as reached
 use Rattle.probe_session.specs.Goes.{Went}
 use Rattle.probe_session.specs.Links.{Serving, ServingHalted}
 use Rattle.probe_session.specs.Met.{Rest}
-use Rattle.probe_session.specs.Places.{Place, idle, place}
+use Rattle.probe_session.specs.Places.{Place, at_say, idle, place}
 use Rattle.probe_session.specs.Said.{said_by}
 
 abbrev pub way_by : Reach → Way
@@ -41,7 +41,7 @@ before_reach s r = idle (at_path s r.next r.body)
 
 abbrev pub ReachedAs : State → (old new : Tells) → Reached → Type 0
 ReachedAs s old new (reached.By r) = Went (before_reach s) (λ rest. place_by r rest.body) [] old new
-ReachedAs s old new (reached.Says line) = Went (before_reach s) (λ rest. idle (say (said_by line) rest.next)) [] old new
+ReachedAs s old new (reached.Says line) = Went (before_reach s) (λ rest. at_say (said_by line) rest.next) [] old new
 
 abbrev pub ServingReached : Option Far → Bool → Reached → Type 0
 ServingReached far alive (reached.By r) = ServingBy far alive r

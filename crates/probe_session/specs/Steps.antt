@@ -29,7 +29,7 @@ use Rattle.probe_run.specs.declared.hart.Seen.{Seen}
 use Rattle.probe_run.specs.declared.hart.Seen.TheVariants as seen
 use Rattle.probe_run.specs.Acts.{Tells}
 use Rattle.probe_session.specs.Calls.{FoundStop, Gave, GaveNone, Got, GotNone, HaltMade, HitsForgotten, Identified, IsOfCores, Loaded, LoadedNone, NoneFree, NotUsed, OverMade, ResumeMade, Saw, SlotFreed, SlotTaken, Stored, StoredNone, Viewed}
-use Rattle.probe_session.specs.Places.{Place, idle, place, ready, still}
+use Rattle.probe_session.specs.Places.{Place, at_say, idle, may_say, place, ready, spot, still}
 
 -- where a command stands behind its Look
 abbrev pub behind_look : Seen → ℕ → (absent running halted : Plan) → Place
@@ -78,10 +78,11 @@ pub data Step : Place → Tells → List Line → Place → Tells → Type 0 whe
   rests : {h : ℕ} {p : Plan} {t : Tells} → Step (still h p) t [] (idle p) t
   unspent : {h : ℕ} {p : Plan} {t : Tells} → Step (ready h p) t [] (still h p) t
   overlooks : {way : Way} {h : ℕ} {p : Plan} {t : Tells} → Step (place way h (see (λ _. p))) t [] (place way h p) t
-  says : {way : Way} {h : ℕ} {line : Line} {next : Plan} {t : Tells} → Step (place way h (say line next)) t (line ∷ []) (place way h next) t
+  says : {heard : Bool} {way : Way} {h : ℕ} {line : Line} {next : Plan} {t : Tells} → may_say heard line ≡ true
+      → Step (spot heard way h (say line next)) t (line ∷ []) (place way h next) t
   -- the transport
   identifies : {number : ℕ} {next : Plan} {old new : Tells} → Identified number old new
-      → Step (idle (say (Line.Idcode idcode) next)) old [] (idle (say (Line.Idcode number) next)) new
+      → Step (idle (say (Line.Idcode idcode) next)) old [] (at_say (Line.Idcode number) next) new
   -- Looks
   looks : {h : ℕ} {s : Seen} (absent running halted : Plan) {old new : Tells} → Saw h old new s
       → Step (idle (look h (by_state absent running halted))) old [] (behind_look s h absent running halted) new

@@ -1,4 +1,5 @@
 use Rattle.probe_session.specs.Commands.{armed, state_of}
+use Rattle.probe_session.specs.Said.{said_by}
 use Rattle.probe_session.proofs.LinkLemmas.{if_err}
 use Rattle.probe_session.proofs.OneLine.{if_err_map, if_ok_map, met_as, met_at, met_at_falls, met_falls, met_says}
 use Rattle.debugger_laws.specs.Trace.What.{Count}
@@ -13,7 +14,7 @@ returns-in-Says-clause-went g c = met_says (state_of c.args.self.now) (armed (Co
 pub returns-in-At-clause-went : goal.returns-in-At-clause-went
 returns-in-At-clause-went g c =
     let m = met_as _ _ _ c.in-At.is c.in_ok-line.ensures.met in
-    if_ok_map _ _ _ (λ line w. met_at (state_of c.args.self.now) (armed (Count c.args.turns)) _ c.in-At.halted.number m.0 m.1 w) c.armed_line.ensures.went
+    if_ok_map _ _ _ (λ line w. met_at (state_of c.args.self.now) (armed (Count c.args.turns)) (said_by line) c.in-At.halted.number m.0 m.1 w) c.armed_line.ensures.went
 
 pub returns-in-At-clause-falls : goal.returns-in-At-clause-falls
 returns-in-At-clause-falls g c =

@@ -1,5 +1,6 @@
 use Rattle.std.proofs.Common.{◌∙◌, arith}
 use Rattle.probe_session.specs.Commands.{state_of}
+use Rattle.probe_session.specs.Said.{said_by}
 use Rattle.probe_session.proofs.LinkLemmas.{if_err}
 use Rattle.probe_session.proofs.OneLine.{halt_absent, halt_falls, halt_halted, halt_made, halt_made_falls, if_err_map, if_ok_map, of_halted, of_running, stops, stops_falls}
 use Rattle.probe_session.proofs.SeenLemmas.{saw_as}
@@ -18,7 +19,7 @@ returns-in_err-halted-in-Running-clause-falls g c =
 
 pub returns-in_ok-halted-in-Running-clause-went : goal.returns-in_ok-halted-in-Running-clause-went
 returns-in_ok-halted-in-Running-clause-went g c =
-    if_ok_map _ _ _ (λ line w. stops (state_of c.args.self.now) _ c.in_ok-halted-in-Running.halted.number _ (c.in_ok-halted-in-Running.ensures.hart ∙ of_running c.in-Running.is c.in_ok-see.ensures.of) (halt_made (state_of c.args.self.now) c.in-Running.running (of_running c.in-Running.is c.in_ok-see.ensures.of) (saw_as c.in-Running.is c.in_ok-see.ensures.saw) c.in_ok-halted-in-Running.ensures.halted) w) c.stop_line.ensures.went
+    if_ok_map _ _ _ (λ line w. stops (state_of c.args.self.now) (said_by line) c.in_ok-halted-in-Running.halted.number _ (c.in_ok-halted-in-Running.ensures.hart ∙ of_running c.in-Running.is c.in_ok-see.ensures.of) (halt_made (state_of c.args.self.now) c.in-Running.running (of_running c.in-Running.is c.in_ok-see.ensures.of) (saw_as c.in-Running.is c.in_ok-see.ensures.saw) c.in_ok-halted-in-Running.ensures.halted) w) c.stop_line.ensures.went
 
 pub returns-in_ok-halted-in-Running-clause-falls : goal.returns-in_ok-halted-in-Running-clause-falls
 returns-in_ok-halted-in-Running-clause-falls g c =
@@ -26,7 +27,7 @@ returns-in_ok-halted-in-Running-clause-falls g c =
 
 pub returns-in-Halted-clause-went : goal.returns-in-Halted-clause-went
 returns-in-Halted-clause-went g c =
-    if_ok_map _ _ _ (λ line w. stops (state_of c.args.self.now) _ c.in-Halted.halted.number _ (of_halted c.in-Halted.is c.in_ok-see.ensures.of) (halt_halted (state_of c.args.self.now) _ (saw_as c.in-Halted.is c.in_ok-see.ensures.saw)) w) c.stop_line-in-Halted.ensures.went
+    if_ok_map _ _ _ (λ line w. stops (state_of c.args.self.now) (said_by line) c.in-Halted.halted.number _ (of_halted c.in-Halted.is c.in_ok-see.ensures.of) (halt_halted (state_of c.args.self.now) _ (saw_as c.in-Halted.is c.in_ok-see.ensures.saw)) w) c.stop_line-in-Halted.ensures.went
 
 pub returns-in-Halted-clause-falls : goal.returns-in-Halted-clause-falls
 returns-in-Halted-clause-falls g c =

@@ -1,4 +1,5 @@
 use Rattle.probe_session.specs.Commands.{state_of}
+use Rattle.probe_session.specs.Said.{said_by}
 use Rattle.probe_session.proofs.LinkLemmas.{if_err}
 use Rattle.probe_session.proofs.OneLine.{if_err_map, if_ok_map, of_halted, state_absent, state_falls, state_halted, state_running, stops, stops_falls}
 use Rattle.probe_session.proofs.SeenLemmas.{saw_as}
@@ -15,7 +16,7 @@ returns-in-Running-clause-went g c = state_running (state_of c.args.self.now) _ 
 
 pub returns-in-Halted-clause-went : goal.returns-in-Halted-clause-went
 returns-in-Halted-clause-went g c =
-    if_ok_map _ _ _ (λ line w. stops (state_of c.args.self.now) _ c.in-Halted.halted.number _ (of_halted c.in-Halted.is c.in_ok-see.ensures.of) (state_halted (state_of c.args.self.now) _ (saw_as c.in-Halted.is c.in_ok-see.ensures.saw)) w) c.stop_line.ensures.went
+    if_ok_map _ _ _ (λ line w. stops (state_of c.args.self.now) (said_by line) c.in-Halted.halted.number _ (of_halted c.in-Halted.is c.in_ok-see.ensures.of) (state_halted (state_of c.args.self.now) _ (saw_as c.in-Halted.is c.in_ok-see.ensures.saw)) w) c.stop_line.ensures.went
 
 pub returns-in-Halted-clause-falls : goal.returns-in-Halted-clause-falls
 returns-in-Halted-clause-falls g c =

@@ -1,5 +1,6 @@
 use Rattle.std.proofs.Common.{◌∙◌, refl, arith}
 use Rattle.probe_session.specs.Commands.{state_of}
+use Rattle.probe_session.specs.Said.{said_by}
 use Rattle.probe_session.proofs.LinkLemmas.{if_err}
 use Rattle.probe_session.proofs.OneLine.{if_err_map, if_ok_map, of_halted, stops, stops_falls, waited_again, waited_enough, waited_falls, waited_none, waited_out}
 use Rattle.probe_session.proofs.SeenLemmas.{saw_as}
@@ -14,7 +15,7 @@ returns-in_err-halted-clause-falls g c =
 
 pub returns-in-Halted-clause-went : goal.returns-in-Halted-clause-went
 returns-in-Halted-clause-went g c =
-    if_ok_map _ _ _ (λ line w. stops (state_of c.args.self.now) _ c.in-Halted.halted.number _ (of_halted c.in-Halted.is c.in_ok-halted.ensures.of) (waited_enough (state_of c.args.self.now) c.args.looks c.looking._look _ c.looking-test.true c.looking.invariant.waited (saw_as c.in-Halted.is c.in_ok-halted.ensures.saw)) w) c.stop_line.ensures.went
+    if_ok_map _ _ _ (λ line w. stops (state_of c.args.self.now) (said_by line) c.in-Halted.halted.number _ (of_halted c.in-Halted.is c.in_ok-halted.ensures.of) (waited_enough (state_of c.args.self.now) c.args.looks c.looking._look _ c.looking-test.true c.looking.invariant.waited (saw_as c.in-Halted.is c.in_ok-halted.ensures.saw)) w) c.stop_line.ensures.went
 
 pub returns-in-Halted-clause-falls : goal.returns-in-Halted-clause-falls
 returns-in-Halted-clause-falls g c =

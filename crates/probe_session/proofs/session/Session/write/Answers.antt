@@ -1,5 +1,6 @@
 use Rattle.probe_session.specs.Commands.{state_of}
 use Rattle.probe_session.specs.Reach.{written}
+use Rattle.probe_session.specs.Said.{said_by}
 use Rattle.probe_session.proofs.LinkLemmas.{if_err}
 use Rattle.probe_session.proofs.MemoryLines.{reach_falls, reach_goes, reach_goes_falls, reach_says, reached_as}
 use Rattle.probe_session.proofs.OneLine.{if_err_map, if_ok_map}
@@ -12,7 +13,7 @@ pub returns-in-Says-clause-went : goal.returns-in-Says-clause-went
 returns-in-Says-clause-went g c = reach_says (state_of c.args.self.now) (written c.args.size c.args.address c.args.value c.args.count) _ (reached_as _ _ _ c.in-Says.is c.in_ok-line.ensures.reached)
 
 pub returns-in-By-clause-went : goal.returns-in-By-clause-went
-returns-in-By-clause-went g c = if_ok_map _ _ _ (λ line w. reach_goes (state_of c.args.self.now) c.in-By.reach (written c.args.size c.args.address c.args.value c.args.count) _ (reached_as _ _ _ c.in-By.is c.in_ok-line.ensures.reached) w) c.written_line.ensures.went
+returns-in-By-clause-went g c = if_ok_map _ _ _ (λ line w. reach_goes (state_of c.args.self.now) c.in-By.reach (written c.args.size c.args.address c.args.value c.args.count) (said_by line) (reached_as _ _ _ c.in-By.is c.in_ok-line.ensures.reached) w) c.written_line.ensures.went
 
 pub returns-in-By-clause-falls : goal.returns-in-By-clause-falls
 returns-in-By-clause-falls g c = if_err_map _ _ _ (λ f p. reach_goes_falls (state_of c.args.self.now) c.in-By.reach (written c.args.size c.args.address c.args.value c.args.count) (reached_as _ _ _ c.in-By.is c.in_ok-line.ensures.reached) c.reach.ensures.later p) c.written_line.ensures.falls
