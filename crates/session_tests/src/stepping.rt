@@ -23,7 +23,7 @@ fn a_step_does_one_instruction(rt: HostRuntime) -> Result<(), Fail> {
     )
 }
 
-/// x6 = pc; sc.w x7, x6, (x6); lr.w x28, (x6) in turn: a read between them ends no reservation, a store does.
+/// x6 = pc; lr.w x7, (x6); sc.w x28, x7, (x6): a read between the last two ends no reservation, a store does.
 const RESERVES: &[u8] = &[
     0x17, 0x03, 0x00, 0x00, 0xaf, 0x23, 0x03, 0x10, 0x2f, 0x2e, 0x73, 0x18, 0x6f, 0x00, 0x00, 0x00,
 ];
