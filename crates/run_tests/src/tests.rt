@@ -4,6 +4,7 @@ ghost use Rattle.std.specs.Prelude.{◌≡◌, ◌<◌, None, IfOk};
 
 mod ended;
 mod generated;
+mod lines;
 mod loopback;
 mod probe;
 mod refused;
