@@ -2,6 +2,7 @@
 
 ghost use Rattle.std.specs.Prelude.{◌≡◌, ◌<◌, None, IfOk};
 
+mod accesses;
 mod ended;
 mod generated;
 mod lines;

@@ -117,7 +117,7 @@ x5 0x0000000000000007
 };
 
 /// A read behind the end of RAM, which leaves the registers that reads go through.
-const FAULTY: Row = Row {
+pub const FAULTY: Row = Row {
     image: PROGRAM,
     script: b"reg x8 0x11\nreg x9 0x22\nread 8 0x80010000\nreg x8\nreg x9\n",
     status: 1,
@@ -130,7 +130,7 @@ x9 0x0000000000000022
 };
 
 /// The same over the system bus.
-const FAULTY_BUS: Row = Row {
+pub const FAULTY_BUS: Row = Row {
     image: PROGRAM,
     script: b"via bus\nreg x8 0x11\nreg x9 0x22\nread 8 0x80010000\nreg x8\nreg x9\n",
     status: 1,
