@@ -2,8 +2,11 @@
 
 ghost use Rattle.std.specs.Prelude.{◌≡◌, ◌<◌, None, IfOk};
 
+mod accesses;
 mod ended;
+mod every_command;
 mod generated;
+mod lines;
 mod loopback;
 mod probe;
 mod refused;
@@ -15,6 +18,7 @@ use debug_model::Net;
 use jt_base::{DiskFiles, Files, MemoryFile, MemoryFiles, MemorySink, Sink};
 use jtag_net::MemoryNet;
 use jtag_run::{Status, run};
+use sessions::STEPPED;
 use std::alloc::{AllocError, Global};
 use std::process::Abort;
 use std::test::Fail;
@@ -156,15 +160,16 @@ fn check_words(
 #[test]
 fn a_sink_that_fails_gives_its_status(rt: HostRuntime) -> Result<(), Fail> {
     let alloc = rt.alloc();
-    let words = word_list(alloc, "both --image i --script s")?;
-    let cases: [(&[u8], usize, u32, &str); 4] = [
+    let words = word_list(alloc, "both --image i --script s --halted")?;
+    let cases: [(&[u8], usize, u32, &str); 5] = [
+        (STEPPED.script, AMPLE, 0, ""),
         (b"idcode", AMPLE, 0, ""),
         (b"idcode", 9, NO_FAILURE, "idcode 0x"),
         (b"nothing", AMPLE, 0, ""),
         (b"nothing", 6, NO_FAILURE, "script"),
     ];
     for (script, room, fail_at, printed) in cases {
-        let mut files = two_files(alloc, b"", script, NO_FAILURE)?;
+        let mut files = two_files(alloc, PROGRAM, script, NO_FAILURE)?;
         let mut net = quiet_net(alloc)?;
         let mut listed = Vec::new(alloc);
         listed.push(fail_at)?;

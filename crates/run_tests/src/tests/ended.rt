@@ -94,7 +94,12 @@ fn ended_over(
 
 #[test]
 fn sessions_that_are_lost_say_why(rt: HostRuntime) -> Result<(), Fail> {
-    let cases: [(&[Event], &str, &str); 3] = [
+    let cases: [(&[Event], &str, &str); 4] = [
+        (
+            ONE_HART,
+            "hart 1\nhalt\n",
+            "hart 1\nlost: no halt after 64 looks\n",
+        ),
         (
             ONE_HART,
             "hart 1\nhalt\nidcode\n",

@@ -1,7 +1,7 @@
 //! Sessions over a connection of the machine to itself.
 
 use super::sessions::{ROWS, Row, check_row};
-use super::{AMPLE, NO_FAILURE, Outcome, PROGRAM, net_of, outcome_of, two_files};
+use super::{AMPLE, NO_FAILURE, Outcome, net_of, outcome_of, two_files};
 use jtag_net::TcpNet;
 use std::alloc::Global;
 use std::process::Abort;
@@ -21,7 +21,7 @@ fn rows_print_their_lines_over_a_loop(rt: HostRuntime) -> Result<(), Fail> {
 /// The session of a row over a loop whose call `fail_at` fails.
 fn failing(alloc: Global, row: &Row, fail_at: u32) -> Result<Outcome, Fail> {
     let line = "both --image i --script s --halted --loopback";
-    let mut files = two_files(alloc, PROGRAM, row.script, NO_FAILURE)?;
+    let mut files = two_files(alloc, row.image, row.script, NO_FAILURE)?;
     let mut net = net_of(alloc, b"", 256, AMPLE, fail_at)?;
     outcome_of(alloc, line, &mut files, &mut net)
 }

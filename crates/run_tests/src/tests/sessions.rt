@@ -84,9 +84,10 @@ fn harts_have_the_turns_of_their_schedule(rt: HostRuntime) -> Result<(), Fail> {
     Ok(())
 }
 
-/// A script for the program on a halted hart, and what its session comes to.
+/// A program, a script for it on a halted hart, and what its session comes to.
 #[derive(Clone, Copy)]
 pub struct Row {
+    pub image: &'static [u8],
     pub script: &'static [u8],
     pub status: u8,
     pub printed: &'static str,
@@ -94,6 +95,7 @@ pub struct Row {
 
 /// One step.
 pub const STEPPED: Row = Row {
+    image: PROGRAM,
     script: b"step\nreg x5\n",
     status: 0,
     printed: "halted at 0x0000000080000004 by step\nx5 0x0000000000000005\n",
@@ -101,6 +103,7 @@ pub const STEPPED: Row = Row {
 
 /// Two stops at the jump.
 const STOPPED: Row = Row {
+    image: PROGRAM,
     script: b"break 0x80000008\nresume\nwait\nreg x5\nresume\nwait\nreg x5\n",
     status: 0,
     printed: "slot 0 break 0x0000000080000008
@@ -114,7 +117,8 @@ x5 0x0000000000000007
 };
 
 /// A read behind the end of RAM, which leaves the registers that reads go through.
-const FAULTY: Row = Row {
+pub const FAULTY: Row = Row {
+    image: PROGRAM,
     script: b"reg x8 0x11\nreg x9 0x22\nread 8 0x80010000\nreg x8\nreg x9\n",
     status: 1,
     printed: "x8 0x0000000000000011
@@ -126,7 +130,8 @@ x9 0x0000000000000022
 };
 
 /// The same over the system bus.
-const FAULTY_BUS: Row = Row {
+pub const FAULTY_BUS: Row = Row {
+    image: PROGRAM,
     script: b"via bus\nreg x8 0x11\nreg x9 0x22\nread 8 0x80010000\nreg x8\nreg x9\n",
     status: 1,
     printed: "via bus
@@ -152,7 +157,7 @@ pub fn check_row<N: Net>(
     requires { (N.state net.old).ties.opening ≡ None }
 {
     let line = format!(in alloc; "both --image i --script s --halted {more}")?;
-    let mut files = two_files(alloc, PROGRAM, row.script, NO_FAILURE)?;
+    let mut files = two_files(alloc, row.image, row.script, NO_FAILURE)?;
     let outcome = outcome_of(alloc, line.as_str(), &mut files, net)?;
     assert_eq!(rt; outcome.out.bytes(), row.printed.as_bytes(), "{more}");
     assert_eq!(rt; outcome.status, row.status, "{more}");
