@@ -1,5 +1,5 @@
 -- What comes out of the ends of a joined net, piece after piece.
-use Rattle.std.proofs.Common.{◌≡◌, ℕ, ◌+◌, ◌<◌, ◌≤◌, List, ◌++◌, length, take, drop, true, Option, None, Some, IfSome, IsTrue, is_none, ◌&&◌, option_map, refl, sym, ap, subst, ◌∙◌, add_assoc, add-zero, arith}
+use Rattle.std.proofs.Common.{◌≡◌, ℕ, ◌+◌, ◌<◌, ◌≤◌, List, ◌++◌, length, take, drop, true, Option, None, Some, IfSome, IsTrue, is_none, is_some, not, ◌&&◌, ◌||◌, option_map, refl, sym, ap, subst, ◌∙◌, add_assoc, add-zero, arith}
 use Rattle.std.proofs.lemmas.Bool.{and_parts}
 use Rattle.std.proofs.lemmas.List.{drop-drop, length-drop, length-take-le, take-append-le}
 use Rattle.std.proofs.Math.Seq.{take-add, take-append-add}
@@ -9,20 +9,20 @@ use Rattle.debug_model.specs.Told.{Far}
 use Rattle.debug_model.specs.declared.net.End.{End}
 use Rattle.debug_model.specs.declared.net.End.TheVariants as ends
 use Rattle.jtag_net.proofs.Takes.{after_twice as near_twice, front_more}
-use Rattle.bench_links.specs.Looped.{Came, Holds, is_looped, unread_at}
+use Rattle.bench_links.specs.Looped.{Came, Holds, is_looped, is_piped, unread_at}
 
 -- ---- a looped net
 
 pub opens : (at : End) (s : NetState) → IsTrue (is_looped s) → is_open at s ≡ true
-opens ends.Near s looped = (and_parts s.near_open (s.far_open && is_none s.chip) looped).0
-opens ends.Far s looped = (and_parts s.far_open (is_none s.chip) (and_parts s.near_open (s.far_open && is_none s.chip) looped).1).0
+opens ends.Near s looped = (and_parts s.near_open (s.far_open && (is_none s.chip && is_piped s)) looped).0
+opens ends.Far s looped = (and_parts s.far_open (is_none s.chip && is_piped s) (and_parts s.near_open (s.far_open && (is_none s.chip && is_piped s)) looped).1).0
 
 none_is : (o : Option Far) → is_none o ≡ true → o ≡ None
 none_is None is = refl
 none_is (Some f) is = absurd (let none : ⊥ = cc in none)
 
 no_chip : (s : NetState) → IsTrue (is_looped s) → s.chip ≡ None
-no_chip s looped = none_is s.chip (and_parts s.far_open (is_none s.chip) (and_parts s.near_open (s.far_open && is_none s.chip) looped).1).1
+no_chip s looped = none_is s.chip (and_parts (is_none s.chip) (is_piped s) (and_parts s.far_open (is_none s.chip && is_piped s) (and_parts s.near_open (s.far_open && (is_none s.chip && is_piped s)) looped).1).1).0
 
 pub may_put : (bytes : List ℕ) (s : NetState) → IsTrue (is_looped s) → MayPut ends.Near bytes s
 may_put bytes s looped = subst (λ o. MaySend bytes o) (sym (no_chip s looped)) (record { most = tt; piece = tt; stays_open = tt; read = tt })
@@ -31,9 +31,16 @@ none_still : (n : ℕ) (told : Option Far) → is_none (option_map (read_on n) t
 none_still n None = refl
 none_still n (Some f) = refl
 
+-- a told pipe stays told, whatever is done to it
+pub piped_still : (step : Pipe → Pipe) (told : Option Pipe) → is_some (option_map step told) ≡ is_some told
+piped_still step None = refl
+piped_still step (Some p) = refl
+
 looped_after : (at : End) (n : ℕ) (s : NetState) → is_looped (after_take at n s) ≡ is_looped s
-looped_after ends.Near n s = ap (λ b. s.near_open && (s.far_open && b)) (none_still n s.chip)
-looped_after ends.Far n s = refl
+looped_after ends.Near n s =
+    ap (λ b. s.near_open && (s.far_open && (b && (not s.ties.tells_pipe || is_some (option_map (take_near n) s.pipe))))) (none_still n s.chip)
+    ∙ ap (λ b. s.near_open && (s.far_open && (is_none s.chip && (not s.ties.tells_pipe || b)))) (piped_still (take_near n) s.pipe)
+looped_after ends.Far n s = ap (λ b. s.near_open && (s.far_open && (is_none s.chip && (not s.ties.tells_pipe || b)))) (piped_still (take_far n) s.pipe)
 
 pub still_looped : (at : End) (n : ℕ) (old new : NetState) → IsTrue (is_looped old) → new ≡ after_take at n old → IsTrue (is_looped new)
 still_looped at n old new looped is = subst IsTrue (sym (ap is_looped is ∙ looped_after at n old)) looped

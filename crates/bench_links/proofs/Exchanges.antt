@@ -1,5 +1,5 @@
 -- What crosses a joined net whole: bytes to the chip, and its answers back.
-use Rattle.std.proofs.Common.{◌≡◌, ◌≢◌, ℕ, ◌-◌, ◌^◌, ◌<◌, ◌≤◌, List, [], ◌++◌, length, take, drop, Option, None, Some, IfSome, IsTrue, is_none, ◌&&◌, option_map, refl, sym, ap, subst, ◌∙◌, arith, inl, inr}
+use Rattle.std.proofs.Common.{◌≡◌, ◌≢◌, ℕ, ◌-◌, ◌^◌, ◌<◌, ◌≤◌, List, [], ◌++◌, length, take, drop, Option, None, Some, IfSome, IsTrue, is_none, is_some, not, ◌&&◌, ◌||◌, option_map, refl, sym, ap, subst, ◌∙◌, arith, inl, inr}
 use Rattle.std.proofs.lemmas.Bool.{cases_lt}
 use Rattle.std.proofs.lemmas.List.{append-nil, take_all}
 use Rattle.std.proofs.Math.Seq.{drop-length, take-length}
@@ -14,6 +14,7 @@ use Rattle.debug_model.specs.declared.net.End.TheVariants as ends
 use Rattle.chip_core.specs.Feeds.{feed_of, said_of}
 use Rattle.bench_links.specs.declared.crossing.Lost.{Lost}
 use Rattle.bench_links.specs.declared.crossing.Lost.TheVariants as lost
+use Rattle.bench_links.proofs.Crossings.{piped_still}
 use Rattle.bench_links.specs.Looped.{Came, FedFront, Holds, InStep, LostBy, TakeLost, crossed, exchanged, is_looped}
 
 -- ---- puts
@@ -23,8 +24,10 @@ none_still bytes None = refl
 none_still bytes (Some f) = refl
 
 looped_behind : (at : End) (bytes : List ℕ) (s : NetState) → is_looped (after_put at bytes s) ≡ is_looped s
-looped_behind ends.Near bytes s = ap (λ b. s.near_open && (s.far_open && b)) (none_still bytes s.chip)
-looped_behind ends.Far bytes s = refl
+looped_behind ends.Near bytes s =
+    ap (λ b. s.near_open && (s.far_open && (b && (not s.ties.tells_pipe || is_some (option_map (put_near bytes) s.pipe))))) (none_still bytes s.chip)
+    ∙ ap (λ b. s.near_open && (s.far_open && (is_none s.chip && (not s.ties.tells_pipe || b)))) (piped_still (put_near bytes) s.pipe)
+looped_behind ends.Far bytes s = ap (λ b. s.near_open && (s.far_open && (is_none s.chip && (not s.ties.tells_pipe || b)))) (piped_still (put_far bytes) s.pipe)
 
 pub put_looped : (at : End) (bytes : List ℕ) (old new : NetState) → IsTrue (is_looped old) → new ≡ after_put at bytes old → IsTrue (is_looped new)
 put_looped at bytes old new looped is = subst IsTrue (sym (ap is_looped is ∙ looped_behind at bytes old)) looped

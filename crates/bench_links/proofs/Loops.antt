@@ -5,7 +5,7 @@ use Rattle.jt_base.specs.Faults.{Rises}
 use Rattle.debug_model.specs.Chip.{Live, feed, said}
 use Rattle.debug_model.specs.Net.{NetState}
 use Rattle.debug_model.specs.Offered.{Timing}
-use Rattle.debug_model.specs.Ties.{NetTies, Ties, timing_told}
+use Rattle.debug_model.specs.Ties.{Began, NetTies, Ties, timing_told}
 use Rattle.debug_model.specs.Told.{IsRead}
 use Rattle.debug_model.specs.Wire.{ReadsFront, ReadsSome, SentFront, no_answer, sent}
 use Rattle.debug_model.proofs.WireLemmas.{none_came}
@@ -50,25 +50,26 @@ timing_kept : (bench : Option Live) (unread kept : List ℕ) → timing_told (fa
 timing_kept None unread kept = refl
 timing_kept (Some l) unread kept = refl
 
-ties_of : (lenders : List GName) (net : NetTies) (timing : Option Timing) (lenders' : List GName) (net' : NetTies) (timing' : Option Timing) → lenders' ≡ lenders → net' ≡ net → timing' ≡ timing
-    → ◌≡◌ {A = Ties} (record { lenders = lenders'; net = net'; timing = timing' }) (record { lenders = lenders; net = net; timing = timing })
-ties_of lenders net timing lenders' net' timing' same_lenders same_net same_timing =
-    ap (λ x. record { lenders = x; net = net'; timing = timing' }) same_lenders ∙ ap (λ x. record { lenders = lenders; net = x; timing = timing' }) same_net ∙ ap (λ x. record { lenders = lenders; net = net; timing = x }) same_timing
+ties_of : (lenders : List GName) (net : NetTies) (timing : Option Timing) (lenders' : List GName) (net' : NetTies) (timing' : Option Timing) (began : Option Began) → lenders' ≡ lenders → net' ≡ net → timing' ≡ timing
+    → ◌≡◌ {A = Ties} (record { lenders = lenders'; net = net'; timing = timing'; began = began }) (record { lenders = lenders; net = net; timing = timing; began = began })
+ties_of lenders net timing lenders' net' timing' began same_lenders same_net same_timing =
+    ap (λ x. record { lenders = x; net = net'; timing = timing'; began = began }) same_lenders ∙ ap (λ x. record { lenders = lenders; net = x; timing = timing'; began = began }) same_net
+    ∙ ap (λ x. record { lenders = lenders; net = net; timing = x; began = began }) same_timing
 
-pub fed_ties : (net bench : GName) (lenders lenders' : List GName) (old new : NetState) (chip next : Option Live) (bytes unread kept : List ℕ) → lenders' ≡ lenders → new.ties ≡ old.ties → next ≡ feed_of chip bytes
-    → loop_ties net bench lenders' new (far_of next kept) ≡ loop_ties net bench lenders old (far_of chip unread)
-fed_ties net bench lenders lenders' old new chip next bytes unread kept same tied fed =
-    ties_of (net ∷ bench ∷ lenders) old.ties (timing_told (far_of chip unread)) (net ∷ bench ∷ lenders') new.ties (timing_told (far_of next kept))
+pub fed_ties : (net bench : GName) (lenders lenders' : List GName) (old new : NetState) (chip next : Option Live) (bytes unread kept : List ℕ) (faults ends : ℕ) → lenders' ≡ lenders → new.ties ≡ old.ties → next ≡ feed_of chip bytes
+    → loop_ties net bench lenders' new (far_of next kept) faults ends ≡ loop_ties net bench lenders old (far_of chip unread) faults ends
+fed_ties net bench lenders lenders' old new chip next bytes unread kept faults ends same tied fed =
+    ties_of (net ∷ bench ∷ lenders) old.ties (timing_told (far_of chip unread)) (net ∷ bench ∷ lenders') new.ties (timing_told (far_of next kept)) (Some (record { faults = faults; ends = ends }))
     (ap (λ l. net ∷ bench ∷ l) same) tied (ap (λ b. timing_told (far_of b kept)) fed ∙ fed_timing chip bytes unread kept)
 
-pub front_ties : (net bench : GName) (lenders lenders' : List GName) (old new : NetState) (chip next : Option Live) (bytes unread kept : List ℕ) → lenders' ≡ lenders → new.ties ≡ old.ties → FedFront bytes chip next unread kept
-    → loop_ties net bench lenders' new (far_of next kept) ≡ loop_ties net bench lenders old (far_of chip unread)
-front_ties net bench lenders lenders' old new chip next bytes unread kept same tied fed = fed_ties net bench lenders lenders' old new chip next fed.front unread kept same tied fed.fed
+pub front_ties : (net bench : GName) (lenders lenders' : List GName) (old new : NetState) (chip next : Option Live) (bytes unread kept : List ℕ) (faults ends : ℕ) → lenders' ≡ lenders → new.ties ≡ old.ties → FedFront bytes chip next unread kept
+    → loop_ties net bench lenders' new (far_of next kept) faults ends ≡ loop_ties net bench lenders old (far_of chip unread) faults ends
+front_ties net bench lenders lenders' old new chip next bytes unread kept faults ends same tied fed = fed_ties net bench lenders lenders' old new chip next fed.front unread kept faults ends same tied fed.fed
 
-pub kept_ties : (net bench : GName) (lenders lenders' : List GName) (old new : NetState) (chip : Option Live) (unread kept : List ℕ) → lenders' ≡ lenders → new.ties ≡ old.ties
-    → loop_ties net bench lenders' new (far_of chip kept) ≡ loop_ties net bench lenders old (far_of chip unread)
-kept_ties net bench lenders lenders' old new chip unread kept same tied =
-    ties_of (net ∷ bench ∷ lenders) old.ties (timing_told (far_of chip unread)) (net ∷ bench ∷ lenders') new.ties (timing_told (far_of chip kept))
+pub kept_ties : (net bench : GName) (lenders lenders' : List GName) (old new : NetState) (chip : Option Live) (unread kept : List ℕ) (faults ends : ℕ) → lenders' ≡ lenders → new.ties ≡ old.ties
+    → loop_ties net bench lenders' new (far_of chip kept) faults ends ≡ loop_ties net bench lenders old (far_of chip unread) faults ends
+kept_ties net bench lenders lenders' old new chip unread kept faults ends same tied =
+    ties_of (net ∷ bench ∷ lenders) old.ties (timing_told (far_of chip unread)) (net ∷ bench ∷ lenders') new.ties (timing_told (far_of chip kept)) (Some (record { faults = faults; ends = ends }))
     (ap (λ l. net ∷ bench ∷ l) same) tied (timing_kept chip unread kept)
 
 -- ---- counts

@@ -3,13 +3,11 @@
 use Rattle.std.specs.Prelude.{ℕ, List, Bool, true, false, Option, None, option_map}
 use Rattle.debug_model.specs.Chip.{Live}
 use Rattle.debug_model.specs.Net.{NetState, Peer}
-use Rattle.debug_model.specs.Ties.{NetTies, Opening}
+use Rattle.debug_model.specs.Ties.{NetTies}
 use Rattle.debug_model.specs.Told.{Far}
 use Rattle.debug_model.specs.declared.net.Call.{Call}
 use Rattle.chip_core.specs.Feeds.{far_of}
-
-abbrev pub opened_by : Call → Opening
-opened_by call = record { call = call; address = None }
+use Rattle.jtag_net.specs.Connection.{opened_by}
 
 abbrev pub ties_of : Option Call → NetTies
 ties_of opening = record { tells_pipe = false; opening = option_map opened_by opening }

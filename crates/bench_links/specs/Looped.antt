@@ -1,6 +1,6 @@
 -- A wire that goes through both ends of a joined net to a chip on a bench: over which nets it works, what one call of it does
 -- to the net and to the chip, how it counts what failed, and why it fails. No public standard defines this.
-use Rattle.std.specs.Prelude.{◌≡◌, ◌⊎◌, ℕ, ◌+◌, ◌-◌, ◌^◌, ◌≤◌, ◌&&◌, true, min, List, [], ◌∷◌, ◌++◌, length, take, Bool, is_none, Option, None, IfSome}
+use Rattle.std.specs.Prelude.{◌≡◌, ◌⊎◌, ℕ, ◌+◌, ◌-◌, ◌^◌, ◌≤◌, ◌&&◌, ◌||◌, true, false, not, min, List, [], ◌∷◌, ◌++◌, length, take, Bool, is_none, is_some, Option, None, Some, IfSome}
 use Rattle.std.specs.Borrow.{GName}
 use Rattle.jt_base.specs.Faults.{Rises}
 use Rattle.debug_model.specs.Chip.{Live}
@@ -17,9 +17,13 @@ use Rattle.bench_links.specs.declared.crossing.Lost.TheVariants as lost
 
 -- ---- over which nets
 
--- both ends are open, and no chip is told
+-- a pipe is told where the net tells one
+abbrev pub is_piped : NetState → Bool
+is_piped s = not s.ties.tells_pipe || is_some s.pipe
+
+-- both ends are open, no chip is told, and a pipe where the net tells one
 abbrev pub is_looped : NetState → Bool
-is_looped s = s.near_open && (s.far_open && is_none s.chip)
+is_looped s = s.near_open && (s.far_open && (is_none s.chip && is_piped s))
 
 -- a told pipe has these bytes unread at its near end, and none at its far end
 abbrev pub InStep : List ℕ → Option Pipe → Type 0
@@ -100,8 +104,14 @@ LoopCause old new told RecvFailed = Failed old new
 LoopCause old new told Ended = AtEnd old new told
 LoopCause old new told (BadAnswer _) = ⊥
 
+-- by whether the net tells a pipe, whether the wire is sound and the chip at its limit, its differences, and the net's faults and ends when it was made
+-- and now: over a told pipe no bytes differ, and no call has failed below the limit, before the net has counted a fault or an end
+abbrev pub IsBlamed : (tells sound limit : Bool) → (differences faults faults' ends ends' : ℕ) → Type 0
+IsBlamed tells sound limit differences faults faults' ends ends' =
+    tells ≡ true → (Rises faults faults' → ⊥) → (Rises ends ends' → ⊥) → (differences ≡ 0) × (sound ≡ false → limit ≡ true)
+
 -- ---- what a wire keeps
 
--- its references to the net and to the bench, those of the net, how the net was opened, and of the chip's schedule
-abbrev pub loop_ties : GName → GName → List GName → NetState → Option Far → Ties
-loop_ties net bench lenders s far = record { lenders = net ∷ bench ∷ lenders; net = s.ties; timing = timing_told far }
+-- its references to the net and to the bench, those of the net, how the net was opened, of the chip's schedule, and what the net had counted
+abbrev pub loop_ties : GName → GName → List GName → NetState → Option Far → (faults ends : ℕ) → Ties
+loop_ties net bench lenders s far faults ends = record { lenders = net ∷ bench ∷ lenders; net = s.ties; timing = timing_told far; began = Some (record { faults = faults; ends = ends }) }

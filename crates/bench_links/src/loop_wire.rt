@@ -8,12 +8,19 @@ ghost use Rattle.debug_model.specs.Wire.{IsPiece, ReadsFront, ReadsSome, RecvCau
 ghost use Rattle.debug_model.specs.declared.net.End.TheVariants as end;
 ghost use Rattle.chip_core.specs.Feeds.{far_of, feed_of, limit_met, nothing_coming, said_of};
 ghost use Rattle.jtag_net.specs.Wired.{OfNet};
-ghost use Rattle.bench_links.specs.Looped.{FedFront, InStep, LoopCause, counts, exchanged, is_looped, loop_ties, looped};
+ghost use Rattle.bench_links.specs.Looped.{FedFront, InStep, IsBlamed, LoopCause, counts, exchanged, is_looped, loop_ties, looped};
 
 use crate::crossing::{Lost, exchange, take_answers};
 use chip_core::{Answers, Bench};
 use debug_model::{Net, PIECE_MOST, Schedule, Wire, WireFault, fill_unanswered};
 use jt_base::count_fault;
+
+/// The faults and the ends that a net had counted.
+#[derive(Clone, Copy)]
+struct Began {
+    faults: u64,
+    ends: u64,
+}
 
 /// A wire through both ends of a joined net to the chip on a bench at its far end, in one thread; the caller keeps both.
 ///
@@ -27,9 +34,12 @@ pub struct LoopWire<'a, N: Net, Q: Schedule> {
     pub(crate) unread: Answers,
     sound: bool,
     differences: u64,
+    began: Began,
     ghost joined: { IsTrue (is_looped (N.state net.now)) },
     ghost loaded: { IsSome bench.now },
     ghost in_step: { sound ≡ true → InStep unread.items (N.state net.now).pipe } by { Prim.hlevel props },
+    ghost later: { (began.faults ≤ N.fault_count net.now) × (began.ends ≤ N.end_count net.now) },
+    ghost blamed: { IsBlamed (N.state net.now).ties.tells_pipe sound (limit_met bench.now) differences began.faults (N.fault_count net.now) began.ends (N.end_count net.now) } by { Prim.hlevel props },
 }
 
 impl<'a, N: Net, Q: Schedule> LoopWire<'a, N, Q> {
@@ -44,15 +54,27 @@ impl<'a, N: Net, Q: Schedule> LoopWire<'a, N, Q> {
         ensures unread { result.unread.items ≡ [] }
         ensures sound { result.sound ≡ true }
         ensures differences { result.differences ≡ 0 }
+        ensures faults { result.began.faults ≡ N.fault_count net.old }
+        ensures ends { result.began.ends ≡ N.end_count net.old }
     {
+        let began = Began {
+            faults: net.faults(),
+            ends: net.ends(),
+        };
         LoopWire {
             net,
             bench,
             unread: Answers::new(),
             sound: true,
             differences: 0,
+            began,
         }
     }
+
+    /// That over a told pipe no bytes differed before the net counted a fault or an end, as the type of a wire promises.
+    pub fn know_blame(&self)
+        ensures { IsBlamed (N.state self.now.net.now).ties.tells_pipe self.now.sound (limit_met self.now.bench.now) self.now.differences self.now.began.faults (N.fault_count self.now.net.now) self.now.began.ends (N.end_count self.now.net.now) }
+    {}
 }
 
 impl<'a, N: Net, Q: Schedule> Wire for LoopWire<'a, N, Q> {
@@ -64,7 +86,7 @@ impl<'a, N: Net, Q: Schedule> Wire for LoopWire<'a, N, Q> {
 
     ghost gives = { OfNet };
 
-    ghost ties = { λ w. loop_ties w.net.ghost_name w.bench.ghost_name (N.lenders w.net.now) (N.state w.net.now) (far_of w.bench.now w.unread.items) };
+    ghost ties = { λ w. loop_ties w.net.ghost_name w.bench.ghost_name (N.lenders w.net.now) (N.state w.net.now) (far_of w.bench.now w.unread.items) w.began.faults w.began.ends };
 
     #[tactic(auto, using(crate::proofs::Loops::read_none, crate::proofs::Loops::sent_whole, crate::proofs::Loops::sent_front, crate::proofs::Loops::fed_ties, crate::proofs::Loops::front_ties, crate::proofs::Loops::kept_ties, crate::proofs::Loops::fault_rises, crate::proofs::Loops::end_rises, crate::proofs::Loops::difference_rises, crate::proofs::Lives::lives_on, crate::proofs::Lives::met_limit, crate::proofs::Exchanges::none_fed))]
     fn send(&mut self, bytes: &[u8]) -> Result<(), WireFault>
@@ -80,7 +102,7 @@ impl<'a, N: Net, Q: Schedule> Wire for LoopWire<'a, N, Q> {
         ensures still { OnOk result (looped self.new.differences (N.fault_count self.new.net.now) (N.end_count self.new.net.now) ≡ looped self.old.differences (N.fault_count self.old.net.now) (N.end_count self.old.net.now)) }
         ensures own { IfErr result OfNet }
         ensures cause { IfErr result (SendCause (looped self.old.differences (N.fault_count self.old.net.now) (N.end_count self.old.net.now)) (looped self.new.differences (N.fault_count self.new.net.now) (N.end_count self.new.net.now)) (far_of self.new.bench.now self.new.unread.items)) }
-        ensures ties { loop_ties self.new.net.ghost_name self.new.bench.ghost_name (N.lenders self.new.net.now) (N.state self.new.net.now) (far_of self.new.bench.now self.new.unread.items) ≡ loop_ties self.old.net.ghost_name self.old.bench.ghost_name (N.lenders self.old.net.now) (N.state self.old.net.now) (far_of self.old.bench.now self.old.unread.items) }
+        ensures ties { loop_ties self.new.net.ghost_name self.new.bench.ghost_name (N.lenders self.new.net.now) (N.state self.new.net.now) (far_of self.new.bench.now self.new.unread.items) self.new.began.faults self.new.began.ends ≡ loop_ties self.old.net.ghost_name self.old.bench.ghost_name (N.lenders self.old.net.now) (N.state self.old.net.now) (far_of self.old.bench.now self.old.unread.items) self.old.began.faults self.old.began.ends }
         ensures net { OnOk result (N.state self.new.net.now ≡ exchanged bytes.now (said_of self.old.bench.now bytes.now) (N.state self.old.net.now)) }
         ensures chip { OnOk result (self.new.bench.now ≡ feed_of self.old.bench.now bytes.now) }
         ensures in_step { OnOk result (InStep self.new.unread.items (N.state self.new.net.now).pipe) }
@@ -129,7 +151,7 @@ impl<'a, N: Net, Q: Schedule> Wire for LoopWire<'a, N, Q> {
         ensures still { OnOk result (looped self.new.differences (N.fault_count self.new.net.now) (N.end_count self.new.net.now) ≡ looped self.old.differences (N.fault_count self.old.net.now) (N.end_count self.old.net.now)) }
         ensures own { IfErr result OfNet }
         ensures cause { IfErr result (RecvCause (looped self.old.differences (N.fault_count self.old.net.now) (N.end_count self.old.net.now)) (looped self.new.differences (N.fault_count self.new.net.now) (N.end_count self.new.net.now)) (far_of self.new.bench.now self.new.unread.items)) }
-        ensures ties { loop_ties self.new.net.ghost_name self.new.bench.ghost_name (N.lenders self.new.net.now) (N.state self.new.net.now) (far_of self.new.bench.now self.new.unread.items) ≡ loop_ties self.old.net.ghost_name self.old.bench.ghost_name (N.lenders self.old.net.now) (N.state self.old.net.now) (far_of self.old.bench.now self.old.unread.items) }
+        ensures ties { loop_ties self.new.net.ghost_name self.new.bench.ghost_name (N.lenders self.new.net.now) (N.state self.new.net.now) (far_of self.new.bench.now self.new.unread.items) self.new.began.faults self.new.began.ends ≡ loop_ties self.old.net.ghost_name self.old.bench.ghost_name (N.lenders self.old.net.now) (N.state self.old.net.now) (far_of self.old.bench.now self.old.unread.items) self.old.began.faults self.old.began.ends }
         ensures net { OnOk result (N.state self.new.net.now ≡ after_take end.Near (length into.new) (N.state self.old.net.now)) }
         ensures bench { self.new.bench.now ≡ self.old.bench.now }
         ensures in_step { OnOk result (InStep self.new.unread.items (N.state self.new.net.now).pipe) }

@@ -12,7 +12,7 @@ fed_timing (Some l) bytes unread items = ap (λ (t : Timing). Some t) (feed_timi
 
 pub fed_ties : (bench new : Option Live) (bytes unread items : List ℕ) → new ≡ feed_of bench bytes → ties_told (far_of new items) ≡ ties_told (far_of bench unread)
 fed_ties bench new bytes unread items is =
-    ap (λ b. ties_told (far_of b items)) is ∙ ap (λ t. record { lenders = []; net = no_net; timing = t }) (fed_timing bench bytes unread items)
+    ap (λ b. ties_told (far_of b items)) is ∙ ap (λ t. record { lenders = []; net = no_net; timing = t; began = None }) (fed_timing bench bytes unread items)
 
 pub read_ties : (bench : Option Live) (unread items : List ℕ) → ties_told (far_of bench items) ≡ ties_told (far_of bench unread)
 read_ties None unread items = refl

@@ -1,6 +1,6 @@
 -- A wire over the near end of a net: over which nets it works, what a take of many bytes does, and why its calls fail.
 -- No public standard defines this.
-use Rattle.std.specs.Prelude.{◌≡◌, ℕ, ◌+◌, ◌-◌, ◌^◌, ◌&&◌, min, List, ◌∷◌, ◌++◌, replicate, take, Bool, is_none, IfSome}
+use Rattle.std.specs.Prelude.{◌≡◌, ℕ, ◌+◌, ◌-◌, ◌^◌, ◌&&◌, min, List, ◌∷◌, ◌++◌, replicate, take, Bool, None, is_none, IfSome}
 use Rattle.jt_base.specs.Faults.{Rises}
 use Rattle.std.specs.Borrow.{GName}
 use Rattle.debug_model.specs.Net.{NetState, after_take}
@@ -53,4 +53,4 @@ pub record TookSome (into : List ℕ) (old new : NetState) : Type 0 where
 
 -- what a wire over a net keeps: its reference to the net, those of the net, how the net was opened, and of a told chip's schedule
 abbrev pub wired_ties : GName → List GName → NetState → Ties
-wired_ties name lenders s = record { lenders = name ∷ lenders; net = s.ties; timing = timing_told s.chip }
+wired_ties name lenders s = record { lenders = name ∷ lenders; net = s.ties; timing = timing_told s.chip; began = None }

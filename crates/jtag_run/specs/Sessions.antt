@@ -1,6 +1,7 @@
 -- A session over the chip on a bench, straight or over a connection of the machine to itself, and a session over a net: what it did there.
 -- The program is this project's own.
 use Rattle.std.specs.Prelude.{◌≡◌, ℕ, List, [], Bool, true, false, Option, Some}
+use Rattle.jt_base.specs.Faults.{Rises}
 use Rattle.bench_links.specs.Looped.{looped}
 use Rattle.chip_core.specs.Feeds.{far_of, nothing_coming}
 use Rattle.debug_model.specs.declared.command.Command.{Command}
@@ -42,12 +43,14 @@ pub record OnBench (first : Live) (script : List Command) (was is : SinkSeen) (b
   pub session : WireSession script (at_bench (Some first) [] 0) (at_bench bench unread 0) was is closed
   pub possible : IsBenchEnd closed limit
 
--- the same over both ends of a net that was joined: its faults, its ends, and bytes that came out otherwise than they were put are faults of the wire
+-- the same over both ends of a net that was joined: its faults, its ends, and bytes that came out otherwise than they were put are faults of the wire.
+-- Over a net that tells a pipe none come out so before it has counted a fault or an end
 pub record OnLoop (first : Live) (script : List Command) (net_was net_is : NetSeen) (was is : SinkSeen) (bench : Option Live) (closed : End) : Type 0 where
   pub unread : List ℕ
   pub differences : ℕ
   pub session : WireSession script (at_bench (Some first) [] (looped 0 net_was.faults net_was.ends)) (at_bench bench unread (looped differences net_is.faults net_is.ends)) was is closed
   pub ties : net_is.state.ties ≡ net_was.state.ties
+  pub alike : net_was.state.ties.tells_pipe ≡ true → (Rises net_was.faults net_is.faults → ⊥) → (Rises net_was.ends net_is.ends → ⊥) → differences ≡ 0
 
 -- straight, and the net stays as it is; or over the net, which was joined for it
 pub data Carried (loopback : Bool) (first : Live) (script : List Command) (net_was net_is : NetSeen) (was is : SinkSeen) (bench : Option Live) (limit : Bool) (closed : End) : Type 0 where

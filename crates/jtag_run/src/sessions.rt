@@ -50,7 +50,9 @@ pub fn run_on_loop<N: Net, Q: Schedule, K: Sink>(
     ensures sink_later { K.fault_count out.old ≤ K.fault_count out.new }
 {
     let mut wire = LoopWire::new(net, bench);
-    run_session(&mut wire, script, out)
+    let ended = run_session(&mut wire, script, out);
+    wire.know_blame();
+    ended
 }
 
 /// Runs the script over the near end of a net. Where the net tells its chip, that is as it was loaded, and no answer is unread.

@@ -20,7 +20,7 @@ pub fn ask_net(
     bytes: &[u8],
     into: &mut [u8],
 ) -> Result<usize, NetFault>
-    requires most { length bytes.now ≤ 256 }
+    requires most { length bytes.now ≤ piece_most }
     requires signs { IsTrue (are_open bytes.now) }
     requires open { IsOpen (far_of net.old.bench.now net.old.unread.items) }
     ensures open { IsOpen (far_of net.new.bench.now net.new.unread.items) }

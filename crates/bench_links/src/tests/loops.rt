@@ -2,7 +2,7 @@
 
 ghost use Rattle.std.specs.Prelude.{◌≡◌, ◌≤◌, ◌<◌, None, IfOk, IsTrue, length};
 ghost use Rattle.debug_model.specs.Told.{IsOpen};
-ghost use Rattle.debug_model.specs.Wire.{are_open};
+ghost use Rattle.debug_model.specs.Wire.{are_open, piece_most};
 ghost use Rattle.chip_core.specs.Feeds.{far_of};
 
 use super::benches::{IDCODE, SHIFTS, TO_IDLE, TO_SHIFT, bench_of};
@@ -34,7 +34,7 @@ pub fn ask<N: Net>(
     bytes: &[u8],
     into: &mut [u8],
 ) -> Result<(), WireFault>
-    requires most { length bytes.now ≤ 256 }
+    requires most { length bytes.now ≤ piece_most }
     requires signs { IsTrue (are_open bytes.now) }
     requires open { IsOpen (far_of wire.old.bench.now wire.old.unread.items) }
     ensures open { IsOpen (far_of wire.new.bench.now wire.new.unread.items) }
