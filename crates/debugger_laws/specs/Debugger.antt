@@ -28,6 +28,7 @@ use Rattle.debugger_laws.specs.Slots.{any_hit, first_free, hits_of, is_free, slo
 use Rattle.debugger_laws.specs.Slots.Use.{Armed, Unused}
 use Rattle.debugger_laws.specs.Trace.{What}
 use Rattle.debugger_laws.specs.Trace.What.{Break, Watch, Count}
+use Rattle.rv_model.specs.Dcsr.{shown_cause}
 
 -- what commands choose for those behind them
 pub record State : Type 0 where
@@ -102,10 +103,6 @@ shown_hits (Some cause.HaltReq) slots = []
 shown_hits (Some cause.Step) slots = []
 shown_hits (Some cause.Reset) slots = []
 shown_hits None slots = []
-
-abbrev pub shown_cause : Option Cause → ℕ
-shown_cause (Some why) = cause_number why
-shown_cause None = 0
 
 abbrev pub stop_line_of : Option Hart → Line
 stop_line_of (Some hart) = Line.Halted hart.core.pc (shown_cause hart.debug.halted) (shown_hits hart.debug.halted hart.debug.slots)

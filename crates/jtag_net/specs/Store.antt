@@ -57,11 +57,11 @@ abbrev pub pipe_of : Bool → List ℕ → List ℕ → Option Pipe
 pipe_of false coming put = None
 pipe_of true coming put = Some (record { near = coming; far = put })
 
-abbrev pub opened_by : Option (List ℕ) → Call → Opening
-opened_by address call = record { call = call; address = address }
+abbrev pub opened_at : Option (List ℕ) → Call → Opening
+opened_at address call = record { call = call; address = address }
 
 abbrev pub ties_of : Store → NetTies
-ties_of s = record { tells_pipe = true; opening = option_map (opened_by s.address) s.opening }
+ties_of s = record { tells_pipe = true; opening = option_map (opened_at s.address) s.opening }
 
 abbrev pub state_of : Store → NetState
 state_of s = record {

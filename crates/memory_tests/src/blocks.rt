@@ -1,9 +1,9 @@
 //! Blocks of elements at the edges of memory: up to the first that is refused, and x8 and x9 stay as they were.
 
-ghost use Rattle.std.specs.Prelude.{◌≡◌, ◌≤◌, ◌+◌, ◌*◌, ◌^◌, [], OnOk, IfSome, IsSome, true};
+ghost use Rattle.std.specs.Prelude.{◌≡◌, ◌≤◌, ◌+◌, ◌*◌, [], OnOk, IfSome, IsSome, true};
 ghost use Rattle.rv_model.specs.Memory.{is_aligned};
 ghost use Rattle.rv_model.specs.Size.{count_of};
-ghost use Rattle.debug_model.specs.Command.{most_elements};
+ghost use Rattle.debug_model.specs.Command.{most_elements, all_addresses};
 ghost use Rattle.debug_model.specs.Dmi.{CanOperate};
 ghost use Rattle.debug_model.specs.Loaded.{AsLoaded};
 ghost use Rattle.debug_model.specs.Told.{IsAsLoaded, IsHalted, IsReady, Selects};
@@ -50,7 +50,7 @@ fn try_store_block<D: Dmi>(
     requires halted { IsHalted halted.now.number (D.far link.old) }
     requires aligned { is_aligned address size ≡ true }
     requires some { (1 ≤ count) × (count ≤ most_elements) }
-    requires ends { address + count * count_of size ≤ 2 ^ 64 }
+    requires ends { address + count * count_of size ≤ all_addresses }
     ensures alive { OnOk result (D.is_alive link.new ≡ true) }
     ensures link { OnOk result (CanOperate (D.far link.new)) }
     ensures ready { OnOk result (IsReady (D.far link.new)) }
@@ -80,7 +80,7 @@ fn try_load_block<D: Dmi>(
     requires halted { IsHalted halted.now.number (D.far link.old) }
     requires aligned { is_aligned address size ≡ true }
     requires some { (1 ≤ count) × (count ≤ most_elements) }
-    requires ends { address + count * count_of size ≤ 2 ^ 64 }
+    requires ends { address + count * count_of size ≤ all_addresses }
     requires empty { into.old.items ≡ [] }
     ensures alive { OnOk result (D.is_alive link.new ≡ true) }
     ensures link { OnOk result (CanOperate (D.far link.new)) }
@@ -102,7 +102,7 @@ fn visit_block<D: Dmi>(link: &mut D, size: Size, address: u64, count: u16) -> Re
     requires loaded { IsAsLoaded (D.far link.old) }
     requires aligned { is_aligned address size ≡ true }
     requires some { (1 ≤ count) × (count ≤ most_elements) }
-    requires ends { address + count * count_of size ≤ 2 ^ 64 }
+    requires ends { address + count * count_of size ≤ all_addresses }
 {
     let target = connect(link)?;
     let Seen::Halted(halted) = target.look(link, 0)? else {
@@ -135,7 +135,7 @@ fn visit_block_over<Q: Schedule>(
     requires fresh { IfSome bench.old AsLoaded }
     requires aligned { is_aligned address size ≡ true }
     requires some { (1 ≤ count) × (count ≤ most_elements) }
-    requires ends { address + count * count_of size ≤ 2 ^ 64 }
+    requires ends { address + count * count_of size ≤ all_addresses }
 {
     let mut link = Link::new(Scanner::new(BenchWire::new(bench, PIECE)));
     visit_block(&mut link, size, address, count)
@@ -152,7 +152,7 @@ fn check_block(
     requires busy { (1 ≤ busy) × (busy ≤ 32) }
     requires aligned { is_aligned address Size.B8 ≡ true }
     requires some { (1 ≤ count) × (count ≤ most_elements) }
-    requires ends { address + count * 8 ≤ 2 ^ 64 }
+    requires ends { address + count * 8 ≤ all_addresses }
 {
     let mut bench = Bench::blank();
     let schedule = SeedSchedule::new(7, busy, 1);

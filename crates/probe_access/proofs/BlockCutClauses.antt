@@ -3,7 +3,7 @@ use Rattle.std.proofs.Common.{◌≡◌, ◌∙◌, ◌<◌, ◌^◌, ℕ, List,
 use Rattle.rv_model.specs.declared.size.Size.{Size}
 use Rattle.rv_model.specs.Board.{Hart}
 use Rattle.rv_model.specs.Dcsr.{dcsr_value}
-use Rattle.rv_model.specs.DebugRegisters.{debug_written}
+use Rattle.rv_model.specs.DebugRegisters.{dcsr_number, debug_written}
 use Rattle.debug_model.specs.declared.point.Point.TheVariants.{ResumeReq}
 use Rattle.debug_model.specs.Dmi.{DmiScript}
 use Rattle.debug_model.specs.Module.{DebugModule, Site}
@@ -23,7 +23,6 @@ use Rattle.probe_access.specs.Cuts.{AccessLeftOff, IfCut, IsLeft, LeftAside, Lea
 use Rattle.probe_access.specs.SingleSteps.{FlaggedAt}
 use Rattle.probe_access.specs.StepRuns.{FlagFailed, of_run, with_flag}
 use Rattle.probe_access.specs.StepRuns.FlagFailed.{at_read, at_write}
-use Rattle.probe_access.specs.Stops.{dcsr_number}
 use Rattle.probe_access.proofs.AccessTold.{held_as}
 use Rattle.probe_access.proofs.CutClauses.{cut_left}
 use Rattle.probe_access.proofs.CutHarts.{Hung, Written, hung_map, read_hung, write_hung}

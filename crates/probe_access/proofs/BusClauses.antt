@@ -20,12 +20,12 @@ use Rattle.probe_access.specs.declared.fault.AccessFault.{AccessFault}
 use Rattle.probe_access.specs.declared.fault.AccessFault.TheVariants as access_fault
 use Rattle.probe_run.specs.Acts.{Tells, tells}
 use Rattle.probe_access.specs.Accesses.{AccessLeft, BusLoadRefused, BusLoadedAt, BusStoreRefused, BusStoredAt, IfMemory, unchanged}
-use Rattle.probe_access.specs.BusRuns.{BusEndFailed, BusFetched, BusLoadFailed, BusLoaded, BusOddly, BusPolled, BusRefused, BusStoreFailed, BusStored, bus_collided, bus_error, read_started, sbcs_address, write_started}
+use Rattle.probe_access.specs.BusRuns.{BusEndFailed, BusFetched, BusLoadFailed, BusLoaded, BusOddly, BusPolled, BusRefused, BusStoreFailed, BusStored, bus_collided, bus_error, read_started, write_started}
 use Rattle.probe_access.specs.BusRuns.BusLoadFailed.{in_start as load_start, in_end as load_end, in_fetch as load_fetch}
 use Rattle.probe_access.specs.BusRuns.BusStoreFailed.{in_start as store_start, in_end as store_end}
 use Rattle.probe_run.specs.Acts.{Did}
 use Rattle.probe_run.specs.Acts.Act.{Put}
-use Rattle.probe_run.specs.Opening.{clears_sberror}
+use Rattle.probe_run.specs.Opening.{clears_sberror, sbcs_address}
 use Rattle.probe_run.proofs.WideMemory.{loaded_small, stored_ready}
 use Rattle.probe_access.proofs.AccessEnd.{ready_before}
 use Rattle.probe_access.proofs.Along.{AtSites, did_sites, did_untold}

@@ -21,9 +21,9 @@ use Rattle.probe_access.specs.declared.fault.AccessFault.TheVariants as access_f
 use Rattle.probe_run.specs.Acts.{Act, Attempt, Broke, Did, Tells, tells}
 use Rattle.probe_run.specs.Acts.Act.{Got, Put}
 use Rattle.probe_run.specs.Acts.Attempt.{Operation}
-use Rattle.probe_run.specs.Opening.{clears_sberror}
+use Rattle.probe_run.specs.Opening.{clears_sberror, sbcs_address}
 use Rattle.probe_access.specs.Accesses.{with_memory}
-use Rattle.probe_access.specs.BusRuns.{BusEndFailed, BusEnding, BusFetching, BusLoadFailed, BusPollBegun, BusStoreFailed, Starting, bus_error, bus_poll, read_started, sbcs_address, sbdata0_address, sbdata1_address, write_started}
+use Rattle.probe_access.specs.BusRuns.{BusEndFailed, BusEnding, BusFetching, BusLoadFailed, BusPollBegun, BusStoreFailed, Starting, bus_error, bus_poll, read_started, sbdata0_address, sbdata1_address, write_started}
 use Rattle.probe_access.specs.BusRuns.BusEnding.{at_poll, at_clear}
 use Rattle.probe_access.specs.BusRuns.BusFetching.{lower, upper}
 use Rattle.probe_access.specs.BusRuns.BusLoadFailed.{in_start as load_start, in_end as load_end, in_fetch as load_fetch}

@@ -9,12 +9,13 @@ use Rattle.debug_model.specs.Dmi.SiteCut.{unperformed, was_performed}
 use Rattle.debug_model.specs.Module.{Site, operated}
 use Rattle.debug_model.specs.SystemBus.{BusUnit, bus_done}
 use Rattle.probe_run.specs.Acts.{Act}
-use Rattle.probe_access.specs.BusRuns.{bus_poll, sbcs_address}
+use Rattle.probe_access.specs.BusRuns.{bus_poll}
 use Rattle.probe_access.proofs.Along.{SiteActs}
 use Rattle.probe_access.proofs.Aside.{accessed, harts_of, passed}
 use Rattle.probe_access.proofs.BusSites.{AtBus, BusOp, Works, Writes, at_bus, bus_op, bus_op_done, bus_ran, put_bus, works_passed}
 use Rattle.probe_access.proofs.BusStages.{BusStage, Pends, done_behind, reads_sbcs, stage_ran, start_bus, works_stage}
 use Rattle.probe_access.proofs.BusStages.BusStage.{waits, made as was_made}
+use Rattle.probe_run.specs.Opening.{sbcs_address}
 
 -- ---- one of some calls, and those in front of it
 

@@ -13,12 +13,12 @@ use Rattle.probe_run.specs.Acts.{Act, Attempt, Did, Tells}
 use Rattle.probe_run.specs.Acts.Act.{Put}
 use Rattle.probe_run.specs.Acts.Attempt.{Operation}
 use Rattle.probe_run.specs.Acts.Did.{nothing}
-use Rattle.probe_access.specs.BusRuns.{BusAlwaysBusy, BusEndFailed, BusEnding, BusPollBegun, BusPollFailed, BusPolled, ShowsAccess, Starting, bus_busy, bus_error, bus_poll, outside_error, sbcs_address}
+use Rattle.probe_access.specs.BusRuns.{BusAlwaysBusy, BusEndFailed, BusEnding, BusPollBegun, BusPollFailed, BusPolled, ShowsAccess, Starting, bus_busy, bus_error, bus_poll, outside_error}
 use Rattle.probe_access.specs.BusRuns.BusEnding.{at_poll, at_clear}
 use Rattle.probe_access.specs.BusRuns.BusPollBegun.{polls}
 use Rattle.probe_access.specs.BusRuns.Starting.{next}
 use Rattle.probe_access.specs.Faults.{BrokeIn}
-use Rattle.probe_run.specs.Opening.{clears_sberror}
+use Rattle.probe_run.specs.Opening.{clears_sberror, sbcs_address}
 use Rattle.probe_access.proofs.RegisterCalls.{broke_counted, word_broke}
 use Rattle.probe_run.proofs.ActLemmas.{broke_list, broke_one, broke_then, did_list, did_then}
 

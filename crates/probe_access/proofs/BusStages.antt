@@ -11,12 +11,13 @@ use Rattle.debug_model.specs.declared.module_register.ModuleRegister.TheVariants
 use Rattle.debug_model.specs.ModuleWords.{sbcs_word}
 use Rattle.debug_model.specs.SystemBus.{BusDone, BusUnit, bus_done, sbcs_shown}
 use Rattle.probe_run.specs.Acts.Act.{Put}
-use Rattle.probe_access.specs.BusRuns.{bus_busy, bus_poll, sbcs_address}
+use Rattle.probe_access.specs.BusRuns.{bus_busy, bus_poll}
 use Rattle.probe_access.proofs.Along.{SiteActs}
 use Rattle.probe_access.proofs.Aside.{accessed, harts_of, passed}
 use Rattle.probe_access.proofs.BusSites.{AtBus, BusOp, Works, Writes, at_bus, at_bus_turned, bus_op, bus_ran, works_passed, written_bus}
 use Rattle.probe_access.proofs.Quiet.{command_quiet}
 use Rattle.probe_access.proofs.Turns.{passed-append}
+use Rattle.probe_run.specs.Opening.{sbcs_address}
 
 -- ---- the access
 

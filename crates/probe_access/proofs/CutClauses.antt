@@ -2,7 +2,7 @@
 use Rattle.std.proofs.Common.{◌≡◌, ◌∙◌, ◌<◌, ◌^◌, ◌++◌, ℕ, List, [], ◌∷◌, Option, Some, None, sym, ap, subst, append_assoc, arith}
 use Rattle.rv_model.specs.declared.size.Size.{Size}
 use Rattle.rv_model.specs.Board.{Board, Hart}
-use Rattle.rv_model.specs.DebugRegisters.{debug_written}
+use Rattle.rv_model.specs.DebugRegisters.{dcsr_number, debug_written}
 use Rattle.rv_model.specs.Memory.{Memory}
 use Rattle.debug_model.specs.declared.point.Point.{Point}
 use Rattle.debug_model.specs.declared.point.Point.TheVariants.{Access}
@@ -19,7 +19,7 @@ use Rattle.probe_access.specs.Cuts.{AccessLeftOff, IfCut, IsLeft, LeftAside, Lea
 use Rattle.probe_access.specs.Cuts.AccessLeftOff.{before_it, behind_it}
 use Rattle.probe_access.specs.MemoryRuns.{AroundFailed, LoadFailedInside, LoadedAny, PutBackFailed, SaveFailed, StoreFailedInside, StoredInside}
 use Rattle.probe_access.specs.RegisterRuns.{ReadFailed, WriteFailed}
-use Rattle.probe_access.specs.Stops.{StopFailed, dcsr_number, dpc_number}
+use Rattle.probe_access.specs.Stops.{StopFailed, dpc_number}
 use Rattle.probe_access.specs.Stops.StopFailed.{at_dcsr, at_dpc}
 use Rattle.probe_access.specs.Words.{x9_number}
 use Rattle.probe_access.proofs.Aside.{accessed, passed}

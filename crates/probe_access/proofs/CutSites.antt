@@ -21,7 +21,7 @@ use Rattle.probe_access.specs.CommandRuns.{CommandBegun, CommandFailed, error_sh
 use Rattle.probe_access.specs.CommandRuns.CommandBegun.{writes, polls, clears}
 use Rattle.probe_access.specs.Cuts.{IfCut}
 use Rattle.probe_access.specs.MemoryRuns.{Recovers}
-use Rattle.probe_access.specs.Words.{abstractcs_address, clears_cmderr, command_address}
+use Rattle.probe_access.specs.Words.{command_address}
 use Rattle.probe_access.proofs.Along.{AtSites, SiteActs, did_sites}
 use Rattle.probe_access.proofs.Aside.{aside, passed}
 use Rattle.chip_laws.proofs.PathLemmas.{ran-append}
@@ -29,6 +29,7 @@ use Rattle.probe_access.proofs.ReadyUnit.{Kept, OpAt, done_ran, op_at, unit_of}
 use Rattle.probe_access.proofs.RegAnswers.{StoodTold}
 use Rattle.probe_access.proofs.RegisterTold.{Stood, got_at, put_at}
 use Rattle.probe_access.proofs.TransferLemmas.{Commanded, RanAlone, commanded, polls_ran, read_status}
+use Rattle.probe_run.specs.Opening.{abstractcs_address, clears_cmderr}
 
 -- ---- the calls that were Ok, and the one that was cut
 

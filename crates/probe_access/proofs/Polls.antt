@@ -17,8 +17,8 @@ use Rattle.probe_run.specs.Acts.Did.{nothing}
 use Rattle.probe_access.specs.CommandRuns.{AlwaysBusy, PollBegun, Polled, ShowsBusy, poll_act, shows_busy}
 use Rattle.probe_access.specs.CommandRuns.PollBegun.{polls}
 use Rattle.probe_access.specs.Faults.{BrokeIn}
-use Rattle.probe_access.specs.Words.{abstractcs_address}
 use Rattle.probe_run.proofs.ActLemmas.{broke_list, broke_one, broke_then, did_list, did_one, did_then}
+use Rattle.probe_run.specs.Opening.{abstractcs_address}
 
 -- so many polls showed a command under way
 pub record Waiting (n : ℕ) (old new : Tells) : Type 0 where

@@ -2,7 +2,7 @@
 use Rattle.std.proofs.Common.{◌≡◌, ◌∙◌, ◌≤◌, ◌++◌, ℕ, [], map, Bool, true, false, Option, Some, None, refl, ap, subst, arith, sym}
 use Rattle.std.proofs.lemmas.Option.{none-some}
 use Rattle.rv_model.specs.Board.{Hart}
-use Rattle.rv_model.specs.DebugRegisters.{debug_refuses, debug_value}
+use Rattle.rv_model.specs.DebugRegisters.{dcsr_number, debug_refuses, debug_value}
 use Rattle.rv_model.specs.Registers.{csr_read_only, csr_value}
 use Rattle.debug_model.specs.declared.dmi.DmiFault.{DmiFault}
 use Rattle.debug_model.specs.declared.dmi_op.DmiOp.TheVariants.{Read, Write}
@@ -33,7 +33,6 @@ use Rattle.probe_access.specs.Scratches.{ScratchLeft}
 use Rattle.probe_access.specs.SingleSteps.{FlaggedAt, StepLeft, StepMissedAt, SteppedAt}
 use Rattle.probe_access.specs.StepRuns.{FlagFailed, of_run, with_flag}
 use Rattle.probe_access.specs.StepRuns.FlagFailed.{at_read, at_write}
-use Rattle.probe_access.specs.Stops.{dcsr_number}
 use Rattle.probe_access.proofs.AroundTold.{read_clean, write_clean}
 use Rattle.probe_access.proofs.AroundUntold.{read_plain, write_plain}
 use Rattle.probe_access.proofs.Counted.{read_counted, write_counted}

@@ -3,7 +3,7 @@ use Rattle.std.proofs.Common.{◌≡◌, ◌∙◌, ◌<◌, ◌^◌, ℕ, List,
 use Rattle.rv_model.specs.declared.dcsr.Dcsr.{Dcsr}
 use Rattle.rv_model.specs.Board.{Board, Hart}
 use Rattle.rv_model.specs.Dcsr.{dcsr_of, dcsr_of_word, dcsr_value, dcsr_word, with_dcsr}
-use Rattle.rv_model.specs.DebugRegisters.{debug_written}
+use Rattle.rv_model.specs.DebugRegisters.{dcsr_number, debug_written}
 use Rattle.rv_model.specs.Registers.{csr_written}
 use Rattle.rv_model.proofs.DebugWordLemmas.{dcsr_read_back}
 use Rattle.debug_model.specs.Dmi.{DmiScript}
@@ -20,7 +20,6 @@ use Rattle.probe_run.specs.Happens.{target_of}
 use Rattle.probe_access.specs.Registers.{TurnsPassedBut}
 use Rattle.probe_access.specs.SingleSteps.{FlaggedAt, with_step}
 use Rattle.probe_access.specs.StepRuns.{FlagWritten, with_flag}
-use Rattle.probe_access.specs.Stops.{dcsr_number}
 use Rattle.probe_access.proofs.AccessEnd.{read_untold, written_untold}
 use Rattle.probe_access.proofs.AccessTold.{held_as}
 use Rattle.probe_access.proofs.Aside.{Frozen}

@@ -6,7 +6,7 @@ use Rattle.rv_model.specs.declared.dcsr.Dcsr.{Dcsr}
 use Rattle.rv_model.specs.Board.{Hart}
 use Rattle.rv_model.specs.Cause.{cause_number}
 use Rattle.rv_model.specs.Dcsr.{dcsr_of, dcsr_of_word, dcsr_value, shown_cause}
-use Rattle.rv_model.specs.DebugRegisters.{debug_value}
+use Rattle.rv_model.specs.DebugRegisters.{dcsr_number, debug_value}
 use Rattle.rv_model.specs.Registers.{csr_value}
 use Rattle.rv_model.proofs.DebugWordLemmas.{dcsr_read_back}
 use Rattle.debug_model.specs.Dmi.{DmiScript}
@@ -18,7 +18,7 @@ use Rattle.probe_access.specs.declared.fault.AccessFault.{AccessFault}
 use Rattle.probe_run.specs.Acts.{Tells, tells}
 use Rattle.probe_access.specs.Registers.{reaches}
 use Rattle.probe_access.specs.Scratches.{ScratchLeft}
-use Rattle.probe_access.specs.Stops.{StopFailed, StopRead, StoppedAt, dcsr_number, dpc_number}
+use Rattle.probe_access.specs.Stops.{StopFailed, StopRead, StoppedAt, dpc_number}
 use Rattle.probe_access.specs.Stops.StopFailed.{at_dcsr, at_dpc}
 use Rattle.probe_access.proofs.AccessEnd.{read_untold}
 use Rattle.probe_access.proofs.AccessTold.{held_as}

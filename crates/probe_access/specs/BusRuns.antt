@@ -13,15 +13,12 @@ use Rattle.probe_access.specs.declared.fault.AccessFault.TheVariants as fault
 use Rattle.probe_run.specs.Acts.{Act, Attempt, Did, Tells}
 use Rattle.probe_run.specs.Acts.Act.{Got, Put}
 use Rattle.probe_run.specs.Acts.Attempt.{Operation}
-use Rattle.probe_run.specs.Opening.{clears_sberror}
+use Rattle.probe_run.specs.Opening.{clears_sberror, sbcs_address}
 use Rattle.probe_access.specs.CommandRuns.{polls_most}
 use Rattle.probe_access.specs.Faults.{BrokeIn}
 use Rattle.probe_access.specs.Words.{joined}
 
 -- ---- the registers
-
-abbrev pub sbcs_address : ℕ
-sbcs_address = 0x38
 
 abbrev pub sbaddress0_address : ℕ
 sbaddress0_address = 0x39

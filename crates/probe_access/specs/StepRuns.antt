@@ -9,7 +9,7 @@ use Rattle.probe_run.specs.declared.fault.RunFault.TheVariants as run_fault
 use Rattle.probe_run.specs.Acts.{Tells}
 use Rattle.probe_run.specs.Outcomes.{StepFails, SteppedBy}
 use Rattle.probe_access.specs.RegisterRuns.{ReadFailed, RegisterRead, RegisterWritten, WriteFailed}
-use Rattle.probe_access.specs.Stops.{dcsr_number}
+use Rattle.rv_model.specs.DebugRegisters.{dcsr_number}
 
 -- a word of dcsr with its step flag so, and its other fields as they were
 abbrev pub with_flag : Bool → ℕ → ℕ

@@ -9,12 +9,10 @@ use Rattle.probe_access.specs.declared.fault.AccessFault.{AccessFault}
 use Rattle.probe_run.specs.Acts.{Tells}
 use Rattle.probe_access.specs.Registers.{IsHartAt, TurnsPassed, site_before}
 use Rattle.probe_access.specs.RegisterRuns.{ReadFailed, RegisterRead}
+use Rattle.rv_model.specs.DebugRegisters.{dcsr_number}
 
 abbrev pub dpc_number : ℕ
 dpc_number = 0x7b1
-
-abbrev pub dcsr_number : ℕ
-dcsr_number = 0x7b0
 
 -- dpc was read, and then dcsr, which shows this cause
 pub record StopRead (pc cause : ℕ) (old new : Tells) : Type 0 where

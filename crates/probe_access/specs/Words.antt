@@ -12,9 +12,6 @@ data0_address = 0x04
 abbrev pub data1_address : ℕ
 data1_address = 0x05
 
-abbrev pub abstractcs_address : ℕ
-abstractcs_address = 0x16
-
 abbrev pub command_address : ℕ
 command_address = 0x17
 
@@ -23,10 +20,6 @@ progbuf0_address = 0x20
 
 abbrev pub progbuf1_address : ℕ
 progbuf1_address = 0x21
-
--- the word of abstractcs that clears cmderr
-abbrev pub clears_cmderr : ℕ
-clears_cmderr = 0x700
 
 -- a transfer of 64 bits from a register into the data words, or from them into it
 abbrev pub transfer_command : Bool → ℕ → AbstractCommand

@@ -1,9 +1,9 @@
 //! Accesses to many elements in a row.
 
-ghost use Rattle.std.specs.Prelude.{◌≡◌, ◌≤◌, ◌<◌, ◌+◌, ◌*◌, ◌^◌, [], true, false, length, IfOk, IfErr, OnOk};
+ghost use Rattle.std.specs.Prelude.{◌≡◌, ◌≤◌, ◌<◌, ◌+◌, ◌*◌, [], true, false, length, IfOk, IfErr, OnOk};
 ghost use Rattle.rv_model.specs.Memory.{is_aligned};
 ghost use Rattle.rv_model.specs.Size.{count_of};
-ghost use Rattle.debug_model.specs.Command.{most_elements};
+ghost use Rattle.debug_model.specs.Command.{most_elements, all_addresses};
 ghost use Rattle.debug_model.specs.Dmi.{CanOperate};
 ghost use Rattle.debug_model.specs.Scan.{WhereTold};
 ghost use Rattle.debug_model.specs.Told.{IsHalted, IsIdle, IsLive, IsReady, Selects};
@@ -28,7 +28,7 @@ pub const ELEMENTS_MOST: usize = 512;
 /// The address of an element of a block.
 fn element(size: Size, address: u64, number: u16, count: u16) -> u64
     requires within { number < count }
-    requires ends { address + count * count_of size ≤ 2 ^ 64 }
+    requires ends { address + count * count_of size ≤ all_addresses }
     ensures { result ≡ element_at size address number }
 {
     address + u64::from(number) * u64::from(size.count())
@@ -52,7 +52,7 @@ pub fn load_block<D: Dmi>(
     requires aligned { is_aligned address size ≡ true }
     requires some { 1 ≤ count }
     requires room { count ≤ most_elements }
-    requires ends { address + count * count_of size ≤ 2 ^ 64 }
+    requires ends { address + count * count_of size ≤ all_addresses }
     requires empty { into.old.items ≡ [] }
     ensures all { OnOk result (length into.new.items ≡ count) }
     ensures loaded { OnOk result (WhereTold (BlockLoadedAt size address into.new.items) (D.far link.old) (D.far link.new)) }
@@ -102,7 +102,7 @@ pub fn store_block<D: Dmi>(
     requires aligned { is_aligned address size ≡ true }
     requires some { 1 ≤ count }
     requires room { count ≤ most_elements }
-    requires ends { address + count * count_of size ≤ 2 ^ 64 }
+    requires ends { address + count * count_of size ≤ all_addresses }
     ensures stored { OnOk result (WhereTold (BlockStoredAt size address value count) (D.far link.old) (D.far link.new)) }
     ensures left { IfErr result (BlockStoreLeft size address count value (D.far link.old) (D.far link.new)) }
     ensures causes { IfErr result (Causes (D.fault_count link.old) (D.fault_count link.new) (tells (D.far link.old) (D.script link.old)) (tells (D.far link.new) (D.script link.new))) }

@@ -6,6 +6,7 @@ use Rattle.debug_model.specs.declared.dmi_op.DmiOp.TheVariants.{Read, Write}
 use Rattle.debug_model.specs.declared.point.Point.TheVariants.{Look}
 use Rattle.debug_model.specs.Loaded.{AsLoaded}
 use Rattle.debug_model.specs.ModuleWords.{abstractcs_of, dmcontrol_of, dmstatus_of, sbcs_of}
+use Rattle.debug_model.specs.SystemBus.{bus_address_bits}
 use Rattle.debug_model.specs.TransportWords.{dtmcs_of}
 use Rattle.debug_model.specs.Told.{Far, SiteReady, site_of}
 use Rattle.debugger_laws.specs.Stands.{Cut, Pointed}
@@ -40,7 +41,7 @@ commands_fit w = nat_le 4 (abstractcs_of w).progbufsize && (nat_le 2 (abstractcs
 
 -- version 1, addresses of 64 bits, and accesses of 1, 2, 4 and 8 bytes
 abbrev pub bus_fits : ℕ → Bool
-bus_fits w = (sbcs_of w).sbversion == 1 && ((sbcs_of w).sbasize == 64 && (sbcs_of w).sizes % 16 == 15)
+bus_fits w = (sbcs_of w).sbversion == 1 && ((sbcs_of w).sbasize == bus_address_bits && (sbcs_of w).sizes % 16 == 15)
 
 -- ---- the registers
 

@@ -12,7 +12,7 @@ use Rattle.probe_access.specs.Faults.{BrokeIn}
 use Rattle.probe_access.specs.MemoryRuns.{AroundFailed, LoadFailedInside, LoadedAny, StoreFailedInside, StoredInside}
 use Rattle.probe_access.specs.RegisterRuns.{ReadFailed, ReadFailedAt, WriteFailed, WriteFailedAt}
 use Rattle.probe_access.specs.StepRuns.{FlagFailed, StepFailed, of_run, with_flag}
-use Rattle.probe_access.specs.Stops.{StopFailed, dcsr_number, dpc_number}
+use Rattle.probe_access.specs.Stops.{StopFailed, dpc_number}
 use Rattle.probe_access.specs.Words.{transfer_word}
 use Rattle.probe_access.proofs.BlockCauses.{around_causes, link_later, load_inside_causes, store_inside_causes}
 use Rattle.probe_run.specs.declared.fault.RunFault.{RunFault}
@@ -22,6 +22,7 @@ use Rattle.probe_run.specs.Outcomes.{IfDmi}
 use Rattle.probe_trig.specs.Stepping.{BackFailed, OverFailed}
 use Rattle.probe_trig.specs.Transfers.{Attempt as TransferAttempt, AttemptFailed, FailedIn, Transfer, number_of}
 use Rattle.probe_session.proofs.RunCauses.{DmiWire, broke_wire, step_wire}
+use Rattle.rv_model.specs.DebugRegisters.{dcsr_number}
 
 abbrev pub AccessWire : (old_count new_count : ℕ) → Option Far → AccessFault → Type 0
 AccessWire old_count new_count told (fault.Dmi why) = DmiWire old_count new_count told why

@@ -11,7 +11,7 @@ use Rattle.debug_model.specs.Chip.{Chip}
 use Rattle.debug_model.specs.Scan.{WhereTold}
 use Rattle.debug_model.specs.Module.{Site}
 use Rattle.debug_model.specs.Told.{Far, site_of}
-use Rattle.debugger_laws.specs.Debugger.{Seen as Sight, by_state, going, halted_of, halting, look, one, sees_halted, shown_cause, shown_hits, stop_line, stop_line_of, unseen, until}
+use Rattle.debugger_laws.specs.Debugger.{Seen as Sight, by_state, going, halted_of, halting, look, one, sees_halted, shown_hits, stop_line, stop_line_of, unseen, until}
 use Rattle.debugger_laws.specs.Lines.{Line}
 use Rattle.debugger_laws.specs.Plan.{Plan, is_step}
 use Rattle.debugger_laws.specs.Plan.Plan.{say, see}
@@ -31,6 +31,7 @@ use Rattle.probe_trig.specs.Stepping.{OverAt}
 use Rattle.probe_session.specs.Led.{target_at}
 use Rattle.probe_session.specs.Steps.{behind_look, behind_step, is_halted, step_cause, trigger_cause}
 use Rattle.debugger_laws.proofs.KnownPoints.{known-still}
+use Rattle.rv_model.specs.Dcsr.{shown_cause}
 
 -- ---- an object that tells
 

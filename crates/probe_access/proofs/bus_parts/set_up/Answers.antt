@@ -2,10 +2,11 @@ use Rattle.std.proofs.Common.{refl, [], ◌∷◌, arith}
 use Rattle.debug_model.specs.Commands.{high_half, low_half}
 use Rattle.probe_run.specs.Acts.{tells}
 use Rattle.probe_run.specs.Acts.Act.{Put}
-use Rattle.probe_access.specs.BusRuns.{Starting, addressed, sbaddress0_address, sbaddress1_address, sbcs_address}
+use Rattle.probe_access.specs.BusRuns.{Starting, addressed, sbaddress0_address, sbaddress1_address}
 use Rattle.probe_access.specs.BusRuns.Starting.{next}
 use Rattle.probe_run.proofs.ActLemmas.{did_then}
 use Rattle.probe_access.proofs.RegisterCalls.{fault_failed, put_did, word_broke, word_broke_behind, word_put}
+use Rattle.probe_run.specs.Opening.{sbcs_address}
 use Rattle.probe_access.proofs.bus_parts.set_up.Goals as goal
 
 pub returns-in_err-write-clause-broke : goal.returns-in_err-write-clause-broke

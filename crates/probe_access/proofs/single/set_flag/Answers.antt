@@ -5,12 +5,12 @@ use Rattle.probe_run.specs.Acts.{Tells}
 use Rattle.probe_access.specs.RegisterRuns.{RegisterRead, RegisterWritten, WriteFailed}
 use Rattle.probe_access.specs.StepRuns.{FlagFailed, FlagWritten, with_flag}
 use Rattle.probe_access.specs.StepRuns.FlagFailed.{at_read, at_write}
-use Rattle.probe_access.specs.Stops.{dcsr_number}
 use Rattle.std.proofs.Common.{Bool, ◌≤◌}
 use Rattle.probe_access.proofs.Counted.{write_counted}
 use Rattle.probe_access.proofs.RegisterCalls.{err_failed}
 use Rattle.probe_access.proofs.StepClauses.{flag_err}
 use Rattle.probe_access.proofs.StepLemmas.{flag_ok}
+use Rattle.rv_model.specs.DebugRegisters.{dcsr_number}
 use Rattle.probe_access.proofs.single.set_flag.Goals as goal
 
 abbrev wrote : (on : Bool) (word value : ℕ) (old mid new : Tells) → value ≡ with_flag on word → RegisterRead dcsr_number word old mid → RegisterWritten dcsr_number value mid new → FlagWritten on old new
