@@ -84,12 +84,12 @@ pub record WasServed (served : Served) (old new : NetState) (bench left : Option
   pub end : EndOf served bench taken put new
 
 -- the counts of the net behind a serving, of its faults and of its ends: one more of what ended it, and no other
-abbrev pub Counts : ℕ → ℕ → ℕ → ℕ → Served → Type 0
-Counts faults faults' ends ends' Quit = (faults' ≡ faults) × (ends' ≡ ends)
-Counts faults faults' ends ends' PeerEnded = (faults' ≡ faults) × (ends' ≡ counted ends)
-Counts faults faults' ends ends' (Bad place byte) = (faults' ≡ faults) × (ends' ≡ ends)
-Counts faults faults' ends ends' Limit = (faults' ≡ faults) × (ends' ≡ ends)
-Counts faults faults' ends ends' (NetFailed fault) = (faults' ≡ counted faults) × (ends' ≡ ends)
+abbrev pub CountsOnce : ℕ → ℕ → ℕ → ℕ → Served → Type 0
+CountsOnce faults faults' ends ends' Quit = (faults' ≡ faults) × (ends' ≡ ends)
+CountsOnce faults faults' ends ends' PeerEnded = (faults' ≡ faults) × (ends' ≡ counted ends)
+CountsOnce faults faults' ends ends' (Bad place byte) = (faults' ≡ faults) × (ends' ≡ ends)
+CountsOnce faults faults' ends ends' Limit = (faults' ≡ faults) × (ends' ≡ ends)
+CountsOnce faults faults' ends ends' (NetFailed fault) = (faults' ≡ counted faults) × (ends' ≡ ends)
 
 -- ---- a piece within the stream
 

@@ -3,7 +3,7 @@
 ghost use Rattle.std.specs.Prelude.{◌≡◌, ◌+◌, ◌<◌, ◌≤◌, IfErr, IfOk, IsSome, OnErr, OnOk, true};
 ghost use Rattle.debug_model.specs.Net.{given_most, is_open};
 ghost use Rattle.debug_model.specs.declared.net.End.TheVariants as end;
-ghost use Rattle.chip_server.specs.Served.{Counts, IsInPiece, IsPlain, Serving, WasServed};
+ghost use Rattle.chip_server.specs.Served.{CountsOnce, IsInPiece, IsPlain, Serving, WasServed};
 
 use crate::served::Served;
 use chip_core::{Answers, Bench, Fed, pieces_join};
@@ -25,7 +25,7 @@ fn serve_piece<N: Net, Q: Schedule>(net: &mut N, bench: &mut Bench<Q>) -> Result
     ensures still { OnOk result (N.fault_count net.new ≡ N.fault_count net.old) }
     ensures served { IfErr result (λ served. WasServed served (N.state net.old) (N.state net.new) bench.old bench.new) }
     ensures place { IfErr result IsInPiece }
-    ensures counts { IfErr result (Counts (N.fault_count net.old) (N.fault_count net.new) (N.end_count net.old) (N.end_count net.new)) }
+    ensures counts { IfErr result (CountsOnce (N.fault_count net.old) (N.fault_count net.new) (N.end_count net.old) (N.end_count net.new)) }
     ensures later { N.fault_count net.old ≤ N.fault_count net.new }
     ensures loaded { IsSome bench.new }
     ensures lenders { N.lenders net.new ≡ N.lenders net.old }
@@ -59,7 +59,7 @@ pub fn serve<N: Net, Q: Schedule>(net: &mut N, bench: &mut Bench<Q>) -> Served
     requires plain { IsPlain (N.state net.old) }
     requires loaded { IsSome bench.old }
     ensures served { WasServed result (N.state net.old) (N.state net.new) bench.old bench.new }
-    ensures counts { Counts (N.fault_count net.old) (N.fault_count net.new) (N.end_count net.old) (N.end_count net.new) result }
+    ensures counts { CountsOnce (N.fault_count net.old) (N.fault_count net.new) (N.end_count net.old) (N.end_count net.new) result }
     ensures later { N.fault_count net.old ≤ N.fault_count net.new }
     ensures lenders { N.lenders net.new ≡ N.lenders net.old }
 {

@@ -6,13 +6,17 @@ use Rattle.rv_model.specs.Registers.{first_x_number}
 use Rattle.debug_model.specs.declared.command.Command.{Command}
 use Rattle.debug_model.specs.declared.command.Command.TheVariants.{Halt, Resume, Step, Wait, Reg, Break, Clear}
 use Rattle.generator.specs.Image.{register}
-use Rattle.generator.specs.Words.{session_words}
+use Rattle.generator.specs.Words.{blocks, instructions, session_words}
+
+-- the Looks of each wait
+abbrev pub looks : ℕ
+looks = 1000
 
 -- the commands of two random words: a breakpoint at an instruction of the image that the first picks, a run up to it, one step,
 -- and a register that the second picks
 abbrev pub block : ℕ → ℕ → List Command
 block a b =
-    Break (ram_base + 4 * (a % 1000)) ∷ Resume ∷ Wait 1000 ∷ Step 1
+    Break (ram_base + 4 * (a % instructions)) ∷ Resume ∷ Wait looks ∷ Step 1
     ∷ Reg (record { 0 = first_x_number + register b }) ∷ Clear 0 ∷ []
 
 -- the k-th block of random words that come two by two
@@ -25,4 +29,4 @@ session count words = Halt ∷ flat_map (block_at words) (range_with_len 0 count
 
 -- the commands of a seed's script
 abbrev pub commands : ℕ → List Command
-commands seed = session 100 (session_words seed)
+commands seed = session blocks (session_words seed)

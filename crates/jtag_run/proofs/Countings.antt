@@ -12,7 +12,7 @@ use Rattle.jt_base.specs.Sink.{GrewByPrefix, grown}
 use Rattle.jtag_run.specs.Ending.{ClosedBy}
 use Rattle.jtag_run.specs.Opening.{Joined}
 use Rattle.jtag_run.specs.Outside.{NetSeen}
-use Rattle.jtag_run.specs.Ran.{AreCounted, Counted, CountedBehind, TakesAll, taken_seen}
+use Rattle.jtag_run.specs.Ends.{AreCounted, Counted, CountedBehind, TakesAll, taken_seen}
 use Rattle.jtag_run.specs.Sessions.{OnBench, OnLoop}
 use Rattle.jtag_run.specs.Sessions.Carried.{over_net, straight}
 use Rattle.line_counts.specs.Counts.{errors_in, lines_in}

@@ -7,14 +7,14 @@ use Rattle.debug_model.specs.Chip.{Live}
 use Rattle.generator.specs.Commands.{commands}
 use Rattle.jt_base.specs.Faults.{Rises}
 use Rattle.jt_base.specs.Sink.{GrewByPrefix, grown}
-use Rattle.jtag_run.specs.Ended.{Made, RanGen}
-use Rattle.jtag_run.specs.Ended.RanGen.{ran}
+use Rattle.jtag_run.specs.Ran.{Made, RanGen}
+use Rattle.jtag_run.specs.Ran.RanGen.{ran}
 use Rattle.jtag_run.specs.Ending.{ClosedBy}
 use Rattle.jtag_run.specs.First.{first_chip}
 use Rattle.jtag_run.specs.Opening.{refusal_of}
 use Rattle.jtag_run.specs.Outside.{NetSeen}
-use Rattle.jtag_run.specs.Ran.{Counted, GenEnd, Unjoined}
-use Rattle.jtag_run.specs.Ran.GenEnd.{summed, unjoined, unsummed}
+use Rattle.jtag_run.specs.Ends.{Counted, GenEnd, Unjoined}
+use Rattle.jtag_run.specs.Ends.GenEnd.{summed, unjoined, unsummed}
 use Rattle.jtag_run.specs.Refusal.{Refused}
 use Rattle.jtag_run.specs.Summary.{summary_of}
 use Rattle.jtag_run.specs.Words.{Gen}

@@ -6,7 +6,7 @@ use Rattle.debug_model.specs.declared.command.Command.{Command}
 use Rattle.debug_model.specs.Chip.{Live}
 use Rattle.debug_model.specs.Loaded.{AsLoaded}
 use Rattle.jt_base.specs.Files.{Holds, HoldsMore, NamedFile, asked_more}
-use Rattle.jtag_run.specs.Ended.{Prepared}
+use Rattle.jtag_run.specs.Ran.{Prepared}
 use Rattle.jtag_run.specs.First.{CanLoad, first_chip}
 use Rattle.jtag_run.specs.Outside.{FilesSeen}
 use Rattle.jtag_run.specs.Refusal.{AskedFront, ChipCause, HoldsScript, ImageFileCause, JobCause, LongImage, asked_script, most_image}

@@ -8,24 +8,24 @@ use Rattle.debug_model.specs.Chip.{Live}
 use Rattle.jt_base.specs.Faults.{Rises}
 use Rattle.jt_base.specs.Files.{NamedFile, asked_more}
 use Rattle.jt_base.specs.Sink.{grown, GrewByPrefix}
-use Rattle.jtag_run.specs.Ended.{BothEnd, Ended, Prepared, RanBoth, RanGen, RanProbe}
-use Rattle.jtag_run.specs.Ended.Ended.{refused, ran, generated, probed, served}
-use Rattle.jtag_run.specs.Ended.RanBoth.{refused as both_unready, ran as both_done}
-use Rattle.jtag_run.specs.Ended.RanGen.{refused as gen_unready, ran as gen_done}
-use Rattle.jtag_run.specs.Ended.RanProbe.{refused as probe_unready, ran as probe_done}
+use Rattle.jtag_run.specs.Ran.{BothEnd, Prepared, Ran, RanBoth, RanGen, RanProbe}
+use Rattle.jtag_run.specs.Ran.Ran.{refused, ran, generated, probed, served}
+use Rattle.jtag_run.specs.Ran.RanBoth.{refused as both_unready, ran as both_done}
+use Rattle.jtag_run.specs.Ran.RanGen.{refused as gen_unready, ran as gen_done}
+use Rattle.jtag_run.specs.Ran.RanProbe.{refused as probe_unready, ran as probe_done}
 use Rattle.jtag_run.specs.Ending.{ClosedBy}
 use Rattle.jtag_run.specs.First.{first_chip}
 use Rattle.jtag_run.specs.Opening.{Joined, OpenFailed, refusal_of}
 use Rattle.jtag_run.specs.LastLine.{Closed}
 use Rattle.jtag_run.specs.LastLine.Closed.{said, unsaid}
 use Rattle.jtag_run.specs.Outside.{NetSeen, Outside}
-use Rattle.jtag_run.specs.Ran.{BenchEnd, LoopEnd}
-use Rattle.jtag_run.specs.Ran.LoopEnd.{joined, unjoined}
+use Rattle.jtag_run.specs.Ends.{BenchEnd, LoopEnd}
+use Rattle.jtag_run.specs.Ends.LoopEnd.{joined, unjoined}
 use Rattle.jtag_run.specs.Refusal.{ChipCause, HoldsScript, JobCause, Refused, WordsCause, asked_both, asked_image}
 use Rattle.jtag_run.specs.Refusal.RefusalCause.{of_both, of_chip, of_gen, of_probe, of_words}
-use Rattle.jtag_run.specs.ServedChip.{EndedChip, PreparedChip, ServedAt}
-use Rattle.jtag_run.specs.ServedChip.EndedChip.{refused as refused_chip, served as served_chip}
-use Rattle.jtag_run.specs.Sessions.{IsFresh, OnLoop}
+use Rattle.jtag_run.specs.ServedChip.{RanChip, PreparedChip, ServedAt}
+use Rattle.jtag_run.specs.ServedChip.RanChip.{refused as refused_chip, served as served_chip}
+use Rattle.jtag_run.specs.Sessions.{IsLoadedBench, OnLoop}
 use Rattle.jtag_run.specs.Words.{Both, Chip, Gen, Probe, said_both, said_chip, said_gen, said_probe}
 use Rattle.jtag_run.specs.declared.refusal.Refusal.{Refusal}
 use Rattle.jtag_run.specs.declared.status.Status.{Status}
@@ -44,7 +44,7 @@ closed_unsaid line wanted s t wrote rises = unsaid wrote rises
 
 -- ---- a session of files
 
-pub prepared_fresh : (job : Both) (held : Option (List NamedFile)) (commands : List Command) (bench : Option Live) → Prepared job held commands bench → IsFresh bench
+pub prepared_fresh : (job : Both) (held : Option (List NamedFile)) (commands : List Command) (bench : Option Live) → Prepared job held commands bench → IsLoadedBench bench
 prepared_fresh job held commands bench p = record { first = first_chip job.options p.image; is = p.is; as_loaded = p.as_loaded }
 
 both_end_at : (loopback : Bool) (job : Both) (image : List ℕ) (commands : List Command) (net_was net_is : NetSeen) (s t : SinkSeen) (mid left : Option Live) (status : Status) → mid ≡ Some (first_chip job.options image)
@@ -84,35 +84,35 @@ both_refused job old new bench left status refusal cause was net kept = both_unr
 -- ---- a served chip
 
 pub chip_refused : (job : Chip) (old new : Outside) (bench left : Option Live) (status : Status) (refusal : Refusal) → ChipCause job old.files new.files refusal → Refused refusal old.sink new.sink status
-    → new.net ≡ old.net → left ≡ bench → EndedChip job old new bench left status
+    → new.net ≡ old.net → left ≡ bench → RanChip job old new bench left status
 chip_refused job old new bench left status refusal cause was net kept = refused_chip refusal cause was net kept
 
 pub chip_served : (job : Chip) (old new : Outside) (bench mid left : Option Live) (status : Status) → PreparedChip job old.files.held mid → new.files.asked ≡ asked_image job old.files
-    → ServedAt job.at old.net new.net old.sink new.sink mid left status → EndedChip job old new bench left status
+    → ServedAt job.at old.net new.net old.sink new.sink mid left status → RanChip job old new bench left status
 chip_served job old new bench mid left status p asked ended =
     served_chip p.image p.image_is p.loads asked (subst (λ m. ServedAt job.at old.net new.net old.sink new.sink m left status) p.is ended)
 
 -- ---- a run
 
 pub refused_words : (words : List (List ℕ)) (old new : Outside) (bench : Option Live) (status : Status) (refusal : Refusal) → WordsCause words refusal → Refused refusal old.sink new.sink status
-    → new.files ≡ old.files → new.net ≡ old.net → bench ≡ None → Ended words old new bench status
+    → new.files ≡ old.files → new.net ≡ old.net → bench ≡ None → Ran words old new bench status
 refused_words words old new bench status refusal cause was files net blank = refused refusal (of_words cause files) was net blank
 
-pub run_both : (words : List (List ℕ)) (old new : Outside) (bench left : Option Live) (status : Status) (job : Both) → job_of words ≡ Some (said_both job) → bench ≡ None → RanBoth job old new bench left status → Ended words old new left status
+pub run_both : (words : List (List ℕ)) (old new : Outside) (bench left : Option Live) (status : Status) (job : Both) → job_of words ≡ Some (said_both job) → bench ≡ None → RanBoth job old new bench left status → Ran words old new left status
 run_both words old new bench left status job is blank (both_unready refusal cause was net kept) = refused refusal (of_both job is cause) was net (kept ∙ blank)
 run_both words old new bench left status job is blank (both_done commands image script holds loads asked ended) =
     ran job commands image (record { words_write = is; script_reads = script; image_is = holds; loads = loads }) asked ended
 
 pub run_gen : (words : List (List ℕ)) (old new : Outside) (bench left : Option Live) (status : Status) (job : Gen) → job_of words ≡ Some (said_gen job) → bench ≡ None → new.files ≡ old.files
-    → RanGen job old.net new.net old.sink new.sink bench left status → Ended words old new left status
+    → RanGen job old.net new.net old.sink new.sink bench left status → Ran words old new left status
 run_gen words old new bench left status job is blank files (gen_unready refusal cause was net kept) = refused refusal (of_gen job is cause files) was net (kept ∙ blank)
 run_gen words old new bench left status job is blank files (gen_done image made loads ended) = generated job image (record { words_write = is; made = made; loads = loads }) files ended
 
-pub run_probe : (words : List (List ℕ)) (old new : Outside) (bench : Option Live) (status : Status) (job : Probe) → job_of words ≡ Some (said_probe job) → bench ≡ None → RanProbe job old new status → Ended words old new bench status
+pub run_probe : (words : List (List ℕ)) (old new : Outside) (bench : Option Live) (status : Status) (job : Probe) → job_of words ≡ Some (said_probe job) → bench ≡ None → RanProbe job old new status → Ran words old new bench status
 run_probe words old new bench status job is blank (probe_unready refusal cause was net) = refused refusal (of_probe job is cause) was net blank
 run_probe words old new bench status job is blank (probe_done commands script asked ended) = probed job commands (record { words_write = is; script_reads = script }) asked ended blank
 
-pub run_served : (words : List (List ℕ)) (old new : Outside) (bench left : Option Live) (status : Status) (job : Chip) → job_of words ≡ Some (said_chip job) → bench ≡ None → EndedChip job old new bench left status → Ended words old new left status
+pub run_served : (words : List (List ℕ)) (old new : Outside) (bench left : Option Live) (status : Status) (job : Chip) → job_of words ≡ Some (said_chip job) → bench ≡ None → RanChip job old new bench left status → Ran words old new left status
 run_served words old new bench left status job is blank (refused_chip refusal cause was net kept) = refused refusal (of_chip job is cause) was net (kept ∙ blank)
 run_served words old new bench left status job is blank (served_chip image holds loads asked ended) = served job image (record { words_write = is; image_is = holds; loads = loads }) asked ended
 

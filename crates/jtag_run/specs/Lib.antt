@@ -1,5 +1,5 @@
-pub mod Ended
 pub mod Ending
+pub mod Ends
 pub mod First
 pub mod LastLine
 pub mod Opening

@@ -1,113 +1,98 @@
--- What each job with a session does once it was accepted: how the session went, and what the program says of its end.
+-- How a run ends: what it has printed by its status, why, and the chip that it leaves.
 -- The program is this project's own (docs/FORMATS.md, "Statuses").
-use Rattle.std.specs.Prelude.{◌≡◌, ◌≤◌, ℕ, List, [], Bool, true, false, length, count_by, Option, None, Some}
-use Rattle.chip_core.specs.Feeds.{limit_met}
+use Rattle.std.specs.Prelude.{◌≡◌, ℕ, Bool, true, false, List, Option, Some, None}
 use Rattle.debug_model.specs.declared.command.Command.{Command}
-use Rattle.debug_model.specs.declared.net.Call.TheVariants as calls
-use Rattle.debug_model.specs.declared.net.NetFault.{NetFault}
 use Rattle.debug_model.specs.Chip.{Live}
-use Rattle.debug_model.specs.Told.{Far, read_out}
-use Rattle.debugger_laws.specs.Lines.{Line, is_error}
-use Rattle.jt_base.specs.Faults.{Rises}
-use Rattle.jt_base.specs.Sink.{GrewByPrefix, grown}
-use Rattle.jtag_run.specs.Ending.{ClosedBy}
-use Rattle.jtag_run.specs.Opening.{ConnectedAt, Joined, OpenFailed, refusal_of}
-use Rattle.jtag_run.specs.Outside.{NetSeen}
-use Rattle.jtag_run.specs.Refusal.{Refused}
-use Rattle.jtag_run.specs.Sessions.{Carried, OnBench, OnLoop, OnNet}
-use Rattle.jtag_run.specs.Sessions.Carried.{straight, over_net}
-use Rattle.jtag_run.specs.Summary.{summary_of}
+use Rattle.debug_model.specs.Loaded.{AsLoaded}
+use Rattle.generator.specs.Commands.{commands}
+use Rattle.generator.specs.Image.{IsImageOf, program}
+use Rattle.jt_base.specs.Files.{Holds, NamedFile, asked_more}
+use Rattle.jtag_run.specs.First.{CanLoad, first_chip}
+use Rattle.jtag_run.specs.Outside.{NetSeen, Outside}
+use Rattle.jtag_run.specs.Ends.{BenchEnd, GenEnd, LoopEnd, ProbeEnd}
+use Rattle.jtag_run.specs.Refusal.{GenCause, HoldsScript, JobCause, RefusalCause, Refused, ScriptFileCause, asked_both, asked_image}
+use Rattle.jtag_run.specs.ServedChip.{IsAcceptedChip, ServedAt}
+use Rattle.jtag_run.specs.Words.{Both, Chip, Gen, Probe, said_both, said_gen, said_probe}
+use Rattle.jtag_run.specs.declared.refusal.Refusal.{Refusal}
 use Rattle.jtag_run.specs.declared.status.Status.{Status}
-use Rattle.jtag_run.specs.declared.status.Status.TheVariants as status_as
-use Rattle.line_counts.specs.Counts.{errors_in, lines_in}
-use Rattle.probe_session.specs.declared.ended.Ended.{Ended as End}
-use Rattle.probe_session.specs.declared.ended.Ended.TheVariants as ends
-use Rattle.probe_session.specs.declared.fault.LostCause.TheVariants as lost
-use Rattle.probe_session.specs.Transcribed.{shown}
+use Rattle.jtag_words.specs.Words.{job_of}
 use Rattle.wire_session.specs.Seen.{SinkSeen}
 
--- ---- a script on a chip on a bench
+-- ---- what was accepted
 
-pub record BenchEnd (first : Live) (script : List Command) (old new : SinkSeen) (bench : Option Live) (status : Status) : Type 0 where
-  pub closed : End
-  pub behind : SinkSeen  -- the sink behind the session, before a last line
-  pub ran : OnBench first script old behind bench (limit_met bench) closed
-  pub told : ClosedBy closed (limit_met bench) behind new status
+-- the words write this job, its script is read as these commands, and its image can be loaded
+pub record IsAccepted (words : List (List ℕ)) (held : Option (List NamedFile)) (job : Both) (commands : List Command) (image : List ℕ) : Type 0 where
+  pub words_write : job_of words ≡ Some (said_both job)
+  pub script_reads : HoldsScript held job.script commands
+  pub image_is : Holds held job.image image
+  pub loads : CanLoad job.options image
 
--- the same over a connection of the machine to itself, or that could not be opened, and the chip stays as it was loaded
-pub data LoopEnd (first : Live) (script : List Command) (net_was net_is : NetSeen) (old new : SinkSeen) (bench : Option Live) (status : Status) : Type 0 where
-  unjoined : (fault : NetFault) → OpenFailed calls.Join None fault net_was net_is → Refused (refusal_of fault) old new status → bench ≡ Some first → LoopEnd first script net_was net_is old new bench status
-  joined : (mid : NetSeen) (closed : End) (behind : SinkSeen) → Joined net_was mid → OnLoop first script mid net_is old behind bench closed → ClosedBy closed (limit_met bench) behind new status
-      → LoopEnd first script net_was net_is old new bench status
+-- the words write this job, and the image of its number can be loaded
+pub record IsAcceptedGen (words : List (List ℕ)) (job : Gen) (image : List ℕ) : Type 0 where
+  pub words_write : job_of words ≡ Some (said_gen job)
+  pub made : IsImageOf (program job.number) image
+  pub loads : CanLoad job.options image
 
--- ---- a session that is made from a number
+-- the words write this job, and its script is read as these commands
+pub record IsAcceptedProbe (words : List (List ℕ)) (held : Option (List NamedFile)) (job : Probe) (commands : List Command) : Type 0 where
+  pub words_write : job_of words ≡ Some (said_probe job)
+  pub script_reads : HoldsScript held job.script commands
 
--- a sink that has counted nothing yet, and what it has counted behind these bytes
-abbrev pub taken_seen : List ℕ → SinkSeen
-taken_seen taken = record { printed = Some taken; faults = 0 }
+-- behind what is read and judged first: the chip is on the bench
+pub record Prepared (job : Both) (held : Option (List NamedFile)) (commands : List Command) (bench : Option Live) : Type 0 where
+  pub image : List ℕ
+  pub script_reads : HoldsScript held job.script commands
+  pub image_is : Holds held job.image image
+  pub loads : CanLoad job.options image
+  pub is : bench ≡ Some (first_chip job.options image)
+  pub as_loaded : AsLoaded (first_chip job.options image)
 
--- how the session ended, before its stream, and the chip behind it
-abbrev pub end_of : {loopback : Bool} {first : Live} {script : List Command} {net_was net_is : NetSeen} {was is : SinkSeen} {bench : Option Live} {limit : Bool} {closed : End}
-    → Carried loopback first script net_was net_is was is bench limit closed → End
-end_of (straight direct same ran) = ran.session.end
-end_of (over_net mid loops joins ran) = ran.session.end
+-- behind what is made first: the chip is on the bench
+pub record Made (job : Gen) (script : List Command) (bench : Option Live) : Type 0 where
+  pub image : List ℕ
+  pub script_is : script ≡ commands job.number
+  pub made : IsImageOf (program job.number) image
+  pub loads : CanLoad job.options image
+  pub is : bench ≡ Some (first_chip job.options image)
+  pub as_loaded : AsLoaded (first_chip job.options image)
 
-abbrev pub last_of : {loopback : Bool} {first : Live} {script : List Command} {net_was net_is : NetSeen} {was is : SinkSeen} {bench : Option Live} {limit : Bool} {closed : End}
-    → Carried loopback first script net_was net_is was is bench limit closed → Far
-last_of (straight direct same ran) = ran.session.headline.far
-last_of (over_net mid loops joins ran) = ran.session.headline.far
+-- ---- each job, once its words are read
 
--- these bytes have as many lines and error lines as the session's lines are
-pub record AreCounted (lines : List Line) (taken : List ℕ) : Type 0 where
-  pub lines_are : lines_in taken ≡ length lines
-  pub errors_are : errors_in taken ≡ count_by is_error lines
+-- by its way: straight to the bench, and the net stays as it is, or over the net
+abbrev pub BothEnd : (loopback : Bool) → Live → List Command → (net_was net_is : NetSeen) → (old new : SinkSeen) → Option Live → Status → Type 0
+BothEnd false first script net_was net_is old new bench status = (net_is ≡ net_was) × BenchEnd first script old new bench status
+BothEnd true first script net_was net_is old new bench status = LoopEnd first script net_was net_is old new bench status
 
--- so it is behind every session that went as far as the transcript's end
-abbrev pub CountedBehind : End → List Line → List ℕ → Type 0
-CountedBehind ends.Clean lines taken = AreCounted lines taken
-CountedBehind ends.WithErrors lines taken = AreCounted lines taken
-CountedBehind (ends.Target fault) lines taken = Unit {0}
-CountedBehind (ends.Wire why) lines taken = Unit {0}
-CountedBehind (ends.Lost lost.DmiFailed) lines taken = Unit {0}
-CountedBehind (ends.Lost lost.StillBusy) lines taken = Unit {0}
-CountedBehind (ends.Lost (lost.NoHalt looks)) lines taken = AreCounted lines taken
-CountedBehind (ends.Lost (lost.NoAck looks)) lines taken = AreCounted lines taken
-CountedBehind (ends.Lost (lost.Odd word)) lines taken = Unit {0}
-CountedBehind ends.Sink lines taken = Unit {0}
+-- the script or the image was refused, and nothing was opened; or just the two were asked for, and the session ran
+pub data RanBoth (job : Both) (old new : Outside) (bench left : Option Live) (status : Status) : Type 0 where
+  refused : (refusal : Refusal) → JobCause job old.files new.files refusal → Refused refusal old.sink new.sink status → new.net ≡ old.net → left ≡ bench → RanBoth job old new bench left status
+  ran : (commands : List Command) (image : List ℕ) → HoldsScript old.files.held job.script commands → Holds old.files.held job.image image → CanLoad job.options image
+      → new.files.asked ≡ asked_both job old.files → BothEnd job.loopback (first_chip job.options image) commands old.net new.net old.sink new.sink left status → RanBoth job old new bench left status
 
--- a sink that counts takes every line
-abbrev pub TakesAll : End → Type 0
-TakesAll ends.Clean = Unit {0}
-TakesAll ends.WithErrors = Unit {0}
-TakesAll (ends.Target fault) = Unit {0}
-TakesAll (ends.Wire why) = Unit {0}
-TakesAll (ends.Lost why) = Unit {0}
-TakesAll ends.Sink = ⊥
+-- the image can't be loaded, and nothing was opened; or the session ran
+pub data RanGen (job : Gen) (net_was net_is : NetSeen) (old new : SinkSeen) (bench left : Option Live) (status : Status) : Type 0 where
+  refused : (refusal : Refusal) → GenCause job refusal → Refused refusal old new status → net_is ≡ net_was → left ≡ bench → RanGen job net_was net_is old new bench left status
+  ran : (image : List ℕ) → IsImageOf (program job.number) image → CanLoad job.options image
+      → GenEnd job.loopback (first_chip job.options image) (commands job.number) net_was net_is old new left status → RanGen job net_was net_is old new bench left status
 
--- the session ran into a sink that counts, which has taken these bytes
-pub record Counted (loopback : Bool) (first : Live) (script : List Command) (net_was net_is : NetSeen) (taken : List ℕ) (bench : Option Live) (closed : End) : Type 0 where
-  pub carried : Carried loopback first script net_was net_is (taken_seen []) (taken_seen taken) bench (limit_met bench) closed
-  pub counted : CountedBehind (end_of carried) (shown script (read_out first) (last_of carried)).world.lines taken
-  pub all : TakesAll closed
+-- the script was refused, and nothing was opened; or just the script was asked for, and the net was opened
+pub data RanProbe (job : Probe) (old new : Outside) (status : Status) : Type 0 where
+  refused : (refusal : Refusal) → ScriptFileCause job.script old.files new.files refusal → Refused refusal old.sink new.sink status → new.net ≡ old.net → RanProbe job old new status
+  ran : (commands : List Command) → HoldsScript old.files.held job.script commands → new.files.asked ≡ asked_more job.script old.files.asked
+      → ProbeEnd job.at commands old.net new.net old.sink new.sink status → RanProbe job old new status
 
--- the net that was to be joined for it was not
-pub record Unjoined (loopback : Bool) (fault : NetFault) (net_was net_is : NetSeen) : Type 0 where
-  pub loops : loopback ≡ true
-  pub failed : OpenFailed calls.Join None fault net_was net_is
+-- ---- a run
 
-pub data GenEnd (loopback : Bool) (first : Live) (script : List Command) (net_was net_is : NetSeen) (old new : SinkSeen) (bench : Option Live) (status : Status) : Type 0 where
-  unjoined : (fault : NetFault) → Unjoined loopback fault net_was net_is → Refused (refusal_of fault) old new status → bench ≡ Some first
-      → GenEnd loopback first script net_was net_is old new bench status
-  -- the summary was printed, and then the end
-  summed : (taken : List ℕ) (closed : End) (mid : SinkSeen) → Counted loopback first script net_was net_is taken bench closed → mid.printed ≡ grown (summary_of script taken) old.printed
-      → old.faults ≤ mid.faults → ClosedBy closed (limit_met bench) mid new status → GenEnd loopback first script net_was net_is old new bench status
-  -- or a front of it
-  unsummed : (taken : List ℕ) (closed : End) → Counted loopback first script net_was net_is taken bench closed → GrewByPrefix (summary_of script taken) old.printed new.printed
-      → Rises old.faults new.faults → status ≡ status_as.Sink → GenEnd loopback first script net_was net_is old new bench status
-
--- ---- a script on a chip at the far side of a net
-
-pub data ProbeEnd (at : List ℕ) (script : List Command) (net_was net_is : NetSeen) (old new : SinkSeen) (status : Status) : Type 0 where
-  unopened : (fault : NetFault) → OpenFailed calls.Connect (Some at) fault net_was net_is → Refused (refusal_of fault) old new status → ProbeEnd at script net_was net_is old new status
-  opened : (mid : NetSeen) (closed : End) (behind : SinkSeen) → ConnectedAt at net_was mid → OnNet script mid net_is old behind closed → ClosedBy closed false behind new status
-      → ProbeEnd at script net_was net_is old new status
+-- a run of these words was refused before a net was opened, and has loaded no chip; or what it asks for was accepted, just its files were asked for, in their order, and: the
+-- session of a script ran on a chip on the bench; or that of a number; or a script's over a net, and no chip was loaded; or a chip was served over a net
+pub data Ran (words : List (List ℕ)) (old new : Outside) (bench : Option Live) (status : Status) : Type 0 where
+  refused : (refusal : Refusal) → RefusalCause words old.files new.files refusal → Refused refusal old.sink new.sink status → new.net ≡ old.net → bench ≡ None
+      → Ran words old new bench status
+  ran : (job : Both) (commands : List Command) (image : List ℕ) → IsAccepted words old.files.held job commands image → new.files.asked ≡ asked_both job old.files
+      → BothEnd job.loopback (first_chip job.options image) commands old.net new.net old.sink new.sink bench status → Ran words old new bench status
+  generated : (job : Gen) (image : List ℕ) → IsAcceptedGen words job image → new.files ≡ old.files
+      → GenEnd job.loopback (first_chip job.options image) (commands job.number) old.net new.net old.sink new.sink bench status → Ran words old new bench status
+  probed : (job : Probe) (commands : List Command) → IsAcceptedProbe words old.files.held job commands → new.files.asked ≡ asked_more job.script old.files.asked
+      → ProbeEnd job.at commands old.net new.net old.sink new.sink status → bench ≡ None → Ran words old new bench status
+  served : (job : Chip) (image : List ℕ) → IsAcceptedChip words old.files.held job image → new.files.asked ≡ asked_image job old.files
+      → ServedAt job.at old.net new.net old.sink new.sink (Some (first_chip job.options image)) bench status → Ran words old new bench status

@@ -17,7 +17,7 @@ use Rattle.wire_session.specs.Seen.{SinkSeen, WireSeen}
 use Rattle.wire_session.specs.WireSession.{WireSession}
 
 -- a bench whose chip is as it was loaded
-pub record IsFresh (bench : Option Live) : Type 0 where
+pub record IsLoadedBench (bench : Option Live) : Type 0 where
   pub first : Live
   pub is : bench ≡ Some first
   pub as_loaded : AsLoaded first

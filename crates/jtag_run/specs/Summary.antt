@@ -12,9 +12,9 @@ abbrev pub summary : ℕ → ℕ → ℕ → List ℕ
 summary commands errors lines = counted_line (codes "commands ") commands ++ (counted_line (codes "errors ") errors ++ counted_line (codes "lines ") lines)
 
 -- a count stands still at its type's end
-abbrev pub counted : ℕ → ℕ
-counted count = min count (2 ^ 64 - 1)
+abbrev pub shown_count : ℕ → ℕ
+shown_count count = min count (2 ^ 64 - 1)
 
 -- of a script, and of the bytes that its session has put
 abbrev pub summary_of : List Command → List ℕ → List ℕ
-summary_of script taken = summary (length script) (counted (errors_in taken)) (counted (lines_in taken))
+summary_of script taken = summary (length script) (shown_count (errors_in taken)) (shown_count (lines_in taken))

@@ -94,9 +94,13 @@ abbrev pub start_of : Bool → Start
 start_of true = Halted
 start_of false = Running
 
+-- the most harts for which a schedule is made
+abbrev pub most_harts : ℕ
+most_harts = 4
+
 -- an impossible number of harts has the schedule of one: the load refuses it then
 abbrev pub schedule_harts : ℕ → ℕ
-schedule_harts harts = if nat_le 1 harts && nat_le harts 4 then harts else 1
+schedule_harts harts = if nat_le 1 harts && nat_le harts most_harts then harts else 1
 
 abbrev pub plan_of : ChipOptions → RoundPlan
 plan_of o = seed_plan o.seed o.busy (schedule_harts o.harts)

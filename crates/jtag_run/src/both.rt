@@ -2,9 +2,9 @@
 
 ghost use Rattle.std.specs.Prelude.{◌≡◌, ◌≤◌, IfSome, None};
 ghost use Rattle.debug_model.specs.Wire.{piece_most};
-ghost use Rattle.jtag_run.specs.Ended.{RanBoth};
-ghost use Rattle.jtag_run.specs.Ran.{BenchEnd, LoopEnd};
-ghost use Rattle.jtag_run.specs.Sessions.{IsFresh};
+ghost use Rattle.jtag_run.specs.Ran.{RanBoth};
+ghost use Rattle.jtag_run.specs.Ends.{BenchEnd, LoopEnd};
+ghost use Rattle.jtag_run.specs.Sessions.{IsLoadedBench};
 ghost use Rattle.jtag_run.specs.Words.{both_value};
 ghost use Rattle.jtag_words.specs.Words.{InRange, least_busy, least_piece, most_busy};
 
@@ -29,8 +29,11 @@ pub fn both_with<Q: Schedule, K: Sink>(
     out: &mut K,
 ) -> Status
     requires piece { (1 ≤ piece) × (piece ≤ piece_most) }
-    requires fresh { IsFresh bench.old }
-    ensures ended { IfSome bench.old (λ first. BenchEnd first script.now (record { printed = K.contents out.old; faults = K.fault_count out.old }) (record { printed = K.contents out.new; faults = K.fault_count out.new }) bench.new result) }
+    requires fresh { IsLoadedBench bench.old }
+    ensures ended { IfSome bench.old (λ first. BenchEnd first script.now
+        (record { printed = K.contents out.old; faults = K.fault_count out.old })
+        (record { printed = K.contents out.new; faults = K.fault_count out.new })
+        bench.new result) }
 {
     let ended = run_on_bench(script, bench, piece, out);
     tell(out, ended, bench.at_limit())
@@ -45,8 +48,13 @@ fn loop_with<N: Net, Q: Schedule, K: Sink>(
     out: &mut K,
 ) -> Status
     requires unopened { (N.state net.old).ties.opening ≡ None }
-    requires fresh { IsFresh bench.old }
-    ensures ended { IfSome bench.old (λ first. LoopEnd first script.now (record { state = N.state net.old; peer = N.peer net.old; faults = N.fault_count net.old; ends = N.end_count net.old }) (record { state = N.state net.new; peer = N.peer net.new; faults = N.fault_count net.new; ends = N.end_count net.new }) (record { printed = K.contents out.old; faults = K.fault_count out.old }) (record { printed = K.contents out.new; faults = K.fault_count out.new }) bench.new result) }
+    requires fresh { IsLoadedBench bench.old }
+    ensures ended { IfSome bench.old (λ first. LoopEnd first script.now
+        (record { state = N.state net.old; peer = N.peer net.old; faults = N.fault_count net.old; ends = N.end_count net.old })
+        (record { state = N.state net.new; peer = N.peer net.new; faults = N.fault_count net.new; ends = N.end_count net.new })
+        (record { printed = K.contents out.old; faults = K.fault_count out.old })
+        (record { printed = K.contents out.new; faults = K.fault_count out.new })
+        bench.new result) }
 {
     match net.join(alloc) {
         Ok(()) => {
@@ -69,7 +77,18 @@ pub fn run_both<F: Files, N: Net, K: Sink>(
     requires piece { InRange least_piece piece_most job.now.piece }
     requires busy { InRange least_busy most_busy job.now.options.busy }
     requires unopened { (N.state net.old).ties.opening ≡ None }
-    ensures ended { RanBoth (both_value job.now) (record { files = record { held = F.held files.old; asked = F.asked files.old; faults = F.fault_count files.old }; net = record { state = N.state net.old; peer = N.peer net.old; faults = N.fault_count net.old; ends = N.end_count net.old }; sink = record { printed = K.contents out.old; faults = K.fault_count out.old } }) (record { files = record { held = F.held files.new; asked = F.asked files.new; faults = F.fault_count files.new }; net = record { state = N.state net.new; peer = N.peer net.new; faults = N.fault_count net.new; ends = N.end_count net.new }; sink = record { printed = K.contents out.new; faults = K.fault_count out.new } }) bench.old bench.new result }
+    ensures ended { RanBoth (both_value job.now)
+        (record {
+          files = record { held = F.held files.old; asked = F.asked files.old; faults = F.fault_count files.old };
+          net = record { state = N.state net.old; peer = N.peer net.old; faults = N.fault_count net.old; ends = N.end_count net.old };
+          sink = record { printed = K.contents out.old; faults = K.fault_count out.old };
+        })
+        (record {
+          files = record { held = F.held files.new; asked = F.asked files.new; faults = F.fault_count files.new };
+          net = record { state = N.state net.new; peer = N.peer net.new; faults = N.fault_count net.new; ends = N.end_count net.new };
+          sink = record { printed = K.contents out.new; faults = K.fault_count out.new };
+        })
+        bench.old bench.new result }
 {
     match prepare(alloc, job, files, bench) {
         Ok(script) => {

@@ -2,7 +2,7 @@
 
 ghost use Rattle.std.specs.Prelude.{◌≡◌, IsSome, None};
 ghost use Rattle.jtag_run.specs.Refusal.{ChipCause, Refused};
-ghost use Rattle.jtag_run.specs.ServedChip.{EndedChip, ServedAt, Told, limit_first};
+ghost use Rattle.jtag_run.specs.ServedChip.{RanChip, ServedAt, Told, limit_first};
 ghost use Rattle.jtag_run.specs.Words.{chip_value};
 ghost use Rattle.jtag_words.specs.Words.{InRange, least_busy, most_busy};
 
@@ -32,7 +32,10 @@ fn limit_first<Q: Schedule>(bench: &Bench<Q>, served: Served) -> Served
 
 /// The status of a run whose serving ended so, behind its last line where it has one.
 fn tell<K: Sink>(out: &mut K, served: Served) -> Status
-    ensures told { Told served (record { printed = K.contents out.old; faults = K.fault_count out.old }) (record { printed = K.contents out.new; faults = K.fault_count out.new }) result }
+    ensures told { Told served
+        (record { printed = K.contents out.old; faults = K.fault_count out.old })
+        (record { printed = K.contents out.new; faults = K.fault_count out.new })
+        result }
 {
     match served {
         Served::Quit => Status::Clean,
@@ -53,7 +56,12 @@ fn serve_at<N: Net, Q: Schedule, K: Sink>(
 ) -> Status
     requires unopened { (N.state net.old).ties.opening ≡ None }
     requires loaded { IsSome bench.old }
-    ensures served { ServedAt at.now (record { state = N.state net.old; peer = N.peer net.old; faults = N.fault_count net.old; ends = N.end_count net.old }) (record { state = N.state net.new; peer = N.peer net.new; faults = N.fault_count net.new; ends = N.end_count net.new }) (record { printed = K.contents out.old; faults = K.fault_count out.old }) (record { printed = K.contents out.new; faults = K.fault_count out.new }) bench.old bench.new result }
+    ensures served { ServedAt at.now
+        (record { state = N.state net.old; peer = N.peer net.old; faults = N.fault_count net.old; ends = N.end_count net.old })
+        (record { state = N.state net.new; peer = N.peer net.new; faults = N.fault_count net.new; ends = N.end_count net.new })
+        (record { printed = K.contents out.old; faults = K.fault_count out.old })
+        (record { printed = K.contents out.new; faults = K.fault_count out.new })
+        bench.old bench.new result }
 {
     match net.accept(alloc, at) {
         Ok(()) => {
@@ -76,7 +84,18 @@ pub fn run_chip<F: Files, N: Net, K: Sink>(
 ) -> Status
     requires busy { InRange least_busy most_busy job.now.options.busy }
     requires unopened { (N.state net.old).ties.opening ≡ None }
-    ensures ended { EndedChip (chip_value job.now) (record { files = record { held = F.held files.old; asked = F.asked files.old; faults = F.fault_count files.old }; net = record { state = N.state net.old; peer = N.peer net.old; faults = N.fault_count net.old; ends = N.end_count net.old }; sink = record { printed = K.contents out.old; faults = K.fault_count out.old } }) (record { files = record { held = F.held files.new; asked = F.asked files.new; faults = F.fault_count files.new }; net = record { state = N.state net.new; peer = N.peer net.new; faults = N.fault_count net.new; ends = N.end_count net.new }; sink = record { printed = K.contents out.new; faults = K.fault_count out.new } }) bench.old bench.new result }
+    ensures ended { RanChip (chip_value job.now)
+        (record {
+          files = record { held = F.held files.old; asked = F.asked files.old; faults = F.fault_count files.old };
+          net = record { state = N.state net.old; peer = N.peer net.old; faults = N.fault_count net.old; ends = N.end_count net.old };
+          sink = record { printed = K.contents out.old; faults = K.fault_count out.old };
+        })
+        (record {
+          files = record { held = F.held files.new; asked = F.asked files.new; faults = F.fault_count files.new };
+          net = record { state = N.state net.new; peer = N.peer net.new; faults = N.fault_count net.new; ends = N.end_count net.new };
+          sink = record { printed = K.contents out.new; faults = K.fault_count out.new };
+        })
+        bench.old bench.new result }
 {
     match prepare_chip(alloc, job, files, bench) {
         Ok(()) => serve_at(alloc, job.at.as_str(), net, out, bench),

@@ -2,10 +2,10 @@
 
 ghost use Rattle.std.specs.Prelude.{◌≡◌, [], IfErr, IfOk, IfSome, None, OnErr};
 ghost use Rattle.debug_model.specs.Wire.{piece_most};
-ghost use Rattle.jtag_run.specs.Ended.{Made, RanGen};
-ghost use Rattle.jtag_run.specs.Ran.{Counted, GenEnd, Unjoined};
+ghost use Rattle.jtag_run.specs.Ran.{Made, RanGen};
+ghost use Rattle.jtag_run.specs.Ends.{Counted, GenEnd, Unjoined};
 ghost use Rattle.jtag_run.specs.Refusal.{GenCause};
-ghost use Rattle.jtag_run.specs.Sessions.{IsFresh};
+ghost use Rattle.jtag_run.specs.Sessions.{IsLoadedBench};
 ghost use Rattle.jtag_run.specs.Words.{gen_value};
 ghost use Rattle.wire_session.specs.Closing.{IsOfRegister};
 ghost use Rattle.jtag_words.specs.Words.{InRange, least_busy, least_piece, most_busy};
@@ -56,11 +56,16 @@ fn count<N: Net>(
 ) -> Result<Ended, NetFault>
     requires piece { InRange least_piece piece_most job.now.piece }
     requires unopened { (N.state net.old).ties.opening ≡ None }
-    requires fresh { IsFresh bench.old }
+    requires fresh { IsLoadedBench bench.old }
     requires nothing { counts.old ≡ [] }
-    ensures counted { IfOk result (λ ended. IfSome bench.old (λ first. Counted job.now.loopback first script.now (record { state = N.state net.old; peer = N.peer net.old; faults = N.fault_count net.old; ends = N.end_count net.old }) (record { state = N.state net.new; peer = N.peer net.new; faults = N.fault_count net.new; ends = N.end_count net.new }) counts.new bench.new ended)) }
+    ensures counted { IfOk result (λ ended. IfSome bench.old (λ first. Counted job.now.loopback first script.now
+        (record { state = N.state net.old; peer = N.peer net.old; faults = N.fault_count net.old; ends = N.end_count net.old })
+        (record { state = N.state net.new; peer = N.peer net.new; faults = N.fault_count net.new; ends = N.end_count net.new })
+        counts.new bench.new ended)) }
     ensures of_register { IfOk result IsOfRegister }
-    ensures unjoined { IfErr result (λ fault. Unjoined job.now.loopback fault (record { state = N.state net.old; peer = N.peer net.old; faults = N.fault_count net.old; ends = N.end_count net.old }) (record { state = N.state net.new; peer = N.peer net.new; faults = N.fault_count net.new; ends = N.end_count net.new })) }
+    ensures unjoined { IfErr result (λ fault. Unjoined job.now.loopback fault
+        (record { state = N.state net.old; peer = N.peer net.old; faults = N.fault_count net.old; ends = N.end_count net.old })
+        (record { state = N.state net.new; peer = N.peer net.new; faults = N.fault_count net.new; ends = N.end_count net.new })) }
     ensures kept { OnErr result (bench.new ≡ bench.old) }
 {
     lines_are_counted();
@@ -84,7 +89,12 @@ pub fn run_gen<N: Net, K: Sink>(
     requires piece { InRange least_piece piece_most job.now.piece }
     requires busy { InRange least_busy most_busy job.now.options.busy }
     requires unopened { (N.state net.old).ties.opening ≡ None }
-    ensures ended { RanGen (gen_value job.now) (record { state = N.state net.old; peer = N.peer net.old; faults = N.fault_count net.old; ends = N.end_count net.old }) (record { state = N.state net.new; peer = N.peer net.new; faults = N.fault_count net.new; ends = N.end_count net.new }) (record { printed = K.contents out.old; faults = K.fault_count out.old }) (record { printed = K.contents out.new; faults = K.fault_count out.new }) bench.old bench.new result }
+    ensures ended { RanGen (gen_value job.now)
+        (record { state = N.state net.old; peer = N.peer net.old; faults = N.fault_count net.old; ends = N.end_count net.old })
+        (record { state = N.state net.new; peer = N.peer net.new; faults = N.fault_count net.new; ends = N.end_count net.new })
+        (record { printed = K.contents out.old; faults = K.fault_count out.old })
+        (record { printed = K.contents out.new; faults = K.fault_count out.new })
+        bench.old bench.new result }
 {
     let script = match make(alloc, job, bench) {
         Ok(script) => script,

@@ -49,7 +49,10 @@ fn put_last_line<K: Sink>(out: &mut K, refusal: Refusal<'_>) -> Result<(), SinkF
 
 /// The status of a refused run, behind its last line.
 pub fn refuse<K: Sink>(out: &mut K, refusal: Refusal<'_>) -> Status
-    ensures refused { Refused refusal.entry (record { printed = K.contents out.old; faults = K.fault_count out.old }) (record { printed = K.contents out.new; faults = K.fault_count out.new }) result }
+    ensures refused { Refused refusal.entry
+        (record { printed = K.contents out.old; faults = K.fault_count out.old })
+        (record { printed = K.contents out.new; faults = K.fault_count out.new })
+        result }
 {
     match put_last_line(out, refusal) {
         Ok(()) => refusal.status(),
@@ -59,7 +62,10 @@ pub fn refuse<K: Sink>(out: &mut K, refusal: Refusal<'_>) -> Status
 
 /// This status, behind this last line.
 pub fn close<K: Sink>(out: &mut K, line: &[u8], status: Status) -> Status
-    ensures closed { Closed line.now status (record { printed = K.contents out.old; faults = K.fault_count out.old }) (record { printed = K.contents out.new; faults = K.fault_count out.new }) result }
+    ensures closed { Closed line.now status
+        (record { printed = K.contents out.old; faults = K.fault_count out.old })
+        (record { printed = K.contents out.new; faults = K.fault_count out.new })
+        result }
 {
     match out.put(line) {
         Ok(()) => status,
@@ -71,7 +77,10 @@ pub fn close<K: Sink>(out: &mut K, line: &[u8], status: Status) -> Status
 /// which is told before every other end but that of the sink.
 pub fn tell<K: Sink>(out: &mut K, ended: Ended, limit: bool) -> Status
     requires { IsOfRegister ended }
-    ensures told { ClosedBy ended limit (record { printed = K.contents out.old; faults = K.fault_count out.old }) (record { printed = K.contents out.new; faults = K.fault_count out.new }) result }
+    ensures told { ClosedBy ended limit
+        (record { printed = K.contents out.old; faults = K.fault_count out.old })
+        (record { printed = K.contents out.new; faults = K.fault_count out.new })
+        result }
 {
     match ended {
         Ended::Sink => Status::Sink,

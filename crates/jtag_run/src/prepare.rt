@@ -4,7 +4,7 @@ ghost use Rattle.std.specs.Prelude.{◌≡◌, ◌≤◌, IfOk, IfErr, IfSome, O
 ghost use Rattle.chip_core.specs.Loads.{IsFirst};
 ghost use Rattle.debug_model.specs.Loaded.{AsLoaded};
 ghost use Rattle.jt_base.specs.Files.{Holds, asked_more};
-ghost use Rattle.jtag_run.specs.Ended.{Prepared};
+ghost use Rattle.jtag_run.specs.Ran.{Prepared};
 ghost use Rattle.jtag_run.specs.First.{CanLoad, first_chip};
 ghost use Rattle.jtag_run.specs.Refusal.{ChipCause, HoldsScript, ImageFileCause, JobCause, LoadCause, ScriptFileCause, asked_both, asked_image};
 ghost use Rattle.jtag_run.specs.ServedChip.{PreparedChip};
@@ -21,7 +21,7 @@ use jt_base::{FileFault, Files};
 use jtag_words::ChipOptions;
 use script_lang::MOST_TEXT;
 use std::alloc::Global;
-use sys_events::SeedSchedule;
+use sys_events::{MOST_HARTS, SeedSchedule};
 
 /// The most bytes of an image's file.
 const IMAGE_MOST: usize = 16_777_216;
@@ -33,7 +33,9 @@ pub fn load_script<'a, F: Files>(
     name: &'a str,
 ) -> Result<Script, Refusal<'a>>
     ensures commands { IfOk result (HoldsScript (F.held files.old) name.now) }
-    ensures cause { IfErr result (ScriptFileCause name.now (record { held = F.held files.old; asked = F.asked files.old; faults = F.fault_count files.old }) (record { held = F.held files.new; asked = F.asked files.new; faults = F.fault_count files.new })) }
+    ensures cause { IfErr result (ScriptFileCause name.now
+        (record { held = F.held files.old; asked = F.asked files.old; faults = F.fault_count files.old })
+        (record { held = F.held files.new; asked = F.asked files.new; faults = F.fault_count files.new })) }
     ensures held { F.held files.new ≡ F.held files.old }
     ensures asked { OnOk result (F.asked files.new ≡ asked_more name.now (F.asked files.old)) }
     ensures later { F.fault_count files.old ≤ F.fault_count files.new }
@@ -63,7 +65,9 @@ fn read_image<'a, F: Files>(
     name: &'a str,
 ) -> Result<Vec<u8>, Refusal<'a>>
     ensures image { IfOk result (λ image. Holds (F.held files.old) name.now image.items) }
-    ensures cause { IfErr result (ImageFileCause name.now (record { held = F.held files.old; asked = F.asked files.old; faults = F.fault_count files.old }) (record { held = F.held files.new; asked = F.asked files.new; faults = F.fault_count files.new })) }
+    ensures cause { IfErr result (ImageFileCause name.now
+        (record { held = F.held files.old; asked = F.asked files.old; faults = F.fault_count files.old })
+        (record { held = F.held files.new; asked = F.asked files.new; faults = F.fault_count files.new })) }
     ensures held { F.held files.new ≡ F.held files.old }
     ensures asked { OnOk result (F.asked files.new ≡ asked_more name.now (F.asked files.old)) }
     ensures later { F.fault_count files.old ≤ F.fault_count files.new }
@@ -82,7 +86,7 @@ fn schedule_of(options: &ChipOptions) -> SeedSchedule
     ensures plan { result ≡ plan_of options.now }
     ensures first { IsFirst result }
 {
-    let harts = if (1..=4).contains(&options.harts) {
+    let harts = if (1..=u64::from(MOST_HARTS)).contains(&options.harts) {
         options.harts as u8
     } else {
         1
@@ -139,8 +143,12 @@ pub fn prepare<'a, F: Files>(
 ) -> Result<Script, Refusal<'a>>
     requires busy { InRange least_busy most_busy job.now.options.busy }
     ensures prepared { IfOk result (λ script. Prepared (both_value job.now) (F.held files.old) script bench.new) }
-    ensures asked { OnOk result (F.asked files.new ≡ asked_both (both_value job.now) (record { held = F.held files.old; asked = F.asked files.old; faults = F.fault_count files.old })) }
-    ensures cause { IfErr result (JobCause (both_value job.now) (record { held = F.held files.old; asked = F.asked files.old; faults = F.fault_count files.old }) (record { held = F.held files.new; asked = F.asked files.new; faults = F.fault_count files.new })) }
+    ensures asked { OnOk result (F.asked files.new
+        ≡ asked_both (both_value job.now)
+        (record { held = F.held files.old; asked = F.asked files.old; faults = F.fault_count files.old })) }
+    ensures cause { IfErr result (JobCause (both_value job.now)
+        (record { held = F.held files.old; asked = F.asked files.old; faults = F.fault_count files.old })
+        (record { held = F.held files.new; asked = F.asked files.new; faults = F.fault_count files.new })) }
     ensures kept { OnErr result (bench.new ≡ bench.old) }
 {
     let script = load_script(alloc, files, job.script.as_str())?;
@@ -158,8 +166,12 @@ pub fn prepare_chip<'a, F: Files>(
 ) -> Result<(), Refusal<'a>>
     requires busy { InRange least_busy most_busy job.now.options.busy }
     ensures prepared { OnOk result (PreparedChip (chip_value job.now) (F.held files.old) bench.new) }
-    ensures asked { OnOk result (F.asked files.new ≡ asked_image (chip_value job.now) (record { held = F.held files.old; asked = F.asked files.old; faults = F.fault_count files.old })) }
-    ensures cause { IfErr result (ChipCause (chip_value job.now) (record { held = F.held files.old; asked = F.asked files.old; faults = F.fault_count files.old }) (record { held = F.held files.new; asked = F.asked files.new; faults = F.fault_count files.new })) }
+    ensures asked { OnOk result (F.asked files.new
+        ≡ asked_image (chip_value job.now)
+        (record { held = F.held files.old; asked = F.asked files.old; faults = F.fault_count files.old })) }
+    ensures cause { IfErr result (ChipCause (chip_value job.now)
+        (record { held = F.held files.old; asked = F.asked files.old; faults = F.fault_count files.old })
+        (record { held = F.held files.new; asked = F.asked files.new; faults = F.fault_count files.new })) }
     ensures kept { OnErr result (bench.new ≡ bench.old) }
 {
     let bytes = read_image(alloc, files, job.image.as_str())?;

@@ -1,8 +1,8 @@
 //! A probe alone: the session of a script on a chip at the far side of a net.
 
 ghost use Rattle.std.specs.Prelude.{◌≡◌, None};
-ghost use Rattle.jtag_run.specs.Ended.{RanProbe};
-ghost use Rattle.jtag_run.specs.Ran.{ProbeEnd};
+ghost use Rattle.jtag_run.specs.Ran.{RanProbe};
+ghost use Rattle.jtag_run.specs.Ends.{ProbeEnd};
 ghost use Rattle.jtag_run.specs.Words.{probe_value};
 
 use crate::last_line::{refuse, tell};
@@ -24,7 +24,12 @@ fn probe_at<N: Net, K: Sink>(
     out: &mut K,
 ) -> Status
     requires unopened { (N.state net.old).ties.opening ≡ None }
-    ensures ended { ProbeEnd at.now script.now (record { state = N.state net.old; peer = N.peer net.old; faults = N.fault_count net.old; ends = N.end_count net.old }) (record { state = N.state net.new; peer = N.peer net.new; faults = N.fault_count net.new; ends = N.end_count net.new }) (record { printed = K.contents out.old; faults = K.fault_count out.old }) (record { printed = K.contents out.new; faults = K.fault_count out.new }) result }
+    ensures ended { ProbeEnd at.now script.now
+        (record { state = N.state net.old; peer = N.peer net.old; faults = N.fault_count net.old; ends = N.end_count net.old })
+        (record { state = N.state net.new; peer = N.peer net.new; faults = N.fault_count net.new; ends = N.end_count net.new })
+        (record { printed = K.contents out.old; faults = K.fault_count out.old })
+        (record { printed = K.contents out.new; faults = K.fault_count out.new })
+        result }
 {
     match net.connect(alloc, at) {
         Ok(()) => {
@@ -44,7 +49,18 @@ pub fn run_probe<F: Files, N: Net, K: Sink>(
     out: &mut K,
 ) -> Status
     requires unopened { (N.state net.old).ties.opening ≡ None }
-    ensures ended { RanProbe (probe_value job.now) (record { files = record { held = F.held files.old; asked = F.asked files.old; faults = F.fault_count files.old }; net = record { state = N.state net.old; peer = N.peer net.old; faults = N.fault_count net.old; ends = N.end_count net.old }; sink = record { printed = K.contents out.old; faults = K.fault_count out.old } }) (record { files = record { held = F.held files.new; asked = F.asked files.new; faults = F.fault_count files.new }; net = record { state = N.state net.new; peer = N.peer net.new; faults = N.fault_count net.new; ends = N.end_count net.new }; sink = record { printed = K.contents out.new; faults = K.fault_count out.new } }) result }
+    ensures ended { RanProbe (probe_value job.now)
+        (record {
+          files = record { held = F.held files.old; asked = F.asked files.old; faults = F.fault_count files.old };
+          net = record { state = N.state net.old; peer = N.peer net.old; faults = N.fault_count net.old; ends = N.end_count net.old };
+          sink = record { printed = K.contents out.old; faults = K.fault_count out.old };
+        })
+        (record {
+          files = record { held = F.held files.new; asked = F.asked files.new; faults = F.fault_count files.new };
+          net = record { state = N.state net.new; peer = N.peer net.new; faults = N.fault_count net.new; ends = N.end_count net.new };
+          sink = record { printed = K.contents out.new; faults = K.fault_count out.new };
+        })
+        result }
 {
     match load_script(alloc, files, job.script.as_str()) {
         Ok(script) => probe_at(alloc, job.at.as_str(), &script, net, out),

@@ -1,7 +1,7 @@
 //! The top call: words, files, the chip on its bench, and the session or the serving.
 
 ghost use Rattle.std.specs.Prelude.{◌≡◌, None, map, string_bytes};
-ghost use Rattle.jtag_run.specs.Ended.{Ended};
+ghost use Rattle.jtag_run.specs.Ran.{Ran};
 
 use crate::both::run_both;
 use crate::chip::run_chip;
@@ -29,7 +29,18 @@ pub fn run<F: Files, N: Net, K: Sink>(
     bench: &mut Bench<SeedSchedule>,
 ) -> Status
     requires unopened { (N.state net.old).ties.opening ≡ None }
-    ensures ended { Ended (map string_bytes words.now) (record { files = record { held = F.held files.old; asked = F.asked files.old; faults = F.fault_count files.old }; net = record { state = N.state net.old; peer = N.peer net.old; faults = N.fault_count net.old; ends = N.end_count net.old }; sink = record { printed = K.contents out.old; faults = K.fault_count out.old } }) (record { files = record { held = F.held files.new; asked = F.asked files.new; faults = F.fault_count files.new }; net = record { state = N.state net.new; peer = N.peer net.new; faults = N.fault_count net.new; ends = N.end_count net.new }; sink = record { printed = K.contents out.new; faults = K.fault_count out.new } }) bench.new result }
+    ensures ended { Ran (map string_bytes words.now)
+        (record {
+          files = record { held = F.held files.old; asked = F.asked files.old; faults = F.fault_count files.old };
+          net = record { state = N.state net.old; peer = N.peer net.old; faults = N.fault_count net.old; ends = N.end_count net.old };
+          sink = record { printed = K.contents out.old; faults = K.fault_count out.old };
+        })
+        (record {
+          files = record { held = F.held files.new; asked = F.asked files.new; faults = F.fault_count files.new };
+          net = record { state = N.state net.new; peer = N.peer net.new; faults = N.fault_count net.new; ends = N.end_count net.new };
+          sink = record { printed = K.contents out.new; faults = K.fault_count out.new };
+        })
+        bench.new result }
 {
     *bench = Bench::blank();
     let work = match read_work(alloc, words) {

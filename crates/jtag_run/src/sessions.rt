@@ -5,7 +5,7 @@ ghost use Rattle.chip_core.specs.Feeds.{limit_met};
 ghost use Rattle.debug_model.specs.Net.{IsJoined};
 ghost use Rattle.debug_model.specs.Told.{IsAsLoaded, IsRead};
 ghost use Rattle.debug_model.specs.Wire.{piece_most};
-ghost use Rattle.jtag_run.specs.Sessions.{IsFresh, OnBench, OnLoop, OnNet};
+ghost use Rattle.jtag_run.specs.Sessions.{IsLoadedBench, OnBench, OnLoop, OnNet};
 ghost use Rattle.probe_session.specs.Causes.{SinkCaused};
 ghost use Rattle.wire_session.specs.Closing.{IsOfRegister};
 
@@ -25,8 +25,11 @@ pub fn run_on_bench<Q: Schedule, K: Sink>(
     out: &mut K,
 ) -> Ended
     requires piece { (1 ≤ piece) × (piece ≤ piece_most) }
-    requires fresh { IsFresh bench.old }
-    ensures ran { IfSome bench.old (λ first. OnBench first script.now (record { printed = K.contents out.old; faults = K.fault_count out.old }) (record { printed = K.contents out.new; faults = K.fault_count out.new }) bench.new (limit_met bench.new) result) }
+    requires fresh { IsLoadedBench bench.old }
+    ensures ran { IfSome bench.old (λ first. OnBench first script.now
+        (record { printed = K.contents out.old; faults = K.fault_count out.old })
+        (record { printed = K.contents out.new; faults = K.fault_count out.new })
+        bench.new (limit_met bench.new) result) }
     ensures of_register { IsOfRegister result }
     ensures sink_cause { SinkCaused (K.fault_count out.old) (K.fault_count out.new) result }
     ensures sink_later { K.fault_count out.old ≤ K.fault_count out.new }
@@ -43,8 +46,13 @@ pub fn run_on_loop<N: Net, Q: Schedule, K: Sink>(
     out: &mut K,
 ) -> Ended
     requires joined { IsJoined (N.state net.old) }
-    requires fresh { IsFresh bench.old }
-    ensures ran { IfSome bench.old (λ first. OnLoop first script.now (record { state = N.state net.old; peer = N.peer net.old; faults = N.fault_count net.old; ends = N.end_count net.old }) (record { state = N.state net.new; peer = N.peer net.new; faults = N.fault_count net.new; ends = N.end_count net.new }) (record { printed = K.contents out.old; faults = K.fault_count out.old }) (record { printed = K.contents out.new; faults = K.fault_count out.new }) bench.new result) }
+    requires fresh { IsLoadedBench bench.old }
+    ensures ran { IfSome bench.old (λ first. OnLoop first script.now
+        (record { state = N.state net.old; peer = N.peer net.old; faults = N.fault_count net.old; ends = N.end_count net.old })
+        (record { state = N.state net.new; peer = N.peer net.new; faults = N.fault_count net.new; ends = N.end_count net.new })
+        (record { printed = K.contents out.old; faults = K.fault_count out.old })
+        (record { printed = K.contents out.new; faults = K.fault_count out.new })
+        bench.new result) }
     ensures of_register { IsOfRegister result }
     ensures sink_cause { SinkCaused (K.fault_count out.old) (K.fault_count out.new) result }
     ensures sink_later { K.fault_count out.old ≤ K.fault_count out.new }
@@ -61,7 +69,12 @@ pub fn run_on_net<N: Net, K: Sink>(script: &Script, net: &mut N, out: &mut K) ->
     requires plain { (N.state net.old).pipe ≡ None }
     requires loaded { IsAsLoaded (N.state net.old).chip }
     requires read { IsRead (N.state net.old).chip }
-    ensures ran { OnNet script.now (record { state = N.state net.old; peer = N.peer net.old; faults = N.fault_count net.old; ends = N.end_count net.old }) (record { state = N.state net.new; peer = N.peer net.new; faults = N.fault_count net.new; ends = N.end_count net.new }) (record { printed = K.contents out.old; faults = K.fault_count out.old }) (record { printed = K.contents out.new; faults = K.fault_count out.new }) result }
+    ensures ran { OnNet script.now
+        (record { state = N.state net.old; peer = N.peer net.old; faults = N.fault_count net.old; ends = N.end_count net.old })
+        (record { state = N.state net.new; peer = N.peer net.new; faults = N.fault_count net.new; ends = N.end_count net.new })
+        (record { printed = K.contents out.old; faults = K.fault_count out.old })
+        (record { printed = K.contents out.new; faults = K.fault_count out.new })
+        result }
     ensures of_register { IsOfRegister result }
     ensures sink_cause { SinkCaused (K.fault_count out.old) (K.fault_count out.new) result }
     ensures sink_later { K.fault_count out.old ≤ K.fault_count out.new }

@@ -26,7 +26,9 @@ use probe_session::{Ended, run_script};
 fn run_over_scans<S: Scan, K: Sink>(scan: S, script: &Script, out: &mut K) -> (Ended, S)
     requires link { CanOperate (S.far scan) }
     requires loaded { IsAsLoaded (S.far scan) }
-    ensures ended { EndedAs script.now (S.fault_count scan) (S.fault_count result.1) (tells (S.far scan) (option_map Scans (S.script scan))) (tells (S.far result.1) (option_map Scans (S.script result.1))) (K.fault_count out.old) (K.fault_count out.new) (K.contents out.old) (K.contents out.new) result.0 }
+    ensures ended { EndedAs script.now (S.fault_count scan) (S.fault_count result.1) (tells (S.far scan) (option_map Scans (S.script scan)))
+        (tells (S.far result.1) (option_map Scans (S.script result.1))) (K.fault_count out.old) (K.fault_count out.new)
+        (K.contents out.old) (K.contents out.new) result.0 }
     ensures cause { EndCaused (S.fault_count scan) (S.fault_count result.1) (S.far result.1) result.0 }
     ensures sink_cause { SinkCaused (K.fault_count out.old) (K.fault_count out.new) result.0 }
     ensures transcribed { TranscribedAs script.now (K.contents out.old) (K.contents out.new) (S.far scan) (S.far result.1) result.0 }
@@ -44,7 +46,9 @@ fn run_over_scans<S: Scan, K: Sink>(scan: S, script: &Script, out: &mut K) -> (E
 fn run_over_wire<W: Wire, K: Sink>(wire: W, script: &Script, out: &mut K) -> (Ended, W)
     requires link { CanOperate (W.far wire) }
     requires loaded { IsAsLoaded (W.far wire) }
-    ensures ended { EndedAs script.now (W.fault_count wire) (W.fault_count result.1) (told_by (W.far wire) (W.coming wire)) (told_by (W.far result.1) (W.coming result.1)) (K.fault_count out.old) (K.fault_count out.new) (K.contents out.old) (K.contents out.new) result.0 }
+    ensures ended { EndedAs script.now (W.fault_count wire) (W.fault_count result.1) (told_by (W.far wire) (W.coming wire))
+        (told_by (W.far result.1) (W.coming result.1)) (K.fault_count out.old) (K.fault_count out.new) (K.contents out.old)
+        (K.contents out.new) result.0 }
     ensures cause { EndCaused (W.fault_count wire) (W.fault_count result.1) (W.far result.1) result.0 }
     ensures sink_cause { SinkCaused (K.fault_count out.old) (K.fault_count out.new) result.0 }
     ensures transcribed { TranscribedAs script.now (K.contents out.old) (K.contents out.new) (W.far wire) (W.far result.1) result.0 }
@@ -61,7 +65,9 @@ fn run_over_wire<W: Wire, K: Sink>(wire: W, script: &Script, out: &mut K) -> (En
 fn session<W: Wire, K: Sink>(wire: &mut W, script: &Script, out: &mut K) -> Ended
     requires link { CanOperate (W.far wire.old) }
     requires loaded { IsAsLoaded (W.far wire.old) }
-    ensures ended { EndedAs script.now (W.fault_count wire.old) (W.fault_count wire.new) (told_by (W.far wire.old) (W.coming wire.old)) (told_by (W.far wire.new) (W.coming wire.new)) (K.fault_count out.old) (K.fault_count out.new) (K.contents out.old) (K.contents out.new) result }
+    ensures ended { EndedAs script.now (W.fault_count wire.old) (W.fault_count wire.new) (told_by (W.far wire.old) (W.coming wire.old))
+        (told_by (W.far wire.new) (W.coming wire.new)) (K.fault_count out.old) (K.fault_count out.new) (K.contents out.old)
+        (K.contents out.new) result }
     ensures cause { EndCaused (W.fault_count wire.old) (W.fault_count wire.new) (W.far wire.new) result }
     ensures sink_cause { SinkCaused (K.fault_count out.old) (K.fault_count out.new) result }
     ensures transcribed { TranscribedAs script.now (K.contents out.old) (K.contents out.new) (W.far wire.old) (W.far wire.new) result }
@@ -87,7 +93,14 @@ fn know_ranges(script: &Script)
 pub fn run_session<W: Wire, K: Sink>(wire: &mut W, script: &Script, out: &mut K) -> Ended
     requires loaded { IsAsLoaded (W.far wire.old) }
     requires read { IsRead (W.far wire.old) }
-    ensures ran { IsTimed (W.ties wire.old) (W.far wire.old) → IsTimed (W.ties wire.new) (W.far wire.new) → WireSession script.now (record { far = W.far wire.old; coming = W.coming wire.old; faults = W.fault_count wire.old }) (record { far = W.far wire.new; coming = W.coming wire.new; faults = W.fault_count wire.new }) (record { printed = K.contents out.old; faults = K.fault_count out.old }) (record { printed = K.contents out.new; faults = K.fault_count out.new }) result }
+    ensures ran { IsTimed (W.ties wire.old) (W.far wire.old)
+        → IsTimed (W.ties wire.new) (W.far wire.new)
+        → WireSession script.now
+        (record { far = W.far wire.old; coming = W.coming wire.old; faults = W.fault_count wire.old })
+        (record { far = W.far wire.new; coming = W.coming wire.new; faults = W.fault_count wire.new })
+        (record { printed = K.contents out.old; faults = K.fault_count out.old })
+        (record { printed = K.contents out.new; faults = K.fault_count out.new })
+        result }
     ensures of_register { IsOfRegister result }
     ensures sink_cause { SinkCaused (K.fault_count out.old) (K.fault_count out.new) result }
     ensures ties { W.ties wire.new ≡ W.ties wire.old }

@@ -41,7 +41,10 @@ fn unclosed(fault: WireFault, ended: Ended) -> Ended
 /// Ends the stream of a session that ended so, and says how both together ended.
 pub fn end_stream<W: Wire>(wire: &mut W, ended: Ended) -> Ended
     requires leaves { LeavesWire (W.far wire.old) ended }
-    ensures closes { Closes (record { far = W.far wire.old; coming = W.coming wire.old; faults = W.fault_count wire.old }) (record { far = W.far wire.new; coming = W.coming wire.new; faults = W.fault_count wire.new }) ended result }
+    ensures closes { Closes
+        (record { far = W.far wire.old; coming = W.coming wire.old; faults = W.fault_count wire.old })
+        (record { far = W.far wire.new; coming = W.coming wire.new; faults = W.fault_count wire.new })
+        ended result }
     ensures ties { W.ties wire.new ≡ W.ties wire.old }
 {
     if !sends_quit(ended) {

@@ -1,4 +1,4 @@
-use Rattle.jtag_run.specs.Ran.ProbeEnd.{opened, unopened}
+use Rattle.jtag_run.specs.Ends.ProbeEnd.{opened, unopened}
 use Rattle.jtag_run.proofs.probe.probe_at.Goals as goal
 
 pub returns-in-Ok : goal.returns-in-Ok

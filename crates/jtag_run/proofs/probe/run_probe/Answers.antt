@@ -1,5 +1,5 @@
 use Rattle.std.proofs.Common.{refl}
-use Rattle.jtag_run.specs.Ended.RanProbe.{ran, refused}
+use Rattle.jtag_run.specs.Ran.RanProbe.{ran, refused}
 use Rattle.jtag_run.proofs.probe.run_probe.Goals as goal
 
 pub returns-in-Ok : goal.returns-in-Ok
