@@ -7,8 +7,6 @@ mod debug_hart;
 mod ebreak;
 mod ran_word;
 mod start;
-#[cfg(test)]
-mod tests;
 
 pub use debug_hart::DebugHart;
 pub use ran_word::RanWord;

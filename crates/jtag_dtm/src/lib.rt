@@ -5,8 +5,6 @@
 
 mod controller;
 mod tap;
-#[cfg(test)]
-mod tests;
 mod transport;
 
 pub use controller::next_state;

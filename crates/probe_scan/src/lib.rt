@@ -7,8 +7,6 @@
 mod batch;
 mod scanner;
 mod scripted_scan;
-#[cfg(test)]
-mod tests;
 
 pub use scanner::Scanner;
 pub use scripted_scan::ScriptedScan;

@@ -1,5 +1,5 @@
 use super::{FIRST, SECOND, ram_with, read, write};
-use crate::{DebugHart, Start, Turned};
+use hart_debug::{DebugHart, Start, Turned};
 use rv_mem::Ram;
 use rv_model::{Cause, Did, SlotSet};
 

@@ -1,5 +1,5 @@
 use super::{FIRST, ram_with, read, write};
-use crate::{DebugDid, DebugHart, RanWord, Start};
+use hart_debug::{DebugDid, DebugHart, RanWord, Start};
 use rv_mem::Ram;
 use rv_model::Size;
 

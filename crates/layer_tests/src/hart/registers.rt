@@ -1,5 +1,5 @@
 use super::{read, write};
-use crate::{DebugHart, Start};
+use hart_debug::{DebugHart, Start};
 
 /// Numbers of registers that do not exist: beside those that do.
 const ABSENT: [u16; 12] = [

@@ -1,10 +1,10 @@
 //! Scans over a wire that tells nothing: the bytes that go out, by OpenOCD's remote_bitbang and the state diagram of
 //! IEEE 1149.1, and what faults answer.
 
-use crate::{Scanner, ScriptedScan};
 use arrayvec::ArrayVec;
 use debug_model::{NO_ANSWER, Scan, Wire, WireFault};
 use jt_base::{Bits, count_fault};
+use probe_scan::{Scanner, ScriptedScan};
 
 /// A wire that keeps what is sent, gives these answers, and fails once so many calls were good; a reading that fails hands them on too.
 #[derive(Drop)]

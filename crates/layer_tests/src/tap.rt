@@ -1,8 +1,8 @@
 //! The TAP against the state diagram of IEEE 1149.1 and the cases of the debug transport (RISC-V Debug Specification 1.0,
 //! "JTAG Debug Transport Module"), clock by clock.
 
-use crate::{Tap, next_state};
 use debug_model::{DmiOp, TapState};
+use jtag_dtm::{Tap, next_state};
 use std::process::Abort;
 
 /// A host that drives a TAP, and counts the rises that set the sticky status to 3.

@@ -2,7 +2,7 @@ mod program_buffer;
 mod registers;
 mod triggers;
 
-use crate::{DebugHart, Start, Turned};
+use hart_debug::{DebugHart, Start, Turned};
 use rv_mem::{Ram, RamFault};
 use rv_model::{Cause, Did, Size};
 use std::alloc::Global;

@@ -1,0 +1,11 @@
+//! Tests of three layers: of a hart with its debug part, of the TAP with its transport, and of scans over a wire that tells nothing.
+//!
+//! They stand in a crate of their own, since a crate with tests is proved twice.
+#![tactic(auto)]
+
+#[cfg(test)]
+mod hart;
+#[cfg(test)]
+mod scans;
+#[cfg(test)]
+mod tap;
