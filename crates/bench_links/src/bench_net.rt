@@ -112,9 +112,13 @@ impl<'a, Q: Schedule> Net for BenchNet<'a, Q> {
     #[tactic(auto, using(crate::proofs::FreshChips::loaded_still))]
     fn connect(&mut self, _alloc: Global, _at: &str) -> Result<(), NetFault>
         requires unopened { (net_state self.old.opening self.old.is_open self.old.given self.old.bench.now self.old.unread.items).ties.opening ≡ None }
-        ensures called { Called calls.Connect (Some _at.now) (net_state self.old.opening self.old.is_open self.old.given self.old.bench.now self.old.unread.items).ties (net_state self.new.opening self.new.is_open self.new.given self.new.bench.now self.new.unread.items).ties }
-        ensures opened { OnOk result (IsConnected (peer_of self.old.bench.now) (net_state self.new.opening self.new.is_open self.new.given self.new.bench.now self.new.unread.items)) }
-        ensures loaded { OnOk result (IsAsLoaded (net_state self.new.opening self.new.is_open self.new.given self.new.bench.now self.new.unread.items).chip) }
+        ensures called { Called calls.Connect (Some _at.now)
+            (net_state self.old.opening self.old.is_open self.old.given self.old.bench.now self.old.unread.items).ties
+            (net_state self.new.opening self.new.is_open self.new.given self.new.bench.now self.new.unread.items).ties }
+        ensures opened { OnOk result (IsConnected (peer_of self.old.bench.now)
+            (net_state self.new.opening self.new.is_open self.new.given self.new.bench.now self.new.unread.items)) }
+        ensures loaded { OnOk result
+            (IsAsLoaded (net_state self.new.opening self.new.is_open self.new.given self.new.bench.now self.new.unread.items).chip) }
         ensures cause { IfErr result (OpenCause self.old.failed self.new.failed) }
         ensures later { self.old.failed ≤ self.new.failed }
         ensures counts { self.new.failed ≡ faults_after result self.old.failed }
@@ -135,8 +139,11 @@ impl<'a, Q: Schedule> Net for BenchNet<'a, Q> {
     }
 
     fn accept(&mut self, _alloc: Global, _at: &str) -> Result<(), NetFault>
-        ensures called { Called calls.Accept (Some _at.now) (net_state self.old.opening self.old.is_open self.old.given self.old.bench.now self.old.unread.items).ties (net_state self.new.opening self.new.is_open self.new.given self.new.bench.now self.new.unread.items).ties }
-        ensures opened { OnOk result (IsAccepted (peer_of self.old.bench.now) (net_state self.new.opening self.new.is_open self.new.given self.new.bench.now self.new.unread.items)) }
+        ensures called { Called calls.Accept (Some _at.now)
+            (net_state self.old.opening self.old.is_open self.old.given self.old.bench.now self.old.unread.items).ties
+            (net_state self.new.opening self.new.is_open self.new.given self.new.bench.now self.new.unread.items).ties }
+        ensures opened { OnOk result (IsAccepted (peer_of self.old.bench.now)
+            (net_state self.new.opening self.new.is_open self.new.given self.new.bench.now self.new.unread.items)) }
         ensures cause { IfErr result (OpenCause self.old.failed self.new.failed) }
         ensures later { self.old.failed ≤ self.new.failed }
         ensures counts { self.new.failed ≡ faults_after result self.old.failed }
@@ -154,7 +161,9 @@ impl<'a, Q: Schedule> Net for BenchNet<'a, Q> {
     }
 
     fn join(&mut self, _alloc: Global) -> Result<(), NetFault>
-        ensures called { Called calls.Join None (net_state self.old.opening self.old.is_open self.old.given self.old.bench.now self.old.unread.items).ties (net_state self.new.opening self.new.is_open self.new.given self.new.bench.now self.new.unread.items).ties }
+        ensures called { Called calls.Join None
+            (net_state self.old.opening self.old.is_open self.old.given self.old.bench.now self.old.unread.items).ties
+            (net_state self.new.opening self.new.is_open self.new.given self.new.bench.now self.new.unread.items).ties }
         ensures opened { OnOk result (IsJoined (net_state self.new.opening self.new.is_open self.new.given self.new.bench.now self.new.unread.items)) }
         ensures cause { IfErr result (OpenCause self.old.failed self.new.failed) }
         ensures later { self.old.failed ≤ self.new.failed }
@@ -176,9 +185,14 @@ impl<'a, Q: Schedule> Net for BenchNet<'a, Q> {
     fn put(&mut self, _end: End, bytes: &[u8]) -> Result<(), NetFault>
         requires open { is_open _end (net_state self.old.opening self.old.is_open self.old.given self.old.bench.now self.old.unread.items) ≡ true }
         requires accepts { MayPut _end bytes.now (net_state self.old.opening self.old.is_open self.old.given self.old.bench.now self.old.unread.items) }
-        ensures put { OnOk result (net_state self.new.opening self.new.is_open self.new.given self.new.bench.now self.new.unread.items ≡ after_put _end bytes.now (net_state self.old.opening self.old.is_open self.old.given self.old.bench.now self.old.unread.items)) }
-        ensures live { OnOk result (LivesOn _end bytes.now (net_state self.new.opening self.new.is_open self.new.given self.new.bench.now self.new.unread.items)) }
-        ensures front { OnErr result (PutFront _end bytes.now (net_state self.old.opening self.old.is_open self.old.given self.old.bench.now self.old.unread.items) (net_state self.new.opening self.new.is_open self.new.given self.new.bench.now self.new.unread.items)) }
+        ensures put { OnOk result (net_state self.new.opening self.new.is_open self.new.given self.new.bench.now self.new.unread.items
+            ≡ after_put _end bytes.now
+            (net_state self.old.opening self.old.is_open self.old.given self.old.bench.now self.old.unread.items)) }
+        ensures live { OnOk result
+            (LivesOn _end bytes.now (net_state self.new.opening self.new.is_open self.new.given self.new.bench.now self.new.unread.items)) }
+        ensures front { OnErr result (PutFront _end bytes.now
+            (net_state self.old.opening self.old.is_open self.old.given self.old.bench.now self.old.unread.items)
+            (net_state self.new.opening self.new.is_open self.new.given self.new.bench.now self.new.unread.items)) }
         ensures cause { IfErr result (CallCause self.old.failed self.new.failed) }
         ensures later { self.old.failed ≤ self.new.failed }
         ensures counts { self.new.failed ≡ faults_after result self.old.failed }
@@ -188,8 +202,11 @@ impl<'a, Q: Schedule> Net for BenchNet<'a, Q> {
         ensures calls { self.new.calls ≡ counted self.old.calls }
         ensures faults { self.new.failed ≡ count_after result self.old.failed }
         ensures listed { self.new.fail_at.items ≡ self.old.fail_at.items }
-        ensures bench { self.new.bench.now ≡ (if is_listed self.old.calls self.old.fail_at.items then self.old.bench.now else feed_of self.old.bench.now bytes.now) }
-        ensures unread { self.new.unread.items ≡ (if is_listed self.old.calls self.old.fail_at.items then self.old.unread.items else self.old.unread.items ++ said_of self.old.bench.now bytes.now) }
+        ensures bench { self.new.bench.now
+            ≡ (if is_listed self.old.calls self.old.fail_at.items then self.old.bench.now else feed_of self.old.bench.now bytes.now) }
+        ensures unread { self.new.unread.items
+            ≡ (if is_listed self.old.calls self.old.fail_at.items then self.old.unread.items else self.old.unread.items
+            ++ said_of self.old.bench.now bytes.now) }
     {
         if begin(&mut self.calls, &self.fail_at) {
             return Err(fail(&mut self.failed));
@@ -206,11 +223,17 @@ impl<'a, Q: Schedule> Net for BenchNet<'a, Q> {
         requires room { 0 < length into.old }
         requires unread { MayTake _end (net_state self.old.opening self.old.is_open self.old.given self.old.bench.now self.old.unread.items) }
         ensures most { IfOk result (λ n. n ≤ length into.new) }
-        ensures gave { IfOk result (λ n. Gives _end n into.new (net_state self.old.opening self.old.is_open self.old.given self.old.bench.now self.old.unread.items)) }
-        ensures took { IfOk result (λ n. net_state self.new.opening self.new.is_open self.new.given self.new.bench.now self.new.unread.items ≡ after_take _end n (net_state self.old.opening self.old.is_open self.old.given self.old.bench.now self.old.unread.items)) }
-        ensures spent { OnOk result (given _end (net_state self.old.opening self.old.is_open self.old.given self.old.bench.now self.old.unread.items) < given_most) }
-        ensures bound { IfOk result (λ n. given _end (net_state self.old.opening self.old.is_open self.old.given self.old.bench.now self.old.unread.items) + n ≤ given_most) }
-        ensures kept { OnErr result (net_state self.new.opening self.new.is_open self.new.given self.new.bench.now self.new.unread.items ≡ net_state self.old.opening self.old.is_open self.old.given self.old.bench.now self.old.unread.items) }
+        ensures gave { IfOk result
+            (λ n. Gives _end n into.new (net_state self.old.opening self.old.is_open self.old.given self.old.bench.now self.old.unread.items)) }
+        ensures took { IfOk result (λ n. net_state self.new.opening self.new.is_open self.new.given self.new.bench.now self.new.unread.items
+            ≡ after_take _end n (net_state self.old.opening self.old.is_open self.old.given self.old.bench.now self.old.unread.items)) }
+        ensures spent { OnOk result
+            (given _end (net_state self.old.opening self.old.is_open self.old.given self.old.bench.now self.old.unread.items) < given_most) }
+        ensures bound { IfOk result
+            (λ n. given _end (net_state self.old.opening self.old.is_open self.old.given self.old.bench.now self.old.unread.items) + n
+            ≤ given_most) }
+        ensures kept { OnErr result (net_state self.new.opening self.new.is_open self.new.given self.new.bench.now self.new.unread.items
+            ≡ net_state self.old.opening self.old.is_open self.old.given self.old.bench.now self.old.unread.items) }
         ensures cause { IfErr result (CallCause self.old.failed self.new.failed) }
         ensures later { self.old.failed ≤ self.new.failed }
         ensures counts { self.new.failed ≡ faults_after result self.old.failed }

@@ -65,7 +65,8 @@ fn cross<N: Net>(net: &mut N, bytes: &[u8], came: &mut [u8]) -> Result<(), Lost>
     ensures crossed { OnOk result (N.state net.new ≡ crossed bytes.now (N.state net.old)) }
     ensures looped { IsTrue (is_looped (N.state net.new)) }
     ensures ties { (N.state net.new).ties ≡ (N.state net.old).ties }
-    ensures cause { IfErr result (LostBy (N.state net.old).pipe (N.fault_count net.old) (N.fault_count net.new) (N.end_count net.old) (N.end_count net.new) None) }
+    ensures cause { IfErr result
+        (LostBy (N.state net.old).pipe (N.fault_count net.old) (N.fault_count net.new) (N.end_count net.old) (N.end_count net.new) None) }
     ensures still { OnOk result (N.fault_count net.new ≡ N.fault_count net.old) }
     ensures none_ended { OnOk result (N.end_count net.new ≡ N.end_count net.old) }
     ensures later { N.fault_count net.old ≤ N.fault_count net.new }
@@ -107,7 +108,9 @@ pub fn exchange<N: Net, Q: Schedule>(
     ensures loaded { IsSome bench.new }
     ensures looped { IsTrue (is_looped (N.state net.new)) }
     ensures ties { (N.state net.new).ties ≡ (N.state net.old).ties }
-    ensures cause { IfErr result (LostBy (N.state net.old).pipe (N.fault_count net.old) (N.fault_count net.new) (N.end_count net.old) (N.end_count net.new) bench.new) }
+    ensures cause { IfErr result
+        (LostBy (N.state net.old).pipe (N.fault_count net.old) (N.fault_count net.new) (N.end_count net.old) (N.end_count net.new)
+        bench.new) }
     ensures limit { limit_met bench.new ≡ true → limit_met bench.old ≡ false → IsErrOf result Lost.AtLimit }
     ensures still { OnOk result (N.fault_count net.new ≡ N.fault_count net.old) }
     ensures none_ended { OnOk result (N.end_count net.new ≡ N.end_count net.old) }
@@ -139,7 +142,8 @@ pub fn take_answers<N: Net>(net: &mut N, answers: &mut Answers, into: &mut [u8])
     ensures blank { OnErr result (into.new ≡ replicate (length into.old) no_answer) }
     ensures looped { IsTrue (is_looped (N.state net.new)) }
     ensures ties { (N.state net.new).ties ≡ (N.state net.old).ties }
-    ensures cause { IfErr result (LostBy (N.state net.old).pipe (N.fault_count net.old) (N.fault_count net.new) (N.end_count net.old) (N.end_count net.new) None) }
+    ensures cause { IfErr result
+        (LostBy (N.state net.old).pipe (N.fault_count net.old) (N.fault_count net.new) (N.end_count net.old) (N.end_count net.new) None) }
     ensures still { OnOk result (N.fault_count net.new ≡ N.fault_count net.old) }
     ensures none_ended { OnOk result (N.end_count net.new ≡ N.end_count net.old) }
     ensures later { N.fault_count net.old ≤ N.fault_count net.new }

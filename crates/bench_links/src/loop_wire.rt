@@ -73,7 +73,8 @@ impl<'a, N: Net, Q: Schedule> LoopWire<'a, N, Q> {
 
     /// That over a told pipe no bytes differed before the net counted a fault or an end, as the type of a wire promises.
     pub fn know_blame(&self)
-        ensures { IsBlamed (N.state self.now.net.now).ties.tells_pipe self.now.sound (limit_met self.now.bench.now) self.now.differences self.now.began.faults (N.fault_count self.now.net.now) self.now.began.ends (N.end_count self.now.net.now) }
+        ensures { IsBlamed (N.state self.now.net.now).ties.tells_pipe self.now.sound (limit_met self.now.bench.now) self.now.differences
+            self.now.began.faults (N.fault_count self.now.net.now) self.now.began.ends (N.end_count self.now.net.now) }
     {}
 }
 
@@ -94,26 +95,39 @@ impl<'a, N: Net, Q: Schedule> Wire for LoopWire<'a, N, Q> {
         requires piece { IsPiece bytes.now }
         requires open { IsOpen (far_of self.old.bench.now self.old.unread.items) }
         requires read { IsRead (far_of self.old.bench.now self.old.unread.items) }
-        ensures sent { OnOk result (far_of self.new.bench.now self.new.unread.items ≡ option_map (sent bytes.now) (far_of self.old.bench.now self.old.unread.items)) }
+        ensures sent { OnOk result (far_of self.new.bench.now self.new.unread.items
+            ≡ option_map (sent bytes.now) (far_of self.old.bench.now self.old.unread.items)) }
         ensures live { OnOk result (IsTrue (are_open bytes.now) → IsLive (far_of self.new.bench.now self.new.unread.items)) }
-        ensures prefix { OnErr result (SentFront bytes.now (far_of self.old.bench.now self.old.unread.items) (far_of self.new.bench.now self.new.unread.items)) }
+        ensures prefix { OnErr result
+            (SentFront bytes.now (far_of self.old.bench.now self.old.unread.items) (far_of self.new.bench.now self.new.unread.items)) }
         ensures coming { nothing_coming ≡ nothing_coming }
-        ensures later { looped self.old.differences (N.fault_count self.old.net.now) (N.end_count self.old.net.now) ≤ looped self.new.differences (N.fault_count self.new.net.now) (N.end_count self.new.net.now) }
-        ensures still { OnOk result (looped self.new.differences (N.fault_count self.new.net.now) (N.end_count self.new.net.now) ≡ looped self.old.differences (N.fault_count self.old.net.now) (N.end_count self.old.net.now)) }
+        ensures later { looped self.old.differences (N.fault_count self.old.net.now) (N.end_count self.old.net.now)
+            ≤ looped self.new.differences (N.fault_count self.new.net.now) (N.end_count self.new.net.now) }
+        ensures still { OnOk result (looped self.new.differences (N.fault_count self.new.net.now) (N.end_count self.new.net.now)
+            ≡ looped self.old.differences (N.fault_count self.old.net.now) (N.end_count self.old.net.now)) }
         ensures own { IfErr result OfNet }
-        ensures cause { IfErr result (SendCause (looped self.old.differences (N.fault_count self.old.net.now) (N.end_count self.old.net.now)) (looped self.new.differences (N.fault_count self.new.net.now) (N.end_count self.new.net.now)) (far_of self.new.bench.now self.new.unread.items)) }
-        ensures ties { loop_ties self.new.net.ghost_name self.new.bench.ghost_name (N.lenders self.new.net.now) (N.state self.new.net.now) (far_of self.new.bench.now self.new.unread.items) self.new.began.faults self.new.began.ends ≡ loop_ties self.old.net.ghost_name self.old.bench.ghost_name (N.lenders self.old.net.now) (N.state self.old.net.now) (far_of self.old.bench.now self.old.unread.items) self.old.began.faults self.old.began.ends }
+        ensures cause { IfErr result (SendCause (looped self.old.differences (N.fault_count self.old.net.now) (N.end_count self.old.net.now))
+            (looped self.new.differences (N.fault_count self.new.net.now) (N.end_count self.new.net.now))
+            (far_of self.new.bench.now self.new.unread.items)) }
+        ensures ties { loop_ties self.new.net.ghost_name self.new.bench.ghost_name (N.lenders self.new.net.now) (N.state self.new.net.now)
+            (far_of self.new.bench.now self.new.unread.items) self.new.began.faults self.new.began.ends
+            ≡ loop_ties self.old.net.ghost_name self.old.bench.ghost_name (N.lenders self.old.net.now) (N.state self.old.net.now)
+            (far_of self.old.bench.now self.old.unread.items) self.old.began.faults self.old.began.ends }
         ensures net { OnOk result (N.state self.new.net.now ≡ exchanged bytes.now (said_of self.old.bench.now bytes.now) (N.state self.old.net.now)) }
         ensures chip { OnOk result (self.new.bench.now ≡ feed_of self.old.bench.now bytes.now) }
         ensures in_step { OnOk result (InStep self.new.unread.items (N.state self.new.net.now).pipe) }
         ensures front { OnErr result (FedFront bytes.now self.old.bench.now self.new.bench.now self.old.unread.items self.new.unread.items) }
-        ensures loop_cause { IfErr result (LoopCause (counts self.old.differences (N.fault_count self.old.net.now) (N.end_count self.old.net.now)) (counts self.new.differences (N.fault_count self.new.net.now) (N.end_count self.new.net.now)) (far_of self.new.bench.now self.new.unread.items)) }
+        ensures loop_cause { IfErr result (LoopCause (counts self.old.differences (N.fault_count self.old.net.now) (N.end_count self.old.net.now))
+            (counts self.new.differences (N.fault_count self.new.net.now) (N.end_count self.new.net.now))
+            (far_of self.new.bench.now self.new.unread.items)) }
         ensures limit { limit_met self.new.bench.now ≡ true → result ≡ Err WireFault.Ended }
         ensures alike { OnOk result (self.new.differences ≡ self.old.differences) }
         ensures told_alike { is_some (N.state self.old.net.now).pipe ≡ true → self.old.sound ≡ true → self.new.differences ≡ self.old.differences }
         ensures sound { OnOk result ((self.old.sound ≡ true) × (self.new.sound ≡ true)) }
         ensures unsound { OnErr result (limit_met self.new.bench.now ≡ false → self.new.sound ≡ false) }
-        ensures fails_on { self.old.sound ≡ false → limit_met self.old.bench.now ≡ false → (result ≡ Err WireFault.SendFailed) × (self.new.differences ≡ counted self.old.differences) }
+        ensures fails_on { self.old.sound ≡ false
+            → limit_met self.old.bench.now ≡ false
+            → (result ≡ Err WireFault.SendFailed) × (self.new.differences ≡ counted self.old.differences) }
     {
         if self.bench.at_limit() {
             return Err(WireFault::Ended);
@@ -143,25 +157,38 @@ impl<'a, N: Net, Q: Schedule> Wire for LoopWire<'a, N, Q> {
     fn recv(&mut self, into: &mut [u8]) -> Result<(), WireFault>
         requires open { IsOpen (far_of self.old.bench.now self.old.unread.items) }
         requires waiting { IfSome (far_of self.old.bench.now self.old.unread.items) (λ f. length into.old ≤ length f.unread) }
-        ensures read { OnOk result (ReadsFront into.new (far_of self.old.bench.now self.old.unread.items) (far_of self.new.bench.now self.new.unread.items)) }
+        ensures read { OnOk result
+            (ReadsFront into.new (far_of self.old.bench.now self.old.unread.items) (far_of self.new.bench.now self.new.unread.items)) }
         ensures came { OnOk result (TakesComing into.new nothing_coming nothing_coming) }
-        ensures chip { OnErr result (ReadsSome into.new (far_of self.old.bench.now self.old.unread.items) (far_of self.new.bench.now self.new.unread.items)) }
+        ensures chip { OnErr result
+            (ReadsSome into.new (far_of self.old.bench.now self.old.unread.items) (far_of self.new.bench.now self.new.unread.items)) }
         ensures some { OnErr result (TakesSome into.new nothing_coming nothing_coming) }
-        ensures later { looped self.old.differences (N.fault_count self.old.net.now) (N.end_count self.old.net.now) ≤ looped self.new.differences (N.fault_count self.new.net.now) (N.end_count self.new.net.now) }
-        ensures still { OnOk result (looped self.new.differences (N.fault_count self.new.net.now) (N.end_count self.new.net.now) ≡ looped self.old.differences (N.fault_count self.old.net.now) (N.end_count self.old.net.now)) }
+        ensures later { looped self.old.differences (N.fault_count self.old.net.now) (N.end_count self.old.net.now)
+            ≤ looped self.new.differences (N.fault_count self.new.net.now) (N.end_count self.new.net.now) }
+        ensures still { OnOk result (looped self.new.differences (N.fault_count self.new.net.now) (N.end_count self.new.net.now)
+            ≡ looped self.old.differences (N.fault_count self.old.net.now) (N.end_count self.old.net.now)) }
         ensures own { IfErr result OfNet }
-        ensures cause { IfErr result (RecvCause (looped self.old.differences (N.fault_count self.old.net.now) (N.end_count self.old.net.now)) (looped self.new.differences (N.fault_count self.new.net.now) (N.end_count self.new.net.now)) (far_of self.new.bench.now self.new.unread.items)) }
-        ensures ties { loop_ties self.new.net.ghost_name self.new.bench.ghost_name (N.lenders self.new.net.now) (N.state self.new.net.now) (far_of self.new.bench.now self.new.unread.items) self.new.began.faults self.new.began.ends ≡ loop_ties self.old.net.ghost_name self.old.bench.ghost_name (N.lenders self.old.net.now) (N.state self.old.net.now) (far_of self.old.bench.now self.old.unread.items) self.old.began.faults self.old.began.ends }
+        ensures cause { IfErr result (RecvCause (looped self.old.differences (N.fault_count self.old.net.now) (N.end_count self.old.net.now))
+            (looped self.new.differences (N.fault_count self.new.net.now) (N.end_count self.new.net.now))
+            (far_of self.new.bench.now self.new.unread.items)) }
+        ensures ties { loop_ties self.new.net.ghost_name self.new.bench.ghost_name (N.lenders self.new.net.now) (N.state self.new.net.now)
+            (far_of self.new.bench.now self.new.unread.items) self.new.began.faults self.new.began.ends
+            ≡ loop_ties self.old.net.ghost_name self.old.bench.ghost_name (N.lenders self.old.net.now) (N.state self.old.net.now)
+            (far_of self.old.bench.now self.old.unread.items) self.old.began.faults self.old.began.ends }
         ensures net { OnOk result (N.state self.new.net.now ≡ after_take end.Near (length into.new) (N.state self.old.net.now)) }
         ensures bench { self.new.bench.now ≡ self.old.bench.now }
         ensures in_step { OnOk result (InStep self.new.unread.items (N.state self.new.net.now).pipe) }
-        ensures loop_cause { IfErr result (LoopCause (counts self.old.differences (N.fault_count self.old.net.now) (N.end_count self.old.net.now)) (counts self.new.differences (N.fault_count self.new.net.now) (N.end_count self.new.net.now)) (far_of self.new.bench.now self.new.unread.items)) }
+        ensures loop_cause { IfErr result (LoopCause (counts self.old.differences (N.fault_count self.old.net.now) (N.end_count self.old.net.now))
+            (counts self.new.differences (N.fault_count self.new.net.now) (N.end_count self.new.net.now))
+            (far_of self.new.bench.now self.new.unread.items)) }
         ensures limit { limit_met self.new.bench.now ≡ true → result ≡ Err WireFault.Ended }
         ensures alike { OnOk result (self.new.differences ≡ self.old.differences) }
         ensures told_alike { is_some (N.state self.old.net.now).pipe ≡ true → self.old.sound ≡ true → self.new.differences ≡ self.old.differences }
         ensures sound { OnOk result ((self.old.sound ≡ true) × (self.new.sound ≡ true)) }
         ensures unsound { OnErr result (limit_met self.new.bench.now ≡ false → self.new.sound ≡ false) }
-        ensures fails_on { self.old.sound ≡ false → limit_met self.old.bench.now ≡ false → (result ≡ Err WireFault.RecvFailed) × (self.new.differences ≡ counted self.old.differences) }
+        ensures fails_on { self.old.sound ≡ false
+            → limit_met self.old.bench.now ≡ false
+            → (result ≡ Err WireFault.RecvFailed) × (self.new.differences ≡ counted self.old.differences) }
     {
         fill_unanswered(into);
         if self.bench.at_limit() {

@@ -26,8 +26,12 @@ impl Session {
         requires within { IsWithinRanges command }
         requires one { IsTrue (is_one_line command) }
         requires serving { Serving (D.far link.old) (D.is_alive link.old) }
-        ensures spoke { IfOk result (λ wrong. Spoke (before command (state_of self.old)) (behind (state_of self.new)) wrong (tells (D.far link.old) (D.script link.old)) (tells (D.far link.new) (D.script link.new)) (K.contents out.old) (K.contents out.new)) }
-        ensures fell { IfErr result (Fell CalmNext (before command (state_of self.old)) (D.fault_count link.old) (D.fault_count link.new) (tells (D.far link.old) (D.script link.old)) (tells (D.far link.new) (D.script link.new)) (K.fault_count out.old) (K.fault_count out.new) (K.contents out.old) (K.contents out.new)) }
+        ensures spoke { IfOk result
+            (λ wrong. Spoke (before command (state_of self.old)) (behind (state_of self.new)) wrong (tells (D.far link.old) (D.script link.old))
+            (tells (D.far link.new) (D.script link.new)) (K.contents out.old) (K.contents out.new)) }
+        ensures fell { IfErr result (Fell CalmNext (before command (state_of self.old)) (D.fault_count link.old) (D.fault_count link.new)
+            (tells (D.far link.old) (D.script link.old)) (tells (D.far link.new) (D.script link.new)) (K.fault_count out.old)
+            (K.fault_count out.new) (K.contents out.old) (K.contents out.new)) }
         ensures serving { OnOk result (Serving (D.far link.new) (D.is_alive link.new)) }
         ensures left { IfErr result (LeftBy (D.far link.new)) }
         ensures later { D.fault_count link.old ≤ D.fault_count link.new }
@@ -50,8 +54,12 @@ impl Session {
         requires within { IsWithinRanges command }
         requires more { is_end command ≡ false }
         requires serving { Serving (D.far link.old) (D.is_alive link.old) }
-        ensures spoke { IfOk result (λ wrong. Spoke (before command (state_of self.old)) (behind (state_of self.new)) wrong (tells (D.far link.old) (D.script link.old)) (tells (D.far link.new) (D.script link.new)) (K.contents out.old) (K.contents out.new)) }
-        ensures fell { IfErr result (Fell CalmNext (before command (state_of self.old)) (D.fault_count link.old) (D.fault_count link.new) (tells (D.far link.old) (D.script link.old)) (tells (D.far link.new) (D.script link.new)) (K.fault_count out.old) (K.fault_count out.new) (K.contents out.old) (K.contents out.new)) }
+        ensures spoke { IfOk result
+            (λ wrong. Spoke (before command (state_of self.old)) (behind (state_of self.new)) wrong (tells (D.far link.old) (D.script link.old))
+            (tells (D.far link.new) (D.script link.new)) (K.contents out.old) (K.contents out.new)) }
+        ensures fell { IfErr result (Fell CalmNext (before command (state_of self.old)) (D.fault_count link.old) (D.fault_count link.new)
+            (tells (D.far link.old) (D.script link.old)) (tells (D.far link.new) (D.script link.new)) (K.fault_count out.old)
+            (K.fault_count out.new) (K.contents out.old) (K.contents out.new)) }
         ensures serving { OnOk result (Serving (D.far link.new) (D.is_alive link.new)) }
         ensures left { IfErr result (LeftBy (D.far link.new)) }
         ensures later { D.fault_count link.old ≤ D.fault_count link.new }
@@ -72,7 +80,9 @@ impl Session {
     pub fn act<D: Dmi, K: Sink>(&mut self, link: &mut D, command: &Command, out: &mut K) -> Acted
         requires within { IsWithinRanges command.now }
         requires serving { Serving (D.far link.old) (D.is_alive link.old) }
-        ensures acted { ActedAs command.now (state_of self.old) (state_of self.new) (D.fault_count link.old) (D.fault_count link.new) (tells (D.far link.old) (D.script link.old)) (tells (D.far link.new) (D.script link.new)) (K.fault_count out.old) (K.fault_count out.new) (K.contents out.old) (K.contents out.new) result }
+        ensures acted { ActedAs command.now (state_of self.old) (state_of self.new) (D.fault_count link.old) (D.fault_count link.new)
+            (tells (D.far link.old) (D.script link.old)) (tells (D.far link.new) (D.script link.new)) (K.fault_count out.old)
+            (K.fault_count out.new) (K.contents out.old) (K.contents out.new) result }
         ensures serving { ServingAfter (D.far link.new) (D.is_alive link.new) result }
         ensures later { D.fault_count link.old ≤ D.fault_count link.new }
         ensures slack { D.slack link.new ≡ D.slack link.old }

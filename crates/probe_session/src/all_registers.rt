@@ -34,8 +34,12 @@ fn put_register<D: Dmi, K: Sink>(
 ) -> Result<(), Failure>
     requires of { IsOfCores number }
     requires serving { ServingHalted halted.now.number (D.far link.old) (D.is_alive link.old) }
-    ensures spoke { OnOk result (Spoke (at_next_register halted.now.number number) (at_registers halted.now.number) false (tells (D.far link.old) (D.script link.old)) (tells (D.far link.new) (D.script link.new)) (K.contents out.old) (K.contents out.new)) }
-    ensures fell { IfErr result (Fell CalmRegisters (at_next_register halted.now.number number) (D.fault_count link.old) (D.fault_count link.new) (tells (D.far link.old) (D.script link.old)) (tells (D.far link.new) (D.script link.new)) (K.fault_count out.old) (K.fault_count out.new) (K.contents out.old) (K.contents out.new)) }
+    ensures spoke { OnOk result (Spoke (at_next_register halted.now.number number) (at_registers halted.now.number) false
+        (tells (D.far link.old) (D.script link.old)) (tells (D.far link.new) (D.script link.new)) (K.contents out.old)
+        (K.contents out.new)) }
+    ensures fell { IfErr result (Fell CalmRegisters (at_next_register halted.now.number number) (D.fault_count link.old) (D.fault_count link.new)
+        (tells (D.far link.old) (D.script link.old)) (tells (D.far link.new) (D.script link.new)) (K.fault_count out.old)
+        (K.fault_count out.new) (K.contents out.old) (K.contents out.new)) }
     ensures serving { OnOk result (ServingHalted halted.now.number (D.far link.new) (D.is_alive link.new)) }
     ensures left { IfErr result (LeftBy (D.far link.new)) }
     ensures later { D.fault_count link.old ≤ D.fault_count link.new }
@@ -51,8 +55,11 @@ fn put_register<D: Dmi, K: Sink>(
 /// Puts the lines of pc and of x1 to x31.
 fn put_registers<D: Dmi, K: Sink>(link: &mut D, halted: &Halted, out: &mut K) -> Result<(), Failure>
     requires serving { ServingHalted halted.now.number (D.far link.old) (D.is_alive link.old) }
-    ensures spoke { OnOk result (Spoke (at_all_registers halted.now.number) idle false (tells (D.far link.old) (D.script link.old)) (tells (D.far link.new) (D.script link.new)) (K.contents out.old) (K.contents out.new)) }
-    ensures fell { IfErr result (Fell Quiet (at_all_registers halted.now.number) (D.fault_count link.old) (D.fault_count link.new) (tells (D.far link.old) (D.script link.old)) (tells (D.far link.new) (D.script link.new)) (K.fault_count out.old) (K.fault_count out.new) (K.contents out.old) (K.contents out.new)) }
+    ensures spoke { OnOk result (Spoke (at_all_registers halted.now.number) idle false (tells (D.far link.old) (D.script link.old))
+        (tells (D.far link.new) (D.script link.new)) (K.contents out.old) (K.contents out.new)) }
+    ensures fell { IfErr result (Fell Quiet (at_all_registers halted.now.number) (D.fault_count link.old) (D.fault_count link.new)
+        (tells (D.far link.old) (D.script link.old)) (tells (D.far link.new) (D.script link.new)) (K.fault_count out.old)
+        (K.fault_count out.new) (K.contents out.old) (K.contents out.new)) }
     ensures serving { OnOk result (Serving (D.far link.new) (D.is_alive link.new)) }
     ensures left { IfErr result (LeftBy (D.far link.new)) }
     ensures later { D.fault_count link.old ≤ D.fault_count link.new }
@@ -75,8 +82,12 @@ impl Session {
         out: &mut K,
     ) -> Result<bool, Failure>
         requires serving { Serving (D.far link.old) (D.is_alive link.old) }
-        ensures spoke { IfOk result (λ wrong. Spoke (before command.Regs (state_of self.now)) (behind (state_of self.now)) wrong (tells (D.far link.old) (D.script link.old)) (tells (D.far link.new) (D.script link.new)) (K.contents out.old) (K.contents out.new)) }
-        ensures fell { IfErr result (Fell CalmNext (before command.Regs (state_of self.now)) (D.fault_count link.old) (D.fault_count link.new) (tells (D.far link.old) (D.script link.old)) (tells (D.far link.new) (D.script link.new)) (K.fault_count out.old) (K.fault_count out.new) (K.contents out.old) (K.contents out.new)) }
+        ensures spoke { IfOk result (λ wrong. Spoke (before command.Regs (state_of self.now)) (behind (state_of self.now)) wrong
+            (tells (D.far link.old) (D.script link.old)) (tells (D.far link.new) (D.script link.new)) (K.contents out.old)
+            (K.contents out.new)) }
+        ensures fell { IfErr result (Fell CalmNext (before command.Regs (state_of self.now)) (D.fault_count link.old) (D.fault_count link.new)
+            (tells (D.far link.old) (D.script link.old)) (tells (D.far link.new) (D.script link.new)) (K.fault_count out.old)
+            (K.fault_count out.new) (K.contents out.old) (K.contents out.new)) }
         ensures serving { OnOk result (Serving (D.far link.new) (D.is_alive link.new)) }
         ensures left { IfErr result (LeftBy (D.far link.new)) }
         ensures later { D.fault_count link.old ≤ D.fault_count link.new }

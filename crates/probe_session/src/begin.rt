@@ -20,7 +20,8 @@ impl Session {
         requires link { CanOperate (D.far link.old) }
         ensures first { IfOk result (λ session. state_of session ≡ first_state) }
         ensures did { OnOk result (Opened (tells (D.far link.old) (D.script link.old)) (tells (D.far link.new) (D.script link.new))) }
-        ensures fails { IfErr result (ConnectFails (D.fault_count link.old) (D.fault_count link.new) (tells (D.far link.old) (D.script link.old)) (tells (D.far link.new) (D.script link.new))) }
+        ensures fails { IfErr result (ConnectFails (D.fault_count link.old) (D.fault_count link.new) (tells (D.far link.old) (D.script link.old))
+            (tells (D.far link.new) (D.script link.new))) }
         ensures loaded { OnOk result (OpensLoaded (D.far link.old) (D.far link.new)) }
         ensures selects { OnOk result (IsAsLoaded (D.far link.old) → Selects 0 (D.far link.new)) }
         ensures serving { OnOk result (IsAsLoaded (D.far link.old) → Serving (D.far link.new) (D.is_alive link.new)) }

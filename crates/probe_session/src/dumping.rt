@@ -40,7 +40,8 @@ type Row = ArrayVec<u8, ROW_BYTES>;
 fn load_byte<D: Dmi>(link: &mut D, reach: &Reach, address: u64) -> Result<Option<u8>, Failure>
     requires serving { ServingBy (D.far link.old) (D.is_alive link.old) reach.now }
     ensures loaded { IfOk result (LoadedAs B1 address (tells (D.far link.old) (D.script link.old)) (tells (D.far link.new) (D.script link.new))) }
-    ensures fell { IfErr result (LoadFell B1 address (D.fault_count link.old) (D.fault_count link.new) (tells (D.far link.old) (D.script link.old)) (tells (D.far link.new) (D.script link.new))) }
+    ensures fell { IfErr result (LoadFell B1 address (D.fault_count link.old) (D.fault_count link.new) (tells (D.far link.old) (D.script link.old))
+        (tells (D.far link.new) (D.script link.new))) }
     ensures serving { OnOk result (ServingBy (D.far link.new) (D.is_alive link.new) reach.now) }
     ensures left { IfErr result (LeftBy (D.far link.new)) }
     ensures later { D.fault_count link.old ≤ D.fault_count link.new }
@@ -79,8 +80,11 @@ fn put_byte<D: Dmi, K: Sink>(
     requires room { array_vec_len row.old < 16 }
     requires address { first + array_vec_len row.old < 2 ^ 64 }
     requires serving { ServingBy (D.far link.old) (D.is_alive link.old) reach.now }
-    ensures dumped { IfOk result (DumpedAs reach.now first row.old.items row.new.items (tells (D.far link.old) (D.script link.old)) (tells (D.far link.new) (D.script link.new)) (K.contents out.old) (K.contents out.new)) }
-    ensures fell { IfErr result (Fell CalmBytes (at_next_byte reach.now first row.old.items) (D.fault_count link.old) (D.fault_count link.new) (tells (D.far link.old) (D.script link.old)) (tells (D.far link.new) (D.script link.new)) (K.fault_count out.old) (K.fault_count out.new) (K.contents out.old) (K.contents out.new)) }
+    ensures dumped { IfOk result (DumpedAs reach.now first row.old.items row.new.items (tells (D.far link.old) (D.script link.old))
+        (tells (D.far link.new) (D.script link.new)) (K.contents out.old) (K.contents out.new)) }
+    ensures fell { IfErr result (Fell CalmBytes (at_next_byte reach.now first row.old.items) (D.fault_count link.old) (D.fault_count link.new)
+        (tells (D.far link.old) (D.script link.old)) (tells (D.far link.new) (D.script link.new)) (K.fault_count out.old)
+        (K.fault_count out.new) (K.contents out.old) (K.contents out.new)) }
     ensures room { OnOk result (array_vec_len row.new < 16) }
     ensures along { OnOk result (array_vec_len row.new ≤ array_vec_len row.old + 1) }
     ensures serving { OnOk result (ServingBy (D.far link.new) (D.is_alive link.new) reach.now) }
@@ -118,8 +122,11 @@ fn put_rows<D: Dmi, K: Sink>(
 ) -> Result<bool, Failure>
     requires block { IsBlock 1 address count }
     requires serving { ServingBy (D.far link.old) (D.is_alive link.old) reach.now }
-    ensures spoke { IfOk result (λ wrong. Spoke (at_dump reach.now address count) idle wrong (tells (D.far link.old) (D.script link.old)) (tells (D.far link.new) (D.script link.new)) (K.contents out.old) (K.contents out.new)) }
-    ensures fell { IfErr result (Fell Quiet (at_dump reach.now address count) (D.fault_count link.old) (D.fault_count link.new) (tells (D.far link.old) (D.script link.old)) (tells (D.far link.new) (D.script link.new)) (K.fault_count out.old) (K.fault_count out.new) (K.contents out.old) (K.contents out.new)) }
+    ensures spoke { IfOk result (λ wrong. Spoke (at_dump reach.now address count) idle wrong (tells (D.far link.old) (D.script link.old))
+        (tells (D.far link.new) (D.script link.new)) (K.contents out.old) (K.contents out.new)) }
+    ensures fell { IfErr result (Fell Quiet (at_dump reach.now address count) (D.fault_count link.old) (D.fault_count link.new)
+        (tells (D.far link.old) (D.script link.old)) (tells (D.far link.new) (D.script link.new)) (K.fault_count out.old)
+        (K.fault_count out.new) (K.contents out.old) (K.contents out.new)) }
     ensures serving { OnOk result (Serving (D.far link.new) (D.is_alive link.new)) }
     ensures left { IfErr result (LeftBy (D.far link.new)) }
     ensures later { D.fault_count link.old ≤ D.fault_count link.new }
@@ -153,8 +160,13 @@ impl Session {
     ) -> Result<bool, Failure>
         requires block { IsBlock 1 address count }
         requires serving { Serving (D.far link.old) (D.is_alive link.old) }
-        ensures spoke { IfOk result (λ wrong. Spoke (before (command.Dump address count) (state_of self.now)) (behind (state_of self.now)) wrong (tells (D.far link.old) (D.script link.old)) (tells (D.far link.new) (D.script link.new)) (K.contents out.old) (K.contents out.new)) }
-        ensures fell { IfErr result (Fell CalmNext (before (command.Dump address count) (state_of self.now)) (D.fault_count link.old) (D.fault_count link.new) (tells (D.far link.old) (D.script link.old)) (tells (D.far link.new) (D.script link.new)) (K.fault_count out.old) (K.fault_count out.new) (K.contents out.old) (K.contents out.new)) }
+        ensures spoke { IfOk result (λ wrong. Spoke (before (command.Dump address count) (state_of self.now)) (behind (state_of self.now)) wrong
+            (tells (D.far link.old) (D.script link.old)) (tells (D.far link.new) (D.script link.new)) (K.contents out.old)
+            (K.contents out.new)) }
+        ensures fell { IfErr result
+            (Fell CalmNext (before (command.Dump address count) (state_of self.now)) (D.fault_count link.old) (D.fault_count link.new)
+            (tells (D.far link.old) (D.script link.old)) (tells (D.far link.new) (D.script link.new)) (K.fault_count out.old)
+            (K.fault_count out.new) (K.contents out.old) (K.contents out.new)) }
         ensures serving { OnOk result (Serving (D.far link.new) (D.is_alive link.new)) }
         ensures left { IfErr result (LeftBy (D.far link.new)) }
         ensures later { D.fault_count link.old ≤ D.fault_count link.new }

@@ -33,8 +33,11 @@ pub(crate) fn stepped_line<D: Dmi>(
     count: u16,
 ) -> Result<Line, Failure>
     requires serving { ServingHalted halted.number (D.far link.old) (D.is_alive link.old) }
-    ensures went { IfOk result (λ line. Went (λ next. still halted.number (stepped count halted.number next)) (ends_with (said_by line)) [] (tells (D.far link.old) (D.script link.old)) (tells (D.far link.new) (D.script link.new))) }
-    ensures falls { IfErr result (Falls (λ next. still halted.number (stepped count halted.number next)) [] (D.fault_count link.old) (D.fault_count link.new) (tells (D.far link.old) (D.script link.old)) (tells (D.far link.new) (D.script link.new))) }
+    ensures went { IfOk result (λ line. Went (λ next. still halted.number (stepped count halted.number next))
+        (ends_with (said_by line)) [] (tells (D.far link.old) (D.script link.old)) (tells (D.far link.new) (D.script link.new))) }
+    ensures falls { IfErr result (Falls (λ next. still halted.number (stepped count halted.number next))
+        [] (D.fault_count link.old) (D.fault_count link.new) (tells (D.far link.old) (D.script link.old))
+        (tells (D.far link.new) (D.script link.new))) }
     ensures serving { OnOk result (Serving (D.far link.new) (D.is_alive link.new)) }
     ensures left { IfErr result (LeftBy (D.far link.new)) }
     ensures later { D.fault_count link.old ≤ D.fault_count link.new }
@@ -63,8 +66,11 @@ fn has_any(view: &SlotView) -> bool
 /// Lets a hart go that none of its slots holds back.
 fn free_line<D: Dmi>(link: &mut D, halted: Halted) -> Result<Line, Failure>
     requires serving { ServingHalted halted.number (D.far link.old) (D.is_alive link.old) }
-    ensures went { IfOk result (λ line. Went (λ next. ready halted.number (going halted.number (say Resumed next))) (ends_with (said_by line)) [] (tells (D.far link.old) (D.script link.old)) (tells (D.far link.new) (D.script link.new))) }
-    ensures falls { IfErr result (Falls (λ next. ready halted.number (going halted.number (say Resumed next))) [] (D.fault_count link.old) (D.fault_count link.new) (tells (D.far link.old) (D.script link.old)) (tells (D.far link.new) (D.script link.new))) }
+    ensures went { IfOk result (λ line. Went (λ next. ready halted.number (going halted.number (say Resumed next)))
+        (ends_with (said_by line)) [] (tells (D.far link.old) (D.script link.old)) (tells (D.far link.new) (D.script link.new))) }
+    ensures falls { IfErr result (Falls (λ next. ready halted.number (going halted.number (say Resumed next)))
+        [] (D.fault_count link.old) (D.fault_count link.new) (tells (D.far link.old) (D.script link.old))
+        (tells (D.far link.new) (D.script link.new))) }
     ensures serving { OnOk result (Serving (D.far link.new) (D.is_alive link.new)) }
     ensures left { IfErr result (LeftBy (D.far link.new)) }
     ensures later { D.fault_count link.old ≤ D.fault_count link.new }
@@ -78,8 +84,10 @@ fn free_line<D: Dmi>(link: &mut D, halted: Halted) -> Result<Line, Failure>
 /// Lets a hart go. Where slots have a hit it is stepped over them first; if that stops it for another cause, the line says where it stands.
 pub(crate) fn let_go_line<D: Dmi>(link: &mut D, halted: Halted) -> Result<Line, Failure>
     requires serving { ServingHalted halted.number (D.far link.old) (D.is_alive link.old) }
-    ensures went { IfOk result (λ line. Went (at_letting_go halted.number) (ends_with (said_by line)) [] (tells (D.far link.old) (D.script link.old)) (tells (D.far link.new) (D.script link.new))) }
-    ensures falls { IfErr result (Falls (at_letting_go halted.number) [] (D.fault_count link.old) (D.fault_count link.new) (tells (D.far link.old) (D.script link.old)) (tells (D.far link.new) (D.script link.new))) }
+    ensures went { IfOk result (λ line. Went (at_letting_go halted.number) (ends_with (said_by line)) [] (tells (D.far link.old) (D.script link.old))
+        (tells (D.far link.new) (D.script link.new))) }
+    ensures falls { IfErr result (Falls (at_letting_go halted.number) [] (D.fault_count link.old) (D.fault_count link.new)
+        (tells (D.far link.old) (D.script link.old)) (tells (D.far link.new) (D.script link.new))) }
     ensures serving { OnOk result (Serving (D.far link.new) (D.is_alive link.new)) }
     ensures left { IfErr result (LeftBy (D.far link.new)) }
     ensures later { D.fault_count link.old ≤ D.fault_count link.new }

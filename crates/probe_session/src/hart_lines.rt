@@ -30,8 +30,11 @@ const TRIGGER: u8 = 2;
 /// The line that says where the hart stands, and why; beside a trigger, with the slots that have a hit.
 pub(crate) fn stop_line<D: Dmi>(link: &mut D, halted: &Halted) -> Result<Line, Failure>
     requires serving { ServingHalted halted.now.number (D.far link.old) (D.is_alive link.old) }
-    ensures went { IfOk result (λ line. Went (at_stop_line halted.now.number) (ends_with (said_by line)) [] (tells (D.far link.old) (D.script link.old)) (tells (D.far link.new) (D.script link.new))) }
-    ensures falls { IfErr result (Falls (at_stop_line halted.now.number) [] (D.fault_count link.old) (D.fault_count link.new) (tells (D.far link.old) (D.script link.old)) (tells (D.far link.new) (D.script link.new))) }
+    ensures went { IfOk result
+        (λ line. Went (at_stop_line halted.now.number) (ends_with (said_by line)) [] (tells (D.far link.old) (D.script link.old))
+        (tells (D.far link.new) (D.script link.new))) }
+    ensures falls { IfErr result (Falls (at_stop_line halted.now.number) [] (D.fault_count link.old) (D.fault_count link.new)
+        (tells (D.far link.old) (D.script link.old)) (tells (D.far link.new) (D.script link.new))) }
     ensures serving { OnOk result (Serving (D.far link.new) (D.is_alive link.new)) }
     ensures left { IfErr result (LeftBy (D.far link.new)) }
     ensures later { D.fault_count link.old ≤ D.fault_count link.new }
@@ -62,8 +65,11 @@ pub(crate) fn register_line<D: Dmi>(
 ) -> Result<Line, Failure>
     requires of { IsOfCores number }
     requires serving { ServingHalted halted.now.number (D.far link.old) (D.is_alive link.old) }
-    ensures went { IfOk result (λ line. Went (at_register halted.now.number number) (ends_with (said_by line)) [] (tells (D.far link.old) (D.script link.old)) (tells (D.far link.new) (D.script link.new))) }
-    ensures falls { IfErr result (Falls (at_register halted.now.number number) [] (D.fault_count link.old) (D.fault_count link.new) (tells (D.far link.old) (D.script link.old)) (tells (D.far link.new) (D.script link.new))) }
+    ensures went { IfOk result
+        (λ line. Went (at_register halted.now.number number) (ends_with (said_by line)) [] (tells (D.far link.old) (D.script link.old))
+        (tells (D.far link.new) (D.script link.new))) }
+    ensures falls { IfErr result (Falls (at_register halted.now.number number) [] (D.fault_count link.old) (D.fault_count link.new)
+        (tells (D.far link.old) (D.script link.old)) (tells (D.far link.new) (D.script link.new))) }
     ensures serving { OnOk result (Serving (D.far link.new) (D.is_alive link.new)) }
     ensures left { IfErr result (LeftBy (D.far link.new)) }
     ensures later { D.fault_count link.old ≤ D.fault_count link.new }
@@ -85,8 +91,10 @@ pub(crate) fn written_register_line<D: Dmi>(
 ) -> Result<Line, Failure>
     requires of { IsOfCores number }
     requires serving { ServingHalted halted.now.number (D.far link.old) (D.is_alive link.old) }
-    ensures went { IfOk result (λ line. Went (at_written_register halted.now.number number value) (ends_with (said_by line)) [] (tells (D.far link.old) (D.script link.old)) (tells (D.far link.new) (D.script link.new))) }
-    ensures falls { IfErr result (Falls (at_written_register halted.now.number number value) [] (D.fault_count link.old) (D.fault_count link.new) (tells (D.far link.old) (D.script link.old)) (tells (D.far link.new) (D.script link.new))) }
+    ensures went { IfOk result (λ line. Went (at_written_register halted.now.number number value) (ends_with (said_by line)) []
+        (tells (D.far link.old) (D.script link.old)) (tells (D.far link.new) (D.script link.new))) }
+    ensures falls { IfErr result (Falls (at_written_register halted.now.number number value) [] (D.fault_count link.old) (D.fault_count link.new)
+        (tells (D.far link.old) (D.script link.old)) (tells (D.far link.new) (D.script link.new))) }
     ensures serving { OnOk result (Serving (D.far link.new) (D.is_alive link.new)) }
     ensures left { IfErr result (LeftBy (D.far link.new)) }
     ensures later { D.fault_count link.old ≤ D.fault_count link.new }
@@ -121,8 +129,11 @@ pub(crate) fn ebreak_line<D: Dmi>(
     is_on: bool,
 ) -> Result<Line, Failure>
     requires serving { ServingHalted halted.now.number (D.far link.old) (D.is_alive link.old) }
-    ensures went { IfOk result (λ line. Went (at_ebreak halted.now.number is_on) (ends_with (said_by line)) [] (tells (D.far link.old) (D.script link.old)) (tells (D.far link.new) (D.script link.new))) }
-    ensures falls { IfErr result (Falls (at_ebreak halted.now.number is_on) [] (D.fault_count link.old) (D.fault_count link.new) (tells (D.far link.old) (D.script link.old)) (tells (D.far link.new) (D.script link.new))) }
+    ensures went { IfOk result
+        (λ line. Went (at_ebreak halted.now.number is_on) (ends_with (said_by line)) [] (tells (D.far link.old) (D.script link.old))
+        (tells (D.far link.new) (D.script link.new))) }
+    ensures falls { IfErr result (Falls (at_ebreak halted.now.number is_on) [] (D.fault_count link.old) (D.fault_count link.new)
+        (tells (D.far link.old) (D.script link.old)) (tells (D.far link.new) (D.script link.new))) }
     ensures serving { OnOk result (Serving (D.far link.new) (D.is_alive link.new)) }
     ensures left { IfErr result (LeftBy (D.far link.new)) }
     ensures later { D.fault_count link.old ≤ D.fault_count link.new }
@@ -147,8 +158,11 @@ pub(crate) fn armed_line<D: Dmi>(
 ) -> Result<Line, Failure>
     requires can { CanArm what }
     requires serving { ServingHalted halted.now.number (D.far link.old) (D.is_alive link.old) }
-    ensures went { IfOk result (λ line. Went (at_arming halted.now.number (what_of what)) (ends_with (said_by line)) [] (tells (D.far link.old) (D.script link.old)) (tells (D.far link.new) (D.script link.new))) }
-    ensures falls { IfErr result (Falls (at_arming halted.now.number (what_of what)) [] (D.fault_count link.old) (D.fault_count link.new) (tells (D.far link.old) (D.script link.old)) (tells (D.far link.new) (D.script link.new))) }
+    ensures went { IfOk result
+        (λ line. Went (at_arming halted.now.number (what_of what)) (ends_with (said_by line)) [] (tells (D.far link.old) (D.script link.old))
+        (tells (D.far link.new) (D.script link.new))) }
+    ensures falls { IfErr result (Falls (at_arming halted.now.number (what_of what)) [] (D.fault_count link.old) (D.fault_count link.new)
+        (tells (D.far link.old) (D.script link.old)) (tells (D.far link.new) (D.script link.new))) }
     ensures serving { OnOk result (Serving (D.far link.new) (D.is_alive link.new)) }
     ensures left { IfErr result (LeftBy (D.far link.new)) }
     ensures later { D.fault_count link.old ≤ D.fault_count link.new }
@@ -165,8 +179,11 @@ pub(crate) fn armed_line<D: Dmi>(
 pub(crate) fn freed_line<D: Dmi>(link: &mut D, halted: &Halted, slot: u8) -> Result<Line, Failure>
     requires slot { slot < 4 }
     requires serving { ServingHalted halted.now.number (D.far link.old) (D.is_alive link.old) }
-    ensures went { IfOk result (λ line. Went (at_freeing halted.now.number slot) (ends_with (said_by line)) [] (tells (D.far link.old) (D.script link.old)) (tells (D.far link.new) (D.script link.new))) }
-    ensures falls { IfErr result (Falls (at_freeing halted.now.number slot) [] (D.fault_count link.old) (D.fault_count link.new) (tells (D.far link.old) (D.script link.old)) (tells (D.far link.new) (D.script link.new))) }
+    ensures went { IfOk result
+        (λ line. Went (at_freeing halted.now.number slot) (ends_with (said_by line)) [] (tells (D.far link.old) (D.script link.old))
+        (tells (D.far link.new) (D.script link.new))) }
+    ensures falls { IfErr result (Falls (at_freeing halted.now.number slot) [] (D.fault_count link.old) (D.fault_count link.new)
+        (tells (D.far link.old) (D.script link.old)) (tells (D.far link.new) (D.script link.new))) }
     ensures serving { OnOk result (Serving (D.far link.new) (D.is_alive link.new)) }
     ensures left { IfErr result (LeftBy (D.far link.new)) }
     ensures later { D.fault_count link.old ≤ D.fault_count link.new }

@@ -18,8 +18,10 @@ use printed_lines::Line;
 /// Resets the TAP and reads the IDCODE.
 pub(crate) fn idcode_line<D: Dmi>(link: &mut D) -> Result<Line, Failure>
     requires serving { Serving (D.far link.old) (D.is_alive link.old) }
-    ensures went { IfOk result (λ line. Went at_idcode (ends_with (said_by line)) [] (tells (D.far link.old) (D.script link.old)) (tells (D.far link.new) (D.script link.new))) }
-    ensures falls { IfErr result (Falls at_idcode [] (D.fault_count link.old) (D.fault_count link.new) (tells (D.far link.old) (D.script link.old)) (tells (D.far link.new) (D.script link.new))) }
+    ensures went { IfOk result (λ line. Went at_idcode (ends_with (said_by line)) [] (tells (D.far link.old) (D.script link.old))
+        (tells (D.far link.new) (D.script link.new))) }
+    ensures falls { IfErr result (Falls at_idcode [] (D.fault_count link.old) (D.fault_count link.new) (tells (D.far link.old) (D.script link.old))
+        (tells (D.far link.new) (D.script link.new))) }
     ensures serving { OnOk result (Serving (D.far link.new) (D.is_alive link.new)) }
     ensures left { IfErr result (LeftBy (D.far link.new)) }
     ensures later { D.fault_count link.old ≤ D.fault_count link.new }

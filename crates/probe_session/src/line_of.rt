@@ -24,8 +24,10 @@ impl Session {
         requires within { IsWithinRanges command }
         requires one { IsTrue (is_one_line command) }
         requires serving { Serving (D.far link.old) (D.is_alive link.old) }
-        ensures went { IfOk result (λ line. Went (before command (state_of self.old)) (at_line (said_by line) (state_of self.new)) [] (tells (D.far link.old) (D.script link.old)) (tells (D.far link.new) (D.script link.new))) }
-        ensures falls { IfErr result (Falls (before command (state_of self.old)) [] (D.fault_count link.old) (D.fault_count link.new) (tells (D.far link.old) (D.script link.old)) (tells (D.far link.new) (D.script link.new))) }
+        ensures went { IfOk result (λ line. Went (before command (state_of self.old)) (at_line (said_by line) (state_of self.new)) []
+            (tells (D.far link.old) (D.script link.old)) (tells (D.far link.new) (D.script link.new))) }
+        ensures falls { IfErr result (Falls (before command (state_of self.old)) [] (D.fault_count link.old) (D.fault_count link.new)
+            (tells (D.far link.old) (D.script link.old)) (tells (D.far link.new) (D.script link.new))) }
         ensures serving { OnOk result (Serving (D.far link.new) (D.is_alive link.new)) }
         ensures left { IfErr result (LeftBy (D.far link.new)) }
         ensures later { D.fault_count link.old ≤ D.fault_count link.new }

@@ -15,7 +15,8 @@ pub(crate) fn see<D: Dmi>(link: &mut D, target: &Target, hart: u16) -> Result<Se
     requires hart { hart < 2 ^ 10 }
     requires serving { Serving (D.far link.old) (D.is_alive link.old) }
     ensures saw { IfOk result (Saw hart (tells (D.far link.old) (D.script link.old)) (tells (D.far link.new) (D.script link.new))) }
-    ensures fell { IfErr result (LookFell hart (D.fault_count link.old) (D.fault_count link.new) (tells (D.far link.old) (D.script link.old)) (tells (D.far link.new) (D.script link.new))) }
+    ensures fell { IfErr result (LookFell hart (D.fault_count link.old) (D.fault_count link.new) (tells (D.far link.old) (D.script link.old))
+        (tells (D.far link.new) (D.script link.new))) }
     ensures serving { OnOk result (Serving (D.far link.new) (D.is_alive link.new)) }
     ensures selects { OnOk result (Selects hart (D.far link.new)) }
     ensures seen { IfOk result (IsAsSeen (D.far link.new)) }
@@ -34,7 +35,8 @@ pub(crate) fn make_halt<D: Dmi>(link: &mut D, running: Running) -> Result<Halted
     requires serving { Serving (D.far link.old) (D.is_alive link.old) }
     requires exists { Exists running.number (D.far link.old) }
     ensures halted { OnOk result (HaltMade running.number (tells (D.far link.old) (D.script link.old)) (tells (D.far link.new) (D.script link.new))) }
-    ensures fell { IfErr result (HaltFell running.number (D.fault_count link.old) (D.fault_count link.new) (tells (D.far link.old) (D.script link.old)) (tells (D.far link.new) (D.script link.new))) }
+    ensures fell { IfErr result (HaltFell running.number (D.fault_count link.old) (D.fault_count link.new) (tells (D.far link.old) (D.script link.old))
+        (tells (D.far link.new) (D.script link.new))) }
     ensures hart { IfOk result (λ halted. halted.number ≡ running.number) }
     ensures serving { OnOk result (ServingHalted running.number (D.far link.new) (D.is_alive link.new)) }
     ensures left { IfErr result (LeftBy (D.far link.new)) }
@@ -50,7 +52,9 @@ pub(crate) fn make_halt<D: Dmi>(link: &mut D, running: Running) -> Result<Halted
 pub(crate) fn make_resume<D: Dmi>(link: &mut D, halted: Halted) -> Result<Running, Failure>
     requires serving { ServingHalted halted.number (D.far link.old) (D.is_alive link.old) }
     ensures resumed { OnOk result (ResumeMade halted.number (tells (D.far link.old) (D.script link.old)) (tells (D.far link.new) (D.script link.new))) }
-    ensures fell { IfErr result (ResumeFell halted.number (D.fault_count link.old) (D.fault_count link.new) (tells (D.far link.old) (D.script link.old)) (tells (D.far link.new) (D.script link.new))) }
+    ensures fell { IfErr result
+        (ResumeFell halted.number (D.fault_count link.old) (D.fault_count link.new) (tells (D.far link.old) (D.script link.old))
+        (tells (D.far link.new) (D.script link.new))) }
     ensures serving { OnOk result (Serving (D.far link.new) (D.is_alive link.new)) }
     ensures left { IfErr result (LeftBy (D.far link.new)) }
     ensures later { D.fault_count link.old ≤ D.fault_count link.new }

@@ -24,7 +24,9 @@ pub(crate) fn meet<D: Dmi>(link: &mut D, target: &Target, hart: u16) -> Result<M
     requires hart { hart < 2 ^ 10 }
     requires serving { Serving (D.far link.old) (D.is_alive link.old) }
     ensures met { IfOk result (MetAs hart (tells (D.far link.old) (D.script link.old)) (tells (D.far link.new) (D.script link.new))) }
-    ensures falls { IfErr result (Falls (before_look hart) [] (D.fault_count link.old) (D.fault_count link.new) (tells (D.far link.old) (D.script link.old)) (tells (D.far link.new) (D.script link.new))) }
+    ensures falls { IfErr result
+        (Falls (before_look hart) [] (D.fault_count link.old) (D.fault_count link.new) (tells (D.far link.old) (D.script link.old))
+        (tells (D.far link.new) (D.script link.new))) }
     ensures serving { IfOk result (ServingMet (D.far link.new) (D.is_alive link.new)) }
     ensures left { IfErr result (LeftBy (D.far link.new)) }
     ensures later { D.fault_count link.old ≤ D.fault_count link.new }

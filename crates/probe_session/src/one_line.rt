@@ -33,8 +33,10 @@ impl Session {
     pub(crate) fn select<D: Dmi>(&mut self, link: &mut D, hart: u16) -> Result<Line, Failure>
         requires hart { hart < 2 ^ 10 }
         requires serving { Serving (D.far link.old) (D.is_alive link.old) }
-        ensures went { IfOk result (λ line. Went (before (command.Hart hart) (state_of self.old)) (at_line (said_by line) (state_of self.new)) [] (tells (D.far link.old) (D.script link.old)) (tells (D.far link.new) (D.script link.new))) }
-        ensures falls { IfErr result (Falls (before (command.Hart hart) (state_of self.old)) [] (D.fault_count link.old) (D.fault_count link.new) (tells (D.far link.old) (D.script link.old)) (tells (D.far link.new) (D.script link.new))) }
+        ensures went { IfOk result (λ line. Went (before (command.Hart hart) (state_of self.old)) (at_line (said_by line) (state_of self.new)) []
+            (tells (D.far link.old) (D.script link.old)) (tells (D.far link.new) (D.script link.new))) }
+        ensures falls { IfErr result (Falls (before (command.Hart hart) (state_of self.old)) [] (D.fault_count link.old) (D.fault_count link.new)
+            (tells (D.far link.old) (D.script link.old)) (tells (D.far link.new) (D.script link.new))) }
         ensures serving { OnOk result (Serving (D.far link.new) (D.is_alive link.new)) }
         ensures left { IfErr result (LeftBy (D.far link.new)) }
         ensures later { D.fault_count link.old ≤ D.fault_count link.new }
@@ -57,8 +59,10 @@ impl Session {
     /// Says where the hart stands, or that it runs.
     pub(crate) fn state<D: Dmi>(&self, link: &mut D) -> Result<Line, Failure>
         requires serving { Serving (D.far link.old) (D.is_alive link.old) }
-        ensures went { IfOk result (λ line. Went (before (command.State) (state_of self.now)) (at_line (said_by line) (state_of self.now)) [] (tells (D.far link.old) (D.script link.old)) (tells (D.far link.new) (D.script link.new))) }
-        ensures falls { IfErr result (Falls (before (command.State) (state_of self.now)) [] (D.fault_count link.old) (D.fault_count link.new) (tells (D.far link.old) (D.script link.old)) (tells (D.far link.new) (D.script link.new))) }
+        ensures went { IfOk result (λ line. Went (before (command.State) (state_of self.now)) (at_line (said_by line) (state_of self.now)) []
+            (tells (D.far link.old) (D.script link.old)) (tells (D.far link.new) (D.script link.new))) }
+        ensures falls { IfErr result (Falls (before (command.State) (state_of self.now)) [] (D.fault_count link.old) (D.fault_count link.new)
+            (tells (D.far link.old) (D.script link.old)) (tells (D.far link.new) (D.script link.new))) }
         ensures serving { OnOk result (Serving (D.far link.new) (D.is_alive link.new)) }
         ensures left { IfErr result (LeftBy (D.far link.new)) }
         ensures later { D.fault_count link.old ≤ D.fault_count link.new }
@@ -75,8 +79,10 @@ impl Session {
     /// Halts the hart, and says where it stands.
     pub(crate) fn halt<D: Dmi>(&self, link: &mut D) -> Result<Line, Failure>
         requires serving { Serving (D.far link.old) (D.is_alive link.old) }
-        ensures went { IfOk result (λ line. Went (before (command.Halt) (state_of self.now)) (at_line (said_by line) (state_of self.now)) [] (tells (D.far link.old) (D.script link.old)) (tells (D.far link.new) (D.script link.new))) }
-        ensures falls { IfErr result (Falls (before (command.Halt) (state_of self.now)) [] (D.fault_count link.old) (D.fault_count link.new) (tells (D.far link.old) (D.script link.old)) (tells (D.far link.new) (D.script link.new))) }
+        ensures went { IfOk result (λ line. Went (before (command.Halt) (state_of self.now)) (at_line (said_by line) (state_of self.now)) []
+            (tells (D.far link.old) (D.script link.old)) (tells (D.far link.new) (D.script link.new))) }
+        ensures falls { IfErr result (Falls (before (command.Halt) (state_of self.now)) [] (D.fault_count link.old) (D.fault_count link.new)
+            (tells (D.far link.old) (D.script link.old)) (tells (D.far link.new) (D.script link.new))) }
         ensures serving { OnOk result (Serving (D.far link.new) (D.is_alive link.new)) }
         ensures left { IfErr result (LeftBy (D.far link.new)) }
         ensures later { D.fault_count link.old ≤ D.fault_count link.new }
@@ -96,8 +102,10 @@ impl Session {
     /// Looks at the hart until it is halted, at most so often, and says where it stands, or that it runs.
     pub(crate) fn wait<D: Dmi>(&self, link: &mut D, looks: u16) -> Result<Line, Failure>
         requires serving { Serving (D.far link.old) (D.is_alive link.old) }
-        ensures went { IfOk result (λ line. Went (before (command.Wait looks) (state_of self.now)) (at_line (said_by line) (state_of self.now)) [] (tells (D.far link.old) (D.script link.old)) (tells (D.far link.new) (D.script link.new))) }
-        ensures falls { IfErr result (Falls (before (command.Wait looks) (state_of self.now)) [] (D.fault_count link.old) (D.fault_count link.new) (tells (D.far link.old) (D.script link.old)) (tells (D.far link.new) (D.script link.new))) }
+        ensures went { IfOk result (λ line. Went (before (command.Wait looks) (state_of self.now)) (at_line (said_by line) (state_of self.now)) []
+            (tells (D.far link.old) (D.script link.old)) (tells (D.far link.new) (D.script link.new))) }
+        ensures falls { IfErr result (Falls (before (command.Wait looks) (state_of self.now)) [] (D.fault_count link.old) (D.fault_count link.new)
+            (tells (D.far link.old) (D.script link.old)) (tells (D.far link.new) (D.script link.new))) }
         ensures serving { OnOk result (Serving (D.far link.new) (D.is_alive link.new)) }
         ensures left { IfErr result (LeftBy (D.far link.new)) }
         ensures later { D.fault_count link.old ≤ D.fault_count link.new }
@@ -116,8 +124,10 @@ impl Session {
     pub(crate) fn reg<D: Dmi>(&self, link: &mut D, name: RegName) -> Result<Line, Failure>
         requires known { IsTrue (is_register name.0) }
         requires serving { Serving (D.far link.old) (D.is_alive link.old) }
-        ensures went { IfOk result (λ line. Went (before (command.Reg name) (state_of self.now)) (at_line (said_by line) (state_of self.now)) [] (tells (D.far link.old) (D.script link.old)) (tells (D.far link.new) (D.script link.new))) }
-        ensures falls { IfErr result (Falls (before (command.Reg name) (state_of self.now)) [] (D.fault_count link.old) (D.fault_count link.new) (tells (D.far link.old) (D.script link.old)) (tells (D.far link.new) (D.script link.new))) }
+        ensures went { IfOk result (λ line. Went (before (command.Reg name) (state_of self.now)) (at_line (said_by line) (state_of self.now)) []
+            (tells (D.far link.old) (D.script link.old)) (tells (D.far link.new) (D.script link.new))) }
+        ensures falls { IfErr result (Falls (before (command.Reg name) (state_of self.now)) [] (D.fault_count link.old) (D.fault_count link.new)
+            (tells (D.far link.old) (D.script link.old)) (tells (D.far link.new) (D.script link.new))) }
         ensures serving { OnOk result (Serving (D.far link.new) (D.is_alive link.new)) }
         ensures left { IfErr result (LeftBy (D.far link.new)) }
         ensures later { D.fault_count link.old ≤ D.fault_count link.new }
@@ -139,8 +149,12 @@ impl Session {
     ) -> Result<Line, Failure>
         requires known { IsTrue (is_register name.0) }
         requires serving { Serving (D.far link.old) (D.is_alive link.old) }
-        ensures went { IfOk result (λ line. Went (before (command.SetReg name value) (state_of self.now)) (at_line (said_by line) (state_of self.now)) [] (tells (D.far link.old) (D.script link.old)) (tells (D.far link.new) (D.script link.new))) }
-        ensures falls { IfErr result (Falls (before (command.SetReg name value) (state_of self.now)) [] (D.fault_count link.old) (D.fault_count link.new) (tells (D.far link.old) (D.script link.old)) (tells (D.far link.new) (D.script link.new))) }
+        ensures went { IfOk result
+            (λ line. Went (before (command.SetReg name value) (state_of self.now)) (at_line (said_by line) (state_of self.now)) []
+            (tells (D.far link.old) (D.script link.old)) (tells (D.far link.new) (D.script link.new))) }
+        ensures falls { IfErr result
+            (Falls (before (command.SetReg name value) (state_of self.now)) [] (D.fault_count link.old) (D.fault_count link.new)
+            (tells (D.far link.old) (D.script link.old)) (tells (D.far link.new) (D.script link.new))) }
         ensures serving { OnOk result (Serving (D.far link.new) (D.is_alive link.new)) }
         ensures left { IfErr result (LeftBy (D.far link.new)) }
         ensures later { D.fault_count link.old ≤ D.fault_count link.new }
@@ -156,8 +170,10 @@ impl Session {
     /// Sets whether the hart's ebreak halts it.
     pub(crate) fn ebreak<D: Dmi>(&self, link: &mut D, is_on: bool) -> Result<Line, Failure>
         requires serving { Serving (D.far link.old) (D.is_alive link.old) }
-        ensures went { IfOk result (λ line. Went (before (command.Ebreak is_on) (state_of self.now)) (at_line (said_by line) (state_of self.now)) [] (tells (D.far link.old) (D.script link.old)) (tells (D.far link.new) (D.script link.new))) }
-        ensures falls { IfErr result (Falls (before (command.Ebreak is_on) (state_of self.now)) [] (D.fault_count link.old) (D.fault_count link.new) (tells (D.far link.old) (D.script link.old)) (tells (D.far link.new) (D.script link.new))) }
+        ensures went { IfOk result (λ line. Went (before (command.Ebreak is_on) (state_of self.now)) (at_line (said_by line) (state_of self.now)) []
+            (tells (D.far link.old) (D.script link.old)) (tells (D.far link.new) (D.script link.new))) }
+        ensures falls { IfErr result (Falls (before (command.Ebreak is_on) (state_of self.now)) [] (D.fault_count link.old) (D.fault_count link.new)
+            (tells (D.far link.old) (D.script link.old)) (tells (D.far link.new) (D.script link.new))) }
         ensures serving { OnOk result (Serving (D.far link.new) (D.is_alive link.new)) }
         ensures left { IfErr result (LeftBy (D.far link.new)) }
         ensures later { D.fault_count link.old ≤ D.fault_count link.new }
@@ -173,8 +189,10 @@ impl Session {
     /// Arms a slot that stops the hart before the instruction at an address.
     pub(crate) fn break_at<D: Dmi>(&self, link: &mut D, address: u64) -> Result<Line, Failure>
         requires serving { Serving (D.far link.old) (D.is_alive link.old) }
-        ensures went { IfOk result (λ line. Went (before (command.Break address) (state_of self.now)) (at_line (said_by line) (state_of self.now)) [] (tells (D.far link.old) (D.script link.old)) (tells (D.far link.new) (D.script link.new))) }
-        ensures falls { IfErr result (Falls (before (command.Break address) (state_of self.now)) [] (D.fault_count link.old) (D.fault_count link.new) (tells (D.far link.old) (D.script link.old)) (tells (D.far link.new) (D.script link.new))) }
+        ensures went { IfOk result (λ line. Went (before (command.Break address) (state_of self.now)) (at_line (said_by line) (state_of self.now)) []
+            (tells (D.far link.old) (D.script link.old)) (tells (D.far link.new) (D.script link.new))) }
+        ensures falls { IfErr result (Falls (before (command.Break address) (state_of self.now)) [] (D.fault_count link.old) (D.fault_count link.new)
+            (tells (D.far link.old) (D.script link.old)) (tells (D.far link.new) (D.script link.new))) }
         ensures serving { OnOk result (Serving (D.far link.new) (D.is_alive link.new)) }
         ensures left { IfErr result (LeftBy (D.far link.new)) }
         ensures later { D.fault_count link.old ≤ D.fault_count link.new }
@@ -195,8 +213,12 @@ impl Session {
         address: u64,
     ) -> Result<Line, Failure>
         requires serving { Serving (D.far link.old) (D.is_alive link.old) }
-        ensures went { IfOk result (λ line. Went (before (command.Watch kind address) (state_of self.now)) (at_line (said_by line) (state_of self.now)) [] (tells (D.far link.old) (D.script link.old)) (tells (D.far link.new) (D.script link.new))) }
-        ensures falls { IfErr result (Falls (before (command.Watch kind address) (state_of self.now)) [] (D.fault_count link.old) (D.fault_count link.new) (tells (D.far link.old) (D.script link.old)) (tells (D.far link.new) (D.script link.new))) }
+        ensures went { IfOk result
+            (λ line. Went (before (command.Watch kind address) (state_of self.now)) (at_line (said_by line) (state_of self.now)) []
+            (tells (D.far link.old) (D.script link.old)) (tells (D.far link.new) (D.script link.new))) }
+        ensures falls { IfErr result
+            (Falls (before (command.Watch kind address) (state_of self.now)) [] (D.fault_count link.old) (D.fault_count link.new)
+            (tells (D.far link.old) (D.script link.old)) (tells (D.far link.new) (D.script link.new))) }
         ensures serving { OnOk result (Serving (D.far link.new) (D.is_alive link.new)) }
         ensures left { IfErr result (LeftBy (D.far link.new)) }
         ensures later { D.fault_count link.old ≤ D.fault_count link.new }
@@ -213,8 +235,10 @@ impl Session {
     pub(crate) fn count<D: Dmi>(&self, link: &mut D, turns: u16) -> Result<Line, Failure>
         requires turns { (1 ≤ turns) × (turns ≤ most_turns) }
         requires serving { Serving (D.far link.old) (D.is_alive link.old) }
-        ensures went { IfOk result (λ line. Went (before (command.Count turns) (state_of self.now)) (at_line (said_by line) (state_of self.now)) [] (tells (D.far link.old) (D.script link.old)) (tells (D.far link.new) (D.script link.new))) }
-        ensures falls { IfErr result (Falls (before (command.Count turns) (state_of self.now)) [] (D.fault_count link.old) (D.fault_count link.new) (tells (D.far link.old) (D.script link.old)) (tells (D.far link.new) (D.script link.new))) }
+        ensures went { IfOk result (λ line. Went (before (command.Count turns) (state_of self.now)) (at_line (said_by line) (state_of self.now)) []
+            (tells (D.far link.old) (D.script link.old)) (tells (D.far link.new) (D.script link.new))) }
+        ensures falls { IfErr result (Falls (before (command.Count turns) (state_of self.now)) [] (D.fault_count link.old) (D.fault_count link.new)
+            (tells (D.far link.old) (D.script link.old)) (tells (D.far link.new) (D.script link.new))) }
         ensures serving { OnOk result (Serving (D.far link.new) (D.is_alive link.new)) }
         ensures left { IfErr result (LeftBy (D.far link.new)) }
         ensures later { D.fault_count link.old ≤ D.fault_count link.new }
@@ -231,8 +255,10 @@ impl Session {
     pub(crate) fn clear<D: Dmi>(&self, link: &mut D, slot: u8) -> Result<Line, Failure>
         requires slot { slot ≤ last_slot }
         requires serving { Serving (D.far link.old) (D.is_alive link.old) }
-        ensures went { IfOk result (λ line. Went (before (command.Clear slot) (state_of self.now)) (at_line (said_by line) (state_of self.now)) [] (tells (D.far link.old) (D.script link.old)) (tells (D.far link.new) (D.script link.new))) }
-        ensures falls { IfErr result (Falls (before (command.Clear slot) (state_of self.now)) [] (D.fault_count link.old) (D.fault_count link.new) (tells (D.far link.old) (D.script link.old)) (tells (D.far link.new) (D.script link.new))) }
+        ensures went { IfOk result (λ line. Went (before (command.Clear slot) (state_of self.now)) (at_line (said_by line) (state_of self.now)) []
+            (tells (D.far link.old) (D.script link.old)) (tells (D.far link.new) (D.script link.new))) }
+        ensures falls { IfErr result (Falls (before (command.Clear slot) (state_of self.now)) [] (D.fault_count link.old) (D.fault_count link.new)
+            (tells (D.far link.old) (D.script link.old)) (tells (D.far link.new) (D.script link.new))) }
         ensures serving { OnOk result (Serving (D.far link.new) (D.is_alive link.new)) }
         ensures left { IfErr result (LeftBy (D.far link.new)) }
         ensures later { D.fault_count link.old ≤ D.fault_count link.new }
@@ -248,8 +274,10 @@ impl Session {
     /// Makes up to so many single steps, and says where the hart stands.
     pub(crate) fn step<D: Dmi>(&self, link: &mut D, count: u16) -> Result<Line, Failure>
         requires serving { Serving (D.far link.old) (D.is_alive link.old) }
-        ensures went { IfOk result (λ line. Went (before (command.Step count) (state_of self.now)) (at_line (said_by line) (state_of self.now)) [] (tells (D.far link.old) (D.script link.old)) (tells (D.far link.new) (D.script link.new))) }
-        ensures falls { IfErr result (Falls (before (command.Step count) (state_of self.now)) [] (D.fault_count link.old) (D.fault_count link.new) (tells (D.far link.old) (D.script link.old)) (tells (D.far link.new) (D.script link.new))) }
+        ensures went { IfOk result (λ line. Went (before (command.Step count) (state_of self.now)) (at_line (said_by line) (state_of self.now)) []
+            (tells (D.far link.old) (D.script link.old)) (tells (D.far link.new) (D.script link.new))) }
+        ensures falls { IfErr result (Falls (before (command.Step count) (state_of self.now)) [] (D.fault_count link.old) (D.fault_count link.new)
+            (tells (D.far link.old) (D.script link.old)) (tells (D.far link.new) (D.script link.new))) }
         ensures serving { OnOk result (Serving (D.far link.new) (D.is_alive link.new)) }
         ensures left { IfErr result (LeftBy (D.far link.new)) }
         ensures later { D.fault_count link.old ≤ D.fault_count link.new }
@@ -265,8 +293,10 @@ impl Session {
     /// Lets the hart go.
     pub(crate) fn resume<D: Dmi>(&self, link: &mut D) -> Result<Line, Failure>
         requires serving { Serving (D.far link.old) (D.is_alive link.old) }
-        ensures went { IfOk result (λ line. Went (before (command.Resume) (state_of self.now)) (at_line (said_by line) (state_of self.now)) [] (tells (D.far link.old) (D.script link.old)) (tells (D.far link.new) (D.script link.new))) }
-        ensures falls { IfErr result (Falls (before (command.Resume) (state_of self.now)) [] (D.fault_count link.old) (D.fault_count link.new) (tells (D.far link.old) (D.script link.old)) (tells (D.far link.new) (D.script link.new))) }
+        ensures went { IfOk result (λ line. Went (before (command.Resume) (state_of self.now)) (at_line (said_by line) (state_of self.now)) []
+            (tells (D.far link.old) (D.script link.old)) (tells (D.far link.new) (D.script link.new))) }
+        ensures falls { IfErr result (Falls (before (command.Resume) (state_of self.now)) [] (D.fault_count link.old) (D.fault_count link.new)
+            (tells (D.far link.old) (D.script link.old)) (tells (D.far link.new) (D.script link.new))) }
         ensures serving { OnOk result (Serving (D.far link.new) (D.is_alive link.new)) }
         ensures left { IfErr result (LeftBy (D.far link.new)) }
         ensures later { D.fault_count link.old ≤ D.fault_count link.new }
@@ -290,8 +320,11 @@ impl Session {
     ) -> Result<Line, Failure>
         requires block { IsBlock (count_of size) address count }
         requires serving { Serving (D.far link.old) (D.is_alive link.old) }
-        ensures went { IfOk result (λ line. Went (before (command.Write size address value count) (state_of self.now)) (at_line (said_by line) (state_of self.now)) [] (tells (D.far link.old) (D.script link.old)) (tells (D.far link.new) (D.script link.new))) }
-        ensures falls { IfErr result (Falls (before (command.Write size address value count) (state_of self.now)) [] (D.fault_count link.old) (D.fault_count link.new) (tells (D.far link.old) (D.script link.old)) (tells (D.far link.new) (D.script link.new))) }
+        ensures went { IfOk result
+            (λ line. Went (before (command.Write size address value count) (state_of self.now)) (at_line (said_by line) (state_of self.now)) []
+            (tells (D.far link.old) (D.script link.old)) (tells (D.far link.new) (D.script link.new))) }
+        ensures falls { IfErr result (Falls (before (command.Write size address value count) (state_of self.now)) [] (D.fault_count link.old)
+            (D.fault_count link.new) (tells (D.far link.old) (D.script link.old)) (tells (D.far link.new) (D.script link.new))) }
         ensures serving { OnOk result (Serving (D.far link.new) (D.is_alive link.new)) }
         ensures left { IfErr result (LeftBy (D.far link.new)) }
         ensures later { D.fault_count link.old ≤ D.fault_count link.new }

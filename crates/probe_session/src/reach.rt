@@ -41,8 +41,10 @@ impl Session {
     /// The way to memory that was chosen, with a Look of the hart where that needs one.
     pub(crate) fn reach<D: Dmi>(&self, link: &mut D) -> Result<Reached, Failure>
         requires serving { Serving (D.far link.old) (D.is_alive link.old) }
-        ensures reached { IfOk result (ReachedAs (state_of self.now) (tells (D.far link.old) (D.script link.old)) (tells (D.far link.new) (D.script link.new))) }
-        ensures falls { IfErr result (Falls (before_reach (state_of self.now)) [] (D.fault_count link.old) (D.fault_count link.new) (tells (D.far link.old) (D.script link.old)) (tells (D.far link.new) (D.script link.new))) }
+        ensures reached { IfOk result
+            (ReachedAs (state_of self.now) (tells (D.far link.old) (D.script link.old)) (tells (D.far link.new) (D.script link.new))) }
+        ensures falls { IfErr result (Falls (before_reach (state_of self.now)) [] (D.fault_count link.old) (D.fault_count link.new)
+            (tells (D.far link.old) (D.script link.old)) (tells (D.far link.new) (D.script link.new))) }
         ensures serving { IfOk result (ServingReached (D.far link.new) (D.is_alive link.new)) }
         ensures left { IfErr result (LeftBy (D.far link.new)) }
         ensures later { D.fault_count link.old ≤ D.fault_count link.new }
@@ -69,7 +71,8 @@ pub(crate) fn load_by<D: Dmi>(
     requires serving { ServingBy (D.far link.old) (D.is_alive link.old) reach.now }
     requires aligned { is_aligned address size ≡ true }
     ensures loaded { IfOk result (LoadedAs size address (tells (D.far link.old) (D.script link.old)) (tells (D.far link.new) (D.script link.new))) }
-    ensures fell { IfErr result (LoadFell size address (D.fault_count link.old) (D.fault_count link.new) (tells (D.far link.old) (D.script link.old)) (tells (D.far link.new) (D.script link.new))) }
+    ensures fell { IfErr result (LoadFell size address (D.fault_count link.old) (D.fault_count link.new) (tells (D.far link.old) (D.script link.old))
+        (tells (D.far link.new) (D.script link.new))) }
     ensures serving { OnOk result (ServingBy (D.far link.new) (D.is_alive link.new) reach.now) }
     ensures left { IfErr result (LeftBy (D.far link.new)) }
     ensures later { D.fault_count link.old ≤ D.fault_count link.new }
@@ -93,7 +96,9 @@ pub(crate) fn store_by<D: Dmi>(
     requires serving { ServingBy (D.far link.old) (D.is_alive link.old) reach.now }
     requires aligned { is_aligned address size ≡ true }
     ensures stored { IfOk result (StoredAs size address value (tells (D.far link.old) (D.script link.old)) (tells (D.far link.new) (D.script link.new))) }
-    ensures fell { IfErr result (StoreFell size address value (D.fault_count link.old) (D.fault_count link.new) (tells (D.far link.old) (D.script link.old)) (tells (D.far link.new) (D.script link.new))) }
+    ensures fell { IfErr result
+        (StoreFell size address value (D.fault_count link.old) (D.fault_count link.new) (tells (D.far link.old) (D.script link.old))
+        (tells (D.far link.new) (D.script link.new))) }
     ensures serving { OnOk result (ServingBy (D.far link.new) (D.is_alive link.new) reach.now) }
     ensures left { IfErr result (LeftBy (D.far link.new)) }
     ensures later { D.fault_count link.old ≤ D.fault_count link.new }

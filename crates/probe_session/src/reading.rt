@@ -34,8 +34,11 @@ fn put_elements<D: Dmi, K: Sink>(
 ) -> Result<bool, Failure>
     requires block { IsBlock (count_of size) address count }
     requires serving { ServingBy (D.far link.old) (D.is_alive link.old) reach.now }
-    ensures spoke { IfOk result (λ wrong. Spoke (at_read reach.now size address count) idle wrong (tells (D.far link.old) (D.script link.old)) (tells (D.far link.new) (D.script link.new)) (K.contents out.old) (K.contents out.new)) }
-    ensures fell { IfErr result (Fell Quiet (at_read reach.now size address count) (D.fault_count link.old) (D.fault_count link.new) (tells (D.far link.old) (D.script link.old)) (tells (D.far link.new) (D.script link.new)) (K.fault_count out.old) (K.fault_count out.new) (K.contents out.old) (K.contents out.new)) }
+    ensures spoke { IfOk result (λ wrong. Spoke (at_read reach.now size address count) idle wrong (tells (D.far link.old) (D.script link.old))
+        (tells (D.far link.new) (D.script link.new)) (K.contents out.old) (K.contents out.new)) }
+    ensures fell { IfErr result (Fell Quiet (at_read reach.now size address count) (D.fault_count link.old) (D.fault_count link.new)
+        (tells (D.far link.old) (D.script link.old)) (tells (D.far link.new) (D.script link.new)) (K.fault_count out.old)
+        (K.fault_count out.new) (K.contents out.old) (K.contents out.new)) }
     ensures serving { OnOk result (Serving (D.far link.new) (D.is_alive link.new)) }
     ensures left { IfErr result (LeftBy (D.far link.new)) }
     ensures later { D.fault_count link.old ≤ D.fault_count link.new }
@@ -72,8 +75,12 @@ impl Session {
     ) -> Result<bool, Failure>
         requires block { IsBlock (count_of size) address count }
         requires serving { Serving (D.far link.old) (D.is_alive link.old) }
-        ensures spoke { IfOk result (λ wrong. Spoke (before (command.Read size address count) (state_of self.now)) (behind (state_of self.now)) wrong (tells (D.far link.old) (D.script link.old)) (tells (D.far link.new) (D.script link.new)) (K.contents out.old) (K.contents out.new)) }
-        ensures fell { IfErr result (Fell CalmNext (before (command.Read size address count) (state_of self.now)) (D.fault_count link.old) (D.fault_count link.new) (tells (D.far link.old) (D.script link.old)) (tells (D.far link.new) (D.script link.new)) (K.fault_count out.old) (K.fault_count out.new) (K.contents out.old) (K.contents out.new)) }
+        ensures spoke { IfOk result (λ wrong. Spoke (before (command.Read size address count) (state_of self.now)) (behind (state_of self.now)) wrong
+            (tells (D.far link.old) (D.script link.old)) (tells (D.far link.new) (D.script link.new)) (K.contents out.old)
+            (K.contents out.new)) }
+        ensures fell { IfErr result (Fell CalmNext (before (command.Read size address count) (state_of self.now)) (D.fault_count link.old)
+            (D.fault_count link.new) (tells (D.far link.old) (D.script link.old)) (tells (D.far link.new) (D.script link.new))
+            (K.fault_count out.old) (K.fault_count out.new) (K.contents out.old) (K.contents out.new)) }
         ensures serving { OnOk result (Serving (D.far link.new) (D.is_alive link.new)) }
         ensures left { IfErr result (LeftBy (D.far link.new)) }
         ensures later { D.fault_count link.old ≤ D.fault_count link.new }

@@ -16,8 +16,11 @@ pub(crate) fn ask<D: Dmi>(
     number: u16,
 ) -> Result<Option<u64>, Failure>
     requires serving { ServingHalted halted.now.number (D.far link.old) (D.is_alive link.old) }
-    ensures got { IfOk result (ReadAs halted.now.number number (tells (D.far link.old) (D.script link.old)) (tells (D.far link.new) (D.script link.new))) }
-    ensures fell { IfErr result (AskFell halted.now.number number (D.fault_count link.old) (D.fault_count link.new) (tells (D.far link.old) (D.script link.old)) (tells (D.far link.new) (D.script link.new))) }
+    ensures got { IfOk result
+        (ReadAs halted.now.number number (tells (D.far link.old) (D.script link.old)) (tells (D.far link.new) (D.script link.new))) }
+    ensures fell { IfErr result
+        (AskFell halted.now.number number (D.fault_count link.old) (D.fault_count link.new) (tells (D.far link.old) (D.script link.old))
+        (tells (D.far link.new) (D.script link.new))) }
     ensures serving { OnOk result (ServingHalted halted.now.number (D.far link.new) (D.is_alive link.new)) }
     ensures left { IfErr result (LeftBy (D.far link.new)) }
     ensures later { D.fault_count link.old ≤ D.fault_count link.new }
@@ -36,8 +39,11 @@ pub(crate) fn ask<D: Dmi>(
 /// The value of a register of the halted hart, which each hart has: a chip that refuses to read it loses the session.
 pub(crate) fn get<D: Dmi>(link: &mut D, halted: &Halted, number: u16) -> Result<u64, Failure>
     requires serving { ServingHalted halted.now.number (D.far link.old) (D.is_alive link.old) }
-    ensures got { IfOk result (λ value. Got halted.now.number number value (tells (D.far link.old) (D.script link.old)) (tells (D.far link.new) (D.script link.new))) }
-    ensures fell { IfErr result (ReadFell halted.now.number number (D.fault_count link.old) (D.fault_count link.new) (tells (D.far link.old) (D.script link.old)) (tells (D.far link.new) (D.script link.new))) }
+    ensures got { IfOk result
+        (λ value. Got halted.now.number number value (tells (D.far link.old) (D.script link.old)) (tells (D.far link.new) (D.script link.new))) }
+    ensures fell { IfErr result
+        (ReadFell halted.now.number number (D.fault_count link.old) (D.fault_count link.new) (tells (D.far link.old) (D.script link.old))
+        (tells (D.far link.new) (D.script link.new))) }
     ensures serving { OnOk result (ServingHalted halted.now.number (D.far link.new) (D.is_alive link.new)) }
     ensures left { IfErr result (LeftBy (D.far link.new)) }
     ensures later { D.fault_count link.old ≤ D.fault_count link.new }
@@ -58,8 +64,10 @@ pub(crate) fn give<D: Dmi>(
     value: u64,
 ) -> Result<bool, Failure>
     requires serving { ServingHalted halted.now.number (D.far link.old) (D.is_alive link.old) }
-    ensures gave { IfOk result (WrittenAs halted.now.number number value (tells (D.far link.old) (D.script link.old)) (tells (D.far link.new) (D.script link.new))) }
-    ensures fell { IfErr result (GiveFell halted.now.number number value (D.fault_count link.old) (D.fault_count link.new) (tells (D.far link.old) (D.script link.old)) (tells (D.far link.new) (D.script link.new))) }
+    ensures gave { IfOk result
+        (WrittenAs halted.now.number number value (tells (D.far link.old) (D.script link.old)) (tells (D.far link.new) (D.script link.new))) }
+    ensures fell { IfErr result (GiveFell halted.now.number number value (D.fault_count link.old) (D.fault_count link.new)
+        (tells (D.far link.old) (D.script link.old)) (tells (D.far link.new) (D.script link.new))) }
     ensures serving { OnOk result (ServingHalted halted.now.number (D.far link.new) (D.is_alive link.new)) }
     ensures left { IfErr result (LeftBy (D.far link.new)) }
     ensures later { D.fault_count link.old ≤ D.fault_count link.new }
@@ -83,8 +91,10 @@ pub(crate) fn set<D: Dmi>(
     value: u64,
 ) -> Result<(), Failure>
     requires serving { ServingHalted halted.now.number (D.far link.old) (D.is_alive link.old) }
-    ensures gave { OnOk result (Gave halted.now.number number value (tells (D.far link.old) (D.script link.old)) (tells (D.far link.new) (D.script link.new))) }
-    ensures fell { IfErr result (WriteFell halted.now.number number value (D.fault_count link.old) (D.fault_count link.new) (tells (D.far link.old) (D.script link.old)) (tells (D.far link.new) (D.script link.new))) }
+    ensures gave { OnOk result
+        (Gave halted.now.number number value (tells (D.far link.old) (D.script link.old)) (tells (D.far link.new) (D.script link.new))) }
+    ensures fell { IfErr result (WriteFell halted.now.number number value (D.fault_count link.old) (D.fault_count link.new)
+        (tells (D.far link.old) (D.script link.old)) (tells (D.far link.new) (D.script link.new))) }
     ensures serving { OnOk result (ServingHalted halted.now.number (D.far link.new) (D.is_alive link.new)) }
     ensures left { IfErr result (LeftBy (D.far link.new)) }
     ensures later { D.fault_count link.old ≤ D.fault_count link.new }

@@ -51,7 +51,9 @@ fn run_commands<D: Dmi, K: Sink>(
 ) -> Ended
     requires within { All IsWithinRanges commands.now }
     requires serving { Serving (D.far link.old) (D.is_alive link.old) }
-    ensures followed { FollowedAs commands.now (state_of begun) (D.fault_count link.old) (D.fault_count link.new) (tells (D.far link.old) (D.script link.old)) (tells (D.far link.new) (D.script link.new)) (K.fault_count out.old) (K.fault_count out.new) (K.contents out.old) (K.contents out.new) result }
+    ensures followed { FollowedAs commands.now (state_of begun) (D.fault_count link.old) (D.fault_count link.new)
+        (tells (D.far link.old) (D.script link.old)) (tells (D.far link.new) (D.script link.new)) (K.fault_count out.old)
+        (K.fault_count out.new) (K.contents out.old) (K.contents out.new) result }
     ensures leaves { LeavesLink (D.far link.new) (D.is_alive link.new) result }
     ensures later { D.fault_count link.old ≤ D.fault_count link.new }
     ensures slack { D.slack link.new ≡ D.slack link.old }
@@ -84,7 +86,9 @@ pub fn run_script<D: Dmi, K: Sink>(link: &mut D, script: &Script, out: &mut K) -
     requires alive { D.is_alive link.old ≡ true }
     requires link { CanOperate (D.far link.old) }
     requires loaded { IsAsLoaded (D.far link.old) }
-    ensures ended { EndedAs script.now (D.fault_count link.old) (D.fault_count link.new) (tells (D.far link.old) (D.script link.old)) (tells (D.far link.new) (D.script link.new)) (K.fault_count out.old) (K.fault_count out.new) (K.contents out.old) (K.contents out.new) result }
+    ensures ended { EndedAs script.now (D.fault_count link.old) (D.fault_count link.new) (tells (D.far link.old) (D.script link.old))
+        (tells (D.far link.new) (D.script link.new)) (K.fault_count out.old) (K.fault_count out.new) (K.contents out.old)
+        (K.contents out.new) result }
     ensures cause { EndCaused (D.fault_count link.old) (D.fault_count link.new) (D.far link.new) result }
     ensures sink_cause { SinkCaused (K.fault_count out.old) (K.fault_count out.new) result }
     ensures transcribed { TranscribedAs script.now (K.contents out.old) (K.contents out.new) (D.far link.old) (D.far link.new) result }

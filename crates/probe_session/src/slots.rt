@@ -15,8 +15,10 @@ use probe_trig::{SlotUse, SlotView, TrigFault, arm, disarm, forget_hits, slots, 
 /// The slots of the halted hart.
 pub(crate) fn view<D: Dmi>(link: &mut D, halted: &Halted) -> Result<SlotView, Failure>
     requires serving { ServingHalted halted.now.number (D.far link.old) (D.is_alive link.old) }
-    ensures viewed { IfOk result (λ view. Viewed halted.now.number view (tells (D.far link.old) (D.script link.old)) (tells (D.far link.new) (D.script link.new))) }
-    ensures fell { IfErr result (SlotsFell ReadsAny halted.now.number (D.fault_count link.old) (D.fault_count link.new) (tells (D.far link.old) (D.script link.old)) (tells (D.far link.new) (D.script link.new))) }
+    ensures viewed { IfOk result
+        (λ view. Viewed halted.now.number view (tells (D.far link.old) (D.script link.old)) (tells (D.far link.new) (D.script link.new))) }
+    ensures fell { IfErr result (SlotsFell ReadsAny halted.now.number (D.fault_count link.old) (D.fault_count link.new)
+        (tells (D.far link.old) (D.script link.old)) (tells (D.far link.new) (D.script link.new))) }
     ensures serving { OnOk result (ServingHalted halted.now.number (D.far link.new) (D.is_alive link.new)) }
     ensures left { IfErr result (LeftBy (D.far link.new)) }
     ensures later { D.fault_count link.old ≤ D.fault_count link.new }
@@ -38,8 +40,10 @@ pub(crate) fn take_slot<D: Dmi>(
 ) -> Result<Option<u8>, Failure>
     requires can { CanArm what }
     requires serving { ServingHalted halted.now.number (D.far link.old) (D.is_alive link.old) }
-    ensures taken { IfOk result (TakenAs halted.now.number what (tells (D.far link.old) (D.script link.old)) (tells (D.far link.new) (D.script link.new))) }
-    ensures fell { IfErr result (SlotsFell (ArmsAny what) halted.now.number (D.fault_count link.old) (D.fault_count link.new) (tells (D.far link.old) (D.script link.old)) (tells (D.far link.new) (D.script link.new))) }
+    ensures taken { IfOk result
+        (TakenAs halted.now.number what (tells (D.far link.old) (D.script link.old)) (tells (D.far link.new) (D.script link.new))) }
+    ensures fell { IfErr result (SlotsFell (ArmsAny what) halted.now.number (D.fault_count link.old) (D.fault_count link.new)
+        (tells (D.far link.old) (D.script link.old)) (tells (D.far link.new) (D.script link.new))) }
     ensures serving { OnOk result (ServingHalted halted.now.number (D.far link.new) (D.is_alive link.new)) }
     ensures left { IfErr result (LeftBy (D.far link.new)) }
     ensures later { D.fault_count link.old ≤ D.fault_count link.new }
@@ -58,8 +62,10 @@ pub(crate) fn take_slot<D: Dmi>(
 pub(crate) fn free_slot<D: Dmi>(link: &mut D, halted: &Halted, slot: u8) -> Result<bool, Failure>
     requires slot { slot < 4 }
     requires serving { ServingHalted halted.now.number (D.far link.old) (D.is_alive link.old) }
-    ensures freed { IfOk result (FreedAs halted.now.number slot (tells (D.far link.old) (D.script link.old)) (tells (D.far link.new) (D.script link.new))) }
-    ensures fell { IfErr result (SlotsFell (FreesAny slot) halted.now.number (D.fault_count link.old) (D.fault_count link.new) (tells (D.far link.old) (D.script link.old)) (tells (D.far link.new) (D.script link.new))) }
+    ensures freed { IfOk result
+        (FreedAs halted.now.number slot (tells (D.far link.old) (D.script link.old)) (tells (D.far link.new) (D.script link.new))) }
+    ensures fell { IfErr result (SlotsFell (FreesAny slot) halted.now.number (D.fault_count link.old) (D.fault_count link.new)
+        (tells (D.far link.old) (D.script link.old)) (tells (D.far link.new) (D.script link.new))) }
     ensures serving { OnOk result (ServingHalted halted.now.number (D.far link.new) (D.is_alive link.new)) }
     ensures left { IfErr result (LeftBy (D.far link.new)) }
     ensures later { D.fault_count link.old ≤ D.fault_count link.new }
@@ -77,8 +83,10 @@ pub(crate) fn free_slot<D: Dmi>(link: &mut D, halted: &Halted, slot: u8) -> Resu
 /// Forgets the hits of the halted hart's slots.
 pub(crate) fn forget<D: Dmi>(link: &mut D, halted: &Halted) -> Result<(), Failure>
     requires serving { ServingHalted halted.now.number (D.far link.old) (D.is_alive link.old) }
-    ensures forgot { OnOk result (HitsForgotten halted.now.number (tells (D.far link.old) (D.script link.old)) (tells (D.far link.new) (D.script link.new))) }
-    ensures fell { IfErr result (SlotsFell (ChangesAny Forget) halted.now.number (D.fault_count link.old) (D.fault_count link.new) (tells (D.far link.old) (D.script link.old)) (tells (D.far link.new) (D.script link.new))) }
+    ensures forgot { OnOk result
+        (HitsForgotten halted.now.number (tells (D.far link.old) (D.script link.old)) (tells (D.far link.new) (D.script link.new))) }
+    ensures fell { IfErr result (SlotsFell (ChangesAny Forget) halted.now.number (D.fault_count link.old) (D.fault_count link.new)
+        (tells (D.far link.old) (D.script link.old)) (tells (D.far link.new) (D.script link.new))) }
     ensures serving { OnOk result (ServingHalted halted.now.number (D.far link.new) (D.is_alive link.new)) }
     ensures left { IfErr result (LeftBy (D.far link.new)) }
     ensures later { D.fault_count link.old ≤ D.fault_count link.new }
@@ -96,7 +104,8 @@ pub(crate) fn forget<D: Dmi>(link: &mut D, halted: &Halted) -> Result<(), Failur
 pub(crate) fn over<D: Dmi>(link: &mut D, halted: Halted) -> Result<Halted, Failure>
     requires serving { ServingHalted halted.number (D.far link.old) (D.is_alive link.old) }
     ensures made { OnOk result (OverMade halted.number (tells (D.far link.old) (D.script link.old)) (tells (D.far link.new) (D.script link.new))) }
-    ensures fell { IfErr result (OverFell halted.number (D.fault_count link.old) (D.fault_count link.new) (tells (D.far link.old) (D.script link.old)) (tells (D.far link.new) (D.script link.new))) }
+    ensures fell { IfErr result (OverFell halted.number (D.fault_count link.old) (D.fault_count link.new) (tells (D.far link.old) (D.script link.old))
+        (tells (D.far link.new) (D.script link.new))) }
     ensures hart { IfOk result (λ again. again.number ≡ halted.number) }
     ensures serving { OnOk result (ServingHalted halted.number (D.far link.new) (D.is_alive link.new)) }
     ensures left { IfErr result (LeftBy (D.far link.new)) }

@@ -23,8 +23,11 @@ use probe_run::Halted;
 /// Puts the line of each slot of the halted hart.
 fn put_slots<D: Dmi, K: Sink>(link: &mut D, halted: &Halted, out: &mut K) -> Result<(), Failure>
     requires serving { ServingHalted halted.now.number (D.far link.old) (D.is_alive link.old) }
-    ensures spoke { OnOk result (Spoke (at_slots halted.now.number) idle false (tells (D.far link.old) (D.script link.old)) (tells (D.far link.new) (D.script link.new)) (K.contents out.old) (K.contents out.new)) }
-    ensures fell { IfErr result (Fell Quiet (at_slots halted.now.number) (D.fault_count link.old) (D.fault_count link.new) (tells (D.far link.old) (D.script link.old)) (tells (D.far link.new) (D.script link.new)) (K.fault_count out.old) (K.fault_count out.new) (K.contents out.old) (K.contents out.new)) }
+    ensures spoke { OnOk result (Spoke (at_slots halted.now.number) idle false (tells (D.far link.old) (D.script link.old))
+        (tells (D.far link.new) (D.script link.new)) (K.contents out.old) (K.contents out.new)) }
+    ensures fell { IfErr result (Fell Quiet (at_slots halted.now.number) (D.fault_count link.old) (D.fault_count link.new)
+        (tells (D.far link.old) (D.script link.old)) (tells (D.far link.new) (D.script link.new)) (K.fault_count out.old)
+        (K.fault_count out.new) (K.contents out.old) (K.contents out.new)) }
     ensures serving { OnOk result (Serving (D.far link.new) (D.is_alive link.new)) }
     ensures left { IfErr result (LeftBy (D.far link.new)) }
     ensures later { D.fault_count link.old ≤ D.fault_count link.new }
@@ -48,8 +51,12 @@ impl Session {
         out: &mut K,
     ) -> Result<bool, Failure>
         requires serving { Serving (D.far link.old) (D.is_alive link.old) }
-        ensures spoke { IfOk result (λ wrong. Spoke (before command.Slots (state_of self.now)) (behind (state_of self.now)) wrong (tells (D.far link.old) (D.script link.old)) (tells (D.far link.new) (D.script link.new)) (K.contents out.old) (K.contents out.new)) }
-        ensures fell { IfErr result (Fell CalmNext (before command.Slots (state_of self.now)) (D.fault_count link.old) (D.fault_count link.new) (tells (D.far link.old) (D.script link.old)) (tells (D.far link.new) (D.script link.new)) (K.fault_count out.old) (K.fault_count out.new) (K.contents out.old) (K.contents out.new)) }
+        ensures spoke { IfOk result (λ wrong. Spoke (before command.Slots (state_of self.now)) (behind (state_of self.now)) wrong
+            (tells (D.far link.old) (D.script link.old)) (tells (D.far link.new) (D.script link.new)) (K.contents out.old)
+            (K.contents out.new)) }
+        ensures fell { IfErr result (Fell CalmNext (before command.Slots (state_of self.now)) (D.fault_count link.old) (D.fault_count link.new)
+            (tells (D.far link.old) (D.script link.old)) (tells (D.far link.new) (D.script link.new)) (K.fault_count out.old)
+            (K.fault_count out.new) (K.contents out.old) (K.contents out.new)) }
         ensures serving { OnOk result (Serving (D.far link.new) (D.is_alive link.new)) }
         ensures left { IfErr result (LeftBy (D.far link.new)) }
         ensures later { D.fault_count link.old ≤ D.fault_count link.new }

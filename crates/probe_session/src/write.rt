@@ -28,8 +28,11 @@ pub(crate) fn written_line<D: Dmi>(
 ) -> Result<Line, Failure>
     requires block { IsBlock (count_of size) address count }
     requires serving { ServingBy (D.far link.old) (D.is_alive link.old) reach.now }
-    ensures went { IfOk result (λ line. Went (λ next. place_by reach.now (written size address value count next)) (ends_with (said_by line)) [] (tells (D.far link.old) (D.script link.old)) (tells (D.far link.new) (D.script link.new))) }
-    ensures falls { IfErr result (Falls (λ next. place_by reach.now (written size address value count next)) [] (D.fault_count link.old) (D.fault_count link.new) (tells (D.far link.old) (D.script link.old)) (tells (D.far link.new) (D.script link.new))) }
+    ensures went { IfOk result (λ line. Went (λ next. place_by reach.now (written size address value count next))
+        (ends_with (said_by line)) [] (tells (D.far link.old) (D.script link.old)) (tells (D.far link.new) (D.script link.new))) }
+    ensures falls { IfErr result (Falls (λ next. place_by reach.now (written size address value count next))
+        [] (D.fault_count link.old) (D.fault_count link.new) (tells (D.far link.old) (D.script link.old))
+        (tells (D.far link.new) (D.script link.new))) }
     ensures serving { OnOk result (Serving (D.far link.new) (D.is_alive link.new)) }
     ensures left { IfErr result (LeftBy (D.far link.new)) }
     ensures later { D.fault_count link.old ≤ D.fault_count link.new }
