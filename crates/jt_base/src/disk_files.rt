@@ -47,8 +47,9 @@ fn read_file<R: rt::Files>(
     }
 }
 
-// All that a source gives, of which one byte past the limit is read and no more.
-pub(crate) fn read_whole<S: Read + Drop>(
+/// All that a source gives, of which one byte past the limit is read and no more. It is `TooLong` where there is such a byte, `NoMemory`
+/// where memory ran out, and `Failed` where the source does.
+pub fn read_whole<S: Read + Drop>(
     source: S,
     alloc: Global,
     limit: usize,

@@ -17,11 +17,9 @@ mod memory_files;
 mod memory_sink;
 mod sink;
 mod std_sink;
-#[cfg(test)]
-mod tests;
 
 pub use bits::Bits;
-pub use disk_files::DiskFiles;
+pub use disk_files::{DiskFiles, read_whole};
 pub use faults::count_fault;
 pub use files::{FileFault, Files};
 pub use laws::bits_spell_one_number;

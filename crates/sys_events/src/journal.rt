@@ -99,30 +99,3 @@ impl Journal {
         }
     }
 }
-
-#[cfg(test)]
-mod tests {
-    use super::*;
-    use std::test::Fail;
-
-    #[test]
-    fn reserves_with_ample_memory_and_notes(rt: HostRuntime) -> Result<(), Fail> {
-        let mut journal = Journal::reserve(rt.alloc())?;
-        assert!(rt; journal.is_empty());
-        assert_eq!(rt; journal.room_left(), 16_777_216);
-        journal.note(Point::Look(1023));
-        journal.note(Point::Access);
-        assert_eq!(rt; journal.len(), 2);
-        assert_eq!(rt; journal.room_left(), 16_777_214);
-        assert_eq!(rt; journal.at(0), Point::Look(1023));
-        assert_eq!(rt; journal.at(1), Point::Access);
-        Ok(())
-    }
-
-    #[test]
-    fn empty_has_no_room(rt: HostRuntime) {
-        let journal = Journal::empty();
-        assert!(rt; journal.is_empty());
-        assert_eq!(rt; journal.room_left(), 0);
-    }
-}

@@ -11,4 +11,4 @@ mod seed_schedule;
 
 pub use journal::{JOURNAL_ROOM, Journal};
 pub use list_schedule::ListSchedule;
-pub use seed_schedule::{MOST_BUSY, MOST_HARTS, SeedSchedule};
+pub use seed_schedule::{MOST_BUSY, MOST_HARTS, SeedSchedule, WORDS, first_words};

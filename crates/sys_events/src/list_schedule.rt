@@ -62,37 +62,3 @@ impl Schedule for ListSchedule {
         self.place = following(self.place, self.rounds.len());
     }
 }
-
-#[cfg(test)]
-mod tests {
-    use super::*;
-    use std::test::Fail;
-
-    #[test]
-    fn no_rounds_are_empty_rounds(rt: HostRuntime) {
-        let mut schedule = ListSchedule::new(Vec::new(rt.alloc()));
-        for _ in 0..3 {
-            assert!(rt; schedule.next().is_empty());
-        }
-    }
-
-    #[test]
-    fn two_rounds_come_in_turn(rt: HostRuntime) -> Result<(), Fail> {
-        let mut first = Round::new();
-        first.push(Event::Turn(3));
-        first.push(Event::DmiFail);
-        let mut rounds = Vec::new(rt.alloc());
-        rounds.push(first)?;
-        rounds.push(Round::new())?;
-        let mut schedule = ListSchedule::new(rounds);
-        for _ in 0..3 {
-            assert_eq!(rt;
-                schedule.next().as_slice(),
-                [Event::Turn(3), Event::DmiFail].as_slice()
-            );
-            assert!(rt; schedule.round().is_empty());
-            schedule.advance();
-        }
-        Ok(())
-    }
-}

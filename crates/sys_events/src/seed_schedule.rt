@@ -22,7 +22,7 @@ pub const MOST_HARTS: u8 = 4;
 const ROUNDS: usize = MOST_BUSY as usize;
 
 /// How many words of the generator a schedule uses: one for each hart's turn, then one for each other event.
-const WORDS: usize = 7;
+pub const WORDS: usize = 7;
 
 /// A schedule that a seed makes: each event stands in one of every `busy` rounds, and the seed says in which.
 ///
@@ -108,8 +108,8 @@ fn make_rounds(pairs: &[(Event, u64)], busy: u8) -> ArrayVec<Round, ROUNDS>
     rounds
 }
 
-/// The first seven words of the seed's generator.
-fn first_words(seed: u64) -> [u64; WORDS]
+/// The first seven words of the seed's generator, SplitMix64: one for each event that there may be.
+pub fn first_words(seed: u64) -> [u64; WORDS]
     ensures { result ≡ words_of seed }
 {
     let mut random = SplitMix64::from_seed(seed.to_le_bytes());
@@ -143,82 +143,4 @@ fn stands(word: u64, busy: u8, number: u8) -> bool
     // The word and the number together might not fit, so the word is taken modulo `busy` first.
     let busy = u64::from(busy);
     (u64::from(number) + word % busy) % busy == 0
-}
-
-#[cfg(test)]
-mod tests {
-    use super::*;
-    use std::process::Abort;
-
-    // The published outputs of SplitMix64 for the seed 1234567.
-    #[test]
-    fn words_are_those_of_splitmix64(rt: HostRuntime) {
-        let [first, second, third, fourth, fifth, ..] = first_words(1234567);
-        assert_eq!(rt; first, 6457827717110365317);
-        assert_eq!(rt; second, 3203168211198807973);
-        assert_eq!(rt; third, 9817491932198370423);
-        assert_eq!(rt; fourth, 4593380528125082431);
-        assert_eq!(rt; fifth, 16408922859458223821);
-    }
-
-    #[test]
-    fn busy_1_has_every_event_in_every_round(rt: HostRuntime) {
-        let mut schedule = SeedSchedule::new(0, 1, 2);
-        for _ in 0..3 {
-            assert_eq!(rt;
-                schedule.next().as_slice(),
-                [
-                    Event::Turn(0),
-                    Event::Turn(1),
-                    Event::DmiDone,
-                    Event::CmdStep,
-                    Event::BusDone,
-                ]
-                .as_slice()
-            );
-        }
-    }
-
-    // The numbers of the rounds are reckoned in Python, for a power of two and for another number.
-    #[test]
-    fn each_event_stands_once_and_the_rounds_start_again(rt: HostRuntime) {
-        check_places(
-            &rt,
-            SeedSchedule::new(1234567, 32, 4),
-            32,
-            [27, 27, 9, 1, 19, 10, 27],
-        );
-        check_places(
-            &rt,
-            SeedSchedule::new(u64::MAX, 5, 4),
-            5,
-            [4, 1, 4, 3, 4, 0, 0],
-        );
-    }
-
-    fn check_places(rt: &impl Abort, schedule: SeedSchedule, busy: u32, places: [u32; WORDS])
-        requires { 0 < busy }
-    {
-        let mut schedule = schedule;
-        let events = [
-            Event::Turn(0),
-            Event::Turn(1),
-            Event::Turn(2),
-            Event::Turn(3),
-            Event::DmiDone,
-            Event::CmdStep,
-            Event::BusDone,
-        ];
-        for number in 0..96 {
-            let round = schedule.next();
-            for (event, place) in events.iter().zip(places) {
-                let stands = round.as_slice().contains(event);
-                assert_eq!(rt;
-                    stands,
-                    number % busy == place,
-                    "{event:?} in round {number}"
-                );
-            }
-        }
-    }
 }

@@ -1,7 +1,8 @@
-use crate::disk_files::read_whole;
-use crate::{
+//! Lists of bits, files and sinks, in memory and for real.
+
+use jt_base::{
     Bits, DiskFiles, FileFault, Files, MemoryFile, MemoryFiles, MemorySink, Sink, SinkFault,
-    StdSink,
+    StdSink, read_whole,
 };
 use std::alloc::{AllocError, Global};
 use std::cell::RefCell;
