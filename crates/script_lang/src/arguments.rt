@@ -146,10 +146,13 @@ pub(crate) fn size(words: &mut Words) -> Result<Size, ScriptFault>
 pub(crate) fn path(words: &mut Words) -> Result<Path, ScriptFault>
     ensures { Takes result words.new (one_word path_named words.old) }
 {
-    match word(words)? {
-        b"progbuf" => Ok(Path::Progbuf),
-        b"bus" => Ok(Path::Bus),
-        _ => Err(ScriptFault::UnknownWord),
+    let word = word(words)?;
+    if word == b"progbuf".as_slice() {
+        Ok(Path::Progbuf)
+    } else if word == b"bus".as_slice() {
+        Ok(Path::Bus)
+    } else {
+        Err(ScriptFault::UnknownWord)
     }
 }
 
@@ -158,11 +161,15 @@ pub(crate) fn path(words: &mut Words) -> Result<Path, ScriptFault>
 pub(crate) fn watch_kind(words: &mut Words) -> Result<WatchKind, ScriptFault>
     ensures { Takes result words.new (one_word watch_kind_named words.old) }
 {
-    match word(words)? {
-        b"load" => Ok(WatchKind::Load),
-        b"store" => Ok(WatchKind::Store),
-        b"access" => Ok(WatchKind::Access),
-        _ => Err(ScriptFault::UnknownWord),
+    let word = word(words)?;
+    if word == b"load".as_slice() {
+        Ok(WatchKind::Load)
+    } else if word == b"store".as_slice() {
+        Ok(WatchKind::Store)
+    } else if word == b"access".as_slice() {
+        Ok(WatchKind::Access)
+    } else {
+        Err(ScriptFault::UnknownWord)
     }
 }
 
@@ -171,10 +178,13 @@ pub(crate) fn watch_kind(words: &mut Words) -> Result<WatchKind, ScriptFault>
 pub(crate) fn switch(words: &mut Words) -> Result<bool, ScriptFault>
     ensures { Takes result words.new (one_word switch_named words.old) }
 {
-    match word(words)? {
-        b"on" => Ok(true),
-        b"off" => Ok(false),
-        _ => Err(ScriptFault::UnknownWord),
+    let word = word(words)?;
+    if word == b"on".as_slice() {
+        Ok(true)
+    } else if word == b"off".as_slice() {
+        Ok(false)
+    } else {
+        Err(ScriptFault::UnknownWord)
     }
 }
 

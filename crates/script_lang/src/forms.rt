@@ -43,21 +43,31 @@ pub(crate) fn command(name: &[u8], words: &mut Words) -> Result<Command, ScriptF
     slot_command(name, words).unwrap_or(Err(ScriptFault::UnknownWord))
 }
 
+// In these tables a word is compared whole, in the order in which the definitions compare it: a `match` on byte strings is proved byte by byte, at
+// three times the cost.
+
 /// A command with no argument.
 #[tactic(auto, unfolding(debug_model::specs::ScriptForms::plain_forms))]
 fn plain_command(name: &[u8]) -> Option<Command>
     ensures form { option_map no_arguments result ≡ form_in plain_forms name.now }
     ensures within { IfSome result IsWithinRanges }
 {
-    match name {
-        b"idcode" => Some(Command::Idcode),
-        b"state" => Some(Command::State),
-        b"halt" => Some(Command::Halt),
-        b"resume" => Some(Command::Resume),
-        b"regs" => Some(Command::Regs),
-        b"slots" => Some(Command::Slots),
-        b"end" => Some(Command::End),
-        _ => None,
+    if b"idcode".as_slice() == name {
+        Some(Command::Idcode)
+    } else if b"state".as_slice() == name {
+        Some(Command::State)
+    } else if b"halt".as_slice() == name {
+        Some(Command::Halt)
+    } else if b"resume".as_slice() == name {
+        Some(Command::Resume)
+    } else if b"regs".as_slice() == name {
+        Some(Command::Regs)
+    } else if b"slots".as_slice() == name {
+        Some(Command::Slots)
+    } else if b"end".as_slice() == name {
+        Some(Command::End)
+    } else {
+        None
     }
 }
 
@@ -67,13 +77,18 @@ fn hart_command(name: &[u8], words: &mut Words) -> Option<Result<Command, Script
     ensures taken { TakesBy result words.old words.new (form_in hart_forms name.now) }
     ensures within { IfSome result (λ taken. IfOk taken IsWithinRanges) }
 {
-    match name {
-        b"hart" => Some(hart(words)),
-        b"step" => Some(step(words)),
-        b"wait" => Some(wait(words)),
-        b"reg" => Some(reg(words)),
-        b"ebreak" => Some(ebreak(words)),
-        _ => None,
+    if b"hart".as_slice() == name {
+        Some(hart(words))
+    } else if b"step".as_slice() == name {
+        Some(step(words))
+    } else if b"wait".as_slice() == name {
+        Some(wait(words))
+    } else if b"reg".as_slice() == name {
+        Some(reg(words))
+    } else if b"ebreak".as_slice() == name {
+        Some(ebreak(words))
+    } else {
+        None
     }
 }
 
@@ -83,12 +98,16 @@ fn memory_command(name: &[u8], words: &mut Words) -> Option<Result<Command, Scri
     ensures taken { TakesBy result words.old words.new (form_in memory_forms name.now) }
     ensures within { IfSome result (λ taken. IfOk taken IsWithinRanges) }
 {
-    match name {
-        b"read" => Some(read(words)),
-        b"write" => Some(write(words)),
-        b"dump" => Some(dump(words)),
-        b"via" => Some(via(words)),
-        _ => None,
+    if b"read".as_slice() == name {
+        Some(read(words))
+    } else if b"write".as_slice() == name {
+        Some(write(words))
+    } else if b"dump".as_slice() == name {
+        Some(dump(words))
+    } else if b"via".as_slice() == name {
+        Some(via(words))
+    } else {
+        None
     }
 }
 
@@ -98,12 +117,16 @@ fn slot_command(name: &[u8], words: &mut Words) -> Option<Result<Command, Script
     ensures taken { TakesBy result words.old words.new (form_in slot_forms name.now) }
     ensures within { IfSome result (λ taken. IfOk taken IsWithinRanges) }
 {
-    match name {
-        b"break" => Some(break_at(words)),
-        b"watch" => Some(watch(words)),
-        b"count" => Some(turns(words)),
-        b"clear" => Some(clear(words)),
-        _ => None,
+    if b"break".as_slice() == name {
+        Some(break_at(words))
+    } else if b"watch".as_slice() == name {
+        Some(watch(words))
+    } else if b"count".as_slice() == name {
+        Some(turns(words))
+    } else if b"clear".as_slice() == name {
+        Some(clear(words))
+    } else {
+        None
     }
 }
 
