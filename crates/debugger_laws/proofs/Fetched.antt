@@ -3,7 +3,7 @@ use Rattle.std.proofs.Common.{◌≡◌, ◌∙◌, ℕ, List, [], ◌∷◌, Bo
 use Rattle.std.specs.Prelude.{unwrap_or, ◌==◌}
 use Rattle.std.proofs.lemmas.Bool.{eqb-true}
 use Rattle.rv_model.specs.declared.insn.Insn.{Insn}
-use Rattle.rv_model.specs.declared.insn.Insn.TheVariants.{Addi, Auipc, Ebreak, Jal}
+use Rattle.rv_model.specs.declared.insn.Insn.TheVariants.{Auipc, Ebreak, Immediate, Jal}
 use Rattle.rv_model.specs.declared.mem_fault.MemFault.{MemFault}
 use Rattle.rv_model.specs.declared.size.Size.TheVariants.{B4}
 use Rattle.rv_model.specs.Board.{Board, Hart}
@@ -46,7 +46,7 @@ word_held (e ∷ words) m pc v holds is =
 
 abbrev keeps_memory : Option Insn → Bool
 keeps_memory None = true
-keeps_memory (Some (Addi p)) = true
+keeps_memory (Some (Immediate op p)) = true
 keeps_memory (Some (Auipc p)) = true
 keeps_memory (Some (Jal p)) = true
 keeps_memory (Some Ebreak) = true
@@ -55,7 +55,7 @@ keeps_memory (Some _) = false
 memory_kept : (o : Option Insn) (c : Core) (m : Memory) → keeps_memory o ≡ true → (decoded o c m).memory ≡ m
 unfolding effect_of
 memory_kept None c m is = refl
-memory_kept (Some (Addi p)) c m is = refl
+memory_kept (Some (Immediate op p)) c m is = refl
 memory_kept (Some (Auipc p)) c m is = refl
 memory_kept (Some (Jal p)) c m is = refl
 memory_kept (Some Ebreak) c m is = refl

@@ -5,7 +5,9 @@ use Rattle.std.specs.Int.{w32, to_le_bytes}
 use Rattle.std.proofs.lemmas.List.{length-map, get_or-map, same_lists}
 use Rattle.std.proofs.lemmas.List.Elements.{All-append, All-cons, All-get_or, All-map, All-nil}
 use Rattle.rv_model.specs.declared.insn.Insn.{Insn}
-use Rattle.rv_model.specs.declared.insn.Insn.TheVariants.{Addi, Add, Xor, Mul}
+use Rattle.rv_model.specs.declared.insn.Insn.TheVariants.{Immediate, Register}
+use Rattle.rv_model.specs.declared.alu_op.ImmediateOp.TheVariants.{Addi}
+use Rattle.rv_model.specs.declared.alu_op.RegisterOp.TheVariants.{Add, Xor, Mul}
 use Rattle.rv_model.specs.declared.operands.IType.{IType}
 use Rattle.rv_model.specs.declared.operands.RType.{RType}
 use Rattle.rv_model.specs.Rows.{meaning}
@@ -18,11 +20,11 @@ abbrev HasOneWord : Insn → Type 0
 HasOneWord insn = (v w : ℕ) → v < 2 ^ 32 → w < 2 ^ 32 → meaning v ≡ Some insn → meaning w ≡ Some insn → v ≡ w
 
 chosen : (is_addi is_add is_xor : Bool) (p : IType) (q : RType)
-    → HasOneWord (if is_addi then Addi p else (if is_add then Add q else (if is_xor then Xor q else Mul q)))
-chosen true is_add is_xor p q v w v_fits w_fits m n = same_i v w 0x13 p v_fits w_fits (means_from_meaning v (Addi p) m) (means_from_meaning w (Addi p) n)
-chosen false true is_xor p q v w v_fits w_fits m n = same_r v w 0x33 q v_fits w_fits (means_from_meaning v (Add q) m) (means_from_meaning w (Add q) n)
-chosen false false true p q v w v_fits w_fits m n = same_r v w 0x4033 q v_fits w_fits (means_from_meaning v (Xor q) m) (means_from_meaning w (Xor q) n)
-chosen false false false p q v w v_fits w_fits m n = same_r v w 0x2000033 q v_fits w_fits (means_from_meaning v (Mul q) m) (means_from_meaning w (Mul q) n)
+    → HasOneWord (if is_addi then Immediate Addi p else (if is_add then Register Add q else (if is_xor then Register Xor q else Register Mul q)))
+chosen true is_add is_xor p q v w v_fits w_fits m n = same_i v w 0x13 p v_fits w_fits (means_from_meaning v (Immediate Addi p) m) (means_from_meaning w (Immediate Addi p) n)
+chosen false true is_xor p q v w v_fits w_fits m n = same_r v w 0x33 q v_fits w_fits (means_from_meaning v (Register Add q) m) (means_from_meaning w (Register Add q) n)
+chosen false false true p q v w v_fits w_fits m n = same_r v w 0x4033 q v_fits w_fits (means_from_meaning v (Register Xor q) m) (means_from_meaning w (Register Xor q) n)
+chosen false false false p q v w v_fits w_fits m n = same_r v w 0x2000033 q v_fits w_fits (means_from_meaning v (Register Mul q) m) (means_from_meaning w (Register Mul q) n)
 
 instruction_has_one : (random : ℕ) → HasOneWord (instruction random)
 instruction_has_one random =

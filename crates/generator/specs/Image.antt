@@ -3,7 +3,9 @@
 use Rattle.std.specs.Prelude.{◌≡◌, ℕ, ◌+◌, ◌-◌, ◌/◌, ◌%◌, ◌^◌, ◌<◌, ◌==◌, if◌then◌else◌, List, [], ◌∷◌, ◌++◌, All, Some, map, flat_map}
 use Rattle.std.specs.Int.{w32, to_le_bytes}
 use Rattle.rv_model.specs.declared.insn.Insn.{Insn}
-use Rattle.rv_model.specs.declared.insn.Insn.TheVariants.{Jal, Addi, Add, Xor, Mul}
+use Rattle.rv_model.specs.declared.insn.Insn.TheVariants.{Jal, Immediate, Register}
+use Rattle.rv_model.specs.declared.alu_op.ImmediateOp.TheVariants.{Addi}
+use Rattle.rv_model.specs.declared.alu_op.RegisterOp.TheVariants.{Add, Xor, Mul}
 use Rattle.rv_model.specs.declared.operands.RType.{RType}
 use Rattle.rv_model.specs.Rows.{meaning}
 use Rattle.generator.specs.Words.{program_words}
@@ -19,10 +21,10 @@ registers w = record { rd = register (w / 2 ^ 8); rs1 = register (w / 2 ^ 16); r
 -- the instruction of a random word: its kind by the lowest two bits, its immediate by bits 32 on
 abbrev pub instruction : ℕ → Insn
 instruction w =
-    if w % 4 == 0 then Addi (record { rd = register (w / 2 ^ 8); rs1 = register (w / 2 ^ 16); imm = w / 2 ^ 32 % 2048 })
-    else (if w % 4 == 1 then Add (registers w)
-    else (if w % 4 == 2 then Xor (registers w)
-    else Mul (registers w)))
+    if w % 4 == 0 then Immediate Addi (record { rd = register (w / 2 ^ 8); rs1 = register (w / 2 ^ 16); imm = w / 2 ^ 32 % 2048 })
+    else (if w % 4 == 1 then Register Add (registers w)
+    else (if w % 4 == 2 then Register Xor (registers w)
+    else Register Mul (registers w)))
 
 -- `jal x0, -4000`: from the last instruction to the first, modulo 2^64
 abbrev pub jump_back : Insn

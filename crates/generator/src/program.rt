@@ -5,7 +5,7 @@ ghost use Rattle.std.specs.Int.{w32, to_le_bytes};
 ghost use Rattle.rv_model.specs.OperandsFit.{OperandsFit};
 ghost use Rattle.generator.specs.Image.{register, instruction, jump_back, looped, AreWordsOf, IsImageOf};
 
-use rv_model::{IType, Insn, JType, RType};
+use rv_model::{IType, ImmediateOp, Insn, JType, RType, RegisterOp};
 use rv_words::encode;
 use std::alloc::{AllocError, Global};
 
@@ -42,10 +42,10 @@ pub fn instruction(word: u64) -> Insn
     let rs2 = register(word >> 24);
     let imm = (word >> 32) % IMMEDIATES;
     match word % 4 {
-        0 => Insn::Addi(IType { rd, rs1, imm }),
-        1 => Insn::Add(RType { rd, rs1, rs2 }),
-        2 => Insn::Xor(RType { rd, rs1, rs2 }),
-        _ => Insn::Mul(RType { rd, rs1, rs2 }),
+        0 => Insn::Immediate(ImmediateOp::Addi, IType { rd, rs1, imm }),
+        1 => Insn::Register(RegisterOp::Add, RType { rd, rs1, rs2 }),
+        2 => Insn::Register(RegisterOp::Xor, RType { rd, rs1, rs2 }),
+        _ => Insn::Register(RegisterOp::Mul, RType { rd, rs1, rs2 }),
     }
 }
 

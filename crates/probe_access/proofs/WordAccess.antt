@@ -7,7 +7,8 @@ use Rattle.rv_model.specs.declared.size.Size.{Size}
 use Rattle.rv_model.specs.declared.size.Size.TheVariants.{B1, B2, B4, B8}
 use Rattle.rv_model.specs.Board.{Hart}
 use Rattle.rv_model.specs.Core.{offset_by, with_x, x_of}
-use Rattle.rv_model.specs.Effects.{after_load, effect_of, same_memory, stored_step, whole}
+use Rattle.rv_model.specs.Accesses.{whole}
+use Rattle.rv_model.specs.Effects.{after_load, effect_of, same_memory, stored_step}
 use Rattle.rv_model.specs.Memory.{Memory, after_store, loaded, store_answer}
 use Rattle.rv_model.specs.ProgramBuffer.{Debugged, debugged, executed, ran_word}
 use Rattle.rv_model.specs.Rows.{meaning}

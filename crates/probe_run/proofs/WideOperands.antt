@@ -2,7 +2,7 @@
 use Rattle.std.proofs.Common.{◌≡◌, ◌+◌, ◌*◌, ◌^◌, ℕ, Bool, true, false, cond, List, [], ◌∷◌, Some, find, option_map, arith, subst}
 use Rattle.std.proofs.lemmas.Option.{none-some, same_Some}
 use Rattle.rv_model.specs.declared.insn.Insn.{Insn}
-use Rattle.rv_model.specs.declared.insn.Insn.TheVariants.{Lui, Auipc, Jal, Jalr, Beq, Bne, Blt, Bge, Bltu, Bgeu, Addi, Slti, Sltiu, Xori, Ori, Andi, Slli, Srli, Srai, Addiw, Slliw, Srliw, Sraiw, Csrrwi, Csrrsi, Csrrci}
+use Rattle.rv_model.specs.declared.insn.Insn.TheVariants.{Lui, Auipc, Jal, Jalr, Branch, Immediate, Shift, WordShift, CsrImmediate}
 use Rattle.rv_model.specs.Fields.{field, imm_b, imm_i, imm_j, imm_s, imm_u}
 use Rattle.rv_model.specs.Rows.{Row, matches, meaning, meaning_in, rows}
 use Rattle.probe_run.proofs.WideWords.{IsWide, extended_wide}
@@ -37,28 +37,11 @@ ImmediateWide (Lui p) = IsWide p.imm
 ImmediateWide (Auipc p) = IsWide p.imm
 ImmediateWide (Jal p) = IsWide p.imm
 ImmediateWide (Jalr p) = IsWide p.imm
-ImmediateWide (Beq p) = IsWide p.imm
-ImmediateWide (Bne p) = IsWide p.imm
-ImmediateWide (Blt p) = IsWide p.imm
-ImmediateWide (Bge p) = IsWide p.imm
-ImmediateWide (Bltu p) = IsWide p.imm
-ImmediateWide (Bgeu p) = IsWide p.imm
-ImmediateWide (Addi p) = IsWide p.imm
-ImmediateWide (Slti p) = IsWide p.imm
-ImmediateWide (Sltiu p) = IsWide p.imm
-ImmediateWide (Xori p) = IsWide p.imm
-ImmediateWide (Ori p) = IsWide p.imm
-ImmediateWide (Andi p) = IsWide p.imm
-ImmediateWide (Slli p) = IsWide p.amount
-ImmediateWide (Srli p) = IsWide p.amount
-ImmediateWide (Srai p) = IsWide p.amount
-ImmediateWide (Addiw p) = IsWide p.imm
-ImmediateWide (Slliw p) = IsWide p.amount
-ImmediateWide (Srliw p) = IsWide p.amount
-ImmediateWide (Sraiw p) = IsWide p.amount
-ImmediateWide (Csrrwi p) = IsWide p.imm
-ImmediateWide (Csrrsi p) = IsWide p.imm
-ImmediateWide (Csrrci p) = IsWide p.imm
+ImmediateWide (Branch condition p) = IsWide p.imm
+ImmediateWide (Immediate op p) = IsWide p.imm
+ImmediateWide (Shift op p) = IsWide p.amount
+ImmediateWide (WordShift op p) = IsWide p.amount
+ImmediateWide (CsrImmediate change p) = IsWide p.imm
 ImmediateWide _ = Unit {0}
 
 abbrev RowsWide : ℕ → List Row → Type 0

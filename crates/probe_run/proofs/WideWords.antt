@@ -4,7 +4,13 @@ use Rattle.std.specs.Prelude.{int_div}
 use Rattle.std.proofs.lemmas.Nat.{and_le_l, div_below, mul-lt, or_lt, shr_le, xor_lt}
 use Rattle.std.proofs.Math.Nat.{div-le_self, mod-le}
 use Rattle.rv_model.specs.declared.alu_op.AluOp.{AluOp}
-use Rattle.rv_model.specs.declared.alu_op.AluOp.TheVariants.{Addi, Slti, Sltiu, Xori, Ori, Andi, Slli, Srli, Srai, Addiw, Slliw, Srliw, Sraiw, Add, Sll, Slt, Sltu, Xor, Srl, Or, And, Sub, Sra, Mul, Mulh, Mulhsu, Mulhu, Div, Divu, Rem, Remu, Addw, Sllw, Srlw, Subw, Sraw, Mulw, Divw, Divuw, Remw, Remuw, AmoswapW, AmoaddW, AmoxorW, AmoandW, AmoorW, AmominW, AmomaxW, AmominuW, AmomaxuW, AmoswapD, AmoaddD, AmoxorD, AmoandD, AmoorD, AmominD, AmomaxD, AmominuD, AmomaxuD}
+use Rattle.rv_model.specs.declared.alu_op.AluOp.TheVariants.{Immediate, Shift, WordShift, Register, Amo}
+use Rattle.rv_model.specs.declared.alu_op.ImmediateOp.TheVariants.{Addi, Slti, Sltiu, Xori, Ori, Andi, Addiw}
+use Rattle.rv_model.specs.declared.alu_op.ShiftOp.TheVariants.{Slli, Srli, Srai}
+use Rattle.rv_model.specs.declared.alu_op.WordShiftOp.TheVariants.{Slliw, Srliw, Sraiw}
+use Rattle.rv_model.specs.declared.alu_op.RegisterOp.TheVariants.{Add, Sll, Slt, Sltu, Xor, Srl, Or, And, Sub, Sra, Mul, Mulh, Mulhsu, Mulhu, Div, Divu, Rem, Remu, Addw, Sllw, Srlw, Subw, Sraw, Mulw, Divw, Divuw, Remw, Remuw}
+use Rattle.rv_model.specs.declared.alu_op.AmoOp.TheVariants.{Amoswap, Amoadd, Amoxor, Amoand, Amoor, Amomin, Amomax, Amominu, Amomaxu}
+use Rattle.rv_model.specs.declared.width.Width.TheVariants.{Word, DoubleWord}
 use Rattle.rv_model.specs.Alu.{all_ones, alu_of, digit, low, signed_word, word}
 use Rattle.rv_model.specs.Fields.{sign_extended}
 
@@ -53,62 +59,62 @@ ones_wide = omega arith
 
 pub alu_wide : (o : AluOp) (a b : ℕ) → IsWide a → IsWide b → IsWide (alu_of o a b)
 unfolding alu_of
-alu_wide Addi a b p q = mod_wide _
-alu_wide Slti a b p q = digit_wide _
-alu_wide Sltiu a b p q = digit_wide _
-alu_wide Xori a b p q = xor_lt 64 a b p q
-alu_wide Ori a b p q = or_lt 64 a b p q
-alu_wide Andi a b p q = and_wide a b p
-alu_wide Slli a b p q = mod_wide _
-alu_wide Srli a b p q = shr_wide a (b % 64) p
-alu_wide Srai a b p q = low_wide _
-alu_wide Addiw a b p q = word_wide _
-alu_wide Slliw a b p q = word_wide _
-alu_wide Srliw a b p q = word_wide _
-alu_wide Sraiw a b p q = low_wide _
-alu_wide Add a b p q = mod_wide _
-alu_wide Sll a b p q = mod_wide _
-alu_wide Slt a b p q = digit_wide _
-alu_wide Sltu a b p q = digit_wide _
-alu_wide Xor a b p q = xor_lt 64 a b p q
-alu_wide Srl a b p q = shr_wide a (b % 64) p
-alu_wide Or a b p q = or_lt 64 a b p q
-alu_wide And a b p q = and_wide a b p
-alu_wide Sub a b p q = mod_wide _
-alu_wide Sra a b p q = low_wide _
-alu_wide Mul a b p q = mod_wide _
-alu_wide Mulh a b p q = low_wide _
-alu_wide Mulhsu a b p q = low_wide _
-alu_wide Mulhu a b p q = high_wide a b p q
-alu_wide Div a b p q = if_wide _ _ _ ones_wide (low_wide _)
-alu_wide Divu a b p q = if_wide _ _ _ ones_wide (div_wide a b p)
-alu_wide Rem a b p q = if_wide _ _ _ p (low_wide _)
-alu_wide Remu a b p q = if_wide _ _ _ p (rem_wide a b p)
-alu_wide Addw a b p q = word_wide _
-alu_wide Sllw a b p q = word_wide _
-alu_wide Srlw a b p q = word_wide _
-alu_wide Subw a b p q = word_wide _
-alu_wide Sraw a b p q = low_wide _
-alu_wide Mulw a b p q = word_wide _
-alu_wide Divw a b p q = if_wide (b % 2 ^ 32 == 0) _ _ ones_wide (word_wide (low (int_div (signed_word a) (signed_word b))))
-alu_wide Divuw a b p q = if_wide (b % 2 ^ 32 == 0) _ _ ones_wide (word_wide (a % 2 ^ 32 / (b % 2 ^ 32)))
-alu_wide Remw a b p q = if_wide _ _ _ (word_wide a) (low_wide _)
-alu_wide Remuw a b p q = if_wide (b % 2 ^ 32 == 0) _ _ (word_wide a) (word_wide (a % 2 ^ 32 % (b % 2 ^ 32)))
-alu_wide AmoswapW a b p q = word_wide _
-alu_wide AmoaddW a b p q = word_wide _
-alu_wide AmoxorW a b p q = word_wide _
-alu_wide AmoandW a b p q = word_wide _
-alu_wide AmoorW a b p q = word_wide _
-alu_wide AmominW a b p q = if_wide _ _ _ (word_wide b) (word_wide a)
-alu_wide AmomaxW a b p q = if_wide _ _ _ (word_wide b) (word_wide a)
-alu_wide AmominuW a b p q = if_wide _ _ _ (word_wide b) (word_wide a)
-alu_wide AmomaxuW a b p q = if_wide _ _ _ (word_wide b) (word_wide a)
-alu_wide AmoswapD a b p q = q
-alu_wide AmoaddD a b p q = mod_wide _
-alu_wide AmoxorD a b p q = xor_lt 64 a b p q
-alu_wide AmoandD a b p q = and_wide a b p
-alu_wide AmoorD a b p q = or_lt 64 a b p q
-alu_wide AmominD a b p q = if_wide _ _ _ q p
-alu_wide AmomaxD a b p q = if_wide _ _ _ q p
-alu_wide AmominuD a b p q = if_wide _ _ _ q p
-alu_wide AmomaxuD a b p q = if_wide _ _ _ q p
+alu_wide (Immediate Addi) a b p q = mod_wide _
+alu_wide (Immediate Slti) a b p q = digit_wide _
+alu_wide (Immediate Sltiu) a b p q = digit_wide _
+alu_wide (Immediate Xori) a b p q = xor_lt 64 a b p q
+alu_wide (Immediate Ori) a b p q = or_lt 64 a b p q
+alu_wide (Immediate Andi) a b p q = and_wide a b p
+alu_wide (Shift Slli) a b p q = mod_wide _
+alu_wide (Shift Srli) a b p q = shr_wide a (b % 64) p
+alu_wide (Shift Srai) a b p q = low_wide _
+alu_wide (Immediate Addiw) a b p q = word_wide _
+alu_wide (WordShift Slliw) a b p q = word_wide _
+alu_wide (WordShift Srliw) a b p q = word_wide _
+alu_wide (WordShift Sraiw) a b p q = low_wide _
+alu_wide (Register Add) a b p q = mod_wide _
+alu_wide (Register Sll) a b p q = mod_wide _
+alu_wide (Register Slt) a b p q = digit_wide _
+alu_wide (Register Sltu) a b p q = digit_wide _
+alu_wide (Register Xor) a b p q = xor_lt 64 a b p q
+alu_wide (Register Srl) a b p q = shr_wide a (b % 64) p
+alu_wide (Register Or) a b p q = or_lt 64 a b p q
+alu_wide (Register And) a b p q = and_wide a b p
+alu_wide (Register Sub) a b p q = mod_wide _
+alu_wide (Register Sra) a b p q = low_wide _
+alu_wide (Register Mul) a b p q = mod_wide _
+alu_wide (Register Mulh) a b p q = low_wide _
+alu_wide (Register Mulhsu) a b p q = low_wide _
+alu_wide (Register Mulhu) a b p q = high_wide a b p q
+alu_wide (Register Div) a b p q = if_wide _ _ _ ones_wide (low_wide _)
+alu_wide (Register Divu) a b p q = if_wide _ _ _ ones_wide (div_wide a b p)
+alu_wide (Register Rem) a b p q = if_wide _ _ _ p (low_wide _)
+alu_wide (Register Remu) a b p q = if_wide _ _ _ p (rem_wide a b p)
+alu_wide (Register Addw) a b p q = word_wide _
+alu_wide (Register Sllw) a b p q = word_wide _
+alu_wide (Register Srlw) a b p q = word_wide _
+alu_wide (Register Subw) a b p q = word_wide _
+alu_wide (Register Sraw) a b p q = low_wide _
+alu_wide (Register Mulw) a b p q = word_wide _
+alu_wide (Register Divw) a b p q = if_wide (b % 2 ^ 32 == 0) _ _ ones_wide (word_wide (low (int_div (signed_word a) (signed_word b))))
+alu_wide (Register Divuw) a b p q = if_wide (b % 2 ^ 32 == 0) _ _ ones_wide (word_wide (a % 2 ^ 32 / (b % 2 ^ 32)))
+alu_wide (Register Remw) a b p q = if_wide _ _ _ (word_wide a) (low_wide _)
+alu_wide (Register Remuw) a b p q = if_wide (b % 2 ^ 32 == 0) _ _ (word_wide a) (word_wide (a % 2 ^ 32 % (b % 2 ^ 32)))
+alu_wide (Amo Amoswap Word) a b p q = word_wide _
+alu_wide (Amo Amoadd Word) a b p q = word_wide _
+alu_wide (Amo Amoxor Word) a b p q = word_wide _
+alu_wide (Amo Amoand Word) a b p q = word_wide _
+alu_wide (Amo Amoor Word) a b p q = word_wide _
+alu_wide (Amo Amomin Word) a b p q = if_wide _ _ _ (word_wide b) (word_wide a)
+alu_wide (Amo Amomax Word) a b p q = if_wide _ _ _ (word_wide b) (word_wide a)
+alu_wide (Amo Amominu Word) a b p q = if_wide _ _ _ (word_wide b) (word_wide a)
+alu_wide (Amo Amomaxu Word) a b p q = if_wide _ _ _ (word_wide b) (word_wide a)
+alu_wide (Amo Amoswap DoubleWord) a b p q = q
+alu_wide (Amo Amoadd DoubleWord) a b p q = mod_wide _
+alu_wide (Amo Amoxor DoubleWord) a b p q = xor_lt 64 a b p q
+alu_wide (Amo Amoand DoubleWord) a b p q = and_wide a b p
+alu_wide (Amo Amoor DoubleWord) a b p q = or_lt 64 a b p q
+alu_wide (Amo Amomin DoubleWord) a b p q = if_wide _ _ _ q p
+alu_wide (Amo Amomax DoubleWord) a b p q = if_wide _ _ _ q p
+alu_wide (Amo Amominu DoubleWord) a b p q = if_wide _ _ _ q p
+alu_wide (Amo Amomaxu DoubleWord) a b p q = if_wide _ _ _ q p

@@ -1,5 +1,2 @@
-pub mod Conditions
 pub mod CsrAnswer
-pub mod CsrChanges
-pub mod Extensions
 pub mod Fields

@@ -6,7 +6,7 @@ ghost use Rattle.rv_model.specs.Effects.{by_immediate, by_amount, by_registers, 
 
 use crate::hart::Hart;
 use rv_alu::alu;
-use rv_model::{AluOp, Did, IType, RType, ShiftType, UType};
+use rv_model::{AluOp, Did, IType, ImmediateOp, RType, RegisterOp, ShiftType, UType};
 
 /// `lui`.
 #[inline(always)]
@@ -29,12 +29,12 @@ pub fn auipc(hart: &mut Hart, p: UType) -> Did
 
 /// An operation on a register and an immediate.
 #[inline(always)]
-pub fn immediate(hart: &mut Hart, op: AluOp, p: IType) -> Did
+pub fn immediate(hart: &mut Hart, op: ImmediateOp, p: IType) -> Did
     requires rd { p.rd < 32 }
     requires rs1 { p.rs1 < 32 }
     ensures { record { core = hart.new; did = result } ≡ by_immediate op p hart.old }
 {
-    let value = alu(op, hart.x(p.rs1), p.imm);
+    let value = alu(AluOp::Immediate(op), hart.x(p.rs1), p.imm);
     hart.set_rd(p.rd, value)
 }
 
@@ -51,12 +51,12 @@ pub fn shift(hart: &mut Hart, op: AluOp, p: ShiftType) -> Did
 
 /// An operation on two registers.
 #[inline(always)]
-pub fn register(hart: &mut Hart, op: AluOp, p: RType) -> Did
+pub fn register(hart: &mut Hart, op: RegisterOp, p: RType) -> Did
     requires rd { p.rd < 32 }
     requires rs1 { p.rs1 < 32 }
     requires rs2 { p.rs2 < 32 }
     ensures { record { core = hart.new; did = result } ≡ by_registers op p hart.old }
 {
-    let value = alu(op, hart.x(p.rs1), hart.x(p.rs2));
+    let value = alu(AluOp::Register(op), hart.x(p.rs1), hart.x(p.rs2));
     hart.set_rd(p.rd, value)
 }

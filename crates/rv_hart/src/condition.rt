@@ -1,22 +1,9 @@
-ghost use Rattle.std.specs.Prelude.{◌≡◌};
-ghost use Rattle.rv_hart.specs.Conditions.{holds};
+//! When a branch is taken (unprivileged manual, "Conditional Branches").
 
-/// When a branch is taken, of its two sources (unprivileged manual, "Conditional Branches").
-#[derive(Clone, Copy)]
-pub enum Condition {
-    /// They are equal.
-    Equal,
-    /// They differ.
-    Different,
-    /// The first is below the second, signed.
-    Below,
-    /// The first is not below the second, signed.
-    NotBelow,
-    /// The first is below the second, unsigned.
-    BelowUnsigned,
-    /// The first is not below the second, unsigned.
-    NotBelowUnsigned,
-}
+ghost use Rattle.std.specs.Prelude.{◌≡◌};
+ghost use Rattle.rv_model.specs.Conditions.{holds};
+
+use rv_model::Condition;
 
 /// Whether two numbers meet a condition.
 pub fn meets(condition: Condition, a: u64, b: u64) -> bool

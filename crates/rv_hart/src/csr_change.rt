@@ -1,16 +1,9 @@
-ghost use Rattle.std.specs.Prelude.{◌≡◌};
-ghost use Rattle.rv_hart.specs.CsrChanges.{change_by, writes_by};
+//! What an instruction makes of a control and status register (unprivileged manual, "Zicsr").
 
-/// What an instruction makes of a control and status register (unprivileged manual, "Zicsr").
-#[derive(Clone, Copy)]
-pub enum CsrChange {
-    /// It becomes the operand.
-    Replace,
-    /// The operand's bits become 1.
-    Set,
-    /// The operand's bits become 0.
-    Clear,
-}
+ghost use Rattle.std.specs.Prelude.{◌≡◌};
+ghost use Rattle.rv_model.specs.CsrChanges.{change_by, writes_by};
+
+use rv_model::CsrChange;
 
 /// What an old value becomes.
 pub fn changed(change: CsrChange, old: u64, operand: u64) -> u64

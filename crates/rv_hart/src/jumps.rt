@@ -3,11 +3,11 @@
 ghost use Rattle.std.specs.Prelude.{◌≡◌, ◌<◌, ◌/◌, ◌*◌};
 ghost use Rattle.rv_model.specs.Core.{x_of, offset_by};
 ghost use Rattle.rv_model.specs.Effects.{jumps, branches};
-ghost use Rattle.rv_hart.specs.Conditions.{holds};
+ghost use Rattle.rv_model.specs.Conditions.{holds};
 
-use crate::condition::{Condition, meets};
+use crate::condition::meets;
 use crate::hart::{Hart, INSTRUCTION_SIZE, MISALIGNED_TARGET};
-use rv_model::{BType, Did, IType, JType};
+use rv_model::{BType, Condition, Did, IType, JType};
 
 /// Leaves the address behind the instruction in a register and jumps, or traps where the target is not a multiple of 4.
 fn jump(hart: &mut Hart, rd: u8, target: u64) -> Did

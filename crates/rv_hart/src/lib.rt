@@ -18,6 +18,6 @@ mod stores;
 mod touch;
 mod zicsr;
 
-pub use csr_change::{CsrChange, changed, writes};
+pub use csr_change::{changed, writes};
 pub use csr_fault::CsrFault;
 pub use hart::Hart;

@@ -3,11 +3,11 @@
 ghost use Rattle.std.specs.Prelude.{◌≡◌, ◌<◌};
 ghost use Rattle.rv_model.specs.Core.{x_of};
 ghost use Rattle.rv_model.specs.Effects.{swaps_csr};
-ghost use Rattle.rv_hart.specs.CsrChanges.{change_by, writes_by};
+ghost use Rattle.rv_model.specs.CsrChanges.{change_by, writes_by};
 
-use crate::csr_change::{CsrChange, changed, writes};
+use crate::csr_change::{changed, writes};
 use crate::hart::{Hart, ILLEGAL_INSTRUCTION};
-use rv_model::{CsrImmType, CsrType, Did};
+use rv_model::{CsrChange, CsrImmType, CsrType, Did};
 
 /// The destination takes a register's old value; where the instruction writes, the register takes the changed one.
 fn swap(hart: &mut Hart, writes: bool, change: CsrChange, number: u16, operand: u64, rd: u8) -> Did

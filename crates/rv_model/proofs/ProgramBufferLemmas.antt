@@ -5,7 +5,7 @@ use Rattle.rv_model.specs.declared.debug_did.DebugDid.TheVariants as ended
 use Rattle.rv_model.specs.declared.did.Did.{Did}
 use Rattle.rv_model.specs.declared.did.Did.TheVariants.{Retired, Trapped}
 use Rattle.rv_model.specs.declared.insn.Insn.{Insn}
-use Rattle.rv_model.specs.declared.insn.Insn.TheVariants.{Sb, Sh, Sw, Sd, LrW, ScW, AmoswapW, AmoaddW, AmoxorW, AmoandW, AmoorW, AmominW, AmomaxW, AmominuW, AmomaxuW, LrD, ScD, AmoswapD, AmoaddD, AmoxorD, AmoandD, AmoorD, AmominD, AmomaxD, AmominuD, AmomaxuD, Csrrw, Csrrs, Csrrc, Csrrwi, Csrrsi, Csrrci}
+use Rattle.rv_model.specs.declared.insn.Insn.TheVariants.{Store, LoadReserved, StoreConditional, Amo, Csr, CsrImmediate}
 use Rattle.rv_model.specs.Alu.{alu_of}
 use Rattle.rv_model.specs.Board.{Hart, IsHart}
 use Rattle.rv_model.specs.Core.{Core, with_x}
@@ -187,32 +187,10 @@ accesses_is_not_plain : Accesses ≡ Plain → ⊥
 accesses_is_not_plain e = cc
 
 plain_keeps_memory : (insn : Insn) (c : Core) (m : Memory) → sort_of insn c ≡ Plain → (effect insn c m).memory ≡ m
-plain_keeps_memory (Sb p) c m e = absurd (accesses_is_not_plain e)
-plain_keeps_memory (Sh p) c m e = absurd (accesses_is_not_plain e)
-plain_keeps_memory (Sw p) c m e = absurd (accesses_is_not_plain e)
-plain_keeps_memory (Sd p) c m e = absurd (accesses_is_not_plain e)
-plain_keeps_memory (LrW p) c m e = absurd (refused_is_not_plain e)
-plain_keeps_memory (ScW p) c m e = absurd (refused_is_not_plain e)
-plain_keeps_memory (LrD p) c m e = absurd (refused_is_not_plain e)
-plain_keeps_memory (ScD p) c m e = absurd (refused_is_not_plain e)
-plain_keeps_memory (AmoswapW p) c m e = absurd (accesses_is_not_plain e)
-plain_keeps_memory (AmoaddW p) c m e = absurd (accesses_is_not_plain e)
-plain_keeps_memory (AmoxorW p) c m e = absurd (accesses_is_not_plain e)
-plain_keeps_memory (AmoandW p) c m e = absurd (accesses_is_not_plain e)
-plain_keeps_memory (AmoorW p) c m e = absurd (accesses_is_not_plain e)
-plain_keeps_memory (AmominW p) c m e = absurd (accesses_is_not_plain e)
-plain_keeps_memory (AmomaxW p) c m e = absurd (accesses_is_not_plain e)
-plain_keeps_memory (AmominuW p) c m e = absurd (accesses_is_not_plain e)
-plain_keeps_memory (AmomaxuW p) c m e = absurd (accesses_is_not_plain e)
-plain_keeps_memory (AmoswapD p) c m e = absurd (accesses_is_not_plain e)
-plain_keeps_memory (AmoaddD p) c m e = absurd (accesses_is_not_plain e)
-plain_keeps_memory (AmoxorD p) c m e = absurd (accesses_is_not_plain e)
-plain_keeps_memory (AmoandD p) c m e = absurd (accesses_is_not_plain e)
-plain_keeps_memory (AmoorD p) c m e = absurd (accesses_is_not_plain e)
-plain_keeps_memory (AmominD p) c m e = absurd (accesses_is_not_plain e)
-plain_keeps_memory (AmomaxD p) c m e = absurd (accesses_is_not_plain e)
-plain_keeps_memory (AmominuD p) c m e = absurd (accesses_is_not_plain e)
-plain_keeps_memory (AmomaxuD p) c m e = absurd (accesses_is_not_plain e)
+plain_keeps_memory (Store size p) c m e = absurd (accesses_is_not_plain e)
+plain_keeps_memory (LoadReserved width p) c m e = absurd (refused_is_not_plain e)
+plain_keeps_memory (StoreConditional width p) c m e = absurd (refused_is_not_plain e)
+plain_keeps_memory (Amo op width p) c m e = absurd (accesses_is_not_plain e)
 plain_keeps_memory insn c m e = refl
 
 plain_of : (insn : Insn) (c : Core) (m : Memory) → sort_of insn c ≡ Plain → (effect_of insn c m).memory ≡ m
@@ -262,12 +240,8 @@ is_swap Accesses = false
 is_swap Plain = false
 
 swaps_are_csr : (insn : Insn) (c : Core) → is_csr_insn (Some insn) ≡ false → is_swap (sort_of insn c) ≡ false
-swaps_are_csr (Csrrw p) c e = e
-swaps_are_csr (Csrrs p) c e = e
-swaps_are_csr (Csrrc p) c e = e
-swaps_are_csr (Csrrwi p) c e = e
-swaps_are_csr (Csrrsi p) c e = e
-swaps_are_csr (Csrrci p) c e = e
+swaps_are_csr (Csr change p) c e = e
+swaps_are_csr (CsrImmediate change p) c e = e
 swaps_are_csr insn c e = refl
 
 same_debug : (h : Hart) → KeepsDebug h h

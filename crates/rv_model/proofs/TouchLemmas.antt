@@ -1,7 +1,7 @@
 -- What the instruction at pc touches, by the instructions.
 use Rattle.std.proofs.Common.{◌≡◌, ℕ, Option, Some, None, Result, Ok, Err, refl}
 use Rattle.rv_model.specs.declared.insn.Insn.{Insn}
-use Rattle.rv_model.specs.declared.insn.Insn.TheVariants.{Lb}
+use Rattle.rv_model.specs.declared.insn.Insn.TheVariants.{Load}
 use Rattle.rv_model.specs.declared.mem_fault.MemFault.{MemFault}
 use Rattle.rv_model.specs.declared.size.Size.TheVariants.{B4}
 use Rattle.rv_model.specs.Core.{Core}
@@ -10,7 +10,7 @@ use Rattle.rv_model.specs.Rows.{meaning}
 use Rattle.rv_model.specs.Touch.{touch, touch_meant, touch_fetched, touch_of}
 
 touch-pc : (insn : Insn) (c : Core) → (touch insn c).pc ≡ c.pc
-touch-pc (Lb p) c = refl
+touch-pc (Load op p) c = refl
 touch-pc insn c = refl
 
 touch_meant-pc : (o : Option Insn) (c : Core) → (touch_meant o c).pc ≡ c.pc

@@ -4,7 +4,13 @@
 use Rattle.std.specs.Prelude.{ℕ, ◌+◌, ◌-◌, ◌*◌, ◌/◌, ◌%◌, ◌^◌, Bool, true, false, if◌then◌else◌, nat_lt, ◌==◌, ℤ, pos, negsuc, ◌*ℤ◌, int_lt, int_div, int_rem, bit_and, bit_or, bit_xor}
 use Rattle.std.specs.Int.{cast_signed, w32, w64}
 use Rattle.rv_model.specs.declared.alu_op.AluOp.{AluOp}
-use Rattle.rv_model.specs.declared.alu_op.AluOp.TheVariants.{Addi, Slti, Sltiu, Xori, Ori, Andi, Slli, Srli, Srai, Addiw, Slliw, Srliw, Sraiw, Add, Sll, Slt, Sltu, Xor, Srl, Or, And, Sub, Sra, Mul, Mulh, Mulhsu, Mulhu, Div, Divu, Rem, Remu, Addw, Sllw, Srlw, Subw, Sraw, Mulw, Divw, Divuw, Remw, Remuw, AmoswapW, AmoaddW, AmoxorW, AmoandW, AmoorW, AmominW, AmomaxW, AmominuW, AmomaxuW, AmoswapD, AmoaddD, AmoxorD, AmoandD, AmoorD, AmominD, AmomaxD, AmominuD, AmomaxuD}
+use Rattle.rv_model.specs.declared.alu_op.AluOp.TheVariants.{Immediate, Shift, WordShift, Register, Amo}
+use Rattle.rv_model.specs.declared.alu_op.ImmediateOp.TheVariants.{Addi, Slti, Sltiu, Xori, Ori, Andi, Addiw}
+use Rattle.rv_model.specs.declared.alu_op.ShiftOp.TheVariants.{Slli, Srli, Srai}
+use Rattle.rv_model.specs.declared.alu_op.WordShiftOp.TheVariants.{Slliw, Srliw, Sraiw}
+use Rattle.rv_model.specs.declared.alu_op.RegisterOp.TheVariants.{Add, Sll, Slt, Sltu, Xor, Srl, Or, And, Sub, Sra, Mul, Mulh, Mulhsu, Mulhu, Div, Divu, Rem, Remu, Addw, Sllw, Srlw, Subw, Sraw, Mulw, Divw, Divuw, Remw, Remuw}
+use Rattle.rv_model.specs.declared.alu_op.AmoOp.TheVariants.{Amoswap, Amoadd, Amoxor, Amoand, Amoor, Amomin, Amomax, Amominu, Amomaxu}
+use Rattle.rv_model.specs.declared.width.Width.TheVariants.{Word, DoubleWord}
 use Rattle.rv_model.specs.Fields.{sign_extended}
 
 -- a register as a signed number
@@ -47,62 +53,62 @@ abbrev pub shifted_left : ℕ → ℕ → ℕ
 shifted_left a k = a * 2 ^ k % 2 ^ 64
 
 unfoldable pub alu_of : AluOp → ℕ → ℕ → ℕ
-alu_of Addi a b = added a b
-alu_of Slti a b = digit (int_lt (signed a) (signed b))
-alu_of Sltiu a b = digit (nat_lt a b)
-alu_of Xori a b = bit_xor a b
-alu_of Ori a b = bit_or a b
-alu_of Andi a b = bit_and a b
-alu_of Slli a b = shifted_left a (b % 64)
-alu_of Srli a b = a / 2 ^ (b % 64)
-alu_of Srai a b = low (halved (signed a) (b % 64))
-alu_of Addiw a b = word (a + b)
-alu_of Slliw a b = word (a * 2 ^ (b % 32))
-alu_of Srliw a b = word (a % 2 ^ 32 / 2 ^ (b % 32))
-alu_of Sraiw a b = low (halved (signed_word a) (b % 32))
-alu_of Add a b = added a b
-alu_of Sll a b = shifted_left a (b % 64)
-alu_of Slt a b = digit (int_lt (signed a) (signed b))
-alu_of Sltu a b = digit (nat_lt a b)
-alu_of Xor a b = bit_xor a b
-alu_of Srl a b = a / 2 ^ (b % 64)
-alu_of Or a b = bit_or a b
-alu_of And a b = bit_and a b
-alu_of Sub a b = subtracted a b
-alu_of Sra a b = low (halved (signed a) (b % 64))
-alu_of Mul a b = a * b % 2 ^ 64
-alu_of Mulh a b = low (halved (signed a *ℤ signed b) 64)
-alu_of Mulhsu a b = low (halved (signed a *ℤ pos b) 64)
-alu_of Mulhu a b = a * b / 2 ^ 64
-alu_of Div a b = if b == 0 then all_ones else low (int_div (signed a) (signed b))
-alu_of Divu a b = if b == 0 then all_ones else a / b
-alu_of Rem a b = if b == 0 then a else low (int_rem (signed a) (signed b))
-alu_of Remu a b = if b == 0 then a else a % b
-alu_of Addw a b = word (a + b)
-alu_of Sllw a b = word (a * 2 ^ (b % 32))
-alu_of Srlw a b = word (a % 2 ^ 32 / 2 ^ (b % 32))
-alu_of Subw a b = word (subtracted a b)
-alu_of Sraw a b = low (halved (signed_word a) (b % 32))
-alu_of Mulw a b = word (a * b)
-alu_of Divw a b = if b % 2 ^ 32 == 0 then all_ones else word (low (int_div (signed_word a) (signed_word b)))
-alu_of Divuw a b = if b % 2 ^ 32 == 0 then all_ones else word (a % 2 ^ 32 / (b % 2 ^ 32))
-alu_of Remw a b = if b % 2 ^ 32 == 0 then word a else low (int_rem (signed_word a) (signed_word b))
-alu_of Remuw a b = if b % 2 ^ 32 == 0 then word a else word (a % 2 ^ 32 % (b % 2 ^ 32))
-alu_of AmoswapW a b = word b
-alu_of AmoaddW a b = word (a + b)
-alu_of AmoxorW a b = word (bit_xor a b)
-alu_of AmoandW a b = word (bit_and a b)
-alu_of AmoorW a b = word (bit_or a b)
-alu_of AmominW a b = if int_lt (signed_word b) (signed_word a) then word b else word a
-alu_of AmomaxW a b = if int_lt (signed_word a) (signed_word b) then word b else word a
-alu_of AmominuW a b = if nat_lt (b % 2 ^ 32) (a % 2 ^ 32) then word b else word a
-alu_of AmomaxuW a b = if nat_lt (a % 2 ^ 32) (b % 2 ^ 32) then word b else word a
-alu_of AmoswapD a b = b
-alu_of AmoaddD a b = added a b
-alu_of AmoxorD a b = bit_xor a b
-alu_of AmoandD a b = bit_and a b
-alu_of AmoorD a b = bit_or a b
-alu_of AmominD a b = if int_lt (signed b) (signed a) then b else a
-alu_of AmomaxD a b = if int_lt (signed a) (signed b) then b else a
-alu_of AmominuD a b = if nat_lt b a then b else a
-alu_of AmomaxuD a b = if nat_lt a b then b else a
+alu_of (Immediate Addi) a b = added a b
+alu_of (Immediate Slti) a b = digit (int_lt (signed a) (signed b))
+alu_of (Immediate Sltiu) a b = digit (nat_lt a b)
+alu_of (Immediate Xori) a b = bit_xor a b
+alu_of (Immediate Ori) a b = bit_or a b
+alu_of (Immediate Andi) a b = bit_and a b
+alu_of (Immediate Addiw) a b = word (a + b)
+alu_of (Shift Slli) a b = shifted_left a (b % 64)
+alu_of (Shift Srli) a b = a / 2 ^ (b % 64)
+alu_of (Shift Srai) a b = low (halved (signed a) (b % 64))
+alu_of (WordShift Slliw) a b = word (a * 2 ^ (b % 32))
+alu_of (WordShift Srliw) a b = word (a % 2 ^ 32 / 2 ^ (b % 32))
+alu_of (WordShift Sraiw) a b = low (halved (signed_word a) (b % 32))
+alu_of (Register Add) a b = added a b
+alu_of (Register Sll) a b = shifted_left a (b % 64)
+alu_of (Register Slt) a b = digit (int_lt (signed a) (signed b))
+alu_of (Register Sltu) a b = digit (nat_lt a b)
+alu_of (Register Xor) a b = bit_xor a b
+alu_of (Register Srl) a b = a / 2 ^ (b % 64)
+alu_of (Register Or) a b = bit_or a b
+alu_of (Register And) a b = bit_and a b
+alu_of (Register Sub) a b = subtracted a b
+alu_of (Register Sra) a b = low (halved (signed a) (b % 64))
+alu_of (Register Mul) a b = a * b % 2 ^ 64
+alu_of (Register Mulh) a b = low (halved (signed a *ℤ signed b) 64)
+alu_of (Register Mulhsu) a b = low (halved (signed a *ℤ pos b) 64)
+alu_of (Register Mulhu) a b = a * b / 2 ^ 64
+alu_of (Register Div) a b = if b == 0 then all_ones else low (int_div (signed a) (signed b))
+alu_of (Register Divu) a b = if b == 0 then all_ones else a / b
+alu_of (Register Rem) a b = if b == 0 then a else low (int_rem (signed a) (signed b))
+alu_of (Register Remu) a b = if b == 0 then a else a % b
+alu_of (Register Addw) a b = word (a + b)
+alu_of (Register Sllw) a b = word (a * 2 ^ (b % 32))
+alu_of (Register Srlw) a b = word (a % 2 ^ 32 / 2 ^ (b % 32))
+alu_of (Register Subw) a b = word (subtracted a b)
+alu_of (Register Sraw) a b = low (halved (signed_word a) (b % 32))
+alu_of (Register Mulw) a b = word (a * b)
+alu_of (Register Divw) a b = if b % 2 ^ 32 == 0 then all_ones else word (low (int_div (signed_word a) (signed_word b)))
+alu_of (Register Divuw) a b = if b % 2 ^ 32 == 0 then all_ones else word (a % 2 ^ 32 / (b % 2 ^ 32))
+alu_of (Register Remw) a b = if b % 2 ^ 32 == 0 then word a else low (int_rem (signed_word a) (signed_word b))
+alu_of (Register Remuw) a b = if b % 2 ^ 32 == 0 then word a else word (a % 2 ^ 32 % (b % 2 ^ 32))
+alu_of (Amo Amoswap Word) a b = word b
+alu_of (Amo Amoadd Word) a b = word (a + b)
+alu_of (Amo Amoxor Word) a b = word (bit_xor a b)
+alu_of (Amo Amoand Word) a b = word (bit_and a b)
+alu_of (Amo Amoor Word) a b = word (bit_or a b)
+alu_of (Amo Amomin Word) a b = if int_lt (signed_word b) (signed_word a) then word b else word a
+alu_of (Amo Amomax Word) a b = if int_lt (signed_word a) (signed_word b) then word b else word a
+alu_of (Amo Amominu Word) a b = if nat_lt (b % 2 ^ 32) (a % 2 ^ 32) then word b else word a
+alu_of (Amo Amomaxu Word) a b = if nat_lt (a % 2 ^ 32) (b % 2 ^ 32) then word b else word a
+alu_of (Amo Amoswap DoubleWord) a b = b
+alu_of (Amo Amoadd DoubleWord) a b = added a b
+alu_of (Amo Amoxor DoubleWord) a b = bit_xor a b
+alu_of (Amo Amoand DoubleWord) a b = bit_and a b
+alu_of (Amo Amoor DoubleWord) a b = bit_or a b
+alu_of (Amo Amomin DoubleWord) a b = if int_lt (signed b) (signed a) then b else a
+alu_of (Amo Amomax DoubleWord) a b = if int_lt (signed a) (signed b) then b else a
+alu_of (Amo Amominu DoubleWord) a b = if nat_lt b a then b else a
+alu_of (Amo Amomaxu DoubleWord) a b = if nat_lt a b then b else a

@@ -4,7 +4,8 @@ use Rattle.std.specs.Prelude.{◌≡◌, ◌≢◌, ℕ, ◌+◌, ◌%◌, ◌<�
 use Rattle.rv_model.specs.declared.cause.Cause.TheVariants.{Reset}
 use Rattle.rv_model.specs.declared.debug_did.DebugDid.TheVariants as ended
 use Rattle.rv_model.specs.declared.insn.Insn.{Insn}
-use Rattle.rv_model.specs.declared.insn.Insn.TheVariants.{Ld, Csrrw, Csrrs, Csrrc, Csrrwi, Csrrsi, Csrrci}
+use Rattle.rv_model.specs.declared.insn.Insn.TheVariants.{Load, Csr, CsrImmediate}
+use Rattle.rv_model.specs.declared.load_op.LoadOp.TheVariants.{Ld}
 use Rattle.rv_model.specs.declared.register_number.TheConstants.{TSELECT, TDATA1, TDATA2, TINFO, DCSR, DPC}
 use Rattle.rv_model.specs.declared.trigger_word.TheConstants.{TINFO_VALUE}
 use Rattle.rv_model.specs.Board.{DebugPart, Hart, IsHart, reset_hart, slot_count}
@@ -75,7 +76,7 @@ pub record ProgramBufferExamples : Type 0 where
   pub fence : DoesNothing 0x0000000f
   pub fence_i : DoesNothing 0x0000100f
   pub wfi : DoesNothing 0x10500073
-  pub load_means : meaning 0x00043483 ≡ Some (Ld (record { rd = 9; rs1 = 8; imm = 0 }))  -- ld x9, 0(x8)
+  pub load_means : meaning 0x00043483 ≡ Some (Load Ld (record { rd = 9; rs1 = 8; imm = 0 }))  -- ld x9, 0(x8)
   pub adds : (m : Memory) → ran_word 0x00140413 halted_hart m ≡ debugged ended.Next false (with_x8 1) m  -- addi x8, x8, 1: pc stays
   pub reads_dcsr : (m : Memory) → ran_word 0x7b002473 halted_hart m ≡ debugged ended.Next false (with_x8 0x40000143) m  -- csrrs x8, dcsr, x0
   pub sets_step : (m : Memory) → ran_word 0x7b026073 halted_hart m ≡ debugged ended.Next false (record halted_hart { debug = record halted_hart.debug { step = true } }) m  -- csrrsi x0, dcsr, 4
@@ -146,12 +147,8 @@ WordsKeep = (w : ℕ) (h : Hart) (m : Memory) → WordKeeps h m (ran_word w h m)
 
 abbrev pub is_csr_insn : Option Insn → Bool
 is_csr_insn None = false
-is_csr_insn (Some (Csrrw p)) = true
-is_csr_insn (Some (Csrrs p)) = true
-is_csr_insn (Some (Csrrc p)) = true
-is_csr_insn (Some (Csrrwi p)) = true
-is_csr_insn (Some (Csrrsi p)) = true
-is_csr_insn (Some (Csrrci p)) = true
+is_csr_insn (Some (Csr change p)) = true
+is_csr_insn (Some (CsrImmediate change p)) = true
 is_csr_insn (Some insn) = false
 
 pub record KeepsDebug (h after : Hart) : Type 0 where

@@ -4,10 +4,11 @@ use Rattle.std.specs.Prelude.{◌≡◌, ℕ, ◌/◌, ◌<◌, [], ◌∷◌, l
 use Rattle.std.specs.FinMap.{get}
 use Rattle.rv_model.specs.declared.did.Did.{Did}
 use Rattle.rv_model.specs.declared.did.Did.TheVariants.{Retired, Trapped}
-use Rattle.rv_model.specs.declared.insn.Insn.TheVariants.{ScD}
+use Rattle.rv_model.specs.declared.insn.Insn.TheVariants.{StoreConditional}
 use Rattle.rv_model.specs.declared.mem_fault.MemFault.TheVariants.{Outside}
 use Rattle.rv_model.specs.declared.size.Size.{Size}
 use Rattle.rv_model.specs.declared.size.Size.TheVariants.{B4, B8}
+use Rattle.rv_model.specs.declared.width.Width.TheVariants.{DoubleWord}
 use Rattle.rv_model.specs.Rows.{meaning}
 use Rattle.rv_model.specs.Memory.{Memory, loaded, store_answer, after_store, reserve, dropped}
 use Rattle.rv_model.specs.Core.{Core, reset_core, x_of}
@@ -108,11 +109,11 @@ ScFailsAfterStore = (c : Core) (m after : Memory) (b : ℕ) (size : Size) (v u :
     → c.id < length m.reserved → b / 8 ≡ x_of c 6 / 8
     → store_answer (reserve m c.id (x_of c 6)) b size ≡ Ok tt → after ≡ after_store (reserve m c.id (x_of c 6)) b size v
     → loaded after (x_of c 6) B8 ≡ Ok u
-    → effect_of (ScD (record { rd = 5; rs1 = 6; rs2 = 7 })) c after ≡ record { step = sets_rd 5 1 c; memory = dropped after c.id }
+    → effect_of (StoreConditional DoubleWord (record { rd = 5; rs1 = 6; rs2 = 7 })) c after ≡ record { step = sets_rd 5 1 c; memory = dropped after c.id }
 
 -- right after the hart's own lr, sc writes 0 and stores
 abbrev pub ScSucceedsAfterLr : Type 0
 ScSucceedsAfterLr = (c : Core) (m : Memory) (u : ℕ)
     → c.id < length m.reserved → loaded (reserve m c.id (x_of c 6)) (x_of c 6) B8 ≡ Ok u
-    → effect_of (ScD (record { rd = 5; rs1 = 6; rs2 = 7 })) c (reserve m c.id (x_of c 6))
+    → effect_of (StoreConditional DoubleWord (record { rd = 5; rs1 = 6; rs2 = 7 })) c (reserve m c.id (x_of c 6))
     ≡ record { step = sets_rd 5 0 c; memory = dropped (after_store (reserve m c.id (x_of c 6)) (x_of c 6) B8 (x_of c 7)) c.id }

@@ -1,18 +1,20 @@
 -- One instruction word of the program buffer, executed by a halted hart.
 -- RISC-V Debug Specification 1.0, "Program Buffer": ebreak ends the command, and an exception ends it and changes no register of the hart. That jumps,
 -- branches, auipc, ecall, mret, lr and sc are exceptions is this project's own choice: each would need a pc, a trap or a reservation of Debug Mode's own.
-use Rattle.std.specs.Prelude.{ℕ, Bool, true, false, not, ◌&&◌, ◌||◌, if◌then◌else◌, ◌==◌, Option, Some, None, is_some}
+use Rattle.std.specs.Prelude.{ℕ, Bool, true, false, ◌&&◌, ◌||◌, if◌then◌else◌, Option, Some, None, is_some}
 use Rattle.rv_model.specs.declared.debug_did.DebugDid.{DebugDid}
 use Rattle.rv_model.specs.declared.debug_did.DebugDid.TheVariants as ended
+use Rattle.rv_model.specs.declared.csr_change.CsrChange.{CsrChange}
 use Rattle.rv_model.specs.declared.did.Did.{Did}
 use Rattle.rv_model.specs.declared.did.Did.TheVariants.{Retired, Trapped}
 use Rattle.rv_model.specs.declared.insn.Insn.{Insn}
-use Rattle.rv_model.specs.declared.insn.Insn.TheVariants.{Auipc, Jal, Jalr, Beq, Bne, Blt, Bge, Bltu, Bgeu, LrW, ScW, LrD, ScD, Csrrw, Csrrs, Csrrc, Csrrwi, Csrrsi, Csrrci, Ecall, Ebreak, Mret}
+use Rattle.rv_model.specs.declared.insn.Insn.TheVariants.{Auipc, Jal, Jalr, Branch, LoadReserved, StoreConditional, Csr, CsrImmediate, Ecall, Ebreak, Mret}
 use Rattle.rv_model.specs.declared.touch.Touch.{Touch}
 use Rattle.rv_model.specs.Board.{Hart}
 use Rattle.rv_model.specs.Core.{Core, x_of, with_x}
 use Rattle.rv_model.specs.DebugRegisters.{debug_value, debug_refuses, debug_written}
-use Rattle.rv_model.specs.Effects.{Outcome, csr_replaced, csr_set, csr_cleared, effect_of}
+use Rattle.rv_model.specs.CsrChanges.{change_by, writes_by}
+use Rattle.rv_model.specs.Effects.{Outcome, effect_of}
 use Rattle.rv_model.specs.Memory.{Memory}
 use Rattle.rv_model.specs.Rows.{meaning}
 use Rattle.rv_model.specs.Touch.{touch}
@@ -47,8 +49,12 @@ pub data Sort : Type 0 where
   Accesses : Sort
   Plain : Sort
 
-abbrev pub swap : Bool → (ℕ → ℕ → ℕ) → ℕ → ℕ → ℕ → Sort
-swap writes change number operand rd = Swaps (record { writes = writes; change = change; number = number; operand = operand; rd = rd })
+abbrev pub csr_swap_by : Bool → CsrChange → ℕ → ℕ → ℕ → CsrSwap
+csr_swap_by writes change number operand rd = record { writes = writes; change = change_by change; number = number; operand = operand; rd = rd }
+
+-- whether it writes goes by its source: the number of a register, or an immediate
+abbrev pub csr_swap : CsrChange → ℕ → ℕ → ℕ → ℕ → CsrSwap
+csr_swap change source number operand rd = csr_swap_by (writes_by change source) change number operand rd
 
 abbrev pub sort_by_touch : Touch → Sort
 sort_by_touch t = if is_some t.load || is_some t.store then Accesses else Plain
@@ -58,24 +64,13 @@ sort_of Ebreak c = Ends
 sort_of (Auipc p) c = Refused
 sort_of (Jal p) c = Refused
 sort_of (Jalr p) c = Refused
-sort_of (Beq p) c = Refused
-sort_of (Bne p) c = Refused
-sort_of (Blt p) c = Refused
-sort_of (Bge p) c = Refused
-sort_of (Bltu p) c = Refused
-sort_of (Bgeu p) c = Refused
-sort_of (LrW p) c = Refused
-sort_of (ScW p) c = Refused
-sort_of (LrD p) c = Refused
-sort_of (ScD p) c = Refused
+sort_of (Branch condition p) c = Refused
+sort_of (LoadReserved width p) c = Refused
+sort_of (StoreConditional width p) c = Refused
 sort_of Ecall c = Refused
 sort_of Mret c = Refused
-sort_of (Csrrw p) c = swap true csr_replaced p.csr (x_of c p.rs1) p.rd
-sort_of (Csrrs p) c = swap (not (p.rs1 == 0)) csr_set p.csr (x_of c p.rs1) p.rd
-sort_of (Csrrc p) c = swap (not (p.rs1 == 0)) csr_cleared p.csr (x_of c p.rs1) p.rd
-sort_of (Csrrwi p) c = swap true csr_replaced p.csr p.imm p.rd
-sort_of (Csrrsi p) c = swap (not (p.imm == 0)) csr_set p.csr p.imm p.rd
-sort_of (Csrrci p) c = swap (not (p.imm == 0)) csr_cleared p.csr p.imm p.rd
+sort_of (Csr change p) c = Swaps (csr_swap change p.rs1 p.csr (x_of c p.rs1) p.rd)
+sort_of (CsrImmediate change p) c = Swaps (csr_swap change p.imm p.csr p.imm p.rd)
 sort_of insn c = sort_by_touch (touch insn c)
 
 -- ---- what each sort does

@@ -1,10 +1,28 @@
-/// An operation on two numbers of 64 bits: one for each computing instruction, and one for each atomic memory operation in each width.
-///
-/// `a` is the first source, or what lies in memory; `b` is the second source or the immediate.
-/// A 32-bit operation reads the low halves of both, and its result is sign extended.
+//! Operations on two numbers of 64 bits, by the formats of the instructions that do them.
+//!
+//! `a` is the first source, or what lies in memory; `b` is the second source, the immediate or the number of bits.
+//! A 32-bit operation reads the low halves of both, and its result is sign extended.
+
+use crate::width::Width;
+
+/// An operation of a computing instruction or of an atomic memory operation.
 #[derive(Clone, Copy, Debug, PartialEq, Eq)]
 pub enum AluOp {
-    // RV64I, integer register-immediate instructions: b is the immediate.
+    /// On a register and an immediate.
+    Immediate(ImmediateOp),
+    /// A shift by a constant.
+    Shift(ShiftOp),
+    /// A 32-bit shift by a constant.
+    WordShift(WordShiftOp),
+    /// On two registers.
+    Register(RegisterOp),
+    /// On memory and a register.
+    Amo(AmoOp, Width),
+}
+
+/// RV64I, integer register-immediate instructions.
+#[derive(Clone, Copy, Debug, PartialEq, Eq)]
+pub enum ImmediateOp {
     /// a + b.
     Addi,
     /// 1 if a < b, signed, else 0.
@@ -17,22 +35,36 @@ pub enum AluOp {
     Ori,
     /// a & b.
     Andi,
+    /// 32-bit a + b.
+    Addiw,
+}
+
+/// RV64I, shifts by a constant.
+#[derive(Clone, Copy, Debug, PartialEq, Eq)]
+pub enum ShiftOp {
     /// a shifted left.
     Slli,
     /// a shifted right, zeros in.
     Srli,
     /// a shifted right, sign in.
     Srai,
-    // RV64I, the same on 32 bits.
-    /// 32-bit a + b.
-    Addiw,
+}
+
+/// RV64I, shifts of 32 bits by a constant.
+#[derive(Clone, Copy, Debug, PartialEq, Eq)]
+pub enum WordShiftOp {
     /// 32-bit a shifted left.
     Slliw,
     /// 32-bit a shifted right, zeros in.
     Srliw,
     /// 32-bit a shifted right, sign in.
     Sraiw,
-    // RV64I, integer register-register instructions.
+}
+
+/// RV64I, integer register-register instructions; M, multiplication and division.
+#[derive(Clone, Copy, Debug, PartialEq, Eq)]
+pub enum RegisterOp {
+    // RV64I.
     /// a + b.
     Add,
     /// a shifted left.
@@ -70,7 +102,7 @@ pub enum AluOp {
     Rem,
     /// a % b, unsigned.
     Remu,
-    // RV64I, register-register instructions on 32 bits.
+    // RV64I, on 32 bits.
     /// 32-bit a + b.
     Addw,
     /// 32-bit a shifted left.
@@ -92,42 +124,27 @@ pub enum AluOp {
     Remw,
     /// 32-bit a % b, unsigned.
     Remuw,
-    // A, atomic memory operations on four bytes: a is what lies in memory, sign extended.
-    /// 32-bit b.
-    AmoswapW,
-    /// 32-bit a + b.
-    AmoaddW,
-    /// 32-bit a ^ b.
-    AmoxorW,
-    /// 32-bit a & b.
-    AmoandW,
-    /// 32-bit a | b.
-    AmoorW,
-    /// 32-bit min(a, b), signed.
-    AmominW,
-    /// 32-bit max(a, b), signed.
-    AmomaxW,
-    /// 32-bit min(a, b), unsigned.
-    AmominuW,
-    /// 32-bit max(a, b), unsigned.
-    AmomaxuW,
-    // A, on eight bytes.
+}
+
+/// A, atomic memory operations, on four bytes or on eight: `a` is what lies in memory, sign extended.
+#[derive(Clone, Copy, Debug, PartialEq, Eq)]
+pub enum AmoOp {
     /// b.
-    AmoswapD,
+    Amoswap,
     /// a + b.
-    AmoaddD,
+    Amoadd,
     /// a ^ b.
-    AmoxorD,
+    Amoxor,
     /// a & b.
-    AmoandD,
+    Amoand,
     /// a | b.
-    AmoorD,
+    Amoor,
     /// min(a, b), signed.
-    AmominD,
+    Amomin,
     /// max(a, b), signed.
-    AmomaxD,
+    Amomax,
     /// min(a, b), unsigned.
-    AmominuD,
+    Amominu,
     /// max(a, b), unsigned.
-    AmomaxuD,
+    Amomaxu,
 }

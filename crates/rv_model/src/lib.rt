@@ -7,6 +7,8 @@
 mod alu_op;
 mod bits;
 mod cause;
+mod condition;
+mod csr_change;
 mod dcsr;
 mod debug_did;
 mod debug_laws;
@@ -15,6 +17,7 @@ mod did;
 mod examples;
 mod insn;
 mod laws;
+mod load_op;
 mod mem_fault;
 mod operands;
 pub mod register_number;
@@ -25,9 +28,12 @@ mod touch;
 mod trigger_word;
 mod turn_laws;
 mod turned;
+mod width;
 
-pub use alu_op::AluOp;
+pub use alu_op::{AluOp, AmoOp, ImmediateOp, RegisterOp, ShiftOp, WordShiftOp};
 pub use cause::Cause;
+pub use condition::Condition;
+pub use csr_change::CsrChange;
 pub use dcsr::Dcsr;
 pub use debug_did::DebugDid;
 pub use debug_laws::{
@@ -47,6 +53,7 @@ pub use insn::Insn;
 pub use laws::{
     execution_keeps, execution_leaves_others, refused_stores_keep_memory, rows_are_apart,
 };
+pub use load_op::LoadOp;
 pub use mem_fault::MemFault;
 pub use operands::{
     BType, CsrImmType, CsrType, IType, JType, LoadReservedType, RType, SType, ShiftType, UType,
@@ -60,3 +67,4 @@ pub use turn_laws::{
     reset_boards_are_boards, turn_forgets_debugging, turn_keeps_board, turn_leaves_others,
 };
 pub use turned::Turned;
+pub use width::Width;

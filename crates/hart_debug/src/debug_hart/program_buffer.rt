@@ -7,15 +7,15 @@ ghost use Rattle.rv_model.specs.Core.{x_of};
 ghost use Rattle.rv_model.specs.OperandsFit.{OperandsFit};
 ghost use Rattle.rv_model.specs.DebugLaws.{WriteKeeps};
 ghost use Rattle.rv_model.specs.DebugRegisters.{debug_value};
-ghost use Rattle.rv_model.specs.ProgramBuffer.{executed, ran_insn, ran_word, swapped};
+ghost use Rattle.rv_model.specs.ProgramBuffer.{csr_swap, csr_swap_by, executed, ran_insn, ran_word, swapped};
 ghost use Rattle.rv_model.specs.Touch.{touch};
-ghost use Rattle.hart_debug.specs.Words.{ran_to, csr_swap, csr_swap_by, touches_memory};
+ghost use Rattle.hart_debug.specs.Words.{ran_to, touches_memory};
 
 use super::DebugHart;
 use crate::ran_word::RanWord;
-use rv_hart::{CsrChange, changed, writes};
+use rv_hart::{changed, writes};
 use rv_mem::Ram;
-use rv_model::{CsrImmType, CsrType, DebugDid, Did, Insn, Touch};
+use rv_model::{CsrChange, CsrImmType, CsrType, DebugDid, Did, Insn, Touch};
 use rv_words::decode;
 
 /// The word before this one was the last: this is `ebreak`.
@@ -69,25 +69,14 @@ impl DebugHart {
             Insn::Auipc(_) => REFUSED,
             Insn::Jal(_) => REFUSED,
             Insn::Jalr(_) => REFUSED,
-            Insn::Beq(_) => REFUSED,
-            Insn::Bne(_) => REFUSED,
-            Insn::Blt(_) => REFUSED,
-            Insn::Bge(_) => REFUSED,
-            Insn::Bltu(_) => REFUSED,
-            Insn::Bgeu(_) => REFUSED,
-            Insn::LrW(_) => REFUSED,
-            Insn::ScW(_) => REFUSED,
-            Insn::LrD(_) => REFUSED,
-            Insn::ScD(_) => REFUSED,
+            Insn::Branch(_, _) => REFUSED,
+            Insn::LoadReserved(_, _) => REFUSED,
+            Insn::StoreConditional(_, _) => REFUSED,
             Insn::Ecall => REFUSED,
             Insn::Mret => REFUSED,
             // These reach the registers of Debug Mode too.
-            Insn::Csrrw(p) => self.swap_register(CsrChange::Replace, p),
-            Insn::Csrrs(p) => self.swap_register(CsrChange::Set, p),
-            Insn::Csrrc(p) => self.swap_register(CsrChange::Clear, p),
-            Insn::Csrrwi(p) => self.swap_immediate(CsrChange::Replace, p),
-            Insn::Csrrsi(p) => self.swap_immediate(CsrChange::Set, p),
-            Insn::Csrrci(p) => self.swap_immediate(CsrChange::Clear, p),
+            Insn::Csr(change, p) => self.swap_register(change, p),
+            Insn::CsrImmediate(change, p) => self.swap_immediate(change, p),
             _ => self.execute_in_place(insn, ram),
         }
     }

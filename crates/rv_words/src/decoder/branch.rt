@@ -7,7 +7,7 @@ ghost use Rattle.rv_model.specs.OperandsFit.{OperandsFit};
 use crate::code;
 use crate::fields::{b_operands, i_operands};
 use crate::mask::FUNCT3_MASK;
-use rv_model::Insn;
+use rv_model::{Condition, Insn};
 
 /// Opcode BRANCH, by funct3.
 pub fn branch(word: u32) -> Option<Insn>
@@ -15,12 +15,12 @@ pub fn branch(word: u32) -> Option<Insn>
     ensures fit { IfSome result OperandsFit }
 {
     match word & FUNCT3_MASK {
-        code::BEQ => Some(Insn::Beq(b_operands(word))),
-        code::BNE => Some(Insn::Bne(b_operands(word))),
-        code::BLT => Some(Insn::Blt(b_operands(word))),
-        code::BGE => Some(Insn::Bge(b_operands(word))),
-        code::BLTU => Some(Insn::Bltu(b_operands(word))),
-        code::BGEU => Some(Insn::Bgeu(b_operands(word))),
+        code::BEQ => Some(Insn::Branch(Condition::Equal, b_operands(word))),
+        code::BNE => Some(Insn::Branch(Condition::Different, b_operands(word))),
+        code::BLT => Some(Insn::Branch(Condition::Below, b_operands(word))),
+        code::BGE => Some(Insn::Branch(Condition::NotBelow, b_operands(word))),
+        code::BLTU => Some(Insn::Branch(Condition::BelowUnsigned, b_operands(word))),
+        code::BGEU => Some(Insn::Branch(Condition::NotBelowUnsigned, b_operands(word))),
         _ => None,
     }
 }

@@ -8,7 +8,7 @@ ghost use Rattle.rv_model.specs.OperandsFit.{OperandsFit};
 use crate::code;
 use crate::fields::{i_operands, shift_operands, shift_word_operands};
 use crate::mask::{FUNCT3_MASK, FUNCT6_MASK, FUNCT7_MASK};
-use rv_model::Insn;
+use rv_model::{ImmediateOp, Insn, ShiftOp, WordShiftOp};
 
 /// Opcode OP-IMM, by funct3.
 pub fn immediate(word: u32) -> Option<Insn>
@@ -16,12 +16,12 @@ pub fn immediate(word: u32) -> Option<Insn>
     ensures fit { IfSome result OperandsFit }
 {
     match word & FUNCT3_MASK {
-        code::ADDI => Some(Insn::Addi(i_operands(word))),
-        code::SLTI => Some(Insn::Slti(i_operands(word))),
-        code::SLTIU => Some(Insn::Sltiu(i_operands(word))),
-        code::XORI => Some(Insn::Xori(i_operands(word))),
-        code::ORI => Some(Insn::Ori(i_operands(word))),
-        code::ANDI => Some(Insn::Andi(i_operands(word))),
+        code::ADDI => Some(Insn::Immediate(ImmediateOp::Addi, i_operands(word))),
+        code::SLTI => Some(Insn::Immediate(ImmediateOp::Slti, i_operands(word))),
+        code::SLTIU => Some(Insn::Immediate(ImmediateOp::Sltiu, i_operands(word))),
+        code::XORI => Some(Insn::Immediate(ImmediateOp::Xori, i_operands(word))),
+        code::ORI => Some(Insn::Immediate(ImmediateOp::Ori, i_operands(word))),
+        code::ANDI => Some(Insn::Immediate(ImmediateOp::Andi, i_operands(word))),
         _ => shift(word),
     }
 }
@@ -32,9 +32,9 @@ fn shift(word: u32) -> Option<Insn>
     ensures fit { IfSome result OperandsFit }
 {
     match word & FUNCT6_MASK {
-        code::SLLI => Some(Insn::Slli(shift_operands(word))),
-        code::SRLI => Some(Insn::Srli(shift_operands(word))),
-        code::SRAI => Some(Insn::Srai(shift_operands(word))),
+        code::SLLI => Some(Insn::Shift(ShiftOp::Slli, shift_operands(word))),
+        code::SRLI => Some(Insn::Shift(ShiftOp::Srli, shift_operands(word))),
+        code::SRAI => Some(Insn::Shift(ShiftOp::Srai, shift_operands(word))),
         _ => None,
     }
 }
@@ -45,7 +45,7 @@ pub fn immediate_word(word: u32) -> Option<Insn>
     ensures fit { IfSome result OperandsFit }
 {
     match word & FUNCT3_MASK {
-        code::ADDIW => Some(Insn::Addiw(i_operands(word))),
+        code::ADDIW => Some(Insn::Immediate(ImmediateOp::Addiw, i_operands(word))),
         _ => shift_word(word),
     }
 }
@@ -56,9 +56,9 @@ fn shift_word(word: u32) -> Option<Insn>
     ensures fit { IfSome result OperandsFit }
 {
     match word & FUNCT7_MASK {
-        code::SLLIW => Some(Insn::Slliw(shift_word_operands(word))),
-        code::SRLIW => Some(Insn::Srliw(shift_word_operands(word))),
-        code::SRAIW => Some(Insn::Sraiw(shift_word_operands(word))),
+        code::SLLIW => Some(Insn::WordShift(WordShiftOp::Slliw, shift_word_operands(word))),
+        code::SRLIW => Some(Insn::WordShift(WordShiftOp::Srliw, shift_word_operands(word))),
+        code::SRAIW => Some(Insn::WordShift(WordShiftOp::Sraiw, shift_word_operands(word))),
         _ => None,
     }
 }

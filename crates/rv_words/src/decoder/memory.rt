@@ -7,7 +7,7 @@ ghost use Rattle.rv_model.specs.OperandsFit.{OperandsFit};
 use crate::code;
 use crate::fields::{i_operands, s_operands};
 use crate::mask::FUNCT3_MASK;
-use rv_model::Insn;
+use rv_model::{Insn, LoadOp, Size};
 
 /// Opcode LOAD, by funct3.
 pub fn load(word: u32) -> Option<Insn>
@@ -15,13 +15,13 @@ pub fn load(word: u32) -> Option<Insn>
     ensures fit { IfSome result OperandsFit }
 {
     match word & FUNCT3_MASK {
-        code::LB => Some(Insn::Lb(i_operands(word))),
-        code::LH => Some(Insn::Lh(i_operands(word))),
-        code::LW => Some(Insn::Lw(i_operands(word))),
-        code::LD => Some(Insn::Ld(i_operands(word))),
-        code::LBU => Some(Insn::Lbu(i_operands(word))),
-        code::LHU => Some(Insn::Lhu(i_operands(word))),
-        code::LWU => Some(Insn::Lwu(i_operands(word))),
+        code::LB => Some(Insn::Load(LoadOp::Lb, i_operands(word))),
+        code::LH => Some(Insn::Load(LoadOp::Lh, i_operands(word))),
+        code::LW => Some(Insn::Load(LoadOp::Lw, i_operands(word))),
+        code::LD => Some(Insn::Load(LoadOp::Ld, i_operands(word))),
+        code::LBU => Some(Insn::Load(LoadOp::Lbu, i_operands(word))),
+        code::LHU => Some(Insn::Load(LoadOp::Lhu, i_operands(word))),
+        code::LWU => Some(Insn::Load(LoadOp::Lwu, i_operands(word))),
         _ => None,
     }
 }
@@ -32,10 +32,10 @@ pub fn store(word: u32) -> Option<Insn>
     ensures fit { IfSome result OperandsFit }
 {
     match word & FUNCT3_MASK {
-        code::SB => Some(Insn::Sb(s_operands(word))),
-        code::SH => Some(Insn::Sh(s_operands(word))),
-        code::SW => Some(Insn::Sw(s_operands(word))),
-        code::SD => Some(Insn::Sd(s_operands(word))),
+        code::SB => Some(Insn::Store(Size::B1, s_operands(word))),
+        code::SH => Some(Insn::Store(Size::B2, s_operands(word))),
+        code::SW => Some(Insn::Store(Size::B4, s_operands(word))),
+        code::SD => Some(Insn::Store(Size::B8, s_operands(word))),
         _ => None,
     }
 }

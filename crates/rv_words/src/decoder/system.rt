@@ -9,7 +9,7 @@ ghost use Rattle.rv_model.specs.OperandsFit.{OperandsFit};
 use crate::code;
 use crate::fields::{csr_imm_operands, csr_operands};
 use crate::mask::FUNCT3_MASK;
-use rv_model::Insn;
+use rv_model::{CsrChange, Insn};
 
 /// Opcode MISC-MEM, by funct3.
 pub fn fence(word: u32) -> Option<Insn>
@@ -29,12 +29,12 @@ pub fn system(word: u32) -> Option<Insn>
     ensures fit { IfSome result OperandsFit }
 {
     match word & FUNCT3_MASK {
-        code::CSRRW => Some(Insn::Csrrw(csr_operands(word))),
-        code::CSRRS => Some(Insn::Csrrs(csr_operands(word))),
-        code::CSRRC => Some(Insn::Csrrc(csr_operands(word))),
-        code::CSRRWI => Some(Insn::Csrrwi(csr_imm_operands(word))),
-        code::CSRRSI => Some(Insn::Csrrsi(csr_imm_operands(word))),
-        code::CSRRCI => Some(Insn::Csrrci(csr_imm_operands(word))),
+        code::CSRRW => Some(Insn::Csr(CsrChange::Replace, csr_operands(word))),
+        code::CSRRS => Some(Insn::Csr(CsrChange::Set, csr_operands(word))),
+        code::CSRRC => Some(Insn::Csr(CsrChange::Clear, csr_operands(word))),
+        code::CSRRWI => Some(Insn::CsrImmediate(CsrChange::Replace, csr_imm_operands(word))),
+        code::CSRRSI => Some(Insn::CsrImmediate(CsrChange::Set, csr_imm_operands(word))),
+        code::CSRRCI => Some(Insn::CsrImmediate(CsrChange::Clear, csr_imm_operands(word))),
         _ => privileged(word),
     }
 }

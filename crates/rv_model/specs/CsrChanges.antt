@@ -1,13 +1,13 @@
 -- What an instruction makes of a control and status register, and when it writes it. Unprivileged manual, "Zicsr".
-use Rattle.std.specs.Prelude.{ℕ, Bool, true, not, ◌==◌}
-use Rattle.rv_model.specs.Effects.{csr_replaced, csr_set, csr_cleared}
-use Rattle.rv_hart.specs.declared.csr_change.CsrChange.{CsrChange}
-use Rattle.rv_hart.specs.declared.csr_change.CsrChange.TheVariants.{Replace, Set, Clear}
+use Rattle.std.specs.Prelude.{ℕ, ◌-◌, ◌^◌, Bool, true, not, ◌==◌, bit_and, bit_or}
+use Rattle.rv_model.specs.declared.csr_change.CsrChange.{CsrChange}
+use Rattle.rv_model.specs.declared.csr_change.CsrChange.TheVariants.{Replace, Set, Clear}
 
+-- of the old value and the operand
 abbrev pub change_by : CsrChange → ℕ → ℕ → ℕ
-change_by Replace = csr_replaced
-change_by Set = csr_set
-change_by Clear = csr_cleared
+change_by Replace old v = v
+change_by Set old v = bit_or old v
+change_by Clear old v = bit_and old (2 ^ 64 - 1 - v)
 
 -- setting or clearing the bits of x0 or of the immediate 0 is no write
 abbrev pub writes_by : CsrChange → ℕ → Bool

@@ -1,8 +1,8 @@
 -- When a branch is taken. Unprivileged manual, "Conditional Branches".
 use Rattle.std.specs.Prelude.{ℕ, Bool, not, nat_lt, ◌==◌, int_lt}
+use Rattle.rv_model.specs.declared.condition.Condition.{Condition}
+use Rattle.rv_model.specs.declared.condition.Condition.TheVariants.{Equal, Different, Below, NotBelow, BelowUnsigned, NotBelowUnsigned}
 use Rattle.rv_model.specs.Alu.{signed}
-use Rattle.rv_hart.specs.declared.condition.Condition.{Condition}
-use Rattle.rv_hart.specs.declared.condition.Condition.TheVariants.{Equal, Different, Below, NotBelow, BelowUnsigned, NotBelowUnsigned}
 
 abbrev pub holds : Condition → ℕ → ℕ → Bool
 holds Equal a b = a == b
