@@ -1,9 +1,8 @@
 -- What comes out of the ends of a joined net, piece after piece.
-use Rattle.std.proofs.Common.{◌≡◌, ℕ, ◌+◌, ◌<◌, ◌≤◌, List, ◌++◌, length, take, drop, true, Option, None, Some, IfSome, IsTrue, is_none, is_some, not, ◌&&◌, ◌||◌, option_map, refl, sym, ap, subst, ◌∙◌, add_assoc, add-zero, arith}
+use Rattle.std.proofs.Common.{◌≡◌, ℕ, ◌+◌, ◌<◌, ◌≤◌, List, length, take, true, Option, None, Some, IfSome, IsTrue, is_none, is_some, not, ◌&&◌, ◌||◌, option_map, refl, sym, ap, subst, ◌∙◌, add_assoc, add-zero, arith}
 use Rattle.std.proofs.lemmas.Bool.{and_parts}
-use Rattle.std.proofs.lemmas.List.{drop-drop, length-drop, length-take-le, take-append-le}
-use Rattle.std.proofs.Math.Seq.{take-add, take-append-add}
-use borrow.Rule.Slice.PartMut.{put_mid, post_of}
+use Rattle.std.proofs.lemmas.List.{drop-drop, length-drop}
+use borrow.Rule.Slice.PartMut.{put_mid}
 use Rattle.debug_model.specs.Net.{Exchange, Gives, IsFront, MayPut, MaySend, MayTake, NetState, Pipe, after_take, is_open, read_on, take_far, take_near, without}
 use Rattle.debug_model.specs.Told.{Far}
 use Rattle.debug_model.specs.declared.net.End.{End}

@@ -1,6 +1,5 @@
 -- What crosses a joined net whole: bytes to the chip, and its answers back.
-use Rattle.std.proofs.Common.{◌≡◌, ◌≢◌, ℕ, ◌-◌, ◌^◌, ◌<◌, ◌≤◌, List, [], ◌++◌, length, take, drop, Option, None, Some, IfSome, IsTrue, is_none, is_some, not, ◌&&◌, ◌||◌, option_map, refl, sym, ap, subst, ◌∙◌, arith, inl, inr}
-use Rattle.std.proofs.lemmas.Bool.{cases_lt}
+use Rattle.std.proofs.Common.{◌≡◌, ◌≢◌, ℕ, ◌≤◌, List, [], ◌++◌, length, take, drop, Option, None, Some, IfSome, IsTrue, is_none, is_some, not, ◌&&◌, ◌||◌, option_map, refl, sym, ap, subst, ◌∙◌, arith}
 use Rattle.std.proofs.lemmas.List.{append-nil, take_all}
 use Rattle.std.proofs.Math.Seq.{drop-length, take-length}
 use Rattle.jt_base.proofs.FaultLemmas.{rises_from}

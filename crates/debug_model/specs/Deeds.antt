@@ -2,7 +2,7 @@
 -- It is this project's own word for the steps that RISC-V Debug Specification 1.0 leaves to the chip's time.
 use Rattle.std.specs.Prelude.{ℕ, Bool, true, false, List, [], ◌∷◌, ◌++◌, Option, Some, None, slice_get, slice_set}
 use Rattle.rv_model.specs.Board.{Hart}
-use Rattle.rv_model.specs.Turn.{turn, turn_by}
+use Rattle.rv_model.specs.Turn.{turn_by}
 use Rattle.debug_model.specs.declared.micro.Micro.{Micro}
 use Rattle.debug_model.specs.declared.point.Point.{Point}
 use Rattle.debug_model.specs.declared.point.Point.TheVariants.{Turn, Access}

@@ -9,7 +9,6 @@ use Rattle.rv_model.specs.declared.size.Size.{Size}
 use Rattle.rv_model.specs.declared.size.Size.TheVariants.{B1}
 use Rattle.rv_model.specs.declared.slot.Slot.{Slot}
 use Rattle.rv_model.specs.Board.{Board, Hart}
-use Rattle.rv_model.specs.Cause.{cause_number}
 use Rattle.rv_model.specs.Memory.{is_aligned, loaded, store_answer}
 use Rattle.rv_model.specs.Registers.{csr_read_only, first_x_number, pc_number, reg_value}
 use Rattle.rv_model.specs.Size.{count_of}

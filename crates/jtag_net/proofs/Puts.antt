@@ -1,5 +1,5 @@
 -- Puts leave the bytes that are to come.
-use Rattle.std.proofs.Common.{◌≡◌, ℕ, List, Option, None, Some, option_map, refl, sym, ap, ◌∙◌}
+use Rattle.std.proofs.Common.{◌≡◌, ℕ, List, Option, None, Some, option_map, refl, ap, ◌∙◌}
 use Rattle.debug_model.specs.Net.{Exchange, NetState, PutFront, after_put, coming_in, coming_of, more_put}
 use Rattle.debug_model.specs.declared.net.End.TheVariants as ends
 

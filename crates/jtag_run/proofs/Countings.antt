@@ -1,15 +1,12 @@
 -- A session into a sink that counts, and its summary, over plain variables.
-use Rattle.std.proofs.Common.{◌≡◌, ◌∙◌, ◌<◌, ◌≤◌, ℕ, Bool, true, false, List, [], ◌++◌, length, Option, Some, None, IfSome, refl, sym, ap, subst, arith}
-use Rattle.std.specs.Prelude.{count_by}
+use Rattle.std.proofs.Common.{◌≡◌, ◌∙◌, ◌<◌, ℕ, Bool, true, false, List, [], Option, Some, None, IfSome, ap, arith}
 use Rattle.std.proofs.lemmas.Option.{same_Some}
 use Rattle.chip_core.specs.Feeds.{limit_met}
 use Rattle.debug_model.specs.declared.command.Command.{Command}
 use Rattle.debug_model.specs.Chip.{Live}
 use Rattle.debug_model.specs.Told.{Far, read_out}
-use Rattle.debugger_laws.specs.Lines.{Line, is_error, text_of_all}
-use Rattle.jt_base.specs.Faults.{Rises}
-use Rattle.jt_base.specs.Sink.{GrewByPrefix, grown}
-use Rattle.jtag_run.specs.Ending.{ClosedBy}
+use Rattle.debugger_laws.specs.Lines.{Line, text_of_all}
+use Rattle.jt_base.specs.Sink.{grown}
 use Rattle.jtag_run.specs.Opening.{Joined}
 use Rattle.jtag_run.specs.Outside.{NetSeen}
 use Rattle.jtag_run.specs.Ends.{AreCounted, Counted, CountedBehind, TakesAll, taken_seen}
@@ -22,7 +19,6 @@ use Rattle.probe_session.specs.declared.ended.Ended.TheVariants as ends
 use Rattle.probe_session.specs.declared.fault.LostCause.TheVariants as lost
 use Rattle.probe_session.specs.Causes.{SinkCaused}
 use Rattle.probe_session.specs.Transcribed.{WrittenAs, shown}
-use Rattle.wire_session.specs.Seen.{SinkSeen}
 
 -- ---- counts of the transcript
 

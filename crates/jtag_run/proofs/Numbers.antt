@@ -4,7 +4,6 @@ use Rattle.chip_core.specs.Feeds.{limit_met}
 use Rattle.debug_model.specs.declared.command.Command.{Command}
 use Rattle.debug_model.specs.declared.net.NetFault.{NetFault}
 use Rattle.debug_model.specs.Chip.{Live}
-use Rattle.generator.specs.Commands.{commands}
 use Rattle.jt_base.specs.Faults.{Rises}
 use Rattle.jt_base.specs.Sink.{GrewByPrefix, grown}
 use Rattle.jtag_run.specs.Ran.{Made, RanGen}

@@ -6,7 +6,7 @@ use Rattle.debug_model.specs.declared.net.Call.TheVariants as calls
 use Rattle.debug_model.specs.declared.net.NetFault.{NetFault}
 use Rattle.debug_model.specs.Chip.{Live}
 use Rattle.jt_base.specs.Faults.{Rises}
-use Rattle.jt_base.specs.Files.{NamedFile, asked_more}
+use Rattle.jt_base.specs.Files.{NamedFile}
 use Rattle.jt_base.specs.Sink.{grown, GrewByPrefix}
 use Rattle.jtag_run.specs.Ran.{BothEnd, Prepared, Ran, RanBoth, RanGen, RanProbe}
 use Rattle.jtag_run.specs.Ran.Ran.{refused, ran, generated, probed, served}
@@ -21,7 +21,7 @@ use Rattle.jtag_run.specs.LastLine.Closed.{said, unsaid}
 use Rattle.jtag_run.specs.Outside.{NetSeen, Outside}
 use Rattle.jtag_run.specs.Ends.{BenchEnd, LoopEnd}
 use Rattle.jtag_run.specs.Ends.LoopEnd.{joined, unjoined}
-use Rattle.jtag_run.specs.Refusal.{ChipCause, HoldsScript, JobCause, Refused, WordsCause, asked_both, asked_image}
+use Rattle.jtag_run.specs.Refusal.{ChipCause, JobCause, Refused, WordsCause, asked_both, asked_image}
 use Rattle.jtag_run.specs.Refusal.RefusalCause.{of_both, of_chip, of_gen, of_probe, of_words}
 use Rattle.jtag_run.specs.ServedChip.{RanChip, PreparedChip, ServedAt}
 use Rattle.jtag_run.specs.ServedChip.RanChip.{refused as refused_chip, served as served_chip}

@@ -1,6 +1,6 @@
 -- The last line of a run that is refused, that failed or that met the event limit, and how it is put.
 -- The lines are this project's own (docs/FORMATS.md, "Statuses").
-use Rattle.std.specs.Prelude.{◌≡◌, ℕ, Bool, true, false, List, [], ◌∷◌, ◌++◌, codes, decimal}
+use Rattle.std.specs.Prelude.{◌≡◌, ℕ, true, false, List, [], ◌∷◌, ◌++◌, codes, decimal}
 use Rattle.chip_core.specs.Loads.{load_fault_number}
 use Rattle.chip_core.specs.declared.load_fault.LoadFault.{LoadFault}
 use Rattle.debug_model.specs.ScriptFault.{fault_number}

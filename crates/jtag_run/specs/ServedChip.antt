@@ -1,6 +1,6 @@
 -- A run whose chip is served over a net: what is accepted first, how the net is opened, and how the serving's end is printed and answered.
 -- The program is this project's own (docs/FORMATS.md, "Statuses").
-use Rattle.std.specs.Prelude.{◌≡◌, ◌≤◌, ℕ, List, Option, Some, if◌then◌else◌}
+use Rattle.std.specs.Prelude.{◌≡◌, ℕ, List, Option, Some, if◌then◌else◌}
 use Rattle.chip_core.specs.Feeds.{limit_met}
 use Rattle.debug_model.specs.Chip.{Live}
 use Rattle.debug_model.specs.declared.net.Call.TheVariants as calls

@@ -1,13 +1,10 @@
 -- With nothing under way what happens behind the transport is turns alone.
-use Rattle.std.proofs.Common.{◌≡◌, ◌∙◌, List, [], ◌∷◌, ◌++◌, false, Option, Some, None, refl, ap, append-nil}
+use Rattle.std.proofs.Common.{◌≡◌, ◌∙◌, List, [], ◌∷◌, Option, Some, None, refl, ap}
 use Rattle.rv_model.specs.Board.{Hart}
-use Rattle.rv_model.specs.Memory.{Memory}
 use Rattle.debug_model.specs.declared.micro.Micro.{Micro}
-use Rattle.debug_model.specs.declared.point.Point.{Point}
-use Rattle.debug_model.specs.Deeds.{Deed, after_deed, bus_stepped, command_stepped, ran, stepped_by, turned, with_bus_done}
+use Rattle.debug_model.specs.Deeds.{Deed, after_deed, bus_stepped, command_stepped, ran, stepped_by, turned}
 use Rattle.debug_model.specs.Deeds.Deed.{Turned, CommandStepped, BusStepped}
 use Rattle.debug_model.specs.Module.{DebugModule, Site, selected_hart}
-use Rattle.debug_model.specs.SystemBus.{BusDone, BusUnit, bus_done, bus_done_by, access_size}
 use Rattle.probe_run.proofs.SiteLemmas.{bus_rests}
 use Rattle.probe_access.proofs.Aside.{harts_of, passed}
 use Rattle.probe_access.proofs.Turns.{unit_turned}

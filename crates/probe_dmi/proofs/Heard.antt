@@ -1,18 +1,16 @@
 -- What was heard of scripted scans: the scans of an operation so far, and where a bad answer stood.
-use Rattle.std.proofs.Common.{◌≡◌, ◌≢◌, ◌∙◌, ◌⊎◌, ◌+◌, ◌<◌, ◌≤◌, ℕ, zero, suc, List, [], ◌∷◌, ◌++◌, Bool, true, false, map, Option, Some, None, IfSome, option_map, refl, sym, ap, subst, arith, inl, inr, append_assoc, Result, Ok, Err, IfErr, IsErrAnd}
+use Rattle.std.proofs.Common.{◌≡◌, ◌≢◌, ◌∙◌, ◌⊎◌, ◌+◌, ◌<◌, ◌≤◌, ℕ, zero, suc, List, [], ◌∷◌, ◌++◌, Bool, true, false, Option, Some, None, IfSome, option_map, refl, sym, ap, subst, arith, inl, inr, Result, Ok, Err, IfErr, IsErrAnd}
 use Rattle.jt_base.proofs.FaultLemmas.{rises_from}
-use Rattle.jt_base.specs.Faults.{Rises}
 use Rattle.debug_model.proofs.HeardLemmas.{wrong_behind}
 use Rattle.debug_model.specs.declared.dmi.DmiFault.{DmiFault}
 use Rattle.debug_model.specs.declared.dmi.DmiFault.TheVariants.{Wire}
 use Rattle.debug_model.specs.declared.dmi_scan.DmiScan.{DmiScan}
 use Rattle.debug_model.specs.declared.wire.WireFault.{WireFault}
 use Rattle.debug_model.specs.declared.wire.WireFault.TheVariants.{SendFailed, RecvFailed, Ended, BadAnswer}
-use Rattle.debug_model.specs.Chip.{answer_byte}
 use Rattle.debug_model.specs.Dmi as dmi
 use Rattle.debug_model.specs.Dmi.{Awaited, DmiCause, DmiScript, Fetched, HeardBusy, HeardFailed, IsDmi, IsDtmcs, ScannedCause, Scans, Shows, TookAll, WasBusy, WasDone, WhereScanned, heard, scanned_script}
 use Rattle.debug_model.specs.Dmi.Awaited.{begun, busy, carried}
-use Rattle.debug_model.specs.Scan.{BadCause, CameWrong, ScanCause, Script, TookOut, WrongIn, Numbers, Answers}
+use Rattle.debug_model.specs.Scan.{BadCause, ScanCause, Script, TookOut, WrongIn, Numbers, Answers}
 use Rattle.debug_model.specs.Told.{Far}
 use Rattle.debug_model.specs.Wire.{EndCause}
 use Rattle.probe_dmi.specs.Registers.{HeardDmi, HeardNumber, TookDmi, TookNumber}

@@ -1,11 +1,11 @@
 -- Scans of a register laid end to end: the rounds of a reset and of an instruction's path go before those of the scan.
-use Rattle.std.proofs.Common.{◌≡◌, ◌∙◌, ◌+◌, ℕ, zero, suc, List, Bool, Option, Some, None, OnErr, Result, Ok, Err, refl, sym, ap, subst, arith}
+use Rattle.std.proofs.Common.{◌≡◌, ◌∙◌, ◌+◌, ℕ, List, Bool, Option, Some, None, refl, sym, ap, subst}
 use Rattle.debug_model.proofs.Rounds.{ticks_join}
 use Rattle.jt_base.specs.BitList.{bits_of, number_of}
 use Rattle.debug_model.specs.declared.data_register.DataRegister.{DataRegister}
 use Rattle.debug_model.specs.declared.data_register.DataRegister.TheVariants.{Idcode, Dmi}
 use Rattle.debug_model.specs.declared.dmi_scan.DmiScan.{DmiScan}
-use Rattle.debug_model.specs.Chip.{Inside, tick}
+use Rattle.debug_model.specs.Chip.{Inside}
 use Rattle.debug_model.specs.Dmi.{IsAtRest, heard}
 use Rattle.debug_model.specs.Port.{data_register_of}
 use Rattle.debug_model.specs.Scan.{ResetCut, RoundsPassed, ScanCut, Scanned, Selected, Stage, WasReset, WhereTold, capture, dr_inside, dr_out, dr_stays, ticks, update}

@@ -1,9 +1,8 @@
 -- What a scan as long as its register takes out and leaves, and the words of dmi and dtmcs read back.
-use Rattle.std.proofs.Common.{◌≡◌, ◌∙◌, ◌+◌, ◌*◌, ◌/◌, ◌%◌, ℕ, List, ◌++◌, Bool, length, take, drop, Some, None, sym, ap, arith}
+use Rattle.std.proofs.Common.{◌≡◌, ◌∙◌, ◌+◌, ◌*◌, ◌/◌, ◌%◌, ℕ, List, Bool, length, Some, None, sym, ap, arith}
 use Rattle.jt_base.specs.BitList.{bits_of, number_of}
 use Rattle.jt_base.specs.BitLaws.{length-bits_of}
 use Rattle.jt_base.proofs.BitLists.{number_of-bits_of_mod}
-use Rattle.std.proofs.Math.Seq.{take-append_seam, drop-append_seam}
 use Rattle.debug_model.specs.declared.data_register.DataRegister.TheVariants.{Idcode, Dtmcs, Dmi}
 use Rattle.debug_model.specs.declared.dmi_op.DmiOp.{DmiOp}
 use Rattle.debug_model.specs.declared.dmi_op.DmiOp.TheVariants.{Read, Write}
@@ -12,7 +11,7 @@ use Rattle.debug_model.specs.declared.sticky.Sticky.{Sticky}
 use Rattle.debug_model.specs.declared.sticky.Sticky.TheVariants.{Clear}
 use Rattle.debug_model.specs.Chip.{Inside}
 use Rattle.debug_model.specs.Dmi.{heard}
-use Rattle.debug_model.specs.Scan.{comes_out, dr_out, dr_stays, dtm_of, stays}
+use Rattle.debug_model.specs.Scan.{dr_out, dr_stays, dtm_of}
 use Rattle.debug_model.specs.Tap.{idcode}
 use Rattle.debug_model.specs.Transport.{Dtm, captured_bits, dmi_seen, dtmcs_seen, fresh_dtm, operation_of}
 use Rattle.debug_model.specs.TransportWords.{dmi_of, dmi_word, dtmcs_of, dtmcs_word}

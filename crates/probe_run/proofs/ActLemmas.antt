@@ -1,7 +1,6 @@
 -- Calls made one after another: two stretches are one, and a failed call behind more of them.
-use Rattle.std.proofs.Common.{◌≡◌, ◌≤◌, ◌++◌, ℕ, List, [], ◌∷◌, Option, Result, Ok, Err, IfErr, IsErrAnd, sym, subst, append_assoc, append-nil, arith, inl, inr}
+use Rattle.std.proofs.Common.{◌≡◌, ◌≤◌, ◌++◌, ℕ, List, [], ◌∷◌, Option, Result, Ok, Err, IfErr, IsErrAnd, sym, subst, append_assoc, append-nil, inl, inr}
 use Rattle.jt_base.proofs.FaultLemmas.{rises_from}
-use Rattle.jt_base.specs.Faults.{Rises}
 use Rattle.debug_model.specs.declared.dmi.DmiFault.{DmiFault}
 use Rattle.debug_model.specs.declared.dmi.DmiFault.TheVariants.{Wire, Failed, StillBusy}
 use Rattle.debug_model.specs.declared.wire.WireFault.{WireFault}

@@ -1,5 +1,5 @@
 -- A chip as it was loaded: its module is reset, nothing is asked of its harts, and all its numbers are within their widths.
-use Rattle.std.proofs.Common.{◌≡◌, ◌∙◌, ◌++◌, ◌+◌, ◌<◌, ◌≤◌, ◌^◌, ◌==◌, ℕ, zero, suc, List, [], ◌∷◌, length, replicate, get_or, All, Bool, true, false, cond, Option, Some, slice_get, refl, sym, ap, subst, arith, append-nil, if◌then◌else◌}
+use Rattle.std.proofs.Common.{◌≡◌, ◌∙◌, ◌++◌, ◌+◌, ◌<◌, ◌≤◌, ◌^◌, ◌==◌, ℕ, zero, suc, List, [], ◌∷◌, length, replicate, get_or, All, Bool, true, false, cond, Option, Some, slice_get, refl, sym, ap, subst, arith, append-nil}
 use Rattle.std.specs.Cmp.{nat_cmp_total}
 use Rattle.std.specs.FinMap as map
 use Rattle.std.specs.FinMap.{entries, get, get-entries, get-from_entries}
@@ -9,7 +9,7 @@ use Rattle.std.proofs.lemmas.List.Elements.{All-head, All-tail, All-nil, All-con
 use Rattle.std.proofs.lemmas.Option.{none-some, same_Some}
 use Rattle.rv_model.specs.declared.cause.Cause.{Cause}
 use Rattle.rv_model.specs.declared.slot.Slot.{Slot}
-use Rattle.rv_model.specs.Board.{Hart, IsHart, free_slot, reset_hart}
+use Rattle.rv_model.specs.Board.{Hart, free_slot, reset_hart}
 use Rattle.rv_model.specs.Core.{reset_core}
 use Rattle.rv_model.specs.Image.{with_image}
 use Rattle.rv_model.specs.Memory.{Bytes, map_of, ram_base}

@@ -1,5 +1,5 @@
 -- Behind an opening: what told no chip tells none, and a chip that was as loaded is ready with hart 0 selected.
-use Rattle.std.proofs.Common.{◌≡◌, ◌++◌, List, [], ◌∷◌, Option, Some, None, IfSome, refl, sym, subst}
+use Rattle.std.proofs.Common.{◌≡◌, Option, Some, None, refl, sym, subst}
 use Rattle.debug_model.specs.Told.{Far, IsAsLoaded, IsReady, Selects}
 use Rattle.probe_run.specs.Acts.{Tells}
 use Rattle.probe_run.specs.Opening.{BusCleared, BusFits, CommandsCleared, CommandsFit, Opened, OpenedChip, OpensLoaded, Then, UpToModule}

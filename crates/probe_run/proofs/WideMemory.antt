@@ -1,5 +1,5 @@
 -- Memory whose bytes are bytes: what a load of it gives, and what a store leaves.
-use Rattle.std.proofs.Common.{◌≡◌, ◌∙◌, ◌+◌, ◌*◌, ◌/◌, ◌%◌, ◌^◌, ◌<◌, ◌&&◌, ℕ, zero, suc, Bool, true, false, cond, Option, Some, None, Result, Ok, Err, arith, refl, sym, if◌then◌else◌}
+use Rattle.std.proofs.Common.{◌≡◌, ◌∙◌, ◌+◌, ◌/◌, ◌%◌, ◌^◌, ◌<◌, ◌&&◌, ℕ, zero, suc, Bool, true, false, cond, Option, Some, None, Result, Ok, Err, arith, refl, sym, if◌then◌else◌}
 use Rattle.std.specs.Cmp.{nat_cmp_total}
 use Rattle.std.specs.FinMap.{get, get-insert, insert}
 use Rattle.std.specs.Ordering.{eq_by_cmp, nat_cmp}

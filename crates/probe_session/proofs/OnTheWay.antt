@@ -1,10 +1,10 @@
 -- Journals that lead along a plan, behind turns and points, whatever became of the board.
-use Rattle.std.proofs.Common.{◌≡◌, ◌∙◌, ◌++◌, ◌+◌, ◌-◌, ◌<◌, ℕ, suc, Bool, List, ◌∷◌, refl, sym, ap, subst, append_assoc, arith, if◌then◌else◌}
+use Rattle.std.proofs.Common.{◌≡◌, ◌∙◌, ◌++◌, ◌+◌, ◌-◌, ◌<◌, ℕ, suc, Bool, List, ◌∷◌, refl, sym, ap, subst, append_assoc, arith}
 use Rattle.rv_model.specs.Board.{Machine}
 use Rattle.debug_model.specs.declared.point.Point.{Point}
 use Rattle.debug_model.specs.declared.point.Point.TheVariants.{HaltClear, HaltReq, Look}
 use Rattle.debug_model.specs.Journal.{after_point}
-use Rattle.debugger_laws.specs.Debugger.{Seen, halting, look, most_looks, sees_halted, unseen, until}
+use Rattle.debugger_laws.specs.Debugger.{Seen, halting, most_looks, sees_halted, unseen, until}
 use Rattle.debugger_laws.specs.Lines.{Line}
 use Rattle.debugger_laws.specs.Plan.{Plan}
 use Rattle.debugger_laws.specs.Plan.Plan.{stop, take}

@@ -10,7 +10,6 @@ use Rattle.jt_base.specs.Sink.{GrewByPrefix, grown}
 use Rattle.debugger_laws.specs.Debugger.{State, at_path}
 use Rattle.debugger_laws.specs.Lines.{Line, is_error, text_of, text_of_all}
 use Rattle.debugger_laws.specs.Plan.{Plan}
-use Rattle.debugger_laws.specs.Plan.Plan.{say}
 use Rattle.printed_lines.specs.declared.line.Line.{Line as PrintedLine}
 use Rattle.printed_lines.specs.Line.{line_of}
 use Rattle.probe_run.specs.Acts.{Tells}

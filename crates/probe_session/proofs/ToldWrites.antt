@@ -1,9 +1,9 @@
 -- What the calls of the layers below did at a told chip, as steps of the abstract debugger's plan: registers, slots and memory.
-use Rattle.std.proofs.Common.{◌≡◌, ◌≢◌, ◌∙◌, ◌++◌, ◌&&◌, ℕ, suc, Bool, true, false, not, List, [], ◌∷◌, map, Option, Some, None, option_map, Result, Ok, Err, slice_get, refl, sym, ap, subst, if◌then◌else◌}
+use Rattle.std.proofs.Common.{◌≡◌, ◌≢◌, ◌∙◌, ◌++◌, ◌&&◌, ℕ, suc, Bool, true, false, not, List, [], ◌∷◌, map, Option, Some, None, Result, Ok, Err, slice_get, refl, sym, ap, subst, if◌then◌else◌}
 use Rattle.std.specs.Prelude.{is_some, unwrap_or, ◌==◌, ⊤}
 use Rattle.std.specs.List.{list_any}
 use Rattle.std.proofs.lemmas.Bool.{false≢true, ne_eqb}
-use Rattle.std.proofs.lemmas.Option.{none-some, same_Some}
+use Rattle.std.proofs.lemmas.Option.{same_Some}
 use Rattle.rv_model.specs.declared.dcsr.Dcsr.{Dcsr}
 use Rattle.rv_model.specs.declared.mem_fault.MemFault.{MemFault}
 use Rattle.rv_model.specs.declared.mem_fault.MemFault.TheVariants.{Misaligned, Outside}
@@ -27,7 +27,7 @@ use Rattle.debugger_laws.specs.Lines.{Line}
 use Rattle.debugger_laws.specs.Plan.{Plan, ebreak_halts, register_set, slot_changed, with_debug_part}
 use Rattle.debugger_laws.specs.Plan.Change.{EbreakHalts, FreeSlot, WriteMem, WriteReg}
 use Rattle.debugger_laws.specs.Plan.Plan.{change, say, see, take}
-use Rattle.debugger_laws.specs.Slots.{any_hit, first_free, hits_forgotten, hits_of, is_free, slots_at, slots_here, trigger_has_hit, use_of, with_slots}
+use Rattle.debugger_laws.specs.Slots.{any_hit, first_free, hits_forgotten, hits_of, slots_at, slots_here, trigger_has_hit, use_of, with_slots}
 use Rattle.debugger_laws.specs.Slots.Use.{Armed, Unused}
 use Rattle.debugger_laws.specs.Stands.{Deals, Origin, Pointed, Rewrote, Target}
 use Rattle.debugger_laws.specs.Trace.{What}

@@ -4,7 +4,6 @@ use Rattle.std.specs.Prelude.{◌≡◌, ℕ, [], Bool, Option}
 use Rattle.debug_model.specs.Told.{Far}
 use Rattle.debugger_laws.specs.Debugger.{at_halted}
 use Rattle.debugger_laws.specs.Plan.{Plan}
-use Rattle.debugger_laws.specs.Plan.Plan.{say}
 use Rattle.probe_run.specs.Acts.{Tells}
 use Rattle.probe_session.specs.declared.met.Met.{Met}
 use Rattle.probe_session.specs.declared.met.Met.TheVariants as met

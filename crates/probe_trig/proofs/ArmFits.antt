@@ -171,22 +171,22 @@ pub no_address_done : (what : SlotUse) (h : ℕ) (old : Tells) → address_named
 no_address_done what h old named = subst (λ (zs : List Transfer). Made h old zs old) (no_address (address_named what) named) Made.nothing
 
 pub armed_did : (what : SlotUse) (k slot h : ℕ) (old a b c new : Tells) → Made h old (Got Tselect k ∷ []) a → Did (Seeks (Some slot)) h a b → Made h b (armed what) c → Made h c (put_back k) new → Did (Arms what (Some slot)) h old new
-armed_did what k slot h old a b c new first seeks arms last = record {
+armed_did what k slot h old a b c new saved seeks arms last = record {
   transfers = arming what k seeks.transfers (Some slot);
   whole = record { kept = k; sought = seeks.transfers; seeks = seeks.whole; is = refl };
-  made = made_then h (Got Tselect k ∷ []) (seeks.transfers ++ (armed what ++ put_back k)) old a new first
+  made = made_then h (Got Tselect k ∷ []) (seeks.transfers ++ (armed what ++ put_back k)) old a new saved
       (made_then h seeks.transfers (armed what ++ put_back k) a b new seeks.made (made_then h (armed what) (put_back k) b c new arms last));
 }
 
 pub none_did : (what : SlotUse) (k h : ℕ) (old a b new : Tells) → Made h old (Got Tselect k ∷ []) a → Did (Seeks None) h a b → Made h b (put_back k) new → Did (Arms what None) h old new
-none_did what k h old a b new first seeks last = record {
+none_did what k h old a b new saved seeks last = record {
   transfers = arming what k seeks.transfers None;
   whole = record { kept = k; sought = seeks.transfers; seeks = seeks.whole; is = refl };
-  made = made_then h (Got Tselect k ∷ []) (seeks.transfers ++ put_back k) old a new first (made_then h seeks.transfers (put_back k) a b new seeks.made last);
+  made = made_then h (Got Tselect k ∷ []) (seeks.transfers ++ put_back k) old a new saved (made_then h seeks.transfers (put_back k) a b new seeks.made last);
 }
 
 pub sought_behind : (k h : ℕ) (old a b : Tells) (found : Option ℕ) → Made h old (Got Tselect k ∷ []) a → (seeks : Did (Seeks found) h a b) → Made h old (Got Tselect k ∷ seeks.transfers) b
-sought_behind k h old a b found first seeks = made_then h (Got Tselect k ∷ []) seeks.transfers old a b first seeks.made
+sought_behind k h old a b found saved seeks = made_then h (Got Tselect k ∷ []) seeks.transfers old a b saved seeks.made
 
 pub seeks_any : (h : ℕ) (a b : Tells) (found : Option ℕ) → Did (Seeks found) h a b → Did SeeksAny h a b
 seeks_any h a b found d = record { transfers = d.transfers; whole = (found, d.whole); made = d.made }

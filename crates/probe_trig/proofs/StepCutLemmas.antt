@@ -1,10 +1,10 @@
 -- Where stepping over and letting go broke off, stage by stage.
-use Rattle.std.proofs.Common.{◌≡◌, ◌∙◌, ◌⊎◌, ℕ, zero, suc, Bool, true, false, List, [], ◌∷◌, set, Option, Some, None, option_map, slice_get, refl, sym, ap, subst, append-nil, inl, inr}
+use Rattle.std.proofs.Common.{◌≡◌, ◌∙◌, ℕ, zero, suc, Bool, true, false, List, [], ◌∷◌, set, Option, Some, None, option_map, slice_get, refl, sym, ap, subst, append-nil}
 use Rattle.std.proofs.lemmas.Option.{none-some, same_Some}
 use Rattle.rv_model.specs.Board.{Board, Hart}
 use Rattle.debug_model.specs.Dmi.{DmiScript}
 use Rattle.debug_model.specs.declared.point.Point.TheVariants.{ResumeReq}
-use Rattle.debug_model.specs.Module.{DebugModule, Site}
+use Rattle.debug_model.specs.Module.{Site}
 use Rattle.debug_model.specs.Scan.{WhereTold}
 use Rattle.debug_model.specs.Told.{Far, IsHalted, IsReady, site_of}
 use Rattle.debugger_laws.specs.Debugger.{sees_ack}

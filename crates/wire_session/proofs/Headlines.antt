@@ -1,5 +1,5 @@
 -- The sentences of the headline, of a session over a wire that tells a chip as it was loaded.
-use Rattle.std.proofs.Common.{◌≡◌, ◌∙◌, ℕ, All, Bool, List, Option, Some, None, IfSome, refl, sym, ap, subst}
+use Rattle.std.proofs.Common.{◌≡◌, ◌∙◌, ℕ, All, List, Option, Some, None, IfSome, sym, ap, subst}
 use Rattle.std.proofs.lemmas.Option.{same_Some}
 use Rattle.rv_model.specs.Board.{machine_of}
 use Rattle.chip_laws.proofs.Timing.{timing_decides}

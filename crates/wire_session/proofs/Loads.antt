@@ -1,5 +1,5 @@
 -- A chip as it was loaded, of which no answer is unread, may be operated.
-use Rattle.std.proofs.Common.{◌≡◌, ℕ, List, [], Option, Some, None, refl, sym, subst, inl, inr}
+use Rattle.std.proofs.Common.{◌≡◌, ℕ, List, [], Option, Some, None, refl, sym, subst, inl}
 use Rattle.rv_model.specs.Board.{Board}
 use Rattle.debug_model.specs.Chip.{Live}
 use Rattle.debug_model.specs.Dmi.{CanOperate}

@@ -1,11 +1,11 @@
 -- The end of a stream, over plain variables: `Q` ends the chip and changes nothing else of it.
-use Rattle.std.proofs.Common.{◌≡◌, ◌∙◌, ◌++◌, ℕ, Bool, true, false, List, [], ◌∷◌, Option, Some, None, option_map, refl, sym, ap, subst}
+use Rattle.std.proofs.Common.{◌≡◌, ◌∙◌, ◌++◌, ℕ, true, List, [], ◌∷◌, Option, Some, None, option_map, refl, sym, ap, subst}
 use Rattle.debug_model.specs.declared.chip_end.ChipEnd.{ChipEnd}
 use Rattle.debug_model.specs.declared.command.Command.{Command}
 use Rattle.debug_model.specs.declared.wire.WireFault.{WireFault}
-use Rattle.debug_model.specs.Chip.{Chip, Live, feed}
+use Rattle.debug_model.specs.Chip.{Chip, feed}
 use Rattle.debug_model.specs.Dmi.{CanQuit}
-use Rattle.debug_model.specs.Offered.{Timing, timing_of}
+use Rattle.debug_model.specs.Offered.{timing_of}
 use Rattle.debug_model.specs.Ties.{Ties, timing_told}
 use Rattle.debug_model.specs.Told.{Far, chip_of}
 use Rattle.debug_model.specs.Wire.{SentFront, sent}

@@ -1,4 +1,4 @@
-use Rattle.std.proofs.Common.{Some, refl}
+use Rattle.std.proofs.Common.{refl}
 use Rattle.jtag_run.proofs.Countings.{counted_looped, counted_straight}
 use Rattle.jtag_run.proofs.generated.count.Goals as goal
 

@@ -1,4 +1,4 @@
-use Rattle.std.proofs.Common.{◌≡◌, ◌∙◌, true, sym}
+use Rattle.std.proofs.Common.{◌≡◌, true}
 use Rattle.wire_session.specs.Closing.{sends_quit}
 use Rattle.wire_session.specs.Closing.Closes.{unquitted}
 use Rattle.wire_session.proofs.stream_end.end_stream.Goals as goal
