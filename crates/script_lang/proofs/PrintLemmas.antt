@@ -18,14 +18,23 @@ hexadecimal-suc : (k n : ℕ) → hexadecimal (suc k) n ≡ hexadecimal k (n / 1
 unfolding hexadecimal
 hexadecimal-suc k n = refl
 
-pub hexadecimal-more : (count n : ℕ) → 0 < count → hexadecimal count n ≡ hexadecimal (count - 1) (n / 16) ++ (digit_char (n % 16) ∷ [])
+hexadecimal-more : (count n : ℕ) → 0 < count → hexadecimal count n ≡ hexadecimal (count - 1) (n / 16) ++ (digit_char (n % 16) ∷ [])
 hexadecimal-more zero n h = absurd (omega arith)
 hexadecimal-more (suc k) n h = hexadecimal-suc k n ∙ ap (λ j. hexadecimal j (n / 16) ++ (digit_char (n % 16) ∷ [])) (before k)
   where
     before : (k : ℕ) → k ≡ suc k - 1
     before k = omega arith
 
-pub ruleset hexadecimal_steps = (hexadecimal-none, hexadecimal-more)
+-- one digit more
+pub digits_step : (count n : ℕ) (old front after : List ℕ) (digit : ℕ) → 0 < count → front ≡ old ++ hexadecimal (count - 1) (n / 16) → digit ≡ digit_char (n % 16) → after ≡ front ++ (digit ∷ []) → after ≡ old ++ hexadecimal count n
+digits_step count n old front after digit h e f g =
+    let digits = hexadecimal (count - 1) (n / 16) in
+    let last = digit_char (n % 16) ∷ [] in
+    g
+    ∙ ap (λ d. front ++ (d ∷ [])) f
+    ∙ ap (λ ds. ds ++ last) e
+    ∙ append_assoc old digits last
+    ∙ sym (ap (λ ds. old ++ ds) (hexadecimal-more count n h))
 
 join_push : (name : List ℕ) (words : List (List ℕ)) (word : List ℕ) → join_with_byte space (name ∷ (words ++ (word ∷ []))) ≡ join_with_byte space (name ∷ words) ++ (space ∷ word)
 join_push name [] word = refl

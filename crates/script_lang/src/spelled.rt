@@ -58,7 +58,6 @@ fn write_address(text: &mut Vec<u8>, address: u64) -> Result<(), AllocError>
 }
 
 /// Appends the lowest hexadecimal digits of a number, the highest of them first.
-#[tactic(auto, using(crate::proofs::PrintLemmas::hexadecimal_steps))]
 fn write_digits(text: &mut Vec<u8>, count: u8, number: u64) -> Result<(), AllocError>
     ensures { OnOk result (text.new.items ≡ text.old.items ++ hexadecimal count number) }
 {

@@ -1,8 +1,6 @@
-use Rattle.std.proofs.Common.{◌++◌, ◌∷◌, [], ◌-◌, ◌/◌, ◌%◌, sym, ap, ◌∙◌, append_assoc, arith}
-use Rattle.std.specs.Char.{digit_char}
+use Rattle.std.proofs.Common.{◌++◌, sym, ap, ◌∙◌, arith}
 use Rattle.std.proofs.lemmas.List.{append-nil}
-use Rattle.debug_model.specs.Spelling.{hexadecimal}
-use Rattle.script_lang.proofs.PrintLemmas.{hexadecimal-none, hexadecimal-more}
+use Rattle.script_lang.proofs.PrintLemmas.{hexadecimal-none, digits_step}
 use Rattle.script_lang.proofs.spelled.+write_digits.Goals as goal
 
 pub returns-then-count-eq0 : goal.returns-then-count-eq0
@@ -11,10 +9,4 @@ returns-then-count-eq0 t c =
 
 pub returns : goal.returns
 returns t c =
-    let front = hexadecimal (c.args.count - 1) (c.args.number / 16) in
-    let last = digit_char (c.args.number % 16) ∷ [] in
-    c.in_ok-push.ensures.items
-    ∙ ap (λ d. c.write_digits.new.text.items ++ (d ∷ [])) c.hex_digit.ensures
-    ∙ ap (λ ds. ds ++ last) c.in_ok-write_digits.ensures
-    ∙ append_assoc c.args.text.now.items front last
-    ∙ sym (ap (λ ds. c.args.text.now.items ++ ds) (hexadecimal-more c.args.count c.args.number (omega arith)))
+    digits_step c.args.count c.args.number c.args.text.now.items c.write_digits.new.text.items _ _ (omega arith) c.in_ok-write_digits.ensures c.hex_digit.ensures c.in_ok-push.ensures.items
