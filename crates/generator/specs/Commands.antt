@@ -6,7 +6,7 @@ use Rattle.rv_model.specs.Registers.{first_x_number}
 use Rattle.debug_model.specs.declared.command.Command.{Command}
 use Rattle.debug_model.specs.declared.command.Command.TheVariants.{Halt, Resume, Step, Wait, Reg, Break, Clear}
 use Rattle.generator.specs.Image.{register}
-use Rattle.generator.specs.Words.{blocks, instructions, session_words}
+use Rattle.generator.specs.SeedWords.{blocks, instructions, session_words}
 
 -- the Looks of each wait
 abbrev pub looks : ℕ

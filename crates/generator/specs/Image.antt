@@ -8,7 +8,7 @@ use Rattle.rv_model.specs.declared.alu_op.ImmediateOp.TheVariants.{Addi}
 use Rattle.rv_model.specs.declared.alu_op.RegisterOp.TheVariants.{Add, Xor, Mul}
 use Rattle.rv_model.specs.declared.operands.RType.{RType}
 use Rattle.rv_model.specs.Rows.{meaning}
-use Rattle.generator.specs.Words.{program_words}
+use Rattle.generator.specs.SeedWords.{program_words}
 
 -- one of x5 to x20, by a number
 abbrev pub register : ℕ → ℕ

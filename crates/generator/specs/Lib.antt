@@ -1,3 +1,3 @@
 pub mod Commands
 pub mod Image
-pub mod Words
+pub mod SeedWords

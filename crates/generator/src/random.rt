@@ -1,5 +1,5 @@
 ghost use Rattle.std.specs.Prelude.{◌≡◌, IfOk, length};
-ghost use Rattle.generator.specs.Words.{words_of};
+ghost use Rattle.generator.specs.SeedWords.{words_of};
 
 use crate::program::INSTRUCTIONS;
 use crate::session::BLOCKS;

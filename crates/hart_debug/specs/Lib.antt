@@ -1,4 +1,4 @@
 pub mod Changes
 pub mod RegisterAnswers
 pub mod Stops
-pub mod Words
+pub mod BufferWord

@@ -5,7 +5,7 @@ use Rattle.chip_core.specs.Feeds.{limit_met}
 use Rattle.debug_model.specs.declared.command.Command.{Command}
 use Rattle.debug_model.specs.Chip.{Live}
 use Rattle.debug_model.specs.Told.{Far, read_out}
-use Rattle.debugger_laws.specs.Lines.{Line, text_of_all}
+use Rattle.abstract_debugger.specs.Lines.{Line, text_of_all}
 use Rattle.jt_base.specs.Sink.{grown}
 use Rattle.jtag_run.specs.Opening.{Joined}
 use Rattle.jtag_run.specs.Outside.{NetSeen}

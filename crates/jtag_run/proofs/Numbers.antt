@@ -16,7 +16,7 @@ use Rattle.jtag_run.specs.Ends.{Counted, GenEnd, Unjoined}
 use Rattle.jtag_run.specs.Ends.GenEnd.{summed, unjoined, unsummed}
 use Rattle.jtag_run.specs.Refusal.{Refused}
 use Rattle.jtag_run.specs.Summary.{summary_of}
-use Rattle.jtag_run.specs.Words.{Gen}
+use Rattle.jtag_run.specs.Jobs.{Gen}
 use Rattle.jtag_run.specs.declared.status.Status.{Status}
 use Rattle.jtag_run.specs.declared.status.Status.TheVariants as status_as
 use Rattle.probe_session.specs.declared.ended.Ended.{Ended as End}

@@ -12,7 +12,7 @@ use Rattle.jtag_run.specs.Outside.{FilesSeen}
 use Rattle.jtag_run.specs.Refusal.{AskedFront, ChipCause, HoldsScript, ImageFileCause, JobCause, LongImage, asked_script, most_image}
 use Rattle.jtag_run.specs.Refusal.FailedFile.{of_image}
 use Rattle.jtag_run.specs.ServedChip.{PreparedChip}
-use Rattle.jtag_run.specs.Words.{Both, Chip}
+use Rattle.jtag_run.specs.Jobs.{Both, Chip}
 use Rattle.jtag_run.specs.declared.refusal.Refusal.{Refusal}
 use Rattle.jtag_run.specs.declared.refusal.Refusal.TheVariants.{Words, File, Script, Image, Open, OutOfMemory}
 use Rattle.jt_base.proofs.FaultLemmas.{rises_from}

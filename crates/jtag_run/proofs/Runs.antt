@@ -26,11 +26,11 @@ use Rattle.jtag_run.specs.Refusal.RefusalCause.{of_both, of_chip, of_gen, of_pro
 use Rattle.jtag_run.specs.ServedChip.{RanChip, PreparedChip, ServedAt}
 use Rattle.jtag_run.specs.ServedChip.RanChip.{refused as refused_chip, served as served_chip}
 use Rattle.jtag_run.specs.Sessions.{IsLoadedBench, OnLoop}
-use Rattle.jtag_run.specs.Words.{Both, Chip, Gen, Probe, said_both, said_chip, said_gen, said_probe}
+use Rattle.jtag_run.specs.Jobs.{Both, Chip, Gen, Probe, said_both, said_chip, said_gen, said_probe}
 use Rattle.jtag_run.specs.declared.refusal.Refusal.{Refusal}
 use Rattle.jtag_run.specs.declared.status.Status.{Status}
 use Rattle.jtag_run.specs.declared.status.Status.TheVariants.{Sink}
-use Rattle.jtag_words.specs.Words.{job_of}
+use Rattle.command_line.specs.WrittenJob.{job_of}
 use Rattle.probe_session.specs.declared.ended.Ended.{Ended as End}
 use Rattle.wire_session.specs.Seen.{SinkSeen}
 

@@ -7,7 +7,7 @@ use Rattle.debug_model.specs.declared.net.Call.TheVariants as calls
 use Rattle.debug_model.specs.declared.net.NetFault.{NetFault}
 use Rattle.debug_model.specs.Chip.{Live}
 use Rattle.debug_model.specs.Told.{Far, read_out}
-use Rattle.debugger_laws.specs.Lines.{Line, is_error}
+use Rattle.abstract_debugger.specs.Lines.{Line, is_error}
 use Rattle.jt_base.specs.Faults.{Rises}
 use Rattle.jt_base.specs.Sink.{GrewByPrefix, grown}
 use Rattle.jtag_run.specs.Ending.{ClosedBy}

@@ -4,8 +4,8 @@ use Rattle.std.specs.Prelude.{ℕ, List}
 use Rattle.chip_core.specs.Loads.{loaded}
 use Rattle.debug_model.specs.Chip.{Live}
 use Rattle.debug_model.specs.Loaded.{Fits, RightHarts}
-use Rattle.jtag_run.specs.Words.{plan_of, start_of}
-use Rattle.jtag_words.specs.declared.job.ChipOptions.{ChipOptions}
+use Rattle.jtag_run.specs.Jobs.{plan_of, start_of}
+use Rattle.command_line.specs.declared.job.ChipOptions.{ChipOptions}
 use Rattle.rv_model.specs.Memory.{IsRamSize}
 
 pub record CanLoad (options : ChipOptions) (image : List ℕ) : Type 0 where

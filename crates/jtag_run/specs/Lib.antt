@@ -12,4 +12,4 @@ pub mod ServedChip
 pub mod Sessions
 pub mod Status
 pub mod Summary
-pub mod Words
+pub mod Jobs

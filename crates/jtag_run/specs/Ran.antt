@@ -12,10 +12,10 @@ use Rattle.jtag_run.specs.Outside.{NetSeen, Outside}
 use Rattle.jtag_run.specs.Ends.{BenchEnd, GenEnd, LoopEnd, ProbeEnd}
 use Rattle.jtag_run.specs.Refusal.{GenCause, HoldsScript, JobCause, RefusalCause, Refused, ScriptFileCause, asked_both, asked_image}
 use Rattle.jtag_run.specs.ServedChip.{IsAcceptedChip, ServedAt}
-use Rattle.jtag_run.specs.Words.{Both, Chip, Gen, Probe, said_both, said_gen, said_probe}
+use Rattle.jtag_run.specs.Jobs.{Both, Chip, Gen, Probe, said_both, said_gen, said_probe}
 use Rattle.jtag_run.specs.declared.refusal.Refusal.{Refusal}
 use Rattle.jtag_run.specs.declared.status.Status.{Status}
-use Rattle.jtag_words.specs.Words.{job_of}
+use Rattle.command_line.specs.WrittenJob.{job_of}
 use Rattle.wire_session.specs.Seen.{SinkSeen}
 
 -- ---- what was accepted

@@ -14,13 +14,13 @@ use Rattle.jtag_run.specs.LastLine.{Closed, words_refused, file_failed, script_r
 use Rattle.jtag_run.specs.Outside.{FilesSeen}
 use Rattle.wire_session.specs.Seen.{SinkSeen}
 use Rattle.jtag_run.specs.ScriptText.{IsAcceptedText}
-use Rattle.jtag_run.specs.Words.{Both, Chip, Gen, Probe, said_both, said_chip, said_gen, said_probe}
+use Rattle.jtag_run.specs.Jobs.{Both, Chip, Gen, Probe, said_both, said_chip, said_gen, said_probe}
 use Rattle.jtag_run.specs.declared.refusal.Refusal.{Refusal}
 use Rattle.jtag_run.specs.declared.refusal.Refusal.TheVariants.{Words, File, Script, Image, Open, OutOfMemory}
 use Rattle.jtag_run.specs.declared.status.Status.{Status}
 use Rattle.jtag_run.specs.declared.status.Status.TheVariants as status
-use Rattle.jtag_words.specs.Words.{job_of}
-use Rattle.jtag_words.specs.declared.job.ChipOptions.{ChipOptions}
+use Rattle.command_line.specs.WrittenJob.{job_of}
+use Rattle.command_line.specs.declared.job.ChipOptions.{ChipOptions}
 use Rattle.rv_model.specs.Memory.{IsRamSize}
 
 abbrev pub status_of : Refusal → Status

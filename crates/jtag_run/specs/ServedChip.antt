@@ -13,8 +13,8 @@ use Rattle.wire_session.specs.Seen.{SinkSeen}
 use Rattle.jtag_run.specs.Refusal.{ChipCause, Refused, asked_image}
 use Rattle.chip_server.specs.Served.{CountsOnce, WasServed}
 use Rattle.jtag_run.specs.Opening.{AcceptedAt, OpenFailed, refusal_of}
-use Rattle.jtag_run.specs.Words.{Chip, said_chip}
-use Rattle.jtag_words.specs.Words.{job_of}
+use Rattle.jtag_run.specs.Jobs.{Chip, said_chip}
+use Rattle.command_line.specs.WrittenJob.{job_of}
 use Rattle.jtag_run.specs.declared.refusal.Refusal.{Refusal}
 use Rattle.chip_server.specs.declared.served.Served.{Served}
 use Rattle.chip_server.specs.declared.served.Served.TheVariants.{Quit, PeerEnded, Bad, Limit, NetFailed}

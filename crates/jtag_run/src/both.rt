@@ -5,8 +5,8 @@ ghost use Rattle.debug_model.specs.Wire.{piece_most};
 ghost use Rattle.jtag_run.specs.Ran.{RanBoth};
 ghost use Rattle.jtag_run.specs.Ends.{BenchEnd, LoopEnd};
 ghost use Rattle.jtag_run.specs.Sessions.{IsLoadedBench};
-ghost use Rattle.jtag_run.specs.Words.{both_value};
-ghost use Rattle.jtag_words.specs.Words.{InRange, least_busy, least_piece, most_busy};
+ghost use Rattle.jtag_run.specs.Jobs.{both_value};
+ghost use Rattle.command_line.specs.WrittenJob.{InRange, least_busy, least_piece, most_busy};
 
 use crate::last_line::{refuse, tell};
 use crate::opening::refusal_of;

@@ -3,8 +3,8 @@
 ghost use Rattle.std.specs.Prelude.{◌≡◌, IsSome, None};
 ghost use Rattle.jtag_run.specs.Refusal.{ChipCause, Refused};
 ghost use Rattle.jtag_run.specs.ServedChip.{RanChip, ServedAt, Told, limit_first};
-ghost use Rattle.jtag_run.specs.Words.{chip_value};
-ghost use Rattle.jtag_words.specs.Words.{InRange, least_busy, most_busy};
+ghost use Rattle.jtag_run.specs.Jobs.{chip_value};
+ghost use Rattle.command_line.specs.WrittenJob.{InRange, least_busy, most_busy};
 
 use crate::last_line::{EVENT_LIMIT, close, refuse};
 use crate::lines::{bad_byte_line, wire_failed_line};

@@ -6,9 +6,9 @@ ghost use Rattle.jtag_run.specs.Ran.{Made, RanGen};
 ghost use Rattle.jtag_run.specs.Ends.{Counted, GenEnd, Unjoined};
 ghost use Rattle.jtag_run.specs.Refusal.{GenCause};
 ghost use Rattle.jtag_run.specs.Sessions.{IsLoadedBench};
-ghost use Rattle.jtag_run.specs.Words.{gen_value};
+ghost use Rattle.jtag_run.specs.Jobs.{gen_value};
 ghost use Rattle.wire_session.specs.Closing.{IsOfRegister};
-ghost use Rattle.jtag_words.specs.Words.{InRange, least_busy, least_piece, most_busy};
+ghost use Rattle.command_line.specs.WrittenJob.{InRange, least_busy, least_piece, most_busy};
 
 use crate::last_line::{refuse, tell};
 use crate::opening::refusal_of;

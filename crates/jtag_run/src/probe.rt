@@ -3,7 +3,7 @@
 ghost use Rattle.std.specs.Prelude.{◌≡◌, None};
 ghost use Rattle.jtag_run.specs.Ran.{RanProbe};
 ghost use Rattle.jtag_run.specs.Ends.{ProbeEnd};
-ghost use Rattle.jtag_run.specs.Words.{probe_value};
+ghost use Rattle.jtag_run.specs.Jobs.{probe_value};
 
 use crate::last_line::{refuse, tell};
 use crate::opening::refusal_of;

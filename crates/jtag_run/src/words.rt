@@ -2,12 +2,12 @@
 
 ghost use Rattle.std.specs.Prelude.{◌≡◌, IfOk, IfErr, Some, map, string_bytes};
 ghost use Rattle.jtag_run.specs.Refusal.{WordsCause};
-ghost use Rattle.jtag_run.specs.Words.{IsWork, HasWorkRanges};
-ghost use Rattle.jtag_words.specs.Job.{both, inputs_value, job_value};
-ghost use Rattle.jtag_words.specs.Words.{HasRanges, job_of};
+ghost use Rattle.jtag_run.specs.Jobs.{IsWork, HasWorkRanges};
+ghost use Rattle.command_line.specs.Job.{both, inputs_value, job_value};
+ghost use Rattle.command_line.specs.WrittenJob.{HasRanges, job_of};
 
 use crate::refusal::Refusal;
-use jtag_words::{ChipOptions, Inputs, Job, WordsFault, read_words};
+use command_line::{ChipOptions, Inputs, Job, WordsFault, read_words};
 use std::alloc::Global;
 
 /// A chip and a probe in one process, with an image and a script from two files.

@@ -8,7 +8,7 @@ use Rattle.std.proofs.lemmas.List.Folds.{list_all-append}
 use Rattle.debug_model.specs.Registers.{NamedRegister, named_registers, name_of_register}
 use Rattle.debug_model.specs.ScriptText.{line_feed}
 use Rattle.debug_model.specs.Spelling.{hexadecimal}
-use Rattle.debugger_laws.specs.Lines.{comma, spelled_places}
+use Rattle.abstract_debugger.specs.Lines.{comma, spelled_places}
 use Rattle.line_counts.specs.Counts.{tells_error}
 
 abbrev pub is_in_line : ℕ → Bool

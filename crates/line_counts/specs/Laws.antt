@@ -1,6 +1,6 @@
 -- What the counts are at the text of printed lines.
 use Rattle.std.specs.Prelude.{◌≡◌, List, length, map, count_by}
-use Rattle.debugger_laws.specs.Lines.{Line, is_error, words_of_line, text_of_all}
+use Rattle.abstract_debugger.specs.Lines.{Line, is_error, words_of_line, text_of_all}
 use Rattle.line_counts.specs.Counts.{whole_lines, lines_in, errors_in}
 
 -- the whole lines of a session's text are its lines

@@ -6,7 +6,7 @@ use Rattle.std.proofs.lemmas.Fmt.{decimal_digit}
 use Rattle.rv_model.specs.declared.slot_set.SlotSet.{SlotSet}
 use Rattle.rv_model.specs.SlotSet.{has_slot}
 use Rattle.debug_model.specs.ScriptText.{space}
-use Rattle.debugger_laws.specs.Lines.{comma, places_from, spelled_places}
+use Rattle.abstract_debugger.specs.Lines.{comma, places_from, spelled_places}
 use Rattle.probe_trig.specs.Slots.{hits_in}
 
 -- places, each behind a byte: the first behind one of its own, the others behind a comma

@@ -1,5 +1,5 @@
 //! The lines that a session prints. A `Line` says what happened, and `Line::text` is its exact text, with its line feed;
-//! `Line::is_error` says whether it tells of something that was refused. Both are those of `debugger_laws`, for every line
+//! `Line::is_error` says whether it tells of something that was refused. Both are those of `abstract_debugger`, for every line
 //! whatever its numbers. The parts that a text is made of are public too, for lines of other kinds.
 #![tactic(auto)]
 

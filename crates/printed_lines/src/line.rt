@@ -1,5 +1,5 @@
 ghost use Rattle.std.specs.Prelude.{◌≡◌};
-ghost use Rattle.debugger_laws.specs.Lines.{is_error};
+ghost use Rattle.abstract_debugger.specs.Lines.{is_error};
 ghost use Rattle.printed_lines.specs.Line.{line_of};
 
 use arrayvec::ArrayVec;

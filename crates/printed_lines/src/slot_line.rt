@@ -1,7 +1,7 @@
 ghost use Rattle.std.specs.Prelude.{◌≡◌, ◌≤◌, ◌<◌, ◌+◌, ◌++◌, codes, decimal};
 ghost use Rattle.arrayvec.specs.ArrayVec.{array_vec_len};
-ghost use Rattle.debugger_laws.specs.Lines.{spelled_hit, spelled_use};
-ghost use Rattle.probe_trig.specs.Words.{use_named};
+ghost use Rattle.abstract_debugger.specs.Lines.{spelled_hit, spelled_use};
+ghost use Rattle.probe_trig.specs.SlotRegisters.{use_named};
 
 use crate::digits::{push_address, push_decimal};
 use crate::line_text::{LINE_MOST, LineText, push_word};

@@ -3,7 +3,7 @@ ghost use Rattle.arrayvec.specs.ArrayVec.{array_vec_len};
 ghost use Rattle.rv_model.specs.Size.{count_of};
 ghost use Rattle.debug_model.specs.Registers.{name_of_register};
 ghost use Rattle.debug_model.specs.Spelling.{hexadecimal, spelled_address};
-ghost use Rattle.debugger_laws.specs.Lines.{spelled_digits, text_of, words_of_line};
+ghost use Rattle.abstract_debugger.specs.Lines.{spelled_digits, text_of, words_of_line};
 ghost use Rattle.printed_lines.specs.Line.{line_of};
 
 use crate::digits::{ADDRESS_LENGTH, DECIMAL_MOST, push_address, push_decimal, push_hex};

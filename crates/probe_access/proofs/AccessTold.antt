@@ -11,7 +11,7 @@ use Rattle.probe_run.specs.Acts.{Did, Tells}
 use Rattle.probe_access.specs.CommandRuns.{RanCommand, error_shown}
 use Rattle.probe_access.specs.MemoryRuns.{PutBack, Saved, program_written}
 use Rattle.probe_access.specs.RegisterRuns.{RegisterWritten}
-use Rattle.probe_access.specs.Words.{ebreak_word, progbuf0_address, progbuf1_address, program_word, x8_number, x9_number}
+use Rattle.probe_access.specs.RegisterAccess.{ebreak_word, progbuf0_address, progbuf1_address, program_word, x8_number, x9_number}
 use Rattle.probe_access.proofs.AccessSteps.{WordDid}
 use Rattle.probe_access.proofs.Along.{AtSites, SiteActs, did_sites}
 use Rattle.probe_access.proofs.Aside.{accessed, passed}

@@ -20,7 +20,7 @@ use Rattle.probe_access.specs.MemoryRuns.PutBackFailed.{at_x8 as put_x8, at_x9 a
 use Rattle.probe_access.specs.MemoryRuns.SaveFailed.{at_x8 as save_x8, at_x9 as save_x9}
 use Rattle.probe_access.specs.RegisterRuns.{ReadFailed, WriteFailed}
 use Rattle.probe_access.specs.Registers.{reaches}
-use Rattle.probe_access.specs.Words.{program_word, x8_number, x9_number}
+use Rattle.probe_access.specs.RegisterAccess.{program_word, x8_number, x9_number}
 use Rattle.probe_access.proofs.AccessSteps.{WordDid}
 use Rattle.probe_access.proofs.AccessTold.{Addressed, Faulted, PerformedTold, SavedTold, addressed_told, back_told, neither_told, program_stood, ran_told, saved_told}
 use Rattle.probe_access.proofs.Aside.{Frozen, accessed, passed}

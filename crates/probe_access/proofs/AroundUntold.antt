@@ -10,7 +10,7 @@ use Rattle.probe_access.specs.MemoryRuns.PerformFailed.{in_program, in_address, 
 use Rattle.probe_access.specs.MemoryRuns.PutBackFailed.{at_x8 as put_x8, at_x9 as put_x9}
 use Rattle.probe_access.specs.MemoryRuns.SaveFailed.{at_x8 as save_x8, at_x9 as save_x9}
 use Rattle.probe_access.specs.RegisterRuns.{ReadFailed, WriteFailed}
-use Rattle.probe_access.specs.Words.{program_word, x8_number, x9_number}
+use Rattle.probe_access.specs.RegisterAccess.{program_word, x8_number, x9_number}
 use Rattle.probe_access.proofs.AccessEnd.{back_untold, performed_untold, saved_untold}
 
 abbrev pub PlainMemory : ℕ → Type 0 → AccessFault → Type 0

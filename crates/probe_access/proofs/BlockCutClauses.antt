@@ -10,7 +10,7 @@ use Rattle.debug_model.specs.Module.{DebugModule, Site}
 use Rattle.debug_model.specs.Scan.{WhereTold}
 use Rattle.debug_model.specs.SystemBus.{BusUnit}
 use Rattle.debug_model.specs.Told.{Far, IsHalted, IsReady, Selects, site_of}
-use Rattle.debugger_laws.specs.Debugger.{sees_both}
+use Rattle.abstract_debugger.specs.Debugger.{sees_both}
 use Rattle.probe_access.specs.declared.fault.AccessFault.{AccessFault}
 use Rattle.probe_run.specs.declared.fault.RunFault.{RunFault}
 use Rattle.probe_run.specs.declared.fault.RunFault.TheVariants as run_fault

@@ -15,7 +15,7 @@ use Rattle.debug_model.specs.Dmi.SiteCut.{was_performed}
 use Rattle.debug_model.specs.Module.{DebugModule, Site}
 use Rattle.debug_model.specs.SystemBus.{BusUnit}
 use Rattle.debug_model.specs.Told.{Far, IsReady, SiteReady, site_of}
-use Rattle.debugger_laws.specs.Turns.{after_turns, turns}
+use Rattle.abstract_debugger.specs.Turns.{after_turns, turns}
 use Rattle.probe_access.specs.declared.fault.AccessFault.{AccessFault}
 use Rattle.probe_access.specs.declared.fault.AccessFault.TheVariants as access_fault
 use Rattle.probe_run.specs.Acts.{Act, Attempt, Broke, Did, Tells, tells}

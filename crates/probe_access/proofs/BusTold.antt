@@ -17,12 +17,12 @@ use Rattle.debug_model.specs.Module.{DebugModule, Site, operated, operation_resu
 use Rattle.debug_model.specs.ModuleWords.{sbcs_word}
 use Rattle.debug_model.specs.SystemBus.{BusDone, BusUnit, bus_done, sbcs_shown}
 use Rattle.debug_model.specs.Told.{BusReady, MemoryReady, ModuleReady, SiteReady}
-use Rattle.debugger_laws.specs.Turns.{after_turns, turns}
+use Rattle.abstract_debugger.specs.Turns.{after_turns, turns}
 use Rattle.probe_run.specs.Acts.Act.{Got, Put}
 use Rattle.probe_run.specs.Opening.{clears_sberror, sbcs_address}
 use Rattle.probe_access.specs.Accesses.{OneBusAccess, with_memory}
 use Rattle.probe_access.specs.BusRuns.{bus_busy, bus_poll, cut_to, read_started, sbaddress0_address, sbaddress1_address, sbdata0_address, sbdata1_address, setting, write_started}
-use Rattle.probe_access.specs.Words.{joined}
+use Rattle.probe_access.specs.RegisterAccess.{joined}
 use Rattle.probe_access.proofs.AccessEnd.{ready_before}
 use Rattle.probe_access.proofs.Along.{SiteActs}
 use Rattle.probe_access.proofs.Aside.{accessed, passed}

@@ -13,7 +13,7 @@ use Rattle.probe_access.specs.MemoryRuns.StoreFailedInside.{performing as store_
 use Rattle.probe_access.specs.RegisterRuns.{DoubleReads, DoubleWrites, ReadFailed, ReadFailedAt, WriteFailed, WriteFailedAt}
 use Rattle.probe_access.specs.RegisterRuns.ReadFailedAt.{in_command as read_in_command, in_words as read_in_words}
 use Rattle.probe_access.specs.RegisterRuns.WriteFailedAt.{in_command as written_in_command, in_words as written_in_words}
-use Rattle.probe_access.specs.Words.{program_word, transfer_word, x8_number, x9_number}
+use Rattle.probe_access.specs.RegisterAccess.{program_word, transfer_word, x8_number, x9_number}
 use Rattle.probe_access.proofs.RegisterCalls.{broke_counted}
 
 pub command_counted : (word count mid_count new_count : ℕ) (old new : Tells) (e : AccessFault) → count ≤ mid_count → mid_count ≤ new_count → CommandFailed word mid_count new_count old new e → CommandFailed word count new_count old new e

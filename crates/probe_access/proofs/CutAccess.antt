@@ -26,7 +26,7 @@ use Rattle.probe_access.specs.MemoryRuns.LoadFailedInside.{performing as load_pe
 use Rattle.probe_access.specs.MemoryRuns.PerformFailed.{in_program, in_address, in_run, faulted, oddly}
 use Rattle.probe_access.specs.MemoryRuns.ProgramBegun.{first as first_word, second as second_word}
 use Rattle.probe_access.specs.MemoryRuns.StoreFailedInside.{performing as store_performing, writing as store_writing}
-use Rattle.probe_access.specs.Words.{command_address, ebreak_word, load_word, progbuf0_address, progbuf1_address, program_command, program_word, store_word, x8_number, x9_number}
+use Rattle.probe_access.specs.RegisterAccess.{command_address, ebreak_word, load_word, progbuf0_address, progbuf1_address, program_command, program_word, store_word, x8_number, x9_number}
 use Rattle.probe_access.proofs.AccessSteps.{Running, Stage, WordDid, program_of, rest_of, running, stage_ran}
 use Rattle.probe_access.proofs.AccessSteps.Stage.{at_start, in_middle, at_end, at_fault}
 use Rattle.probe_access.proofs.AccessTold.{Addressed, SavedTold, addressed_told, decided, program_stood, saved_told, with_first, with_program}

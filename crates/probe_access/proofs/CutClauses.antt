@@ -10,7 +10,7 @@ use Rattle.debug_model.specs.Dmi.{DmiScript}
 use Rattle.debug_model.specs.Module.{Site}
 use Rattle.debug_model.specs.SystemBus.{BusUnit}
 use Rattle.debug_model.specs.Told.{Far, HartHalted, IsHalted, IsReady, Selects, site_of}
-use Rattle.debugger_laws.specs.Turns.{after_turns, turns}
+use Rattle.abstract_debugger.specs.Turns.{after_turns, turns}
 use Rattle.probe_access.specs.declared.fault.AccessFault.{AccessFault}
 use Rattle.probe_run.specs.Acts.{Tells, tells}
 use Rattle.probe_run.specs.Sites.{put_hart}
@@ -21,7 +21,7 @@ use Rattle.probe_access.specs.MemoryRuns.{AroundFailed, LoadFailedInside, Loaded
 use Rattle.probe_access.specs.RegisterRuns.{ReadFailed, WriteFailed}
 use Rattle.probe_access.specs.Stops.{StopFailed, dpc_number}
 use Rattle.probe_access.specs.Stops.StopFailed.{at_dcsr, at_dpc}
-use Rattle.probe_access.specs.Words.{x9_number}
+use Rattle.probe_access.specs.RegisterAccess.{x9_number}
 use Rattle.probe_access.proofs.Aside.{accessed, passed}
 use Rattle.probe_access.proofs.CutAccess.{AnyScratch, HungInside, InsideAt, around_hung, load_cut, store_cut}
 use Rattle.probe_access.proofs.CutAccess.InsideAt.{not_yet, made}

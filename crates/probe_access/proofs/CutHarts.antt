@@ -28,7 +28,7 @@ use Rattle.probe_access.specs.RegisterRuns.DoubleReads.{lower as low_read, upper
 use Rattle.probe_access.specs.RegisterRuns.DoubleWrites.{lower as low_written, upper as high_written}
 use Rattle.probe_access.specs.RegisterRuns.ReadFailedAt.{in_command as read_in_command, in_words as read_in_words}
 use Rattle.probe_access.specs.RegisterRuns.WriteFailedAt.{in_command as written_in_command, in_words as written_in_words}
-use Rattle.probe_access.specs.Words.{command_address, data0_address, data1_address, transfer_command, transfer_word, x8_number, x9_number}
+use Rattle.probe_access.specs.RegisterAccess.{command_address, data0_address, data1_address, transfer_command, transfer_word, x8_number, x9_number}
 use Rattle.probe_access.proofs.Along.{AtSites, did_sites}
 use Rattle.probe_access.proofs.Aside.{Frozen, aside, passed}
 use Rattle.probe_access.proofs.CutSites.{CommandCutAt, CommandCutTold, CutAt, Rests, SentAt, command_cut_told, cut_at, got_cut, if_cut, put_cut}

@@ -21,7 +21,7 @@ use Rattle.probe_access.specs.CommandRuns.{CommandBegun, CommandFailed, error_sh
 use Rattle.probe_access.specs.CommandRuns.CommandBegun.{writes, polls, clears}
 use Rattle.probe_access.specs.Cuts.{IfCut}
 use Rattle.probe_access.specs.MemoryRuns.{Recovers}
-use Rattle.probe_access.specs.Words.{command_address}
+use Rattle.probe_access.specs.RegisterAccess.{command_address}
 use Rattle.probe_access.proofs.Along.{AtSites, SiteActs, did_sites}
 use Rattle.probe_access.proofs.Aside.{aside, passed}
 use Rattle.chip_laws.proofs.PathLemmas.{ran-append}

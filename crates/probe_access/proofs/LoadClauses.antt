@@ -23,7 +23,7 @@ use Rattle.probe_access.specs.MemoryRuns.LoadFailedInside.{performing, reading}
 use Rattle.probe_access.proofs.AroundTold.{FaultInside, OkInside, OnlyMemory, around_only, clean_only, only_map, perform_only, read_clean, reads_x9}
 use Rattle.probe_access.proofs.AroundUntold.{PlainMemory, around_plain, perform_plain, read_plain}
 use Rattle.debug_model.specs.Chip.{Chip}
-use Rattle.probe_access.specs.Words.{load_word, x8_number, x9_number}
+use Rattle.probe_access.specs.RegisterAccess.{load_word, x8_number, x9_number}
 use Rattle.probe_access.proofs.AccessEnd.{AccessEnd, access_end, access_serving, back_untold, one_access, performed_untold, read_untold, ready_before, saved_untold}
 use Rattle.probe_access.proofs.AccessTold.{Addressed, Faulted, PerformedTold, SavedTold, Went, addressed_told, back_told, faulted_told, held_as, ran_told, saved_told, went_told}
 use Rattle.probe_access.proofs.Aside.{accessed, passed}

@@ -11,7 +11,7 @@ use Rattle.debug_model.specs.Dmi.{value_of}
 use Rattle.debug_model.specs.Module.{Site, after_write, result_of}
 use Rattle.debug_model.specs.SystemBus.{BusUnit}
 use Rattle.probe_access.specs.CommandRuns.{clearing, command_acts, error_shown, shows_busy}
-use Rattle.probe_access.specs.Words.{command_address, program_command, program_word}
+use Rattle.probe_access.specs.RegisterAccess.{command_address, program_command, program_word}
 use Rattle.probe_access.proofs.AccessSteps.{Running, Stage, WordDid, program_of, running, stage_ran}
 use Rattle.probe_access.proofs.AccessSteps.Stage.{at_start, in_middle, at_end, at_fault}
 use Rattle.probe_access.proofs.Along.{SiteActs}

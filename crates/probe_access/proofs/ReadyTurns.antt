@@ -7,7 +7,7 @@ use Rattle.probe_run.proofs.Wide.{BoardWide, each_turns, wide_turns}
 use Rattle.debug_model.specs.Deeds.{turned, turned_by}
 use Rattle.debug_model.specs.Module.{Site}
 use Rattle.debug_model.specs.Told.{HartReady, MemoryReady}
-use Rattle.debugger_laws.specs.Turns.{after_turns, turns}
+use Rattle.abstract_debugger.specs.Turns.{after_turns, turns}
 use Rattle.probe_access.proofs.Aside.{passed}
 
 -- ---- the turns of harts that are there

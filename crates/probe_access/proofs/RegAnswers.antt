@@ -6,13 +6,13 @@ use Rattle.debug_model.specs.Dmi.{value_of}
 use Rattle.debug_model.specs.Module.{DebugModule, Site}
 use Rattle.debug_model.specs.SystemBus.{BusUnit}
 use Rattle.debug_model.specs.Told.{Far, HartHalted, ModuleReady, SiteReady, site_of}
-use Rattle.debugger_laws.specs.Turns.{after_turns}
+use Rattle.abstract_debugger.specs.Turns.{after_turns}
 use Rattle.probe_run.specs.Acts.{Did, Tells}
 use Rattle.probe_run.specs.Sites.{put_hart}
 use Rattle.probe_access.specs.CommandRuns.{RanCommand, error_shown}
 use Rattle.probe_access.specs.RegisterRuns.{DoubleRead, RanOddly, RanTo, RegisterRead, RegisterWritten, double_written}
 use Rattle.probe_access.specs.Registers.{TurnsPassed, TurnsPassedBut, reaches}
-use Rattle.probe_access.specs.Words.{joined, transfer_word}
+use Rattle.probe_access.specs.RegisterAccess.{joined, transfer_word}
 use Rattle.probe_access.proofs.Along.{AtSites, did_sites}
 use Rattle.probe_access.proofs.Aside.{passed}
 use Rattle.probe_access.proofs.ReadyTurns.{BoardReady, Passed, board_ready_turns, passed_turns}

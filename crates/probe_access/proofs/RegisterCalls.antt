@@ -22,7 +22,7 @@ use Rattle.probe_access.specs.RegisterRuns.{DoubleReads, ReadFailed, WriteFailed
 use Rattle.probe_access.specs.RegisterRuns.ReadFailedAt.{in_command as read_in_command, in_words as read_in_words}
 use Rattle.probe_access.specs.RegisterRuns.WriteFailedAt.{in_command as written_in_command}
 use Rattle.probe_run.specs.Acts.Did.{nothing}
-use Rattle.probe_access.specs.Words.{command_address, transfer_word}
+use Rattle.probe_access.specs.RegisterAccess.{command_address, transfer_word}
 use Rattle.probe_run.proofs.ActLemmas.{broke_list, broke_one, broke_then, did_list, did_one, did_then}
 use Rattle.probe_run.specs.Opening.{abstractcs_address, clears_cmderr}
 

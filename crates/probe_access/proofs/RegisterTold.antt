@@ -12,7 +12,7 @@ use Rattle.probe_run.specs.Acts.Act.{Got, Put}
 use Rattle.probe_access.specs.CommandRuns.{clearing, command_acts, error_shown, poll_act, shows_busy}
 use Rattle.probe_access.specs.RegisterRuns.{double_written}
 use Rattle.probe_access.proofs.Aside.{Frozen, aside, passed}
-use Rattle.probe_access.specs.Words.{command_address, data0_address, data1_address, transfer_command, transfer_word}
+use Rattle.probe_access.specs.RegisterAccess.{command_address, data0_address, data1_address, transfer_command, transfer_word}
 use Rattle.probe_access.proofs.Along.{ReadAt, SiteActs, Split, site_acts-split}
 use Rattle.probe_access.proofs.ReadyUnit.{Held, Kept, OpAt, op_at, op_done, unit_of, unit_with}
 use Rattle.probe_access.proofs.Steps.{DoneAt}

@@ -12,7 +12,7 @@ use Rattle.probe_access.specs.declared.fault.AccessFault.TheVariants as access_f
 use Rattle.probe_run.specs.Acts.{Tells, tells}
 use Rattle.probe_access.specs.MemoryRuns.{PutBack, PutBackFailed, SaveFailed, Saved}
 use Rattle.probe_access.specs.Scratches.{PutBackAt, SavedAt, ScratchLeft}
-use Rattle.probe_access.specs.Words.{x8_number, x9_number}
+use Rattle.probe_access.specs.RegisterAccess.{x8_number, x9_number}
 use Rattle.probe_access.proofs.AccessEnd.{back_untold, saved_untold}
 use Rattle.probe_access.proofs.AccessTold.{SavedTold, saved_told}
 use Rattle.probe_access.proofs.AroundTold.{Clean, put_back_clean, save_clean}

@@ -11,10 +11,10 @@ use Rattle.debug_model.specs.Module.{Site}
 use Rattle.debug_model.specs.Scan.{WhereTold}
 use Rattle.debug_model.specs.SystemBus.{BusUnit}
 use Rattle.debug_model.specs.Told.{Far, IsHalted, IsReady, Selects, site_of}
-use Rattle.debugger_laws.specs.Stands.{Rewrote}
-use Rattle.debugger_laws.specs.Turns.{after_turns}
-use Rattle.debugger_laws.proofs.FrozenLemmas.{frozen_stays}
-use Rattle.debugger_laws.proofs.OverLemmas.{set-over}
+use Rattle.abstract_debugger.specs.Stands.{Rewrote}
+use Rattle.abstract_debugger.specs.Turns.{after_turns}
+use Rattle.abstract_debugger.proofs.FrozenLemmas.{frozen_stays}
+use Rattle.abstract_debugger.proofs.OverLemmas.{set-over}
 use Rattle.probe_run.specs.Acts.{Tells, tells}
 use Rattle.probe_run.specs.Happens.{target_of}
 use Rattle.probe_access.specs.Registers.{TurnsPassedBut}

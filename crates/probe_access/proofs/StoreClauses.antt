@@ -20,7 +20,7 @@ use Rattle.probe_access.specs.MemoryRuns.{Around, AroundFailed, Performed, Store
 use Rattle.probe_access.specs.MemoryRuns.StoreFailedInside.{performing, writing}
 use Rattle.probe_access.proofs.AroundTold.{FaultInside, OkInside, OnlyMemory, around_only, clean_only, only_map, perform_only, write_clean, writes_x9}
 use Rattle.probe_access.proofs.AroundUntold.{PlainMemory, around_plain, perform_plain, write_plain}
-use Rattle.probe_access.specs.Words.{store_word, x8_number, x9_number}
+use Rattle.probe_access.specs.RegisterAccess.{store_word, x8_number, x9_number}
 use Rattle.probe_access.proofs.AccessEnd.{AccessEnd, access_end, access_serving, back_untold, one_access, performed_untold, ready_before, saved_untold, written_untold}
 use Rattle.probe_access.proofs.AccessTold.{Addressed, Faulted, PerformedTold, SavedTold, Went, addressed_told, back_told, faulted_told, ran_told, saved_told, went_told}
 use Rattle.probe_access.proofs.LoadClauses.{AccessErr, Fits, fits_of, told_err, untold_err}

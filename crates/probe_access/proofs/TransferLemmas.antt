@@ -20,7 +20,7 @@ use Rattle.debug_model.specs.ModuleWords.{abstractcs_of, abstractcs_word, cmderr
 use Rattle.debug_model.specs.SystemBus.{BusUnit}
 use Rattle.probe_run.specs.Acts.Act.{Got, Put}
 use Rattle.probe_access.proofs.Aside.{Frozen, HartAt, aside, passed, with_unit}
-use Rattle.probe_access.specs.Words.{command_address, transfer_command, transfer_word}
+use Rattle.probe_access.specs.RegisterAccess.{command_address, transfer_command, transfer_word}
 use Rattle.probe_access.proofs.Along.{SiteActs, Split, site_acts-split}
 use Rattle.chip_laws.proofs.PathLemmas.{ran-append}
 use Rattle.probe_access.proofs.Quiet.{active_ran}

@@ -12,7 +12,7 @@ use Rattle.rv_model.specs.Effects.{after_load, effect_of, same_memory, stored_st
 use Rattle.rv_model.specs.Memory.{Memory, after_store, loaded, store_answer}
 use Rattle.rv_model.specs.ProgramBuffer.{Debugged, debugged, executed, ran_word}
 use Rattle.rv_model.specs.Rows.{meaning}
-use Rattle.probe_access.specs.Words.{load_word, store_word}
+use Rattle.probe_access.specs.RegisterAccess.{load_word, store_word}
 use Rattle.probe_access.proofs.AccessSteps.{WordDid}
 use Rattle.probe_access.proofs.AccessSteps.WordDid.{faulted, went}
 use Rattle.probe_access.proofs.Aside.{Frozen}

@@ -8,7 +8,7 @@ use Rattle.debug_model.specs.declared.cmderr.Cmderr.TheVariants.{Fine, Busy, Not
 use Rattle.debug_model.specs.Commands.{CommandUnit, abstractcs_shown, busy}
 use Rattle.debug_model.specs.Dmi.{value_of}
 use Rattle.debug_model.specs.ModuleWords.{abstractcs_of, abstractcs_word, cmderr_cleared, cmderr_number, command_of}
-use Rattle.probe_access.specs.Words.{program_command, program_word, transfer_command, transfer_word}
+use Rattle.probe_access.specs.RegisterAccess.{program_command, program_word, transfer_command, transfer_word}
 
 -- ---- abstractcs
 

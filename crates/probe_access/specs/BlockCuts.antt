@@ -5,8 +5,8 @@ use Rattle.rv_model.specs.declared.size.Size.{Size}
 use Rattle.rv_model.specs.Board.{Hart}
 use Rattle.debug_model.specs.declared.point.Point.TheVariants.{ResumeReq}
 use Rattle.debug_model.specs.Module.{Site}
-use Rattle.debugger_laws.specs.Debugger.{sees_both}
-use Rattle.debugger_laws.specs.Stands.{Rewrote, Target}
+use Rattle.abstract_debugger.specs.Debugger.{sees_both}
+use Rattle.abstract_debugger.specs.Stands.{Rewrote, Target}
 use Rattle.probe_run.specs.Happens.{RunCut, StepsAt, target_of}
 use Rattle.probe_access.specs.Blocks.{LoadedEach, StoredEach, element_at}
 use Rattle.probe_access.specs.Cuts.{AccessLeftOff, LeftAside, LoadLeaves, Scratched, StoreLeaves}

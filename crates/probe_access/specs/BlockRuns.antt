@@ -7,7 +7,7 @@ use Rattle.probe_run.specs.Acts.{Act, Attempt, Broke, Did, Tells}
 use Rattle.probe_run.specs.Acts.Act.{Got, Put}
 use Rattle.probe_access.specs.CommandRuns.{AlwaysBusy, error_shown, poll_act, shows_busy}
 use Rattle.probe_access.specs.RegisterRuns.{exception_error, no_error}
-use Rattle.probe_access.specs.Words.{command_address, data0_address, data1_address, joined, transfer_word}
+use Rattle.probe_access.specs.RegisterAccess.{command_address, data0_address, data1_address, joined, transfer_word}
 
 -- ---- what was read
 

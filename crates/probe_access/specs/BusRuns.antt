@@ -16,7 +16,7 @@ use Rattle.probe_run.specs.Acts.Attempt.{Operation}
 use Rattle.probe_run.specs.Opening.{clears_sberror, sbcs_address}
 use Rattle.probe_access.specs.CommandRuns.{polls_most}
 use Rattle.probe_access.specs.Faults.{BrokeIn}
-use Rattle.probe_access.specs.Words.{joined}
+use Rattle.probe_access.specs.RegisterAccess.{joined}
 
 -- ---- the registers
 

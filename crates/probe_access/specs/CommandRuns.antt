@@ -9,7 +9,7 @@ use Rattle.probe_run.specs.Acts.{Act, Attempt, Did, Tells}
 use Rattle.probe_run.specs.Acts.Act.{Got, Put}
 use Rattle.probe_run.specs.Acts.Attempt.{Operation}
 use Rattle.probe_access.specs.Faults.{BrokeIn}
-use Rattle.probe_access.specs.Words.{command_address}
+use Rattle.probe_access.specs.RegisterAccess.{command_address}
 use Rattle.probe_run.specs.Opening.{abstractcs_address, clears_cmderr}
 
 abbrev pub polls_most : ℕ

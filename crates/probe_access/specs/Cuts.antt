@@ -10,13 +10,13 @@ use Rattle.debug_model.specs.declared.point.Point.TheVariants.{Access}
 use Rattle.debug_model.specs.Chip.{Chip}
 use Rattle.debug_model.specs.Module.{Site}
 use Rattle.debug_model.specs.Told.{Far, site_of}
-use Rattle.debugger_laws.specs.Turns.{after_turns, turns}
+use Rattle.abstract_debugger.specs.Turns.{after_turns, turns}
 use Rattle.probe_access.specs.declared.fault.AccessFault.{AccessFault}
 use Rattle.probe_access.specs.declared.fault.AccessFault.TheVariants as fault
 use Rattle.probe_run.specs.Sites.{put_hart}
 use Rattle.probe_access.specs.Accesses.{with_memory}
 use Rattle.probe_access.specs.Registers.{IsHartAt, site_before}
-use Rattle.probe_access.specs.Words.{x8_number, x9_number}
+use Rattle.probe_access.specs.RegisterAccess.{x8_number, x9_number}
 
 -- ---- the hart
 

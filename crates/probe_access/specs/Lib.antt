@@ -13,4 +13,4 @@ pub mod Scratches
 pub mod SingleSteps
 pub mod StepRuns
 pub mod Stops
-pub mod Words
+pub mod RegisterAccess

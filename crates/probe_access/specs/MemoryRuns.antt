@@ -12,7 +12,7 @@ use Rattle.probe_run.specs.Acts.Attempt.{Operation}
 use Rattle.probe_access.specs.CommandRuns.{CommandFailed}
 use Rattle.probe_access.specs.Faults.{BrokeIn}
 use Rattle.probe_access.specs.RegisterRuns.{RanOddly, RanTo, ReadFailed, RegisterRead, RegisterWritten, WriteFailed, exception_error, no_error}
-use Rattle.probe_access.specs.Words.{ebreak_word, load_word, progbuf0_address, progbuf1_address, program_word, store_word, x8_number, x9_number}
+use Rattle.probe_access.specs.RegisterAccess.{ebreak_word, load_word, progbuf0_address, progbuf1_address, program_word, store_word, x8_number, x9_number}
 
 -- ---- x8 and x9
 

@@ -11,7 +11,7 @@ use Rattle.probe_run.specs.Acts.Act.{Got, Put}
 use Rattle.probe_run.specs.Acts.Attempt.{Operation}
 use Rattle.probe_access.specs.CommandRuns.{CommandFailed, RanCommand, error_shown}
 use Rattle.probe_access.specs.Faults.{BrokeIn}
-use Rattle.probe_access.specs.Words.{data0_address, data1_address, joined, transfer_word}
+use Rattle.probe_access.specs.RegisterAccess.{data0_address, data1_address, joined, transfer_word}
 
 -- ---- the data words
 

@@ -8,7 +8,7 @@ use Rattle.debug_model.specs.Told.{Far, site_of}
 use Rattle.probe_access.specs.declared.fault.AccessFault.{AccessFault}
 use Rattle.probe_access.specs.declared.fault.AccessFault.TheVariants as fault
 use Rattle.probe_access.specs.Registers.{IsHartAt, TurnsPassed, TurnsPassedBut, site_before}
-use Rattle.probe_access.specs.Words.{x8_number, x9_number}
+use Rattle.probe_access.specs.RegisterAccess.{x8_number, x9_number}
 
 -- the hart holds these
 pub record SavedAt (h x8 x9 : ℕ) (c : Chip) (new : Option Far) : Type 0 where

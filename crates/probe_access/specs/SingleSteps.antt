@@ -7,9 +7,9 @@ use Rattle.debug_model.specs.declared.point.Point.TheVariants.{ResumeReq}
 use Rattle.debug_model.specs.Chip.{Chip}
 use Rattle.debug_model.specs.Scan.{WhereTold}
 use Rattle.debug_model.specs.Told.{Far, site_of}
-use Rattle.debugger_laws.specs.Debugger.{Seen as Sight, most_looks, sees_ack, sees_both}
-use Rattle.debugger_laws.specs.Plan.{with_debug_part}
-use Rattle.debugger_laws.specs.Stands.{Rewrote, Target}
+use Rattle.abstract_debugger.specs.Debugger.{Seen as Sight, most_looks, sees_ack, sees_both}
+use Rattle.abstract_debugger.specs.Plan.{with_debug_part}
+use Rattle.abstract_debugger.specs.Stands.{Rewrote, Target}
 use Rattle.probe_access.specs.declared.fault.AccessFault.{AccessFault}
 use Rattle.probe_access.specs.declared.fault.AccessFault.TheVariants as fault
 use Rattle.probe_run.specs.declared.fault.RunFault.{RunFault}

@@ -5,7 +5,7 @@ ghost use Rattle.debug_model.specs.ModuleWords.{command_word};
 ghost use Rattle.probe_run.specs.Acts.{Did, tells};
 ghost use Rattle.probe_access.specs.Faults.{BrokeIn, LinkBehind};
 ghost use Rattle.probe_access.specs.CommandRuns.{CommandFailed, RanCommand};
-ghost use Rattle.probe_access.specs.Words.{program_command, transfer_command};
+ghost use Rattle.probe_access.specs.RegisterAccess.{program_command, transfer_command};
 
 use crate::fault::AccessFault;
 use crate::polling::{ABSTRACTCS, poll};

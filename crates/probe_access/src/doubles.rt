@@ -7,7 +7,7 @@ ghost use Rattle.probe_access.specs.Faults.{BrokeIn, LinkBehind};
 ghost use Rattle.probe_access.specs.RegisterRuns.{DoubleRead, DoubleReads, DoubleWrites, double_written};
 ghost use Rattle.debug_model.specs.Dmi.{LeavesStream};
 ghost use Rattle.debug_model.specs.Commands.{high_half, low_half};
-ghost use Rattle.probe_access.specs.Words.{joined};
+ghost use Rattle.probe_access.specs.RegisterAccess.{joined};
 
 use debug_model::{Dmi, DmiFault};
 

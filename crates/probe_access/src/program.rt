@@ -5,7 +5,7 @@ ghost use Rattle.probe_run.specs.Acts.{Did, tells};
 ghost use Rattle.probe_access.specs.Faults.{BrokeIn, LinkBehind};
 ghost use Rattle.debug_model.specs.Dmi.{LeavesStream};
 ghost use Rattle.probe_access.specs.MemoryRuns.{PerformFailed, Performed, ProgramBegun, program_written};
-ghost use Rattle.probe_access.specs.Words.{load_word, store_word};
+ghost use Rattle.probe_access.specs.RegisterAccess.{load_word, store_word};
 
 use crate::commands::{program, run_command};
 use crate::fault::AccessFault;

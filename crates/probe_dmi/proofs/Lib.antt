@@ -7,4 +7,4 @@ pub mod Scans
 pub mod Stages
 pub mod Told
 pub mod Updates
-pub mod Words
+pub mod WholeScans

@@ -15,7 +15,7 @@ use Rattle.probe_dmi.specs.Operations.{abits_behind}
 use Rattle.probe_dmi.specs.Registers.{CutFrom, IsWidth, WordScanned, idcode_bits, reset_bits}
 use Rattle.probe_dmi.proofs.Flight.{Settled, ticks_sticky}
 use Rattle.probe_dmi.proofs.Stages.{Harmless, settle_part, settle_scan}
-use Rattle.probe_dmi.proofs.Words.{dtmcs_read, idcode_read}
+use Rattle.probe_dmi.proofs.WholeScans.{dtmcs_read, idcode_read}
 use Rattle.probe_dmi.proofs.Told.{at_passed, clean_at, settled_first}
 
 none_of : (f : Far) (new : Option Far) (far : Far) (v : ℕ) → new ≡ Some far → Settled [] v (chip_of f).inside (chip_of far).inside → NoneOperated (chip_of f) new

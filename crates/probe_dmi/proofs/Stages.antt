@@ -22,7 +22,7 @@ use Rattle.probe_dmi.specs.Registers.Part.{before_capture, behind_capture, behin
 use Rattle.probe_dmi.proofs.Counts.{counts_in, course_losses, losses_one, scan_found, scan_losses, scan_unfound}
 use Rattle.probe_dmi.proofs.Flight.{Phase, Settled, Waiting, alike, settle_ticks, ticks_sticky, wait_capture, wait_ticks}
 use Rattle.probe_dmi.proofs.Flight.Phase.{flying, landed, missed}
-use Rattle.probe_dmi.proofs.Words.{asks_for, cut_scan, dmi_left, dtmcs_left, idcode_left}
+use Rattle.probe_dmi.proofs.WholeScans.{asks_for, cut_scan, dmi_left, dtmcs_left, idcode_left}
 use Rattle.probe_dmi.proofs.Updates.{ClearedBusy, Keeps, Spares, idcode_keeps, nop_keeps, reset_busy, reset_keeps, reset_spares, spares}
 
 -- ---- scans while nothing is in flight

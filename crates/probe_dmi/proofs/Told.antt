@@ -22,7 +22,7 @@ use Rattle.probe_dmi.proofs.Flight.{Settled, Waiting}
 use Rattle.probe_dmi.proofs.Stages.{Outcome, Reached, Sent, Stage, await, launch_busy, launch_part, launch_scan, nop_part, ready_op, reset_count, reset_part, reset_wait, stage_reached, wait_reached}
 use Rattle.probe_dmi.proofs.Stages.Outcome.{went_on, was_done, was_lost}
 use Rattle.probe_dmi.proofs.Stages.Stage.{ready, sent}
-use Rattle.probe_dmi.proofs.Words.{cut_scan, heard_of}
+use Rattle.probe_dmi.proofs.WholeScans.{cut_scan, heard_of}
 
 -- ---- where the loop stands
 

@@ -7,7 +7,7 @@ use Rattle.debug_model.specs.declared.sticky.Sticky.TheVariants.{Clear, Failed, 
 use Rattle.debug_model.specs.Course.{in_update, launches_by}
 use Rattle.debug_model.specs.Transport.{Dtm, cleared_by, controlled, launched, updated_dtm}
 use Rattle.probe_dmi.specs.Operations.{nop}
-use Rattle.probe_dmi.proofs.Words.{asks_nothing, asks_reset}
+use Rattle.probe_dmi.proofs.WholeScans.{asks_nothing, asks_reset}
 use Rattle.probe_dmi.specs.Registers.{dmi_bits, idcode_bits, reset_bits}
 
 pub record Keeps (r : DataRegister) (bits : List Bool) (d : Dtm) : Type 0 where

@@ -2,7 +2,7 @@
 use Rattle.std.proofs.Common.{◌≡◌, ◌≤◌, ℕ, List, [], map, Bool, Option, subst}
 use Rattle.debug_model.specs.declared.dmi.DmiFault.{DmiFault}
 use Rattle.debug_model.specs.Told.{Far}
-use Rattle.debugger_laws.specs.Debugger.{Seen, sees_ack}
+use Rattle.abstract_debugger.specs.Debugger.{Seen, sees_ack}
 use Rattle.probe_run.specs.declared.control.Request.{Request}
 use Rattle.probe_run.specs.declared.wait.Wanted.{Wanted}
 use Rattle.probe_run.specs.declared.wait.Waited.{Waited}

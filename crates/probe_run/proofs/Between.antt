@@ -8,7 +8,7 @@ use Rattle.debug_model.specs.declared.point.Point.TheVariants.{HaltReq, HaltClea
 use Rattle.debug_model.specs.Journal.{after_point, debug_changed, debug_changed_by, halt_requested, resume_asked, resume_asked_by}
 use Rattle.debug_model.specs.Module.{Site}
 use Rattle.debug_model.specs.Told.{HartExists, HartReady, ModuleReady, SiteReady}
-use Rattle.debugger_laws.specs.Turns.{after_turns}
+use Rattle.abstract_debugger.specs.Turns.{after_turns}
 use Rattle.probe_run.specs.Sites.{spun}
 use Rattle.probe_run.proofs.Asking.{GoAsked, HaltAsked, HaltSeen, KeptByTurns, OnlyAt, Stopped, Unasked, only_at_kept}
 use Rattle.probe_run.proofs.Wide.{BoardWide, EachHart, each_changed, each_turns, wide_turns}

@@ -7,7 +7,7 @@ use Rattle.debug_model.specs.Dmi.{OperationCut, SiteCut}
 use Rattle.debug_model.specs.Module.{Site}
 use Rattle.debug_model.specs.Scan.{WhereTold}
 use Rattle.debug_model.specs.Told.{Far, site_of}
-use Rattle.debugger_laws.specs.Stands.{Target}
+use Rattle.abstract_debugger.specs.Stands.{Target}
 use Rattle.probe_run.specs.Acts.{Act, Broke, Did, Tells}
 use Rattle.probe_run.specs.Acts.Attempt.{Operation}
 use Rattle.probe_run.specs.Happens.{Leaves, LeftBy, target_of}

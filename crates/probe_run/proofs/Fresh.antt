@@ -7,9 +7,9 @@ use Rattle.debug_model.specs.Course.{DeedsAlone, OneOperation}
 use Rattle.debug_model.specs.Dmi.{SiteCut}
 use Rattle.debug_model.specs.Dmi.SiteCut.{unperformed, was_performed}
 use Rattle.debug_model.specs.Module.{DebugModule, Site, operated}
-use Rattle.debugger_laws.specs.Stands.{Cut, Pointed, WentOn}
-use Rattle.debugger_laws.specs.Turns.{after_turns, turns}
-use Rattle.debugger_laws.proofs.StandsLemmas.{after_turns-append, turns-append}
+use Rattle.abstract_debugger.specs.Stands.{Cut, Pointed, WentOn}
+use Rattle.abstract_debugger.specs.Turns.{after_turns, turns}
+use Rattle.abstract_debugger.proofs.StandsLemmas.{after_turns-append, turns-append}
 use Rattle.probe_run.specs.Happens.{target_of}
 use Rattle.probe_run.specs.Sites.{IsQuiet, TurnsAlone, spun}
 use Rattle.probe_run.proofs.Asking.{OnlyAt, Unasked, only_at_kept, unasked_kept}

@@ -7,7 +7,7 @@ use Rattle.debug_model.specs.Dmi.{SiteCut}
 use Rattle.debug_model.specs.Module.{DebugModule, Site}
 use Rattle.debug_model.specs.Scan.{WhereTold}
 use Rattle.debug_model.specs.Told.{Far, HartHalted, IsHalted, IsReady, Selects, SiteReady, site_of}
-use Rattle.debugger_laws.specs.Debugger.{sees_halted}
+use Rattle.abstract_debugger.specs.Debugger.{sees_halted}
 use Rattle.probe_run.specs.declared.control.Request.TheVariants.{Nothing, Halt}
 use Rattle.probe_run.specs.Acts.{Broke, Did, Tells}
 use Rattle.probe_run.specs.Acts.Attempt.{Operation}

@@ -9,8 +9,8 @@ use Rattle.debug_model.specs.declared.point.Point.TheVariants.{Look, HaltReq, Ha
 use Rattle.debug_model.specs.Dmi.{SiteCut}
 use Rattle.debug_model.specs.Module.{Site}
 use Rattle.debug_model.specs.Told.{HartExists, HartHalted, SiteReady}
-use Rattle.debugger_laws.specs.Debugger.{Seen, most_looks, seen_at, seen_by, seen_here, sees_ack, sees_both, sees_halted}
-use Rattle.debugger_laws.specs.Stands.{Looked, Target}
+use Rattle.abstract_debugger.specs.Debugger.{Seen, most_looks, seen_at, seen_by, seen_here, sees_ack, sees_both, sees_halted}
+use Rattle.abstract_debugger.specs.Stands.{Looked, Target}
 use Rattle.probe_run.specs.declared.control.Request.TheVariants.{Nothing, Halt}
 use Rattle.probe_run.specs.Happens.{HaltsAt, InVain, MetAt, target_of}
 use Rattle.probe_run.specs.Looks.{Shows, ShowsNot, look_act, looks_until, seen_in}

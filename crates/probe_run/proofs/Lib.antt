@@ -10,7 +10,7 @@ pub mod WideHart
 pub mod Widths
 pub mod Wide
 pub mod Asking
-pub mod Words
+pub mod ControlAndStatus
 pub mod Steps
 pub mod RanLemmas
 pub mod Asked

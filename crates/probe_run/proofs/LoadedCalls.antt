@@ -8,7 +8,7 @@ use Rattle.debug_model.specs.declared.point.Point.TheVariants.{Look}
 use Rattle.debug_model.specs.Dmi.{NoneOperated, OperationCut, SiteCut}
 use Rattle.debug_model.specs.Module.{DebugModule, Site, reset_module}
 use Rattle.debug_model.specs.Told.{Far, ModuleReady, SiteReady, site_of}
-use Rattle.debugger_laws.specs.Stands.{Cut, Target, WentOn}
+use Rattle.abstract_debugger.specs.Stands.{Cut, Target, WentOn}
 use Rattle.probe_run.specs.declared.control.Request.TheVariants.{Nothing}
 use Rattle.probe_run.specs.declared.fault.ConnectFault.{ConnectFault}
 use Rattle.probe_run.specs.declared.fault.ConnectFault.TheVariants.{Dtm, Module, Abstract, Bus, Dmi}

@@ -17,7 +17,7 @@ use Rattle.probe_run.proofs.Fresh.{QuietUnit, Turns}
 use Rattle.probe_run.proofs.Moves.{select_point}
 use Rattle.probe_run.proofs.SiteLemmas.{same_site}
 use Rattle.probe_run.proofs.Steps.{looks, not_known, unless_busy}
-use Rattle.probe_run.proofs.Words.{control_for, control_read}
+use Rattle.probe_run.proofs.ControlAndStatus.{control_for, control_read}
 
 -- the unit of the module before dmactive, behind it, and behind the opening
 abbrev pub active_unit : DebugModule

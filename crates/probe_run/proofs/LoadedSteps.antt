@@ -10,9 +10,9 @@ use Rattle.debug_model.specs.declared.point.Point.TheVariants.{Look}
 use Rattle.debug_model.specs.Dmi.{value_of}
 use Rattle.debug_model.specs.Module.{DebugModule, Site, hart_status, module_version, register_at, reset_module, result_by, result_of}
 use Rattle.debug_model.specs.ModuleWords.{dmstatus_word}
-use Rattle.debugger_laws.specs.Stands.{Pointed, Target, WentOn}
-use Rattle.debugger_laws.specs.Turns.{after_turns, turns}
-use Rattle.debugger_laws.proofs.StandsLemmas.{after_turns-append, turns-append}
+use Rattle.abstract_debugger.specs.Stands.{Pointed, Target, WentOn}
+use Rattle.abstract_debugger.specs.Turns.{after_turns, turns}
+use Rattle.abstract_debugger.proofs.StandsLemmas.{after_turns-append, turns-append}
 use Rattle.probe_run.specs.declared.control.Request.TheVariants.{Nothing}
 use Rattle.probe_run.specs.Acts.Act.{Scanned, Put}
 use Rattle.probe_run.specs.Happens.{target_of}

@@ -11,10 +11,10 @@ use Rattle.debug_model.specs.Dmi.SiteCut.{unperformed, was_performed}
 use Rattle.debug_model.specs.Module.{DebugModule, Site, noted, operated}
 use Rattle.debug_model.specs.Scan.{WhereTold}
 use Rattle.debug_model.specs.Told.{Far, HartExists, HartHalted, IsReady, Selects, SiteReady, site_of}
-use Rattle.debugger_laws.specs.Debugger.{Seen as Sight, seen_at, seen_here, sees_halted}
-use Rattle.debugger_laws.specs.Stands.{Cut, Looked, Pointed, Target, WentOn}
-use Rattle.debugger_laws.specs.Turns.{after_turns, turns}
-use Rattle.debugger_laws.proofs.StandsLemmas.{after_turns-append, turns-append}
+use Rattle.abstract_debugger.specs.Debugger.{Seen as Sight, seen_at, seen_here, sees_halted}
+use Rattle.abstract_debugger.specs.Stands.{Cut, Looked, Pointed, Target, WentOn}
+use Rattle.abstract_debugger.specs.Turns.{after_turns, turns}
+use Rattle.abstract_debugger.proofs.StandsLemmas.{after_turns-append, turns-append}
 use Rattle.probe_run.specs.declared.control.Request.TheVariants.{Nothing}
 use Rattle.probe_run.specs.declared.hart.Seen.{Seen}
 use Rattle.probe_run.specs.declared.hart.Seen.TheVariants as seen

@@ -13,9 +13,9 @@ use Rattle.debug_model.specs.Dmi.SiteCut.{unperformed, was_performed}
 use Rattle.debug_model.specs.Journal.{after_point, halt_requested, resume_asked}
 use Rattle.debug_model.specs.Module.{DebugModule, Site, control_points, halt_points, noted, operated, operation_result}
 use Rattle.debug_model.specs.Told.{HartExists, ModuleReady}
-use Rattle.debugger_laws.specs.Debugger.{Seen, seen_at}
-use Rattle.debugger_laws.specs.Stands.{Cut, Looked, Pointed, Target}
-use Rattle.debugger_laws.specs.Turns.{after_turns}
+use Rattle.abstract_debugger.specs.Debugger.{Seen, seen_at}
+use Rattle.abstract_debugger.specs.Stands.{Cut, Looked, Pointed, Target}
+use Rattle.abstract_debugger.specs.Turns.{after_turns}
 use Rattle.probe_run.specs.declared.control.Request.TheVariants.{Nothing, Halt, Resume}
 use Rattle.probe_run.specs.Happens.{target_of}
 use Rattle.probe_run.specs.Looks.{seen_in}
@@ -27,7 +27,7 @@ use Rattle.probe_run.proofs.RanLemmas.{OperatedAt}
 use Rattle.probe_run.proofs.SiteLemmas.{AmidOperation, quiet_deeds, quiet_operation}
 use Rattle.probe_run.proofs.Steps.{PointedAs, controls, look_shows, looks, pointed_amid, ready_quiet, selecting, went_alone}
 use Rattle.probe_run.proofs.Wide.{BoardWide, EachHart, wide_halt_requested, wide_resume_asked}
-use Rattle.probe_run.proofs.Words.{control_for}
+use Rattle.probe_run.proofs.ControlAndStatus.{control_for}
 
 -- hart h selected in a debug module
 abbrev pub selected_in : ℕ → DebugModule → DebugModule

@@ -8,7 +8,7 @@ use Rattle.debug_model.specs.Dmi.{SiteCut}
 use Rattle.debug_model.specs.Module.{DebugModule, Site}
 use Rattle.debug_model.specs.Scan.{WhereTold}
 use Rattle.debug_model.specs.Told.{Far, HartExists, HartHalted, IsHalted, IsReady, Selects, SiteReady}
-use Rattle.debugger_laws.specs.Debugger.{Seen, most_looks, sees_ack, sees_both}
+use Rattle.abstract_debugger.specs.Debugger.{Seen, most_looks, sees_ack, sees_both}
 use Rattle.probe_run.specs.declared.control.Request.TheVariants.{Resume}
 use Rattle.probe_run.specs.Acts.{Tells}
 use Rattle.probe_run.specs.Happens.{Exists, Leaves, LeftBy, MetAt, MissedAt, RunCut, target_of}

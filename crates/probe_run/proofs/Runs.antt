@@ -8,8 +8,8 @@ use Rattle.debug_model.specs.declared.point.Point.{Point}
 use Rattle.debug_model.specs.declared.point.Point.TheVariants.{Look}
 use Rattle.debug_model.specs.Dmi.{SiteCut}
 use Rattle.debug_model.specs.Module.{DebugModule, Site}
-use Rattle.debugger_laws.specs.Debugger.{Seen, most_looks, unseen}
-use Rattle.debugger_laws.specs.Stands.{Target}
+use Rattle.abstract_debugger.specs.Debugger.{Seen, most_looks, unseen}
+use Rattle.abstract_debugger.specs.Stands.{Target}
 use Rattle.probe_run.specs.Acts.{Act}
 use Rattle.probe_run.specs.Happens.{InVain, MetAt, MissedAt, RunCut, target_of}
 use Rattle.probe_run.specs.Happens.InVain.{none, again}

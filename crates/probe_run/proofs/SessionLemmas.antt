@@ -3,21 +3,21 @@ use Rattle.std.proofs.Common.{◌≡◌, ◌+◌, ◌-◌, ◌<◌, ℕ, suc, Bo
 use Rattle.rv_model.specs.Board.{Machine}
 use Rattle.debug_model.specs.declared.point.Point.{Point}
 use Rattle.debug_model.specs.declared.point.Point.TheVariants.{HaltClear, HaltReq, ResumeReq}
-use Rattle.debugger_laws.specs.Debugger.{Seen, lost_step, most_looks, seen_at, sees_ack, sees_both, sees_halted, unseen, until}
-use Rattle.debugger_laws.specs.Known.{IsKnown}
-use Rattle.debugger_laws.specs.Lines.{Line}
-use Rattle.debugger_laws.specs.Plan.{Plan}
-use Rattle.debugger_laws.specs.Plan.Plan.{stop, take}
-use Rattle.debugger_laws.specs.Plan.PlanEnd.{NoAck, NoHalt}
-use Rattle.debugger_laws.specs.Stands.{Deals, Origin, Target}
-use Rattle.debugger_laws.specs.Transcript.{World}
-use Rattle.debugger_laws.specs.Ways.{Way}
-use Rattle.debugger_laws.specs.Ways.Way.{Asked, Going, Idle, Over, Still}
-use Rattle.debugger_laws.proofs.DealsLemmas.{deals_again, deals_ask, deals_at_plan, deals_found, deals_go, deals_halt_clear, deals_halt_req}
+use Rattle.abstract_debugger.specs.Debugger.{Seen, lost_step, most_looks, seen_at, sees_ack, sees_both, sees_halted, unseen, until}
+use Rattle.abstract_debugger.specs.Known.{IsKnown}
+use Rattle.abstract_debugger.specs.Lines.{Line}
+use Rattle.abstract_debugger.specs.Plan.{Plan}
+use Rattle.abstract_debugger.specs.Plan.Plan.{stop, take}
+use Rattle.abstract_debugger.specs.Plan.PlanEnd.{NoAck, NoHalt}
+use Rattle.abstract_debugger.specs.Stands.{Deals, Origin, Target}
+use Rattle.abstract_debugger.specs.Transcript.{World}
+use Rattle.abstract_debugger.specs.Ways.{Way}
+use Rattle.abstract_debugger.specs.Ways.Way.{Asked, Going, Idle, Over, Still}
+use Rattle.abstract_debugger.proofs.DealsLemmas.{deals_again, deals_ask, deals_at_plan, deals_found, deals_go, deals_halt_clear, deals_halt_req}
 use Rattle.probe_run.specs.Happens.{InVain, MetAt}
 use Rattle.probe_run.specs.Happens.InVain.{none, again}
 use Rattle.probe_run.specs.SessionLaws.{HaltsLead, ResumesLead, StepsLead}
-use Rattle.debugger_laws.proofs.KnownPoints.{known-still, known-gone, known-over}
+use Rattle.abstract_debugger.proofs.KnownPoints.{known-still, known-gone, known-over}
 
 pub vain : (m : Machine) (sel : ℕ) (way : Way) (o : Origin) (test : Seen → Bool) (failed : Seen → Plan) (found : Plan) (lines : List Line) (old : Target) (k : ℕ) (last : Seen) (mid : Target) → InVain test sel old k last mid
     → (n all : ℕ) → k + n ≡ all → Deals m sel way o (until all sel test failed found unseen) lines old → Deals m sel way o (until n sel test failed found last) lines mid

@@ -13,12 +13,12 @@ use Rattle.debug_model.specs.Deeds.Deed.{Turned, CommandStepped, BusStepped}
 use Rattle.debug_model.specs.Module.{Site, operated, operation_result, selected_hart}
 use Rattle.debug_model.specs.SystemBus.{bus_done, bus_done_by, access_size}
 use Rattle.rv_model.specs.declared.size.Size.{Size}
-use Rattle.debugger_laws.specs.Laws.{IsFrozen}
-use Rattle.debugger_laws.specs.Plan.{hart_over}
-use Rattle.debugger_laws.specs.Turns.{after_turns, turns}
-use Rattle.debugger_laws.proofs.FrozenLemmas.{frozen_may_wait, frozen_stays}
-use Rattle.debugger_laws.proofs.OverLemmas.{set-over}
-use Rattle.debugger_laws.proofs.StandsLemmas.{after_turns-append, turns-append}
+use Rattle.abstract_debugger.specs.Laws.{IsFrozen}
+use Rattle.abstract_debugger.specs.Plan.{hart_over}
+use Rattle.abstract_debugger.specs.Turns.{after_turns, turns}
+use Rattle.abstract_debugger.proofs.FrozenLemmas.{frozen_may_wait, frozen_stays}
+use Rattle.abstract_debugger.proofs.OverLemmas.{set-over}
+use Rattle.abstract_debugger.proofs.StandsLemmas.{after_turns-append, turns-append}
 use Rattle.probe_run.specs.Sites.{Amid, IsFrozenAs, IsQuiet, TurnsAlone, put_hart, spun}
 
 -- ---- sites by their fields

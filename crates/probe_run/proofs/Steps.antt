@@ -13,18 +13,18 @@ use Rattle.debug_model.specs.Dmi.{value_of}
 use Rattle.debug_model.specs.Journal.{after_journal, debug_changed, debug_changed_by}
 use Rattle.debug_model.specs.Module.{DebugModule, Site, acknowledged, asked, control_points, controlled_by, noted, operated, register_at, reset_known, result_by, result_of}
 use Rattle.debug_model.specs.Told.{ModuleReady}
-use Rattle.debugger_laws.specs.Debugger.{seen_at}
-use Rattle.debugger_laws.specs.Stands.{Pointed, WentOn}
-use Rattle.debugger_laws.specs.Turns.{turns}
+use Rattle.abstract_debugger.specs.Debugger.{seen_at}
+use Rattle.abstract_debugger.specs.Stands.{Pointed, WentOn}
+use Rattle.abstract_debugger.specs.Turns.{turns}
 use Rattle.rv_model.proofs.MapLemmas.{set_same}
-use Rattle.debugger_laws.proofs.StandsLemmas.{after_turns-append, turns-append}
+use Rattle.abstract_debugger.proofs.StandsLemmas.{after_turns-append, turns-append}
 use Rattle.probe_run.specs.declared.control.Request.{Request}
 use Rattle.probe_run.specs.Happens.{target_of}
 use Rattle.probe_run.specs.Looks.{seen_in}
 use Rattle.probe_run.specs.Requests.{control_word, dmcontrol_address, dmstatus_address}
 use Rattle.probe_run.specs.Sites.{Amid, IsQuiet, TurnsAlone, spun}
 use Rattle.probe_run.proofs.SiteLemmas.{same_site}
-use Rattle.probe_run.proofs.Words.{control_for, control_read, seen_status}
+use Rattle.probe_run.proofs.ControlAndStatus.{control_for, control_read, seen_status}
 
 -- hart h selected, and all else as it was
 abbrev pub selecting : ℕ → Site → Site

@@ -3,7 +3,7 @@ use Rattle.std.proofs.Common.{◌≡◌, ◌++◌, ◌+◌, ◌<◌, ◌≤◌, 
 use Rattle.std.proofs.lemmas.List.Elements.{All-nil, All-push}
 use Rattle.debug_model.specs.declared.dmi.DmiFault.{DmiFault}
 use Rattle.debug_model.specs.Told.{Far}
-use Rattle.debugger_laws.specs.Debugger.{Seen, most_looks, sees_ack}
+use Rattle.abstract_debugger.specs.Debugger.{Seen, most_looks, sees_ack}
 use Rattle.probe_run.specs.declared.wait.Wanted.{Wanted}
 use Rattle.probe_run.specs.declared.wait.Waited.TheVariants.{Unshown}
 use Rattle.probe_run.specs.Acts.{Act, Did, Tells}

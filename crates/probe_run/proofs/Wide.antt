@@ -10,7 +10,7 @@ use Rattle.rv_model.specs.Turn.{place_of, turn, turn_by}
 use Rattle.rv_model.proofs.MapLemmas.{slice_get-set_same, slice_get-set_other}
 use Rattle.debug_model.specs.Journal.{debug_changed, debug_changed_by, halt_requested, resume_asked, resume_asked_by, with_debug}
 use Rattle.debug_model.specs.Told.{MemoryReady}
-use Rattle.debugger_laws.specs.Turns.{after_turns}
+use Rattle.abstract_debugger.specs.Turns.{after_turns}
 use Rattle.probe_run.proofs.Widths.{place_wide, memory_wide}
 use Rattle.probe_run.proofs.WideHart.{HartWide}
 

@@ -6,8 +6,8 @@ use Rattle.debug_model.specs.declared.point.Point.TheVariants.{Look, HaltReq, Ha
 use Rattle.debug_model.specs.Chip.{Chip}
 use Rattle.debug_model.specs.Module.{Site}
 use Rattle.debug_model.specs.Told.{Far, HartExists, IsHalted, site_of}
-use Rattle.debugger_laws.specs.Debugger.{Seen as Sight, most_looks, sees_ack, sees_both, sees_halted, unseen}
-use Rattle.debugger_laws.specs.Stands.{Cut, Looked, Pointed, Target}
+use Rattle.abstract_debugger.specs.Debugger.{Seen as Sight, most_looks, sees_ack, sees_both, sees_halted, unseen}
+use Rattle.abstract_debugger.specs.Stands.{Cut, Looked, Pointed, Target}
 use Rattle.probe_run.specs.declared.fault.RunFault.{RunFault}
 use Rattle.probe_run.specs.declared.fault.RunFault.TheVariants.{Dmi, NoHalt, NoAck}
 use Rattle.probe_run.specs.declared.hart.Seen.{Seen}

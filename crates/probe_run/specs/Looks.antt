@@ -3,8 +3,8 @@
 use Rattle.std.specs.Prelude.{◌≡◌, ◌++◌, ◌<◌, ◌+◌, ℕ, List, [], ◌∷◌, length, map, All, Bool, true, false, if◌then◌else◌}
 use Rattle.debug_model.specs.declared.dmstatus.Dmstatus.{Dmstatus}
 use Rattle.debug_model.specs.ModuleWords.{dmstatus_of}
-use Rattle.debugger_laws.specs.Debugger.{Seen, most_looks, sees_ack, sees_both, sees_halted}
-use Rattle.debugger_laws.specs.Debugger.Seen.{Absent, Running, Halted}
+use Rattle.abstract_debugger.specs.Debugger.{Seen, most_looks, sees_ack, sees_both, sees_halted}
+use Rattle.abstract_debugger.specs.Debugger.Seen.{Absent, Running, Halted}
 use Rattle.probe_run.specs.declared.wait.Wanted.{Wanted}
 use Rattle.probe_run.specs.declared.wait.Wanted.TheVariants as wanted
 use Rattle.probe_run.specs.declared.wait.Waited.{Waited}

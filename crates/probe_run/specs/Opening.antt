@@ -9,7 +9,7 @@ use Rattle.debug_model.specs.ModuleWords.{abstractcs_of, dmcontrol_of, dmstatus_
 use Rattle.debug_model.specs.SystemBus.{bus_address_bits}
 use Rattle.debug_model.specs.TransportWords.{dtmcs_of}
 use Rattle.debug_model.specs.Told.{Far, SiteReady, site_of}
-use Rattle.debugger_laws.specs.Stands.{Cut, Pointed}
+use Rattle.abstract_debugger.specs.Stands.{Cut, Pointed}
 use Rattle.probe_run.specs.declared.control.Request.TheVariants.{Nothing}
 use Rattle.probe_run.specs.declared.fault.ConnectFault.{ConnectFault}
 use Rattle.probe_run.specs.declared.fault.ConnectFault.TheVariants.{Dtm, Module, Abstract, Bus, Dmi}

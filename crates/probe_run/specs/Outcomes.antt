@@ -4,7 +4,7 @@ use Rattle.std.specs.Prelude.{◌≡◌, ℕ, List, [], ◌∷◌, Bool, true, f
 use Rattle.debug_model.specs.declared.dmi.DmiFault.{DmiFault}
 use Rattle.debug_model.specs.declared.dmi_op.DmiOp.TheVariants.{Write}
 use Rattle.debug_model.specs.Told.{Far}
-use Rattle.debugger_laws.specs.Debugger.{Seen as Sight, most_looks, sees_ack, sees_both, sees_halted}
+use Rattle.abstract_debugger.specs.Debugger.{Seen as Sight, most_looks, sees_ack, sees_both, sees_halted}
 use Rattle.probe_run.specs.declared.control.Request.{Request}
 use Rattle.probe_run.specs.declared.control.Request.TheVariants.{Nothing, Halt, Resume}
 use Rattle.probe_run.specs.declared.fault.RunFault.{RunFault}

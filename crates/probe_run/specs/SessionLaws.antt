@@ -3,12 +3,12 @@
 use Rattle.std.specs.Prelude.{ℕ, List}
 use Rattle.rv_model.specs.Board.{Machine}
 use Rattle.debug_model.specs.declared.point.Point.TheVariants.{ResumeReq}
-use Rattle.debugger_laws.specs.Debugger.{going, halting, lost_step, most_looks, sees_both, unseen, until}
-use Rattle.debugger_laws.specs.Lines.{Line}
-use Rattle.debugger_laws.specs.Plan.{Plan}
-use Rattle.debugger_laws.specs.Plan.Plan.{take}
-use Rattle.debugger_laws.specs.Stands.{Deals, Origin, Target}
-use Rattle.debugger_laws.specs.Ways.Way.{Holding, Idle, Over, Ready, Still}
+use Rattle.abstract_debugger.specs.Debugger.{going, halting, lost_step, most_looks, sees_both, unseen, until}
+use Rattle.abstract_debugger.specs.Lines.{Line}
+use Rattle.abstract_debugger.specs.Plan.{Plan}
+use Rattle.abstract_debugger.specs.Plan.Plan.{take}
+use Rattle.abstract_debugger.specs.Stands.{Deals, Origin, Target}
+use Rattle.abstract_debugger.specs.Ways.Way.{Holding, Idle, Over, Ready, Still}
 use Rattle.probe_run.specs.Happens.{HaltsAt, ResumesAt, StepsAt}
 
 abbrev pub HaltsLead : Type 0

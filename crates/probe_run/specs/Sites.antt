@@ -4,7 +4,7 @@ use Rattle.std.specs.Prelude.{◌≡◌, ◌++◌, ℕ, List, [], false, Some, N
 use Rattle.rv_model.specs.declared.cause.Cause.{Cause}
 use Rattle.rv_model.specs.Board.{Board, Hart}
 use Rattle.debug_model.specs.Module.{Site}
-use Rattle.debugger_laws.specs.Turns.{after_turns, turns}
+use Rattle.abstract_debugger.specs.Turns.{after_turns, turns}
 
 -- ---- turns along a site
 

@@ -4,7 +4,7 @@ use Rattle.std.specs.Prelude.{◌++◌, ◌<◌, ℕ, List, map, All, length, Bo
 use Rattle.debug_model.specs.declared.dmi.DmiFault.{DmiFault}
 use Rattle.debug_model.specs.declared.dmi_op.DmiOp.TheVariants.{Read}
 use Rattle.debug_model.specs.Told.{Far}
-use Rattle.debugger_laws.specs.Debugger.{Seen, most_looks}
+use Rattle.abstract_debugger.specs.Debugger.{Seen, most_looks}
 use Rattle.probe_run.specs.Acts.{Act, Broke, Tells}
 use Rattle.probe_run.specs.Acts.Attempt.{Operation}
 use Rattle.probe_run.specs.Looks.{ShowsNot, look_act}

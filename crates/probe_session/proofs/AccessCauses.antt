@@ -13,7 +13,7 @@ use Rattle.probe_access.specs.MemoryRuns.{AroundFailed, LoadFailedInside, Loaded
 use Rattle.probe_access.specs.RegisterRuns.{ReadFailed, ReadFailedAt, WriteFailed, WriteFailedAt}
 use Rattle.probe_access.specs.StepRuns.{FlagFailed, StepFailed, of_run, with_flag}
 use Rattle.probe_access.specs.Stops.{StopFailed, dpc_number}
-use Rattle.probe_access.specs.Words.{transfer_word}
+use Rattle.probe_access.specs.RegisterAccess.{transfer_word}
 use Rattle.probe_access.proofs.BlockCauses.{around_causes, link_later, load_inside_causes, store_inside_causes}
 use Rattle.probe_run.specs.declared.fault.RunFault.{RunFault}
 use Rattle.probe_run.specs.declared.fault.RunFault.TheVariants as run_fault

@@ -8,12 +8,12 @@ use Rattle.rv_model.specs.Memory.{Memory}
 use Rattle.debug_model.specs.declared.point.Point.TheVariants.{Access}
 use Rattle.debug_model.specs.Scan.{WhereTold}
 use Rattle.debug_model.specs.Told.{Far, site_of}
-use Rattle.debugger_laws.specs.Lines.{Line}
-use Rattle.debugger_laws.specs.Plan.{Plan}
-use Rattle.debugger_laws.specs.Plan.Plan.{see, take}
-use Rattle.debugger_laws.specs.Stands.{At, Deals, Origin, Target}
-use Rattle.debugger_laws.specs.Ways.{Way}
-use Rattle.debugger_laws.specs.Turns.{turns}
+use Rattle.abstract_debugger.specs.Lines.{Line}
+use Rattle.abstract_debugger.specs.Plan.{Plan}
+use Rattle.abstract_debugger.specs.Plan.Plan.{see, take}
+use Rattle.abstract_debugger.specs.Stands.{At, Deals, Origin, Target}
+use Rattle.abstract_debugger.specs.Ways.{Way}
+use Rattle.abstract_debugger.specs.Turns.{turns}
 use Rattle.probe_access.specs.Accesses.{BusLoadRefused, BusStoreRefused, LoadRefused, StoreRefused}
 use Rattle.probe_access.specs.Cuts.{AccessLeftOff, BusLeftOff, Leaves, LeftAside, LoadLeaves, MaybeWritten, Scratched, StoreLeaves, Unchanged}
 use Rattle.probe_access.specs.Registers.{SetRegister}

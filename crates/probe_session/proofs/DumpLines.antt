@@ -8,17 +8,17 @@ use Rattle.jt_base.specs.Sink.{GrewByPrefix, grown}
 use Rattle.rv_model.specs.declared.size.Size.TheVariants.{B1}
 use Rattle.rv_model.specs.Memory.{loaded}
 use Rattle.debug_model.specs.declared.point.Point.TheVariants.{Access}
-use Rattle.debugger_laws.specs.Debugger.{by_load, dumping, row_bytes, saying_row}
-use Rattle.debugger_laws.specs.Lines.{Line, text_of, text_of_all}
-use Rattle.debugger_laws.specs.Plan.{Plan}
-use Rattle.debugger_laws.specs.Plan.Plan.{say, see, take}
-use Rattle.debugger_laws.specs.Ways.{Way}
+use Rattle.abstract_debugger.specs.Debugger.{by_load, dumping, row_bytes, saying_row}
+use Rattle.abstract_debugger.specs.Lines.{Line, text_of, text_of_all}
+use Rattle.abstract_debugger.specs.Plan.{Plan}
+use Rattle.abstract_debugger.specs.Plan.Plan.{say, see, take}
+use Rattle.abstract_debugger.specs.Ways.{Way}
 use Rattle.probe_run.specs.Acts.{Tells}
 use Rattle.probe_session.specs.declared.fault.Failure.{Failure}
 use Rattle.probe_session.specs.declared.fault.Failure.TheVariants as failure
 use Rattle.probe_session.specs.declared.reach.Reach.{Reach}
 use Rattle.probe_session.specs.Calls.{LoadFell, Loaded, LoadedNone}
-use Rattle.debugger_laws.specs.Laws.{Quiet}
+use Rattle.abstract_debugger.specs.Laws.{Quiet}
 use Rattle.probe_session.proofs.QuietTails.{quiet_dumping}
 use Rattle.probe_session.specs.Goes.{Fault, Fell, Spoke, Went}
 use Rattle.probe_session.specs.Places.{Place, idle, place}

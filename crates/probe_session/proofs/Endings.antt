@@ -8,13 +8,13 @@ use Rattle.debug_model.specs.declared.dmi.DmiFault.TheVariants as dmi_fault
 use Rattle.debug_model.specs.declared.point.Point.TheVariants.{Look}
 use Rattle.debug_model.specs.Loaded.{AsLoaded}
 use Rattle.debug_model.specs.Told.{Far, IsAsLoaded, site_of}
-use Rattle.debugger_laws.specs.Debugger.{first_state}
-use Rattle.debugger_laws.specs.Lines.{Line, text_of_all}
-use Rattle.debugger_laws.specs.Plan.Plan.{say}
-use Rattle.debugger_laws.specs.Stands.{Deals, IsTranscribed, Origin, Stands}
-use Rattle.debugger_laws.specs.Transcript.{End}
-use Rattle.debugger_laws.proofs.DealsLemmas.{deals_put}
-use Rattle.debugger_laws.proofs.StandsLemmas.{quiet_board}
+use Rattle.abstract_debugger.specs.Debugger.{first_state}
+use Rattle.abstract_debugger.specs.Lines.{Line, text_of_all}
+use Rattle.abstract_debugger.specs.Plan.Plan.{say}
+use Rattle.abstract_debugger.specs.Stands.{Deals, IsTranscribed, Origin, Stands}
+use Rattle.abstract_debugger.specs.Transcript.{End}
+use Rattle.abstract_debugger.proofs.DealsLemmas.{deals_put}
+use Rattle.abstract_debugger.proofs.StandsLemmas.{quiet_board}
 use Rattle.probe_run.specs.declared.fault.ConnectFault.{ConnectFault}
 use Rattle.probe_run.specs.declared.fault.ConnectFault.TheVariants as connect
 use Rattle.probe_run.specs.Acts.{Tells}

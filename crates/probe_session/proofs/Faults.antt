@@ -2,12 +2,12 @@
 use Rattle.std.proofs.Common.{ℕ, List}
 use Rattle.rv_model.specs.Board.{Machine}
 use Rattle.debug_model.specs.Told.{site_of}
-use Rattle.debugger_laws.specs.Debugger.{sees_halted, unseen}
-use Rattle.debugger_laws.specs.Lines.{Line}
-use Rattle.debugger_laws.specs.Plan.{Plan}
-use Rattle.debugger_laws.specs.Stands.{At, Origin}
-use Rattle.debugger_laws.specs.Ways.Way.{Still as StillWay}
-use Rattle.debugger_laws.proofs.DealsLemmas.{deals_went_on}
+use Rattle.abstract_debugger.specs.Debugger.{sees_halted, unseen}
+use Rattle.abstract_debugger.specs.Lines.{Line}
+use Rattle.abstract_debugger.specs.Plan.{Plan}
+use Rattle.abstract_debugger.specs.Stands.{At, Origin}
+use Rattle.abstract_debugger.specs.Ways.Way.{Still as StillWay}
+use Rattle.abstract_debugger.proofs.DealsLemmas.{deals_went_on}
 use Rattle.probe_access.specs.Registers.{GotRegister}
 use Rattle.probe_access.specs.Stops.{StoppedAt}
 use Rattle.probe_run.specs.Acts.{Tells}

@@ -1,9 +1,9 @@
 -- `step` and `resume`.
 use Rattle.std.proofs.Common.{◌≡◌, ◌≢◌, ◌≤◌, ◌<◌, ◌+◌, ℕ, zero, suc, true, false, [], Result, IfOk, IfErr, refl, subst, arith}
-use Rattle.debugger_laws.specs.Debugger.{going, one, stepping, stop_line}
-use Rattle.debugger_laws.specs.Lines.{Line}
-use Rattle.debugger_laws.specs.Plan.{Plan}
-use Rattle.debugger_laws.specs.Plan.Plan.{say}
+use Rattle.abstract_debugger.specs.Debugger.{going, one, stepping, stop_line}
+use Rattle.abstract_debugger.specs.Lines.{Line}
+use Rattle.abstract_debugger.specs.Plan.{Plan}
+use Rattle.abstract_debugger.specs.Plan.Plan.{say}
 use Rattle.probe_run.specs.Acts.{Tells}
 use Rattle.probe_trig.specs.declared.slot_use.SlotView.{SlotView}
 use Rattle.probe_trig.specs.Runs.{ReadsAny}
@@ -16,7 +16,7 @@ use Rattle.probe_session.specs.Reach.{stepped}
 use Rattle.probe_session.specs.Steps.{any_in, behind_step, step_cause}
 use Rattle.probe_session.specs.Steps.Step.{finds_other, finds_step, resumes, same, steps_over, unspent, views_hits, views_none}
 use Rattle.probe_session.proofs.WentLemmas.{falls_at, falls_then, went_none, went_one, went_then}
-use Rattle.debugger_laws.proofs.ToldLemmas.{stepping-suc}
+use Rattle.abstract_debugger.proofs.ToldLemmas.{stepping-suc}
 
 stepping-zero : (h : ℕ) (next : Plan) → stepping zero h next ≡ next
 unfolding stepping

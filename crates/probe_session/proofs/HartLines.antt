@@ -3,11 +3,11 @@ use Rattle.std.proofs.Common.{◌≡◌, ◌≢◌, ◌≤◌, ℕ, Bool, false,
 use Rattle.std.proofs.lemmas.Bool.{ne_eqb}
 use Rattle.rv_model.specs.DebugRegisters.{dcsr_number, debug_refuses}
 use Rattle.rv_model.specs.Registers.{pc_number}
-use Rattle.debugger_laws.specs.Lines.{Line}
-use Rattle.debugger_laws.specs.Plan.{Plan}
-use Rattle.debugger_laws.specs.Plan.Plan.{say}
-use Rattle.debugger_laws.specs.Slots.Use.{Armed, Unused}
-use Rattle.debugger_laws.proofs.SlotLemmas.{CanArm}
+use Rattle.abstract_debugger.specs.Lines.{Line}
+use Rattle.abstract_debugger.specs.Plan.{Plan}
+use Rattle.abstract_debugger.specs.Plan.Plan.{say}
+use Rattle.abstract_debugger.specs.Slots.Use.{Armed, Unused}
+use Rattle.abstract_debugger.proofs.SlotLemmas.{CanArm}
 use Rattle.probe_run.specs.Acts.{Tells}
 use Rattle.probe_trig.specs.declared.change.Change.TheVariants.{Forget}
 use Rattle.probe_trig.specs.declared.slot_use.SlotUse.{SlotUse}
@@ -15,8 +15,8 @@ use Rattle.probe_trig.specs.declared.slot_use.SlotUse.TheVariants as slot_use
 use Rattle.probe_trig.specs.declared.slot_use.SlotView.{SlotView}
 use Rattle.probe_trig.specs.Runs.{ArmsAny, ChangesAny, FreesAny, ReadsAny}
 use Rattle.probe_trig.specs.Slots.{hits_in}
-use Rattle.probe_trig.specs.Words.{use_named}
-use Rattle.probe_trig.specs.Words as trig
+use Rattle.probe_trig.specs.SlotRegisters.{use_named}
+use Rattle.probe_trig.specs.SlotRegisters as trig
 use Rattle.probe_session.specs.declared.fault.Failure.{Failure}
 use Rattle.probe_session.specs.Calls.{AskFell, FoundStop, Gave, GaveNone, GiveFell, Got, GotNone, HitsForgotten, IsOfCores, IsOfHarts, NoneFree, NotUsed, ReadFell, SlotFreed, SlotTaken, SlotsFell, StopFell, Viewed, WriteFell}
 use Rattle.probe_session.specs.Commands.{at_arming, at_ebreak, at_freeing, at_register, at_stop_line, at_written_register, ends_with, shown}
@@ -26,7 +26,7 @@ use Rattle.probe_session.specs.Goes.{Goes}
 use Rattle.probe_session.specs.Goes.Goes.{step}
 use Rattle.probe_session.specs.Goes.Passing.{found, got}
 use Rattle.probe_session.specs.Places.{Place, is_identity, spot, still}
-use Rattle.debugger_laws.specs.Ways.Way.{Idle}
+use Rattle.abstract_debugger.specs.Ways.Way.{Idle}
 use Rattle.probe_session.specs.Said.{shown_beside}
 use Rattle.probe_session.specs.Slots.{what_of}
 use Rattle.probe_session.specs.Steps.{Step, trigger_cause, with_ebreakm}

@@ -14,17 +14,17 @@ use Rattle.debug_model.specs.Scan.{WhereTold}
 use Rattle.debug_model.specs.Module.{Site}
 use Rattle.debug_model.specs.Tap.{idcode}
 use Rattle.debug_model.specs.Told.{Far, IsReady, site_of}
-use Rattle.debugger_laws.specs.Debugger.{arming, by_load, by_store, freeing, going, halting, one, register_line, saying, sees_halted, stop_line, unseen, until}
-use Rattle.debugger_laws.specs.Lines.{Line}
-use Rattle.debugger_laws.specs.Plan.{Plan}
-use Rattle.debugger_laws.specs.Plan.Change.{EbreakHalts, WriteMem, WriteReg}
-use Rattle.debugger_laws.specs.Plan.Plan.{change, say, see, take}
-use Rattle.debugger_laws.specs.Slots.Use.{Armed, Unused}
-use Rattle.debugger_laws.specs.Stands.{At, Deals, Origin, Target, WentOn}
-use Rattle.debugger_laws.specs.Ways.{Way}
-use Rattle.debugger_laws.specs.Ways.Way.{Idle, Ready, Still}
-use Rattle.debugger_laws.proofs.DealsLemmas.{deals_at_plan, deals_put, deals_rests, deals_selects, deals_unspent, deals_went_on}
-use Rattle.debugger_laws.proofs.StandsLemmas.{seen}
+use Rattle.abstract_debugger.specs.Debugger.{arming, by_load, by_store, freeing, going, halting, one, register_line, saying, sees_halted, stop_line, unseen, until}
+use Rattle.abstract_debugger.specs.Lines.{Line}
+use Rattle.abstract_debugger.specs.Plan.{Plan}
+use Rattle.abstract_debugger.specs.Plan.Change.{EbreakHalts, WriteMem, WriteReg}
+use Rattle.abstract_debugger.specs.Plan.Plan.{change, say, see, take}
+use Rattle.abstract_debugger.specs.Slots.Use.{Armed, Unused}
+use Rattle.abstract_debugger.specs.Stands.{At, Deals, Origin, Target, WentOn}
+use Rattle.abstract_debugger.specs.Ways.{Way}
+use Rattle.abstract_debugger.specs.Ways.Way.{Idle, Ready, Still}
+use Rattle.abstract_debugger.proofs.DealsLemmas.{deals_at_plan, deals_put, deals_rests, deals_selects, deals_unspent, deals_went_on}
+use Rattle.abstract_debugger.proofs.StandsLemmas.{seen}
 use Rattle.probe_access.specs.Accesses as access
 use Rattle.probe_access.specs.Registers.{DeniedRegister, GotRegister, SetRegister, TurnsPassed, TurnsPassedBut}
 use Rattle.probe_access.specs.Stops.{StoppedAt}

@@ -9,14 +9,14 @@ use Rattle.debug_model.specs.Dmi.{DmiScript, NoneOperated, ScannedCause}
 use Rattle.debug_model.specs.Module.{Site}
 use Rattle.debug_model.specs.Scan.{WhereTold}
 use Rattle.debug_model.specs.Told.{Far, IsReady, SiteReady, site_of}
-use Rattle.debugger_laws.specs.Debugger.{State}
-use Rattle.debugger_laws.specs.Plan.{Plan}
+use Rattle.abstract_debugger.specs.Debugger.{State}
+use Rattle.abstract_debugger.specs.Plan.{Plan}
 use Rattle.printed_lines.specs.declared.line.Line.{Line as PrintedLine}
 use Rattle.probe_access.proofs.ReadyTurns.{BoardReady, board_ready_turns}
 use Rattle.probe_run.specs.Acts.{Tells}
 use Rattle.probe_run.specs.Sites.{TurnsAlone}
 use Rattle.probe_run.proofs.SiteLemmas.{quiet_deeds}
-use Rattle.debugger_laws.specs.Lines.{Line}
+use Rattle.abstract_debugger.specs.Lines.{Line}
 use Rattle.probe_session.specs.declared.fault.Failure.{Failure}
 use Rattle.probe_session.specs.Calls.{Identified, IdcodeFell}
 use Rattle.probe_session.specs.Commands.{at_idcode, at_line, before, ends_with}

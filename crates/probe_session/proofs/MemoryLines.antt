@@ -8,11 +8,11 @@ use Rattle.rv_model.specs.Memory.{is_aligned, store_answer}
 use Rattle.rv_model.specs.Size.{count_of}
 use Rattle.debug_model.specs.declared.command.Path.TheVariants.{Bus, Progbuf}
 use Rattle.debug_model.specs.declared.point.Point.TheVariants.{Access}
-use Rattle.debugger_laws.specs.Debugger.{State, at_aligned, at_halted, at_path, by_path, by_store, writing}
-use Rattle.debugger_laws.specs.Lines.{Line}
-use Rattle.debugger_laws.specs.Plan.{Plan}
-use Rattle.debugger_laws.specs.Plan.Change.{WriteMem}
-use Rattle.debugger_laws.specs.Plan.Plan.{change, say, see, take}
+use Rattle.abstract_debugger.specs.Debugger.{State, at_aligned, at_halted, at_path, by_path, by_store, writing}
+use Rattle.abstract_debugger.specs.Lines.{Line}
+use Rattle.abstract_debugger.specs.Plan.{Plan}
+use Rattle.abstract_debugger.specs.Plan.Change.{WriteMem}
+use Rattle.abstract_debugger.specs.Plan.Plan.{change, say, see, take}
 use Rattle.probe_run.specs.Acts.{Tells}
 use Rattle.probe_run.specs.declared.hart.Halted.{Halted}
 use Rattle.probe_session.specs.declared.fault.Failure.{Failure}

@@ -4,22 +4,22 @@ use Rattle.rv_model.specs.Board.{Machine}
 use Rattle.debug_model.specs.declared.point.Point.{Point}
 use Rattle.debug_model.specs.declared.point.Point.TheVariants.{HaltClear, HaltReq, Look}
 use Rattle.debug_model.specs.Journal.{after_point}
-use Rattle.debugger_laws.specs.Debugger.{Seen, halting, most_looks, sees_halted, unseen, until}
-use Rattle.debugger_laws.specs.Lines.{Line}
-use Rattle.debugger_laws.specs.Plan.{Plan}
-use Rattle.debugger_laws.specs.Plan.Plan.{stop, take}
-use Rattle.debugger_laws.specs.Plan.PlanEnd.{NoHalt}
-use Rattle.debugger_laws.specs.Stands.{Cut, Deals, IsTranscribed, Origin, Pointed, Stands, Target}
-use Rattle.debugger_laws.specs.Transcript.{End}
-use Rattle.debugger_laws.specs.Turns.{after_turns, turns}
-use Rattle.debugger_laws.specs.Ways.{Way}
-use Rattle.debugger_laws.specs.Ways.Way.{Idle, Still}
-use Rattle.debugger_laws.proofs.DealsLemmas.{deals_at_plan, deals_halt_req, until-zero, until-suc}
-use Rattle.debugger_laws.proofs.StandsLemmas.{IsTaken, not_astray, said_front, taken, transcribed, turns-append, went_on}
+use Rattle.abstract_debugger.specs.Debugger.{Seen, halting, most_looks, sees_halted, unseen, until}
+use Rattle.abstract_debugger.specs.Lines.{Line}
+use Rattle.abstract_debugger.specs.Plan.{Plan}
+use Rattle.abstract_debugger.specs.Plan.Plan.{stop, take}
+use Rattle.abstract_debugger.specs.Plan.PlanEnd.{NoHalt}
+use Rattle.abstract_debugger.specs.Stands.{Cut, Deals, IsTranscribed, Origin, Pointed, Stands, Target}
+use Rattle.abstract_debugger.specs.Transcript.{End}
+use Rattle.abstract_debugger.specs.Turns.{after_turns, turns}
+use Rattle.abstract_debugger.specs.Ways.{Way}
+use Rattle.abstract_debugger.specs.Ways.Way.{Idle, Still}
+use Rattle.abstract_debugger.proofs.DealsLemmas.{deals_at_plan, deals_halt_req, until-zero, until-suc}
+use Rattle.abstract_debugger.proofs.StandsLemmas.{IsTaken, not_astray, said_front, taken, transcribed, turns-append, went_on}
 use Rattle.probe_run.specs.Happens.{HaltCut, MissedAt, RunCut}
 use Rattle.probe_run.proofs.SessionLemmas.{met, vain}
 use Rattle.probe_session.specs.Transcribed.{OnTheWay}
-use Rattle.debugger_laws.proofs.KnownPoints.{known-still}
+use Rattle.abstract_debugger.proofs.KnownPoints.{known-still}
 
 pub on_way : (o : Origin) (p : Plan) (lines : List Line) (t : Target) (j : List Point) → Stands o p lines t → t.journal ≡ j → OnTheWay o lines j
 on_way o p lines t j s is = subst (OnTheWay o lines) is (record { not_astray = not_astray o p lines t s; front = said_front o p lines t s })

@@ -2,11 +2,11 @@
 use Rattle.std.proofs.Common.{◌≡◌, ◌≤◌, ◌+◌, ◌<◌, ℕ, zero, suc, Bool, false, [], Option, Result, Ok, Err, IfOk, IfErr, refl, subst, arith}
 use Rattle.debug_model.specs.Told.{Far}
 use Rattle.debug_model.specs.declared.command.Command.TheVariants as command
-use Rattle.debugger_laws.specs.Debugger.{State, at_halted, by_state, halting, look, sees_halted, stop_line, unseen, until}
-use Rattle.debugger_laws.specs.Lines.{Line}
-use Rattle.debugger_laws.specs.Plan.{Plan}
-use Rattle.debugger_laws.specs.Plan.Plan.{say}
-use Rattle.debugger_laws.proofs.DealsLemmas.{until-zero}
+use Rattle.abstract_debugger.specs.Debugger.{State, at_halted, by_state, halting, look, sees_halted, stop_line, unseen, until}
+use Rattle.abstract_debugger.specs.Lines.{Line}
+use Rattle.abstract_debugger.specs.Plan.{Plan}
+use Rattle.abstract_debugger.specs.Plan.Plan.{say}
+use Rattle.abstract_debugger.proofs.DealsLemmas.{until-zero}
 use Rattle.probe_run.specs.declared.hart.Halted.{Halted}
 use Rattle.probe_run.specs.declared.hart.Running.{Running}
 use Rattle.probe_run.specs.declared.hart.Seen.{Seen}

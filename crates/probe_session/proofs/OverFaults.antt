@@ -4,15 +4,15 @@ use Rattle.std.proofs.lemmas.Option.{none-some, same_Some}
 use Rattle.rv_model.specs.Board.{Machine}
 use Rattle.debug_model.specs.Scan.{WhereTold}
 use Rattle.debug_model.specs.Told.{Far, site_of}
-use Rattle.debugger_laws.specs.Debugger.{Seen as Sight, halted_of, most_looks, one, sees_ack}
-use Rattle.debugger_laws.specs.Lines.{Line}
-use Rattle.debugger_laws.specs.Plan.{Plan, is_step, step_begun, with_debug_part}
-use Rattle.debugger_laws.specs.Plan.Change.{StepDone}
-use Rattle.debugger_laws.specs.Plan.Plan.{change, see}
-use Rattle.debugger_laws.specs.Stands.{At, Deals, IsTranscribed, Origin, Rewrote, Stands, Target}
-use Rattle.debugger_laws.specs.Transcript.{End}
-use Rattle.debugger_laws.specs.Ways.Way.{Holding, Still as StillWay}
-use Rattle.debugger_laws.proofs.DealsLemmas.{deals_hold}
+use Rattle.abstract_debugger.specs.Debugger.{Seen as Sight, halted_of, most_looks, one, sees_ack}
+use Rattle.abstract_debugger.specs.Lines.{Line}
+use Rattle.abstract_debugger.specs.Plan.{Plan, is_step, step_begun, with_debug_part}
+use Rattle.abstract_debugger.specs.Plan.Change.{StepDone}
+use Rattle.abstract_debugger.specs.Plan.Plan.{change, see}
+use Rattle.abstract_debugger.specs.Stands.{At, Deals, IsTranscribed, Origin, Rewrote, Stands, Target}
+use Rattle.abstract_debugger.specs.Transcript.{End}
+use Rattle.abstract_debugger.specs.Ways.Way.{Holding, Still as StillWay}
+use Rattle.abstract_debugger.proofs.DealsLemmas.{deals_hold}
 use Rattle.probe_access.specs.declared.fault.AccessFault.{AccessFault}
 use Rattle.probe_access.specs.declared.fault.AccessFault.TheVariants as fault
 use Rattle.probe_access.specs.Cuts.{IfCut}

@@ -1,10 +1,10 @@
 -- What follows a line in the middle of a command changes nothing before the next point, where what follows the command does not.
 use Rattle.std.proofs.Common.{ℕ, zero, suc, List, [], ◌∷◌}
 use Rattle.rv_model.specs.declared.size.Size.{Size}
-use Rattle.debugger_laws.specs.Debugger.{dumping, reading, saying}
-use Rattle.debugger_laws.specs.Laws.{Quiet}
-use Rattle.debugger_laws.specs.Lines.{Line}
-use Rattle.debugger_laws.specs.Plan.{Plan}
+use Rattle.abstract_debugger.specs.Debugger.{dumping, reading, saying}
+use Rattle.abstract_debugger.specs.Laws.{Quiet}
+use Rattle.abstract_debugger.specs.Lines.{Line}
+use Rattle.abstract_debugger.specs.Plan.{Plan}
 
 pub quiet_saying : (lines : List Line) (next : Plan) → Quiet next → Quiet (saying lines next)
 quiet_saying [] next calm = calm

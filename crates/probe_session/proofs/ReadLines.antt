@@ -6,16 +6,16 @@ use Rattle.rv_model.specs.declared.size.Size.{Size}
 use Rattle.rv_model.specs.Memory.{is_aligned, loaded}
 use Rattle.rv_model.specs.Size.{count_of}
 use Rattle.debug_model.specs.declared.point.Point.TheVariants.{Access}
-use Rattle.debugger_laws.specs.Debugger.{by_load, reading}
-use Rattle.debugger_laws.specs.Lines.{Line, text_of}
-use Rattle.debugger_laws.specs.Plan.{Plan}
-use Rattle.debugger_laws.specs.Plan.Plan.{say, see, take}
+use Rattle.abstract_debugger.specs.Debugger.{by_load, reading}
+use Rattle.abstract_debugger.specs.Lines.{Line, text_of}
+use Rattle.abstract_debugger.specs.Plan.{Plan}
+use Rattle.abstract_debugger.specs.Plan.Plan.{say, see, take}
 use Rattle.probe_run.specs.Acts.{Tells}
 use Rattle.probe_session.specs.declared.fault.Failure.{Failure}
 use Rattle.probe_session.specs.declared.fault.Failure.TheVariants as failure
 use Rattle.probe_session.specs.declared.reach.Reach.{Reach}
 use Rattle.probe_session.specs.Calls.{LoadFell, Loaded, LoadedNone}
-use Rattle.debugger_laws.specs.Laws.{Quiet}
+use Rattle.abstract_debugger.specs.Laws.{Quiet}
 use Rattle.probe_session.proofs.QuietTails.{quiet_reading}
 use Rattle.probe_session.specs.Goes.{Fault, Fell, Spoke, Went}
 use Rattle.probe_session.specs.Places.{idle}

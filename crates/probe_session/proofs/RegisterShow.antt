@@ -6,15 +6,15 @@ use Rattle.std.proofs.lemmas.Bool.{false≢true, le-ltb, lt-ltb}
 use Rattle.jt_base.specs.Faults.{Rises}
 use Rattle.jt_base.specs.Sink.{GrewByPrefix, grown}
 use Rattle.rv_model.specs.Registers.{csr_value, first_x_number, pc_number}
-use Rattle.debugger_laws.specs.Lines.{Line, text_of}
-use Rattle.debugger_laws.specs.Plan.{Plan}
-use Rattle.debugger_laws.specs.Ways.Way.{Still}
+use Rattle.abstract_debugger.specs.Lines.{Line, text_of}
+use Rattle.abstract_debugger.specs.Plan.{Plan}
+use Rattle.abstract_debugger.specs.Ways.Way.{Still}
 use Rattle.probe_run.specs.Acts.{Tells}
 use Rattle.probe_session.specs.declared.fault.Failure.{Failure}
 use Rattle.probe_session.specs.declared.fault.Failure.TheVariants as failure
 use Rattle.probe_session.specs.Calls.{Got, IsOfCores, ReadFell}
-use Rattle.debugger_laws.specs.Debugger.{register_line}
-use Rattle.debugger_laws.specs.Laws.{Quiet}
+use Rattle.abstract_debugger.specs.Debugger.{register_line}
+use Rattle.abstract_debugger.specs.Laws.{Quiet}
 use Rattle.probe_session.proofs.QuietTails.{quiet_saying}
 use Rattle.probe_session.specs.Goes.{Fault, Fell, Spoke}
 use Rattle.probe_session.specs.Places.{idle}

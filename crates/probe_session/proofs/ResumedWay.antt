@@ -2,16 +2,16 @@
 use Rattle.std.proofs.Common.{◌≡◌, ℕ, Bool, true, false, List, ap, if◌then◌else◌}
 use Rattle.rv_model.specs.Board.{Machine}
 use Rattle.debug_model.specs.declared.point.Point.TheVariants.{ResumeReq}
-use Rattle.debugger_laws.specs.Debugger.{Seen, going, lost_step, most_looks, sees_ack, sees_both, unseen, until}
-use Rattle.debugger_laws.specs.Lines.{Line}
-use Rattle.debugger_laws.specs.Plan.{Plan}
-use Rattle.debugger_laws.specs.Plan.Plan.{stop, take}
-use Rattle.debugger_laws.specs.Plan.PlanEnd.{NoAck, NoHalt}
-use Rattle.debugger_laws.specs.Stands.{Deals, IsTranscribed, Origin, Target}
-use Rattle.debugger_laws.specs.Transcript.{End}
-use Rattle.debugger_laws.specs.Ways.Way.{Asked, Going, Holding, Ready}
-use Rattle.debugger_laws.proofs.DealsLemmas.{deals_ask, deals_at_plan, deals_go}
-use Rattle.debugger_laws.proofs.StandsLemmas.{transcribed}
+use Rattle.abstract_debugger.specs.Debugger.{Seen, going, lost_step, most_looks, sees_ack, sees_both, unseen, until}
+use Rattle.abstract_debugger.specs.Lines.{Line}
+use Rattle.abstract_debugger.specs.Plan.{Plan}
+use Rattle.abstract_debugger.specs.Plan.Plan.{stop, take}
+use Rattle.abstract_debugger.specs.Plan.PlanEnd.{NoAck, NoHalt}
+use Rattle.abstract_debugger.specs.Stands.{Deals, IsTranscribed, Origin, Target}
+use Rattle.abstract_debugger.specs.Transcript.{End}
+use Rattle.abstract_debugger.specs.Ways.Way.{Asked, Going, Holding, Ready}
+use Rattle.abstract_debugger.proofs.DealsLemmas.{deals_ask, deals_at_plan, deals_go}
+use Rattle.abstract_debugger.proofs.StandsLemmas.{transcribed}
 use Rattle.probe_run.specs.Happens.{MissedAt, RunCut}
 use Rattle.probe_session.specs.Transcribed.{OnTheWay}
 use Rattle.probe_session.proofs.OnTheWay.{missed_deals, run_cut_way}

@@ -4,7 +4,7 @@ use Rattle.debug_model.specs.declared.dmi.DmiFault.{DmiFault}
 use Rattle.debug_model.specs.declared.dmi.DmiFault.TheVariants as dmi_fault
 use Rattle.debug_model.specs.Dmi.{DmiScript, ScannedCause, scanned_script}
 use Rattle.debug_model.specs.Told.{Far}
-use Rattle.debugger_laws.specs.Debugger.{Seen as Sight}
+use Rattle.abstract_debugger.specs.Debugger.{Seen as Sight}
 use Rattle.probe_run.specs.declared.control.Request.{Request}
 use Rattle.probe_run.specs.declared.fault.RunFault.{RunFault}
 use Rattle.probe_run.specs.declared.fault.RunFault.TheVariants as run_fault

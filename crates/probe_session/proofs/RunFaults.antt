@@ -7,15 +7,15 @@ use Rattle.debug_model.specs.Dmi.{NoneOperated}
 use Rattle.debug_model.specs.Module.{Site}
 use Rattle.debug_model.specs.Scan.{WhereTold}
 use Rattle.debug_model.specs.Told.{Far, IsReady, site_of}
-use Rattle.debugger_laws.specs.Debugger.{Seen, going, halting, look, most_looks, sees_ack, sees_halted, until}
-use Rattle.debugger_laws.specs.Lines.{Line}
-use Rattle.debugger_laws.specs.Plan.{Plan}
-use Rattle.debugger_laws.specs.Stands.{At, Cut, Deals, IsTranscribed, Origin, Target}
-use Rattle.debugger_laws.specs.Transcript.{End}
-use Rattle.debugger_laws.specs.Turns.{turns}
-use Rattle.debugger_laws.specs.Ways.{Way}
-use Rattle.debugger_laws.specs.Ways.Way.{Idle, Ready}
-use Rattle.debugger_laws.proofs.DealsLemmas.{deals_selects}
+use Rattle.abstract_debugger.specs.Debugger.{Seen, going, halting, look, most_looks, sees_ack, sees_halted, until}
+use Rattle.abstract_debugger.specs.Lines.{Line}
+use Rattle.abstract_debugger.specs.Plan.{Plan}
+use Rattle.abstract_debugger.specs.Stands.{At, Cut, Deals, IsTranscribed, Origin, Target}
+use Rattle.abstract_debugger.specs.Transcript.{End}
+use Rattle.abstract_debugger.specs.Turns.{turns}
+use Rattle.abstract_debugger.specs.Ways.{Way}
+use Rattle.abstract_debugger.specs.Ways.Way.{Idle, Ready}
+use Rattle.abstract_debugger.proofs.DealsLemmas.{deals_selects}
 use Rattle.probe_run.specs.declared.fault.RunFault.{RunFault}
 use Rattle.probe_run.specs.declared.fault.RunFault.TheVariants as run_fault
 use Rattle.probe_run.specs.Acts.{Tells}

@@ -7,8 +7,8 @@ use Rattle.jt_base.proofs.FaultLemmas.{rises_from}
 use Rattle.debug_model.specs.declared.command.Command.{Command}
 use Rattle.debug_model.specs.declared.command.Command.TheVariants as command
 use Rattle.debug_model.specs.Command.{IsWithinRanges}
-use Rattle.debugger_laws.specs.Debugger.{State, commands, first_state}
-use Rattle.debugger_laws.specs.Lines.{Line, text_of, text_of_all}
+use Rattle.abstract_debugger.specs.Debugger.{State, commands, first_state}
+use Rattle.abstract_debugger.specs.Lines.{Line, text_of, text_of_all}
 use Rattle.debug_model.specs.declared.dmi.DmiFault.TheVariants as dmi_fault
 use Rattle.probe_run.specs.declared.fault.ConnectFault.{ConnectFault}
 use Rattle.probe_run.specs.declared.fault.ConnectFault.TheVariants as connect
@@ -20,7 +20,7 @@ use Rattle.probe_session.specs.declared.fault.Failure.{Failure}
 use Rattle.probe_session.specs.declared.fault.Failure.TheVariants as failure
 use Rattle.probe_session.specs.Acts.{Untouched}
 use Rattle.probe_session.specs.Commands.{before, behind}
-use Rattle.debugger_laws.proofs.QuietLemmas.{commands_are_quiet}
+use Rattle.abstract_debugger.proofs.QuietLemmas.{commands_are_quiet}
 use Rattle.probe_session.specs.Goes.{Anyhow, CalmNext, Fell, Spoke}
 use Rattle.probe_session.specs.Goes.Fell.{at_line, in_call}
 use Rattle.probe_session.specs.Places.{Place}

@@ -7,9 +7,9 @@ use Rattle.debug_model.specs.declared.command.Command.TheVariants as command
 use Rattle.jt_base.proofs.FaultLemmas.{rises_from}
 use Rattle.jt_base.specs.Faults.{Rises}
 use Rattle.jt_base.specs.Sink.{GrewByPrefix, grown}
-use Rattle.debugger_laws.specs.Debugger.{State, at_path}
-use Rattle.debugger_laws.specs.Lines.{Line, is_error, text_of, text_of_all}
-use Rattle.debugger_laws.specs.Plan.{Plan}
+use Rattle.abstract_debugger.specs.Debugger.{State, at_path}
+use Rattle.abstract_debugger.specs.Lines.{Line, is_error, text_of, text_of_all}
+use Rattle.abstract_debugger.specs.Plan.{Plan}
 use Rattle.printed_lines.specs.declared.line.Line.{Line as PrintedLine}
 use Rattle.printed_lines.specs.Line.{line_of}
 use Rattle.probe_run.specs.Acts.{Tells}
@@ -17,7 +17,7 @@ use Rattle.probe_session.specs.declared.fault.Failure.{Failure}
 use Rattle.probe_session.specs.declared.fault.Failure.TheVariants as failure
 use Rattle.probe_session.specs.declared.reach.Reach.{Reach}
 use Rattle.probe_session.specs.Commands.{before, behind, is_end, is_one_line}
-use Rattle.debugger_laws.specs.Laws.{Quiet}
+use Rattle.abstract_debugger.specs.Laws.{Quiet}
 use Rattle.probe_session.specs.Goes.{CalmNext, Falls, Fell, Spoke, Went}
 use Rattle.probe_session.specs.Goes.Fell.{at_line, in_call}
 use Rattle.probe_session.specs.Met.{Rest, before_look}

@@ -4,8 +4,8 @@ use Rattle.jt_base.specs.Faults.{Rises}
 use Rattle.debug_model.specs.declared.command.Command.{Command}
 use Rattle.debug_model.specs.declared.dmi.DmiFault.{DmiFault}
 use Rattle.debug_model.specs.declared.dmi.DmiFault.TheVariants as dmi_fault
-use Rattle.debugger_laws.specs.Debugger.{first_state}
-use Rattle.debugger_laws.specs.Lines.{Line}
+use Rattle.abstract_debugger.specs.Debugger.{first_state}
+use Rattle.abstract_debugger.specs.Lines.{Line}
 use Rattle.probe_access.specs.declared.fault.AccessFault.{AccessFault}
 use Rattle.probe_access.specs.declared.fault.AccessFault.TheVariants as fault
 use Rattle.probe_run.specs.declared.fault.RunFault.{RunFault}

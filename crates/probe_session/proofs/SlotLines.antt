@@ -6,20 +6,20 @@ use Rattle.jt_base.specs.Faults.{Rises}
 use Rattle.jt_base.specs.Sink.{GrewByPrefix, grown}
 use Rattle.rv_model.specs.declared.slot_set.SlotSet.{SlotSet}
 use Rattle.rv_model.specs.SlotSet.{has_slot}
-use Rattle.debugger_laws.specs.Debugger.{saying}
-use Rattle.debugger_laws.specs.Lines.{Line, text_of}
-use Rattle.debugger_laws.specs.Slots.{Use}
-use Rattle.debugger_laws.specs.Ways.Way.{Still}
+use Rattle.abstract_debugger.specs.Debugger.{saying}
+use Rattle.abstract_debugger.specs.Lines.{Line, text_of}
+use Rattle.abstract_debugger.specs.Slots.{Use}
+use Rattle.abstract_debugger.specs.Ways.Way.{Still}
 use Rattle.probe_run.specs.Acts.{Tells}
 use Rattle.probe_trig.specs.declared.slot_use.SlotUse.{SlotUse}
 use Rattle.probe_trig.specs.declared.slot_use.SlotView.{SlotView}
 use Rattle.probe_trig.specs.Runs.{ReadsAny}
 use Rattle.probe_trig.specs.Slots.{hits_in}
-use Rattle.probe_trig.specs.Words.{use_named}
+use Rattle.probe_trig.specs.SlotRegisters.{use_named}
 use Rattle.probe_session.specs.declared.fault.Failure.{Failure}
 use Rattle.probe_session.specs.declared.fault.Failure.TheVariants as failure
 use Rattle.probe_session.specs.Calls.{SlotsFell, Viewed}
-use Rattle.debugger_laws.specs.Laws.{Quiet}
+use Rattle.abstract_debugger.specs.Laws.{Quiet}
 use Rattle.probe_session.proofs.QuietTails.{quiet_saying}
 use Rattle.probe_session.specs.Goes.{Falls, Fault, Fell, Spoke}
 use Rattle.probe_session.specs.Places.{idle, still}

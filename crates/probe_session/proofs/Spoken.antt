@@ -4,18 +4,18 @@ use Rattle.std.specs.Prelude.{◌||◌, not}
 use Rattle.std.proofs.lemmas.List.Folds.{list_any-append}
 use Rattle.jt_base.specs.Faults.{Rises}
 use Rattle.jt_base.specs.Sink.{GrewByPrefix, grown}
-use Rattle.debugger_laws.specs.Lines.{Line, any_error, is_error, text_of, text_of_all}
-use Rattle.debugger_laws.specs.Plan.{Plan}
-use Rattle.debugger_laws.specs.Plan.Plan.{say}
-use Rattle.debugger_laws.specs.Ways.{Way}
-use Rattle.debugger_laws.specs.Ways.Way.{Idle}
+use Rattle.abstract_debugger.specs.Lines.{Line, any_error, is_error, text_of, text_of_all}
+use Rattle.abstract_debugger.specs.Plan.{Plan}
+use Rattle.abstract_debugger.specs.Plan.Plan.{say}
+use Rattle.abstract_debugger.specs.Ways.{Way}
+use Rattle.abstract_debugger.specs.Ways.Way.{Idle}
 use Rattle.printed_lines.specs.declared.line.Line.{Line as PrintedLine}
 use Rattle.printed_lines.specs.declared.line.Line.TheVariants as printed
 use Rattle.printed_lines.specs.Line.{line_of}
 use Rattle.probe_run.specs.Acts.{Tells}
 use Rattle.probe_session.specs.declared.fault.Failure.{Failure}
 use Rattle.probe_session.specs.declared.fault.Failure.TheVariants as failure
-use Rattle.debugger_laws.specs.Laws.{Quiet}
+use Rattle.abstract_debugger.specs.Laws.{Quiet}
 use Rattle.probe_session.specs.Goes.{Falls, Fell, Spoke, Went}
 use Rattle.probe_session.specs.Goes.Fell.{at_line, in_call}
 use Rattle.probe_session.specs.Places.{Place, at_say, idle, is_identity, may_say, place, spot}

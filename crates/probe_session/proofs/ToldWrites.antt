@@ -21,23 +21,23 @@ use Rattle.rv_model.specs.Undebugged.{with_bytes}
 use Rattle.rv_model.proofs.DebugWordLemmas.{dcsr_read_back}
 use Rattle.debug_model.specs.declared.point.Point.TheVariants.{Access}
 use Rattle.debug_model.specs.Module.{Site}
-use Rattle.debugger_laws.specs.Debugger.{arming, arming_at, by_load, by_store, freeing, is_free_slot, register_line, saying, slot_lines, value_here}
-use Rattle.debugger_laws.specs.Laws.{IsFrozen}
-use Rattle.debugger_laws.specs.Lines.{Line}
-use Rattle.debugger_laws.specs.Plan.{Plan, ebreak_halts, register_set, slot_changed, with_debug_part}
-use Rattle.debugger_laws.specs.Plan.Change.{EbreakHalts, FreeSlot, WriteMem, WriteReg}
-use Rattle.debugger_laws.specs.Plan.Plan.{change, say, see, take}
-use Rattle.debugger_laws.specs.Slots.{any_hit, first_free, hits_forgotten, hits_of, slots_at, slots_here, trigger_has_hit, use_of, with_slots}
-use Rattle.debugger_laws.specs.Slots.Use.{Armed, Unused}
-use Rattle.debugger_laws.specs.Stands.{Deals, Origin, Pointed, Rewrote, Target}
-use Rattle.debugger_laws.specs.Trace.{What}
-use Rattle.debugger_laws.specs.Transcript.{replay}
-use Rattle.debugger_laws.specs.Turns.{after_turns, turns}
-use Rattle.debugger_laws.specs.Ways.{Way}
-use Rattle.debugger_laws.specs.Ways.Way.{Ready, Still}
-use Rattle.debugger_laws.proofs.DealsLemmas.{deals_armed, deals_at_plan, deals_ebreak, deals_freed, deals_frozen, deals_loaded, deals_ready, deals_register, deals_seen, deals_stored, deals_went_on, target_frozen, if_false, if_true}
-use Rattle.debugger_laws.proofs.SlotLemmas.{CanArm}
-use Rattle.debugger_laws.proofs.StandsLemmas.{rewrote_then, shown}
+use Rattle.abstract_debugger.specs.Debugger.{arming, arming_at, by_load, by_store, freeing, is_free_slot, register_line, saying, slot_lines, value_here}
+use Rattle.abstract_debugger.specs.Laws.{IsFrozen}
+use Rattle.abstract_debugger.specs.Lines.{Line}
+use Rattle.abstract_debugger.specs.Plan.{Plan, ebreak_halts, register_set, slot_changed, with_debug_part}
+use Rattle.abstract_debugger.specs.Plan.Change.{EbreakHalts, FreeSlot, WriteMem, WriteReg}
+use Rattle.abstract_debugger.specs.Plan.Plan.{change, say, see, take}
+use Rattle.abstract_debugger.specs.Slots.{any_hit, first_free, hits_forgotten, hits_of, slots_at, slots_here, trigger_has_hit, use_of, with_slots}
+use Rattle.abstract_debugger.specs.Slots.Use.{Armed, Unused}
+use Rattle.abstract_debugger.specs.Stands.{Deals, Origin, Pointed, Rewrote, Target}
+use Rattle.abstract_debugger.specs.Trace.{What}
+use Rattle.abstract_debugger.specs.Transcript.{replay}
+use Rattle.abstract_debugger.specs.Turns.{after_turns, turns}
+use Rattle.abstract_debugger.specs.Ways.{Way}
+use Rattle.abstract_debugger.specs.Ways.Way.{Ready, Still}
+use Rattle.abstract_debugger.proofs.DealsLemmas.{deals_armed, deals_at_plan, deals_ebreak, deals_freed, deals_frozen, deals_loaded, deals_ready, deals_register, deals_seen, deals_stored, deals_went_on, target_frozen, if_false, if_true}
+use Rattle.abstract_debugger.proofs.SlotLemmas.{CanArm}
+use Rattle.abstract_debugger.proofs.StandsLemmas.{rewrote_then, shown}
 use Rattle.probe_access.specs.Accesses.{with_memory}
 use Rattle.probe_access.specs.Registers.{TurnsPassed, TurnsPassedBut, reaches}
 use Rattle.probe_access.proofs.Aside.{Frozen}
@@ -47,12 +47,12 @@ use Rattle.probe_run.specs.Happens.{target_of}
 use Rattle.probe_trig.specs.declared.slot_use.SlotUse.{SlotUse}
 use Rattle.probe_trig.specs.declared.slot_use.SlotView.{SlotView}
 use Rattle.probe_trig.specs.Slots.{ArmedAt, ForgotAt, FreedAt, FullAt, UnusedAt, ViewedAt}
-use Rattle.probe_trig.specs.Words.{use_named}
+use Rattle.probe_trig.specs.SlotRegisters.{use_named}
 use Rattle.probe_session.specs.Calls.{IsOfCores}
 use Rattle.probe_session.specs.Steps.{any_in, lines_by, lines_of_view, with_ebreakm}
 use Rattle.probe_session.proofs.RegisterLemmas.{of_harts}
 use Rattle.probe_session.proofs.Tolds.{same_hart, sees_hart, went_by}
-use Rattle.debugger_laws.proofs.ScriptLemmas.{first_free-there, used_there}
+use Rattle.abstract_debugger.proofs.ScriptLemmas.{first_free-there, used_there}
 
 -- ---- a register that is read
 

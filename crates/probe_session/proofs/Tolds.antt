@@ -11,16 +11,16 @@ use Rattle.debug_model.specs.Chip.{Chip}
 use Rattle.debug_model.specs.Scan.{WhereTold}
 use Rattle.debug_model.specs.Module.{Site}
 use Rattle.debug_model.specs.Told.{Far, site_of}
-use Rattle.debugger_laws.specs.Debugger.{Seen as Sight, by_state, going, halted_of, halting, look, one, sees_halted, shown_hits, stop_line, stop_line_of, unseen, until}
-use Rattle.debugger_laws.specs.Lines.{Line}
-use Rattle.debugger_laws.specs.Plan.{Plan, is_step}
-use Rattle.debugger_laws.specs.Plan.Plan.{say, see}
-use Rattle.debugger_laws.specs.Slots.{hits_of, slots_at, slots_here}
-use Rattle.debugger_laws.specs.Stands.{At, Deals, Looked, Origin, Target, WentOn}
-use Rattle.debugger_laws.specs.Ways.{Way}
-use Rattle.debugger_laws.specs.Ways.Way.{Idle, Ready, Still}
-use Rattle.debugger_laws.proofs.DealsLemmas.{deals_again, deals_at_plan, deals_done, deals_found, deals_halted, deals_hold, deals_looked, deals_otherwise, deals_seen, deals_selects, deals_stepped, deals_went_on, target_frozen}
-use Rattle.debugger_laws.proofs.FrozenLemmas.{stays_same}
+use Rattle.abstract_debugger.specs.Debugger.{Seen as Sight, by_state, going, halted_of, halting, look, one, sees_halted, shown_hits, stop_line, stop_line_of, unseen, until}
+use Rattle.abstract_debugger.specs.Lines.{Line}
+use Rattle.abstract_debugger.specs.Plan.{Plan, is_step}
+use Rattle.abstract_debugger.specs.Plan.Plan.{say, see}
+use Rattle.abstract_debugger.specs.Slots.{hits_of, slots_at, slots_here}
+use Rattle.abstract_debugger.specs.Stands.{At, Deals, Looked, Origin, Target, WentOn}
+use Rattle.abstract_debugger.specs.Ways.{Way}
+use Rattle.abstract_debugger.specs.Ways.Way.{Idle, Ready, Still}
+use Rattle.abstract_debugger.proofs.DealsLemmas.{deals_again, deals_at_plan, deals_done, deals_found, deals_halted, deals_hold, deals_looked, deals_otherwise, deals_seen, deals_selects, deals_stepped, deals_went_on, target_frozen}
+use Rattle.abstract_debugger.proofs.FrozenLemmas.{stays_same}
 use Rattle.probe_access.specs.Registers.{TurnsPassed}
 use Rattle.probe_run.specs.declared.hart.Seen.{Seen}
 use Rattle.probe_run.specs.declared.hart.Seen.TheVariants as seen
@@ -30,7 +30,7 @@ use Rattle.probe_run.proofs.SessionLemmas.{halts_lead, resumes_lead, steps_lead}
 use Rattle.probe_trig.specs.Stepping.{OverAt}
 use Rattle.probe_session.specs.Led.{target_at}
 use Rattle.probe_session.specs.Steps.{behind_look, behind_step, is_halted, step_cause, trigger_cause}
-use Rattle.debugger_laws.proofs.KnownPoints.{known-still}
+use Rattle.abstract_debugger.proofs.KnownPoints.{known-still}
 use Rattle.rv_model.specs.Dcsr.{shown_cause}
 
 -- ---- an object that tells

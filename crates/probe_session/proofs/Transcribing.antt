@@ -8,19 +8,19 @@ use Rattle.debug_model.specs.declared.point.Point.{Point}
 use Rattle.debug_model.specs.Chip.{Live}
 use Rattle.debug_model.specs.Loaded.{AsLoaded}
 use Rattle.debug_model.specs.Told.{Far, site_of}
-use Rattle.debugger_laws.specs.Debugger.{Seen, commands, first_state, seen_at, session}
-use Rattle.debugger_laws.specs.Known.{IsFresh, IsFreshPart}
-use Rattle.debugger_laws.specs.Laws.{IsFront}
-use Rattle.debugger_laws.specs.Lines.{Line, any_error, text_of, text_of_all}
-use Rattle.debugger_laws.specs.Plan.Plan.{stop}
-use Rattle.debugger_laws.specs.Plan.PlanEnd.{Done}
-use Rattle.debugger_laws.specs.Stands.{Deals, IsTranscribed, Looked, Origin, Target}
-use Rattle.debugger_laws.specs.Transcript.{End, graded}
-use Rattle.debugger_laws.specs.Turns.{after_turns}
-use Rattle.debugger_laws.specs.Ways.Way.{Idle}
-use Rattle.debugger_laws.proofs.DealsLemmas.{deals_looked, deals_starts}
-use Rattle.debugger_laws.proofs.ScriptLemmas.{reset_is_fresh}
-use Rattle.debugger_laws.proofs.StandsLemmas.{transcribed}
+use Rattle.abstract_debugger.specs.Debugger.{Seen, commands, first_state, seen_at, session}
+use Rattle.abstract_debugger.specs.Known.{IsFresh, IsFreshPart}
+use Rattle.abstract_debugger.specs.Laws.{IsFront}
+use Rattle.abstract_debugger.specs.Lines.{Line, any_error, text_of, text_of_all}
+use Rattle.abstract_debugger.specs.Plan.Plan.{stop}
+use Rattle.abstract_debugger.specs.Plan.PlanEnd.{Done}
+use Rattle.abstract_debugger.specs.Stands.{Deals, IsTranscribed, Looked, Origin, Target}
+use Rattle.abstract_debugger.specs.Transcript.{End, graded}
+use Rattle.abstract_debugger.specs.Turns.{after_turns}
+use Rattle.abstract_debugger.specs.Ways.Way.{Idle}
+use Rattle.abstract_debugger.proofs.DealsLemmas.{deals_looked, deals_starts}
+use Rattle.abstract_debugger.proofs.ScriptLemmas.{reset_is_fresh}
+use Rattle.abstract_debugger.proofs.StandsLemmas.{transcribed}
 use Rattle.probe_run.specs.Happens.{target_of}
 use Rattle.probe_run.specs.Opening.{OpenedChip}
 use Rattle.probe_run.proofs.LoadedChip.{ResetAs, each_reset}

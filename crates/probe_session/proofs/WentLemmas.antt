@@ -1,6 +1,6 @@
 -- Steps of a session, one behind another.
 use Rattle.std.proofs.Common.{◌≤◌, ◌++◌, ℕ, List, [], subst, sym, append_assoc, append-nil, arith}
-use Rattle.debugger_laws.specs.Lines.{Line}
+use Rattle.abstract_debugger.specs.Lines.{Line}
 use Rattle.probe_run.specs.Acts.{Tells}
 use Rattle.probe_session.specs.declared.fault.Failure.{Failure}
 use Rattle.probe_session.specs.Goes.{Falls, Fault, Goes, Went}

@@ -7,7 +7,7 @@ use Rattle.debug_model.specs.declared.wire.WireFault.{WireFault}
 use Rattle.debug_model.specs.Dmi.DmiScript.{Scans}
 use Rattle.debug_model.specs.Scan.{ScanCause, Script}
 use Rattle.debug_model.specs.Told.{Far}
-use Rattle.debugger_laws.specs.Debugger.{first_state}
+use Rattle.abstract_debugger.specs.Debugger.{first_state}
 use Rattle.probe_access.specs.declared.fault.AccessFault.{AccessFault}
 use Rattle.probe_access.specs.declared.fault.AccessFault.TheVariants as fault
 use Rattle.probe_run.specs.declared.fault.RunFault.{RunFault}

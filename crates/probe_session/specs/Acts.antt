@@ -5,7 +5,7 @@ use Rattle.debug_model.specs.Dmi.{CanQuit}
 use Rattle.debug_model.specs.Told.{Far}
 use Rattle.debug_model.specs.declared.command.Command.{Command}
 use Rattle.debug_model.specs.declared.command.Command.TheVariants as command
-use Rattle.debugger_laws.specs.Debugger.{State}
+use Rattle.abstract_debugger.specs.Debugger.{State}
 use Rattle.probe_run.specs.Acts.{Tells}
 use Rattle.probe_session.specs.declared.acted.Acted.{Acted}
 use Rattle.probe_session.specs.declared.acted.Acted.TheVariants as acted

@@ -19,7 +19,7 @@ use Rattle.probe_access.specs.RegisterRuns.{BehindWords, ReadFailed, RefusedAs, 
 use Rattle.probe_access.specs.Registers.{DeniedRegister, GotRegister, RegisterLeft, SetRegister}
 use Rattle.probe_access.specs.Scratches.{ScratchLeft}
 use Rattle.probe_access.specs.Stops.{StopFailed, StopRead, StoppedAt}
-use Rattle.probe_access.specs.Words.{transfer_word}
+use Rattle.probe_access.specs.RegisterAccess.{transfer_word}
 use Rattle.probe_run.specs.declared.fault.RunFault.{RunFault}
 use Rattle.probe_run.specs.declared.hart.Seen.{Seen}
 use Rattle.probe_run.specs.Acts.{Tells}

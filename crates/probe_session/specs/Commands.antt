@@ -5,13 +5,13 @@ use Rattle.rv_model.specs.Registers.{csr_read_only}
 use Rattle.debug_model.specs.declared.command.Command.{Command}
 use Rattle.debug_model.specs.declared.command.Command.TheVariants as command
 use Rattle.debug_model.specs.Tap.{idcode}
-use Rattle.debugger_laws.specs.Debugger.{State, act, arming, freeing, going, one, register_line, stop_line}
-use Rattle.debugger_laws.specs.Lines.{Line}
-use Rattle.debugger_laws.specs.Plan.{Plan}
-use Rattle.debugger_laws.specs.Plan.Change.{EbreakHalts, WriteReg}
-use Rattle.debugger_laws.specs.Plan.Plan.{change, say, see}
-use Rattle.debugger_laws.specs.Slots.{any_hit, slots_at}
-use Rattle.debugger_laws.specs.Trace.{What}
+use Rattle.abstract_debugger.specs.Debugger.{State, act, arming, freeing, going, one, register_line, stop_line}
+use Rattle.abstract_debugger.specs.Lines.{Line}
+use Rattle.abstract_debugger.specs.Plan.{Plan}
+use Rattle.abstract_debugger.specs.Plan.Change.{EbreakHalts, WriteReg}
+use Rattle.abstract_debugger.specs.Plan.Plan.{change, say, see}
+use Rattle.abstract_debugger.specs.Slots.{any_hit, slots_at}
+use Rattle.abstract_debugger.specs.Trace.{What}
 use Rattle.probe_session.specs.declared.session.Session.{Session}
 use Rattle.probe_session.specs.Places.{Place, at_say, idle, still}
 

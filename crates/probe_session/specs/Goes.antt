@@ -6,12 +6,12 @@ use Rattle.jt_base.specs.Sink.{GrewByPrefix, grown}
 use Rattle.rv_model.specs.declared.size.Size.{Size}
 use Rattle.rv_model.specs.Board.{Board}
 use Rattle.debug_model.specs.declared.point.Point.TheVariants.{Access}
-use Rattle.debugger_laws.specs.Debugger.{Seen, State, going, halting, look, one, sees_halted, unseen, until}
-use Rattle.debugger_laws.specs.Laws.{Quiet}
-use Rattle.debugger_laws.specs.Lines.{Line, any_error, text_of, text_of_all}
-use Rattle.debugger_laws.specs.Plan.{Plan}
-use Rattle.debugger_laws.specs.Plan.Plan.{say, see, take}
-use Rattle.debugger_laws.specs.Ways.{Way}
+use Rattle.abstract_debugger.specs.Debugger.{Seen, State, going, halting, look, one, sees_halted, unseen, until}
+use Rattle.abstract_debugger.specs.Laws.{Quiet}
+use Rattle.abstract_debugger.specs.Lines.{Line, any_error, text_of, text_of_all}
+use Rattle.abstract_debugger.specs.Plan.{Plan}
+use Rattle.abstract_debugger.specs.Plan.Plan.{say, see, take}
+use Rattle.abstract_debugger.specs.Ways.{Way}
 use Rattle.probe_run.specs.Acts.{Tells}
 use Rattle.probe_trig.specs.declared.change.Change.TheVariants.{Forget}
 use Rattle.probe_trig.specs.declared.slot_use.SlotUse.{SlotUse}

@@ -4,8 +4,8 @@
 use Rattle.std.specs.Prelude.{◌++◌, List, Option, option_map}
 use Rattle.rv_model.specs.Board.{Machine}
 use Rattle.debug_model.specs.Told.{Far, site_of}
-use Rattle.debugger_laws.specs.Lines.{Line}
-use Rattle.debugger_laws.specs.Stands.{At, Origin, Target}
+use Rattle.abstract_debugger.specs.Lines.{Line}
+use Rattle.abstract_debugger.specs.Stands.{At, Origin, Target}
 use Rattle.probe_run.specs.Acts.{Tells}
 use Rattle.probe_run.specs.Happens.{target_of}
 use Rattle.probe_session.specs.Goes.{Goes}

@@ -2,8 +2,8 @@
 -- It is this project's own.
 use Rattle.std.specs.Prelude.{◌≡◌, ℕ, [], Bool, Option}
 use Rattle.debug_model.specs.Told.{Far}
-use Rattle.debugger_laws.specs.Debugger.{at_halted}
-use Rattle.debugger_laws.specs.Plan.{Plan}
+use Rattle.abstract_debugger.specs.Debugger.{at_halted}
+use Rattle.abstract_debugger.specs.Plan.{Plan}
 use Rattle.probe_run.specs.Acts.{Tells}
 use Rattle.probe_session.specs.declared.met.Met.{Met}
 use Rattle.probe_session.specs.declared.met.Met.TheVariants as met

@@ -1,11 +1,11 @@
 -- The places of a session: what is left of the abstract debugger's plan, and what is known there of the hart that it deals with.
 -- It is this project's own.
 use Rattle.std.specs.Prelude.{ℕ, Bool, true, false, not, ◌||◌}
-use Rattle.debugger_laws.specs.Lines.{Line}
-use Rattle.debugger_laws.specs.Plan.{Plan}
-use Rattle.debugger_laws.specs.Plan.Plan.{say}
-use Rattle.debugger_laws.specs.Ways.{Way}
-use Rattle.debugger_laws.specs.Ways.Way.{Idle, Ready, Still}
+use Rattle.abstract_debugger.specs.Lines.{Line}
+use Rattle.abstract_debugger.specs.Plan.{Plan}
+use Rattle.abstract_debugger.specs.Plan.Plan.{say}
+use Rattle.abstract_debugger.specs.Ways.{Way}
+use Rattle.abstract_debugger.specs.Ways.Way.{Idle, Ready, Still}
 
 pub record Place : Type 0 where
   pub heard : Bool  -- whether the line that the plan says next is what a call has just answered

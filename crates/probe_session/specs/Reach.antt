@@ -3,13 +3,13 @@
 use Rattle.std.specs.Prelude.{ℕ, List, [], Bool, Option, map}
 use Rattle.rv_model.specs.declared.size.Size.{Size}
 use Rattle.debug_model.specs.Told.{Far}
-use Rattle.debugger_laws.specs.Debugger.{State, at_aligned, at_path, dumping, reading, register_line, saying, shown_registers, slot_lines, stepping, stop_line, writing}
-use Rattle.debugger_laws.specs.Lines.{Line}
-use Rattle.debugger_laws.specs.Plan.{Plan}
-use Rattle.debugger_laws.specs.Plan.Plan.{say, see}
-use Rattle.debugger_laws.specs.Slots.{slots_at}
-use Rattle.debugger_laws.specs.Ways.{Way}
-use Rattle.debugger_laws.specs.Ways.Way.{Idle, Still}
+use Rattle.abstract_debugger.specs.Debugger.{State, at_aligned, at_path, dumping, reading, register_line, saying, shown_registers, slot_lines, stepping, stop_line, writing}
+use Rattle.abstract_debugger.specs.Lines.{Line}
+use Rattle.abstract_debugger.specs.Plan.{Plan}
+use Rattle.abstract_debugger.specs.Plan.Plan.{say, see}
+use Rattle.abstract_debugger.specs.Slots.{slots_at}
+use Rattle.abstract_debugger.specs.Ways.{Way}
+use Rattle.abstract_debugger.specs.Ways.Way.{Idle, Still}
 use Rattle.probe_run.specs.Acts.{Tells}
 use Rattle.probe_session.specs.declared.reach.Reach.{Reach}
 use Rattle.probe_session.specs.declared.reach.Reach.TheVariants as reach

@@ -1,7 +1,7 @@
 -- The line that a printed line says.
 -- It is this project's own.
 use Rattle.std.specs.Prelude.{ℕ, Bool, List, [], if◌then◌else◌, ◌==◌}
-use Rattle.debugger_laws.specs.Lines.{Line}
+use Rattle.abstract_debugger.specs.Lines.{Line}
 use Rattle.printed_lines.specs.declared.line.Line.{Line as PrintedLine}
 use Rattle.printed_lines.specs.declared.line.Line.TheVariants as printed
 use Rattle.printed_lines.specs.Line.{line_of}

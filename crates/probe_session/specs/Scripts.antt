@@ -6,9 +6,9 @@ use Rattle.debug_model.specs.declared.dmi.DmiFault.{DmiFault}
 use Rattle.debug_model.specs.declared.dmi.DmiFault.TheVariants as dmi_fault
 use Rattle.debug_model.specs.Dmi.{CanOperate, CanQuit}
 use Rattle.debug_model.specs.Told.{Far}
-use Rattle.debugger_laws.specs.Debugger.{State, commands, first_state}
-use Rattle.debugger_laws.specs.Plan.Plan.{stop}
-use Rattle.debugger_laws.specs.Plan.PlanEnd.{Done}
+use Rattle.abstract_debugger.specs.Debugger.{State, commands, first_state}
+use Rattle.abstract_debugger.specs.Plan.Plan.{stop}
+use Rattle.abstract_debugger.specs.Plan.PlanEnd.{Done}
 use Rattle.probe_run.specs.declared.fault.ConnectFault.{ConnectFault}
 use Rattle.probe_run.specs.declared.fault.ConnectFault.TheVariants as connect
 use Rattle.probe_run.specs.Acts.{Tells}

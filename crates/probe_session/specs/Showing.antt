@@ -3,10 +3,10 @@
 use Rattle.std.specs.Prelude.{◌≡◌, ◌+◌, ℕ, suc, Bool, true, false, List, [], ◌∷◌, length, Option}
 use Rattle.jt_base.specs.Sink.{GrewByPrefix}
 use Rattle.rv_model.specs.declared.size.Size.{Size}
-use Rattle.debugger_laws.specs.Laws.{Quiet}
-use Rattle.debugger_laws.specs.Debugger.{dumping}
-use Rattle.debugger_laws.specs.Lines.{Line, text_of}
-use Rattle.debugger_laws.specs.Plan.{Plan}
+use Rattle.abstract_debugger.specs.Laws.{Quiet}
+use Rattle.abstract_debugger.specs.Debugger.{dumping}
+use Rattle.abstract_debugger.specs.Lines.{Line, text_of}
+use Rattle.abstract_debugger.specs.Plan.{Plan}
 use Rattle.probe_run.specs.Acts.{Tells}
 use Rattle.probe_session.specs.declared.reach.Reach.{Reach}
 use Rattle.probe_session.specs.Goes.{Spoke}

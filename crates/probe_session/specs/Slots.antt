@@ -1,7 +1,7 @@
 -- What a slot is to be armed for.
 -- It is this project's own.
-use Rattle.debugger_laws.specs.Trace.{What}
-use Rattle.debugger_laws.specs.Trace.What.{Break, Count, Watch}
+use Rattle.abstract_debugger.specs.Trace.{What}
+use Rattle.abstract_debugger.specs.Trace.What.{Break, Count, Watch}
 use Rattle.probe_trig.specs.declared.slot_use.SlotUse.{SlotUse}
 use Rattle.probe_trig.specs.declared.slot_use.SlotUse.TheVariants as slot_use
 

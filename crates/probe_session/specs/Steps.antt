@@ -9,22 +9,22 @@ use Rattle.rv_model.specs.Registers.{csr_read_only, pc_number}
 use Rattle.rv_model.specs.Size.{count_of}
 use Rattle.debug_model.specs.declared.point.Point.TheVariants.{Access}
 use Rattle.debug_model.specs.Tap.{idcode}
-use Rattle.debugger_laws.specs.Debugger.{arming, by_load, by_state, by_store, freeing, going, halted_of, halting, look, one, register_line, saying, sees_halted, slot_lines, stop_line, unseen, until, value_here}
-use Rattle.debugger_laws.specs.Lines.{Line}
-use Rattle.debugger_laws.specs.Plan.{Plan, is_step}
-use Rattle.debugger_laws.specs.Plan.Change.{EbreakHalts, WriteMem, WriteReg}
-use Rattle.debugger_laws.specs.Slots.{Use, any_hit, slots_at}
-use Rattle.debugger_laws.specs.Slots.Use.{Armed, Unused}
-use Rattle.debugger_laws.specs.Trace.{What}
-use Rattle.debugger_laws.proofs.SlotLemmas.{CanArm}
+use Rattle.abstract_debugger.specs.Debugger.{arming, by_load, by_state, by_store, freeing, going, halted_of, halting, look, one, register_line, saying, sees_halted, slot_lines, stop_line, unseen, until, value_here}
+use Rattle.abstract_debugger.specs.Lines.{Line}
+use Rattle.abstract_debugger.specs.Plan.{Plan, is_step}
+use Rattle.abstract_debugger.specs.Plan.Change.{EbreakHalts, WriteMem, WriteReg}
+use Rattle.abstract_debugger.specs.Slots.{Use, any_hit, slots_at}
+use Rattle.abstract_debugger.specs.Slots.Use.{Armed, Unused}
+use Rattle.abstract_debugger.specs.Trace.{What}
+use Rattle.abstract_debugger.proofs.SlotLemmas.{CanArm}
 use Rattle.probe_trig.specs.declared.slot_use.SlotUse.{SlotUse}
 use Rattle.probe_trig.specs.declared.slot_use.SlotView.{SlotView}
 use Rattle.probe_trig.specs.Slots.{hits_in}
-use Rattle.probe_trig.specs.Words.{use_named}
+use Rattle.probe_trig.specs.SlotRegisters.{use_named}
 use Rattle.rv_model.specs.Dcsr.{dcsr_of_word, dcsr_word}
 use Rattle.rv_model.specs.DebugRegisters.{dcsr_number}
-use Rattle.debugger_laws.specs.Plan.Plan.{change, say, see, take}
-use Rattle.debugger_laws.specs.Ways.{Way}
+use Rattle.abstract_debugger.specs.Plan.Plan.{change, say, see, take}
+use Rattle.abstract_debugger.specs.Ways.{Way}
 use Rattle.probe_run.specs.declared.hart.Seen.{Seen}
 use Rattle.probe_run.specs.declared.hart.Seen.TheVariants as seen
 use Rattle.probe_run.specs.Acts.{Tells}

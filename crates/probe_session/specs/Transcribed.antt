@@ -5,12 +5,12 @@ use Rattle.jt_base.specs.Sink.{GrewByPrefix, grown}
 use Rattle.debug_model.specs.declared.command.Command.{Command}
 use Rattle.debug_model.specs.declared.point.Point.{Point}
 use Rattle.debug_model.specs.Told.{Far, site_of}
-use Rattle.debugger_laws.specs.Debugger.{session}
-use Rattle.debugger_laws.specs.Laws.{IsFront}
-use Rattle.debugger_laws.specs.Lines.{Line, text_of_all}
-use Rattle.debugger_laws.specs.Stands.{Origin}
-use Rattle.debugger_laws.specs.Transcript.{End, Outcome, replay, start, transcript}
-use Rattle.debugger_laws.specs.Transcript.End.{Astray}
+use Rattle.abstract_debugger.specs.Debugger.{session}
+use Rattle.abstract_debugger.specs.Laws.{IsFront}
+use Rattle.abstract_debugger.specs.Lines.{Line, text_of_all}
+use Rattle.abstract_debugger.specs.Stands.{Origin}
+use Rattle.abstract_debugger.specs.Transcript.{End, Outcome, replay, start, transcript}
+use Rattle.abstract_debugger.specs.Transcript.End.{Astray}
 use Rattle.probe_session.specs.declared.ended.Ended.{Ended}
 use Rattle.probe_session.specs.declared.ended.Ended.TheVariants as ended
 use Rattle.probe_session.specs.declared.fault.LostCause.TheVariants as lost

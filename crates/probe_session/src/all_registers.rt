@@ -5,7 +5,7 @@ ghost use Rattle.probe_run.specs.Acts.{tells};
 ghost use Rattle.debug_model.specs.declared.command.Command.TheVariants as command;
 ghost use Rattle.probe_session.specs.Calls.{IsOfCores};
 ghost use Rattle.probe_session.specs.Commands.{before, behind, state_of};
-ghost use Rattle.debugger_laws.specs.Laws.{Quiet};
+ghost use Rattle.abstract_debugger.specs.Laws.{Quiet};
 ghost use Rattle.probe_session.specs.Goes.{CalmNext, Fell, Spoke};
 ghost use Rattle.probe_session.specs.Links.{LeftBy, Serving, ServingHalted};
 ghost use Rattle.probe_session.specs.Places.{idle};

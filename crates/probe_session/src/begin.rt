@@ -3,7 +3,7 @@
 ghost use Rattle.std.specs.Prelude.{◌≡◌, ◌≤◌, true, false, IfOk, IfErr, OnOk};
 ghost use Rattle.debug_model.specs.Dmi.{CanOperate, LeavesStream};
 ghost use Rattle.debug_model.specs.Told.{IsAsLoaded, IsReady, Selects};
-ghost use Rattle.debugger_laws.specs.Debugger.{first_state};
+ghost use Rattle.abstract_debugger.specs.Debugger.{first_state};
 ghost use Rattle.probe_run.specs.Acts.{tells};
 ghost use Rattle.probe_run.specs.Opening.{ConnectFails, IfOpeningDmi, LosesLoaded, Opened, OpensLoaded, UnlessOpeningDmi};
 ghost use Rattle.probe_session.specs.Commands.{state_of};

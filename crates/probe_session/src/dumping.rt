@@ -5,7 +5,7 @@ ghost use Rattle.arrayvec.specs.ArrayVec.{array_vec_len};
 ghost use Rattle.probe_run.specs.Acts.{tells};
 ghost use Rattle.debug_model.specs.Command.{IsBlock};
 ghost use Rattle.debug_model.specs.declared.command.Command.TheVariants as command;
-ghost use Rattle.debugger_laws.specs.Lines.{text_of_all};
+ghost use Rattle.abstract_debugger.specs.Lines.{text_of_all};
 ghost use Rattle.jt_base.specs.Faults.{Rises};
 ghost use Rattle.jt_base.specs.Sink.{grown};
 ghost use Rattle.rv_model.specs.declared.size.Size.TheVariants.{B1};
@@ -13,7 +13,7 @@ ghost use Rattle.probe_session.specs.declared.fault.Failure.TheVariants as failu
 ghost use Rattle.probe_session.specs.Answers.{LoadedAs};
 ghost use Rattle.probe_session.specs.Calls.{LoadFell};
 ghost use Rattle.probe_session.specs.Commands.{before, behind, state_of};
-ghost use Rattle.debugger_laws.specs.Laws.{Quiet};
+ghost use Rattle.abstract_debugger.specs.Laws.{Quiet};
 ghost use Rattle.probe_session.specs.Goes.{CalmNext, Fell, Spoke};
 ghost use Rattle.probe_session.specs.Links.{LeftBy, Serving};
 ghost use Rattle.probe_session.specs.Places.{idle};

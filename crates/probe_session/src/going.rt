@@ -2,9 +2,9 @@
 
 ghost use Rattle.std.specs.Prelude.{◌≡◌, ◌≤◌, ◌<◌, ◌^◌, [], true, false, IfOk, IfErr, IsTrue, OnOk};
 ghost use Rattle.probe_run.specs.Acts.{tells};
-ghost use Rattle.debugger_laws.specs.Debugger.{going};
-ghost use Rattle.debugger_laws.specs.Lines.Line.{Resumed};
-ghost use Rattle.debugger_laws.specs.Plan.Plan.{say};
+ghost use Rattle.abstract_debugger.specs.Debugger.{going};
+ghost use Rattle.abstract_debugger.specs.Lines.Line.{Resumed};
+ghost use Rattle.abstract_debugger.specs.Plan.Plan.{say};
 ghost use Rattle.probe_session.specs.Commands.{at_letting_go, ends_with};
 ghost use Rattle.probe_session.specs.Goes.{Falls, Went};
 ghost use Rattle.probe_session.specs.Links.{LeftBy, Serving, ServingHalted};

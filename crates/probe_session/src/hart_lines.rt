@@ -3,8 +3,8 @@
 ghost use Rattle.std.specs.Prelude.{◌≡◌, ◌≤◌, ◌<◌, ◌^◌, [], true, false, IfOk, IfErr, IsTrue, OnOk};
 ghost use Rattle.probe_run.specs.Acts.{tells};
 ghost use Rattle.debug_model.specs.Registers.{is_register};
-ghost use Rattle.debugger_laws.specs.Slots.Use.{Armed};
-ghost use Rattle.debugger_laws.specs.Trace.{What};
+ghost use Rattle.abstract_debugger.specs.Slots.Use.{Armed};
+ghost use Rattle.abstract_debugger.specs.Trace.{What};
 ghost use Rattle.probe_session.specs.Calls.{IsOfCores};
 ghost use Rattle.probe_session.specs.Commands.{at_arming, at_ebreak, at_freeing, at_register, at_stop_line, at_written_register, ends_with};
 ghost use Rattle.probe_session.specs.Goes.{Falls, Went};
@@ -12,7 +12,7 @@ ghost use Rattle.probe_session.specs.Links.{LeftBy, Serving, ServingHalted};
 ghost use Rattle.probe_session.specs.Said.{said_by};
 ghost use Rattle.probe_session.specs.Slots.{what_of};
 ghost use Rattle.probe_session.specs.Steps.{with_ebreakm};
-ghost use Rattle.probe_trig.specs.Words.{CanArm};
+ghost use Rattle.probe_trig.specs.SlotRegisters.{CanArm};
 
 use crate::fault::Failure;
 use crate::registers::{ask, get, give, set};

@@ -3,8 +3,8 @@
 ghost use Rattle.std.specs.Prelude.{◌≡◌, ◌≤◌, ◌<◌, ◌^◌, [], true, false, IfOk, IfErr, IsTrue, OnOk};
 ghost use Rattle.probe_run.specs.Acts.{tells};
 ghost use Rattle.debug_model.specs.Tap.{idcode};
-ghost use Rattle.debugger_laws.specs.Lines.Line.{Idcode};
-ghost use Rattle.debugger_laws.specs.Plan.Plan.{say};
+ghost use Rattle.abstract_debugger.specs.Lines.Line.{Idcode};
+ghost use Rattle.abstract_debugger.specs.Plan.Plan.{say};
 ghost use Rattle.probe_session.specs.Commands.{at_idcode, ends_with};
 ghost use Rattle.probe_session.specs.Goes.{Falls, Went};
 ghost use Rattle.probe_session.specs.Links.{LeftBy, Serving};

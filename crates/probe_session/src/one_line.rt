@@ -3,7 +3,7 @@
 ghost use Rattle.std.specs.Prelude.{◌≡◌, ◌≤◌, ◌<◌, ◌^◌, [], true, false, IfOk, IfErr, IsTrue, OnOk};
 ghost use Rattle.probe_run.specs.Acts.{tells};
 ghost use Rattle.debug_model.specs.Command.{IsBlock, last_slot, most_turns};
-ghost use Rattle.debugger_laws.specs.Lines.Line.{Via};
+ghost use Rattle.abstract_debugger.specs.Lines.Line.{Via};
 ghost use Rattle.rv_model.specs.Size.{count_of};
 ghost use Rattle.debug_model.specs.Registers.{is_register};
 ghost use Rattle.debug_model.specs.declared.command.Command.TheVariants as command;

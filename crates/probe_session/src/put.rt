@@ -1,5 +1,5 @@
 ghost use Rattle.std.specs.Prelude.{◌≡◌, ◌≤◌, IfErr, OnErr, OnOk};
-ghost use Rattle.debugger_laws.specs.Lines.{text_of};
+ghost use Rattle.abstract_debugger.specs.Lines.{text_of};
 ghost use Rattle.jt_base.specs.Faults.{Rises};
 ghost use Rattle.jt_base.specs.Sink.{GrewByPrefix, grown};
 ghost use Rattle.probe_session.specs.Said.{said_by};

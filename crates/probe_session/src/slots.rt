@@ -5,7 +5,7 @@ ghost use Rattle.probe_session.specs.Calls.{HitsForgotten, OverFell, OverMade, S
 ghost use Rattle.probe_session.specs.Links.{LeftBy, ServingHalted};
 ghost use Rattle.probe_trig.specs.declared.change.Change.TheVariants.{Forget};
 ghost use Rattle.probe_trig.specs.Runs.{ArmsAny, ChangesAny, FreesAny, ReadsAny};
-ghost use Rattle.probe_trig.specs.Words.{CanArm};
+ghost use Rattle.probe_trig.specs.SlotRegisters.{CanArm};
 
 use crate::fault::{Failure, lost_by};
 use debug_model::Dmi;

@@ -10,7 +10,7 @@ use Rattle.probe_trig.specs.Runs.{Arms, ArmsAny, Finds, FindsNone, FreesAny, IsI
 use Rattle.probe_trig.specs.Single.{AddressSet, Armed, OneGot, OneSet, WordRead}
 use Rattle.probe_trig.specs.Transfers.{Did, Made, Transfer}
 use Rattle.probe_trig.specs.Transfers.Transfer.{Got, Set}
-use Rattle.probe_trig.specs.Words.{address_named, shows_free, trigger_named}
+use Rattle.probe_trig.specs.SlotRegisters.{address_named, shows_free, trigger_named}
 use Rattle.probe_trig.proofs.Shows.{disabled_free}
 use Rattle.probe_trig.proofs.TransferLemmas.{Fits, made_then}
 

@@ -12,17 +12,17 @@ use Rattle.rv_model.specs.TriggerWords.{CountFits, tdata1_of, trigger_of}
 use Rattle.rv_model.specs.Triggers.{CountsFit}
 use Rattle.rv_model.proofs.DebugWordLemmas.{trigger_read_back}
 use Rattle.debug_model.specs.declared.command.WatchKind.TheVariants.{Access, Load, Store}
-use Rattle.debugger_laws.specs.Slots.{address_trigger, armed_for, count_trigger, freed as slot_free, is_free, watch_trigger}
-use Rattle.debugger_laws.specs.Slots.Use.{Armed}
-use Rattle.debugger_laws.specs.Trace.{What}
-use Rattle.debugger_laws.specs.Trace.What.{Break, Count, Watch}
+use Rattle.abstract_debugger.specs.Slots.{address_trigger, armed_for, count_trigger, freed as slot_free, is_free, watch_trigger}
+use Rattle.abstract_debugger.specs.Slots.Use.{Armed}
+use Rattle.abstract_debugger.specs.Trace.{What}
+use Rattle.abstract_debugger.specs.Trace.What.{Break, Count, Watch}
 use Rattle.probe_trig.specs.declared.register.TriggerRegister.TheVariants.{Tdata1, Tdata2}
 use Rattle.probe_trig.specs.declared.slot_use.SlotUse.{SlotUse}
 use Rattle.probe_trig.specs.declared.slot_use.SlotUse.TheVariants as slot_use
 use Rattle.probe_trig.specs.Runs.{IsInUse, armed, freed, words_read}
 use Rattle.probe_trig.specs.Transfers.{Transfer}
 use Rattle.probe_trig.specs.Transfers.Transfer.{Set}
-use Rattle.probe_trig.specs.Words.{CanArm, shows_free, use_named}
+use Rattle.probe_trig.specs.SlotRegisters.{CanArm, shows_free, use_named}
 use Rattle.probe_trig.proofs.Parts.{Passed, WordPassed, passed_set, passed_then, posed, slot_at, tdata1_set, tdata2_set, word_passed}
 use Rattle.probe_trig.proofs.Shows.{shows_as_free}
 use Rattle.probe_trig.proofs.Told.{Shown, played}

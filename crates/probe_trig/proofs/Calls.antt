@@ -2,9 +2,9 @@
 use Rattle.std.proofs.Common.{◌≡◌, ◌∙◌, ◌||◌, ℕ, Bool, true, false, List, [], ◌∷◌, map, Some, slice_get, refl, sym, ap, subst}
 use Rattle.rv_model.specs.declared.slot.Slot.{Slot}
 use Rattle.rv_model.specs.Board.{Board, Hart}
-use Rattle.debugger_laws.specs.Plan.{with_debug_part}
-use Rattle.debugger_laws.specs.Slots.{any_hit, hits_of, slots_at, slots_here, trigger_has_hit, use_of, with_slots, with_trigger}
-use Rattle.debugger_laws.specs.Stands.{Rewrote, Target}
+use Rattle.abstract_debugger.specs.Plan.{with_debug_part}
+use Rattle.abstract_debugger.specs.Slots.{any_hit, hits_of, slots_at, slots_here, trigger_has_hit, use_of, with_slots, with_trigger}
+use Rattle.abstract_debugger.specs.Stands.{Rewrote, Target}
 use Rattle.probe_trig.specs.declared.change.Change.{Change}
 use Rattle.probe_trig.specs.declared.change.Change.TheVariants as change
 use Rattle.probe_trig.specs.declared.slot_use.SlotView.{SlotView}
@@ -14,7 +14,7 @@ use Rattle.probe_trig.specs.Slots.{ForgotAt, Shows, ViewedAt, hit_of_words, use_
 use Rattle.probe_run.specs.Acts.{Tells}
 use Rattle.probe_trig.specs.Single.{ChangedAll}
 use Rattle.probe_trig.specs.Transfers.{Did, Transfer}
-use Rattle.probe_trig.specs.Words.{shows_hit, trigger_changed}
+use Rattle.probe_trig.specs.SlotRegisters.{shows_hit, trigger_changed}
 use Rattle.probe_trig.proofs.Fitting.{four_changed, four_read}
 use Rattle.probe_trig.proofs.Four.{FourChanged, FourSeen, Whole, changed_four, seen_four, whole_of}
 use Rattle.probe_trig.proofs.Parts.{posed}

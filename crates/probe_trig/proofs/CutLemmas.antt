@@ -9,11 +9,11 @@ use Rattle.rv_model.proofs.DebugLemmas.{writes_keep}
 use Rattle.debug_model.specs.Dmi.{DmiScript}
 use Rattle.debug_model.specs.Module.{Site}
 use Rattle.debug_model.specs.Told.{Far, IsHalted, IsReady, site_of}
-use Rattle.debugger_laws.specs.Laws.{IsFrozen}
-use Rattle.debugger_laws.specs.Stands.{Rewrote}
-use Rattle.debugger_laws.specs.Turns.{after_turns}
-use Rattle.debugger_laws.proofs.FrozenLemmas.{frozen_stays}
-use Rattle.debugger_laws.proofs.StandsLemmas.{rewrote_then}
+use Rattle.abstract_debugger.specs.Laws.{IsFrozen}
+use Rattle.abstract_debugger.specs.Stands.{Rewrote}
+use Rattle.abstract_debugger.specs.Turns.{after_turns}
+use Rattle.abstract_debugger.proofs.FrozenLemmas.{frozen_stays}
+use Rattle.abstract_debugger.proofs.StandsLemmas.{rewrote_then}
 use Rattle.probe_access.specs.declared.fault.AccessFault.{AccessFault}
 use Rattle.probe_access.specs.declared.fault.AccessFault.TheVariants as access_fault
 use Rattle.probe_access.specs.Cuts.{IfCut, IsLeft, LeftAside, Leaves, MaybeWritten, Unchanged}

@@ -10,16 +10,16 @@ use Rattle.rv_model.specs.Dcsr.{dcsr_of, dcsr_value, shown_cause}
 use Rattle.rv_model.specs.DebugRegisters.{debug_value}
 use Rattle.rv_model.specs.Registers.{csr_value}
 use Rattle.rv_model.proofs.DebugWordLemmas.{dcsr_read_back}
-use Rattle.debugger_laws.specs.Debugger.{halted_of}
+use Rattle.abstract_debugger.specs.Debugger.{halted_of}
 use Rattle.debug_model.specs.declared.point.Point.{Point}
-use Rattle.debugger_laws.specs.Laws.{IsFrozen, IsFrozenAt}
-use Rattle.debugger_laws.specs.Plan.{hart_over, is_step, step_ended, with_debug_part}
-use Rattle.debugger_laws.specs.Slots.{hits_forgotten, over, slots_back, trigger_back, trigger_forgotten, with_trigger}
-use Rattle.debugger_laws.specs.Stands.{Rewrote, Target, WentOn}
-use Rattle.debugger_laws.specs.Turns.{after_turns, turns}
-use Rattle.debugger_laws.proofs.FrozenLemmas.{frozen_stays, stays_same}
-use Rattle.debugger_laws.proofs.OverLemmas.{slice_get-over_same}
-use Rattle.debugger_laws.proofs.StandsLemmas.{after_turns-append, rewrote_then, turns-append}
+use Rattle.abstract_debugger.specs.Laws.{IsFrozen, IsFrozenAt}
+use Rattle.abstract_debugger.specs.Plan.{hart_over, is_step, step_ended, with_debug_part}
+use Rattle.abstract_debugger.specs.Slots.{hits_forgotten, over, slots_back, trigger_back, trigger_forgotten, with_trigger}
+use Rattle.abstract_debugger.specs.Stands.{Rewrote, Target, WentOn}
+use Rattle.abstract_debugger.specs.Turns.{after_turns, turns}
+use Rattle.abstract_debugger.proofs.FrozenLemmas.{frozen_stays, stays_same}
+use Rattle.abstract_debugger.proofs.OverLemmas.{slice_get-over_same}
+use Rattle.abstract_debugger.proofs.StandsLemmas.{after_turns-append, rewrote_then, turns-append}
 use Rattle.probe_access.specs.SingleSteps.{with_step}
 use Rattle.rv_model.specs.declared.slot.Slot.{Slot}
 use Rattle.probe_trig.specs.declared.change.Change.TheVariants.{PutBackAndForget}
@@ -27,7 +27,7 @@ use Rattle.probe_trig.specs.declared.register.TriggerRegister.TheVariants.{Dcsr}
 use Rattle.probe_trig.specs.Stepping.{Ends, ending, executed_at, shows_step}
 use Rattle.probe_trig.specs.Transfers.{number_of}
 use Rattle.probe_trig.specs.Transfers.Transfer.{Got}
-use Rattle.probe_trig.specs.Words.{shows_hit, trigger_changed}
+use Rattle.probe_trig.specs.SlotRegisters.{shows_hit, trigger_changed}
 use Rattle.probe_trig.proofs.Calls.{ChangedAt, changes_all, makes_changes}
 use Rattle.probe_trig.proofs.Told.{Makes, Shown, becomes, played}
 

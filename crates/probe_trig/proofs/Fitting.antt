@@ -7,7 +7,7 @@ use Rattle.probe_trig.specs.Runs.{ChangesAny, ReadsAny, hit_changed, put_back, s
 use Rattle.probe_trig.specs.Single.{OneGot, OneSet, SlotChanged, SlotRead, WordRead}
 use Rattle.probe_trig.specs.Transfers.{Made, Transfer}
 use Rattle.probe_trig.specs.Transfers.Transfer.{Got, Set}
-use Rattle.probe_trig.specs.Words.{shows_hit, word_changed}
+use Rattle.probe_trig.specs.SlotRegisters.{shows_hit, word_changed}
 use Rattle.probe_run.specs.Acts.{Tells}
 use Rattle.probe_trig.proofs.TransferLemmas.{Fits, made_then}
 

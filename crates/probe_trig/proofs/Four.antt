@@ -4,7 +4,7 @@ use Rattle.rv_model.specs.declared.slot.Slot.{Slot}
 use Rattle.rv_model.specs.Board.{Hart, IsHart}
 use Rattle.rv_model.specs.TriggerWords.{CountFits, tdata1_of}
 use Rattle.rv_model.specs.Triggers.{CountsFit}
-use Rattle.debugger_laws.specs.Slots.{hits_of, trigger_has_hit, use_of, with_trigger}
+use Rattle.abstract_debugger.specs.Slots.{hits_of, trigger_has_hit, use_of, with_trigger}
 use Rattle.probe_trig.specs.declared.change.Change.{Change}
 use Rattle.probe_trig.specs.declared.register.TriggerRegister.TheVariants.{Tdata2, Tselect}
 use Rattle.probe_trig.specs.declared.slot_words.SlotWords.{SlotWords}
@@ -12,7 +12,7 @@ use Rattle.probe_trig.specs.Runs.{put_back, slot_changed, slot_read}
 use Rattle.probe_trig.specs.Slots.{hit_of_words, use_of_words}
 use Rattle.probe_trig.specs.Transfers.{Transfer}
 use Rattle.probe_trig.specs.Transfers.Transfer.{Got}
-use Rattle.probe_trig.specs.Words.{trigger_changed}
+use Rattle.probe_trig.specs.SlotRegisters.{trigger_changed}
 use Rattle.probe_trig.proofs.Fitting.{four_changed, four_read}
 use Rattle.probe_trig.proofs.Parts.{Passed, SlotPassed, WordPassed, kept_is, passed_got, passed_then, posed, put_back_is, slot_at, slot_passed, tdata2_holds, word_passed}
 use Rattle.probe_trig.proofs.Shows.{shows_as_hit, shows_as_use}

@@ -2,7 +2,7 @@
 use Rattle.std.proofs.Common.{◌≡◌, ◌∙◌, ◌<◌, ℕ, zero, suc, true, false, List, [], ◌∷◌, Option, Some, None, option_map, slice_get, refl, ap, arith, if◌then◌else◌}
 use Rattle.std.proofs.lemmas.Option.{same_Some, none-some}
 use Rattle.rv_model.specs.declared.slot.Slot.{Slot}
-use Rattle.debugger_laws.specs.Slots.{first_free, is_free}
+use Rattle.abstract_debugger.specs.Slots.{first_free, is_free}
 
 -- every slot below a place is in use
 abbrev pub UsedBelow : ℕ → List Slot → Type 0

@@ -4,7 +4,7 @@ use Rattle.debug_model.specs.declared.dmi.DmiFault.{DmiFault}
 use Rattle.debug_model.specs.declared.dmi_op.DmiOp.TheVariants.{Read, Write}
 use Rattle.debug_model.specs.Scan.{WhereTold}
 use Rattle.debug_model.specs.Told.{Far}
-use Rattle.debugger_laws.specs.Debugger.{sees_ack}
+use Rattle.abstract_debugger.specs.Debugger.{sees_ack}
 use Rattle.probe_access.specs.declared.fault.AccessFault.{AccessFault}
 use Rattle.probe_access.specs.declared.fault.AccessFault.TheVariants as access_fault
 use Rattle.probe_access.specs.Scratches.{ScratchLeft}

@@ -9,8 +9,8 @@ use Rattle.rv_model.specs.Registers.{csr_written}
 use Rattle.rv_model.specs.TriggerWords.{trigger_csr_written, trigger_of}
 use Rattle.debug_model.specs.Dmi.{DmiScript}
 use Rattle.debug_model.specs.Told.{Far, IsHalted, IsReady, site_of}
-use Rattle.debugger_laws.specs.Laws.{IsFrozen}
-use Rattle.debugger_laws.specs.Slots.{with_trigger}
+use Rattle.abstract_debugger.specs.Laws.{IsFrozen}
+use Rattle.abstract_debugger.specs.Slots.{with_trigger}
 use Rattle.probe_access.specs.declared.fault.AccessFault.{AccessFault}
 use Rattle.probe_access.specs.BlockCuts.{MaybeFlagged}
 use Rattle.probe_access.specs.Cuts.{IfCut, LeftAside, Leaves}
@@ -26,7 +26,7 @@ use Rattle.probe_trig.specs.Stepping.{EndsAny, ending}
 use Rattle.probe_trig.specs.Transfers.{Attempt, Begins, FailedIn, Transfer, number_of}
 use Rattle.probe_trig.specs.Transfers.Attempt.{Getting, Setting}
 use Rattle.probe_trig.specs.Transfers.Transfer.{Got, Set}
-use Rattle.probe_trig.specs.Words.{shows_hit, trigger_changed, word_changed}
+use Rattle.probe_trig.specs.SlotRegisters.{shows_hit, trigger_changed, word_changed}
 use Rattle.probe_trig.proofs.Calls.{changes_all}
 use Rattle.probe_trig.proofs.CutLemmas.{alone, alone_written, attempt_cut, broke_off, may}
 use Rattle.probe_trig.proofs.Told.{Led, frozen_halted, made_led, played}

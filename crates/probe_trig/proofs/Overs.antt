@@ -10,14 +10,14 @@ use Rattle.debug_model.specs.Module.{DebugModule}
 use Rattle.debug_model.specs.Scan.{WhereTold}
 use Rattle.debug_model.specs.Told.{Far, IsHalted, IsReady, site_of}
 use Rattle.debug_model.specs.declared.point.Point.TheVariants.{ResumeReq}
-use Rattle.debugger_laws.specs.Debugger.{Seen as Sight, sees_ack}
-use Rattle.debugger_laws.specs.Laws.{IsFrozenAt}
-use Rattle.debugger_laws.specs.Plan.{step_begun, with_debug_part}
-use Rattle.debugger_laws.specs.Slots.{any_hit, over, slots_at, trigger_has_hit, with_trigger}
-use Rattle.debugger_laws.specs.Stands.{Rewrote, Target, WentOn}
-use Rattle.debugger_laws.specs.Turns.{after_turns}
-use Rattle.debugger_laws.proofs.FrozenLemmas.{stays_same}
-use Rattle.debugger_laws.proofs.StandsLemmas.{rewrote_then}
+use Rattle.abstract_debugger.specs.Debugger.{Seen as Sight, sees_ack}
+use Rattle.abstract_debugger.specs.Laws.{IsFrozenAt}
+use Rattle.abstract_debugger.specs.Plan.{step_begun, with_debug_part}
+use Rattle.abstract_debugger.specs.Slots.{any_hit, over, slots_at, trigger_has_hit, with_trigger}
+use Rattle.abstract_debugger.specs.Stands.{Rewrote, Target, WentOn}
+use Rattle.abstract_debugger.specs.Turns.{after_turns}
+use Rattle.abstract_debugger.proofs.FrozenLemmas.{stays_same}
+use Rattle.abstract_debugger.proofs.StandsLemmas.{rewrote_then}
 use Rattle.probe_access.specs.SingleSteps.{StepMissed, StepMissedAt, StepsOnce, SteppedAt, with_step}
 use Rattle.probe_run.specs.Acts.{Tells, tells}
 use Rattle.probe_run.specs.Happens.{Leaves, MissedAt, ResumesAt, target_of}
@@ -29,7 +29,7 @@ use Rattle.probe_trig.specs.Single.{ChangedAll}
 use Rattle.probe_trig.specs.Slots.{AtHarts}
 use Rattle.probe_trig.specs.Stepping.{BackAt, Ends, OverAt, OverMissed, SteppedBack, executed_at}
 use Rattle.probe_trig.specs.Transfers.{Did}
-use Rattle.probe_trig.specs.Words.{trigger_changed}
+use Rattle.probe_trig.specs.SlotRegisters.{trigger_changed}
 use Rattle.probe_trig.proofs.Calls.{ChangedAt, changes_all, makes_changes, slots_there}
 use Rattle.probe_trig.proofs.Ends.{Cleared, EndedAt, cleared, makes_end}
 use Rattle.probe_trig.proofs.Parts.{unchanged}

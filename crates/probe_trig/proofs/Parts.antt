@@ -14,7 +14,7 @@ use Rattle.rv_model.specs.Registers.{csr_value, csr_written}
 use Rattle.rv_model.specs.TriggerWords.{CountFits, tdata1_of, trigger_csr_value, trigger_csr_written, trigger_of}
 use Rattle.rv_model.proofs.DebugWordLemmas.{trigger_read_back}
 use Rattle.rv_model.proofs.MapLemmas.{set_same}
-use Rattle.debugger_laws.specs.Slots.{trigger_has_hit, with_trigger}
+use Rattle.abstract_debugger.specs.Slots.{trigger_has_hit, with_trigger}
 use Rattle.probe_trig.specs.declared.change.Change.{Change}
 use Rattle.probe_trig.specs.declared.change.Change.TheVariants as change
 use Rattle.probe_trig.specs.declared.register.TriggerRegister.{TriggerRegister}
@@ -22,7 +22,7 @@ use Rattle.probe_trig.specs.declared.register.TriggerRegister.TheVariants.{Tdata
 use Rattle.probe_trig.specs.Runs.{hit_changed, slot_changed, word_read}
 use Rattle.probe_trig.specs.Transfers.{Transfer, number_of}
 use Rattle.probe_trig.specs.Transfers.Transfer.{Got, Set}
-use Rattle.probe_trig.specs.Words.{shows_hit, trigger_changed, word_changed}
+use Rattle.probe_trig.specs.SlotRegisters.{shows_hit, trigger_changed, word_changed}
 use Rattle.probe_trig.proofs.Told.{Shown, played}
 
 -- ---- a hart with this tselect and these slots

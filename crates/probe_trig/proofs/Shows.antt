@@ -10,10 +10,10 @@ use Rattle.rv_model.specs.declared.slot.Trigger.TheVariants as kind
 use Rattle.rv_model.specs.Fields.{field}
 use Rattle.rv_model.specs.TriggerWords.{CountFits, tdata1_of, trigger_of, trigger_of_type}
 use Rattle.rv_model.proofs.DebugWordLemmas.{trigger_read_back}
-use Rattle.debugger_laws.specs.Slots.{address_use, is_free, trigger_has_hit, trigger_use, use_by, use_of}
-use Rattle.debugger_laws.specs.Slots.Use.{Armed, Other, Unused}
-use Rattle.debugger_laws.specs.Trace.What.{Count}
-use Rattle.probe_trig.specs.Words.{or_other, shows_free, shows_hit, use_shown}
+use Rattle.abstract_debugger.specs.Slots.{address_use, is_free, trigger_has_hit, trigger_use, use_by, use_of}
+use Rattle.abstract_debugger.specs.Slots.Use.{Armed, Other, Unused}
+use Rattle.abstract_debugger.specs.Trace.What.{Count}
+use Rattle.probe_trig.specs.SlotRegisters.{or_other, shows_free, shows_hit, use_shown}
 
 free_disabled : (w : ℕ) → shows_free w ≡ true → trigger_of w ≡ kind.Disabled
 unfolding trigger_of

@@ -3,17 +3,17 @@ use Rattle.std.proofs.Common.{◌≡◌, ◌∙◌, ◌<◌, ◌++◌, ℕ, true
 use Rattle.std.proofs.lemmas.Option.{get_or_from_slice_get, slice_get_within}
 use Rattle.rv_model.specs.declared.slot.Slot.{Slot}
 use Rattle.rv_model.specs.Board.{free_slot}
-use Rattle.debugger_laws.specs.Debugger.{is_free_slot}
-use Rattle.debugger_laws.specs.Plan.{slot_changed, slot_freed, with_debug_part}
-use Rattle.debugger_laws.specs.Slots.{armed_for, first_free, freed as slot_free, is_free}
-use Rattle.debugger_laws.proofs.OverLemmas.{set-over}
+use Rattle.abstract_debugger.specs.Debugger.{is_free_slot}
+use Rattle.abstract_debugger.specs.Plan.{slot_changed, slot_freed, with_debug_part}
+use Rattle.abstract_debugger.specs.Slots.{armed_for, first_free, freed as slot_free, is_free}
+use Rattle.abstract_debugger.proofs.OverLemmas.{set-over}
 use Rattle.probe_trig.specs.declared.register.TriggerRegister.TheVariants.{Tselect}
 use Rattle.probe_trig.specs.declared.slot_use.SlotUse.{SlotUse}
 use Rattle.probe_trig.specs.Runs.{Arms, Finds, FindsNone, Frees, armed, freed, put_back, word_read, words_read}
 use Rattle.probe_trig.specs.Slots.{ArmedAt, FreedAt, FullAt, UnusedAt}
 use Rattle.probe_trig.specs.Transfers.{Transfer}
 use Rattle.probe_trig.specs.Transfers.Transfer.{Got}
-use Rattle.probe_trig.specs.Words.{CanArm}
+use Rattle.probe_trig.specs.SlotRegisters.{CanArm}
 use Rattle.probe_trig.proofs.ArmedSlots.{ArmedAs, WordsPassed, armed_as, slot_freed as slot_freed_passed, there_at, words_passed}
 use Rattle.probe_trig.proofs.Calls.{played_from, shown_from, slots_there}
 use Rattle.probe_trig.proofs.Free.{lowest_free, none_free}

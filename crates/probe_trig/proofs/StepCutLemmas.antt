@@ -7,14 +7,14 @@ use Rattle.debug_model.specs.declared.point.Point.TheVariants.{ResumeReq}
 use Rattle.debug_model.specs.Module.{Site}
 use Rattle.debug_model.specs.Scan.{WhereTold}
 use Rattle.debug_model.specs.Told.{Far, IsHalted, IsReady, site_of}
-use Rattle.debugger_laws.specs.Debugger.{sees_ack}
-use Rattle.debugger_laws.specs.Laws.{IsFrozen, IsFrozenAt}
-use Rattle.debugger_laws.specs.Slots.{over}
-use Rattle.debugger_laws.specs.Stands.{Rewrote, Target, WentOn}
-use Rattle.debugger_laws.specs.Turns.{after_turns}
-use Rattle.debugger_laws.proofs.FrozenLemmas.{stays_same}
-use Rattle.debugger_laws.proofs.OverLemmas.{slice_get-over_same}
-use Rattle.debugger_laws.proofs.StandsLemmas.{rewrote_then}
+use Rattle.abstract_debugger.specs.Debugger.{sees_ack}
+use Rattle.abstract_debugger.specs.Laws.{IsFrozen, IsFrozenAt}
+use Rattle.abstract_debugger.specs.Slots.{over}
+use Rattle.abstract_debugger.specs.Stands.{Rewrote, Target, WentOn}
+use Rattle.abstract_debugger.specs.Turns.{after_turns}
+use Rattle.abstract_debugger.proofs.FrozenLemmas.{stays_same}
+use Rattle.abstract_debugger.proofs.OverLemmas.{slice_get-over_same}
+use Rattle.abstract_debugger.proofs.StandsLemmas.{rewrote_then}
 use Rattle.probe_access.specs.declared.fault.AccessFault.{AccessFault}
 use Rattle.probe_access.specs.BlockCuts.{MaybeFlagged, StepCut}
 use Rattle.probe_access.specs.BlockCuts.StepCut.{setting, running, clearing}

@@ -1,13 +1,13 @@
 -- From a step over spent slots at the harts to the place of a session behind it.
 use Rattle.std.proofs.Common.{ℕ, List, slice_get, if◌then◌else◌}
 use Rattle.rv_model.specs.Board.{Machine}
-use Rattle.debugger_laws.specs.Debugger.{halted_of, one}
-use Rattle.debugger_laws.specs.Lines.{Line}
-use Rattle.debugger_laws.specs.Plan.{Plan, is_step}
-use Rattle.debugger_laws.specs.Plan.Plan.{see}
-use Rattle.debugger_laws.specs.Stands.{Deals, Origin, Target}
-use Rattle.debugger_laws.specs.Ways.Way.{Still}
-use Rattle.debugger_laws.proofs.DealsLemmas.{deals_done, deals_hold, deals_otherwise, deals_stepped}
+use Rattle.abstract_debugger.specs.Debugger.{halted_of, one}
+use Rattle.abstract_debugger.specs.Lines.{Line}
+use Rattle.abstract_debugger.specs.Plan.{Plan, is_step}
+use Rattle.abstract_debugger.specs.Plan.Plan.{see}
+use Rattle.abstract_debugger.specs.Stands.{Deals, Origin, Target}
+use Rattle.abstract_debugger.specs.Ways.Way.{Still}
+use Rattle.abstract_debugger.proofs.DealsLemmas.{deals_done, deals_hold, deals_otherwise, deals_stepped}
 use Rattle.probe_run.proofs.SessionLemmas.{steps_lead}
 use Rattle.probe_trig.specs.StepLaws.{OtherStepsLead, WholeStepsLead}
 use Rattle.probe_trig.specs.Stepping.{OverAt}

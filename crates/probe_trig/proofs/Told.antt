@@ -11,14 +11,14 @@ use Rattle.debug_model.specs.Dmi.{DmiScript}
 use Rattle.debug_model.specs.Module.{Site}
 use Rattle.debug_model.specs.Scan.{WhereTold}
 use Rattle.debug_model.specs.Told.{Far, HartHalted, IsHalted, IsReady, SiteReady, site_of}
-use Rattle.debugger_laws.specs.Laws.{IsFrozen, IsFrozenAt}
-use Rattle.debugger_laws.specs.Slots.{over}
-use Rattle.debugger_laws.specs.Stands.{Rewrote, Target, WentOn}
-use Rattle.debugger_laws.specs.Turns.{after_turns}
-use Rattle.debugger_laws.proofs.FrozenLemmas.{frozen_stays}
-use Rattle.debugger_laws.proofs.OverLemmas.{set-over, slice_get-over_same}
+use Rattle.abstract_debugger.specs.Laws.{IsFrozen, IsFrozenAt}
+use Rattle.abstract_debugger.specs.Slots.{over}
+use Rattle.abstract_debugger.specs.Stands.{Rewrote, Target, WentOn}
+use Rattle.abstract_debugger.specs.Turns.{after_turns}
+use Rattle.abstract_debugger.proofs.FrozenLemmas.{frozen_stays}
+use Rattle.abstract_debugger.proofs.OverLemmas.{set-over, slice_get-over_same}
 use Rattle.rv_model.proofs.MapLemmas.{set_same}
-use Rattle.debugger_laws.proofs.StandsLemmas.{rewrote_then}
+use Rattle.abstract_debugger.proofs.StandsLemmas.{rewrote_then}
 use Rattle.probe_access.specs.Registers.{GotRegister, IsHartAt, SetRegister, TurnsPassed, TurnsPassedBut}
 use Rattle.probe_run.specs.Acts.{Tells, tells}
 use Rattle.probe_run.specs.Happens.{target_of}

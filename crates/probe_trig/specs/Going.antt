@@ -4,9 +4,9 @@ use Rattle.std.specs.Prelude.{◌≡◌, ℕ, true, false, Option, None}
 use Rattle.debug_model.specs.declared.point.Point.TheVariants.{ResumeReq}
 use Rattle.debug_model.specs.Scan.{WhereTold}
 use Rattle.debug_model.specs.Told.{Far}
-use Rattle.debugger_laws.specs.Debugger.{Seen as Sight, most_looks, sees_ack}
-use Rattle.debugger_laws.specs.Slots.{any_hit, slots_at}
-use Rattle.debugger_laws.specs.Stands.{Target, WentOn}
+use Rattle.abstract_debugger.specs.Debugger.{Seen as Sight, most_looks, sees_ack}
+use Rattle.abstract_debugger.specs.Slots.{any_hit, slots_at}
+use Rattle.abstract_debugger.specs.Stands.{Target, WentOn}
 use Rattle.probe_access.specs.declared.fault.AccessFault.{AccessFault}
 use Rattle.probe_access.specs.declared.fault.AccessFault.TheVariants as fault
 use Rattle.probe_access.specs.StepRuns.{of_run}

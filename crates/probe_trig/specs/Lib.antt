@@ -1,5 +1,5 @@
 pub mod Transfers
-pub mod Words
+pub mod SlotRegisters
 pub mod Runs
 pub mod Single
 pub mod Slots

@@ -11,7 +11,7 @@ use Rattle.probe_trig.specs.declared.slot_use.SlotUse.{SlotUse}
 use Rattle.probe_trig.specs.declared.slot_words.SlotWords.{SlotWords}
 use Rattle.probe_trig.specs.Transfers.{Transfer}
 use Rattle.probe_trig.specs.Transfers.Transfer.{Got, Set}
-use Rattle.probe_trig.specs.Words.{address_named, shows_free, shows_hit, trigger_named, word_changed}
+use Rattle.probe_trig.specs.SlotRegisters.{address_named, shows_free, shows_hit, trigger_named, word_changed}
 
 -- the slot that was selected is selected again
 abbrev pub put_back : ℕ → List Transfer

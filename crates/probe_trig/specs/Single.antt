@@ -9,7 +9,7 @@ use Rattle.probe_trig.specs.declared.slot_words.SlotWords.{SlotWords}
 use Rattle.probe_trig.specs.Runs.{Changes, Reads, address_set, armed, slot_changed, slot_read, word_read}
 use Rattle.probe_trig.specs.Transfers.{Did, Transfer}
 use Rattle.probe_trig.specs.Transfers.Transfer.{Got, Set}
-use Rattle.probe_trig.specs.Words.{address_named, shows_hit}
+use Rattle.probe_trig.specs.SlotRegisters.{address_named, shows_hit}
 
 abbrev pub OneGot : TriggerRegister → List Transfer → Type 0
 OneGot r ts = (value : ℕ) × (ts ≡ Got r value ∷ [])

@@ -7,12 +7,12 @@ use Rattle.rv_model.specs.Board.{Hart}
 use Rattle.rv_model.specs.DebugLaws.{SameRequests}
 use Rattle.debug_model.specs.Chip.{Chip}
 use Rattle.debug_model.specs.Told.{Far, site_of}
-use Rattle.debugger_laws.specs.Debugger.{is_free_slot}
-use Rattle.debugger_laws.specs.Plan.{slot_changed, slot_freed, with_debug_part}
-use Rattle.debugger_laws.specs.Slots.{Use, first_free, hits_forgotten, hits_of, slots_at, use_of, with_slots}
-use Rattle.debugger_laws.specs.Slots.Use.{Armed}
-use Rattle.debugger_laws.specs.Stands.{Rewrote, Target, WentOn}
-use Rattle.debugger_laws.specs.Trace.{What}
+use Rattle.abstract_debugger.specs.Debugger.{is_free_slot}
+use Rattle.abstract_debugger.specs.Plan.{slot_changed, slot_freed, with_debug_part}
+use Rattle.abstract_debugger.specs.Slots.{Use, first_free, hits_forgotten, hits_of, slots_at, use_of, with_slots}
+use Rattle.abstract_debugger.specs.Slots.Use.{Armed}
+use Rattle.abstract_debugger.specs.Stands.{Rewrote, Target, WentOn}
+use Rattle.abstract_debugger.specs.Trace.{What}
 use Rattle.probe_access.specs.Registers.{site_before}
 use Rattle.probe_run.specs.Acts.{Tells}
 use Rattle.probe_run.specs.Happens.{target_of}
@@ -21,7 +21,7 @@ use Rattle.probe_trig.specs.declared.slot_use.SlotView.{SlotView}
 use Rattle.probe_trig.specs.declared.slot_words.SlotWords.{SlotWords}
 use Rattle.probe_trig.specs.Runs.{Reads}
 use Rattle.probe_trig.specs.Transfers.{Did}
-use Rattle.probe_trig.specs.Words.{shows_hit, use_named, use_shown}
+use Rattle.probe_trig.specs.SlotRegisters.{shows_hit, use_named, use_shown}
 
 -- this happened at the harts, and the bus is as it was
 pub record AtHarts (R : Target → Target → Type 0) (c : Chip) (new : Option Far) : Type 0 where

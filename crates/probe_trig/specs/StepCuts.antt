@@ -6,10 +6,10 @@ use Rattle.rv_model.specs.declared.slot.Slot.{Slot}
 use Rattle.rv_model.specs.Board.{Hart}
 use Rattle.debug_model.specs.declared.point.Point.TheVariants.{ResumeReq}
 use Rattle.debug_model.specs.Told.{Far}
-use Rattle.debugger_laws.specs.Debugger.{sees_ack, sees_both}
-use Rattle.debugger_laws.specs.Plan.{step_begun, with_debug_part}
-use Rattle.debugger_laws.specs.Slots.{any_hit, slots_at}
-use Rattle.debugger_laws.specs.Stands.{Rewrote, Target, WentOn}
+use Rattle.abstract_debugger.specs.Debugger.{sees_ack, sees_both}
+use Rattle.abstract_debugger.specs.Plan.{step_begun, with_debug_part}
+use Rattle.abstract_debugger.specs.Slots.{any_hit, slots_at}
+use Rattle.abstract_debugger.specs.Stands.{Rewrote, Target, WentOn}
 use Rattle.probe_access.specs.Registers.{IsHartAt}
 use Rattle.probe_access.specs.SingleSteps.{with_step}
 use Rattle.probe_run.specs.Happens.{RunCut, StepsAt}

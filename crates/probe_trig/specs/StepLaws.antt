@@ -2,11 +2,11 @@
 -- It is this project's own: the plans are those of the abstract debugger, over every origin, every plan that follows and all lines said before.
 use Rattle.std.specs.Prelude.{◌≡◌, ℕ, List, true, false}
 use Rattle.rv_model.specs.Board.{Machine}
-use Rattle.debugger_laws.specs.Debugger.{one}
-use Rattle.debugger_laws.specs.Lines.{Line}
-use Rattle.debugger_laws.specs.Plan.{Plan}
-use Rattle.debugger_laws.specs.Stands.{Deals, Origin, Target}
-use Rattle.debugger_laws.specs.Ways.Way.{Ready, Still}
+use Rattle.abstract_debugger.specs.Debugger.{one}
+use Rattle.abstract_debugger.specs.Lines.{Line}
+use Rattle.abstract_debugger.specs.Plan.{Plan}
+use Rattle.abstract_debugger.specs.Stands.{Deals, Origin, Target}
+use Rattle.abstract_debugger.specs.Ways.Way.{Ready, Still}
 use Rattle.probe_trig.specs.Stepping.{OverAt, executed_at}
 
 -- a whole step

@@ -5,9 +5,9 @@ use Rattle.rv_model.specs.Dcsr.{dcsr_of_word}
 use Rattle.debug_model.specs.declared.point.Point.TheVariants.{ResumeReq}
 use Rattle.debug_model.specs.Scan.{WhereTold}
 use Rattle.debug_model.specs.Told.{Far}
-use Rattle.debugger_laws.specs.Debugger.{Seen as Sight, halted_of, most_looks, sees_ack, sees_both}
-use Rattle.debugger_laws.specs.Plan.{is_step, step_begun, step_ended, with_debug_part}
-use Rattle.debugger_laws.specs.Stands.{Rewrote, Target}
+use Rattle.abstract_debugger.specs.Debugger.{Seen as Sight, halted_of, most_looks, sees_ack, sees_both}
+use Rattle.abstract_debugger.specs.Plan.{is_step, step_begun, step_ended, with_debug_part}
+use Rattle.abstract_debugger.specs.Stands.{Rewrote, Target}
 use Rattle.probe_access.specs.declared.fault.AccessFault.{AccessFault}
 use Rattle.probe_access.specs.declared.fault.AccessFault.TheVariants as fault
 use Rattle.probe_access.specs.BlockCuts.{StepCut}

@@ -6,14 +6,14 @@ ghost use Rattle.probe_run.specs.Acts.{tells};
 ghost use Rattle.probe_access.specs.Cuts.{IfCut, LeftAside, Leaves};
 ghost use Rattle.probe_access.specs.Faults.{LinkBehind};
 ghost use Rattle.probe_access.specs.Scratches.{ScratchLeft};
-ghost use Rattle.debugger_laws.specs.Slots.{address_trigger};
+ghost use Rattle.abstract_debugger.specs.Slots.{address_trigger};
 ghost use Rattle.rv_model.specs.TriggerWords.{CountFits};
 ghost use Rattle.probe_trig.specs.Faults.{Behind, ByFault, IfAccess, UnlessAccess};
 ghost use Rattle.probe_trig.specs.Runs.{Arms, ArmsAny, Seeks, SeeksAny, address_set, armed};
 ghost use Rattle.probe_trig.specs.Single.{AddressSet, Armed};
 ghost use Rattle.probe_trig.specs.Slots.{ArmedAt, AtHarts, DebugAlone, FullAt};
 ghost use Rattle.probe_trig.specs.Transfers.{Did, FailedIn, Made};
-ghost use Rattle.probe_trig.specs.Words.{CanArm, address_named, trigger_named};
+ghost use Rattle.probe_trig.specs.SlotRegisters.{CanArm, address_named, trigger_named};
 
 use crate::fault::TrigFault;
 use crate::register::{TriggerRegister, get, read_word, set};

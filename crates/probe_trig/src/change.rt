@@ -1,7 +1,7 @@
 ghost use Rattle.std.specs.Prelude.{◌≡◌};
-ghost use Rattle.debugger_laws.specs.Slots.{trigger_back, trigger_forgotten, trigger_held};
+ghost use Rattle.abstract_debugger.specs.Slots.{trigger_back, trigger_forgotten, trigger_held};
 ghost use Rattle.rv_model.specs.TriggerWords.{CountFits};
-ghost use Rattle.probe_trig.specs.Words.{trigger_changed, word_changed};
+ghost use Rattle.probe_trig.specs.SlotRegisters.{trigger_changed, word_changed};
 
 use rv_model::{Icount, Mcontrol6, Trigger};
 

@@ -7,7 +7,7 @@ ghost use Rattle.probe_access.specs.Faults.{LinkBehind};
 ghost use Rattle.probe_access.specs.Scratches.{ScratchLeft};
 ghost use Rattle.probe_trig.specs.Runs.{Changes, ChangesAny, slot_changed};
 ghost use Rattle.probe_trig.specs.Single.{ChangedAll, SlotChanged};
-ghost use Rattle.probe_trig.specs.Words.{shows_hit};
+ghost use Rattle.probe_trig.specs.SlotRegisters.{shows_hit};
 ghost use Rattle.probe_trig.specs.Transfers.{Did, FailedIn, Made};
 
 use crate::change::Change;

@@ -10,7 +10,7 @@ ghost use Rattle.probe_trig.specs.Faults.{Behind, ByFault, IfAccess};
 ghost use Rattle.probe_trig.specs.Runs.{Reads, ReadsAny, slot_read};
 ghost use Rattle.probe_trig.specs.Single.{ReadAll, SlotRead};
 ghost use Rattle.probe_trig.specs.Slots.{AtHarts, DebugAlone, SawAll, Shows, ViewedAt, hit_of_words, hits_in, use_of_words};
-ghost use Rattle.probe_trig.specs.Words.{use_named};
+ghost use Rattle.probe_trig.specs.SlotRegisters.{use_named};
 ghost use Rattle.probe_trig.specs.Transfers.{Did, FailedIn, Made};
 
 use crate::fault::TrigFault;

@@ -1,6 +1,6 @@
 ghost use Rattle.std.specs.Prelude.{◌≡◌};
-ghost use Rattle.debugger_laws.specs.Slots.{address_use, trigger_has_hit};
-ghost use Rattle.probe_trig.specs.Words.{or_other, shows_free, shows_hit, use_named, use_shown};
+ghost use Rattle.abstract_debugger.specs.Slots.{address_use, trigger_has_hit};
+ghost use Rattle.probe_trig.specs.SlotRegisters.{or_other, shows_free, shows_hit, use_named, use_shown};
 
 use crate::slot_use::SlotUse;
 use debug_model::WatchKind;

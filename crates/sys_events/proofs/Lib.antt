@@ -1,4 +1,4 @@
-pub mod Words
+pub mod FirstWords
 pub mod Pairs
 pub mod Made
 pub mod Rounds

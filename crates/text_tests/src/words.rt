@@ -1,4 +1,4 @@
-use jtag_words::{ChipOptions, Inputs, Job, WordsFault, read_words};
+use command_line::{ChipOptions, Inputs, Job, WordsFault, read_words};
 use std::alloc::Global;
 use std::test::Fail;
 

@@ -13,9 +13,9 @@ use Rattle.debug_model.specs.Offered.{HasOfferedTurns, Timing, TurnsOffered, tim
 use Rattle.debug_model.specs.Schedule.{RoundPlan, at_start}
 use Rattle.debug_model.specs.Ties.{timing_told}
 use Rattle.debug_model.specs.Told.{Far, IsAsLoaded, chip_of}
-use Rattle.debugger_laws.specs.Debugger.{session}
-use Rattle.debugger_laws.proofs.ScriptLemmas.{first_match}
-use Rattle.debugger_laws.proofs.Transparency.{transparent}
+use Rattle.abstract_debugger.specs.Debugger.{session}
+use Rattle.abstract_debugger.proofs.ScriptLemmas.{first_match}
+use Rattle.abstract_debugger.proofs.Transparency.{transparent}
 use Rattle.probe_session.specs.declared.ended.Ended.{Ended as End}
 use Rattle.probe_session.specs.declared.ended.Ended.TheVariants as ends
 use Rattle.probe_session.specs.declared.fault.LostCause.TheVariants as lost

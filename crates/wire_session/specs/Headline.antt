@@ -8,8 +8,8 @@ use Rattle.debug_model.specs.declared.point.Point.{Point}
 use Rattle.debug_model.specs.Chip.{Live}
 use Rattle.debug_model.specs.Offered.{TurnsOffered}
 use Rattle.debug_model.specs.Told.{Far, chip_of}
-use Rattle.debugger_laws.specs.FirstMatch.{FirstMatch}
-use Rattle.debugger_laws.specs.Transcript.{own, transcript}
+use Rattle.abstract_debugger.specs.FirstMatch.{FirstMatch}
+use Rattle.abstract_debugger.specs.Transcript.{own, transcript}
 use Rattle.probe_session.specs.declared.ended.Ended.{Ended as End}
 use Rattle.probe_session.specs.declared.ended.Ended.TheVariants as ends
 use Rattle.probe_session.specs.declared.fault.LostCause.TheVariants as lost

@@ -9,7 +9,7 @@ ghost use Rattle.rv_model.specs.DebugLaws.{WriteKeeps};
 ghost use Rattle.rv_model.specs.DebugRegisters.{debug_value};
 ghost use Rattle.rv_model.specs.ProgramBuffer.{csr_swap, csr_swap_by, executed, ran_insn, ran_word, swapped};
 ghost use Rattle.rv_model.specs.Touch.{touch};
-ghost use Rattle.hart_debug.specs.Words.{ran_to, touches_memory};
+ghost use Rattle.hart_debug.specs.BufferWord.{ran_to, touches_memory};
 
 use super::DebugHart;
 use crate::ran_word::RanWord;

@@ -1,4 +1,4 @@
-use Rattle.generator.specs.Words.{program_words}
+use Rattle.generator.specs.SeedWords.{program_words}
 use Rattle.generator.proofs.OneImage.{same_image}
 use Rattle.generator.proofs.laws.one_image.Goals as goal
 

@@ -1,6 +1,6 @@
 use Rattle.std.proofs.Common.{arith, ap, length}
 use Rattle.rand_xoshiro.specs.SplitMix64.{mix_u64}
-use Rattle.generator.specs.Words.{words_of}
+use Rattle.generator.specs.SeedWords.{words_of}
 use Rattle.generator.proofs.RandomWords.{one_more, all_drawn}
 use Rattle.std.proofs.lemmas.List.{length_push}
 use Rattle.generator.proofs.random.random_words.Goals as goal

@@ -1,5 +1,5 @@
 use Rattle.std.proofs.Common.{refl}
-use Rattle.jtag_run.specs.Words.{both_value}
+use Rattle.jtag_run.specs.Jobs.{both_value}
 use Rattle.jtag_run.proofs.Runs.{both_looped, both_refused, both_straight}
 use Rattle.jtag_run.proofs.both.run_both.Goals as goal
 

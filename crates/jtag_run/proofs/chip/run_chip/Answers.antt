@@ -1,5 +1,5 @@
 use Rattle.std.proofs.Common.{refl}
-use Rattle.jtag_run.specs.Words.{chip_value}
+use Rattle.jtag_run.specs.Jobs.{chip_value}
 use Rattle.jtag_run.proofs.Runs.{chip_refused, chip_served}
 use Rattle.jtag_run.proofs.chip.run_chip.Goals as goal
 

@@ -1,6 +1,6 @@
 use Rattle.std.proofs.Common.{refl}
 use Rattle.jtag_run.specs.Ran.RanGen.{refused}
-use Rattle.jtag_run.specs.Words.{gen_value}
+use Rattle.jtag_run.specs.Jobs.{gen_value}
 use Rattle.jtag_run.proofs.Numbers.{gen_summed, gen_unjoined, gen_unsummed}
 use Rattle.jtag_run.proofs.generated.run_gen.Goals as goal
 

@@ -1,4 +1,4 @@
-use Rattle.jtag_run.specs.Words.{both_value}
+use Rattle.jtag_run.specs.Jobs.{both_value}
 use Rattle.jtag_run.proofs.Prepares.{image_cause, prepared_by}
 use Rattle.jtag_run.proofs.Answered.{if_err}
 use Rattle.jtag_run.proofs.prepare.prepare.Goals as goal

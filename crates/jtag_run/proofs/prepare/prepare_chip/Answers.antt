@@ -1,4 +1,4 @@
-use Rattle.jtag_run.specs.Words.{chip_value}
+use Rattle.jtag_run.specs.Jobs.{chip_value}
 use Rattle.jtag_run.proofs.Prepares.{chip_file_cause, prepared_chip_by}
 use Rattle.jtag_run.proofs.Answered.{if_err}
 use Rattle.jtag_run.proofs.prepare.prepare_chip.Goals as goal

@@ -1,5 +1,5 @@
 use Rattle.std.proofs.Common.{refl}
-use Rattle.jtag_run.specs.Words.{both_value, chip_value, gen_value, probe_value}
+use Rattle.jtag_run.specs.Jobs.{both_value, chip_value, gen_value, probe_value}
 use Rattle.jtag_run.proofs.Runs.{refused_words, run_both, run_gen, run_probe, run_served}
 use Rattle.jtag_run.proofs.program.run.Goals as goal
 

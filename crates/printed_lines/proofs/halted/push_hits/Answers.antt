@@ -1,6 +1,6 @@
 use Rattle.std.proofs.Common.{◌++◌, ap, ◌∙◌, sym, arith}
 use Rattle.arrayvec.specs.ArrayVec.{array_vec_len}
-use Rattle.debugger_laws.specs.Lines.{places_from}
+use Rattle.abstract_debugger.specs.Lines.{places_from}
 use Rattle.probe_trig.specs.Slots.{hits_in}
 use Rattle.printed_lines.proofs.HitLemmas.{parted-spelled, hit_at, hit_step, no_hit_step}
 use Rattle.printed_lines.proofs.halted.push_hits.Goals as goal

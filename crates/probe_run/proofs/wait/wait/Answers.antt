@@ -1,5 +1,5 @@
 use Rattle.std.proofs.Common.{◌∙◌, [], refl, sym, ap, arith}
-use Rattle.debugger_laws.specs.Debugger.{sees_ack}
+use Rattle.abstract_debugger.specs.Debugger.{sees_ack}
 use Rattle.probe_run.specs.Acts.{tells}
 use Rattle.probe_run.specs.Looks.{seen_in_status, test_of}
 use Rattle.probe_run.specs.Waits.{WaitBroke}

@@ -3,7 +3,7 @@ use Rattle.rv_model.specs.TriggerWords.{tdata1_of}
 use Rattle.probe_trig.specs.declared.register.TriggerRegister.TheVariants.{Tdata1}
 use Rattle.probe_trig.specs.Runs.{address_set}
 use Rattle.probe_trig.specs.Transfers.Transfer.{Set}
-use Rattle.probe_trig.specs.Words.{address_named, trigger_named}
+use Rattle.probe_trig.specs.SlotRegisters.{address_named, trigger_named}
 use Rattle.probe_trig.proofs.ArmFits.{arms_address, arms_trigger}
 use Rattle.probe_run.proofs.ActLemmas.{if_err}
 use Rattle.probe_trig.proofs.TransferLemmas.{failed_behind, failed_first, made_then}

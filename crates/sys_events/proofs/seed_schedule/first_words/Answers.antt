@@ -1,7 +1,7 @@
 use Rattle.std.proofs.Common.{length-set}
 use Rattle.rand_xoshiro.specs.SplitMix64.{mix_u64}
 use Rattle.sys_events.specs.Seed.{words_of}
-use Rattle.sys_events.proofs.Words.{first_words-write, first_words-all}
+use Rattle.sys_events.proofs.FirstWords.{first_words-write, first_words-all}
 use Rattle.sys_events.proofs.seed_schedule.first_words.Goals as goal
 
 pub loop-word-preserved : goal.loop-word-preserved

@@ -1,4 +1,4 @@
-use Rattle.hart_debug.proofs.Words.{word_keeps}
+use Rattle.hart_debug.proofs.ExecutedWord.{word_keeps}
 use Rattle.hart_debug.proofs.debug_hart.DebugHart.debug_exec.Goals as goal
 
 pub returns-in-Some-clause-keeps : goal.returns-in-Some-clause-keeps

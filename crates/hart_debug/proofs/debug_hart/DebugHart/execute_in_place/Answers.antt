@@ -1,7 +1,7 @@
 use Rattle.std.proofs.Common.{◌≡◌, refl, ap, sym, ◌∙◌}
 use Rattle.rv_model.specs.declared.did.Did.TheVariants.{Trapped}
 use Rattle.rv_model.specs.Effects.{Step, effect_of}
-use Rattle.hart_debug.proofs.Words.{trapped_keeps}
+use Rattle.hart_debug.proofs.ExecutedWord.{trapped_keeps}
 use Rattle.hart_debug.proofs.debug_hart.DebugHart.execute_in_place.Goals as goal
 
 pub returns-in-Trapped : goal.returns-in-Trapped

@@ -1,5 +1,5 @@
 use Rattle.std.proofs.Common.{◌≡◌, ◌++◌, codes, decimal, ap, ◌∙◌, sym}
-use Rattle.debugger_laws.specs.Lines.{words_of_line}
+use Rattle.abstract_debugger.specs.Lines.{words_of_line}
 use Rattle.printed_lines.specs.Line.{line_of}
 use Rattle.printed_lines.proofs.line.Line.words.Goals as goal
 

@@ -1,4 +1,4 @@
-use Rattle.debugger_laws.specs.Debugger.{sees_ack}
+use Rattle.abstract_debugger.specs.Debugger.{sees_ack}
 use Rattle.probe_run.specs.declared.control.Request.TheVariants.{Resume}
 use Rattle.probe_run.specs.declared.wait.Wanted.TheVariants as Wanted
 use Rattle.probe_run.specs.Acts.{tells}

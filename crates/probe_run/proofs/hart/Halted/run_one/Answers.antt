@@ -1,5 +1,5 @@
 use Rattle.std.proofs.Common.{sym, ◌∙◌}
-use Rattle.debugger_laws.specs.Debugger.{sees_both}
+use Rattle.abstract_debugger.specs.Debugger.{sees_both}
 use Rattle.probe_run.specs.declared.control.Request.TheVariants.{Resume}
 use Rattle.probe_run.specs.declared.wait.Wanted.TheVariants as Wanted
 use Rattle.probe_run.specs.Acts.{tells}

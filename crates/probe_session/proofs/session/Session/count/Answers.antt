@@ -2,7 +2,7 @@ use Rattle.probe_session.specs.Commands.{armed, state_of}
 use Rattle.probe_session.specs.Said.{said_by}
 use Rattle.probe_session.proofs.LinkLemmas.{if_err}
 use Rattle.probe_session.proofs.OneLine.{if_err_map, if_ok_map, met_as, met_at, met_at_falls, met_falls, met_says}
-use Rattle.debugger_laws.specs.Trace.What.{Count}
+use Rattle.abstract_debugger.specs.Trace.What.{Count}
 use Rattle.probe_session.proofs.session.Session.count.Goals as goal
 
 pub returns-in_err-line-clause-falls : goal.returns-in_err-line-clause-falls

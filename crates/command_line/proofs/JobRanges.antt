@@ -1,0 +1,97 @@
+-- The numbers of a job are within their ranges, whatever the words are.
+use Rattle.std.proofs.Common.{◌≡◌, ℕ, ◌&&◌, Bool, true, false, cond, nat_le, List, [], ◌∷◌, Option, Some, None, bytes_eq, codes, refl, ap, subst, arith, Result, Ok, Err, IfOk}
+use Rattle.std.proofs.lemmas.Bool.Decides.{nat_tests}
+use Rattle.std.proofs.lemmas.Option.{none-some, same_Some}
+use Rattle.clap.specs.Words.{Row}
+use Rattle.debug_model.specs.Wire.{piece_most}
+use Rattle.command_line.specs.declared.job.ChipOptions.{ChipOptions}
+use Rattle.command_line.specs.declared.job.Job.{Job}
+use Rattle.command_line.specs.declared.fault.WordsFault.{WordsFault}
+use Rattle.command_line.specs.Job.{Gives, InputsValue, JobValue, Text, job_value}
+use Rattle.command_line.specs.Options.{both_command, chip_command, probe_command}
+use Rattle.command_line.specs.WrittenJob.{◌>>=◌, HasRanges, InRange, both_from, both_in, both_of, busy_unsaid, chip_from, chip_in, chip_of, flag_in, harts_unsaid, inputs_in, job_by, job_of, least_busy, least_piece, most_busy, number_in, options_from, options_in, piece_unsaid, probe_from, probe_in, probe_of, ram_unsaid, ranged_in, rows_in, seed_unsaid, value_in, within}
+
+none : {A : Type 0} {B : Type 0} (x : A) → None ≡ Some x → B
+none x e = absurd (none-some x e)
+
+within_at : (least most m n : ℕ) (a b : Bool) → nat_le least m ≡ a → nat_le m most ≡ b → cond (a && b) (Some m) None ≡ Some n → InRange least most n
+within_at least most m n true true low high e = subst (InRange least most) (same_Some m n e) (record { low = grind (arith, nat_tests); high = grind (arith, nat_tests) })
+within_at least most m n true false low high e = none n e
+within_at least most m n false b low high e = none n e
+
+ranged_by : (least most n : ℕ) (said : Option ℕ) → (said >>= within least most) ≡ Some n → InRange least most n
+ranged_by least most n None e = none n e
+ranged_by least most n (Some m) e = within_at least most m n (nat_le least m) (nat_le m most) refl refl e
+
+ranged_is : (rows : List Row) (name : Text) (unsaid least most n : ℕ) → ranged_in rows name unsaid least most ≡ Some n → InRange least most n
+unfolding ranged_in
+ranged_is rows name unsaid least most n e = ranged_by least most n (number_in rows name unsaid) e
+
+busy_is : (harts ram seed busy : Option ℕ) (halted : Bool) (options : ChipOptions) → options_from harts ram seed busy halted ≡ Some options → busy ≡ Some options.busy
+busy_is (Some h) (Some r) (Some s) (Some b) halted options e = ap (λ (o : ChipOptions). Some o.busy) (same_Some _ options e)
+busy_is (Some h) (Some r) (Some s) None halted options e = none options e
+busy_is (Some h) (Some r) None busy halted options e = none options e
+busy_is (Some h) None seed busy halted options e = none options e
+busy_is None ram seed busy halted options e = none options e
+
+options_range : (rows : List Row) (options : ChipOptions) → options_in rows ≡ Some options → InRange least_busy most_busy options.busy
+unfolding options_in
+options_range rows options e = ranged_is rows (codes "busy") busy_unsaid least_busy most_busy options.busy
+    (busy_is (number_in rows (codes "harts") harts_unsaid) (number_in rows (codes "ram") ram_unsaid) (number_in rows (codes "seed") seed_unsaid)
+    (ranged_in rows (codes "busy") busy_unsaid least_busy most_busy) (flag_in rows (codes "halted")) options e)
+
+both_ranges_by : (inputs : Option InputsValue) (options : Option ChipOptions) (piece : Option ℕ) (loopback : Bool) (v : JobValue)
+    → ((o : ChipOptions) → options ≡ Some o → InRange least_busy most_busy o.busy) → ((n : ℕ) → piece ≡ Some n → InRange least_piece piece_most n)
+    → both_from inputs options piece loopback ≡ Some v → HasRanges v
+both_ranges_by (Some i) (Some o) (Some n) loopback v busy small e = subst HasRanges (same_Some _ v e) (small n refl, busy o refl)
+both_ranges_by (Some i) (Some o) None loopback v busy small e = none v e
+both_ranges_by (Some i) None piece loopback v busy small e = none v e
+both_ranges_by None options piece loopback v busy small e = none v e
+
+both_ranges : (rows : List Row) (v : JobValue) → both_in rows ≡ Some v → HasRanges v
+unfolding both_in
+both_ranges rows v e = both_ranges_by (inputs_in rows) (options_in rows) (ranged_in rows (codes "piece") piece_unsaid least_piece piece_most) (flag_in rows (codes "loopback")) v
+    (λ o is. options_range rows o is) (λ n is. ranged_is rows (codes "piece") piece_unsaid least_piece piece_most n is) e
+
+probe_ranges_by : (at script : Option Text) (v : JobValue) → probe_from at script ≡ Some v → HasRanges v
+probe_ranges_by (Some a) (Some s) v e = subst HasRanges (same_Some _ v e) tt
+probe_ranges_by (Some a) None v e = none v e
+probe_ranges_by None script v e = none v e
+
+probe_ranges : (rows : List Row) (v : JobValue) → probe_in rows ≡ Some v → HasRanges v
+unfolding probe_in
+probe_ranges rows v e = probe_ranges_by (value_in rows (codes "at")) (value_in rows (codes "script")) v e
+
+chip_ranges_by : (at image : Option Text) (options : Option ChipOptions) (v : JobValue) → ((o : ChipOptions) → options ≡ Some o → InRange least_busy most_busy o.busy) → chip_from at image options ≡ Some v → HasRanges v
+chip_ranges_by (Some a) (Some i) (Some o) v busy e = subst HasRanges (same_Some _ v e) (busy o refl)
+chip_ranges_by (Some a) (Some i) None v busy e = none v e
+chip_ranges_by (Some a) None options v busy e = none v e
+chip_ranges_by None image options v busy e = none v e
+
+chip_ranges : (rows : List Row) (v : JobValue) → chip_in rows ≡ Some v → HasRanges v
+unfolding chip_in
+chip_ranges rows v e = chip_ranges_by (value_in rows (codes "at")) (value_in rows (codes "image")) (options_in rows) v (λ o is. options_range rows o is) e
+
+-- rows that are read as a job, where there are rows
+read_ranges : (read : List Row → Option JobValue) → ((rows : List Row) (v : JobValue) → read rows ≡ Some v → HasRanges v) → (rows : Option (List Row)) (v : JobValue) → (rows >>= read) ≡ Some v → HasRanges v
+read_ranges read ranges None v e = none v e
+read_ranges read ranges (Some rows) v e = ranges rows v e
+
+chosen_ranges : (words : List Text) (a b c : Bool) (v : JobValue) → cond a (both_of words) (cond b (probe_of words) (cond c (chip_of words) None)) ≡ Some v → HasRanges v
+chosen_ranges words true b c v e = read_ranges both_in both_ranges (rows_in both_command words) v e
+chosen_ranges words false true c v e = read_ranges probe_in probe_ranges (rows_in probe_command words) v e
+chosen_ranges words false false true v e = read_ranges chip_in chip_ranges (rows_in chip_command words) v e
+chosen_ranges words false false false v e = none v e
+
+by_ranges : (program : Text) (words : List Text) (v : JobValue) → job_by program words ≡ Some v → HasRanges v
+unfolding job_by
+by_ranges program words v e = chosen_ranges words (bytes_eq program (codes "both")) (bytes_eq program (codes "probe")) (bytes_eq program (codes "chip")) v e
+
+job_ranges : (words : List Text) (v : JobValue) → job_of words ≡ Some v → HasRanges v
+unfolding job_of
+job_ranges [] v e = none v e
+job_ranges (program ∷ rest) v e = by_ranges program (program ∷ rest) v e
+
+pub read_within : (words : List Text) (result : Result Job WordsFault) → Gives job_value result (job_of words) → IfOk result (λ job. HasRanges (job_value job))
+read_within words (Ok job) gives = job_ranges words (job_value job) gives
+read_within words (Err fault) gives = tt

@@ -1,0 +1,9 @@
+use Rattle.std.proofs.Common.{◌∙◌}
+use Rattle.clap.proofs.WalkLemmas.{first_value-rows}
+use Rattle.clap.specs.Words.{found_of}
+use Rattle.command_line.specs.WrittenJob.{rows_found, value_in}
+use Rattle.command_line.proofs.values.value.Goals as goal
+
+pub returns : goal.returns
+unfolding rows_found value_in
+returns c = c.get_str.ensures ∙ first_value-rows (found_of c.args.matches.now) c.args.name.now

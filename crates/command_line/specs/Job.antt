@@ -1,0 +1,44 @@
+-- A job whose texts are lists of bytes.
+-- The programs are this project's own (docs/FORMATS.md, "Words").
+use Rattle.std.specs.Prelude.{ℕ, Bool, List, Option, Result, Ok, Err, Some, None, ◌≡◌, string_bytes}
+use Rattle.command_line.specs.declared.fault.WordsFault.{WordsFault}
+use Rattle.command_line.specs.declared.fault.WordsFault.TheVariants.{Refused, NoMemory}
+use Rattle.command_line.specs.declared.job.ChipOptions.{ChipOptions}
+use Rattle.command_line.specs.declared.job.Inputs.{Inputs}
+use Rattle.command_line.specs.declared.job.Inputs.TheVariants.{Files, Gen}
+use Rattle.command_line.specs.declared.job.Job.{Job}
+use Rattle.command_line.specs.declared.job.Job.TheVariants.{Both, Probe, Chip}
+
+abbrev pub Text : Type 0
+Text = List ℕ
+
+-- the names of two files, of the image and of the script, or the number from which both are made
+pub data InputsValue : Type 0 where
+  files : Text → Text → InputsValue
+  gen : ℕ → InputsValue
+
+-- `both` has its inputs, the chip's options, the most bytes of a piece and whether the bytes go over a connection;
+-- `probe` an address and the script's name; `chip` an address, the image's name and its options
+pub data JobValue : Type 0 where
+  both : InputsValue → ChipOptions → ℕ → Bool → JobValue
+  probe : Text → Text → JobValue
+  chip : Text → Text → ChipOptions → JobValue
+
+abbrev pub inputs_value : Inputs → InputsValue
+inputs_value (Files image script) = files (string_bytes image) (string_bytes script)
+inputs_value (Gen number) = gen number
+
+abbrev pub job_value : Job → JobValue
+job_value (Both inputs options piece loopback) = both (inputs_value inputs) options piece loopback
+job_value (Probe at script) = probe (string_bytes at) (string_bytes script)
+job_value (Chip at image options) = chip (string_bytes at) (string_bytes image) options
+
+-- A reading is refused where the words say nothing. Want of memory may stand for anything that they say.
+abbrev pub Fails : {Y : Type 0} → WordsFault → Option Y → Type 0
+Fails Refused said = said ≡ None
+Fails NoMemory said = Unit {0}
+
+-- a reading gives what the words say
+abbrev pub Gives : {X Y : Type 0} → (X → Y) → Result X WordsFault → Option Y → Type 0
+Gives view (Ok x) said = said ≡ Some (view x)
+Gives view (Err fault) said = Fails fault said

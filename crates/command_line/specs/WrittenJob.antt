@@ -1,0 +1,182 @@
+-- The job that words write, or none: the first word names the program, and the rest are the options of its command.
+-- The words are this project's own (docs/FORMATS.md, "Words"); which words a command takes, and what it finds in them, is what the crate `clap` says.
+use Rattle.std.specs.Prelude.{◌≤◌, ℕ, Bool, false, ◌&&◌, nat_le, List, [], ◌∷◌, codes, bytes_eq, Option, Some, None, option_map, Result, Ok, Err, if◌then◌else◌}
+use Rattle.std.specs.Borrow.{Bor}
+use Rattle.clap.specs.Words.{App, Kinds, Row, fault_of, first_of, found_of, matches_of, rows_of}
+use Rattle.clap.specs.declared.parser.matches.ArgMatches.{ArgMatches}
+use Rattle.debug_model.specs.ScriptNumber.{number_read}
+use Rattle.debug_model.specs.Wire.{piece_most}
+use Rattle.debug_model.specs.declared.script_error.ScriptFault.{ScriptFault}
+use Rattle.command_line.specs.Job.{Text, InputsValue, files, gen, JobValue, both, probe, chip}
+use Rattle.command_line.specs.Options.{both_command, probe_command, chip_command}
+use Rattle.command_line.specs.declared.job.ChipOptions.{ChipOptions}
+
+abbrev pub harts_unsaid : ℕ
+harts_unsaid = 1
+
+abbrev pub ram_unsaid : ℕ
+ram_unsaid = 65536
+
+abbrev pub seed_unsaid : ℕ
+seed_unsaid = 0
+
+abbrev pub busy_unsaid : ℕ
+busy_unsaid = 1
+
+abbrev pub least_busy : ℕ
+least_busy = 1
+
+abbrev pub most_busy : ℕ
+most_busy = 32
+
+abbrev pub least_piece : ℕ
+least_piece = 1
+
+abbrev pub piece_unsaid : ℕ
+piece_unsaid = piece_most
+
+infixl 10 ◌>>=◌
+abbrev pub ◌>>=◌ : {A B : Type 0} → Option A → (A → Option B) → Option B
+(Some x) >>= f = f x
+None >>= f = None
+
+-- what is found, where there is no fault
+abbrev pub unless_faulty : Kinds → List Row → Option (List Row)
+unless_faulty [] rows = Some rows
+unless_faulty (fault ∷ faults) rows = None
+
+-- what `clap` finds in the words after the first, where the command takes them: it names no fault
+unfoldable pub rows_in : App → List Text → Option (List Row)
+rows_in command words = unless_faulty (fault_of command words) (matches_of command words)
+
+-- what `clap` found
+unfoldable pub rows_found : ArgMatches → List Row
+rows_found matches = rows_of (found_of matches)
+
+-- the text behind a reference
+abbrev pub text_of : Option (Bor Text) → Option Text
+text_of = option_map (λ text. text.now)
+
+-- the value of an option, where it was given
+unfoldable pub value_in : List Row → Text → Option Text
+value_in rows name = first_of name rows
+
+abbrev pub says_true : Option Text → Bool
+says_true (Some text) = bytes_eq text (codes "true")
+says_true None = false
+
+-- whether the flag was given: `clap` finds "true" for it then, and "false" where it wasn't
+unfoldable pub flag_in : List Row → Text → Bool
+flag_in rows name = says_true (value_in rows name)
+
+abbrev pub value_of : Result ℕ ScriptFault → Option ℕ
+value_of (Ok number) = Some number
+value_of (Err fault) = None
+
+-- a number has the form of the numbers of a script, and is below 2^64
+unfoldable pub number_of : Text → Option ℕ
+number_of word = value_of (number_read word)
+
+abbrev pub number_or : ℕ → Option Text → Option ℕ
+number_or unsaid None = Some unsaid
+number_or unsaid (Some word) = number_of word
+
+-- the number of an option, or the one that stands where it isn't given
+unfoldable pub number_in : List Row → Text → ℕ → Option ℕ
+number_in rows name unsaid = number_or unsaid (value_in rows name)
+
+abbrev pub within : ℕ → ℕ → ℕ → Option ℕ
+within least most number = if nat_le least number && nat_le number most then Some number else None
+
+-- the same, from `least` to `most`
+unfoldable pub ranged_in : List Row → Text → ℕ → ℕ → ℕ → Option ℕ
+ranged_in rows name unsaid least most = number_in rows name unsaid >>= within least most
+
+abbrev pub options_from : Option ℕ → Option ℕ → Option ℕ → Option ℕ → Bool → Option ChipOptions
+options_from said_harts said_ram said_seed said_busy halted = do
+  harts ← said_harts
+  ram ← said_ram
+  seed ← said_seed
+  busy ← said_busy
+  Some (record { harts = harts; ram = ram; halted = halted; seed = seed; busy = busy })
+
+-- the options of a chip
+unfoldable pub options_in : List Row → Option ChipOptions
+options_in rows = options_from (number_in rows (codes "harts") harts_unsaid) (number_in rows (codes "ram") ram_unsaid)
+    (number_in rows (codes "seed") seed_unsaid) (ranged_in rows (codes "busy") busy_unsaid least_busy most_busy)
+    (flag_in rows (codes "halted"))
+
+-- an image and a script without a number, or a number alone
+abbrev pub inputs_from : Option Text → Option Text → Option Text → Option InputsValue
+inputs_from (Some image) (Some script) None = Some (files image script)
+inputs_from None None (Some word) = do
+  number ← number_of word
+  Some (gen number)
+inputs_from _ _ _ = None
+
+unfoldable pub inputs_in : List Row → Option InputsValue
+inputs_in rows = inputs_from (value_in rows (codes "image")) (value_in rows (codes "script")) (value_in rows (codes "gen"))
+
+abbrev pub both_from : Option InputsValue → Option ChipOptions → Option ℕ → Bool → Option JobValue
+both_from said_inputs said_options said_piece loopback = do
+  inputs ← said_inputs
+  options ← said_options
+  piece ← said_piece
+  Some (both inputs options piece loopback)
+
+unfoldable pub both_in : List Row → Option JobValue
+both_in rows = both_from (inputs_in rows) (options_in rows) (ranged_in rows (codes "piece") piece_unsaid least_piece piece_most) (flag_in rows (codes "loopback"))
+
+abbrev pub probe_from : Option Text → Option Text → Option JobValue
+probe_from said_at said_script = do
+  at ← said_at
+  script ← said_script
+  Some (probe at script)
+
+unfoldable pub probe_in : List Row → Option JobValue
+probe_in rows = probe_from (value_in rows (codes "at")) (value_in rows (codes "script"))
+
+abbrev pub chip_from : Option Text → Option Text → Option ChipOptions → Option JobValue
+chip_from said_at said_image said_options = do
+  at ← said_at
+  image ← said_image
+  options ← said_options
+  Some (chip at image options)
+
+unfoldable pub chip_in : List Row → Option JobValue
+chip_in rows = chip_from (value_in rows (codes "at")) (value_in rows (codes "image")) (options_in rows)
+
+-- the job of the words of a program
+abbrev pub both_of : List Text → Option JobValue
+both_of words = rows_in both_command words >>= both_in
+
+abbrev pub probe_of : List Text → Option JobValue
+probe_of words = rows_in probe_command words >>= probe_in
+
+abbrev pub chip_of : List Text → Option JobValue
+chip_of words = rows_in chip_command words >>= chip_in
+
+-- the job of words of which the first is `program`
+unfoldable pub job_by : Text → List Text → Option JobValue
+job_by program words =
+    if bytes_eq program (codes "both") then both_of words
+    else (if bytes_eq program (codes "probe") then probe_of words
+    else (if bytes_eq program (codes "chip") then chip_of words
+    else None))
+
+-- the job of the words after the program's own name
+unfoldable pub job_of : List Text → Option JobValue
+job_of [] = None
+job_of (program ∷ rest) = job_by program (program ∷ rest)
+
+-- ---- ranges
+
+pub record InRange (least most n : ℕ) : Type 0 where
+  pub low : least ≤ n
+  pub high : n ≤ most
+
+-- the numbers of a job that have a range are within it; of the others `load` judges
+abbrev pub HasRanges : JobValue → Type 0
+HasRanges (both inputs options piece loopback) = InRange least_piece piece_most piece × InRange least_busy most_busy options.busy
+HasRanges (probe at script) = Unit {0}
+HasRanges (chip at image options) = InRange least_busy most_busy options.busy

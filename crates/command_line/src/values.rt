@@ -1,0 +1,146 @@
+ghost use Rattle.std.specs.Prelude.{◌≡◌, ◌≤◌, IfOk, string_bytes};
+ghost use Rattle.command_line.specs.Job.{Gives, inputs_value};
+ghost use Rattle.command_line.specs.WrittenJob.{flag_in, inputs_from, inputs_in, number_in, number_of, number_or, options_in, ranged_in, rows_found, text_of, value_in};
+
+use crate::fault::WordsFault;
+use crate::job::{ChipOptions, Inputs};
+use crate::options::{BUSY, GEN, HALTED, HARTS, IMAGE, RAM, SCRIPT, SEED};
+use clap::ArgMatches;
+use script_lang::read_number;
+use std::alloc::Global;
+use std::ops::RangeInclusive;
+
+/// The harts of a chip whose words give no number of harts.
+const HARTS_UNSAID: u64 = 1;
+/// The bytes of memory of a chip whose words give no size.
+const RAM_UNSAID: u64 = 65_536;
+/// The seed of a schedule whose words give none.
+const SEED_UNSAID: u64 = 0;
+/// The most rounds between two events of a kind, where the words give none.
+const BUSY_UNSAID: u64 = 1;
+
+const BUSY_LEAST: u64 = 1;
+
+const BUSY_MOST: u64 = 32;
+
+/// The value of an option, where it was given.
+pub(crate) fn value<'a>(matches: &ArgMatches<'a>, name: &str) -> Option<&'a str>
+    ensures { text_of result ≡ value_in (rows_found matches.now) name.now }
+{
+    matches.get_str(name)
+}
+
+/// The value of an option that has to be given, as a text of its own.
+pub(crate) fn required(
+    alloc: Global,
+    matches: &ArgMatches,
+    name: &str,
+) -> Result<String, WordsFault>
+    ensures { Gives string_bytes result (value_in (rows_found matches.now) name.now) }
+{
+    let text = value(matches, name).ok_or(WordsFault::Refused)?;
+    Ok(String::from_str(alloc, text)?)
+}
+
+/// Whether a flag was given.
+pub(crate) fn flag(matches: &ArgMatches, name: &str) -> bool
+    ensures { result ≡ flag_in (rows_found matches.now) name.now }
+{
+    match value(matches, name) {
+        Some(text) => text == "true",
+        None => false,
+    }
+}
+
+/// The number that a word writes.
+#[tactic(auto, unfolding(crate::specs::Words::number_of))]
+fn number_of(word: &str) -> Result<u64, WordsFault>
+    ensures { Gives (λ number. number) result (number_of word.now) }
+{
+    match read_number(word.as_bytes()) {
+        Ok(number) => Ok(number),
+        Err(_) => Err(WordsFault::Refused),
+    }
+}
+
+/// The number of an option, or the one that stands where it wasn't given.
+#[tactic(auto, unfolding(crate::specs::Words::number_in))]
+fn number_in(matches: &ArgMatches, name: &str, unsaid: u64) -> Result<u64, WordsFault>
+    ensures { Gives (λ number. number) result (number_in (rows_found matches.now) name.now unsaid) }
+{
+    match value(matches, name) {
+        Some(word) => number_of(word),
+        None => Ok(unsaid),
+    }
+}
+
+/// The same, from `least` to `most`.
+pub(crate) fn ranged(
+    matches: &ArgMatches,
+    name: &str,
+    unsaid: u64,
+    least: u64,
+    most: u64,
+) -> Result<u64, WordsFault>
+    ensures read { Gives (λ number. number) result (ranged_in (rows_found matches.now) name.now unsaid least most) }
+    ensures within { IfOk result (λ number. (least ≤ number) × (number ≤ most)) }
+{
+    let number = number_in(matches, name, unsaid)?;
+    if least <= number && number <= most {
+        Ok(number)
+    } else {
+        Err(WordsFault::Refused)
+    }
+}
+
+/// The options of the chip.
+pub(crate) fn chip_options(matches: &ArgMatches) -> Result<ChipOptions, WordsFault>
+    ensures { Gives (λ options. options) result (options_in (rows_found matches.now)) }
+{
+    let harts = number_in(matches, HARTS, HARTS_UNSAID)?;
+    let ram = number_in(matches, RAM, RAM_UNSAID)?;
+    let seed = number_in(matches, SEED, SEED_UNSAID)?;
+    let busy = ranged(matches, BUSY, BUSY_UNSAID, BUSY_LEAST, BUSY_MOST)?;
+    Ok(ChipOptions {
+        harts,
+        ram,
+        halted: flag(matches, HALTED),
+        seed,
+        busy: busy as u8,
+    })
+}
+
+/// Where image and script come from.
+pub(crate) fn inputs(alloc: Global, matches: &ArgMatches) -> Result<Inputs, WordsFault>
+    ensures { Gives inputs_value result (inputs_in (rows_found matches.now)) }
+{
+    inputs_from(
+        alloc,
+        value(matches, IMAGE),
+        value(matches, SCRIPT),
+        value(matches, GEN),
+    )
+}
+
+/// Two files without a number, or a number alone.
+fn inputs_from(
+    alloc: Global,
+    image: Option<&str>,
+    script: Option<&str>,
+    number: Option<&str>,
+) -> Result<Inputs, WordsFault>
+    ensures { Gives inputs_value result (inputs_from (text_of image.entry) (text_of script.entry) (text_of number.entry)) }
+{
+    match (image, script, number) {
+        (Some(image), Some(script), None) => {
+            let image = String::from_str(alloc, image)?;
+            let script = String::from_str(alloc, script)?;
+            Ok(Inputs::Files { image, script })
+        }
+        (None, None, Some(word)) => {
+            let number = number_of(word)?;
+            Ok(Inputs::Gen(number))
+        }
+        _ => Err(WordsFault::Refused),
+    }
+}

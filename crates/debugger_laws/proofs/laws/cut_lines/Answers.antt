@@ -1,8 +1,0 @@
-use Rattle.debugger_laws.proofs.FrontLemmas as lemmas
-use Rattle.debugger_laws.proofs.laws.cut_lines.Goals as goal
-
-pub returns-clause-front : goal.returns-clause-front
-returns-clause-front c = lemmas.cut_lines
-
-pub returns-clause-whole : goal.returns-clause-whole
-returns-clause-whole c = lemmas.only_open_ones_grow

@@ -1,8 +1,0 @@
-use Rattle.debugger_laws.proofs.FrozenLemmas as lemmas
-use Rattle.debugger_laws.proofs.laws.frozen_may_wait.Goals as goal
-
-pub returns-clause-any : goal.returns-clause-any
-returns-clause-any c = lemmas.frozen_may_wait
-
-pub returns-clause-plans : goal.returns-clause-plans
-returns-clause-plans c = lemmas.changes_may_wait

@@ -1,0 +1,106 @@
+-- The jobs that the program does, each with its texts as lists of bytes, and the job that words write.
+-- The words are this project's own (docs/FORMATS.md, "Words"); what they write is what `command_line` says.
+use Rattle.std.specs.Prelude.{◌≡◌, ℕ, List, Bool, true, false, Option, Some, string_bytes, if◌then◌else◌, nat_le, ◌&&◌}
+use Rattle.debug_model.specs.Schedule.{RoundPlan}
+use Rattle.debug_model.specs.Wire.{piece_most}
+use Rattle.hart_debug.specs.declared.start.Start.{Start}
+use Rattle.hart_debug.specs.declared.start.Start.TheVariants.{Running, Halted}
+use Rattle.command_line.specs.declared.job.ChipOptions.{ChipOptions}
+use Rattle.command_line.specs.Job.{JobValue, both, probe, chip, files, gen}
+use Rattle.command_line.specs.WrittenJob.{InRange, least_busy, least_piece, most_busy}
+use Rattle.jtag_run.specs.declared.words.BothJob.{BothJob}
+use Rattle.jtag_run.specs.declared.words.ChipJob.{ChipJob}
+use Rattle.jtag_run.specs.declared.words.GenJob.{GenJob}
+use Rattle.jtag_run.specs.declared.words.ProbeJob.{ProbeJob}
+use Rattle.jtag_run.specs.declared.words.Work.{Work}
+use Rattle.jtag_run.specs.declared.words.Work.TheVariants as work
+use Rattle.sys_events.specs.Seed.{seed_plan}
+
+-- ---- chip and probe in one process
+
+-- the names of the two files that a run reads, the chip's options, the most bytes of a piece of the stream, and whether it goes over a connection
+pub record Both : Type 0 where
+  pub image : List ℕ
+  pub script : List ℕ
+  pub options : ChipOptions
+  pub piece : ℕ
+  pub loopback : Bool
+
+abbrev pub both_value : BothJob → Both
+both_value j = record { image = string_bytes j.image; script = string_bytes j.script; options = j.options; piece = j.piece; loopback = j.loopback }
+
+-- the same, with an image and a script that are made from a number
+pub record Gen : Type 0 where
+  pub number : ℕ
+  pub options : ChipOptions
+  pub piece : ℕ
+  pub loopback : Bool
+
+abbrev pub gen_value : GenJob → Gen
+gen_value j = record { number = j.number; options = j.options; piece = j.piece; loopback = j.loopback }
+
+-- ---- the probe alone
+
+-- the address of the target, and the name of the file that a run reads
+pub record Probe : Type 0 where
+  pub at : List ℕ
+  pub script : List ℕ
+
+abbrev pub probe_value : ProbeJob → Probe
+probe_value j = record { at = string_bytes j.at; script = string_bytes j.script }
+
+-- ---- a served chip
+
+-- the address at which the chip waits for its client, the name of the file that a run reads, and the chip's options
+pub record Chip : Type 0 where
+  pub at : List ℕ
+  pub image : List ℕ
+  pub options : ChipOptions
+
+abbrev pub chip_value : ChipJob → Chip
+chip_value j = record { at = string_bytes j.at; image = string_bytes j.image; options = j.options }
+
+-- ---- what words write
+
+abbrev pub said_both : Both → JobValue
+said_both j = both (files j.image j.script) j.options j.piece j.loopback
+
+abbrev pub said_gen : Gen → JobValue
+said_gen j = both (gen j.number) j.options j.piece j.loopback
+
+abbrev pub said_probe : Probe → JobValue
+said_probe j = probe j.at j.script
+
+abbrev pub said_chip : Chip → JobValue
+said_chip j = chip j.at j.image j.options
+
+-- the words write this job
+abbrev pub IsWork : Option JobValue → Work → Type 0
+IsWork said (work.Both job) = said ≡ Some (said_both (both_value job))
+IsWork said (work.Gen job) = said ≡ Some (said_gen (gen_value job))
+IsWork said (work.Probe job) = said ≡ Some (said_probe (probe_value job))
+IsWork said (work.Chip job) = said ≡ Some (said_chip (chip_value job))
+
+-- the numbers of a job are within their ranges
+abbrev pub HasWorkRanges : Work → Type 0
+HasWorkRanges (work.Both job) = InRange least_piece piece_most job.piece × InRange least_busy most_busy job.options.busy
+HasWorkRanges (work.Gen job) = InRange least_piece piece_most job.piece × InRange least_busy most_busy job.options.busy
+HasWorkRanges (work.Probe job) = Unit {0}
+HasWorkRanges (work.Chip job) = InRange least_busy most_busy job.options.busy
+
+-- ---- the chip of the options
+
+abbrev pub start_of : Bool → Start
+start_of true = Halted
+start_of false = Running
+
+-- the most harts for which a schedule is made
+abbrev pub most_harts : ℕ
+most_harts = 4
+
+-- an impossible number of harts has the schedule of one: the load refuses it then
+abbrev pub schedule_harts : ℕ → ℕ
+schedule_harts harts = if nat_le 1 harts && nat_le harts most_harts then harts else 1
+
+abbrev pub plan_of : ChipOptions → RoundPlan
+plan_of o = seed_plan o.seed o.busy (schedule_harts o.harts)

@@ -1,9 +1,0 @@
-use Rattle.jtag_words.specs.Words.{chip_in}
-use Rattle.jtag_words.proofs.GivesLemmas.{gives_err, gives_then}
-use Rattle.jtag_words.proofs.reading.read_chip.Goals as goal
-
-pub returns-in_err-matches : goal.returns-in_err-matches
-returns-in_err-matches c = gives_err _ _ _ _ chip_in c.in_err-matches.ensures c.from_residual.ensures.1
-
-pub returns : goal.returns
-returns c = gives_then _ _ _ _ chip_in c.in_ok-matches.ensures c.chip_in.ensures

@@ -1,3 +1,0 @@
-pub mod Job
-pub mod Options
-pub mod Words
