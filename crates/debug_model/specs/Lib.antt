@@ -6,6 +6,7 @@ pub mod Deeds
 pub mod Dmi
 pub mod Grammar
 pub mod Journal
+pub mod Kept
 pub mod Loaded
 pub mod Module
 pub mod ModuleWords

@@ -10,8 +10,8 @@ use Rattle.debug_model.specs.declared.wire.WireFault.{WireFault}
 use Rattle.debug_model.specs.declared.wire.WireFault.TheVariants.{SendFailed, RecvFailed, Ended, BadAnswer}
 use Rattle.debug_model.specs.Chip.{Chip, Inside, Works, answer_byte, busy_counted, tick}
 use Rattle.debug_model.specs.Port.{Port, data_register_of, instruction_width}
-use Rattle.debug_model.specs.Told.{Far}
-use Rattle.debug_model.specs.Transport.{Dtm, captured_bits, captured_dtm, sets_busy, updated_dtm}
+use Rattle.debug_model.specs.Told.{Far, chip_of}
+use Rattle.debug_model.specs.Transport.{Dtm, captured_bits, captured_dtm, sets_busy, updated_dtm, width_of}
 use Rattle.debug_model.specs.Wire.{EndCause}
 
 -- ---- bytes
@@ -98,6 +98,10 @@ comes_out was bits = take (length bits) (was ++ bits)
 -- and the others stay
 abbrev pub stays : List Bool → List Bool → List Bool
 stays was bits = drop (length bits) (was ++ bits)
+
+-- as many bits as the selected register has
+abbrev pub Fits : List Bool → Option Far → Type 0
+Fits bits told = IfSome told (λ f. length bits ≡ width_of (chip_of f).port.selected)
 
 -- ---- the inside of a chip during a scan
 

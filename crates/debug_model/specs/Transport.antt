@@ -78,12 +78,22 @@ dtmcs_width = 32
 abbrev pub dmi_width : ℕ
 dmi_width = 41
 
+abbrev pub bypass_width : ℕ
+bypass_width = 1
+
+-- the bits between TDI and TDO
+abbrev pub width_of : DataRegister → ℕ
+width_of register.Idcode = idcode_width
+width_of register.Dtmcs = dtmcs_width
+width_of register.Dmi = dmi_width
+width_of register.Bypass = bypass_width
+
 -- what a capture puts into the shift register
 unfoldable pub captured_bits : DataRegister → Dtm → List Bool
 captured_bits register.Idcode d = bits_of idcode_width idcode
 captured_bits register.Dtmcs d = bits_of dtmcs_width (dtmcs_word (dtmcs_seen d))
 captured_bits register.Dmi d = bits_of dmi_width (dmi_word (dmi_seen d))
-captured_bits register.Bypass d = bits_of 1 0
+captured_bits register.Bypass d = bits_of bypass_width 0
 
 -- the transport behind a capture: only that of dmi may set the sticky status
 abbrev pub captured_dtm : DataRegister → Dtm → Dtm

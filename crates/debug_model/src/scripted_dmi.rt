@@ -1,6 +1,7 @@
 ghost use Rattle.std.specs.Prelude.{◌≡◌, ◌≤◌, [], ◌∷◌, Some, None, IfOk, IfErr, OnOk, OnErr, true, false};
 ghost use Rattle.jt_base.specs.Faults.{Rises};
 ghost use Rattle.debug_model.specs.Dmi.{Results};
+ghost use Rattle.debug_model.specs.Kept.{gives_end_of_answers};
 ghost use Rattle.debug_model.specs.Ties.{no_ties};
 
 use crate::dmi::{Dmi, DmiFault};
@@ -56,17 +57,13 @@ impl ScriptedDmi {
 }
 
 impl Dmi for ScriptedDmi {
-    ghost far = { λ _. None };
-
-    ghost script = { λ s. Some (Results s.results.items) };
-
-    ghost is_alive = { λ s. s.alive };
-
-    ghost fault_count = { λ s. s.failed };
-
-    ghost slack = { λ _. None };
-
-    ghost ties = { λ _. no_ties };
+    ghost seen = { λ s. record {
+      far = None;
+      coming = Some (Results s.results.items);
+      is_alive = s.alive;
+      fault_count = s.failed;
+      fixed = record { slack = None; ties = no_ties; gives = gives_end_of_answers };
+    } };
 
     fn idcode(&mut self) -> Result<u32, DmiFault> {
         let number = self.answer()?;

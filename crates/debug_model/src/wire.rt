@@ -1,4 +1,4 @@
-ghost use Rattle.std.specs.Prelude.{◌≡◌, ◌≤◌, ℕ, List, Option, length, replicate, IsTrue, OnOk, OnErr, IfErr, IfSome, option_map};
+ghost use Rattle.std.specs.Prelude.{◌≡◌, ◌≤◌, ℕ, List, Bool, true, Option, length, replicate, IsTrue, OnOk, OnErr, IfErr, IfSome, option_map};
 ghost use Rattle.debug_model.specs.Ties.{Ties, lent_by};
 ghost use Rattle.debug_model.specs.Told.{Far, IsOpen, IsLive, IsRead};
 ghost use Rattle.debug_model.specs.Wire.{IsPiece, are_open, no_answer, piece_most, sent, SentFront, ReadsFront, ReadsSome, TakesComing, TakesSome, SendCause, RecvCause};
@@ -51,7 +51,7 @@ pub trait Wire: Drop {
     ghost fault_count: { Self → ℕ };
 
     /// The faults that a call may answer. What stands on another wire has that wire's, so it hands each on as it is.
-    ghost gives: { WireFault → Type 0 };
+    ghost gives: { WireFault → Bool };
 
     /// What the wire keeps of the things below it: the references that it borrows through, and how a net there was opened.
     ghost ties: { Self → Ties };
@@ -69,7 +69,7 @@ pub trait Wire: Drop {
         ensures later { fault_count self.old ≤ fault_count self.new }
         ensures still { OnOk result (fault_count self.new ≡ fault_count self.old) }
         ensures cause { IfErr result (SendCause (fault_count self.old) (fault_count self.new) (far self.new)) }
-        ensures own { IfErr result gives }
+        ensures own { IfErr result (λ why. gives why ≡ true) }
         ensures ties { ties self.new ≡ ties self.old };
 
     /// Fills `into` with the next answers, as they came. On a fault those that came before it stand at its front, with [`NO_ANSWER`] in each place behind
@@ -84,7 +84,7 @@ pub trait Wire: Drop {
         ensures later { fault_count self.old ≤ fault_count self.new }
         ensures still { OnOk result (fault_count self.new ≡ fault_count self.old) }
         ensures cause { IfErr result (RecvCause (fault_count self.old) (fault_count self.new) (far self.new)) }
-        ensures own { IfErr result gives }
+        ensures own { IfErr result (λ why. gives why ≡ true) }
         ensures ties { ties self.new ≡ ties self.old };
 
     /// How many calls have failed. The count stays at the top of a `u64`.
