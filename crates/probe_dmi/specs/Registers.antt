@@ -8,11 +8,11 @@ use Rattle.debug_model.specs.declared.dmi_scan.DmiScan.{DmiScan}
 use Rattle.debug_model.specs.Chip.{Chip, Inside}
 use Rattle.debug_model.specs.Dmi.{IsAtRest, IsDmi, heard}
 use Rattle.debug_model.specs.Scan.{Script, TookOut, capture, dr_inside, dr_out, ticks}
-use Rattle.debug_model.specs.Told.{Far, IsFree, IsIdle, IsLive, IsOpen, IsRead, chip_of}
-use Rattle.debug_model.specs.Transport.{dmi_width, dtmcs_width, idcode_width}
+use Rattle.debug_model.specs.Told.{Far, IsFree, IsOpen, IsRead, chip_of}
+use Rattle.debug_model.specs.Transport.{dmi_width, dtmcs_width, idcode_width, width_of}
 use Rattle.debug_model.specs.TransportWords.{address_bits, dmi_word, dtmcs_word}
 
--- ---- when a register can be scanned, and what each Ok leaves
+-- ---- when a register can be scanned
 
 pub record CanScan (told : Option Far) : Type 0 where
   pub unended : IsOpen told
@@ -20,15 +20,13 @@ pub record CanScan (told : Option Far) : Type 0 where
   pub free : IsFree told
   pub rest : IsAtRest told
 
-pub record Rests (told : Option Far) : Type 0 where
-  pub live : IsLive told
-  pub read : IsRead told
-  pub free : IsFree told
-  pub idle : IsIdle told
-
 -- an address has as many bits as a told chip's
 abbrev pub IsWidth : ℕ → Option Far → Type 0
 IsWidth abits told = IfSome told (λ _. abits ≡ address_bits)
+
+-- these are as many bits as a told chip's register has
+abbrev pub IsAsLong : DataRegister → List Bool → Option Far → Type 0
+IsAsLong r bits told = IfSome told (λ _. length bits ≡ width_of r)
 
 -- ---- what was done to a told chip
 

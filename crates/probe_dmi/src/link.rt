@@ -1,8 +1,8 @@
-ghost use Rattle.std.specs.Prelude.{◌≡◌, ◌≤◌, option_map};
+ghost use Rattle.std.specs.Prelude.{◌≡◌, ◌≤◌};
 ghost use Rattle.std.proofs.Props.{props};
-ghost use Rattle.debug_model.specs.Dmi.{CanOperate, Scans};
-ghost use Rattle.probe_dmi.specs.declared.state.State.TheVariants.{Idle, New};
-ghost use Rattle.probe_dmi.specs.Operations.{abits_behind, is_alive_as};
+ghost use Rattle.debug_model.specs.Dmi.{CanOperate};
+ghost use Rattle.probe_dmi.specs.declared.state.State.TheVariants.{New};
+ghost use Rattle.probe_dmi.specs.Operations.{abits_behind, link_seen};
 ghost use Rattle.probe_dmi.specs.Registers.{IsWidth};
 
 use crate::register::{ABITS_LEAST, ABITS_MOST, Registers};
@@ -17,13 +17,13 @@ pub struct Link<S: Scan> {
     registers: Registers<S>,
     abits: u8,
     ghost in_range: { (7 ≤ abits) × (abits ≤ 30) },
-    ghost width: { IsWidth abits (S.far registers.scan) } by { Prim.hlevel props },
+    ghost width: { IsWidth abits (S.seen registers.scan).far } by { Prim.hlevel props },
 }
 
 impl<S: Scan> Link<S> {
     /// Operations over these scans, which `into_scan` hands back. The first call resets the TAP.
     pub fn new(scan: S) -> Self
-        requires link { CanOperate (S.far scan) }
+        requires link { CanOperate (S.seen scan).far }
         ensures scan { result.registers.scan ≡ scan }
         ensures state { result.registers.state ≡ New }
         ensures abits { result.abits ≡ 7 }
@@ -60,17 +60,7 @@ fn abits_behind(found: u8, old: u8) -> u8
 }
 
 impl<S: Scan> Dmi for Link<S> {
-    ghost far = { λ l. S.far l.registers.scan };
-
-    ghost script = { λ l. option_map Scans (S.script l.registers.scan) };
-
-    ghost is_alive = { λ l. is_alive_as l.registers.state };
-
-    ghost fault_count = { λ l. S.fault_count l.registers.scan };
-
-    ghost slack = { λ l. S.slack l.registers.scan };
-
-    ghost ties = { λ l. S.ties l.registers.scan };
+    ghost seen = { λ l. link_seen (S.seen l.registers.scan) l.registers.state };
 
     fn idcode(&mut self) -> Result<u32, DmiFault> {
         let idcode = self.registers.idcode()?;

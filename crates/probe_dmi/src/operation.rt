@@ -1,10 +1,9 @@
-ghost use Rattle.std.specs.Prelude.{◌≡◌, ◌≤◌, OnOk, OnErr, IfOk, IfErr, option_map};
-ghost use Rattle.debug_model.specs.Dmi.{Answers, CanOperate, DmiCause, LeavesStream, Operated, OperationCut, Scans};
+ghost use Rattle.std.specs.Prelude.{◌≡◌, ◌≤◌, Some, OnErr, IfOk, IfErr, option_map};
+ghost use Rattle.debug_model.specs.Dmi.{Answers, CanOperate, Operated, OperationCut, Scans};
+ghost use Rattle.debug_model.specs.Kept.{Keeps, OperationFails};
 ghost use Rattle.debug_model.specs.Scan.{WhereTold};
-ghost use Rattle.debug_model.specs.Told.{IsIdle, IsLive};
-ghost use Rattle.probe_dmi.specs.declared.state.State.TheVariants.{Dead, Idle};
 ghost use Rattle.probe_dmi.specs.Registers.{IsWidth};
-ghost use Rattle.probe_dmi.specs.Operations.{IsOperation, next_scan};
+ghost use Rattle.probe_dmi.specs.Operations.{IsOperation, LeavesState, link_seen, next_scan};
 
 use crate::register::Registers;
 use crate::state::State;
@@ -56,21 +55,15 @@ impl<S: Scan> Registers<S> {
         requires operation { IsOperation op }
         requires least { 7 ≤ abits }
         requires most { abits ≤ 30 }
-        requires width { IsWidth abits (S.far self.old.scan) }
-        requires link { CanOperate (S.far self.old.scan) }
-        ensures operated { IfOk result (λ value. WhereTold (Operated op value) (S.far self.old.scan) (S.far self.new.scan)) }
-        ensures answers { IfOk result (λ value. Answers value (option_map Scans (S.script self.old.scan)) (option_map Scans (S.script self.new.scan))) }
-        ensures link { OnOk result (CanOperate (S.far self.new.scan)) }
-        ensures live { OnOk result (IsLive (S.far self.new.scan)) }
-        ensures resting { OnOk result (IsIdle (S.far self.new.scan)) }
-        ensures cut { OnErr result (WhereTold (OperationCut op) (S.far self.old.scan) (S.far self.new.scan)) }
-        ensures cause { IfErr result (DmiCause (S.fault_count self.old.scan) (S.fault_count self.new.scan) (S.far self.old.scan) (S.far self.new.scan) (option_map Scans (S.script self.old.scan))) }
-        ensures stream { IfErr result (LeavesStream (S.far self.new.scan)) }
-        ensures idle { OnOk result (self.new.state ≡ Idle) }
-        ensures dead { OnErr result (self.new.state ≡ Dead) }
-        ensures later { S.fault_count self.old.scan ≤ S.fault_count self.new.scan }
-        ensures slack { S.slack self.new.scan ≡ S.slack self.old.scan }
-        ensures ties { S.ties self.new.scan ≡ S.ties self.old.scan }
+        requires width { IsWidth abits (S.seen self.old.scan).far }
+        requires link { CanOperate (S.seen self.old.scan).far }
+        ensures operated { IfOk result (λ value. WhereTold (Operated op value) (S.seen self.old.scan).far (S.seen self.new.scan).far) }
+        ensures answers { IfOk result (λ value. Answers value (option_map Scans (S.seen self.old.scan).coming)
+            (option_map Scans (S.seen self.new.scan).coming)) }
+        ensures cut { OnErr result (WhereTold (OperationCut op) (S.seen self.old.scan).far (S.seen self.new.scan).far) }
+        ensures cause { IfErr result (OperationFails (link_seen (S.seen self.old.scan) self.old.state) (link_seen (S.seen self.new.scan) self.new.state)) }
+        ensures state { LeavesState self.new.state result }
+        ensures keeps { Keeps Some (link_seen (S.seen self.old.scan) self.old.state) (link_seen (S.seen self.new.scan) self.new.state) result }
     {
         let mut busy = 0;
         let mut taken = false;

@@ -2,19 +2,20 @@ ghost use Rattle.std.specs.Prelude.{◌≡◌, ◌<◌, ◌≤◌, ◌+◌, leng
 ghost use Rattle.std.proofs.Props.{props};
 ghost use Rattle.debug_model.specs.Port.{data_register_of};
 ghost use Rattle.debug_model.specs.declared.data_register.DataRegister.TheVariants as dr;
-ghost use Rattle.debug_model.specs.Scan.{ComesOut, ScanCause, ScanCut, Scanned, WhereTold};
+ghost use Rattle.debug_model.specs.Kept.{ScanFails, ScanKeeps, ScanRests};
+ghost use Rattle.debug_model.specs.Scan.{ComesOut, Fits, ScanCut, Scanned, WhereTold};
 ghost use Rattle.debug_model.specs.Told.{IsIdle};
-ghost use Rattle.probe_dmi.specs.declared.state.State.TheVariants.{Dead, Idle, New};
-ghost use Rattle.probe_dmi.specs.Operations.{is_alive_as};
+ghost use Rattle.probe_dmi.specs.declared.state.State.TheVariants.{Idle, New};
+ghost use Rattle.probe_dmi.specs.Operations.{LeavesState, is_alive_as};
 ghost use Rattle.probe_dmi.specs.Registers.{
   CanScan,
   CutFrom,
   DmiScanned,
   HeardDmi,
   HeardNumber,
+  IsAsLong,
   IsWidth,
   Prepared,
-  Rests,
   ScannedFrom,
   Waited,
   WordScanned,
@@ -50,7 +51,7 @@ pub const ABITS_MOST: u8 = 30;
 pub struct Registers<S: Scan> {
     pub scan: S,
     pub state: State,
-    ghost is_idle: { state ≡ Idle → IsIdle (S.far scan) } by { Prim.hlevel props },
+    ghost is_idle: { state ≡ Idle → IsIdle (S.seen scan).far } by { Prim.hlevel props },
 }
 
 impl<S: Scan> Registers<S> {
@@ -66,26 +67,25 @@ impl<S: Scan> Registers<S> {
 
     /// How many calls of the scans have failed.
     pub fn faults(&self) -> u64
-        ensures { result ≡ S.fault_count self.now.scan }
+        ensures { result ≡ (S.seen self.now.scan).fault_count }
     {
         self.scan.faults()
     }
 
     /// Brings the TAP to Run-Test/Idle: that of a new link by a reset, behind which IDCODE is selected.
     fn rest(&mut self) -> Result<(), WireFault>
-        requires scan { CanScan (S.far self.old.scan) }
-        ensures waited { OnOk result (WhereTold Waited (S.far self.old.scan) (S.far self.new.scan)) }
-        ensures reset { self.old.state ≡ New → OnOk result (WhereTold (Prepared dr.Idcode) (S.far self.old.scan) (S.far self.new.scan)) }
-        ensures scan { OnOk result (CanScan (S.far self.new.scan)) }
-        ensures rests { self.old.state ≡ New → OnOk result (Rests (S.far self.new.scan)) }
-        ensures cut { OnErr result (WhereTold Waited (S.far self.old.scan) (S.far self.new.scan)) }
-        ensures script { S.script self.new.scan ≡ S.script self.old.scan }
-        ensures cause { IfErr result (ScanCause (S.fault_count self.old.scan) (S.fault_count self.new.scan) (S.far self.new.scan) (S.script self.old.scan)) }
-        ensures idle { OnOk result (self.new.state ≡ Idle) }
-        ensures dead { OnErr result (self.new.state ≡ Dead) }
-        ensures later { S.fault_count self.old.scan ≤ S.fault_count self.new.scan }
-        ensures slack { S.slack self.new.scan ≡ S.slack self.old.scan }
-        ensures ties { S.ties self.new.scan ≡ S.ties self.old.scan }
+        requires scan { CanScan (S.seen self.old.scan).far }
+        ensures waited { OnOk result (WhereTold Waited (S.seen self.old.scan).far (S.seen self.new.scan).far) }
+        ensures reset { self.old.state ≡ New → OnOk result (WhereTold (Prepared dr.Idcode) (S.seen self.old.scan).far (S.seen self.new.scan).far) }
+        ensures scan { OnOk result (CanScan (S.seen self.new.scan).far) }
+        ensures rests { self.old.state ≡ New → OnOk result (ScanRests (S.seen self.new.scan)) }
+        ensures cut { OnErr result (WhereTold Waited (S.seen self.old.scan).far (S.seen self.new.scan).far) }
+        ensures coming { (S.seen self.new.scan).coming ≡ (S.seen self.old.scan).coming }
+        ensures cause { IfErr result (ScanFails (S.seen self.old.scan) (S.seen self.new.scan)) }
+        ensures state { LeavesState self.new.state result }
+        ensures later { (S.seen self.old.scan).fault_count ≤ (S.seen self.new.scan).fault_count }
+        ensures fixed { (S.seen self.new.scan).fixed ≡ (S.seen self.old.scan).fixed }
+        ensures own { IfErr result (λ why. (S.seen self.new.scan).fixed.gives why ≡ true) }
     {
         if self.state == State::Idle {
             return Ok(());
@@ -99,17 +99,13 @@ impl<S: Scan> Registers<S> {
     /// Makes this code, below 32, the instruction.
     fn select(&mut self, code: u8) -> Result<(), WireFault>
         requires code { code < 32 }
-        requires scan { CanScan (S.far self.old.scan) }
-        ensures prepared { OnOk result (WhereTold (Prepared (data_register_of code)) (S.far self.old.scan) (S.far self.new.scan)) }
-        ensures rests { OnOk result (Rests (S.far self.new.scan)) }
-        ensures cut { OnErr result (WhereTold Waited (S.far self.old.scan) (S.far self.new.scan)) }
-        ensures script { S.script self.new.scan ≡ S.script self.old.scan }
-        ensures cause { IfErr result (ScanCause (S.fault_count self.old.scan) (S.fault_count self.new.scan) (S.far self.new.scan) (S.script self.old.scan)) }
-        ensures idle { OnOk result (self.new.state ≡ Idle) }
-        ensures dead { OnErr result (self.new.state ≡ Dead) }
-        ensures later { S.fault_count self.old.scan ≤ S.fault_count self.new.scan }
-        ensures slack { S.slack self.new.scan ≡ S.slack self.old.scan }
-        ensures ties { S.ties self.new.scan ≡ S.ties self.old.scan }
+        requires scan { CanScan (S.seen self.old.scan).far }
+        ensures prepared { OnOk result (WhereTold (Prepared (data_register_of code)) (S.seen self.old.scan).far (S.seen self.new.scan).far) }
+        ensures cut { OnErr result (WhereTold Waited (S.seen self.old.scan).far (S.seen self.new.scan).far) }
+        ensures coming { (S.seen self.new.scan).coming ≡ (S.seen self.old.scan).coming }
+        ensures cause { IfErr result (ScanFails (S.seen self.old.scan) (S.seen self.new.scan)) }
+        ensures state { LeavesState self.new.state result }
+        ensures keeps { ScanKeeps (S.seen self.old.scan) (S.seen self.new.scan) result }
     {
         self.rest()?;
         self.state = State::Dead;
@@ -118,21 +114,19 @@ impl<S: Scan> Registers<S> {
         Ok(())
     }
 
-    /// Scans from 1 to 64 bits through the selected register.
+    /// Scans bits through the selected register, as many as it has where a chip is told.
     fn shift(&mut self, bits: Bits) -> Result<Bits, WireFault>
         requires some { 0 < length bits }
-        requires rests { Rests (S.far self.old.scan) }
-        ensures scanned { IfOk result (λ out. WhereTold (Scanned (S.slack self.old.scan) bits out) (S.far self.old.scan) (S.far self.new.scan)) }
-        ensures rests { OnOk result (Rests (S.far self.new.scan)) }
-        ensures cut { OnErr result (WhereTold (ScanCut (S.slack self.old.scan) bits) (S.far self.old.scan) (S.far self.new.scan)) }
-        ensures came { IfOk result (λ out. ComesOut out (S.script self.old.scan) (S.script self.new.scan)) }
+        requires fits { Fits bits (S.seen self.old.scan).far }
+        requires rests { ScanRests (S.seen self.old.scan) }
+        ensures scanned { IfOk result (λ out. WhereTold (Scanned (S.seen self.old.scan).fixed.slack bits out)
+            (S.seen self.old.scan).far (S.seen self.new.scan).far) }
+        ensures cut { OnErr result (WhereTold (ScanCut (S.seen self.old.scan).fixed.slack bits) (S.seen self.old.scan).far (S.seen self.new.scan).far) }
+        ensures came { IfOk result (λ out. ComesOut out (S.seen self.old.scan).coming (S.seen self.new.scan).coming) }
         ensures length { IfOk result (λ out. length out ≡ length bits) }
-        ensures cause { IfErr result (ScanCause (S.fault_count self.old.scan) (S.fault_count self.new.scan) (S.far self.new.scan) (S.script self.old.scan)) }
-        ensures idle { OnOk result (self.new.state ≡ Idle) }
-        ensures dead { OnErr result (self.new.state ≡ Dead) }
-        ensures later { S.fault_count self.old.scan ≤ S.fault_count self.new.scan }
-        ensures slack { S.slack self.new.scan ≡ S.slack self.old.scan }
-        ensures ties { S.ties self.new.scan ≡ S.ties self.old.scan }
+        ensures cause { IfErr result (ScanFails (S.seen self.old.scan) (S.seen self.new.scan)) }
+        ensures state { LeavesState self.new.state result }
+        ensures keeps { ScanKeeps (S.seen self.old.scan) (S.seen self.new.scan) result }
     {
         self.state = State::Dead;
         let out = self.scan.dr(bits)?;
@@ -140,22 +134,19 @@ impl<S: Scan> Registers<S> {
         Ok(out)
     }
 
-    /// Scans from 1 to 64 bits through the register of this code, below 32.
+    /// Scans bits through the register of this code, below 32: as many as it has, where a chip is told.
     fn register(&mut self, code: u8, bits: Bits) -> Result<Bits, WireFault>
         requires code { code < 32 }
         requires some { 0 < length bits }
-        requires scan { CanScan (S.far self.old.scan) }
-        ensures scanned { IfOk result (λ out. WhereTold (ScannedFrom (data_register_of code) bits out) (S.far self.old.scan) (S.far self.new.scan)) }
-        ensures rests { OnOk result (Rests (S.far self.new.scan)) }
-        ensures cut { OnErr result (WhereTold (CutFrom (data_register_of code) bits) (S.far self.old.scan) (S.far self.new.scan)) }
-        ensures came { IfOk result (λ out. ComesOut out (S.script self.old.scan) (S.script self.new.scan)) }
+        requires long { IsAsLong (data_register_of code) bits (S.seen self.old.scan).far }
+        requires scan { CanScan (S.seen self.old.scan).far }
+        ensures scanned { IfOk result (λ out. WhereTold (ScannedFrom (data_register_of code) bits out) (S.seen self.old.scan).far (S.seen self.new.scan).far) }
+        ensures cut { OnErr result (WhereTold (CutFrom (data_register_of code) bits) (S.seen self.old.scan).far (S.seen self.new.scan).far) }
+        ensures came { IfOk result (λ out. ComesOut out (S.seen self.old.scan).coming (S.seen self.new.scan).coming) }
         ensures length { IfOk result (λ out. length out ≡ length bits) }
-        ensures cause { IfErr result (ScanCause (S.fault_count self.old.scan) (S.fault_count self.new.scan) (S.far self.new.scan) (S.script self.old.scan)) }
-        ensures idle { OnOk result (self.new.state ≡ Idle) }
-        ensures dead { OnErr result (self.new.state ≡ Dead) }
-        ensures later { S.fault_count self.old.scan ≤ S.fault_count self.new.scan }
-        ensures slack { S.slack self.new.scan ≡ S.slack self.old.scan }
-        ensures ties { S.ties self.new.scan ≡ S.ties self.old.scan }
+        ensures cause { IfErr result (ScanFails (S.seen self.old.scan) (S.seen self.new.scan)) }
+        ensures state { LeavesState self.new.state result }
+        ensures keeps { ScanKeeps (S.seen self.old.scan) (S.seen self.new.scan) result }
     {
         self.select(code)?;
         let out = self.shift(bits)?;
@@ -164,17 +155,13 @@ impl<S: Scan> Registers<S> {
 
     /// Resets the TAP and scans IDCODE.
     pub fn idcode(&mut self) -> Result<u32, WireFault>
-        requires scan { CanScan (S.far self.old.scan) }
-        ensures scanned { IfOk result (λ value. WhereTold (WordScanned dr.Idcode idcode_bits value) (S.far self.old.scan) (S.far self.new.scan)) }
-        ensures rests { OnOk result (Rests (S.far self.new.scan)) }
-        ensures cut { OnErr result (WhereTold (CutFrom dr.Idcode idcode_bits) (S.far self.old.scan) (S.far self.new.scan)) }
-        ensures heard { IfOk result (λ value. HeardNumber value (S.script self.old.scan) (S.script self.new.scan)) }
-        ensures cause { IfErr result (ScanCause (S.fault_count self.old.scan) (S.fault_count self.new.scan) (S.far self.new.scan) (S.script self.old.scan)) }
-        ensures idle { OnOk result (self.new.state ≡ Idle) }
-        ensures dead { OnErr result (self.new.state ≡ Dead) }
-        ensures later { S.fault_count self.old.scan ≤ S.fault_count self.new.scan }
-        ensures slack { S.slack self.new.scan ≡ S.slack self.old.scan }
-        ensures ties { S.ties self.new.scan ≡ S.ties self.old.scan }
+        requires scan { CanScan (S.seen self.old.scan).far }
+        ensures scanned { IfOk result (λ value. WhereTold (WordScanned dr.Idcode idcode_bits value) (S.seen self.old.scan).far (S.seen self.new.scan).far) }
+        ensures cut { OnErr result (WhereTold (CutFrom dr.Idcode idcode_bits) (S.seen self.old.scan).far (S.seen self.new.scan).far) }
+        ensures heard { IfOk result (λ value. HeardNumber value (S.seen self.old.scan).coming (S.seen self.new.scan).coming) }
+        ensures cause { IfErr result (ScanFails (S.seen self.old.scan) (S.seen self.new.scan)) }
+        ensures state { LeavesState self.new.state result }
+        ensures keeps { ScanKeeps (S.seen self.old.scan) (S.seen self.new.scan) result }
     {
         self.state = State::New;
         self.rest()?;
@@ -184,17 +171,13 @@ impl<S: Scan> Registers<S> {
 
     /// Scans `dtmcs` with `dmireset` set.
     pub fn clear(&mut self) -> Result<u32, WireFault>
-        requires scan { CanScan (S.far self.old.scan) }
-        ensures scanned { IfOk result (λ value. WhereTold (WordScanned dr.Dtmcs reset_bits value) (S.far self.old.scan) (S.far self.new.scan)) }
-        ensures rests { OnOk result (Rests (S.far self.new.scan)) }
-        ensures cut { OnErr result (WhereTold (CutFrom dr.Dtmcs reset_bits) (S.far self.old.scan) (S.far self.new.scan)) }
-        ensures heard { IfOk result (λ value. HeardNumber value (S.script self.old.scan) (S.script self.new.scan)) }
-        ensures cause { IfErr result (ScanCause (S.fault_count self.old.scan) (S.fault_count self.new.scan) (S.far self.new.scan) (S.script self.old.scan)) }
-        ensures idle { OnOk result (self.new.state ≡ Idle) }
-        ensures dead { OnErr result (self.new.state ≡ Dead) }
-        ensures later { S.fault_count self.old.scan ≤ S.fault_count self.new.scan }
-        ensures slack { S.slack self.new.scan ≡ S.slack self.old.scan }
-        ensures ties { S.ties self.new.scan ≡ S.ties self.old.scan }
+        requires scan { CanScan (S.seen self.old.scan).far }
+        ensures scanned { IfOk result (λ value. WhereTold (WordScanned dr.Dtmcs reset_bits value) (S.seen self.old.scan).far (S.seen self.new.scan).far) }
+        ensures cut { OnErr result (WhereTold (CutFrom dr.Dtmcs reset_bits) (S.seen self.old.scan).far (S.seen self.new.scan).far) }
+        ensures heard { IfOk result (λ value. HeardNumber value (S.seen self.old.scan).coming (S.seen self.new.scan).coming) }
+        ensures cause { IfErr result (ScanFails (S.seen self.old.scan) (S.seen self.new.scan)) }
+        ensures state { LeavesState self.new.state result }
+        ensures keeps { ScanKeeps (S.seen self.old.scan) (S.seen self.new.scan) result }
     {
         let reset = Dtmcs {
             dtmhardreset: false,
@@ -215,18 +198,14 @@ impl<S: Scan> Registers<S> {
     pub fn exchange(&mut self, abits: u8, sent: DmiScan) -> Result<DmiScan, WireFault>
         requires least { 7 ≤ abits }
         requires most { abits ≤ 30 }
-        requires width { IsWidth abits (S.far self.old.scan) }
-        requires scan { CanScan (S.far self.old.scan) }
-        ensures scanned { IfOk result (λ out. WhereTold (DmiScanned sent out) (S.far self.old.scan) (S.far self.new.scan)) }
-        ensures rests { OnOk result (Rests (S.far self.new.scan)) }
-        ensures cut { OnErr result (WhereTold (CutFrom dr.Dmi (dmi_bits sent)) (S.far self.old.scan) (S.far self.new.scan)) }
-        ensures heard { IfOk result (λ out. HeardDmi out (S.script self.old.scan) (S.script self.new.scan)) }
-        ensures cause { IfErr result (ScanCause (S.fault_count self.old.scan) (S.fault_count self.new.scan) (S.far self.new.scan) (S.script self.old.scan)) }
-        ensures idle { OnOk result (self.new.state ≡ Idle) }
-        ensures dead { OnErr result (self.new.state ≡ Dead) }
-        ensures later { S.fault_count self.old.scan ≤ S.fault_count self.new.scan }
-        ensures slack { S.slack self.new.scan ≡ S.slack self.old.scan }
-        ensures ties { S.ties self.new.scan ≡ S.ties self.old.scan }
+        requires width { IsWidth abits (S.seen self.old.scan).far }
+        requires scan { CanScan (S.seen self.old.scan).far }
+        ensures scanned { IfOk result (λ out. WhereTold (DmiScanned sent out) (S.seen self.old.scan).far (S.seen self.new.scan).far) }
+        ensures cut { OnErr result (WhereTold (CutFrom dr.Dmi (dmi_bits sent)) (S.seen self.old.scan).far (S.seen self.new.scan).far) }
+        ensures heard { IfOk result (λ out. HeardDmi out (S.seen self.old.scan).coming (S.seen self.new.scan).coming) }
+        ensures cause { IfErr result (ScanFails (S.seen self.old.scan) (S.seen self.new.scan)) }
+        ensures state { LeavesState self.new.state result }
+        ensures keeps { ScanKeeps (S.seen self.old.scan) (S.seen self.new.scan) result }
     {
         let out = self.register(DMI_CODE, Bits::from_u64(sent.bits(), BELOW_ADDRESS + abits))?;
         Ok(DmiScan::from_bits(out.value()))

@@ -1,12 +1,12 @@
 -- Answers that a wire hands on, whole or cut short by a fault, and what their judgement says of those that were to come.
-use Rattle.std.proofs.Common.{◌≡◌, ◌≢◌, ◌∙◌, ℕ, zero, suc, List, [], ◌∷◌, ◌++◌, Bool, length, map, take, drop, replicate, Option, Some, None, option_map, IfSome, Result, Ok, Err, OnOk, OnErr, IfErr, IsErrAnd, refl, sym, ap, subst, arith, append_assoc, inr}
+use Rattle.std.proofs.Common.{◌≡◌, ◌≢◌, ◌∙◌, ℕ, zero, suc, List, [], ◌∷◌, ◌++◌, Bool, true, length, map, take, drop, replicate, Option, Some, None, option_map, IfSome, Result, Ok, Err, OnOk, OnErr, IfErr, IsErrAnd, refl, sym, ap, subst, arith, append_assoc}
 use Rattle.debug_model.specs.Chip.{answer_byte}
 use Rattle.debug_model.specs.Scan.{Answers, CameWrong, Judged, TookBits}
 use Rattle.debug_model.specs.Told.{Far}
 use Rattle.debug_model.specs.Wire.{CutShort, ReadsFront, ReadsSome, RecvCause, TakesComing, TakesSome, no_answer}
 use Rattle.debug_model.specs.declared.wire.WireFault.{WireFault}
 use Rattle.debug_model.specs.declared.wire.WireFault.TheVariants.{SendFailed, RecvFailed, Ended, BadAnswer}
-use Rattle.probe_scan.specs.Answers.{IsFirstBad, KeepsAnswer, KeepsChip, OrBad, ReceiveCause}
+use Rattle.probe_scan.specs.Answers.{IsFirstBad, KeepsChip, ReceiveCause, or_bad}
 
 unfoldable pub first_or : ℕ → List ℕ → ℕ
 first_or n [] = n
@@ -71,8 +71,15 @@ bad_cause received into told new coming left before after fault read some came p
 pub bad_judged : (into : List ℕ) (fault : WireFault) (coming left : Option (List ℕ)) → IsFirstBad into fault → Judged (option_map Answers coming) (option_map Answers left) fault
 bad_judged into fault coming left bad = subst (Judged (option_map Answers coming) (option_map Answers left)) (sym bad.kept) tt
 
-pub bad_own : (gives : WireFault → Type 0) (into : List ℕ) (fault : WireFault) → IsFirstBad into fault → OrBad gives fault
-bad_own gives into fault bad = inr (subst KeepsAnswer (sym bad.kept) tt)
+pub bad_own : (gives : WireFault → Bool) (into : List ℕ) (fault : WireFault) → IsFirstBad into fault → or_bad gives fault ≡ true
+bad_own gives into fault bad = ap (or_bad gives) bad.kept
+
+-- a scanner gives what its wire gives
+pub wire_own : (gives : WireFault → Bool) (fault : WireFault) → gives fault ≡ true → or_bad gives fault ≡ true
+wire_own gives SendFailed own = own
+wire_own gives RecvFailed own = own
+wire_own gives Ended own = own
+wire_own gives (BadAnswer b) own = refl
 
 pub bad_kept : {T : Type 0} (received : Result T WireFault) (into : List ℕ) (told new : Option Far) → OnOk received (ReadsFront into told new) → OnErr received (ReadsSome into told new) → KeepsChip told new
 bad_kept (Ok x) into None new read some = read

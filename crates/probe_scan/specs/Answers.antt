@@ -1,8 +1,10 @@
 -- Answers of the stream as bits: OpenOCD's remote_bitbang answers `R` with the character 0 or 1.
-use Rattle.std.specs.Prelude.{◌≡◌, ◌≢◌, ◌++◌, ◌⊎◌, ℕ, List, ◌∷◌, Bool, map, Option, None, Some, IfSome}
+use Rattle.std.specs.Prelude.{◌≡◌, ◌≢◌, ◌++◌, ℕ, List, ◌∷◌, Bool, true, map, Option, None, Some, IfSome, option_map}
 use Rattle.jt_base.specs.Faults.{Rises}
 use Rattle.debug_model.specs.Chip.{answer_byte}
-use Rattle.debug_model.specs.Scan.{CameWrong}
+use Rattle.debug_model.specs.Kept.{ScanSeen}
+use Rattle.debug_model.specs.Scan.{Answers, CameWrong}
+use Rattle.debug_model.specs.Ties.{Ties}
 use Rattle.debug_model.specs.Told.{Far}
 use Rattle.debug_model.specs.Wire.{EndCause}
 use Rattle.debug_model.specs.declared.wire.WireFault.{WireFault}
@@ -45,12 +47,19 @@ ReceiveCause old new told told' coming (BadAnswer b) = IsWrong b told coming
 
 -- ---- the faults of a scan
 
-abbrev pub KeepsAnswer : WireFault → Type 0
-KeepsAnswer SendFailed = ⊥
-KeepsAnswer RecvFailed = ⊥
-KeepsAnswer Ended = ⊥
-KeepsAnswer (BadAnswer b) = Unit {0}
-
 -- those of the wire below, and those that keep a bad answer
-abbrev pub OrBad : (WireFault → Type 0) → WireFault → Type 0
-OrBad gives fault = gives fault ⊎ KeepsAnswer fault
+abbrev pub or_bad : (WireFault → Bool) → WireFault → Bool
+or_bad gives SendFailed = gives SendFailed
+or_bad gives RecvFailed = gives RecvFailed
+or_bad gives Ended = gives Ended
+or_bad gives (BadAnswer b) = true
+
+-- what is seen of scans over a wire: its far end, the answers that it has to come, its count of faults, what it keeps of the things below it, and its faults.
+-- TCK rises just as often as a call's path has clocks.
+abbrev pub scan_seen : Option Far → Option (List ℕ) → ℕ → Ties → (WireFault → Bool) → ScanSeen
+scan_seen far coming fault_count ties gives = record {
+  far = far;
+  coming = option_map Answers coming;
+  fault_count = fault_count;
+  fixed = record { slack = Some 0; ties = ties; gives = or_bad gives };
+}

@@ -1,10 +1,11 @@
-ghost use Rattle.std.specs.Prelude.{◌≡◌, ◌≤◌, Some, None, IfErr, IfOk, IfSome, OnErr, OnOk, length, map, option_map};
+ghost use Rattle.std.specs.Prelude.{◌≡◌, ◌<◌, ◌≤◌, true, Some, None, IfErr, IfOk, IfSome, OnErr, OnOk, length, map, option_map};
 ghost use Rattle.std.proofs.Props.{props};
 ghost use Rattle.debug_model.specs.Chip.{answer_byte};
-ghost use Rattle.debug_model.specs.Scan.{Answers, Judged};
+ghost use Rattle.debug_model.specs.Kept.{CanShift, ScanFails, ScanKeeps};
+ghost use Rattle.debug_model.specs.Scan.{Answers, ComesOut, Judged, ScanCut, Scanned, WhereTold};
 ghost use Rattle.debug_model.specs.Told.{IsOpen};
 ghost use Rattle.debug_model.specs.Wire.{ReadsFront, TakesComing};
-ghost use Rattle.probe_scan.specs.Answers.{KeepsChip, OrBad, ReceiveCause, bits_most};
+ghost use Rattle.probe_scan.specs.Answers.{KeepsChip, ReceiveCause, bits_most, or_bad, scan_seen};
 ghost use Rattle.probe_scan.specs.Remembered.{IsRemembered};
 
 use crate::batch::{dr_batch, ir_batch, read_bits, reset_batch};
@@ -45,7 +46,7 @@ impl<W: Wire> Scanner<W> {
 }
 
 /// Receives as many answers as `into` holds, at most 64, and reads their bits. What came before a fault is judged too: a bad answer is told before the fault.
-#[tactic(auto, using(crate::proofs::Received::bad_judged, crate::proofs::Received::bad_own, crate::proofs::Received::bad_kept, crate::proofs::Received::fault_cause))]
+#[tactic(auto, using(crate::proofs::Received::bad_judged, crate::proofs::Received::bad_own, crate::proofs::Received::bad_kept, crate::proofs::Received::fault_cause, crate::proofs::Received::wire_own))]
 fn receive<W: Wire>(wire: &mut W, into: &mut [u8]) -> Result<Bits, WireFault>
     requires most { length into.old ≤ bits_most }
     requires open { IsOpen (W.far wire.old) }
@@ -58,7 +59,7 @@ fn receive<W: Wire>(wire: &mut W, into: &mut [u8]) -> Result<Bits, WireFault>
     ensures judged { IfErr result (Judged (option_map Answers (W.coming wire.old)) (option_map Answers (W.coming wire.new))) }
     ensures later { W.fault_count wire.old ≤ W.fault_count wire.new }
     ensures cause { IfErr result (ReceiveCause (W.fault_count wire.old) (W.fault_count wire.new) (W.far wire.old) (W.far wire.new) (W.coming wire.old)) }
-    ensures own { IfErr result (OrBad W.gives) }
+    ensures own { IfErr result (λ why. or_bad W.gives why ≡ true) }
     ensures ties { W.ties wire.new ≡ W.ties wire.old }
 {
     let received = wire.recv(into);
@@ -68,17 +69,7 @@ fn receive<W: Wire>(wire: &mut W, into: &mut [u8]) -> Result<Bits, WireFault>
 }
 
 impl<W: Wire> Scan for Scanner<W> {
-    ghost far = { λ s. W.far s.wire };
-
-    ghost script = { λ s. option_map Answers (W.coming s.wire) };
-
-    ghost fault_count = { λ s. W.fault_count s.wire };
-
-    ghost slack = { λ _. Some 0 };
-
-    ghost gives = { OrBad W.gives };
-
-    ghost ties = { λ s. W.ties s.wire };
+    ghost seen = { λ s. scan_seen (W.far s.wire) (W.coming s.wire) (W.fault_count s.wire) (W.ties s.wire) W.gives };
 
     fn reset(&mut self) -> Result<(), WireFault> {
         self.remembered = None;
@@ -97,7 +88,20 @@ impl<W: Wire> Scan for Scanner<W> {
         Ok(())
     }
 
-    fn dr(&mut self, bits: Bits) -> Result<Bits, WireFault> {
+    /// Scans from 1 to 64 bits, also more or fewer than the register has.
+    fn dr(&mut self, bits: Bits) -> Result<Bits, WireFault>
+        requires some { 0 < length bits }
+        requires callable { CanShift (scan_seen (W.far self.old.wire) (W.coming self.old.wire) (W.fault_count self.old.wire) (W.ties self.old.wire) W.gives) }
+        ensures scanned { IfOk result (λ out. WhereTold (Scanned (Some 0) bits out) (W.far self.old.wire) (W.far self.new.wire)) }
+        ensures came { IfOk result (λ out. ComesOut out (option_map Answers (W.coming self.old.wire)) (option_map Answers (W.coming self.new.wire))) }
+        ensures length { IfOk result (λ out. length out ≡ length bits) }
+        ensures cut { OnErr result (WhereTold (ScanCut (Some 0) bits) (W.far self.old.wire) (W.far self.new.wire)) }
+        ensures judged { IfErr result (Judged (option_map Answers (W.coming self.old.wire)) (option_map Answers (W.coming self.new.wire))) }
+        ensures cause { IfErr result (ScanFails (scan_seen (W.far self.old.wire) (W.coming self.old.wire) (W.fault_count self.old.wire) (W.ties self.old.wire) W.gives)
+            (scan_seen (W.far self.new.wire) (W.coming self.new.wire) (W.fault_count self.new.wire) (W.ties self.new.wire) W.gives)) }
+        ensures keeps { ScanKeeps (scan_seen (W.far self.old.wire) (W.coming self.old.wire) (W.fault_count self.old.wire) (W.ties self.old.wire) W.gives)
+            (scan_seen (W.far self.new.wire) (W.coming self.new.wire) (W.fault_count self.new.wire) (W.ties self.new.wire) W.gives) result }
+    {
         let remembered = self.remembered.take();
         self.wire.send(dr_batch(bits).bytes())?;
         let mut answers = [NO_ANSWER; BITS_MOST];

@@ -1,4 +1,5 @@
 ghost use Rattle.std.specs.Prelude.{◌≡◌, [], ◌++◌, Some, None, IfNone, option_to_list};
+ghost use Rattle.debug_model.specs.Kept.{gives_end_of_answers};
 ghost use Rattle.debug_model.specs.Scan.{Numbers};
 ghost use Rattle.debug_model.specs.Ties.{no_ties};
 
@@ -44,19 +45,12 @@ fn take_first(numbers: &mut ArrayVec<u64, NUMBERS_MOST>) -> Option<u64>
 }
 
 impl Scan for ScriptedScan {
-    ghost use Rattle.debug_model.specs.declared.wire.WireFault.TheVariants as faults;
-
-    ghost far = { λ _. None };
-
-    ghost script = { λ s. Some (Numbers s.numbers.items) };
-
-    ghost fault_count = { λ s. s.failed };
-
-    ghost slack = { λ _. None };
-
-    ghost gives = { λ fault. fault ≡ faults.RecvFailed };
-
-    ghost ties = { λ _. no_ties };
+    ghost seen = { λ s. record {
+      far = None;
+      coming = Some (Numbers s.numbers.items);
+      fault_count = s.failed;
+      fixed = record { slack = None; ties = no_ties; gives = gives_end_of_answers };
+    } };
 
     fn reset(&mut self) -> Result<(), WireFault> {
         Ok(())

@@ -1,8 +1,12 @@
 use Rattle.std.proofs.Common.{◌∙◌, ◌+◌, ap}
 use Rattle.jt_base.specs.BitList.{bits_of}
 use Rattle.debug_model.specs.TransportWords.{dmi_of}
+use Rattle.probe_dmi.proofs.Conditions.{dmi_long}
 use Rattle.probe_dmi.proofs.Scans.{dmi_of_scan}
 use Rattle.probe_dmi.proofs.register.Registers.exchange.Goals as goal
+
+pub register-requires-clause-long : goal.register-requires-clause-long
+register-requires-clause-long g c = dmi_long c.args.abits c.from_u64.result _ c.from_u64.ensures.length c.requires.width
 
 pub returns-clause-scanned : goal.returns-clause-scanned
 returns-clause-scanned g c =

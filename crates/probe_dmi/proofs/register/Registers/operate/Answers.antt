@@ -1,4 +1,4 @@
-use Rattle.std.proofs.Common.{◌∙◌, ◌+◌, true, false, refl, subst, arith}
+use Rattle.std.proofs.Common.{◌∙◌, ◌+◌, true, false, refl, subst, arith, rules}
 use Rattle.debug_model.specs.Scan.{WhereTold}
 use Rattle.probe_dmi.proofs.Heard.{SoFar, dmi_through, heard_again, heard_busy, heard_carried, heard_failed, heard_result, nothing_heard, scan_cause, so_far_through, wire_cause}
 use Rattle.jt_base.proofs.Pieces.{on_err}
@@ -14,77 +14,74 @@ scans-init g c = record {
   width = c.requires.width;
   few = omega arith;
   later = omega arith;
-  slack = refl;
-  ties = refl;
+  fixed = refl;
 }
 
 pub returns-in_err-out-clause-cut : goal.returns-in_err-out-clause-cut
-returns-in_err-out-clause-cut g c = on_err _ (dmi_cut c.args.op c.scans.taken c.scans.busy _ (g.S.Scan.far c.scans.self.scan) _ c.requires.operation c.scans.invariant.underway (cut_as c.args.op c.scans.taken c.next_scan.result (g.S.Scan.far c.scans.self.scan) _ c.next_scan.ensures c.in_err-out.ensures.cut))
+returns-in_err-out-clause-cut g c = on_err _ (dmi_cut c.args.op c.scans.taken c.scans.busy _ (g.S.Scan.seen c.scans.self.scan).far _ c.requires.operation c.scans.invariant.underway (cut_as c.args.op c.scans.taken c.next_scan.result (g.S.Scan.seen c.scans.self.scan).far _ c.next_scan.ensures c.in_err-out.ensures.cut))
 
 pub returns-in_err-out-clause-cause : goal.returns-in_err-out-clause-cause
-returns-in_err-out-clause-cause g c = wire_cause _ _ _ _ _ c.in_err-out.field-0.0 _ c.from_residual.ensures.1 (scan_cause _ (g.S.Scan.fault_count c.scans.self.scan) _ _ _ (g.S.Scan.script c.scans.self.scan) c.in_err-out.field-0.0 c.scans.invariant.later c.exchange.ensures.later (so_far_through c.scans.busy c.scans.taken _ _ c.scans.invariant.so_far) c.in_err-out.ensures.cause)
+returns-in_err-out-clause-cause g c = wire_cause _ _ _ _ _ c.in_err-out.field-0.0 _ c.from_residual.ensures.1 (scan_cause _ (g.S.Scan.seen c.scans.self.scan).fault_count _ _ _ (g.S.Scan.seen c.scans.self.scan).coming c.in_err-out.field-0.0 c.scans.invariant.later c.exchange.ensures.keeps.later (so_far_through c.scans.busy c.scans.taken _ _ c.scans.invariant.so_far) c.in_err-out.ensures.cause)
 
 pub returns-then-out-eq-STATUS_FAILED-clause-cut : goal.returns-then-out-eq-STATUS_FAILED-clause-cut
-returns-then-out-eq-STATUS_FAILED-clause-cut g c = failed_cut c.args.op _ _ (failed c.args.op c.scans.taken c.scans.busy c.in_ok-out.out _ (g.S.Scan.far c.scans.self.scan) _ c.if-out-eq-STATUS_FAILED.true c.scans.invariant.underway (sent_as c.args.op c.scans.taken c.scans.taken c.next_scan.result c.in_ok-out.out (g.S.Scan.far c.scans.self.scan) _ c.next_scan.ensures refl c.in_ok-out.ensures.scanned))
+returns-then-out-eq-STATUS_FAILED-clause-cut g c = failed_cut c.args.op _ _ (failed c.args.op c.scans.taken c.scans.busy c.in_ok-out.out _ (g.S.Scan.seen c.scans.self.scan).far _ c.if-out-eq-STATUS_FAILED.true c.scans.invariant.underway (sent_as c.args.op c.scans.taken c.scans.taken c.next_scan.result c.in_ok-out.out (g.S.Scan.seen c.scans.self.scan).far _ c.next_scan.ensures refl c.in_ok-out.ensures.scanned))
 
 pub returns-then-out-eq-STATUS_FAILED-clause-cause : goal.returns-then-out-eq-STATUS_FAILED-clause-cause
 returns-then-out-eq-STATUS_FAILED-clause-cause g c = (
-  failed_lost c.args.op _ _ (failed c.args.op c.scans.taken c.scans.busy c.in_ok-out.out _ (g.S.Scan.far c.scans.self.scan) _ c.if-out-eq-STATUS_FAILED.true c.scans.invariant.underway (sent_as c.args.op c.scans.taken c.scans.taken c.next_scan.result c.in_ok-out.out (g.S.Scan.far c.scans.self.scan) _ c.next_scan.ensures refl c.in_ok-out.ensures.scanned)),
-  heard_failed c.scans.busy c.scans.taken c.in_ok-out.out _ (g.S.Scan.script c.scans.self.scan) (g.S.Scan.script c.exchange.new.self.scan) c.scans-test.true c.if-out-eq-STATUS_FAILED.true c.scans.invariant.so_far c.in_ok-out.ensures.heard,
+  failed_lost c.args.op _ _ (failed c.args.op c.scans.taken c.scans.busy c.in_ok-out.out _ (g.S.Scan.seen c.scans.self.scan).far _ c.if-out-eq-STATUS_FAILED.true c.scans.invariant.underway (sent_as c.args.op c.scans.taken c.scans.taken c.next_scan.result c.in_ok-out.out (g.S.Scan.seen c.scans.self.scan).far _ c.next_scan.ensures refl c.in_ok-out.ensures.scanned)),
+  heard_failed c.scans.busy c.scans.taken c.in_ok-out.out _ (g.S.Scan.seen c.scans.self.scan).coming (g.S.Scan.seen c.exchange.new.self.scan).coming c.scans-test.true c.if-out-eq-STATUS_FAILED.true c.scans.invariant.so_far c.in_ok-out.ensures.heard,
 )
 
 pub returns-then-taken-clause-operated : goal.returns-then-taken-clause-operated
-returns-then-taken-clause-operated g c = fetched_operated c.args.op c.in_ok-out.out.value _ _ (fetched c.args.op c.scans.busy c.in_ok-out.out _ (g.S.Scan.far c.scans.self.scan) _ c.if-out-eq-STATUS_DONE.true (under_as c.args.op c.scans.taken true c.scans.busy _ _ c.if-taken.true c.scans.invariant.underway) (sent_as c.args.op c.scans.taken true c.next_scan.result c.in_ok-out.out (g.S.Scan.far c.scans.self.scan) _ c.next_scan.ensures c.if-taken.true c.in_ok-out.ensures.scanned))
+returns-then-taken-clause-operated g c = fetched_operated c.args.op c.in_ok-out.out.value _ _ (fetched c.args.op c.scans.busy c.in_ok-out.out _ (g.S.Scan.seen c.scans.self.scan).far _ c.if-out-eq-STATUS_DONE.true (under_as c.args.op c.scans.taken true c.scans.busy _ _ c.if-taken.true c.scans.invariant.underway) (sent_as c.args.op c.scans.taken true c.next_scan.result c.in_ok-out.out (g.S.Scan.seen c.scans.self.scan).far _ c.next_scan.ensures c.if-taken.true c.in_ok-out.ensures.scanned))
 
 pub returns-then-taken-clause-answers : goal.returns-then-taken-clause-answers
-returns-then-taken-clause-answers g c = heard_result c.scans.busy c.in_ok-out.out _ (g.S.Scan.script c.scans.self.scan) _ c.scans-test.true c.if-out-eq-STATUS_DONE.true (subst (λ b. SoFar c.scans.busy b (g.S.Scan.script c.args.self.now.scan) (g.S.Scan.script c.scans.self.scan)) c.if-taken.true c.scans.invariant.so_far) c.in_ok-out.ensures.heard
+returns-then-taken-clause-answers g c = heard_result c.scans.busy c.in_ok-out.out _ (g.S.Scan.seen c.scans.self.scan).coming _ c.scans-test.true c.if-out-eq-STATUS_DONE.true (subst (λ b. SoFar c.scans.busy b (g.S.Scan.seen c.args.self.now.scan).coming (g.S.Scan.seen c.scans.self.scan).coming) c.if-taken.true c.scans.invariant.so_far) c.in_ok-out.ensures.heard
 
-pub returns-then-taken-clause-link : goal.returns-then-taken-clause-link
-returns-then-taken-clause-link g c = can_operate _ c.in_ok-out.ensures.rests (fetched_clean c.args.op c.in_ok-out.out.value (g.S.Scan.far c.args.self.now.scan) _ (fetched c.args.op c.scans.busy c.in_ok-out.out _ (g.S.Scan.far c.scans.self.scan) _ c.if-out-eq-STATUS_DONE.true (under_as c.args.op c.scans.taken true c.scans.busy _ _ c.if-taken.true c.scans.invariant.underway) (sent_as c.args.op c.scans.taken true c.next_scan.result c.in_ok-out.out (g.S.Scan.far c.scans.self.scan) _ c.next_scan.ensures c.if-taken.true c.in_ok-out.ensures.scanned)))
+pub returns-then-taken-clause-keeps : goal.returns-then-taken-clause-keeps
+returns-then-taken-clause-keeps g c = let o = can_operate _ c.in_ok-out.ensures.keeps.behind (fetched_clean c.args.op c.in_ok-out.out.value (g.S.Scan.seen c.args.self.now.scan).far _ (fetched c.args.op c.scans.busy c.in_ok-out.out _ (g.S.Scan.seen c.scans.self.scan).far _ c.if-out-eq-STATUS_DONE.true (under_as c.args.op c.scans.taken true c.scans.busy _ _ c.if-taken.true c.scans.invariant.underway) (sent_as c.args.op c.scans.taken true c.next_scan.result c.in_ok-out.out (g.S.Scan.seen c.scans.self.scan).far _ c.next_scan.ensures c.if-taken.true c.in_ok-out.ensures.scanned))) in search rules
 
 pub scans-preserved-then-out-eq-STATUS_DONE : goal.scans-preserved-then-out-eq-STATUS_DONE
 scans-preserved-then-out-eq-STATUS_DONE g c =
-    let u : WhereTold (Underway c.args.op true c.scans.busy) (g.S.Scan.far c.args.self.now.scan) (g.S.Scan.far c.exchange.new.self.scan) =
-    carried c.args.op c.scans.busy c.in_ok-out.out _ (g.S.Scan.far c.scans.self.scan) _ c.requires.operation
+    let u : WhereTold (Underway c.args.op true c.scans.busy) (g.S.Scan.seen c.args.self.now.scan).far (g.S.Scan.seen c.exchange.new.self.scan).far =
+    carried c.args.op c.scans.busy c.in_ok-out.out _ (g.S.Scan.seen c.scans.self.scan).far _ c.requires.operation
     (under_as c.args.op c.scans.taken false c.scans.busy _ _ c.if-taken.false c.scans.invariant.underway)
-    (sent_as c.args.op c.scans.taken false c.next_scan.result c.in_ok-out.out (g.S.Scan.far c.scans.self.scan) _ c.next_scan.ensures c.if-taken.false c.in_ok-out.ensures.scanned) in
+    (sent_as c.args.op c.scans.taken false c.next_scan.result c.in_ok-out.out (g.S.Scan.seen c.scans.self.scan).far _ c.next_scan.ensures c.if-taken.false c.in_ok-out.ensures.scanned) in
     record {
       underway = u;
-      so_far = heard_carried c.scans.busy c.in_ok-out.out _ (g.S.Scan.script c.scans.self.scan) _ c.if-out-eq-STATUS_DONE.true (subst (λ b. SoFar c.scans.busy b (g.S.Scan.script c.args.self.now.scan) (g.S.Scan.script c.scans.self.scan)) c.if-taken.false c.scans.invariant.so_far) c.in_ok-out.ensures.heard;
-      can = can_again _ c.in_ok-out.ensures.rests;
-      width = width_kept (Underway c.args.op true c.scans.busy) c.args.abits (g.S.Scan.far c.args.self.now.scan) _ u c.requires.width;
+      so_far = heard_carried c.scans.busy c.in_ok-out.out _ (g.S.Scan.seen c.scans.self.scan).coming _ c.if-out-eq-STATUS_DONE.true (subst (λ b. SoFar c.scans.busy b (g.S.Scan.seen c.args.self.now.scan).coming (g.S.Scan.seen c.scans.self.scan).coming) c.if-taken.false c.scans.invariant.so_far) c.in_ok-out.ensures.heard;
+      can = can_again _ c.in_ok-out.ensures.keeps.behind;
+      width = width_kept (Underway c.args.op true c.scans.busy) c.args.abits (g.S.Scan.seen c.args.self.now.scan).far _ u c.requires.width;
       few = c.scans.invariant.few;
-      later = omega (arith, c.scans.invariant.later, c.exchange.ensures.later);
-      slack = c.exchange.ensures.slack ∙ c.scans.invariant.slack;
-      ties = c.exchange.ensures.ties ∙ c.scans.invariant.ties;
+      later = omega (arith, c.scans.invariant.later, c.exchange.ensures.keeps.later);
+      fixed = c.exchange.ensures.keeps.fixed ∙ c.scans.invariant.fixed;
     }
 
 pub returns-in_err-clear-clause-cut : goal.returns-in_err-clear-clause-cut
-returns-in_err-clear-clause-cut g c = on_err _ (clear_cut c.args.op c.scans.taken c.scans.busy _ (g.S.Scan.far c.exchange.new.self.scan) _
-    (found_again c.args.op c.scans.taken c.scans.busy c.in_ok-out.out _ (g.S.Scan.far c.scans.self.scan) _ c.if-out-eq-STATUS_DONE.false c.if-out-eq-STATUS_FAILED.false c.scans.invariant.underway
-    (sent_as c.args.op c.scans.taken c.scans.taken c.next_scan.result c.in_ok-out.out (g.S.Scan.far c.scans.self.scan) _ c.next_scan.ensures refl c.in_ok-out.ensures.scanned))
+returns-in_err-clear-clause-cut g c = on_err _ (clear_cut c.args.op c.scans.taken c.scans.busy _ (g.S.Scan.seen c.exchange.new.self.scan).far _
+    (found_again c.args.op c.scans.taken c.scans.busy c.in_ok-out.out _ (g.S.Scan.seen c.scans.self.scan).far _ c.if-out-eq-STATUS_DONE.false c.if-out-eq-STATUS_FAILED.false c.scans.invariant.underway
+    (sent_as c.args.op c.scans.taken c.scans.taken c.next_scan.result c.in_ok-out.out (g.S.Scan.seen c.scans.self.scan).far _ c.next_scan.ensures refl c.in_ok-out.ensures.scanned))
     c.in_err-clear.ensures.cut)
 
 pub returns-in_err-clear-clause-cause : goal.returns-in_err-clear-clause-cause
-returns-in_err-clear-clause-cause g c = wire_cause _ _ _ _ _ c.in_err-clear.field-0.0 _ c.from_residual-in_err-clear.ensures.1 (scan_cause _ (g.S.Scan.fault_count c.exchange.new.self.scan) _ _ _ (g.S.Scan.script c.exchange.new.self.scan) c.in_err-clear.field-0.0 (omega (arith, c.scans.invariant.later, c.exchange.ensures.later)) c.clear.ensures.later
+returns-in_err-clear-clause-cause g c = wire_cause _ _ _ _ _ c.in_err-clear.field-0.0 _ c.from_residual-in_err-clear.ensures.1 (scan_cause _ (g.S.Scan.seen c.exchange.new.self.scan).fault_count _ _ _ (g.S.Scan.seen c.exchange.new.self.scan).coming c.in_err-clear.field-0.0 (omega (arith, c.scans.invariant.later, c.exchange.ensures.keeps.later)) c.clear.ensures.keeps.later
     (λ b w. so_far_through c.scans.busy c.scans.taken _ _ c.scans.invariant.so_far b (dmi_through c.in_ok-out.out _ _ c.in_ok-out.ensures.heard b w)) c.in_err-clear.ensures.cause)
 
 pub scans-preserved : goal.scans-preserved
 scans-preserved g c =
-    let u : WhereTold (Underway c.args.op c.scans.taken (c.scans.busy + 1)) (g.S.Scan.far c.args.self.now.scan) (g.S.Scan.far c.clear.new.self.scan) =
-    cleared c.args.op c.scans.taken c.scans.busy c.in_ok-clear.field-0 _ (g.S.Scan.far c.exchange.new.self.scan) _
-    (found_again c.args.op c.scans.taken c.scans.busy c.in_ok-out.out _ (g.S.Scan.far c.scans.self.scan) _ c.if-out-eq-STATUS_DONE.false c.if-out-eq-STATUS_FAILED.false c.scans.invariant.underway
-    (sent_as c.args.op c.scans.taken c.scans.taken c.next_scan.result c.in_ok-out.out (g.S.Scan.far c.scans.self.scan) _ c.next_scan.ensures refl c.in_ok-out.ensures.scanned))
+    let u : WhereTold (Underway c.args.op c.scans.taken (c.scans.busy + 1)) (g.S.Scan.seen c.args.self.now.scan).far (g.S.Scan.seen c.clear.new.self.scan).far =
+    cleared c.args.op c.scans.taken c.scans.busy c.in_ok-clear.field-0 _ (g.S.Scan.seen c.exchange.new.self.scan).far _
+    (found_again c.args.op c.scans.taken c.scans.busy c.in_ok-out.out _ (g.S.Scan.seen c.scans.self.scan).far _ c.if-out-eq-STATUS_DONE.false c.if-out-eq-STATUS_FAILED.false c.scans.invariant.underway
+    (sent_as c.args.op c.scans.taken c.scans.taken c.next_scan.result c.in_ok-out.out (g.S.Scan.seen c.scans.self.scan).far _ c.next_scan.ensures refl c.in_ok-out.ensures.scanned))
     c.in_ok-clear.ensures.scanned in
     record {
       underway = u;
-      so_far = heard_again c.scans.busy c.scans.taken c.in_ok-out.out c.in_ok-clear.field-0 _ (g.S.Scan.script c.scans.self.scan) (g.S.Scan.script c.exchange.new.self.scan) _ c.if-out-eq-STATUS_DONE.false c.if-out-eq-STATUS_FAILED.false c.scans.invariant.so_far c.in_ok-out.ensures.heard c.in_ok-clear.ensures.heard;
-      can = can_again _ c.in_ok-clear.ensures.rests;
-      width = width_kept (Underway c.args.op c.scans.taken (c.scans.busy + 1)) c.args.abits (g.S.Scan.far c.args.self.now.scan) _ u c.requires.width;
+      so_far = heard_again c.scans.busy c.scans.taken c.in_ok-out.out c.in_ok-clear.field-0 _ (g.S.Scan.seen c.scans.self.scan).coming (g.S.Scan.seen c.exchange.new.self.scan).coming _ c.if-out-eq-STATUS_DONE.false c.if-out-eq-STATUS_FAILED.false c.scans.invariant.so_far c.in_ok-out.ensures.heard c.in_ok-clear.ensures.heard;
+      can = can_again _ c.in_ok-clear.ensures.keeps.behind;
+      width = width_kept (Underway c.args.op c.scans.taken (c.scans.busy + 1)) c.args.abits (g.S.Scan.seen c.args.self.now.scan).far _ u c.requires.width;
       few = omega (arith, c.scans-test.true);
-      later = omega (arith, c.scans.invariant.later, c.exchange.ensures.later, c.clear.ensures.later);
-      slack = c.clear.ensures.slack ∙ c.exchange.ensures.slack ∙ c.scans.invariant.slack;
-      ties = c.clear.ensures.ties ∙ c.exchange.ensures.ties ∙ c.scans.invariant.ties;
+      later = omega (arith, c.scans.invariant.later, c.exchange.ensures.keeps.later, c.clear.ensures.keeps.later);
+      fixed = c.clear.ensures.keeps.fixed ∙ c.exchange.ensures.keeps.fixed ∙ c.scans.invariant.fixed;
     }
 
 pub returns-clause-cut : goal.returns-clause-cut
@@ -93,5 +90,5 @@ returns-clause-cut g c = busy_cut c.args.op c.scans.taken c.scans.busy _ _ c.sca
 pub returns-clause-cause : goal.returns-clause-cause
 returns-clause-cause g c = (
   busy_found c.args.op c.scans.taken c.scans.busy _ _ c.scans-test.false c.scans.invariant.underway,
-  heard_busy c.scans.busy c.scans.taken _ (g.S.Scan.script c.scans.self.scan) (omega (arith, c.scans-test.false, c.scans.invariant.few)) c.scans.invariant.so_far,
+  heard_busy c.scans.busy c.scans.taken _ (g.S.Scan.seen c.scans.self.scan).coming (omega (arith, c.scans-test.false, c.scans.invariant.few)) c.scans.invariant.so_far,
 )

@@ -7,14 +7,13 @@ use Rattle.probe_dmi.proofs.register.Registers.operate.Given as goal
 
 abbrev pub invariant-scans : goal.invariant-scans
 invariant-scans g l = record {
-  underway : WhereTold (Underway l.op l.taken l.busy) (g.S.Scan.far l.fn.self.scan) (g.S.Scan.far l.self.scan);
-  so_far : SoFar l.busy l.taken (g.S.Scan.script l.fn.self.scan) (g.S.Scan.script l.self.scan);
-  can : CanScan (g.S.Scan.far l.self.scan);
-  width : IsWidth l.abits (g.S.Scan.far l.self.scan);
+  underway : WhereTold (Underway l.op l.taken l.busy) (g.S.Scan.seen l.fn.self.scan).far (g.S.Scan.seen l.self.scan).far;
+  so_far : SoFar l.busy l.taken (g.S.Scan.seen l.fn.self.scan).coming (g.S.Scan.seen l.self.scan).coming;
+  can : CanScan (g.S.Scan.seen l.self.scan).far;
+  width : IsWidth l.abits (g.S.Scan.seen l.self.scan).far;
   few : l.busy ≤ 64;
-  later : g.S.Scan.fault_count l.fn.self.scan ≤ g.S.Scan.fault_count l.self.scan;
-  slack : g.S.Scan.slack l.self.scan ≡ g.S.Scan.slack l.fn.self.scan;
-  ties : g.S.Scan.ties l.self.scan ≡ g.S.Scan.ties l.fn.self.scan;
+  later : (g.S.Scan.seen l.fn.self.scan).fault_count ≤ (g.S.Scan.seen l.self.scan).fault_count;
+  fixed : (g.S.Scan.seen l.self.scan).fixed ≡ (g.S.Scan.seen l.fn.self.scan).fixed;
 }
 
 abbrev pub decreases-scans : goal.decreases-scans
