@@ -1,4 +1,5 @@
 pub mod Acts
+pub mod Told
 pub mod Requests
 pub mod Looks
 pub mod Waits

@@ -1,6 +1,6 @@
 -- The opening of a chip: which registers are read and written, in order, and what each of them must show.
 -- RISC-V Debug Specification 1.0, "Debug Module Registers" and "DTM Control and Status". What is asked of each register is this project's own choice.
-use Rattle.std.specs.Prelude.{◌≡◌, ◌++◌, ◌+◌, ◌<◌, ◌==◌, ◌&&◌, not, nat_le, ◌%◌, ℕ, List, [], ◌∷◌, length, map, All, Bool, true, false, Option, Some, IfSome}
+use Rattle.std.specs.Prelude.{◌≡◌, ◌++◌, ◌+◌, ◌<◌, ◌==◌, ◌&&◌, not, nat_le, ◌%◌, ℕ, List, [], ◌∷◌, length, map, All, Bool, true, false, Option, Some, None, IfSome}
 use Rattle.debug_model.specs.declared.dmi.DmiFault.{DmiFault}
 use Rattle.debug_model.specs.declared.dmi_op.DmiOp.TheVariants.{Read, Write}
 use Rattle.debug_model.specs.declared.point.Point.TheVariants.{Look}
@@ -231,21 +231,15 @@ ConnectFails old_count new_count old new (Abstract word) = Then UpToCommands (Re
 ConnectFails old_count new_count old new (Bus word) = Then UpToBus (ReadAs bus_act bus_fits false word) old new
 ConnectFails old_count new_count old new (Dmi fault) = OpeningBroke old_count new_count old new fault
 
--- ---- by the fault
+-- ---- faults
 
-abbrev pub IfOpeningDmi : (DmiFault → Type 0) → ConnectFault → Type 0
-IfOpeningDmi P (Dtm word) = Unit {0}
-IfOpeningDmi P (Module word control) = Unit {0}
-IfOpeningDmi P (Abstract word) = Unit {0}
-IfOpeningDmi P (Bus word) = Unit {0}
-IfOpeningDmi P (Dmi fault) = P fault
-
-abbrev pub UnlessOpeningDmi : Type 0 → ConnectFault → Type 0
-UnlessOpeningDmi P (Dtm word) = P
-UnlessOpeningDmi P (Module word control) = P
-UnlessOpeningDmi P (Abstract word) = P
-UnlessOpeningDmi P (Bus word) = P
-UnlessOpeningDmi P (Dmi fault) = Unit {0}
+-- which of them is the link's
+abbrev pub opening_why : ConnectFault → Option DmiFault
+opening_why (Dtm word) = None
+opening_why (Module word control) = None
+opening_why (Abstract word) = None
+opening_why (Bus word) = None
+opening_why (Dmi fault) = Some fault
 
 -- ---- of a chip as it was loaded
 
@@ -268,7 +262,11 @@ pub record UnopenedChip (f : Far) (new : Option Far) : Type 0 where
 
 -- no register of such a chip is refused
 abbrev pub IsDmiFault : ConnectFault → Type 0
-IsDmiFault e = UnlessOpeningDmi ⊥ e
+IsDmiFault (Dtm word) = ⊥
+IsDmiFault (Module word control) = ⊥
+IsDmiFault (Abstract word) = ⊥
+IsDmiFault (Bus word) = ⊥
+IsDmiFault (Dmi fault) = Unit {0}
 
 abbrev pub LosesLoaded : Option Far → Option Far → ConnectFault → Type 0
 LosesLoaded old new e = IfSome old (λ f. AsLoaded f.live → IsDmiFault e × UnopenedChip f new)

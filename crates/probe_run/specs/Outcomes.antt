@@ -1,6 +1,6 @@
 -- What each call of run control did at the link: the operations that it made, in order, with what the Looks showed, and where a fault came.
 -- RISC-V Debug Specification 1.0, "Halt Control" and "Run Control".
-use Rattle.std.specs.Prelude.{◌≡◌, ℕ, List, [], ◌∷◌, Bool, true, false, Option}
+use Rattle.std.specs.Prelude.{◌≡◌, ℕ, List, [], ◌∷◌, Bool, true, false, Option, Some, None}
 use Rattle.debug_model.specs.declared.dmi.DmiFault.{DmiFault}
 use Rattle.debug_model.specs.declared.dmi_op.DmiOp.TheVariants.{Write}
 use Rattle.debug_model.specs.Told.{Far}
@@ -23,15 +23,11 @@ use Rattle.probe_run.specs.Waits.{LookBroke, WaitBroke}
 
 -- ---- faults
 
-abbrev pub IfDmi : (DmiFault → Type 0) → RunFault → Type 0
-IfDmi P (Dmi fault) = P fault
-IfDmi P (NoHalt looks) = Unit {0}
-IfDmi P (NoAck looks) = Unit {0}
-
-abbrev pub UnlessDmi : Type 0 → RunFault → Type 0
-UnlessDmi P (Dmi fault) = Unit {0}
-UnlessDmi P (NoHalt looks) = P
-UnlessDmi P (NoAck looks) = P
+-- which of them is the link's
+abbrev pub run_why : RunFault → Option DmiFault
+run_why (Dmi fault) = Some fault
+run_why (NoHalt looks) = None
+run_why (NoAck looks) = None
 
 -- ---- a hart is asked, and waited for
 

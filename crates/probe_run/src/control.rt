@@ -1,10 +1,9 @@
-ghost use Rattle.std.specs.Prelude.{◌≡◌, ◌≤◌, ◌∷◌, [], ◌<◌, ◌^◌, true, false, IfOk, IfErr, OnErr, OnOk};
+ghost use Rattle.std.specs.Prelude.{◌≡◌, ◌≤◌, ◌∷◌, [], ◌<◌, ◌^◌, true, false, IfErr, OnOk, Some};
 ghost use Rattle.debug_model.specs.declared.dmi_op.DmiOp.TheVariants.{Write};
-ghost use Rattle.debug_model.specs.Dmi.{CanOperate, LeavesStream};
-ghost use Rattle.debug_model.specs.Told.{IsIdle, IsLive};
-ghost use Rattle.debug_model.specs.ModuleWords.{dmcontrol_word};
-ghost use Rattle.probe_run.specs.Acts.{Attempt, Broke, Did, Put, tells};
+ghost use Rattle.probe_run.specs.Acts.{Attempt, Broke, Did, Put};
 ghost use Rattle.probe_run.specs.Requests.{control_word, dmcontrol_address};
+ghost use Rattle.debug_model.specs.Kept.{CanCall, Keeps};
+ghost use Rattle.probe_run.specs.Told.{Breaks, told};
 
 use debug_model::{Dmcontrol, Dmi, DmiFault};
 
@@ -41,19 +40,10 @@ fn word_for(hart: u16, request: Request) -> u32
 
 /// Selects a hart and asks this of it: one write of `dmcontrol`.
 pub fn control<D: Dmi>(link: &mut D, hart: u16, request: Request) -> Result<(), DmiFault>
-    requires alive { D.is_alive link.old ≡ true }
-    requires link { CanOperate (D.far link.old) }
-    ensures did { OnOk result (Did (tells (D.far link.old) (D.script link.old)) (Put dmcontrol_address (control_word request hart) ∷ []) (tells (D.far link.new) (D.script link.new))) }
-    ensures broke { IfErr result (Broke [] (Attempt.Operation (Write dmcontrol_address (control_word request hart))) (D.fault_count link.old) (D.fault_count link.new) (tells (D.far link.old) (D.script link.old)) (D.far link.new)) }
-    ensures stream { IfErr result (LeavesStream (D.far link.new)) }
-    ensures link { OnOk result (CanOperate (D.far link.new)) }
-    ensures live { OnOk result (IsLive (D.far link.new)) }
-    ensures idle { OnOk result (IsIdle (D.far link.new)) }
-    ensures alive { OnOk result (D.is_alive link.new ≡ true) }
-    ensures dead { OnErr result (D.is_alive link.new ≡ false) }
-    ensures later { D.fault_count link.old ≤ D.fault_count link.new }
-    ensures slack { D.slack link.new ≡ D.slack link.old }
-    ensures ties { D.ties link.new ≡ D.ties link.old }
+    requires callable { CanCall (D.seen link.old) }
+    ensures did { OnOk result (Did (told (D.seen link.old)) (Put dmcontrol_address (control_word request hart) ∷ []) (told (D.seen link.new))) }
+    ensures broke { IfErr result (Breaks (Broke [] (Attempt.Operation (Write dmcontrol_address (control_word request hart)))) (D.seen link.old) (D.seen link.new)) }
+    ensures keeps { Keeps Some (D.seen link.old) (D.seen link.new) result }
 {
     link.write(DMCONTROL, word_for(hart, request))?;
     Ok(())

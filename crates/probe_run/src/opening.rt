@@ -1,12 +1,11 @@
 //! The opening of a chip, register by register.
 
-ghost use Rattle.std.specs.Prelude.{◌≡◌, ◌≤◌, ◌∷◌, [], true, false, IfOk, IfErr, OnErr, OnOk};
-ghost use Rattle.debug_model.specs.Dmi.{CanOperate, LeavesStream};
-ghost use Rattle.debug_model.specs.Told.{IsAsLoaded, IsIdle, IsLive, IsReady, Selects};
-ghost use Rattle.debug_model.specs.ModuleWords.{abstractcs_of, dmstatus_of, sbcs_of};
-ghost use Rattle.debug_model.specs.TransportWords.{dtmcs_of};
-ghost use Rattle.probe_run.specs.Acts.{tells};
-ghost use Rattle.probe_run.specs.Opening.{Activated, ActivationFails, BusCleared, BusFails, BusFits, CommandsCleared, CommandsFail, CommandsFit, ConnectFails, IfOpeningDmi, LosesLoaded, ModuleFails, ModuleFits, Opened, OpensLoaded, Then, TransportFails, TransportFits, UnlessOpeningDmi, bus_fits, clears_cmderr, clears_sberror, commands_fit, module_fits, starts_none, transport_fits};
+ghost use Rattle.std.specs.Prelude.{◌≡◌, ◌≤◌, ◌∷◌, [], true, false, IfErr, OnOk};
+ghost use Rattle.debug_model.specs.Told.{IsAsLoaded, IsReady, Selects};
+ghost use Rattle.probe_run.specs.Opening.{Activated, ActivationFails, BusCleared, BusFails, BusFits, CommandsCleared, CommandsFail, CommandsFit, ConnectFails, LosesLoaded, ModuleFails, ModuleFits, Opened, OpensLoaded, Then, TransportFails, TransportFits, bus_fits, clears_cmderr, clears_sberror, commands_fit, module_fits, starts_none, transport_fits};
+ghost use Rattle.debug_model.specs.Kept.{CanCall, Keeps};
+ghost use Rattle.probe_run.specs.Told.{Fails, told};
+ghost use Rattle.probe_run.specs.Opening.{opening_why};
 
 use crate::control::{DMCONTROL, Request, control};
 use crate::fault::ConnectFault;
@@ -105,21 +104,10 @@ fn cleared_sberror() -> u32
 
 /// Reads `dtmcs`.
 fn check_transport<D: Dmi>(link: &mut D) -> Result<(), ConnectFault>
-    requires alive { D.is_alive link.old ≡ true }
-    requires link { CanOperate (D.far link.old) }
-    ensures did { OnOk result (TransportFits (tells (D.far link.old) (D.script link.old)) (tells (D.far link.new) (D.script link.new))) }
-    ensures fails { IfErr result (TransportFails (D.fault_count link.old) (D.fault_count link.new) (tells (D.far link.old) (D.script link.old)) (tells (D.far link.new) (D.script link.new))) }
-    ensures stream { IfErr result (IfOpeningDmi (LeavesStream (D.far link.new))) }
-    ensures link { OnOk result (CanOperate (D.far link.new)) }
-    ensures live { OnOk result (IsLive (D.far link.new)) }
-    ensures idle { OnOk result (IsIdle (D.far link.new)) }
-    ensures alive { OnOk result (D.is_alive link.new ≡ true) }
-    ensures dead { IfErr result (IfOpeningDmi (λ _. D.is_alive link.new ≡ false)) }
-    ensures stays_alive { IfErr result (UnlessOpeningDmi (D.is_alive link.new ≡ true)) }
-    ensures stays_link { IfErr result (UnlessOpeningDmi (CanOperate (D.far link.new))) }
-    ensures later { D.fault_count link.old ≤ D.fault_count link.new }
-    ensures slack { D.slack link.new ≡ D.slack link.old }
-    ensures ties { D.ties link.new ≡ D.ties link.old }
+    requires callable { CanCall (D.seen link.old) }
+    ensures did { OnOk result (TransportFits (told (D.seen link.old)) (told (D.seen link.new))) }
+    ensures fails { IfErr result (Fails TransportFails (D.seen link.old) (D.seen link.new)) }
+    ensures keeps { Keeps opening_why (D.seen link.old) (D.seen link.new) result }
 {
     let word = link.dtmcs()?;
     if !has_transport(word) {
@@ -130,21 +118,10 @@ fn check_transport<D: Dmi>(link: &mut D) -> Result<(), ConnectFault>
 
 /// Writes dmactive, and reads it until it is 1.
 fn activate<D: Dmi>(link: &mut D) -> Result<(), ConnectFault>
-    requires alive { D.is_alive link.old ≡ true }
-    requires link { CanOperate (D.far link.old) }
-    ensures did { OnOk result (Activated (tells (D.far link.old) (D.script link.old)) (tells (D.far link.new) (D.script link.new))) }
-    ensures fails { IfErr result (ActivationFails (D.fault_count link.old) (D.fault_count link.new) (tells (D.far link.old) (D.script link.old)) (tells (D.far link.new) (D.script link.new))) }
-    ensures stream { IfErr result (IfOpeningDmi (LeavesStream (D.far link.new))) }
-    ensures link { OnOk result (CanOperate (D.far link.new)) }
-    ensures live { OnOk result (IsLive (D.far link.new)) }
-    ensures idle { OnOk result (IsIdle (D.far link.new)) }
-    ensures alive { OnOk result (D.is_alive link.new ≡ true) }
-    ensures dead { IfErr result (IfOpeningDmi (λ _. D.is_alive link.new ≡ false)) }
-    ensures stays_alive { IfErr result (UnlessOpeningDmi (D.is_alive link.new ≡ true)) }
-    ensures stays_link { IfErr result (UnlessOpeningDmi (CanOperate (D.far link.new))) }
-    ensures later { D.fault_count link.old ≤ D.fault_count link.new }
-    ensures slack { D.slack link.new ≡ D.slack link.old }
-    ensures ties { D.ties link.new ≡ D.ties link.old }
+    requires callable { CanCall (D.seen link.old) }
+    ensures did { OnOk result (Activated (told (D.seen link.old)) (told (D.seen link.new))) }
+    ensures fails { IfErr result (Fails ActivationFails (D.seen link.old) (D.seen link.new)) }
+    ensures keeps { Keeps opening_why (D.seen link.old) (D.seen link.new) result }
 {
     control(link, 0, Request::Nothing)?;
     let mut last = 0;
@@ -160,21 +137,10 @@ fn activate<D: Dmi>(link: &mut D) -> Result<(), ConnectFault>
 
 /// Reads `dmstatus`.
 fn check_module<D: Dmi>(link: &mut D) -> Result<(), ConnectFault>
-    requires alive { D.is_alive link.old ≡ true }
-    requires link { CanOperate (D.far link.old) }
-    ensures did { OnOk result (ModuleFits (tells (D.far link.old) (D.script link.old)) (tells (D.far link.new) (D.script link.new))) }
-    ensures fails { IfErr result (ModuleFails (D.fault_count link.old) (D.fault_count link.new) (tells (D.far link.old) (D.script link.old)) (tells (D.far link.new) (D.script link.new))) }
-    ensures stream { IfErr result (IfOpeningDmi (LeavesStream (D.far link.new))) }
-    ensures link { OnOk result (CanOperate (D.far link.new)) }
-    ensures live { OnOk result (IsLive (D.far link.new)) }
-    ensures idle { OnOk result (IsIdle (D.far link.new)) }
-    ensures alive { OnOk result (D.is_alive link.new ≡ true) }
-    ensures dead { IfErr result (IfOpeningDmi (λ _. D.is_alive link.new ≡ false)) }
-    ensures stays_alive { IfErr result (UnlessOpeningDmi (D.is_alive link.new ≡ true)) }
-    ensures stays_link { IfErr result (UnlessOpeningDmi (CanOperate (D.far link.new))) }
-    ensures later { D.fault_count link.old ≤ D.fault_count link.new }
-    ensures slack { D.slack link.new ≡ D.slack link.old }
-    ensures ties { D.ties link.new ≡ D.ties link.old }
+    requires callable { CanCall (D.seen link.old) }
+    ensures did { OnOk result (ModuleFits (told (D.seen link.old)) (told (D.seen link.new))) }
+    ensures fails { IfErr result (Fails ModuleFails (D.seen link.old) (D.seen link.new)) }
+    ensures keeps { Keeps opening_why (D.seen link.old) (D.seen link.new) result }
 {
     let word = look(link)?;
     if !has_module(word) {
@@ -185,21 +151,10 @@ fn check_module<D: Dmi>(link: &mut D) -> Result<(), ConnectFault>
 
 /// Reads `abstractcs`, clears its errors, and writes `abstractauto`.
 fn check_commands<D: Dmi>(link: &mut D) -> Result<(), ConnectFault>
-    requires alive { D.is_alive link.old ≡ true }
-    requires link { CanOperate (D.far link.old) }
-    ensures did { OnOk result (Then CommandsFit CommandsCleared (tells (D.far link.old) (D.script link.old)) (tells (D.far link.new) (D.script link.new))) }
-    ensures fails { IfErr result (CommandsFail (D.fault_count link.old) (D.fault_count link.new) (tells (D.far link.old) (D.script link.old)) (tells (D.far link.new) (D.script link.new))) }
-    ensures stream { IfErr result (IfOpeningDmi (LeavesStream (D.far link.new))) }
-    ensures link { OnOk result (CanOperate (D.far link.new)) }
-    ensures live { OnOk result (IsLive (D.far link.new)) }
-    ensures idle { OnOk result (IsIdle (D.far link.new)) }
-    ensures alive { OnOk result (D.is_alive link.new ≡ true) }
-    ensures dead { IfErr result (IfOpeningDmi (λ _. D.is_alive link.new ≡ false)) }
-    ensures stays_alive { IfErr result (UnlessOpeningDmi (D.is_alive link.new ≡ true)) }
-    ensures stays_link { IfErr result (UnlessOpeningDmi (CanOperate (D.far link.new))) }
-    ensures later { D.fault_count link.old ≤ D.fault_count link.new }
-    ensures slack { D.slack link.new ≡ D.slack link.old }
-    ensures ties { D.ties link.new ≡ D.ties link.old }
+    requires callable { CanCall (D.seen link.old) }
+    ensures did { OnOk result (Then CommandsFit CommandsCleared (told (D.seen link.old)) (told (D.seen link.new))) }
+    ensures fails { IfErr result (Fails CommandsFail (D.seen link.old) (D.seen link.new)) }
+    ensures keeps { Keeps opening_why (D.seen link.old) (D.seen link.new) result }
 {
     let word = link.read(ABSTRACTCS)?;
     if !has_commands(word) {
@@ -212,21 +167,10 @@ fn check_commands<D: Dmi>(link: &mut D) -> Result<(), ConnectFault>
 
 /// Reads `sbcs`, and clears its errors.
 fn check_bus<D: Dmi>(link: &mut D) -> Result<(), ConnectFault>
-    requires alive { D.is_alive link.old ≡ true }
-    requires link { CanOperate (D.far link.old) }
-    ensures did { OnOk result (Then BusFits BusCleared (tells (D.far link.old) (D.script link.old)) (tells (D.far link.new) (D.script link.new))) }
-    ensures fails { IfErr result (BusFails (D.fault_count link.old) (D.fault_count link.new) (tells (D.far link.old) (D.script link.old)) (tells (D.far link.new) (D.script link.new))) }
-    ensures stream { IfErr result (IfOpeningDmi (LeavesStream (D.far link.new))) }
-    ensures link { OnOk result (CanOperate (D.far link.new)) }
-    ensures live { OnOk result (IsLive (D.far link.new)) }
-    ensures idle { OnOk result (IsIdle (D.far link.new)) }
-    ensures alive { OnOk result (D.is_alive link.new ≡ true) }
-    ensures dead { IfErr result (IfOpeningDmi (λ _. D.is_alive link.new ≡ false)) }
-    ensures stays_alive { IfErr result (UnlessOpeningDmi (D.is_alive link.new ≡ true)) }
-    ensures stays_link { IfErr result (UnlessOpeningDmi (CanOperate (D.far link.new))) }
-    ensures later { D.fault_count link.old ≤ D.fault_count link.new }
-    ensures slack { D.slack link.new ≡ D.slack link.old }
-    ensures ties { D.ties link.new ≡ D.ties link.old }
+    requires callable { CanCall (D.seen link.old) }
+    ensures did { OnOk result (Then BusFits BusCleared (told (D.seen link.old)) (told (D.seen link.new))) }
+    ensures fails { IfErr result (Fails BusFails (D.seen link.old) (D.seen link.new)) }
+    ensures keeps { Keeps opening_why (D.seen link.old) (D.seen link.new) result }
 {
     let word = link.read(SBCS)?;
     if !has_bus(word) {
@@ -242,25 +186,14 @@ fn check_bus<D: Dmi>(link: &mut D) -> Result<(), ConnectFault>
 /// hart 0 (`Module`); `abstractcs` is read (`Abstract`), its errors are cleared, and no word starts a command again; `sbcs` is read (`Bus`), and
 /// its errors are cleared. Each of these faults has the register as it was read.
 pub fn connect<D: Dmi>(link: &mut D) -> Result<Target, ConnectFault>
-    requires alive { D.is_alive link.old ≡ true }
-    requires link { CanOperate (D.far link.old) }
-    ensures did { OnOk result (Opened (tells (D.far link.old) (D.script link.old)) (tells (D.far link.new) (D.script link.new))) }
-    ensures fails { IfErr result (ConnectFails (D.fault_count link.old) (D.fault_count link.new) (tells (D.far link.old) (D.script link.old)) (tells (D.far link.new) (D.script link.new))) }
-    ensures loaded { OnOk result (OpensLoaded (D.far link.old) (D.far link.new)) }
-    ensures ready { OnOk result (IsAsLoaded (D.far link.old) → IsReady (D.far link.new)) }
-    ensures selects { OnOk result (IsAsLoaded (D.far link.old) → Selects 0 (D.far link.new)) }
-    ensures lost { IfErr result (LosesLoaded (D.far link.old) (D.far link.new)) }
-    ensures stream { IfErr result (IfOpeningDmi (LeavesStream (D.far link.new))) }
-    ensures link { OnOk result (CanOperate (D.far link.new)) }
-    ensures live { OnOk result (IsLive (D.far link.new)) }
-    ensures idle { OnOk result (IsIdle (D.far link.new)) }
-    ensures alive { OnOk result (D.is_alive link.new ≡ true) }
-    ensures dead { IfErr result (IfOpeningDmi (λ _. D.is_alive link.new ≡ false)) }
-    ensures stays_alive { IfErr result (UnlessOpeningDmi (D.is_alive link.new ≡ true)) }
-    ensures stays_link { IfErr result (UnlessOpeningDmi (CanOperate (D.far link.new))) }
-    ensures later { D.fault_count link.old ≤ D.fault_count link.new }
-    ensures slack { D.slack link.new ≡ D.slack link.old }
-    ensures ties { D.ties link.new ≡ D.ties link.old }
+    requires callable { CanCall (D.seen link.old) }
+    ensures did { OnOk result (Opened (told (D.seen link.old)) (told (D.seen link.new))) }
+    ensures fails { IfErr result (Fails ConnectFails (D.seen link.old) (D.seen link.new)) }
+    ensures loaded { OnOk result (OpensLoaded (D.seen link.old).far (D.seen link.new).far) }
+    ensures ready { OnOk result (IsAsLoaded (D.seen link.old).far → IsReady (D.seen link.new).far) }
+    ensures selects { OnOk result (IsAsLoaded (D.seen link.old).far → Selects 0 (D.seen link.new).far) }
+    ensures lost { IfErr result (LosesLoaded (D.seen link.old).far (D.seen link.new).far) }
+    ensures keeps { Keeps opening_why (D.seen link.old) (D.seen link.new) result }
 {
     check_transport(link)?;
     activate(link)?;

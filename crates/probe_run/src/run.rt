@@ -1,13 +1,13 @@
 //! A hart that runs is halted, one that is halted is let go, or made to do one instruction.
 
-ghost use Rattle.std.specs.Prelude.{◌≡◌, ◌≤◌, true, false, IfOk, IfErr, OnErr, OnOk};
-ghost use Rattle.debug_model.specs.Dmi.{CanOperate, LeavesStream};
-ghost use Rattle.debug_model.specs.Scan.{WhereTold};
-ghost use Rattle.debug_model.specs.Told.{IsHalted, IsIdle, IsLive, IsReady, Selects};
-ghost use Rattle.probe_run.specs.Acts.{tells};
+ghost use Rattle.std.specs.Prelude.{◌≡◌, ◌≤◌, true, false, IfOk, IfErr, OnOk, Some};
+ghost use Rattle.debug_model.specs.Told.{IsHalted, IsReady, Selects};
 ghost use Rattle.probe_run.specs.Happens.{Exists, HaltLeft, HaltsAt, Leaves, ResumeLeft, ResumesAt, StepLeft, StepsAt};
 ghost use Rattle.probe_run.specs.Looks.{test_of};
-ghost use Rattle.probe_run.specs.Outcomes.{AskedAs, HaltFails, HaltedBy, IfDmi, ResumeFails, ResumedBy, RunBroke, StepFails, SteppedBy, UnlessDmi};
+ghost use Rattle.probe_run.specs.Outcomes.{AskedAs, HaltFails, HaltedBy, ResumeFails, ResumedBy, RunBroke, StepFails, SteppedBy};
+ghost use Rattle.debug_model.specs.Kept.{CanCall, Keeps};
+ghost use Rattle.probe_run.specs.Told.{Breaks, Fails, OnChip, told};
+ghost use Rattle.probe_run.specs.Outcomes.{run_why};
 
 use crate::control::{Request, control};
 use crate::fault::RunFault;
@@ -22,19 +22,10 @@ fn ask<D: Dmi>(
     request: Request,
     wanted: Wanted,
 ) -> Result<Waited, DmiFault>
-    requires alive { D.is_alive link.old ≡ true }
-    requires link { CanOperate (D.far link.old) }
-    ensures asked { IfOk result (AskedAs request hart wanted (tells (D.far link.old) (D.script link.old)) (tells (D.far link.new) (D.script link.new))) }
-    ensures broke { IfErr result (RunBroke request (test_of wanted) hart (D.fault_count link.old) (D.fault_count link.new) (tells (D.far link.old) (D.script link.old)) (D.far link.new)) }
-    ensures stream { IfErr result (LeavesStream (D.far link.new)) }
-    ensures link { OnOk result (CanOperate (D.far link.new)) }
-    ensures live { OnOk result (IsLive (D.far link.new)) }
-    ensures idle { OnOk result (IsIdle (D.far link.new)) }
-    ensures alive { OnOk result (D.is_alive link.new ≡ true) }
-    ensures dead { OnErr result (D.is_alive link.new ≡ false) }
-    ensures later { D.fault_count link.old ≤ D.fault_count link.new }
-    ensures slack { D.slack link.new ≡ D.slack link.old }
-    ensures ties { D.ties link.new ≡ D.ties link.old }
+    requires callable { CanCall (D.seen link.old) }
+    ensures asked { IfOk result (AskedAs request hart wanted (told (D.seen link.old)) (told (D.seen link.new))) }
+    ensures broke { IfErr result (Breaks (RunBroke request (test_of wanted) hart) (D.seen link.old) (D.seen link.new)) }
+    ensures keeps { Keeps Some (D.seen link.old) (D.seen link.new) result }
 {
     control(link, hart, request)?;
     let waited = wait(link, wanted)?;
@@ -45,29 +36,18 @@ impl Running {
     /// Halts the hart: one write of `dmcontrol` asks it, Looks follow until one sees it halted, at most 64, and one write clears the request.
     /// `NoHalt(64)` where no Look saw it halted: the request is still set then.
     pub fn halt<D: Dmi>(self, link: &mut D) -> Result<Halted, RunFault>
-        requires alive { D.is_alive link.old ≡ true }
-        requires link { CanOperate (D.far link.old) }
-        requires ready { IsReady (D.far link.old) }
-        requires exists { Exists self.number (D.far link.old) }
-        ensures did { OnOk result (HaltedBy self.number (tells (D.far link.old) (D.script link.old)) (tells (D.far link.new) (D.script link.new))) }
-        ensures fails { IfErr result (HaltFails self.number (D.fault_count link.old) (D.fault_count link.new) (tells (D.far link.old) (D.script link.old)) (tells (D.far link.new) (D.script link.new))) }
-        ensures happened { OnOk result (WhereTold (Leaves (HaltsAt self.number) self.number) (D.far link.old) (D.far link.new)) }
-        ensures left { IfErr result (HaltLeft self.number (D.far link.old) (D.far link.new)) }
+        requires callable { CanCall (D.seen link.old) }
+        requires ready { IsReady (D.seen link.old).far }
+        requires exists { Exists self.number (D.seen link.old).far }
+        ensures did { OnOk result (HaltedBy self.number (told (D.seen link.old)) (told (D.seen link.new))) }
+        ensures fails { IfErr result (Fails (HaltFails self.number) (D.seen link.old) (D.seen link.new)) }
+        ensures happened { OnOk result (OnChip (Leaves (HaltsAt self.number) self.number) (D.seen link.old) (D.seen link.new)) }
+        ensures left { IfErr result (HaltLeft self.number (D.seen link.old).far (D.seen link.new).far) }
         ensures hart { IfOk result (λ halted. halted.number ≡ self.number) }
-        ensures ready { OnOk result (IsReady (D.far link.new)) }
-        ensures selects { OnOk result (Selects self.number (D.far link.new)) }
-        ensures halted { OnOk result (IsHalted self.number (D.far link.new)) }
-        ensures stream { IfErr result (IfDmi (LeavesStream (D.far link.new))) }
-        ensures link { OnOk result (CanOperate (D.far link.new)) }
-        ensures live { OnOk result (IsLive (D.far link.new)) }
-        ensures idle { OnOk result (IsIdle (D.far link.new)) }
-        ensures alive { OnOk result (D.is_alive link.new ≡ true) }
-        ensures dead { IfErr result (IfDmi (λ _. D.is_alive link.new ≡ false)) }
-        ensures stays_alive { IfErr result (UnlessDmi (D.is_alive link.new ≡ true)) }
-        ensures stays_link { IfErr result (UnlessDmi (CanOperate (D.far link.new))) }
-        ensures later { D.fault_count link.old ≤ D.fault_count link.new }
-        ensures slack { D.slack link.new ≡ D.slack link.old }
-        ensures ties { D.ties link.new ≡ D.ties link.old }
+        ensures ready { OnOk result (IsReady (D.seen link.new).far) }
+        ensures selects { OnOk result (Selects self.number (D.seen link.new).far) }
+        ensures halted { OnOk result (IsHalted self.number (D.seen link.new).far) }
+        ensures keeps { Keeps run_why (D.seen link.old) (D.seen link.new) result }
     {
         match ask(link, self.number, Request::Halt, Wanted::Halted)? {
             Waited::Shown => {
@@ -85,29 +65,18 @@ impl Halted {
     /// Lets the hart go: one write of `dmcontrol` asks it, and Looks follow until one sees that acknowledged, at most 64.
     /// `NoAck(64)` where none did: the request may still be set then.
     pub fn resume<D: Dmi>(self, link: &mut D) -> Result<Running, RunFault>
-        requires alive { D.is_alive link.old ≡ true }
-        requires link { CanOperate (D.far link.old) }
-        requires ready { IsReady (D.far link.old) }
-        requires halted { IsHalted self.number (D.far link.old) }
-        ensures did { OnOk result (ResumedBy self.number (tells (D.far link.old) (D.script link.old)) (tells (D.far link.new) (D.script link.new))) }
-        ensures fails { IfErr result (ResumeFails self.number (D.fault_count link.old) (D.fault_count link.new) (tells (D.far link.old) (D.script link.old)) (tells (D.far link.new) (D.script link.new))) }
-        ensures happened { OnOk result (WhereTold (Leaves (ResumesAt self.number) self.number) (D.far link.old) (D.far link.new)) }
-        ensures left { IfErr result (ResumeLeft self.number (D.far link.old) (D.far link.new)) }
+        requires callable { CanCall (D.seen link.old) }
+        requires ready { IsReady (D.seen link.old).far }
+        requires halted { IsHalted self.number (D.seen link.old).far }
+        ensures did { OnOk result (ResumedBy self.number (told (D.seen link.old)) (told (D.seen link.new))) }
+        ensures fails { IfErr result (Fails (ResumeFails self.number) (D.seen link.old) (D.seen link.new)) }
+        ensures happened { OnOk result (OnChip (Leaves (ResumesAt self.number) self.number) (D.seen link.old) (D.seen link.new)) }
+        ensures left { IfErr result (ResumeLeft self.number (D.seen link.old).far (D.seen link.new).far) }
         ensures hart { IfOk result (λ running. running.number ≡ self.number) }
-        ensures ready { OnOk result (IsReady (D.far link.new)) }
-        ensures selects { OnOk result (Selects self.number (D.far link.new)) }
-        ensures exists { OnOk result (Exists self.number (D.far link.new)) }
-        ensures stream { IfErr result (IfDmi (LeavesStream (D.far link.new))) }
-        ensures link { OnOk result (CanOperate (D.far link.new)) }
-        ensures live { OnOk result (IsLive (D.far link.new)) }
-        ensures idle { OnOk result (IsIdle (D.far link.new)) }
-        ensures alive { OnOk result (D.is_alive link.new ≡ true) }
-        ensures dead { IfErr result (IfDmi (λ _. D.is_alive link.new ≡ false)) }
-        ensures stays_alive { IfErr result (UnlessDmi (D.is_alive link.new ≡ true)) }
-        ensures stays_link { IfErr result (UnlessDmi (CanOperate (D.far link.new))) }
-        ensures later { D.fault_count link.old ≤ D.fault_count link.new }
-        ensures slack { D.slack link.new ≡ D.slack link.old }
-        ensures ties { D.ties link.new ≡ D.ties link.old }
+        ensures ready { OnOk result (IsReady (D.seen link.new).far) }
+        ensures selects { OnOk result (Selects self.number (D.seen link.new).far) }
+        ensures exists { OnOk result (Exists self.number (D.seen link.new).far) }
+        ensures keeps { Keeps run_why (D.seen link.old) (D.seen link.new) result }
     {
         match ask(link, self.number, Request::Resume, Wanted::Acknowledged)? {
             Waited::Shown => Ok(Running {
@@ -120,29 +89,18 @@ impl Halted {
     /// Makes the hart, whose `dcsr.step` is set, do one instruction: one write of `dmcontrol` asks it, and Looks follow until one sees that
     /// acknowledged and the hart halted again, at most 64. Where none did, `NoAck(64)` if the last saw no ack, and else `NoHalt(64)`.
     pub fn run_one<D: Dmi>(self, link: &mut D) -> Result<Halted, RunFault>
-        requires alive { D.is_alive link.old ≡ true }
-        requires link { CanOperate (D.far link.old) }
-        requires ready { IsReady (D.far link.old) }
-        requires halted { IsHalted self.number (D.far link.old) }
-        ensures did { OnOk result (SteppedBy self.number (tells (D.far link.old) (D.script link.old)) (tells (D.far link.new) (D.script link.new))) }
-        ensures fails { IfErr result (StepFails self.number (D.fault_count link.old) (D.fault_count link.new) (tells (D.far link.old) (D.script link.old)) (tells (D.far link.new) (D.script link.new))) }
-        ensures happened { OnOk result (WhereTold (Leaves (StepsAt self.number) self.number) (D.far link.old) (D.far link.new)) }
-        ensures left { IfErr result (StepLeft self.number (D.far link.old) (D.far link.new)) }
+        requires callable { CanCall (D.seen link.old) }
+        requires ready { IsReady (D.seen link.old).far }
+        requires halted { IsHalted self.number (D.seen link.old).far }
+        ensures did { OnOk result (SteppedBy self.number (told (D.seen link.old)) (told (D.seen link.new))) }
+        ensures fails { IfErr result (Fails (StepFails self.number) (D.seen link.old) (D.seen link.new)) }
+        ensures happened { OnOk result (OnChip (Leaves (StepsAt self.number) self.number) (D.seen link.old) (D.seen link.new)) }
+        ensures left { IfErr result (StepLeft self.number (D.seen link.old).far (D.seen link.new).far) }
         ensures hart { IfOk result (λ halted. halted.number ≡ self.number) }
-        ensures ready { OnOk result (IsReady (D.far link.new)) }
-        ensures selects { OnOk result (Selects self.number (D.far link.new)) }
-        ensures halted { OnOk result (IsHalted self.number (D.far link.new)) }
-        ensures stream { IfErr result (IfDmi (LeavesStream (D.far link.new))) }
-        ensures link { OnOk result (CanOperate (D.far link.new)) }
-        ensures live { OnOk result (IsLive (D.far link.new)) }
-        ensures idle { OnOk result (IsIdle (D.far link.new)) }
-        ensures alive { OnOk result (D.is_alive link.new ≡ true) }
-        ensures dead { IfErr result (IfDmi (λ _. D.is_alive link.new ≡ false)) }
-        ensures stays_alive { IfErr result (UnlessDmi (D.is_alive link.new ≡ true)) }
-        ensures stays_link { IfErr result (UnlessDmi (CanOperate (D.far link.new))) }
-        ensures later { D.fault_count link.old ≤ D.fault_count link.new }
-        ensures slack { D.slack link.new ≡ D.slack link.old }
-        ensures ties { D.ties link.new ≡ D.ties link.old }
+        ensures ready { OnOk result (IsReady (D.seen link.new).far) }
+        ensures selects { OnOk result (Selects self.number (D.seen link.new).far) }
+        ensures halted { OnOk result (IsHalted self.number (D.seen link.new).far) }
+        ensures keeps { Keeps run_why (D.seen link.old) (D.seen link.new) result }
     {
         match ask(link, self.number, Request::Resume, Wanted::Both)? {
             Waited::Shown => Ok(self),

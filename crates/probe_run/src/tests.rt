@@ -18,20 +18,16 @@ struct SameDmi {
 }
 
 impl Dmi for SameDmi {
-    ghost use Rattle.std.specs.Prelude.{None, true};
+    ghost use Rattle.std.specs.Prelude.{None, true, false};
     ghost use Rattle.debug_model.specs.Ties.{no_ties};
 
-    ghost far = { λ _. None };
-
-    ghost script = { λ _. None };
-
-    ghost is_alive = { λ _. true };
-
-    ghost fault_count = { λ _. 0 };
-
-    ghost slack = { λ _. None };
-
-    ghost ties = { λ _. no_ties };
+    ghost seen = { λ _. record {
+      far = None;
+      coming = None;
+      is_alive = true;
+      fault_count = 0;
+      fixed = record { slack = None; ties = no_ties; gives = λ _. false };
+    } };
 
     fn idcode(&mut self) -> Result<u32, DmiFault> {
         Ok(self.answer)

@@ -1,10 +1,9 @@
-ghost use Rattle.std.specs.Prelude.{◌≡◌, ◌≤◌, ◌∷◌, [], true, false, IfOk, IfErr, OnErr, OnOk};
-ghost use Rattle.debug_model.specs.Dmi.{CanOperate, LeavesStream};
-ghost use Rattle.debug_model.specs.Told.{IsIdle, IsLive};
-ghost use Rattle.debug_model.specs.ModuleWords.{dmstatus_of};
-ghost use Rattle.probe_run.specs.Acts.{Attempt, Broke, Did, tells};
+ghost use Rattle.std.specs.Prelude.{◌≡◌, ◌≤◌, ◌∷◌, [], false, IfOk, IfErr, Some};
+ghost use Rattle.probe_run.specs.Acts.{Did};
 ghost use Rattle.probe_run.specs.Looks.{WaitedAs, look_act, seen_in_status, test_of};
 ghost use Rattle.probe_run.specs.Waits.{WaitBroke, LookBroke};
+ghost use Rattle.debug_model.specs.Kept.{CanCall, Keeps};
+ghost use Rattle.probe_run.specs.Told.{Breaks, told};
 
 use crate::control::DMSTATUS;
 use debug_model::{Dmi, DmiFault, Dmstatus};
@@ -53,19 +52,10 @@ pub enum Waited {
 
 /// One Look of the selected hart: one read of `dmstatus`.
 pub fn look<D: Dmi>(link: &mut D) -> Result<u32, DmiFault>
-    requires alive { D.is_alive link.old ≡ true }
-    requires link { CanOperate (D.far link.old) }
-    ensures did { IfOk result (λ word. Did (tells (D.far link.old) (D.script link.old)) (look_act word ∷ []) (tells (D.far link.new) (D.script link.new))) }
-    ensures broke { IfErr result (LookBroke [] (D.fault_count link.old) (D.fault_count link.new) (tells (D.far link.old) (D.script link.old)) (D.far link.new)) }
-    ensures stream { IfErr result (LeavesStream (D.far link.new)) }
-    ensures link { OnOk result (CanOperate (D.far link.new)) }
-    ensures live { OnOk result (IsLive (D.far link.new)) }
-    ensures idle { OnOk result (IsIdle (D.far link.new)) }
-    ensures alive { OnOk result (D.is_alive link.new ≡ true) }
-    ensures dead { OnErr result (D.is_alive link.new ≡ false) }
-    ensures later { D.fault_count link.old ≤ D.fault_count link.new }
-    ensures slack { D.slack link.new ≡ D.slack link.old }
-    ensures ties { D.ties link.new ≡ D.ties link.old }
+    requires callable { CanCall (D.seen link.old) }
+    ensures did { IfOk result (λ word. Did (told (D.seen link.old)) (look_act word ∷ []) (told (D.seen link.new))) }
+    ensures broke { IfErr result (Breaks (LookBroke []) (D.seen link.old) (D.seen link.new)) }
+    ensures keeps { Keeps Some (D.seen link.old) (D.seen link.new) result }
 {
     let word = link.read(DMSTATUS)?;
     Ok(word)
@@ -73,19 +63,10 @@ pub fn look<D: Dmi>(link: &mut D) -> Result<u32, DmiFault>
 
 /// Looks at the selected hart until one Look shows what is wanted, at most 64 times.
 pub fn wait<D: Dmi>(link: &mut D, wanted: Wanted) -> Result<Waited, DmiFault>
-    requires alive { D.is_alive link.old ≡ true }
-    requires link { CanOperate (D.far link.old) }
-    ensures waited { IfOk result (WaitedAs wanted (tells (D.far link.old) (D.script link.old)) (tells (D.far link.new) (D.script link.new))) }
-    ensures broke { IfErr result (WaitBroke (test_of wanted) [] (D.fault_count link.old) (D.fault_count link.new) (tells (D.far link.old) (D.script link.old)) (D.far link.new)) }
-    ensures stream { IfErr result (LeavesStream (D.far link.new)) }
-    ensures link { OnOk result (CanOperate (D.far link.new)) }
-    ensures live { OnOk result (IsLive (D.far link.new)) }
-    ensures idle { OnOk result (IsIdle (D.far link.new)) }
-    ensures alive { OnOk result (D.is_alive link.new ≡ true) }
-    ensures dead { OnErr result (D.is_alive link.new ≡ false) }
-    ensures later { D.fault_count link.old ≤ D.fault_count link.new }
-    ensures slack { D.slack link.new ≡ D.slack link.old }
-    ensures ties { D.ties link.new ≡ D.ties link.old }
+    requires callable { CanCall (D.seen link.old) }
+    ensures waited { IfOk result (WaitedAs wanted (told (D.seen link.old)) (told (D.seen link.new))) }
+    ensures broke { IfErr result (Breaks (WaitBroke (test_of wanted) []) (D.seen link.old) (D.seen link.new)) }
+    ensures keeps { Keeps Some (D.seen link.old) (D.seen link.new) result }
 {
     let mut acknowledged = false;
     'looks: for _looks in 0..LOOKS_MOST {

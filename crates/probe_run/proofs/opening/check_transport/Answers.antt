@@ -1,5 +1,5 @@
+use Rattle.probe_run.specs.Told.{told}
 use Rattle.std.proofs.Common.{sym, ◌∙◌}
-use Rattle.probe_run.specs.Acts.{tells}
 use Rattle.probe_run.specs.Acts.Act.{Scanned}
 use Rattle.probe_run.specs.Opening.{TransportFails, transport_fits}
 use Rattle.probe_run.proofs.ActLemmas.{if_err}
@@ -8,7 +8,7 @@ use Rattle.probe_run.proofs.opening.check_transport.Goals as goal
 
 pub returns-in_err-word-clause-fails : goal.returns-in_err-word-clause-fails
 returns-in_err-word-clause-fails g c =
-    if_err (TransportFails (g.D.Dmi.fault_count c.args.link.now) (g.D.Dmi.fault_count c.dtmcs.new.self) (tells (g.D.Dmi.far c.args.link.now) (g.D.Dmi.script c.args.link.now)) (tells (g.D.Dmi.far c.dtmcs.new.self) (g.D.Dmi.script c.dtmcs.new.self))) c.from_residual.result _ c.from_residual.ensures.1
+    if_err (TransportFails (g.D.Dmi.seen c.args.link.now).fault_count (g.D.Dmi.seen c.dtmcs.new.self).fault_count (told (g.D.Dmi.seen c.args.link.now)) (told (g.D.Dmi.seen c.dtmcs.new.self))) c.from_residual.result _ c.from_residual.ensures.1
     (broke_scan _ _ _ _ _ _ c.in_err-word.ensures.cut c.in_err-word.ensures.cause)
 
 pub returns-then-not-has_transport-clause-fails : goal.returns-then-not-has_transport-clause-fails
