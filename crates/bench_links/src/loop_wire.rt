@@ -7,7 +7,7 @@ ghost use Rattle.debug_model.specs.Told.{IsLive, IsOpen, IsRead};
 ghost use Rattle.debug_model.specs.Wire.{IsPiece, ReadsFront, ReadsSome, RecvCause, SendCause, SentFront, TakesComing, TakesSome, are_open, piece_most, sent};
 ghost use Rattle.debug_model.specs.declared.net.End.TheVariants as end;
 ghost use Rattle.chip_core.specs.Feeds.{far_of, feed_of, limit_met, nothing_coming, said_of};
-ghost use Rattle.jtag_net.specs.Wired.{OfNet};
+ghost use Rattle.jtag_net.specs.Wired.{net_gives};
 ghost use Rattle.bench_links.specs.Looped.{FedFront, InStep, IsBlamed, LoopCause, counts, exchanged, is_looped, loop_ties, looped};
 
 use crate::crossing::{Lost, exchange, take_answers};
@@ -85,7 +85,7 @@ impl<'a, N: Net, Q: Schedule> Wire for LoopWire<'a, N, Q> {
 
     ghost fault_count = { λ w. looped w.differences (N.fault_count w.net.now) (N.end_count w.net.now) };
 
-    ghost gives = { OfNet };
+    ghost gives = { net_gives };
 
     ghost ties = { λ w. loop_ties w.net.ghost_name w.bench.ghost_name (N.lenders w.net.now) (N.state w.net.now) (far_of w.bench.now w.unread.items) w.began.faults w.began.ends };
 
@@ -105,7 +105,7 @@ impl<'a, N: Net, Q: Schedule> Wire for LoopWire<'a, N, Q> {
             ≤ looped self.new.differences (N.fault_count self.new.net.now) (N.end_count self.new.net.now) }
         ensures still { OnOk result (looped self.new.differences (N.fault_count self.new.net.now) (N.end_count self.new.net.now)
             ≡ looped self.old.differences (N.fault_count self.old.net.now) (N.end_count self.old.net.now)) }
-        ensures own { IfErr result OfNet }
+        ensures own { IfErr result (λ why. net_gives why ≡ true) }
         ensures cause { IfErr result (SendCause (looped self.old.differences (N.fault_count self.old.net.now) (N.end_count self.old.net.now))
             (looped self.new.differences (N.fault_count self.new.net.now) (N.end_count self.new.net.now))
             (far_of self.new.bench.now self.new.unread.items)) }
@@ -167,7 +167,7 @@ impl<'a, N: Net, Q: Schedule> Wire for LoopWire<'a, N, Q> {
             ≤ looped self.new.differences (N.fault_count self.new.net.now) (N.end_count self.new.net.now) }
         ensures still { OnOk result (looped self.new.differences (N.fault_count self.new.net.now) (N.end_count self.new.net.now)
             ≡ looped self.old.differences (N.fault_count self.old.net.now) (N.end_count self.old.net.now)) }
-        ensures own { IfErr result OfNet }
+        ensures own { IfErr result (λ why. net_gives why ≡ true) }
         ensures cause { IfErr result (RecvCause (looped self.old.differences (N.fault_count self.old.net.now) (N.end_count self.old.net.now))
             (looped self.new.differences (N.fault_count self.new.net.now) (N.end_count self.new.net.now))
             (far_of self.new.bench.now self.new.unread.items)) }

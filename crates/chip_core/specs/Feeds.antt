@@ -10,6 +10,8 @@ use Rattle.debug_model.specs.declared.point.Point.{Point}
 use Rattle.debug_model.specs.Chip.{Live, feed, no_counts, said}
 use Rattle.debug_model.specs.Module.{Site}
 use Rattle.debug_model.specs.Told.{Far}
+use Rattle.debug_model.specs.declared.wire.WireFault.{WireFault}
+use Rattle.debug_model.specs.declared.wire.WireFault.TheVariants.{SendFailed, RecvFailed, Ended, BadAnswer}
 use Rattle.chip_core.specs.declared.fed.Fed.{Fed}
 use Rattle.chip_core.specs.declared.fed.Fed.TheVariants.{All}
 use Rattle.chip_core.specs.Fed.{fed}
@@ -64,3 +66,10 @@ far_of bench unread = option_map (λ l. record { live = l; unread = unread }) be
 -- beside the chip it tells no answers that are to come
 abbrev pub nothing_coming : Option (List ℕ)
 nothing_coming = None
+
+-- the faults that a wire to the bench may answer
+abbrev pub bench_gives : WireFault → Bool
+bench_gives SendFailed = false
+bench_gives RecvFailed = false
+bench_gives Ended = true
+bench_gives (BadAnswer _) = false

@@ -5,7 +5,7 @@ ghost use Rattle.arrayvec.specs.ArrayVec.{array_vec_len};
 ghost use Rattle.debug_model.specs.Told.{IsLive, IsOpen, IsRead};
 ghost use Rattle.debug_model.specs.Ties.{lent_by, ties_told};
 ghost use Rattle.debug_model.specs.Wire.{IsPiece, ReadsFront, ReadsSome, RecvCause, SendCause, SentFront, TakesComing, TakesSome, are_open, piece_most, sent};
-ghost use Rattle.chip_core.specs.Feeds.{far_of, feed_of, limit_met, nothing_coming, said_of};
+ghost use Rattle.chip_core.specs.Feeds.{bench_gives, far_of, feed_of, limit_met, nothing_coming, said_of};
 
 use crate::bench::{Answers, Bench};
 use arrayvec::ArrayVec;
@@ -63,15 +63,13 @@ impl<'a, Q: Schedule> BenchWire<'a, Q> {
 }
 
 impl<'a, Q: Schedule> Wire for BenchWire<'a, Q> {
-    ghost use Rattle.debug_model.specs.declared.wire.WireFault.TheVariants as faults;
-
     ghost far = { λ w. far_of w.bench.now w.unread.items };
 
     ghost coming = { λ _. nothing_coming };
 
     ghost fault_count = { λ _. 0 };
 
-    ghost gives = { λ fault. fault ≡ faults.Ended };
+    ghost gives = { bench_gives };
 
     ghost ties = { λ w. lent_by w.bench.ghost_name (ties_told (far_of w.bench.now w.unread.items)) };
 
@@ -86,7 +84,7 @@ impl<'a, Q: Schedule> Wire for BenchWire<'a, Q> {
         ensures coming { nothing_coming ≡ nothing_coming }
         ensures later { 0 ≤ 0 }
         ensures still { OnOk result (◌≡◌ {A = ℕ} 0 0) }
-        ensures own { IfErr result (λ fault. fault ≡ faults.Ended) }
+        ensures own { IfErr result (λ why. bench_gives why ≡ true) }
         ensures cause { IfErr result (SendCause 0 0 (far_of self.new.bench.now self.new.unread.items)) }
         ensures ties { lent_by self.new.bench.ghost_name (ties_told (far_of self.new.bench.now self.new.unread.items)) ≡ lent_by self.old.bench.ghost_name (ties_told (far_of self.old.bench.now self.old.unread.items)) }
         ensures limit { (result ≡ Err WireFault.Ended) ↔ (limit_met self.new.bench.now ≡ true) }
@@ -108,7 +106,7 @@ impl<'a, Q: Schedule> Wire for BenchWire<'a, Q> {
         ensures some { OnErr result (TakesSome into.new nothing_coming nothing_coming) }
         ensures later { 0 ≤ 0 }
         ensures still { OnOk result (◌≡◌ {A = ℕ} 0 0) }
-        ensures own { IfErr result (λ fault. fault ≡ faults.Ended) }
+        ensures own { IfErr result (λ why. bench_gives why ≡ true) }
         ensures cause { IfErr result (RecvCause 0 0 (far_of self.new.bench.now self.new.unread.items)) }
         ensures ties { lent_by self.new.bench.ghost_name (ties_told (far_of self.new.bench.now self.new.unread.items)) ≡ lent_by self.old.bench.ghost_name (ties_told (far_of self.old.bench.now self.old.unread.items)) }
         ensures limit { (result ≡ Err WireFault.Ended) ↔ (limit_met self.new.bench.now ≡ true) }

@@ -1,6 +1,6 @@
 -- A wire over the near end of a net: over which nets it works, what a take of many bytes does, and why its calls fail.
 -- No public standard defines this.
-use Rattle.std.specs.Prelude.{◌≡◌, ℕ, ◌+◌, ◌-◌, ◌^◌, ◌&&◌, min, List, ◌∷◌, ◌++◌, replicate, take, Bool, None, is_none, IfSome}
+use Rattle.std.specs.Prelude.{◌≡◌, ℕ, ◌+◌, ◌-◌, ◌^◌, ◌&&◌, min, List, ◌∷◌, ◌++◌, replicate, take, Bool, true, false, None, is_none, IfSome}
 use Rattle.jt_base.specs.Faults.{Rises}
 use Rattle.std.specs.Borrow.{GName}
 use Rattle.debug_model.specs.Net.{NetState, after_take}
@@ -38,11 +38,11 @@ TakeCause faults faults' ends ends' Ended = Rises ends ends'
 TakeCause faults faults' ends ends' (BadAnswer _) = ⊥
 
 -- the faults that a wire over a net may answer: it judges no answer
-abbrev pub OfNet : WireFault → Type 0
-OfNet SendFailed = Unit {0}
-OfNet RecvFailed = Unit {0}
-OfNet Ended = Unit {0}
-OfNet (BadAnswer _) = ⊥
+abbrev pub net_gives : WireFault → Bool
+net_gives SendFailed = true
+net_gives RecvFailed = true
+net_gives Ended = true
+net_gives (BadAnswer _) = false
 
 -- fewer bytes were taken at the near end than were wanted: they stand at the front of `into`, with the character 0 in each place behind them
 pub record TookSome (into : List ℕ) (old new : NetState) : Type 0 where

@@ -4,7 +4,7 @@ ghost use Rattle.debug_model.specs.Net.{PutFront, after_put, coming_of, is_open}
 ghost use Rattle.debug_model.specs.declared.net.End.TheVariants as end;
 ghost use Rattle.debug_model.specs.Told.{IsLive, IsOpen, IsRead};
 ghost use Rattle.debug_model.specs.Wire.{IsPiece, ReadsFront, ReadsSome, RecvCause, SendCause, SentFront, TakesComing, TakesSome, are_open, piece_most, sent};
-ghost use Rattle.jtag_net.specs.Wired.{OfNet, PutCause, TakeCause, Took, TookSome, is_wired, summed, wired_ties};
+ghost use Rattle.jtag_net.specs.Wired.{PutCause, TakeCause, Took, TookSome, is_wired, net_gives, summed, wired_ties};
 
 use crate::take_all::take_all;
 use debug_model::{End, Net, Wire, WireFault};
@@ -36,7 +36,7 @@ impl<'a, N: Net> Wire for NetWire<'a, N> {
 
     ghost fault_count = { λ w. summed (N.fault_count w.net.now) (N.end_count w.net.now) };
 
-    ghost gives = { OfNet };
+    ghost gives = { net_gives };
 
     ghost ties = { λ w. wired_ties w.net.ghost_name (N.lenders w.net.now) (N.state w.net.now) };
 
@@ -52,7 +52,7 @@ impl<'a, N: Net> Wire for NetWire<'a, N> {
         ensures coming { coming_of (N.state self.new.net.now) ≡ coming_of (N.state self.old.net.now) }
         ensures later { summed (N.fault_count self.old.net.now) (N.end_count self.old.net.now) ≤ summed (N.fault_count self.new.net.now) (N.end_count self.new.net.now) }
         ensures still { OnOk result (summed (N.fault_count self.new.net.now) (N.end_count self.new.net.now) ≡ summed (N.fault_count self.old.net.now) (N.end_count self.old.net.now)) }
-        ensures own { IfErr result OfNet }
+        ensures own { IfErr result (λ why. net_gives why ≡ true) }
         ensures cause { IfErr result (SendCause (summed (N.fault_count self.old.net.now) (N.end_count self.old.net.now)) (summed (N.fault_count self.new.net.now) (N.end_count self.new.net.now)) (N.state self.new.net.now).chip) }
         ensures ties { wired_ties self.new.net.ghost_name (N.lenders self.new.net.now) (N.state self.new.net.now) ≡ wired_ties self.old.net.ghost_name (N.lenders self.old.net.now) (N.state self.old.net.now) }
         ensures net { OnOk result (N.state self.new.net.now ≡ after_put end.Near bytes.now (N.state self.old.net.now)) }
@@ -75,7 +75,7 @@ impl<'a, N: Net> Wire for NetWire<'a, N> {
         ensures some { OnErr result (TakesSome into.new (coming_of (N.state self.old.net.now)) (coming_of (N.state self.new.net.now))) }
         ensures later { summed (N.fault_count self.old.net.now) (N.end_count self.old.net.now) ≤ summed (N.fault_count self.new.net.now) (N.end_count self.new.net.now) }
         ensures still { OnOk result (summed (N.fault_count self.new.net.now) (N.end_count self.new.net.now) ≡ summed (N.fault_count self.old.net.now) (N.end_count self.old.net.now)) }
-        ensures own { IfErr result OfNet }
+        ensures own { IfErr result (λ why. net_gives why ≡ true) }
         ensures cause { IfErr result (RecvCause (summed (N.fault_count self.old.net.now) (N.end_count self.old.net.now)) (summed (N.fault_count self.new.net.now) (N.end_count self.new.net.now)) (N.state self.new.net.now).chip) }
         ensures ties { wired_ties self.new.net.ghost_name (N.lenders self.new.net.now) (N.state self.new.net.now) ≡ wired_ties self.old.net.ghost_name (N.lenders self.old.net.now) (N.state self.old.net.now) }
         ensures net { OnOk result (Took (length into.new) into.new (N.state self.old.net.now) (N.state self.new.net.now)) }
