@@ -1,4 +1,5 @@
 -- The end of an access: the hart is whole again, and beside turns there was one access.
+use Rattle.probe_run.specs.Told.{Serving}
 use Rattle.std.proofs.Common.{◌≡◌, ◌∙◌, ◌++◌, ℕ, List, [], ◌∷◌, Option, None, slice_get, sym, ap, subst, append_assoc}
 use Rattle.rv_model.specs.Board.{Board, Hart}
 use Rattle.rv_model.specs.Memory.{Memory}
@@ -16,7 +17,7 @@ use Rattle.probe_access.proofs.Aside.{accessed, passed}
 use Rattle.probe_access.proofs.ReadyTurns.{BoardReady, Passed, board_ready_turns, passed_turns}
 use Rattle.probe_access.proofs.ReadyUnit.{unit_of}
 use Rattle.probe_access.proofs.RegAnswers.{StoodTold, stood_board, stood_selects, stood_unit}
-use Rattle.probe_access.proofs.RegClauses.{Serving, told_serving}
+use Rattle.probe_access.proofs.RegClauses.{told_serving}
 use Rattle.probe_access.proofs.Turns.{hart_aside, stays_passed}
 
 -- ---- of an untold chip

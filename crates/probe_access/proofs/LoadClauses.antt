@@ -1,4 +1,5 @@
 -- The clauses of a load by the program buffer, where the chip is told.
+use Rattle.probe_run.specs.Told.{Serving}
 use Rattle.std.proofs.Common.{◌≡◌, ◌∙◌, ◌<◌, ◌^◌, ℕ, List, length, Option, Some, None, Ok, refl, sym, ap, subst, arith}
 use Rattle.std.proofs.lemmas.List.{length-set}
 use Rattle.rv_model.specs.declared.size.Size.{Size}
@@ -29,7 +30,7 @@ use Rattle.probe_access.proofs.AccessTold.{Addressed, Faulted, PerformedTold, Sa
 use Rattle.probe_access.proofs.Aside.{accessed, passed}
 use Rattle.probe_access.proofs.ReadyTurns.{passed_turns}
 use Rattle.probe_access.proofs.RegAnswers.{ReadTold, StoodTold, read_told}
-use Rattle.probe_access.proofs.RegClauses.{Serving, first_told, untold_serving}
+use Rattle.probe_access.proofs.RegClauses.{first_told, untold_serving}
 use Rattle.probe_access.proofs.ScratchLemmas.{after_fault_scratched, after_load_scratched, with_core_x, x8_holds, x8_value, x8_written, x9_holds, x9_value}
 use Rattle.probe_access.proofs.WordAccess.{LoadFaults, Loads, address_in, in_x8, load_did}
 

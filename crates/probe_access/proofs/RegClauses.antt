@@ -1,4 +1,5 @@
 -- The clauses of the calls that read and write a register, where the chip is told.
+use Rattle.probe_run.specs.Told.{Serving}
 use Rattle.std.proofs.Common.{◌≡◌, ◌∙◌, ◌<◌, ◌^◌, ℕ, Bool, false, Option, Some, None, slice_get, refl, sym, ap, subst}
 use Rattle.debug_model.specs.Dmi.{DmiScript}
 use Rattle.debug_model.specs.Module.{Site}
@@ -22,11 +23,6 @@ pub first_told : (h : ℕ) (f : Far) (ready : SiteReady (site_of f)) (halted : H
 first_told h f ready halted selected = record { far = f; is = refl; kept = kept_of (site_of f).unit.commands; stood = first_stood h (site_of f) ready halted selected }
 
 -- ---- what holds of a chip again
-
-pub record Serving (h : ℕ) (told : Option Far) : Type 0 where
-  pub ready : IsReady told
-  pub selects : Selects h told
-  pub halted : IsHalted h told
 
 pub untold_serving : (h : ℕ) (told : Option Far) → told ≡ None → Serving h told
 untold_serving h told is = subst (Serving h) (sym is) (record { ready = tt; selects = tt; halted = tt })

@@ -1,4 +1,5 @@
 -- The clauses of the calls that save and put back x8 and x9, where the chip is told.
+use Rattle.probe_run.specs.Told.{Serving}
 use Rattle.std.proofs.Common.{◌≡◌, ◌∙◌, ◌<◌, ◌^◌, ℕ, true, Option, Some, None, is_some, refl, sym, ap, arith}
 use Rattle.rv_model.specs.Board.{Hart}
 use Rattle.rv_model.specs.DebugRegisters.{debug_written}
@@ -19,7 +20,7 @@ use Rattle.probe_access.proofs.AroundTold.{Clean, put_back_clean, save_clean}
 use Rattle.probe_access.proofs.AroundUntold.{PlainMemory, put_back_plain, save_plain}
 use Rattle.probe_access.proofs.LoadClauses.{Fits, fits_of}
 use Rattle.probe_access.proofs.RegAnswers.{StoodTold, WrittenTold, stood_passed, stood_passed_but, written_told}
-use Rattle.probe_access.proofs.RegClauses.{Serving, first_told, stood_serving, untold_serving}
+use Rattle.probe_access.proofs.RegClauses.{first_told, stood_serving, untold_serving}
 use Rattle.probe_access.proofs.ScratchLemmas.{x8_value, x9_value}
 use Rattle.probe_access.proofs.SetClauses.{set_serving, still_halted}
 use Rattle.probe_access.proofs.WrittenReady.{written_ready}

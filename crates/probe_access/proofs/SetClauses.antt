@@ -1,4 +1,5 @@
 -- The clauses of the calls that write registers, where the chip is told.
+use Rattle.probe_run.specs.Told.{Serving}
 use Rattle.std.proofs.Common.{◌≡◌, ◌∙◌, ◌<◌, ◌^◌, ℕ, List, true, Option, Some, None, is_some, slice_get, refl, sym, ap, subst, inl, inr}
 use Rattle.std.proofs.lemmas.Bool.{cases_eq}
 use Rattle.std.proofs.lemmas.Option.{same_Some, slice_get_within}
@@ -23,7 +24,7 @@ use Rattle.probe_access.proofs.Aside.{passed}
 use Rattle.probe_access.proofs.ReadyTurns.{BoardReady}
 use Rattle.probe_access.proofs.ReadyUnit.{unit_of}
 use Rattle.probe_access.proofs.RegAnswers.{StoodTold, WrittenTold, denied_told, double_told, odd_told, stood_passed_but, stood_selects, stood_unit, written_told}
-use Rattle.probe_access.proofs.RegClauses.{RegErr, Serving, first_told, reg_denied, told_serving, untold_serving}
+use Rattle.probe_access.proofs.RegClauses.{RegErr, first_told, reg_denied, told_serving, untold_serving}
 use Rattle.probe_access.proofs.Turns.{hart_aside, stays_passed}
 use Rattle.probe_access.proofs.WrittenReady.{written_ready}
 

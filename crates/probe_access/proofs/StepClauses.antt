@@ -7,7 +7,7 @@ use Rattle.rv_model.specs.Registers.{csr_read_only, csr_value}
 use Rattle.debug_model.specs.declared.dmi.DmiFault.{DmiFault}
 use Rattle.debug_model.specs.declared.dmi_op.DmiOp.TheVariants.{Read, Write}
 use Rattle.debug_model.specs.declared.point.Point.TheVariants.{ResumeReq}
-use Rattle.debug_model.specs.Dmi.{CanOperate, DmiScript, LeavesStream}
+use Rattle.debug_model.specs.Dmi.{DmiScript}
 use Rattle.debug_model.specs.Module.{DebugModule, Site}
 use Rattle.debug_model.specs.Scan.{WhereTold}
 use Rattle.debug_model.specs.SystemBus.{BusUnit}
@@ -23,11 +23,10 @@ use Rattle.probe_run.specs.Acts.Attempt.{Operation}
 use Rattle.probe_run.specs.Acts.Did.{nothing}
 use Rattle.probe_run.specs.Happens.{Leaves, MissedAt, StepLeft as RunLeft, StepsAt, target_of}
 use Rattle.probe_run.specs.Looks.{look_act}
-use Rattle.probe_run.specs.Outcomes.{IfDmi, RunBroke, StepFails, UnlessDmi, asks}
+use Rattle.probe_run.specs.Outcomes.{RunBroke, StepFails, asks}
 use Rattle.probe_run.specs.Outcomes.RunBroke.{at_request, at_look}
 use Rattle.probe_run.specs.Requests.{control_word, dmcontrol_address, dmstatus_address}
 use Rattle.probe_run.proofs.ActLemmas.{broke_then}
-use Rattle.probe_access.specs.Faults.{LinkBehind}
 use Rattle.probe_access.specs.Registers.{reaches}
 use Rattle.probe_access.specs.Scratches.{ScratchLeft}
 use Rattle.probe_access.specs.SingleSteps.{FlaggedAt, StepLeft, StepMissedAt, SteppedAt}
@@ -134,8 +133,3 @@ pub run_left : (h old_count new_count : ℕ) (a : Option Far) (b c : Tells) (why
 run_left h old_count new_count a b c (run_fault.Dmi why) sets f l = tt
 run_left h old_count new_count a b c (run_fault.NoHalt looks) sets f l = (f.0, (l.0, l.1, missed_told h l.0 a b.far c.far sets l.2))
 run_left h old_count new_count a b c (run_fault.NoAck looks) sets f l = (f.0, (l.0, l.1, missed_told h l.0 a b.far c.far sets l.2))
-
-pub run_behind : (why : RunFault) (far : Option Far) (alive : Bool) → IfDmi (LeavesStream far) why → IfDmi (λ _. alive ≡ false) why → UnlessDmi (alive ≡ true) why → UnlessDmi (CanOperate far) why → LinkBehind far alive (of_run why)
-run_behind (run_fault.Dmi why) far alive stream dead lives link = record { stream = stream; dead = dead }
-run_behind (run_fault.NoHalt looks) far alive stream dead lives link = record { link = link; alive_is = lives }
-run_behind (run_fault.NoAck looks) far alive stream dead lives link = record { link = link; alive_is = lives }

@@ -1,4 +1,5 @@
 -- A hart whose step flag is written is as it was but for the flag.
+use Rattle.probe_run.specs.Told.{Serving}
 use Rattle.std.proofs.Common.{◌≡◌, ◌∙◌, ◌<◌, ◌^◌, ℕ, List, Bool, Option, Some, None, slice_get, refl, ap, subst, arith}
 use Rattle.rv_model.specs.declared.dcsr.Dcsr.{Dcsr}
 use Rattle.rv_model.specs.Board.{Board, Hart}
@@ -25,7 +26,7 @@ use Rattle.probe_access.proofs.AccessTold.{held_as}
 use Rattle.probe_access.proofs.Aside.{Frozen}
 use Rattle.probe_access.proofs.ReadyUnit.{Held, halted_held}
 use Rattle.probe_access.proofs.RegAnswers.{ReadTold, WrittenTold, read_told, stood_passed_but, written_told}
-use Rattle.probe_access.proofs.RegClauses.{Serving, first_told, untold_serving}
+use Rattle.probe_access.proofs.RegClauses.{first_told, untold_serving}
 use Rattle.probe_access.proofs.SetClauses.{set_serving, still_halted}
 use Rattle.probe_access.proofs.StopClauses.{dcsr_held, small_shown}
 use Rattle.probe_access.proofs.WrittenReady.{written_ready}

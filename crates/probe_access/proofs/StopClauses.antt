@@ -1,4 +1,5 @@
 -- The clauses of the call that says where a halted hart stands, where the chip is told.
+use Rattle.probe_run.specs.Told.{Serving}
 use Rattle.std.proofs.Common.{◌≡◌, ◌∙◌, ◌<◌, ℕ, true, false, Option, Some, None, refl, ap, arith}
 use Rattle.rv_model.specs.declared.cause.Cause.{Cause}
 use Rattle.rv_model.specs.declared.cause.Cause.TheVariants as cause
@@ -25,7 +26,7 @@ use Rattle.probe_access.proofs.AccessTold.{held_as}
 use Rattle.probe_access.proofs.AroundTold.{read_clean}
 use Rattle.probe_access.proofs.AroundUntold.{read_plain}
 use Rattle.probe_access.proofs.RegAnswers.{ReadTold, StoodTold, read_told, stood_passed}
-use Rattle.probe_access.proofs.RegClauses.{Serving, first_told, stood_serving, untold_serving}
+use Rattle.probe_access.proofs.RegClauses.{first_told, stood_serving, untold_serving}
 use Rattle.probe_access.proofs.ScratchClauses.{clean_left, plain_left}
 
 dpc_value : (y : Hart) → debug_value y dpc_number ≡ Some y.core.pc

@@ -1,4 +1,5 @@
 -- The clauses of a store by the program buffer, where the chip is told.
+use Rattle.probe_run.specs.Told.{Serving}
 use Rattle.std.proofs.Common.{◌≡◌, ◌∙◌, ◌<◌, ◌^◌, ℕ, List, length, Option, Some, None, Ok, refl, sym, ap, subst, arith}
 use Rattle.std.proofs.lemmas.List.{length-set}
 use Rattle.rv_model.specs.declared.size.Size.{Size}
@@ -27,7 +28,7 @@ use Rattle.probe_access.proofs.LoadClauses.{AccessErr, Fits, fits_of, told_err, 
 use Rattle.probe_access.proofs.Aside.{accessed, passed}
 use Rattle.probe_access.proofs.ReadyTurns.{passed_turns}
 use Rattle.probe_access.proofs.RegAnswers.{StoodTold, WrittenTold, written_told}
-use Rattle.probe_access.proofs.RegClauses.{Serving, first_told, untold_serving}
+use Rattle.probe_access.proofs.RegClauses.{first_told, untold_serving}
 use Rattle.probe_access.proofs.ScratchLemmas.{after_store_scratched, scratched, x9_other, x8_holds, x8_written, x9_holds, x9_written}
 use Rattle.probe_access.proofs.WordAccess.{StoreFaults, Stores, address_in, in_x8, store_did}
 

@@ -1,13 +1,12 @@
 //! The parts of an access by the system bus: its start, its end, and what was read.
 
-ghost use Rattle.std.specs.Prelude.{◌≡◌, ◌≤◌, ◌<◌, ◌^◌, ◌∷◌, [], true, false, IfOk, IfErr, OnErr, OnOk};
-ghost use Rattle.debug_model.specs.Commands.{high_half, low_half};
-ghost use Rattle.debug_model.specs.Dmi.{CanOperate, LeavesStream};
-ghost use Rattle.debug_model.specs.Told.{IsIdle, IsLive};
-ghost use Rattle.debug_model.specs.ModuleWords.{sbcs_of};
-ghost use Rattle.probe_run.specs.Acts.{Did, tells};
+ghost use Rattle.std.specs.Prelude.{◌≡◌, ◌≤◌, ◌<◌, ◌^◌, ◌∷◌, [], true, false, IfOk, IfErr, OnOk, Some};
+ghost use Rattle.probe_run.specs.Acts.{Did};
 ghost use Rattle.probe_access.specs.BusRuns.{BusEndFailed, BusEnded, BusFetched, BusFetching, BusPollFailed, BusPolled, Starting, access_number, addressed, read_started, setting, write_started};
-ghost use Rattle.probe_access.specs.Faults.{BrokeIn, LinkBehind};
+ghost use Rattle.probe_access.specs.Faults.{BrokeIn};
+ghost use Rattle.debug_model.specs.Kept.{CanCall, Keeps};
+ghost use Rattle.probe_run.specs.Told.{Breaks, Fails, told};
+ghost use Rattle.probe_access.specs.Faults.{access_why};
 
 use crate::doubles::{high_word, join, low_word};
 use crate::fault::AccessFault;
@@ -66,19 +65,10 @@ fn setting_of(on_address: bool, size: Size) -> u32
 
 /// Writes a word of `sbcs` and the address.
 fn set_up<D: Dmi>(link: &mut D, setting: u32, address: u64) -> Result<(), DmiFault>
-    requires alive { D.is_alive link.old ≡ true }
-    requires link { CanOperate (D.far link.old) }
-    ensures did { OnOk result (Did (tells (D.far link.old) (D.script link.old)) (addressed setting address) (tells (D.far link.new) (D.script link.new))) }
-    ensures broke { IfErr result (BrokeIn (Starting (addressed setting address)) (D.fault_count link.old) (D.fault_count link.new) (tells (D.far link.old) (D.script link.old)) (D.far link.new)) }
-    ensures stream { IfErr result (LeavesStream (D.far link.new)) }
-    ensures dead { OnErr result (D.is_alive link.new ≡ false) }
-    ensures link { OnOk result (CanOperate (D.far link.new)) }
-    ensures live { OnOk result (IsLive (D.far link.new)) }
-    ensures idle { OnOk result (IsIdle (D.far link.new)) }
-    ensures alive { OnOk result (D.is_alive link.new ≡ true) }
-    ensures later { D.fault_count link.old ≤ D.fault_count link.new }
-    ensures slack { D.slack link.new ≡ D.slack link.old }
-    ensures ties { D.ties link.new ≡ D.ties link.old }
+    requires callable { CanCall (D.seen link.old) }
+    ensures did { OnOk result (Did (told (D.seen link.old)) (addressed setting address) (told (D.seen link.new))) }
+    ensures broke { IfErr result (Breaks (BrokeIn (Starting (addressed setting address))) (D.seen link.old) (D.seen link.new)) }
+    ensures keeps { Keeps Some (D.seen link.old) (D.seen link.new) result }
 {
     link.write(SBCS, setting)?;
     link.write(SBADDRESS1, high_word(address))?;
@@ -88,19 +78,10 @@ fn set_up<D: Dmi>(link: &mut D, setting: u32, address: u64) -> Result<(), DmiFau
 
 /// Starts a read: the address is written, and `sbcs` so that its lower half starts it.
 pub fn start_read<D: Dmi>(link: &mut D, size: Size, address: u64) -> Result<(), DmiFault>
-    requires alive { D.is_alive link.old ≡ true }
-    requires link { CanOperate (D.far link.old) }
-    ensures did { OnOk result (Did (tells (D.far link.old) (D.script link.old)) (read_started size address) (tells (D.far link.new) (D.script link.new))) }
-    ensures broke { IfErr result (BrokeIn (Starting (read_started size address)) (D.fault_count link.old) (D.fault_count link.new) (tells (D.far link.old) (D.script link.old)) (D.far link.new)) }
-    ensures stream { IfErr result (LeavesStream (D.far link.new)) }
-    ensures dead { OnErr result (D.is_alive link.new ≡ false) }
-    ensures link { OnOk result (CanOperate (D.far link.new)) }
-    ensures live { OnOk result (IsLive (D.far link.new)) }
-    ensures idle { OnOk result (IsIdle (D.far link.new)) }
-    ensures alive { OnOk result (D.is_alive link.new ≡ true) }
-    ensures later { D.fault_count link.old ≤ D.fault_count link.new }
-    ensures slack { D.slack link.new ≡ D.slack link.old }
-    ensures ties { D.ties link.new ≡ D.ties link.old }
+    requires callable { CanCall (D.seen link.old) }
+    ensures did { OnOk result (Did (told (D.seen link.old)) (read_started size address) (told (D.seen link.new))) }
+    ensures broke { IfErr result (Breaks (BrokeIn (Starting (read_started size address))) (D.seen link.old) (D.seen link.new)) }
+    ensures keeps { Keeps Some (D.seen link.old) (D.seen link.new) result }
 {
     set_up(link, setting_of(true, size), address)?;
     Ok(())
@@ -113,19 +94,10 @@ pub fn start_write<D: Dmi>(
     address: u64,
     value: u64,
 ) -> Result<(), DmiFault>
-    requires alive { D.is_alive link.old ≡ true }
-    requires link { CanOperate (D.far link.old) }
-    ensures did { OnOk result (Did (tells (D.far link.old) (D.script link.old)) (write_started size address value) (tells (D.far link.new) (D.script link.new))) }
-    ensures broke { IfErr result (BrokeIn (Starting (write_started size address value)) (D.fault_count link.old) (D.fault_count link.new) (tells (D.far link.old) (D.script link.old)) (D.far link.new)) }
-    ensures stream { IfErr result (LeavesStream (D.far link.new)) }
-    ensures dead { OnErr result (D.is_alive link.new ≡ false) }
-    ensures link { OnOk result (CanOperate (D.far link.new)) }
-    ensures live { OnOk result (IsLive (D.far link.new)) }
-    ensures idle { OnOk result (IsIdle (D.far link.new)) }
-    ensures alive { OnOk result (D.is_alive link.new ≡ true) }
-    ensures later { D.fault_count link.old ≤ D.fault_count link.new }
-    ensures slack { D.slack link.new ≡ D.slack link.old }
-    ensures ties { D.ties link.new ≡ D.ties link.old }
+    requires callable { CanCall (D.seen link.old) }
+    ensures did { OnOk result (Did (told (D.seen link.old)) (write_started size address value) (told (D.seen link.new))) }
+    ensures broke { IfErr result (Breaks (BrokeIn (Starting (write_started size address value))) (D.seen link.old) (D.seen link.new)) }
+    ensures keeps { Keeps Some (D.seen link.old) (D.seen link.new) result }
 {
     set_up(link, setting_of(false, size), address)?;
     link.write(SBDATA1, high_word(value))?;
@@ -135,18 +107,10 @@ pub fn start_write<D: Dmi>(
 
 /// Polls `sbcs` until it shows no access under way, at most 64 times, and answers it as it was then.
 fn poll_bus<D: Dmi>(link: &mut D) -> Result<u32, AccessFault>
-    requires alive { D.is_alive link.old ≡ true }
-    requires link { CanOperate (D.far link.old) }
-    ensures polled { IfOk result (λ last. BusPolled last (tells (D.far link.old) (D.script link.old)) (tells (D.far link.new) (D.script link.new))) }
-    ensures failed { IfErr result (BusPollFailed (D.fault_count link.old) (D.fault_count link.new) (tells (D.far link.old) (D.script link.old)) (tells (D.far link.new) (D.script link.new))) }
-    ensures state { IfErr result (LinkBehind (D.far link.new) (D.is_alive link.new)) }
-    ensures link { OnOk result (CanOperate (D.far link.new)) }
-    ensures live { OnOk result (IsLive (D.far link.new)) }
-    ensures idle { OnOk result (IsIdle (D.far link.new)) }
-    ensures alive { OnOk result (D.is_alive link.new ≡ true) }
-    ensures later { D.fault_count link.old ≤ D.fault_count link.new }
-    ensures slack { D.slack link.new ≡ D.slack link.old }
-    ensures ties { D.ties link.new ≡ D.ties link.old }
+    requires callable { CanCall (D.seen link.old) }
+    ensures polled { IfOk result (λ last. BusPolled last (told (D.seen link.old)) (told (D.seen link.new))) }
+    ensures failed { IfErr result (Fails BusPollFailed (D.seen link.old) (D.seen link.new)) }
+    ensures keeps { Keeps access_why (D.seen link.old) (D.seen link.new) result }
 {
     'polls: for _polls in 0..POLLS_MOST {
         let word = link.read(SBCS)?;
@@ -160,18 +124,10 @@ fn poll_bus<D: Dmi>(link: &mut D) -> Result<u32, AccessFault>
 
 /// Polls for the end of the access of this address. `Memory` where it lies outside memory: the error is cleared.
 pub fn finish<D: Dmi>(link: &mut D, address: u64) -> Result<(), AccessFault>
-    requires alive { D.is_alive link.old ≡ true }
-    requires link { CanOperate (D.far link.old) }
-    ensures ended { OnOk result (BusEnded (tells (D.far link.old) (D.script link.old)) (tells (D.far link.new) (D.script link.new))) }
-    ensures failed { IfErr result (BusEndFailed address (D.fault_count link.old) (D.fault_count link.new) (tells (D.far link.old) (D.script link.old)) (tells (D.far link.new) (D.script link.new))) }
-    ensures state { IfErr result (LinkBehind (D.far link.new) (D.is_alive link.new)) }
-    ensures link { OnOk result (CanOperate (D.far link.new)) }
-    ensures live { OnOk result (IsLive (D.far link.new)) }
-    ensures idle { OnOk result (IsIdle (D.far link.new)) }
-    ensures alive { OnOk result (D.is_alive link.new ≡ true) }
-    ensures later { D.fault_count link.old ≤ D.fault_count link.new }
-    ensures slack { D.slack link.new ≡ D.slack link.old }
-    ensures ties { D.ties link.new ≡ D.ties link.old }
+    requires callable { CanCall (D.seen link.old) }
+    ensures ended { OnOk result (BusEnded (told (D.seen link.old)) (told (D.seen link.new))) }
+    ensures failed { IfErr result (Fails (BusEndFailed address) (D.seen link.old) (D.seen link.new)) }
+    ensures keeps { Keeps access_why (D.seen link.old) (D.seen link.new) result }
 {
     let last = poll_bus(link)?;
     let bus = Sbcs::from_word(last);
@@ -187,19 +143,10 @@ pub fn finish<D: Dmi>(link: &mut D, address: u64) -> Result<(), AccessFault>
 
 /// Reads what the access has read.
 pub fn fetch<D: Dmi>(link: &mut D, size: Size) -> Result<u64, DmiFault>
-    requires alive { D.is_alive link.old ≡ true }
-    requires link { CanOperate (D.far link.old) }
-    ensures fetched { IfOk result (λ value. BusFetched size value (tells (D.far link.old) (D.script link.old)) (tells (D.far link.new) (D.script link.new))) }
-    ensures broke { IfErr result (BrokeIn BusFetching (D.fault_count link.old) (D.fault_count link.new) (tells (D.far link.old) (D.script link.old)) (D.far link.new)) }
-    ensures stream { IfErr result (LeavesStream (D.far link.new)) }
-    ensures dead { OnErr result (D.is_alive link.new ≡ false) }
-    ensures link { OnOk result (CanOperate (D.far link.new)) }
-    ensures live { OnOk result (IsLive (D.far link.new)) }
-    ensures idle { OnOk result (IsIdle (D.far link.new)) }
-    ensures alive { OnOk result (D.is_alive link.new ≡ true) }
-    ensures later { D.fault_count link.old ≤ D.fault_count link.new }
-    ensures slack { D.slack link.new ≡ D.slack link.old }
-    ensures ties { D.ties link.new ≡ D.ties link.old }
+    requires callable { CanCall (D.seen link.old) }
+    ensures fetched { IfOk result (λ value. BusFetched size value (told (D.seen link.old)) (told (D.seen link.new))) }
+    ensures broke { IfErr result (Breaks (BrokeIn BusFetching) (D.seen link.old) (D.seen link.new)) }
+    ensures keeps { Keeps Some (D.seen link.old) (D.seen link.new) result }
 {
     let low = link.read(SBDATA0)?;
     let high = link.read(SBDATA1)?;

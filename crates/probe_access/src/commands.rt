@@ -1,11 +1,10 @@
-ghost use Rattle.std.specs.Prelude.{◌≡◌, ◌≤◌, ◌<◌, ◌^◌, ◌∷◌, [], true, false, IfOk, IfErr, OnErr, OnOk};
-ghost use Rattle.debug_model.specs.Dmi.{CanOperate};
-ghost use Rattle.debug_model.specs.Told.{IsIdle, IsLive};
+ghost use Rattle.std.specs.Prelude.{◌≡◌, ◌≤◌, ◌<◌, ◌^◌, ◌∷◌, [], true, false, IfOk, IfErr};
 ghost use Rattle.debug_model.specs.ModuleWords.{command_word};
-ghost use Rattle.probe_run.specs.Acts.{Did, tells};
-ghost use Rattle.probe_access.specs.Faults.{BrokeIn, LinkBehind};
 ghost use Rattle.probe_access.specs.CommandRuns.{CommandFailed, RanCommand};
 ghost use Rattle.probe_access.specs.RegisterAccess.{program_command, transfer_command};
+ghost use Rattle.debug_model.specs.Kept.{CanCall, Keeps};
+ghost use Rattle.probe_run.specs.Told.{Fails, told};
+ghost use Rattle.probe_access.specs.Faults.{access_why};
 
 use crate::fault::AccessFault;
 use crate::polling::{ABSTRACTCS, poll};
@@ -52,18 +51,10 @@ pub fn program() -> AbstractCommand
 
 /// Writes `command` and polls for the command's end, and answers `abstractcs` as it was then. An error that it shows is cleared.
 pub fn run_command<D: Dmi>(link: &mut D, command: AbstractCommand) -> Result<u32, AccessFault>
-    requires alive { D.is_alive link.old ≡ true }
-    requires link { CanOperate (D.far link.old) }
-    ensures ran { IfOk result (λ last. RanCommand (command_word command) last (tells (D.far link.old) (D.script link.old)) (tells (D.far link.new) (D.script link.new))) }
-    ensures failed { IfErr result (CommandFailed (command_word command) (D.fault_count link.old) (D.fault_count link.new) (tells (D.far link.old) (D.script link.old)) (tells (D.far link.new) (D.script link.new))) }
-    ensures state { IfErr result (LinkBehind (D.far link.new) (D.is_alive link.new)) }
-    ensures link { OnOk result (CanOperate (D.far link.new)) }
-    ensures live { OnOk result (IsLive (D.far link.new)) }
-    ensures idle { OnOk result (IsIdle (D.far link.new)) }
-    ensures alive { OnOk result (D.is_alive link.new ≡ true) }
-    ensures later { D.fault_count link.old ≤ D.fault_count link.new }
-    ensures slack { D.slack link.new ≡ D.slack link.old }
-    ensures ties { D.ties link.new ≡ D.ties link.old }
+    requires callable { CanCall (D.seen link.old) }
+    ensures ran { IfOk result (λ last. RanCommand (command_word command) last (told (D.seen link.old)) (told (D.seen link.new))) }
+    ensures failed { IfErr result (Fails (CommandFailed (command_word command)) (D.seen link.old) (D.seen link.new)) }
+    ensures keeps { Keeps access_why (D.seen link.old) (D.seen link.new) result }
 {
     link.write(COMMAND, command.word())?;
     let last = poll(link)?;

@@ -1,14 +1,13 @@
-ghost use Rattle.std.specs.Prelude.{◌≡◌, ◌≤◌, true, false, IfOk, IfErr, OnOk};
+ghost use Rattle.std.specs.Prelude.{◌≡◌, ◌≤◌, true, IfOk, IfErr, OnOk};
 ghost use Rattle.rv_model.specs.Memory.{is_aligned};
-ghost use Rattle.debug_model.specs.Scan.{WhereTold};
 ghost use Rattle.probe_access.specs.Accesses.{AccessLeft, IfMemory, LoadRefused, LoadedAt, StoreRefused, StoredAt};
-ghost use Rattle.debug_model.specs.Dmi.{CanOperate};
-ghost use Rattle.debug_model.specs.Told.{IsHalted, IsIdle, IsLive, IsReady, Selects};
-ghost use Rattle.probe_run.specs.Acts.{tells};
 ghost use Rattle.probe_access.specs.BusRuns.{cut_to};
 ghost use Rattle.probe_access.specs.Cuts.{AccessLeftOff, IfCut, Leaves, LoadLeaves, Scratched, StoreLeaves};
-ghost use Rattle.probe_access.specs.Faults.{LinkBehind};
 ghost use Rattle.probe_access.specs.MemoryRuns.{Around, AroundFailed, LoadFailedInside, LoadedAny, LoadedInside, StoreFailedInside, StoredInside};
+ghost use Rattle.debug_model.specs.Kept.{CanCall, Keeps};
+ghost use Rattle.probe_run.specs.Told.{Fails, OnChip, told};
+ghost use Rattle.probe_access.specs.Faults.{access_why};
+ghost use Rattle.probe_run.specs.Told.{Serving};
 
 use crate::fault::AccessFault;
 use crate::inside::{load_inside, store_inside};
@@ -23,18 +22,10 @@ pub(crate) fn load_around<D: Dmi>(
     size: Size,
     address: u64,
 ) -> Result<u64, AccessFault>
-    requires alive { D.is_alive link.old ≡ true }
-    requires link { CanOperate (D.far link.old) }
-    ensures loaded { IfOk result (λ value. Around (LoadedInside size address value) (tells (D.far link.old) (D.script link.old)) (tells (D.far link.new) (D.script link.new))) }
-    ensures failed { IfErr result (AroundFailed (LoadedAny size address) (LoadFailedInside size address) (D.fault_count link.old) (D.fault_count link.new) (tells (D.far link.old) (D.script link.old)) (tells (D.far link.new) (D.script link.new))) }
-    ensures state { IfErr result (LinkBehind (D.far link.new) (D.is_alive link.new)) }
-    ensures link { OnOk result (CanOperate (D.far link.new)) }
-    ensures live { OnOk result (IsLive (D.far link.new)) }
-    ensures idle { OnOk result (IsIdle (D.far link.new)) }
-    ensures alive { OnOk result (D.is_alive link.new ≡ true) }
-    ensures later { D.fault_count link.old ≤ D.fault_count link.new }
-    ensures slack { D.slack link.new ≡ D.slack link.old }
-    ensures ties { D.ties link.new ≡ D.ties link.old }
+    requires callable { CanCall (D.seen link.old) }
+    ensures loaded { IfOk result (λ value. Around (LoadedInside size address value) (told (D.seen link.old)) (told (D.seen link.new))) }
+    ensures failed { IfErr result (Fails (AroundFailed (LoadedAny size address) (LoadFailedInside size address)) (D.seen link.old) (D.seen link.new)) }
+    ensures keeps { Keeps access_why (D.seen link.old) (D.seen link.new) result }
 {
     let scratch = save_scratch(link)?;
     match load_inside(link, size, address) {
@@ -53,18 +44,10 @@ pub(crate) fn store_around<D: Dmi>(
     address: u64,
     value: u64,
 ) -> Result<(), AccessFault>
-    requires alive { D.is_alive link.old ≡ true }
-    requires link { CanOperate (D.far link.old) }
-    ensures stored { OnOk result (Around (StoredInside size address value) (tells (D.far link.old) (D.script link.old)) (tells (D.far link.new) (D.script link.new))) }
-    ensures failed { IfErr result (AroundFailed (StoredInside size address value) (StoreFailedInside size address value) (D.fault_count link.old) (D.fault_count link.new) (tells (D.far link.old) (D.script link.old)) (tells (D.far link.new) (D.script link.new))) }
-    ensures state { IfErr result (LinkBehind (D.far link.new) (D.is_alive link.new)) }
-    ensures link { OnOk result (CanOperate (D.far link.new)) }
-    ensures live { OnOk result (IsLive (D.far link.new)) }
-    ensures idle { OnOk result (IsIdle (D.far link.new)) }
-    ensures alive { OnOk result (D.is_alive link.new ≡ true) }
-    ensures later { D.fault_count link.old ≤ D.fault_count link.new }
-    ensures slack { D.slack link.new ≡ D.slack link.old }
-    ensures ties { D.ties link.new ≡ D.ties link.old }
+    requires callable { CanCall (D.seen link.old) }
+    ensures stored { OnOk result (Around (StoredInside size address value) (told (D.seen link.old)) (told (D.seen link.new))) }
+    ensures failed { IfErr result (Fails (AroundFailed (StoredInside size address value) (StoreFailedInside size address value)) (D.seen link.old) (D.seen link.new)) }
+    ensures keeps { Keeps access_why (D.seen link.old) (D.seen link.new) result }
 {
     let scratch = save_scratch(link)?;
     match store_inside(link, size, address, value) {
@@ -103,31 +86,17 @@ pub fn load<D: Dmi>(
     size: Size,
     address: u64,
 ) -> Result<u64, AccessFault>
-    requires alive { D.is_alive link.old ≡ true }
-    requires link { CanOperate (D.far link.old) }
-    requires ready { IsReady (D.far link.old) }
-    requires selects { Selects halted.now.number (D.far link.old) }
-    requires halted { IsHalted halted.now.number (D.far link.old) }
+    requires callable { CanCall (D.seen link.old) }
+    requires serving { Serving halted.now.number (D.seen link.old).far }
     requires aligned { is_aligned address size ≡ true }
-    ensures loaded { IfOk result (λ value. WhereTold (LoadedAt size address value) (D.far link.old) (D.far link.new)) }
-    ensures around { IfOk result (λ value. Around (LoadedInside size address value) (tells (D.far link.old) (D.script link.old)) (tells (D.far link.new) (D.script link.new))) }
-    ensures left { IfErr result (AccessLeft (LoadRefused size address) address (D.far link.old) (D.far link.new)) }
-    ensures failed { IfErr result (AroundFailed (LoadedAny size address) (LoadFailedInside size address) (D.fault_count link.old) (D.fault_count link.new) (tells (D.far link.old) (D.script link.old)) (tells (D.far link.new) (D.script link.new))) }
-    ensures cut { IfErr result (IfCut (Leaves (AccessLeftOff Scratched LoadLeaves halted.now.number) (D.far link.old) (D.far link.new))) }
-    ensures ready { OnOk result (IsReady (D.far link.new)) }
-    ensures selects { OnOk result (Selects halted.now.number (D.far link.new)) }
-    ensures halted { OnOk result (IsHalted halted.now.number (D.far link.new)) }
-    ensures ready_again { IfErr result (IfMemory (IsReady (D.far link.new))) }
-    ensures selects_still { IfErr result (IfMemory (Selects halted.now.number (D.far link.new))) }
-    ensures halted_still { IfErr result (IfMemory (IsHalted halted.now.number (D.far link.new))) }
-    ensures state { IfErr result (LinkBehind (D.far link.new) (D.is_alive link.new)) }
-    ensures link { OnOk result (CanOperate (D.far link.new)) }
-    ensures live { OnOk result (IsLive (D.far link.new)) }
-    ensures idle { OnOk result (IsIdle (D.far link.new)) }
-    ensures alive { OnOk result (D.is_alive link.new ≡ true) }
-    ensures later { D.fault_count link.old ≤ D.fault_count link.new }
-    ensures slack { D.slack link.new ≡ D.slack link.old }
-    ensures ties { D.ties link.new ≡ D.ties link.old }
+    ensures loaded { IfOk result (λ value. OnChip (LoadedAt size address value) (D.seen link.old) (D.seen link.new)) }
+    ensures around { IfOk result (λ value. Around (LoadedInside size address value) (told (D.seen link.old)) (told (D.seen link.new))) }
+    ensures left { IfErr result (AccessLeft (LoadRefused size address) address (D.seen link.old).far (D.seen link.new).far) }
+    ensures failed { IfErr result (Fails (AroundFailed (LoadedAny size address) (LoadFailedInside size address)) (D.seen link.old) (D.seen link.new)) }
+    ensures cut { IfErr result (IfCut (Leaves (AccessLeftOff Scratched LoadLeaves halted.now.number) (D.seen link.old).far (D.seen link.new).far)) }
+    ensures serving { OnOk result (Serving halted.now.number (D.seen link.new).far) }
+    ensures serving_still { IfErr result (IfMemory (Serving halted.now.number (D.seen link.new).far)) }
+    ensures keeps { Keeps access_why (D.seen link.old) (D.seen link.new) result }
 {
     let _halted = halted;
     let value = load_around(link, size, address)?;
@@ -143,31 +112,17 @@ pub fn store<D: Dmi>(
     address: u64,
     value: u64,
 ) -> Result<(), AccessFault>
-    requires alive { D.is_alive link.old ≡ true }
-    requires link { CanOperate (D.far link.old) }
-    requires ready { IsReady (D.far link.old) }
-    requires selects { Selects halted.now.number (D.far link.old) }
-    requires halted { IsHalted halted.now.number (D.far link.old) }
+    requires callable { CanCall (D.seen link.old) }
+    requires serving { Serving halted.now.number (D.seen link.old).far }
     requires aligned { is_aligned address size ≡ true }
-    ensures stored { OnOk result (WhereTold (StoredAt size address value) (D.far link.old) (D.far link.new)) }
-    ensures around { OnOk result (Around (StoredInside size address value) (tells (D.far link.old) (D.script link.old)) (tells (D.far link.new) (D.script link.new))) }
-    ensures left { IfErr result (AccessLeft (StoreRefused size address) address (D.far link.old) (D.far link.new)) }
-    ensures failed { IfErr result (AroundFailed (StoredInside size address value) (StoreFailedInside size address value) (D.fault_count link.old) (D.fault_count link.new) (tells (D.far link.old) (D.script link.old)) (tells (D.far link.new) (D.script link.new))) }
-    ensures cut { IfErr result (IfCut (Leaves (AccessLeftOff Scratched (StoreLeaves size address value) halted.now.number) (D.far link.old) (D.far link.new))) }
-    ensures ready { OnOk result (IsReady (D.far link.new)) }
-    ensures selects { OnOk result (Selects halted.now.number (D.far link.new)) }
-    ensures halted { OnOk result (IsHalted halted.now.number (D.far link.new)) }
-    ensures ready_again { IfErr result (IfMemory (IsReady (D.far link.new))) }
-    ensures selects_still { IfErr result (IfMemory (Selects halted.now.number (D.far link.new))) }
-    ensures halted_still { IfErr result (IfMemory (IsHalted halted.now.number (D.far link.new))) }
-    ensures state { IfErr result (LinkBehind (D.far link.new) (D.is_alive link.new)) }
-    ensures link { OnOk result (CanOperate (D.far link.new)) }
-    ensures live { OnOk result (IsLive (D.far link.new)) }
-    ensures idle { OnOk result (IsIdle (D.far link.new)) }
-    ensures alive { OnOk result (D.is_alive link.new ≡ true) }
-    ensures later { D.fault_count link.old ≤ D.fault_count link.new }
-    ensures slack { D.slack link.new ≡ D.slack link.old }
-    ensures ties { D.ties link.new ≡ D.ties link.old }
+    ensures stored { OnOk result (OnChip (StoredAt size address value) (D.seen link.old) (D.seen link.new)) }
+    ensures around { OnOk result (Around (StoredInside size address value) (told (D.seen link.old)) (told (D.seen link.new))) }
+    ensures left { IfErr result (AccessLeft (StoreRefused size address) address (D.seen link.old).far (D.seen link.new).far) }
+    ensures failed { IfErr result (Fails (AroundFailed (StoredInside size address value) (StoreFailedInside size address value)) (D.seen link.old) (D.seen link.new)) }
+    ensures cut { IfErr result (IfCut (Leaves (AccessLeftOff Scratched (StoreLeaves size address value) halted.now.number) (D.seen link.old).far (D.seen link.new).far)) }
+    ensures serving { OnOk result (Serving halted.now.number (D.seen link.new).far) }
+    ensures serving_still { IfErr result (IfMemory (Serving halted.now.number (D.seen link.new).far)) }
+    ensures keeps { Keeps access_why (D.seen link.old) (D.seen link.new) result }
 {
     let _halted = halted;
     store_around(link, size, address, value)?;

@@ -1,11 +1,11 @@
-ghost use Rattle.std.specs.Prelude.{◌≡◌, ◌≤◌, ◌<◌, ◌^◌, true, false, IfOk, IfErr, OnOk, OnErr};
-ghost use Rattle.debug_model.specs.Dmi.{CanOperate};
-ghost use Rattle.debug_model.specs.Told.{IsIdle, IsLive};
-ghost use Rattle.probe_run.specs.Acts.{Did, tells};
-ghost use Rattle.probe_access.specs.Faults.{BrokeIn, LinkBehind};
-ghost use Rattle.debug_model.specs.Dmi.{LeavesStream};
+ghost use Rattle.std.specs.Prelude.{◌≡◌, ◌≤◌, ◌<◌, ◌^◌, IfErr, OnOk, Some};
+ghost use Rattle.probe_run.specs.Acts.{Did};
+ghost use Rattle.probe_access.specs.Faults.{BrokeIn};
 ghost use Rattle.probe_access.specs.MemoryRuns.{PerformFailed, Performed, ProgramBegun, program_written};
 ghost use Rattle.probe_access.specs.RegisterAccess.{load_word, store_word};
+ghost use Rattle.debug_model.specs.Kept.{CanCall, Keeps};
+ghost use Rattle.probe_run.specs.Told.{Breaks, Fails, told};
+ghost use Rattle.probe_access.specs.Faults.{access_why};
 
 use crate::commands::{program, run_command};
 use crate::fault::AccessFault;
@@ -71,19 +71,10 @@ pub fn store_of(size: Size) -> u32
 
 /// Writes an instruction and `ebreak` into the program buffer.
 fn write_program<D: Dmi>(link: &mut D, instruction: u32) -> Result<(), DmiFault>
-    requires alive { D.is_alive link.old ≡ true }
-    requires link { CanOperate (D.far link.old) }
-    ensures did { OnOk result (Did (tells (D.far link.old) (D.script link.old)) (program_written instruction) (tells (D.far link.new) (D.script link.new))) }
-    ensures broke { IfErr result (BrokeIn (ProgramBegun instruction) (D.fault_count link.old) (D.fault_count link.new) (tells (D.far link.old) (D.script link.old)) (D.far link.new)) }
-    ensures stream { IfErr result (LeavesStream (D.far link.new)) }
-    ensures dead { OnErr result (D.is_alive link.new ≡ false) }
-    ensures link { OnOk result (CanOperate (D.far link.new)) }
-    ensures live { OnOk result (IsLive (D.far link.new)) }
-    ensures idle { OnOk result (IsIdle (D.far link.new)) }
-    ensures alive { OnOk result (D.is_alive link.new ≡ true) }
-    ensures later { D.fault_count link.old ≤ D.fault_count link.new }
-    ensures slack { D.slack link.new ≡ D.slack link.old }
-    ensures ties { D.ties link.new ≡ D.ties link.old }
+    requires callable { CanCall (D.seen link.old) }
+    ensures did { OnOk result (Did (told (D.seen link.old)) (program_written instruction) (told (D.seen link.new))) }
+    ensures broke { IfErr result (Breaks (BrokeIn (ProgramBegun instruction)) (D.seen link.old) (D.seen link.new)) }
+    ensures keeps { Keeps Some (D.seen link.old) (D.seen link.new) result }
 {
     link.write(PROGBUF0, instruction)?;
     link.write(PROGBUF1, EBREAK)?;
@@ -92,18 +83,10 @@ fn write_program<D: Dmi>(link: &mut D, instruction: u32) -> Result<(), DmiFault>
 
 /// Executes one instruction of the selected hart, with this address in x8. `Memory` where it met an exception.
 pub fn perform<D: Dmi>(link: &mut D, instruction: u32, address: u64) -> Result<(), AccessFault>
-    requires alive { D.is_alive link.old ≡ true }
-    requires link { CanOperate (D.far link.old) }
-    ensures performed { OnOk result (Performed instruction address 0 (tells (D.far link.old) (D.script link.old)) (tells (D.far link.new) (D.script link.new))) }
-    ensures failed { IfErr result (PerformFailed instruction address (D.fault_count link.old) (D.fault_count link.new) (tells (D.far link.old) (D.script link.old)) (tells (D.far link.new) (D.script link.new))) }
-    ensures state { IfErr result (LinkBehind (D.far link.new) (D.is_alive link.new)) }
-    ensures link { OnOk result (CanOperate (D.far link.new)) }
-    ensures live { OnOk result (IsLive (D.far link.new)) }
-    ensures idle { OnOk result (IsIdle (D.far link.new)) }
-    ensures alive { OnOk result (D.is_alive link.new ≡ true) }
-    ensures later { D.fault_count link.old ≤ D.fault_count link.new }
-    ensures slack { D.slack link.new ≡ D.slack link.old }
-    ensures ties { D.ties link.new ≡ D.ties link.old }
+    requires callable { CanCall (D.seen link.old) }
+    ensures performed { OnOk result (Performed instruction address 0 (told (D.seen link.old)) (told (D.seen link.new))) }
+    ensures failed { IfErr result (Fails (PerformFailed instruction address) (D.seen link.old) (D.seen link.new)) }
+    ensures keeps { Keeps access_why (D.seen link.old) (D.seen link.new) result }
 {
     write_program(link, instruction)?;
     write_register(link, X8, address)?;

@@ -1,12 +1,12 @@
-ghost use Rattle.std.specs.Prelude.{◌≡◌, ◌≤◌, ◌<◌, ◌^◌, true, false, IfOk, IfErr, OnOk, OnErr};
-ghost use Rattle.debug_model.specs.Dmi.{CanOperate};
-ghost use Rattle.debug_model.specs.Told.{IsHalted, IsIdle, IsLive, IsReady, Selects};
-ghost use Rattle.probe_run.specs.Acts.{Did, tells};
+ghost use Rattle.std.specs.Prelude.{◌≡◌, ◌≤◌, ◌<◌, ◌^◌, IfOk, IfErr, OnOk};
 ghost use Rattle.probe_access.specs.Cuts.{IfCut, LeftAside, Leaves, MaybePutBack, Unchanged};
-ghost use Rattle.probe_access.specs.Faults.{BrokeIn, LinkBehind};
-ghost use Rattle.debug_model.specs.Scan.{WhereTold};
 ghost use Rattle.probe_access.specs.Scratches.{PutBackAt, SavedAt, ScratchLeft};
 ghost use Rattle.probe_access.specs.MemoryRuns.{GaveUp, Loses, PutBack, PutBackFailed, SaveFailed, Saved};
+ghost use Rattle.debug_model.specs.Kept.{CanCall, Keeps};
+ghost use Rattle.probe_run.specs.Told.{Fails, OnChip, told};
+ghost use Rattle.probe_access.specs.Faults.{access_why};
+ghost use Rattle.debug_model.specs.Kept.{StandsUnless};
+ghost use Rattle.probe_run.specs.Told.{Serving};
 
 use crate::fault::AccessFault;
 use crate::program::{X8, X9};
@@ -22,18 +22,10 @@ pub struct Scratch {
 
 /// Reads x8 and x9 of the selected hart.
 pub(crate) fn save_scratch<D: Dmi>(link: &mut D) -> Result<Scratch, AccessFault>
-    requires alive { D.is_alive link.old ≡ true }
-    requires link { CanOperate (D.far link.old) }
-    ensures saved { IfOk result (λ scratch. Saved scratch.x8 scratch.x9 (tells (D.far link.old) (D.script link.old)) (tells (D.far link.new) (D.script link.new))) }
-    ensures failed { IfErr result (SaveFailed (D.fault_count link.old) (D.fault_count link.new) (tells (D.far link.old) (D.script link.old)) (tells (D.far link.new) (D.script link.new))) }
-    ensures state { IfErr result (LinkBehind (D.far link.new) (D.is_alive link.new)) }
-    ensures link { OnOk result (CanOperate (D.far link.new)) }
-    ensures live { OnOk result (IsLive (D.far link.new)) }
-    ensures idle { OnOk result (IsIdle (D.far link.new)) }
-    ensures alive { OnOk result (D.is_alive link.new ≡ true) }
-    ensures later { D.fault_count link.old ≤ D.fault_count link.new }
-    ensures slack { D.slack link.new ≡ D.slack link.old }
-    ensures ties { D.ties link.new ≡ D.ties link.old }
+    requires callable { CanCall (D.seen link.old) }
+    ensures saved { IfOk result (λ scratch. Saved scratch.x8 scratch.x9 (told (D.seen link.old)) (told (D.seen link.new))) }
+    ensures failed { IfErr result (Fails SaveFailed (D.seen link.old) (D.seen link.new)) }
+    ensures keeps { Keeps access_why (D.seen link.old) (D.seen link.new) result }
 {
     let x8 = read_register(link, X8)?;
     let x9 = read_register(link, X9)?;
@@ -43,18 +35,10 @@ pub(crate) fn save_scratch<D: Dmi>(link: &mut D) -> Result<Scratch, AccessFault>
 impl Scratch {
     /// Writes x8 and x9 of the selected hart.
     pub(crate) fn put_back<D: Dmi>(self, link: &mut D) -> Result<(), AccessFault>
-        requires alive { D.is_alive link.old ≡ true }
-        requires link { CanOperate (D.far link.old) }
-        ensures put_back { OnOk result (PutBack self.x8 self.x9 (tells (D.far link.old) (D.script link.old)) (tells (D.far link.new) (D.script link.new))) }
-        ensures failed { IfErr result (PutBackFailed self.x8 self.x9 (D.fault_count link.old) (D.fault_count link.new) (tells (D.far link.old) (D.script link.old)) (tells (D.far link.new) (D.script link.new))) }
-        ensures state { IfErr result (LinkBehind (D.far link.new) (D.is_alive link.new)) }
-        ensures link { OnOk result (CanOperate (D.far link.new)) }
-        ensures live { OnOk result (IsLive (D.far link.new)) }
-        ensures idle { OnOk result (IsIdle (D.far link.new)) }
-        ensures alive { OnOk result (D.is_alive link.new ≡ true) }
-        ensures later { D.fault_count link.old ≤ D.fault_count link.new }
-        ensures slack { D.slack link.new ≡ D.slack link.old }
-        ensures ties { D.ties link.new ≡ D.ties link.old }
+        requires callable { CanCall (D.seen link.old) }
+        ensures put_back { OnOk result (PutBack self.x8 self.x9 (told (D.seen link.old)) (told (D.seen link.new))) }
+        ensures failed { IfErr result (Fails (PutBackFailed self.x8 self.x9) (D.seen link.old) (D.seen link.new)) }
+        ensures keeps { Keeps access_why (D.seen link.old) (D.seen link.new) result }
     {
         let Scratch { x8, x9 } = self;
         write_register(link, X8, x8)?;
@@ -64,27 +48,15 @@ impl Scratch {
 
     /// Puts x8 and x9 of the halted hart back, which is selected.
     pub fn restore<D: Dmi>(self, link: &mut D, halted: &Halted) -> Result<(), AccessFault>
-        requires alive { D.is_alive link.old ≡ true }
-        requires link { CanOperate (D.far link.old) }
-        requires ready { IsReady (D.far link.old) }
-        requires selects { Selects halted.now.number (D.far link.old) }
-        requires halted { IsHalted halted.now.number (D.far link.old) }
-        ensures restored { OnOk result (WhereTold (PutBackAt halted.now.number self.x8 self.x9) (D.far link.old) (D.far link.new)) }
-        ensures put_back { OnOk result (PutBack self.x8 self.x9 (tells (D.far link.old) (D.script link.old)) (tells (D.far link.new) (D.script link.new))) }
-        ensures left { IfErr result (ScratchLeft (D.far link.old)) }
-        ensures failed { IfErr result (PutBackFailed self.x8 self.x9 (D.fault_count link.old) (D.fault_count link.new) (tells (D.far link.old) (D.script link.old)) (tells (D.far link.new) (D.script link.new))) }
-        ensures cut { IfErr result (IfCut (Leaves (LeftAside (MaybePutBack self.x8 self.x9) halted.now.number) (D.far link.old) (D.far link.new))) }
-        ensures ready { OnOk result (IsReady (D.far link.new)) }
-        ensures selects { OnOk result (Selects halted.now.number (D.far link.new)) }
-        ensures halted { OnOk result (IsHalted halted.now.number (D.far link.new)) }
-        ensures state { IfErr result (LinkBehind (D.far link.new) (D.is_alive link.new)) }
-        ensures link { OnOk result (CanOperate (D.far link.new)) }
-        ensures live { OnOk result (IsLive (D.far link.new)) }
-        ensures idle { OnOk result (IsIdle (D.far link.new)) }
-        ensures alive { OnOk result (D.is_alive link.new ≡ true) }
-        ensures later { D.fault_count link.old ≤ D.fault_count link.new }
-        ensures slack { D.slack link.new ≡ D.slack link.old }
-        ensures ties { D.ties link.new ≡ D.ties link.old }
+        requires callable { CanCall (D.seen link.old) }
+        requires serving { Serving halted.now.number (D.seen link.old).far }
+        ensures restored { OnOk result (OnChip (PutBackAt halted.now.number self.x8 self.x9) (D.seen link.old) (D.seen link.new)) }
+        ensures put_back { OnOk result (PutBack self.x8 self.x9 (told (D.seen link.old)) (told (D.seen link.new))) }
+        ensures left { IfErr result (ScratchLeft (D.seen link.old).far) }
+        ensures failed { IfErr result (Fails (PutBackFailed self.x8 self.x9) (D.seen link.old) (D.seen link.new)) }
+        ensures cut { IfErr result (IfCut (Leaves (LeftAside (MaybePutBack self.x8 self.x9) halted.now.number) (D.seen link.old).far (D.seen link.new).far)) }
+        ensures serving { OnOk result (Serving halted.now.number (D.seen link.new).far) }
+        ensures keeps { Keeps access_why (D.seen link.old) (D.seen link.new) result }
     {
         let _halted = halted;
         self.put_back(link)?;
@@ -102,12 +74,11 @@ impl Scratch {
 
     /// Hands a fault on, and puts x8 and x9 back first where the hart still serves. A fault of that comes in its place.
     pub(crate) fn give_up<D: Dmi>(self, link: &mut D, fault: AccessFault) -> AccessFault
-        requires state { LinkBehind (D.far link.old) (D.is_alive link.old) fault }
-        ensures gave_up { GaveUp self.x8 self.x9 (D.fault_count link.old) (D.fault_count link.new) (tells (D.far link.old) (D.script link.old)) (tells (D.far link.new) (D.script link.new)) fault result }
-        ensures state { LinkBehind (D.far link.new) (D.is_alive link.new) result }
-        ensures later { D.fault_count link.old ≤ D.fault_count link.new }
-        ensures slack { D.slack link.new ≡ D.slack link.old }
-        ensures ties { D.ties link.new ≡ D.ties link.old }
+        requires behind { StandsUnless (D.seen link.old) (access_why fault) }
+        ensures gave_up { GaveUp self.x8 self.x9 (D.seen link.old).fault_count (D.seen link.new).fault_count (told (D.seen link.old)) (told (D.seen link.new)) fault result }
+        ensures behind { StandsUnless (D.seen link.new) (access_why result) }
+        ensures later { (D.seen link.old).fault_count ≤ (D.seen link.new).fault_count }
+        ensures fixed { (D.seen link.new).fixed ≡ (D.seen link.old).fixed }
     {
         match fault {
             AccessFault::Memory(_) => match self.put_back(link) {
@@ -125,27 +96,15 @@ impl Scratch {
 
 /// Reads x8 and x9 of the halted hart, which is selected, so that they can be put back.
 pub fn save<D: Dmi>(link: &mut D, halted: &Halted) -> Result<Scratch, AccessFault>
-    requires alive { D.is_alive link.old ≡ true }
-    requires link { CanOperate (D.far link.old) }
-    requires ready { IsReady (D.far link.old) }
-    requires selects { Selects halted.now.number (D.far link.old) }
-    requires halted { IsHalted halted.now.number (D.far link.old) }
-    ensures saved_at { IfOk result (λ scratch. WhereTold (SavedAt halted.now.number scratch.x8 scratch.x9) (D.far link.old) (D.far link.new)) }
-    ensures saved { IfOk result (λ scratch. Saved scratch.x8 scratch.x9 (tells (D.far link.old) (D.script link.old)) (tells (D.far link.new) (D.script link.new))) }
-    ensures left { IfErr result (ScratchLeft (D.far link.old)) }
-    ensures failed { IfErr result (SaveFailed (D.fault_count link.old) (D.fault_count link.new) (tells (D.far link.old) (D.script link.old)) (tells (D.far link.new) (D.script link.new))) }
-    ensures cut { IfErr result (IfCut (Leaves (LeftAside Unchanged halted.now.number) (D.far link.old) (D.far link.new))) }
-    ensures ready { OnOk result (IsReady (D.far link.new)) }
-    ensures selects { OnOk result (Selects halted.now.number (D.far link.new)) }
-    ensures halted { OnOk result (IsHalted halted.now.number (D.far link.new)) }
-    ensures state { IfErr result (LinkBehind (D.far link.new) (D.is_alive link.new)) }
-    ensures link { OnOk result (CanOperate (D.far link.new)) }
-    ensures live { OnOk result (IsLive (D.far link.new)) }
-    ensures idle { OnOk result (IsIdle (D.far link.new)) }
-    ensures alive { OnOk result (D.is_alive link.new ≡ true) }
-    ensures later { D.fault_count link.old ≤ D.fault_count link.new }
-    ensures slack { D.slack link.new ≡ D.slack link.old }
-    ensures ties { D.ties link.new ≡ D.ties link.old }
+    requires callable { CanCall (D.seen link.old) }
+    requires serving { Serving halted.now.number (D.seen link.old).far }
+    ensures saved_at { IfOk result (λ scratch. OnChip (SavedAt halted.now.number scratch.x8 scratch.x9) (D.seen link.old) (D.seen link.new)) }
+    ensures saved { IfOk result (λ scratch. Saved scratch.x8 scratch.x9 (told (D.seen link.old)) (told (D.seen link.new))) }
+    ensures left { IfErr result (ScratchLeft (D.seen link.old).far) }
+    ensures failed { IfErr result (Fails SaveFailed (D.seen link.old) (D.seen link.new)) }
+    ensures cut { IfErr result (IfCut (Leaves (LeftAside Unchanged halted.now.number) (D.seen link.old).far (D.seen link.new).far)) }
+    ensures serving { OnOk result (Serving halted.now.number (D.seen link.new).far) }
+    ensures keeps { Keeps access_why (D.seen link.old) (D.seen link.new) result }
 {
     let _halted = halted;
     let scratch = save_scratch(link)?;

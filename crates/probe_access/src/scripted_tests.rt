@@ -2,8 +2,8 @@
 //! Specification 1.0, "Abstract Control and Status" and "Debug Module Status".
 
 ghost use Rattle.std.specs.Prelude.{◌≡◌, [], true};
-ghost use Rattle.debug_model.specs.Dmi.{CanOperate};
 ghost use Rattle.debug_model.specs.Told.{IsAsLoaded};
+ghost use Rattle.debug_model.specs.Kept.{CanCall};
 
 use crate::blocks::{load_block, store_block};
 use crate::fault::AccessFault;
@@ -113,9 +113,8 @@ const LATER: [u32; 11] = [
 
 /// Opens the chip and makes one step.
 fn step_once<D: Dmi>(link: &mut D) -> Result<u16, Fault>
-    requires alive { D.is_alive link.old ≡ true }
-    requires link { CanOperate (D.far link.old) }
-    requires loaded { IsAsLoaded (D.far link.old) }
+    requires callable { CanCall (D.seen link.old) }
+    requires loaded { IsAsLoaded (D.seen link.old).far }
 {
     let target = connect(link)?;
     let Seen::Halted(halted) = target.look(link, 1)? else {
@@ -151,9 +150,8 @@ struct Loaded {
 
 /// Opens the chip and loads two words.
 fn load_two<D: Dmi>(link: &mut D) -> Result<Loaded, Fault>
-    requires alive { D.is_alive link.old ≡ true }
-    requires link { CanOperate (D.far link.old) }
-    requires loaded { IsAsLoaded (D.far link.old) }
+    requires callable { CanCall (D.seen link.old) }
+    requires loaded { IsAsLoaded (D.seen link.old).far }
 {
     let target = connect(link)?;
     let Seen::Halted(halted) = target.look(link, 0)? else {
@@ -211,9 +209,8 @@ fn loads_blocks(rt: HostRuntime) {
 
 /// Opens the chip and stores a byte twice.
 fn store_two<D: Dmi>(link: &mut D) -> Result<(), Fault>
-    requires alive { D.is_alive link.old ≡ true }
-    requires link { CanOperate (D.far link.old) }
-    requires loaded { IsAsLoaded (D.far link.old) }
+    requires callable { CanCall (D.seen link.old) }
+    requires loaded { IsAsLoaded (D.seen link.old).far }
 {
     let target = connect(link)?;
     let Seen::Halted(halted) = target.look(link, 0)? else {

@@ -1,10 +1,8 @@
-ghost use Rattle.std.specs.Prelude.{◌≡◌, ◌≤◌, ◌<◌, ◌^◌, ◌∷◌, [], true, false, IfOk, IfErr, OnErr, OnOk};
-ghost use Rattle.debug_model.specs.Dmi.{CanOperate};
-ghost use Rattle.debug_model.specs.Told.{IsIdle, IsLive};
-ghost use Rattle.debug_model.specs.ModuleWords.{command_word};
-ghost use Rattle.probe_run.specs.Acts.{Did, tells};
-ghost use Rattle.probe_access.specs.Faults.{BrokeIn, LinkBehind};
+ghost use Rattle.std.specs.Prelude.{◌≡◌, ◌≤◌, ◌<◌, ◌^◌, ◌∷◌, [], true, false, IfOk, IfErr, OnOk};
 ghost use Rattle.probe_access.specs.RegisterRuns.{ReadFailed, RegisterRead, RegisterWritten, WriteFailed};
+ghost use Rattle.debug_model.specs.Kept.{CanCall, Keeps};
+ghost use Rattle.probe_run.specs.Told.{Fails, told};
+ghost use Rattle.probe_access.specs.Faults.{access_why};
 
 use crate::commands::{run_command, transfer_of};
 use crate::doubles::{read_double, write_double};
@@ -16,18 +14,10 @@ pub const EXCEPTION: u8 = 3;
 
 /// Reads a register of the selected hart.
 pub fn read_register<D: Dmi>(link: &mut D, register: u16) -> Result<u64, AccessFault>
-    requires alive { D.is_alive link.old ≡ true }
-    requires link { CanOperate (D.far link.old) }
-    ensures read { IfOk result (λ value. RegisterRead register value (tells (D.far link.old) (D.script link.old)) (tells (D.far link.new) (D.script link.new))) }
-    ensures failed { IfErr result (ReadFailed register (D.fault_count link.old) (D.fault_count link.new) (tells (D.far link.old) (D.script link.old)) (tells (D.far link.new) (D.script link.new))) }
-    ensures state { IfErr result (LinkBehind (D.far link.new) (D.is_alive link.new)) }
-    ensures link { OnOk result (CanOperate (D.far link.new)) }
-    ensures live { OnOk result (IsLive (D.far link.new)) }
-    ensures idle { OnOk result (IsIdle (D.far link.new)) }
-    ensures alive { OnOk result (D.is_alive link.new ≡ true) }
-    ensures later { D.fault_count link.old ≤ D.fault_count link.new }
-    ensures slack { D.slack link.new ≡ D.slack link.old }
-    ensures ties { D.ties link.new ≡ D.ties link.old }
+    requires callable { CanCall (D.seen link.old) }
+    ensures read { IfOk result (λ value. RegisterRead register value (told (D.seen link.old)) (told (D.seen link.new))) }
+    ensures failed { IfErr result (Fails (ReadFailed register) (D.seen link.old) (D.seen link.new)) }
+    ensures keeps { Keeps access_why (D.seen link.old) (D.seen link.new) result }
 {
     let last = run_command(link, transfer_of(register, false))?;
     match Abstractcs::from_word(last).cmderr {
@@ -42,18 +32,10 @@ pub fn read_register<D: Dmi>(link: &mut D, register: u16) -> Result<u64, AccessF
 
 /// Writes a register of the selected hart.
 pub fn write_register<D: Dmi>(link: &mut D, register: u16, value: u64) -> Result<(), AccessFault>
-    requires alive { D.is_alive link.old ≡ true }
-    requires link { CanOperate (D.far link.old) }
-    ensures written { OnOk result (RegisterWritten register value (tells (D.far link.old) (D.script link.old)) (tells (D.far link.new) (D.script link.new))) }
-    ensures failed { IfErr result (WriteFailed register value (D.fault_count link.old) (D.fault_count link.new) (tells (D.far link.old) (D.script link.old)) (tells (D.far link.new) (D.script link.new))) }
-    ensures state { IfErr result (LinkBehind (D.far link.new) (D.is_alive link.new)) }
-    ensures link { OnOk result (CanOperate (D.far link.new)) }
-    ensures live { OnOk result (IsLive (D.far link.new)) }
-    ensures idle { OnOk result (IsIdle (D.far link.new)) }
-    ensures alive { OnOk result (D.is_alive link.new ≡ true) }
-    ensures later { D.fault_count link.old ≤ D.fault_count link.new }
-    ensures slack { D.slack link.new ≡ D.slack link.old }
-    ensures ties { D.ties link.new ≡ D.ties link.old }
+    requires callable { CanCall (D.seen link.old) }
+    ensures written { OnOk result (RegisterWritten register value (told (D.seen link.old)) (told (D.seen link.new))) }
+    ensures failed { IfErr result (Fails (WriteFailed register value) (D.seen link.old) (D.seen link.new)) }
+    ensures keeps { Keeps access_why (D.seen link.old) (D.seen link.new) result }
 {
     write_double(link, value)?;
     let last = run_command(link, transfer_of(register, true))?;

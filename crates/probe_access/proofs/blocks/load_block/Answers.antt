@@ -1,10 +1,11 @@
+use Rattle.probe_run.specs.Told.{told}
 use Rattle.probe_access.proofs.BlockCutClauses.{load_block_cut}
 use Rattle.std.proofs.Common.{◌≡◌, ◌∙◌, ◌<◌, ℕ, List, [], length, refl, sym, ap, subst, arith}
 use Rattle.debug_model.specs.Scan.{WhereTold}
 use Rattle.rv_model.specs.declared.size.Size.{Size}
 use Rattle.probe_access.specs.BlockRuns.{Fetched}
 use Rattle.probe_access.specs.Blocks.{BlockLoadedAt, element_at}
-use Rattle.probe_run.specs.Acts.{Tells, tells}
+use Rattle.probe_run.specs.Acts.{Tells}
 use Rattle.std.proofs.Common.{Option}
 use Rattle.debug_model.specs.Told.{Far}
 use Rattle.probe_access.proofs.BlockCauses.{around_causes, causes_behind, fetched_behind, fetched_made, fetched_more, fetched_none, link_later, load_inside_causes}
@@ -26,16 +27,11 @@ elements-init g c = record {
   all = none_there _ c.requires.empty;
   loaded = none_loaded c.args.size c.args.address _ _ c.requires.empty;
   fetched = none_fetched _ _ c.requires.empty;
-  ready = c.requires.ready;
-  selects = c.requires.selects;
-  halted = c.requires.halted;
-  alive = c.requires.alive;
-  link = c.requires.link;
-  live = λ h. absurd (omega arith);
-  idle = λ h. absurd (omega arith);
+  serving = c.requires.serving;
+  callable = c.requires.callable;
+  stands = λ h. absurd (omega arith);
   later = omega arith;
-  slack = refl;
-  ties = refl;
+  fixed = refl;
 }
 
 at_length : (size : Size) (address number at : ℕ) (values : List ℕ) → at ≡ element_at size address number → length values ≡ number → at ≡ element_at size address (length values)
@@ -48,22 +44,17 @@ pub elements-preserved : goal.elements-preserved
 elements-preserved g c = record {
   all = let e : length c.elements.into.items ≡ c.elements.number = c.elements.invariant.all in omega (arith, e, c.push.ensures.len);
   loaded =
-      subst (λ (xs : List ℕ). WhereTold (BlockLoadedAt c.args.size c.args.address xs) (g.D.Dmi.far c.args.link.now) (g.D.Dmi.far c.load.new.link)) (sym c.push.ensures.items)
+      subst (λ (xs : List ℕ). WhereTold (BlockLoadedAt c.args.size c.args.address xs) (g.D.Dmi.seen c.args.link.now).far (g.D.Dmi.seen c.load.new.link).far) (sym c.push.ensures.items)
       (load_further_at c.args.size c.args.address c.element-at.result c.in_ok-value.value c.elements.into.items _ _ _ (at_length c.args.size c.args.address c.elements.number c.element-at.result c.elements.into.items c.element-at.ensures c.elements.invariant.all)
       c.elements.invariant.loaded c.in_ok-value.ensures.loaded);
   fetched =
-      subst (λ (xs : List ℕ). Fetched xs (tells (g.D.Dmi.far c.args.link.now) (g.D.Dmi.script c.args.link.now)) (tells (g.D.Dmi.far c.load.new.link) (g.D.Dmi.script c.load.new.link))) (sym c.push.ensures.items)
+      subst (λ (xs : List ℕ). Fetched xs (told (g.D.Dmi.seen c.args.link.now)) (told (g.D.Dmi.seen c.load.new.link))) (sym c.push.ensures.items)
       (fetched_more c.args.size c.element-at.result c.in_ok-value.value c.elements.into.items _ _ _ c.elements.invariant.fetched c.in_ok-value.ensures.around);
-  ready = c.in_ok-value.ensures.ready;
-  selects = c.in_ok-value.ensures.selects;
-  halted = c.in_ok-value.ensures.halted;
-  alive = c.in_ok-value.ensures.alive;
-  link = c.in_ok-value.ensures.link;
-  live = λ h. c.in_ok-value.ensures.live;
-  idle = λ h. c.in_ok-value.ensures.idle;
-  later = omega (arith, c.elements.invariant.later, c.load.ensures.later);
-  slack = c.load.ensures.slack ∙ c.elements.invariant.slack;
-  ties = c.load.ensures.ties ∙ c.elements.invariant.ties;
+  serving = c.in_ok-value.ensures.serving;
+  callable = record { alive = c.in_ok-value.ensures.keeps.behind.alive; link = c.in_ok-value.ensures.keeps.behind.link };
+  stands = λ h. c.in_ok-value.ensures.keeps.behind;
+  later = omega (arith, c.elements.invariant.later, c.load.ensures.keeps.later);
+  fixed = c.load.ensures.keeps.fixed ∙ c.elements.invariant.fixed;
 }
 
 pub returns-in_err-value-clause-left : goal.returns-in_err-value-clause-left
@@ -76,8 +67,8 @@ returns-in_err-value-clause-left g c =
 pub returns-in_err-value-clause-causes : goal.returns-in_err-value-clause-causes
 returns-in_err-value-clause-causes g c =
     err_failed c.from_residual.result c.in_err-value.field-0.0 _ c.from_residual.ensures.1
-    (causes_behind _ _ _ (fetched_made c.elements.into.items _ _ c.elements.invariant.fetched) _ _ _ c.in_err-value.field-0.0 c.elements.invariant.later c.load.ensures.later
-    (around_causes _ _ _ _ _ _ c.in_err-value.field-0.0 (load_inside_causes c.args.size c.element-at.result) (link_later _ _ c.in_err-value.field-0.0 c.load.ensures.later) c.in_err-value.ensures.failed))
+    (causes_behind _ _ _ (fetched_made c.elements.into.items _ _ c.elements.invariant.fetched) _ _ _ c.in_err-value.field-0.0 c.elements.invariant.later c.load.ensures.keeps.later
+    (around_causes _ _ _ _ _ _ c.in_err-value.field-0.0 (load_inside_causes c.args.size c.element-at.result) (link_later _ _ c.in_err-value.field-0.0 c.load.ensures.keeps.later) c.in_err-value.ensures.failed))
 
 pub returns-in_err-value-clause-cut : goal.returns-in_err-value-clause-cut
 returns-in_err-value-clause-cut g c =
@@ -88,4 +79,4 @@ pub returns-in_err-value-clause-fetched_before : goal.returns-in_err-value-claus
 returns-in_err-value-clause-fetched_before g c =
     err_failed c.from_residual.result c.in_err-value.field-0.0 _ c.from_residual.ensures.1
     (fetched_behind c.elements.into.items _ _ _ _ _ c.in_err-value.field-0.0 c.elements.invariant.fetched
-    (around_causes _ _ _ _ _ _ c.in_err-value.field-0.0 (load_inside_causes c.args.size c.element-at.result) (link_later _ _ c.in_err-value.field-0.0 c.load.ensures.later) c.in_err-value.ensures.failed))
+    (around_causes _ _ _ _ _ _ c.in_err-value.field-0.0 (load_inside_causes c.args.size c.element-at.result) (link_later _ _ c.in_err-value.field-0.0 c.load.ensures.keeps.later) c.in_err-value.ensures.failed))

@@ -1,8 +1,9 @@
+use Rattle.probe_run.specs.Told.{Serving}
+use Rattle.probe_run.specs.Told.{told}
 use Rattle.std.proofs.Common.{◌≡◌, ◌≤◌, ◌<◌, true, length}
-use Rattle.debug_model.specs.Dmi.{CanOperate}
+use Rattle.debug_model.specs.Kept.{CanCall, Stands}
 use Rattle.debug_model.specs.Scan.{WhereTold}
-use Rattle.debug_model.specs.Told.{IsHalted, IsIdle, IsLive, IsReady, Selects}
-use Rattle.probe_run.specs.Acts.{tells}
+use Rattle.debug_model.specs.Told.{IsHalted, IsReady, Selects}
 use Rattle.probe_access.specs.BlockRuns.{Fetched}
 use Rattle.probe_access.specs.Blocks.{BlockLoadedAt}
 use Rattle.probe_access.proofs.blocks.load_block.Given as goal
@@ -10,16 +11,11 @@ use Rattle.probe_access.proofs.blocks.load_block.Given as goal
 abbrev pub invariant-elements : goal.invariant-elements
 invariant-elements g l = record {
   all : length l.into.items ≡ l.number;
-  loaded : WhereTold (BlockLoadedAt l.fn.size l.fn.address l.into.items) (g.D.Dmi.far l.fn.link) (g.D.Dmi.far l.link);
-  fetched : Fetched l.into.items (tells (g.D.Dmi.far l.fn.link) (g.D.Dmi.script l.fn.link)) (tells (g.D.Dmi.far l.link) (g.D.Dmi.script l.link));
-  ready : IsReady (g.D.Dmi.far l.link);
-  selects : Selects l.halted.number (g.D.Dmi.far l.link);
-  halted : IsHalted l.halted.number (g.D.Dmi.far l.link);
-  alive : g.D.Dmi.is_alive l.link ≡ true;
-  link : CanOperate (g.D.Dmi.far l.link);
-  live : 0 < l.number → IsLive (g.D.Dmi.far l.link);
-  idle : 0 < l.number → IsIdle (g.D.Dmi.far l.link);
-  later : g.D.Dmi.fault_count l.fn.link ≤ g.D.Dmi.fault_count l.link;
-  slack : g.D.Dmi.slack l.link ≡ g.D.Dmi.slack l.fn.link;
-  ties : g.D.Dmi.ties l.link ≡ g.D.Dmi.ties l.fn.link;
+  loaded : WhereTold (BlockLoadedAt l.fn.size l.fn.address l.into.items) (g.D.Dmi.seen l.fn.link).far (g.D.Dmi.seen l.link).far;
+  fetched : Fetched l.into.items (told (g.D.Dmi.seen l.fn.link)) (told (g.D.Dmi.seen l.link));
+  serving : Serving l.halted.number (g.D.Dmi.seen l.link).far;
+  callable : CanCall (g.D.Dmi.seen l.link);
+  stands : 0 < l.number → Stands (g.D.Dmi.seen l.link);
+  later : (g.D.Dmi.seen l.fn.link).fault_count ≤ (g.D.Dmi.seen l.link).fault_count;
+  fixed : (g.D.Dmi.seen l.link).fixed ≡ (g.D.Dmi.seen l.fn.link).fixed;
 }

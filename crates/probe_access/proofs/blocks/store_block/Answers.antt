@@ -10,32 +10,22 @@ pub elements-init : goal.elements-init
 elements-init g c = record {
   stored = store_nothing c.args.size c.args.address c.args.value _;
   calls = calls [] _ _ nothing;
-  ready = c.requires.ready;
-  selects = c.requires.selects;
-  halted = c.requires.halted;
-  alive = c.requires.alive;
-  link = c.requires.link;
-  live = λ h. absurd (omega arith);
-  idle = λ h. absurd (omega arith);
+  serving = c.requires.serving;
+  callable = c.requires.callable;
+  stands = λ h. absurd (omega arith);
   later = omega arith;
-  slack = refl;
-  ties = refl;
+  fixed = refl;
 }
 
 pub elements-preserved : goal.elements-preserved
 elements-preserved g c = record {
   stored = store_further_at c.args.size c.args.address c.element-at.result c.args.value c.elements.number _ _ _ c.element-at.ensures c.elements.invariant.stored c.in_ok-store.ensures.stored;
   calls = calls_then _ _ _ c.elements.invariant.calls (store_around_calls c.args.size c.element-at.result c.args.value _ _ c.in_ok-store.ensures.around);
-  ready = c.in_ok-store.ensures.ready;
-  selects = c.in_ok-store.ensures.selects;
-  halted = c.in_ok-store.ensures.halted;
-  alive = c.in_ok-store.ensures.alive;
-  link = c.in_ok-store.ensures.link;
-  live = λ h. c.in_ok-store.ensures.live;
-  idle = λ h. c.in_ok-store.ensures.idle;
-  later = omega (arith, c.elements.invariant.later, c.store.ensures.later);
-  slack = c.store.ensures.slack ∙ c.elements.invariant.slack;
-  ties = c.store.ensures.ties ∙ c.elements.invariant.ties;
+  serving = c.in_ok-store.ensures.serving;
+  callable = record { alive = c.in_ok-store.ensures.keeps.behind.alive; link = c.in_ok-store.ensures.keeps.behind.link };
+  stands = λ h. c.in_ok-store.ensures.keeps.behind;
+  later = omega (arith, c.elements.invariant.later, c.store.ensures.keeps.later);
+  fixed = c.store.ensures.keeps.fixed ∙ c.elements.invariant.fixed;
 }
 
 pub returns-in_err-store-clause-left : goal.returns-in_err-store-clause-left
@@ -46,8 +36,8 @@ returns-in_err-store-clause-left g c =
 pub returns-in_err-store-clause-causes : goal.returns-in_err-store-clause-causes
 returns-in_err-store-clause-causes g c =
     err_failed c.from_residual.result c.in_err-store.field-0.0 _ c.from_residual.ensures.1
-    (causes_behind _ _ _ c.elements.invariant.calls _ _ _ c.in_err-store.field-0.0 c.elements.invariant.later c.store.ensures.later
-    (around_causes _ _ _ _ _ _ c.in_err-store.field-0.0 (store_inside_causes c.args.size c.element-at.result c.args.value) (link_later _ _ c.in_err-store.field-0.0 c.store.ensures.later) c.in_err-store.ensures.failed))
+    (causes_behind _ _ _ c.elements.invariant.calls _ _ _ c.in_err-store.field-0.0 c.elements.invariant.later c.store.ensures.keeps.later
+    (around_causes _ _ _ _ _ _ c.in_err-store.field-0.0 (store_inside_causes c.args.size c.element-at.result c.args.value) (link_later _ _ c.in_err-store.field-0.0 c.store.ensures.keeps.later) c.in_err-store.ensures.failed))
 
 pub returns-in_err-store-clause-cut : goal.returns-in_err-store-clause-cut
 returns-in_err-store-clause-cut g c =

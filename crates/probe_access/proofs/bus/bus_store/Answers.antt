@@ -1,4 +1,4 @@
-use Rattle.probe_run.specs.Acts.{tells}
+use Rattle.probe_run.specs.Told.{told}
 use Rattle.probe_access.proofs.BusCutClauses.{bus_store_cut}
 use Rattle.std.proofs.Common.{refl}
 use Rattle.probe_access.specs.BusRuns.BusStoreFailed.{in_start, in_end}
@@ -13,19 +13,19 @@ returns-in_err-start_write-clause-failed g c = err_failed c.from_residual.result
 pub returns-in_err-finish-clause-failed : goal.returns-in_err-finish-clause-failed
 returns-in_err-finish-clause-failed g c =
     err_failed c.from_residual-in_err-finish.result c.in_err-finish.field-0.0 _ c.from_residual-in_err-finish.ensures.1
-    (in_end _ c.in_ok-start_write.ensures.did (end_counted c.args.address _ _ _ _ _ c.in_err-finish.field-0.0 c.start_write.ensures.later c.finish.ensures.later c.in_err-finish.ensures.failed))
+    (in_end _ c.in_ok-start_write.ensures.did (end_counted c.args.address _ _ _ _ _ c.in_err-finish.field-0.0 c.start_write.ensures.keeps.later c.finish.ensures.keeps.later c.in_err-finish.ensures.failed))
 
 pub returns-in_err-finish-clause-left : goal.returns-in_err-finish-clause-left
 returns-in_err-finish-clause-left g c =
     err_failed c.from_residual-in_err-finish.result c.in_err-finish.field-0.0 _ c.from_residual-in_err-finish.ensures.1
     (bus_store_err c.args.size c.args.address c.args.value _ _ _ _ _ c.in_err-finish.field-0.0 c.requires.ready c.requires.aligned
-    (in_end _ c.in_ok-start_write.ensures.did (end_counted c.args.address _ _ _ _ _ c.in_err-finish.field-0.0 c.start_write.ensures.later c.finish.ensures.later c.in_err-finish.ensures.failed))).left
+    (in_end _ c.in_ok-start_write.ensures.did (end_counted c.args.address _ _ _ _ _ c.in_err-finish.field-0.0 c.start_write.ensures.keeps.later c.finish.ensures.keeps.later c.in_err-finish.ensures.failed))).left
 
 pub returns-in_err-finish-clause-ready_again : goal.returns-in_err-finish-clause-ready_again
 returns-in_err-finish-clause-ready_again g c =
     err_failed c.from_residual-in_err-finish.result c.in_err-finish.field-0.0 _ c.from_residual-in_err-finish.ensures.1
     (bus_store_err c.args.size c.args.address c.args.value _ _ _ _ _ c.in_err-finish.field-0.0 c.requires.ready c.requires.aligned
-    (in_end _ c.in_ok-start_write.ensures.did (end_counted c.args.address _ _ _ _ _ c.in_err-finish.field-0.0 c.start_write.ensures.later c.finish.ensures.later c.in_err-finish.ensures.failed))).ready
+    (in_end _ c.in_ok-start_write.ensures.did (end_counted c.args.address _ _ _ _ _ c.in_err-finish.field-0.0 c.start_write.ensures.keeps.later c.finish.ensures.keeps.later c.in_err-finish.ensures.failed))).ready
 
 pub returns-clause-stored : goal.returns-clause-stored
 returns-clause-stored g c =
@@ -38,10 +38,10 @@ returns-clause-ready g c =
 pub returns-in_err-start_write-clause-cut : goal.returns-in_err-start_write-clause-cut
 returns-in_err-start_write-clause-cut g c =
     err_failed c.from_residual.result _ _ c.from_residual.ensures.1
-    (bus_store_cut c.args.size c.args.address c.args.value _ _ (tells (g.D.Dmi.far c.start_write.new.link) (g.D.Dmi.script c.start_write.new.link)) _ _ _ c.requires.ready c.requires.aligned (in_start c.in_err-start_write.field-0.0 refl c.in_err-start_write.ensures.broke))
+    (bus_store_cut c.args.size c.args.address c.args.value _ _ (told (g.D.Dmi.seen c.start_write.new.link)) _ _ _ c.requires.ready c.requires.aligned (in_start c.in_err-start_write.field-0.0 refl c.in_err-start_write.ensures.broke))
 
 pub returns-in_err-finish-clause-cut : goal.returns-in_err-finish-clause-cut
 returns-in_err-finish-clause-cut g c =
     err_failed c.from_residual-in_err-finish.result c.in_err-finish.field-0.0 _ c.from_residual-in_err-finish.ensures.1
     (bus_store_cut c.args.size c.args.address c.args.value _ _ _ _ _ c.in_err-finish.field-0.0 c.requires.ready c.requires.aligned
-    (in_end _ c.in_ok-start_write.ensures.did (end_counted c.args.address _ _ _ _ _ c.in_err-finish.field-0.0 c.start_write.ensures.later c.finish.ensures.later c.in_err-finish.ensures.failed)))
+    (in_end _ c.in_ok-start_write.ensures.did (end_counted c.args.address _ _ _ _ _ c.in_err-finish.field-0.0 c.start_write.ensures.keeps.later c.finish.ensures.keeps.later c.in_err-finish.ensures.failed)))

@@ -1,6 +1,6 @@
+use Rattle.probe_run.specs.Told.{told}
 use Rattle.debug_model.specs.declared.dmi_op.DmiOp.TheVariants.{Read}
 use Rattle.probe_run.specs.Acts.Attempt.{Operation}
-use Rattle.probe_run.specs.Acts.{tells}
 use Rattle.probe_access.specs.RegisterRuns.{DoubleReads}
 use Rattle.probe_access.specs.RegisterRuns.DoubleReads.{lower, upper}
 use Rattle.probe_run.proofs.ActLemmas.{broke_one, did_then}
@@ -11,14 +11,14 @@ use Rattle.probe_access.proofs.doubles.read_double.Goals as goal
 pub returns-in_err-low-clause-broke : goal.returns-in_err-low-clause-broke
 returns-in_err-low-clause-broke g c =
     fault_failed c.from_residual.result c.in_err-low.field-0.0 _ c.from_residual.ensures.1
-    (broke_first DoubleReads (Operation (Read 4)) _ _ (tells (g.D.Dmi.far c.args.link.now) (g.D.Dmi.script c.args.link.now)) _ c.in_err-low.field-0.0 lower
+    (broke_first DoubleReads (Operation (Read 4)) _ _ (told (g.D.Dmi.seen c.args.link.now)) _ c.in_err-low.field-0.0 lower
     (broke_one (Operation (Read 4)) _ _ _ _ c.in_err-low.field-0.0 c.in_err-low.ensures.cut c.in_err-low.ensures.cause))
 
 pub returns-in_err-high-clause-broke : goal.returns-in_err-high-clause-broke
 returns-in_err-high-clause-broke g c =
     fault_failed c.from_residual-in_err-high.result c.in_err-high.field-0.0 _ c.from_residual-in_err-high.ensures.1
-    (read_broke_behind DoubleReads _ 5 _ _ _ (tells (g.D.Dmi.far c.args.link.now) (g.D.Dmi.script c.args.link.now)) (tells (g.D.Dmi.far c.read.new.self) (g.D.Dmi.script c.read.new.self)) _ c.in_err-high.field-0.0 (upper c.in_ok-low.low)
-    (read_did 4 c.in_ok-low.low _ _ c.in_ok-low.ensures.operated c.in_ok-low.ensures.answers) c.read.ensures.later c.read-2.ensures.later c.in_err-high.ensures.cut c.in_err-high.ensures.cause)
+    (read_broke_behind DoubleReads _ 5 _ _ _ (told (g.D.Dmi.seen c.args.link.now)) (told (g.D.Dmi.seen c.read.new.self)) _ c.in_err-high.field-0.0 (upper c.in_ok-low.low)
+    (read_did 4 c.in_ok-low.low _ _ c.in_ok-low.ensures.operated c.in_ok-low.ensures.answers) c.read.ensures.keeps.later c.read-2.ensures.keeps.later c.in_err-high.ensures.cut c.in_err-high.ensures.cause)
 
 pub returns-clause-read : goal.returns-clause-read
 returns-clause-read g c = record {

@@ -6,13 +6,10 @@ use Rattle.probe_access.proofs.polling.poll.Goals as goal
 pub polls-init : goal.polls-init
 polls-init g c = record {
   waiting = waiting_none _;
-  alive = c.requires.alive;
-  link = c.requires.link;
-  live = λ h. absurd (omega arith);
-  idle = λ h. absurd (omega arith);
+  callable = c.requires.callable;
+  stands = λ h. absurd (omega arith);
   later = omega arith;
-  slack = refl;
-  ties = refl;
+  fixed = refl;
 }
 
 pub polls-preserved : goal.polls-preserved
@@ -20,19 +17,16 @@ polls-preserved g c = record {
   waiting =
       waiting_more c.polls._polls c.in_ok-word.word _ _ _ c.polls.invariant.waiting (read_did 22 c.in_ok-word.word _ _ c.in_ok-word.ensures.operated c.in_ok-word.ensures.answers)
       (sym (ap (λ (s : Abstractcs). s.busy) c.from_word-status.ensures) ∙ not_false _ c.if-not-status.false);
-  alive = c.in_ok-word.ensures.alive;
-  link = c.in_ok-word.ensures.link;
-  live = λ h. c.in_ok-word.ensures.live;
-  idle = λ h. c.in_ok-word.ensures.idle;
-  later = omega (arith, c.polls.invariant.later, c.read.ensures.later);
-  slack = c.read.ensures.slack ∙ c.polls.invariant.slack;
-  ties = c.read.ensures.ties ∙ c.polls.invariant.ties;
+  callable = record { alive = c.in_ok-word.ensures.keeps.behind.alive; link = c.in_ok-word.ensures.keeps.behind.link };
+  stands = λ h. c.in_ok-word.ensures.keeps.behind;
+  later = omega (arith, c.polls.invariant.later, c.read.ensures.keeps.later);
+  fixed = c.read.ensures.keeps.fixed ∙ c.polls.invariant.fixed;
 }
 
 pub returns-in_err-word-clause-failed : goal.returns-in_err-word-clause-failed
 returns-in_err-word-clause-failed g c =
     dmi_failed c.from_residual.result c.in_err-word.field-0.0 _ c.from_residual.ensures.1
-    (poll_broke c.polls._polls _ _ _ _ _ _ c.in_err-word.field-0.0 c.polls.invariant.waiting c.polls-test.true c.polls.invariant.later c.read.ensures.later c.in_err-word.ensures.cut c.in_err-word.ensures.cause)
+    (poll_broke c.polls._polls _ _ _ _ _ _ c.in_err-word.field-0.0 c.polls.invariant.waiting c.polls-test.true c.polls.invariant.later c.read.ensures.keeps.later c.in_err-word.ensures.cut c.in_err-word.ensures.cause)
 
 pub returns-then-not-status-clause-polled : goal.returns-then-not-status-clause-polled
 returns-then-not-status-clause-polled g c =

@@ -27,13 +27,13 @@ pub returns-in_err-again-clause-failed : goal.returns-in_err-again-clause-failed
 returns-in_err-again-clause-failed g c =
     err_failed c.from_residual-in_err-again.result _ _ c.from_residual-in_err-again.ensures.1
     (in_run _ c.in_ok-set_flag.ensures.written c.in_err-again.field-0.0
-    (run_counted c.args.halted.number _ _ _ _ _ c.in_err-again.field-0.0 c.set_flag.ensures.later c.run_one.ensures.later c.in_err-again.ensures.fails) refl)
+    (run_counted c.args.halted.number _ _ _ _ _ c.in_err-again.field-0.0 c.set_flag.ensures.keeps.later c.run_one.ensures.keeps.later c.in_err-again.ensures.fails) refl)
 
 pub returns-in_err-set_flag-2-clause-failed : goal.returns-in_err-set_flag-2-clause-failed
 returns-in_err-set_flag-2-clause-failed g c =
     err_failed c.from_residual-in_err-set_flag-2.result c.in_err-set_flag-2.field-0.0 _ c.from_residual-in_err-set_flag-2.ensures.1
     (in_clear _ _ c.in_ok-set_flag.ensures.written c.in_ok-again.ensures.did
-    (flag_counted false _ _ _ _ _ c.in_err-set_flag-2.field-0.0 (omega (arith, c.set_flag.ensures.later, c.run_one.ensures.later)) c.set_flag-2.ensures.later c.in_err-set_flag-2.ensures.failed))
+    (flag_counted false _ _ _ _ _ c.in_err-set_flag-2.field-0.0 (omega (arith, c.set_flag.ensures.keeps.later, c.run_one.ensures.keeps.later)) c.set_flag-2.ensures.keeps.later c.in_err-set_flag-2.ensures.failed))
 
 pub returns-clause-stepped_at : goal.returns-clause-stepped_at
 returns-clause-stepped_at g c =

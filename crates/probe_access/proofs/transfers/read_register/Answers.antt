@@ -13,4 +13,4 @@ returns-in_err-value-in-0-clause-failed g c =
     err_failed c.from_residual-in_err-value-in-0.result _ _ c.from_residual-in_err-value-in-0.ensures.1
     (read_words_failed c.args.register c.in_ok-last.last c.in_err-value-in-0.field-0.0 _ _ _ _ _ _
     (same_ran _ _ c.in_ok-last.last _ _ c.transfer_of.ensures c.in_ok-last.ensures.ran)
-    (ap (λ (s : Abstractcs). s.cmderr) (sym c.from_word.ensures) ∙ c.in-0.is) c.run_command.ensures.later c.read_double.ensures.later c.in_err-value-in-0.ensures.broke)
+    (ap (λ (s : Abstractcs). s.cmderr) (sym c.from_word.ensures) ∙ c.in-0.is) c.run_command.ensures.keeps.later c.read_double.ensures.keeps.later c.in_err-value-in-0.ensures.broke)

@@ -9,5 +9,5 @@ returns-in_err-write_double-clause-failed g c =
 pub returns-in_err-last-clause-failed : goal.returns-in_err-last-clause-failed
 returns-in_err-last-clause-failed g c =
     err_failed c.from_residual-in_err-last.result c.in_err-last.field-0.0 _ c.from_residual-in_err-last.ensures.1
-    (write_command_failed c.args.register c.args.value c.in_err-last.field-0.0 _ _ _ _ _ _ c.in_ok-write_double.ensures.did c.write_double.ensures.later c.run_command.ensures.later
+    (write_command_failed c.args.register c.args.value c.in_err-last.field-0.0 _ _ _ _ _ _ c.in_ok-write_double.ensures.did c.write_double.ensures.keeps.later c.run_command.ensures.keeps.later
     (same_failed _ _ c.in_err-last.field-0.0 _ _ _ _ c.transfer_of.ensures c.in_err-last.ensures.failed))
