@@ -52,20 +52,15 @@ impl<'a> Recorder<'a> {
 }
 
 impl<'a> Scan for Recorder<'a> {
-    ghost use Rattle.std.specs.Prelude.{None};
+    ghost use Rattle.std.specs.Prelude.{None, true};
     ghost use Rattle.debug_model.specs.Ties.{no_ties};
 
-    ghost far = { λ _. None };
-
-    ghost script = { λ _. None };
-
-    ghost fault_count = { λ s. s.failed };
-
-    ghost slack = { λ _. None };
-
-    ghost gives = { λ _. Unit {0} };
-
-    ghost ties = { λ _. no_ties };
+    ghost seen = { λ s. record {
+      far = None;
+      coming = None;
+      fault_count = s.failed;
+      fixed = record { slack = None; ties = no_ties; gives = λ _. true };
+    } };
 
     fn reset(&mut self) -> Result<(), WireFault> {
         self.keep(Call::Reset);
