@@ -10,7 +10,8 @@ use Rattle.rv_model.specs.Turn.{memory_after, place_of}
 use Rattle.debug_model.specs.declared.dmi_op.DmiOp.{DmiOp}
 use Rattle.debug_model.specs.declared.dmi_op.DmiOp.TheVariants.{Read, Write}
 use Rattle.debug_model.specs.declared.module_register.ModuleRegister.{ModuleRegister}
-use Rattle.debug_model.specs.declared.module_register.ModuleRegister.TheVariants.{Word, Dmcontrol, Dmstatus, Abstractcs, Command, Abstractauto, Sbcs, Sbaddress0, Sbaddress1, Sbdata0, Sbdata1, Haltsum0, Nothing}
+use Rattle.debug_model.specs.declared.module_register.ModuleRegister.TheVariants.{Word, Dmcontrol, Dmstatus, Abstractcs, Command, Abstractauto, Sbcs}
+use Rattle.debug_model.specs.declared.module_register.ModuleRegister.TheVariants.{Sbaddress0, Sbaddress1, Sbdata0, Sbdata1, Haltsum0, Nothing}
 use Rattle.debug_model.specs.declared.point.Point.TheVariants.{ResumeReq}
 use Rattle.debug_model.specs.Commands.{busy}
 use Rattle.debug_model.specs.Deeds.{command_stepped}
