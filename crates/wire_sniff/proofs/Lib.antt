@@ -1,0 +1,5 @@
+pub mod ScanLemmas
+pub mod SnifferLemmas
+pub mod PutLemmas
+pub mod LineLemmas
+pub mod Follows

@@ -1,0 +1,4 @@
+pub mod Ends
+pub mod Sniffed
+pub mod SniffedText
+pub mod State
