@@ -3,3 +3,5 @@ pub mod SnifferLemmas
 pub mod PutLemmas
 pub mod LineLemmas
 pub mod Follows
+pub mod OutcomeLemmas
+pub mod PathLemmas

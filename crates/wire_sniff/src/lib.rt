@@ -3,6 +3,7 @@
 //! `sniff` puts exactly the lines of `specs/Sniffed.antt`, or none and says what is wrong with the stream or its answers. It takes no memory.
 #![tactic(auto)]
 
+mod laws;
 mod line;
 mod scan;
 mod sniff_end;
@@ -12,5 +13,6 @@ mod sniffing;
 mod tests;
 mod text;
 
+pub use laws::{dmi_scans_show_their_outcome, paths_show_their_scans};
 pub use sniff_end::SniffEnd;
 pub use sniffing::sniff;

@@ -74,7 +74,7 @@ fn refusal(signs: &[u8], answers: &[u8]) -> Option<SniffEnd>
     ensures { result ≡ refusal_of signs.now answers.now }
 {
     let asked = match questions(signs) {
-        Ok(asked) => asked,
+        Ok(count) => count,
         Err(end) => return Some(end),
     };
     if let Some(answer) = bad_answer(answers) {

@@ -97,19 +97,296 @@ fn the_idcode_is_a_scan(rt: HostRuntime) -> Result<(), Fail> {
     let stream = scan_of(alloc, 32)?;
     let line = "dr 0x01 32 0x0000000000000000 0x0000000010d64001\n";
     check(&rt, alloc, &stream, IDCODE_ANSWERS, SniffEnd::Clean, line)?;
+    for given in [31, 0] {
+        let end = SniffEnd::Count {
+            asked: 32,
+            given: given as u64,
+        };
+        check(&rt, alloc, &stream, &IDCODE_ANSWERS[..given], end, "")?;
+    }
     let end = SniffEnd::Count {
-        asked: 32,
-        given: 31,
+        asked: 31,
+        given: 32,
     };
-    check(&rt, alloc, &stream, &IDCODE_ANSWERS[..31], end, "")
+    check(&rt, alloc, &scan_of(alloc, 31)?, IDCODE_ANSWERS, end, "")
 }
 
 #[test]
 fn a_write_is_an_operation(rt: HostRuntime) -> Result<(), Fail> {
     let alloc = rt.alloc();
     let stream = dmi_scan(alloc, &write_bits(alloc)?)?;
+    let scan = "ir 0x11\ndr 0x11 41 0x0000004000000006 0x";
+    // the two answers that come first, the taken bits, and what the scan shows beside them
+    let cases: [(&[u8], &str, &str); 4] = [
+        (b"00", "0000000000000000", "write 0x10 0x00000001"),
+        (b"10", "0000000000000001", "busy"),
+        (b"01", "0000000000000002", "failed"),
+        (b"11", "0000000000000003", "busy"),
+    ];
+    for (status, taken, shown) in cases {
+        let answers = join(alloc, &[status, &times(alloc, b"0", 39)?])?;
+        let lines = format!(in alloc; "{scan}{taken}\ndmi {shown}\n")?;
+        check(&rt, alloc, &stream, &answers, SniffEnd::Clean, &lines)?;
+    }
+    Ok(())
+}
+
+#[test]
+fn the_field_op_tells_the_operation(rt: HostRuntime) -> Result<(), Fail> {
+    let alloc = rt.alloc();
+    // the two first bits, the given bits of a scan of address 0x7f and value 0xffffffff, and what it shows
+    let cases: [(&[u8], &str, &str); 4] = [
+        (b"0R40R4", "000001fffffffffc", ""),
+        (b"1R50R4", "000001fffffffffd", "dmi read 0x7f\n"),
+        (b"0R41R5", "000001fffffffffe", "dmi write 0x7f 0xffffffff\n"),
+        (b"1R51R5", "000001ffffffffff", ""),
+    ];
     let answers = times(alloc, b"0", 41)?;
-    let scan = "ir 0x11\ndr 0x11 41 0x0000004000000006 0x0000000000000000\n";
-    let lines = format!(in alloc; "{scan}dmi write 0x10 0x00000001\n")?;
-    check(&rt, alloc, &stream, &answers, SniffEnd::Clean, &lines)
+    for (op, given, shown) in cases {
+        let bits = join(alloc, &[op, &times(alloc, b"1R5", 38)?, b"3R7"])?;
+        let stream = dmi_scan(alloc, &bits)?;
+        let scan = format!(in alloc; "ir 0x11\ndr 0x11 41 0x{given} 0x0000000000000000\n{shown}")?;
+        check(&rt, alloc, &stream, &answers, SniffEnd::Clean, &scan)?;
+    }
+    Ok(())
+}
+
+#[test]
+fn what_nobody_asked_is_unseen(rt: HostRuntime) -> Result<(), Fail> {
+    let alloc = rt.alloc();
+    // a read of address 0: its first bits, those that are asked, and what the scan shows
+    let unseen = "0x0000000000000001 -\ndmi unseen\n";
+    let read = "0x0000000000000001 -\ndmi read 0x00\n";
+    let cases: [(&[u8], &[u8], &str); 4] = [
+        (b"1504", b"", unseen),
+        (b"1R504", b"0", unseen),
+        (b"150R4", b"0", unseen),
+        (b"1R50R4", b"00", read),
+    ];
+    for (first, answers, shown) in cases {
+        let bits = join(alloc, &[first, &times(alloc, b"04", 38)?, b"26"])?;
+        let stream = dmi_scan(alloc, &bits)?;
+        let lines = format!(in alloc; "ir 0x11\ndr 0x11 41 {shown}")?;
+        check(&rt, alloc, &stream, answers, SniffEnd::Clean, &lines)?;
+    }
+    Ok(())
+}
+
+#[test]
+fn a_question_is_about_the_next_rise(rt: HostRuntime) -> Result<(), Fail> {
+    let alloc = rt.alloc();
+    // the clock of the one bit, the answers, and the taken bit
+    let cases: [(&[u8], &[u8], &str); 5] = [
+        (b"2R6", b"1", "0x0000000000000001"),
+        (b"2RR6", b"10", "0x0000000000000000"),
+        (b"2RR6", b"01", "0x0000000000000001"),
+        (b"2R2b2Bs6", b"1", "0x0000000000000001"),
+        (b"R26", b"1", "-"),
+    ];
+    for (clock, answers, taken) in cases {
+        let stream = join(alloc, &[RESET, TO_SHIFT_DR, clock, TO_IDLE])?;
+        let lines = format!(in alloc; "dr 0x01 1 0x0000000000000000 {taken}\n")?;
+        check(&rt, alloc, &stream, answers, SniffEnd::Clean, &lines)?;
+    }
+    Ok(())
+}
+
+#[test]
+fn long_and_empty_scans(rt: HostRuntime) -> Result<(), Fail> {
+    let alloc = rt.alloc();
+    let ones = times(alloc, b"1", 64)?;
+    let line = "dr 0x01 64 0x0000000000000000 0xffffffffffffffff\n";
+    check(
+        &rt,
+        alloc,
+        &scan_of(alloc, 64)?,
+        &ones,
+        SniffEnd::Clean,
+        line,
+    )?;
+    for count in [65, 1000] {
+        let answers = times(alloc, b"1", count)?;
+        let line = format!(in alloc; "dr 0x01 {count} long\n")?;
+        check(
+            &rt,
+            alloc,
+            &scan_of(alloc, count)?,
+            &answers,
+            SniffEnd::Clean,
+            &line,
+        )?;
+    }
+    // from Capture-DR over Exit1-DR, with IDCODE and with dmi
+    let empty: &[u8] = b"260426";
+    let line = "dr 0x01 0 0x0000000000000000 0x0000000000000000\n";
+    let stream = join(alloc, &[RESET, empty, TO_IDLE])?;
+    check(&rt, alloc, &stream, b"", SniffEnd::Clean, line)?;
+    let stream = join(
+        alloc,
+        &[RESET, TO_SHIFT_IR, SELECT_DMI, TO_IDLE, empty, TO_IDLE],
+    )?;
+    let lines = "ir 0x11\ndr 0x11 0 0x0000000000000000 0x0000000000000000\ndmi odd\n";
+    check(&rt, alloc, &stream, b"", SniffEnd::Clean, lines)
+}
+
+#[test]
+fn dmi_has_41_bits(rt: HostRuntime) -> Result<(), Fail> {
+    let alloc = rt.alloc();
+    for count in [40, 42] {
+        let bits = join(alloc, &[&times(alloc, b"0R4", count - 1)?, b"2R6"])?;
+        let stream = dmi_scan(alloc, &bits)?;
+        let zeros = "0x0000000000000000";
+        let lines = format!(in alloc; "ir 0x11\ndr 0x11 {count} {zeros} {zeros}\ndmi odd\n")?;
+        check(
+            &rt,
+            alloc,
+            &stream,
+            &times(alloc, b"0", count)?,
+            SniffEnd::Clean,
+            &lines,
+        )?;
+    }
+    Ok(())
+}
+
+#[test]
+fn a_scan_goes_on_behind_a_pause(rt: HostRuntime) -> Result<(), Fail> {
+    let alloc = rt.alloc();
+    let bits = times(alloc, b"0R4", 15)?;
+    // from Exit1-DR to Pause-DR, a clock there, and over Exit2-DR back to Shift-DR
+    let pause: &[u8] = b"04042604";
+    let stream = join(
+        alloc,
+        &[
+            RESET,
+            TO_SHIFT_DR,
+            &bits,
+            b"2R6",
+            pause,
+            &bits,
+            b"2R6",
+            TO_IDLE,
+        ],
+    )?;
+    let line = "dr 0x01 32 0x0000000000000000 0x0000000010d64001\n";
+    check(&rt, alloc, &stream, IDCODE_ANSWERS, SniffEnd::Clean, line)
+}
+
+#[test]
+fn an_instruction_keeps_the_last_five_bits(rt: HostRuntime) -> Result<(), Fail> {
+    let alloc = rt.alloc();
+    // the bits, and what five more leave of the captured 00001
+    let cases: [(&[u8], &str); 4] = [
+        (SELECT_DMI, "ir 0x11\n"),
+        (b"151515151537", "ir 0x1f\n"),
+        (b"26", "ir 0x00\n"),
+        (b"37", "ir 0x10\n"),
+    ];
+    for (bits, line) in cases {
+        let stream = join(alloc, &[RESET, TO_SHIFT_IR, bits, TO_IDLE])?;
+        check(&rt, alloc, &stream, b"", SniffEnd::Clean, line)?;
+    }
+    // none at all: over Exit1-IR
+    let stream = join(alloc, &[RESET, b"26260426", TO_IDLE])?;
+    check(&rt, alloc, &stream, b"", SniffEnd::Clean, "ir 0x01\n")
+}
+
+#[test]
+fn a_reset_cuts_a_scan_and_selects_idcode(rt: HostRuntime) -> Result<(), Fail> {
+    let alloc = rt.alloc();
+    let scan: &[u8] = b"260404262604";
+    let idcode = "dr 0x01 1 0x0000000000000000 -\n";
+    let dmi = "dr 0x11 1 0x0000000000000000 -\ndmi odd\n";
+    // TRST in Shift-DR, with a clock under it; TRST in Update-DR, before its fall; Test-Logic-Reset over Select-IR; and TRST 0 alone
+    let cases: [(&[u8], &str); 4] = [
+        (b"2604040404t04r04", idcode),
+        (b"2604042626us04", idcode),
+        (b"26262604", idcode),
+        (b"rs", dmi),
+    ];
+    for (between, shown) in cases {
+        let stream = join(
+            alloc,
+            &[RESET, TO_SHIFT_IR, SELECT_DMI, TO_IDLE, between, scan],
+        )?;
+        let lines = format!(in alloc; "ir 0x11\n{shown}")?;
+        check(&rt, alloc, &stream, b"", SniffEnd::Clean, &lines)?;
+    }
+    Ok(())
+}
+
+#[test]
+fn a_capture_without_an_update_is_no_scan(rt: HostRuntime) -> Result<(), Fail> {
+    let alloc = rt.alloc();
+    // in Shift-DR, in Pause-DR, and in Update-DR before its fall
+    let cases: [&[u8]; 4] = [
+        b"26040404",
+        b"26040426042604",
+        b"2604042626",
+        b"2604042626Q0",
+    ];
+    for cut in cases {
+        let stream = join(alloc, &[RESET, cut])?;
+        check(&rt, alloc, &stream, b"", SniffEnd::Clean, "")?;
+    }
+    Ok(())
+}
+
+#[test]
+fn the_first_byte_that_is_no_sign_is_told(rt: HostRuntime) -> Result<(), Fail> {
+    let alloc = rt.alloc();
+    let stream = scan_of(alloc, 1)?;
+    let line = "dr 0x01 1 0x0000000000000000 0x0000000000000001\n";
+    let behind = join(alloc, &[&stream, b"QxQ"])?;
+    check(&rt, alloc, &behind, b"1", SniffEnd::Clean, line)?;
+    // before every other check, however many answers there are
+    let end = SniffEnd::BadSign(stream.len(), b'x');
+    let bad = join(alloc, &[&stream, b"xyQ"])?;
+    for answers in [&b"1"[..], b"", b"2"] {
+        check(&rt, alloc, &bad, answers, end, "")?;
+    }
+    check(&rt, alloc, b"8", b"", SniffEnd::BadSign(0, b'8'), "")?;
+    check(&rt, alloc, b"04\n", b"", SniffEnd::BadSign(2, b'\n'), "")?;
+    check(&rt, alloc, b"", b"", SniffEnd::Clean, "")
+}
+
+#[test]
+fn the_first_bad_answer_is_told(rt: HostRuntime) -> Result<(), Fail> {
+    let alloc = rt.alloc();
+    let stream = scan_of(alloc, 2)?;
+    let cases: [(&[u8], u8); 4] = [
+        (b"12", b'2'),
+        (b"x1", b'x'),
+        (b"10101\n", b'\n'),
+        (b"/:", b'/'),
+    ];
+    for (answers, bad) in cases {
+        check(&rt, alloc, &stream, answers, SniffEnd::BadAnswer(bad), "")?;
+    }
+    Ok(())
+}
+
+#[test]
+fn a_sink_that_fails_has_taken_a_prefix(rt: HostRuntime) -> Result<(), Fail> {
+    let alloc = rt.alloc();
+    let stream = dmi_scan(alloc, &write_bits(alloc)?)?;
+    let answers = times(alloc, b"0", 41)?;
+    let lines =
+        "ir 0x11\ndr 0x11 41 0x0000004000000006 0x0000000000000000\ndmi write 0x10 0x00000001\n";
+    for room in [0, 7, 8, 9, 57, 82] {
+        let mut out = MemorySink::new(alloc, room, Vec::new(alloc))?;
+        assert_eq!(rt; sniff(&stream, &answers, &mut out), SniffEnd::Sink);
+        assert!(rt; lines.as_bytes().starts_with(out.bytes()));
+    }
+    for call in 0..3 {
+        let mut listed = Vec::new(alloc);
+        listed.push(call)?;
+        let mut out = MemorySink::new(alloc, AMPLE, listed)?;
+        assert_eq!(rt; sniff(&stream, &answers, &mut out), SniffEnd::Sink);
+        assert!(rt; lines.as_bytes().starts_with(out.bytes()));
+    }
+    // nothing is put where nothing is shown
+    let mut out = MemorySink::new(alloc, 0, Vec::new(alloc))?;
+    assert_eq!(rt; sniff(RESET, b"", &mut out), SniffEnd::Clean);
+    Ok(())
 }
