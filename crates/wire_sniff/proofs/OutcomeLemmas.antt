@@ -1,5 +1,5 @@
 -- What a scan of the whole of dmi shows, by the captured and the given bits.
-use Rattle.std.proofs.Common.{◌≡◌, ◌∙◌, ℕ, zero, suc, ◌+◌, ◌*◌, ◌<◌, ◌==◌, List, [], ◌∷◌, ◌++◌, length, map, take, drop, Bool, true, false, Option, Some, cond, refl, ap, sym, subst, arith, lit<}
+use Rattle.std.proofs.Common.{◌≡◌, ◌∙◌, ℕ, zero, suc, ◌<◌, ◌==◌, List, [], ◌∷◌, ◌++◌, length, map, take, drop, Bool, true, false, Option, Some, cond, refl, ap, sym, arith, lit<}
 use Rattle.std.proofs.Math.Seq.{take-append_seam}
 use Rattle.jt_base.specs.BitList.{digit, number_of}
 use Rattle.debug_model.specs.Dmi.{heard}

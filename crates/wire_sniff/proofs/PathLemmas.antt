@@ -1,12 +1,12 @@
 -- What a sniffer shows of clocks, of bits that are shifted, and of the paths of a debugger.
-use Rattle.std.proofs.Common.{◌≡◌, ◌∙◌, ℕ, suc, ◌+◌, ◌<◌, ◌^◌, List, [], ◌∷◌, ◌++◌, length, map, Bool, true, false, Option, None, Some, refl, ap, sym, subst, arith, append_assoc, append-nil}
-use Rattle.jt_base.specs.BitList.{bits_of, number_of}
+use Rattle.std.proofs.Common.{◌≡◌, ◌∙◌, ℕ, ◌<◌, ◌^◌, List, [], ◌∷◌, ◌++◌, length, map, Bool, true, false, Option, None, Some, refl, ap, sym, subst, arith, append_assoc, append-nil}
+use Rattle.jt_base.specs.BitList.{bits_of}
 use Rattle.jt_base.specs.BitLaws.{number_of-bits_of}
 use Rattle.debug_model.specs.declared.tap_state.TapState.{TapState}
 use Rattle.debug_model.specs.declared.tap_state.TapState.TheVariants.{RunTestIdle, ShiftDr, Exit1Dr, ShiftIr, Exit1Ir}
 use Rattle.debug_model.specs.Chip.{answer_byte}
 use Rattle.debug_model.specs.Port.{captured_code, idcode_code, instruction_width}
-use Rattle.debug_model.specs.Scan.{asked_bits, asked_clock, clock, dr_bytes, ir_bytes, reset_bytes, sent_bits, stays, to_idle, to_shift_dr, to_shift_ir}
+use Rattle.debug_model.specs.Scan.{asked_bits, asked_clock, clock, dr_bytes, ir_bytes, reset_bytes, sent_bits, to_idle, to_shift_dr, to_shift_ir}
 use Rattle.debug_model.specs.Signs.{sign_of}
 use Rattle.debug_model.specs.Tap.{next_state}
 use Rattle.wire_sniff.specs.Sniffed.{Sniffer, SniffedLine, code_after, code_in, data_lines, given_after, lines_at, lines_from, scanned_code, sign_lines, sniffed, sniffer_after, taken_after}

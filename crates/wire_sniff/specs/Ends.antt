@@ -1,6 +1,7 @@
 -- How a sniffing ends: what is wrong with a stream and its answers, in the order of checks, and what was put at each end.
 -- No public standard defines this: the ends are this project's own (docs/FORMATS.md, "Sniffed lines").
-use Rattle.std.specs.Prelude.{◌≡◌, ℕ, suc, ◌==◌, ◌||◌, Bool, true, false, not, List, [], ◌∷◌, length, count_by, Option, None, Some, option_map, is_none, if◌then◌else◌}
+use Rattle.std.specs.Prelude.{◌≡◌, ℕ, suc, ◌==◌, ◌||◌, Bool, true, false, not, List, [], ◌∷◌, length, count_by, if◌then◌else◌}
+use Rattle.std.specs.Prelude.{Option, None, Some, option_map, is_none}
 use Rattle.std.specs.List.{find}
 use Rattle.jt_base.specs.Faults.{Rises}
 use Rattle.jt_base.specs.Sink.{GrewByPrefix, grown}

@@ -9,8 +9,6 @@ mod scan;
 mod sniff_end;
 mod sniffer;
 mod sniffing;
-#[cfg(test)]
-mod tests;
 mod text;
 
 pub use laws::{dmi_scans_show_their_outcome, paths_show_their_scans};

@@ -104,7 +104,8 @@ impl Scan {
     /// One more bit is given, and one is taken where TDO was asked.
     fn shift(&mut self, tdi: bool, answer: Option<bool>)
         requires { self.old.count + 1 < 2 ^ 64 }
-        ensures bit { (given : List Bool) → (taken : List (Option Bool)) → IsScan self.old given taken → IsScan self.new (given ++ tdi ∷ []) (taken ++ answer ∷ []) }
+        ensures bit { (given : List Bool) → (taken : List (Option Bool)) → IsScan self.old given taken
+            → IsScan self.new (given ++ tdi ∷ []) (taken ++ answer ∷ []) }
         ensures count { self.new.count ≡ self.old.count + 1 }
     {
         self.count += 1;

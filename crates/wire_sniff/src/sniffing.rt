@@ -4,7 +4,8 @@ ghost use Rattle.jt_base.specs.Faults.{HasCause, count_after};
 ghost use Rattle.jt_base.specs.Sink.{GrewByPrefix, grown};
 ghost use Rattle.debug_model.specs.Signs.{sign_of};
 ghost use Rattle.wire_sniff.specs.Ends.{Sniffs, asked_in, bad_sign_from, is_bad_answer, refusal_of};
-ghost use Rattle.wire_sniff.specs.Sniffed.{Sniffer as Definition, counted_signs, data_lines, first_sniffer, lines_at, lines_from, quit_byte, selected_lines, sign_lines, sniffed};
+ghost use Rattle.wire_sniff.specs.Sniffed.{Sniffer as Definition, counted_signs, first_sniffer, quit_byte, sniffed};
+ghost use Rattle.wire_sniff.specs.Sniffed.{data_lines, lines_at, lines_from, selected_lines, sign_lines};
 ghost use Rattle.wire_sniff.specs.SniffedText.{text_of_all};
 ghost use Rattle.wire_sniff.specs.State.{IsSniffer, lines_shown};
 
