@@ -1,10 +1,10 @@
 //! Streams and their lines, as docs/FORMATS.md has them under "Sniffed lines". The signs are OpenOCD's, and the paths those of IEEE 1149.1.
 
-use crate::{SniffEnd, sniff};
 use jt_base::MemorySink;
 use std::alloc::{AllocError, Global};
 use std::process::Abort;
 use std::test::Fail;
+use wire_sniff::{SniffEnd, sniff};
 
 /// The room of a sink that takes all lines of a test.
 const AMPLE: usize = 4096;
@@ -30,7 +30,8 @@ const IDCODE_ANSWERS: &[u8] = b"10000000000000100110101100001000";
 /// The 41 asked bits of a write of 1 to dmcontrol, at 0x10.
 fn write_bits(alloc: Global) -> Result<Vec<u8>, AllocError> {
     let mut bits = b"0R41R51R5".to_vec(alloc)?;
-    bits.extend_from_slice(&times(alloc, b"0R4", 35)?)?;
+    let zeros = times(alloc, b"0R4", 35)?;
+    bits.extend_from_slice(&zeros)?;
     bits.extend_from_slice(b"1R50R42R6")?;
     Ok(bits)
 }
@@ -52,11 +53,9 @@ fn join(alloc: Global, pieces: &[&[u8]]) -> Result<Vec<u8>, AllocError> {
     Ok(all)
 }
 
-/// A reset, and a scan of so many bits of the data register, each asked, and back.
-fn scan_of(alloc: Global, count: u32) -> Result<Vec<u8>, AllocError>
-    requires { 0 < count }
-{
-    let bits = times(alloc, b"0R4", count - 1)?;
+/// A reset, and a scan of so many bits of the data register and one more, each asked, and back.
+fn scan_behind(alloc: Global, count: u32) -> Result<Vec<u8>, AllocError> {
+    let bits = times(alloc, b"0R4", count)?;
     join(alloc, &[RESET, TO_SHIFT_DR, &bits, b"2R6", TO_IDLE])
 }
 
@@ -94,7 +93,7 @@ fn check(
 #[test]
 fn the_idcode_is_a_scan(rt: HostRuntime) -> Result<(), Fail> {
     let alloc = rt.alloc();
-    let stream = scan_of(alloc, 32)?;
+    let stream = scan_behind(alloc, 31)?;
     let line = "dr 0x01 32 0x0000000000000000 0x0000000010d64001\n";
     check(&rt, alloc, &stream, IDCODE_ANSWERS, SniffEnd::Clean, line)?;
     for given in [31, 0] {
@@ -108,68 +107,85 @@ fn the_idcode_is_a_scan(rt: HostRuntime) -> Result<(), Fail> {
         asked: 31,
         given: 32,
     };
-    check(&rt, alloc, &scan_of(alloc, 31)?, IDCODE_ANSWERS, end, "")
+    let stream = scan_behind(alloc, 30)?;
+    check(&rt, alloc, &stream, IDCODE_ANSWERS, end, "")
+}
+
+/// A write of 1 to dmcontrol, with these two answers first: its taken bits, and what it shows beside them.
+fn check_write(
+    rt: &impl Abort,
+    alloc: Global,
+    status: &[u8],
+    taken: &str,
+    shown: &str,
+) -> Result<(), Fail> {
+    let bits = write_bits(alloc)?;
+    let stream = dmi_scan(alloc, &bits)?;
+    let zeros = times(alloc, b"0", 39)?;
+    let answers = join(alloc, &[status, &zeros])?;
+    let scan = "ir 0x11\ndr 0x11 41 0x0000004000000006 0x";
+    let lines = format!(in alloc; "{scan}{taken}\ndmi {shown}\n")?;
+    check(rt, alloc, &stream, &answers, SniffEnd::Clean, &lines)
 }
 
 #[test]
 fn a_write_is_an_operation(rt: HostRuntime) -> Result<(), Fail> {
     let alloc = rt.alloc();
-    let stream = dmi_scan(alloc, &write_bits(alloc)?)?;
-    let scan = "ir 0x11\ndr 0x11 41 0x0000004000000006 0x";
-    // the two answers that come first, the taken bits, and what the scan shows beside them
-    let cases: [(&[u8], &str, &str); 4] = [
-        (b"00", "0000000000000000", "write 0x10 0x00000001"),
-        (b"10", "0000000000000001", "busy"),
-        (b"01", "0000000000000002", "failed"),
-        (b"11", "0000000000000003", "busy"),
-    ];
-    for (status, taken, shown) in cases {
-        let answers = join(alloc, &[status, &times(alloc, b"0", 39)?])?;
-        let lines = format!(in alloc; "{scan}{taken}\ndmi {shown}\n")?;
-        check(&rt, alloc, &stream, &answers, SniffEnd::Clean, &lines)?;
-    }
-    Ok(())
+    let done = "write 0x10 0x00000001";
+    check_write(&rt, alloc, b"00", "0000000000000000", done)?;
+    check_write(&rt, alloc, b"10", "0000000000000001", "busy")?;
+    check_write(&rt, alloc, b"01", "0000000000000002", "failed")?;
+    check_write(&rt, alloc, b"11", "0000000000000003", "busy")
+}
+
+/// A scan of address 0x7f and value 0xffffffff behind these two bits: its given bits, and what it shows beside them.
+fn check_op(
+    rt: &impl Abort,
+    alloc: Global,
+    op: &[u8],
+    given: &str,
+    shown: &str,
+) -> Result<(), Fail> {
+    let ones = times(alloc, b"1R5", 38)?;
+    let bits = join(alloc, &[op, &ones, b"3R7"])?;
+    let stream = dmi_scan(alloc, &bits)?;
+    let answers = times(alloc, b"0", 41)?;
+    let lines = format!(in alloc; "ir 0x11\ndr 0x11 41 0x{given} 0x0000000000000000\n{shown}")?;
+    check(rt, alloc, &stream, &answers, SniffEnd::Clean, &lines)
 }
 
 #[test]
 fn the_field_op_tells_the_operation(rt: HostRuntime) -> Result<(), Fail> {
     let alloc = rt.alloc();
-    // the two first bits, the given bits of a scan of address 0x7f and value 0xffffffff, and what it shows
-    let cases: [(&[u8], &str, &str); 4] = [
-        (b"0R40R4", "000001fffffffffc", ""),
-        (b"1R50R4", "000001fffffffffd", "dmi read 0x7f\n"),
-        (b"0R41R5", "000001fffffffffe", "dmi write 0x7f 0xffffffff\n"),
-        (b"1R51R5", "000001ffffffffff", ""),
-    ];
-    let answers = times(alloc, b"0", 41)?;
-    for (op, given, shown) in cases {
-        let bits = join(alloc, &[op, &times(alloc, b"1R5", 38)?, b"3R7"])?;
-        let stream = dmi_scan(alloc, &bits)?;
-        let scan = format!(in alloc; "ir 0x11\ndr 0x11 41 0x{given} 0x0000000000000000\n{shown}")?;
-        check(&rt, alloc, &stream, &answers, SniffEnd::Clean, &scan)?;
-    }
-    Ok(())
+    check_op(&rt, alloc, b"0R40R4", "000001fffffffffc", "")?;
+    check_op(&rt, alloc, b"1R50R4", "000001fffffffffd", "dmi read 0x7f\n")?;
+    let write = "dmi write 0x7f 0xffffffff\n";
+    check_op(&rt, alloc, b"0R41R5", "000001fffffffffe", write)?;
+    check_op(&rt, alloc, b"1R51R5", "000001ffffffffff", "")
+}
+
+/// A read of address 0 whose first bits these are: what it shows behind its given bits.
+fn check_read(
+    rt: &impl Abort,
+    alloc: Global,
+    first: &[u8],
+    answers: &[u8],
+    shown: &str,
+) -> Result<(), Fail> {
+    let zeros = times(alloc, b"04", 38)?;
+    let bits = join(alloc, &[first, &zeros, b"26"])?;
+    let stream = dmi_scan(alloc, &bits)?;
+    let lines = format!(in alloc; "ir 0x11\ndr 0x11 41 0x0000000000000001 -\ndmi {shown}\n")?;
+    check(rt, alloc, &stream, answers, SniffEnd::Clean, &lines)
 }
 
 #[test]
 fn what_nobody_asked_is_unseen(rt: HostRuntime) -> Result<(), Fail> {
     let alloc = rt.alloc();
-    // a read of address 0: its first bits, those that are asked, and what the scan shows
-    let unseen = "0x0000000000000001 -\ndmi unseen\n";
-    let read = "0x0000000000000001 -\ndmi read 0x00\n";
-    let cases: [(&[u8], &[u8], &str); 4] = [
-        (b"1504", b"", unseen),
-        (b"1R504", b"0", unseen),
-        (b"150R4", b"0", unseen),
-        (b"1R50R4", b"00", read),
-    ];
-    for (first, answers, shown) in cases {
-        let bits = join(alloc, &[first, &times(alloc, b"04", 38)?, b"26"])?;
-        let stream = dmi_scan(alloc, &bits)?;
-        let lines = format!(in alloc; "ir 0x11\ndr 0x11 41 {shown}")?;
-        check(&rt, alloc, &stream, answers, SniffEnd::Clean, &lines)?;
-    }
-    Ok(())
+    check_read(&rt, alloc, b"1504", b"", "unseen")?;
+    check_read(&rt, alloc, b"1R504", b"0", "unseen")?;
+    check_read(&rt, alloc, b"150R4", b"0", "unseen")?;
+    check_read(&rt, alloc, b"1R50R4", b"00", "read 0x00")
 }
 
 #[test]
@@ -191,31 +207,20 @@ fn a_question_is_about_the_next_rise(rt: HostRuntime) -> Result<(), Fail> {
     Ok(())
 }
 
+/// A scan of so many bits of the data register of which each is answered by 1.
+fn check_ones(rt: &impl Abort, alloc: Global, count: u32, line: &str) -> Result<(), Fail> {
+    let stream = scan_behind(alloc, count.saturating_sub(1))?;
+    let answers = times(alloc, b"1", count)?;
+    check(rt, alloc, &stream, &answers, SniffEnd::Clean, line)
+}
+
 #[test]
 fn long_and_empty_scans(rt: HostRuntime) -> Result<(), Fail> {
     let alloc = rt.alloc();
-    let ones = times(alloc, b"1", 64)?;
     let line = "dr 0x01 64 0x0000000000000000 0xffffffffffffffff\n";
-    check(
-        &rt,
-        alloc,
-        &scan_of(alloc, 64)?,
-        &ones,
-        SniffEnd::Clean,
-        line,
-    )?;
-    for count in [65, 1000] {
-        let answers = times(alloc, b"1", count)?;
-        let line = format!(in alloc; "dr 0x01 {count} long\n")?;
-        check(
-            &rt,
-            alloc,
-            &scan_of(alloc, count)?,
-            &answers,
-            SniffEnd::Clean,
-            &line,
-        )?;
-    }
+    check_ones(&rt, alloc, 64, line)?;
+    check_ones(&rt, alloc, 65, "dr 0x01 65 long\n")?;
+    check_ones(&rt, alloc, 1000, "dr 0x01 1000 long\n")?;
     // from Capture-DR over Exit1-DR, with IDCODE and with dmi
     let empty: &[u8] = b"260426";
     let line = "dr 0x01 0 0x0000000000000000 0x0000000000000000\n";
@@ -229,24 +234,23 @@ fn long_and_empty_scans(rt: HostRuntime) -> Result<(), Fail> {
     check(&rt, alloc, &stream, b"", SniffEnd::Clean, lines)
 }
 
+/// A scan of so many zeros of dmi and one more, which is not as long as its register.
+fn check_odd(rt: &impl Abort, alloc: Global, before: u32, count: &str) -> Result<(), Fail> {
+    let zeros = times(alloc, b"0R4", before)?;
+    let bits = join(alloc, &[&zeros, b"2R6"])?;
+    let stream = dmi_scan(alloc, &bits)?;
+    let answers = times(alloc, b"0", before)?;
+    let answers = join(alloc, &[&answers, b"0"])?;
+    let no_bits = "0x0000000000000000";
+    let lines = format!(in alloc; "ir 0x11\ndr 0x11 {count} {no_bits} {no_bits}\ndmi odd\n")?;
+    check(rt, alloc, &stream, &answers, SniffEnd::Clean, &lines)
+}
+
 #[test]
 fn dmi_has_41_bits(rt: HostRuntime) -> Result<(), Fail> {
     let alloc = rt.alloc();
-    for count in [40, 42] {
-        let bits = join(alloc, &[&times(alloc, b"0R4", count - 1)?, b"2R6"])?;
-        let stream = dmi_scan(alloc, &bits)?;
-        let zeros = "0x0000000000000000";
-        let lines = format!(in alloc; "ir 0x11\ndr 0x11 {count} {zeros} {zeros}\ndmi odd\n")?;
-        check(
-            &rt,
-            alloc,
-            &stream,
-            &times(alloc, b"0", count)?,
-            SniffEnd::Clean,
-            &lines,
-        )?;
-    }
-    Ok(())
+    check_odd(&rt, alloc, 39, "40")?;
+    check_odd(&rt, alloc, 41, "42")
 }
 
 #[test]
@@ -335,7 +339,7 @@ fn a_capture_without_an_update_is_no_scan(rt: HostRuntime) -> Result<(), Fail> {
 #[test]
 fn the_first_byte_that_is_no_sign_is_told(rt: HostRuntime) -> Result<(), Fail> {
     let alloc = rt.alloc();
-    let stream = scan_of(alloc, 1)?;
+    let stream = scan_behind(alloc, 0)?;
     let line = "dr 0x01 1 0x0000000000000000 0x0000000000000001\n";
     let behind = join(alloc, &[&stream, b"QxQ"])?;
     check(&rt, alloc, &behind, b"1", SniffEnd::Clean, line)?;
@@ -353,7 +357,7 @@ fn the_first_byte_that_is_no_sign_is_told(rt: HostRuntime) -> Result<(), Fail> {
 #[test]
 fn the_first_bad_answer_is_told(rt: HostRuntime) -> Result<(), Fail> {
     let alloc = rt.alloc();
-    let stream = scan_of(alloc, 2)?;
+    let stream = scan_behind(alloc, 1)?;
     let cases: [(&[u8], u8); 4] = [
         (b"12", b'2'),
         (b"x1", b'x'),
@@ -369,7 +373,8 @@ fn the_first_bad_answer_is_told(rt: HostRuntime) -> Result<(), Fail> {
 #[test]
 fn a_sink_that_fails_has_taken_a_prefix(rt: HostRuntime) -> Result<(), Fail> {
     let alloc = rt.alloc();
-    let stream = dmi_scan(alloc, &write_bits(alloc)?)?;
+    let bits = write_bits(alloc)?;
+    let stream = dmi_scan(alloc, &bits)?;
     let answers = times(alloc, b"0", 41)?;
     let lines =
         "ir 0x11\ndr 0x11 41 0x0000004000000006 0x0000000000000000\ndmi write 0x10 0x00000001\n";
