@@ -156,9 +156,7 @@ def name_in(function, names):
 
 
 def try_group(crate, group, kept, is_proved):
-    """What refuses each edit, by its path; those that no check of several refuses are not there. A group that can't be judged is tried in halves."""
-    if len(group) < 2:
-        return {}
+    """What refuses each edit, by its path; those that no such check refuses are not there. A group that can't be judged is tried in halves."""
     only = {function for it in group for function in it.functions} if is_proved else set()
     texts = applied(crate, group)
     found = judged(crate.name, checked(crate, texts, kept, only)) if texts else None
@@ -166,6 +164,8 @@ def try_group(crate, group, kept, is_proved):
     others = {name for name, left in (found or {}).items() if left.is_own} - {it for owned in names.values() for it in owned}
     if found is None or others:
         half = len(group) // 2
+        if not half:
+            return {}
         return try_group(crate, group[:half], kept, is_proved) | try_group(crate, group[half:], kept, is_proved)
     goals = {path: next((f"{it}: {found[it].goal}" for it in owned if it and found[it].goal), "") for path, owned in names.items()}
     return {path: goal if len(goal) <= SHOWN else f"{goal[:SHOWN]} .." for path, goal in goals.items() if goal}
