@@ -6,3 +6,7 @@ pub mod Events
 pub mod Turns
 pub mod Timing
 pub mod TapLemmas
+pub mod CommandLemmas
+pub mod BusLemmas
+pub mod TransportLemmas
+pub mod HaltsumLemmas
