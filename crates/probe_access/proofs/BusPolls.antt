@@ -80,7 +80,7 @@ poll_end_failed address (access_fault.Memory at) old_count new_count old new f =
 poll_end_failed address (access_fault.Register number) old_count new_count old new f = f
 poll_end_failed address access_fault.StillBusy old_count new_count old new f = f
 poll_end_failed address (access_fault.Run why) old_count new_count old new f = f
-poll_end_failed address (access_fault.Odd word) old_count new_count old new f = absurd f
+poll_end_failed address (access_fault.Odd shown) old_count new_count old new f = absurd f
 
 ending_counted : (count mid_count new_count : ℕ) (old new : Tells) (why : DmiFault) → count ≤ mid_count → mid_count ≤ new_count → BusEnding mid_count new_count old new why → BusEnding count new_count old new why
 ending_counted count mid_count new_count old new why le later (at_poll b) = at_poll (broke_counted BusPollBegun count mid_count new_count old new.far why le later b)
@@ -92,7 +92,7 @@ end_counted address count mid_count new_count old new (access_fault.Memory at) l
 end_counted address count mid_count new_count old new (access_fault.Register number) le later f = f
 end_counted address count mid_count new_count old new access_fault.StillBusy le later f = f
 end_counted address count mid_count new_count old new (access_fault.Run why) le later f = f
-end_counted address count mid_count new_count old new (access_fault.Odd word) le later f = f
+end_counted address count mid_count new_count old new (access_fault.Odd shown) le later f = f
 
 -- the clearing of an error failed
 pub clear_broke : (address last count mid_count new_count : ℕ) (old mid new : Tells) (why : DmiFault) → BusPolled last old mid → bus_error last ≡ outside_error → count ≤ mid_count → mid_count ≤ new_count

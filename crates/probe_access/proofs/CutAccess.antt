@@ -151,7 +151,7 @@ perform_hung P Q Y N word address h bus y base w old_count new_count old new _ o
     })
     (command_cut_told program_word h bus z base w old_count new_count addressed new e a.then g)
 perform_hung P Q Y N word address h bus y base w old_count new_count old new _ one f st decides (faulted p) = tt
-perform_hung P Q Y N word address h bus y base w old_count new_count old new _ one f st decides (oddly written addressed did x8 last ran) = tt
+perform_hung P Q Y N word address h bus y base w old_count new_count old new _ one f st decides (oddly written addressed did x8 shown ran) = tt
 
 -- ---- a hart with any x8 and x9
 

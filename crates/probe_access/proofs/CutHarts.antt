@@ -199,7 +199,7 @@ read_hung number h bus y base w old_count new_count old new (access_fault.Regist
 read_hung number h bus y base w old_count new_count old new access_fault.StillBusy small st f =
     hung_map (Either false number st.kept y) (λ z. z ≡ y) h bus base new.far (λ z e. same_either number st.kept y z e) (transfer_hung false number h bus y base w old_count new_count old new access_fault.StillBusy small st f)
 read_hung number h bus y base w old_count new_count old new (access_fault.Run why) small st f = tt
-read_hung number h bus y base w old_count new_count old new (access_fault.Odd word) small st f = tt
+read_hung number h bus y base w old_count new_count old new (access_fault.Odd shown) small st f = tt
 
 -- ---- a register that is written
 
@@ -235,7 +235,7 @@ write_hung number value h bus y base w old_count new_count old new (access_fault
 write_hung number value h bus y base w old_count new_count old new (access_fault.Register asked) small st f = tt
 write_hung number value h bus y base w old_count new_count old new access_fault.StillBusy small st f = write_command_hung number value h bus y base w old_count new_count old f.mid new access_fault.StillBusy small st f.words f.then
 write_hung number value h bus y base w old_count new_count old new (access_fault.Run why) small st f = tt
-write_hung number value h bus y base w old_count new_count old new (access_fault.Odd word) small st f = tt
+write_hung number value h bus y base w old_count new_count old new (access_fault.Odd shown) small st f = tt
 
 -- ---- x8 and x9
 

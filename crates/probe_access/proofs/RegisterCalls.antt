@@ -122,7 +122,7 @@ poll_failed word access_fault.StillBusy count mid_count new_count old mid new di
   all = b.all;
   did = did_then (Put command_address word ∷ []) old mid did (map poll_act b.words) new b.did;
 }
-poll_failed word (access_fault.Odd kept) count mid_count new_count old mid new did le later b = b
+poll_failed word (access_fault.Odd shown) count mid_count new_count old mid new did le later b = b
 
 pub put_then_polled : (word last : ℕ) (old mid new : Tells) → Did old (Put command_address word ∷ []) mid → (p : Polled last mid new) → Did old (Put command_address word ∷ (map poll_act p.words ++ poll_act last ∷ [])) new
 put_then_polled word last old mid new did p = did_then (Put command_address word ∷ []) old mid did (map poll_act p.words ++ poll_act last ∷ []) new p.did
@@ -144,7 +144,7 @@ read_command_failed number (access_fault.Memory address) old_count new_count old
 read_command_failed number (access_fault.Register asked) old_count new_count old new f = absurd f
 read_command_failed number (access_fault.Run why) old_count new_count old new f = absurd f
 read_command_failed number access_fault.StillBusy old_count new_count old new f = f
-read_command_failed number (access_fault.Odd kept) old_count new_count old new f = absurd f
+read_command_failed number (access_fault.Odd shown) old_count new_count old new f = absurd f
 
 pub read_words_failed : (number last : ℕ) (why : DmiFault) (count mid_count new_count : ℕ) (old mid new : Tells) → RanCommand (transfer_word false number) last old mid → error_shown last ≡ 0 → count ≤ mid_count → mid_count ≤ new_count
     → BrokeIn DoubleReads mid_count new_count mid new.far why → ReadFailed number count new_count old new (access_fault.Dmi why)
@@ -159,7 +159,7 @@ write_command_failed number value (access_fault.Memory address) count mid_count 
 write_command_failed number value (access_fault.Register asked) count mid_count new_count old mid new did le later f = absurd f
 write_command_failed number value (access_fault.Run why) count mid_count new_count old mid new did le later f = absurd f
 write_command_failed number value access_fault.StillBusy count mid_count new_count old mid new did le later f = record { mid = mid; words = did; then = f }
-write_command_failed number value (access_fault.Odd kept) count mid_count new_count old mid new did le later f = absurd f
+write_command_failed number value (access_fault.Odd shown) count mid_count new_count old mid new did le later f = absurd f
 
 -- of a command that is this one
 pub same_failed : (k l : AbstractCommand) (e : AccessFault) (old_count new_count : ℕ) (old new : Tells) → k ≡ l → CommandFailed (command_word k) old_count new_count old new e → CommandFailed (command_word l) old_count new_count old new e

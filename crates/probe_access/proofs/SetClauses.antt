@@ -102,7 +102,7 @@ set_err h number value (Some c) script old_count new_count new (access_fault.Reg
     (double_told value h (site_of c).unit.bus halted.hart (site_of c) halted.hart (tells (Some c) script) f.mid (first_told h c ready halted selects) f.words) f.then.ran)
 set_err h number value far script old_count new_count new access_fault.StillBusy small ready selects halted f = record { left = tt; serving = tt }
 set_err h number value far script old_count new_count new (access_fault.Run why) small ready selects halted f = absurd f
-set_err h number value None script old_count new_count new (access_fault.Odd word) small ready selects halted f = record { left = refl; serving = tt }
-set_err h number value (Some c) script old_count new_count new (access_fault.Odd word) small ready selects halted f =
-    absurd (odd_told true number word h (site_of c).unit.bus halted.hart (site_of c) halted.hart f.mid new small
+set_err h number value None script old_count new_count new (access_fault.Odd shown) small ready selects halted f = record { left = refl; serving = tt }
+set_err h number value (Some c) script old_count new_count new (access_fault.Odd shown) small ready selects halted f =
+    absurd (odd_told true number shown h (site_of c).unit.bus halted.hart (site_of c) halted.hart f.mid new small
     (double_told value h (site_of c).unit.bus halted.hart (site_of c) halted.hart (tells (Some c) script) f.mid (first_told h c ready halted selects) f.words) f.then)

@@ -116,7 +116,7 @@ flag_left h old mid new (access_fault.Memory at) back p = p
 flag_left h old mid new (access_fault.Register number) back p = back p
 flag_left h old mid new access_fault.StillBusy back p = tt
 flag_left h old mid new (access_fault.Run why) back p = absurd p
-flag_left h old mid new (access_fault.Odd word) back p = back p
+flag_left h old mid new (access_fault.Odd shown) back p = back p
 
 missed_told : (h : ℕ) (last : Sight) (a b c : Option Far) → WhereTold (FlaggedAt true h) a b → WhereTold (Leaves (MissedAt (ResumeReq h) sees_both h last) h) b c → WhereTold (StepMissedAt h last) a c
 missed_told h last None b c sets missed = subst (λ (m : Option Far). WhereTold (Leaves (MissedAt (ResumeReq h) sees_both h last) h) m c) sets missed

@@ -106,7 +106,7 @@ AccessLeft R address old new (fault.Memory at) = (at ≡ address) × WhereTold R
 AccessLeft R address old new (fault.Register number) = old ≡ None
 AccessLeft R address old new fault.StillBusy = Unit {0}
 AccessLeft R address old new (fault.Run why) = ⊥
-AccessLeft R address old new (fault.Odd word) = old ≡ None
+AccessLeft R address old new (fault.Odd shown) = old ≡ None
 
 -- a fact that holds behind a fault of memory
 abbrev pub IfMemory : Type 0 → AccessFault → Type 0
@@ -115,4 +115,4 @@ IfMemory P (fault.Memory at) = P
 IfMemory P (fault.Register number) = Unit {0}
 IfMemory P fault.StillBusy = Unit {0}
 IfMemory P (fault.Run why) = Unit {0}
-IfMemory P (fault.Odd word) = Unit {0}
+IfMemory P (fault.Odd shown) = Unit {0}

@@ -3,6 +3,8 @@
 use Rattle.std.specs.Prelude.{◌≡◌, ◌≢◌, ◌++◌, ◌∷◌, ℕ, List, [], map, Bool, false}
 use Rattle.probe_access.specs.declared.fault.AccessFault.{AccessFault}
 use Rattle.probe_access.specs.declared.fault.AccessFault.TheVariants as fault
+use Rattle.probe_access.specs.declared.odd.OddStatus.{OddStatus}
+use Rattle.probe_access.specs.declared.odd.OddStatus.TheVariants.{Abstractcs}
 use Rattle.probe_run.specs.Acts.{Act, Attempt, Broke, Did, Tells}
 use Rattle.probe_run.specs.Acts.Act.{Got, Put}
 use Rattle.probe_access.specs.CommandRuns.{AlwaysBusy, error_shown, poll_act, shows_busy}
@@ -50,7 +52,9 @@ pub record Denied (number : ℕ) (old new : Tells) : Type 0 where
   pub did : Did old (front ++ Put command_address (transfer_word write number) ∷ (map poll_act words ++ poll_act last ∷ rest)) new
 
 -- the end of a command was shown with an error that is neither
-pub record ReportedOddly (word : ℕ) (old new : Tells) : Type 0 where
+pub record ReportedOddly (shown : OddStatus) (old new : Tells) : Type 0 where
+  pub word : ℕ
+  pub is : shown ≡ Abstractcs word
   pub front : List Act
   pub rest : List Act
   pub idle : shows_busy word ≡ false
@@ -70,4 +74,4 @@ Causes old_count new_count old new (fault.Memory address) = Reported exception_e
 Causes old_count new_count old new (fault.Register number) = Denied number old new
 Causes old_count new_count old new fault.StillBusy = StaysBusy old new
 Causes old_count new_count old new (fault.Run why) = ⊥
-Causes old_count new_count old new (fault.Odd word) = ReportedOddly word old new
+Causes old_count new_count old new (fault.Odd shown) = ReportedOddly shown old new

@@ -97,7 +97,7 @@ BlockLoadLeft size address count values old new (fault.Memory at) = (length valu
 BlockLoadLeft size address count values old new (fault.Register number) = old ≡ None
 BlockLoadLeft size address count values old new fault.StillBusy = Unit {0}
 BlockLoadLeft size address count values old new (fault.Run why) = ⊥
-BlockLoadLeft size address count values old new (fault.Odd word) = old ≡ None
+BlockLoadLeft size address count values old new (fault.Odd shown) = old ≡ None
 
 abbrev pub BlockStoreLeft : Size → ℕ → ℕ → ℕ → Option Far → Option Far → AccessFault → Type 0
 BlockStoreLeft size address count value old new (fault.Dmi why) = Unit {0}
@@ -105,4 +105,4 @@ BlockStoreLeft size address count value old new (fault.Memory at) = (done : ℕ)
 BlockStoreLeft size address count value old new (fault.Register number) = old ≡ None
 BlockStoreLeft size address count value old new fault.StillBusy = Unit {0}
 BlockStoreLeft size address count value old new (fault.Run why) = ⊥
-BlockStoreLeft size address count value old new (fault.Odd word) = old ≡ None
+BlockStoreLeft size address count value old new (fault.Odd shown) = old ≡ None

@@ -10,6 +10,8 @@ use Rattle.debug_model.specs.Commands.{high_half, low_half}
 use Rattle.debug_model.specs.ModuleWords.{sbcs_of, sbcs_word}
 use Rattle.probe_access.specs.declared.fault.AccessFault.{AccessFault}
 use Rattle.probe_access.specs.declared.fault.AccessFault.TheVariants as fault
+use Rattle.probe_access.specs.declared.odd.OddStatus.{OddStatus}
+use Rattle.probe_access.specs.declared.odd.OddStatus.TheVariants.{Sbcs}
 use Rattle.probe_run.specs.Acts.{Act, Attempt, Did, Tells}
 use Rattle.probe_run.specs.Acts.Act.{Got, Put}
 use Rattle.probe_run.specs.Acts.Attempt.{Operation}
@@ -131,7 +133,9 @@ pub record BusRefused (old new : Tells) : Type 0 where
   pub cleared : Did mid (Put sbcs_address clears_sberror ∷ []) new
 
 -- it ended with another error
-pub record BusOddly (last : ℕ) (old new : Tells) : Type 0 where
+pub record BusOddly (shown : OddStatus) (old new : Tells) : Type 0 where
+  pub last : ℕ
+  pub is : shown ≡ Sbcs last
   pub polled : BusPolled last old new
   pub other : bus_error last ≢ outside_error
   pub some : (bus_error last ≢ 0) ⊎ (bus_collided last ≡ true)
@@ -145,7 +149,7 @@ BusPollFailed old_count new_count old new (fault.Memory address) = ⊥
 BusPollFailed old_count new_count old new (fault.Register number) = ⊥
 BusPollFailed old_count new_count old new fault.StillBusy = BusAlwaysBusy old new
 BusPollFailed old_count new_count old new (fault.Run why) = ⊥
-BusPollFailed old_count new_count old new (fault.Odd word) = ⊥
+BusPollFailed old_count new_count old new (fault.Odd shown) = ⊥
 
 pub data BusEnding (old_count new_count : ℕ) (old new : Tells) (why : DmiFault) : Type 0 where
   at_poll : BrokeIn BusPollBegun old_count new_count old new.far why → BusEnding old_count new_count old new why
@@ -157,7 +161,7 @@ BusEndFailed address old_count new_count old new (fault.Memory at) = (at ≡ add
 BusEndFailed address old_count new_count old new (fault.Register number) = ⊥
 BusEndFailed address old_count new_count old new fault.StillBusy = BusAlwaysBusy old new
 BusEndFailed address old_count new_count old new (fault.Run why) = ⊥
-BusEndFailed address old_count new_count old new (fault.Odd word) = BusOddly word old new
+BusEndFailed address old_count new_count old new (fault.Odd shown) = BusOddly shown old new
 
 -- ---- what was read
 

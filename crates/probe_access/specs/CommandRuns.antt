@@ -57,7 +57,7 @@ PollFailed old_count new_count old new (fault.Memory address) = ⊥
 PollFailed old_count new_count old new (fault.Register number) = ⊥
 PollFailed old_count new_count old new (fault.Run why) = ⊥
 PollFailed old_count new_count old new fault.StillBusy = AlwaysBusy [] old new
-PollFailed old_count new_count old new (fault.Odd word) = ⊥
+PollFailed old_count new_count old new (fault.Odd shown) = ⊥
 
 -- ---- the command
 
@@ -87,4 +87,4 @@ CommandFailed word old_count new_count old new (fault.Memory address) = ⊥
 CommandFailed word old_count new_count old new (fault.Register number) = ⊥
 CommandFailed word old_count new_count old new (fault.Run why) = ⊥
 CommandFailed word old_count new_count old new fault.StillBusy = AlwaysBusy (Put command_address word ∷ []) old new
-CommandFailed word old_count new_count old new (fault.Odd kept) = ⊥
+CommandFailed word old_count new_count old new (fault.Odd shown) = ⊥

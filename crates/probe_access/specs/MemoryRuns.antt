@@ -6,6 +6,7 @@ use Rattle.debug_model.specs.declared.dmi_op.DmiOp.TheVariants.{Write}
 use Rattle.rv_model.specs.declared.size.Size.{Size}
 use Rattle.probe_access.specs.declared.fault.AccessFault.{AccessFault}
 use Rattle.probe_access.specs.declared.fault.AccessFault.TheVariants as fault
+use Rattle.probe_access.specs.declared.odd.OddStatus.{OddStatus}
 use Rattle.probe_run.specs.Acts.{Act, Attempt, Did, Tells}
 use Rattle.probe_run.specs.Acts.Act.{Put}
 use Rattle.probe_run.specs.Acts.Attempt.{Operation}
@@ -57,8 +58,8 @@ pub data PerformFailed (word address old_count new_count : ℕ) (old new : Tells
   in_run : (written addressed : Tells) → Did old (program_written word) written → RegisterWritten x8_number address written addressed → (e : AccessFault) → CommandFailed program_word old_count new_count addressed new e
       → PerformFailed word address old_count new_count old new e
   faulted : Performed word address exception_error old new → PerformFailed word address old_count new_count old new (fault.Memory address)
-  oddly : (written addressed : Tells) → Did old (program_written word) written → RegisterWritten x8_number address written addressed → (last : ℕ) → RanOddly program_word last addressed new
-      → PerformFailed word address old_count new_count old new (fault.Odd last)
+  oddly : (written addressed : Tells) → Did old (program_written word) written → RegisterWritten x8_number address written addressed → (shown : OddStatus) → RanOddly program_word shown addressed new
+      → PerformFailed word address old_count new_count old new (fault.Odd shown)
 
 -- ---- between the saving and the putting back
 
@@ -103,7 +104,7 @@ Recovers (fault.Memory address) = Unit {0}
 Recovers (fault.Register number) = Unit {0}
 Recovers fault.StillBusy = ⊥
 Recovers (fault.Run why) = ⊥
-Recovers (fault.Odd word) = ⊥
+Recovers (fault.Odd shown) = ⊥
 
 abbrev pub Loses : AccessFault → Type 0
 Loses e = Recovers e → ⊥

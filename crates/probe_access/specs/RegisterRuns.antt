@@ -6,6 +6,8 @@ use Rattle.debug_model.specs.declared.dmi_op.DmiOp.TheVariants.{Read, Write}
 use Rattle.debug_model.specs.Commands.{high_half, low_half}
 use Rattle.probe_access.specs.declared.fault.AccessFault.{AccessFault}
 use Rattle.probe_access.specs.declared.fault.AccessFault.TheVariants as fault
+use Rattle.probe_access.specs.declared.odd.OddStatus.{OddStatus}
+use Rattle.probe_access.specs.declared.odd.OddStatus.TheVariants.{Abstractcs}
 use Rattle.probe_run.specs.Acts.{Act, Attempt, Did, Tells}
 use Rattle.probe_run.specs.Acts.Act.{Got, Put}
 use Rattle.probe_run.specs.Acts.Attempt.{Operation}
@@ -48,7 +50,9 @@ pub record RanTo (word error : ℕ) (old new : Tells) : Type 0 where
   pub error_is : error_shown last ≡ error
 
 -- a command ran, and this abstractcs shows an error that is neither
-pub record RanOddly (word last : ℕ) (old new : Tells) : Type 0 where
+pub record RanOddly (word : ℕ) (shown : OddStatus) (old new : Tells) : Type 0 where
+  pub last : ℕ
+  pub is : shown ≡ Abstractcs last
   pub ran : RanCommand word last old new
   pub some : error_shown last ≢ no_error
   pub other : error_shown last ≢ exception_error
@@ -77,7 +81,7 @@ ReadFailed number old_count new_count old new (fault.Memory address) = ⊥
 ReadFailed number old_count new_count old new (fault.Register asked) = RefusedAs number asked (transfer_word false number) old new
 ReadFailed number old_count new_count old new (fault.Run why) = ⊥
 ReadFailed number old_count new_count old new fault.StillBusy = CommandFailed (transfer_word false number) old_count new_count old new fault.StillBusy
-ReadFailed number old_count new_count old new (fault.Odd word) = RanOddly (transfer_word false number) word old new
+ReadFailed number old_count new_count old new (fault.Odd shown) = RanOddly (transfer_word false number) shown old new
 
 -- ---- a register is written
 
@@ -104,4 +108,4 @@ WriteFailed number value old_count new_count old new (fault.Memory address) = �
 WriteFailed number value old_count new_count old new (fault.Register asked) = BehindWords value old (λ mid. RefusedAs number asked (transfer_word true number) mid new)
 WriteFailed number value old_count new_count old new (fault.Run why) = ⊥
 WriteFailed number value old_count new_count old new fault.StillBusy = BehindWords value old (λ mid. CommandFailed (transfer_word true number) old_count new_count mid new fault.StillBusy)
-WriteFailed number value old_count new_count old new (fault.Odd word) = BehindWords value old (λ mid. RanOddly (transfer_word true number) word mid new)
+WriteFailed number value old_count new_count old new (fault.Odd shown) = BehindWords value old (λ mid. RanOddly (transfer_word true number) shown mid new)

@@ -72,7 +72,7 @@ RegisterLeft write h number old new (fault.Memory address) = ⊥
 RegisterLeft write h number old new (fault.Register asked) = WhereTold (DeniedRegister write h number) old new
 RegisterLeft write h number old new fault.StillBusy = Unit {0}
 RegisterLeft write h number old new (fault.Run why) = ⊥
-RegisterLeft write h number old new (fault.Odd word) = old ≡ None
+RegisterLeft write h number old new (fault.Odd shown) = old ≡ None
 
 -- a fact that holds behind a fault of the register
 abbrev pub IfRegister : Type 0 → AccessFault → Type 0
@@ -81,4 +81,4 @@ IfRegister P (fault.Memory address) = Unit {0}
 IfRegister P (fault.Register asked) = P
 IfRegister P fault.StillBusy = Unit {0}
 IfRegister P (fault.Run why) = Unit {0}
-IfRegister P (fault.Odd word) = Unit {0}
+IfRegister P (fault.Odd shown) = Unit {0}

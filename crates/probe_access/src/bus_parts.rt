@@ -11,6 +11,7 @@ ghost use Rattle.probe_access.specs.Faults.{access_why};
 use crate::doubles::{high_word, join, low_word};
 use crate::fault::AccessFault;
 use crate::memory::cut_to;
+use crate::odd::OddStatus;
 use crate::polling::POLLS_MOST;
 use debug_model::{Dmi, DmiFault, Sbcs};
 use rv_model::Size;
@@ -138,7 +139,7 @@ pub fn finish<D: Dmi>(link: &mut D, address: u64) -> Result<(), AccessFault>
     if bus.sberror == 0 && !bus.sbbusyerror {
         return Ok(());
     }
-    Err(AccessFault::Odd(last))
+    Err(AccessFault::Odd(OddStatus::Sbcs(last)))
 }
 
 /// Reads what the access has read.

@@ -9,6 +9,7 @@ ghost use Rattle.probe_access.specs.Faults.{access_why};
 
 use crate::commands::{program, run_command};
 use crate::fault::AccessFault;
+use crate::odd::OddStatus;
 use crate::transfers::{EXCEPTION, write_register};
 use debug_model::{Abstractcs, Dmi, DmiFault};
 use rv_model::Size;
@@ -94,6 +95,6 @@ pub fn perform<D: Dmi>(link: &mut D, instruction: u32, address: u64) -> Result<(
     match Abstractcs::from_word(last).cmderr {
         0 => Ok(()),
         EXCEPTION => Err(AccessFault::Memory(address)),
-        _ => Err(AccessFault::Odd(last)),
+        _ => Err(AccessFault::Odd(OddStatus::Abstractcs(last))),
     }
 }
