@@ -1,6 +1,7 @@
 -- What a fault of an access follows, however far its calls came, and where a value was read.
 use Rattle.std.proofs.Common.{◌≡◌, ◌∙◌, ◌≤◌, ◌++◌, ℕ, List, [], ◌∷◌, map, Bool, true, false, sym, ap, subst, append_assoc, arith}
 use Rattle.rv_model.specs.declared.size.Size.{Size}
+use Rattle.debug_model.specs.Addresses.{data0_address, data1_address, command_address}
 use Rattle.debug_model.specs.declared.dmi.DmiFault.{DmiFault}
 use Rattle.probe_access.specs.declared.fault.AccessFault.{AccessFault}
 use Rattle.probe_access.specs.declared.fault.AccessFault.TheVariants as access_fault
@@ -23,7 +24,7 @@ use Rattle.probe_access.specs.MemoryRuns.StoreFailedInside.{performing as store_
 use Rattle.probe_access.specs.RegisterRuns.{RanOddly, RanTo, ReadFailed, ReadFailedAt, RegisterRead, RegisterWritten, WriteFailed, WriteFailedAt}
 use Rattle.probe_access.specs.RegisterRuns.ReadFailedAt.{in_command as read_in_command, in_words as read_in_words}
 use Rattle.probe_access.specs.RegisterRuns.WriteFailedAt.{in_command as written_in_command, in_words as written_in_words}
-use Rattle.probe_access.specs.RegisterAccess.{command_address, data0_address, data1_address, joined, load_word, program_word, store_word, transfer_word, x8_number, x9_number}
+use Rattle.probe_access.specs.RegisterAccess.{joined, load_word, program_word, store_word, transfer_word, x8_number, x9_number}
 use Rattle.probe_access.proofs.RegisterCalls.{none_cleared}
 use Rattle.probe_run.proofs.ActLemmas.{broke_then, did_list, did_then}
 

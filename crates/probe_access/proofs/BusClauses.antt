@@ -7,6 +7,7 @@ use Rattle.rv_model.specs.Board.{Board}
 use Rattle.rv_model.specs.Memory.{Memory, after_store, is_aligned, loaded, store_answer}
 use Rattle.rv_model.specs.Size.{count_of}
 use Rattle.rv_model.proofs.MemoryLemmas.{after_store_refused}
+use Rattle.debug_model.specs.Addresses.{sbcs_address}
 use Rattle.debug_model.specs.declared.bus_access.BusAccess.TheVariants.{Read, Write}
 use Rattle.debug_model.specs.declared.dmi.DmiFault.{DmiFault}
 use Rattle.debug_model.specs.declared.sberror.Sberror.TheVariants.{Fine, Address}
@@ -26,7 +27,7 @@ use Rattle.probe_access.specs.BusRuns.BusLoadFailed.{in_start as load_start, in_
 use Rattle.probe_access.specs.BusRuns.BusStoreFailed.{in_start as store_start, in_end as store_end}
 use Rattle.probe_run.specs.Acts.{Did}
 use Rattle.probe_run.specs.Acts.Act.{Put}
-use Rattle.probe_run.specs.Opening.{clears_sberror, sbcs_address}
+use Rattle.probe_run.specs.Opening.{clears_sberror}
 use Rattle.probe_run.proofs.WideMemory.{loaded_small, stored_ready}
 use Rattle.probe_access.proofs.AccessEnd.{ready_before}
 use Rattle.probe_access.proofs.Along.{AtSites, did_sites, did_untold}

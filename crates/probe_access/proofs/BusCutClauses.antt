@@ -4,6 +4,7 @@ use Rattle.rv_model.specs.declared.size.Size.{Size}
 use Rattle.rv_model.specs.declared.size.Size.TheVariants.{B1}
 use Rattle.rv_model.specs.Board.{Board}
 use Rattle.rv_model.specs.Memory.{Memory, after_store, is_aligned}
+use Rattle.debug_model.specs.Addresses.{sbcs_address, sbdata0_address, sbdata1_address}
 use Rattle.debug_model.specs.declared.bus_access.BusAccess.TheVariants as access
 use Rattle.debug_model.specs.declared.dmi.DmiFault.{DmiFault}
 use Rattle.debug_model.specs.declared.dmi_op.DmiOp.TheVariants.{Read, Write}
@@ -21,9 +22,9 @@ use Rattle.probe_access.specs.declared.fault.AccessFault.TheVariants as access_f
 use Rattle.probe_run.specs.Acts.{Act, Attempt, Broke, Did, Tells, tells}
 use Rattle.probe_run.specs.Acts.Act.{Got, Put}
 use Rattle.probe_run.specs.Acts.Attempt.{Operation}
-use Rattle.probe_run.specs.Opening.{clears_sberror, sbcs_address}
+use Rattle.probe_run.specs.Opening.{clears_sberror}
 use Rattle.probe_access.specs.Accesses.{with_memory}
-use Rattle.probe_access.specs.BusRuns.{BusEndFailed, BusEnding, BusFetching, BusLoadFailed, BusPollBegun, BusStoreFailed, Starting, bus_error, bus_poll, read_started, sbdata0_address, sbdata1_address, write_started}
+use Rattle.probe_access.specs.BusRuns.{BusEndFailed, BusEnding, BusFetching, BusLoadFailed, BusPollBegun, BusStoreFailed, Starting, bus_error, bus_poll, read_started, write_started}
 use Rattle.probe_access.specs.BusRuns.BusEnding.{at_poll, at_clear}
 use Rattle.probe_access.specs.BusRuns.BusFetching.{lower, upper}
 use Rattle.probe_access.specs.BusRuns.BusLoadFailed.{in_start as load_start, in_end as load_end, in_fetch as load_fetch}

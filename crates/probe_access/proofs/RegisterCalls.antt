@@ -2,6 +2,7 @@
 use Rattle.std.proofs.Common.{◌≡◌, ◌≢◌, ◌∙◌, ◌≤◌, ◌++◌, ℕ, List, [], ◌∷◌, map, Option, Result, Ok, Err, IfErr, refl, sym, ap, subst, append_assoc, append-nil, true, false, cond}
 use Rattle.std.specs.Result.{IsErrAnd}
 use Rattle.std.proofs.lemmas.Bool.{ne_eqb}
+use Rattle.debug_model.specs.Addresses.{abstractcs_address, command_address}
 use Rattle.debug_model.specs.declared.abstract_command.AbstractCommand.{AbstractCommand}
 use Rattle.debug_model.specs.declared.dmi.DmiFault.{DmiFault}
 use Rattle.debug_model.specs.ModuleWords.{command_word}
@@ -22,9 +23,9 @@ use Rattle.probe_access.specs.RegisterRuns.{DoubleReads, ReadFailed, WriteFailed
 use Rattle.probe_access.specs.RegisterRuns.ReadFailedAt.{in_command as read_in_command, in_words as read_in_words}
 use Rattle.probe_access.specs.RegisterRuns.WriteFailedAt.{in_command as written_in_command}
 use Rattle.probe_run.specs.Acts.Did.{nothing}
-use Rattle.probe_access.specs.RegisterAccess.{command_address, transfer_word}
+use Rattle.probe_access.specs.RegisterAccess.{transfer_word}
 use Rattle.probe_run.proofs.ActLemmas.{broke_list, broke_one, broke_then, did_list, did_one, did_then}
-use Rattle.probe_run.specs.Opening.{abstractcs_address, clears_cmderr}
+use Rattle.probe_run.specs.Opening.{clears_cmderr}
 
 -- ---- single calls
 

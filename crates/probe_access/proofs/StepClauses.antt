@@ -4,6 +4,7 @@ use Rattle.std.proofs.lemmas.Option.{none-some}
 use Rattle.rv_model.specs.Board.{Hart}
 use Rattle.rv_model.specs.DebugRegisters.{dcsr_number, debug_refuses, debug_value}
 use Rattle.rv_model.specs.Registers.{csr_read_only, csr_value}
+use Rattle.debug_model.specs.Addresses.{dmcontrol_address, dmstatus_address}
 use Rattle.debug_model.specs.declared.dmi.DmiFault.{DmiFault}
 use Rattle.debug_model.specs.declared.dmi_op.DmiOp.TheVariants.{Read, Write}
 use Rattle.debug_model.specs.declared.point.Point.TheVariants.{ResumeReq}
@@ -25,7 +26,7 @@ use Rattle.probe_run.specs.Happens.{Leaves, MissedAt, StepLeft as RunLeft, Steps
 use Rattle.probe_run.specs.Looks.{look_act}
 use Rattle.probe_run.specs.Outcomes.{RunBroke, StepFails, asks}
 use Rattle.probe_run.specs.Outcomes.RunBroke.{at_request, at_look}
-use Rattle.probe_run.specs.Requests.{control_word, dmcontrol_address, dmstatus_address}
+use Rattle.probe_run.specs.Requests.{control_word}
 use Rattle.probe_run.proofs.ActLemmas.{broke_then}
 use Rattle.probe_access.specs.Registers.{reaches}
 use Rattle.probe_access.specs.Scratches.{ScratchLeft}

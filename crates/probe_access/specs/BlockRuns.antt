@@ -1,5 +1,6 @@
 -- The calls of a block of accesses, as far as they don't depend on how the accesses are made: where its values were read, and what a fault follows.
 -- RISC-V Debug Specification 1.0, "Abstract Control and Status" and "Abstract Data 0".
+use Rattle.debug_model.specs.Addresses.{data0_address, data1_address, command_address}
 use Rattle.std.specs.Prelude.{◌≡◌, ◌≢◌, ◌++◌, ◌∷◌, ℕ, List, [], map, Bool, false}
 use Rattle.probe_access.specs.declared.fault.AccessFault.{AccessFault}
 use Rattle.probe_access.specs.declared.fault.AccessFault.TheVariants as fault
@@ -9,7 +10,7 @@ use Rattle.probe_run.specs.Acts.{Act, Attempt, Broke, Did, Tells}
 use Rattle.probe_run.specs.Acts.Act.{Got, Put}
 use Rattle.probe_access.specs.CommandRuns.{AlwaysBusy, error_shown, poll_act, shows_busy}
 use Rattle.probe_access.specs.RegisterRuns.{exception_error, no_error}
-use Rattle.probe_access.specs.RegisterAccess.{command_address, data0_address, data1_address, joined, transfer_word}
+use Rattle.probe_access.specs.RegisterAccess.{joined, transfer_word}
 
 -- ---- what was read
 

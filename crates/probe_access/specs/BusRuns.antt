@@ -4,6 +4,7 @@ use Rattle.std.specs.Prelude.{◌≡◌, ◌≢◌, ◌⊎◌, ◌<◌, ◌++◌
 use Rattle.rv_model.specs.declared.size.Size.{Size}
 use Rattle.rv_model.specs.declared.size.Size.TheVariants.{B1, B2, B4, B8}
 use Rattle.rv_model.specs.Size.{count_of}
+use Rattle.debug_model.specs.Addresses.{sbcs_address, sbaddress0_address, sbaddress1_address, sbdata0_address, sbdata1_address}
 use Rattle.debug_model.specs.declared.dmi.DmiFault.{DmiFault}
 use Rattle.debug_model.specs.declared.dmi_op.DmiOp.TheVariants.{Read, Write}
 use Rattle.debug_model.specs.Commands.{high_half, low_half}
@@ -15,24 +16,12 @@ use Rattle.probe_access.specs.declared.odd.OddStatus.TheVariants.{Sbcs}
 use Rattle.probe_run.specs.Acts.{Act, Attempt, Did, Tells}
 use Rattle.probe_run.specs.Acts.Act.{Got, Put}
 use Rattle.probe_run.specs.Acts.Attempt.{Operation}
-use Rattle.probe_run.specs.Opening.{clears_sberror, sbcs_address}
+use Rattle.probe_run.specs.Opening.{clears_sberror}
 use Rattle.probe_access.specs.CommandRuns.{polls_most}
 use Rattle.probe_access.specs.Faults.{BrokeIn}
 use Rattle.probe_access.specs.RegisterAccess.{joined}
 
 -- ---- the registers
-
-abbrev pub sbaddress0_address : ℕ
-sbaddress0_address = 0x39
-
-abbrev pub sbaddress1_address : ℕ
-sbaddress1_address = 0x3a
-
-abbrev pub sbdata0_address : ℕ
-sbdata0_address = 0x3c
-
-abbrev pub sbdata1_address : ℕ
-sbdata1_address = 0x3d
 
 -- sbaccess for accesses of so many bytes
 abbrev pub access_number : Size → ℕ

@@ -1,6 +1,7 @@
 -- The calls of an access to memory: x8 and x9 are saved, an instruction is executed from the program buffer, and both are put back.
 -- RISC-V Debug Specification 1.0, "Program Buffer" and "Debugger Implementation", "Reading Memory".
 use Rattle.std.specs.Prelude.{◌≡◌, ◌∷◌, ℕ, List, []}
+use Rattle.debug_model.specs.Addresses.{progbuf0_address, progbuf1_address}
 use Rattle.debug_model.specs.declared.dmi.DmiFault.{DmiFault}
 use Rattle.debug_model.specs.declared.dmi_op.DmiOp.TheVariants.{Write}
 use Rattle.rv_model.specs.declared.size.Size.{Size}
@@ -13,7 +14,7 @@ use Rattle.probe_run.specs.Acts.Attempt.{Operation}
 use Rattle.probe_access.specs.CommandRuns.{CommandFailed}
 use Rattle.probe_access.specs.Faults.{BrokeIn}
 use Rattle.probe_access.specs.RegisterRuns.{RanOddly, RanTo, ReadFailed, RegisterRead, RegisterWritten, WriteFailed, exception_error, no_error}
-use Rattle.probe_access.specs.RegisterAccess.{ebreak_word, load_word, progbuf0_address, progbuf1_address, program_word, store_word, x8_number, x9_number}
+use Rattle.probe_access.specs.RegisterAccess.{ebreak_word, load_word, program_word, store_word, x8_number, x9_number}
 
 -- ---- x8 and x9
 

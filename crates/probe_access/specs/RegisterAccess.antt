@@ -6,21 +6,6 @@ use Rattle.rv_model.specs.declared.size.Size.TheVariants.{B1, B2, B4, B8}
 use Rattle.debug_model.specs.declared.abstract_command.AbstractCommand.{AbstractCommand}
 use Rattle.debug_model.specs.ModuleWords.{command_word}
 
-abbrev pub data0_address : ℕ
-data0_address = 0x04
-
-abbrev pub data1_address : ℕ
-data1_address = 0x05
-
-abbrev pub command_address : ℕ
-command_address = 0x17
-
-abbrev pub progbuf0_address : ℕ
-progbuf0_address = 0x20
-
-abbrev pub progbuf1_address : ℕ
-progbuf1_address = 0x21
-
 -- a transfer of 64 bits from a register into the data words, or from them into it
 abbrev pub transfer_command : Bool → ℕ → AbstractCommand
 transfer_command write number =

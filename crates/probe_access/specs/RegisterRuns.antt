@@ -1,6 +1,7 @@
 -- The calls by which a register is read or written: a transfer, and the data words behind or before it.
 -- RISC-V Debug Specification 1.0, "Access Register" and "Abstract Data 0".
 use Rattle.std.specs.Prelude.{◌≡◌, ◌≢◌, ◌∷◌, ℕ, List, [], true, false}
+use Rattle.debug_model.specs.Addresses.{data0_address, data1_address}
 use Rattle.debug_model.specs.declared.dmi.DmiFault.{DmiFault}
 use Rattle.debug_model.specs.declared.dmi_op.DmiOp.TheVariants.{Read, Write}
 use Rattle.debug_model.specs.Commands.{high_half, low_half}
@@ -13,7 +14,7 @@ use Rattle.probe_run.specs.Acts.Act.{Got, Put}
 use Rattle.probe_run.specs.Acts.Attempt.{Operation}
 use Rattle.probe_access.specs.CommandRuns.{CommandFailed, RanCommand, error_shown}
 use Rattle.probe_access.specs.Faults.{BrokeIn}
-use Rattle.probe_access.specs.RegisterAccess.{data0_address, data1_address, joined, transfer_word}
+use Rattle.probe_access.specs.RegisterAccess.{joined, transfer_word}
 
 -- ---- the data words
 

@@ -13,19 +13,8 @@ use crate::fault::AccessFault;
 use crate::memory::cut_to;
 use crate::odd::OddStatus;
 use crate::polling::POLLS_MOST;
-use debug_model::{Dmi, DmiFault, Sbcs};
+use debug_model::{Dmi, DmiFault, Sbaddress0, Sbaddress1, Sbcs, Sbdata0, Sbdata1};
 use rv_model::Size;
-
-/// The addresses of the system bus's registers.
-const SBCS: u8 = 0x38;
-
-const SBADDRESS0: u8 = 0x39;
-
-const SBADDRESS1: u8 = 0x3a;
-
-const SBDATA0: u8 = 0x3c;
-
-const SBDATA1: u8 = 0x3d;
 
 /// The word of `sbcs` that clears every error.
 const CLEARS_SBERROR: u32 = 0x0040_7000;
@@ -71,9 +60,9 @@ fn set_up<D: Dmi>(link: &mut D, setting: u32, address: u64) -> Result<(), DmiFau
     ensures broke { IfErr result (Breaks (BrokeIn (Starting (addressed setting address))) (D.seen link.old) (D.seen link.new)) }
     ensures keeps { Keeps Some (D.seen link.old) (D.seen link.new) result }
 {
-    link.write(SBCS, setting)?;
-    link.write(SBADDRESS1, high_word(address))?;
-    link.write(SBADDRESS0, low_word(address))?;
+    link.write(Sbcs::ADDRESS, setting)?;
+    link.write(Sbaddress1::ADDRESS, high_word(address))?;
+    link.write(Sbaddress0::ADDRESS, low_word(address))?;
     Ok(())
 }
 
@@ -101,8 +90,8 @@ pub fn start_write<D: Dmi>(
     ensures keeps { Keeps Some (D.seen link.old) (D.seen link.new) result }
 {
     set_up(link, setting_of(false, size), address)?;
-    link.write(SBDATA1, high_word(value))?;
-    link.write(SBDATA0, low_word(value))?;
+    link.write(Sbdata1::ADDRESS, high_word(value))?;
+    link.write(Sbdata0::ADDRESS, low_word(value))?;
     Ok(())
 }
 
@@ -114,7 +103,7 @@ fn poll_bus<D: Dmi>(link: &mut D) -> Result<u32, AccessFault>
     ensures keeps { Keeps access_why (D.seen link.old) (D.seen link.new) result }
 {
     'polls: for _polls in 0..POLLS_MOST {
-        let word = link.read(SBCS)?;
+        let word = link.read(Sbcs::ADDRESS)?;
         let bus = Sbcs::from_word(word);
         if !bus.sbbusy {
             return Ok(word);
@@ -133,7 +122,7 @@ pub fn finish<D: Dmi>(link: &mut D, address: u64) -> Result<(), AccessFault>
     let last = poll_bus(link)?;
     let bus = Sbcs::from_word(last);
     if bus.sberror == OUTSIDE {
-        link.write(SBCS, CLEARS_SBERROR)?;
+        link.write(Sbcs::ADDRESS, CLEARS_SBERROR)?;
         return Err(AccessFault::Memory(address));
     }
     if bus.sberror == 0 && !bus.sbbusyerror {
@@ -149,7 +138,7 @@ pub fn fetch<D: Dmi>(link: &mut D, size: Size) -> Result<u64, DmiFault>
     ensures broke { IfErr result (Breaks (BrokeIn BusFetching) (D.seen link.old) (D.seen link.new)) }
     ensures keeps { Keeps Some (D.seen link.old) (D.seen link.new) result }
 {
-    let low = link.read(SBDATA0)?;
-    let high = link.read(SBDATA1)?;
+    let low = link.read(Sbdata0::ADDRESS)?;
+    let high = link.read(Sbdata1::ADDRESS)?;
     Ok(cut_to(size, join(low, high)))
 }

@@ -1,6 +1,7 @@
 -- What one Look did at a told chip, and what it hands out.
 use Rattle.std.proofs.Common.{◌≡◌, ◌∙◌, ◌++◌, append_assoc, ◌<◌, ◌≤◌, ◌^◌, ℕ, List, [], ◌∷◌, Bool, true, Option, Some, None, is_some, slice_get, refl, sym, ap, subst, inl, inr}
 use Rattle.rv_model.specs.Board.{Hart}
+use Rattle.debug_model.specs.Addresses.{dmcontrol_address, dmstatus_address}
 use Rattle.debug_model.specs.declared.dmi.DmiFault.{DmiFault}
 use Rattle.debug_model.specs.declared.dmi_op.DmiOp.TheVariants.{Read, Write}
 use Rattle.debug_model.specs.declared.point.Point.{Point}
@@ -24,7 +25,7 @@ use Rattle.probe_run.specs.Happens.{IsAsSeen, Leaves, LeftBy, SeesAt, target_of}
 use Rattle.probe_run.specs.Looks.{look_act, seen_in}
 use Rattle.probe_run.specs.Outcomes.{IsSeen, LookFailed, LookedAt, asks}
 use Rattle.probe_run.specs.Outcomes.LookFailed.{at_selection, at_look}
-use Rattle.probe_run.specs.Requests.{control_word, dmcontrol_address, dmstatus_address}
+use Rattle.probe_run.specs.Requests.{control_word}
 use Rattle.probe_run.specs.Waits.{LookBroke}
 use Rattle.probe_run.proofs.ActLemmas.{broke_then, did_then}
 use Rattle.probe_run.specs.Sites.{IsQuiet, TurnsAlone, spun}

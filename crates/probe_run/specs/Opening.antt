@@ -1,6 +1,7 @@
 -- The opening of a chip: which registers are read and written, in order, and what each of them must show.
 -- RISC-V Debug Specification 1.0, "Debug Module Registers" and "DTM Control and Status". What is asked of each register is this project's own choice.
 use Rattle.std.specs.Prelude.{◌≡◌, ◌++◌, ◌+◌, ◌<◌, ◌==◌, ◌&&◌, not, nat_le, ◌%◌, ℕ, List, [], ◌∷◌, length, map, All, Bool, true, false, Option, Some, None, IfSome}
+use Rattle.debug_model.specs.Addresses.{dmcontrol_address, abstractcs_address, abstractauto_address, sbcs_address}
 use Rattle.debug_model.specs.declared.dmi.DmiFault.{DmiFault}
 use Rattle.debug_model.specs.declared.dmi_op.DmiOp.TheVariants.{Read, Write}
 use Rattle.debug_model.specs.declared.point.Point.TheVariants.{Look}
@@ -19,7 +20,6 @@ use Rattle.probe_run.specs.Acts.Attempt.{Scan, Operation}
 use Rattle.probe_run.specs.Happens.{target_of}
 use Rattle.probe_run.specs.Looks.{look_act}
 use Rattle.probe_run.specs.Outcomes.{AskBroke, asks}
-use Rattle.probe_run.specs.Requests.{dmcontrol_address}
 use Rattle.probe_run.specs.Waits.{LookBroke}
 
 -- ---- what is asked of each register
@@ -44,15 +44,6 @@ abbrev pub bus_fits : ℕ → Bool
 bus_fits w = (sbcs_of w).sbversion == 1 && ((sbcs_of w).sbasize == bus_address_bits && (sbcs_of w).sizes % 16 == 15)
 
 -- ---- the registers
-
-abbrev pub abstractcs_address : ℕ
-abstractcs_address = 0x16
-
-abbrev pub abstractauto_address : ℕ
-abstractauto_address = 0x18
-
-abbrev pub sbcs_address : ℕ
-sbcs_address = 0x38
 
 -- every error of commands is cleared
 abbrev pub clears_cmderr : ℕ

@@ -1,6 +1,7 @@
 -- What each call of run control did at the link: the operations that it made, in order, with what the Looks showed, and where a fault came.
 -- RISC-V Debug Specification 1.0, "Halt Control" and "Run Control".
 use Rattle.std.specs.Prelude.{◌≡◌, ℕ, List, [], ◌∷◌, Bool, true, false, Option, Some, None}
+use Rattle.debug_model.specs.Addresses.{dmcontrol_address}
 use Rattle.debug_model.specs.declared.dmi.DmiFault.{DmiFault}
 use Rattle.debug_model.specs.declared.dmi_op.DmiOp.TheVariants.{Write}
 use Rattle.debug_model.specs.Told.{Far}
@@ -18,7 +19,7 @@ use Rattle.probe_run.specs.Acts.{Act, Broke, Did, Tells}
 use Rattle.probe_run.specs.Acts.Act.{Put}
 use Rattle.probe_run.specs.Acts.Attempt.{Operation}
 use Rattle.probe_run.specs.Looks.{Met, Missed, look_act, seen_in, test_of}
-use Rattle.probe_run.specs.Requests.{control_word, dmcontrol_address}
+use Rattle.probe_run.specs.Requests.{control_word}
 use Rattle.probe_run.specs.Waits.{LookBroke, WaitBroke}
 
 -- ---- faults
