@@ -22,7 +22,8 @@ pub data WordsRead (low high : ℕ) : List Act → Type 0 where
 -- each value was read from the data words, behind a poll that showed neither a command under way nor an error
 pub data Fetches : List ℕ → List Act → Type 0 where
   nothing : (acts : List Act) → Fetches [] acts
-  further : (values : List ℕ) (front rest words : List Act) (last low high : ℕ) → Fetches values front → shows_busy last ≡ false → error_shown last ≡ no_error → WordsRead low high words
+  further : (values : List ℕ) (front rest words : List Act) (last low high : ℕ) → Fetches values front → shows_busy last ≡ false
+      → error_shown last ≡ no_error → WordsRead low high words
       → Fetches (values ++ joined low high ∷ []) (front ++ poll_act last ∷ (words ++ rest))
 
 pub record Fetched (values : List ℕ) (old new : Tells) : Type 0 where

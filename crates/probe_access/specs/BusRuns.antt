@@ -142,7 +142,8 @@ BusPollFailed old_count new_count old new (fault.Odd shown) = ⊥
 
 pub data BusEnding (old_count new_count : ℕ) (old new : Tells) (why : DmiFault) : Type 0 where
   at_poll : BrokeIn BusPollBegun old_count new_count old new.far why → BusEnding old_count new_count old new why
-  at_clear : (last : ℕ) (mid : Tells) → BusPolled last old mid → bus_error last ≡ outside_error → BrokeIn (Starting (Put sbcs_address clears_sberror ∷ [])) old_count new_count mid new.far why → BusEnding old_count new_count old new why
+  at_clear : (last : ℕ) (mid : Tells) → BusPolled last old mid → bus_error last ≡ outside_error
+      → BrokeIn (Starting (Put sbcs_address clears_sberror ∷ [])) old_count new_count mid new.far why → BusEnding old_count new_count old new why
 
 abbrev pub BusEndFailed : ℕ → ℕ → ℕ → Tells → Tells → AccessFault → Type 0
 BusEndFailed address old_count new_count old new (fault.Dmi why) = BusEnding old_count new_count old new why
@@ -178,9 +179,12 @@ pub record BusLoaded (size : Size) (address value : ℕ) (old new : Tells) : Typ
   pub fetched : BusFetched size value ended new
 
 pub data BusLoadFailed (size : Size) (address old_count new_count : ℕ) (old new : Tells) (e : AccessFault) : Type 0 where
-  in_start : (why : DmiFault) → e ≡ fault.Dmi why → BrokeIn (Starting (read_started size address)) old_count new_count old new.far why → BusLoadFailed size address old_count new_count old new e
-  in_end : (started : Tells) → Did old (read_started size address) started → BusEndFailed address old_count new_count started new e → BusLoadFailed size address old_count new_count old new e
-  in_fetch : (started ended : Tells) → Did old (read_started size address) started → BusEnded started ended → (why : DmiFault) → e ≡ fault.Dmi why → BrokeIn BusFetching old_count new_count ended new.far why
+  in_start : (why : DmiFault) → e ≡ fault.Dmi why → BrokeIn (Starting (read_started size address)) old_count new_count old new.far why
+      → BusLoadFailed size address old_count new_count old new e
+  in_end : (started : Tells) → Did old (read_started size address) started → BusEndFailed address old_count new_count started new e
+      → BusLoadFailed size address old_count new_count old new e
+  in_fetch : (started ended : Tells) → Did old (read_started size address) started → BusEnded started ended → (why : DmiFault) → e ≡ fault.Dmi why
+      → BrokeIn BusFetching old_count new_count ended new.far why
       → BusLoadFailed size address old_count new_count old new e
 
 pub record BusStored (size : Size) (address value : ℕ) (old new : Tells) : Type 0 where
@@ -189,5 +193,7 @@ pub record BusStored (size : Size) (address value : ℕ) (old new : Tells) : Typ
   pub ends : BusEnded started new
 
 pub data BusStoreFailed (size : Size) (address value old_count new_count : ℕ) (old new : Tells) (e : AccessFault) : Type 0 where
-  in_start : (why : DmiFault) → e ≡ fault.Dmi why → BrokeIn (Starting (write_started size address value)) old_count new_count old new.far why → BusStoreFailed size address value old_count new_count old new e
-  in_end : (started : Tells) → Did old (write_started size address value) started → BusEndFailed address old_count new_count started new e → BusStoreFailed size address value old_count new_count old new e
+  in_start : (why : DmiFault) → e ≡ fault.Dmi why → BrokeIn (Starting (write_started size address value)) old_count new_count old new.far why
+      → BusStoreFailed size address value old_count new_count old new e
+  in_end : (started : Tells) → Did old (write_started size address value) started → BusEndFailed address old_count new_count started new e
+      → BusStoreFailed size address value old_count new_count old new e

@@ -25,7 +25,8 @@ pub record Saved (x8 x9 : ℕ) (old new : Tells) : Type 0 where
 
 pub data SaveFailed (old_count new_count : ℕ) (old new : Tells) (e : AccessFault) : Type 0 where
   at_x8 : ReadFailed x8_number old_count new_count old new e → SaveFailed old_count new_count old new e
-  at_x9 : (x8 : ℕ) (mid : Tells) → RegisterRead x8_number x8 old mid → ReadFailed x9_number old_count new_count mid new e → SaveFailed old_count new_count old new e
+  at_x9 : (x8 : ℕ) (mid : Tells) → RegisterRead x8_number x8 old mid → ReadFailed x9_number old_count new_count mid new e
+      → SaveFailed old_count new_count old new e
 
 pub record PutBack (x8 x9 : ℕ) (old new : Tells) : Type 0 where
   pub mid : Tells
@@ -34,7 +35,8 @@ pub record PutBack (x8 x9 : ℕ) (old new : Tells) : Type 0 where
 
 pub data PutBackFailed (x8 x9 old_count new_count : ℕ) (old new : Tells) (e : AccessFault) : Type 0 where
   at_x8 : WriteFailed x8_number x8 old_count new_count old new e → PutBackFailed x8 x9 old_count new_count old new e
-  at_x9 : (mid : Tells) → RegisterWritten x8_number x8 old mid → WriteFailed x9_number x9 old_count new_count mid new e → PutBackFailed x8 x9 old_count new_count old new e
+  at_x9 : (mid : Tells) → RegisterWritten x8_number x8 old mid → WriteFailed x9_number x9 old_count new_count mid new e
+      → PutBackFailed x8 x9 old_count new_count old new e
 
 -- ---- one instruction from the program buffer
 
@@ -54,12 +56,16 @@ pub record Performed (word address error : ℕ) (old new : Tells) : Type 0 where
   pub ran : RanTo program_word error addressed new
 
 pub data PerformFailed (word address old_count new_count : ℕ) (old new : Tells) : AccessFault → Type 0 where
-  in_program : (why : DmiFault) → BrokeIn (ProgramBegun word) old_count new_count old new.far why → PerformFailed word address old_count new_count old new (fault.Dmi why)
-  in_address : (written : Tells) → Did old (program_written word) written → (e : AccessFault) → WriteFailed x8_number address old_count new_count written new e → PerformFailed word address old_count new_count old new e
-  in_run : (written addressed : Tells) → Did old (program_written word) written → RegisterWritten x8_number address written addressed → (e : AccessFault) → CommandFailed program_word old_count new_count addressed new e
+  in_program : (why : DmiFault) → BrokeIn (ProgramBegun word) old_count new_count old new.far why
+      → PerformFailed word address old_count new_count old new (fault.Dmi why)
+  in_address : (written : Tells) → Did old (program_written word) written → (e : AccessFault)
+      → WriteFailed x8_number address old_count new_count written new e → PerformFailed word address old_count new_count old new e
+  in_run : (written addressed : Tells) → Did old (program_written word) written → RegisterWritten x8_number address written addressed → (e : AccessFault)
+      → CommandFailed program_word old_count new_count addressed new e
       → PerformFailed word address old_count new_count old new e
   faulted : Performed word address exception_error old new → PerformFailed word address old_count new_count old new (fault.Memory address)
-  oddly : (written addressed : Tells) → Did old (program_written word) written → RegisterWritten x8_number address written addressed → (shown : OddStatus) → RanOddly program_word shown addressed new
+  oddly : (written addressed : Tells) → Did old (program_written word) written → RegisterWritten x8_number address written addressed → (shown : OddStatus)
+      → RanOddly program_word shown addressed new
       → PerformFailed word address old_count new_count old new (fault.Odd shown)
 
 -- ---- between the saving and the putting back
@@ -75,7 +81,8 @@ LoadedAny size address old new = (value : ℕ) × LoadedInside size address valu
 
 pub data LoadFailedInside (size : Size) (address old_count new_count : ℕ) (old new : Tells) (e : AccessFault) : Type 0 where
   performing : PerformFailed (load_word size) address old_count new_count old new e → LoadFailedInside size address old_count new_count old new e
-  reading : (mid : Tells) → Performed (load_word size) address no_error old mid → ReadFailed x9_number old_count new_count mid new e → LoadFailedInside size address old_count new_count old new e
+  reading : (mid : Tells) → Performed (load_word size) address no_error old mid → ReadFailed x9_number old_count new_count mid new e
+      → LoadFailedInside size address old_count new_count old new e
 
 pub record StoredInside (size : Size) (address value : ℕ) (old new : Tells) : Type 0 where
   pub mid : Tells
@@ -84,7 +91,8 @@ pub record StoredInside (size : Size) (address value : ℕ) (old new : Tells) : 
 
 pub data StoreFailedInside (size : Size) (address value old_count new_count : ℕ) (old new : Tells) (e : AccessFault) : Type 0 where
   writing : WriteFailed x9_number value old_count new_count old new e → StoreFailedInside size address value old_count new_count old new e
-  performing : (mid : Tells) → RegisterWritten x9_number value old mid → PerformFailed (store_word size) address old_count new_count mid new e → StoreFailedInside size address value old_count new_count old new e
+  performing : (mid : Tells) → RegisterWritten x9_number value old mid → PerformFailed (store_word size) address old_count new_count mid new e
+      → StoreFailedInside size address value old_count new_count old new e
 
 -- ---- the whole access
 
@@ -111,12 +119,16 @@ abbrev pub Loses : AccessFault → Type 0
 Loses e = Recovers e → ⊥
 
 -- by what is Ok inside, and what a fault says there
-pub data AroundFailed (R : Tells → Tells → Type 0) (F : ℕ → ℕ → Tells → Tells → AccessFault → Type 0) (old_count new_count : ℕ) (old new : Tells) (e : AccessFault) : Type 0 where
+pub data AroundFailed (R : Tells → Tells → Type 0) (F : ℕ → ℕ → Tells → Tells → AccessFault → Type 0) (old_count new_count : ℕ) (old new : Tells)
+    (e : AccessFault) : Type 0 where
   in_save : SaveFailed old_count new_count old new e → AroundFailed R F old_count new_count old new e
   inside : (x8 x9 : ℕ) (first : Tells) → Saved x8 x9 old first → F old_count new_count first new e → Loses e → AroundFailed R F old_count new_count old new e
-  behind : (x8 x9 : ℕ) (first last : Tells) (was_count is_count : ℕ) → Saved x8 x9 old first → F was_count is_count first last e → Recovers e → PutBack x8 x9 last new → AroundFailed R F old_count new_count old new e
-  in_restore : (x8 x9 : ℕ) (first last : Tells) → Saved x8 x9 old first → R first last → PutBackFailed x8 x9 old_count new_count last new e → AroundFailed R F old_count new_count old new e
-  in_restore_behind : (x8 x9 : ℕ) (first last : Tells) (was_count is_count : ℕ) (was : AccessFault) → Saved x8 x9 old first → F was_count is_count first last was → Recovers was → PutBackFailed x8 x9 old_count new_count last new e
+  behind : (x8 x9 : ℕ) (first last : Tells) (was_count is_count : ℕ) → Saved x8 x9 old first → F was_count is_count first last e → Recovers e
+      → PutBack x8 x9 last new → AroundFailed R F old_count new_count old new e
+  in_restore : (x8 x9 : ℕ) (first last : Tells) → Saved x8 x9 old first → R first last → PutBackFailed x8 x9 old_count new_count last new e
+      → AroundFailed R F old_count new_count old new e
+  in_restore_behind : (x8 x9 : ℕ) (first last : Tells) (was_count is_count : ℕ) (was : AccessFault) → Saved x8 x9 old first
+      → F was_count is_count first last was → Recovers was → PutBackFailed x8 x9 old_count new_count last new e
       → AroundFailed R F old_count new_count old new e
 
 -- what has become of a fault, with x8 and x9 to be put back

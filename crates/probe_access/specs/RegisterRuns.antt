@@ -93,7 +93,8 @@ pub record RegisterWritten (number value : ℕ) (old new : Tells) : Type 0 where
 
 -- the writing of the words failed, or behind it the command
 pub data WriteFailedAt (number value old_count new_count : ℕ) (old new : Tells) : AccessFault → Type 0 where
-  in_words : (why : DmiFault) → BrokeIn (DoubleWrites value) old_count new_count old new.far why → WriteFailedAt number value old_count new_count old new (fault.Dmi why)
+  in_words : (why : DmiFault) → BrokeIn (DoubleWrites value) old_count new_count old new.far why
+      → WriteFailedAt number value old_count new_count old new (fault.Dmi why)
   in_command : (mid : Tells) → Did old (double_written value) mid → (e : AccessFault) → CommandFailed (transfer_word true number) old_count new_count mid new e
       → WriteFailedAt number value old_count new_count old new e
 
@@ -106,7 +107,9 @@ pub record BehindWords (value : ℕ) (old : Tells) (P : Tells → Type 0) : Type
 abbrev pub WriteFailed : ℕ → ℕ → ℕ → ℕ → Tells → Tells → AccessFault → Type 0
 WriteFailed number value old_count new_count old new (fault.Dmi why) = WriteFailedAt number value old_count new_count old new (fault.Dmi why)
 WriteFailed number value old_count new_count old new (fault.Memory address) = ⊥
-WriteFailed number value old_count new_count old new (fault.Register asked) = BehindWords value old (λ mid. RefusedAs number asked (transfer_word true number) mid new)
+WriteFailed number value old_count new_count old new (fault.Register asked) = BehindWords value old
+    (λ mid. RefusedAs number asked (transfer_word true number) mid new)
 WriteFailed number value old_count new_count old new (fault.Run why) = ⊥
-WriteFailed number value old_count new_count old new fault.StillBusy = BehindWords value old (λ mid. CommandFailed (transfer_word true number) old_count new_count mid new fault.StillBusy)
+WriteFailed number value old_count new_count old new fault.StillBusy = BehindWords value old
+    (λ mid. CommandFailed (transfer_word true number) old_count new_count mid new fault.StillBusy)
 WriteFailed number value old_count new_count old new (fault.Odd shown) = BehindWords value old (λ mid. RanOddly (transfer_word true number) shown mid new)

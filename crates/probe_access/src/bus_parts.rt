@@ -2,7 +2,8 @@
 
 ghost use Rattle.std.specs.Prelude.{◌≡◌, ◌≤◌, ◌<◌, ◌^◌, ◌∷◌, [], true, false, IfOk, IfErr, OnOk, Some};
 ghost use Rattle.probe_run.specs.Acts.{Did};
-ghost use Rattle.probe_access.specs.BusRuns.{BusEndFailed, BusEnded, BusFetched, BusFetching, BusPollFailed, BusPolled, Starting, access_number, addressed, read_started, setting, write_started};
+ghost use Rattle.probe_access.specs.BusRuns.{BusEndFailed, BusEnded, BusFetched, BusFetching, BusPollFailed, BusPolled, Starting, access_number, addressed};
+ghost use Rattle.probe_access.specs.BusRuns.{read_started, setting, write_started};
 ghost use Rattle.probe_access.specs.Faults.{BrokeIn};
 ghost use Rattle.debug_model.specs.Kept.{CanCall, Keeps};
 ghost use Rattle.probe_run.specs.Told.{Breaks, Fails, told};

@@ -37,12 +37,14 @@ abbrev pub asks : Request → ℕ → List Act
 asks request h = Put dmcontrol_address (control_word request h) ∷ []
 
 abbrev pub AskBroke : Request → ℕ → ℕ → ℕ → Tells → Option Far → DmiFault → Type 0
-AskBroke request h old_count new_count old told fault = Broke [] (Operation (Write dmcontrol_address (control_word request h))) old_count new_count old told fault
+AskBroke request h old_count new_count old told fault =
+    Broke [] (Operation (Write dmcontrol_address (control_word request h))) old_count new_count old told fault
 
 -- by what a wait behind a request answers
 abbrev pub AskedAs : Request → ℕ → Wanted → Tells → Tells → Waited → Type 0
 AskedAs request h what old new waited.Shown = Met (test_of what) (asks request h) old new
-AskedAs request h what old new (waited.Unshown acknowledged) = (last : ℕ) × Missed (test_of what) last (asks request h) old new × (acknowledged ≡ sees_ack (seen_in last))
+AskedAs request h what old new (waited.Unshown acknowledged) = (last : ℕ) × Missed (test_of what) last (asks request h) old new
+    × (acknowledged ≡ sees_ack (seen_in last))
 
 -- the request failed, or a Look behind it
 pub data RunBroke (request : Request) (test : Sight → Bool) (h old_count new_count : ℕ) (old : Tells) (told : Option Far) (fault : DmiFault) : Type 0 where

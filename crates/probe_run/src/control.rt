@@ -37,7 +37,8 @@ fn word_for(hart: u16, request: Request) -> u32
 pub fn control<D: Dmi>(link: &mut D, hart: u16, request: Request) -> Result<(), DmiFault>
     requires callable { CanCall (D.seen link.old) }
     ensures did { OnOk result (Did (told (D.seen link.old)) (Put dmcontrol_address (control_word request hart) ∷ []) (told (D.seen link.new))) }
-    ensures broke { IfErr result (Breaks (Broke [] (Attempt.Operation (Write dmcontrol_address (control_word request hart)))) (D.seen link.old) (D.seen link.new)) }
+    ensures broke { IfErr result (Breaks (Broke [] (Attempt.Operation (Write dmcontrol_address (control_word request hart)))) (D.seen link.old)
+        (D.seen link.new)) }
     ensures keeps { Keeps Some (D.seen link.old) (D.seen link.new) result }
 {
     link.write(Dmcontrol::ADDRESS, word_for(hart, request))?;

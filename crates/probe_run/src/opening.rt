@@ -2,7 +2,9 @@
 
 ghost use Rattle.std.specs.Prelude.{◌≡◌, ◌≤◌, ◌∷◌, [], true, false, IfErr, OnOk};
 ghost use Rattle.debug_model.specs.Told.{IsAsLoaded, IsReady, Selects};
-ghost use Rattle.probe_run.specs.Opening.{Activated, ActivationFails, BusCleared, BusFails, BusFits, CommandsCleared, CommandsFail, CommandsFit, ConnectFails, LosesLoaded, ModuleFails, ModuleFits, Opened, OpensLoaded, Then, TransportFails, TransportFits, bus_fits, clears_cmderr, clears_sberror, commands_fit, module_fits, starts_none, transport_fits};
+ghost use Rattle.probe_run.specs.Opening.{Activated, ActivationFails, BusCleared, BusFails, BusFits, CommandsCleared, CommandsFail, CommandsFit};
+ghost use Rattle.probe_run.specs.Opening.{ConnectFails, LosesLoaded, ModuleFails, ModuleFits, Opened, OpensLoaded, Then, TransportFails, TransportFits};
+ghost use Rattle.probe_run.specs.Opening.{bus_fits, clears_cmderr, clears_sberror, commands_fit, module_fits, starts_none, transport_fits};
 ghost use Rattle.debug_model.specs.Kept.{CanCall, Keeps};
 ghost use Rattle.probe_run.specs.Told.{Fails, told};
 ghost use Rattle.probe_run.specs.Opening.{opening_why};
