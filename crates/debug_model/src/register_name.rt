@@ -77,9 +77,8 @@ impl RegName {
         None
     }
 
-    /// The register's name.
+    /// The register's name, empty for a number that has none.
     pub fn name(self) -> &'static [u8]
-        requires { IsTrue (is_register self.0) }
         ensures { result.now ≡ name_of_register self.0 }
     {
         for (name, number) in named_registers() {
@@ -87,6 +86,6 @@ impl RegName {
                 return name;
             }
         }
-        unreachable!()
+        b""
     }
 }
