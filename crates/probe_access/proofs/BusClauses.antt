@@ -16,7 +16,8 @@ use Rattle.debug_model.specs.Dmi.{DmiScript}
 use Rattle.debug_model.specs.Module.{Site}
 use Rattle.debug_model.specs.Scan.{WhereTold}
 use Rattle.debug_model.specs.SystemBus.{BusUnit}
-use Rattle.debug_model.specs.Told.{Far, IsReady, MemoryReady, SiteReady, site_of}
+use Rattle.rv_model.specs.Widths.{MemoryReady}
+use Rattle.debug_model.specs.Told.{Far, IsReady, SiteReady, site_of}
 use Rattle.probe_access.specs.declared.fault.AccessFault.{AccessFault}
 use Rattle.probe_access.specs.declared.fault.AccessFault.TheVariants as access_fault
 use Rattle.probe_access.specs.declared.odd.OddStatus.{OddStatus}
@@ -28,7 +29,7 @@ use Rattle.probe_access.specs.BusRuns.BusStoreFailed.{in_start as store_start, i
 use Rattle.probe_run.specs.Acts.{Did}
 use Rattle.probe_run.specs.Acts.Act.{Put}
 use Rattle.probe_run.specs.Opening.{clears_sberror}
-use Rattle.probe_run.proofs.WideMemory.{loaded_small, stored_ready}
+use Rattle.rv_model.proofs.WideMemory.{loaded_small, stored_ready}
 use Rattle.probe_access.proofs.AccessEnd.{ready_before}
 use Rattle.probe_access.proofs.Along.{AtSites, did_sites, did_untold}
 use Rattle.probe_access.proofs.Aside.{accessed, passed}

@@ -17,7 +17,8 @@ use Rattle.debug_model.specs.Dmi.{value_of}
 use Rattle.debug_model.specs.Module.{DebugModule, Site, operated, operation_result, read_by, register_at, result_by}
 use Rattle.debug_model.specs.ModuleWords.{sbcs_word}
 use Rattle.debug_model.specs.SystemBus.{BusDone, BusUnit, bus_done, sbcs_shown}
-use Rattle.debug_model.specs.Told.{BusReady, MemoryReady, ModuleReady, SiteReady}
+use Rattle.rv_model.specs.Widths.{MemoryReady}
+use Rattle.debug_model.specs.Told.{BusReady, ModuleReady, SiteReady}
 use Rattle.abstract_debugger.specs.Turns.{after_turns, turns}
 use Rattle.probe_run.specs.Acts.Act.{Got, Put}
 use Rattle.probe_run.specs.Opening.{clears_sberror}

@@ -13,9 +13,10 @@ use Rattle.debug_model.specs.Dmi.{DmiScript}
 use Rattle.debug_model.specs.Module.{Site}
 use Rattle.debug_model.specs.Scan.{WhereTold}
 use Rattle.debug_model.specs.SystemBus.{BusUnit}
-use Rattle.debug_model.specs.Told.{Far, HartHalted, IsHalted, IsReady, MemoryReady, Selects, SiteReady, chip_of, site_of}
+use Rattle.rv_model.specs.Widths.{MemoryReady}
+use Rattle.debug_model.specs.Told.{Far, HartHalted, IsHalted, IsReady, Selects, SiteReady, chip_of, site_of}
 use Rattle.probe_run.specs.Acts.{Tells, tells}
-use Rattle.probe_run.proofs.WideMemory.{loaded_small}
+use Rattle.rv_model.proofs.WideMemory.{loaded_small}
 use Rattle.probe_access.specs.Accesses.{AccessLeft, IfMemory, LoadRefused, LoadedAt, unchanged}
 use Rattle.probe_access.specs.declared.fault.AccessFault.{AccessFault}
 use Rattle.probe_access.specs.declared.fault.AccessFault.TheVariants as access_fault
