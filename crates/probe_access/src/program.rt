@@ -12,13 +12,13 @@ use crate::fault::AccessFault;
 use crate::odd::OddStatus;
 use crate::transfers::{EXCEPTION, write_register};
 use debug_model::{Abstractcs, Dmi, DmiFault, Progbuf0, Progbuf1};
-use rv_model::Size;
+use rv_model::{Size, register_number};
 
 /// The number of x8, which holds the address of an access.
-pub const X8: u16 = 0x1008;
+pub const X8: u16 = register_number::X0 + 8;
 
 /// The number of x9, which holds its value.
-pub const X9: u16 = 0x1009;
+pub const X9: u16 = register_number::X0 + 9;
 
 /// `ebreak`
 const EBREAK: u32 = 0x0010_0073;
