@@ -9,7 +9,7 @@ use Rattle.probe_access.specs.declared.fault.AccessFault.{AccessFault}
 use Rattle.probe_access.specs.declared.fault.AccessFault.TheVariants as access_fault
 use Rattle.probe_run.specs.Acts.{Tells, tells}
 use Rattle.probe_access.specs.RegisterRuns.{ReadFailed, RegisterRead}
-use Rattle.probe_access.specs.Registers.{GotRegister, IfRegister, RegisterLeft}
+use Rattle.probe_access.specs.Registers.{RegisterReadAt, IfRegister, RegisterLeft}
 use Rattle.probe_access.proofs.Along.{did_untold}
 use Rattle.probe_access.proofs.Aside.{passed}
 use Rattle.probe_access.proofs.ReadyUnit.{kept_of, unit_of}
@@ -45,7 +45,7 @@ stood_serving h f ready halted told st =
 -- ---- a register that is read
 
 pub record RegOk (h number value : ℕ) (old new : Option Far) : Type 0 where
-  pub got : WhereTold (GotRegister h number value) old new
+  pub got : WhereTold (RegisterReadAt h number value) old new
   pub serving : Serving h new
 
 pub reg_ok : (h number value : ℕ) (far : Option Far) (script : Option DmiScript) (new : Tells) → number < 2 ^ 16 → IsReady far → Selects h far → IsHalted h far → RegisterRead number value (tells far script) new → RegOk h number value far new.far

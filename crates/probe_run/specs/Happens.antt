@@ -87,7 +87,7 @@ abbrev pub StepsAt : ℕ → Target → Target → Type 0
 StepsAt h = MetAt (ResumeReq h) sees_both h
 
 -- one Look, whose sight is the one that was handed out
-pub record SeesAt (h : ℕ) (s : Seen) (old new : Target) : Type 0 where
+pub record LooksAt (h : ℕ) (s : Seen) (old new : Target) : Type 0 where
   pub now : Sight
   pub look : Looked h now old new
   pub is : IsSeen h now s
