@@ -100,9 +100,9 @@ fn push_lost_by(text: &mut LineText, cause: LostCause)
         LostCause::StillBusy => push_word(text, b"still busy"),
         LostCause::NoHalt(looks) => push_looks(text, b"no halt after ", looks),
         LostCause::NoAck(looks) => push_looks(text, b"no resume after ", looks),
-        LostCause::Odd(word) => {
+        LostCause::Odd(odd) => {
             push_word(text, b"register 0x");
-            push_hex(text, WORD_DIGITS, u64::from(word));
+            push_hex(text, WORD_DIGITS, u64::from(odd.word()));
         }
     }
 }
