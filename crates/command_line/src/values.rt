@@ -19,9 +19,9 @@ const SEED_UNSAID: u64 = 0;
 /// The most rounds between two events of a kind, where the words give none.
 const BUSY_UNSAID: u64 = 1;
 
-const BUSY_LEAST: u64 = 1;
+pub(crate) const BUSY_LEAST: u64 = 1;
 
-const BUSY_MOST: u64 = 32;
+pub(crate) const BUSY_MOST: u64 = 32;
 
 /// The value of an option, where it was given.
 pub(crate) fn value<'a>(matches: &ArgMatches<'a>, name: &str) -> Option<&'a str>
@@ -53,8 +53,8 @@ pub(crate) fn flag(matches: &ArgMatches, name: &str) -> bool
 }
 
 /// The number that a word writes.
-#[tactic(auto, unfolding(crate::specs::Words::number_of))]
-fn number_of(word: &str) -> Result<u64, WordsFault>
+#[tactic(auto, unfolding(crate::specs::WrittenJob::number_of))]
+pub(crate) fn number_of(word: &str) -> Result<u64, WordsFault>
     ensures { Gives (λ number. number) result (number_of word.now) }
 {
     match read_number(word.as_bytes()) {
