@@ -1,9 +1,9 @@
 //! Chips that are served over nets. The stream is IEEE 1149.1's path to the device identification register, and the answers are its bits, the lowest first.
 
-ghost use Rattle.std.specs.Prelude.{◌≡◌, ◌<◌, ◌≤◌, IsSome, None, length};
+ghost use Rattle.std.specs.Prelude.{◌≡◌, ◌<◌, IsSome, None};
 ghost use Rattle.debug_model.specs.Loaded.{RightLimit};
 
-use chip_core::{Answers, Bench};
+use chip_core::Bench;
 use chip_server::{Served, serve};
 use debug_model::{End, Event, Net, NetFault, POINTS_USUAL, Round, Schedule, WireFault};
 use hart_debug::Start;
@@ -201,16 +201,12 @@ fn a_net_that_fails_is_told(rt: HostRuntime) -> Result<(), Fail> {
     Ok(())
 }
 
-/// A bench that takes 25 rises: 120 points are 24 rounds of five turns. The rise behind them still takes its round, and the next one none.
-fn near_the_limit(alloc: Global) -> Result<Bench<ListSchedule>, Fail> {
-    bench_of(alloc, Start::Halted, &[Event::Turn(0); 5], 120)
-}
-
-// Of the 25 rises 9 lead to the register, and 16 shift it. Behind them one more bit is answered, and none where the chip is served again.
+// 120 points are 24 rounds of five turns. The rise behind them still takes its round, and the next one none. Of these 25 rises 9 lead to the register, and 16 shift
+// it. Behind them one more bit is answered, and none where the chip is served again.
 #[test]
 fn the_limit_ends_the_serving(rt: HostRuntime) -> Result<(), Fail> {
     let alloc = rt.alloc();
-    let mut bench = near_the_limit(alloc)?;
+    let mut bench = bench_of(alloc, Start::Halted, &[Event::Turn(0); 5], 120)?;
     let input = stream(alloc)?;
     let given = Given {
         input: &input,

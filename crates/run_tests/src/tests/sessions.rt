@@ -60,6 +60,30 @@ fn scripts_are_run_or_refused(rt: HostRuntime) -> Result<(), Fail> {
     Ok(())
 }
 
+// The first rises of TCK bring no answer yet, and the highest limit is 2^62.
+#[test]
+fn the_limit_is_that_of_the_words(rt: HostRuntime) -> Result<(), Fail> {
+    let cases = [
+        ("--events 1", Status::EventLimit, "event limit\n"),
+        (
+            "--events 0x4000000000000000",
+            Status::Clean,
+            "idcode 0x10d64001\n",
+        ),
+        ("--events 0", Status::Words, "words refused\n"),
+    ];
+    for (events, status, printed) in cases {
+        let line = format!(in rt.alloc(); "both --image i --script s {events}")?;
+        let held = Held {
+            image: PROGRAM,
+            script: b"idcode",
+            fail_at: NO_FAILURE,
+        };
+        check_words(&rt, rt.alloc(), line.as_str(), held, status, printed)?;
+    }
+    Ok(())
+}
+
 /// How many rounds pass, how many turns the harts have and how many Looks are taken in a session that reads the IDCODE of a chip that these words describe.
 fn counted(alloc: Global, chip: &str) -> Result<(u64, u64, u64), Fail> {
     let line = format!(in alloc; "both --image i --script s --piece 3 {chip}")?;
