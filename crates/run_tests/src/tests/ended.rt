@@ -119,7 +119,13 @@ fn sessions_that_are_lost_say_why(rt: HostRuntime) -> Result<(), Fail> {
         (SILENT, "idcode\n", "lost: still busy\n"),
     ];
     for (events, script, printed) in cases {
-        let (status, limit, out) = ended_over(rt.alloc(), Start::Running, events, POINTS_USUAL, script)?;
+        let (status, limit, out) = ended_over(
+            rt.alloc(),
+            Start::Running,
+            events,
+            POINTS_USUAL,
+            script,
+        )?;
         assert_eq!(rt; status.code(), 9);
         assert_eq!(rt; out.bytes(), printed.as_bytes());
         assert!(rt; !limit);

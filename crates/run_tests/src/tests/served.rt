@@ -183,7 +183,10 @@ fn a_served_chip_has_the_limit_of_its_words(rt: HostRuntime) -> Result<(), Fail>
     };
     let cases: [(&str, &[u8]); 2] = [
         ("chip --at here --image i --events 24", b"10000000000000100"),
-        ("chip --at here --image i --events 25", b"100000000000001001"),
+        (
+            "chip --at here --image i --events 25",
+            b"100000000000001001",
+        ),
     ];
     for (line, answers) in cases {
         let wanted = Wanted {
