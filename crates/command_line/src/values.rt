@@ -4,8 +4,9 @@ ghost use Rattle.command_line.specs.WrittenJob.{flag_in, inputs_from, inputs_in,
 
 use crate::fault::WordsFault;
 use crate::job::{ChipOptions, Inputs};
-use crate::options::{BUSY, GEN, HALTED, HARTS, IMAGE, RAM, SCRIPT, SEED};
+use crate::options::{BUSY, EVENTS, GEN, HALTED, HARTS, IMAGE, RAM, SCRIPT, SEED};
 use clap::ArgMatches;
+use debug_model::{POINTS_HIGHEST, POINTS_USUAL};
 use script_lang::read_number;
 use std::alloc::Global;
 use std::ops::RangeInclusive;
@@ -22,6 +23,8 @@ const BUSY_UNSAID: u64 = 1;
 pub(crate) const BUSY_LEAST: u64 = 1;
 
 pub(crate) const BUSY_MOST: u64 = 32;
+
+pub(crate) const EVENTS_LEAST: u64 = 1;
 
 /// The value of an option, where it was given.
 pub(crate) fn value<'a>(matches: &ArgMatches<'a>, name: &str) -> Option<&'a str>
@@ -64,7 +67,7 @@ pub(crate) fn number_of(word: &str) -> Result<u64, WordsFault>
 }
 
 /// The number of an option, or the one that stands where it wasn't given.
-#[tactic(auto, unfolding(crate::specs::Words::number_in))]
+#[tactic(auto, unfolding(crate::specs::WrittenJob::number_in))]
 fn number_in(matches: &ArgMatches, name: &str, unsaid: u64) -> Result<u64, WordsFault>
     ensures { Gives (λ number. number) result (number_in (rows_found matches.now) name.now unsaid) }
 {
@@ -101,12 +104,14 @@ pub(crate) fn chip_options(matches: &ArgMatches) -> Result<ChipOptions, WordsFau
     let ram = number_in(matches, RAM, RAM_UNSAID)?;
     let seed = number_in(matches, SEED, SEED_UNSAID)?;
     let busy = ranged(matches, BUSY, BUSY_UNSAID, BUSY_LEAST, BUSY_MOST)?;
+    let events = ranged(matches, EVENTS, POINTS_USUAL, EVENTS_LEAST, POINTS_HIGHEST)?;
     Ok(ChipOptions {
         harts,
         ram,
         halted: flag(matches, HALTED),
         seed,
         busy: busy as u8,
+        events,
     })
 }
 

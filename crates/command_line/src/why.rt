@@ -7,13 +7,13 @@ ghost use Rattle.command_line.specs.declared.why.Refused.TheVariants.{NoMemory};
 
 use crate::fault::WordsFault;
 use crate::options::{
-    AT, BUSY, GEN, HARTS, IMAGE, PIECE, RAM, SCRIPT, SEED, both_command, chip_command,
+    AT, BUSY, EVENTS, GEN, HARTS, IMAGE, PIECE, RAM, SCRIPT, SEED, both_command, chip_command,
     probe_command,
 };
 use crate::reading::{PIECE_LEAST, fault_by};
-use crate::values::{BUSY_LEAST, BUSY_MOST, number_of, value};
+use crate::values::{BUSY_LEAST, BUSY_MOST, EVENTS_LEAST, number_of, value};
 use clap::{ArgMatches, Command};
-use debug_model::PIECE_MOST;
+use debug_model::{PIECE_MOST, POINTS_HIGHEST};
 use std::alloc::{AllocError, AllocFailed, Global};
 use std::fmt::{Display, Formatter};
 use std::{error, fmt};
@@ -195,7 +195,8 @@ fn check_chip_options<'a>(matches: &ArgMatches<'a>) -> Result<(), Refused<'a>>
     check_number(matches, HARTS, 0, u64::MAX)?;
     check_number(matches, RAM, 0, u64::MAX)?;
     check_number(matches, SEED, 0, u64::MAX)?;
-    check_number(matches, BUSY, BUSY_LEAST, BUSY_MOST)
+    check_number(matches, BUSY, BUSY_LEAST, BUSY_MOST)?;
+    check_number(matches, EVENTS, EVENTS_LEAST, POINTS_HIGHEST)
 }
 
 /// Two files without a number, or a number alone.

@@ -4,25 +4,29 @@ use std::test::Fail;
 
 /// Lines of words, and the jobs that they write, with a bar between them and a line feed after each pair but the last.
 /// Of `both` from the number 5 stand the harts, the bytes of memory, whether they are halted, the seed, the most rounds, the
-/// most bytes of a piece, and whether the bytes go over a connection.
-const JOBS: &str = "both --gen 5|1 65536 false 0 1 256 false\n\
-both --gen=0x5 --|1 65536 false 0 1 256 false\n\
-both --halted --gen 5|1 65536 true 0 1 256 false\n\
-both --loopback --gen 5|1 65536 false 0 1 256 true\n\
-both --gen 5 --harts 0|0 65536 false 0 1 256 false\n\
-both --gen 5 --ram=0xABcd|1 43981 false 0 1 256 false\n\
-both --gen 5 --seed 18446744073709551615|1 65536 false 18446744073709551615 1 256 false\n\
-both --gen 5 --seed 0xffffFFFFffffFFFF|1 65536 false 18446744073709551615 1 256 false\n\
-both --gen 5 --seed 00000000000000000007|1 65536 false 7 1 256 false\n\
-both --gen 5 --busy 1|1 65536 false 0 1 256 false\n\
-both --gen 5 --busy 32|1 65536 false 0 32 256 false\n\
-both --gen 5 --busy 032|1 65536 false 0 32 256 false\n\
-both --gen 5 --busy 0x20|1 65536 false 0 32 256 false\n\
-both --gen 5 --piece 1|1 65536 false 0 1 1 false\n\
-both --gen 5 --piece 256|1 65536 false 0 1 256 false\n\
-both --script=--halt --image core.bin|Both(Files { image: \"core.bin\", script: \"--halt\" }, ChipOptions { harts: 1, ram: 65536, halted: false, seed: 0, busy: 1 }, 256, false)\n\
+/// limit of events, the most bytes of a piece, and whether the bytes go over a connection.
+const JOBS: &str = "both --gen 5|1 65536 false 0 1 16777200 256 false\n\
+both --gen=0x5 --|1 65536 false 0 1 16777200 256 false\n\
+both --halted --gen 5|1 65536 true 0 1 16777200 256 false\n\
+both --loopback --gen 5|1 65536 false 0 1 16777200 256 true\n\
+both --gen 5 --harts 0|0 65536 false 0 1 16777200 256 false\n\
+both --gen 5 --ram=0xABcd|1 43981 false 0 1 16777200 256 false\n\
+both --gen 5 --seed 18446744073709551615|1 65536 false 18446744073709551615 1 16777200 256 false\n\
+both --gen 5 --seed 0xffffFFFFffffFFFF|1 65536 false 18446744073709551615 1 16777200 256 false\n\
+both --gen 5 --seed 00000000000000000007|1 65536 false 7 1 16777200 256 false\n\
+both --gen 5 --busy 1|1 65536 false 0 1 16777200 256 false\n\
+both --gen 5 --busy 32|1 65536 false 0 32 16777200 256 false\n\
+both --gen 5 --busy 032|1 65536 false 0 32 16777200 256 false\n\
+both --gen 5 --busy 0x20|1 65536 false 0 32 16777200 256 false\n\
+both --gen 5 --events 1|1 65536 false 0 1 1 256 false\n\
+both --gen 5 --events 4611686018427387904|1 65536 false 0 1 4611686018427387904 256 false\n\
+both --gen 5 --events=0x4000000000000000|1 65536 false 0 1 4611686018427387904 256 false\n\
+both --gen 5 --piece 1|1 65536 false 0 1 16777200 1 false\n\
+both --gen 5 --piece 256|1 65536 false 0 1 16777200 256 false\n\
+both --script=--halt --image core.bin|Both(Files { image: \"core.bin\", script: \"--halt\" }, ChipOptions { harts: 1, ram: 65536, halted: false, seed: 0, busy: 1, events: 16777200 }, 256, false)\n\
 probe --at localhost:9000 --script probe|Probe { at: \"localhost:9000\", script: \"probe\" }\n\
-chip --at  --image a --halted --harts 4|Chip { at: \"\", image: \"a\", options: ChipOptions { harts: 4, ram: 65536, halted: true, seed: 0, busy: 1 } }";
+chip --at  --image a --halted --harts 4|Chip { at: \"\", image: \"a\", options: ChipOptions { harts: 4, ram: 65536, halted: true, seed: 0, busy: 1, events: 16777200 } }\n\
+chip --at a --image i --events 1000000000|Chip { at: \"a\", image: \"i\", options: ChipOptions { harts: 1, ram: 65536, halted: false, seed: 0, busy: 1, events: 1000000000 } }";
 
 /// Lines of words that write no job, with a line feed after each but the last: no program or another; an option of another
 /// program, an unknown or a shortened one, or one that asks for help or a version; an option twice, a missing value, a flag with
@@ -81,6 +85,11 @@ chip --at a --image i --seed 0xg\n\
 both --gen 5 --busy 0\n\
 chip --at a --image i --busy 33\n\
 both --gen 5 --busy 0x21\n\
+both --gen 5 --events 0\n\
+chip --at a --image i --events 4611686018427387905\n\
+both --gen 5 --events\n\
+probe --at a --script s --events 1\n\
+both --gen 5 --events 1 --events 1\n\
 both --gen 5 --piece 0\n\
 both --gen 5 --piece 257";
 
@@ -89,6 +98,8 @@ const WHYS: &str = "Both --gen 5|'Both' is no job: both, probe and chip are\n\
 both --speed 1 --gen 5|unexpected argument '--speed' found\n\
 chip --at a --image i --busy 33|33 of --busy is not from 1 to 32\n\
 chip --at a --image i --busy 0x21|0x21 of --busy is not from 1 to 32\n\
+both --gen 5 --events 0|0 of --events is not from 1 to 4611686018427387904\n\
+chip --at a --image i --events 4611686018427387905|4611686018427387905 of --events is not from 1 to 4611686018427387904\n\
 both --piece 0 --gen 5|0 of --piece is not from 1 to 256\n\
 both --gen 5 --piece 257|257 of --piece is not from 1 to 256\n\
 both --gen 5 --harts one|'one' of --harts is no number below 2^64, decimal or 0x and hexadecimal digits\n\
@@ -136,8 +147,9 @@ fn is_job(alloc: Global, line: &str, wanted: &str) -> Result<bool, Fail> {
                 halted,
                 seed,
                 busy,
+                events,
             } = options;
-            format!(in alloc; "{harts} {ram} {halted} {seed} {busy} {piece} {loopback}")?
+            format!(in alloc; "{harts} {ram} {halted} {seed} {busy} {events} {piece} {loopback}")?
         }
         job => format!(in alloc; "{job:?}")?,
     };
