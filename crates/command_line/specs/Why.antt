@@ -6,7 +6,7 @@ use Rattle.clap.specs.declared.parser.matches.ArgMatches.{ArgMatches}
 use Rattle.debug_model.specs.Wire.{piece_most}
 use Rattle.command_line.specs.Job.{Text}
 use Rattle.command_line.specs.Options.{both_command, probe_command, chip_command}
-use Rattle.command_line.specs.WrittenJob.{◌>>=◌, least_busy, least_piece, most_busy, number_of, rows_found, rows_in, value_in}
+use Rattle.command_line.specs.WrittenJob.{least_busy, least_events, least_piece, most_busy, most_events, number_of, rows_found, rows_in, value_in}
 use Rattle.command_line.specs.declared.why.Refused.{Refused}
 use Rattle.command_line.specs.declared.why.Refused.TheVariants as whys
 
