@@ -111,7 +111,7 @@ def grouped(crate, edits):
 
 def applied(crate, group):
     """The texts of the files that the edits of a group change together, or None where one is in another's way."""
-    with tempfile.TemporaryDirectory(prefix="wrong-bodies-") as room:
+    with tempfile.TemporaryDirectory(prefix="batch-") as room:
         shutil.copytree(f"{crate.folder}/src", f"{room}/src")
         whole = {}
         for edit in group:
@@ -125,9 +125,15 @@ def applied(crate, group):
     return whole
 
 
-def checked(crate, texts, kept):
-    """What a check says of the crate with these texts in the place of its own. It goes past what is not proved."""
-    with tempfile.TemporaryDirectory(prefix="rt-batch-") as room:
+def as_asked(function):
+    """How the prover is asked for a function: by its whole name, or, as a type's functions may stand in another module, by its type and its own name."""
+    words = function.split("::")
+    return "::".join(words[-2:] if len(words) > 1 and words[-2][:1].isupper() else words)
+
+
+def checked(crate, texts, kept, only):
+    """What a check says of the crate with these texts in the place of its own, or of these functions alone and what they call. It goes past what is not proved."""
+    with tempfile.TemporaryDirectory(prefix="batch-") as room:
         for part in rtlib.PARTS:
             if os.path.isdir(f"{crate.folder}/{part}"):
                 shutil.copytree(f"{crate.folder}/{part}", f"{room}/{part}")
@@ -135,6 +141,7 @@ def checked(crate, texts, kept):
             with open(f"{room}/{path}", "w", encoding="utf-8") as it:
                 it.write(text)
         words = [rtlib.RATTLE, "check", *crate.words(ONE_JOB, keeps=False), "--incremental", kept, "--allow-holes"]
+        words += [it for function in sorted(only) for it in ("--only", as_asked(function))]
         how = {"cwd": room, "stdin": subprocess.DEVNULL, "stdout": subprocess.PIPE, "stderr": subprocess.STDOUT, "errors": "replace"}
         return subprocess.run([*rtlib.guarded(), *words], **how).stdout
 
@@ -148,17 +155,18 @@ def name_in(function, names):
     return like[0] if len(like) == 1 and "::" in last else None
 
 
-def try_group(crate, group, kept):
-    """What refuses each edit, by its path; those that no check of several refuses are not there. A group that can't be judged is tried in halves."""
-    if len(group) < 2:
-        return {}
+def try_group(crate, group, kept, is_proved):
+    """What refuses each edit, by its path; those that no such check refuses are not there. A group that can't be judged is tried in halves."""
+    only = {function for it in group for function in it.functions} if is_proved else set()
     texts = applied(crate, group)
-    found = judged(crate.name, checked(crate, texts, kept)) if texts else None
+    found = judged(crate.name, checked(crate, texts, kept, only)) if texts else None
     names = {it.path: [name_in(function, found or {}) for function in sorted(it.functions)] for it in group}
     others = {name for name, left in (found or {}).items() if left.is_own} - {it for owned in names.values() for it in owned}
     if found is None or others:
         half = len(group) // 2
-        return try_group(crate, group[:half], kept) | try_group(crate, group[half:], kept)
+        if not half:
+            return {}
+        return try_group(crate, group[:half], kept, is_proved) | try_group(crate, group[half:], kept, is_proved)
     goals = {path: next((f"{it}: {found[it].goal}" for it in owned if it and found[it].goal), "") for path, owned in names.items()}
     return {path: goal if len(goal) <= SHOWN else f"{goal[:SHOWN]} .." for path, goal in goals.items() if goal}
 
@@ -170,13 +178,14 @@ def try_alone(crate, edit, kept):
     return is_refused, f"{edit.label}: {' '.join(what.split())[:SHOWN]}"
 
 
-def try_edits(crate, paths, kept):
-    """Whether each edit is refused, and a line on it. The crate's proofs are taken from `kept` and put there."""
+def try_edits(crate, paths, kept, is_proved):
+    """Whether each edit is refused, and a line on it. The crate's proofs are taken from `kept` and put there. Where it has just been proved, a group's check asks for the changed functions
+    alone, with what these call."""
     texts = texts_of(crate.folder)
     read = [read_edit(it, crate, texts) for it in paths]
     refused = {}
     for group in grouped(crate, [edit for edit, why in read if not why]):
-        refused |= try_group(crate, group, kept)
+        refused |= try_group(crate, group, kept, is_proved)
     for edit, why in read:
         if why:
             yield False, f"{edit.label}: BROKEN: {why}"

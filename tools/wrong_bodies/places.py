@@ -1,4 +1,5 @@
 """Where edits stand, and where what a crate stands on is taken from."""
+import contextlib
 import os
 import shutil
 import subprocess
@@ -48,8 +49,19 @@ def make_ready(crate, since):
 
 def tried(crate, paths, since):
     """Whether each edit is refused, and a line on it."""
-    with tempfile.TemporaryDirectory(prefix="wrong-bodies-") as room:
+    with tempfile.TemporaryDirectory(prefix="kept-") as room:
         kept = f"{room}/kept"
         if since is None:
             shutil.copytree(f"{crate.folder}/{KEPT}", kept)
-        return [*try_edits(crate, paths, kept)]
+        return [*try_edits(crate, paths, kept, since is not None)]
+
+
+@contextlib.contextmanager
+def own_room():
+    """Has all folders that this process and `rt` make stand in one, by whose name tools/gate_cost knows what a check is for."""
+    with tempfile.TemporaryDirectory(prefix="wrong-bodies-") as room:
+        tempfile.tempdir = room
+        try:
+            yield
+        finally:
+            tempfile.tempdir = None
