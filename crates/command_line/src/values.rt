@@ -20,9 +20,11 @@ const SEED_UNSAID: u64 = 0;
 /// The most rounds between two events of a kind, where the words give none.
 const BUSY_UNSAID: u64 = 1;
 
-const BUSY_LEAST: u64 = 1;
+pub(crate) const BUSY_LEAST: u64 = 1;
 
-const BUSY_MOST: u64 = 32;
+pub(crate) const BUSY_MOST: u64 = 32;
+
+pub(crate) const EVENTS_LEAST: u64 = 1;
 
 const EVENTS_LEAST: u64 = 1;
 
@@ -57,7 +59,7 @@ pub(crate) fn flag(matches: &ArgMatches, name: &str) -> bool
 
 /// The number that a word writes.
 #[tactic(auto, unfolding(crate::specs::WrittenJob::number_of))]
-fn number_of(word: &str) -> Result<u64, WordsFault>
+pub(crate) fn number_of(word: &str) -> Result<u64, WordsFault>
     ensures { Gives (λ number. number) result (number_of word.now) }
 {
     match read_number(word.as_bytes()) {
