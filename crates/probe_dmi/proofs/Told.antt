@@ -15,7 +15,8 @@ use Rattle.debug_model.specs.Dmi.SiteCut.{unperformed, was_performed}
 use Rattle.debug_model.specs.Scan.{WhereTold, dr_inside, dtm_of, ticks}
 use Rattle.debug_model.specs.Told.{DtmClean, Far, IsClean, chip_of, site_of}
 use Rattle.debug_model.specs.Transport.{dmi_seen}
-use Rattle.probe_dmi.specs.Operations.{IsOperation, carrying, next_scan, nop}
+use Rattle.debug_model.specs.Dmi.{IsOperation}
+use Rattle.probe_dmi.specs.Operations.{carrying, next_scan, nop}
 use Rattle.probe_dmi.specs.Registers.{CutFrom, DmiScanned, WordScanned, dmi_bits, reset_bits}
 use Rattle.probe_dmi.proofs.Counts.{counts_in}
 use Rattle.probe_dmi.proofs.Flight.{Settled, Waiting}
@@ -66,7 +67,7 @@ begun op (Some f) clean = record { far = f; is = refl; stage = ready refl (dtm_o
 
 -- ---- what a scan of dmi heard
 
-heard_is : (word out : DmiScan) (c : Chip) (new : Option Far) → (d : DmiScanned word out c new) → out ≡ cut_scan (dmi_seen (dtm_of (ticks d.scanned.before c.inside)))
+pub heard_is : (word out : DmiScan) (c : Chip) (new : Option Far) → (d : DmiScanned word out c new) → out ≡ cut_scan (dmi_seen (dtm_of (ticks d.scanned.before c.inside)))
 heard_is word out c new d = d.out_is ∙ heard_of word d.bits (ticks d.scanned.before c.inside) d.scanned.out_is
 
 -- the chip behind it, where its inside is so
@@ -89,10 +90,10 @@ carried_step op busy out f c new small v s found d =
       found = at_passed (λ (n : Inside). (counts_in n).dmi_busy ≡ (counts_in i).dmi_busy + busy) x.far k x.passed (launch_busy op x.before x.between x.behind v i j s ∙ found);
     }
 
-false_is_true : {P : Type 0} → false ≡ true → P
+pub false_is_true : {P : Type 0} → false ≡ true → P
 false_is_true e = absurd (let no : ⊥ = cc in no)
 
-other_op : {P : Type 0} (n a b : ℕ) → n ≡ a → n ≡ b → a ≢ b → P
+pub other_op : {P : Type 0} (n a b : ℕ) → n ≡ a → n ≡ b → a ≢ b → P
 other_op n a b e f differ = absurd (differ (sym e ∙ f))
 
 -- the transport took it

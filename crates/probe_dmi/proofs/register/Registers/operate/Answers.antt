@@ -13,6 +13,8 @@ scans-init g c = record {
   can = can_first _ c.requires.link;
   width = c.requires.width;
   few = omega arith;
+  pace = c.requires.pace;
+  paced = refl;
   later = omega arith;
   fixed = refl;
 }
@@ -53,6 +55,8 @@ scans-preserved-then-out-eq-STATUS_DONE g c =
       can = can_again _ c.in_ok-out.ensures.keeps.behind;
       width = width_kept (Underway c.args.op true c.scans.busy) c.args.abits (g.S.Scan.seen c.args.self.now.scan).far _ u c.requires.width;
       few = c.scans.invariant.few;
+      pace = c.scans.invariant.pace;
+      paced = c.scans.invariant.paced;
       later = omega (arith, c.scans.invariant.later, c.exchange.ensures.keeps.later);
       fixed = c.exchange.ensures.keeps.fixed ∙ c.scans.invariant.fixed;
     }
@@ -80,6 +84,8 @@ scans-preserved g c =
       can = can_again _ c.in_ok-clear.ensures.keeps.behind;
       width = width_kept (Underway c.args.op c.scans.taken (c.scans.busy + 1)) c.args.abits (g.S.Scan.seen c.args.self.now.scan).far _ u c.requires.width;
       few = omega (arith, c.scans-test.true);
+      pace = c.behind_busy.ensures.pace;
+      paced = c.behind_busy.ensures.most ∙ c.scans.invariant.paced;
       later = omega (arith, c.scans.invariant.later, c.exchange.ensures.keeps.later, c.clear.ensures.keeps.later);
       fixed = c.clear.ensures.keeps.fixed ∙ c.exchange.ensures.keeps.fixed ∙ c.scans.invariant.fixed;
     }

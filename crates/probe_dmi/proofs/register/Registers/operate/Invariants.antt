@@ -1,5 +1,6 @@
 use Rattle.std.proofs.Common.{◌≡◌, ◌≤◌, ◌+◌, ◌-◌, ◌*◌, if◌then◌else◌}
 use Rattle.debug_model.specs.Scan.{WhereTold}
+use Rattle.probe_dmi.specs.Pace.{IsPace}
 use Rattle.probe_dmi.specs.Registers.{CanScan, IsWidth}
 use Rattle.probe_dmi.proofs.Heard.{SoFar}
 use Rattle.probe_dmi.proofs.Told.{Underway}
@@ -12,6 +13,8 @@ invariant-scans g l = record {
   can : CanScan (g.S.Scan.seen l.self.scan).far;
   width : IsWidth l.abits (g.S.Scan.seen l.self.scan).far;
   few : l.busy ≤ 64;
+  pace : IsPace l.pace;
+  paced : l.pace.most ≡ l.fn.pace.most;
   later : (g.S.Scan.seen l.fn.self.scan).fault_count ≤ (g.S.Scan.seen l.self.scan).fault_count;
   fixed : (g.S.Scan.seen l.self.scan).fixed ≡ (g.S.Scan.seen l.fn.self.scan).fixed;
 }
