@@ -1,5 +1,5 @@
 -- What caused a fault of the wire in an access, and in a call on a hart's slots.
-use Rattle.std.proofs.Common.{◌≡◌, ◌≤◌, ℕ, Bool, true, false, List, Option, sym, subst}
+use Rattle.std.proofs.Common.{◌≡◌, ◌≤◌, ℕ, Bool, true, false, List, Option, IfSome, sym, subst}
 use Rattle.rv_model.specs.declared.size.Size.{Size}
 use Rattle.debug_model.specs.declared.dmi.DmiFault.{DmiFault}
 use Rattle.debug_model.specs.Told.{Far}
@@ -18,7 +18,7 @@ use Rattle.probe_access.proofs.BlockCauses.{around_causes, link_later, load_insi
 use Rattle.probe_run.specs.declared.fault.RunFault.{RunFault}
 use Rattle.probe_run.specs.declared.fault.RunFault.TheVariants as run_fault
 use Rattle.probe_run.specs.Acts.{Act, Attempt, Tells}
-use Rattle.probe_run.specs.Outcomes.{IfDmi}
+use Rattle.probe_run.specs.Outcomes.{run_why}
 use Rattle.probe_trig.specs.Stepping.{BackFailed, OverFailed}
 use Rattle.probe_trig.specs.Transfers.{Attempt as TransferAttempt, AttemptFailed, FailedIn, Transfer, number_of}
 use Rattle.probe_session.proofs.RunCauses.{DmiWire, broke_wire, step_wire}
@@ -29,7 +29,7 @@ AccessWire old_count new_count told (fault.Dmi why) = DmiWire old_count new_coun
 AccessWire old_count new_count told (fault.Memory address) = Unit {0}
 AccessWire old_count new_count told (fault.Register number) = Unit {0}
 AccessWire old_count new_count told fault.StillBusy = Unit {0}
-AccessWire old_count new_count told (fault.Run why) = IfDmi (DmiWire old_count new_count told) why
+AccessWire old_count new_count told (fault.Run why) = IfSome (run_why why) (DmiWire old_count new_count told)
 AccessWire old_count new_count told (fault.Odd word) = Unit {0}
 
 broke_in : (why : DmiFault) {Begun : List Act → Attempt → Type 0} {old_count new_count : ℕ} {old : Tells} {told : Option Far} → BrokeIn Begun old_count new_count old told why → DmiWire old_count new_count told why
@@ -130,7 +130,7 @@ flag_wire : (e : AccessFault) (on : Bool) (old_count new_count : ℕ) (old new :
 flag_wire e on old_count new_count old new (FlagFailed.at_read f) = read_wire e dcsr_number old_count new_count old new f
 flag_wire e on old_count new_count old new (FlagFailed.at_write word mid read f) = write_wire e dcsr_number (with_flag on word) old_count new_count mid new f
 
-by_run : (why : RunFault) (old_count new_count : ℕ) (told : Option Far) → IfDmi (DmiWire old_count new_count told) why → AccessWire old_count new_count told (of_run why)
+by_run : (why : RunFault) (old_count new_count : ℕ) (told : Option Far) → IfSome (run_why why) (DmiWire old_count new_count told) → AccessWire old_count new_count told (of_run why)
 by_run (run_fault.Dmi why) old_count new_count told w = w
 by_run (run_fault.NoHalt looks) old_count new_count told w = tt
 by_run (run_fault.NoAck looks) old_count new_count told w = tt

@@ -1,5 +1,6 @@
 -- Whatever ended a session over a chip as it was loaded: what it wrote is the transcript, or a front of it.
 use Rattle.std.proofs.Common.{◌≡◌, ◌∙◌, ◌++◌, ℕ, Bool, true, false, List, [], ◌∷◌, Option, Some, None, IfSome, refl, sym, ap, subst, append-nil, if◌then◌else◌}
+use Rattle.std.proofs.lemmas.Option.{none-some}
 use Rattle.jt_base.specs.Sink.{grown}
 use Rattle.rv_model.specs.Board.{Machine, machine_of}
 use Rattle.debug_model.specs.declared.command.Command.{Command}
@@ -19,7 +20,7 @@ use Rattle.probe_run.specs.declared.fault.ConnectFault.{ConnectFault}
 use Rattle.probe_run.specs.declared.fault.ConnectFault.TheVariants as connect
 use Rattle.probe_run.specs.Acts.{Tells}
 use Rattle.probe_run.specs.Happens.{target_of}
-use Rattle.probe_run.specs.Opening.{IfOpeningDmi, IsDmiFault, LosesLoaded, OpensLoaded, UnopenedChip}
+use Rattle.probe_run.specs.Opening.{IsDmiFault, LosesLoaded, OpensLoaded, UnopenedChip, opening_why}
 use Rattle.probe_session.specs.declared.ended.Ended.{Ended}
 use Rattle.probe_session.specs.declared.ended.Ended.TheVariants as ended
 use Rattle.probe_session.specs.declared.fault.Failure.{Failure}
@@ -128,12 +129,12 @@ broke f script old_count new_count old new sink_old sink_new was is (BrokeOff.in
     subst (λ g. TranscribedAs script was is old.far new.far (ended_by g)) (sym e) (unopened_by why script old_count new_count old new was is u old.far refl loaded)
 broke f script old_count new_count old new sink_old sink_new was is (BrokeOff.in_script r) loaded = ran_into f script old_count new_count old new sink_old sink_new was is r old.far refl loaded
 
-no_register : (fault : ConnectFault) → IsDmiFault fault → IfOpeningDmi (λ _. ⊥) fault → ⊥
+no_register : (fault : ConnectFault) → IsDmiFault fault → opening_why fault ≡ None → ⊥
 no_register (connect.Dtm word) dmi register = dmi
 no_register (connect.Module word control) dmi register = dmi
 no_register (connect.Abstract word) dmi register = dmi
 no_register (connect.Bus word) dmi register = dmi
-no_register (connect.Dmi why) dmi register = register
+no_register (connect.Dmi why) dmi register = none-some why (sym register)
 
 unfit : (fault : ConnectFault) (script : List Command) (old_count new_count : ℕ) (old new : Tells) (was is : Option (List ℕ)) → Unfit old_count new_count old new was is fault → (far : Option Far) → far ≡ old.far → IsAsLoaded far
     → IfSome far (λ first. Still (λ last. WrittenAs script was is first last (ended.Target fault)) new.far)

@@ -3,9 +3,7 @@ use Rattle.std.proofs.Common.{◌≡◌, ℕ, [], Option, Some, None, Result, Ok
 use Rattle.debug_model.specs.declared.command.Command.{Command}
 use Rattle.debug_model.specs.declared.command.Command.TheVariants as command
 use Rattle.debug_model.specs.declared.command.Path.{Path}
-use Rattle.debug_model.specs.declared.dmi.DmiFault.{DmiFault}
-use Rattle.debug_model.specs.declared.dmi.DmiFault.TheVariants as dmi_fault
-use Rattle.debug_model.specs.Dmi.{DmiScript, NoneOperated, ScannedCause}
+use Rattle.debug_model.specs.Dmi.{NoneOperated}
 use Rattle.debug_model.specs.Module.{Site}
 use Rattle.debug_model.specs.Scan.{WhereTold}
 use Rattle.debug_model.specs.Told.{Far, IsReady, SiteReady, site_of}
@@ -20,9 +18,7 @@ use Rattle.abstract_debugger.specs.Lines.{Line}
 use Rattle.probe_session.specs.declared.fault.Failure.{Failure}
 use Rattle.probe_session.specs.Calls.{Identified, IdcodeFell}
 use Rattle.probe_session.specs.Commands.{at_idcode, at_line, before, ends_with}
-use Rattle.probe_session.specs.Failures.{failure_of_dmi}
 use Rattle.probe_session.specs.Goes.{Falls, Fault, Went}
-use Rattle.probe_session.specs.Links.{LeftBy}
 use Rattle.probe_session.specs.Said.{said_by}
 use Rattle.probe_session.specs.Steps.Step.{identifies}
 use Rattle.probe_session.proofs.WentLemmas.{falls_at, falls_within, went_none, went_one, within}
@@ -67,11 +63,6 @@ ready_on None new r n = subst (λ x. IsReady x) (sym n) tt
 ready_on (Some f) new r n =
     subst (λ x. IsReady x) (sym n.is)
     (ready_along (site_of f) (site_of n.far) r (quiet_deeds (site_of f) (site_of n.far) (record { no_command = r.unit.commands.idle; no_access = r.unit.bus.idle }) n.site))
-
-pub idcode_left : (old_count new_count : ℕ) (far : Option Far) (script : Option DmiScript) (why : DmiFault) → ScannedCause old_count new_count far script why → LeftBy far (failure_of_dmi why)
-idcode_left old_count new_count far script (dmi_fault.Wire fault) cause = tt
-idcode_left old_count new_count far script dmi_fault.Failed cause = absurd cause
-idcode_left old_count new_count far script dmi_fault.StillBusy cause = absurd cause
 
 -- ---- a path is chosen
 

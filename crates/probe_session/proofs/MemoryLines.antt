@@ -1,5 +1,5 @@
 -- `read`, `write` and `dump`: one access behind another.
-use Rattle.std.proofs.Common.{◌≡◌, ◌≤◌, ◌<◌, ◌∙◌, ◌+◌, ◌*◌, ◌%◌, ◌^◌, ℕ, zero, suc, Bool, true, false, [], Option, refl, sym, ap, subst, arith, if◌then◌else◌}
+use Rattle.std.proofs.Common.{◌≡◌, ◌≤◌, ◌<◌, ◌∙◌, ◌+◌, ◌*◌, ◌%◌, ◌^◌, ℕ, zero, suc, Bool, true, false, [], refl, sym, ap, subst, arith, if◌then◌else◌}
 use Rattle.std.proofs.lemmas.Bool.{eq-eqb, eqb-true}
 use Rattle.std.proofs.Math.Nat.{mul-le-mul_left}
 use Rattle.rv_model.specs.declared.size.Size.{Size}
@@ -22,11 +22,11 @@ use Rattle.probe_session.specs.declared.reach.Reached.{Reached}
 use Rattle.probe_session.specs.Calls.{StoreFell, Stored, StoredNone}
 use Rattle.probe_session.specs.Commands.{at_line, ends_with}
 use Rattle.probe_session.specs.Goes.{Falls, Fault, Went}
-use Rattle.debug_model.specs.Told.{Far}
-use Rattle.probe_session.specs.Links.{Serving}
+use Rattle.debug_model.specs.Kept.{DmiSeen}
+use Rattle.probe_session.specs.Links.{Attached}
 use Rattle.probe_session.specs.Met.{Rest, before_look}
 use Rattle.probe_session.specs.Places.{Place, at_say, idle, still}
-use Rattle.probe_session.specs.Reach.{ReachedAs, ServingBy, ServingReached, before_reach, place_by, written}
+use Rattle.probe_session.specs.Reach.{AttachedBy, ReachedAs, before_reach, place_by, written}
 use Rattle.probe_session.specs.Steps.Step.{rests, same, stores, stores_none}
 use Rattle.probe_session.proofs.WentLemmas.{falls_at, falls_then, falls_within, went_none, went_one, went_then, within}
 
@@ -167,9 +167,9 @@ pub write_falls : (r : Reach) (size : Size) (a v count done at : ℕ) {old_count
     → StoreFell size at v mid_count new_count u w f → Falls (at_write r size a v count) [] old_count new_count t w f
 write_falls r size a v count done at is below le p fell = write_falls_by r size a v count done p.left at is below p.all le p.went fell
 
-pub serving_rests : (r : Reach) (far : Option Far) (alive : Bool) → ServingBy far alive r → Serving far alive
-serving_rests (reach.Hart x) far alive s = s.serving
-serving_rests reach.Bus far alive s = s
+pub attached_by : (r : Reach) (s : DmiSeen) → AttachedBy r s → Attached s
+attached_by (reach.Hart x) s a = record { stands = a.stands; ready = a.serving.ready }
+attached_by reach.Bus s a = a
 
 -- ---- a command that reaches memory
 
@@ -194,6 +194,3 @@ reach_goes_falls s r body first le p = falls_then (within (rest s body) first) l
 
 pub reached_as : (s : State) (t u : Tells) {a b : Reached} → a ≡ b → ReachedAs s t u a → ReachedAs s t u b
 reached_as s t u is p = subst (ReachedAs s t u) is p
-
-pub serving_as : (far : Option Far) (alive : Bool) {a b : Reached} → a ≡ b → ServingReached far alive a → ServingReached far alive b
-serving_as far alive is p = subst (ServingReached far alive) is p

@@ -1,6 +1,5 @@
 -- Commands of one line.
-use Rattle.std.proofs.Common.{◌≡◌, ◌≤◌, ◌+◌, ◌<◌, ℕ, zero, suc, Bool, false, [], Option, Result, Ok, Err, IfOk, IfErr, refl, subst, arith}
-use Rattle.debug_model.specs.Told.{Far}
+use Rattle.std.proofs.Common.{◌≡◌, ◌≤◌, ◌+◌, ◌<◌, ℕ, zero, suc, false, [], Result, Ok, Err, IfOk, IfErr, refl, subst, arith}
 use Rattle.debug_model.specs.declared.command.Command.TheVariants as command
 use Rattle.abstract_debugger.specs.Debugger.{State, at_halted, by_state, halting, look, sees_halted, stop_line, unseen, until}
 use Rattle.abstract_debugger.specs.Lines.{Line}
@@ -18,7 +17,7 @@ use Rattle.probe_session.specs.Calls.{HaltFell, HaltMade, LookFell, Saw}
 use Rattle.probe_session.specs.Commands.{at_line, at_stop_line, before, ends_with}
 use Rattle.probe_session.specs.Goes.{Falls, Went}
 use Rattle.probe_session.specs.Goes.{Fault}
-use Rattle.probe_session.specs.Met.{MetAs, Rest, ServingMet, before_look}
+use Rattle.probe_session.specs.Met.{MetAs, Rest, before_look}
 use Rattle.probe_session.specs.Places.{Place, at_say, idle, still}
 use Rattle.probe_session.specs.Seen.{IsOf}
 use Rattle.probe_session.specs.Steps.{is_halted}
@@ -82,9 +81,6 @@ of_running {h} is of = subst (IsOf h) is of
 
 pub met_as : (h : ℕ) (t u : Tells) {m n : Met} → m ≡ n → MetAs h t u m → MetAs h t u n
 met_as h t u is p = subst (MetAs h t u) is p
-
-pub serving_as : (far : Option Far) (alive : Bool) {m n : Met} → m ≡ n → ServingMet far alive m → ServingMet far alive n
-serving_as far alive is p = subst (ServingMet far alive) is p
 
 -- ---- a command whose body a halted hart does
 

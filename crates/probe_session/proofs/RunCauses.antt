@@ -1,5 +1,5 @@
 -- What caused a fault of the wire in a call of run control, and in the opening.
-use Rattle.std.proofs.Common.{ℕ, List, Bool, Option}
+use Rattle.std.proofs.Common.{ℕ, List, Bool, Option, IfSome}
 use Rattle.debug_model.specs.declared.dmi.DmiFault.{DmiFault}
 use Rattle.debug_model.specs.declared.dmi.DmiFault.TheVariants as dmi_fault
 use Rattle.debug_model.specs.Dmi.{DmiScript, ScannedCause, scanned_script}
@@ -10,7 +10,7 @@ use Rattle.probe_run.specs.declared.fault.RunFault.{RunFault}
 use Rattle.probe_run.specs.declared.fault.RunFault.TheVariants as run_fault
 use Rattle.probe_run.specs.Acts.{Act, Attempt, Broke, Tells}
 use Rattle.probe_run.specs.Opening.{ActivateBroke, BusBroke, CommandsBroke, OpeningBroke}
-use Rattle.probe_run.specs.Outcomes.{HaltBroke, HaltFails, IfDmi, LookFailed, LookFails, ResumeFails, RunBroke, StepFails}
+use Rattle.probe_run.specs.Outcomes.{HaltBroke, HaltFails, LookFailed, LookFails, ResumeFails, RunBroke, StepFails, run_why}
 use Rattle.probe_session.specs.Causes.{WireCause}
 
 -- a fault of the wire has its cause, and no other fault needs one
@@ -45,22 +45,22 @@ halt_broke : (why : DmiFault) {h old_count new_count : ℕ} {old : Tells} {told 
 halt_broke why (HaltBroke.before_halt b) = run_broke why b
 halt_broke why (HaltBroke.at_clear b) = broke_wire why b.broke
 
-pub look_wire : (why : RunFault) (h old_count new_count : ℕ) (old new : Tells) → LookFails h old_count new_count old new why → IfDmi (DmiWire old_count new_count new.far) why
+pub look_wire : (why : RunFault) (h old_count new_count : ℕ) (old new : Tells) → LookFails h old_count new_count old new why → IfSome (run_why why) (DmiWire old_count new_count new.far)
 look_wire (run_fault.Dmi why) h old_count new_count old new f = look_broke why f
 look_wire (run_fault.NoHalt looks) h old_count new_count old new f = tt
 look_wire (run_fault.NoAck looks) h old_count new_count old new f = tt
 
-pub halt_wire : (why : RunFault) (h old_count new_count : ℕ) (old new : Tells) → HaltFails h old_count new_count old new why → IfDmi (DmiWire old_count new_count new.far) why
+pub halt_wire : (why : RunFault) (h old_count new_count : ℕ) (old new : Tells) → HaltFails h old_count new_count old new why → IfSome (run_why why) (DmiWire old_count new_count new.far)
 halt_wire (run_fault.Dmi why) h old_count new_count old new f = halt_broke why f
 halt_wire (run_fault.NoHalt looks) h old_count new_count old new f = tt
 halt_wire (run_fault.NoAck looks) h old_count new_count old new f = tt
 
-pub resume_wire : (why : RunFault) (h old_count new_count : ℕ) (old new : Tells) → ResumeFails h old_count new_count old new why → IfDmi (DmiWire old_count new_count new.far) why
+pub resume_wire : (why : RunFault) (h old_count new_count : ℕ) (old new : Tells) → ResumeFails h old_count new_count old new why → IfSome (run_why why) (DmiWire old_count new_count new.far)
 resume_wire (run_fault.Dmi why) h old_count new_count old new f = run_broke why f
 resume_wire (run_fault.NoHalt looks) h old_count new_count old new f = tt
 resume_wire (run_fault.NoAck looks) h old_count new_count old new f = tt
 
-pub step_wire : (why : RunFault) (h old_count new_count : ℕ) (old new : Tells) → StepFails h old_count new_count old new why → IfDmi (DmiWire old_count new_count new.far) why
+pub step_wire : (why : RunFault) (h old_count new_count : ℕ) (old new : Tells) → StepFails h old_count new_count old new why → IfSome (run_why why) (DmiWire old_count new_count new.far)
 step_wire (run_fault.Dmi why) h old_count new_count old new f = run_broke why f
 step_wire (run_fault.NoHalt looks) h old_count new_count old new f = tt
 step_wire (run_fault.NoAck looks) h old_count new_count old new f = tt

@@ -109,10 +109,10 @@ not_opened script fault e old_count new_count old new sink_old sink_new was e_is
     subst (EndedAs script old_count new_count old new sink_old sink_new was was) (sym e_is) (by_fault fault fails told)
   where
     by_fault : (x : ConnectFault) → ConnectFails old_count new_count old new x → LosesLoaded old.far new.far x → EndedAs script old_count new_count old new sink_old sink_new was was (ended_unopened x)
-    by_fault (connect.Dtm word) f l = record { unopened = record { fails = f; told = l; written = refl }; register = tt }
-    by_fault (connect.Module word control) f l = record { unopened = record { fails = f; told = l; written = refl }; register = tt }
-    by_fault (connect.Abstract word) f l = record { unopened = record { fails = f; told = l; written = refl }; register = tt }
-    by_fault (connect.Bus word) f l = record { unopened = record { fails = f; told = l; written = refl }; register = tt }
+    by_fault (connect.Dtm word) f l = record { unopened = record { fails = f; told = l; written = refl }; register = refl }
+    by_fault (connect.Module word control) f l = record { unopened = record { fails = f; told = l; written = refl }; register = refl }
+    by_fault (connect.Abstract word) f l = record { unopened = record { fails = f; told = l; written = refl }; register = refl }
+    by_fault (connect.Bus word) f l = record { unopened = record { fails = f; told = l; written = refl }; register = refl }
     by_fault (connect.Dmi (dmi_fault.Wire why)) f l = BrokeOff.in_opening (dmi_fault.Wire why) (record { fails = f; told = l; written = refl }) refl
     by_fault (connect.Dmi dmi_fault.Failed) f l = BrokeOff.in_opening dmi_fault.Failed (record { fails = f; told = l; written = refl }) refl
     by_fault (connect.Dmi dmi_fault.StillBusy) f l = BrokeOff.in_opening dmi_fault.StillBusy (record { fails = f; told = l; written = refl }) refl

@@ -1,5 +1,5 @@
 -- What caused a fault of the wire that ended a session, wherever in the session it came.
-use Rattle.std.proofs.Common.{◌≡◌, ◌≤◌, ℕ, List, Option, Some, None, sym, subst, arith}
+use Rattle.std.proofs.Common.{◌≡◌, ◌≤◌, ℕ, List, Option, Some, None, IfSome, sym, subst, arith}
 use Rattle.debug_model.specs.declared.command.Command.{Command}
 use Rattle.debug_model.specs.declared.dmi.DmiFault.{DmiFault}
 use Rattle.debug_model.specs.declared.dmi.DmiFault.TheVariants as dmi_fault
@@ -13,7 +13,7 @@ use Rattle.probe_access.specs.declared.fault.AccessFault.TheVariants as fault
 use Rattle.probe_run.specs.declared.fault.RunFault.{RunFault}
 use Rattle.probe_run.specs.declared.fault.RunFault.TheVariants as run_fault
 use Rattle.probe_run.specs.Acts.{Tells}
-use Rattle.probe_run.specs.Outcomes.{IfDmi}
+use Rattle.probe_run.specs.Outcomes.{run_why}
 use Rattle.probe_run.proofs.ActLemmas.{cause_from}
 use Rattle.probe_session.specs.declared.ended.Ended.{Ended}
 use Rattle.probe_session.specs.declared.ended.Ended.TheVariants as ended
@@ -52,12 +52,12 @@ by_dmi dmi_fault.StillBusy old_count new_count told w = tt
 of_dmi : (why : DmiFault) (f : Failure) (old_count new_count : ℕ) (told : Option Far) → f ≡ failure_of_dmi why → DmiWire old_count new_count told why → FailureWire old_count new_count told f
 of_dmi why f old_count new_count told is w = subst (FailureWire old_count new_count told) (sym is) (by_dmi why old_count new_count told w)
 
-by_run : (why : RunFault) (old_count new_count : ℕ) (told : Option Far) → IfDmi (DmiWire old_count new_count told) why → FailureWire old_count new_count told (failure_of_run why)
+by_run : (why : RunFault) (old_count new_count : ℕ) (told : Option Far) → IfSome (run_why why) (DmiWire old_count new_count told) → FailureWire old_count new_count told (failure_of_run why)
 by_run (run_fault.Dmi why) old_count new_count told w = by_dmi why old_count new_count told w
 by_run (run_fault.NoHalt looks) old_count new_count told w = tt
 by_run (run_fault.NoAck looks) old_count new_count told w = tt
 
-of_run : (why : RunFault) (f : Failure) (old_count new_count : ℕ) (told : Option Far) → f ≡ failure_of_run why → IfDmi (DmiWire old_count new_count told) why → FailureWire old_count new_count told f
+of_run : (why : RunFault) (f : Failure) (old_count new_count : ℕ) (told : Option Far) → f ≡ failure_of_run why → IfSome (run_why why) (DmiWire old_count new_count told) → FailureWire old_count new_count told f
 of_run why f old_count new_count told is w = subst (FailureWire old_count new_count told) (sym is) (by_run why old_count new_count told w)
 
 of_access : (why : AccessFault) (f : Failure) (old_count new_count : ℕ) (told : Option Far) → Became why f → AccessWire old_count new_count told why → FailureWire old_count new_count told f

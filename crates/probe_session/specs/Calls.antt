@@ -24,6 +24,7 @@ use Rattle.probe_run.specs.declared.fault.RunFault.{RunFault}
 use Rattle.probe_run.specs.declared.hart.Seen.{Seen}
 use Rattle.probe_run.specs.Acts.{Tells}
 use Rattle.probe_run.specs.Happens.{HaltLeft, HaltsAt, Leaves, LookLeft, ResumeLeft, ResumesAt, SeesAt}
+use Rattle.probe_run.specs.Told.{Serving}
 use Rattle.probe_run.specs.Outcomes.{HaltFails, HaltedBy, LookFails, LookedAt, ResumeFails, ResumedBy}
 use Rattle.probe_trig.specs.declared.change.Change.TheVariants.{Forget}
 use Rattle.probe_trig.specs.declared.slot_use.SlotUse.{SlotUse}
@@ -37,7 +38,6 @@ use Rattle.rv_model.specs.Board.{Hart}
 use Rattle.rv_model.specs.DebugRegisters.{debug_value}
 use Rattle.probe_session.specs.declared.fault.Failure.{Failure}
 use Rattle.probe_session.specs.Failures.{Became, failure_of_dmi, failure_of_run}
-use Rattle.probe_session.specs.Links.{AtHart}
 
 -- ---- calls that were Ok
 
@@ -173,7 +173,7 @@ pub record HaltFell (h old_count new_count : ℕ) (old new : Tells) (f : Failure
 pub record ReadFell (h number old_count new_count : ℕ) (old new : Tells) (f : Failure) : Type 0 where
   pub why : AccessFault
   pub later : old_count ≤ new_count
-  pub at : AtHart h old.far
+  pub at : Serving h old.far
   pub heard : ReadFailed number old_count new_count old new why
   pub told : RegisterLeft false h number old.far new.far why
   pub cut : IfCut (LeavesChip (LeftAside Unchanged h) old.far new.far) why
@@ -182,7 +182,7 @@ pub record ReadFell (h number old_count new_count : ℕ) (old new : Tells) (f : 
 pub record WriteFell (h number value old_count new_count : ℕ) (old new : Tells) (f : Failure) : Type 0 where
   pub why : AccessFault
   pub later : old_count ≤ new_count
-  pub at : AtHart h old.far
+  pub at : Serving h old.far
   pub heard : WriteFailed number value old_count new_count old new why
   pub told : RegisterLeft true h number old.far new.far why
   pub cut : IfCut (LeavesChip (LeftAside (MaybeWritten number value) h) old.far new.far) why
@@ -209,7 +209,7 @@ pub record GiveFell (h number value old_count new_count : ℕ) (old new : Tells)
 pub record SlotsFell (Whole : List Transfer → Type 0) (h old_count new_count : ℕ) (old new : Tells) (f : Failure) : Type 0 where
   pub why : AccessFault
   pub later : old_count ≤ new_count
-  pub at : AtHart h old.far
+  pub at : Serving h old.far
   pub heard : FailedIn Whole h old_count new_count old new why
   pub told : ScratchLeft old.far why
   pub cut : IfCut (LeavesChip (LeftAside DebugAlone h) old.far new.far) why
@@ -218,20 +218,20 @@ pub record SlotsFell (Whole : List Transfer → Type 0) (h old_count new_count :
 pub record StopFell (h old_count new_count : ℕ) (old new : Tells) (f : Failure) : Type 0 where
   pub why : AccessFault
   pub later : old_count ≤ new_count
-  pub at : AtHart h old.far
+  pub at : Serving h old.far
   pub heard : StopFailed old_count new_count old new why
   pub told : ScratchLeft old.far why
   pub cut : IfCut (LeavesChip (LeftAside Unchanged h) old.far new.far) why
   pub is : Became why f
 
 pub data LoadFell (size : Size) (address old_count new_count : ℕ) (old new : Tells) (f : Failure) : Type 0 where
-  by_hart : (h : ℕ) (why : AccessFault) → AtHart h old.far → old_count ≤ new_count → AroundFailed (LoadedAny size address) (LoadFailedInside size address) old_count new_count old new why
+  by_hart : (h : ℕ) (why : AccessFault) → Serving h old.far → old_count ≤ new_count → AroundFailed (LoadedAny size address) (LoadFailedInside size address) old_count new_count old new why
       → AccessLeft (LoadRefused size address) address old.far new.far why → IfCut (LeavesChip (AccessLeftOff Scratched LoadLeaves h) old.far new.far) why → Became why f → LoadFell size address old_count new_count old new f
   by_bus : (why : AccessFault) → IsReady old.far → old_count ≤ new_count → BusLoadFailed size address old_count new_count old new why
       → AccessLeft (BusLoadRefused size address) address old.far new.far why → IfCut (LeavesChip (BusLeftOff LoadLeaves) old.far new.far) why → Became why f → LoadFell size address old_count new_count old new f
 
 pub data StoreFell (size : Size) (address value old_count new_count : ℕ) (old new : Tells) (f : Failure) : Type 0 where
-  by_hart : (h : ℕ) (why : AccessFault) → AtHart h old.far → old_count ≤ new_count → AroundFailed (StoredInside size address value) (StoreFailedInside size address value) old_count new_count old new why
+  by_hart : (h : ℕ) (why : AccessFault) → Serving h old.far → old_count ≤ new_count → AroundFailed (StoredInside size address value) (StoreFailedInside size address value) old_count new_count old new why
       → AccessLeft (StoreRefused size address) address old.far new.far why → IfCut (LeavesChip (AccessLeftOff Scratched (StoreLeaves size address value) h) old.far new.far) why → Became why f → StoreFell size address value old_count new_count old new f
   by_bus : (why : AccessFault) → IsReady old.far → old_count ≤ new_count → BusStoreFailed size address value old_count new_count old new why
       → AccessLeft (BusStoreRefused size address) address old.far new.far why → IfCut (LeavesChip (BusLeftOff (StoreLeaves size address value)) old.far new.far) why → Became why f → StoreFell size address value old_count new_count old new f
@@ -246,7 +246,7 @@ pub record ResumeFell (h old_count new_count : ℕ) (old new : Tells) (f : Failu
 pub record OverFell (h old_count new_count : ℕ) (old new : Tells) (f : Failure) : Type 0 where
   pub why : AccessFault
   pub later : old_count ≤ new_count
-  pub at : AtHart h old.far
+  pub at : Serving h old.far
   pub heard : OverFailed h old_count new_count old new why
   pub told : OverLeft h old.far new.far why
   pub cut : IfCut (LeavesAt (OverCut h) old.far new.far) why

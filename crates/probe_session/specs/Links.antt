@@ -1,33 +1,35 @@
--- What each call of a session finds of its link, and what it leaves.
+-- What each call of a session finds of its link, and what it keeps and leaves of it.
 -- It is this project's own.
-use Rattle.std.specs.Prelude.{◌≡◌, ℕ, Bool, true, Option}
-use Rattle.debug_model.specs.Dmi.{CanOperate, CanQuit}
-use Rattle.debug_model.specs.Told.{Far, IsHalted, IsIdle, IsLive, IsReady, Selects}
+use Rattle.std.specs.Prelude.{◌≡◌, ◌≤◌, ℕ, true, Result, Ok, Err}
+use Rattle.debug_model.specs.Dmi.{CanQuit}
+use Rattle.debug_model.specs.Kept.{DmiSeen, Stands}
+use Rattle.debug_model.specs.Told.{IsReady}
+use Rattle.probe_run.specs.Told.{Serving}
 use Rattle.probe_session.specs.declared.fault.Failure.{Failure}
 use Rattle.probe_session.specs.declared.fault.Failure.TheVariants as failure
 
 -- calls can be made, and the chip is ready
-pub record Serving (far : Option Far) (alive : Bool) : Type 0 where
-  pub alive_is : alive ≡ true
-  pub link : CanOperate far
-  pub live : IsLive far
-  pub idle : IsIdle far
-  pub ready : IsReady far
+pub record Attached (s : DmiSeen) : Type 0 where
+  pub stands : Stands s
+  pub ready : IsReady s.far
 
 -- and hart h is selected and halted
-pub record ServingHalted (h : ℕ) (far : Option Far) (alive : Bool) : Type 0 where
-  pub serving : Serving far alive
-  pub selects : Selects h far
-  pub halted : IsHalted h far
+pub record AttachedHalted (h : ℕ) (s : DmiSeen) : Type 0 where
+  pub stands : Stands s
+  pub serving : Serving h s.far
 
--- behind anything but a fault of the wire the stream can be ended
-abbrev pub LeftBy : Option Far → Failure → Type 0
-LeftBy far (failure.Wire why) = Unit {0}
-LeftBy far (failure.Lost why) = CanQuit far
-LeftBy far failure.Sink = CanQuit far
+-- a fault of the wire is one that the wire gives; behind any other failure the stream can be ended
+abbrev pub LeftBy : DmiSeen → Failure → Type 0
+LeftBy s (failure.Wire why) = s.fixed.gives why ≡ true
+LeftBy s (failure.Lost why) = CanQuit s.far
+LeftBy s failure.Sink = CanQuit s.far
 
--- what an access finds of a told chip
-pub record AtHart (h : ℕ) (far : Option Far) : Type 0 where
-  pub ready : IsReady far
-  pub selects : Selects h far
-  pub halted : IsHalted h far
+-- by what a call answered: a session that goes on like this, or what a failure leaves
+abbrev pub GoesBehind : {A : Type 0} → (A → DmiSeen → Type 0) → DmiSeen → Result A Failure → Type 0
+GoesBehind on s (Ok value) = on value s
+GoesBehind on s (Err why) = LeftBy s why
+
+pub record Goes {A : Type 0} (on : A → DmiSeen → Type 0) (old new : DmiSeen) (result : Result A Failure) : Type 0 where
+  pub later : old.fault_count ≤ new.fault_count
+  pub fixed : new.fixed ≡ old.fixed
+  pub behind : GoesBehind on new result

@@ -1,14 +1,14 @@
 -- What a command's Look of its hart answers: the hart, which is halted, or the line that says why there is none to work on.
 -- It is this project's own.
-use Rattle.std.specs.Prelude.{◌≡◌, ℕ, [], Bool, Option}
-use Rattle.debug_model.specs.Told.{Far}
+use Rattle.std.specs.Prelude.{◌≡◌, ℕ, []}
+use Rattle.debug_model.specs.Kept.{DmiSeen}
 use Rattle.abstract_debugger.specs.Debugger.{at_halted}
 use Rattle.abstract_debugger.specs.Plan.{Plan}
 use Rattle.probe_run.specs.Acts.{Tells}
 use Rattle.probe_session.specs.declared.met.Met.{Met}
 use Rattle.probe_session.specs.declared.met.Met.TheVariants as met
 use Rattle.probe_session.specs.Goes.{Went}
-use Rattle.probe_session.specs.Links.{Serving, ServingHalted}
+use Rattle.probe_session.specs.Links.{Attached, AttachedHalted}
 use Rattle.probe_session.specs.Places.{Place, at_say, idle, still}
 use Rattle.probe_session.specs.Said.{said_by}
 
@@ -24,6 +24,6 @@ abbrev pub MetAs : (h : ℕ) → (old new : Tells) → Met → Type 0
 MetAs h old new (met.At x) = (x.number ≡ h) × Went (before_look h) (λ r. still h r.body) [] old new
 MetAs h old new (met.Says line) = Went (before_look h) (λ r. at_say (said_by line) r.next) [] old new
 
-abbrev pub ServingMet : Option Far → Bool → Met → Type 0
-ServingMet far alive (met.At x) = ServingHalted x.number far alive
-ServingMet far alive (met.Says line) = Serving far alive
+abbrev pub AttachedMet : Met → DmiSeen → Type 0
+AttachedMet (met.At x) s = AttachedHalted x.number s
+AttachedMet (met.Says line) s = Attached s

@@ -1,8 +1,8 @@
 -- The way on which a command reaches memory, and the place of a session that goes it.
 -- It is this project's own.
-use Rattle.std.specs.Prelude.{ℕ, List, [], Bool, Option, map}
+use Rattle.std.specs.Prelude.{ℕ, List, [], map}
 use Rattle.rv_model.specs.declared.size.Size.{Size}
-use Rattle.debug_model.specs.Told.{Far}
+use Rattle.debug_model.specs.Kept.{DmiSeen}
 use Rattle.abstract_debugger.specs.Debugger.{State, at_aligned, at_path, dumping, reading, register_line, saying, shown_registers, slot_lines, stepping, stop_line, writing}
 use Rattle.abstract_debugger.specs.Lines.{Line}
 use Rattle.abstract_debugger.specs.Plan.{Plan}
@@ -16,7 +16,7 @@ use Rattle.probe_session.specs.declared.reach.Reach.TheVariants as reach
 use Rattle.probe_session.specs.declared.reach.Reached.{Reached}
 use Rattle.probe_session.specs.declared.reach.Reached.TheVariants as reached
 use Rattle.probe_session.specs.Goes.{Went}
-use Rattle.probe_session.specs.Links.{Serving, ServingHalted}
+use Rattle.probe_session.specs.Links.{Attached, AttachedHalted}
 use Rattle.probe_session.specs.Met.{Rest}
 use Rattle.probe_session.specs.Places.{Place, at_say, idle, place}
 use Rattle.probe_session.specs.Said.{said_by}
@@ -32,9 +32,9 @@ hart_by reach.Bus = 0
 abbrev pub place_by : Reach → Plan → Place
 place_by r p = place (way_by r) (hart_by r) p
 
-abbrev pub ServingBy : Option Far → Bool → Reach → Type 0
-ServingBy far alive (reach.Hart x) = ServingHalted x.number far alive
-ServingBy far alive reach.Bus = Serving far alive
+abbrev pub AttachedBy : Reach → DmiSeen → Type 0
+AttachedBy (reach.Hart x) s = AttachedHalted x.number s
+AttachedBy reach.Bus s = Attached s
 
 abbrev pub before_reach : State → Rest → Place
 before_reach s r = idle (at_path s r.next r.body)
@@ -43,9 +43,9 @@ abbrev pub ReachedAs : State → (old new : Tells) → Reached → Type 0
 ReachedAs s old new (reached.By r) = Went (before_reach s) (λ rest. place_by r rest.body) [] old new
 ReachedAs s old new (reached.Says line) = Went (before_reach s) (λ rest. at_say (said_by line) rest.next) [] old new
 
-abbrev pub ServingReached : Option Far → Bool → Reached → Type 0
-ServingReached far alive (reached.By r) = ServingBy far alive r
-ServingReached far alive (reached.Says line) = Serving far alive
+abbrev pub AttachedReached : Reached → DmiSeen → Type 0
+AttachedReached (reached.By r) s = AttachedBy r s
+AttachedReached (reached.Says line) s = Attached s
 
 -- ---- the bodies of the commands that reach memory
 

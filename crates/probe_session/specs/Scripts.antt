@@ -1,18 +1,18 @@
 -- How a whole script went: the opening, then the commands along the abstract debugger's plan, and where it broke off.
 -- It is this project's own.
-use Rattle.std.specs.Prelude.{◌≡◌, ◌≤◌, ℕ, Bool, true, false, List, Option}
+use Rattle.std.specs.Prelude.{◌≡◌, ◌≤◌, ℕ, Bool, true, false, List, Option, None}
 use Rattle.debug_model.specs.declared.command.Command.{Command}
 use Rattle.debug_model.specs.declared.dmi.DmiFault.{DmiFault}
 use Rattle.debug_model.specs.declared.dmi.DmiFault.TheVariants as dmi_fault
-use Rattle.debug_model.specs.Dmi.{CanOperate, CanQuit}
-use Rattle.debug_model.specs.Told.{Far}
+use Rattle.debug_model.specs.Dmi.{CanQuit}
+use Rattle.debug_model.specs.Kept.{DmiSeen, Stands}
 use Rattle.abstract_debugger.specs.Debugger.{State, commands, first_state}
 use Rattle.abstract_debugger.specs.Plan.Plan.{stop}
 use Rattle.abstract_debugger.specs.Plan.PlanEnd.{Done}
 use Rattle.probe_run.specs.declared.fault.ConnectFault.{ConnectFault}
 use Rattle.probe_run.specs.declared.fault.ConnectFault.TheVariants as connect
 use Rattle.probe_run.specs.Acts.{Tells}
-use Rattle.probe_run.specs.Opening.{ConnectFails, IfOpeningDmi, LosesLoaded, Opened, OpensLoaded}
+use Rattle.probe_run.specs.Opening.{ConnectFails, LosesLoaded, Opened, OpensLoaded, opening_why}
 use Rattle.probe_session.specs.declared.ended.Ended.{Ended}
 use Rattle.probe_session.specs.declared.ended.Ended.TheVariants as ended
 use Rattle.probe_session.specs.declared.fault.Failure.{Failure}
@@ -20,7 +20,7 @@ use Rattle.probe_session.specs.declared.fault.Failure.TheVariants as failure
 use Rattle.probe_session.specs.declared.fault.LostCause.TheVariants as lost
 use Rattle.probe_session.specs.Failures.{failure_of_dmi}
 use Rattle.probe_session.specs.Goes.{Anyhow, Fell, Spoke}
-use Rattle.probe_session.specs.Links.{Serving}
+use Rattle.probe_session.specs.Links.{Attached}
 use Rattle.probe_session.specs.Places.{Place, idle}
 
 -- ---- the plan of a script, behind the opening
@@ -63,7 +63,7 @@ pub data BrokeOff (script : List Command) (old_count new_count : ℕ) (old new :
 -- a register of the chip is not as the opening asks
 pub record Unfit (old_count new_count : ℕ) (old new : Tells) (was is : Option (List ℕ)) (fault : ConnectFault) : Type 0 where
   pub unopened : Unopened old_count new_count old new was is fault
-  pub register : IfOpeningDmi (λ _. ⊥) fault
+  pub register : opening_why fault ≡ None
 
 abbrev pub EndedAs : List Command → (old_count new_count : ℕ) → (old new : Tells) → (sink_old sink_new : ℕ) → (was is : Option (List ℕ)) → Ended → Type 0
 EndedAs script old_count new_count old new sink_old sink_new was is ended.Clean = Ran script false old new was is
@@ -73,18 +73,14 @@ EndedAs script old_count new_count old new sink_old sink_new was is (ended.Wire 
 EndedAs script old_count new_count old new sink_old sink_new was is (ended.Lost why) = BrokeOff script old_count new_count old new sink_old sink_new was is (failure.Lost why)
 EndedAs script old_count new_count old new sink_old sink_new was is ended.Sink = RanInto script old_count new_count old new sink_old sink_new was is failure.Sink
 
--- behind anything but a fault of the wire the stream can be ended
-pub record Operable (far : Option Far) (alive : Bool) : Type 0 where
-  pub alive_is : alive ≡ true
-  pub link : CanOperate far
-
-abbrev pub LeavesLink : Option Far → Bool → Ended → Type 0
-LeavesLink far alive ended.Clean = Serving far alive
-LeavesLink far alive ended.WithErrors = Serving far alive
-LeavesLink far alive (ended.Target fault) = Operable far alive
-LeavesLink far alive (ended.Wire why) = Unit {0}
-LeavesLink far alive (ended.Lost why) = CanQuit far
-LeavesLink far alive ended.Sink = CanQuit far
+-- a fault of the wire is one that the wire gives; behind any other end the stream can be ended
+abbrev pub LeavesLink : Ended → DmiSeen → Type 0
+LeavesLink ended.Clean s = Attached s
+LeavesLink ended.WithErrors s = Attached s
+LeavesLink (ended.Target fault) s = Stands s
+LeavesLink (ended.Wire why) s = s.fixed.gives why ≡ true
+LeavesLink (ended.Lost why) s = CanQuit s.far
+LeavesLink ended.Sink s = CanQuit s.far
 
 -- ---- the commands alone
 

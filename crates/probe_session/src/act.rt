@@ -1,12 +1,12 @@
 //! One command of a session.
 
-ghost use Rattle.std.specs.Prelude.{◌≡◌, ◌≤◌, ◌<◌, ◌^◌, [], true, false, IfOk, IfErr, IsTrue, OnOk};
-ghost use Rattle.probe_run.specs.Acts.{tells};
+ghost use Rattle.std.specs.Prelude.{◌≡◌, ◌≤◌, true, false, IfOk, IfErr, IsTrue};
 ghost use Rattle.debug_model.specs.Command.{IsWithinRanges};
-ghost use Rattle.probe_session.specs.Acts.{ActedAs, ServingAfter};
+ghost use Rattle.probe_session.specs.Acts.{ActedAs, AttachedAfter};
 ghost use Rattle.probe_session.specs.Commands.{before, behind, is_end, is_one_line, state_of};
 ghost use Rattle.probe_session.specs.Goes.{CalmNext, Fell, Spoke};
-ghost use Rattle.probe_session.specs.Links.{LeftBy, Serving};
+ghost use Rattle.probe_session.specs.Links.{Attached, Goes};
+ghost use Rattle.probe_run.specs.Told.{told};
 
 use crate::acted::Acted;
 use crate::fault::Failure;
@@ -25,18 +25,14 @@ impl Session {
     ) -> Result<bool, Failure>
         requires within { IsWithinRanges command }
         requires one { IsTrue (is_one_line command) }
-        requires serving { Serving (D.far link.old) (D.is_alive link.old) }
+        requires serving { Attached (D.seen link.old) }
         ensures spoke { IfOk result
-            (λ wrong. Spoke (before command (state_of self.old)) (behind (state_of self.new)) wrong (tells (D.far link.old) (D.script link.old))
-            (tells (D.far link.new) (D.script link.new)) (K.contents out.old) (K.contents out.new)) }
-        ensures fell { IfErr result (Fell CalmNext (before command (state_of self.old)) (D.fault_count link.old) (D.fault_count link.new)
-            (tells (D.far link.old) (D.script link.old)) (tells (D.far link.new) (D.script link.new)) (K.fault_count out.old)
+            (λ wrong. Spoke (before command (state_of self.old)) (behind (state_of self.new)) wrong (told (D.seen link.old))
+            (told (D.seen link.new)) (K.contents out.old) (K.contents out.new)) }
+        ensures fell { IfErr result (Fell CalmNext (before command (state_of self.old)) (D.seen link.old).fault_count (D.seen link.new).fault_count
+            (told (D.seen link.old)) (told (D.seen link.new)) (K.fault_count out.old)
             (K.fault_count out.new) (K.contents out.old) (K.contents out.new)) }
-        ensures serving { OnOk result (Serving (D.far link.new) (D.is_alive link.new)) }
-        ensures left { IfErr result (LeftBy (D.far link.new)) }
-        ensures later { D.fault_count link.old ≤ D.fault_count link.new }
-        ensures slack { D.slack link.new ≡ D.slack link.old }
-        ensures ties { D.ties link.new ≡ D.ties link.old }
+        ensures keeps { Goes (λ _. Attached) (D.seen link.old) (D.seen link.new) result }
         ensures sink_later { K.fault_count out.old ≤ K.fault_count out.new }
     {
         let line = self.line_of(link, command)?;
@@ -53,18 +49,14 @@ impl Session {
     ) -> Result<bool, Failure>
         requires within { IsWithinRanges command }
         requires more { is_end command ≡ false }
-        requires serving { Serving (D.far link.old) (D.is_alive link.old) }
+        requires serving { Attached (D.seen link.old) }
         ensures spoke { IfOk result
-            (λ wrong. Spoke (before command (state_of self.old)) (behind (state_of self.new)) wrong (tells (D.far link.old) (D.script link.old))
-            (tells (D.far link.new) (D.script link.new)) (K.contents out.old) (K.contents out.new)) }
-        ensures fell { IfErr result (Fell CalmNext (before command (state_of self.old)) (D.fault_count link.old) (D.fault_count link.new)
-            (tells (D.far link.old) (D.script link.old)) (tells (D.far link.new) (D.script link.new)) (K.fault_count out.old)
+            (λ wrong. Spoke (before command (state_of self.old)) (behind (state_of self.new)) wrong (told (D.seen link.old))
+            (told (D.seen link.new)) (K.contents out.old) (K.contents out.new)) }
+        ensures fell { IfErr result (Fell CalmNext (before command (state_of self.old)) (D.seen link.old).fault_count (D.seen link.new).fault_count
+            (told (D.seen link.old)) (told (D.seen link.new)) (K.fault_count out.old)
             (K.fault_count out.new) (K.contents out.old) (K.contents out.new)) }
-        ensures serving { OnOk result (Serving (D.far link.new) (D.is_alive link.new)) }
-        ensures left { IfErr result (LeftBy (D.far link.new)) }
-        ensures later { D.fault_count link.old ≤ D.fault_count link.new }
-        ensures slack { D.slack link.new ≡ D.slack link.old }
-        ensures ties { D.ties link.new ≡ D.ties link.old }
+        ensures keeps { Goes (λ _. Attached) (D.seen link.old) (D.seen link.new) result }
         ensures sink_later { K.fault_count out.old ≤ K.fault_count out.new }
     {
         match command {
@@ -79,14 +71,13 @@ impl Session {
     /// Does a command, which is within its ranges, and puts its lines.
     pub fn act<D: Dmi, K: Sink>(&mut self, link: &mut D, command: &Command, out: &mut K) -> Acted
         requires within { IsWithinRanges command.now }
-        requires serving { Serving (D.far link.old) (D.is_alive link.old) }
-        ensures acted { ActedAs command.now (state_of self.old) (state_of self.new) (D.fault_count link.old) (D.fault_count link.new)
-            (tells (D.far link.old) (D.script link.old)) (tells (D.far link.new) (D.script link.new)) (K.fault_count out.old)
+        requires serving { Attached (D.seen link.old) }
+        ensures acted { ActedAs command.now (state_of self.old) (state_of self.new) (D.seen link.old).fault_count (D.seen link.new).fault_count
+            (told (D.seen link.old)) (told (D.seen link.new)) (K.fault_count out.old)
             (K.fault_count out.new) (K.contents out.old) (K.contents out.new) result }
-        ensures serving { ServingAfter (D.far link.new) (D.is_alive link.new) result }
-        ensures later { D.fault_count link.old ≤ D.fault_count link.new }
-        ensures slack { D.slack link.new ≡ D.slack link.old }
-        ensures ties { D.ties link.new ≡ D.ties link.old }
+        ensures serving { AttachedAfter result (D.seen link.new) }
+        ensures later { (D.seen link.old).fault_count ≤ (D.seen link.new).fault_count }
+        ensures fixed { (D.seen link.new).fixed ≡ (D.seen link.old).fixed }
         ensures sink_later { K.fault_count out.old ≤ K.fault_count out.new }
     {
         match command {

@@ -1,15 +1,15 @@
 //! `regs`: the registers of the hart, a line each.
 
-ghost use Rattle.std.specs.Prelude.{◌≡◌, ◌≤◌, ◌<◌, ◌^◌, [], true, false, IfOk, IfErr, IsTrue, OnOk};
-ghost use Rattle.probe_run.specs.Acts.{tells};
+ghost use Rattle.std.specs.Prelude.{◌≤◌, false, IfOk, IfErr, OnOk};
 ghost use Rattle.debug_model.specs.declared.command.Command.TheVariants as command;
 ghost use Rattle.probe_session.specs.Calls.{IsOfCores};
 ghost use Rattle.probe_session.specs.Commands.{before, behind, state_of};
 ghost use Rattle.abstract_debugger.specs.Laws.{Quiet};
 ghost use Rattle.probe_session.specs.Goes.{CalmNext, Fell, Spoke};
-ghost use Rattle.probe_session.specs.Links.{LeftBy, Serving, ServingHalted};
+ghost use Rattle.probe_session.specs.Links.{Attached, AttachedHalted, Goes};
 ghost use Rattle.probe_session.specs.Places.{idle};
 ghost use Rattle.probe_session.specs.Showing.{CalmRegisters, at_all_registers, at_next_register, at_registers};
+ghost use Rattle.probe_run.specs.Told.{told};
 
 use crate::fault::Failure;
 use crate::met::{Met, meet};
@@ -33,18 +33,14 @@ fn put_register<D: Dmi, K: Sink>(
     out: &mut K,
 ) -> Result<(), Failure>
     requires of { IsOfCores number }
-    requires serving { ServingHalted halted.now.number (D.far link.old) (D.is_alive link.old) }
+    requires serving { AttachedHalted halted.now.number (D.seen link.old) }
     ensures spoke { OnOk result (Spoke (at_next_register halted.now.number number) (at_registers halted.now.number) false
-        (tells (D.far link.old) (D.script link.old)) (tells (D.far link.new) (D.script link.new)) (K.contents out.old)
+        (told (D.seen link.old)) (told (D.seen link.new)) (K.contents out.old)
         (K.contents out.new)) }
-    ensures fell { IfErr result (Fell CalmRegisters (at_next_register halted.now.number number) (D.fault_count link.old) (D.fault_count link.new)
-        (tells (D.far link.old) (D.script link.old)) (tells (D.far link.new) (D.script link.new)) (K.fault_count out.old)
+    ensures fell { IfErr result (Fell CalmRegisters (at_next_register halted.now.number number) (D.seen link.old).fault_count (D.seen link.new).fault_count
+        (told (D.seen link.old)) (told (D.seen link.new)) (K.fault_count out.old)
         (K.fault_count out.new) (K.contents out.old) (K.contents out.new)) }
-    ensures serving { OnOk result (ServingHalted halted.now.number (D.far link.new) (D.is_alive link.new)) }
-    ensures left { IfErr result (LeftBy (D.far link.new)) }
-    ensures later { D.fault_count link.old ≤ D.fault_count link.new }
-    ensures slack { D.slack link.new ≡ D.slack link.old }
-    ensures ties { D.ties link.new ≡ D.ties link.old }
+    ensures keeps { Goes (λ _. AttachedHalted halted.now.number) (D.seen link.old) (D.seen link.new) result }
     ensures sink_later { K.fault_count out.old ≤ K.fault_count out.new }
 {
     let value = get(link, halted, number)?;
@@ -54,17 +50,13 @@ fn put_register<D: Dmi, K: Sink>(
 
 /// Puts the lines of pc and of x1 to x31.
 fn put_registers<D: Dmi, K: Sink>(link: &mut D, halted: &Halted, out: &mut K) -> Result<(), Failure>
-    requires serving { ServingHalted halted.now.number (D.far link.old) (D.is_alive link.old) }
-    ensures spoke { OnOk result (Spoke (at_all_registers halted.now.number) idle false (tells (D.far link.old) (D.script link.old))
-        (tells (D.far link.new) (D.script link.new)) (K.contents out.old) (K.contents out.new)) }
-    ensures fell { IfErr result (Fell Quiet (at_all_registers halted.now.number) (D.fault_count link.old) (D.fault_count link.new)
-        (tells (D.far link.old) (D.script link.old)) (tells (D.far link.new) (D.script link.new)) (K.fault_count out.old)
+    requires serving { AttachedHalted halted.now.number (D.seen link.old) }
+    ensures spoke { OnOk result (Spoke (at_all_registers halted.now.number) idle false (told (D.seen link.old))
+        (told (D.seen link.new)) (K.contents out.old) (K.contents out.new)) }
+    ensures fell { IfErr result (Fell Quiet (at_all_registers halted.now.number) (D.seen link.old).fault_count (D.seen link.new).fault_count
+        (told (D.seen link.old)) (told (D.seen link.new)) (K.fault_count out.old)
         (K.fault_count out.new) (K.contents out.old) (K.contents out.new)) }
-    ensures serving { OnOk result (Serving (D.far link.new) (D.is_alive link.new)) }
-    ensures left { IfErr result (LeftBy (D.far link.new)) }
-    ensures later { D.fault_count link.old ≤ D.fault_count link.new }
-    ensures slack { D.slack link.new ≡ D.slack link.old }
-    ensures ties { D.ties link.new ≡ D.ties link.old }
+    ensures keeps { Goes (λ _. Attached) (D.seen link.old) (D.seen link.new) result }
     ensures sink_later { K.fault_count out.old ≤ K.fault_count out.new }
 {
     put_register(link, halted, register_number::DPC, out)?;
@@ -81,18 +73,14 @@ impl Session {
         link: &mut D,
         out: &mut K,
     ) -> Result<bool, Failure>
-        requires serving { Serving (D.far link.old) (D.is_alive link.old) }
+        requires serving { Attached (D.seen link.old) }
         ensures spoke { IfOk result (λ wrong. Spoke (before command.Regs (state_of self.now)) (behind (state_of self.now)) wrong
-            (tells (D.far link.old) (D.script link.old)) (tells (D.far link.new) (D.script link.new)) (K.contents out.old)
+            (told (D.seen link.old)) (told (D.seen link.new)) (K.contents out.old)
             (K.contents out.new)) }
-        ensures fell { IfErr result (Fell CalmNext (before command.Regs (state_of self.now)) (D.fault_count link.old) (D.fault_count link.new)
-            (tells (D.far link.old) (D.script link.old)) (tells (D.far link.new) (D.script link.new)) (K.fault_count out.old)
+        ensures fell { IfErr result (Fell CalmNext (before command.Regs (state_of self.now)) (D.seen link.old).fault_count (D.seen link.new).fault_count
+            (told (D.seen link.old)) (told (D.seen link.new)) (K.fault_count out.old)
             (K.fault_count out.new) (K.contents out.old) (K.contents out.new)) }
-        ensures serving { OnOk result (Serving (D.far link.new) (D.is_alive link.new)) }
-        ensures left { IfErr result (LeftBy (D.far link.new)) }
-        ensures later { D.fault_count link.old ≤ D.fault_count link.new }
-        ensures slack { D.slack link.new ≡ D.slack link.old }
-        ensures ties { D.ties link.new ≡ D.ties link.old }
+        ensures keeps { Goes (λ _. Attached) (D.seen link.old) (D.seen link.new) result }
         ensures sink_later { K.fault_count out.old ≤ K.fault_count out.new }
     {
         match meet(link, &self.target, self.hart)? {

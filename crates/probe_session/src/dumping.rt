@@ -1,8 +1,7 @@
 //! `dump`: bytes of memory, sixteen to a row.
 
-ghost use Rattle.std.specs.Prelude.{◌≡◌, ◌≤◌, ◌<◌, ◌+◌, ◌^◌, [], true, false, IfOk, IfErr, IsTrue, OnErr, OnOk};
+ghost use Rattle.std.specs.Prelude.{◌≡◌, ◌≤◌, ◌<◌, ◌+◌, ◌^◌, true, false, IfOk, IfErr, OnErr, OnOk};
 ghost use Rattle.arrayvec.specs.ArrayVec.{array_vec_len};
-ghost use Rattle.probe_run.specs.Acts.{tells};
 ghost use Rattle.debug_model.specs.Command.{IsBlock};
 ghost use Rattle.debug_model.specs.declared.command.Command.TheVariants as command;
 ghost use Rattle.abstract_debugger.specs.Lines.{text_of_all};
@@ -15,10 +14,11 @@ ghost use Rattle.probe_session.specs.Calls.{LoadFell};
 ghost use Rattle.probe_session.specs.Commands.{before, behind, state_of};
 ghost use Rattle.abstract_debugger.specs.Laws.{Quiet};
 ghost use Rattle.probe_session.specs.Goes.{CalmNext, Fell, Spoke};
-ghost use Rattle.probe_session.specs.Links.{LeftBy, Serving};
+ghost use Rattle.probe_session.specs.Links.{Attached, Goes};
 ghost use Rattle.probe_session.specs.Places.{idle};
-ghost use Rattle.probe_session.specs.Reach.{ServingBy};
+ghost use Rattle.probe_session.specs.Reach.{AttachedBy};
 ghost use Rattle.probe_session.specs.Showing.{CalmBytes, DumpedAs, RowCut, at_dump, at_next_byte, row_lines};
+ghost use Rattle.probe_run.specs.Told.{told, Fails};
 
 use crate::fault::Failure;
 use crate::put::put_line;
@@ -38,15 +38,10 @@ type Row = ArrayVec<u8, ROW_BYTES>;
 
 /// Loads a byte: none where it lies outside memory.
 fn load_byte<D: Dmi>(link: &mut D, reach: &Reach, address: u64) -> Result<Option<u8>, Failure>
-    requires serving { ServingBy (D.far link.old) (D.is_alive link.old) reach.now }
-    ensures loaded { IfOk result (LoadedAs B1 address (tells (D.far link.old) (D.script link.old)) (tells (D.far link.new) (D.script link.new))) }
-    ensures fell { IfErr result (LoadFell B1 address (D.fault_count link.old) (D.fault_count link.new) (tells (D.far link.old) (D.script link.old))
-        (tells (D.far link.new) (D.script link.new))) }
-    ensures serving { OnOk result (ServingBy (D.far link.new) (D.is_alive link.new) reach.now) }
-    ensures left { IfErr result (LeftBy (D.far link.new)) }
-    ensures later { D.fault_count link.old ≤ D.fault_count link.new }
-    ensures slack { D.slack link.new ≡ D.slack link.old }
-    ensures ties { D.ties link.new ≡ D.ties link.old }
+    requires serving { AttachedBy reach.now (D.seen link.old) }
+    ensures loaded { IfOk result (LoadedAs B1 address (told (D.seen link.old)) (told (D.seen link.new))) }
+    ensures fell { IfErr result (Fails (LoadFell B1 address) (D.seen link.old) (D.seen link.new)) }
+    ensures keeps { Goes (λ _. AttachedBy reach.now) (D.seen link.old) (D.seen link.new) result }
 {
     match load_by(link, reach, Size::B1, address)? {
         Some(value) => Ok(Some(value as u8)),
@@ -79,19 +74,15 @@ fn put_byte<D: Dmi, K: Sink>(
 ) -> Result<bool, Failure>
     requires room { array_vec_len row.old < 16 }
     requires address { first + array_vec_len row.old < 2 ^ 64 }
-    requires serving { ServingBy (D.far link.old) (D.is_alive link.old) reach.now }
-    ensures dumped { IfOk result (DumpedAs reach.now first row.old.items row.new.items (tells (D.far link.old) (D.script link.old))
-        (tells (D.far link.new) (D.script link.new)) (K.contents out.old) (K.contents out.new)) }
-    ensures fell { IfErr result (Fell CalmBytes (at_next_byte reach.now first row.old.items) (D.fault_count link.old) (D.fault_count link.new)
-        (tells (D.far link.old) (D.script link.old)) (tells (D.far link.new) (D.script link.new)) (K.fault_count out.old)
+    requires serving { AttachedBy reach.now (D.seen link.old) }
+    ensures dumped { IfOk result (DumpedAs reach.now first row.old.items row.new.items (told (D.seen link.old))
+        (told (D.seen link.new)) (K.contents out.old) (K.contents out.new)) }
+    ensures fell { IfErr result (Fell CalmBytes (at_next_byte reach.now first row.old.items) (D.seen link.old).fault_count (D.seen link.new).fault_count
+        (told (D.seen link.old)) (told (D.seen link.new)) (K.fault_count out.old)
         (K.fault_count out.new) (K.contents out.old) (K.contents out.new)) }
     ensures room { OnOk result (array_vec_len row.new < 16) }
     ensures along { OnOk result (array_vec_len row.new ≤ array_vec_len row.old + 1) }
-    ensures serving { OnOk result (ServingBy (D.far link.new) (D.is_alive link.new) reach.now) }
-    ensures left { IfErr result (LeftBy (D.far link.new)) }
-    ensures later { D.fault_count link.old ≤ D.fault_count link.new }
-    ensures slack { D.slack link.new ≡ D.slack link.old }
-    ensures ties { D.ties link.new ≡ D.ties link.old }
+    ensures keeps { Goes (λ _. AttachedBy reach.now) (D.seen link.old) (D.seen link.new) result }
     ensures sink_later { K.fault_count out.old ≤ K.fault_count out.new }
 {
     let address = first + row.len() as u64;
@@ -121,17 +112,13 @@ fn put_rows<D: Dmi, K: Sink>(
     out: &mut K,
 ) -> Result<bool, Failure>
     requires block { IsBlock 1 address count }
-    requires serving { ServingBy (D.far link.old) (D.is_alive link.old) reach.now }
-    ensures spoke { IfOk result (λ wrong. Spoke (at_dump reach.now address count) idle wrong (tells (D.far link.old) (D.script link.old))
-        (tells (D.far link.new) (D.script link.new)) (K.contents out.old) (K.contents out.new)) }
-    ensures fell { IfErr result (Fell Quiet (at_dump reach.now address count) (D.fault_count link.old) (D.fault_count link.new)
-        (tells (D.far link.old) (D.script link.old)) (tells (D.far link.new) (D.script link.new)) (K.fault_count out.old)
+    requires serving { AttachedBy reach.now (D.seen link.old) }
+    ensures spoke { IfOk result (λ wrong. Spoke (at_dump reach.now address count) idle wrong (told (D.seen link.old))
+        (told (D.seen link.new)) (K.contents out.old) (K.contents out.new)) }
+    ensures fell { IfErr result (Fell Quiet (at_dump reach.now address count) (D.seen link.old).fault_count (D.seen link.new).fault_count
+        (told (D.seen link.old)) (told (D.seen link.new)) (K.fault_count out.old)
         (K.fault_count out.new) (K.contents out.old) (K.contents out.new)) }
-    ensures serving { OnOk result (Serving (D.far link.new) (D.is_alive link.new)) }
-    ensures left { IfErr result (LeftBy (D.far link.new)) }
-    ensures later { D.fault_count link.old ≤ D.fault_count link.new }
-    ensures slack { D.slack link.new ≡ D.slack link.old }
-    ensures ties { D.ties link.new ≡ D.ties link.old }
+    ensures keeps { Goes (λ _. Attached) (D.seen link.old) (D.seen link.new) result }
     ensures sink_later { K.fault_count out.old ≤ K.fault_count out.new }
 {
     let mut row = Row::new();
@@ -159,19 +146,15 @@ impl Session {
         out: &mut K,
     ) -> Result<bool, Failure>
         requires block { IsBlock 1 address count }
-        requires serving { Serving (D.far link.old) (D.is_alive link.old) }
+        requires serving { Attached (D.seen link.old) }
         ensures spoke { IfOk result (λ wrong. Spoke (before (command.Dump address count) (state_of self.now)) (behind (state_of self.now)) wrong
-            (tells (D.far link.old) (D.script link.old)) (tells (D.far link.new) (D.script link.new)) (K.contents out.old)
+            (told (D.seen link.old)) (told (D.seen link.new)) (K.contents out.old)
             (K.contents out.new)) }
         ensures fell { IfErr result
-            (Fell CalmNext (before (command.Dump address count) (state_of self.now)) (D.fault_count link.old) (D.fault_count link.new)
-            (tells (D.far link.old) (D.script link.old)) (tells (D.far link.new) (D.script link.new)) (K.fault_count out.old)
+            (Fell CalmNext (before (command.Dump address count) (state_of self.now)) (D.seen link.old).fault_count (D.seen link.new).fault_count
+            (told (D.seen link.old)) (told (D.seen link.new)) (K.fault_count out.old)
             (K.fault_count out.new) (K.contents out.old) (K.contents out.new)) }
-        ensures serving { OnOk result (Serving (D.far link.new) (D.is_alive link.new)) }
-        ensures left { IfErr result (LeftBy (D.far link.new)) }
-        ensures later { D.fault_count link.old ≤ D.fault_count link.new }
-        ensures slack { D.slack link.new ≡ D.slack link.old }
-        ensures ties { D.ties link.new ≡ D.ties link.old }
+        ensures keeps { Goes (λ _. Attached) (D.seen link.old) (D.seen link.new) result }
         ensures sink_later { K.fault_count out.old ≤ K.fault_count out.new }
     {
         match self.reach(link)? {

@@ -1,17 +1,17 @@
 //! `step` and `resume`: a halted hart goes on.
 
-ghost use Rattle.std.specs.Prelude.{◌≡◌, ◌≤◌, ◌<◌, ◌^◌, [], true, false, IfOk, IfErr, IsTrue, OnOk};
-ghost use Rattle.probe_run.specs.Acts.{tells};
+ghost use Rattle.std.specs.Prelude.{◌≡◌, [], IfOk, IfErr};
 ghost use Rattle.abstract_debugger.specs.Debugger.{going};
 ghost use Rattle.abstract_debugger.specs.Lines.Line.{Resumed};
 ghost use Rattle.abstract_debugger.specs.Plan.Plan.{say};
 ghost use Rattle.probe_session.specs.Commands.{at_letting_go, ends_with};
 ghost use Rattle.probe_session.specs.Goes.{Falls, Went};
-ghost use Rattle.probe_session.specs.Links.{LeftBy, Serving, ServingHalted};
+ghost use Rattle.probe_session.specs.Links.{Attached, AttachedHalted, Goes};
 ghost use Rattle.probe_session.specs.Places.{ready, still};
 ghost use Rattle.probe_session.specs.Reach.{stepped};
 ghost use Rattle.probe_session.specs.Said.{said_by};
 ghost use Rattle.probe_session.specs.Steps.{any_in};
+ghost use Rattle.probe_run.specs.Told.{told, Fails};
 
 use crate::fault::Failure;
 use crate::hart_lines::stop_line;
@@ -32,17 +32,11 @@ pub(crate) fn stepped_line<D: Dmi>(
     halted: Halted,
     count: u16,
 ) -> Result<Line, Failure>
-    requires serving { ServingHalted halted.number (D.far link.old) (D.is_alive link.old) }
+    requires serving { AttachedHalted halted.number (D.seen link.old) }
     ensures went { IfOk result (λ line. Went (λ next. still halted.number (stepped count halted.number next))
-        (ends_with (said_by line)) [] (tells (D.far link.old) (D.script link.old)) (tells (D.far link.new) (D.script link.new))) }
-    ensures falls { IfErr result (Falls (λ next. still halted.number (stepped count halted.number next))
-        [] (D.fault_count link.old) (D.fault_count link.new) (tells (D.far link.old) (D.script link.old))
-        (tells (D.far link.new) (D.script link.new))) }
-    ensures serving { OnOk result (Serving (D.far link.new) (D.is_alive link.new)) }
-    ensures left { IfErr result (LeftBy (D.far link.new)) }
-    ensures later { D.fault_count link.old ≤ D.fault_count link.new }
-    ensures slack { D.slack link.new ≡ D.slack link.old }
-    ensures ties { D.ties link.new ≡ D.ties link.old }
+        (ends_with (said_by line)) [] (told (D.seen link.old)) (told (D.seen link.new))) }
+    ensures falls { IfErr result (Fails (Falls (λ next. still halted.number (stepped count halted.number next)) []) (D.seen link.old) (D.seen link.new)) }
+    ensures keeps { Goes (λ _. Attached) (D.seen link.old) (D.seen link.new) result }
 {
     let mut now = halted;
     'stepping: for _step in 0..count {
@@ -65,17 +59,11 @@ fn has_any(view: &SlotView) -> bool
 
 /// Lets a hart go that none of its slots holds back.
 fn free_line<D: Dmi>(link: &mut D, halted: Halted) -> Result<Line, Failure>
-    requires serving { ServingHalted halted.number (D.far link.old) (D.is_alive link.old) }
+    requires serving { AttachedHalted halted.number (D.seen link.old) }
     ensures went { IfOk result (λ line. Went (λ next. ready halted.number (going halted.number (say Resumed next)))
-        (ends_with (said_by line)) [] (tells (D.far link.old) (D.script link.old)) (tells (D.far link.new) (D.script link.new))) }
-    ensures falls { IfErr result (Falls (λ next. ready halted.number (going halted.number (say Resumed next)))
-        [] (D.fault_count link.old) (D.fault_count link.new) (tells (D.far link.old) (D.script link.old))
-        (tells (D.far link.new) (D.script link.new))) }
-    ensures serving { OnOk result (Serving (D.far link.new) (D.is_alive link.new)) }
-    ensures left { IfErr result (LeftBy (D.far link.new)) }
-    ensures later { D.fault_count link.old ≤ D.fault_count link.new }
-    ensures slack { D.slack link.new ≡ D.slack link.old }
-    ensures ties { D.ties link.new ≡ D.ties link.old }
+        (ends_with (said_by line)) [] (told (D.seen link.old)) (told (D.seen link.new))) }
+    ensures falls { IfErr result (Fails (Falls (λ next. ready halted.number (going halted.number (say Resumed next))) []) (D.seen link.old) (D.seen link.new)) }
+    ensures keeps { Goes (λ _. Attached) (D.seen link.old) (D.seen link.new) result }
 {
     make_resume(link, halted)?;
     Ok(Line::Resumed)
@@ -83,16 +71,11 @@ fn free_line<D: Dmi>(link: &mut D, halted: Halted) -> Result<Line, Failure>
 
 /// Lets a hart go. Where slots have a hit it is stepped over them first; if that stops it for another cause, the line says where it stands.
 pub(crate) fn let_go_line<D: Dmi>(link: &mut D, halted: Halted) -> Result<Line, Failure>
-    requires serving { ServingHalted halted.number (D.far link.old) (D.is_alive link.old) }
-    ensures went { IfOk result (λ line. Went (at_letting_go halted.number) (ends_with (said_by line)) [] (tells (D.far link.old) (D.script link.old))
-        (tells (D.far link.new) (D.script link.new))) }
-    ensures falls { IfErr result (Falls (at_letting_go halted.number) [] (D.fault_count link.old) (D.fault_count link.new)
-        (tells (D.far link.old) (D.script link.old)) (tells (D.far link.new) (D.script link.new))) }
-    ensures serving { OnOk result (Serving (D.far link.new) (D.is_alive link.new)) }
-    ensures left { IfErr result (LeftBy (D.far link.new)) }
-    ensures later { D.fault_count link.old ≤ D.fault_count link.new }
-    ensures slack { D.slack link.new ≡ D.slack link.old }
-    ensures ties { D.ties link.new ≡ D.ties link.old }
+    requires serving { AttachedHalted halted.number (D.seen link.old) }
+    ensures went { IfOk result (λ line. Went (at_letting_go halted.number) (ends_with (said_by line)) [] (told (D.seen link.old))
+        (told (D.seen link.new))) }
+    ensures falls { IfErr result (Fails (Falls (at_letting_go halted.number) []) (D.seen link.old) (D.seen link.new)) }
+    ensures keeps { Goes (λ _. Attached) (D.seen link.old) (D.seen link.new) result }
 {
     let seen = view(link, &halted)?;
     if !has_any(&seen) {

@@ -1,18 +1,15 @@
 //! The lines that a halted hart answers.
 
-ghost use Rattle.std.specs.Prelude.{◌≡◌, ◌≤◌, ◌<◌, ◌^◌, [], true, false, IfOk, IfErr, IsTrue, OnOk};
-ghost use Rattle.probe_run.specs.Acts.{tells};
-ghost use Rattle.debug_model.specs.Registers.{is_register};
-ghost use Rattle.abstract_debugger.specs.Slots.Use.{Armed};
-ghost use Rattle.abstract_debugger.specs.Trace.{What};
+ghost use Rattle.std.specs.Prelude.{◌≡◌, ◌<◌, [], false, IfOk, IfErr};
 ghost use Rattle.probe_session.specs.Calls.{IsOfCores};
 ghost use Rattle.probe_session.specs.Commands.{at_arming, at_ebreak, at_freeing, at_register, at_stop_line, at_written_register, ends_with};
 ghost use Rattle.probe_session.specs.Goes.{Falls, Went};
-ghost use Rattle.probe_session.specs.Links.{LeftBy, Serving, ServingHalted};
+ghost use Rattle.probe_session.specs.Links.{Attached, AttachedHalted, Goes};
 ghost use Rattle.probe_session.specs.Said.{said_by};
 ghost use Rattle.probe_session.specs.Slots.{what_of};
 ghost use Rattle.probe_session.specs.Steps.{with_ebreakm};
 ghost use Rattle.probe_trig.specs.SlotRegisters.{CanArm};
+ghost use Rattle.probe_run.specs.Told.{told, Fails};
 
 use crate::fault::Failure;
 use crate::registers::{ask, get, give, set};
@@ -29,17 +26,12 @@ const TRIGGER: u8 = 2;
 
 /// The line that says where the hart stands, and why; beside a trigger, with the slots that have a hit.
 pub(crate) fn stop_line<D: Dmi>(link: &mut D, halted: &Halted) -> Result<Line, Failure>
-    requires serving { ServingHalted halted.now.number (D.far link.old) (D.is_alive link.old) }
+    requires serving { AttachedHalted halted.now.number (D.seen link.old) }
     ensures went { IfOk result
-        (λ line. Went (at_stop_line halted.now.number) (ends_with (said_by line)) [] (tells (D.far link.old) (D.script link.old))
-        (tells (D.far link.new) (D.script link.new))) }
-    ensures falls { IfErr result (Falls (at_stop_line halted.now.number) [] (D.fault_count link.old) (D.fault_count link.new)
-        (tells (D.far link.old) (D.script link.old)) (tells (D.far link.new) (D.script link.new))) }
-    ensures serving { OnOk result (Serving (D.far link.new) (D.is_alive link.new)) }
-    ensures left { IfErr result (LeftBy (D.far link.new)) }
-    ensures later { D.fault_count link.old ≤ D.fault_count link.new }
-    ensures slack { D.slack link.new ≡ D.slack link.old }
-    ensures ties { D.ties link.new ≡ D.ties link.old }
+        (λ line. Went (at_stop_line halted.now.number) (ends_with (said_by line)) [] (told (D.seen link.old))
+        (told (D.seen link.new))) }
+    ensures falls { IfErr result (Fails (Falls (at_stop_line halted.now.number) []) (D.seen link.old) (D.seen link.new)) }
+    ensures keeps { Goes (λ _. Attached) (D.seen link.old) (D.seen link.new) result }
 {
     let at = find_stop(link, halted)?;
     if at.cause == TRIGGER {
@@ -64,17 +56,12 @@ pub(crate) fn register_line<D: Dmi>(
     number: u16,
 ) -> Result<Line, Failure>
     requires of { IsOfCores number }
-    requires serving { ServingHalted halted.now.number (D.far link.old) (D.is_alive link.old) }
+    requires serving { AttachedHalted halted.now.number (D.seen link.old) }
     ensures went { IfOk result
-        (λ line. Went (at_register halted.now.number number) (ends_with (said_by line)) [] (tells (D.far link.old) (D.script link.old))
-        (tells (D.far link.new) (D.script link.new))) }
-    ensures falls { IfErr result (Falls (at_register halted.now.number number) [] (D.fault_count link.old) (D.fault_count link.new)
-        (tells (D.far link.old) (D.script link.old)) (tells (D.far link.new) (D.script link.new))) }
-    ensures serving { OnOk result (Serving (D.far link.new) (D.is_alive link.new)) }
-    ensures left { IfErr result (LeftBy (D.far link.new)) }
-    ensures later { D.fault_count link.old ≤ D.fault_count link.new }
-    ensures slack { D.slack link.new ≡ D.slack link.old }
-    ensures ties { D.ties link.new ≡ D.ties link.old }
+        (λ line. Went (at_register halted.now.number number) (ends_with (said_by line)) [] (told (D.seen link.old))
+        (told (D.seen link.new))) }
+    ensures falls { IfErr result (Fails (Falls (at_register halted.now.number number) []) (D.seen link.old) (D.seen link.new)) }
+    ensures keeps { Goes (λ _. Attached) (D.seen link.old) (D.seen link.new) result }
 {
     match ask(link, halted, number)? {
         Some(value) => Ok(Line::Register(number, value)),
@@ -90,16 +77,11 @@ pub(crate) fn written_register_line<D: Dmi>(
     value: u64,
 ) -> Result<Line, Failure>
     requires of { IsOfCores number }
-    requires serving { ServingHalted halted.now.number (D.far link.old) (D.is_alive link.old) }
+    requires serving { AttachedHalted halted.now.number (D.seen link.old) }
     ensures went { IfOk result (λ line. Went (at_written_register halted.now.number number value) (ends_with (said_by line)) []
-        (tells (D.far link.old) (D.script link.old)) (tells (D.far link.new) (D.script link.new))) }
-    ensures falls { IfErr result (Falls (at_written_register halted.now.number number value) [] (D.fault_count link.old) (D.fault_count link.new)
-        (tells (D.far link.old) (D.script link.old)) (tells (D.far link.new) (D.script link.new))) }
-    ensures serving { OnOk result (Serving (D.far link.new) (D.is_alive link.new)) }
-    ensures left { IfErr result (LeftBy (D.far link.new)) }
-    ensures later { D.fault_count link.old ≤ D.fault_count link.new }
-    ensures slack { D.slack link.new ≡ D.slack link.old }
-    ensures ties { D.ties link.new ≡ D.ties link.old }
+        (told (D.seen link.old)) (told (D.seen link.new))) }
+    ensures falls { IfErr result (Fails (Falls (at_written_register halted.now.number number value) []) (D.seen link.old) (D.seen link.new)) }
+    ensures keeps { Goes (λ _. Attached) (D.seen link.old) (D.seen link.new) result }
 {
     if !give(link, halted, number, value)? {
         return Ok(Line::RegisterRefused(number));
@@ -128,17 +110,12 @@ pub(crate) fn ebreak_line<D: Dmi>(
     halted: &Halted,
     is_on: bool,
 ) -> Result<Line, Failure>
-    requires serving { ServingHalted halted.now.number (D.far link.old) (D.is_alive link.old) }
+    requires serving { AttachedHalted halted.now.number (D.seen link.old) }
     ensures went { IfOk result
-        (λ line. Went (at_ebreak halted.now.number is_on) (ends_with (said_by line)) [] (tells (D.far link.old) (D.script link.old))
-        (tells (D.far link.new) (D.script link.new))) }
-    ensures falls { IfErr result (Falls (at_ebreak halted.now.number is_on) [] (D.fault_count link.old) (D.fault_count link.new)
-        (tells (D.far link.old) (D.script link.old)) (tells (D.far link.new) (D.script link.new))) }
-    ensures serving { OnOk result (Serving (D.far link.new) (D.is_alive link.new)) }
-    ensures left { IfErr result (LeftBy (D.far link.new)) }
-    ensures later { D.fault_count link.old ≤ D.fault_count link.new }
-    ensures slack { D.slack link.new ≡ D.slack link.old }
-    ensures ties { D.ties link.new ≡ D.ties link.old }
+        (λ line. Went (at_ebreak halted.now.number is_on) (ends_with (said_by line)) [] (told (D.seen link.old))
+        (told (D.seen link.new))) }
+    ensures falls { IfErr result (Fails (Falls (at_ebreak halted.now.number is_on) []) (D.seen link.old) (D.seen link.new)) }
+    ensures keeps { Goes (λ _. Attached) (D.seen link.old) (D.seen link.new) result }
 {
     let word = get(link, halted, register_number::DCSR)?;
     set(
@@ -157,17 +134,12 @@ pub(crate) fn armed_line<D: Dmi>(
     what: SlotUse,
 ) -> Result<Line, Failure>
     requires can { CanArm what }
-    requires serving { ServingHalted halted.now.number (D.far link.old) (D.is_alive link.old) }
+    requires serving { AttachedHalted halted.now.number (D.seen link.old) }
     ensures went { IfOk result
-        (λ line. Went (at_arming halted.now.number (what_of what)) (ends_with (said_by line)) [] (tells (D.far link.old) (D.script link.old))
-        (tells (D.far link.new) (D.script link.new))) }
-    ensures falls { IfErr result (Falls (at_arming halted.now.number (what_of what)) [] (D.fault_count link.old) (D.fault_count link.new)
-        (tells (D.far link.old) (D.script link.old)) (tells (D.far link.new) (D.script link.new))) }
-    ensures serving { OnOk result (Serving (D.far link.new) (D.is_alive link.new)) }
-    ensures left { IfErr result (LeftBy (D.far link.new)) }
-    ensures later { D.fault_count link.old ≤ D.fault_count link.new }
-    ensures slack { D.slack link.new ≡ D.slack link.old }
-    ensures ties { D.ties link.new ≡ D.ties link.old }
+        (λ line. Went (at_arming halted.now.number (what_of what)) (ends_with (said_by line)) [] (told (D.seen link.old))
+        (told (D.seen link.new))) }
+    ensures falls { IfErr result (Fails (Falls (at_arming halted.now.number (what_of what)) []) (D.seen link.old) (D.seen link.new)) }
+    ensures keeps { Goes (λ _. Attached) (D.seen link.old) (D.seen link.new) result }
 {
     match take_slot(link, halted, what)? {
         Some(slot) => Ok(Line::Slot(slot, what, false)),
@@ -178,17 +150,12 @@ pub(crate) fn armed_line<D: Dmi>(
 /// Frees a slot.
 pub(crate) fn freed_line<D: Dmi>(link: &mut D, halted: &Halted, slot: u8) -> Result<Line, Failure>
     requires slot { slot < 4 }
-    requires serving { ServingHalted halted.now.number (D.far link.old) (D.is_alive link.old) }
+    requires serving { AttachedHalted halted.now.number (D.seen link.old) }
     ensures went { IfOk result
-        (λ line. Went (at_freeing halted.now.number slot) (ends_with (said_by line)) [] (tells (D.far link.old) (D.script link.old))
-        (tells (D.far link.new) (D.script link.new))) }
-    ensures falls { IfErr result (Falls (at_freeing halted.now.number slot) [] (D.fault_count link.old) (D.fault_count link.new)
-        (tells (D.far link.old) (D.script link.old)) (tells (D.far link.new) (D.script link.new))) }
-    ensures serving { OnOk result (Serving (D.far link.new) (D.is_alive link.new)) }
-    ensures left { IfErr result (LeftBy (D.far link.new)) }
-    ensures later { D.fault_count link.old ≤ D.fault_count link.new }
-    ensures slack { D.slack link.new ≡ D.slack link.old }
-    ensures ties { D.ties link.new ≡ D.ties link.old }
+        (λ line. Went (at_freeing halted.now.number slot) (ends_with (said_by line)) [] (told (D.seen link.old))
+        (told (D.seen link.new))) }
+    ensures falls { IfErr result (Fails (Falls (at_freeing halted.now.number slot) []) (D.seen link.old) (D.seen link.new)) }
+    ensures keeps { Goes (λ _. Attached) (D.seen link.old) (D.seen link.new) result }
 {
     if free_slot(link, halted, slot)? {
         Ok(Line::Slot(slot, SlotUse::Free, false))

@@ -1,12 +1,12 @@
 //! The commands of one line, by their kind.
 
-ghost use Rattle.std.specs.Prelude.{◌≡◌, ◌≤◌, ◌<◌, ◌^◌, [], true, false, IfOk, IfErr, IsTrue, OnOk};
-ghost use Rattle.probe_run.specs.Acts.{tells};
+ghost use Rattle.std.specs.Prelude.{[], IfOk, IfErr, IsTrue};
 ghost use Rattle.debug_model.specs.Command.{IsWithinRanges};
 ghost use Rattle.probe_session.specs.Commands.{at_line, before, is_one_line, state_of};
 ghost use Rattle.probe_session.specs.Goes.{Falls, Went};
-ghost use Rattle.probe_session.specs.Links.{LeftBy, Serving};
+ghost use Rattle.probe_session.specs.Links.{Attached, Goes};
 ghost use Rattle.probe_session.specs.Said.{said_by};
+ghost use Rattle.probe_run.specs.Told.{told, Fails};
 
 use crate::fault::Failure;
 use crate::identity::idcode_line;
@@ -23,16 +23,11 @@ impl Session {
     ) -> Result<Line, Failure>
         requires within { IsWithinRanges command }
         requires one { IsTrue (is_one_line command) }
-        requires serving { Serving (D.far link.old) (D.is_alive link.old) }
+        requires serving { Attached (D.seen link.old) }
         ensures went { IfOk result (λ line. Went (before command (state_of self.old)) (at_line (said_by line) (state_of self.new)) []
-            (tells (D.far link.old) (D.script link.old)) (tells (D.far link.new) (D.script link.new))) }
-        ensures falls { IfErr result (Falls (before command (state_of self.old)) [] (D.fault_count link.old) (D.fault_count link.new)
-            (tells (D.far link.old) (D.script link.old)) (tells (D.far link.new) (D.script link.new))) }
-        ensures serving { OnOk result (Serving (D.far link.new) (D.is_alive link.new)) }
-        ensures left { IfErr result (LeftBy (D.far link.new)) }
-        ensures later { D.fault_count link.old ≤ D.fault_count link.new }
-        ensures slack { D.slack link.new ≡ D.slack link.old }
-        ensures ties { D.ties link.new ≡ D.ties link.old }
+            (told (D.seen link.old)) (told (D.seen link.new))) }
+        ensures falls { IfErr result (Fails (Falls (before command (state_of self.old)) []) (D.seen link.old) (D.seen link.new)) }
+        ensures keeps { Goes (λ _. Attached) (D.seen link.old) (D.seen link.new) result }
     {
         match command {
             Command::Idcode => idcode_line(link),

@@ -1,9 +1,9 @@
-ghost use Rattle.std.specs.Prelude.{◌≡◌, ◌≤◌, ◌<◌, ◌^◌, true, IfOk, IfErr, OnOk};
-ghost use Rattle.probe_run.specs.Acts.{tells};
+ghost use Rattle.std.specs.Prelude.{◌≡◌, true, IfOk, IfErr};
 ghost use Rattle.rv_model.specs.Memory.{is_aligned};
 ghost use Rattle.probe_session.specs.Calls.{LoadFell, StoreFell};
-ghost use Rattle.probe_session.specs.Links.{LeftBy, Serving, ServingHalted};
+ghost use Rattle.probe_session.specs.Links.{Attached, AttachedHalted, Goes};
 ghost use Rattle.probe_session.specs.Answers.{LoadedAs, StoredAs};
+ghost use Rattle.probe_run.specs.Told.{told, Fails};
 
 use crate::fault::{Failure, lost_by};
 use debug_model::Dmi;
@@ -18,16 +18,11 @@ pub(crate) fn fetch<D: Dmi>(
     size: Size,
     address: u64,
 ) -> Result<Option<u64>, Failure>
-    requires serving { ServingHalted halted.now.number (D.far link.old) (D.is_alive link.old) }
+    requires serving { AttachedHalted halted.now.number (D.seen link.old) }
     requires aligned { is_aligned address size ≡ true }
-    ensures loaded { IfOk result (LoadedAs size address (tells (D.far link.old) (D.script link.old)) (tells (D.far link.new) (D.script link.new))) }
-    ensures fell { IfErr result (LoadFell size address (D.fault_count link.old) (D.fault_count link.new) (tells (D.far link.old) (D.script link.old))
-        (tells (D.far link.new) (D.script link.new))) }
-    ensures serving { OnOk result (ServingHalted halted.now.number (D.far link.new) (D.is_alive link.new)) }
-    ensures left { IfErr result (LeftBy (D.far link.new)) }
-    ensures later { D.fault_count link.old ≤ D.fault_count link.new }
-    ensures slack { D.slack link.new ≡ D.slack link.old }
-    ensures ties { D.ties link.new ≡ D.ties link.old }
+    ensures loaded { IfOk result (LoadedAs size address (told (D.seen link.old)) (told (D.seen link.new))) }
+    ensures fell { IfErr result (Fails (LoadFell size address) (D.seen link.old) (D.seen link.new)) }
+    ensures keeps { Goes (λ _. AttachedHalted halted.now.number) (D.seen link.old) (D.seen link.new) result }
 {
     match load(link, halted, size, address) {
         Ok(value) => Ok(Some(cut_to(size, value))),
@@ -44,17 +39,11 @@ pub(crate) fn keep<D: Dmi>(
     address: u64,
     value: u64,
 ) -> Result<bool, Failure>
-    requires serving { ServingHalted halted.now.number (D.far link.old) (D.is_alive link.old) }
+    requires serving { AttachedHalted halted.now.number (D.seen link.old) }
     requires aligned { is_aligned address size ≡ true }
-    ensures stored { IfOk result (StoredAs size address value (tells (D.far link.old) (D.script link.old)) (tells (D.far link.new) (D.script link.new))) }
-    ensures fell { IfErr result
-        (StoreFell size address value (D.fault_count link.old) (D.fault_count link.new) (tells (D.far link.old) (D.script link.old))
-        (tells (D.far link.new) (D.script link.new))) }
-    ensures serving { OnOk result (ServingHalted halted.now.number (D.far link.new) (D.is_alive link.new)) }
-    ensures left { IfErr result (LeftBy (D.far link.new)) }
-    ensures later { D.fault_count link.old ≤ D.fault_count link.new }
-    ensures slack { D.slack link.new ≡ D.slack link.old }
-    ensures ties { D.ties link.new ≡ D.ties link.old }
+    ensures stored { IfOk result (StoredAs size address value (told (D.seen link.old)) (told (D.seen link.new))) }
+    ensures fell { IfErr result (Fails (StoreFell size address value) (D.seen link.old) (D.seen link.new)) }
+    ensures keeps { Goes (λ _. AttachedHalted halted.now.number) (D.seen link.old) (D.seen link.new) result }
 {
     match store(link, halted, size, address, value) {
         Ok(()) => Ok(true),
@@ -69,16 +58,11 @@ pub(crate) fn bus_fetch<D: Dmi>(
     size: Size,
     address: u64,
 ) -> Result<Option<u64>, Failure>
-    requires serving { Serving (D.far link.old) (D.is_alive link.old) }
+    requires serving { Attached (D.seen link.old) }
     requires aligned { is_aligned address size ≡ true }
-    ensures loaded { IfOk result (LoadedAs size address (tells (D.far link.old) (D.script link.old)) (tells (D.far link.new) (D.script link.new))) }
-    ensures fell { IfErr result (LoadFell size address (D.fault_count link.old) (D.fault_count link.new) (tells (D.far link.old) (D.script link.old))
-        (tells (D.far link.new) (D.script link.new))) }
-    ensures serving { OnOk result (Serving (D.far link.new) (D.is_alive link.new)) }
-    ensures left { IfErr result (LeftBy (D.far link.new)) }
-    ensures later { D.fault_count link.old ≤ D.fault_count link.new }
-    ensures slack { D.slack link.new ≡ D.slack link.old }
-    ensures ties { D.ties link.new ≡ D.ties link.old }
+    ensures loaded { IfOk result (LoadedAs size address (told (D.seen link.old)) (told (D.seen link.new))) }
+    ensures fell { IfErr result (Fails (LoadFell size address) (D.seen link.old) (D.seen link.new)) }
+    ensures keeps { Goes (λ _. Attached) (D.seen link.old) (D.seen link.new) result }
 {
     match bus_load(link, size, address) {
         Ok(value) => Ok(Some(value)),
@@ -94,17 +78,11 @@ pub(crate) fn bus_keep<D: Dmi>(
     address: u64,
     value: u64,
 ) -> Result<bool, Failure>
-    requires serving { Serving (D.far link.old) (D.is_alive link.old) }
+    requires serving { Attached (D.seen link.old) }
     requires aligned { is_aligned address size ≡ true }
-    ensures stored { IfOk result (StoredAs size address value (tells (D.far link.old) (D.script link.old)) (tells (D.far link.new) (D.script link.new))) }
-    ensures fell { IfErr result
-        (StoreFell size address value (D.fault_count link.old) (D.fault_count link.new) (tells (D.far link.old) (D.script link.old))
-        (tells (D.far link.new) (D.script link.new))) }
-    ensures serving { OnOk result (Serving (D.far link.new) (D.is_alive link.new)) }
-    ensures left { IfErr result (LeftBy (D.far link.new)) }
-    ensures later { D.fault_count link.old ≤ D.fault_count link.new }
-    ensures slack { D.slack link.new ≡ D.slack link.old }
-    ensures ties { D.ties link.new ≡ D.ties link.old }
+    ensures stored { IfOk result (StoredAs size address value (told (D.seen link.old)) (told (D.seen link.new))) }
+    ensures fell { IfErr result (Fails (StoreFell size address value) (D.seen link.old) (D.seen link.new)) }
+    ensures keeps { Goes (λ _. Attached) (D.seen link.old) (D.seen link.new) result }
 {
     match bus_store(link, size, address, value) {
         Ok(()) => Ok(true),

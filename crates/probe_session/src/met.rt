@@ -1,8 +1,8 @@
-ghost use Rattle.std.specs.Prelude.{◌≡◌, ◌≤◌, ◌<◌, ◌^◌, [], true, IfOk, IfErr, OnOk};
-ghost use Rattle.probe_run.specs.Acts.{tells};
+ghost use Rattle.std.specs.Prelude.{◌<◌, ◌^◌, [], IfOk, IfErr};
 ghost use Rattle.probe_session.specs.Goes.{Falls};
-ghost use Rattle.probe_session.specs.Links.{LeftBy, Serving};
-ghost use Rattle.probe_session.specs.Met.{MetAs, ServingMet, before_look};
+ghost use Rattle.probe_session.specs.Links.{Attached, Goes};
+ghost use Rattle.probe_session.specs.Met.{MetAs, AttachedMet, before_look};
+ghost use Rattle.probe_run.specs.Told.{told, Fails};
 
 use crate::fault::Failure;
 use crate::looks::see;
@@ -22,16 +22,10 @@ pub(crate) enum Met {
 /// The Look of a command for a halted hart.
 pub(crate) fn meet<D: Dmi>(link: &mut D, target: &Target, hart: u16) -> Result<Met, Failure>
     requires hart { hart < 2 ^ 10 }
-    requires serving { Serving (D.far link.old) (D.is_alive link.old) }
-    ensures met { IfOk result (MetAs hart (tells (D.far link.old) (D.script link.old)) (tells (D.far link.new) (D.script link.new))) }
-    ensures falls { IfErr result
-        (Falls (before_look hart) [] (D.fault_count link.old) (D.fault_count link.new) (tells (D.far link.old) (D.script link.old))
-        (tells (D.far link.new) (D.script link.new))) }
-    ensures serving { IfOk result (ServingMet (D.far link.new) (D.is_alive link.new)) }
-    ensures left { IfErr result (LeftBy (D.far link.new)) }
-    ensures later { D.fault_count link.old ≤ D.fault_count link.new }
-    ensures slack { D.slack link.new ≡ D.slack link.old }
-    ensures ties { D.ties link.new ≡ D.ties link.old }
+    requires serving { Attached (D.seen link.old) }
+    ensures met { IfOk result (MetAs hart (told (D.seen link.old)) (told (D.seen link.new))) }
+    ensures falls { IfErr result (Fails (Falls (before_look hart) []) (D.seen link.old) (D.seen link.new)) }
+    ensures keeps { Goes AttachedMet (D.seen link.old) (D.seen link.new) result }
 {
     match see(link, target, hart)? {
         Seen::Absent => Ok(Met::Says(Line::NoHart(hart))),

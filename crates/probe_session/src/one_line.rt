@@ -1,7 +1,6 @@
 //! The commands of one line.
 
-ghost use Rattle.std.specs.Prelude.{◌≡◌, ◌≤◌, ◌<◌, ◌^◌, [], true, false, IfOk, IfErr, IsTrue, OnOk};
-ghost use Rattle.probe_run.specs.Acts.{tells};
+ghost use Rattle.std.specs.Prelude.{◌≡◌, ◌≤◌, ◌<◌, ◌^◌, [], IfOk, IfErr, IsTrue};
 ghost use Rattle.debug_model.specs.Command.{IsBlock, last_slot, most_turns};
 ghost use Rattle.abstract_debugger.specs.Lines.Line.{Via};
 ghost use Rattle.rv_model.specs.Size.{count_of};
@@ -9,8 +8,9 @@ ghost use Rattle.debug_model.specs.Registers.{is_register};
 ghost use Rattle.debug_model.specs.declared.command.Command.TheVariants as command;
 ghost use Rattle.probe_session.specs.Commands.{at_line, before, state_of};
 ghost use Rattle.probe_session.specs.Goes.{Falls, Went};
-ghost use Rattle.probe_session.specs.Links.{LeftBy, Serving};
+ghost use Rattle.probe_session.specs.Links.{Attached, Goes};
 ghost use Rattle.probe_session.specs.Said.{said_by};
+ghost use Rattle.probe_run.specs.Told.{told, Fails};
 
 use crate::fault::Failure;
 use crate::going::{let_go_line, stepped_line};
@@ -32,16 +32,11 @@ impl Session {
     /// Selects a hart, from 0 to 1023; one that is not there is not selected.
     pub(crate) fn select<D: Dmi>(&mut self, link: &mut D, hart: u16) -> Result<Line, Failure>
         requires hart { hart < 2 ^ 10 }
-        requires serving { Serving (D.far link.old) (D.is_alive link.old) }
+        requires serving { Attached (D.seen link.old) }
         ensures went { IfOk result (λ line. Went (before (command.Hart hart) (state_of self.old)) (at_line (said_by line) (state_of self.new)) []
-            (tells (D.far link.old) (D.script link.old)) (tells (D.far link.new) (D.script link.new))) }
-        ensures falls { IfErr result (Falls (before (command.Hart hart) (state_of self.old)) [] (D.fault_count link.old) (D.fault_count link.new)
-            (tells (D.far link.old) (D.script link.old)) (tells (D.far link.new) (D.script link.new))) }
-        ensures serving { OnOk result (Serving (D.far link.new) (D.is_alive link.new)) }
-        ensures left { IfErr result (LeftBy (D.far link.new)) }
-        ensures later { D.fault_count link.old ≤ D.fault_count link.new }
-        ensures slack { D.slack link.new ≡ D.slack link.old }
-        ensures ties { D.ties link.new ≡ D.ties link.old }
+            (told (D.seen link.old)) (told (D.seen link.new))) }
+        ensures falls { IfErr result (Fails (Falls (before (command.Hart hart) (state_of self.old)) []) (D.seen link.old) (D.seen link.new)) }
+        ensures keeps { Goes (λ _. Attached) (D.seen link.old) (D.seen link.new) result }
     {
         match see(link, &self.target, hart)? {
             Seen::Absent => Ok(Line::NoHart(hart)),
@@ -58,16 +53,11 @@ impl Session {
 
     /// Says where the hart stands, or that it runs.
     pub(crate) fn state<D: Dmi>(&self, link: &mut D) -> Result<Line, Failure>
-        requires serving { Serving (D.far link.old) (D.is_alive link.old) }
+        requires serving { Attached (D.seen link.old) }
         ensures went { IfOk result (λ line. Went (before (command.State) (state_of self.now)) (at_line (said_by line) (state_of self.now)) []
-            (tells (D.far link.old) (D.script link.old)) (tells (D.far link.new) (D.script link.new))) }
-        ensures falls { IfErr result (Falls (before (command.State) (state_of self.now)) [] (D.fault_count link.old) (D.fault_count link.new)
-            (tells (D.far link.old) (D.script link.old)) (tells (D.far link.new) (D.script link.new))) }
-        ensures serving { OnOk result (Serving (D.far link.new) (D.is_alive link.new)) }
-        ensures left { IfErr result (LeftBy (D.far link.new)) }
-        ensures later { D.fault_count link.old ≤ D.fault_count link.new }
-        ensures slack { D.slack link.new ≡ D.slack link.old }
-        ensures ties { D.ties link.new ≡ D.ties link.old }
+            (told (D.seen link.old)) (told (D.seen link.new))) }
+        ensures falls { IfErr result (Fails (Falls (before (command.State) (state_of self.now)) []) (D.seen link.old) (D.seen link.new)) }
+        ensures keeps { Goes (λ _. Attached) (D.seen link.old) (D.seen link.new) result }
     {
         match see(link, &self.target, self.hart)? {
             Seen::Absent => Ok(Line::NoHart(self.hart)),
@@ -78,16 +68,11 @@ impl Session {
 
     /// Halts the hart, and says where it stands.
     pub(crate) fn halt<D: Dmi>(&self, link: &mut D) -> Result<Line, Failure>
-        requires serving { Serving (D.far link.old) (D.is_alive link.old) }
+        requires serving { Attached (D.seen link.old) }
         ensures went { IfOk result (λ line. Went (before (command.Halt) (state_of self.now)) (at_line (said_by line) (state_of self.now)) []
-            (tells (D.far link.old) (D.script link.old)) (tells (D.far link.new) (D.script link.new))) }
-        ensures falls { IfErr result (Falls (before (command.Halt) (state_of self.now)) [] (D.fault_count link.old) (D.fault_count link.new)
-            (tells (D.far link.old) (D.script link.old)) (tells (D.far link.new) (D.script link.new))) }
-        ensures serving { OnOk result (Serving (D.far link.new) (D.is_alive link.new)) }
-        ensures left { IfErr result (LeftBy (D.far link.new)) }
-        ensures later { D.fault_count link.old ≤ D.fault_count link.new }
-        ensures slack { D.slack link.new ≡ D.slack link.old }
-        ensures ties { D.ties link.new ≡ D.ties link.old }
+            (told (D.seen link.old)) (told (D.seen link.new))) }
+        ensures falls { IfErr result (Fails (Falls (before (command.Halt) (state_of self.now)) []) (D.seen link.old) (D.seen link.new)) }
+        ensures keeps { Goes (λ _. Attached) (D.seen link.old) (D.seen link.new) result }
     {
         match see(link, &self.target, self.hart)? {
             Seen::Absent => Ok(Line::NoHart(self.hart)),
@@ -101,16 +86,11 @@ impl Session {
 
     /// Looks at the hart until it is halted, at most so often, and says where it stands, or that it runs.
     pub(crate) fn wait<D: Dmi>(&self, link: &mut D, looks: u16) -> Result<Line, Failure>
-        requires serving { Serving (D.far link.old) (D.is_alive link.old) }
+        requires serving { Attached (D.seen link.old) }
         ensures went { IfOk result (λ line. Went (before (command.Wait looks) (state_of self.now)) (at_line (said_by line) (state_of self.now)) []
-            (tells (D.far link.old) (D.script link.old)) (tells (D.far link.new) (D.script link.new))) }
-        ensures falls { IfErr result (Falls (before (command.Wait looks) (state_of self.now)) [] (D.fault_count link.old) (D.fault_count link.new)
-            (tells (D.far link.old) (D.script link.old)) (tells (D.far link.new) (D.script link.new))) }
-        ensures serving { OnOk result (Serving (D.far link.new) (D.is_alive link.new)) }
-        ensures left { IfErr result (LeftBy (D.far link.new)) }
-        ensures later { D.fault_count link.old ≤ D.fault_count link.new }
-        ensures slack { D.slack link.new ≡ D.slack link.old }
-        ensures ties { D.ties link.new ≡ D.ties link.old }
+            (told (D.seen link.old)) (told (D.seen link.new))) }
+        ensures falls { IfErr result (Fails (Falls (before (command.Wait looks) (state_of self.now)) []) (D.seen link.old) (D.seen link.new)) }
+        ensures keeps { Goes (λ _. Attached) (D.seen link.old) (D.seen link.new) result }
     {
         'looking: for _look in 0..looks {
             if let Seen::Halted(halted) = see(link, &self.target, self.hart)? {
@@ -123,16 +103,11 @@ impl Session {
     /// Shows a register.
     pub(crate) fn reg<D: Dmi>(&self, link: &mut D, name: RegName) -> Result<Line, Failure>
         requires known { IsTrue (is_register name.0) }
-        requires serving { Serving (D.far link.old) (D.is_alive link.old) }
+        requires serving { Attached (D.seen link.old) }
         ensures went { IfOk result (λ line. Went (before (command.Reg name) (state_of self.now)) (at_line (said_by line) (state_of self.now)) []
-            (tells (D.far link.old) (D.script link.old)) (tells (D.far link.new) (D.script link.new))) }
-        ensures falls { IfErr result (Falls (before (command.Reg name) (state_of self.now)) [] (D.fault_count link.old) (D.fault_count link.new)
-            (tells (D.far link.old) (D.script link.old)) (tells (D.far link.new) (D.script link.new))) }
-        ensures serving { OnOk result (Serving (D.far link.new) (D.is_alive link.new)) }
-        ensures left { IfErr result (LeftBy (D.far link.new)) }
-        ensures later { D.fault_count link.old ≤ D.fault_count link.new }
-        ensures slack { D.slack link.new ≡ D.slack link.old }
-        ensures ties { D.ties link.new ≡ D.ties link.old }
+            (told (D.seen link.old)) (told (D.seen link.new))) }
+        ensures falls { IfErr result (Fails (Falls (before (command.Reg name) (state_of self.now)) []) (D.seen link.old) (D.seen link.new)) }
+        ensures keeps { Goes (λ _. Attached) (D.seen link.old) (D.seen link.new) result }
     {
         match meet(link, &self.target, self.hart)? {
             Met::Says(line) => Ok(line),
@@ -148,18 +123,12 @@ impl Session {
         value: u64,
     ) -> Result<Line, Failure>
         requires known { IsTrue (is_register name.0) }
-        requires serving { Serving (D.far link.old) (D.is_alive link.old) }
+        requires serving { Attached (D.seen link.old) }
         ensures went { IfOk result
             (λ line. Went (before (command.SetReg name value) (state_of self.now)) (at_line (said_by line) (state_of self.now)) []
-            (tells (D.far link.old) (D.script link.old)) (tells (D.far link.new) (D.script link.new))) }
-        ensures falls { IfErr result
-            (Falls (before (command.SetReg name value) (state_of self.now)) [] (D.fault_count link.old) (D.fault_count link.new)
-            (tells (D.far link.old) (D.script link.old)) (tells (D.far link.new) (D.script link.new))) }
-        ensures serving { OnOk result (Serving (D.far link.new) (D.is_alive link.new)) }
-        ensures left { IfErr result (LeftBy (D.far link.new)) }
-        ensures later { D.fault_count link.old ≤ D.fault_count link.new }
-        ensures slack { D.slack link.new ≡ D.slack link.old }
-        ensures ties { D.ties link.new ≡ D.ties link.old }
+            (told (D.seen link.old)) (told (D.seen link.new))) }
+        ensures falls { IfErr result (Fails (Falls (before (command.SetReg name value) (state_of self.now)) []) (D.seen link.old) (D.seen link.new)) }
+        ensures keeps { Goes (λ _. Attached) (D.seen link.old) (D.seen link.new) result }
     {
         match meet(link, &self.target, self.hart)? {
             Met::Says(line) => Ok(line),
@@ -169,16 +138,11 @@ impl Session {
 
     /// Sets whether the hart's ebreak halts it.
     pub(crate) fn ebreak<D: Dmi>(&self, link: &mut D, is_on: bool) -> Result<Line, Failure>
-        requires serving { Serving (D.far link.old) (D.is_alive link.old) }
+        requires serving { Attached (D.seen link.old) }
         ensures went { IfOk result (λ line. Went (before (command.Ebreak is_on) (state_of self.now)) (at_line (said_by line) (state_of self.now)) []
-            (tells (D.far link.old) (D.script link.old)) (tells (D.far link.new) (D.script link.new))) }
-        ensures falls { IfErr result (Falls (before (command.Ebreak is_on) (state_of self.now)) [] (D.fault_count link.old) (D.fault_count link.new)
-            (tells (D.far link.old) (D.script link.old)) (tells (D.far link.new) (D.script link.new))) }
-        ensures serving { OnOk result (Serving (D.far link.new) (D.is_alive link.new)) }
-        ensures left { IfErr result (LeftBy (D.far link.new)) }
-        ensures later { D.fault_count link.old ≤ D.fault_count link.new }
-        ensures slack { D.slack link.new ≡ D.slack link.old }
-        ensures ties { D.ties link.new ≡ D.ties link.old }
+            (told (D.seen link.old)) (told (D.seen link.new))) }
+        ensures falls { IfErr result (Fails (Falls (before (command.Ebreak is_on) (state_of self.now)) []) (D.seen link.old) (D.seen link.new)) }
+        ensures keeps { Goes (λ _. Attached) (D.seen link.old) (D.seen link.new) result }
     {
         match meet(link, &self.target, self.hart)? {
             Met::Says(line) => Ok(line),
@@ -188,16 +152,11 @@ impl Session {
 
     /// Arms a slot that stops the hart before the instruction at an address.
     pub(crate) fn break_at<D: Dmi>(&self, link: &mut D, address: u64) -> Result<Line, Failure>
-        requires serving { Serving (D.far link.old) (D.is_alive link.old) }
+        requires serving { Attached (D.seen link.old) }
         ensures went { IfOk result (λ line. Went (before (command.Break address) (state_of self.now)) (at_line (said_by line) (state_of self.now)) []
-            (tells (D.far link.old) (D.script link.old)) (tells (D.far link.new) (D.script link.new))) }
-        ensures falls { IfErr result (Falls (before (command.Break address) (state_of self.now)) [] (D.fault_count link.old) (D.fault_count link.new)
-            (tells (D.far link.old) (D.script link.old)) (tells (D.far link.new) (D.script link.new))) }
-        ensures serving { OnOk result (Serving (D.far link.new) (D.is_alive link.new)) }
-        ensures left { IfErr result (LeftBy (D.far link.new)) }
-        ensures later { D.fault_count link.old ≤ D.fault_count link.new }
-        ensures slack { D.slack link.new ≡ D.slack link.old }
-        ensures ties { D.ties link.new ≡ D.ties link.old }
+            (told (D.seen link.old)) (told (D.seen link.new))) }
+        ensures falls { IfErr result (Fails (Falls (before (command.Break address) (state_of self.now)) []) (D.seen link.old) (D.seen link.new)) }
+        ensures keeps { Goes (λ _. Attached) (D.seen link.old) (D.seen link.new) result }
     {
         match meet(link, &self.target, self.hart)? {
             Met::Says(line) => Ok(line),
@@ -212,18 +171,12 @@ impl Session {
         kind: WatchKind,
         address: u64,
     ) -> Result<Line, Failure>
-        requires serving { Serving (D.far link.old) (D.is_alive link.old) }
+        requires serving { Attached (D.seen link.old) }
         ensures went { IfOk result
             (λ line. Went (before (command.Watch kind address) (state_of self.now)) (at_line (said_by line) (state_of self.now)) []
-            (tells (D.far link.old) (D.script link.old)) (tells (D.far link.new) (D.script link.new))) }
-        ensures falls { IfErr result
-            (Falls (before (command.Watch kind address) (state_of self.now)) [] (D.fault_count link.old) (D.fault_count link.new)
-            (tells (D.far link.old) (D.script link.old)) (tells (D.far link.new) (D.script link.new))) }
-        ensures serving { OnOk result (Serving (D.far link.new) (D.is_alive link.new)) }
-        ensures left { IfErr result (LeftBy (D.far link.new)) }
-        ensures later { D.fault_count link.old ≤ D.fault_count link.new }
-        ensures slack { D.slack link.new ≡ D.slack link.old }
-        ensures ties { D.ties link.new ≡ D.ties link.old }
+            (told (D.seen link.old)) (told (D.seen link.new))) }
+        ensures falls { IfErr result (Fails (Falls (before (command.Watch kind address) (state_of self.now)) []) (D.seen link.old) (D.seen link.new)) }
+        ensures keeps { Goes (λ _. Attached) (D.seen link.old) (D.seen link.new) result }
     {
         match meet(link, &self.target, self.hart)? {
             Met::Says(line) => Ok(line),
@@ -234,16 +187,11 @@ impl Session {
     /// Arms a slot that stops the hart behind so many executed turns, from 1 to 16,383.
     pub(crate) fn count<D: Dmi>(&self, link: &mut D, turns: u16) -> Result<Line, Failure>
         requires turns { (1 ≤ turns) × (turns ≤ most_turns) }
-        requires serving { Serving (D.far link.old) (D.is_alive link.old) }
+        requires serving { Attached (D.seen link.old) }
         ensures went { IfOk result (λ line. Went (before (command.Count turns) (state_of self.now)) (at_line (said_by line) (state_of self.now)) []
-            (tells (D.far link.old) (D.script link.old)) (tells (D.far link.new) (D.script link.new))) }
-        ensures falls { IfErr result (Falls (before (command.Count turns) (state_of self.now)) [] (D.fault_count link.old) (D.fault_count link.new)
-            (tells (D.far link.old) (D.script link.old)) (tells (D.far link.new) (D.script link.new))) }
-        ensures serving { OnOk result (Serving (D.far link.new) (D.is_alive link.new)) }
-        ensures left { IfErr result (LeftBy (D.far link.new)) }
-        ensures later { D.fault_count link.old ≤ D.fault_count link.new }
-        ensures slack { D.slack link.new ≡ D.slack link.old }
-        ensures ties { D.ties link.new ≡ D.ties link.old }
+            (told (D.seen link.old)) (told (D.seen link.new))) }
+        ensures falls { IfErr result (Fails (Falls (before (command.Count turns) (state_of self.now)) []) (D.seen link.old) (D.seen link.new)) }
+        ensures keeps { Goes (λ _. Attached) (D.seen link.old) (D.seen link.new) result }
     {
         match meet(link, &self.target, self.hart)? {
             Met::Says(line) => Ok(line),
@@ -254,16 +202,11 @@ impl Session {
     /// Frees a slot, from 0 to 3.
     pub(crate) fn clear<D: Dmi>(&self, link: &mut D, slot: u8) -> Result<Line, Failure>
         requires slot { slot ≤ last_slot }
-        requires serving { Serving (D.far link.old) (D.is_alive link.old) }
+        requires serving { Attached (D.seen link.old) }
         ensures went { IfOk result (λ line. Went (before (command.Clear slot) (state_of self.now)) (at_line (said_by line) (state_of self.now)) []
-            (tells (D.far link.old) (D.script link.old)) (tells (D.far link.new) (D.script link.new))) }
-        ensures falls { IfErr result (Falls (before (command.Clear slot) (state_of self.now)) [] (D.fault_count link.old) (D.fault_count link.new)
-            (tells (D.far link.old) (D.script link.old)) (tells (D.far link.new) (D.script link.new))) }
-        ensures serving { OnOk result (Serving (D.far link.new) (D.is_alive link.new)) }
-        ensures left { IfErr result (LeftBy (D.far link.new)) }
-        ensures later { D.fault_count link.old ≤ D.fault_count link.new }
-        ensures slack { D.slack link.new ≡ D.slack link.old }
-        ensures ties { D.ties link.new ≡ D.ties link.old }
+            (told (D.seen link.old)) (told (D.seen link.new))) }
+        ensures falls { IfErr result (Fails (Falls (before (command.Clear slot) (state_of self.now)) []) (D.seen link.old) (D.seen link.new)) }
+        ensures keeps { Goes (λ _. Attached) (D.seen link.old) (D.seen link.new) result }
     {
         match meet(link, &self.target, self.hart)? {
             Met::Says(line) => Ok(line),
@@ -273,16 +216,11 @@ impl Session {
 
     /// Makes up to so many single steps, and says where the hart stands.
     pub(crate) fn step<D: Dmi>(&self, link: &mut D, count: u16) -> Result<Line, Failure>
-        requires serving { Serving (D.far link.old) (D.is_alive link.old) }
+        requires serving { Attached (D.seen link.old) }
         ensures went { IfOk result (λ line. Went (before (command.Step count) (state_of self.now)) (at_line (said_by line) (state_of self.now)) []
-            (tells (D.far link.old) (D.script link.old)) (tells (D.far link.new) (D.script link.new))) }
-        ensures falls { IfErr result (Falls (before (command.Step count) (state_of self.now)) [] (D.fault_count link.old) (D.fault_count link.new)
-            (tells (D.far link.old) (D.script link.old)) (tells (D.far link.new) (D.script link.new))) }
-        ensures serving { OnOk result (Serving (D.far link.new) (D.is_alive link.new)) }
-        ensures left { IfErr result (LeftBy (D.far link.new)) }
-        ensures later { D.fault_count link.old ≤ D.fault_count link.new }
-        ensures slack { D.slack link.new ≡ D.slack link.old }
-        ensures ties { D.ties link.new ≡ D.ties link.old }
+            (told (D.seen link.old)) (told (D.seen link.new))) }
+        ensures falls { IfErr result (Fails (Falls (before (command.Step count) (state_of self.now)) []) (D.seen link.old) (D.seen link.new)) }
+        ensures keeps { Goes (λ _. Attached) (D.seen link.old) (D.seen link.new) result }
     {
         match meet(link, &self.target, self.hart)? {
             Met::Says(line) => Ok(line),
@@ -292,16 +230,11 @@ impl Session {
 
     /// Lets the hart go.
     pub(crate) fn resume<D: Dmi>(&self, link: &mut D) -> Result<Line, Failure>
-        requires serving { Serving (D.far link.old) (D.is_alive link.old) }
+        requires serving { Attached (D.seen link.old) }
         ensures went { IfOk result (λ line. Went (before (command.Resume) (state_of self.now)) (at_line (said_by line) (state_of self.now)) []
-            (tells (D.far link.old) (D.script link.old)) (tells (D.far link.new) (D.script link.new))) }
-        ensures falls { IfErr result (Falls (before (command.Resume) (state_of self.now)) [] (D.fault_count link.old) (D.fault_count link.new)
-            (tells (D.far link.old) (D.script link.old)) (tells (D.far link.new) (D.script link.new))) }
-        ensures serving { OnOk result (Serving (D.far link.new) (D.is_alive link.new)) }
-        ensures left { IfErr result (LeftBy (D.far link.new)) }
-        ensures later { D.fault_count link.old ≤ D.fault_count link.new }
-        ensures slack { D.slack link.new ≡ D.slack link.old }
-        ensures ties { D.ties link.new ≡ D.ties link.old }
+            (told (D.seen link.old)) (told (D.seen link.new))) }
+        ensures falls { IfErr result (Fails (Falls (before (command.Resume) (state_of self.now)) []) (D.seen link.old) (D.seen link.new)) }
+        ensures keeps { Goes (λ _. Attached) (D.seen link.old) (D.seen link.new) result }
     {
         match meet(link, &self.target, self.hart)? {
             Met::Says(line) => Ok(line),
@@ -319,17 +252,12 @@ impl Session {
         count: u16,
     ) -> Result<Line, Failure>
         requires block { IsBlock (count_of size) address count }
-        requires serving { Serving (D.far link.old) (D.is_alive link.old) }
+        requires serving { Attached (D.seen link.old) }
         ensures went { IfOk result
             (λ line. Went (before (command.Write size address value count) (state_of self.now)) (at_line (said_by line) (state_of self.now)) []
-            (tells (D.far link.old) (D.script link.old)) (tells (D.far link.new) (D.script link.new))) }
-        ensures falls { IfErr result (Falls (before (command.Write size address value count) (state_of self.now)) [] (D.fault_count link.old)
-            (D.fault_count link.new) (tells (D.far link.old) (D.script link.old)) (tells (D.far link.new) (D.script link.new))) }
-        ensures serving { OnOk result (Serving (D.far link.new) (D.is_alive link.new)) }
-        ensures left { IfErr result (LeftBy (D.far link.new)) }
-        ensures later { D.fault_count link.old ≤ D.fault_count link.new }
-        ensures slack { D.slack link.new ≡ D.slack link.old }
-        ensures ties { D.ties link.new ≡ D.ties link.old }
+            (told (D.seen link.old)) (told (D.seen link.new))) }
+        ensures falls { IfErr result (Fails (Falls (before (command.Write size address value count) (state_of self.now)) []) (D.seen link.old) (D.seen link.new)) }
+        ensures keeps { Goes (λ _. Attached) (D.seen link.old) (D.seen link.new) result }
     {
         match self.reach(link)? {
             Reached::Says(line) => Ok(line),

@@ -1,14 +1,14 @@
 //! The way on which a command reaches memory.
 
-ghost use Rattle.std.specs.Prelude.{◌≡◌, ◌≤◌, ◌<◌, ◌^◌, [], true, false, IfOk, IfErr, IsTrue, OnOk};
-ghost use Rattle.probe_run.specs.Acts.{tells};
+ghost use Rattle.std.specs.Prelude.{◌≡◌, [], true, IfOk, IfErr};
 ghost use Rattle.rv_model.specs.Memory.{is_aligned};
 ghost use Rattle.probe_session.specs.Answers.{LoadedAs, StoredAs};
 ghost use Rattle.probe_session.specs.Calls.{LoadFell, StoreFell};
 ghost use Rattle.probe_session.specs.Commands.{state_of};
 ghost use Rattle.probe_session.specs.Goes.{Falls};
-ghost use Rattle.probe_session.specs.Links.{LeftBy, Serving};
-ghost use Rattle.probe_session.specs.Reach.{ReachedAs, ServingBy, ServingReached, before_reach};
+ghost use Rattle.probe_session.specs.Links.{Attached, Goes};
+ghost use Rattle.probe_session.specs.Reach.{ReachedAs, AttachedBy, AttachedReached, before_reach};
+ghost use Rattle.probe_run.specs.Told.{told, Fails};
 
 use crate::fault::Failure;
 use crate::memory::{bus_fetch, bus_keep, fetch, keep};
@@ -40,16 +40,11 @@ pub(crate) enum Reached {
 impl Session {
     /// The way to memory that was chosen, with a Look of the hart where that needs one.
     pub(crate) fn reach<D: Dmi>(&self, link: &mut D) -> Result<Reached, Failure>
-        requires serving { Serving (D.far link.old) (D.is_alive link.old) }
+        requires serving { Attached (D.seen link.old) }
         ensures reached { IfOk result
-            (ReachedAs (state_of self.now) (tells (D.far link.old) (D.script link.old)) (tells (D.far link.new) (D.script link.new))) }
-        ensures falls { IfErr result (Falls (before_reach (state_of self.now)) [] (D.fault_count link.old) (D.fault_count link.new)
-            (tells (D.far link.old) (D.script link.old)) (tells (D.far link.new) (D.script link.new))) }
-        ensures serving { IfOk result (ServingReached (D.far link.new) (D.is_alive link.new)) }
-        ensures left { IfErr result (LeftBy (D.far link.new)) }
-        ensures later { D.fault_count link.old ≤ D.fault_count link.new }
-        ensures slack { D.slack link.new ≡ D.slack link.old }
-        ensures ties { D.ties link.new ≡ D.ties link.old }
+            (ReachedAs (state_of self.now) (told (D.seen link.old)) (told (D.seen link.new))) }
+        ensures falls { IfErr result (Fails (Falls (before_reach (state_of self.now)) []) (D.seen link.old) (D.seen link.new)) }
+        ensures keeps { Goes AttachedReached (D.seen link.old) (D.seen link.new) result }
     {
         match self.path {
             Path::Bus => Ok(Reached::By(Reach::Bus)),
@@ -68,16 +63,11 @@ pub(crate) fn load_by<D: Dmi>(
     size: Size,
     address: u64,
 ) -> Result<Option<u64>, Failure>
-    requires serving { ServingBy (D.far link.old) (D.is_alive link.old) reach.now }
+    requires serving { AttachedBy reach.now (D.seen link.old) }
     requires aligned { is_aligned address size ≡ true }
-    ensures loaded { IfOk result (LoadedAs size address (tells (D.far link.old) (D.script link.old)) (tells (D.far link.new) (D.script link.new))) }
-    ensures fell { IfErr result (LoadFell size address (D.fault_count link.old) (D.fault_count link.new) (tells (D.far link.old) (D.script link.old))
-        (tells (D.far link.new) (D.script link.new))) }
-    ensures serving { OnOk result (ServingBy (D.far link.new) (D.is_alive link.new) reach.now) }
-    ensures left { IfErr result (LeftBy (D.far link.new)) }
-    ensures later { D.fault_count link.old ≤ D.fault_count link.new }
-    ensures slack { D.slack link.new ≡ D.slack link.old }
-    ensures ties { D.ties link.new ≡ D.ties link.old }
+    ensures loaded { IfOk result (LoadedAs size address (told (D.seen link.old)) (told (D.seen link.new))) }
+    ensures fell { IfErr result (Fails (LoadFell size address) (D.seen link.old) (D.seen link.new)) }
+    ensures keeps { Goes (λ _. AttachedBy reach.now) (D.seen link.old) (D.seen link.new) result }
 {
     match reach {
         Reach::Hart(halted) => fetch(link, halted, size, address),
@@ -93,17 +83,11 @@ pub(crate) fn store_by<D: Dmi>(
     address: u64,
     value: u64,
 ) -> Result<bool, Failure>
-    requires serving { ServingBy (D.far link.old) (D.is_alive link.old) reach.now }
+    requires serving { AttachedBy reach.now (D.seen link.old) }
     requires aligned { is_aligned address size ≡ true }
-    ensures stored { IfOk result (StoredAs size address value (tells (D.far link.old) (D.script link.old)) (tells (D.far link.new) (D.script link.new))) }
-    ensures fell { IfErr result
-        (StoreFell size address value (D.fault_count link.old) (D.fault_count link.new) (tells (D.far link.old) (D.script link.old))
-        (tells (D.far link.new) (D.script link.new))) }
-    ensures serving { OnOk result (ServingBy (D.far link.new) (D.is_alive link.new) reach.now) }
-    ensures left { IfErr result (LeftBy (D.far link.new)) }
-    ensures later { D.fault_count link.old ≤ D.fault_count link.new }
-    ensures slack { D.slack link.new ≡ D.slack link.old }
-    ensures ties { D.ties link.new ≡ D.ties link.old }
+    ensures stored { IfOk result (StoredAs size address value (told (D.seen link.old)) (told (D.seen link.new))) }
+    ensures fell { IfErr result (Fails (StoreFell size address value) (D.seen link.old) (D.seen link.new)) }
+    ensures keeps { Goes (λ _. AttachedBy reach.now) (D.seen link.old) (D.seen link.new) result }
 {
     match reach {
         Reach::Hart(halted) => keep(link, halted, size, address, value),

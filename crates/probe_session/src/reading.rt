@@ -1,17 +1,17 @@
 //! `read`: elements of memory from an address upwards, a line each.
 
-ghost use Rattle.std.specs.Prelude.{◌≡◌, ◌≤◌, ◌<◌, ◌^◌, [], true, false, IfOk, IfErr, IsTrue, OnOk};
-ghost use Rattle.probe_run.specs.Acts.{tells};
+ghost use Rattle.std.specs.Prelude.{◌≤◌, true, false, IfOk, IfErr};
 ghost use Rattle.debug_model.specs.Command.{IsBlock};
 ghost use Rattle.debug_model.specs.declared.command.Command.TheVariants as command;
 ghost use Rattle.rv_model.specs.Size.{count_of};
 ghost use Rattle.probe_session.specs.Commands.{before, behind, state_of};
 ghost use Rattle.abstract_debugger.specs.Laws.{Quiet};
 ghost use Rattle.probe_session.specs.Goes.{CalmNext, Fell, Spoke};
-ghost use Rattle.probe_session.specs.Links.{LeftBy, Serving};
+ghost use Rattle.probe_session.specs.Links.{Attached, Goes};
 ghost use Rattle.probe_session.specs.Places.{idle};
-ghost use Rattle.probe_session.specs.Reach.{ServingBy};
+ghost use Rattle.probe_session.specs.Reach.{AttachedBy};
 ghost use Rattle.probe_session.specs.Showing.{at_read};
+ghost use Rattle.probe_run.specs.Told.{told};
 
 use crate::fault::Failure;
 use crate::put::put_line;
@@ -33,17 +33,13 @@ fn put_elements<D: Dmi, K: Sink>(
     out: &mut K,
 ) -> Result<bool, Failure>
     requires block { IsBlock (count_of size) address count }
-    requires serving { ServingBy (D.far link.old) (D.is_alive link.old) reach.now }
-    ensures spoke { IfOk result (λ wrong. Spoke (at_read reach.now size address count) idle wrong (tells (D.far link.old) (D.script link.old))
-        (tells (D.far link.new) (D.script link.new)) (K.contents out.old) (K.contents out.new)) }
-    ensures fell { IfErr result (Fell Quiet (at_read reach.now size address count) (D.fault_count link.old) (D.fault_count link.new)
-        (tells (D.far link.old) (D.script link.old)) (tells (D.far link.new) (D.script link.new)) (K.fault_count out.old)
+    requires serving { AttachedBy reach.now (D.seen link.old) }
+    ensures spoke { IfOk result (λ wrong. Spoke (at_read reach.now size address count) idle wrong (told (D.seen link.old))
+        (told (D.seen link.new)) (K.contents out.old) (K.contents out.new)) }
+    ensures fell { IfErr result (Fell Quiet (at_read reach.now size address count) (D.seen link.old).fault_count (D.seen link.new).fault_count
+        (told (D.seen link.old)) (told (D.seen link.new)) (K.fault_count out.old)
         (K.fault_count out.new) (K.contents out.old) (K.contents out.new)) }
-    ensures serving { OnOk result (Serving (D.far link.new) (D.is_alive link.new)) }
-    ensures left { IfErr result (LeftBy (D.far link.new)) }
-    ensures later { D.fault_count link.old ≤ D.fault_count link.new }
-    ensures slack { D.slack link.new ≡ D.slack link.old }
-    ensures ties { D.ties link.new ≡ D.ties link.old }
+    ensures keeps { Goes (λ _. Attached) (D.seen link.old) (D.seen link.new) result }
     ensures sink_later { K.fault_count out.old ≤ K.fault_count out.new }
 {
     if !is_aligned(size, address) {
@@ -74,18 +70,14 @@ impl Session {
         out: &mut K,
     ) -> Result<bool, Failure>
         requires block { IsBlock (count_of size) address count }
-        requires serving { Serving (D.far link.old) (D.is_alive link.old) }
+        requires serving { Attached (D.seen link.old) }
         ensures spoke { IfOk result (λ wrong. Spoke (before (command.Read size address count) (state_of self.now)) (behind (state_of self.now)) wrong
-            (tells (D.far link.old) (D.script link.old)) (tells (D.far link.new) (D.script link.new)) (K.contents out.old)
+            (told (D.seen link.old)) (told (D.seen link.new)) (K.contents out.old)
             (K.contents out.new)) }
-        ensures fell { IfErr result (Fell CalmNext (before (command.Read size address count) (state_of self.now)) (D.fault_count link.old)
-            (D.fault_count link.new) (tells (D.far link.old) (D.script link.old)) (tells (D.far link.new) (D.script link.new))
+        ensures fell { IfErr result (Fell CalmNext (before (command.Read size address count) (state_of self.now)) (D.seen link.old).fault_count
+            (D.seen link.new).fault_count (told (D.seen link.old)) (told (D.seen link.new))
             (K.fault_count out.old) (K.fault_count out.new) (K.contents out.old) (K.contents out.new)) }
-        ensures serving { OnOk result (Serving (D.far link.new) (D.is_alive link.new)) }
-        ensures left { IfErr result (LeftBy (D.far link.new)) }
-        ensures later { D.fault_count link.old ≤ D.fault_count link.new }
-        ensures slack { D.slack link.new ≡ D.slack link.old }
-        ensures ties { D.ties link.new ≡ D.ties link.old }
+        ensures keeps { Goes (λ _. Attached) (D.seen link.old) (D.seen link.new) result }
         ensures sink_later { K.fault_count out.old ≤ K.fault_count out.new }
     {
         match self.reach(link)? {

@@ -1,8 +1,8 @@
-ghost use Rattle.std.specs.Prelude.{◌≡◌, ◌≤◌, ◌<◌, ◌^◌, true, IfOk, IfErr, OnOk};
-ghost use Rattle.probe_run.specs.Acts.{tells};
-ghost use Rattle.probe_session.specs.Calls.{AskFell, Gave, GaveNone, GiveFell, Got, GotNone, ReadFell, WriteFell};
-ghost use Rattle.probe_session.specs.Links.{LeftBy, ServingHalted};
+ghost use Rattle.std.specs.Prelude.{true, IfOk, IfErr, OnOk};
+ghost use Rattle.probe_session.specs.Calls.{AskFell, Gave, GiveFell, Got, ReadFell, WriteFell};
+ghost use Rattle.probe_session.specs.Links.{AttachedHalted, Goes};
 ghost use Rattle.probe_session.specs.Answers.{ReadAs, WrittenAs};
+ghost use Rattle.probe_run.specs.Told.{told, Fails};
 
 use crate::fault::{Failure, lost_by};
 use debug_model::Dmi;
@@ -15,17 +15,11 @@ pub(crate) fn ask<D: Dmi>(
     halted: &Halted,
     number: u16,
 ) -> Result<Option<u64>, Failure>
-    requires serving { ServingHalted halted.now.number (D.far link.old) (D.is_alive link.old) }
+    requires serving { AttachedHalted halted.now.number (D.seen link.old) }
     ensures got { IfOk result
-        (ReadAs halted.now.number number (tells (D.far link.old) (D.script link.old)) (tells (D.far link.new) (D.script link.new))) }
-    ensures fell { IfErr result
-        (AskFell halted.now.number number (D.fault_count link.old) (D.fault_count link.new) (tells (D.far link.old) (D.script link.old))
-        (tells (D.far link.new) (D.script link.new))) }
-    ensures serving { OnOk result (ServingHalted halted.now.number (D.far link.new) (D.is_alive link.new)) }
-    ensures left { IfErr result (LeftBy (D.far link.new)) }
-    ensures later { D.fault_count link.old ≤ D.fault_count link.new }
-    ensures slack { D.slack link.new ≡ D.slack link.old }
-    ensures ties { D.ties link.new ≡ D.ties link.old }
+        (ReadAs halted.now.number number (told (D.seen link.old)) (told (D.seen link.new))) }
+    ensures fell { IfErr result (Fails (AskFell halted.now.number number) (D.seen link.old) (D.seen link.new)) }
+    ensures keeps { Goes (λ _. AttachedHalted halted.now.number) (D.seen link.old) (D.seen link.new) result }
 {
     match reg(link, halted, number) {
         Ok(value) => Ok(Some(value)),
@@ -38,17 +32,11 @@ pub(crate) fn ask<D: Dmi>(
 
 /// The value of a register of the halted hart, which each hart has: a chip that refuses to read it loses the session.
 pub(crate) fn get<D: Dmi>(link: &mut D, halted: &Halted, number: u16) -> Result<u64, Failure>
-    requires serving { ServingHalted halted.now.number (D.far link.old) (D.is_alive link.old) }
+    requires serving { AttachedHalted halted.now.number (D.seen link.old) }
     ensures got { IfOk result
-        (λ value. Got halted.now.number number value (tells (D.far link.old) (D.script link.old)) (tells (D.far link.new) (D.script link.new))) }
-    ensures fell { IfErr result
-        (ReadFell halted.now.number number (D.fault_count link.old) (D.fault_count link.new) (tells (D.far link.old) (D.script link.old))
-        (tells (D.far link.new) (D.script link.new))) }
-    ensures serving { OnOk result (ServingHalted halted.now.number (D.far link.new) (D.is_alive link.new)) }
-    ensures left { IfErr result (LeftBy (D.far link.new)) }
-    ensures later { D.fault_count link.old ≤ D.fault_count link.new }
-    ensures slack { D.slack link.new ≡ D.slack link.old }
-    ensures ties { D.ties link.new ≡ D.ties link.old }
+        (λ value. Got halted.now.number number value (told (D.seen link.old)) (told (D.seen link.new))) }
+    ensures fell { IfErr result (Fails (ReadFell halted.now.number number) (D.seen link.old) (D.seen link.new)) }
+    ensures keeps { Goes (λ _. AttachedHalted halted.now.number) (D.seen link.old) (D.seen link.new) result }
 {
     match reg(link, halted, number) {
         Ok(value) => Ok(value),
@@ -63,16 +51,11 @@ pub(crate) fn give<D: Dmi>(
     number: u16,
     value: u64,
 ) -> Result<bool, Failure>
-    requires serving { ServingHalted halted.now.number (D.far link.old) (D.is_alive link.old) }
+    requires serving { AttachedHalted halted.now.number (D.seen link.old) }
     ensures gave { IfOk result
-        (WrittenAs halted.now.number number value (tells (D.far link.old) (D.script link.old)) (tells (D.far link.new) (D.script link.new))) }
-    ensures fell { IfErr result (GiveFell halted.now.number number value (D.fault_count link.old) (D.fault_count link.new)
-        (tells (D.far link.old) (D.script link.old)) (tells (D.far link.new) (D.script link.new))) }
-    ensures serving { OnOk result (ServingHalted halted.now.number (D.far link.new) (D.is_alive link.new)) }
-    ensures left { IfErr result (LeftBy (D.far link.new)) }
-    ensures later { D.fault_count link.old ≤ D.fault_count link.new }
-    ensures slack { D.slack link.new ≡ D.slack link.old }
-    ensures ties { D.ties link.new ≡ D.ties link.old }
+        (WrittenAs halted.now.number number value (told (D.seen link.old)) (told (D.seen link.new))) }
+    ensures fell { IfErr result (Fails (GiveFell halted.now.number number value) (D.seen link.old) (D.seen link.new)) }
+    ensures keeps { Goes (λ _. AttachedHalted halted.now.number) (D.seen link.old) (D.seen link.new) result }
 {
     match set_reg(link, halted, number, value) {
         Ok(()) => Ok(true),
@@ -90,16 +73,11 @@ pub(crate) fn set<D: Dmi>(
     number: u16,
     value: u64,
 ) -> Result<(), Failure>
-    requires serving { ServingHalted halted.now.number (D.far link.old) (D.is_alive link.old) }
+    requires serving { AttachedHalted halted.now.number (D.seen link.old) }
     ensures gave { OnOk result
-        (Gave halted.now.number number value (tells (D.far link.old) (D.script link.old)) (tells (D.far link.new) (D.script link.new))) }
-    ensures fell { IfErr result (WriteFell halted.now.number number value (D.fault_count link.old) (D.fault_count link.new)
-        (tells (D.far link.old) (D.script link.old)) (tells (D.far link.new) (D.script link.new))) }
-    ensures serving { OnOk result (ServingHalted halted.now.number (D.far link.new) (D.is_alive link.new)) }
-    ensures left { IfErr result (LeftBy (D.far link.new)) }
-    ensures later { D.fault_count link.old ≤ D.fault_count link.new }
-    ensures slack { D.slack link.new ≡ D.slack link.old }
-    ensures ties { D.ties link.new ≡ D.ties link.old }
+        (Gave halted.now.number number value (told (D.seen link.old)) (told (D.seen link.new))) }
+    ensures fell { IfErr result (Fails (WriteFell halted.now.number number value) (D.seen link.old) (D.seen link.new)) }
+    ensures keeps { Goes (λ _. AttachedHalted halted.now.number) (D.seen link.old) (D.seen link.new) result }
 {
     match set_reg(link, halted, number, value) {
         Ok(()) => Ok(()),

@@ -2,14 +2,14 @@
 
 ghost use Rattle.std.specs.Prelude.{◌≡◌, ◌≤◌, true, All};
 ghost use Rattle.debug_model.specs.Command.{IsWithinRanges};
-ghost use Rattle.debug_model.specs.Dmi.{CanOperate};
 ghost use Rattle.debug_model.specs.Told.{IsAsLoaded};
-ghost use Rattle.probe_run.specs.Acts.{tells};
 ghost use Rattle.probe_session.specs.Causes.{EndCaused, SinkCaused};
 ghost use Rattle.probe_session.specs.Commands.{state_of};
-ghost use Rattle.probe_session.specs.Links.{Serving};
+ghost use Rattle.probe_session.specs.Links.{Attached};
 ghost use Rattle.probe_session.specs.Scripts.{EndedAs, FollowedAs, LeavesLink, ended_unopened, graded};
 ghost use Rattle.probe_session.specs.Transcribed.{TranscribedAs};
+ghost use Rattle.debug_model.specs.Kept.{CanCall};
+ghost use Rattle.probe_run.specs.Told.{told};
 
 use crate::acted::Acted;
 use crate::ended::Ended;
@@ -50,14 +50,13 @@ fn run_commands<D: Dmi, K: Sink>(
     out: &mut K,
 ) -> Ended
     requires within { All IsWithinRanges commands.now }
-    requires serving { Serving (D.far link.old) (D.is_alive link.old) }
-    ensures followed { FollowedAs commands.now (state_of begun) (D.fault_count link.old) (D.fault_count link.new)
-        (tells (D.far link.old) (D.script link.old)) (tells (D.far link.new) (D.script link.new)) (K.fault_count out.old)
+    requires serving { Attached (D.seen link.old) }
+    ensures followed { FollowedAs commands.now (state_of begun) (D.seen link.old).fault_count (D.seen link.new).fault_count
+        (told (D.seen link.old)) (told (D.seen link.new)) (K.fault_count out.old)
         (K.fault_count out.new) (K.contents out.old) (K.contents out.new) result }
-    ensures leaves { LeavesLink (D.far link.new) (D.is_alive link.new) result }
-    ensures later { D.fault_count link.old ≤ D.fault_count link.new }
-    ensures slack { D.slack link.new ≡ D.slack link.old }
-    ensures ties { D.ties link.new ≡ D.ties link.old }
+    ensures leaves { LeavesLink result (D.seen link.new) }
+    ensures later { (D.seen link.old).fault_count ≤ (D.seen link.new).fault_count }
+    ensures fixed { (D.seen link.new).fixed ≡ (D.seen link.old).fixed }
     ensures sink_later { K.fault_count out.old ≤ K.fault_count out.new }
 {
     let mut session = begun;
@@ -83,19 +82,17 @@ fn run_commands<D: Dmi, K: Sink>(
 ///
 /// The link is alive; where it tells its chip, that is as it was loaded, and the link is ready for an operation. It takes no memory.
 pub fn run_script<D: Dmi, K: Sink>(link: &mut D, script: &Script, out: &mut K) -> Ended
-    requires alive { D.is_alive link.old ≡ true }
-    requires link { CanOperate (D.far link.old) }
-    requires loaded { IsAsLoaded (D.far link.old) }
-    ensures ended { EndedAs script.now (D.fault_count link.old) (D.fault_count link.new) (tells (D.far link.old) (D.script link.old))
-        (tells (D.far link.new) (D.script link.new)) (K.fault_count out.old) (K.fault_count out.new) (K.contents out.old)
+    requires callable { CanCall (D.seen link.old) }
+    requires loaded { IsAsLoaded (D.seen link.old).far }
+    ensures ended { EndedAs script.now (D.seen link.old).fault_count (D.seen link.new).fault_count (told (D.seen link.old))
+        (told (D.seen link.new)) (K.fault_count out.old) (K.fault_count out.new) (K.contents out.old)
         (K.contents out.new) result }
-    ensures cause { EndCaused (D.fault_count link.old) (D.fault_count link.new) (D.far link.new) result }
+    ensures cause { EndCaused (D.seen link.old).fault_count (D.seen link.new).fault_count (D.seen link.new).far result }
     ensures sink_cause { SinkCaused (K.fault_count out.old) (K.fault_count out.new) result }
-    ensures transcribed { TranscribedAs script.now (K.contents out.old) (K.contents out.new) (D.far link.old) (D.far link.new) result }
-    ensures leaves { LeavesLink (D.far link.new) (D.is_alive link.new) result }
-    ensures later { D.fault_count link.old ≤ D.fault_count link.new }
-    ensures slack { D.slack link.new ≡ D.slack link.old }
-    ensures ties { D.ties link.new ≡ D.ties link.old }
+    ensures transcribed { TranscribedAs script.now (K.contents out.old) (K.contents out.new) (D.seen link.old).far (D.seen link.new).far result }
+    ensures leaves { LeavesLink result (D.seen link.new) }
+    ensures later { (D.seen link.old).fault_count ≤ (D.seen link.new).fault_count }
+    ensures fixed { (D.seen link.new).fixed ≡ (D.seen link.old).fixed }
     ensures sink_later { K.fault_count out.old ≤ K.fault_count out.new }
 {
     match Session::begin(link) {

@@ -1,11 +1,11 @@
-ghost use Rattle.std.specs.Prelude.{◌≡◌, ◌≤◌, ◌<◌, ◌^◌, [], true, false, IfOk, IfErr, IsTrue, OnOk};
-ghost use Rattle.probe_run.specs.Acts.{tells};
+ghost use Rattle.std.specs.Prelude.{◌≡◌, ◌<◌, true, false, IfOk, IfErr, OnOk};
 ghost use Rattle.probe_session.specs.Answers.{FreedAs, TakenAs};
 ghost use Rattle.probe_session.specs.Calls.{HitsForgotten, OverFell, OverMade, SlotsFell, Viewed};
-ghost use Rattle.probe_session.specs.Links.{LeftBy, ServingHalted};
+ghost use Rattle.probe_session.specs.Links.{AttachedHalted, Goes};
 ghost use Rattle.probe_trig.specs.declared.change.Change.TheVariants.{Forget};
 ghost use Rattle.probe_trig.specs.Runs.{ArmsAny, ChangesAny, FreesAny, ReadsAny};
 ghost use Rattle.probe_trig.specs.SlotRegisters.{CanArm};
+ghost use Rattle.probe_run.specs.Told.{told, Fails};
 
 use crate::fault::{Failure, lost_by};
 use debug_model::Dmi;
@@ -14,16 +14,11 @@ use probe_trig::{SlotUse, SlotView, TrigFault, arm, disarm, forget_hits, slots, 
 
 /// The slots of the halted hart.
 pub(crate) fn view<D: Dmi>(link: &mut D, halted: &Halted) -> Result<SlotView, Failure>
-    requires serving { ServingHalted halted.now.number (D.far link.old) (D.is_alive link.old) }
+    requires serving { AttachedHalted halted.now.number (D.seen link.old) }
     ensures viewed { IfOk result
-        (λ view. Viewed halted.now.number view (tells (D.far link.old) (D.script link.old)) (tells (D.far link.new) (D.script link.new))) }
-    ensures fell { IfErr result (SlotsFell ReadsAny halted.now.number (D.fault_count link.old) (D.fault_count link.new)
-        (tells (D.far link.old) (D.script link.old)) (tells (D.far link.new) (D.script link.new))) }
-    ensures serving { OnOk result (ServingHalted halted.now.number (D.far link.new) (D.is_alive link.new)) }
-    ensures left { IfErr result (LeftBy (D.far link.new)) }
-    ensures later { D.fault_count link.old ≤ D.fault_count link.new }
-    ensures slack { D.slack link.new ≡ D.slack link.old }
-    ensures ties { D.ties link.new ≡ D.ties link.old }
+        (λ view. Viewed halted.now.number view (told (D.seen link.old)) (told (D.seen link.new))) }
+    ensures fell { IfErr result (Fails (SlotsFell ReadsAny halted.now.number) (D.seen link.old) (D.seen link.new)) }
+    ensures keeps { Goes (λ _. AttachedHalted halted.now.number) (D.seen link.old) (D.seen link.new) result }
 {
     match slots(link, halted) {
         Ok(seen) => Ok(seen),
@@ -39,16 +34,11 @@ pub(crate) fn take_slot<D: Dmi>(
     what: SlotUse,
 ) -> Result<Option<u8>, Failure>
     requires can { CanArm what }
-    requires serving { ServingHalted halted.now.number (D.far link.old) (D.is_alive link.old) }
+    requires serving { AttachedHalted halted.now.number (D.seen link.old) }
     ensures taken { IfOk result
-        (TakenAs halted.now.number what (tells (D.far link.old) (D.script link.old)) (tells (D.far link.new) (D.script link.new))) }
-    ensures fell { IfErr result (SlotsFell (ArmsAny what) halted.now.number (D.fault_count link.old) (D.fault_count link.new)
-        (tells (D.far link.old) (D.script link.old)) (tells (D.far link.new) (D.script link.new))) }
-    ensures serving { OnOk result (ServingHalted halted.now.number (D.far link.new) (D.is_alive link.new)) }
-    ensures left { IfErr result (LeftBy (D.far link.new)) }
-    ensures later { D.fault_count link.old ≤ D.fault_count link.new }
-    ensures slack { D.slack link.new ≡ D.slack link.old }
-    ensures ties { D.ties link.new ≡ D.ties link.old }
+        (TakenAs halted.now.number what (told (D.seen link.old)) (told (D.seen link.new))) }
+    ensures fell { IfErr result (Fails (SlotsFell (ArmsAny what) halted.now.number) (D.seen link.old) (D.seen link.new)) }
+    ensures keeps { Goes (λ _. AttachedHalted halted.now.number) (D.seen link.old) (D.seen link.new) result }
 {
     match arm(link, halted, what) {
         Ok(slot) => Ok(Some(slot)),
@@ -61,16 +51,11 @@ pub(crate) fn take_slot<D: Dmi>(
 /// Frees a slot of the halted hart, and answers whether it was in use.
 pub(crate) fn free_slot<D: Dmi>(link: &mut D, halted: &Halted, slot: u8) -> Result<bool, Failure>
     requires slot { slot < 4 }
-    requires serving { ServingHalted halted.now.number (D.far link.old) (D.is_alive link.old) }
+    requires serving { AttachedHalted halted.now.number (D.seen link.old) }
     ensures freed { IfOk result
-        (FreedAs halted.now.number slot (tells (D.far link.old) (D.script link.old)) (tells (D.far link.new) (D.script link.new))) }
-    ensures fell { IfErr result (SlotsFell (FreesAny slot) halted.now.number (D.fault_count link.old) (D.fault_count link.new)
-        (tells (D.far link.old) (D.script link.old)) (tells (D.far link.new) (D.script link.new))) }
-    ensures serving { OnOk result (ServingHalted halted.now.number (D.far link.new) (D.is_alive link.new)) }
-    ensures left { IfErr result (LeftBy (D.far link.new)) }
-    ensures later { D.fault_count link.old ≤ D.fault_count link.new }
-    ensures slack { D.slack link.new ≡ D.slack link.old }
-    ensures ties { D.ties link.new ≡ D.ties link.old }
+        (FreedAs halted.now.number slot (told (D.seen link.old)) (told (D.seen link.new))) }
+    ensures fell { IfErr result (Fails (SlotsFell (FreesAny slot) halted.now.number) (D.seen link.old) (D.seen link.new)) }
+    ensures keeps { Goes (λ _. AttachedHalted halted.now.number) (D.seen link.old) (D.seen link.new) result }
 {
     match disarm(link, halted, slot) {
         Ok(()) => Ok(true),
@@ -82,16 +67,11 @@ pub(crate) fn free_slot<D: Dmi>(link: &mut D, halted: &Halted, slot: u8) -> Resu
 
 /// Forgets the hits of the halted hart's slots.
 pub(crate) fn forget<D: Dmi>(link: &mut D, halted: &Halted) -> Result<(), Failure>
-    requires serving { ServingHalted halted.now.number (D.far link.old) (D.is_alive link.old) }
+    requires serving { AttachedHalted halted.now.number (D.seen link.old) }
     ensures forgot { OnOk result
-        (HitsForgotten halted.now.number (tells (D.far link.old) (D.script link.old)) (tells (D.far link.new) (D.script link.new))) }
-    ensures fell { IfErr result (SlotsFell (ChangesAny Forget) halted.now.number (D.fault_count link.old) (D.fault_count link.new)
-        (tells (D.far link.old) (D.script link.old)) (tells (D.far link.new) (D.script link.new))) }
-    ensures serving { OnOk result (ServingHalted halted.now.number (D.far link.new) (D.is_alive link.new)) }
-    ensures left { IfErr result (LeftBy (D.far link.new)) }
-    ensures later { D.fault_count link.old ≤ D.fault_count link.new }
-    ensures slack { D.slack link.new ≡ D.slack link.old }
-    ensures ties { D.ties link.new ≡ D.ties link.old }
+        (HitsForgotten halted.now.number (told (D.seen link.old)) (told (D.seen link.new))) }
+    ensures fell { IfErr result (Fails (SlotsFell (ChangesAny Forget) halted.now.number) (D.seen link.old) (D.seen link.new)) }
+    ensures keeps { Goes (λ _. AttachedHalted halted.now.number) (D.seen link.old) (D.seen link.new) result }
 {
     match forget_hits(link, halted) {
         Ok(()) => Ok(()),
@@ -102,16 +82,11 @@ pub(crate) fn forget<D: Dmi>(link: &mut D, halted: &Halted) -> Result<(), Failur
 
 /// Makes the halted hart do one instruction with its slots off that have a hit.
 pub(crate) fn over<D: Dmi>(link: &mut D, halted: Halted) -> Result<Halted, Failure>
-    requires serving { ServingHalted halted.number (D.far link.old) (D.is_alive link.old) }
-    ensures made { OnOk result (OverMade halted.number (tells (D.far link.old) (D.script link.old)) (tells (D.far link.new) (D.script link.new))) }
-    ensures fell { IfErr result (OverFell halted.number (D.fault_count link.old) (D.fault_count link.new) (tells (D.far link.old) (D.script link.old))
-        (tells (D.far link.new) (D.script link.new))) }
+    requires serving { AttachedHalted halted.number (D.seen link.old) }
+    ensures made { OnOk result (OverMade halted.number (told (D.seen link.old)) (told (D.seen link.new))) }
+    ensures fell { IfErr result (Fails (OverFell halted.number) (D.seen link.old) (D.seen link.new)) }
     ensures hart { IfOk result (λ again. again.number ≡ halted.number) }
-    ensures serving { OnOk result (ServingHalted halted.number (D.far link.new) (D.is_alive link.new)) }
-    ensures left { IfErr result (LeftBy (D.far link.new)) }
-    ensures later { D.fault_count link.old ≤ D.fault_count link.new }
-    ensures slack { D.slack link.new ≡ D.slack link.old }
-    ensures ties { D.ties link.new ≡ D.ties link.old }
+    ensures keeps { Goes (λ _. AttachedHalted halted.number) (D.seen link.old) (D.seen link.new) result }
 {
     match step_over(link, halted) {
         Ok(again) => Ok(again),

@@ -1,14 +1,14 @@
 //! `write`: a value stored several times, from an address upwards.
 
-ghost use Rattle.std.specs.Prelude.{◌≡◌, ◌≤◌, ◌<◌, ◌^◌, [], true, false, IfOk, IfErr, IsTrue, OnOk};
-ghost use Rattle.probe_run.specs.Acts.{tells};
+ghost use Rattle.std.specs.Prelude.{[], IfOk, IfErr};
 ghost use Rattle.debug_model.specs.Command.{IsBlock};
 ghost use Rattle.rv_model.specs.Size.{count_of};
 ghost use Rattle.probe_session.specs.Commands.{ends_with};
 ghost use Rattle.probe_session.specs.Goes.{Falls, Went};
-ghost use Rattle.probe_session.specs.Links.{LeftBy, Serving};
-ghost use Rattle.probe_session.specs.Reach.{ServingBy, place_by, written};
+ghost use Rattle.probe_session.specs.Links.{Attached, Goes};
+ghost use Rattle.probe_session.specs.Reach.{AttachedBy, place_by, written};
 ghost use Rattle.probe_session.specs.Said.{said_by};
+ghost use Rattle.probe_run.specs.Told.{told, Fails};
 
 use crate::fault::Failure;
 use crate::reach::{Reach, store_by};
@@ -27,17 +27,11 @@ pub(crate) fn written_line<D: Dmi>(
     count: u16,
 ) -> Result<Line, Failure>
     requires block { IsBlock (count_of size) address count }
-    requires serving { ServingBy (D.far link.old) (D.is_alive link.old) reach.now }
+    requires serving { AttachedBy reach.now (D.seen link.old) }
     ensures went { IfOk result (λ line. Went (λ next. place_by reach.now (written size address value count next))
-        (ends_with (said_by line)) [] (tells (D.far link.old) (D.script link.old)) (tells (D.far link.new) (D.script link.new))) }
-    ensures falls { IfErr result (Falls (λ next. place_by reach.now (written size address value count next))
-        [] (D.fault_count link.old) (D.fault_count link.new) (tells (D.far link.old) (D.script link.old))
-        (tells (D.far link.new) (D.script link.new))) }
-    ensures serving { OnOk result (Serving (D.far link.new) (D.is_alive link.new)) }
-    ensures left { IfErr result (LeftBy (D.far link.new)) }
-    ensures later { D.fault_count link.old ≤ D.fault_count link.new }
-    ensures slack { D.slack link.new ≡ D.slack link.old }
-    ensures ties { D.ties link.new ≡ D.ties link.old }
+        (ends_with (said_by line)) [] (told (D.seen link.old)) (told (D.seen link.new))) }
+    ensures falls { IfErr result (Fails (Falls (λ next. place_by reach.now (written size address value count next)) []) (D.seen link.old) (D.seen link.new)) }
+    ensures keeps { Goes (λ _. Attached) (D.seen link.old) (D.seen link.new) result }
 {
     if !is_aligned(size, address) {
         return Ok(Line::MemoryFault(address));

@@ -1,9 +1,9 @@
 -- Facts behind a call on slots that has no result, by its fault.
 -- It is this project's own.
-use Rattle.std.specs.Prelude.{Bool, Option}
-use Rattle.debug_model.specs.Told.{Far}
+use Rattle.std.specs.Prelude.{Option, None}
+use Rattle.debug_model.specs.declared.dmi.DmiFault.{DmiFault}
 use Rattle.probe_access.specs.declared.fault.AccessFault.{AccessFault}
-use Rattle.probe_access.specs.Faults.{LinkBehind, Stands}
+use Rattle.probe_access.specs.Faults.{access_why}
 use Rattle.probe_trig.specs.declared.fault.TrigFault.{TrigFault}
 use Rattle.probe_trig.specs.declared.fault.TrigFault.TheVariants as fault
 
@@ -20,6 +20,8 @@ UnlessAccess P e = ByFault (λ _. Unit {0}) P P e
 abbrev pub IfAccess : (AccessFault → Type 0) → TrigFault → Type 0
 IfAccess P e = ByFault P (Unit {0}) (Unit {0}) e
 
--- the link
-abbrev pub Behind : Option Far → Bool → TrigFault → Type 0
-Behind far alive e = ByFault (LinkBehind far alive) (Stands far alive) (Stands far alive) e
+-- the fault of the link that it is, if it is one
+abbrev pub trig_why : TrigFault → Option DmiFault
+trig_why (fault.Access e) = access_why e
+trig_why fault.NoFreeSlot = None
+trig_why fault.NotInUse = None

@@ -1,14 +1,12 @@
-ghost use Rattle.std.specs.Prelude.{◌≡◌, ◌≤◌, ◌<◌, ◌++◌, ◌∷◌, [], Bool, true, false, Some, None, IfOk, IfErr, OnOk};
-ghost use Rattle.debug_model.specs.Dmi.{CanOperate};
-ghost use Rattle.debug_model.specs.Scan.{WhereTold};
-ghost use Rattle.debug_model.specs.Told.{IsHalted, IsIdle, IsLive, IsReady, Selects};
-ghost use Rattle.probe_run.specs.Acts.{tells};
+ghost use Rattle.std.specs.Prelude.{◌≡◌, ◌<◌, true, false, Some, None, IfOk, IfErr, OnOk};
+ghost use Rattle.debug_model.specs.Kept.{CanCall, Keeps, Stands};
+ghost use Rattle.probe_run.specs.Told.{told, OnChip, Fails, Serving};
+ghost use Rattle.probe_access.specs.Faults.{access_why};
 ghost use Rattle.probe_access.specs.Cuts.{IfCut, LeftAside, Leaves};
-ghost use Rattle.probe_access.specs.Faults.{LinkBehind};
 ghost use Rattle.probe_access.specs.Scratches.{ScratchLeft};
 ghost use Rattle.abstract_debugger.specs.Slots.{address_trigger};
 ghost use Rattle.rv_model.specs.TriggerWords.{CountFits};
-ghost use Rattle.probe_trig.specs.Faults.{Behind, ByFault, IfAccess, UnlessAccess};
+ghost use Rattle.probe_trig.specs.Faults.{ByFault, IfAccess, UnlessAccess, trig_why};
 ghost use Rattle.probe_trig.specs.Runs.{Arms, ArmsAny, Seeks, SeeksAny, address_set, armed};
 ghost use Rattle.probe_trig.specs.Single.{AddressSet, Armed};
 ghost use Rattle.probe_trig.specs.Slots.{ArmedAt, AtHarts, DebugAlone, FullAt};
@@ -75,26 +73,12 @@ fn address_of(what: SlotUse) -> Option<u64>
 
 /// Writes the address of what the selected slot is to be armed for, where it has one.
 fn set_address<D: Dmi>(link: &mut D, halted: &Halted, what: SlotUse) -> Result<(), AccessFault>
-    requires alive { D.is_alive link.old ≡ true }
-    requires link { CanOperate (D.far link.old) }
-    requires ready { IsReady (D.far link.old) }
-    requires selects { Selects halted.now.number (D.far link.old) }
-    requires halted { IsHalted halted.now.number (D.far link.old) }
-    requires live { IsLive (D.far link.old) }
-    requires idle { IsIdle (D.far link.old) }
-    ensures made { OnOk result (Made halted.now.number (tells (D.far link.old) (D.script link.old)) (address_set (address_named what)) (tells (D.far link.new) (D.script link.new))) }
-    ensures failed { IfErr result (FailedIn (AddressSet what) halted.now.number (D.fault_count link.old) (D.fault_count link.new) (tells (D.far link.old) (D.script link.old)) (tells (D.far link.new) (D.script link.new))) }
-    ensures ready { OnOk result (IsReady (D.far link.new)) }
-    ensures selects { OnOk result (Selects halted.now.number (D.far link.new)) }
-    ensures halted { OnOk result (IsHalted halted.now.number (D.far link.new)) }
-    ensures state { IfErr result (LinkBehind (D.far link.new) (D.is_alive link.new)) }
-    ensures link { OnOk result (CanOperate (D.far link.new)) }
-    ensures live { OnOk result (IsLive (D.far link.new)) }
-    ensures idle { OnOk result (IsIdle (D.far link.new)) }
-    ensures alive { OnOk result (D.is_alive link.new ≡ true) }
-    ensures later { D.fault_count link.old ≤ D.fault_count link.new }
-    ensures slack { D.slack link.new ≡ D.slack link.old }
-    ensures ties { D.ties link.new ≡ D.ties link.old }
+    requires stands { Stands (D.seen link.old) }
+    requires serving { Serving halted.now.number (D.seen link.old).far }
+    ensures made { OnOk result (Made halted.now.number (told (D.seen link.old)) (address_set (address_named what)) (told (D.seen link.new))) }
+    ensures failed { IfErr result (Fails (FailedIn (AddressSet what) halted.now.number) (D.seen link.old) (D.seen link.new)) }
+    ensures serving { OnOk result (Serving halted.now.number (D.seen link.new).far) }
+    ensures keeps { Keeps access_why (D.seen link.old) (D.seen link.new) result }
 {
     match address_of(what) {
         Some(address) => {
@@ -108,26 +92,12 @@ fn set_address<D: Dmi>(link: &mut D, halted: &Halted, what: SlotUse) -> Result<(
 /// Arms the selected slot.
 fn arm_selected<D: Dmi>(link: &mut D, halted: &Halted, what: SlotUse) -> Result<(), AccessFault>
     requires can { CanArm what }
-    requires alive { D.is_alive link.old ≡ true }
-    requires link { CanOperate (D.far link.old) }
-    requires ready { IsReady (D.far link.old) }
-    requires selects { Selects halted.now.number (D.far link.old) }
-    requires halted { IsHalted halted.now.number (D.far link.old) }
-    requires live { IsLive (D.far link.old) }
-    requires idle { IsIdle (D.far link.old) }
-    ensures made { OnOk result (Made halted.now.number (tells (D.far link.old) (D.script link.old)) (armed what) (tells (D.far link.new) (D.script link.new))) }
-    ensures failed { IfErr result (FailedIn (Armed what) halted.now.number (D.fault_count link.old) (D.fault_count link.new) (tells (D.far link.old) (D.script link.old)) (tells (D.far link.new) (D.script link.new))) }
-    ensures ready { OnOk result (IsReady (D.far link.new)) }
-    ensures selects { OnOk result (Selects halted.now.number (D.far link.new)) }
-    ensures halted { OnOk result (IsHalted halted.now.number (D.far link.new)) }
-    ensures state { IfErr result (LinkBehind (D.far link.new) (D.is_alive link.new)) }
-    ensures link { OnOk result (CanOperate (D.far link.new)) }
-    ensures live { OnOk result (IsLive (D.far link.new)) }
-    ensures idle { OnOk result (IsIdle (D.far link.new)) }
-    ensures alive { OnOk result (D.is_alive link.new ≡ true) }
-    ensures later { D.fault_count link.old ≤ D.fault_count link.new }
-    ensures slack { D.slack link.new ≡ D.slack link.old }
-    ensures ties { D.ties link.new ≡ D.ties link.old }
+    requires stands { Stands (D.seen link.old) }
+    requires serving { Serving halted.now.number (D.seen link.old).far }
+    ensures made { OnOk result (Made halted.now.number (told (D.seen link.old)) (armed what) (told (D.seen link.new))) }
+    ensures failed { IfErr result (Fails (FailedIn (Armed what) halted.now.number) (D.seen link.old) (D.seen link.new)) }
+    ensures serving { OnOk result (Serving halted.now.number (D.seen link.new).far) }
+    ensures keeps { Keeps access_why (D.seen link.old) (D.seen link.new) result }
 {
     set_address(link, halted, what)?;
     set(
@@ -141,24 +111,12 @@ fn arm_selected<D: Dmi>(link: &mut D, halted: &Halted, what: SlotUse) -> Result<
 
 /// Selects the lowest free slot, if there is one.
 fn seek_free<D: Dmi>(link: &mut D, halted: &Halted) -> Result<Option<u8>, AccessFault>
-    requires alive { D.is_alive link.old ≡ true }
-    requires link { CanOperate (D.far link.old) }
-    requires ready { IsReady (D.far link.old) }
-    requires selects { Selects halted.now.number (D.far link.old) }
-    requires halted { IsHalted halted.now.number (D.far link.old) }
-    ensures did { IfOk result (λ found. Did (Seeks found) halted.now.number (tells (D.far link.old) (D.script link.old)) (tells (D.far link.new) (D.script link.new))) }
-    ensures failed { IfErr result (FailedIn (SeeksAny) halted.now.number (D.fault_count link.old) (D.fault_count link.new) (tells (D.far link.old) (D.script link.old)) (tells (D.far link.new) (D.script link.new))) }
-    ensures ready { OnOk result (IsReady (D.far link.new)) }
-    ensures selects { OnOk result (Selects halted.now.number (D.far link.new)) }
-    ensures halted { OnOk result (IsHalted halted.now.number (D.far link.new)) }
-    ensures state { IfErr result (LinkBehind (D.far link.new) (D.is_alive link.new)) }
-    ensures link { OnOk result (CanOperate (D.far link.new)) }
-    ensures live { OnOk result (IsLive (D.far link.new)) }
-    ensures idle { OnOk result (IsIdle (D.far link.new)) }
-    ensures alive { OnOk result (D.is_alive link.new ≡ true) }
-    ensures later { D.fault_count link.old ≤ D.fault_count link.new }
-    ensures slack { D.slack link.new ≡ D.slack link.old }
-    ensures ties { D.ties link.new ≡ D.ties link.old }
+    requires callable { CanCall (D.seen link.old) }
+    requires serving { Serving halted.now.number (D.seen link.old).far }
+    ensures did { IfOk result (λ found. Did (Seeks found) halted.now.number (told (D.seen link.old)) (told (D.seen link.new))) }
+    ensures failed { IfErr result (Fails (FailedIn SeeksAny halted.now.number) (D.seen link.old) (D.seen link.new)) }
+    ensures serving { OnOk result (Serving halted.now.number (D.seen link.new).far) }
+    ensures keeps { Keeps access_why (D.seen link.old) (D.seen link.new) result }
 {
     'seeking: for slot in 0..SLOTS {
         let tdata1 = read_word(link, halted, slot)?;
@@ -176,24 +134,12 @@ fn arm_lowest<D: Dmi>(
     what: SlotUse,
 ) -> Result<Option<u8>, AccessFault>
     requires can { CanArm what }
-    requires alive { D.is_alive link.old ≡ true }
-    requires link { CanOperate (D.far link.old) }
-    requires ready { IsReady (D.far link.old) }
-    requires selects { Selects halted.now.number (D.far link.old) }
-    requires halted { IsHalted halted.now.number (D.far link.old) }
-    ensures did { IfOk result (λ found. Did (Arms what found) halted.now.number (tells (D.far link.old) (D.script link.old)) (tells (D.far link.new) (D.script link.new))) }
-    ensures failed { IfErr result (FailedIn (ArmsAny what) halted.now.number (D.fault_count link.old) (D.fault_count link.new) (tells (D.far link.old) (D.script link.old)) (tells (D.far link.new) (D.script link.new))) }
-    ensures ready { OnOk result (IsReady (D.far link.new)) }
-    ensures selects { OnOk result (Selects halted.now.number (D.far link.new)) }
-    ensures halted { OnOk result (IsHalted halted.now.number (D.far link.new)) }
-    ensures state { IfErr result (LinkBehind (D.far link.new) (D.is_alive link.new)) }
-    ensures link { OnOk result (CanOperate (D.far link.new)) }
-    ensures live { OnOk result (IsLive (D.far link.new)) }
-    ensures idle { OnOk result (IsIdle (D.far link.new)) }
-    ensures alive { OnOk result (D.is_alive link.new ≡ true) }
-    ensures later { D.fault_count link.old ≤ D.fault_count link.new }
-    ensures slack { D.slack link.new ≡ D.slack link.old }
-    ensures ties { D.ties link.new ≡ D.ties link.old }
+    requires callable { CanCall (D.seen link.old) }
+    requires serving { Serving halted.now.number (D.seen link.old).far }
+    ensures did { IfOk result (λ found. Did (Arms what found) halted.now.number (told (D.seen link.old)) (told (D.seen link.new))) }
+    ensures failed { IfErr result (Fails (FailedIn (ArmsAny what) halted.now.number) (D.seen link.old) (D.seen link.new)) }
+    ensures serving { OnOk result (Serving halted.now.number (D.seen link.new).far) }
+    ensures keeps { Keeps access_why (D.seen link.old) (D.seen link.new) result }
 {
     let kept = get(link, halted, TriggerRegister::Tselect)?;
     match seek_free(link, halted)? {
@@ -213,31 +159,21 @@ fn arm_lowest<D: Dmi>(
 /// below 4. `NoFreeSlot` where all four are in use.
 pub fn arm<D: Dmi>(link: &mut D, halted: &Halted, what: SlotUse) -> Result<u8, TrigFault>
     requires can { CanArm what }
-    requires alive { D.is_alive link.old ≡ true }
-    requires link { CanOperate (D.far link.old) }
-    requires ready { IsReady (D.far link.old) }
-    requires selects { Selects halted.now.number (D.far link.old) }
-    requires halted { IsHalted halted.now.number (D.far link.old) }
-    ensures armed { IfOk result (λ slot. WhereTold (AtHarts (ArmedAt what slot halted.now.number)) (D.far link.old) (D.far link.new)) }
-    ensures did { IfOk result (λ slot. Did (Arms what (Some slot)) halted.now.number (tells (D.far link.old) (D.script link.old)) (tells (D.far link.new) (D.script link.new))) }
+    requires callable { CanCall (D.seen link.old) }
+    requires serving { Serving halted.now.number (D.seen link.old).far }
+    ensures armed { IfOk result (λ slot. OnChip (AtHarts (ArmedAt what slot halted.now.number)) (D.seen link.old) (D.seen link.new)) }
+    ensures did { IfOk result (λ slot. Did (Arms what (Some slot)) halted.now.number (told (D.seen link.old)) (told (D.seen link.new))) }
     ensures below { IfOk result (λ slot. slot < 4) }
-    ensures left { IfErr result (ByFault (ScratchLeft (D.far link.old)) (WhereTold (AtHarts (FullAt halted.now.number)) (D.far link.old) (D.far link.new)) ⊥) }
-    ensures failed { IfErr result (ByFault (FailedIn (ArmsAny what) halted.now.number (D.fault_count link.old) (D.fault_count link.new) (tells (D.far link.old) (D.script link.old)) (tells (D.far link.new) (D.script link.new))) (Did (Arms what None) halted.now.number (tells (D.far link.old) (D.script link.old)) (tells (D.far link.new) (D.script link.new))) ⊥) }
-    ensures cut { IfErr result (IfAccess (IfCut (Leaves (LeftAside DebugAlone halted.now.number) (D.far link.old) (D.far link.new)))) }
-    ensures ready_again { IfErr result (UnlessAccess (IsReady (D.far link.new))) }
-    ensures selects_still { IfErr result (UnlessAccess (Selects halted.now.number (D.far link.new))) }
-    ensures halted_still { IfErr result (UnlessAccess (IsHalted halted.now.number (D.far link.new))) }
-    ensures ready { OnOk result (IsReady (D.far link.new)) }
-    ensures selects { OnOk result (Selects halted.now.number (D.far link.new)) }
-    ensures halted { OnOk result (IsHalted halted.now.number (D.far link.new)) }
-    ensures state { IfErr result (Behind (D.far link.new) (D.is_alive link.new)) }
-    ensures link { OnOk result (CanOperate (D.far link.new)) }
-    ensures live { OnOk result (IsLive (D.far link.new)) }
-    ensures idle { OnOk result (IsIdle (D.far link.new)) }
-    ensures alive { OnOk result (D.is_alive link.new ≡ true) }
-    ensures later { D.fault_count link.old ≤ D.fault_count link.new }
-    ensures slack { D.slack link.new ≡ D.slack link.old }
-    ensures ties { D.ties link.new ≡ D.ties link.old }
+    ensures left { IfErr result (ByFault (ScratchLeft (D.seen link.old).far)
+        (OnChip (AtHarts (FullAt halted.now.number)) (D.seen link.old) (D.seen link.new))
+        ⊥) }
+    ensures failed { IfErr result (ByFault (Fails (FailedIn (ArmsAny what) halted.now.number) (D.seen link.old) (D.seen link.new))
+        (Did (Arms what None) halted.now.number (told (D.seen link.old)) (told (D.seen link.new)))
+        ⊥) }
+    ensures cut { IfErr result (IfAccess (IfCut (Leaves (LeftAside DebugAlone halted.now.number) (D.seen link.old).far (D.seen link.new).far))) }
+    ensures serving_still { IfErr result (UnlessAccess (Serving halted.now.number (D.seen link.new).far)) }
+    ensures serving { OnOk result (Serving halted.now.number (D.seen link.new).far) }
+    ensures keeps { Keeps trig_why (D.seen link.old) (D.seen link.new) result }
 {
     match arm_lowest(link, halted, what)? {
         Some(slot) => Ok(slot),

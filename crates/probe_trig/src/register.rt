@@ -1,12 +1,9 @@
-ghost use Rattle.std.specs.Prelude.{◌≡◌, ◌≤◌, ◌<◌, ◌++◌, ◌∷◌, [], Bool, true, false, Some, None, IfOk, IfErr, OnOk};
-ghost use Rattle.debug_model.specs.Dmi.{CanOperate};
-ghost use Rattle.debug_model.specs.Scan.{WhereTold};
-ghost use Rattle.debug_model.specs.Told.{IsHalted, IsIdle, IsLive, IsReady, Selects};
-ghost use Rattle.probe_run.specs.Acts.{tells};
-ghost use Rattle.probe_access.specs.Faults.{LinkBehind};
-ghost use Rattle.probe_access.specs.Scratches.{ScratchLeft};
+ghost use Rattle.std.specs.Prelude.{◌≡◌, ◌∷◌, [], IfOk, IfErr, OnOk};
+ghost use Rattle.debug_model.specs.Kept.{CanCall, Keeps};
+ghost use Rattle.probe_run.specs.Told.{told, Fails, Serving};
+ghost use Rattle.probe_access.specs.Faults.{access_why};
 ghost use Rattle.probe_trig.specs.Runs.{word_read};
-ghost use Rattle.probe_trig.specs.Transfers.{FailedIn, GetFailed, Made, SetFailed, number_of};
+ghost use Rattle.probe_trig.specs.Transfers.{FailedIn, Made, number_of};
 ghost use Rattle.probe_trig.specs.Transfers.Transfer.{Got, Set};
 ghost use Rattle.probe_trig.specs.declared.register.TriggerRegister.TheVariants.{Tselect, Tdata1};
 ghost use Rattle.probe_trig.specs.Single.{OneGot, OneSet, WordRead};
@@ -49,24 +46,12 @@ pub fn get<D: Dmi>(
     halted: &Halted,
     register: TriggerRegister,
 ) -> Result<u64, AccessFault>
-    requires alive { D.is_alive link.old ≡ true }
-    requires link { CanOperate (D.far link.old) }
-    requires ready { IsReady (D.far link.old) }
-    requires selects { Selects halted.now.number (D.far link.old) }
-    requires halted { IsHalted halted.now.number (D.far link.old) }
-    ensures made { IfOk result (λ value. Made halted.now.number (tells (D.far link.old) (D.script link.old)) (Got register value ∷ []) (tells (D.far link.new) (D.script link.new))) }
-    ensures failed { IfErr result (FailedIn (OneGot register) halted.now.number (D.fault_count link.old) (D.fault_count link.new) (tells (D.far link.old) (D.script link.old)) (tells (D.far link.new) (D.script link.new))) }
-    ensures ready { OnOk result (IsReady (D.far link.new)) }
-    ensures selects { OnOk result (Selects halted.now.number (D.far link.new)) }
-    ensures halted { OnOk result (IsHalted halted.now.number (D.far link.new)) }
-    ensures state { IfErr result (LinkBehind (D.far link.new) (D.is_alive link.new)) }
-    ensures link { OnOk result (CanOperate (D.far link.new)) }
-    ensures live { OnOk result (IsLive (D.far link.new)) }
-    ensures idle { OnOk result (IsIdle (D.far link.new)) }
-    ensures alive { OnOk result (D.is_alive link.new ≡ true) }
-    ensures later { D.fault_count link.old ≤ D.fault_count link.new }
-    ensures slack { D.slack link.new ≡ D.slack link.old }
-    ensures ties { D.ties link.new ≡ D.ties link.old }
+    requires callable { CanCall (D.seen link.old) }
+    requires serving { Serving halted.now.number (D.seen link.old).far }
+    ensures made { IfOk result (λ value. Made halted.now.number (told (D.seen link.old)) (Got register value ∷ []) (told (D.seen link.new))) }
+    ensures failed { IfErr result (Fails (FailedIn (OneGot register) halted.now.number) (D.seen link.old) (D.seen link.new)) }
+    ensures serving { OnOk result (Serving halted.now.number (D.seen link.new).far) }
+    ensures keeps { Keeps access_why (D.seen link.old) (D.seen link.new) result }
 {
     let value = reg(link, halted, register.number())?;
     Ok(value)
@@ -79,24 +64,12 @@ pub fn set<D: Dmi>(
     register: TriggerRegister,
     value: u64,
 ) -> Result<(), AccessFault>
-    requires alive { D.is_alive link.old ≡ true }
-    requires link { CanOperate (D.far link.old) }
-    requires ready { IsReady (D.far link.old) }
-    requires selects { Selects halted.now.number (D.far link.old) }
-    requires halted { IsHalted halted.now.number (D.far link.old) }
-    ensures made { OnOk result (Made halted.now.number (tells (D.far link.old) (D.script link.old)) (Set register value ∷ []) (tells (D.far link.new) (D.script link.new))) }
-    ensures failed { IfErr result (FailedIn (OneSet register value) halted.now.number (D.fault_count link.old) (D.fault_count link.new) (tells (D.far link.old) (D.script link.old)) (tells (D.far link.new) (D.script link.new))) }
-    ensures ready { OnOk result (IsReady (D.far link.new)) }
-    ensures selects { OnOk result (Selects halted.now.number (D.far link.new)) }
-    ensures halted { OnOk result (IsHalted halted.now.number (D.far link.new)) }
-    ensures state { IfErr result (LinkBehind (D.far link.new) (D.is_alive link.new)) }
-    ensures link { OnOk result (CanOperate (D.far link.new)) }
-    ensures live { OnOk result (IsLive (D.far link.new)) }
-    ensures idle { OnOk result (IsIdle (D.far link.new)) }
-    ensures alive { OnOk result (D.is_alive link.new ≡ true) }
-    ensures later { D.fault_count link.old ≤ D.fault_count link.new }
-    ensures slack { D.slack link.new ≡ D.slack link.old }
-    ensures ties { D.ties link.new ≡ D.ties link.old }
+    requires callable { CanCall (D.seen link.old) }
+    requires serving { Serving halted.now.number (D.seen link.old).far }
+    ensures made { OnOk result (Made halted.now.number (told (D.seen link.old)) (Set register value ∷ []) (told (D.seen link.new))) }
+    ensures failed { IfErr result (Fails (FailedIn (OneSet register value) halted.now.number) (D.seen link.old) (D.seen link.new)) }
+    ensures serving { OnOk result (Serving halted.now.number (D.seen link.new).far) }
+    ensures keeps { Keeps access_why (D.seen link.old) (D.seen link.new) result }
 {
     set_reg(link, halted, register.number(), value)?;
     Ok(())
@@ -104,24 +77,12 @@ pub fn set<D: Dmi>(
 
 /// Selects a slot, and reads its `tdata1`.
 pub fn read_word<D: Dmi>(link: &mut D, halted: &Halted, slot: u8) -> Result<u64, AccessFault>
-    requires alive { D.is_alive link.old ≡ true }
-    requires link { CanOperate (D.far link.old) }
-    requires ready { IsReady (D.far link.old) }
-    requires selects { Selects halted.now.number (D.far link.old) }
-    requires halted { IsHalted halted.now.number (D.far link.old) }
-    ensures made { IfOk result (λ tdata1. Made halted.now.number (tells (D.far link.old) (D.script link.old)) (word_read slot tdata1) (tells (D.far link.new) (D.script link.new))) }
-    ensures failed { IfErr result (FailedIn (WordRead slot) halted.now.number (D.fault_count link.old) (D.fault_count link.new) (tells (D.far link.old) (D.script link.old)) (tells (D.far link.new) (D.script link.new))) }
-    ensures ready { OnOk result (IsReady (D.far link.new)) }
-    ensures selects { OnOk result (Selects halted.now.number (D.far link.new)) }
-    ensures halted { OnOk result (IsHalted halted.now.number (D.far link.new)) }
-    ensures state { IfErr result (LinkBehind (D.far link.new) (D.is_alive link.new)) }
-    ensures link { OnOk result (CanOperate (D.far link.new)) }
-    ensures live { OnOk result (IsLive (D.far link.new)) }
-    ensures idle { OnOk result (IsIdle (D.far link.new)) }
-    ensures alive { OnOk result (D.is_alive link.new ≡ true) }
-    ensures later { D.fault_count link.old ≤ D.fault_count link.new }
-    ensures slack { D.slack link.new ≡ D.slack link.old }
-    ensures ties { D.ties link.new ≡ D.ties link.old }
+    requires callable { CanCall (D.seen link.old) }
+    requires serving { Serving halted.now.number (D.seen link.old).far }
+    ensures made { IfOk result (λ tdata1. Made halted.now.number (told (D.seen link.old)) (word_read slot tdata1) (told (D.seen link.new))) }
+    ensures failed { IfErr result (Fails (FailedIn (WordRead slot) halted.now.number) (D.seen link.old) (D.seen link.new)) }
+    ensures serving { OnOk result (Serving halted.now.number (D.seen link.new).far) }
+    ensures keeps { Keeps access_why (D.seen link.old) (D.seen link.new) result }
 {
     set(link, halted, TriggerRegister::Tselect, u64::from(slot))?;
     let tdata1 = get(link, halted, TriggerRegister::Tdata1)?;

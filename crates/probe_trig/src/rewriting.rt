@@ -1,14 +1,11 @@
-ghost use Rattle.std.specs.Prelude.{◌≡◌, ◌||◌, ◌≤◌, ◌<◌, ◌++◌, ◌∷◌, [], Bool, true, false, Some, None, IfOk, IfErr, OnOk};
-ghost use Rattle.debug_model.specs.Dmi.{CanOperate};
-ghost use Rattle.debug_model.specs.Scan.{WhereTold};
-ghost use Rattle.debug_model.specs.Told.{IsHalted, IsIdle, IsLive, IsReady, Selects};
-ghost use Rattle.probe_run.specs.Acts.{tells};
-ghost use Rattle.probe_access.specs.Faults.{LinkBehind};
-ghost use Rattle.probe_access.specs.Scratches.{ScratchLeft};
-ghost use Rattle.probe_trig.specs.Runs.{Changes, ChangesAny, slot_changed};
+ghost use Rattle.std.specs.Prelude.{◌≡◌, ◌||◌, IfOk, IfErr, OnOk};
+ghost use Rattle.debug_model.specs.Kept.{CanCall, Keeps};
+ghost use Rattle.probe_run.specs.Told.{told, Fails, Serving};
+ghost use Rattle.probe_access.specs.Faults.{access_why};
+ghost use Rattle.probe_trig.specs.Runs.{ChangesAny, slot_changed};
 ghost use Rattle.probe_trig.specs.Single.{ChangedAll, SlotChanged};
 ghost use Rattle.probe_trig.specs.SlotRegisters.{shows_hit};
-ghost use Rattle.probe_trig.specs.Transfers.{Did, FailedIn, Made};
+ghost use Rattle.probe_trig.specs.Transfers.{FailedIn, Made};
 
 use crate::change::Change;
 use crate::register::{TriggerRegister, get, read_word, set};
@@ -24,24 +21,12 @@ fn change_slot<D: Dmi>(
     slot: u8,
     change: Change,
 ) -> Result<u64, AccessFault>
-    requires alive { D.is_alive link.old ≡ true }
-    requires link { CanOperate (D.far link.old) }
-    requires ready { IsReady (D.far link.old) }
-    requires selects { Selects halted.now.number (D.far link.old) }
-    requires halted { IsHalted halted.now.number (D.far link.old) }
-    ensures made { IfOk result (λ tdata1. Made halted.now.number (tells (D.far link.old) (D.script link.old)) (slot_changed change slot tdata1) (tells (D.far link.new) (D.script link.new))) }
-    ensures failed { IfErr result (FailedIn (SlotChanged change slot) halted.now.number (D.fault_count link.old) (D.fault_count link.new) (tells (D.far link.old) (D.script link.old)) (tells (D.far link.new) (D.script link.new))) }
-    ensures ready { OnOk result (IsReady (D.far link.new)) }
-    ensures selects { OnOk result (Selects halted.now.number (D.far link.new)) }
-    ensures halted { OnOk result (IsHalted halted.now.number (D.far link.new)) }
-    ensures state { IfErr result (LinkBehind (D.far link.new) (D.is_alive link.new)) }
-    ensures link { OnOk result (CanOperate (D.far link.new)) }
-    ensures live { OnOk result (IsLive (D.far link.new)) }
-    ensures idle { OnOk result (IsIdle (D.far link.new)) }
-    ensures alive { OnOk result (D.is_alive link.new ≡ true) }
-    ensures later { D.fault_count link.old ≤ D.fault_count link.new }
-    ensures slack { D.slack link.new ≡ D.slack link.old }
-    ensures ties { D.ties link.new ≡ D.ties link.old }
+    requires callable { CanCall (D.seen link.old) }
+    requires serving { Serving halted.now.number (D.seen link.old).far }
+    ensures made { IfOk result (λ tdata1. Made halted.now.number (told (D.seen link.old)) (slot_changed change slot tdata1) (told (D.seen link.new))) }
+    ensures failed { IfErr result (Fails (FailedIn (SlotChanged change slot) halted.now.number) (D.seen link.old) (D.seen link.new)) }
+    ensures serving { OnOk result (Serving halted.now.number (D.seen link.new).far) }
+    ensures keeps { Keeps access_why (D.seen link.old) (D.seen link.new) result }
 {
     let tdata1 = read_word(link, halted, slot)?;
     if !shows_hit(tdata1) {
@@ -69,24 +54,12 @@ pub fn change_hits<D: Dmi>(
     halted: &Halted,
     change: Change,
 ) -> Result<bool, AccessFault>
-    requires alive { D.is_alive link.old ≡ true }
-    requires link { CanOperate (D.far link.old) }
-    requires ready { IsReady (D.far link.old) }
-    requires selects { Selects halted.now.number (D.far link.old) }
-    requires halted { IsHalted halted.now.number (D.far link.old) }
-    ensures did { IfOk result (λ some. ChangedAll change some halted.now.number (tells (D.far link.old) (D.script link.old)) (tells (D.far link.new) (D.script link.new))) }
-    ensures failed { IfErr result (FailedIn (ChangesAny change) halted.now.number (D.fault_count link.old) (D.fault_count link.new) (tells (D.far link.old) (D.script link.old)) (tells (D.far link.new) (D.script link.new))) }
-    ensures ready { OnOk result (IsReady (D.far link.new)) }
-    ensures selects { OnOk result (Selects halted.now.number (D.far link.new)) }
-    ensures halted { OnOk result (IsHalted halted.now.number (D.far link.new)) }
-    ensures state { IfErr result (LinkBehind (D.far link.new) (D.is_alive link.new)) }
-    ensures link { OnOk result (CanOperate (D.far link.new)) }
-    ensures live { OnOk result (IsLive (D.far link.new)) }
-    ensures idle { OnOk result (IsIdle (D.far link.new)) }
-    ensures alive { OnOk result (D.is_alive link.new ≡ true) }
-    ensures later { D.fault_count link.old ≤ D.fault_count link.new }
-    ensures slack { D.slack link.new ≡ D.slack link.old }
-    ensures ties { D.ties link.new ≡ D.ties link.old }
+    requires callable { CanCall (D.seen link.old) }
+    requires serving { Serving halted.now.number (D.seen link.old).far }
+    ensures did { IfOk result (λ some. ChangedAll change some halted.now.number (told (D.seen link.old)) (told (D.seen link.new))) }
+    ensures failed { IfErr result (Fails (FailedIn (ChangesAny change) halted.now.number) (D.seen link.old) (D.seen link.new)) }
+    ensures serving { OnOk result (Serving halted.now.number (D.seen link.new).far) }
+    ensures keeps { Keeps access_why (D.seen link.old) (D.seen link.new) result }
 {
     let kept = get(link, halted, TriggerRegister::Tselect)?;
     let a = change_slot(link, halted, 0, change)?;

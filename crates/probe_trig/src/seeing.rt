@@ -1,17 +1,15 @@
-ghost use Rattle.std.specs.Prelude.{◌≡◌, ◌≤◌, ◌<◌, ◌++◌, ◌∷◌, [], Bool, true, false, Some, None, IfOk, IfErr, OnOk};
-ghost use Rattle.debug_model.specs.Dmi.{CanOperate};
-ghost use Rattle.debug_model.specs.Scan.{WhereTold};
-ghost use Rattle.debug_model.specs.Told.{IsHalted, IsIdle, IsLive, IsReady, Selects};
-ghost use Rattle.probe_run.specs.Acts.{tells};
+ghost use Rattle.std.specs.Prelude.{◌≡◌, ◌<◌, ◌∷◌, [], IfOk, IfErr, OnOk};
+ghost use Rattle.debug_model.specs.Kept.{CanCall, Keeps};
+ghost use Rattle.probe_run.specs.Told.{told, OnChip, Fails, Serving};
+ghost use Rattle.probe_access.specs.Faults.{access_why};
 ghost use Rattle.probe_access.specs.Cuts.{IfCut, LeftAside, Leaves};
-ghost use Rattle.probe_access.specs.Faults.{LinkBehind};
 ghost use Rattle.probe_access.specs.Scratches.{ScratchLeft};
-ghost use Rattle.probe_trig.specs.Faults.{Behind, ByFault, IfAccess};
-ghost use Rattle.probe_trig.specs.Runs.{Reads, ReadsAny, slot_read};
+ghost use Rattle.probe_trig.specs.Faults.{ByFault, IfAccess, trig_why};
+ghost use Rattle.probe_trig.specs.Runs.{ReadsAny, slot_read};
 ghost use Rattle.probe_trig.specs.Single.{ReadAll, SlotRead};
-ghost use Rattle.probe_trig.specs.Slots.{AtHarts, DebugAlone, SawAll, Shows, ViewedAt, hit_of_words, hits_in, use_of_words};
+ghost use Rattle.probe_trig.specs.Slots.{AtHarts, DebugAlone, SawAll, ViewedAt, hits_in, use_of_words};
 ghost use Rattle.probe_trig.specs.SlotRegisters.{use_named};
-ghost use Rattle.probe_trig.specs.Transfers.{Did, FailedIn, Made};
+ghost use Rattle.probe_trig.specs.Transfers.{FailedIn, Made};
 
 use crate::fault::TrigFault;
 use crate::register::{TriggerRegister, get, read_word, set};
@@ -25,24 +23,12 @@ use rv_model::SlotSet;
 
 /// Selects a slot, and reads its two registers.
 fn read_slot<D: Dmi>(link: &mut D, halted: &Halted, slot: u8) -> Result<SlotWords, AccessFault>
-    requires alive { D.is_alive link.old ≡ true }
-    requires link { CanOperate (D.far link.old) }
-    requires ready { IsReady (D.far link.old) }
-    requires selects { Selects halted.now.number (D.far link.old) }
-    requires halted { IsHalted halted.now.number (D.far link.old) }
-    ensures made { IfOk result (λ words. Made halted.now.number (tells (D.far link.old) (D.script link.old)) (slot_read slot words) (tells (D.far link.new) (D.script link.new))) }
-    ensures failed { IfErr result (FailedIn (SlotRead slot) halted.now.number (D.fault_count link.old) (D.fault_count link.new) (tells (D.far link.old) (D.script link.old)) (tells (D.far link.new) (D.script link.new))) }
-    ensures ready { OnOk result (IsReady (D.far link.new)) }
-    ensures selects { OnOk result (Selects halted.now.number (D.far link.new)) }
-    ensures halted { OnOk result (IsHalted halted.now.number (D.far link.new)) }
-    ensures state { IfErr result (LinkBehind (D.far link.new) (D.is_alive link.new)) }
-    ensures link { OnOk result (CanOperate (D.far link.new)) }
-    ensures live { OnOk result (IsLive (D.far link.new)) }
-    ensures idle { OnOk result (IsIdle (D.far link.new)) }
-    ensures alive { OnOk result (D.is_alive link.new ≡ true) }
-    ensures later { D.fault_count link.old ≤ D.fault_count link.new }
-    ensures slack { D.slack link.new ≡ D.slack link.old }
-    ensures ties { D.ties link.new ≡ D.ties link.old }
+    requires callable { CanCall (D.seen link.old) }
+    requires serving { Serving halted.now.number (D.seen link.old).far }
+    ensures made { IfOk result (λ words. Made halted.now.number (told (D.seen link.old)) (slot_read slot words) (told (D.seen link.new))) }
+    ensures failed { IfErr result (Fails (FailedIn (SlotRead slot) halted.now.number) (D.seen link.old) (D.seen link.new)) }
+    ensures serving { OnOk result (Serving halted.now.number (D.seen link.new).far) }
+    ensures keeps { Keeps access_why (D.seen link.old) (D.seen link.new) result }
 {
     let tdata1 = read_word(link, halted, slot)?;
     let tdata2 = get(link, halted, TriggerRegister::Tdata2)?;
@@ -51,24 +37,12 @@ fn read_slot<D: Dmi>(link: &mut D, halted: &Halted, slot: u8) -> Result<SlotWord
 
 /// Reads the registers of all four slots.
 fn read_slots<D: Dmi>(link: &mut D, halted: &Halted) -> Result<[SlotWords; 4], AccessFault>
-    requires alive { D.is_alive link.old ≡ true }
-    requires link { CanOperate (D.far link.old) }
-    requires ready { IsReady (D.far link.old) }
-    requires selects { Selects halted.now.number (D.far link.old) }
-    requires halted { IsHalted halted.now.number (D.far link.old) }
-    ensures did { IfOk result (λ words. ReadAll words halted.now.number (tells (D.far link.old) (D.script link.old)) (tells (D.far link.new) (D.script link.new))) }
-    ensures failed { IfErr result (FailedIn (ReadsAny) halted.now.number (D.fault_count link.old) (D.fault_count link.new) (tells (D.far link.old) (D.script link.old)) (tells (D.far link.new) (D.script link.new))) }
-    ensures ready { OnOk result (IsReady (D.far link.new)) }
-    ensures selects { OnOk result (Selects halted.now.number (D.far link.new)) }
-    ensures halted { OnOk result (IsHalted halted.now.number (D.far link.new)) }
-    ensures state { IfErr result (LinkBehind (D.far link.new) (D.is_alive link.new)) }
-    ensures link { OnOk result (CanOperate (D.far link.new)) }
-    ensures live { OnOk result (IsLive (D.far link.new)) }
-    ensures idle { OnOk result (IsIdle (D.far link.new)) }
-    ensures alive { OnOk result (D.is_alive link.new ≡ true) }
-    ensures later { D.fault_count link.old ≤ D.fault_count link.new }
-    ensures slack { D.slack link.new ≡ D.slack link.old }
-    ensures ties { D.ties link.new ≡ D.ties link.old }
+    requires callable { CanCall (D.seen link.old) }
+    requires serving { Serving halted.now.number (D.seen link.old).far }
+    ensures did { IfOk result (λ words. ReadAll words halted.now.number (told (D.seen link.old)) (told (D.seen link.new))) }
+    ensures failed { IfErr result (Fails (FailedIn ReadsAny halted.now.number) (D.seen link.old) (D.seen link.new)) }
+    ensures serving { OnOk result (Serving halted.now.number (D.seen link.new).far) }
+    ensures keeps { Keeps access_why (D.seen link.old) (D.seen link.new) result }
 {
     let kept = get(link, halted, TriggerRegister::Tselect)?;
     let a = read_slot(link, halted, 0)?;
@@ -96,24 +70,12 @@ fn use_of(words: SlotWords) -> SlotUse
 
 /// Reads the registers of all four slots, and says what they show.
 fn see<D: Dmi>(link: &mut D, halted: &Halted) -> Result<SlotView, AccessFault>
-    requires alive { D.is_alive link.old ≡ true }
-    requires link { CanOperate (D.far link.old) }
-    requires ready { IsReady (D.far link.old) }
-    requires selects { Selects halted.now.number (D.far link.old) }
-    requires halted { IsHalted halted.now.number (D.far link.old) }
-    ensures saw { IfOk result (λ view. SawAll view halted.now.number (tells (D.far link.old) (D.script link.old)) (tells (D.far link.new) (D.script link.new))) }
-    ensures failed { IfErr result (FailedIn (ReadsAny) halted.now.number (D.fault_count link.old) (D.fault_count link.new) (tells (D.far link.old) (D.script link.old)) (tells (D.far link.new) (D.script link.new))) }
-    ensures ready { OnOk result (IsReady (D.far link.new)) }
-    ensures selects { OnOk result (Selects halted.now.number (D.far link.new)) }
-    ensures halted { OnOk result (IsHalted halted.now.number (D.far link.new)) }
-    ensures state { IfErr result (LinkBehind (D.far link.new) (D.is_alive link.new)) }
-    ensures link { OnOk result (CanOperate (D.far link.new)) }
-    ensures live { OnOk result (IsLive (D.far link.new)) }
-    ensures idle { OnOk result (IsIdle (D.far link.new)) }
-    ensures alive { OnOk result (D.is_alive link.new ≡ true) }
-    ensures later { D.fault_count link.old ≤ D.fault_count link.new }
-    ensures slack { D.slack link.new ≡ D.slack link.old }
-    ensures ties { D.ties link.new ≡ D.ties link.old }
+    requires callable { CanCall (D.seen link.old) }
+    requires serving { Serving halted.now.number (D.seen link.old).far }
+    ensures saw { IfOk result (λ view. SawAll view halted.now.number (told (D.seen link.old)) (told (D.seen link.new))) }
+    ensures failed { IfErr result (Fails (FailedIn ReadsAny halted.now.number) (D.seen link.old) (D.seen link.new)) }
+    ensures serving { OnOk result (Serving halted.now.number (D.seen link.new).far) }
+    ensures keeps { Keeps access_why (D.seen link.old) (D.seen link.new) result }
 {
     let [a, b, c, d] = read_slots(link, halted)?;
     Ok(SlotView {
@@ -130,27 +92,15 @@ fn see<D: Dmi>(link: &mut D, halted: &Halted) -> Result<SlotView, AccessFault>
 /// The four slots of the halted hart, which is selected: what each is used for, and which have a hit, that is, stopped it where it stands
 /// (RISC-V Debug Specification 1.0, "Sdtrig (ISA Extension)"). They stay as they are.
 pub fn slots<D: Dmi>(link: &mut D, halted: &Halted) -> Result<SlotView, TrigFault>
-    requires alive { D.is_alive link.old ≡ true }
-    requires link { CanOperate (D.far link.old) }
-    requires ready { IsReady (D.far link.old) }
-    requires selects { Selects halted.now.number (D.far link.old) }
-    requires halted { IsHalted halted.now.number (D.far link.old) }
-    ensures viewed { IfOk result (λ view. WhereTold (AtHarts (ViewedAt view halted.now.number)) (D.far link.old) (D.far link.new)) }
-    ensures saw { IfOk result (λ view. SawAll view halted.now.number (tells (D.far link.old) (D.script link.old)) (tells (D.far link.new) (D.script link.new))) }
-    ensures left { IfErr result (ByFault (ScratchLeft (D.far link.old)) ⊥ ⊥) }
-    ensures failed { IfErr result (ByFault (FailedIn (ReadsAny) halted.now.number (D.fault_count link.old) (D.fault_count link.new) (tells (D.far link.old) (D.script link.old)) (tells (D.far link.new) (D.script link.new))) ⊥ ⊥) }
-    ensures cut { IfErr result (IfAccess (IfCut (Leaves (LeftAside DebugAlone halted.now.number) (D.far link.old) (D.far link.new)))) }
-    ensures ready { OnOk result (IsReady (D.far link.new)) }
-    ensures selects { OnOk result (Selects halted.now.number (D.far link.new)) }
-    ensures halted { OnOk result (IsHalted halted.now.number (D.far link.new)) }
-    ensures state { IfErr result (Behind (D.far link.new) (D.is_alive link.new)) }
-    ensures link { OnOk result (CanOperate (D.far link.new)) }
-    ensures live { OnOk result (IsLive (D.far link.new)) }
-    ensures idle { OnOk result (IsIdle (D.far link.new)) }
-    ensures alive { OnOk result (D.is_alive link.new ≡ true) }
-    ensures later { D.fault_count link.old ≤ D.fault_count link.new }
-    ensures slack { D.slack link.new ≡ D.slack link.old }
-    ensures ties { D.ties link.new ≡ D.ties link.old }
+    requires callable { CanCall (D.seen link.old) }
+    requires serving { Serving halted.now.number (D.seen link.old).far }
+    ensures viewed { IfOk result (λ view. OnChip (AtHarts (ViewedAt view halted.now.number)) (D.seen link.old) (D.seen link.new)) }
+    ensures saw { IfOk result (λ view. SawAll view halted.now.number (told (D.seen link.old)) (told (D.seen link.new))) }
+    ensures left { IfErr result (ByFault (ScratchLeft (D.seen link.old).far) ⊥ ⊥) }
+    ensures failed { IfErr result (ByFault (Fails (FailedIn ReadsAny halted.now.number) (D.seen link.old) (D.seen link.new)) ⊥ ⊥) }
+    ensures cut { IfErr result (IfAccess (IfCut (Leaves (LeftAside DebugAlone halted.now.number) (D.seen link.old).far (D.seen link.new).far))) }
+    ensures serving { OnOk result (Serving halted.now.number (D.seen link.new).far) }
+    ensures keeps { Keeps trig_why (D.seen link.old) (D.seen link.new) result }
 {
     let view = see(link, halted)?;
     Ok(view)

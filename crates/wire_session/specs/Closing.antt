@@ -1,9 +1,9 @@
 -- How the stream of a session is ended: by `Q`, alone, but not behind a fault of the wire.
 -- OpenOCD, remote_bitbang, for the sign; when it is sent is this project's own.
-use Rattle.std.specs.Prelude.{◌≡◌, ◌≤◌, ℕ, List, [], ◌∷◌, Bool, true, false, option_map}
+use Rattle.std.specs.Prelude.{◌≡◌, ◌≤◌, ℕ, List, [], ◌∷◌, Bool, true, false, None, option_map}
 use Rattle.debug_model.specs.declared.wire.WireFault.{WireFault}
 use Rattle.debug_model.specs.Wire.{SendCause, SentFront, sent}
-use Rattle.probe_run.specs.Opening.{IfOpeningDmi}
+use Rattle.probe_run.specs.Opening.{opening_why}
 use Rattle.probe_session.specs.declared.ended.Ended.{Ended as End}
 use Rattle.probe_session.specs.declared.ended.Ended.TheVariants as ends
 use Rattle.wire_session.specs.Seen.{WireSeen}
@@ -52,7 +52,7 @@ pub data Closes (mid new : WireSeen) (end closed : End) : Type 0 where
 abbrev pub IsOfRegister : End → Type 0
 IsOfRegister ends.Clean = Unit {0}
 IsOfRegister ends.WithErrors = Unit {0}
-IsOfRegister (ends.Target fault) = IfOpeningDmi (λ _. ⊥) fault
+IsOfRegister (ends.Target fault) = opening_why fault ≡ None
 IsOfRegister (ends.Wire why) = Unit {0}
 IsOfRegister (ends.Lost why) = Unit {0}
 IsOfRegister ends.Sink = Unit {0}

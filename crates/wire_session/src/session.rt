@@ -24,17 +24,17 @@ use probe_session::{Ended, run_script};
 
 /// Runs a script over these scans, puts its lines, and hands the scans back.
 fn run_over_scans<S: Scan, K: Sink>(scan: S, script: &Script, out: &mut K) -> (Ended, S)
-    requires link { CanOperate (S.far scan) }
-    requires loaded { IsAsLoaded (S.far scan) }
-    ensures ended { EndedAs script.now (S.fault_count scan) (S.fault_count result.1) (tells (S.far scan) (option_map Scans (S.script scan)))
-        (tells (S.far result.1) (option_map Scans (S.script result.1))) (K.fault_count out.old) (K.fault_count out.new)
-        (K.contents out.old) (K.contents out.new) result.0 }
-    ensures cause { EndCaused (S.fault_count scan) (S.fault_count result.1) (S.far result.1) result.0 }
+    requires link { CanOperate (S.seen scan).far }
+    requires loaded { IsAsLoaded (S.seen scan).far }
+    ensures ended { EndedAs script.now (S.seen scan).fault_count (S.seen result.1).fault_count
+        (tells (S.seen scan).far (option_map Scans (S.seen scan).coming)) (tells (S.seen result.1).far (option_map Scans (S.seen result.1).coming))
+        (K.fault_count out.old) (K.fault_count out.new) (K.contents out.old) (K.contents out.new) result.0 }
+    ensures cause { EndCaused (S.seen scan).fault_count (S.seen result.1).fault_count (S.seen result.1).far result.0 }
     ensures sink_cause { SinkCaused (K.fault_count out.old) (K.fault_count out.new) result.0 }
-    ensures transcribed { TranscribedAs script.now (K.contents out.old) (K.contents out.new) (S.far scan) (S.far result.1) result.0 }
-    ensures leaves { LeavesWire (S.far result.1) result.0 }
-    ensures later { S.fault_count scan ≤ S.fault_count result.1 }
-    ensures ties { S.ties result.1 ≡ S.ties scan }
+    ensures transcribed { TranscribedAs script.now (K.contents out.old) (K.contents out.new) (S.seen scan).far (S.seen result.1).far result.0 }
+    ensures leaves { LeavesWire (S.seen result.1).far result.0 }
+    ensures later { (S.seen scan).fault_count ≤ (S.seen result.1).fault_count }
+    ensures fixed { (S.seen result.1).fixed ≡ (S.seen scan).fixed }
     ensures sink_later { K.fault_count out.old ≤ K.fault_count out.new }
 {
     let mut link = Link::new(scan);

@@ -1,9 +1,8 @@
 use Rattle.probe_run.specs.Told.{Serving}
 use Rattle.probe_run.specs.Told.{told}
-use Rattle.std.proofs.Common.{◌≡◌, ◌≤◌, ◌<◌, true, length}
+use Rattle.std.proofs.Common.{◌≡◌, ◌≤◌, ◌<◌, length}
 use Rattle.debug_model.specs.Kept.{CanCall, Stands}
 use Rattle.debug_model.specs.Scan.{WhereTold}
-use Rattle.debug_model.specs.Told.{IsHalted, IsReady, Selects}
 use Rattle.probe_access.specs.BlockRuns.{Fetched}
 use Rattle.probe_access.specs.Blocks.{BlockLoadedAt}
 use Rattle.probe_access.proofs.blocks.load_block.Given as goal

@@ -1,9 +1,8 @@
 use Rattle.probe_run.specs.Told.{Serving}
 use Rattle.probe_run.specs.Told.{told}
-use Rattle.std.proofs.Common.{◌≡◌, ◌≤◌, ◌<◌, true}
+use Rattle.std.proofs.Common.{◌≡◌, ◌≤◌, ◌<◌}
 use Rattle.debug_model.specs.Kept.{CanCall, Stands}
 use Rattle.debug_model.specs.Scan.{WhereTold}
-use Rattle.debug_model.specs.Told.{IsHalted, IsReady, Selects}
 use Rattle.probe_access.proofs.BlockCauses.{Calls}
 use Rattle.probe_access.specs.Blocks.{BlockStoredAt}
 use Rattle.probe_access.proofs.blocks.store_block.Given as goal

@@ -1,8 +1,6 @@
 use Rattle.probe_access.proofs.CutClauses.{load_left_off}
 use Rattle.std.proofs.Common.{arith}
-use Rattle.debug_model.specs.Told.{IsHalted, IsReady, Selects}
 use Rattle.probe_access.proofs.LoadClauses.{load_err, load_ok}
-use Rattle.probe_access.proofs.AccessErrs.{if_memory}
 use Rattle.probe_access.proofs.RegisterCalls.{err_failed}
 use Rattle.probe_access.proofs.memory.load.Goals as goal
 

@@ -1,8 +1,6 @@
 use Rattle.probe_access.proofs.CutClauses.{store_left_off}
 use Rattle.std.proofs.Common.{arith}
-use Rattle.debug_model.specs.Told.{IsHalted, IsReady, Selects}
 use Rattle.probe_access.proofs.StoreClauses.{store_err, store_ok}
-use Rattle.probe_access.proofs.AccessErrs.{if_memory}
 use Rattle.probe_access.proofs.RegisterCalls.{err_failed}
 use Rattle.probe_access.proofs.memory.store.Goals as goal
 

@@ -1,5 +1,5 @@
 use Rattle.probe_run.specs.Told.{told}
-use Rattle.std.proofs.Common.{◌≡◌, ◌≤◌, ◌<◌, true}
+use Rattle.std.proofs.Common.{◌≡◌, ◌≤◌, ◌<◌}
 use Rattle.debug_model.specs.Kept.{CanCall, Stands}
 use Rattle.probe_access.proofs.Polls.{Waiting}
 use Rattle.probe_access.proofs.polling.poll.Given as goal

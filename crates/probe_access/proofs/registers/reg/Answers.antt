@@ -1,7 +1,6 @@
 use Rattle.std.proofs.Common.{arith}
-use Rattle.debug_model.specs.Told.{IsHalted, IsReady, Selects}
 use Rattle.probe_access.proofs.CutClauses.{reg_cut}
-use Rattle.probe_access.proofs.RegClauses.{if_register, reg_err, reg_ok}
+use Rattle.probe_access.proofs.RegClauses.{reg_err, reg_ok}
 use Rattle.probe_access.proofs.RegisterCalls.{err_failed}
 use Rattle.probe_access.proofs.registers.reg.Goals as goal
 

@@ -1,7 +1,5 @@
 use Rattle.std.proofs.Common.{arith}
-use Rattle.debug_model.specs.Told.{IsHalted, IsReady, Selects}
 use Rattle.probe_access.proofs.CutClauses.{set_reg_cut}
-use Rattle.probe_access.proofs.RegClauses.{if_register}
 use Rattle.probe_access.proofs.SetClauses.{set_err, set_ok}
 use Rattle.probe_access.proofs.RegisterCalls.{err_failed}
 use Rattle.probe_access.proofs.registers.set_reg.Goals as goal

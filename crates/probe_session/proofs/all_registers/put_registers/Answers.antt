@@ -10,7 +10,7 @@ pub returns-in_err-put_register-clause-fell : goal.returns-in_err-put_register-c
 returns-in_err-put_register-clause-fell g c = if_err _ c.in_err-put_register.field-0.0 _ c.from_residual.ensures.1 (pc_fell c.args.halted.now.number c.in_err-put_register.ensures.fell)
 
 pub showing-init : goal.showing-init
-showing-init g c = record { serving = c.in_ok-put_register.ensures.serving; shown = pc_shown c.args.halted.now.number c.in_ok-put_register.ensures.spoke; later = c.put_register.ensures.later; slack = c.put_register.ensures.slack; ties = c.put_register.ensures.ties; sink_later = c.put_register.ensures.sink_later }
+showing-init g c = record { serving = c.in_ok-put_register.ensures.keeps.behind; shown = pc_shown c.args.halted.now.number c.in_ok-put_register.ensures.spoke; later = c.put_register.ensures.keeps.later; fixed = c.put_register.ensures.keeps.fixed; sink_later = c.put_register.ensures.sink_later }
 
 pub put_register-requires-in-showing-clause-of : goal.put_register-requires-in-showing-clause-of
 put_register-requires-in-showing-clause-of g c = x_of_cores c.showing.x c.showing-test.true
@@ -20,11 +20,10 @@ returns-in_err-put_register-2-clause-fell g c = if_err _ c.in_err-put_register-2
 
 pub showing-preserved : goal.showing-preserved
 showing-preserved g c = record {
-  serving = c.in_ok-put_register-2.ensures.serving;
+  serving = c.in_ok-put_register-2.ensures.keeps.behind;
   shown = x_shown c.args.halted.now.number c.showing.x c.showing-test.true c.showing.invariant.shown c.in_ok-put_register-2.ensures.spoke;
-  later = omega (arith, c.showing.invariant.later, c.put_register-in-showing.ensures.later);
-  slack = c.put_register-in-showing.ensures.slack ∙ c.showing.invariant.slack;
-  ties = c.put_register-in-showing.ensures.ties ∙ c.showing.invariant.ties;
+  later = omega (arith, c.showing.invariant.later, c.put_register-in-showing.ensures.keeps.later);
+  fixed = c.put_register-in-showing.ensures.keeps.fixed ∙ c.showing.invariant.fixed;
   sink_later = omega (arith, c.showing.invariant.sink_later, c.put_register-in-showing.ensures.sink_later);
 }
 

@@ -1,16 +1,17 @@
+use Rattle.std.proofs.Common.{rules}
 use Rattle.std.proofs.Common.{◌≡◌, ◌∙◌, ℕ, List, length, refl, sym, ap, arith}
 use Rattle.arrayvec.specs.ArrayVec.{array_vec_len}
 use Rattle.std.proofs.lemmas.Bool.{eqb-true}
 use Rattle.jt_base.proofs.FaultLemmas.{rises_from}
 use Rattle.probe_session.proofs.DumpLines.{dump_fell, dump_refused, dumped_false, dumped_last, dumped_next, dumped_none_yet, dumped_true, dumped_whole, last_cut, next_byte, not_empty}
 use Rattle.probe_session.proofs.LinkLemmas.{if_err}
-use Rattle.probe_session.proofs.MemoryLines.{serving_rests}
+use Rattle.probe_session.proofs.MemoryLines.{attached_by}
 use Rattle.probe_session.proofs.dumping.put_rows.Goals as goal
 
 pub loading-init : goal.loading-init
 loading-init g c =
     let e : array_vec_len c.new-row.result ≡ 0 = ap (λ (xs : List ℕ). length xs) c.new-row.ensures in
-    record { serving = c.requires.serving; room = omega (arith, e); behind = omega (arith, e); dumped = dumped_none_yet c.args.reach.now c.args.address c.args.count _ _ _ c.new-row.ensures; later = omega arith; slack = refl; ties = refl; sink_later = omega arith }
+    record { serving = c.requires.serving; room = omega (arith, e); behind = omega (arith, e); dumped = dumped_none_yet c.args.reach.now c.args.address c.args.count _ _ _ c.new-row.ensures; later = omega arith; fixed = refl; sink_later = omega arith }
 
 pub returns-in_err-put_byte-clause-fell : goal.returns-in_err-put_byte-clause-fell
 returns-in_err-put_byte-clause-fell g c = if_err _ c.in_err-put_byte.field-0.0 _ c.from_residual.ensures.1 (dump_fell c.args.reach.now c.args.address c.args.count c.loading.done _ c.loading.row.items (next_byte c.args.reach.now c.args.address c.args.count c.loading.done _ c.loading.row.items (omega (arith, c.len.ensures.value, c.loading.invariant.behind)) c.loading-test.true c.loading.invariant.dumped) c.loading.invariant.later c.loading.invariant.sink_later c.put_byte.ensures.sink_later c.in_err-put_byte.ensures.fell)
@@ -18,18 +19,17 @@ returns-in_err-put_byte-clause-fell g c = if_err _ c.in_err-put_byte.field-0.0 _
 pub returns-then-branch-clause-spoke : goal.returns-then-branch-clause-spoke
 returns-then-branch-clause-spoke g c = dump_refused c.args.reach.now c.args.address c.args.count c.loading.done _ c.loading.row.items (next_byte c.args.reach.now c.args.address c.args.count c.loading.done _ c.loading.row.items (omega (arith, c.len.ensures.value, c.loading.invariant.behind)) c.loading-test.true c.loading.invariant.dumped) (dumped_true _ _ _ _ _ _ _ _ _ c.if-branch.true c.in_ok-put_byte.ensures.dumped)
 
-pub returns-then-branch-clause-serving : goal.returns-then-branch-clause-serving
-returns-then-branch-clause-serving g c = serving_rests c.args.reach.now _ _ c.in_ok-put_byte.ensures.serving
+pub returns-then-branch-clause-keeps : goal.returns-then-branch-clause-keeps
+returns-then-branch-clause-keeps g c = let b = attached_by c.args.reach.now _ c.in_ok-put_byte.ensures.keeps.behind in search rules
 
 pub loading-preserved : goal.loading-preserved
 loading-preserved g c = record {
-  serving = c.in_ok-put_byte.ensures.serving;
+  serving = c.in_ok-put_byte.ensures.keeps.behind;
   room = c.in_ok-put_byte.ensures.room;
   behind = omega (arith, c.in_ok-put_byte.ensures.along, c.loading.invariant.behind);
   dumped = dumped_next c.args.reach.now c.args.address c.args.count c.loading.done _ c.loading.row.items _ (next_byte c.args.reach.now c.args.address c.args.count c.loading.done _ c.loading.row.items (omega (arith, c.len.ensures.value, c.loading.invariant.behind)) c.loading-test.true c.loading.invariant.dumped) (dumped_false _ _ _ _ _ _ _ _ _ c.if-branch.false c.in_ok-put_byte.ensures.dumped);
-  later = omega (arith, c.loading.invariant.later, c.put_byte.ensures.later);
-  slack = c.put_byte.ensures.slack ∙ c.loading.invariant.slack;
-  ties = c.put_byte.ensures.ties ∙ c.loading.invariant.ties;
+  later = omega (arith, c.loading.invariant.later, c.put_byte.ensures.keeps.later);
+  fixed = c.put_byte.ensures.keeps.fixed ∙ c.loading.invariant.fixed;
   sink_later = omega (arith, c.loading.invariant.sink_later, c.put_byte.ensures.sink_later);
 }
 

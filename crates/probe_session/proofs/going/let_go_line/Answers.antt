@@ -13,15 +13,15 @@ pub returns-then-not-has_any-clause-went : goal.returns-then-not-has_any-clause-
 returns-then-not-has_any-clause-went g c = ok_then (λ line. ends_with (said_by line)) _ _ (free_to_go c.args.halted.number c.in_ok-seen.seen (sym c.has_any.ensures ∙ c.if-not-has_any.true) c.in_ok-seen.ensures.viewed) c.free_line.ensures.went
 
 pub returns-then-not-has_any-clause-falls : goal.returns-then-not-has_any-clause-falls
-returns-then-not-has_any-clause-falls g c = err_then _ _ _ (free_to_go c.args.halted.number c.in_ok-seen.seen (sym c.has_any.ensures ∙ c.if-not-has_any.true) c.in_ok-seen.ensures.viewed) c.view.ensures.later c.free_line.ensures.falls
+returns-then-not-has_any-clause-falls g c = err_then _ _ _ (free_to_go c.args.halted.number c.in_ok-seen.seen (sym c.has_any.ensures ∙ c.if-not-has_any.true) c.in_ok-seen.ensures.viewed) c.view.ensures.keeps.later c.free_line.ensures.falls
 
 pub returns-in_err-again-clause-falls : goal.returns-in_err-again-clause-falls
 returns-in_err-again-clause-falls g c =
-    if_err _ c.in_err-again.field-0.0 _ c.from_residual-in_err-again.ensures.1 (held_falls c.args.halted.number c.in_ok-seen.seen (sym c.has_any.ensures ∙ c.if-not-has_any.false) c.in_ok-seen.ensures.viewed c.view.ensures.later c.in_err-again.ensures.fell)
+    if_err _ c.in_err-again.field-0.0 _ c.from_residual-in_err-again.ensures.1 (held_falls c.args.halted.number c.in_ok-seen.seen (sym c.has_any.ensures ∙ c.if-not-has_any.false) c.in_ok-seen.ensures.viewed c.view.ensures.keeps.later c.in_err-again.ensures.fell)
 
 pub returns-in_err-at-clause-falls : goal.returns-in_err-at-clause-falls
 returns-in_err-at-clause-falls g c =
-    if_err _ c.in_err-at.field-0.0 _ c.from_residual-in_err-at.ensures.1 (found_falls c.args.halted.number (held_back c.args.halted.number c.in_ok-seen.seen (sym c.has_any.ensures ∙ c.if-not-has_any.false) c.in_ok-seen.ensures.viewed c.in_ok-again.ensures.made) (omega (arith, c.view.ensures.later, c.over.ensures.later)) (stop_fell_at c.in_ok-again.ensures.hart c.in_err-at.ensures.fell))
+    if_err _ c.in_err-at.field-0.0 _ c.from_residual-in_err-at.ensures.1 (found_falls c.args.halted.number (held_back c.args.halted.number c.in_ok-seen.seen (sym c.has_any.ensures ∙ c.if-not-has_any.false) c.in_ok-seen.ensures.viewed c.in_ok-again.ensures.made) (omega (arith, c.view.ensures.keeps.later, c.over.ensures.keeps.later)) (stop_fell_at c.in_ok-again.ensures.hart c.in_err-at.ensures.fell))
 
 pub returns-then-at-eq-STEP-clause-went : goal.returns-then-at-eq-STEP-clause-went
 returns-then-at-eq-STEP-clause-went g c =
@@ -30,7 +30,7 @@ returns-then-at-eq-STEP-clause-went g c =
 pub returns-then-at-eq-STEP-clause-falls : goal.returns-then-at-eq-STEP-clause-falls
 returns-then-at-eq-STEP-clause-falls g c =
     err_then _ _ _ (found_whole c.args.halted.number _ _ (held_back c.args.halted.number c.in_ok-seen.seen (sym c.has_any.ensures ∙ c.if-not-has_any.false) c.in_ok-seen.ensures.viewed c.in_ok-again.ensures.made) c.if-at-eq-STEP.true (found_at c.in_ok-again.ensures.hart c.in_ok-at.ensures.found))
-    (omega (arith, c.view.ensures.later, c.over.ensures.later, c.find_stop.ensures.later)) (err_at at_going _ _ _ _ _ c.in_ok-again.ensures.hart c.free_line-then-at-eq-STEP.ensures.falls)
+    (omega (arith, c.view.ensures.keeps.later, c.over.ensures.keeps.later, c.find_stop.ensures.keeps.later)) (err_at at_going _ _ _ _ _ c.in_ok-again.ensures.hart c.free_line-then-at-eq-STEP.ensures.falls)
 
 pub returns-clause-went : goal.returns-clause-went
 returns-clause-went g c = ok_then (λ line. ends_with (said_by line)) _ _ (found_other c.args.halted.number _ _ (held_back c.args.halted.number c.in_ok-seen.seen (sym c.has_any.ensures ∙ c.if-not-has_any.false) c.in_ok-seen.ensures.viewed c.in_ok-again.ensures.made) c.if-at-eq-STEP.false (found_at c.in_ok-again.ensures.hart c.in_ok-at.ensures.found)) (ok_at at_stop_line (λ line. ends_with (said_by line)) _ _ _ c.in_ok-again.ensures.hart c.stop_line.ensures.went)
@@ -38,4 +38,4 @@ returns-clause-went g c = ok_then (λ line. ends_with (said_by line)) _ _ (found
 pub returns-clause-falls : goal.returns-clause-falls
 returns-clause-falls g c =
     err_then _ _ _ (found_other c.args.halted.number _ _ (held_back c.args.halted.number c.in_ok-seen.seen (sym c.has_any.ensures ∙ c.if-not-has_any.false) c.in_ok-seen.ensures.viewed c.in_ok-again.ensures.made) c.if-at-eq-STEP.false (found_at c.in_ok-again.ensures.hart c.in_ok-at.ensures.found))
-    (omega (arith, c.view.ensures.later, c.over.ensures.later, c.find_stop.ensures.later)) (err_at at_stop_line _ _ _ _ _ c.in_ok-again.ensures.hart c.stop_line.ensures.falls)
+    (omega (arith, c.view.ensures.keeps.later, c.over.ensures.keeps.later, c.find_stop.ensures.keeps.later)) (err_at at_stop_line _ _ _ _ _ c.in_ok-again.ensures.hart c.stop_line.ensures.falls)

@@ -14,7 +14,7 @@ pub returns-then-not-branch-clause-went : goal.returns-then-not-branch-clause-we
 returns-then-not-branch-clause-went g c = write_refused c.args.halted.now.number c.args.number c.args.value c.requires.of (gave_false c.if-not-branch.true c.in_ok-give.ensures.gave)
 
 pub returns-in_err-forget-clause-falls : goal.returns-in_err-forget-clause-falls
-returns-in_err-forget-clause-falls g c = if_err _ c.in_err-forget.field-0.0 _ c.from_residual-in_err-forget.ensures.1 (forget_falls c.args.halted.now.number c.args.number c.args.value (gave_true c.if-not-branch.false c.in_ok-give.ensures.gave) c.give.ensures.later c.in_err-forget.ensures.fell)
+returns-in_err-forget-clause-falls g c = if_err _ c.in_err-forget.field-0.0 _ c.from_residual-in_err-forget.ensures.1 (forget_falls c.args.halted.now.number c.args.number c.args.value (gave_true c.if-not-branch.false c.in_ok-give.ensures.gave) c.give.ensures.keeps.later c.in_err-forget.ensures.fell)
 
 pub returns-then-number-eq-DPC-clause-went : goal.returns-then-number-eq-DPC-clause-went
 returns-then-number-eq-DPC-clause-went g c =
@@ -23,7 +23,7 @@ returns-then-number-eq-DPC-clause-went g c =
 pub returns-then-number-eq-DPC-clause-falls : goal.returns-then-number-eq-DPC-clause-falls
 returns-then-number-eq-DPC-clause-falls g c =
     err_then _ _ _ (written_pc c.args.halted.now.number c.args.number c.args.value c.if-number-eq-DPC.true (gave_true c.if-not-branch.false c.in_ok-give.ensures.gave) c.in_ok-forget.ensures.forgot)
-    (omega (arith, c.give.ensures.later, c.forget.ensures.later)) c.register_line.ensures.falls
+    (omega (arith, c.give.ensures.keeps.later, c.forget.ensures.keeps.later)) c.register_line.ensures.falls
 
 pub returns-clause-went : goal.returns-clause-went
 returns-clause-went g c =
@@ -31,4 +31,4 @@ returns-clause-went g c =
 
 pub returns-clause-falls : goal.returns-clause-falls
 returns-clause-falls g c =
-    err_then _ _ _ (written c.args.halted.now.number c.args.number c.args.value c.requires.of c.if-number-eq-DPC.false (gave_true c.if-not-branch.false c.in_ok-give.ensures.gave)) c.give.ensures.later c.register_line-2.ensures.falls
+    err_then _ _ _ (written c.args.halted.now.number c.args.number c.args.value c.requires.of c.if-number-eq-DPC.false (gave_true c.if-not-branch.false c.in_ok-give.ensures.gave)) c.give.ensures.keeps.later c.register_line-2.ensures.falls

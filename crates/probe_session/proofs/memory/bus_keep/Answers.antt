@@ -1,3 +1,4 @@
+use Rattle.std.proofs.Common.{rules}
 use Rattle.probe_session.specs.Calls.{StoreFell}
 use Rattle.probe_session.proofs.CallLemmas.{bus_stored_none}
 use Rattle.probe_session.proofs.LinkLemmas.{access_left}
@@ -9,7 +10,7 @@ returns-in-Err-Memory-clause-stored g c = bus_stored_none c.args.size c.args.add
 pub returns-in-Err-clause-fell : goal.returns-in-Err-clause-fell
 returns-in-Err-clause-fell g c =
     StoreFell.by_bus c.in-Err.fault c.requires.serving.ready
-    c.bus_store.ensures.later c.in-Err.ensures.failed c.in-Err.ensures.left c.in-Err.ensures.cut c.lost_by.ensures
+    c.bus_store.ensures.keeps.later c.in-Err.ensures.failed c.in-Err.ensures.left c.in-Err.ensures.cut c.lost_by.ensures
 
-pub returns-in-Err-clause-left : goal.returns-in-Err-clause-left
-returns-in-Err-clause-left g c = access_left _ _ c.in-Err.fault _ c.in-Err.ensures.state c.lost_by.ensures
+pub returns-in-Err-clause-keeps : goal.returns-in-Err-clause-keeps
+returns-in-Err-clause-keeps g c = let b = access_left _ c.in-Err.fault _ c.in-Err.ensures.keeps.behind c.lost_by.ensures in search rules

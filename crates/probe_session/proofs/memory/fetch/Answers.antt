@@ -1,3 +1,4 @@
+use Rattle.std.proofs.Common.{rules}
 use Rattle.probe_session.specs.Calls.{LoadFell}
 use Rattle.probe_session.proofs.CallLemmas.{loaded_none}
 use Rattle.probe_session.proofs.CutLemmas.{loaded_cut}
@@ -12,8 +13,8 @@ returns-in-Err-Memory-clause-loaded g c = loaded_none c.args.size c.args.address
 
 pub returns-in-Err-clause-fell : goal.returns-in-Err-clause-fell
 returns-in-Err-clause-fell g c =
-    LoadFell.by_hart c.args.halted.now.number c.in-Err.fault (record { ready = c.requires.serving.serving.ready; selects = c.requires.serving.selects; halted = c.requires.serving.halted })
-    c.load.ensures.later c.in-Err.ensures.failed c.in-Err.ensures.left c.in-Err.ensures.cut c.lost_by.ensures
+    LoadFell.by_hart c.args.halted.now.number c.in-Err.fault c.requires.serving.serving
+    c.load.ensures.keeps.later c.in-Err.ensures.failed c.in-Err.ensures.left c.in-Err.ensures.cut c.lost_by.ensures
 
-pub returns-in-Err-clause-left : goal.returns-in-Err-clause-left
-returns-in-Err-clause-left g c = access_left _ _ c.in-Err.fault _ c.in-Err.ensures.state c.lost_by.ensures
+pub returns-in-Err-clause-keeps : goal.returns-in-Err-clause-keeps
+returns-in-Err-clause-keeps g c = let b = access_left _ c.in-Err.fault _ c.in-Err.ensures.keeps.behind c.lost_by.ensures in search rules

@@ -1,7 +1,8 @@
+use Rattle.std.proofs.Common.{rules}
 use Rattle.std.proofs.Common.{◌∙◌, refl, sym, arith}
 use Rattle.jt_base.proofs.FaultLemmas.{rises_from}
 use Rattle.probe_session.proofs.LinkLemmas.{if_err}
-use Rattle.probe_session.proofs.MemoryLines.{serving_rests}
+use Rattle.probe_session.proofs.MemoryLines.{attached_by}
 use Rattle.probe_session.proofs.ReadLines.{element_cut, element_fell, element_refused, element_shown, elements_all, elements_none_yet, misaligned_cut, next_element, read_misaligned, refused_cut}
 use Rattle.probe_session.proofs.SeenLemmas.{loaded_nothing, loaded_some}
 use Rattle.probe_session.proofs.reading.put_elements.Goals as goal
@@ -13,7 +14,7 @@ pub returns-then-not-is_aligned-clause-spoke : goal.returns-then-not-is_aligned-
 returns-then-not-is_aligned-clause-spoke g c = read_misaligned c.args.reach.now c.args.size c.args.address c.args.count (sym c.is_aligned.ensures ∙ c.if-not-is_aligned.true) c.in_ok-put_line.ensures.put
 
 pub loading-init : goal.loading-init
-loading-init g c = record { serving = c.requires.serving; shown = elements_none_yet c.args.reach.now c.args.size c.args.address c.args.count _ _ (sym c.is_aligned.ensures ∙ c.if-not-is_aligned.false); later = omega arith; slack = refl; ties = refl; sink_later = omega arith }
+loading-init g c = record { serving = c.requires.serving; shown = elements_none_yet c.args.reach.now c.args.size c.args.address c.args.count _ _ (sym c.is_aligned.ensures ∙ c.if-not-is_aligned.false); later = omega arith; fixed = refl; sink_later = omega arith }
 
 pub returns-in_err-value-clause-fell : goal.returns-in_err-value-clause-fell
 returns-in_err-value-clause-fell g c = if_err _ c.in_err-value.field-0.0 _ c.from_residual-in_err-value.ensures.1 (element_fell c.args.reach.now c.args.size c.args.address c.args.count c.loading.done _ _ _ (next_element c.args.reach.now c.args.size c.args.address c.args.count c.loading.done _ (cc) c.loading-test.true c.loading.invariant.shown) c.loading.invariant.later c.in_err-value.ensures.fell)
@@ -27,16 +28,15 @@ returns-in_err-put_line-in-None-clause-fell g c = if_err _ c.in_err-put_line-in-
 pub returns-in-None-clause-spoke : goal.returns-in-None-clause-spoke
 returns-in-None-clause-spoke g c = element_refused c.args.reach.now c.args.size c.args.address c.args.count c.loading.done _ (next_element c.args.reach.now c.args.size c.args.address c.args.count c.loading.done _ (cc) c.loading-test.true c.loading.invariant.shown) (loaded_nothing c.in-None.is c.in_ok-value.ensures.loaded) c.in_ok-put_line-in-None.ensures.put
 
-pub returns-in-None-clause-serving : goal.returns-in-None-clause-serving
-returns-in-None-clause-serving g c = serving_rests c.args.reach.now _ _ c.in_ok-value.ensures.serving
+pub returns-in-None-clause-keeps : goal.returns-in-None-clause-keeps
+returns-in-None-clause-keeps g c = let b = attached_by c.args.reach.now _ c.in_ok-value.ensures.keeps.behind in search rules
 
 pub loading-preserved : goal.loading-preserved
 loading-preserved g c = record {
-  serving = c.in_ok-value.ensures.serving;
+  serving = c.in_ok-value.ensures.keeps.behind;
   shown = element_shown c.args.reach.now c.args.size c.args.address c.args.count c.loading.done _ c.in-Some.value (next_element c.args.reach.now c.args.size c.args.address c.args.count c.loading.done _ (cc) c.loading-test.true c.loading.invariant.shown) (loaded_some c.in-Some.is c.in_ok-value.ensures.loaded) c.in_ok-put_line-in-Some.ensures.put;
-  later = omega (arith, c.loading.invariant.later, c.load_by.ensures.later);
-  slack = c.load_by.ensures.slack ∙ c.loading.invariant.slack;
-  ties = c.load_by.ensures.ties ∙ c.loading.invariant.ties;
+  later = omega (arith, c.loading.invariant.later, c.load_by.ensures.keeps.later);
+  fixed = c.load_by.ensures.keeps.fixed ∙ c.loading.invariant.fixed;
   sink_later = omega (arith, c.loading.invariant.sink_later, c.put_line-in-Some.ensures.later);
 }
 

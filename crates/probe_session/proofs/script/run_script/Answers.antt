@@ -1,5 +1,6 @@
+use Rattle.probe_run.specs.Told.{told}
 use Rattle.std.proofs.Common.{◌≡◌}
-use Rattle.probe_run.specs.Acts.{Tells, tells}
+use Rattle.probe_run.specs.Acts.{Tells}
 use Rattle.probe_session.specs.Commands.{state_of}
 use Rattle.probe_session.proofs.Endings.{ended_transcribed}
 use Rattle.probe_session.proofs.ScriptLemmas.{not_opened, opened_ended}
@@ -12,48 +13,48 @@ returns-in-Err-clause-ended g c = not_opened _ c.in-Err.fault _ _ _ _ _ _ _ _ c.
 
 pub returns-in-Err-clause-transcribed : goal.returns-in-Err-clause-transcribed
 returns-in-Err-clause-transcribed g c =
-    let old : Tells = tells (g.D.Dmi.far c.args.link.now) (g.D.Dmi.script c.args.link.now) in
-    let new : Tells = tells (g.D.Dmi.far c.begin.new.link) (g.D.Dmi.script c.begin.new.link) in
-    ended_transcribed _ c.args.script.now (g.D.Dmi.fault_count c.args.link.now) (g.D.Dmi.fault_count c.begin.new.link) old new (g.K.Sink.fault_count c.args.out.now) (g.K.Sink.fault_count c.args.out.now) _ _
+    let old : Tells = told (g.D.Dmi.seen c.args.link.now) in
+    let new : Tells = told (g.D.Dmi.seen c.begin.new.link) in
+    ended_transcribed _ c.args.script.now (g.D.Dmi.seen c.args.link.now).fault_count (g.D.Dmi.seen c.begin.new.link).fault_count old new (g.K.Sink.fault_count c.args.out.now) (g.K.Sink.fault_count c.args.out.now) _ _
     (not_opened c.args.script.now c.in-Err.fault _ _ _ old new _ _ _ c.unopened.ensures c.in-Err.ensures.fails c.in-Err.ensures.lost) c.requires.loaded
 
 pub returns-in-Ok-clause-transcribed : goal.returns-in-Ok-clause-transcribed
 returns-in-Ok-clause-transcribed g c =
-    let old : Tells = tells (g.D.Dmi.far c.args.link.now) (g.D.Dmi.script c.args.link.now) in
-    let mid : Tells = tells (g.D.Dmi.far c.begin.new.link) (g.D.Dmi.script c.begin.new.link) in
-    let new : Tells = tells (g.D.Dmi.far c.run_commands.new.link) (g.D.Dmi.script c.run_commands.new.link) in
+    let old : Tells = told (g.D.Dmi.seen c.args.link.now) in
+    let mid : Tells = told (g.D.Dmi.seen c.begin.new.link) in
+    let new : Tells = told (g.D.Dmi.seen c.run_commands.new.link) in
     let is : c.commands.result.now ≡ c.args.script.now = c.commands.ensures.list in
-    ended_transcribed _ c.args.script.now (g.D.Dmi.fault_count c.args.link.now) (g.D.Dmi.fault_count c.run_commands.new.link) old new (g.K.Sink.fault_count c.args.out.now) (g.K.Sink.fault_count c.run_commands.new.out) _ _
-    (opened_ended c.args.script.now (state_of c.in-Ok.session) _ _ (g.D.Dmi.fault_count c.begin.new.link) _ old mid new _ _ _ _ c.in-Ok.ensures.first c.in-Ok.ensures.did c.in-Ok.ensures.loaded c.begin.ensures.later (rw is at c.run_commands.ensures.followed)) c.requires.loaded
+    ended_transcribed _ c.args.script.now (g.D.Dmi.seen c.args.link.now).fault_count (g.D.Dmi.seen c.run_commands.new.link).fault_count old new (g.K.Sink.fault_count c.args.out.now) (g.K.Sink.fault_count c.run_commands.new.out) _ _
+    (opened_ended c.args.script.now (state_of c.in-Ok.session) _ _ (g.D.Dmi.seen c.begin.new.link).fault_count _ old mid new _ _ _ _ c.in-Ok.ensures.first c.in-Ok.ensures.did c.in-Ok.ensures.loaded c.begin.ensures.keeps.later (rw is at c.run_commands.ensures.followed)) c.requires.loaded
 
 pub returns-in-Err-clause-cause : goal.returns-in-Err-clause-cause
 returns-in-Err-clause-cause g c =
-    let old : Tells = tells (g.D.Dmi.far c.args.link.now) (g.D.Dmi.script c.args.link.now) in
-    let new : Tells = tells (g.D.Dmi.far c.begin.new.link) (g.D.Dmi.script c.begin.new.link) in
-    ended_caused _ c.args.script.now (g.D.Dmi.fault_count c.args.link.now) (g.D.Dmi.fault_count c.begin.new.link) old new (g.K.Sink.fault_count c.args.out.now) (g.K.Sink.fault_count c.args.out.now) _ _
-    (not_opened c.args.script.now c.in-Err.fault _ (g.D.Dmi.fault_count c.args.link.now) (g.D.Dmi.fault_count c.begin.new.link) old new (g.K.Sink.fault_count c.args.out.now) (g.K.Sink.fault_count c.args.out.now) (g.K.Sink.contents c.args.out.now) c.unopened.ensures c.in-Err.ensures.fails c.in-Err.ensures.lost)
+    let old : Tells = told (g.D.Dmi.seen c.args.link.now) in
+    let new : Tells = told (g.D.Dmi.seen c.begin.new.link) in
+    ended_caused _ c.args.script.now (g.D.Dmi.seen c.args.link.now).fault_count (g.D.Dmi.seen c.begin.new.link).fault_count old new (g.K.Sink.fault_count c.args.out.now) (g.K.Sink.fault_count c.args.out.now) _ _
+    (not_opened c.args.script.now c.in-Err.fault _ (g.D.Dmi.seen c.args.link.now).fault_count (g.D.Dmi.seen c.begin.new.link).fault_count old new (g.K.Sink.fault_count c.args.out.now) (g.K.Sink.fault_count c.args.out.now) (g.K.Sink.contents c.args.out.now) c.unopened.ensures c.in-Err.ensures.fails c.in-Err.ensures.lost)
 
 pub returns-in-Ok-clause-cause : goal.returns-in-Ok-clause-cause
 returns-in-Ok-clause-cause g c =
-    let old : Tells = tells (g.D.Dmi.far c.args.link.now) (g.D.Dmi.script c.args.link.now) in
-    let mid : Tells = tells (g.D.Dmi.far c.begin.new.link) (g.D.Dmi.script c.begin.new.link) in
-    let new : Tells = tells (g.D.Dmi.far c.run_commands.new.link) (g.D.Dmi.script c.run_commands.new.link) in
+    let old : Tells = told (g.D.Dmi.seen c.args.link.now) in
+    let mid : Tells = told (g.D.Dmi.seen c.begin.new.link) in
+    let new : Tells = told (g.D.Dmi.seen c.run_commands.new.link) in
     let is : c.commands.result.now ≡ c.args.script.now = c.commands.ensures.list in
-    ended_caused _ c.args.script.now (g.D.Dmi.fault_count c.args.link.now) (g.D.Dmi.fault_count c.run_commands.new.link) old new (g.K.Sink.fault_count c.args.out.now) (g.K.Sink.fault_count c.run_commands.new.out) (g.K.Sink.contents c.args.out.now) (g.K.Sink.contents c.run_commands.new.out)
-    (opened_ended c.args.script.now (state_of c.in-Ok.session) _ _ (g.D.Dmi.fault_count c.begin.new.link) _ old mid new _ _ _ _ c.in-Ok.ensures.first c.in-Ok.ensures.did c.in-Ok.ensures.loaded c.begin.ensures.later (rw is at c.run_commands.ensures.followed))
+    ended_caused _ c.args.script.now (g.D.Dmi.seen c.args.link.now).fault_count (g.D.Dmi.seen c.run_commands.new.link).fault_count old new (g.K.Sink.fault_count c.args.out.now) (g.K.Sink.fault_count c.run_commands.new.out) (g.K.Sink.contents c.args.out.now) (g.K.Sink.contents c.run_commands.new.out)
+    (opened_ended c.args.script.now (state_of c.in-Ok.session) _ _ (g.D.Dmi.seen c.begin.new.link).fault_count _ old mid new _ _ _ _ c.in-Ok.ensures.first c.in-Ok.ensures.did c.in-Ok.ensures.loaded c.begin.ensures.keeps.later (rw is at c.run_commands.ensures.followed))
 
 pub returns-in-Err-clause-sink_cause : goal.returns-in-Err-clause-sink_cause
 returns-in-Err-clause-sink_cause g c =
-    let old : Tells = tells (g.D.Dmi.far c.args.link.now) (g.D.Dmi.script c.args.link.now) in
-    let new : Tells = tells (g.D.Dmi.far c.begin.new.link) (g.D.Dmi.script c.begin.new.link) in
-    sink_caused _ c.args.script.now (g.D.Dmi.fault_count c.args.link.now) (g.D.Dmi.fault_count c.begin.new.link) old new (g.K.Sink.fault_count c.args.out.now) (g.K.Sink.fault_count c.args.out.now) _ _
-    (not_opened c.args.script.now c.in-Err.fault _ (g.D.Dmi.fault_count c.args.link.now) (g.D.Dmi.fault_count c.begin.new.link) old new (g.K.Sink.fault_count c.args.out.now) (g.K.Sink.fault_count c.args.out.now) (g.K.Sink.contents c.args.out.now) c.unopened.ensures c.in-Err.ensures.fails c.in-Err.ensures.lost)
+    let old : Tells = told (g.D.Dmi.seen c.args.link.now) in
+    let new : Tells = told (g.D.Dmi.seen c.begin.new.link) in
+    sink_caused _ c.args.script.now (g.D.Dmi.seen c.args.link.now).fault_count (g.D.Dmi.seen c.begin.new.link).fault_count old new (g.K.Sink.fault_count c.args.out.now) (g.K.Sink.fault_count c.args.out.now) _ _
+    (not_opened c.args.script.now c.in-Err.fault _ (g.D.Dmi.seen c.args.link.now).fault_count (g.D.Dmi.seen c.begin.new.link).fault_count old new (g.K.Sink.fault_count c.args.out.now) (g.K.Sink.fault_count c.args.out.now) (g.K.Sink.contents c.args.out.now) c.unopened.ensures c.in-Err.ensures.fails c.in-Err.ensures.lost)
 
 pub returns-in-Ok-clause-sink_cause : goal.returns-in-Ok-clause-sink_cause
 returns-in-Ok-clause-sink_cause g c =
-    let old : Tells = tells (g.D.Dmi.far c.args.link.now) (g.D.Dmi.script c.args.link.now) in
-    let mid : Tells = tells (g.D.Dmi.far c.begin.new.link) (g.D.Dmi.script c.begin.new.link) in
-    let new : Tells = tells (g.D.Dmi.far c.run_commands.new.link) (g.D.Dmi.script c.run_commands.new.link) in
+    let old : Tells = told (g.D.Dmi.seen c.args.link.now) in
+    let mid : Tells = told (g.D.Dmi.seen c.begin.new.link) in
+    let new : Tells = told (g.D.Dmi.seen c.run_commands.new.link) in
     let is : c.commands.result.now ≡ c.args.script.now = c.commands.ensures.list in
-    sink_caused _ c.args.script.now (g.D.Dmi.fault_count c.args.link.now) (g.D.Dmi.fault_count c.run_commands.new.link) old new (g.K.Sink.fault_count c.args.out.now) (g.K.Sink.fault_count c.run_commands.new.out) (g.K.Sink.contents c.args.out.now) (g.K.Sink.contents c.run_commands.new.out)
-    (opened_ended c.args.script.now (state_of c.in-Ok.session) _ _ (g.D.Dmi.fault_count c.begin.new.link) _ old mid new _ _ _ _ c.in-Ok.ensures.first c.in-Ok.ensures.did c.in-Ok.ensures.loaded c.begin.ensures.later (rw is at c.run_commands.ensures.followed))
+    sink_caused _ c.args.script.now (g.D.Dmi.seen c.args.link.now).fault_count (g.D.Dmi.seen c.run_commands.new.link).fault_count old new (g.K.Sink.fault_count c.args.out.now) (g.K.Sink.fault_count c.run_commands.new.out) (g.K.Sink.contents c.args.out.now) (g.K.Sink.contents c.run_commands.new.out)
+    (opened_ended c.args.script.now (state_of c.in-Ok.session) _ _ (g.D.Dmi.seen c.begin.new.link).fault_count _ old mid new _ _ _ _ c.in-Ok.ensures.first c.in-Ok.ensures.did c.in-Ok.ensures.loaded c.begin.ensures.keeps.later (rw is at c.run_commands.ensures.followed))

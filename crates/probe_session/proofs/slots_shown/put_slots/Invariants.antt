@@ -1,10 +1,10 @@
+use Rattle.probe_run.specs.Told.{told}
 use Rattle.std.proofs.Common.{◌≤◌}
-use Rattle.probe_run.specs.Acts.{tells}
 use Rattle.probe_session.proofs.SlotLines.{SlotsSaid}
 use Rattle.probe_session.proofs.slots_shown.put_slots.Given as goal
 
 abbrev pub invariant-showing : goal.invariant-showing
 invariant-showing g l = record {
-  said : SlotsSaid l.fn.halted.number l.seen l.slot (tells (g.D.Dmi.far l.fn.link) (g.D.Dmi.script l.fn.link)) (tells (g.D.Dmi.far l.link) (g.D.Dmi.script l.link)) (g.K.Sink.contents l.fn.out) (g.K.Sink.contents l.out);
+  said : SlotsSaid l.fn.halted.number l.seen l.slot (told (g.D.Dmi.seen l.fn.link)) (told (g.D.Dmi.seen l.link)) (g.K.Sink.contents l.fn.out) (g.K.Sink.contents l.out);
   sink_later : g.K.Sink.fault_count l.fn.out ≤ g.K.Sink.fault_count l.out;
 }

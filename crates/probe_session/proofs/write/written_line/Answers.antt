@@ -1,6 +1,7 @@
+use Rattle.std.proofs.Common.{rules}
 use Rattle.std.proofs.Common.{◌∙◌, refl, sym, arith}
 use Rattle.probe_session.proofs.LinkLemmas.{if_err}
-use Rattle.probe_session.proofs.MemoryLines.{serving_rests, write_falls, write_misaligned, write_refused, writes_none_yet, wrote, wrote_all}
+use Rattle.probe_session.proofs.MemoryLines.{attached_by, write_falls, write_misaligned, write_refused, writes_none_yet, wrote, wrote_all}
 use Rattle.probe_session.proofs.SeenLemmas.{stored_false, stored_true}
 use Rattle.probe_session.proofs.write.written_line.Goals as goal
 
@@ -8,7 +9,7 @@ pub returns-then-not-is_aligned-clause-went : goal.returns-then-not-is_aligned-c
 returns-then-not-is_aligned-clause-went g c = write_misaligned c.args.reach.now c.args.size c.args.address c.args.value c.args.count _ (sym c.is_aligned.ensures ∙ c.if-not-is_aligned.true)
 
 pub storing-init : goal.storing-init
-storing-init g c = record { serving = c.requires.serving; writes = writes_none_yet c.args.reach.now c.args.size c.args.address c.args.value c.args.count _ (sym c.is_aligned.ensures ∙ c.if-not-is_aligned.false); later = omega arith; slack = refl; ties = refl }
+storing-init g c = record { serving = c.requires.serving; writes = writes_none_yet c.args.reach.now c.args.size c.args.address c.args.value c.args.count _ (sym c.is_aligned.ensures ∙ c.if-not-is_aligned.false); later = omega arith; fixed = refl }
 
 pub returns-in_err-store_by-clause-falls : goal.returns-in_err-store_by-clause-falls
 returns-in_err-store_by-clause-falls g c =
@@ -17,16 +18,15 @@ returns-in_err-store_by-clause-falls g c =
 pub returns-then-not-branch-clause-went : goal.returns-then-not-branch-clause-went
 returns-then-not-branch-clause-went g c = write_refused c.args.reach.now c.args.size c.args.address c.args.value c.args.count c.storing.done _ (cc) c.storing-test.true c.storing.invariant.writes (stored_false c.if-not-branch.true c.in_ok-store_by.ensures.stored)
 
-pub returns-then-not-branch-clause-serving : goal.returns-then-not-branch-clause-serving
-returns-then-not-branch-clause-serving g c = serving_rests c.args.reach.now _ _ c.in_ok-store_by.ensures.serving
+pub returns-then-not-branch-clause-keeps : goal.returns-then-not-branch-clause-keeps
+returns-then-not-branch-clause-keeps g c = let b = attached_by c.args.reach.now _ c.in_ok-store_by.ensures.keeps.behind in search rules
 
 pub storing-preserved : goal.storing-preserved
 storing-preserved g c = record {
-  serving = c.in_ok-store_by.ensures.serving;
+  serving = c.in_ok-store_by.ensures.keeps.behind;
   writes = wrote c.args.reach.now c.args.size c.args.address c.args.value c.args.count c.storing.done _ (cc) c.storing-test.true c.storing.invariant.writes (stored_true c.if-not-branch.false c.in_ok-store_by.ensures.stored);
-  later = omega (arith, c.storing.invariant.later, c.store_by.ensures.later);
-  slack = c.store_by.ensures.slack ∙ c.storing.invariant.slack;
-  ties = c.store_by.ensures.ties ∙ c.storing.invariant.ties;
+  later = omega (arith, c.storing.invariant.later, c.store_by.ensures.keeps.later);
+  fixed = c.store_by.ensures.keeps.fixed ∙ c.storing.invariant.fixed;
 }
 
 pub returns-clause-went : goal.returns-clause-went

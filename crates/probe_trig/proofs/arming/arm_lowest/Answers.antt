@@ -14,20 +14,20 @@ returns-in_err-kept-clause-failed g c =
 pub returns-in_err-slot-clause-failed : goal.returns-in_err-slot-clause-failed
 returns-in_err-slot-clause-failed g c =
     if_err _ c.from_residual-in_err-slot.result _ c.from_residual-in_err-slot.ensures.1
-    (failed_behind _ _ (Got Tselect c.in_ok-kept.kept ∷ []) _ _ _ _ _ _ _ _ c.get.ensures.later c.seek_free.ensures.later c.in_ok-kept.ensures.made (arms_seek c.args.what c.in_ok-kept.kept) c.in_err-slot.ensures.failed)
+    (failed_behind _ _ (Got Tselect c.in_ok-kept.kept ∷ []) _ _ _ _ _ _ _ _ c.get.ensures.keeps.later c.seek_free.ensures.keeps.later c.in_ok-kept.ensures.made (arms_seek c.args.what c.in_ok-kept.kept) c.in_err-slot.ensures.failed)
 
 pub returns-in_err-arm_selected-in-Some-clause-failed : goal.returns-in_err-arm_selected-in-Some-clause-failed
 returns-in_err-arm_selected-in-Some-clause-failed g c =
     let d = rw (c.in-Some.is) at c.in_ok-slot.ensures.did in
     if_err _ c.from_residual-in_err-arm_selected-in-Some.result _ c.from_residual-in_err-arm_selected-in-Some.ensures.1
-    (failed_behind _ _ (Got Tselect c.in_ok-kept.kept ∷ d.transfers) _ _ _ _ _ _ _ _ (omega (arith, c.get.ensures.later, c.seek_free.ensures.later)) c.arm_selected.ensures.later
+    (failed_behind _ _ (Got Tselect c.in_ok-kept.kept ∷ d.transfers) _ _ _ _ _ _ _ _ (omega (arith, c.get.ensures.keeps.later, c.seek_free.ensures.keeps.later)) c.arm_selected.ensures.keeps.later
     (sought_behind c.in_ok-kept.kept c.args.halted.now.number _ _ _ (Some c.in-Some.slot) c.in_ok-kept.ensures.made d) (arms_armed c.args.what c.in_ok-kept.kept c.in-Some.slot d.transfers d.whole) c.in_err-arm_selected-in-Some.ensures.failed)
 
 pub returns-in_err-set-in-Some-clause-failed : goal.returns-in_err-set-in-Some-clause-failed
 returns-in_err-set-in-Some-clause-failed g c =
     let d = rw (c.in-Some.is) at c.in_ok-slot.ensures.did in
     if_err _ c.from_residual-in_err-set-in-Some.result _ c.from_residual-in_err-set-in-Some.ensures.1
-    (failed_behind _ _ (Got Tselect c.in_ok-kept.kept ∷ (d.transfers ++ armed c.args.what)) _ _ _ _ _ _ _ _ (omega (arith, c.get.ensures.later, c.seek_free.ensures.later, c.arm_selected.ensures.later)) c.set.ensures.later
+    (failed_behind _ _ (Got Tselect c.in_ok-kept.kept ∷ (d.transfers ++ armed c.args.what)) _ _ _ _ _ _ _ _ (omega (arith, c.get.ensures.keeps.later, c.seek_free.ensures.keeps.later, c.arm_selected.ensures.keeps.later)) c.set.ensures.keeps.later
     (made_then c.args.halted.now.number (Got Tselect c.in_ok-kept.kept ∷ d.transfers) (armed c.args.what) _ _ _ (sought_behind c.in_ok-kept.kept c.args.halted.now.number _ _ _ (Some c.in-Some.slot) c.in_ok-kept.ensures.made d) c.in_ok-arm_selected-in-Some.ensures.made)
     (arms_back c.args.what c.in_ok-kept.kept c.in-Some.slot d.transfers d.whole) c.in_err-set-in-Some.ensures.failed)
 
@@ -35,7 +35,7 @@ pub returns-in_err-set-in-None-clause-failed : goal.returns-in_err-set-in-None-c
 returns-in_err-set-in-None-clause-failed g c =
     let d = rw (c.in-None.is) at c.in_ok-slot.ensures.did in
     if_err _ c.from_residual-in_err-set-in-None.result _ c.from_residual-in_err-set-in-None.ensures.1
-    (failed_behind _ _ (Got Tselect c.in_ok-kept.kept ∷ d.transfers) _ _ _ _ _ _ _ _ (omega (arith, c.get.ensures.later, c.seek_free.ensures.later)) c.set-in-None.ensures.later
+    (failed_behind _ _ (Got Tselect c.in_ok-kept.kept ∷ d.transfers) _ _ _ _ _ _ _ _ (omega (arith, c.get.ensures.keeps.later, c.seek_free.ensures.keeps.later)) c.set-in-None.ensures.keeps.later
     (sought_behind c.in_ok-kept.kept c.args.halted.now.number _ _ _ None c.in_ok-kept.ensures.made d) (arms_none c.args.what c.in_ok-kept.kept d.transfers d.whole) c.in_err-set-in-None.ensures.failed)
 
 pub returns-in_ok-set-in-Some-clause-did : goal.returns-in_ok-set-in-Some-clause-did

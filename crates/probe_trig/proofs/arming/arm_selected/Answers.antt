@@ -16,7 +16,7 @@ returns-in_err-set_address-clause-failed g c =
 pub returns-in_err-set-clause-failed : goal.returns-in_err-set-clause-failed
 returns-in_err-set-clause-failed g c =
     if_err _ c.from_residual-in_err-set.result _ c.from_residual-in_err-set.ensures.1
-    (failed_behind _ _ (address_set (address_named c.args.what)) _ _ _ _ _ _ _ _ c.set_address.ensures.later c.set.ensures.later c.in_ok-set_address.ensures.made (arms_trigger c.args.what)
+    (failed_behind _ _ (address_set (address_named c.args.what)) _ _ _ _ _ _ _ _ c.set_address.ensures.keeps.later c.set.ensures.keeps.later c.in_ok-set_address.ensures.made (arms_trigger c.args.what)
     (rw (c.tdata1.ensures, c.trigger_for.ensures.is) at c.in_err-set.ensures.failed))
 
 pub returns-clause-made : goal.returns-clause-made

@@ -8,37 +8,27 @@ use Rattle.probe_trig.proofs.arming.seek_free.Goals as goal
 pub seeking-init : goal.seeking-init
 seeking-init g c = record {
   sought = sought_none _ _;
-  alive = c.requires.alive;
-  link = c.requires.link;
-  ready = c.requires.ready;
-  selects = c.requires.selects;
-  halted = c.requires.halted;
-  live = λ h. absurd (omega arith);
-  idle = λ h. absurd (omega arith);
+  callable = c.requires.callable;
+  serving = c.requires.serving;
+  stands = λ h. absurd (omega arith);
   later = omega arith;
-  slack = refl;
-  ties = refl;
+  fixed = refl;
 }
 
 pub seeking-preserved : goal.seeking-preserved
-seeking-preserved g c = record {
+seeking-preserved g c = let b = c.in_ok-tdata1.ensures.keeps.behind in record {
   sought = sought_more _ c.seeking.slot c.in_ok-tdata1.tdata1 _ _ _ c.seeking.invariant.sought c.in_ok-tdata1.ensures.made (sym c.shows_free.ensures ∙ c.if-shows_free.false);
-  alive = c.in_ok-tdata1.ensures.alive;
-  link = c.in_ok-tdata1.ensures.link;
-  ready = c.in_ok-tdata1.ensures.ready;
-  selects = c.in_ok-tdata1.ensures.selects;
-  halted = c.in_ok-tdata1.ensures.halted;
-  live = λ h. c.in_ok-tdata1.ensures.live;
-  idle = λ h. c.in_ok-tdata1.ensures.idle;
-  later = omega (arith, c.seeking.invariant.later, c.read_word.ensures.later);
-  slack = c.read_word.ensures.slack ∙ c.seeking.invariant.slack;
-  ties = c.read_word.ensures.ties ∙ c.seeking.invariant.ties;
+  callable = record { alive = b.alive; link = b.link };
+  serving = c.in_ok-tdata1.ensures.serving;
+  stands = λ h. b;
+  later = omega (arith, c.seeking.invariant.later, c.read_word.ensures.keeps.later);
+  fixed = c.read_word.ensures.keeps.fixed ∙ c.seeking.invariant.fixed;
 }
 
 pub returns-in_err-tdata1-clause-failed : goal.returns-in_err-tdata1-clause-failed
 returns-in_err-tdata1-clause-failed g c =
     if_err _ c.from_residual.result _ c.from_residual.ensures.1
-    (failed_behind _ _ (words_read 0 c.seeking.invariant.sought.words) _ _ _ _ _ _ _ _ c.seeking.invariant.later c.read_word.ensures.later c.seeking.invariant.sought.made
+    (failed_behind _ _ (words_read 0 c.seeking.invariant.sought.words) _ _ _ _ _ _ _ _ c.seeking.invariant.later c.read_word.ensures.keeps.later c.seeking.invariant.sought.made
     (seeks_word _ c.seeking.slot _ _ c.seeking.invariant.sought c.seeking-test.true) c.in_err-tdata1.ensures.failed)
 
 pub returns-then-shows_free-clause-did : goal.returns-then-shows_free-clause-did
@@ -48,8 +38,5 @@ returns-then-shows_free-clause-did g c =
 pub returns-clause-did : goal.returns-clause-did
 returns-clause-did g c = sought_all _ c.seeking.slot _ _ c.seeking.invariant.sought (omega arith)
 
-pub returns-clause-live : goal.returns-clause-live
-returns-clause-live g c = c.seeking.invariant.live (omega arith)
-
-pub returns-clause-idle : goal.returns-clause-idle
-returns-clause-idle g c = c.seeking.invariant.idle (omega arith)
+pub returns-clause-keeps : goal.returns-clause-keeps
+returns-clause-keeps g c = record { later = c.seeking.invariant.later; fixed = c.seeking.invariant.fixed; behind = c.seeking.invariant.stands (omega arith) }

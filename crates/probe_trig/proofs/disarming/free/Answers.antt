@@ -14,12 +14,12 @@ returns-in_err-kept-clause-failed g c =
 pub returns-in_err-tdata1-clause-failed : goal.returns-in_err-tdata1-clause-failed
 returns-in_err-tdata1-clause-failed g c =
     if_err _ c.from_residual-in_err-tdata1.result _ c.from_residual-in_err-tdata1.ensures.1
-    (failed_behind _ _ (Got Tselect c.in_ok-kept.kept ∷ []) _ _ _ _ _ _ _ _ c.get.ensures.later c.read_word.ensures.later c.in_ok-kept.ensures.made (frees_word c.args.slot c.in_ok-kept.kept) c.in_err-tdata1.ensures.failed)
+    (failed_behind _ _ (Got Tselect c.in_ok-kept.kept ∷ []) _ _ _ _ _ _ _ _ c.get.ensures.keeps.later c.read_word.ensures.keeps.later c.in_ok-kept.ensures.made (frees_word c.args.slot c.in_ok-kept.kept) c.in_err-tdata1.ensures.failed)
 
 pub returns-in_err-set-clause-failed : goal.returns-in_err-set-clause-failed
 returns-in_err-set-clause-failed g c =
     if_err _ c.from_residual-in_err-set.result _ c.from_residual-in_err-set.ensures.1
-    (failed_behind _ _ (Got Tselect c.in_ok-kept.kept ∷ word_read c.args.slot c.in_ok-tdata1.tdata1) _ _ _ _ _ _ _ _ (omega (arith, c.get.ensures.later, c.read_word.ensures.later)) c.set.ensures.later
+    (failed_behind _ _ (Got Tselect c.in_ok-kept.kept ∷ word_read c.args.slot c.in_ok-tdata1.tdata1) _ _ _ _ _ _ _ _ (omega (arith, c.get.ensures.keeps.later, c.read_word.ensures.keeps.later)) c.set.ensures.keeps.later
     (made_then c.args.halted.now.number (Got Tselect c.in_ok-kept.kept ∷ []) (word_read c.args.slot c.in_ok-tdata1.tdata1) _ _ _ c.in_ok-kept.ensures.made c.in_ok-tdata1.ensures.made)
     (frees_none c.args.slot c.in_ok-kept.kept c.in_ok-tdata1.tdata1 (sym c.shows_free.ensures ∙ c.if-shows_free.true)) c.in_err-set.ensures.failed)
 
@@ -34,14 +34,14 @@ returns-then-shows_free-clause-did g c = record {
 pub returns-in_err-set-2-clause-failed : goal.returns-in_err-set-2-clause-failed
 returns-in_err-set-2-clause-failed g c =
     if_err _ c.from_residual-in_err-set-2.result _ c.from_residual-in_err-set-2.ensures.1
-    (failed_behind _ _ (Got Tselect c.in_ok-kept.kept ∷ word_read c.args.slot c.in_ok-tdata1.tdata1) _ _ _ _ _ _ _ _ (omega (arith, c.get.ensures.later, c.read_word.ensures.later)) c.set-2.ensures.later
+    (failed_behind _ _ (Got Tselect c.in_ok-kept.kept ∷ word_read c.args.slot c.in_ok-tdata1.tdata1) _ _ _ _ _ _ _ _ (omega (arith, c.get.ensures.keeps.later, c.read_word.ensures.keeps.later)) c.set-2.ensures.keeps.later
     (made_then c.args.halted.now.number (Got Tselect c.in_ok-kept.kept ∷ []) (word_read c.args.slot c.in_ok-tdata1.tdata1) _ _ _ c.in_ok-kept.ensures.made c.in_ok-tdata1.ensures.made)
     (frees_set c.args.slot c.in_ok-kept.kept c.in_ok-tdata1.tdata1 (sym c.shows_free.ensures ∙ c.if-shows_free.false)) (rw (c.tdata1.ensures) at c.in_err-set-2.ensures.failed))
 
 pub returns-in_err-set-3-clause-failed : goal.returns-in_err-set-3-clause-failed
 returns-in_err-set-3-clause-failed g c =
     if_err _ c.from_residual-in_err-set-3.result _ c.from_residual-in_err-set-3.ensures.1
-    (failed_behind _ _ (Got Tselect c.in_ok-kept.kept ∷ (word_read c.args.slot c.in_ok-tdata1.tdata1 ++ freed false)) _ _ _ _ _ _ _ _ (omega (arith, c.get.ensures.later, c.read_word.ensures.later, c.set-2.ensures.later)) c.set-3.ensures.later
+    (failed_behind _ _ (Got Tselect c.in_ok-kept.kept ∷ (word_read c.args.slot c.in_ok-tdata1.tdata1 ++ freed false)) _ _ _ _ _ _ _ _ (omega (arith, c.get.ensures.keeps.later, c.read_word.ensures.keeps.later, c.set-2.ensures.keeps.later)) c.set-3.ensures.keeps.later
     (made_then c.args.halted.now.number (Got Tselect c.in_ok-kept.kept ∷ []) (word_read c.args.slot c.in_ok-tdata1.tdata1 ++ freed false) _ _ _ c.in_ok-kept.ensures.made
     (made_then c.args.halted.now.number (word_read c.args.slot c.in_ok-tdata1.tdata1) (freed false) _ _ _ c.in_ok-tdata1.ensures.made (rw (c.tdata1.ensures) at c.in_ok-set-2.ensures.made)))
     (frees_back c.args.slot c.in_ok-kept.kept c.in_ok-tdata1.tdata1 (sym c.shows_free.ensures ∙ c.if-shows_free.false)) c.in_err-set-3.ensures.failed)

@@ -13,7 +13,7 @@ returns-in_err-set-clause-failed g c =
 pub returns-in_err-tdata1-clause-failed : goal.returns-in_err-tdata1-clause-failed
 returns-in_err-tdata1-clause-failed g c =
     if_err _ c.from_residual-in_err-tdata1.result _ c.from_residual-in_err-tdata1.ensures.1
-    (failed_behind _ _ (Set Tselect c.args.slot ∷ []) _ _ _ _ _ _ _ _ c.set.ensures.later c.get.ensures.later (rw (c.from.ensures) at c.in_ok-set.ensures.made) (word_gets c.args.slot) c.in_err-tdata1.ensures.failed)
+    (failed_behind _ _ (Set Tselect c.args.slot ∷ []) _ _ _ _ _ _ _ _ c.set.ensures.keeps.later c.get.ensures.keeps.later (rw (c.from.ensures) at c.in_ok-set.ensures.made) (word_gets c.args.slot) c.in_err-tdata1.ensures.failed)
 
 pub returns-clause-made : goal.returns-clause-made
 returns-clause-made g c =

@@ -12,7 +12,7 @@ returns-in_err-tdata1-clause-failed g c =
 pub returns-in_err-set-clause-failed : goal.returns-in_err-set-clause-failed
 returns-in_err-set-clause-failed g c =
     if_err _ c.from_residual-in_err-set.result _ c.from_residual-in_err-set.ensures.1
-    (failed_behind _ _ (word_read c.args.slot c.in_ok-tdata1.tdata1) _ _ _ _ _ _ _ _ c.read_word.ensures.later c.set.ensures.later c.in_ok-tdata1.ensures.made
+    (failed_behind _ _ (word_read c.args.slot c.in_ok-tdata1.tdata1) _ _ _ _ _ _ _ _ c.read_word.ensures.keeps.later c.set.ensures.keeps.later c.in_ok-tdata1.ensures.made
     (changed_sets c.args.change c.args.slot c.in_ok-tdata1.tdata1 (sym c.shows_hit.ensures ∙ c.if-not-shows_hit.false)) (rw (c.of_word.ensures) at c.in_err-set.ensures.failed))
 
 pub returns-then-not-shows_hit-clause-made : goal.returns-then-not-shows_hit-clause-made

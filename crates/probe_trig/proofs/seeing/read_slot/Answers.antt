@@ -14,7 +14,7 @@ returns-in_err-tdata1-clause-failed g c =
 pub returns-in_err-tdata2-clause-failed : goal.returns-in_err-tdata2-clause-failed
 returns-in_err-tdata2-clause-failed g c =
     if_err _ c.from_residual-in_err-tdata2.result _ c.from_residual-in_err-tdata2.ensures.1
-    (failed_behind _ _ (word_read c.args.slot c.in_ok-tdata1.tdata1) _ _ _ _ _ _ _ _ c.read_word.ensures.later c.get.ensures.later c.in_ok-tdata1.ensures.made (slot_gets c.args.slot c.in_ok-tdata1.tdata1) c.in_err-tdata2.ensures.failed)
+    (failed_behind _ _ (word_read c.args.slot c.in_ok-tdata1.tdata1) _ _ _ _ _ _ _ _ c.read_word.ensures.keeps.later c.get.ensures.keeps.later c.in_ok-tdata1.ensures.made (slot_gets c.args.slot c.in_ok-tdata1.tdata1) c.in_err-tdata2.ensures.failed)
 
 pub returns-clause-made : goal.returns-clause-made
 returns-clause-made g c =

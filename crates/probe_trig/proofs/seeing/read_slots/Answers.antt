@@ -14,27 +14,27 @@ returns-in_err-kept-clause-failed g c =
 pub returns-in_err-a-clause-failed : goal.returns-in_err-a-clause-failed
 returns-in_err-a-clause-failed g c =
     if_err _ c.from_residual-in_err-a.result _ c.from_residual-in_err-a.ensures.1
-    (failed_behind _ _ (Got Tselect c.in_ok-kept.kept ∷ []) _ _ _ _ _ _ _ _ (omega (arith, c.get.ensures.later)) c.read_slot.ensures.later c.in_ok-kept.ensures.made (reads_0 c.in_ok-kept.kept) c.in_err-a.ensures.failed)
+    (failed_behind _ _ (Got Tselect c.in_ok-kept.kept ∷ []) _ _ _ _ _ _ _ _ (omega (arith, c.get.ensures.keeps.later)) c.read_slot.ensures.keeps.later c.in_ok-kept.ensures.made (reads_0 c.in_ok-kept.kept) c.in_err-a.ensures.failed)
 
 pub returns-in_err-b-clause-failed : goal.returns-in_err-b-clause-failed
 returns-in_err-b-clause-failed g c =
     if_err _ c.from_residual-in_err-b.result _ c.from_residual-in_err-b.ensures.1
-    (failed_behind _ _ (Got Tselect c.in_ok-kept.kept ∷ (slot_read 0 c.in_ok-a.a)) _ _ _ _ _ _ _ _ (omega (arith, c.get.ensures.later, c.read_slot.ensures.later)) c.read_slot-2.ensures.later (made_then c.args.halted.now.number (Got Tselect c.in_ok-kept.kept ∷ []) (slot_read 0 c.in_ok-a.a) _ _ _ c.in_ok-kept.ensures.made c.in_ok-a.ensures.made) (reads_1 c.in_ok-kept.kept c.in_ok-a.a) c.in_err-b.ensures.failed)
+    (failed_behind _ _ (Got Tselect c.in_ok-kept.kept ∷ (slot_read 0 c.in_ok-a.a)) _ _ _ _ _ _ _ _ (omega (arith, c.get.ensures.keeps.later, c.read_slot.ensures.keeps.later)) c.read_slot-2.ensures.keeps.later (made_then c.args.halted.now.number (Got Tselect c.in_ok-kept.kept ∷ []) (slot_read 0 c.in_ok-a.a) _ _ _ c.in_ok-kept.ensures.made c.in_ok-a.ensures.made) (reads_1 c.in_ok-kept.kept c.in_ok-a.a) c.in_err-b.ensures.failed)
 
 pub returns-in_err-c-clause-failed : goal.returns-in_err-c-clause-failed
 returns-in_err-c-clause-failed g c =
     if_err _ c.from_residual-in_err-c.result _ c.from_residual-in_err-c.ensures.1
-    (failed_behind _ _ (Got Tselect c.in_ok-kept.kept ∷ ((slot_read 0 c.in_ok-a.a) ++ (slot_read 1 c.in_ok-b.b))) _ _ _ _ _ _ _ _ (omega (arith, c.get.ensures.later, c.read_slot.ensures.later, c.read_slot-2.ensures.later)) c.read_slot-3.ensures.later (made_then c.args.halted.now.number (Got Tselect c.in_ok-kept.kept ∷ []) ((slot_read 0 c.in_ok-a.a) ++ (slot_read 1 c.in_ok-b.b)) _ _ _ c.in_ok-kept.ensures.made (made_then c.args.halted.now.number (slot_read 0 c.in_ok-a.a) (slot_read 1 c.in_ok-b.b) _ _ _ c.in_ok-a.ensures.made c.in_ok-b.ensures.made)) (reads_2 c.in_ok-kept.kept c.in_ok-a.a c.in_ok-b.b) c.in_err-c.ensures.failed)
+    (failed_behind _ _ (Got Tselect c.in_ok-kept.kept ∷ ((slot_read 0 c.in_ok-a.a) ++ (slot_read 1 c.in_ok-b.b))) _ _ _ _ _ _ _ _ (omega (arith, c.get.ensures.keeps.later, c.read_slot.ensures.keeps.later, c.read_slot-2.ensures.keeps.later)) c.read_slot-3.ensures.keeps.later (made_then c.args.halted.now.number (Got Tselect c.in_ok-kept.kept ∷ []) ((slot_read 0 c.in_ok-a.a) ++ (slot_read 1 c.in_ok-b.b)) _ _ _ c.in_ok-kept.ensures.made (made_then c.args.halted.now.number (slot_read 0 c.in_ok-a.a) (slot_read 1 c.in_ok-b.b) _ _ _ c.in_ok-a.ensures.made c.in_ok-b.ensures.made)) (reads_2 c.in_ok-kept.kept c.in_ok-a.a c.in_ok-b.b) c.in_err-c.ensures.failed)
 
 pub returns-in_err-d-clause-failed : goal.returns-in_err-d-clause-failed
 returns-in_err-d-clause-failed g c =
     if_err _ c.from_residual-in_err-d.result _ c.from_residual-in_err-d.ensures.1
-    (failed_behind _ _ (Got Tselect c.in_ok-kept.kept ∷ ((slot_read 0 c.in_ok-a.a) ++ ((slot_read 1 c.in_ok-b.b) ++ (slot_read 2 c.in_ok-c.c)))) _ _ _ _ _ _ _ _ (omega (arith, c.get.ensures.later, c.read_slot.ensures.later, c.read_slot-2.ensures.later, c.read_slot-3.ensures.later)) c.read_slot-4.ensures.later (made_then c.args.halted.now.number (Got Tselect c.in_ok-kept.kept ∷ []) ((slot_read 0 c.in_ok-a.a) ++ ((slot_read 1 c.in_ok-b.b) ++ (slot_read 2 c.in_ok-c.c))) _ _ _ c.in_ok-kept.ensures.made (made_then c.args.halted.now.number (slot_read 0 c.in_ok-a.a) ((slot_read 1 c.in_ok-b.b) ++ (slot_read 2 c.in_ok-c.c)) _ _ _ c.in_ok-a.ensures.made (made_then c.args.halted.now.number (slot_read 1 c.in_ok-b.b) (slot_read 2 c.in_ok-c.c) _ _ _ c.in_ok-b.ensures.made c.in_ok-c.ensures.made))) (reads_3 c.in_ok-kept.kept c.in_ok-a.a c.in_ok-b.b c.in_ok-c.c) c.in_err-d.ensures.failed)
+    (failed_behind _ _ (Got Tselect c.in_ok-kept.kept ∷ ((slot_read 0 c.in_ok-a.a) ++ ((slot_read 1 c.in_ok-b.b) ++ (slot_read 2 c.in_ok-c.c)))) _ _ _ _ _ _ _ _ (omega (arith, c.get.ensures.keeps.later, c.read_slot.ensures.keeps.later, c.read_slot-2.ensures.keeps.later, c.read_slot-3.ensures.keeps.later)) c.read_slot-4.ensures.keeps.later (made_then c.args.halted.now.number (Got Tselect c.in_ok-kept.kept ∷ []) ((slot_read 0 c.in_ok-a.a) ++ ((slot_read 1 c.in_ok-b.b) ++ (slot_read 2 c.in_ok-c.c))) _ _ _ c.in_ok-kept.ensures.made (made_then c.args.halted.now.number (slot_read 0 c.in_ok-a.a) ((slot_read 1 c.in_ok-b.b) ++ (slot_read 2 c.in_ok-c.c)) _ _ _ c.in_ok-a.ensures.made (made_then c.args.halted.now.number (slot_read 1 c.in_ok-b.b) (slot_read 2 c.in_ok-c.c) _ _ _ c.in_ok-b.ensures.made c.in_ok-c.ensures.made))) (reads_3 c.in_ok-kept.kept c.in_ok-a.a c.in_ok-b.b c.in_ok-c.c) c.in_err-d.ensures.failed)
 
 pub returns-in_err-set-clause-failed : goal.returns-in_err-set-clause-failed
 returns-in_err-set-clause-failed g c =
     if_err _ c.from_residual-in_err-set.result _ c.from_residual-in_err-set.ensures.1
-    (failed_behind _ _ (Got Tselect c.in_ok-kept.kept ∷ ((slot_read 0 c.in_ok-a.a) ++ ((slot_read 1 c.in_ok-b.b) ++ ((slot_read 2 c.in_ok-c.c) ++ (slot_read 3 c.in_ok-d.d))))) _ _ _ _ _ _ _ _ (omega (arith, c.get.ensures.later, c.read_slot.ensures.later, c.read_slot-2.ensures.later, c.read_slot-3.ensures.later, c.read_slot-4.ensures.later)) c.set.ensures.later (made_then c.args.halted.now.number (Got Tselect c.in_ok-kept.kept ∷ []) ((slot_read 0 c.in_ok-a.a) ++ ((slot_read 1 c.in_ok-b.b) ++ ((slot_read 2 c.in_ok-c.c) ++ (slot_read 3 c.in_ok-d.d)))) _ _ _ c.in_ok-kept.ensures.made (made_then c.args.halted.now.number (slot_read 0 c.in_ok-a.a) ((slot_read 1 c.in_ok-b.b) ++ ((slot_read 2 c.in_ok-c.c) ++ (slot_read 3 c.in_ok-d.d))) _ _ _ c.in_ok-a.ensures.made (made_then c.args.halted.now.number (slot_read 1 c.in_ok-b.b) ((slot_read 2 c.in_ok-c.c) ++ (slot_read 3 c.in_ok-d.d)) _ _ _ c.in_ok-b.ensures.made (made_then c.args.halted.now.number (slot_read 2 c.in_ok-c.c) (slot_read 3 c.in_ok-d.d) _ _ _ c.in_ok-c.ensures.made c.in_ok-d.ensures.made)))) (reads_back c.in_ok-kept.kept c.in_ok-a.a c.in_ok-b.b c.in_ok-c.c c.in_ok-d.d) c.in_err-set.ensures.failed)
+    (failed_behind _ _ (Got Tselect c.in_ok-kept.kept ∷ ((slot_read 0 c.in_ok-a.a) ++ ((slot_read 1 c.in_ok-b.b) ++ ((slot_read 2 c.in_ok-c.c) ++ (slot_read 3 c.in_ok-d.d))))) _ _ _ _ _ _ _ _ (omega (arith, c.get.ensures.keeps.later, c.read_slot.ensures.keeps.later, c.read_slot-2.ensures.keeps.later, c.read_slot-3.ensures.keeps.later, c.read_slot-4.ensures.keeps.later)) c.set.ensures.keeps.later (made_then c.args.halted.now.number (Got Tselect c.in_ok-kept.kept ∷ []) ((slot_read 0 c.in_ok-a.a) ++ ((slot_read 1 c.in_ok-b.b) ++ ((slot_read 2 c.in_ok-c.c) ++ (slot_read 3 c.in_ok-d.d)))) _ _ _ c.in_ok-kept.ensures.made (made_then c.args.halted.now.number (slot_read 0 c.in_ok-a.a) ((slot_read 1 c.in_ok-b.b) ++ ((slot_read 2 c.in_ok-c.c) ++ (slot_read 3 c.in_ok-d.d))) _ _ _ c.in_ok-a.ensures.made (made_then c.args.halted.now.number (slot_read 1 c.in_ok-b.b) ((slot_read 2 c.in_ok-c.c) ++ (slot_read 3 c.in_ok-d.d)) _ _ _ c.in_ok-b.ensures.made (made_then c.args.halted.now.number (slot_read 2 c.in_ok-c.c) (slot_read 3 c.in_ok-d.d) _ _ _ c.in_ok-c.ensures.made c.in_ok-d.ensures.made)))) (reads_back c.in_ok-kept.kept c.in_ok-a.a c.in_ok-b.b c.in_ok-c.c c.in_ok-d.d) c.in_err-set.ensures.failed)
 
 pub returns-clause-did : goal.returns-clause-did
 returns-clause-did g c =

@@ -18,4 +18,4 @@ returns-in-At-clause-went g c =
 pub returns-in-At-clause-falls : goal.returns-in-At-clause-falls
 returns-in-At-clause-falls g c =
     let m = met_as _ _ _ c.in-At.is c.in_ok-line.ensures.met in
-    if_err_map _ _ _ (λ f p. met_at_falls (state_of c.args.self.now) (freed c.args.slot) c.in-At.halted.number m.0 m.1 c.meet.ensures.later p) c.freed_line.ensures.falls
+    if_err_map _ _ _ (λ f p. met_at_falls (state_of c.args.self.now) (freed c.args.slot) c.in-At.halted.number m.0 m.1 c.meet.ensures.keeps.later p) c.freed_line.ensures.falls

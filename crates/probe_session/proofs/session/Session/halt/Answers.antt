@@ -15,7 +15,7 @@ returns-in-Absent-clause-went g c = halt_absent (state_of c.args.self.now) (saw_
 pub returns-in_err-halted-in-Running-clause-falls : goal.returns-in_err-halted-in-Running-clause-falls
 returns-in_err-halted-in-Running-clause-falls g c =
     if_err _ c.in_err-halted-in-Running.field-0.0 _ c.from_residual-in_err-halted-in-Running.ensures.1
-    (halt_made_falls (state_of c.args.self.now) c.in-Running.running (of_running c.in-Running.is c.in_ok-see.ensures.of) (saw_as c.in-Running.is c.in_ok-see.ensures.saw) c.see.ensures.later c.in_err-halted-in-Running.ensures.fell)
+    (halt_made_falls (state_of c.args.self.now) c.in-Running.running (of_running c.in-Running.is c.in_ok-see.ensures.of) (saw_as c.in-Running.is c.in_ok-see.ensures.saw) c.see.ensures.keeps.later c.in_err-halted-in-Running.ensures.fell)
 
 pub returns-in_ok-halted-in-Running-clause-went : goal.returns-in_ok-halted-in-Running-clause-went
 returns-in_ok-halted-in-Running-clause-went g c =
@@ -23,7 +23,7 @@ returns-in_ok-halted-in-Running-clause-went g c =
 
 pub returns-in_ok-halted-in-Running-clause-falls : goal.returns-in_ok-halted-in-Running-clause-falls
 returns-in_ok-halted-in-Running-clause-falls g c =
-    if_err_map _ _ _ (λ f p. stops_falls (state_of c.args.self.now) c.in_ok-halted-in-Running.halted.number _ (c.in_ok-halted-in-Running.ensures.hart ∙ of_running c.in-Running.is c.in_ok-see.ensures.of) (halt_made (state_of c.args.self.now) c.in-Running.running (of_running c.in-Running.is c.in_ok-see.ensures.of) (saw_as c.in-Running.is c.in_ok-see.ensures.saw) c.in_ok-halted-in-Running.ensures.halted) (omega (arith, c.see.ensures.later, c.make_halt.ensures.later)) p) c.stop_line.ensures.falls
+    if_err_map _ _ _ (λ f p. stops_falls (state_of c.args.self.now) c.in_ok-halted-in-Running.halted.number _ (c.in_ok-halted-in-Running.ensures.hart ∙ of_running c.in-Running.is c.in_ok-see.ensures.of) (halt_made (state_of c.args.self.now) c.in-Running.running (of_running c.in-Running.is c.in_ok-see.ensures.of) (saw_as c.in-Running.is c.in_ok-see.ensures.saw) c.in_ok-halted-in-Running.ensures.halted) (omega (arith, c.see.ensures.keeps.later, c.make_halt.ensures.keeps.later)) p) c.stop_line.ensures.falls
 
 pub returns-in-Halted-clause-went : goal.returns-in-Halted-clause-went
 returns-in-Halted-clause-went g c =
@@ -31,4 +31,4 @@ returns-in-Halted-clause-went g c =
 
 pub returns-in-Halted-clause-falls : goal.returns-in-Halted-clause-falls
 returns-in-Halted-clause-falls g c =
-    if_err_map _ _ _ (λ f p. stops_falls (state_of c.args.self.now) c.in-Halted.halted.number _ (of_halted c.in-Halted.is c.in_ok-see.ensures.of) (halt_halted (state_of c.args.self.now) _ (saw_as c.in-Halted.is c.in_ok-see.ensures.saw)) c.see.ensures.later p) c.stop_line-in-Halted.ensures.falls
+    if_err_map _ _ _ (λ f p. stops_falls (state_of c.args.self.now) c.in-Halted.halted.number _ (of_halted c.in-Halted.is c.in_ok-see.ensures.of) (halt_halted (state_of c.args.self.now) _ (saw_as c.in-Halted.is c.in_ok-see.ensures.saw)) c.see.ensures.keeps.later p) c.stop_line-in-Halted.ensures.falls

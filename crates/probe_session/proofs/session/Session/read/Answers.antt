@@ -20,4 +20,4 @@ pub returns-in-By-clause-spoke : goal.returns-in-By-clause-spoke
 returns-in-By-clause-spoke g c = if_ok_map _ _ _ (λ wrong sp. reached_spoke (state_of c.args.self.now) c.in-By.reach (read c.args.size c.args.address c.args.count) wrong (reached_as _ _ _ c.in-By.is c.in_ok-line.ensures.reached) sp) c.put_elements.ensures.spoke
 
 pub returns-in-By-clause-fell : goal.returns-in-By-clause-fell
-returns-in-By-clause-fell g c = if_err_map _ _ _ (λ f p. reached_spoke_fell (state_of c.args.self.now) c.in-By.reach (read c.args.size c.args.address c.args.count) (reached_as _ _ _ c.in-By.is c.in_ok-line.ensures.reached) c.reach.ensures.later p) c.put_elements.ensures.fell
+returns-in-By-clause-fell g c = if_err_map _ _ _ (λ f p. reached_spoke_fell (state_of c.args.self.now) c.in-By.reach (read c.args.size c.args.address c.args.count) (reached_as _ _ _ c.in-By.is c.in_ok-line.ensures.reached) c.reach.ensures.keeps.later p) c.put_elements.ensures.fell

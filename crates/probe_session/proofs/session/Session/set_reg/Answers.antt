@@ -19,7 +19,7 @@ returns-in-At-clause-went g c =
 pub returns-in-At-clause-falls : goal.returns-in-At-clause-falls
 returns-in-At-clause-falls g c =
     let m = met_as _ _ _ c.in-At.is c.in_ok-line.ensures.met in
-    if_err_map _ _ _ (λ f p. met_at_falls (state_of c.args.self.now) (written_and_shown c.args.name.0 c.args.value) c.in-At.halted.number m.0 m.1 c.meet.ensures.later p) c.written_register_line.ensures.falls
+    if_err_map _ _ _ (λ f p. met_at_falls (state_of c.args.self.now) (written_and_shown c.args.name.0 c.args.value) c.in-At.halted.number m.0 m.1 c.meet.ensures.keeps.later p) c.written_register_line.ensures.falls
 
 pub written_register_line-requires-clause-of : goal.written_register_line-requires-clause-of
 written_register_line-requires-clause-of g c = of_cores c.args.name.0 c.requires.known

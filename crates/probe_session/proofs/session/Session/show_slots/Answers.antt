@@ -18,7 +18,7 @@ returns-in_ok-put_line-in-Says-clause-spoke g c = look_says (state_of c.args.sel
 pub returns-in_err-put_slots-in-At-clause-fell : goal.returns-in_err-put_slots-in-At-clause-fell
 returns-in_err-put_slots-in-At-clause-fell g c =
     let m = met_as _ _ _ c.in-At.is c.in_ok-line.ensures.met in
-    if_err _ c.in_err-put_slots-in-At.field-0.0 _ c.from_residual-in_err-put_slots-in-At.ensures.1 (look_spoke_fell (state_of c.args.self.now) slots_shown c.in-At.halted.number m.0 m.1 c.meet.ensures.later c.in_err-put_slots-in-At.ensures.fell)
+    if_err _ c.in_err-put_slots-in-At.field-0.0 _ c.from_residual-in_err-put_slots-in-At.ensures.1 (look_spoke_fell (state_of c.args.self.now) slots_shown c.in-At.halted.number m.0 m.1 c.meet.ensures.keeps.later c.in_err-put_slots-in-At.ensures.fell)
 
 pub returns-in_ok-put_slots-in-At-clause-spoke : goal.returns-in_ok-put_slots-in-At-clause-spoke
 returns-in_ok-put_slots-in-At-clause-spoke g c =

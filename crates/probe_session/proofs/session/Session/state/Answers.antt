@@ -20,4 +20,4 @@ returns-in-Halted-clause-went g c =
 
 pub returns-in-Halted-clause-falls : goal.returns-in-Halted-clause-falls
 returns-in-Halted-clause-falls g c =
-    if_err_map _ _ _ (λ f p. stops_falls (state_of c.args.self.now) c.in-Halted.halted.number _ (of_halted c.in-Halted.is c.in_ok-see.ensures.of) (state_halted (state_of c.args.self.now) _ (saw_as c.in-Halted.is c.in_ok-see.ensures.saw)) c.see.ensures.later p) c.stop_line.ensures.falls
+    if_err_map _ _ _ (λ f p. stops_falls (state_of c.args.self.now) c.in-Halted.halted.number _ (of_halted c.in-Halted.is c.in_ok-see.ensures.of) (state_halted (state_of c.args.self.now) _ (saw_as c.in-Halted.is c.in_ok-see.ensures.saw)) c.see.ensures.keeps.later p) c.stop_line.ensures.falls

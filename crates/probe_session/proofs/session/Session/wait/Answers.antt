@@ -7,7 +7,7 @@ use Rattle.probe_session.proofs.SeenLemmas.{saw_as}
 use Rattle.probe_session.proofs.session.Session.wait.Goals as goal
 
 pub looking-init : goal.looking-init
-looking-init g c = record { serving = c.requires.serving; waited = waited_none (state_of c.args.self.now) c.args.looks _; later = omega arith; slack = refl; ties = refl }
+looking-init g c = record { serving = c.requires.serving; waited = waited_none (state_of c.args.self.now) c.args.looks _; later = omega arith; fixed = refl }
 
 pub returns-in_err-halted-clause-falls : goal.returns-in_err-halted-clause-falls
 returns-in_err-halted-clause-falls g c =
@@ -19,15 +19,14 @@ returns-in-Halted-clause-went g c =
 
 pub returns-in-Halted-clause-falls : goal.returns-in-Halted-clause-falls
 returns-in-Halted-clause-falls g c =
-    if_err_map _ _ _ (λ f p. stops_falls (state_of c.args.self.now) c.in-Halted.halted.number _ (of_halted c.in-Halted.is c.in_ok-halted.ensures.of) (waited_enough (state_of c.args.self.now) c.args.looks c.looking._look _ c.looking-test.true c.looking.invariant.waited (saw_as c.in-Halted.is c.in_ok-halted.ensures.saw)) (omega (arith, c.looking.invariant.later, c.see.ensures.later)) p) c.stop_line.ensures.falls
+    if_err_map _ _ _ (λ f p. stops_falls (state_of c.args.self.now) c.in-Halted.halted.number _ (of_halted c.in-Halted.is c.in_ok-halted.ensures.of) (waited_enough (state_of c.args.self.now) c.args.looks c.looking._look _ c.looking-test.true c.looking.invariant.waited (saw_as c.in-Halted.is c.in_ok-halted.ensures.saw)) (omega (arith, c.looking.invariant.later, c.see.ensures.keeps.later)) p) c.stop_line.ensures.falls
 
 pub looking-preserved : goal.looking-preserved
 looking-preserved g c = record {
-  serving = c.in_ok-halted.ensures.serving;
+  serving = c.in_ok-halted.ensures.keeps.behind;
   waited = waited_again (state_of c.args.self.now) c.args.looks c.looking._look c.in_ok-halted.field-0 c.looking-test.true c.looking.invariant.waited c.in_ok-halted.ensures.saw c.in_default.not-Halted;
-  later = omega (arith, c.looking.invariant.later, c.see.ensures.later);
-  slack = c.see.ensures.slack ∙ c.looking.invariant.slack;
-  ties = c.see.ensures.ties ∙ c.looking.invariant.ties;
+  later = omega (arith, c.looking.invariant.later, c.see.ensures.keeps.later);
+  fixed = c.see.ensures.keeps.fixed ∙ c.looking.invariant.fixed;
 }
 
 pub returns-clause-went : goal.returns-clause-went

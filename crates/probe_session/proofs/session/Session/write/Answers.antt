@@ -16,4 +16,4 @@ pub returns-in-By-clause-went : goal.returns-in-By-clause-went
 returns-in-By-clause-went g c = if_ok_map _ _ _ (λ line w. reach_goes (state_of c.args.self.now) c.in-By.reach (written c.args.size c.args.address c.args.value c.args.count) (said_by line) (reached_as _ _ _ c.in-By.is c.in_ok-line.ensures.reached) w) c.written_line.ensures.went
 
 pub returns-in-By-clause-falls : goal.returns-in-By-clause-falls
-returns-in-By-clause-falls g c = if_err_map _ _ _ (λ f p. reach_goes_falls (state_of c.args.self.now) c.in-By.reach (written c.args.size c.args.address c.args.value c.args.count) (reached_as _ _ _ c.in-By.is c.in_ok-line.ensures.reached) c.reach.ensures.later p) c.written_line.ensures.falls
+returns-in-By-clause-falls g c = if_err_map _ _ _ (λ f p. reach_goes_falls (state_of c.args.self.now) c.in-By.reach (written c.args.size c.args.address c.args.value c.args.count) (reached_as _ _ _ c.in-By.is c.in_ok-line.ensures.reached) c.reach.ensures.keeps.later p) c.written_line.ensures.falls
