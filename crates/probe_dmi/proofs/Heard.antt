@@ -48,9 +48,9 @@ abbrev pub SoFar : ℕ → Bool → Option Script → Option Script → Type 0
 SoFar n taken None new = new ≡ None
 SoFar n taken (Some script) new = SoFarIn n taken script new
 
-pub nothing_heard : (old : Option Script) → SoFar 0 false old old
-nothing_heard None = refl
-nothing_heard (Some s) = record { outs = []; awaited = begun; next = s; is = refl; took = refl }
+pub nothing_heard : (old new : Option Script) → new ≡ old → SoFar 0 false old new
+nothing_heard None new same = same
+nothing_heard (Some s) new same = record { outs = []; awaited = begun; next = s; is = same; took = refl }
 
 pub op_of : (out : DmiScan) (bits : List Bool) (n : ℕ) → out ≡ heard bits → out.op ≡ n → (heard bits).op ≡ n
 op_of out bits n is e = ap (λ (x : DmiScan). x.op) (sym is) ∙ e

@@ -7,7 +7,7 @@ ghost use Rattle.probe_dmi.specs.Registers.{IsWidth};
 ghost use Rattle.probe_dmi.specs.Operations.{LeavesState, link_seen, next_scan};
 
 use crate::pace::Pace;
-use crate::register::Registers;
+use crate::register::{DMI_CODE, Registers};
 use crate::state::State;
 use debug_model::{DmiFault, DmiOp, DmiScan, Scan};
 
@@ -70,10 +70,11 @@ impl<S: Scan> Registers<S> {
         ensures pace { IsPace pace.new }
         ensures paced { pace.new.most ≡ pace.old.most }
     {
+        self.select(DMI_CODE)?;
         let mut busy = 0;
         let mut taken = false;
         'scans: while busy < BUSY_MOST {
-            let out = self.exchange(abits, next_scan(op, taken))?;
+            let out = self.exchange_behind(0, abits, next_scan(op, taken))?;
             if out.op == STATUS_FAILED {
                 self.state = State::Dead;
                 return Err(DmiFault::Failed);
@@ -85,7 +86,7 @@ impl<S: Scan> Registers<S> {
                 taken = true;
                 continue;
             }
-            self.clear()?;
+            self.clear_again()?;
             *pace = pace.behind_busy();
             busy += 1;
         }

@@ -195,23 +195,6 @@ impl<S: Scan> Registers<S> {
         Ok(out.value() as u32)
     }
 
-    /// Scans `dmi` with this in it, at an address of 7 to 30 bits.
-    pub fn exchange(&mut self, abits: u8, sent: DmiScan) -> Result<DmiScan, WireFault>
-        requires least { 7 ≤ abits }
-        requires most { abits ≤ 30 }
-        requires width { IsWidth abits (S.seen self.old.scan).far }
-        requires scan { CanScan (S.seen self.old.scan).far }
-        ensures scanned { IfOk result (λ out. WhereTold (DmiScanned sent out) (S.seen self.old.scan).far (S.seen self.new.scan).far) }
-        ensures cut { OnErr result (WhereTold (CutFrom dr.Dmi (dmi_bits sent)) (S.seen self.old.scan).far (S.seen self.new.scan).far) }
-        ensures heard { IfOk result (λ out. HeardDmi out (S.seen self.old.scan).coming (S.seen self.new.scan).coming) }
-        ensures cause { IfErr result (ScanFails (S.seen self.old.scan) (S.seen self.new.scan)) }
-        ensures state { LeavesState self.new.state result }
-        ensures keeps { ScanKeeps (S.seen self.old.scan) (S.seen self.new.scan) result }
-    {
-        let out = self.register(DMI_CODE, Bits::from_u64(sent.bits(), BELOW_ADDRESS + abits))?;
-        Ok(DmiScan::from_bits(out.value()))
-    }
-
     /// Stays in Run-Test/Idle for so many clocks, at most 32, and sends nothing where it is 0.
     fn pause(&mut self, clocks: u8) -> Result<(), WireFault>
         requires few { clocks ≤ idle_most }

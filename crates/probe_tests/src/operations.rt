@@ -172,7 +172,6 @@ fn sends_an_operation_until_it_is_taken(rt: HostRuntime) {
         Call::Dr(32, 0x1_0000),
         Call::Ir(0x11),
         Call::Dr(41, 0x40_0000_0006),
-        Call::Ir(0x11),
         Call::Dr(41, 0),
         Call::Ir(0x10),
         Call::Dr(32, 0x1_0000),
@@ -199,7 +198,6 @@ fn takes_the_address_bits_of_dtmcs(rt: HostRuntime) {
             Call::Dr(32, 0x1_0000),
             Call::Ir(0x11),
             Call::Dr(width, 0x10_0000_0001),
-            Call::Ir(0x11),
             Call::Dr(width, 0),
         ];
         assert_eq!(rt; link.into_scan().calls.as_slice(), &wanted[..]);
