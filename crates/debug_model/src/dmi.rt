@@ -102,6 +102,7 @@ pub trait Dmi: Drop {
         requires operations { All IsOperation ops.now }
         requires empty { results.old.items ≡ [] }
         requires callable { CanCall (seen self.old) }
+        ensures count { OnOk result (length results.new.items ≡ length ops.now) }
         ensures operated { OnOk result (WhereTold (OperatedAll ops.now results.new.items) (seen self.old).far (seen self.new).far) }
         ensures answers { OnOk result (AnswersAll ops.now results.new.items (seen self.old).coming (seen self.new).coming) }
         ensures cut { OnErr result (WhereTold (OperationsCut ops.now) (seen self.old).far (seen self.new).far) }

@@ -251,3 +251,6 @@ rest_length xs some = omega (arith, ap (length {A = DmiOp}) (rest_is xs), length
 pub room_on : (flight : Bool) (value : ℕ) (results results' : List ℕ) (xs : List DmiOp) (total : ℕ) → results' ≡ kept flight value results → 1 ≤ length xs → length results + (if flight then 1 else 0) + length xs ≡ total
     → length results' + 1 + length (take (length xs - 1) (drop 1 xs)) ≡ total
 room_on flight value results results' xs total kept_is some room = omega (arith, room, rest_length xs some, ap (length {A = ℕ}) kept_is, length-kept flight value results)
+
+pub room_done : (flight : Bool) (value : ℕ) (results results' : List ℕ) (n total : ℕ) → results' ≡ kept flight value results → flight ≡ true → n < 1 → length results + (if flight then 1 else 0) + n ≡ total → length results' ≡ total
+room_done flight value results results' n total kept_is one none room = omega (arith, room, none, ap (length {A = ℕ}) kept_is, length-kept flight value results)

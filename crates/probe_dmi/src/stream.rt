@@ -56,6 +56,7 @@ impl<S: Scan> Registers<S> {
         requires width { IsWidth abits (S.seen self.old.scan).far }
         requires pace { IsPace pace.old }
         requires link { CanOperate (S.seen self.old.scan).far }
+        ensures count { OnOk result (length results.new.items ≡ length ops.now) }
         ensures operated { OnOk result (WhereTold (OperatedAll ops.now results.new.items) (S.seen self.old.scan).far (S.seen self.new.scan).far) }
         ensures answers { OnOk result (AnswersAll ops.now results.new.items (option_map Scans (S.seen self.old.scan).coming)
             (option_map Scans (S.seen self.new.scan).coming)) }

@@ -54,12 +54,13 @@ impl Dmi for SameDmi {
         ops: &[DmiOp],
         results: &mut ArrayVec<u32, OPERATIONS_MOST>,
     ) -> Result<(), DmiFault> {
-        for op in ops {
-            let value = match *op {
+        let mut rest = ops;
+        'operations: while let [op, after @ ..] = rest {
+            results.push(match *op {
                 DmiOp::Read(_) => self.answer,
                 DmiOp::Write(_, value) => value,
-            };
-            let _full = results.try_push(value).is_err();
+            });
+            rest = after;
         }
         Ok(())
     }

@@ -11,7 +11,7 @@ use Rattle.probe_dmi.proofs.Conditions.{can_operate, width_kept}
 use Rattle.probe_dmi.proofs.Heard.{dmi_through, scan_cause}
 use Rattle.probe_dmi.proofs.ManyHeard.{heard_all, heard_begun, heard_busy_again, heard_many_busy, heard_many_failed, heard_on, many_cause, stream_through}
 use Rattle.probe_dmi.proofs.Scans.{chosen_of}
-use Rattle.probe_dmi.proofs.StreamEnds.{all_clean, all_failed_cut, all_failed_lost, all_operated, first_as, first_cut_as, is_flying, rest_is, rest_length, room_on, still_cut, stream_again, stream_cleared, stream_cut, stream_done, stream_failed, stream_found, stream_stopped, stream_taken}
+use Rattle.probe_dmi.proofs.StreamEnds.{all_clean, all_failed_cut, all_failed_lost, all_operated, first_as, first_cut_as, is_flying, rest_is, rest_length, room_done, room_on, still_cut, stream_again, stream_cleared, stream_cut, stream_done, stream_failed, stream_found, stream_stopped, stream_taken}
 use Rattle.probe_dmi.proofs.Streams.{Streaming, stream_begun, unbegun}
 use Rattle.probe_dmi.proofs.register.Registers.stream.Goals as goal
 
@@ -91,6 +91,10 @@ scans-preserved-then-out-ne-STATUS_DONE g c =
       later = omega (arith, c.scans.invariant.later, c.exchange_behind.ensures.keeps.later, c.clear_again.ensures.keeps.later);
       fixed = c.clear_again.ensures.keeps.fixed ∙ c.exchange_behind.ensures.keeps.fixed ∙ c.scans.invariant.fixed;
     }
+
+pub returns-in_default-clause-count : goal.returns-in_default-clause-count
+returns-in_default-clause-count g c = room_done c.scans.in_flight c.in_ok-out.out.value c.scans.results.items c.keep.new.results.items (length c.scans.rest.now) (length c.args.ops.now) c.keep.ensures.kept
+    (is_flying c.scans.in_flight _ c.scans.invariant.started c.in_default.len_below) c.in_default.len_below c.scans.invariant.room
 
 pub returns-in_default-clause-operated : goal.returns-in_default-clause-operated
 returns-in_default-clause-operated g c = all_operated c.args.ops.now c.keep.new.results.items _ _ (stream_done c.args.ops.now c.scans.results.items c.keep.new.results.items c.scans.rest.now c.scans.in_flight c.scans.busy c.in_ok-out.out (g.S.Scan.seen c.args.self.now.scan).far (g.S.Scan.seen c.scans.self.scan).far _ c.in_default.len_below (is_flying c.scans.in_flight _ c.scans.invariant.started c.in_default.len_below)
