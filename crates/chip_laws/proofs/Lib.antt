@@ -6,3 +6,4 @@ pub mod Events
 pub mod Turns
 pub mod Timing
 pub mod TapLemmas
+pub mod SeveralOperations
