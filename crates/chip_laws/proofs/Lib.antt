@@ -10,3 +10,4 @@ pub mod CommandLemmas
 pub mod BusLemmas
 pub mod TransportLemmas
 pub mod HaltsumLemmas
+pub mod SeveralOperations

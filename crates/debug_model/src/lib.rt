@@ -50,7 +50,7 @@ pub use command_word::CommandWord;
 pub use counts::Counts;
 pub use data_register::DataRegister;
 pub use dmcontrol::Dmcontrol;
-pub use dmi::{Dmi, DmiFault};
+pub use dmi::{Dmi, DmiFault, OPERATIONS_MOST};
 pub use dmi_op::DmiOp;
 pub use dmi_scan::DmiScan;
 pub use dmstatus::Dmstatus;
