@@ -1,5 +1,5 @@
--- A chip as it was loaded, told by what stands on the bench alone: its harts, the bytes of its memory, its schedule and its limit. So it is a fact that has one proof,
--- which a net can keep until it is opened. How a program comes into the chip is this project's own choice.
+-- A chip as it was loaded, told by what stands on the bench alone: its harts, the bytes of its memory, its schedule and its limit.
+-- So it is a fact that has one proof, which a net can keep until it is opened. How a program comes into the chip is this project's own choice.
 use Rattle.std.specs.Prelude.{◌≡◌, ℕ, zero, suc, ◌+◌, ◌<◌, ◌≤◌, List, [], ◌∷◌, length, All, Option, None, Some, IfSome, unwrap_or}
 use Rattle.std.specs.FinMap.{get}
 use Rattle.rv_model.specs.declared.cause.Cause.{Cause}

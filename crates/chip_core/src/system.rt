@@ -65,8 +65,8 @@ impl Model for System {
 }
 
 impl System {
-    /// These harts and this memory behind a TAP and a debug module as a reset leaves them. Nothing was noted or counted. A rise of TCK that finds more points than
-    /// `most_points` takes nothing.
+    /// These harts and this memory behind a TAP and a debug module as a reset leaves them, with this limit of points. Nothing was noted
+    /// or counted.
     pub(crate) fn new(harts: Vec<DebugHart>, ram: Ram, most_points: u64) -> Self
         requires harts { vec_len harts ≤ hart_places }
         requires limit { RightLimit most_points }

@@ -1,6 +1,7 @@
 -- The job that words write, or none: the first word names the program, and the rest are the options of its command.
 -- The words are this project's own (docs/FORMATS.md, "Words"); which words a command takes, and what it finds in them, is what the crate `clap` says.
-use Rattle.std.specs.Prelude.{◌≤◌, ◌^◌, ℕ, Bool, false, ◌&&◌, nat_le, List, [], ◌∷◌, codes, bytes_eq, Option, Some, None, option_map, Result, Ok, Err, if◌then◌else◌}
+use Rattle.std.specs.Prelude.{◌≤◌, ◌^◌, ℕ, ◌&&◌, nat_le}
+use Rattle.std.specs.Prelude.{Bool, false, List, [], ◌∷◌, codes, bytes_eq, Option, Some, None, option_map, Result, Ok, Err, if◌then◌else◌}
 use Rattle.std.specs.Borrow.{Bor}
 use Rattle.clap.specs.Words.{App, Kinds, Row, fault_of, first_of, found_of, matches_of, rows_of}
 use Rattle.clap.specs.declared.parser.matches.ArgMatches.{ArgMatches}

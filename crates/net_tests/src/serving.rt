@@ -201,8 +201,8 @@ fn a_net_that_fails_is_told(rt: HostRuntime) -> Result<(), Fail> {
     Ok(())
 }
 
-// 120 points are 24 rounds of five turns. The rise behind them still takes its round, and the next one none. Of these 25 rises 9 lead to the register, and 16 shift
-// it. Behind them one more bit is answered, and none where the chip is served again.
+// 120 points are 24 rounds of five turns. The rise behind them still takes its round, and the next one none. Of these 25 rises 9 lead to the
+// register, and 16 shift it. Behind them one more bit is answered, and none where the chip is served again.
 #[test]
 fn the_limit_ends_the_serving(rt: HostRuntime) -> Result<(), Fail> {
     let alloc = rt.alloc();

@@ -23,10 +23,13 @@ both --gen 5 --events 4611686018427387904|1 65536 false 0 1 4611686018427387904 
 both --gen 5 --events=0x4000000000000000|1 65536 false 0 1 4611686018427387904 256 false\n\
 both --gen 5 --piece 1|1 65536 false 0 1 16777200 1 false\n\
 both --gen 5 --piece 256|1 65536 false 0 1 16777200 256 false\n\
-both --script=--halt --image core.bin|Both(Files { image: \"core.bin\", script: \"--halt\" }, ChipOptions { harts: 1, ram: 65536, halted: false, seed: 0, busy: 1, events: 16777200 }, 256, false)\n\
+both --script=--halt --image core.bin|Both(Files { image: \"core.bin\", script: \"--halt\" }, \
+ChipOptions { harts: 1, ram: 65536, halted: false, seed: 0, busy: 1, events: 16777200 }, 256, false)\n\
 probe --at localhost:9000 --script probe|Probe { at: \"localhost:9000\", script: \"probe\" }\n\
-chip --at  --image a --halted --harts 4|Chip { at: \"\", image: \"a\", options: ChipOptions { harts: 4, ram: 65536, halted: true, seed: 0, busy: 1, events: 16777200 } }\n\
-chip --at a --image i --events 1000000000|Chip { at: \"a\", image: \"i\", options: ChipOptions { harts: 1, ram: 65536, halted: false, seed: 0, busy: 1, events: 1000000000 } }";
+chip --at  --image a --halted --harts 4|Chip { at: \"\", image: \"a\", options: \
+ChipOptions { harts: 4, ram: 65536, halted: true, seed: 0, busy: 1, events: 16777200 } }\n\
+chip --at a --image i --events 1000000000|Chip { at: \"a\", image: \"i\", options: \
+ChipOptions { harts: 1, ram: 65536, halted: false, seed: 0, busy: 1, events: 1000000000 } }";
 
 /// Lines of words that write no job, with a line feed after each but the last: no program or another; an option of another
 /// program, an unknown or a shortened one, or one that asks for help or a version; an option twice, a missing value, a flag with

@@ -36,8 +36,8 @@ fn puts_to_the_limit(net: &mut BenchNet<ListSchedule>) -> u32
     10
 }
 
-// 1,500 points are 300 rounds of five turns. The rise behind them still takes its round, and the next one none: so 301 rises are taken, which is two puts of 128
-// and 45 more.
+// 1,500 points are 300 rounds of five turns. The rise behind them still takes its round, and the next one none: so 301 rises are taken, which is
+// two puts of 128 and 45 more.
 #[test]
 #[tactic(auto, unfolding(debug_model::specs::Wire::are_open), using(crate::proofs::Asked::live_open, crate::proofs::Asked::same_open))]
 fn links_stop_at_the_limit(rt: HostRuntime) -> Result<(), Fail> {

@@ -169,8 +169,8 @@ fn a_net_that_fails_gives_its_status(rt: HostRuntime) -> Result<(), Fail> {
     Ok(())
 }
 
-// One hart has one turn in each round. A rise that finds 24 points takes its round, and the one behind it none: of these 25 rises 9 lead to the register, and 16 shift
-// it. Behind them one more bit is answered. With one event more it is one bit more.
+// One hart has one turn in each round. A rise that finds 24 points takes its round, and the one behind it none: of these 25 rises 9 lead to the
+// register, and 16 shift it. Behind them one more bit is answered. With one event more it is one bit more.
 #[test]
 fn a_served_chip_has_the_limit_of_its_words(rt: HostRuntime) -> Result<(), Fail> {
     let alloc = rt.alloc();
