@@ -26,8 +26,6 @@ pub(crate) const BUSY_MOST: u64 = 32;
 
 pub(crate) const EVENTS_LEAST: u64 = 1;
 
-const EVENTS_LEAST: u64 = 1;
-
 /// The value of an option, where it was given.
 pub(crate) fn value<'a>(matches: &ArgMatches<'a>, name: &str) -> Option<&'a str>
     ensures { text_of result ≡ value_in (rows_found matches.now) name.now }
