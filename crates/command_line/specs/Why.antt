@@ -1,6 +1,7 @@
 -- Which of the words is why they write no job: what is named is at fault.
 -- The words are this project's own (docs/FORMATS.md, "Words").
-use Rattle.std.specs.Prelude.{◌≡◌, ◌<◌, ◌≤◌, ◌⊎◌, ℕ, ◌-◌, ◌^◌, List, [], ◌∷◌, codes, bytes_eq, Option, Some, None, Result, Ok, Err, if◌then◌else◌, IsSome}
+use Rattle.std.specs.Prelude.{◌≡◌, ◌<◌, ◌≤◌, ◌⊎◌, ℕ, ◌-◌, ◌^◌, List, [], ◌∷◌, codes, bytes_eq}
+use Rattle.std.specs.Prelude.{Option, Some, None, Result, Ok, Err, if◌then◌else◌, IsSome}
 use Rattle.clap.specs.Words.{App, Row}
 use Rattle.clap.specs.declared.parser.matches.ArgMatches.{ArgMatches}
 use Rattle.debug_model.specs.Wire.{piece_most}
@@ -12,10 +13,18 @@ use Rattle.command_line.specs.declared.why.Refused.TheVariants as whys
 
 -- the range of an option's number
 abbrev pub least_of : Text → ℕ
-least_of option = if bytes_eq option (codes "busy") then least_busy else (if bytes_eq option (codes "events") then least_events else (if bytes_eq option (codes "piece") then least_piece else 0))
+least_of option =
+    if bytes_eq option (codes "busy") then least_busy
+    else (if bytes_eq option (codes "events") then least_events
+    else (if bytes_eq option (codes "piece") then least_piece
+    else 0))
 
 abbrev pub most_of : Text → ℕ
-most_of option = if bytes_eq option (codes "busy") then most_busy else (if bytes_eq option (codes "events") then most_events else (if bytes_eq option (codes "piece") then piece_most else 2 ^ 64 - 1))
+most_of option =
+    if bytes_eq option (codes "busy") then most_busy
+    else (if bytes_eq option (codes "events") then most_events
+    else (if bytes_eq option (codes "piece") then piece_most
+    else 2 ^ 64 - 1))
 
 -- the command of the job that a word names
 unfoldable pub command_at : Text → Option App
