@@ -11,7 +11,7 @@ ghost use Rattle.probe_access.specs.Faults.{access_why};
 use crate::doubles::{high_word, join, low_word};
 use crate::fault::AccessFault;
 use crate::memory::cut_to;
-use crate::polling::POLLS_MOST;
+use crate::commands::POLLS_MOST;
 use debug_model::{Dmi, DmiFault, Sbcs};
 use rv_model::Size;
 

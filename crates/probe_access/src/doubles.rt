@@ -1,13 +1,14 @@
 ghost use Rattle.std.specs.Prelude.{◌≡◌, ◌≤◌, ◌<◌, ◌^◌, ◌∷◌, [], IfOk, IfErr, OnOk, Some};
 ghost use Rattle.probe_run.specs.Acts.{Did};
-ghost use Rattle.probe_access.specs.Faults.{BrokeIn};
+ghost use Rattle.probe_access.specs.Faults.{Among, BrokeIn};
 ghost use Rattle.probe_access.specs.RegisterRuns.{DoubleRead, DoubleReads, DoubleWrites, double_written};
 ghost use Rattle.debug_model.specs.Commands.{high_half, low_half};
 ghost use Rattle.probe_access.specs.RegisterAccess.{joined};
 ghost use Rattle.debug_model.specs.Kept.{CanCall, Keeps};
 ghost use Rattle.probe_run.specs.Told.{Breaks, told};
 
-use debug_model::{Dmi, DmiFault};
+use arrayvec::ArrayVec;
+use debug_model::{Dmi, DmiFault, DmiOp};
 
 /// The addresses of the data words.
 const DATA0: u8 = 0x04;
@@ -39,22 +40,24 @@ pub fn join(low: u32, high: u32) -> u64
 pub fn read_double<D: Dmi>(link: &mut D) -> Result<u64, DmiFault>
     requires callable { CanCall (D.seen link.old) }
     ensures read { IfOk result (λ value. DoubleRead value (told (D.seen link.old)) (told (D.seen link.new))) }
-    ensures broke { IfErr result (Breaks (BrokeIn DoubleReads) (D.seen link.old) (D.seen link.new)) }
+    ensures broke { IfErr result (Breaks (BrokeIn (Among DoubleReads)) (D.seen link.old) (D.seen link.new)) }
     ensures keeps { Keeps Some (D.seen link.old) (D.seen link.new) result }
 {
-    let low = link.read(DATA0)?;
-    let high = link.read(DATA1)?;
-    Ok(join(low, high))
+    let mut words = ArrayVec::new();
+    link.many(&[DmiOp::Read(DATA0), DmiOp::Read(DATA1)], &mut words)?;
+    Ok(join(words[0], words[1]))
 }
 
 /// Writes a number into the data words.
 pub fn write_double<D: Dmi>(link: &mut D, value: u64) -> Result<(), DmiFault>
     requires callable { CanCall (D.seen link.old) }
     ensures did { OnOk result (Did (told (D.seen link.old)) (double_written value) (told (D.seen link.new))) }
-    ensures broke { IfErr result (Breaks (BrokeIn (DoubleWrites value)) (D.seen link.old) (D.seen link.new)) }
+    ensures broke { IfErr result (Breaks (BrokeIn (Among (DoubleWrites value))) (D.seen link.old) (D.seen link.new)) }
     ensures keeps { Keeps Some (D.seen link.old) (D.seen link.new) result }
 {
-    link.write(DATA0, low_word(value))?;
-    link.write(DATA1, high_word(value))?;
+    let low = DmiOp::Write(DATA0, low_word(value));
+    let high = DmiOp::Write(DATA1, high_word(value));
+    let mut words = ArrayVec::new();
+    link.many(&[low, high], &mut words)?;
     Ok(())
 }

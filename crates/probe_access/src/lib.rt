@@ -13,7 +13,6 @@ mod doubles;
 mod fault;
 mod inside;
 mod memory;
-mod polling;
 mod program;
 mod registers;
 mod scratch;
