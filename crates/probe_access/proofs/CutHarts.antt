@@ -5,7 +5,7 @@ use Rattle.rv_model.specs.DebugRegisters.{debug_value, debug_written}
 use Rattle.debug_model.specs.declared.abstract_command.AbstractCommand.{AbstractCommand}
 use Rattle.debug_model.specs.declared.cmderr.Cmderr.TheVariants.{Fine, Exception}
 use Rattle.debug_model.specs.declared.dmi.DmiFault.{DmiFault}
-use Rattle.debug_model.specs.declared.dmi_op.DmiOp.TheVariants.{Read, Write}
+use Rattle.debug_model.specs.declared.dmi_op.DmiOp.TheVariants.{Write}
 use Rattle.debug_model.specs.declared.micro.Micro.TheVariants.{Transfer}
 use Rattle.debug_model.specs.Commands.{high_half, low_half}
 use Rattle.debug_model.specs.Deeds.{ran}
@@ -16,8 +16,7 @@ use Rattle.debug_model.specs.SystemBus.{BusUnit}
 use Rattle.debug_model.specs.Told.{Far, site_of}
 use Rattle.probe_access.specs.declared.fault.AccessFault.{AccessFault}
 use Rattle.probe_access.specs.declared.fault.AccessFault.TheVariants as access_fault
-use Rattle.probe_run.specs.Acts.{Act, Attempt, Broke, Did, Tells}
-use Rattle.probe_run.specs.Acts.Act.{Got, Put}
+use Rattle.probe_run.specs.Acts.{Act, Did, Tells}
 use Rattle.probe_access.specs.CommandRuns.{CommandFailed, error_shown}
 use Rattle.probe_access.specs.Cuts.{IfCut}
 use Rattle.probe_access.specs.MemoryRuns.{PutBackFailed, SaveFailed}

@@ -1,5 +1,5 @@
 -- Polls made one after another, and a call that fails among others.
-use Rattle.std.proofs.Common.{◌≡◌, ◌∙◌, ◌≤◌, ◌<◌, ◌+◌, ◌++◌, ℕ, List, [], ◌∷◌, length, map, All, Option, Result, Ok, Err, IfErr, refl, sym, ap, subst, length-append, append-nil, arith, true, false, Bool, not}
+use Rattle.std.proofs.Common.{◌≡◌, ◌≤◌, ◌<◌, ◌+◌, ◌++◌, ℕ, List, [], ◌∷◌, length, map, All, Option, Result, Ok, Err, IfErr, refl, sym, ap, subst, length-append, append-nil, arith, true, false, Bool, not}
 use Rattle.std.proofs.lemmas.List.{map-append}
 use Rattle.std.proofs.lemmas.List.Elements.{All-push}
 use Rattle.std.specs.Result.{IsErrAnd}
@@ -13,7 +13,6 @@ use Rattle.debug_model.specs.Told.{Far}
 use Rattle.probe_run.specs.Acts.{Did, Tells}
 use Rattle.probe_run.specs.Acts.Act.{Got, Put}
 use Rattle.probe_run.specs.Acts.Attempt.{Operation}
-use Rattle.probe_run.specs.Acts.Did.{nothing}
 use Rattle.probe_access.specs.CommandRuns.{AlwaysBusy, CommandBegun, EndedCommand, ShowsBusy, poll_act, shows_busy}
 use Rattle.probe_access.specs.CommandRuns.CommandBegun.{polls}
 use Rattle.probe_access.specs.RegisterAccess.{command_address}

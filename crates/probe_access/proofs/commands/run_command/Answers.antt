@@ -1,5 +1,5 @@
 use Rattle.probe_run.specs.Told.{told}
-use Rattle.std.proofs.Common.{refl, sym, ap, ◌∙◌, arith}
+use Rattle.std.proofs.Common.{refl, ap, ◌∙◌}
 use Rattle.debug_model.specs.declared.abstractcs.Abstractcs.{Abstractcs}
 use Rattle.debug_model.specs.ModuleWords.{command_word}
 use Rattle.probe_access.specs.CommandRuns.{CommandBegun}
