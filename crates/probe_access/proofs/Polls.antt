@@ -5,6 +5,7 @@ use Rattle.std.proofs.lemmas.List.Elements.{All-push}
 use Rattle.std.specs.Result.{IsErrAnd}
 use Rattle.probe_access.specs.declared.fault.AccessFault.{AccessFault}
 use Rattle.probe_access.specs.declared.fault.AccessFault.TheVariants as access_fault
+use Rattle.debug_model.specs.Addresses.{abstractcs_address, command_address}
 use Rattle.debug_model.specs.declared.dmi.DmiFault.{DmiFault}
 use Rattle.debug_model.specs.declared.dmi_op.DmiOp.TheVariants.{Read}
 use Rattle.debug_model.specs.Dmi.{Answers, DmiCause, Operated, OperationCut}
@@ -15,10 +16,8 @@ use Rattle.probe_run.specs.Acts.Act.{Got, Put}
 use Rattle.probe_run.specs.Acts.Attempt.{Operation}
 use Rattle.probe_access.specs.CommandRuns.{AlwaysBusy, CommandBegun, EndedCommand, ShowsBusy, poll_act, shows_busy}
 use Rattle.probe_access.specs.CommandRuns.CommandBegun.{polls}
-use Rattle.probe_access.specs.RegisterAccess.{command_address}
 use Rattle.probe_access.specs.Faults.{Among, BrokeIn}
 use Rattle.probe_run.proofs.ActLemmas.{broke_list, broke_one, broke_then, did_list, did_one, did_then}
-use Rattle.probe_run.specs.Opening.{abstractcs_address}
 
 -- a command was written and polled for: this poll is the latest, behind others that showed it under way, and there are so many
 pub record Started (word n last : ℕ) (old new : Tells) : Type 0 where

@@ -10,14 +10,8 @@ use crate::fault::AccessFault;
 use arrayvec::ArrayVec;
 use debug_model::{AbstractCommand, Abstractcs, Dmi, DmiOp};
 
-/// The address of `abstractcs`.
-const ABSTRACTCS: u8 = 0x16;
-
 /// How many polls a call makes at most.
 pub const POLLS_MOST: u32 = 64;
-
-/// The address of `command`.
-const COMMAND: u8 = 0x17;
 
 /// The word of `abstractcs` that clears `cmderr`.
 const CLEARS_CMDERR: u32 = 0x700;
@@ -63,14 +57,17 @@ fn start<D: Dmi>(link: &mut D, command: u32) -> Result<u32, AccessFault>
     ensures keeps { Keeps access_why (D.seen link.old) (D.seen link.new) result }
 {
     let mut words = ArrayVec::new();
-    let operations = [DmiOp::Write(COMMAND, command), DmiOp::Read(ABSTRACTCS)];
+    let operations = [
+        DmiOp::Write(AbstractCommand::ADDRESS, command),
+        DmiOp::Read(Abstractcs::ADDRESS),
+    ];
     link.many(&operations, &mut words)?;
     let mut word = words[1];
     'polls: for _polls in 1..POLLS_MOST {
         if !Abstractcs::from_word(word).busy {
             return Ok(word);
         }
-        word = link.read(ABSTRACTCS)?;
+        word = link.read(Abstractcs::ADDRESS)?;
     }
     if Abstractcs::from_word(word).busy {
         return Err(AccessFault::StillBusy);
@@ -90,6 +87,6 @@ pub fn run_command<D: Dmi>(link: &mut D, command: AbstractCommand) -> Result<u32
     if status.cmderr == 0 {
         return Ok(last);
     }
-    link.write(ABSTRACTCS, CLEARS_CMDERR)?;
+    link.write(Abstractcs::ADDRESS, CLEARS_CMDERR)?;
     Ok(last)
 }

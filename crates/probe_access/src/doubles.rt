@@ -8,12 +8,7 @@ ghost use Rattle.debug_model.specs.Kept.{CanCall, Keeps};
 ghost use Rattle.probe_run.specs.Told.{Breaks, told};
 
 use arrayvec::ArrayVec;
-use debug_model::{Dmi, DmiFault, DmiOp};
-
-/// The addresses of the data words.
-const DATA0: u8 = 0x04;
-
-const DATA1: u8 = 0x05;
+use debug_model::{Data0, Data1, Dmi, DmiFault, DmiOp};
 
 /// The lower 32 bits.
 pub fn low_word(value: u64) -> u32
@@ -44,7 +39,8 @@ pub fn read_double<D: Dmi>(link: &mut D) -> Result<u64, DmiFault>
     ensures keeps { Keeps Some (D.seen link.old) (D.seen link.new) result }
 {
     let mut words = ArrayVec::new();
-    link.many(&[DmiOp::Read(DATA0), DmiOp::Read(DATA1)], &mut words)?;
+    let operations = [DmiOp::Read(Data0::ADDRESS), DmiOp::Read(Data1::ADDRESS)];
+    link.many(&operations, &mut words)?;
     Ok(join(words[0], words[1]))
 }
 
@@ -55,8 +51,8 @@ pub fn write_double<D: Dmi>(link: &mut D, value: u64) -> Result<(), DmiFault>
     ensures broke { IfErr result (Breaks (BrokeIn (Among (DoubleWrites value))) (D.seen link.old) (D.seen link.new)) }
     ensures keeps { Keeps Some (D.seen link.old) (D.seen link.new) result }
 {
-    let low = DmiOp::Write(DATA0, low_word(value));
-    let high = DmiOp::Write(DATA1, high_word(value));
+    let low = DmiOp::Write(Data0::ADDRESS, low_word(value));
+    let high = DmiOp::Write(Data1::ADDRESS, high_word(value));
     let mut words = ArrayVec::new();
     link.many(&[low, high], &mut words)?;
     Ok(())

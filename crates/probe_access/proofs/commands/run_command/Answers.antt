@@ -1,3 +1,4 @@
+use Rattle.debug_model.specs.Addresses.{abstractcs_address}
 use Rattle.probe_run.specs.Told.{told}
 use Rattle.std.proofs.Common.{refl, ap, ◌∙◌}
 use Rattle.debug_model.specs.declared.abstractcs.Abstractcs.{Abstractcs}
@@ -19,5 +20,5 @@ returns-in_err-write-clause-failed g c =
 pub returns-clause-ran : goal.returns-clause-ran
 returns-clause-ran g c =
     ended_then (command_word c.args.command) c.in_ok-last.last _ _ (ended_as c.word.result (command_word c.args.command) c.in_ok-last.last _ _ c.word.ensures c.in_ok-last.ensures.ended)
-    _ _ (put_did 22 0x700 _ _ c.in_ok-write.ensures.operated c.in_ok-write.ensures.passes)
+    _ _ (put_did abstractcs_address 0x700 _ _ c.in_ok-write.ensures.operated c.in_ok-write.ensures.passes)
     (some_cleared _ (λ e. c.if-status-eq0.false (ap (λ (s : Abstractcs). s.cmderr) c.from_word-status.ensures ∙ e)))
