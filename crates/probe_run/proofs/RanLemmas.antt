@@ -14,7 +14,7 @@ use Rattle.debug_model.specs.Scan.{WhereTold}
 use Rattle.debug_model.specs.Told.{Far, site_of}
 use Rattle.debug_model.specs.Transport.{dtmcs_seen, fresh_dtm}
 use Rattle.debug_model.specs.TransportWords.{dtmcs_word}
-use Rattle.probe_run.specs.Acts.{Act, Did, Tells, acts_of, chip_did, op_act}
+use Rattle.probe_run.specs.Acts.{Act, Did, Tells, act_of, acts_of, chip_did, op_act}
 use Rattle.probe_run.specs.Acts.Act.{Scanned, Got, Put}
 use Rattle.probe_run.specs.Acts.Did.{nothing, further, together}
 
@@ -46,9 +46,6 @@ ran_append [] ys s m t e r = subst (λ x. Ran ys x t) e r
 ran_append (x ∷ xs) ys s m t p r = (p.0, p.1, ran_append xs ys p.0 m t p.2 r)
 
 -- ---- several operations in one call
-
-abbrev pub act_of : Operation → Act
-act_of o = op_act o.op (answer_of o)
 
 pub acts_done : (os : List Operation) → acts_of (map op_of os) (map answer_of os) ≡ map act_of os
 acts_done [] = refl

@@ -6,7 +6,8 @@ use Rattle.debug_model.specs.declared.dmi_op.DmiOp.{DmiOp}
 use Rattle.debug_model.specs.declared.dmi_op.DmiOp.TheVariants.{Read, Write}
 use Rattle.debug_model.specs.Chip.{Chip}
 use Rattle.debug_model.specs.Dmi.{Answers, DmiCause, DmiScript, IsOperation, NoneOperated, Operated, OperationCut, Passes, Shows}
-use Rattle.debug_model.specs.Many.{AnswersAll, ManyCause, OperatedAll, OperationsCut}
+use Rattle.debug_model.specs.Course.{Operation as ThePerformed}
+use Rattle.debug_model.specs.Many.{AnswersAll, ManyCause, OperatedAll, OperationsCut, answer_of}
 use Rattle.debug_model.specs.Scan.{WhereTold}
 use Rattle.debug_model.specs.Told.{Far}
 use Rattle.debug_model.specs.Transport.{dtmcs_seen, fresh_dtm}
@@ -51,6 +52,9 @@ pub record Does (act : Act) (old new : Tells) : Type 0 where
 abbrev pub op_act : DmiOp → ℕ → Act
 op_act (Read address) result = Got address result
 op_act (Write address value) result = Put address value
+
+abbrev pub act_of : ThePerformed → Act
+act_of o = op_act o.op (answer_of o)
 
 -- these operations, with these results
 abbrev pub acts_of : List DmiOp → List ℕ → List Act
