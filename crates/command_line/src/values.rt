@@ -53,7 +53,7 @@ pub(crate) fn flag(matches: &ArgMatches, name: &str) -> bool
 }
 
 /// The number that a word writes.
-#[tactic(auto, unfolding(crate::specs::Words::number_of))]
+#[tactic(auto, unfolding(crate::specs::WrittenJob::number_of))]
 fn number_of(word: &str) -> Result<u64, WordsFault>
     ensures { Gives (λ number. number) result (number_of word.now) }
 {
@@ -64,7 +64,7 @@ fn number_of(word: &str) -> Result<u64, WordsFault>
 }
 
 /// The number of an option, or the one that stands where it wasn't given.
-#[tactic(auto, unfolding(crate::specs::Words::number_in))]
+#[tactic(auto, unfolding(crate::specs::WrittenJob::number_in))]
 fn number_in(matches: &ArgMatches, name: &str, unsaid: u64) -> Result<u64, WordsFault>
     ensures { Gives (λ number. number) result (number_in (rows_found matches.now) name.now unsaid) }
 {

@@ -3,14 +3,7 @@
 ghost use Rattle.std.specs.Prelude.{◌≡◌};
 ghost use Rattle.rv_model.specs.DebugRegisters.{debug_refuses};
 
-/// The vendor, the architecture, the implementation and the hart's own number.
-const MVENDORID: u16 = 0xf11;
-
-const MARCHID: u16 = 0xf12;
-
-const MIMPID: u16 = 0xf13;
-
-const MHARTID: u16 = 0xf14;
+use rv_model::register_number::{MARCHID, MHARTID, MIMPID, MVENDORID};
 
 /// Whether a write of the register of this number is refused.
 #[tactic(auto, unfolding(rv_model::specs::DebugRegisters::debug_refuses, rv_model::specs::Registers::csr_read_only))]

@@ -1,5 +1,5 @@
 -- The look-ups in a list of rows are those of the table that the rows show.
-use Rattle.std.proofs.Common.{◌≡◌, ℕ, ◌+◌, ◌<◌, ◌≤◌, Bool, true, false, ◌||◌, is_some, cond, ◌==◌, List, [], ◌∷◌, length, get_or, drop, map, Option, Some, None, unwrap_or, option_map, bytes_eq, refl, ap, ◌∙◌, eq-eqb}
+use Rattle.std.proofs.Common.{◌≡◌, ℕ, ◌+◌, ◌<◌, ◌≤◌, Bool, true, false, ◌||◌, cond, ◌==◌, List, [], ◌∷◌, length, get_or, drop, map, Option, Some, None, unwrap_or, option_map, bytes_eq, refl, ap, ◌∙◌, eq-eqb}
 use Rattle.std.specs.List.{find, list_any}
 use Rattle.std.proofs.lemmas.List.{at_drop_more, at_drop_all}
 use denote.Ref.{Bor}
@@ -48,15 +48,6 @@ name_here number rows i d h = at_drop_more (name_in number) rows i d h
 
 pub name_past : (number : ℕ) (rows : List Row) (i : ℕ) → length rows ≤ i → name_in number (drop i rows) ≡ None
 name_past number rows i h = at_drop_all (name_in number) rows i h
-
-name_in_any : (number : ℕ) (rows : List Row) → is_some (name_in number rows) ≡ list_any (λ r. r.1 == number) (map row rows)
-name_in_any number [] = refl
-name_in_any number (r ∷ rows) =
-    elim (r.1 == number) as (λ b. is_some (cond b (Some r.0.now) (name_in number rows)) ≡ (b || list_any (λ q. q.1 == number) (map row rows))) [ true ↦ refl | false ↦ name_in_any number rows ]
-
-pub name_in_known : (number : ℕ) (rows : List Row) → map row rows ≡ named_registers → is_some (name_in number rows) ≡ is_register number
-unfolding is_register
-name_in_known number rows e = name_in_any number rows ∙ ap (λ t. list_any (λ r. r.1 == number) t) e
 
 -- what is found is in the table
 found_is_register : (name : List ℕ) (n : ℕ) (table : List NamedRegister) → option_map (λ r. r.1) (find (λ r. bytes_eq r.0 name) table) ≡ Some n → list_any (λ r. r.1 == n) table ≡ true

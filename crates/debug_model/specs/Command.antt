@@ -3,7 +3,8 @@
 use Rattle.std.specs.Prelude.{ℕ, ◌+◌, ◌*◌, ◌^◌, ◌<◌, ◌≤◌, List, length, All, IsTrue}
 use Rattle.rv_model.specs.Size.{count_of}
 use Rattle.debug_model.specs.declared.command.Command.{Command}
-use Rattle.debug_model.specs.declared.command.Command.TheVariants.{Idcode, Hart, State, Halt, Resume, Step, Wait, Regs, Reg, SetReg, Read, Write, Dump, Via, Break, Watch, Count, Clear, Slots, Ebreak, End}
+use Rattle.debug_model.specs.declared.command.Command.TheVariants.{Idcode, Hart, State, Halt, Resume, Step, Wait, Regs, Reg, SetReg, Read, Write, Dump, Via}
+use Rattle.debug_model.specs.declared.command.Command.TheVariants.{Break, Watch, Count, Clear, Slots, Ebreak, End}
 use Rattle.debug_model.specs.Registers.{is_register}
 
 abbrev pub most_commands : ℕ

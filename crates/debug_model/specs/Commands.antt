@@ -1,7 +1,8 @@
 -- Abstract commands: the words, the kept command and its start, its micro steps, errors, late writes, and autoexec.
 -- RISC-V Debug Specification 1.0, "Abstract Commands", "Program Buffer", "Abstract Control and Status", "Abstract Command Autoexec". The moment at
 -- which a late write counts, and that 32 bit writes keep the upper half of a register, are this project's own choices (docs/DEBUG_MODULE.md).
-use Rattle.std.specs.Prelude.{ℕ, ◌+◌, ◌*◌, ◌/◌, ◌%◌, ◌^◌, ◌==◌, Bool, true, false, not, ◌&&◌, ◌||◌, if◌then◌else◌, List, [], ◌∷◌, ◌++◌, Option, Some, None, is_some}
+use Rattle.std.specs.Prelude.{ℕ, ◌+◌, ◌*◌, ◌/◌, ◌%◌, ◌^◌, ◌==◌, Bool, true, false, not, ◌&&◌, ◌||◌, if◌then◌else◌, List, [], ◌∷◌, ◌++◌, Option, Some, None}
+use Rattle.std.specs.Prelude.{is_some}
 use Rattle.rv_model.specs.declared.cause.Cause.{Cause}
 use Rattle.rv_model.specs.declared.debug_did.DebugDid.{DebugDid}
 use Rattle.rv_model.specs.declared.debug_did.DebugDid.TheVariants as ended

@@ -1,6 +1,7 @@
 -- The grammar of a script: a line is no command, one command or a fault, and a text is a script or has a first faulty line.
 -- The language is this project's own (docs/SCRIPT.md).
-use Rattle.std.specs.Prelude.{◌≡◌, ◌⊎◌, ℕ, ◌+◌, ◌-◌, ◌^◌, ◌<◌, ◌≤◌, Bool, ◌&&◌, min, nat_le, List, [], ◌∷◌, ◌++◌, length, map, filter_map, Option, Some, None, Result, Ok, Err, if◌then◌else◌}
+use Rattle.std.specs.Prelude.{◌≡◌, ◌⊎◌, ℕ, ◌+◌, ◌-◌, ◌^◌, ◌<◌, ◌≤◌, Bool, ◌&&◌, min, nat_le, List, [], ◌∷◌, ◌++◌, length, map, filter_map, Option, Some, None}
+use Rattle.std.specs.Prelude.{Result, Ok, Err, if◌then◌else◌}
 use Rattle.debug_model.specs.declared.command.Command.{Command}
 use Rattle.debug_model.specs.declared.script_error.ScriptError.{ScriptError}
 use Rattle.debug_model.specs.declared.script_error.ScriptFault.{ScriptFault}

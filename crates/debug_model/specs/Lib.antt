@@ -1,3 +1,4 @@
+pub mod Addresses
 pub mod Chip
 pub mod Command
 pub mod Commands

@@ -4,19 +4,26 @@
 use Rattle.std.specs.Prelude.{ℕ, ◌==◌, Bool, true, false, if◌then◌else◌, nat_lt, List, [], ◌∷◌, ◌++◌, map, Option, Some, None, is_some, slice_get}
 use Rattle.jt_base.specs.BitList.{number_of}
 use Rattle.rv_model.specs.Board.{Board, DebugPart, Hart}
+use Rattle.debug_model.specs.Addresses.{data0_address, data1_address, dmcontrol_address, dmstatus_address, abstractcs_address, command_address}
+use Rattle.debug_model.specs.Addresses.{abstractauto_address, progbuf0_address, progbuf1_address, progbuf2_address, progbuf3_address, sbcs_address}
+use Rattle.debug_model.specs.Addresses.{sbaddress0_address, sbaddress1_address, sbdata0_address, sbdata1_address, haltsum0_address}
 use Rattle.debug_model.specs.declared.command_word.CommandWord.TheVariants as word
 use Rattle.debug_model.specs.declared.dmcontrol.Dmcontrol.{Dmcontrol}
 use Rattle.debug_model.specs.declared.dmi_op.DmiOp.{DmiOp}
 use Rattle.debug_model.specs.declared.dmi_op.DmiOp.TheVariants.{Read, Write}
 use Rattle.debug_model.specs.declared.dmstatus.Dmstatus.{Dmstatus}
 use Rattle.debug_model.specs.declared.module_register.ModuleRegister.{ModuleRegister}
-use Rattle.debug_model.specs.declared.module_register.ModuleRegister.TheVariants.{Word, Dmcontrol as dmcontrol, Dmstatus as dmstatus, Abstractcs, Command, Abstractauto, Sbcs, Sbaddress0, Sbaddress1, Sbdata0, Sbdata1, Haltsum0, Nothing}
+use Rattle.debug_model.specs.declared.module_register.ModuleRegister.TheVariants.{Word, Dmcontrol as dmcontrol, Dmstatus as dmstatus, Abstractcs, Command}
+use Rattle.debug_model.specs.declared.module_register.ModuleRegister.TheVariants.{Abstractauto, Sbcs, Sbaddress0, Sbaddress1, Sbdata0, Sbdata1, Haltsum0}
+use Rattle.debug_model.specs.declared.module_register.ModuleRegister.TheVariants.{Nothing}
 use Rattle.debug_model.specs.declared.point.Point.{Point}
 use Rattle.debug_model.specs.declared.point.Point.TheVariants.{Look, HaltReq, HaltClear, ResumeReq}
-use Rattle.debug_model.specs.Commands.{CommandUnit, reset_commands, busy, word_in, word_read, word_written, abstractcs_shown, abstractcs_written, command_written, abstractauto_written, low_half, high_half}
+use Rattle.debug_model.specs.Commands.{CommandUnit, reset_commands, busy, word_in, word_read, word_written, abstractcs_shown, abstractcs_written}
+use Rattle.debug_model.specs.Commands.{command_written, abstractauto_written, low_half, high_half}
 use Rattle.debug_model.specs.Journal.{after_journal, debug_changed}
 use Rattle.debug_model.specs.ModuleWords.{abstractauto_word, abstractcs_word, dmcontrol_of, dmcontrol_word, dmstatus_word, sbcs_word}
-use Rattle.debug_model.specs.SystemBus.{BusUnit, reset_bus, sbcs_shown, sbcs_written, bus_looked, sbdata0_read, sbaddress0_written, sbaddress1_written, sbdata0_written, sbdata1_written}
+use Rattle.debug_model.specs.SystemBus.{BusUnit, reset_bus, sbcs_shown, sbcs_written, bus_looked, sbdata0_read, sbaddress0_written, sbaddress1_written}
+use Rattle.debug_model.specs.SystemBus.{sbdata0_written, sbdata1_written}
 
 pub record DebugModule : Type 0 where
   pub active : Bool  -- dmactive
@@ -38,23 +45,23 @@ pub record Site : Type 0 where
 -- what stands at an address
 unfoldable pub register_at : ℕ → ModuleRegister
 register_at a =
-    if a == 0x04 then Word word.Data0
-    else (if a == 0x05 then Word word.Data1
-    else (if a == 0x10 then dmcontrol
-    else (if a == 0x11 then dmstatus
-    else (if a == 0x16 then Abstractcs
-    else (if a == 0x17 then Command
-    else (if a == 0x18 then Abstractauto
-    else (if a == 0x20 then Word word.Progbuf0
-    else (if a == 0x21 then Word word.Progbuf1
-    else (if a == 0x22 then Word word.Progbuf2
-    else (if a == 0x23 then Word word.Progbuf3
-    else (if a == 0x38 then Sbcs
-    else (if a == 0x39 then Sbaddress0
-    else (if a == 0x3a then Sbaddress1
-    else (if a == 0x3c then Sbdata0
-    else (if a == 0x3d then Sbdata1
-    else (if a == 0x40 then Haltsum0 else Nothing))))))))))))))))
+    if a == data0_address then Word word.Data0
+    else (if a == data1_address then Word word.Data1
+    else (if a == dmcontrol_address then dmcontrol
+    else (if a == dmstatus_address then dmstatus
+    else (if a == abstractcs_address then Abstractcs
+    else (if a == command_address then Command
+    else (if a == abstractauto_address then Abstractauto
+    else (if a == progbuf0_address then Word word.Progbuf0
+    else (if a == progbuf1_address then Word word.Progbuf1
+    else (if a == progbuf2_address then Word word.Progbuf2
+    else (if a == progbuf3_address then Word word.Progbuf3
+    else (if a == sbcs_address then Sbcs
+    else (if a == sbaddress0_address then Sbaddress0
+    else (if a == sbaddress1_address then Sbaddress1
+    else (if a == sbdata0_address then Sbdata0
+    else (if a == sbdata1_address then Sbdata1
+    else (if a == haltsum0_address then Haltsum0 else Nothing))))))))))))))))
 
 -- ---- what a read shows
 

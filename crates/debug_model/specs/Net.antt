@@ -1,7 +1,8 @@
 -- A net: one connection of bytes, which one call opens, and what each call does to what the net tells. A net may tell the
 -- chip at its far side, or a pipe from each of its ends to the other, or the bytes that are to come.
 -- No public standard defines this.
-use Rattle.std.specs.Prelude.{◌≡◌, ℕ, ◌+◌, ◌^◌, ◌<◌, ◌≤◌, List, [], ◌++◌, length, take, drop, Bool, true, false, Option, None, Some, IfSome, IsTrue, option_map, Result, Ok, Err}
+use Rattle.std.specs.Prelude.{◌≡◌, ℕ, ◌+◌, ◌^◌, ◌<◌, ◌≤◌, List, [], ◌++◌, length, take, drop, Bool, true, false, Option, None, Some, IfSome, IsTrue}
+use Rattle.std.specs.Prelude.{option_map, Result, Ok, Err}
 use Rattle.jt_base.specs.Faults.{Rises, counted}
 use Rattle.debug_model.specs.Chip.{Live}
 use Rattle.debug_model.specs.Ties.{NetTies}

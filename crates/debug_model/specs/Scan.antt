@@ -1,6 +1,7 @@
 -- Scans of a chip that runs: the clocks that carry one, what comes out of the selected register, what stays in it, and the rounds that pass meanwhile.
 -- IEEE 1149.1, the state diagram for the paths and the shifting of a register for the two cuts; OpenOCD, remote_bitbang, for the bytes of a clock.
-use Rattle.std.specs.Prelude.{◌≡◌, ◌≢◌, ◌⊎◌, ◌++◌, ℕ, zero, suc, ◌+◌, ◌≤◌, List, [], ◌∷◌, length, map, take, drop, Bool, true, false, Option, Some, None, IfSome}
+use Rattle.std.specs.Prelude.{◌≡◌, ◌≢◌, ◌⊎◌, ◌++◌, ℕ, zero, suc, ◌+◌, ◌≤◌, List, [], ◌∷◌, length, map, take, drop, Bool, true, false, Option, Some, None}
+use Rattle.std.specs.Prelude.{IfSome}
 use Rattle.jt_base.specs.BitList.{bits_of}
 use Rattle.jt_base.specs.Faults.{Rises}
 use Rattle.debug_model.specs.declared.data_register.DataRegister.{DataRegister}
@@ -232,7 +233,8 @@ pub data Script : Type 0 where
 
 -- a scan took these bits out
 abbrev pub TookOut : List Bool → Script → Option Script → Type 0
-TookOut out (Numbers numbers) new = (number : ℕ) × (rest : List ℕ) × (numbers ≡ number ∷ rest) × (out ≡ bits_of (length out) number) × (new ≡ Some (Numbers rest))
+TookOut out (Numbers numbers) new =
+    (number : ℕ) × (rest : List ℕ) × (numbers ≡ number ∷ rest) × (out ≡ bits_of (length out) number) × (new ≡ Some (Numbers rest))
 TookOut out (Answers bytes) new = (rest : List ℕ) × (bytes ≡ map answer_byte out ++ rest) × (new ≡ Some (Answers rest))
 
 abbrev pub ComesOut : List Bool → Option Script → Option Script → Type 0

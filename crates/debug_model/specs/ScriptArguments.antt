@@ -1,6 +1,7 @@
 -- What each kind of argument of a command takes from the front of the words that are left, or the fault of the first word that it can't take.
 -- The kinds are this project's own (docs/SCRIPT.md, "Commands").
-use Rattle.std.specs.Prelude.{ℕ, ◌+◌, ◌*◌, ◌-◌, ◌^◌, ◌&&◌, Bool, true, false, nat_le, ◌==◌, bytes_eq, List, [], ◌∷◌, codes, Result, Ok, Err, Option, Some, None, ok_or, if◌then◌else◌}
+use Rattle.std.specs.Prelude.{ℕ, ◌+◌, ◌*◌, ◌-◌, ◌^◌, ◌&&◌, Bool, true, false, nat_le, ◌==◌, bytes_eq, List, [], ◌∷◌, codes, Result, Ok, Err, Option, Some}
+use Rattle.std.specs.Prelude.{None, ok_or, if◌then◌else◌}
 use Rattle.rv_model.specs.declared.size.Size.{Size}
 use Rattle.rv_model.specs.declared.size.Size.TheVariants.{B1, B2, B4, B8}
 use Rattle.debug_model.specs.declared.command.Path.{Path}

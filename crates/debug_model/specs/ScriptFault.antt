@@ -2,7 +2,8 @@
 -- They are this project's own (docs/SCRIPT.md, "Faults").
 use Rattle.std.specs.Prelude.{ℕ}
 use Rattle.debug_model.specs.declared.script_error.ScriptFault.{ScriptFault}
-use Rattle.debug_model.specs.declared.script_error.ScriptFault.TheVariants.{NotAscii, UnknownWord, Missing, Extra, BadNumber, OutOfRange, TooManyLines, NoMemory}
+use Rattle.debug_model.specs.declared.script_error.ScriptFault.TheVariants.{NotAscii, UnknownWord, Missing, Extra, BadNumber, OutOfRange, TooManyLines}
+use Rattle.debug_model.specs.declared.script_error.ScriptFault.TheVariants.{NoMemory}
 
 abbrev pub fault_number : ScriptFault → ℕ
 fault_number NotAscii = 1

@@ -4,10 +4,12 @@ use Rattle.std.specs.Prelude.{ℕ, bytes_eq, List, [], ◌∷◌, ◌++◌, find
 use Rattle.rv_model.specs.Size.{count_of}
 use Rattle.debug_model.specs.declared.register_name.RegName.{RegName}
 use Rattle.debug_model.specs.declared.command.Command.{Command}
-use Rattle.debug_model.specs.declared.command.Command.TheVariants.{Idcode, Hart, State, Halt, Resume, Step, Wait, Regs, Reg, SetReg, Read, Write, Dump, Via, Break, Watch, Count, Clear, Slots, Ebreak, End}
+use Rattle.debug_model.specs.declared.command.Command.TheVariants.{Idcode, Hart, State, Halt, Resume, Step, Wait, Regs, Reg, SetReg, Read, Write, Dump, Via}
+use Rattle.debug_model.specs.declared.command.Command.TheVariants.{Break, Watch, Count, Clear, Slots, Ebreak, End}
 use Rattle.debug_model.specs.declared.script_error.ScriptFault.TheVariants.{UnknownWord}
 use Rattle.debug_model.specs.Command.{last_hart, most_repeats, most_turns, last_slot}
-use Rattle.debug_model.specs.ScriptArguments.{Words, Taken, ◌>>=◌, one_word, ranged, ranged_or, address_of, value_of, count_from, length_from, size_named, path_named, watch_kind_named, switch_named, register_named}
+use Rattle.debug_model.specs.ScriptArguments.{Words, Taken, ◌>>=◌, one_word, ranged, ranged_or, address_of, value_of, count_from, length_from, size_named}
+use Rattle.debug_model.specs.ScriptArguments.{path_named, watch_kind_named, switch_named, register_named}
 
 -- what a command's word wants of the words after it
 abbrev pub Form : Type 0

@@ -9,7 +9,8 @@ use Rattle.debug_model.specs.declared.command.Path.TheVariants.{Progbuf, Bus}
 use Rattle.debug_model.specs.declared.command.WatchKind.{WatchKind}
 use Rattle.debug_model.specs.declared.command.WatchKind.TheVariants.{Load, Store, Access}
 use Rattle.debug_model.specs.declared.command.Command.{Command}
-use Rattle.debug_model.specs.declared.command.Command.TheVariants.{Idcode, Hart, State, Halt, Resume, Step, Wait, Regs, Reg, SetReg, Read, Write, Dump, Via, Break, Watch, Count, Clear, Slots, Ebreak, End}
+use Rattle.debug_model.specs.declared.command.Command.TheVariants.{Idcode, Hart, State, Halt, Resume, Step, Wait, Regs, Reg, SetReg, Read, Write, Dump, Via}
+use Rattle.debug_model.specs.declared.command.Command.TheVariants.{Break, Watch, Count, Clear, Slots, Ebreak, End}
 use Rattle.debug_model.specs.Registers.{name_of_register}
 use Rattle.debug_model.specs.ScriptText.{line_feed, space}
 use Rattle.debug_model.specs.ScriptNumber.{hexadecimal_prefix, most_hexadecimal_digits}

@@ -2,7 +2,8 @@
 -- IEEE 1149.1, the TAP controller state diagram and the device identification register.
 use Rattle.std.specs.Prelude.{ℕ, Bool, true, false}
 use Rattle.debug_model.specs.declared.tap_state.TapState.{TapState}
-use Rattle.debug_model.specs.declared.tap_state.TapState.TheVariants.{TestLogicReset, RunTestIdle, SelectDr, CaptureDr, ShiftDr, Exit1Dr, PauseDr, Exit2Dr, UpdateDr, SelectIr, CaptureIr, ShiftIr, Exit1Ir, PauseIr, Exit2Ir, UpdateIr}
+use Rattle.debug_model.specs.declared.tap_state.TapState.TheVariants.{TestLogicReset, RunTestIdle, SelectDr, CaptureDr, ShiftDr, Exit1Dr, PauseDr, Exit2Dr}
+use Rattle.debug_model.specs.declared.tap_state.TapState.TheVariants.{UpdateDr, SelectIr, CaptureIr, ShiftIr, Exit1Ir, PauseIr, Exit2Ir, UpdateIr}
 
 -- the state behind a rise of TCK, by the state before it and TMS
 abbrev pub next_state : TapState → Bool → TapState

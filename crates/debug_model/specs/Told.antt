@@ -1,11 +1,10 @@
 -- What an object that carries a link may tell of its far end: the chip, and its answers that are not read yet.
 -- The named conditions recur in the contracts of the links; each of them holds of an object that tells no chip.
 use Rattle.std.specs.Prelude.{◌≡◌, ◌<◌, ◌^◌, ℕ, List, [], false, true, Option, None, Some, IfSome, slice_get, is_some}
-use Rattle.std.specs.FinMap.{get}
 use Rattle.rv_model.specs.declared.slot.Slot.{Slot}
 use Rattle.rv_model.specs.Board.{Board, Hart, IsHart}
 use Rattle.rv_model.specs.DebugRegisters.{debug_value}
-use Rattle.rv_model.specs.Memory.{Memory}
+use Rattle.rv_model.specs.Widths.{MemoryReady}
 use Rattle.debug_model.specs.declared.chip_end.ChipEnd.{ChipEnd}
 use Rattle.debug_model.specs.declared.chip_end.ChipEnd.TheVariants.{Quitted, BadByte, AtLimit}
 use Rattle.debug_model.specs.declared.cmderr.Cmderr.TheVariants as cmderr
@@ -68,9 +67,6 @@ pub record HartReady (h : ℕ) (hart : Hart) : Type 0 where
   pub whole : IsHart h hart
   pub registers : (number value : ℕ) → debug_value hart number ≡ Some value → value < 2 ^ 64
   pub compared : (slot : ℕ) (s : Slot) → slice_get hart.debug.slots slot ≡ Some s → s.tdata2 < 2 ^ 64
-
-abbrev pub MemoryReady : Memory → Type 0
-MemoryReady m = (address byte : ℕ) → get m.bytes address ≡ Some byte → byte < 256
 
 pub record SiteReady (s : Site) : Type 0 where
   pub unit : ModuleReady s.unit

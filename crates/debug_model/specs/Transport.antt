@@ -64,7 +64,8 @@ abbrev pub transport_version : ℕ
 transport_version = 1
 
 abbrev pub dtmcs_seen : Dtm → Dtmcs
-dtmcs_seen d = record { dtmhardreset = false; dmireset = false; idle = idle_hint; dmistat = status_number d.sticky; abits = address_bits; version = transport_version }
+dtmcs_seen d =
+    record { dtmhardreset = false; dmireset = false; idle = idle_hint; dmistat = status_number d.sticky; abits = address_bits; version = transport_version }
 
 abbrev pub dmi_seen : Dtm → DmiScan
 dmi_seen d = record { address = d.address; value = d.value; op = status_number (status_seen d) }

@@ -21,6 +21,9 @@ pub struct AbstractCommand {
 }
 
 impl AbstractCommand {
+    /// Its address.
+    pub const ADDRESS: u8 = 0x17;
+
     /// The fields of a word.
     pub fn from_word(word: u32) -> Self
         ensures { result ≡ command_of word }

@@ -19,6 +19,9 @@ pub struct Abstractauto {
 }
 
 impl Abstractauto {
+    /// Its address.
+    pub const ADDRESS: u8 = 0x18;
+
     /// The fields of a word.
     pub fn from_word(word: u32) -> Self
         ensures { result ≡ abstractauto_of word }

@@ -15,6 +15,9 @@ pub struct Abstractcs {
 }
 
 impl Abstractcs {
+    /// Its address.
+    pub const ADDRESS: u8 = 0x16;
+
     /// The fields of a word.
     pub fn from_word(word: u32) -> Self
         ensures { result ≡ abstractcs_of word }

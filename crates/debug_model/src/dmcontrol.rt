@@ -17,6 +17,9 @@ pub struct Dmcontrol {
 }
 
 impl Dmcontrol {
+    /// Its address.
+    pub const ADDRESS: u8 = 0x10;
+
     /// The fields of a word.
     pub fn from_word(word: u32) -> Self
         ensures { result ≡ dmcontrol_of word }

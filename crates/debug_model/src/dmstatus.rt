@@ -22,6 +22,9 @@ pub struct Dmstatus {
 }
 
 impl Dmstatus {
+    /// Its address.
+    pub const ADDRESS: u8 = 0x11;
+
     /// The fields of a word, each pair by its bit "all".
     pub fn from_word(word: u32) -> Self
         ensures { result ≡ dmstatus_of word }

@@ -22,6 +22,7 @@ mod journal_laws;
 mod micro;
 mod module_register;
 mod net;
+mod plain_register;
 mod point;
 mod register_name;
 mod sbcs;
@@ -58,6 +59,10 @@ pub use journal_laws::points_forget_debugging;
 pub use micro::Micro;
 pub use module_register::ModuleRegister;
 pub use net::{Call, End, GIVEN_MOST, Net, NetFault};
+pub use plain_register::{
+    Data0, Data1, Haltsum0, Progbuf0, Progbuf1, Progbuf2, Progbuf3, Sbaddress0, Sbaddress1,
+    Sbdata0, Sbdata1,
+};
 pub use point::Point;
 pub use register_name::RegName;
 pub use sbcs::Sbcs;

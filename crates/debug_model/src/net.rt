@@ -1,6 +1,7 @@
 ghost use Rattle.std.specs.Prelude.{◌≡◌, ◌≢◌, ◌+◌, ◌<◌, ◌≤◌, ◌∷◌, ℕ, List, None, Some, length, true, OnOk, OnErr, IfOk, IfErr};
 ghost use Rattle.std.specs.Borrow.{GName};
-ghost use Rattle.debug_model.specs.Net.{LivesOn, Called, CallCause, Gives, IsAccepted, IsConnected, IsJoined, MayPut, MayTake, NetState, OpenCause, Peer, PutFront, after_put, after_take, faults_after, given, given_most, is_open};
+ghost use Rattle.debug_model.specs.Net.{LivesOn, Called, CallCause, Gives, IsAccepted, IsConnected, IsJoined, MayPut, MayTake, NetState, OpenCause, Peer};
+ghost use Rattle.debug_model.specs.Net.{PutFront, after_put, after_take, faults_after, given, given_most, is_open};
 ghost use Rattle.debug_model.specs.Told.{IsAsLoaded};
 ghost use Rattle.debug_model.specs.declared.net.Call.TheVariants as call;
 ghost use Rattle.jt_base.specs.Faults.{Rises, counted};

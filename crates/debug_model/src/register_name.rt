@@ -1,6 +1,8 @@
 ghost use Rattle.std.specs.Prelude.{◌≡◌, map, IsTrue, IfSome, option_map};
 ghost use Rattle.debug_model.specs.Registers.{named_registers, is_register, number_of_register, name_of_register};
 
+use rv_model::register_number;
+
 /// A register that a script can name, by its number for abstract commands
 /// (RISC-V Debug Specification 1.0, Abstract Register Numbers).
 #[derive(Clone, Copy, Debug, PartialEq, Eq)]
@@ -8,52 +10,52 @@ pub struct RegName(pub u16);
 
 /// Each register's name, and its number: the CSRs, pc, and x0 to x31.
 const NAMED_REGISTERS: [(&[u8], u16); 46] = [
-    (b"mstatus", 0x300),
-    (b"misa", 0x301),
-    (b"mie", 0x304),
-    (b"mtvec", 0x305),
-    (b"mscratch", 0x340),
-    (b"mepc", 0x341),
-    (b"mcause", 0x342),
-    (b"mtval", 0x343),
-    (b"mip", 0x344),
-    (b"mvendorid", 0xf11),
-    (b"marchid", 0xf12),
-    (b"mimpid", 0xf13),
-    (b"mhartid", 0xf14),
-    (b"pc", 0x7b1),
-    (b"x0", 0x1000),
-    (b"x1", 0x1001),
-    (b"x2", 0x1002),
-    (b"x3", 0x1003),
-    (b"x4", 0x1004),
-    (b"x5", 0x1005),
-    (b"x6", 0x1006),
-    (b"x7", 0x1007),
-    (b"x8", 0x1008),
-    (b"x9", 0x1009),
-    (b"x10", 0x100a),
-    (b"x11", 0x100b),
-    (b"x12", 0x100c),
-    (b"x13", 0x100d),
-    (b"x14", 0x100e),
-    (b"x15", 0x100f),
-    (b"x16", 0x1010),
-    (b"x17", 0x1011),
-    (b"x18", 0x1012),
-    (b"x19", 0x1013),
-    (b"x20", 0x1014),
-    (b"x21", 0x1015),
-    (b"x22", 0x1016),
-    (b"x23", 0x1017),
-    (b"x24", 0x1018),
-    (b"x25", 0x1019),
-    (b"x26", 0x101a),
-    (b"x27", 0x101b),
-    (b"x28", 0x101c),
-    (b"x29", 0x101d),
-    (b"x30", 0x101e),
-    (b"x31", 0x101f),
+    (b"mstatus", register_number::MSTATUS),
+    (b"misa", register_number::MISA),
+    (b"mie", register_number::MIE),
+    (b"mtvec", register_number::MTVEC),
+    (b"mscratch", register_number::MSCRATCH),
+    (b"mepc", register_number::MEPC),
+    (b"mcause", register_number::MCAUSE),
+    (b"mtval", register_number::MTVAL),
+    (b"mip", register_number::MIP),
+    (b"mvendorid", register_number::MVENDORID),
+    (b"marchid", register_number::MARCHID),
+    (b"mimpid", register_number::MIMPID),
+    (b"mhartid", register_number::MHARTID),
+    (b"pc", register_number::DPC),
+    (b"x0", register_number::X0),
+    (b"x1", register_number::X0 + 1),
+    (b"x2", register_number::X0 + 2),
+    (b"x3", register_number::X0 + 3),
+    (b"x4", register_number::X0 + 4),
+    (b"x5", register_number::X0 + 5),
+    (b"x6", register_number::X0 + 6),
+    (b"x7", register_number::X0 + 7),
+    (b"x8", register_number::X0 + 8),
+    (b"x9", register_number::X0 + 9),
+    (b"x10", register_number::X0 + 10),
+    (b"x11", register_number::X0 + 11),
+    (b"x12", register_number::X0 + 12),
+    (b"x13", register_number::X0 + 13),
+    (b"x14", register_number::X0 + 14),
+    (b"x15", register_number::X0 + 15),
+    (b"x16", register_number::X0 + 16),
+    (b"x17", register_number::X0 + 17),
+    (b"x18", register_number::X0 + 18),
+    (b"x19", register_number::X0 + 19),
+    (b"x20", register_number::X0 + 20),
+    (b"x21", register_number::X0 + 21),
+    (b"x22", register_number::X0 + 22),
+    (b"x23", register_number::X0 + 23),
+    (b"x24", register_number::X0 + 24),
+    (b"x25", register_number::X0 + 25),
+    (b"x26", register_number::X0 + 26),
+    (b"x27", register_number::X0 + 27),
+    (b"x28", register_number::X0 + 28),
+    (b"x29", register_number::X0 + 29),
+    (b"x30", register_number::X0 + 30),
+    (b"x31", register_number::X0 + 31),
 ];
 
 /// The table of names.
@@ -77,9 +79,8 @@ impl RegName {
         None
     }
 
-    /// The register's name.
+    /// The register's name, empty for a number that has none.
     pub fn name(self) -> &'static [u8]
-        requires { IsTrue (is_register self.0) }
         ensures { result.now ≡ name_of_register self.0 }
     {
         for (name, number) in named_registers() {
@@ -87,6 +88,6 @@ impl RegName {
                 return name;
             }
         }
-        unreachable!()
+        b""
     }
 }

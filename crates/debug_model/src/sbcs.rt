@@ -27,6 +27,9 @@ pub struct Sbcs {
 }
 
 impl Sbcs {
+    /// Its address.
+    pub const ADDRESS: u8 = 0x38;
+
     /// The fields of a word.
     pub fn from_word(word: u32) -> Self
         ensures { result ≡ sbcs_of word }

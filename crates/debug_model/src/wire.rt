@@ -1,7 +1,8 @@
 ghost use Rattle.std.specs.Prelude.{◌≡◌, ◌≤◌, ℕ, List, Bool, true, Option, length, replicate, IsTrue, OnOk, OnErr, IfErr, IfSome, option_map};
 ghost use Rattle.debug_model.specs.Ties.{Ties, lent_by};
 ghost use Rattle.debug_model.specs.Told.{Far, IsOpen, IsLive, IsRead};
-ghost use Rattle.debug_model.specs.Wire.{IsPiece, are_open, no_answer, piece_most, sent, SentFront, ReadsFront, ReadsSome, TakesComing, TakesSome, SendCause, RecvCause};
+ghost use Rattle.debug_model.specs.Wire.{IsPiece, are_open, no_answer, piece_most, sent, SentFront, ReadsFront, ReadsSome, TakesComing, TakesSome, SendCause};
+ghost use Rattle.debug_model.specs.Wire.{RecvCause};
 
 use thiserror::Error;
 

@@ -4,6 +4,7 @@ ghost use Rattle.generator.specs.Commands.{block, session};
 
 use crate::program::{INSTRUCTIONS, register};
 use debug_model::{Command, RegName, Script};
+use rv_model::register_number::X0;
 use std::alloc::{AllocError, Global};
 
 /// How many blocks of commands a script has.
@@ -14,9 +15,6 @@ const BLOCK_COMMANDS: usize = 6;
 
 /// Where RAM starts, and with it the program.
 const RAM_BASE: u64 = 0x8000_0000;
-
-/// The number of x0 for abstract commands (RISC-V Debug Specification 1.0, Abstract Register Numbers).
-const X0: u16 = 0x1000;
 
 /// How many looks a block's `wait` has.
 const LOOKS: u16 = 1000;

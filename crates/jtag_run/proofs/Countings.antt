@@ -37,7 +37,7 @@ counted_behind by_line by_error script taken first last (ends.Lost lost.DmiFaile
 counted_behind by_line by_error script taken first last (ends.Lost lost.StillBusy) w = tt
 counted_behind by_line by_error script taken first last (ends.Lost (lost.NoHalt looks)) w = are_counted by_line by_error (shown script first last).world.lines taken w.written
 counted_behind by_line by_error script taken first last (ends.Lost (lost.NoAck looks)) w = are_counted by_line by_error (shown script first last).world.lines taken w.written
-counted_behind by_line by_error script taken first last (ends.Lost (lost.Odd word)) w = tt
+counted_behind by_line by_error script taken first last (ends.Lost (lost.Odd odd)) w = tt
 counted_behind by_line by_error script taken first last ends.Sink w = tt
 
 -- ---- a sink that never fails

@@ -72,7 +72,7 @@ CountedBehind (ends.Lost lost.DmiFailed) lines taken = Unit {0}
 CountedBehind (ends.Lost lost.StillBusy) lines taken = Unit {0}
 CountedBehind (ends.Lost (lost.NoHalt looks)) lines taken = AreCounted lines taken
 CountedBehind (ends.Lost (lost.NoAck looks)) lines taken = AreCounted lines taken
-CountedBehind (ends.Lost (lost.Odd word)) lines taken = Unit {0}
+CountedBehind (ends.Lost (lost.Odd odd)) lines taken = Unit {0}
 CountedBehind ends.Sink lines taken = Unit {0}
 
 -- a sink that counts takes every line

@@ -12,6 +12,7 @@ use Rattle.debug_model.specs.declared.wire.WireFault.TheVariants.{SendFailed, Re
 use Rattle.probe_run.specs.declared.fault.ConnectFault.{ConnectFault}
 use Rattle.probe_run.specs.declared.fault.ConnectFault.TheVariants as connect
 use Rattle.probe_session.specs.declared.fault.LostCause.{LostCause}
+use Rattle.probe_session.specs.Failures.{odd_word}
 use Rattle.probe_session.specs.declared.fault.LostCause.TheVariants.{DmiFailed, StillBusy, NoHalt, NoAck, Odd}
 use Rattle.jt_base.specs.Faults.{Rises}
 use Rattle.jt_base.specs.Sink.{grown, GrewByPrefix}
@@ -73,7 +74,7 @@ lost_by DmiFailed = codes "dmi failed"
 lost_by StillBusy = codes "still busy"
 lost_by (NoHalt looks) = codes "no halt after " ++ decimal looks ++ codes " looks"
 lost_by (NoAck looks) = codes "no resume after " ++ decimal looks ++ codes " looks"
-lost_by (Odd word) = codes "register 0x" ++ hexadecimal 8 word
+lost_by (Odd odd) = codes "register 0x" ++ hexadecimal 8 (odd_word odd)
 
 abbrev pub lost_line : LostCause → List ℕ
 lost_line cause = codes "lost: " ++ lost_by cause ++ line_feed ∷ []

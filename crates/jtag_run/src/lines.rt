@@ -1,10 +1,10 @@
 //! The text of the last lines that a run prints.
 
-ghost use Rattle.std.specs.Prelude.{◌≡◌, ◌≤◌, ◌+◌, ◌++◌, codes, decimal, length};
+ghost use Rattle.std.specs.Prelude.{◌≡◌, ◌≤◌, ◌+◌, ◌++◌, None, codes, decimal, length};
 ghost use Rattle.arrayvec.specs.ArrayVec.{array_vec_len};
 ghost use Rattle.jtag_run.specs.LastLine.{bad_byte, failed_at, image_refused, lost_by, lost_line, refused_register, refused_word, script_refused, target_refused, wire_failed};
 ghost use Rattle.jtag_run.specs.Summary.{counted_line};
-ghost use Rattle.probe_run.specs.Opening.{IfOpeningDmi};
+ghost use Rattle.probe_run.specs.Opening.{opening_why};
 
 use chip_core::LoadFault;
 use debug_model::{ScriptError, WireFault};
@@ -100,9 +100,9 @@ fn push_lost_by(text: &mut LineText, cause: LostCause)
         LostCause::StillBusy => push_word(text, b"still busy"),
         LostCause::NoHalt(looks) => push_looks(text, b"no halt after ", looks),
         LostCause::NoAck(looks) => push_looks(text, b"no resume after ", looks),
-        LostCause::Odd(word) => {
+        LostCause::Odd(odd) => {
             push_word(text, b"register 0x");
-            push_hex(text, WORD_DIGITS, u64::from(word));
+            push_hex(text, WORD_DIGITS, u64::from(odd.word()));
         }
     }
 }
@@ -155,7 +155,7 @@ pub fn bad_byte_line(place: u64, byte: u8) -> LineText
 
 /// A register that is not as the opening of a session asks, and what it read as.
 fn refused_register(fault: ConnectFault) -> (&'static [u8], u32)
-    requires { IfOpeningDmi (λ _. ⊥) fault }
+    requires { opening_why fault ≡ None }
     ensures name { result.0.now ≡ refused_register fault }
     ensures short { length result.0.now ≤ REGISTER_MOST }
     ensures word { result.1 ≡ refused_word fault }
@@ -172,7 +172,7 @@ fn refused_register(fault: ConnectFault) -> (&'static [u8], u32)
 
 /// The last line of a run whose chip was refused for a register.
 pub fn target_refused_line(fault: ConnectFault) -> LineText
-    requires { IfOpeningDmi (λ _. ⊥) fault }
+    requires { opening_why fault ≡ None }
     ensures { result.items ≡ target_refused fault }
 {
     let (name, word) = refused_register(fault);

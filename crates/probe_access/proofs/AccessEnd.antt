@@ -6,7 +6,8 @@ use Rattle.rv_model.specs.Memory.{Memory}
 use Rattle.debug_model.specs.declared.point.Point.{Point}
 use Rattle.debug_model.specs.declared.point.Point.TheVariants.{Access}
 use Rattle.debug_model.specs.Module.{Site}
-use Rattle.debug_model.specs.Told.{Far, HartHalted, MemoryReady, SiteReady, site_of}
+use Rattle.rv_model.specs.Widths.{MemoryReady}
+use Rattle.debug_model.specs.Told.{Far, HartHalted, SiteReady, site_of}
 use Rattle.abstract_debugger.specs.Turns.{after_turns, turns}
 use Rattle.probe_access.specs.Accesses.{OneAccess, with_memory}
 use Rattle.probe_access.specs.MemoryRuns.{Performed, PutBack, Saved}

@@ -9,4 +9,4 @@ if_memory P Q (access_fault.Memory at) f p = f p
 if_memory P Q (access_fault.Register asked) f p = tt
 if_memory P Q access_fault.StillBusy f p = tt
 if_memory P Q (access_fault.Run why) f p = tt
-if_memory P Q (access_fault.Odd word) f p = tt
+if_memory P Q (access_fault.Odd shown) f p = tt

@@ -4,6 +4,7 @@ use Rattle.rv_model.specs.Board.{Hart}
 use Rattle.rv_model.specs.Core.{x_of}
 use Rattle.rv_model.specs.DebugRegisters.{debug_value, debug_written}
 use Rattle.rv_model.specs.Memory.{Memory}
+use Rattle.debug_model.specs.Addresses.{progbuf0_address, progbuf1_address}
 use Rattle.debug_model.specs.Module.{Site, register_at}
 use Rattle.debug_model.specs.SystemBus.{BusUnit}
 use Rattle.debug_model.specs.Told.{Far, site_of}
@@ -11,7 +12,7 @@ use Rattle.probe_run.specs.Acts.{Did, Tells}
 use Rattle.probe_access.specs.CommandRuns.{RanCommand, error_shown}
 use Rattle.probe_access.specs.MemoryRuns.{PutBack, Saved, program_written}
 use Rattle.probe_access.specs.RegisterRuns.{RegisterWritten}
-use Rattle.probe_access.specs.RegisterAccess.{ebreak_word, progbuf0_address, progbuf1_address, program_word, x8_number, x9_number}
+use Rattle.probe_access.specs.RegisterAccess.{ebreak_word, program_word, x8_number, x9_number}
 use Rattle.probe_access.proofs.AccessSteps.{WordDid}
 use Rattle.probe_access.proofs.Along.{AtSites, SiteActs, did_sites}
 use Rattle.probe_access.proofs.Aside.{accessed, passed}

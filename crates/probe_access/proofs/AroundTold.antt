@@ -35,7 +35,7 @@ Clean (access_fault.Memory at) = ⊥
 Clean (access_fault.Register number) = ⊥
 Clean access_fault.StillBusy = Unit {0}
 Clean (access_fault.Run why) = ⊥
-Clean (access_fault.Odd word) = ⊥
+Clean (access_fault.Odd shown) = ⊥
 
 pub read_clean : (number h : ℕ) (bus : BusUnit) (y : Hart) (base : Site) (w : Hart) (old_count new_count : ℕ) (old new : Tells) (e : AccessFault) → number < 2 ^ 16 → reaches false y number ≡ true → StoodTold h bus y base w old.far
     → ReadFailed number old_count new_count old new e → Clean e
@@ -44,7 +44,7 @@ read_clean number h bus y base w old_count new_count old new (access_fault.Memor
 read_clean number h bus y base w old_count new_count old new (access_fault.Register asked) small there st f = false≢true (sym (denied_told false number h bus y base w old new small st f.ran).denied_is ∙ there)
 read_clean number h bus y base w old_count new_count old new access_fault.StillBusy small there st f = tt
 read_clean number h bus y base w old_count new_count old new (access_fault.Run why) small there st f = f
-read_clean number h bus y base w old_count new_count old new (access_fault.Odd word) small there st f = odd_told false number word h bus y base w old new small st f
+read_clean number h bus y base w old_count new_count old new (access_fault.Odd shown) small there st f = odd_told false number shown h bus y base w old new small st f
 
 pub write_clean : (number value h : ℕ) (bus : BusUnit) (y : Hart) (base : Site) (w : Hart) (old_count new_count : ℕ) (old new : Tells) (e : AccessFault) → number < 2 ^ 16 → reaches true y number ≡ true → StoodTold h bus y base w old.far
     → WriteFailed number value old_count new_count old new e → Clean e
@@ -54,8 +54,8 @@ write_clean number value h bus y base w old_count new_count old new (access_faul
     false≢true (sym (denied_told true number h bus y base w f.mid new small (double_told value h bus y base w old f.mid st f.words) f.then.ran).denied_is ∙ there)
 write_clean number value h bus y base w old_count new_count old new access_fault.StillBusy small there st f = tt
 write_clean number value h bus y base w old_count new_count old new (access_fault.Run why) small there st f = f
-write_clean number value h bus y base w old_count new_count old new (access_fault.Odd word) small there st f =
-    odd_told true number word h bus y base w f.mid new small (double_told value h bus y base w old f.mid st f.words) f.then
+write_clean number value h bus y base w old_count new_count old new (access_fault.Odd shown) small there st f =
+    odd_told true number shown h bus y base w f.mid new small (double_told value h bus y base w old f.mid st f.words) f.then
 
 -- ---- x8 and x9 can be reached
 
@@ -96,7 +96,7 @@ OnlyMemory address G (access_fault.Memory at) = (at ≡ address) × G
 OnlyMemory address G (access_fault.Register number) = ⊥
 OnlyMemory address G access_fault.StillBusy = Unit {0}
 OnlyMemory address G (access_fault.Run why) = ⊥
-OnlyMemory address G (access_fault.Odd word) = ⊥
+OnlyMemory address G (access_fault.Odd shown) = ⊥
 
 pub clean_only : (address : ℕ) (G : Type 0) (e : AccessFault) → Clean e → OnlyMemory address G e
 clean_only address G (access_fault.Dmi why) c = tt
@@ -104,7 +104,7 @@ clean_only address G (access_fault.Memory at) c = absurd c
 clean_only address G (access_fault.Register number) c = absurd c
 clean_only address G access_fault.StillBusy c = tt
 clean_only address G (access_fault.Run why) c = absurd c
-clean_only address G (access_fault.Odd word) c = absurd c
+clean_only address G (access_fault.Odd shown) c = absurd c
 
 pub only_map : (address : ℕ) (G H : Type 0) (e : AccessFault) → (G → H) → OnlyMemory address G e → OnlyMemory address H e
 only_map address G H (access_fault.Dmi why) f p = tt
@@ -112,7 +112,7 @@ only_map address G H (access_fault.Memory at) f p = (p.0, f p.1)
 only_map address G H (access_fault.Register number) f p = p
 only_map address G H access_fault.StillBusy f p = tt
 only_map address G H (access_fault.Run why) f p = p
-only_map address G H (access_fault.Odd word) f p = p
+only_map address G H (access_fault.Odd shown) f p = p
 
 command_clean : (word old_count new_count : ℕ) (old new : Tells) (e : AccessFault) → CommandFailed word old_count new_count old new e → Clean e
 command_clean word old_count new_count old new (access_fault.Dmi why) f = tt
@@ -120,7 +120,7 @@ command_clean word old_count new_count old new (access_fault.Memory at) f = f
 command_clean word old_count new_count old new (access_fault.Register number) f = f
 command_clean word old_count new_count old new access_fault.StillBusy f = tt
 command_clean word old_count new_count old new (access_fault.Run why) f = f
-command_clean word old_count new_count old new (access_fault.Odd kept) f = f
+command_clean word old_count new_count old new (access_fault.Odd shown) f = f
 
 pub perform_only : (P : Memory → Hart → Memory → Type 0) (Q : Memory → Type 0) (word address h : ℕ) (bus : BusUnit) (y : Hart) (base : Site) (w : Hart) (old_count new_count : ℕ) (old new : Tells) (e : AccessFault) → StoodTold h bus y base w old.far
     → (Frozen (debug_written y x8_number address) → (m : Memory) → WordDid P Q word (debug_written y x8_number address) m) → PerformFailed word address old_count new_count old new e
@@ -131,10 +131,10 @@ perform_only P Q word address h bus y base w old_count new_count old new e st de
     clean_only address G e (write_clean x8_number address h bus y base w old_count new_count written new e (omega arith) (writes_x8 y) (program_stood word h bus y base w old written st did) f)
 perform_only P Q word address h bus y base w old_count new_count old new e st decides (in_run written addressed did x8 _ f) = clean_only address (Performed word address 3 old new) e (command_clean program_word old_count new_count addressed new e f)
 perform_only P Q word address h bus y base w old_count new_count old new e st decides (faulted p) = (refl, p)
-perform_only P Q word address h bus y base w old_count new_count old new e st decides (oddly written addressed did x8 last ran) =
+perform_only P Q word address h bus y base w old_count new_count old new e st decides (oddly written addressed did x8 shown ran) =
     let ad : Addressed word address h bus y base w addressed.far = addressed_told word address h bus y base w old written addressed st did x8 in
-    let r : PerformedTold P Q last h bus (debug_written y x8_number address) base w new.far = ran_told P Q word address last h bus y base w addressed new ad (decides ad.then.stood.frozen) ran.ran in
-    neither_told P Q last h bus (debug_written y x8_number address) base w (site_of r.far) r.program ran.some ran.other
+    let r : PerformedTold P Q ran.last h bus (debug_written y x8_number address) base w new.far = ran_told P Q word address ran.last h bus y base w addressed new ad (decides ad.then.stood.frozen) ran.ran in
+    neither_told P Q ran.last h bus (debug_written y x8_number address) base w (site_of r.far) r.program ran.some ran.other
 
 -- ---- the whole access
 
@@ -170,7 +170,7 @@ lost_only address G H (access_fault.Memory at) loses p = absurd (loses tt)
 lost_only address G H (access_fault.Register number) loses p = p
 lost_only address G H access_fault.StillBusy loses p = tt
 lost_only address G H (access_fault.Run why) loses p = p
-lost_only address G H (access_fault.Odd word) loses p = p
+lost_only address G H (access_fault.Odd shown) loses p = p
 
 pub recovered : (address : ℕ) (G : Type 0) (e : AccessFault) → Recovers e → OnlyMemory address G e → G
 recovered address G (access_fault.Dmi why) r p = absurd r
@@ -178,7 +178,7 @@ recovered address G (access_fault.Memory at) r p = p.1
 recovered address G (access_fault.Register number) r p = absurd p
 recovered address G access_fault.StillBusy r p = absurd r
 recovered address G (access_fault.Run why) r p = absurd r
-recovered address G (access_fault.Odd word) r p = absurd r
+recovered address G (access_fault.Odd shown) r p = absurd r
 
 pub around_only : (R : Tells → Tells → Type 0) (F : ℕ → ℕ → Tells → Tells → AccessFault → Type 0) (Q : Memory → Type 0) (address h : ℕ) (bus : BusUnit) (x : Hart) (base : Site) (old_count new_count : ℕ) (old new : Tells) (e : AccessFault)
     → length x.core.x ≡ 32 → x_of x.core 8 < 2 ^ 64 → x_of x.core 9 < 2 ^ 64 → Inside R F Q address h bus x base → StoodTold h bus x base x old.far → AroundFailed R F old_count new_count old new e

@@ -19,7 +19,7 @@ PlainMemory address G (access_fault.Memory at) = (at ≡ address) × G
 PlainMemory address G (access_fault.Register number) = Unit {0}
 PlainMemory address G access_fault.StillBusy = Unit {0}
 PlainMemory address G (access_fault.Run why) = ⊥
-PlainMemory address G (access_fault.Odd word) = Unit {0}
+PlainMemory address G (access_fault.Odd shown) = Unit {0}
 
 pub read_plain : (number address : ℕ) (G : Type 0) (old_count new_count : ℕ) (old new : Tells) (e : AccessFault) → ReadFailed number old_count new_count old new e → PlainMemory address G e
 read_plain number address G old_count new_count old new (access_fault.Dmi why) f = tt
@@ -27,7 +27,7 @@ read_plain number address G old_count new_count old new (access_fault.Memory at)
 read_plain number address G old_count new_count old new (access_fault.Register asked) f = tt
 read_plain number address G old_count new_count old new access_fault.StillBusy f = tt
 read_plain number address G old_count new_count old new (access_fault.Run why) f = f
-read_plain number address G old_count new_count old new (access_fault.Odd word) f = tt
+read_plain number address G old_count new_count old new (access_fault.Odd shown) f = tt
 
 pub write_plain : (number value address : ℕ) (G : Type 0) (old_count new_count : ℕ) (old new : Tells) (e : AccessFault) → WriteFailed number value old_count new_count old new e → PlainMemory address G e
 write_plain number value address G old_count new_count old new (access_fault.Dmi why) f = tt
@@ -35,7 +35,7 @@ write_plain number value address G old_count new_count old new (access_fault.Mem
 write_plain number value address G old_count new_count old new (access_fault.Register asked) f = tt
 write_plain number value address G old_count new_count old new access_fault.StillBusy f = tt
 write_plain number value address G old_count new_count old new (access_fault.Run why) f = f
-write_plain number value address G old_count new_count old new (access_fault.Odd word) f = tt
+write_plain number value address G old_count new_count old new (access_fault.Odd shown) f = tt
 
 command_plain : (word address : ℕ) (G : Type 0) (old_count new_count : ℕ) (old new : Tells) (e : AccessFault) → CommandFailed word old_count new_count old new e → PlainMemory address G e
 command_plain word address G old_count new_count old new (access_fault.Dmi why) f = tt
@@ -43,7 +43,7 @@ command_plain word address G old_count new_count old new (access_fault.Memory at
 command_plain word address G old_count new_count old new (access_fault.Register asked) f = tt
 command_plain word address G old_count new_count old new access_fault.StillBusy f = tt
 command_plain word address G old_count new_count old new (access_fault.Run why) f = f
-command_plain word address G old_count new_count old new (access_fault.Odd kept) f = tt
+command_plain word address G old_count new_count old new (access_fault.Odd shown) f = tt
 
 pub save_plain : (address : ℕ) (G : Type 0) (old_count new_count : ℕ) (old new : Tells) (e : AccessFault) → SaveFailed old_count new_count old new e → PlainMemory address G e
 save_plain address G old_count new_count old new e (save_x8 f) = read_plain x8_number address G old_count new_count old new e f
@@ -58,7 +58,7 @@ perform_plain word address old_count new_count old new e none (in_program why b)
 perform_plain word address old_count new_count old new e none (in_address written did _ f) = write_plain x8_number address address (new.far ≡ None) old_count new_count written new e f
 perform_plain word address old_count new_count old new e none (in_run written addressed did x8 _ f) = command_plain program_word address (new.far ≡ None) old_count new_count addressed new e f
 perform_plain word address old_count new_count old new e none (faulted p) = (refl, performed_untold word address 3 old new p none)
-perform_plain word address old_count new_count old new e none (oddly written addressed did x8 last ran) = tt
+perform_plain word address old_count new_count old new e none (oddly written addressed did x8 shown ran) = tt
 
 plain_map : (address : ℕ) (G H : Type 0) (e : AccessFault) → (G → H) → PlainMemory address G e → PlainMemory address H e
 plain_map address G H (access_fault.Dmi why) f p = tt
@@ -66,7 +66,7 @@ plain_map address G H (access_fault.Memory at) f p = (p.0, f p.1)
 plain_map address G H (access_fault.Register number) f p = tt
 plain_map address G H access_fault.StillBusy f p = tt
 plain_map address G H (access_fault.Run why) f p = p
-plain_map address G H (access_fault.Odd word) f p = tt
+plain_map address G H (access_fault.Odd shown) f p = tt
 
 -- what an access is made of
 pub record InsideUntold (R : Tells → Tells → Type 0) (F : ℕ → ℕ → Tells → Tells → AccessFault → Type 0) (address : ℕ) : Type 0 where

@@ -1,9 +1,11 @@
 -- What a fault of an access follows, however far its calls came, and where a value was read.
 use Rattle.std.proofs.Common.{◌≡◌, ◌∙◌, ◌≤◌, ◌++◌, ℕ, List, [], ◌∷◌, map, Bool, true, false, sym, ap, subst, append_assoc, arith}
 use Rattle.rv_model.specs.declared.size.Size.{Size}
+use Rattle.debug_model.specs.Addresses.{data0_address, data1_address, command_address}
 use Rattle.debug_model.specs.declared.dmi.DmiFault.{DmiFault}
 use Rattle.probe_access.specs.declared.fault.AccessFault.{AccessFault}
 use Rattle.probe_access.specs.declared.fault.AccessFault.TheVariants as access_fault
+use Rattle.probe_access.specs.declared.odd.OddStatus.{OddStatus}
 use Rattle.probe_run.specs.Acts.{Act, Did, Tells}
 use Rattle.probe_run.specs.Acts.Act.{Got, Put}
 use Rattle.probe_run.specs.Acts.Did.{nothing}
@@ -22,7 +24,7 @@ use Rattle.probe_access.specs.MemoryRuns.StoreFailedInside.{performing as store_
 use Rattle.probe_access.specs.RegisterRuns.{RanOddly, RanTo, ReadFailed, ReadFailedAt, RegisterRead, RegisterWritten, WriteFailed, WriteFailedAt}
 use Rattle.probe_access.specs.RegisterRuns.ReadFailedAt.{in_command as read_in_command, in_words as read_in_words}
 use Rattle.probe_access.specs.RegisterRuns.WriteFailedAt.{in_command as written_in_command, in_words as written_in_words}
-use Rattle.probe_access.specs.RegisterAccess.{command_address, data0_address, data1_address, joined, load_word, program_word, store_word, transfer_word, x8_number, x9_number}
+use Rattle.probe_access.specs.RegisterAccess.{joined, load_word, program_word, store_word, transfer_word, x8_number, x9_number}
 use Rattle.probe_access.proofs.RegisterCalls.{none_cleared}
 use Rattle.probe_run.proofs.ActLemmas.{broke_then, did_list, did_then}
 
@@ -99,13 +101,15 @@ causes_behind a b c p count mid_count new_count access_fault.StillBusy le later 
   };
 }
 causes_behind a b c p count mid_count new_count (access_fault.Run why) le later f = f
-causes_behind a b c p count mid_count new_count (access_fault.Odd word) le later f = record {
+causes_behind a b c p count mid_count new_count (access_fault.Odd shown) le later f = record {
+  word = f.word;
+  is = f.is;
   front = p.acts ++ f.front;
   rest = f.rest;
   idle = f.idle;
   some = f.some;
   other = f.other;
-  did = behind_list p.acts f.front f.rest (poll_act word) a c (did_then p.acts a b p.did (f.front ++ poll_act word ∷ f.rest) c f.did);
+  did = behind_list p.acts f.front f.rest (poll_act f.word) a c (did_then p.acts a b p.did (f.front ++ poll_act f.word ∷ f.rest) c f.did);
 }
 
 -- a fault behind which calls went on
@@ -137,7 +141,7 @@ causes_then a b c was_count is_count count new_count (access_fault.Register numb
     }
 causes_then a b c was_count is_count count new_count access_fault.StillBusy f r q = absurd r
 causes_then a b c was_count is_count count new_count (access_fault.Run why) f r q = absurd r
-causes_then a b c was_count is_count count new_count (access_fault.Odd word) f r q = absurd r
+causes_then a b c was_count is_count count new_count (access_fault.Odd shown) f r q = absurd r
 
 -- a fault behind which calls can go on came behind calls that were Ok
 causes_calls : (a b : Tells) (was_count is_count : ℕ) (e : AccessFault) → Causes was_count is_count a b e → Recovers e → Calls a b
@@ -146,7 +150,7 @@ causes_calls a b was_count is_count (access_fault.Memory address) f r = calls _ 
 causes_calls a b was_count is_count (access_fault.Register number) f r = calls _ a b f.did
 causes_calls a b was_count is_count access_fault.StillBusy f r = absurd r
 causes_calls a b was_count is_count (access_fault.Run why) f r = absurd r
-causes_calls a b was_count is_count (access_fault.Odd word) f r = absurd r
+causes_calls a b was_count is_count (access_fault.Odd shown) f r = absurd r
 
 -- ---- of each part
 
@@ -156,12 +160,14 @@ command_causes word old_count new_count a b (access_fault.Memory address) f = ab
 command_causes word old_count new_count a b (access_fault.Register number) f = absurd f
 command_causes word old_count new_count a b (access_fault.Run why) f = f
 command_causes word old_count new_count a b access_fault.StillBusy f = record { front = Put command_address word ∷ []; busy = f }
-command_causes word old_count new_count a b (access_fault.Odd last) f = absurd f
+command_causes word old_count new_count a b (access_fault.Odd shown) f = absurd f
 
-ran_oddly : (word last : ℕ) (a b : Tells) → RanOddly word last a b → ReportedOddly last a b
-ran_oddly word last a b r = record {
+ran_oddly : (word : ℕ) (shown : OddStatus) (a b : Tells) → RanOddly word shown a b → ReportedOddly shown a b
+ran_oddly word shown a b r = record {
+  word = r.last;
+  is = r.is;
   front = Put command_address word ∷ map poll_act r.ran.words;
-  rest = clearing (error_shown last);
+  rest = clearing (error_shown r.last);
   idle = r.ran.idle;
   some = r.some;
   other = r.other;
@@ -197,7 +203,7 @@ LinkLater count new_count (access_fault.Memory address) = Unit {0}
 LinkLater count new_count (access_fault.Register number) = Unit {0}
 LinkLater count new_count access_fault.StillBusy = Unit {0}
 LinkLater count new_count (access_fault.Run why) = Unit {0}
-LinkLater count new_count (access_fault.Odd word) = Unit {0}
+LinkLater count new_count (access_fault.Odd shown) = Unit {0}
 
 pub link_later : (count new_count : ℕ) (e : AccessFault) → count ≤ new_count → LinkLater count new_count e
 link_later count new_count (access_fault.Dmi why) later = later
@@ -205,7 +211,7 @@ link_later count new_count (access_fault.Memory address) later = tt
 link_later count new_count (access_fault.Register number) later = tt
 link_later count new_count access_fault.StillBusy later = tt
 link_later count new_count (access_fault.Run why) later = tt
-link_later count new_count (access_fault.Odd word) later = tt
+link_later count new_count (access_fault.Odd shown) later = tt
 
 no_link : (count new_count : ℕ) (e : AccessFault) → Recovers e → LinkLater count new_count e
 no_link count new_count (access_fault.Dmi why) r = absurd r
@@ -213,7 +219,7 @@ no_link count new_count (access_fault.Memory address) r = tt
 no_link count new_count (access_fault.Register number) r = tt
 no_link count new_count access_fault.StillBusy r = tt
 no_link count new_count (access_fault.Run why) r = tt
-no_link count new_count (access_fault.Odd word) r = tt
+no_link count new_count (access_fault.Odd shown) r = tt
 
 -- behind calls in this same call
 causes_same : (a b c : Tells) → Calls a b → (count new_count : ℕ) (e : AccessFault) → LinkLater count new_count e → Causes count new_count b c e → Causes count new_count a c e
@@ -222,7 +228,7 @@ causes_same a b c p count new_count (access_fault.Memory address) later f = caus
 causes_same a b c p count new_count (access_fault.Register number) later f = causes_behind a b c p 0 0 0 (access_fault.Register number) (omega arith) (omega arith) f
 causes_same a b c p count new_count access_fault.StillBusy later f = causes_behind a b c p 0 0 0 access_fault.StillBusy (omega arith) (omega arith) f
 causes_same a b c p count new_count (access_fault.Run why) later f = f
-causes_same a b c p count new_count (access_fault.Odd word) later f = causes_behind a b c p 0 0 0 (access_fault.Odd word) (omega arith) (omega arith) f
+causes_same a b c p count new_count (access_fault.Odd shown) later f = causes_behind a b c p 0 0 0 (access_fault.Odd shown) (omega arith) (omega arith) f
 
 read_at_causes : (number count new_count : ℕ) (a b : Tells) (why : DmiFault) → count ≤ new_count → ReadFailedAt number count new_count a b (access_fault.Dmi why) → Causes count new_count a b (access_fault.Dmi why)
 read_at_causes number count new_count a b why later (read_in_command _ f) = command_causes (transfer_word false number) count new_count a b (access_fault.Dmi why) f
@@ -234,7 +240,7 @@ read_causes number count new_count a b (access_fault.Memory address) later f = a
 read_causes number count new_count a b (access_fault.Register asked) later f = ran_denied false number asked a b f.same f.ran
 read_causes number count new_count a b (access_fault.Run why) later f = f
 read_causes number count new_count a b access_fault.StillBusy later f = command_causes (transfer_word false number) count new_count a b access_fault.StillBusy f
-read_causes number count new_count a b (access_fault.Odd word) later f = ran_oddly (transfer_word false number) word a b f
+read_causes number count new_count a b (access_fault.Odd shown) later f = ran_oddly (transfer_word false number) shown a b f
 
 write_at_causes : (number value count new_count : ℕ) (a b : Tells) (why : DmiFault) → count ≤ new_count → WriteFailedAt number value count new_count a b (access_fault.Dmi why) → Causes count new_count a b (access_fault.Dmi why)
 write_at_causes number value count new_count a b why later (written_in_words _ f) = (f.acts, f.failed, f.broke)
@@ -249,8 +255,8 @@ write_causes number value count new_count a b (access_fault.Register asked) late
 write_causes number value count new_count a b (access_fault.Run why) later f = f
 write_causes number value count new_count a b access_fault.StillBusy later f =
     causes_same a f.mid b (calls _ a f.mid f.words) count new_count access_fault.StillBusy later (command_causes (transfer_word true number) count new_count f.mid b access_fault.StillBusy f.then)
-write_causes number value count new_count a b (access_fault.Odd word) later f =
-    causes_same a f.mid b (calls _ a f.mid f.words) count new_count (access_fault.Odd word) later (ran_oddly (transfer_word true number) word f.mid b f.then)
+write_causes number value count new_count a b (access_fault.Odd shown) later f =
+    causes_same a f.mid b (calls _ a f.mid f.words) count new_count (access_fault.Odd shown) later (ran_oddly (transfer_word true number) shown f.mid b f.then)
 
 perform_causes : (word address count new_count : ℕ) (a b : Tells) (e : AccessFault) → LinkLater count new_count e → PerformFailed word address count new_count a b e → Causes count new_count a b e
 perform_causes word address count new_count a b _ later (in_program why f) = (f.acts, f.failed, f.broke)
@@ -259,8 +265,8 @@ perform_causes word address count new_count a b _ later (in_run written addresse
     causes_same a addressed b (addressed_calls word address a written addressed did x8) count new_count e later (command_causes program_word count new_count addressed b e f)
 perform_causes word address count new_count a b _ later (faulted p) =
     causes_same a p.addressed b (addressed_calls word address a p.written p.addressed p.program p.x8) count new_count (access_fault.Memory address) later (ran_reported program_word 3 p.addressed b p.ran)
-perform_causes word address count new_count a b _ later (oddly written addressed did x8 last ran) =
-    causes_same a addressed b (addressed_calls word address a written addressed did x8) count new_count (access_fault.Odd last) later (ran_oddly program_word last addressed b ran)
+perform_causes word address count new_count a b _ later (oddly written addressed did x8 shown ran) =
+    causes_same a addressed b (addressed_calls word address a written addressed did x8) count new_count (access_fault.Odd shown) later (ran_oddly program_word shown addressed b ran)
 
 pub load_causes : (size : Size) (address count new_count : ℕ) (a b : Tells) (e : AccessFault) → LinkLater count new_count e → LoadFailedInside size address count new_count a b e → Causes count new_count a b e
 load_causes size address count new_count a b e later (load_performing f) = perform_causes (load_word size) address count new_count a b e later f
@@ -358,4 +364,4 @@ fetched_behind values old mid new old_count new_count (access_fault.Memory addre
 fetched_behind values old mid new old_count new_count (access_fault.Register number) f c = tt
 fetched_behind values old mid new old_count new_count access_fault.StillBusy f c = tt
 fetched_behind values old mid new old_count new_count (access_fault.Run why) f c = tt
-fetched_behind values old mid new old_count new_count (access_fault.Odd word) f c = tt
+fetched_behind values old mid new old_count new_count (access_fault.Odd shown) f c = tt

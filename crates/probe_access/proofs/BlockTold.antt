@@ -44,7 +44,7 @@ load_left size address count values old mid new (access_fault.Memory at) before 
 load_left size address count values old mid new (access_fault.Register number) before below f = loaded_none size address values old mid before f
 load_left size address count values old mid new access_fault.StillBusy before below f = tt
 load_left size address count values old mid new (access_fault.Run why) before below f = f
-load_left size address count values old mid new (access_fault.Odd word) before below f = loaded_none size address values old mid before f
+load_left size address count values old mid new (access_fault.Odd shown) before below f = loaded_none size address values old mid before f
 
 -- ---- stores
 
@@ -79,7 +79,7 @@ store_left size address count value done old mid new (access_fault.Memory at) be
 store_left size address count value done old mid new (access_fault.Register number) before below f = stored_none size address value done old mid before f
 store_left size address count value done old mid new access_fault.StillBusy before below f = tt
 store_left size address count value done old mid new (access_fault.Run why) before below f = f
-store_left size address count value done old mid new (access_fault.Odd word) before below f = stored_none size address value done old mid before f
+store_left size address count value done old mid new (access_fault.Odd shown) before below f = stored_none size address value done old mid before f
 
 -- ---- with the address as it was computed
 

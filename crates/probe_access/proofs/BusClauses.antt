@@ -7,6 +7,7 @@ use Rattle.rv_model.specs.Board.{Board}
 use Rattle.rv_model.specs.Memory.{Memory, after_store, is_aligned, loaded, store_answer}
 use Rattle.rv_model.specs.Size.{count_of}
 use Rattle.rv_model.proofs.MemoryLemmas.{after_store_refused}
+use Rattle.debug_model.specs.Addresses.{sbcs_address}
 use Rattle.debug_model.specs.declared.bus_access.BusAccess.TheVariants.{Read, Write}
 use Rattle.debug_model.specs.declared.dmi.DmiFault.{DmiFault}
 use Rattle.debug_model.specs.declared.sberror.Sberror.TheVariants.{Fine, Address}
@@ -15,9 +16,11 @@ use Rattle.debug_model.specs.Dmi.{DmiScript}
 use Rattle.debug_model.specs.Module.{Site}
 use Rattle.debug_model.specs.Scan.{WhereTold}
 use Rattle.debug_model.specs.SystemBus.{BusUnit}
-use Rattle.debug_model.specs.Told.{Far, IsReady, MemoryReady, SiteReady, site_of}
+use Rattle.rv_model.specs.Widths.{MemoryReady}
+use Rattle.debug_model.specs.Told.{Far, IsReady, SiteReady, site_of}
 use Rattle.probe_access.specs.declared.fault.AccessFault.{AccessFault}
 use Rattle.probe_access.specs.declared.fault.AccessFault.TheVariants as access_fault
+use Rattle.probe_access.specs.declared.odd.OddStatus.{OddStatus}
 use Rattle.probe_run.specs.Acts.{Tells, tells}
 use Rattle.probe_access.specs.Accesses.{AccessLeft, BusLoadRefused, BusLoadedAt, BusStoreRefused, BusStoredAt, IfMemory, unchanged}
 use Rattle.probe_access.specs.BusRuns.{BusEndFailed, BusFetched, BusLoadFailed, BusLoaded, BusOddly, BusPolled, BusRefused, BusStoreFailed, BusStored, bus_collided, bus_error, read_started, write_started}
@@ -25,8 +28,8 @@ use Rattle.probe_access.specs.BusRuns.BusLoadFailed.{in_start as load_start, in_
 use Rattle.probe_access.specs.BusRuns.BusStoreFailed.{in_start as store_start, in_end as store_end}
 use Rattle.probe_run.specs.Acts.{Did}
 use Rattle.probe_run.specs.Acts.Act.{Put}
-use Rattle.probe_run.specs.Opening.{clears_sberror, sbcs_address}
-use Rattle.probe_run.proofs.WideMemory.{loaded_small, stored_ready}
+use Rattle.probe_run.specs.Opening.{clears_sberror}
+use Rattle.rv_model.proofs.WideMemory.{loaded_small, stored_ready}
 use Rattle.probe_access.proofs.AccessEnd.{ready_before}
 use Rattle.probe_access.proofs.Along.{AtSites, did_sites, did_untold}
 use Rattle.probe_access.proofs.Aside.{accessed, passed}
@@ -178,13 +181,13 @@ pub record BusErr (R : Chip → Option Far → Type 0) (address : ℕ) (old new 
 
 -- what is said of a refusal and of another error is all that has to be said
 end_err : (R : Chip → Option Far → Type 0) (address : ℕ) (old : Option Far) (started new : Tells) (old_count new_count : ℕ) (e : AccessFault) → (BusRefused started new → WhereTold R old new.far × IsReady new.far)
-    → ((last : ℕ) → BusOddly last started new → old ≡ None) → BusEndFailed address old_count new_count started new e → BusErr R address old new.far e
+    → ((shown : OddStatus) → BusOddly shown started new → old ≡ None) → BusEndFailed address old_count new_count started new e → BusErr R address old new.far e
 end_err R address old started new old_count new_count (access_fault.Dmi why) refused odd f = record { left = tt; ready = tt }
 end_err R address old started new old_count new_count (access_fault.Memory at) refused odd f = let r : WhereTold R old new.far × IsReady new.far = refused f.1 in record { left = (f.0, r.0); ready = r.1 }
 end_err R address old started new old_count new_count (access_fault.Register number) refused odd f = absurd f
 end_err R address old started new old_count new_count access_fault.StillBusy refused odd f = record { left = tt; ready = tt }
 end_err R address old started new old_count new_count (access_fault.Run why) refused odd f = absurd f
-end_err R address old started new old_count new_count (access_fault.Odd word) refused odd f = record { left = odd word f; ready = tt }
+end_err R address old started new old_count new_count (access_fault.Odd shown) refused odd f = record { left = odd shown f; ready = tt }
 
 link_err : (R : Chip → Option Far → Type 0) (address : ℕ) (old new : Option Far) (e : AccessFault) (why : DmiFault) → e ≡ access_fault.Dmi why → BusErr R address old new e
 link_err R address old new e why is = subst (λ (x : AccessFault). BusErr R address old new x) (sym is) (record { left = tt; ready = tt })
@@ -244,15 +247,15 @@ load_odd size address last f told w other some (not_read why is done) =
 load_end_err : (size : Size) (address : ℕ) (far : Option Far) (script : Option DmiScript) (started new : Tells) (old_count new_count : ℕ) (e : AccessFault) → IsReady far → is_aligned address size ≡ true → Did (tells far script) (read_started size address) started
     → BusEndFailed address old_count new_count started new e → BusErr (BusLoadRefused size address) address far new.far e
 load_end_err size address None script started new old_count new_count e ready aligned did f =
-    end_err (BusLoadRefused size address) address None started new old_count new_count e (refused_untold (BusLoadRefused size address) started new (did_untold (tells None script) _ started did refl)) (λ last o. refl) f
+    end_err (BusLoadRefused size address) address None started new old_count new_count e (refused_untold (BusLoadRefused size address) started new (did_untold (tells None script) _ started did refl)) (λ shown o. refl) f
 load_end_err size address (Some c) script started new old_count new_count e ready aligned did f =
     end_err (BusLoadRefused size address) address (Some c) started new old_count new_count e
     (λ r.
     let w : Finished (reading size address (site_of c)) r.last c r.mid.far = load_finished size address r.last c script started r.mid ready aligned did r.polled in
     load_refused size address r.last c r.mid new ready w r.outside r.cleared (read_end size address (site_of c).unit.bus.value (memory_at w.made.before (site_of c))))
-    (λ last o.
-    let w : Finished (reading size address (site_of c)) last c new.far = load_finished size address last c script started new ready aligned did o.polled in
-    absurd (load_odd size address last c new.far w o.other o.some (read_end size address (site_of c).unit.bus.value (memory_at w.made.before (site_of c)))))
+    (λ shown o.
+    let w : Finished (reading size address (site_of c)) o.last c new.far = load_finished size address o.last c script started new ready aligned did o.polled in
+    absurd (load_odd size address o.last c new.far w o.other o.some (read_end size address (site_of c).unit.bus.value (memory_at w.made.before (site_of c)))))
     f
 
 pub bus_load_err : (size : Size) (address : ℕ) (far : Option Far) (script : Option DmiScript) (new : Tells) (old_count new_count : ℕ) (e : AccessFault) → IsReady far → is_aligned address size ≡ true
@@ -308,15 +311,15 @@ store_odd size address value last f told w other some (not_written why is makes)
 store_end_err : (size : Size) (address value : ℕ) (far : Option Far) (script : Option DmiScript) (started new : Tells) (old_count new_count : ℕ) (e : AccessFault) → IsReady far → is_aligned address size ≡ true
     → Did (tells far script) (write_started size address value) started → BusEndFailed address old_count new_count started new e → BusErr (BusStoreRefused size address) address far new.far e
 store_end_err size address value None script started new old_count new_count e ready aligned did f =
-    end_err (BusStoreRefused size address) address None started new old_count new_count e (refused_untold (BusStoreRefused size address) started new (did_untold (tells None script) _ started did refl)) (λ last o. refl) f
+    end_err (BusStoreRefused size address) address None started new old_count new_count e (refused_untold (BusStoreRefused size address) started new (did_untold (tells None script) _ started did refl)) (λ shown o. refl) f
 store_end_err size address value (Some c) script started new old_count new_count e ready aligned did f =
     end_err (BusStoreRefused size address) address (Some c) started new old_count new_count e
     (λ r.
     let w : Finished (writing size address value) r.last c r.mid.far = store_finished size address value r.last c script started r.mid ready aligned did r.polled in
     store_refused size address value r.last c r.mid new ready w r.outside r.cleared (write_end size address value (memory_at w.made.before (site_of c))))
-    (λ last o.
-    let w : Finished (writing size address value) last c new.far = store_finished size address value last c script started new ready aligned did o.polled in
-    absurd (store_odd size address value last c new.far w o.other o.some (write_end size address value (memory_at w.made.before (site_of c)))))
+    (λ shown o.
+    let w : Finished (writing size address value) o.last c new.far = store_finished size address value o.last c script started new ready aligned did o.polled in
+    absurd (store_odd size address value o.last c new.far w o.other o.some (write_end size address value (memory_at w.made.before (site_of c)))))
     f
 
 pub bus_store_err : (size : Size) (address value : ℕ) (far : Option Far) (script : Option DmiScript) (new : Tells) (old_count new_count : ℕ) (e : AccessFault) → IsReady far → is_aligned address size ≡ true

@@ -4,6 +4,7 @@ use Rattle.rv_model.specs.declared.size.Size.{Size}
 use Rattle.rv_model.specs.declared.size.Size.TheVariants.{B1}
 use Rattle.rv_model.specs.Board.{Board}
 use Rattle.rv_model.specs.Memory.{Memory, after_store, is_aligned}
+use Rattle.debug_model.specs.Addresses.{sbcs_address, sbdata0_address, sbdata1_address}
 use Rattle.debug_model.specs.declared.bus_access.BusAccess.TheVariants as access
 use Rattle.debug_model.specs.declared.dmi.DmiFault.{DmiFault}
 use Rattle.debug_model.specs.declared.dmi_op.DmiOp.TheVariants.{Read, Write}
@@ -21,9 +22,9 @@ use Rattle.probe_access.specs.declared.fault.AccessFault.TheVariants as access_f
 use Rattle.probe_run.specs.Acts.{Act, Attempt, Broke, Did, Tells, tells}
 use Rattle.probe_run.specs.Acts.Act.{Got, Put}
 use Rattle.probe_run.specs.Acts.Attempt.{Operation}
-use Rattle.probe_run.specs.Opening.{clears_sberror, sbcs_address}
+use Rattle.probe_run.specs.Opening.{clears_sberror}
 use Rattle.probe_access.specs.Accesses.{with_memory}
-use Rattle.probe_access.specs.BusRuns.{BusEndFailed, BusEnding, BusFetching, BusLoadFailed, BusPollBegun, BusStoreFailed, Starting, bus_error, bus_poll, read_started, sbdata0_address, sbdata1_address, write_started}
+use Rattle.probe_access.specs.BusRuns.{BusEndFailed, BusEnding, BusFetching, BusLoadFailed, BusPollBegun, BusStoreFailed, Starting, bus_error, bus_poll, read_started, write_started}
 use Rattle.probe_access.specs.BusRuns.BusEnding.{at_poll, at_clear}
 use Rattle.probe_access.specs.BusRuns.BusFetching.{lower, upper}
 use Rattle.probe_access.specs.BusRuns.BusLoadFailed.{in_start as load_start, in_end as load_end, in_fetch as load_fetch}
@@ -163,7 +164,7 @@ load_end_cut size address f script started new old_count new_count access_fault.
           (stage_polls (reading size address s) g.words s (site_of one.far) (site_of two.far) (works_ready s ready) (pends true size address s.unit.bus.value access.Read) (read_begun size address s (site_of one.far) ready aligned one.acts_are) two.acts_are);
     }
 load_end_cut size address f script started new old_count new_count (access_fault.Run why) ready aligned did g = tt
-load_end_cut size address f script started new old_count new_count (access_fault.Odd word) ready aligned did g = tt
+load_end_cut size address f script started new old_count new_count (access_fault.Odd shown) ready aligned did g = tt
 
 load_fetch_by : (size : Size) (address last : ℕ) (f : Far) (ended new : Tells) (old_count new_count : ℕ) (why : DmiFault) → SiteReady (site_of f) → (w : Finished (reading size address (site_of f)) last f ended.far) → bus_error last ≡ 0
     → BrokeIn BusFetching old_count new_count ended new.far why → ReadEnd size address (site_of f).unit.bus.value (memory_at w.made.before (site_of f)) → BusCut LoadLeaves (site_of f) new.far
@@ -229,7 +230,7 @@ store_end_cut size address value f script started new old_count new_count access
           (stage_polls (writing size address value) g.words s (site_of one.far) (site_of two.far) (works_ready s ready) (pends false size address value access.Write) (write_begun size address value s (site_of one.far) ready aligned one.acts_are) two.acts_are);
     }
 store_end_cut size address value f script started new old_count new_count (access_fault.Run why) ready aligned did g = tt
-store_end_cut size address value f script started new old_count new_count (access_fault.Odd word) ready aligned did g = tt
+store_end_cut size address value f script started new old_count new_count (access_fault.Odd shown) ready aligned did g = tt
 
 store_cut : (size : Size) (address value : ℕ) (f : Far) (script : Option DmiScript) (new : Tells) (old_count new_count : ℕ) (e : AccessFault) → SiteReady (site_of f) → is_aligned address size ≡ true
     → BusStoreFailed size address value old_count new_count (tells (Some f) script) new e → IfCut (BusCut (StoreLeaves size address value) (site_of f) new.far) e

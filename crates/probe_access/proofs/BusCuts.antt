@@ -1,6 +1,7 @@
 -- Where an access by the system bus broke off at a told chip.
 use Rattle.std.proofs.Common.{◌≡◌, ◌∙◌, ◌++◌, ℕ, List, [], ◌∷◌, map, true, None, refl, sym, ap, subst, inl, inr, ◌⊎◌}
 use Rattle.rv_model.specs.Memory.{Memory}
+use Rattle.debug_model.specs.Addresses.{sbcs_address}
 use Rattle.debug_model.specs.declared.dmi_op.DmiOp.TheVariants.{Read, Write}
 use Rattle.debug_model.specs.Course.{DeedsAlone, OneOperation}
 use Rattle.debug_model.specs.Deeds.{ran}
@@ -15,7 +16,6 @@ use Rattle.probe_access.proofs.Aside.{accessed, harts_of, passed}
 use Rattle.probe_access.proofs.BusSites.{AtBus, BusOp, Works, Writes, at_bus, bus_op, bus_op_done, bus_ran, put_bus, works_passed}
 use Rattle.probe_access.proofs.BusStages.{BusStage, Pends, done_behind, reads_sbcs, stage_ran, start_bus, works_stage}
 use Rattle.probe_access.proofs.BusStages.BusStage.{waits, made as was_made}
-use Rattle.probe_run.specs.Opening.{sbcs_address}
 
 -- ---- one of some calls, and those in front of it
 

@@ -2,6 +2,7 @@
 use Rattle.std.proofs.Common.{◌≡◌, ◌∙◌, ◌≤◌, ◌<◌, ◌+◌, ◌++◌, ℕ, List, [], ◌∷◌, length, map, All, Option, refl, sym, ap, length-append, append-nil, append_assoc, arith, true, false}
 use Rattle.std.proofs.lemmas.List.{map-append}
 use Rattle.std.proofs.lemmas.List.Elements.{All-push}
+use Rattle.debug_model.specs.Addresses.{sbcs_address}
 use Rattle.debug_model.specs.declared.dmi.DmiFault.{DmiFault}
 use Rattle.debug_model.specs.declared.dmi_op.DmiOp.TheVariants.{Read, Write}
 use Rattle.debug_model.specs.Dmi.{DmiCause, OperationCut}
@@ -18,7 +19,7 @@ use Rattle.probe_access.specs.BusRuns.BusEnding.{at_poll, at_clear}
 use Rattle.probe_access.specs.BusRuns.BusPollBegun.{polls}
 use Rattle.probe_access.specs.BusRuns.Starting.{next}
 use Rattle.probe_access.specs.Faults.{BrokeIn}
-use Rattle.probe_run.specs.Opening.{clears_sberror, sbcs_address}
+use Rattle.probe_run.specs.Opening.{clears_sberror}
 use Rattle.probe_access.proofs.RegisterCalls.{broke_counted, word_broke}
 use Rattle.probe_run.proofs.ActLemmas.{broke_list, broke_one, broke_then, did_list, did_then}
 
@@ -80,7 +81,7 @@ poll_end_failed address (access_fault.Memory at) old_count new_count old new f =
 poll_end_failed address (access_fault.Register number) old_count new_count old new f = f
 poll_end_failed address access_fault.StillBusy old_count new_count old new f = f
 poll_end_failed address (access_fault.Run why) old_count new_count old new f = f
-poll_end_failed address (access_fault.Odd word) old_count new_count old new f = absurd f
+poll_end_failed address (access_fault.Odd shown) old_count new_count old new f = absurd f
 
 ending_counted : (count mid_count new_count : ℕ) (old new : Tells) (why : DmiFault) → count ≤ mid_count → mid_count ≤ new_count → BusEnding mid_count new_count old new why → BusEnding count new_count old new why
 ending_counted count mid_count new_count old new why le later (at_poll b) = at_poll (broke_counted BusPollBegun count mid_count new_count old new.far why le later b)
@@ -92,7 +93,7 @@ end_counted address count mid_count new_count old new (access_fault.Memory at) l
 end_counted address count mid_count new_count old new (access_fault.Register number) le later f = f
 end_counted address count mid_count new_count old new access_fault.StillBusy le later f = f
 end_counted address count mid_count new_count old new (access_fault.Run why) le later f = f
-end_counted address count mid_count new_count old new (access_fault.Odd word) le later f = f
+end_counted address count mid_count new_count old new (access_fault.Odd shown) le later f = f
 
 -- the clearing of an error failed
 pub clear_broke : (address last count mid_count new_count : ℕ) (old mid new : Tells) (why : DmiFault) → BusPolled last old mid → bus_error last ≡ outside_error → count ≤ mid_count → mid_count ≤ new_count

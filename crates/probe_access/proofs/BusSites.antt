@@ -1,6 +1,7 @@
 -- A site with the system bus as given, and what turns, deeds and operations make of it.
 use Rattle.std.proofs.Common.{◌≡◌, ◌∙◌, ℕ, List, [], ◌∷◌, ◌++◌, true, Option, Some, None, slice_get, refl, sym, ap, subst, if◌then◌else◌}
 use Rattle.rv_model.specs.Board.{Hart}
+use Rattle.debug_model.specs.Addresses.{sbcs_address, sbaddress0_address, sbaddress1_address, sbdata0_address, sbdata1_address}
 use Rattle.debug_model.specs.declared.dmi_op.DmiOp.{DmiOp}
 use Rattle.debug_model.specs.declared.dmi_op.DmiOp.TheVariants.{Write}
 use Rattle.debug_model.specs.Course.{OneOperation}
@@ -8,12 +9,10 @@ use Rattle.debug_model.specs.Deeds.{Deed, ran, turned, turned_by}
 use Rattle.debug_model.specs.Module.{DebugModule, Site, operated, operation_result, register_at, with_bus}
 use Rattle.debug_model.specs.SystemBus.{BusUnit, sbaddress0_written, sbaddress1_written, sbcs_written, sbdata0_written, sbdata1_written}
 use Rattle.probe_run.specs.Acts.Act.{Put}
-use Rattle.probe_access.specs.BusRuns.{sbaddress0_address, sbaddress1_address, sbdata0_address, sbdata1_address}
 use Rattle.probe_access.proofs.Along.{SiteActs}
 use Rattle.probe_access.proofs.Aside.{harts_of, passed}
 use Rattle.probe_access.proofs.Quiet.{quiet_ran}
 use Rattle.probe_access.proofs.Turns.{passed-append, unit_passed}
-use Rattle.probe_run.specs.Opening.{sbcs_address}
 
 abbrev pub at_bus : BusUnit → Site → Site
 at_bus u s = record { unit = record { active = s.unit.active; hartsel = s.unit.hartsel; commands = s.unit.commands; bus = u }; board = s.board; journal = s.journal }

@@ -2,6 +2,7 @@
 use Rattle.std.proofs.Common.{◌≡◌, ◌∙◌, ℕ, List, [], ◌∷◌, ◌++◌, map, true, false, None, sym, ap, subst, if◌then◌else◌}
 use Rattle.std.proofs.lemmas.Bool.{false≢true}
 use Rattle.rv_model.specs.Memory.{Memory}
+use Rattle.debug_model.specs.Addresses.{sbcs_address}
 use Rattle.debug_model.specs.declared.dmi_op.DmiOp.TheVariants.{Read, Write}
 use Rattle.debug_model.specs.Deeds.{Deed, access_points, after_deed, bus_stepped, command_stepped, ran, turned}
 use Rattle.debug_model.specs.Deeds.Deed.{Turned, CommandStepped, BusStepped}
@@ -17,7 +18,6 @@ use Rattle.probe_access.proofs.Aside.{accessed, harts_of, passed}
 use Rattle.probe_access.proofs.BusSites.{AtBus, BusOp, Works, Writes, at_bus, at_bus_turned, bus_op, bus_ran, works_passed, written_bus}
 use Rattle.probe_access.proofs.Quiet.{command_quiet}
 use Rattle.probe_access.proofs.Turns.{passed-append}
-use Rattle.probe_run.specs.Opening.{sbcs_address}
 
 -- ---- the access
 

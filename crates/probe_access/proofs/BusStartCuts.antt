@@ -2,6 +2,7 @@
 use Rattle.std.proofs.Common.{◌≡◌, ◌++◌, ℕ, List, [], ◌∷◌, Bool, true, false, Option, Some, None, refl, sym, ap, subst}
 use Rattle.rv_model.specs.declared.size.Size.{Size}
 use Rattle.rv_model.specs.Memory.{Memory, is_aligned}
+use Rattle.debug_model.specs.Addresses.{sbcs_address, sbaddress0_address, sbaddress1_address, sbdata0_address, sbdata1_address}
 use Rattle.debug_model.specs.declared.bus_access.BusAccess.TheVariants as access
 use Rattle.debug_model.specs.declared.dmi.DmiFault.{DmiFault}
 use Rattle.debug_model.specs.declared.dmi_op.DmiOp.TheVariants.{Write}
@@ -14,7 +15,7 @@ use Rattle.debug_model.specs.Told.{Far, SiteReady, site_of}
 use Rattle.probe_run.specs.Acts.{Act, Attempt, Broke, tells}
 use Rattle.probe_run.specs.Acts.Act.{Put}
 use Rattle.probe_run.specs.Acts.Attempt.{Operation}
-use Rattle.probe_access.specs.BusRuns.{Starting, addressed, read_started, sbaddress0_address, sbaddress1_address, sbdata0_address, sbdata1_address, setting, write_started}
+use Rattle.probe_access.specs.BusRuns.{Starting, addressed, read_started, setting, write_started}
 use Rattle.probe_access.specs.BusRuns.Starting.{next}
 use Rattle.probe_access.specs.Cuts.{LoadLeaves, StoreLeaves}
 use Rattle.probe_access.proofs.Along.{SiteActs}
@@ -26,7 +27,6 @@ use Rattle.probe_access.proofs.BusSites.Writes.{to_sbaddress0, to_sbaddress1, to
 use Rattle.probe_access.proofs.BusTold.{addressed_at, at_start, works_ready}
 use Rattle.probe_access.proofs.BusUnits.{bus_at, data_put, data_put_writes, high_put, low_put, low_put_reads, made_is, pends, set_bus, upper_put}
 use Rattle.probe_access.proofs.CutSites.{CutAt, cut_at}
-use Rattle.probe_run.specs.Opening.{sbcs_address}
 
 -- ---- what accesses leave of memory
 

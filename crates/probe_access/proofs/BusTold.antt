@@ -5,6 +5,7 @@ use Rattle.rv_model.specs.declared.size.Size.TheVariants.{B1, B2, B4, B8}
 use Rattle.rv_model.specs.Board.{Board}
 use Rattle.rv_model.specs.Memory.{Memory, is_aligned}
 use Rattle.rv_model.specs.Size.{count_of}
+use Rattle.debug_model.specs.Addresses.{sbcs_address, sbaddress0_address, sbaddress1_address, sbdata0_address, sbdata1_address}
 use Rattle.debug_model.specs.declared.bus_access.BusAccess.TheVariants as access
 use Rattle.debug_model.specs.declared.dmi_op.DmiOp.TheVariants.{Read}
 use Rattle.debug_model.specs.declared.module_register.ModuleRegister.TheVariants.{Sbdata0, Sbdata1}
@@ -16,12 +17,13 @@ use Rattle.debug_model.specs.Dmi.{value_of}
 use Rattle.debug_model.specs.Module.{DebugModule, Site, operated, operation_result, read_by, register_at, result_by}
 use Rattle.debug_model.specs.ModuleWords.{sbcs_word}
 use Rattle.debug_model.specs.SystemBus.{BusDone, BusUnit, bus_done, sbcs_shown}
-use Rattle.debug_model.specs.Told.{BusReady, MemoryReady, ModuleReady, SiteReady}
+use Rattle.rv_model.specs.Widths.{MemoryReady}
+use Rattle.debug_model.specs.Told.{BusReady, ModuleReady, SiteReady}
 use Rattle.abstract_debugger.specs.Turns.{after_turns, turns}
 use Rattle.probe_run.specs.Acts.Act.{Got, Put}
-use Rattle.probe_run.specs.Opening.{clears_sberror, sbcs_address}
+use Rattle.probe_run.specs.Opening.{clears_sberror}
 use Rattle.probe_access.specs.Accesses.{OneBusAccess, with_memory}
-use Rattle.probe_access.specs.BusRuns.{bus_busy, bus_poll, cut_to, read_started, sbaddress0_address, sbaddress1_address, sbdata0_address, sbdata1_address, setting, write_started}
+use Rattle.probe_access.specs.BusRuns.{bus_busy, bus_poll, cut_to, read_started, setting, write_started}
 use Rattle.probe_access.specs.RegisterAccess.{joined}
 use Rattle.probe_access.proofs.AccessEnd.{ready_before}
 use Rattle.probe_access.proofs.Along.{SiteActs}

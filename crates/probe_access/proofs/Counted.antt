@@ -22,7 +22,7 @@ command_counted word count mid_count new_count old new (access_fault.Memory addr
 command_counted word count mid_count new_count old new (access_fault.Register asked) le later f = f
 command_counted word count mid_count new_count old new access_fault.StillBusy le later f = f
 command_counted word count mid_count new_count old new (access_fault.Run why) le later f = f
-command_counted word count mid_count new_count old new (access_fault.Odd last) le later f = f
+command_counted word count mid_count new_count old new (access_fault.Odd shown) le later f = f
 
 read_at_counted : (number count mid_count new_count : ℕ) (old new : Tells) (e : AccessFault) → count ≤ mid_count → mid_count ≤ new_count → ReadFailedAt number mid_count new_count old new e → ReadFailedAt number count new_count old new e
 read_at_counted number count mid_count new_count old new e le later (read_in_command _ f) = read_in_command e (command_counted (transfer_word false number) count mid_count new_count old new e le later f)
@@ -34,7 +34,7 @@ read_counted number count mid_count new_count old new (access_fault.Memory addre
 read_counted number count mid_count new_count old new (access_fault.Register asked) le later f = f
 read_counted number count mid_count new_count old new access_fault.StillBusy le later f = f
 read_counted number count mid_count new_count old new (access_fault.Run why) le later f = f
-read_counted number count mid_count new_count old new (access_fault.Odd last) le later f = f
+read_counted number count mid_count new_count old new (access_fault.Odd shown) le later f = f
 
 write_at_counted : (number value count mid_count new_count : ℕ) (old new : Tells) (e : AccessFault) → count ≤ mid_count → mid_count ≤ new_count → WriteFailedAt number value mid_count new_count old new e → WriteFailedAt number value count new_count old new e
 write_at_counted number value count mid_count new_count old new e le later (written_in_words why b) = written_in_words why (broke_counted (DoubleWrites value) count mid_count new_count old new.far why le later b)
@@ -46,14 +46,14 @@ write_counted number value count mid_count new_count old new (access_fault.Memor
 write_counted number value count mid_count new_count old new (access_fault.Register asked) le later f = f
 write_counted number value count mid_count new_count old new access_fault.StillBusy le later f = f
 write_counted number value count mid_count new_count old new (access_fault.Run why) le later f = f
-write_counted number value count mid_count new_count old new (access_fault.Odd last) le later f = f
+write_counted number value count mid_count new_count old new (access_fault.Odd shown) le later f = f
 
 pub perform_counted : (word address count mid_count new_count : ℕ) (old new : Tells) (e : AccessFault) → count ≤ mid_count → mid_count ≤ new_count → PerformFailed word address mid_count new_count old new e → PerformFailed word address count new_count old new e
 perform_counted word address count mid_count new_count old new e le later (in_program why b) = in_program why (broke_counted (ProgramBegun word) count mid_count new_count old new.far why le later b)
 perform_counted word address count mid_count new_count old new e le later (in_address written did _ f) = in_address written did e (write_counted x8_number address count mid_count new_count written new e le later f)
 perform_counted word address count mid_count new_count old new e le later (in_run written addressed did x8 _ f) = in_run written addressed did x8 e (command_counted program_word count mid_count new_count addressed new e le later f)
 perform_counted word address count mid_count new_count old new e le later (faulted p) = faulted p
-perform_counted word address count mid_count new_count old new e le later (oddly written addressed did x8 last ran) = oddly written addressed did x8 last ran
+perform_counted word address count mid_count new_count old new e le later (oddly written addressed did x8 shown ran) = oddly written addressed did x8 shown ran
 
 pub put_back_counted : (x8 x9 count mid_count new_count : ℕ) (old new : Tells) (e : AccessFault) → count ≤ mid_count → mid_count ≤ new_count → PutBackFailed x8 x9 mid_count new_count old new e → PutBackFailed x8 x9 count new_count old new e
 put_back_counted x8 x9 count mid_count new_count old new e le later (put_x8 f) = put_x8 (write_counted x8_number x8 count mid_count new_count old new e le later f)

@@ -7,6 +7,7 @@ use Rattle.rv_model.specs.Core.{x_of}
 use Rattle.rv_model.specs.DebugRegisters.{debug_written}
 use Rattle.rv_model.specs.Memory.{Memory, after_store}
 use Rattle.rv_model.proofs.MemoryLemmas.{after_store_refused}
+use Rattle.debug_model.specs.Addresses.{abstractcs_address, command_address, progbuf0_address, progbuf1_address}
 use Rattle.debug_model.specs.declared.cmderr.Cmderr.TheVariants.{Fine, Exception}
 use Rattle.debug_model.specs.declared.dmi.DmiFault.{DmiFault}
 use Rattle.debug_model.specs.declared.dmi_op.DmiOp.TheVariants.{Write}
@@ -26,7 +27,7 @@ use Rattle.probe_access.specs.MemoryRuns.LoadFailedInside.{performing as load_pe
 use Rattle.probe_access.specs.MemoryRuns.PerformFailed.{in_program, in_address, in_run, faulted, oddly}
 use Rattle.probe_access.specs.MemoryRuns.ProgramBegun.{first as first_word, second as second_word}
 use Rattle.probe_access.specs.MemoryRuns.StoreFailedInside.{performing as store_performing, writing as store_writing}
-use Rattle.probe_access.specs.RegisterAccess.{command_address, ebreak_word, load_word, progbuf0_address, progbuf1_address, program_command, program_word, store_word, x8_number, x9_number}
+use Rattle.probe_access.specs.RegisterAccess.{ebreak_word, load_word, program_command, program_word, store_word, x8_number, x9_number}
 use Rattle.probe_access.proofs.AccessSteps.{Running, Stage, WordDid, program_of, rest_of, running, stage_ran}
 use Rattle.probe_access.proofs.AccessSteps.Stage.{at_start, in_middle, at_end, at_fault}
 use Rattle.probe_access.proofs.AccessTold.{Addressed, SavedTold, addressed_told, decided, program_stood, saved_told, with_first, with_program}
@@ -47,7 +48,7 @@ use Rattle.probe_access.proofs.TransferLemmas.{command_starts}
 use Rattle.probe_access.proofs.Turns.{set-swap, stays_passed}
 use Rattle.probe_access.proofs.WordAccess.{LoadFaults, Loads, StoreFaults, Stores, load_did, store_did}
 use Rattle.probe_access.proofs.WordLemmas.{program_back}
-use Rattle.probe_run.specs.Opening.{abstractcs_address, clears_cmderr}
+use Rattle.probe_run.specs.Opening.{clears_cmderr}
 
 -- ---- before or behind the access
 
@@ -151,7 +152,7 @@ perform_hung P Q Y N word address h bus y base w old_count new_count old new _ o
     })
     (command_cut_told program_word h bus z base w old_count new_count addressed new e a.then g)
 perform_hung P Q Y N word address h bus y base w old_count new_count old new _ one f st decides (faulted p) = tt
-perform_hung P Q Y N word address h bus y base w old_count new_count old new _ one f st decides (oddly written addressed did x8 last ran) = tt
+perform_hung P Q Y N word address h bus y base w old_count new_count old new _ one f st decides (oddly written addressed did x8 shown ran) = tt
 
 -- ---- a hart with any x8 and x9
 

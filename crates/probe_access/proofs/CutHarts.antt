@@ -2,6 +2,7 @@
 use Rattle.std.proofs.Common.{◌≡◌, ◌∙◌, ◌<◌, ◌^◌, ℕ, List, [], ◌∷◌, Bool, true, false, Option, Some, None, refl, sym, ap, subst, arith, inl, inr, ◌⊎◌}
 use Rattle.rv_model.specs.Board.{Hart}
 use Rattle.rv_model.specs.DebugRegisters.{debug_value, debug_written}
+use Rattle.debug_model.specs.Addresses.{data0_address, data1_address, abstractcs_address, command_address}
 use Rattle.debug_model.specs.declared.abstract_command.AbstractCommand.{AbstractCommand}
 use Rattle.debug_model.specs.declared.cmderr.Cmderr.TheVariants.{Fine, Exception}
 use Rattle.debug_model.specs.declared.dmi.DmiFault.{DmiFault}
@@ -28,7 +29,7 @@ use Rattle.probe_access.specs.RegisterRuns.DoubleReads.{lower as low_read, upper
 use Rattle.probe_access.specs.RegisterRuns.DoubleWrites.{lower as low_written, upper as high_written}
 use Rattle.probe_access.specs.RegisterRuns.ReadFailedAt.{in_command as read_in_command, in_words as read_in_words}
 use Rattle.probe_access.specs.RegisterRuns.WriteFailedAt.{in_command as written_in_command, in_words as written_in_words}
-use Rattle.probe_access.specs.RegisterAccess.{command_address, data0_address, data1_address, transfer_command, transfer_word, x8_number, x9_number}
+use Rattle.probe_access.specs.RegisterAccess.{transfer_command, transfer_word, x8_number, x9_number}
 use Rattle.probe_access.proofs.Along.{AtSites, did_sites}
 use Rattle.probe_access.proofs.Aside.{Frozen, aside, passed}
 use Rattle.probe_access.proofs.CutSites.{CommandCutAt, CommandCutTold, CutAt, Rests, SentAt, command_cut_told, cut_at, got_cut, if_cut, put_cut}
@@ -43,7 +44,7 @@ use Rattle.probe_access.proofs.TransferLemmas.{TransferEnd, behind_frozen, comma
 use Rattle.probe_access.proofs.TransferLemmas.TransferEnd.{took, refused}
 use Rattle.probe_access.proofs.Turns.{stays_passed}
 use Rattle.probe_access.proofs.WordLemmas.{transfer_back}
-use Rattle.probe_run.specs.Opening.{abstractcs_address, clears_cmderr}
+use Rattle.probe_run.specs.Opening.{clears_cmderr}
 
 -- ---- a site with hart h aside, whatever its commands are about
 
@@ -199,7 +200,7 @@ read_hung number h bus y base w old_count new_count old new (access_fault.Regist
 read_hung number h bus y base w old_count new_count old new access_fault.StillBusy small st f =
     hung_map (Either false number st.kept y) (λ z. z ≡ y) h bus base new.far (λ z e. same_either number st.kept y z e) (transfer_hung false number h bus y base w old_count new_count old new access_fault.StillBusy small st f)
 read_hung number h bus y base w old_count new_count old new (access_fault.Run why) small st f = tt
-read_hung number h bus y base w old_count new_count old new (access_fault.Odd word) small st f = tt
+read_hung number h bus y base w old_count new_count old new (access_fault.Odd shown) small st f = tt
 
 -- ---- a register that is written
 
@@ -235,7 +236,7 @@ write_hung number value h bus y base w old_count new_count old new (access_fault
 write_hung number value h bus y base w old_count new_count old new (access_fault.Register asked) small st f = tt
 write_hung number value h bus y base w old_count new_count old new access_fault.StillBusy small st f = write_command_hung number value h bus y base w old_count new_count old f.mid new access_fault.StillBusy small st f.words f.then
 write_hung number value h bus y base w old_count new_count old new (access_fault.Run why) small st f = tt
-write_hung number value h bus y base w old_count new_count old new (access_fault.Odd word) small st f = tt
+write_hung number value h bus y base w old_count new_count old new (access_fault.Odd shown) small st f = tt
 
 -- ---- x8 and x9
 

@@ -1,6 +1,7 @@
 -- Where a call broke off, as what stands behind the transport sees it.
 use Rattle.std.proofs.Common.{◌≡◌, ◌∙◌, ◌++◌, ℕ, List, [], ◌∷◌, map, false, Option, Some, refl, sym, ap, subst}
 use Rattle.rv_model.specs.Board.{Hart}
+use Rattle.debug_model.specs.Addresses.{abstractcs_address, command_address}
 use Rattle.debug_model.specs.declared.dmi.DmiFault.{DmiFault}
 use Rattle.debug_model.specs.declared.dmi_op.DmiOp.{DmiOp}
 use Rattle.debug_model.specs.declared.dmi_op.DmiOp.TheVariants.{Read, Write}
@@ -21,7 +22,6 @@ use Rattle.probe_access.specs.CommandRuns.{CommandBegun, CommandFailed, error_sh
 use Rattle.probe_access.specs.CommandRuns.CommandBegun.{writes, polls, clears}
 use Rattle.probe_access.specs.Cuts.{IfCut}
 use Rattle.probe_access.specs.MemoryRuns.{Recovers}
-use Rattle.probe_access.specs.RegisterAccess.{command_address}
 use Rattle.probe_access.proofs.Along.{AtSites, SiteActs, did_sites}
 use Rattle.probe_access.proofs.Aside.{aside, passed}
 use Rattle.chip_laws.proofs.PathLemmas.{ran-append}
@@ -29,7 +29,7 @@ use Rattle.probe_access.proofs.ReadyUnit.{Kept, OpAt, done_ran, op_at, unit_of}
 use Rattle.probe_access.proofs.RegAnswers.{StoodTold}
 use Rattle.probe_access.proofs.RegisterTold.{Stood, got_at, put_at}
 use Rattle.probe_access.proofs.TransferLemmas.{Commanded, RanAlone, commanded, polls_ran, read_status}
-use Rattle.probe_run.specs.Opening.{abstractcs_address, clears_cmderr}
+use Rattle.probe_run.specs.Opening.{clears_cmderr}
 
 -- ---- the calls that were Ok, and the one that was cut
 
@@ -151,7 +151,7 @@ command_cut_told word h bus y base w old_count new_count old new access_fault.St
     let at : AtSites (Put command_address word ∷ map poll_act f.words) st.far new.far = did_sites old _ new st.far f.did st.is in
     record { far = at.far; is = at.is; cut = sent (sent_polls word f.words h bus y base w st.kept (site_of st.far) (site_of at.far) st.stood at.acts_are) }
 command_cut_told word h bus y base w old_count new_count old new (access_fault.Run why) st f = tt
-command_cut_told word h bus y base w old_count new_count old new (access_fault.Odd last) st f = tt
+command_cut_told word h bus y base w old_count new_count old new (access_fault.Odd shown) st f = tt
 
 pub if_cut : (P Q : Type 0) (e : AccessFault) → (P → Q) → IfCut P e → IfCut Q e
 if_cut P Q (access_fault.Dmi why) f p = f p
@@ -159,7 +159,7 @@ if_cut P Q (access_fault.Memory at) f p = tt
 if_cut P Q (access_fault.Register number) f p = tt
 if_cut P Q access_fault.StillBusy f p = f p
 if_cut P Q (access_fault.Run why) f p = tt
-if_cut P Q (access_fault.Odd word) f p = tt
+if_cut P Q (access_fault.Odd shown) f p = tt
 
 -- where it holds whatever the fault
 pub cut_always : (P : Type 0) (e : AccessFault) → P → IfCut P e
@@ -168,7 +168,7 @@ cut_always P (access_fault.Memory at) p = tt
 cut_always P (access_fault.Register number) p = tt
 cut_always P access_fault.StillBusy p = p
 cut_always P (access_fault.Run why) p = tt
-cut_always P (access_fault.Odd word) p = tt
+cut_always P (access_fault.Odd shown) p = tt
 
 -- behind a fault of memory or of a register nothing was cut
 pub recovers_uncut : (P : Type 0) (e : AccessFault) → Recovers e → IfCut P e
@@ -177,4 +177,4 @@ recovers_uncut P (access_fault.Memory at) r = tt
 recovers_uncut P (access_fault.Register number) r = tt
 recovers_uncut P access_fault.StillBusy r = absurd r
 recovers_uncut P (access_fault.Run why) r = tt
-recovers_uncut P (access_fault.Odd word) r = tt
+recovers_uncut P (access_fault.Odd shown) r = tt

@@ -13,9 +13,10 @@ use Rattle.debug_model.specs.Dmi.{DmiScript}
 use Rattle.debug_model.specs.Module.{Site}
 use Rattle.debug_model.specs.Scan.{WhereTold}
 use Rattle.debug_model.specs.SystemBus.{BusUnit}
-use Rattle.debug_model.specs.Told.{Far, HartHalted, IsHalted, IsReady, MemoryReady, Selects, SiteReady, chip_of, site_of}
+use Rattle.rv_model.specs.Widths.{MemoryReady}
+use Rattle.debug_model.specs.Told.{Far, HartHalted, IsHalted, IsReady, Selects, SiteReady, chip_of, site_of}
 use Rattle.probe_run.specs.Acts.{Tells, tells}
-use Rattle.probe_run.proofs.WideMemory.{loaded_small}
+use Rattle.rv_model.proofs.WideMemory.{loaded_small}
 use Rattle.probe_access.specs.Accesses.{AccessLeft, IfMemory, LoadRefused, LoadedAt, unchanged}
 use Rattle.probe_access.specs.declared.fault.AccessFault.{AccessFault}
 use Rattle.probe_access.specs.declared.fault.AccessFault.TheVariants as access_fault
@@ -190,7 +191,7 @@ untold_err R address h new (access_fault.Memory at) p = record { left = p; servi
 untold_err R address h new (access_fault.Register number) p = record { left = refl; serving = tt }
 untold_err R address h new access_fault.StillBusy p = record { left = tt; serving = tt }
 untold_err R address h new (access_fault.Run why) p = absurd p
-untold_err R address h new (access_fault.Odd word) p = record { left = refl; serving = tt }
+untold_err R address h new (access_fault.Odd shown) p = record { left = refl; serving = tt }
 
 pub told_err : (R : Chip → Option Far → Type 0) (address h : ℕ) (f : Far) (new : Option Far) (e : AccessFault) → OnlyMemory address (R (chip_of f) new × Serving h new) e → AccessErr R address h (Some f) new e
 told_err R address h f new (access_fault.Dmi why) p = record { left = tt; serving = tt }
@@ -198,7 +199,7 @@ told_err R address h f new (access_fault.Memory at) p = record { left = (p.0, p.
 told_err R address h f new (access_fault.Register number) p = absurd p
 told_err R address h f new access_fault.StillBusy p = record { left = tt; serving = tt }
 told_err R address h f new (access_fault.Run why) p = absurd p
-told_err R address h f new (access_fault.Odd word) p = absurd p
+told_err R address h f new (access_fault.Odd shown) p = absurd p
 
 load_refused : (size : Size) (address h : ℕ) (f : Far) (ready : SiteReady (site_of f)) (halted : HartHalted h (site_of f).board) (new : Option Far) → Faulted (LoadFaults size address) h (site_of f).unit.bus halted.hart (site_of f) halted.hart new
     → LoadRefused size address (chip_of f) new × Serving h new

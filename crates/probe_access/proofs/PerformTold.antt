@@ -3,6 +3,7 @@ use Rattle.std.proofs.Common.{◌≡◌, ◌∙◌, ℕ, List, [], ◌∷◌, tr
 use Rattle.rv_model.specs.declared.cause.Cause.{Cause}
 use Rattle.rv_model.specs.Board.{Hart}
 use Rattle.rv_model.specs.Memory.{Memory}
+use Rattle.debug_model.specs.Addresses.{abstractcs_address, command_address}
 use Rattle.debug_model.specs.declared.cmderr.Cmderr.TheVariants.{Fine, Exception, HaltResume}
 use Rattle.debug_model.specs.declared.micro.Micro.{Micro}
 use Rattle.debug_model.specs.Commands.{is_held, refusal}
@@ -11,7 +12,7 @@ use Rattle.debug_model.specs.Dmi.{value_of}
 use Rattle.debug_model.specs.Module.{Site, after_write, result_of}
 use Rattle.debug_model.specs.SystemBus.{BusUnit}
 use Rattle.probe_access.specs.CommandRuns.{clearing, command_acts, error_shown, shows_busy}
-use Rattle.probe_access.specs.RegisterAccess.{command_address, program_command, program_word}
+use Rattle.probe_access.specs.RegisterAccess.{program_command, program_word}
 use Rattle.probe_access.proofs.AccessSteps.{Running, Stage, WordDid, program_of, running, stage_ran}
 use Rattle.probe_access.proofs.AccessSteps.Stage.{at_start, in_middle, at_end, at_fault}
 use Rattle.probe_access.proofs.Along.{SiteActs}
@@ -23,7 +24,6 @@ use Rattle.probe_access.proofs.Steps.{DoneAt}
 use Rattle.probe_access.proofs.TransferLemmas.{Commanded, Ended, command_starts, commanded, ended_at, shown_idle, with_command}
 use Rattle.probe_access.proofs.Turns.{stays_passed}
 use Rattle.probe_access.proofs.WordLemmas.{program_back}
-use Rattle.probe_run.specs.Opening.{abstractcs_address}
 
 -- ---- the start
 

@@ -5,6 +5,7 @@ use Rattle.std.proofs.lemmas.List.Elements.{All-push}
 use Rattle.std.specs.Result.{IsErrAnd}
 use Rattle.probe_access.specs.declared.fault.AccessFault.{AccessFault}
 use Rattle.probe_access.specs.declared.fault.AccessFault.TheVariants as access_fault
+use Rattle.debug_model.specs.Addresses.{abstractcs_address}
 use Rattle.debug_model.specs.declared.dmi.DmiFault.{DmiFault}
 use Rattle.debug_model.specs.declared.dmi_op.DmiOp.TheVariants.{Read}
 use Rattle.debug_model.specs.Dmi.{Answers, DmiCause, Operated, OperationCut}
@@ -18,7 +19,6 @@ use Rattle.probe_access.specs.CommandRuns.{AlwaysBusy, PollBegun, Polled, ShowsB
 use Rattle.probe_access.specs.CommandRuns.PollBegun.{polls}
 use Rattle.probe_access.specs.Faults.{BrokeIn}
 use Rattle.probe_run.proofs.ActLemmas.{broke_list, broke_one, broke_then, did_list, did_one, did_then}
-use Rattle.probe_run.specs.Opening.{abstractcs_address}
 
 -- so many polls showed a command under way
 pub record Waiting (n : ℕ) (old new : Tells) : Type 0 where

@@ -6,7 +6,8 @@ use Rattle.probe_run.proofs.Asking.{Unasked, hart_turned, unasked_kept}
 use Rattle.probe_run.proofs.Wide.{BoardWide, each_turns, wide_turns}
 use Rattle.debug_model.specs.Deeds.{turned, turned_by}
 use Rattle.debug_model.specs.Module.{Site}
-use Rattle.debug_model.specs.Told.{HartReady, MemoryReady}
+use Rattle.rv_model.specs.Widths.{MemoryReady}
+use Rattle.debug_model.specs.Told.{HartReady}
 use Rattle.abstract_debugger.specs.Turns.{after_turns, turns}
 use Rattle.probe_access.proofs.Aside.{passed}
 

@@ -7,6 +7,7 @@ use Rattle.debug_model.specs.Module.{DebugModule, Site}
 use Rattle.debug_model.specs.SystemBus.{BusUnit}
 use Rattle.debug_model.specs.Told.{Far, HartHalted, ModuleReady, SiteReady, site_of}
 use Rattle.abstract_debugger.specs.Turns.{after_turns}
+use Rattle.probe_access.specs.declared.odd.OddStatus.{OddStatus}
 use Rattle.probe_run.specs.Acts.{Did, Tells}
 use Rattle.probe_run.specs.Sites.{put_hart}
 use Rattle.probe_access.specs.CommandRuns.{RanCommand, error_shown}
@@ -184,7 +185,7 @@ odd_told_by : (write : Bool) (number last h : ℕ) (bus : BusUnit) (y : Hart) (b
 odd_told_by write number last h bus y base w k t (taken v held free error st) some other = some error
 odd_told_by write number last h bus y base w k t (denied none error st) some other = other error
 
-pub odd_told : (write : Bool) (number last h : ℕ) (bus : BusUnit) (y : Hart) (base : Site) (w : Hart) (old new : Tells) → number < 2 ^ 16 → StoodTold h bus y base w old.far → RanOddly (transfer_word write number) last old new → ⊥
-odd_told write number last h bus y base w old new small st r =
-    let c : CommandTold write number last h bus y base w st.kept new.far = command_told write number last h bus y base w old new small st r.ran in
-    odd_told_by write number last h bus y base w st.kept (site_of c.far) c.transfer r.some r.other
+pub odd_told : (write : Bool) (number : ℕ) (shown : OddStatus) (h : ℕ) (bus : BusUnit) (y : Hart) (base : Site) (w : Hart) (old new : Tells) → number < 2 ^ 16 → StoodTold h bus y base w old.far → RanOddly (transfer_word write number) shown old new → ⊥
+odd_told write number shown h bus y base w old new small st r =
+    let c : CommandTold write number r.last h bus y base w st.kept new.far = command_told write number r.last h bus y base w old new small st r.ran in
+    odd_told_by write number r.last h bus y base w st.kept (site_of c.far) c.transfer r.some r.other

@@ -9,7 +9,7 @@ use Rattle.probe_access.specs.declared.fault.AccessFault.{AccessFault}
 use Rattle.probe_access.specs.declared.fault.AccessFault.TheVariants as access_fault
 use Rattle.probe_run.specs.Acts.{Tells, tells}
 use Rattle.probe_access.specs.RegisterRuns.{ReadFailed, RegisterRead}
-use Rattle.probe_access.specs.Registers.{GotRegister, IfRegister, RegisterLeft}
+use Rattle.probe_access.specs.Registers.{RegisterReadAt, IfRegister, RegisterLeft}
 use Rattle.probe_access.proofs.Along.{did_untold}
 use Rattle.probe_access.proofs.Aside.{passed}
 use Rattle.probe_access.proofs.ReadyUnit.{kept_of, unit_of}
@@ -45,7 +45,7 @@ stood_serving h f ready halted told st =
 -- ---- a register that is read
 
 pub record RegOk (h number value : ℕ) (old new : Option Far) : Type 0 where
-  pub got : WhereTold (GotRegister h number value) old new
+  pub got : WhereTold (RegisterReadAt h number value) old new
   pub serving : Serving h new
 
 pub reg_ok : (h number value : ℕ) (far : Option Far) (script : Option DmiScript) (new : Tells) → number < 2 ^ 16 → IsReady far → Selects h far → IsHalted h far → RegisterRead number value (tells far script) new → RegOk h number value far new.far
@@ -96,9 +96,9 @@ reg_err h number (Some c) script old_count new_count new (access_fault.Register 
     reg_denied false h number asked c new ready halted (denied_told false number h (site_of c).unit.bus halted.hart (site_of c) halted.hart (tells (Some c) script) new small (first_told h c ready halted selects) f.ran)
 reg_err h number far script old_count new_count new access_fault.StillBusy small ready selects halted f = record { left = tt; serving = tt }
 reg_err h number far script old_count new_count new (access_fault.Run why) small ready selects halted f = absurd f
-reg_err h number None script old_count new_count new (access_fault.Odd word) small ready selects halted f = record { left = refl; serving = tt }
-reg_err h number (Some c) script old_count new_count new (access_fault.Odd word) small ready selects halted f =
-    absurd (odd_told false number word h (site_of c).unit.bus halted.hart (site_of c) halted.hart (tells (Some c) script) new small (first_told h c ready halted selects) f)
+reg_err h number None script old_count new_count new (access_fault.Odd shown) small ready selects halted f = record { left = refl; serving = tt }
+reg_err h number (Some c) script old_count new_count new (access_fault.Odd shown) small ready selects halted f =
+    absurd (odd_told false number shown h (site_of c).unit.bus halted.hart (site_of c) halted.hart (tells (Some c) script) new small (first_told h c ready halted selects) f)
 
 pub if_register : (P Q : Type 0) (e : AccessFault) → (P → Q) → IfRegister P e → IfRegister Q e
 if_register P Q (access_fault.Dmi why) f p = tt
@@ -106,4 +106,4 @@ if_register P Q (access_fault.Memory address) f p = tt
 if_register P Q (access_fault.Register asked) f p = f p
 if_register P Q access_fault.StillBusy f p = tt
 if_register P Q (access_fault.Run why) f p = tt
-if_register P Q (access_fault.Odd word) f p = tt
+if_register P Q (access_fault.Odd shown) f p = tt

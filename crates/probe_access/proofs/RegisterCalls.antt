@@ -2,6 +2,7 @@
 use Rattle.std.proofs.Common.{◌≡◌, ◌≢◌, ◌∙◌, ◌≤◌, ◌++◌, ℕ, List, [], ◌∷◌, map, Option, Result, Ok, Err, IfErr, refl, sym, ap, subst, append_assoc, append-nil, true, false, cond}
 use Rattle.std.specs.Result.{IsErrAnd}
 use Rattle.std.proofs.lemmas.Bool.{ne_eqb}
+use Rattle.debug_model.specs.Addresses.{abstractcs_address, command_address}
 use Rattle.debug_model.specs.declared.abstract_command.AbstractCommand.{AbstractCommand}
 use Rattle.debug_model.specs.declared.dmi.DmiFault.{DmiFault}
 use Rattle.debug_model.specs.ModuleWords.{command_word}
@@ -22,9 +23,9 @@ use Rattle.probe_access.specs.RegisterRuns.{DoubleReads, ReadFailed, WriteFailed
 use Rattle.probe_access.specs.RegisterRuns.ReadFailedAt.{in_command as read_in_command, in_words as read_in_words}
 use Rattle.probe_access.specs.RegisterRuns.WriteFailedAt.{in_command as written_in_command}
 use Rattle.probe_run.specs.Acts.Did.{nothing}
-use Rattle.probe_access.specs.RegisterAccess.{command_address, transfer_word}
+use Rattle.probe_access.specs.RegisterAccess.{transfer_word}
 use Rattle.probe_run.proofs.ActLemmas.{broke_list, broke_one, broke_then, did_list, did_one, did_then}
-use Rattle.probe_run.specs.Opening.{abstractcs_address, clears_cmderr}
+use Rattle.probe_run.specs.Opening.{clears_cmderr}
 
 -- ---- single calls
 
@@ -122,7 +123,7 @@ poll_failed word access_fault.StillBusy count mid_count new_count old mid new di
   all = b.all;
   did = did_then (Put command_address word ∷ []) old mid did (map poll_act b.words) new b.did;
 }
-poll_failed word (access_fault.Odd kept) count mid_count new_count old mid new did le later b = b
+poll_failed word (access_fault.Odd shown) count mid_count new_count old mid new did le later b = b
 
 pub put_then_polled : (word last : ℕ) (old mid new : Tells) → Did old (Put command_address word ∷ []) mid → (p : Polled last mid new) → Did old (Put command_address word ∷ (map poll_act p.words ++ poll_act last ∷ [])) new
 put_then_polled word last old mid new did p = did_then (Put command_address word ∷ []) old mid did (map poll_act p.words ++ poll_act last ∷ []) new p.did
@@ -144,7 +145,7 @@ read_command_failed number (access_fault.Memory address) old_count new_count old
 read_command_failed number (access_fault.Register asked) old_count new_count old new f = absurd f
 read_command_failed number (access_fault.Run why) old_count new_count old new f = absurd f
 read_command_failed number access_fault.StillBusy old_count new_count old new f = f
-read_command_failed number (access_fault.Odd kept) old_count new_count old new f = absurd f
+read_command_failed number (access_fault.Odd shown) old_count new_count old new f = absurd f
 
 pub read_words_failed : (number last : ℕ) (why : DmiFault) (count mid_count new_count : ℕ) (old mid new : Tells) → RanCommand (transfer_word false number) last old mid → error_shown last ≡ 0 → count ≤ mid_count → mid_count ≤ new_count
     → BrokeIn DoubleReads mid_count new_count mid new.far why → ReadFailed number count new_count old new (access_fault.Dmi why)
@@ -159,7 +160,7 @@ write_command_failed number value (access_fault.Memory address) count mid_count 
 write_command_failed number value (access_fault.Register asked) count mid_count new_count old mid new did le later f = absurd f
 write_command_failed number value (access_fault.Run why) count mid_count new_count old mid new did le later f = absurd f
 write_command_failed number value access_fault.StillBusy count mid_count new_count old mid new did le later f = record { mid = mid; words = did; then = f }
-write_command_failed number value (access_fault.Odd kept) count mid_count new_count old mid new did le later f = absurd f
+write_command_failed number value (access_fault.Odd shown) count mid_count new_count old mid new did le later f = absurd f
 
 -- of a command that is this one
 pub same_failed : (k l : AbstractCommand) (e : AccessFault) (old_count new_count : ℕ) (old new : Tells) → k ≡ l → CommandFailed (command_word k) old_count new_count old new e → CommandFailed (command_word l) old_count new_count old new e

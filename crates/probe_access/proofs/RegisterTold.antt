@@ -2,6 +2,7 @@
 use Rattle.std.proofs.Common.{◌≡◌, ◌∙◌, ◌++◌, ℕ, ◌<◌, ◌^◌, List, [], ◌∷◌, map, Bool, false, not, ◌&&◌, Some, None, is_some, refl, sym, ap, subst, append_assoc}
 use Rattle.rv_model.specs.Board.{Hart}
 use Rattle.rv_model.specs.DebugRegisters.{debug_value}
+use Rattle.debug_model.specs.Addresses.{data0_address, data1_address, abstractcs_address, command_address}
 use Rattle.debug_model.specs.declared.cmderr.Cmderr.TheVariants.{Exception}
 use Rattle.debug_model.specs.declared.dmi_op.DmiOp.TheVariants.{Read, Write}
 use Rattle.debug_model.specs.Commands.{high_half, low_half}
@@ -12,13 +13,13 @@ use Rattle.probe_run.specs.Acts.Act.{Got, Put}
 use Rattle.probe_access.specs.CommandRuns.{clearing, command_acts, error_shown, poll_act, shows_busy}
 use Rattle.probe_access.specs.RegisterRuns.{double_written}
 use Rattle.probe_access.proofs.Aside.{Frozen, aside, passed}
-use Rattle.probe_access.specs.RegisterAccess.{command_address, data0_address, data1_address, transfer_command, transfer_word}
+use Rattle.probe_access.specs.RegisterAccess.{transfer_command, transfer_word}
 use Rattle.probe_access.proofs.Along.{ReadAt, SiteActs, Split, site_acts-split}
 use Rattle.probe_access.proofs.ReadyUnit.{Held, Kept, OpAt, op_at, op_done, unit_of, unit_with}
 use Rattle.probe_access.proofs.Steps.{DoneAt}
 use Rattle.probe_access.proofs.TransferLemmas.{Commanded, TransferEnd, behind_frozen, commanded, hart_behind, refusing, transfer_ends, with_command, words_behind}
 use Rattle.probe_access.proofs.TransferLemmas.TransferEnd.{took, refused}
-use Rattle.probe_run.specs.Opening.{abstractcs_address, clears_cmderr}
+use Rattle.probe_run.specs.Opening.{clears_cmderr}
 
 -- ---- a site that serves, with hart h aside as y since a base at which it was w
 

@@ -80,7 +80,7 @@ clean_left f (access_fault.Memory at) c = c
 clean_left f (access_fault.Register number) c = absurd c
 clean_left f access_fault.StillBusy c = tt
 clean_left f (access_fault.Run why) c = c
-clean_left f (access_fault.Odd word) c = absurd c
+clean_left f (access_fault.Odd shown) c = absurd c
 
 pub plain_left : (e : AccessFault) → PlainMemory 0 ⊥ e → ScratchLeft None e
 plain_left (access_fault.Dmi why) p = tt
@@ -88,7 +88,7 @@ plain_left (access_fault.Memory at) p = p.1
 plain_left (access_fault.Register number) p = refl
 plain_left access_fault.StillBusy p = tt
 plain_left (access_fault.Run why) p = p
-plain_left (access_fault.Odd word) p = refl
+plain_left (access_fault.Odd shown) p = refl
 
 pub save_err : (h : ℕ) (far : Option Far) (script : Option DmiScript) (old_count new_count : ℕ) (new : Tells) (e : AccessFault) → IsReady far → Selects h far → IsHalted h far → SaveFailed old_count new_count (tells far script) new e → ScratchLeft far e
 save_err h None script old_count new_count new e ready selects halted f = plain_left e (save_plain 0 ⊥ old_count new_count (tells None script) new e f)

@@ -17,7 +17,7 @@ use Rattle.probe_access.specs.declared.fault.AccessFault.TheVariants as access_f
 use Rattle.probe_run.specs.Acts.{Tells, tells}
 use Rattle.probe_run.specs.Sites.{put_hart}
 use Rattle.probe_access.specs.RegisterRuns.{RegisterWritten, WriteFailed}
-use Rattle.probe_access.specs.Registers.{SetRegister}
+use Rattle.probe_access.specs.Registers.{RegisterWrittenAt}
 use Rattle.probe_access.proofs.AccessEnd.{ready_before, written_untold}
 use Rattle.probe_access.proofs.Along.{did_untold}
 use Rattle.probe_access.proofs.Aside.{passed}
@@ -67,7 +67,7 @@ still_halted x number v is = let k : WriteKeeps x (debug_written x number v) = w
 -- ---- a register that is written
 
 pub record SetOk (h number value : ℕ) (old new : Option Far) : Type 0 where
-  pub set_to : WhereTold (SetRegister h number value) old new
+  pub set_to : WhereTold (RegisterWrittenAt h number value) old new
   pub serving : Serving h new
 
 pub set_ok : (h number value : ℕ) (far : Option Far) (script : Option DmiScript) (new : Tells) → number < 2 ^ 16 → value < 2 ^ 64 → IsReady far → Selects h far → IsHalted h far → RegisterWritten number value (tells far script) new
@@ -102,7 +102,7 @@ set_err h number value (Some c) script old_count new_count new (access_fault.Reg
     (double_told value h (site_of c).unit.bus halted.hart (site_of c) halted.hart (tells (Some c) script) f.mid (first_told h c ready halted selects) f.words) f.then.ran)
 set_err h number value far script old_count new_count new access_fault.StillBusy small ready selects halted f = record { left = tt; serving = tt }
 set_err h number value far script old_count new_count new (access_fault.Run why) small ready selects halted f = absurd f
-set_err h number value None script old_count new_count new (access_fault.Odd word) small ready selects halted f = record { left = refl; serving = tt }
-set_err h number value (Some c) script old_count new_count new (access_fault.Odd word) small ready selects halted f =
-    absurd (odd_told true number word h (site_of c).unit.bus halted.hart (site_of c) halted.hart f.mid new small
+set_err h number value None script old_count new_count new (access_fault.Odd shown) small ready selects halted f = record { left = refl; serving = tt }
+set_err h number value (Some c) script old_count new_count new (access_fault.Odd shown) small ready selects halted f =
+    absurd (odd_told true number shown h (site_of c).unit.bus halted.hart (site_of c) halted.hart f.mid new small
     (double_told value h (site_of c).unit.bus halted.hart (site_of c) halted.hart (tells (Some c) script) f.mid (first_told h c ready halted selects) f.words) f.then)

@@ -4,6 +4,7 @@ use Rattle.std.proofs.lemmas.Option.{none-some}
 use Rattle.rv_model.specs.Board.{Hart}
 use Rattle.rv_model.specs.DebugRegisters.{dcsr_number, debug_refuses, debug_value}
 use Rattle.rv_model.specs.Registers.{csr_read_only, csr_value}
+use Rattle.debug_model.specs.Addresses.{dmcontrol_address, dmstatus_address}
 use Rattle.debug_model.specs.declared.dmi.DmiFault.{DmiFault}
 use Rattle.debug_model.specs.declared.dmi_op.DmiOp.TheVariants.{Read, Write}
 use Rattle.debug_model.specs.declared.point.Point.TheVariants.{ResumeReq}
@@ -25,7 +26,7 @@ use Rattle.probe_run.specs.Happens.{Leaves, MissedAt, StepLeft as RunLeft, Steps
 use Rattle.probe_run.specs.Looks.{look_act}
 use Rattle.probe_run.specs.Outcomes.{RunBroke, StepFails, asks}
 use Rattle.probe_run.specs.Outcomes.RunBroke.{at_request, at_look}
-use Rattle.probe_run.specs.Requests.{control_word, dmcontrol_address, dmstatus_address}
+use Rattle.probe_run.specs.Requests.{control_word}
 use Rattle.probe_run.proofs.ActLemmas.{broke_then}
 use Rattle.probe_access.specs.Registers.{reaches}
 use Rattle.probe_access.specs.Scratches.{ScratchLeft}
@@ -116,7 +117,7 @@ flag_left h old mid new (access_fault.Memory at) back p = p
 flag_left h old mid new (access_fault.Register number) back p = back p
 flag_left h old mid new access_fault.StillBusy back p = tt
 flag_left h old mid new (access_fault.Run why) back p = absurd p
-flag_left h old mid new (access_fault.Odd word) back p = back p
+flag_left h old mid new (access_fault.Odd shown) back p = back p
 
 missed_told : (h : ℕ) (last : Sight) (a b c : Option Far) → WhereTold (FlaggedAt true h) a b → WhereTold (Leaves (MissedAt (ResumeReq h) sees_both h last) h) b c → WhereTold (StepMissedAt h last) a c
 missed_told h last None b c sets missed = subst (λ (m : Option Far). WhereTold (Leaves (MissedAt (ResumeReq h) sees_both h last) h) m c) sets missed

@@ -14,7 +14,7 @@ use Rattle.debug_model.specs.Scan.{WhereTold}
 use Rattle.debug_model.specs.SystemBus.{BusUnit}
 use Rattle.debug_model.specs.Told.{Far, HartHalted, IsHalted, IsReady, Selects, SiteReady, chip_of, site_of}
 use Rattle.probe_run.specs.Acts.{Tells, tells}
-use Rattle.probe_run.proofs.WideMemory.{stored_ready}
+use Rattle.rv_model.proofs.WideMemory.{stored_ready}
 use Rattle.probe_access.specs.Accesses.{StoreRefused, StoredAt, unchanged}
 use Rattle.probe_access.specs.declared.fault.AccessFault.{AccessFault}
 use Rattle.probe_access.specs.MemoryRuns.{Around, AroundFailed, Performed, StoreFailedInside, StoredInside}

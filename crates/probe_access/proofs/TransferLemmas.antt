@@ -5,6 +5,7 @@ use Rattle.rv_model.specs.Board.{Hart}
 use Rattle.rv_model.specs.DebugLaws.{WriteKeeps}
 use Rattle.rv_model.specs.DebugRegisters.{debug_value, debug_refuses, debug_written}
 use Rattle.rv_model.proofs.DebugLemmas.{writes_keep}
+use Rattle.debug_model.specs.Addresses.{abstractcs_address, command_address}
 use Rattle.debug_model.specs.declared.abstract_command.AbstractCommand.{AbstractCommand}
 use Rattle.debug_model.specs.declared.cmderr.Cmderr.{Cmderr}
 use Rattle.debug_model.specs.declared.cmderr.Cmderr.TheVariants.{Fine, Exception, HaltResume}
@@ -20,7 +21,7 @@ use Rattle.debug_model.specs.ModuleWords.{abstractcs_of, abstractcs_word, cmderr
 use Rattle.debug_model.specs.SystemBus.{BusUnit}
 use Rattle.probe_run.specs.Acts.Act.{Got, Put}
 use Rattle.probe_access.proofs.Aside.{Frozen, HartAt, aside, passed, with_unit}
-use Rattle.probe_access.specs.RegisterAccess.{command_address, transfer_command, transfer_word}
+use Rattle.probe_access.specs.RegisterAccess.{transfer_command, transfer_word}
 use Rattle.probe_access.proofs.Along.{SiteActs, Split, site_acts-split}
 use Rattle.chip_laws.proofs.PathLemmas.{ran-append}
 use Rattle.probe_access.proofs.Quiet.{active_ran}
@@ -29,7 +30,6 @@ use Rattle.probe_access.proofs.Steps.{Between, Course, Does, DoneAt, between_don
 use Rattle.probe_access.proofs.Steps.Between.{still}
 use Rattle.probe_access.proofs.Turns.{hart_aside, stays_passed}
 use Rattle.probe_access.proofs.WordLemmas.{busy_shown, cmderr_shown, status_small, transfer_back}
-use Rattle.probe_run.specs.Opening.{abstractcs_address}
 
 -- ---- polls
 

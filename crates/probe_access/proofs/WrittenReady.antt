@@ -10,9 +10,9 @@ use Rattle.rv_model.specs.Registers.{csr_written, is_x_number, pc_number, reg_wr
 use Rattle.rv_model.specs.TriggerWords.{TriggerPart, trigger_csr_written, triggers_of}
 use Rattle.rv_model.proofs.DebugLemmas.{writes_keep}
 use Rattle.debug_model.specs.Told.{HartReady}
-use Rattle.probe_run.proofs.WideCore.{CoreWide, csr_written_wide, with_x_wide}
-use Rattle.probe_run.proofs.WideHart.{core_wide, registers_wide}
-use Rattle.probe_run.proofs.WideWords.{IsWide}
+use Rattle.rv_model.proofs.WideCore.{CoreWide, csr_written_wide, with_x_wide}
+use Rattle.rv_model.proofs.WideHart.{core_wide, registers_wide}
+use Rattle.rv_model.proofs.WideWords.{IsWide}
 
 -- ---- its core
 

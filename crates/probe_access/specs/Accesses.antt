@@ -34,7 +34,8 @@ pub record OneBusAccess (m : Memory → Memory) (before behind : List ℕ) (s t 
   pub unit : t.unit ≡ record s.unit { bus = t.unit.bus }
 
 -- what was loaded is what memory held at the access, made in this way
-pub record LoadedBy (A : (Memory → Memory) → List ℕ → List ℕ → Site → Site → Type 0) (size : Size) (address value : ℕ) (c : Chip) (new : Option Far) : Type 0 where
+pub record LoadedBy (A : (Memory → Memory) → List ℕ → List ℕ → Site → Site → Type 0) (size : Size) (address value : ℕ) (c : Chip)
+    (new : Option Far) : Type 0 where
   pub far : Far
   pub is : new ≡ Some far
   pub before : List ℕ
@@ -43,7 +44,8 @@ pub record LoadedBy (A : (Memory → Memory) → List ℕ → List ℕ → Site 
   pub access : A unchanged before behind (site_before c) (site_of far)
 
 -- memory took the value
-pub record StoredBy (A : (Memory → Memory) → List ℕ → List ℕ → Site → Site → Type 0) (size : Size) (address value : ℕ) (c : Chip) (new : Option Far) : Type 0 where
+pub record StoredBy (A : (Memory → Memory) → List ℕ → List ℕ → Site → Site → Type 0) (size : Size) (address value : ℕ) (c : Chip)
+    (new : Option Far) : Type 0 where
   pub far : Far
   pub is : new ≡ Some far
   pub before : List ℕ
@@ -53,7 +55,8 @@ pub record StoredBy (A : (Memory → Memory) → List ℕ → List ℕ → Site 
   pub access : A (λ m. after_store m address size value) before behind (site_before c) (site_of far)
 
 -- it refused the access
-pub record LoadRefusedBy (A : (Memory → Memory) → List ℕ → List ℕ → Site → Site → Type 0) (size : Size) (address : ℕ) (c : Chip) (new : Option Far) : Type 0 where
+pub record LoadRefusedBy (A : (Memory → Memory) → List ℕ → List ℕ → Site → Site → Type 0) (size : Size) (address : ℕ) (c : Chip)
+    (new : Option Far) : Type 0 where
   pub far : Far
   pub is : new ≡ Some far
   pub before : List ℕ
@@ -62,7 +65,8 @@ pub record LoadRefusedBy (A : (Memory → Memory) → List ℕ → List ℕ → 
   pub refused : loaded (after_turns before (site_before c).board).memory address size ≡ Err why
   pub access : A unchanged before behind (site_before c) (site_of far)
 
-pub record StoreRefusedBy (A : (Memory → Memory) → List ℕ → List ℕ → Site → Site → Type 0) (size : Size) (address : ℕ) (c : Chip) (new : Option Far) : Type 0 where
+pub record StoreRefusedBy (A : (Memory → Memory) → List ℕ → List ℕ → Site → Site → Type 0) (size : Size) (address : ℕ) (c : Chip)
+    (new : Option Far) : Type 0 where
   pub far : Far
   pub is : new ≡ Some far
   pub before : List ℕ
@@ -106,7 +110,7 @@ AccessLeft R address old new (fault.Memory at) = (at ≡ address) × WhereTold R
 AccessLeft R address old new (fault.Register number) = old ≡ None
 AccessLeft R address old new fault.StillBusy = Unit {0}
 AccessLeft R address old new (fault.Run why) = ⊥
-AccessLeft R address old new (fault.Odd word) = old ≡ None
+AccessLeft R address old new (fault.Odd shown) = old ≡ None
 
 -- a fact that holds behind a fault of memory
 abbrev pub IfMemory : Type 0 → AccessFault → Type 0
@@ -115,4 +119,4 @@ IfMemory P (fault.Memory at) = P
 IfMemory P (fault.Register number) = Unit {0}
 IfMemory P fault.StillBusy = Unit {0}
 IfMemory P (fault.Run why) = Unit {0}
-IfMemory P (fault.Odd word) = Unit {0}
+IfMemory P (fault.Odd shown) = Unit {0}

@@ -1,13 +1,16 @@
 -- The calls of a block of accesses, as far as they don't depend on how the accesses are made: where its values were read, and what a fault follows.
 -- RISC-V Debug Specification 1.0, "Abstract Control and Status" and "Abstract Data 0".
+use Rattle.debug_model.specs.Addresses.{data0_address, data1_address, command_address}
 use Rattle.std.specs.Prelude.{◌≡◌, ◌≢◌, ◌++◌, ◌∷◌, ℕ, List, [], map, Bool, false}
 use Rattle.probe_access.specs.declared.fault.AccessFault.{AccessFault}
 use Rattle.probe_access.specs.declared.fault.AccessFault.TheVariants as fault
+use Rattle.probe_access.specs.declared.odd.OddStatus.{OddStatus}
+use Rattle.probe_access.specs.declared.odd.OddStatus.TheVariants.{Abstractcs}
 use Rattle.probe_run.specs.Acts.{Act, Attempt, Broke, Did, Tells}
 use Rattle.probe_run.specs.Acts.Act.{Got, Put}
 use Rattle.probe_access.specs.CommandRuns.{AlwaysBusy, error_shown, poll_act, shows_busy}
 use Rattle.probe_access.specs.RegisterRuns.{exception_error, no_error}
-use Rattle.probe_access.specs.RegisterAccess.{command_address, data0_address, data1_address, joined, transfer_word}
+use Rattle.probe_access.specs.RegisterAccess.{joined, transfer_word}
 
 -- ---- what was read
 
@@ -19,7 +22,8 @@ pub data WordsRead (low high : ℕ) : List Act → Type 0 where
 -- each value was read from the data words, behind a poll that showed neither a command under way nor an error
 pub data Fetches : List ℕ → List Act → Type 0 where
   nothing : (acts : List Act) → Fetches [] acts
-  further : (values : List ℕ) (front rest words : List Act) (last low high : ℕ) → Fetches values front → shows_busy last ≡ false → error_shown last ≡ no_error → WordsRead low high words
+  further : (values : List ℕ) (front rest words : List Act) (last low high : ℕ) → Fetches values front → shows_busy last ≡ false
+      → error_shown last ≡ no_error → WordsRead low high words
       → Fetches (values ++ joined low high ∷ []) (front ++ poll_act last ∷ (words ++ rest))
 
 pub record Fetched (values : List ℕ) (old new : Tells) : Type 0 where
@@ -50,7 +54,9 @@ pub record Denied (number : ℕ) (old new : Tells) : Type 0 where
   pub did : Did old (front ++ Put command_address (transfer_word write number) ∷ (map poll_act words ++ poll_act last ∷ rest)) new
 
 -- the end of a command was shown with an error that is neither
-pub record ReportedOddly (word : ℕ) (old new : Tells) : Type 0 where
+pub record ReportedOddly (shown : OddStatus) (old new : Tells) : Type 0 where
+  pub word : ℕ
+  pub is : shown ≡ Abstractcs word
   pub front : List Act
   pub rest : List Act
   pub idle : shows_busy word ≡ false
@@ -70,4 +76,4 @@ Causes old_count new_count old new (fault.Memory address) = Reported exception_e
 Causes old_count new_count old new (fault.Register number) = Denied number old new
 Causes old_count new_count old new fault.StillBusy = StaysBusy old new
 Causes old_count new_count old new (fault.Run why) = ⊥
-Causes old_count new_count old new (fault.Odd word) = ReportedOddly word old new
+Causes old_count new_count old new (fault.Odd shown) = ReportedOddly shown old new

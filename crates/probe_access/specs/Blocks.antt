@@ -55,12 +55,14 @@ pub record NotStoredOne (size : Size) (address : ℕ) (s t : Site) : Type 0 wher
 -- elements from an address on held these values, each at its own access
 pub data LoadedEach (size : Size) (address : ℕ) (s : Site) : List ℕ → Site → Type 0 where
   nothing : LoadedEach size address s [] s
-  further : (values : List ℕ) (value : ℕ) (m t : Site) → LoadedEach size address s values m → LoadedOne size (element_at size address (length values)) value m t → LoadedEach size address s (values ++ value ∷ []) t
+  further : (values : List ℕ) (value : ℕ) (m t : Site) → LoadedEach size address s values m
+      → LoadedOne size (element_at size address (length values)) value m t → LoadedEach size address s (values ++ value ∷ []) t
 
 -- the value was stored so many times from an address on
 pub data StoredEach (size : Size) (address value : ℕ) (s : Site) : ℕ → Site → Type 0 where
   nothing : StoredEach size address value s 0 s
-  further : (n : ℕ) (m t : Site) → StoredEach size address value s n m → StoredOne size (element_at size address n) value m t → StoredEach size address value s (n + 1) t
+  further : (n : ℕ) (m t : Site) → StoredEach size address value s n m → StoredOne size (element_at size address n) value m t
+      → StoredEach size address value s (n + 1) t
 
 -- ---- at the chip
 
@@ -93,16 +95,18 @@ pub record BlockStoreRefused (size : Size) (address value done : ℕ) (c : Chip)
 
 abbrev pub BlockLoadLeft : Size → ℕ → ℕ → List ℕ → Option Far → Option Far → AccessFault → Type 0
 BlockLoadLeft size address count values old new (fault.Dmi why) = Unit {0}
-BlockLoadLeft size address count values old new (fault.Memory at) = (length values < count) × (at ≡ element_at size address (length values)) × WhereTold (BlockLoadRefused size address values) old new
+BlockLoadLeft size address count values old new (fault.Memory at) = (length values < count) × (at ≡ element_at size address (length values))
+    × WhereTold (BlockLoadRefused size address values) old new
 BlockLoadLeft size address count values old new (fault.Register number) = old ≡ None
 BlockLoadLeft size address count values old new fault.StillBusy = Unit {0}
 BlockLoadLeft size address count values old new (fault.Run why) = ⊥
-BlockLoadLeft size address count values old new (fault.Odd word) = old ≡ None
+BlockLoadLeft size address count values old new (fault.Odd shown) = old ≡ None
 
 abbrev pub BlockStoreLeft : Size → ℕ → ℕ → ℕ → Option Far → Option Far → AccessFault → Type 0
 BlockStoreLeft size address count value old new (fault.Dmi why) = Unit {0}
-BlockStoreLeft size address count value old new (fault.Memory at) = (done : ℕ) × (done < count) × (at ≡ element_at size address done) × WhereTold (BlockStoreRefused size address value done) old new
+BlockStoreLeft size address count value old new (fault.Memory at) = (done : ℕ) × (done < count) × (at ≡ element_at size address done)
+    × WhereTold (BlockStoreRefused size address value done) old new
 BlockStoreLeft size address count value old new (fault.Register number) = old ≡ None
 BlockStoreLeft size address count value old new fault.StillBusy = Unit {0}
 BlockStoreLeft size address count value old new (fault.Run why) = ⊥
-BlockStoreLeft size address count value old new (fault.Odd word) = old ≡ None
+BlockStoreLeft size address count value old new (fault.Odd shown) = old ≡ None

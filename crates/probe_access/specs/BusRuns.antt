@@ -4,33 +4,24 @@ use Rattle.std.specs.Prelude.{◌≡◌, ◌≢◌, ◌⊎◌, ◌<◌, ◌++◌
 use Rattle.rv_model.specs.declared.size.Size.{Size}
 use Rattle.rv_model.specs.declared.size.Size.TheVariants.{B1, B2, B4, B8}
 use Rattle.rv_model.specs.Size.{count_of}
+use Rattle.debug_model.specs.Addresses.{sbcs_address, sbaddress0_address, sbaddress1_address, sbdata0_address, sbdata1_address}
 use Rattle.debug_model.specs.declared.dmi.DmiFault.{DmiFault}
 use Rattle.debug_model.specs.declared.dmi_op.DmiOp.TheVariants.{Read, Write}
 use Rattle.debug_model.specs.Commands.{high_half, low_half}
 use Rattle.debug_model.specs.ModuleWords.{sbcs_of, sbcs_word}
 use Rattle.probe_access.specs.declared.fault.AccessFault.{AccessFault}
 use Rattle.probe_access.specs.declared.fault.AccessFault.TheVariants as fault
+use Rattle.probe_access.specs.declared.odd.OddStatus.{OddStatus}
+use Rattle.probe_access.specs.declared.odd.OddStatus.TheVariants.{Sbcs}
 use Rattle.probe_run.specs.Acts.{Act, Attempt, Did, Tells}
 use Rattle.probe_run.specs.Acts.Act.{Got, Put}
 use Rattle.probe_run.specs.Acts.Attempt.{Operation}
-use Rattle.probe_run.specs.Opening.{clears_sberror, sbcs_address}
+use Rattle.probe_run.specs.Opening.{clears_sberror}
 use Rattle.probe_access.specs.CommandRuns.{polls_most}
 use Rattle.probe_access.specs.Faults.{BrokeIn}
 use Rattle.probe_access.specs.RegisterAccess.{joined}
 
 -- ---- the registers
-
-abbrev pub sbaddress0_address : ℕ
-sbaddress0_address = 0x39
-
-abbrev pub sbaddress1_address : ℕ
-sbaddress1_address = 0x3a
-
-abbrev pub sbdata0_address : ℕ
-sbdata0_address = 0x3c
-
-abbrev pub sbdata1_address : ℕ
-sbdata1_address = 0x3d
 
 -- sbaccess for accesses of so many bytes
 abbrev pub access_number : Size → ℕ
@@ -131,7 +122,9 @@ pub record BusRefused (old new : Tells) : Type 0 where
   pub cleared : Did mid (Put sbcs_address clears_sberror ∷ []) new
 
 -- it ended with another error
-pub record BusOddly (last : ℕ) (old new : Tells) : Type 0 where
+pub record BusOddly (shown : OddStatus) (old new : Tells) : Type 0 where
+  pub last : ℕ
+  pub is : shown ≡ Sbcs last
   pub polled : BusPolled last old new
   pub other : bus_error last ≢ outside_error
   pub some : (bus_error last ≢ 0) ⊎ (bus_collided last ≡ true)
@@ -145,11 +138,12 @@ BusPollFailed old_count new_count old new (fault.Memory address) = ⊥
 BusPollFailed old_count new_count old new (fault.Register number) = ⊥
 BusPollFailed old_count new_count old new fault.StillBusy = BusAlwaysBusy old new
 BusPollFailed old_count new_count old new (fault.Run why) = ⊥
-BusPollFailed old_count new_count old new (fault.Odd word) = ⊥
+BusPollFailed old_count new_count old new (fault.Odd shown) = ⊥
 
 pub data BusEnding (old_count new_count : ℕ) (old new : Tells) (why : DmiFault) : Type 0 where
   at_poll : BrokeIn BusPollBegun old_count new_count old new.far why → BusEnding old_count new_count old new why
-  at_clear : (last : ℕ) (mid : Tells) → BusPolled last old mid → bus_error last ≡ outside_error → BrokeIn (Starting (Put sbcs_address clears_sberror ∷ [])) old_count new_count mid new.far why → BusEnding old_count new_count old new why
+  at_clear : (last : ℕ) (mid : Tells) → BusPolled last old mid → bus_error last ≡ outside_error
+      → BrokeIn (Starting (Put sbcs_address clears_sberror ∷ [])) old_count new_count mid new.far why → BusEnding old_count new_count old new why
 
 abbrev pub BusEndFailed : ℕ → ℕ → ℕ → Tells → Tells → AccessFault → Type 0
 BusEndFailed address old_count new_count old new (fault.Dmi why) = BusEnding old_count new_count old new why
@@ -157,7 +151,7 @@ BusEndFailed address old_count new_count old new (fault.Memory at) = (at ≡ add
 BusEndFailed address old_count new_count old new (fault.Register number) = ⊥
 BusEndFailed address old_count new_count old new fault.StillBusy = BusAlwaysBusy old new
 BusEndFailed address old_count new_count old new (fault.Run why) = ⊥
-BusEndFailed address old_count new_count old new (fault.Odd word) = BusOddly word old new
+BusEndFailed address old_count new_count old new (fault.Odd shown) = BusOddly shown old new
 
 -- ---- what was read
 
@@ -185,9 +179,12 @@ pub record BusLoaded (size : Size) (address value : ℕ) (old new : Tells) : Typ
   pub fetched : BusFetched size value ended new
 
 pub data BusLoadFailed (size : Size) (address old_count new_count : ℕ) (old new : Tells) (e : AccessFault) : Type 0 where
-  in_start : (why : DmiFault) → e ≡ fault.Dmi why → BrokeIn (Starting (read_started size address)) old_count new_count old new.far why → BusLoadFailed size address old_count new_count old new e
-  in_end : (started : Tells) → Did old (read_started size address) started → BusEndFailed address old_count new_count started new e → BusLoadFailed size address old_count new_count old new e
-  in_fetch : (started ended : Tells) → Did old (read_started size address) started → BusEnded started ended → (why : DmiFault) → e ≡ fault.Dmi why → BrokeIn BusFetching old_count new_count ended new.far why
+  in_start : (why : DmiFault) → e ≡ fault.Dmi why → BrokeIn (Starting (read_started size address)) old_count new_count old new.far why
+      → BusLoadFailed size address old_count new_count old new e
+  in_end : (started : Tells) → Did old (read_started size address) started → BusEndFailed address old_count new_count started new e
+      → BusLoadFailed size address old_count new_count old new e
+  in_fetch : (started ended : Tells) → Did old (read_started size address) started → BusEnded started ended → (why : DmiFault) → e ≡ fault.Dmi why
+      → BrokeIn BusFetching old_count new_count ended new.far why
       → BusLoadFailed size address old_count new_count old new e
 
 pub record BusStored (size : Size) (address value : ℕ) (old new : Tells) : Type 0 where
@@ -196,5 +193,7 @@ pub record BusStored (size : Size) (address value : ℕ) (old new : Tells) : Typ
   pub ends : BusEnded started new
 
 pub data BusStoreFailed (size : Size) (address value old_count new_count : ℕ) (old new : Tells) (e : AccessFault) : Type 0 where
-  in_start : (why : DmiFault) → e ≡ fault.Dmi why → BrokeIn (Starting (write_started size address value)) old_count new_count old new.far why → BusStoreFailed size address value old_count new_count old new e
-  in_end : (started : Tells) → Did old (write_started size address value) started → BusEndFailed address old_count new_count started new e → BusStoreFailed size address value old_count new_count old new e
+  in_start : (why : DmiFault) → e ≡ fault.Dmi why → BrokeIn (Starting (write_started size address value)) old_count new_count old new.far why
+      → BusStoreFailed size address value old_count new_count old new e
+  in_end : (started : Tells) → Did old (write_started size address value) started → BusEndFailed address old_count new_count started new e
+      → BusStoreFailed size address value old_count new_count old new e

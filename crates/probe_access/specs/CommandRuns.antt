@@ -1,6 +1,7 @@
 -- The calls of one abstract command: it is written, its end is polled for, and an error is cleared.
 -- RISC-V Debug Specification 1.0, "Abstract Commands" and "Abstract Control and Status". That 64 polls are too many is this project's own choice.
 use Rattle.std.specs.Prelude.{◌≡◌, ◌≢◌, ◌<◌, ◌++◌, ◌==◌, ℕ, List, [], ◌∷◌, length, map, All, Bool, true, false, if◌then◌else◌}
+use Rattle.debug_model.specs.Addresses.{abstractcs_address, command_address}
 use Rattle.debug_model.specs.declared.dmi_op.DmiOp.TheVariants.{Read, Write}
 use Rattle.debug_model.specs.ModuleWords.{abstractcs_of}
 use Rattle.probe_access.specs.declared.fault.AccessFault.{AccessFault}
@@ -9,8 +10,7 @@ use Rattle.probe_run.specs.Acts.{Act, Attempt, Did, Tells}
 use Rattle.probe_run.specs.Acts.Act.{Got, Put}
 use Rattle.probe_run.specs.Acts.Attempt.{Operation}
 use Rattle.probe_access.specs.Faults.{BrokeIn}
-use Rattle.probe_access.specs.RegisterAccess.{command_address}
-use Rattle.probe_run.specs.Opening.{abstractcs_address, clears_cmderr}
+use Rattle.probe_run.specs.Opening.{clears_cmderr}
 
 abbrev pub polls_most : ℕ
 polls_most = 64
@@ -57,7 +57,7 @@ PollFailed old_count new_count old new (fault.Memory address) = ⊥
 PollFailed old_count new_count old new (fault.Register number) = ⊥
 PollFailed old_count new_count old new (fault.Run why) = ⊥
 PollFailed old_count new_count old new fault.StillBusy = AlwaysBusy [] old new
-PollFailed old_count new_count old new (fault.Odd word) = ⊥
+PollFailed old_count new_count old new (fault.Odd shown) = ⊥
 
 -- ---- the command
 
@@ -87,4 +87,4 @@ CommandFailed word old_count new_count old new (fault.Memory address) = ⊥
 CommandFailed word old_count new_count old new (fault.Register number) = ⊥
 CommandFailed word old_count new_count old new (fault.Run why) = ⊥
 CommandFailed word old_count new_count old new fault.StillBusy = AlwaysBusy (Put command_address word ∷ []) old new
-CommandFailed word old_count new_count old new (fault.Odd kept) = ⊥
+CommandFailed word old_count new_count old new (fault.Odd shown) = ⊥

@@ -120,4 +120,4 @@ IfCut P (fault.Memory at) = Unit {0}
 IfCut P (fault.Register number) = Unit {0}
 IfCut P fault.StillBusy = P
 IfCut P (fault.Run why) = Unit {0}
-IfCut P (fault.Odd word) = Unit {0}
+IfCut P (fault.Odd shown) = Unit {0}

@@ -15,7 +15,7 @@ access_why (fault.Memory address) = None
 access_why (fault.Register number) = None
 access_why fault.StillBusy = None
 access_why (fault.Run why) = run_why why
-access_why (fault.Odd word) = None
+access_why (fault.Odd shown) = None
 
 -- behind some calls that were Ok one failed, at such a place
 pub record BrokeIn (Begun : List Act → Attempt → Type 0) (old_count new_count : ℕ) (old : Tells) (told : Option Far) (why : DmiFault) : Type 0 where

@@ -1,18 +1,20 @@
 -- The calls of an access to memory: x8 and x9 are saved, an instruction is executed from the program buffer, and both are put back.
 -- RISC-V Debug Specification 1.0, "Program Buffer" and "Debugger Implementation", "Reading Memory".
 use Rattle.std.specs.Prelude.{◌≡◌, ◌∷◌, ℕ, List, []}
+use Rattle.debug_model.specs.Addresses.{progbuf0_address, progbuf1_address}
 use Rattle.debug_model.specs.declared.dmi.DmiFault.{DmiFault}
 use Rattle.debug_model.specs.declared.dmi_op.DmiOp.TheVariants.{Write}
 use Rattle.rv_model.specs.declared.size.Size.{Size}
 use Rattle.probe_access.specs.declared.fault.AccessFault.{AccessFault}
 use Rattle.probe_access.specs.declared.fault.AccessFault.TheVariants as fault
+use Rattle.probe_access.specs.declared.odd.OddStatus.{OddStatus}
 use Rattle.probe_run.specs.Acts.{Act, Attempt, Did, Tells}
 use Rattle.probe_run.specs.Acts.Act.{Put}
 use Rattle.probe_run.specs.Acts.Attempt.{Operation}
 use Rattle.probe_access.specs.CommandRuns.{CommandFailed}
 use Rattle.probe_access.specs.Faults.{BrokeIn}
 use Rattle.probe_access.specs.RegisterRuns.{RanOddly, RanTo, ReadFailed, RegisterRead, RegisterWritten, WriteFailed, exception_error, no_error}
-use Rattle.probe_access.specs.RegisterAccess.{ebreak_word, load_word, progbuf0_address, progbuf1_address, program_word, store_word, x8_number, x9_number}
+use Rattle.probe_access.specs.RegisterAccess.{ebreak_word, load_word, program_word, store_word, x8_number, x9_number}
 
 -- ---- x8 and x9
 
@@ -23,7 +25,8 @@ pub record Saved (x8 x9 : ℕ) (old new : Tells) : Type 0 where
 
 pub data SaveFailed (old_count new_count : ℕ) (old new : Tells) (e : AccessFault) : Type 0 where
   at_x8 : ReadFailed x8_number old_count new_count old new e → SaveFailed old_count new_count old new e
-  at_x9 : (x8 : ℕ) (mid : Tells) → RegisterRead x8_number x8 old mid → ReadFailed x9_number old_count new_count mid new e → SaveFailed old_count new_count old new e
+  at_x9 : (x8 : ℕ) (mid : Tells) → RegisterRead x8_number x8 old mid → ReadFailed x9_number old_count new_count mid new e
+      → SaveFailed old_count new_count old new e
 
 pub record PutBack (x8 x9 : ℕ) (old new : Tells) : Type 0 where
   pub mid : Tells
@@ -32,7 +35,8 @@ pub record PutBack (x8 x9 : ℕ) (old new : Tells) : Type 0 where
 
 pub data PutBackFailed (x8 x9 old_count new_count : ℕ) (old new : Tells) (e : AccessFault) : Type 0 where
   at_x8 : WriteFailed x8_number x8 old_count new_count old new e → PutBackFailed x8 x9 old_count new_count old new e
-  at_x9 : (mid : Tells) → RegisterWritten x8_number x8 old mid → WriteFailed x9_number x9 old_count new_count mid new e → PutBackFailed x8 x9 old_count new_count old new e
+  at_x9 : (mid : Tells) → RegisterWritten x8_number x8 old mid → WriteFailed x9_number x9 old_count new_count mid new e
+      → PutBackFailed x8 x9 old_count new_count old new e
 
 -- ---- one instruction from the program buffer
 
@@ -52,13 +56,17 @@ pub record Performed (word address error : ℕ) (old new : Tells) : Type 0 where
   pub ran : RanTo program_word error addressed new
 
 pub data PerformFailed (word address old_count new_count : ℕ) (old new : Tells) : AccessFault → Type 0 where
-  in_program : (why : DmiFault) → BrokeIn (ProgramBegun word) old_count new_count old new.far why → PerformFailed word address old_count new_count old new (fault.Dmi why)
-  in_address : (written : Tells) → Did old (program_written word) written → (e : AccessFault) → WriteFailed x8_number address old_count new_count written new e → PerformFailed word address old_count new_count old new e
-  in_run : (written addressed : Tells) → Did old (program_written word) written → RegisterWritten x8_number address written addressed → (e : AccessFault) → CommandFailed program_word old_count new_count addressed new e
+  in_program : (why : DmiFault) → BrokeIn (ProgramBegun word) old_count new_count old new.far why
+      → PerformFailed word address old_count new_count old new (fault.Dmi why)
+  in_address : (written : Tells) → Did old (program_written word) written → (e : AccessFault)
+      → WriteFailed x8_number address old_count new_count written new e → PerformFailed word address old_count new_count old new e
+  in_run : (written addressed : Tells) → Did old (program_written word) written → RegisterWritten x8_number address written addressed → (e : AccessFault)
+      → CommandFailed program_word old_count new_count addressed new e
       → PerformFailed word address old_count new_count old new e
   faulted : Performed word address exception_error old new → PerformFailed word address old_count new_count old new (fault.Memory address)
-  oddly : (written addressed : Tells) → Did old (program_written word) written → RegisterWritten x8_number address written addressed → (last : ℕ) → RanOddly program_word last addressed new
-      → PerformFailed word address old_count new_count old new (fault.Odd last)
+  oddly : (written addressed : Tells) → Did old (program_written word) written → RegisterWritten x8_number address written addressed → (shown : OddStatus)
+      → RanOddly program_word shown addressed new
+      → PerformFailed word address old_count new_count old new (fault.Odd shown)
 
 -- ---- between the saving and the putting back
 
@@ -73,7 +81,8 @@ LoadedAny size address old new = (value : ℕ) × LoadedInside size address valu
 
 pub data LoadFailedInside (size : Size) (address old_count new_count : ℕ) (old new : Tells) (e : AccessFault) : Type 0 where
   performing : PerformFailed (load_word size) address old_count new_count old new e → LoadFailedInside size address old_count new_count old new e
-  reading : (mid : Tells) → Performed (load_word size) address no_error old mid → ReadFailed x9_number old_count new_count mid new e → LoadFailedInside size address old_count new_count old new e
+  reading : (mid : Tells) → Performed (load_word size) address no_error old mid → ReadFailed x9_number old_count new_count mid new e
+      → LoadFailedInside size address old_count new_count old new e
 
 pub record StoredInside (size : Size) (address value : ℕ) (old new : Tells) : Type 0 where
   pub mid : Tells
@@ -82,7 +91,8 @@ pub record StoredInside (size : Size) (address value : ℕ) (old new : Tells) : 
 
 pub data StoreFailedInside (size : Size) (address value old_count new_count : ℕ) (old new : Tells) (e : AccessFault) : Type 0 where
   writing : WriteFailed x9_number value old_count new_count old new e → StoreFailedInside size address value old_count new_count old new e
-  performing : (mid : Tells) → RegisterWritten x9_number value old mid → PerformFailed (store_word size) address old_count new_count mid new e → StoreFailedInside size address value old_count new_count old new e
+  performing : (mid : Tells) → RegisterWritten x9_number value old mid → PerformFailed (store_word size) address old_count new_count mid new e
+      → StoreFailedInside size address value old_count new_count old new e
 
 -- ---- the whole access
 
@@ -103,18 +113,22 @@ Recovers (fault.Memory address) = Unit {0}
 Recovers (fault.Register number) = Unit {0}
 Recovers fault.StillBusy = ⊥
 Recovers (fault.Run why) = ⊥
-Recovers (fault.Odd word) = ⊥
+Recovers (fault.Odd shown) = ⊥
 
 abbrev pub Loses : AccessFault → Type 0
 Loses e = Recovers e → ⊥
 
 -- by what is Ok inside, and what a fault says there
-pub data AroundFailed (R : Tells → Tells → Type 0) (F : ℕ → ℕ → Tells → Tells → AccessFault → Type 0) (old_count new_count : ℕ) (old new : Tells) (e : AccessFault) : Type 0 where
+pub data AroundFailed (R : Tells → Tells → Type 0) (F : ℕ → ℕ → Tells → Tells → AccessFault → Type 0) (old_count new_count : ℕ) (old new : Tells)
+    (e : AccessFault) : Type 0 where
   in_save : SaveFailed old_count new_count old new e → AroundFailed R F old_count new_count old new e
   inside : (x8 x9 : ℕ) (first : Tells) → Saved x8 x9 old first → F old_count new_count first new e → Loses e → AroundFailed R F old_count new_count old new e
-  behind : (x8 x9 : ℕ) (first last : Tells) (was_count is_count : ℕ) → Saved x8 x9 old first → F was_count is_count first last e → Recovers e → PutBack x8 x9 last new → AroundFailed R F old_count new_count old new e
-  in_restore : (x8 x9 : ℕ) (first last : Tells) → Saved x8 x9 old first → R first last → PutBackFailed x8 x9 old_count new_count last new e → AroundFailed R F old_count new_count old new e
-  in_restore_behind : (x8 x9 : ℕ) (first last : Tells) (was_count is_count : ℕ) (was : AccessFault) → Saved x8 x9 old first → F was_count is_count first last was → Recovers was → PutBackFailed x8 x9 old_count new_count last new e
+  behind : (x8 x9 : ℕ) (first last : Tells) (was_count is_count : ℕ) → Saved x8 x9 old first → F was_count is_count first last e → Recovers e
+      → PutBack x8 x9 last new → AroundFailed R F old_count new_count old new e
+  in_restore : (x8 x9 : ℕ) (first last : Tells) → Saved x8 x9 old first → R first last → PutBackFailed x8 x9 old_count new_count last new e
+      → AroundFailed R F old_count new_count old new e
+  in_restore_behind : (x8 x9 : ℕ) (first last : Tells) (was_count is_count : ℕ) (was : AccessFault) → Saved x8 x9 old first
+      → F was_count is_count first last was → Recovers was → PutBackFailed x8 x9 old_count new_count last new e
       → AroundFailed R F old_count new_count old new e
 
 -- what has become of a fault, with x8 and x9 to be put back

@@ -1,25 +1,11 @@
 -- The addresses, commands and words of a register access.
 -- RISC-V Debug Specification 1.0, "Debug Module Registers", "Access Register" and "Abstract Control and Status".
 use Rattle.std.specs.Prelude.{ℕ, ◌+◌, ◌*◌, ◌^◌, Bool, true, false}
+use Rattle.rv_model.specs.Registers.{first_x_number}
 use Rattle.rv_model.specs.declared.size.Size.{Size}
 use Rattle.rv_model.specs.declared.size.Size.TheVariants.{B1, B2, B4, B8}
 use Rattle.debug_model.specs.declared.abstract_command.AbstractCommand.{AbstractCommand}
 use Rattle.debug_model.specs.ModuleWords.{command_word}
-
-abbrev pub data0_address : ℕ
-data0_address = 0x04
-
-abbrev pub data1_address : ℕ
-data1_address = 0x05
-
-abbrev pub command_address : ℕ
-command_address = 0x17
-
-abbrev pub progbuf0_address : ℕ
-progbuf0_address = 0x20
-
-abbrev pub progbuf1_address : ℕ
-progbuf1_address = 0x21
 
 -- a transfer of 64 bits from a register into the data words, or from them into it
 abbrev pub transfer_command : Bool → ℕ → AbstractCommand
@@ -44,10 +30,10 @@ joined low high = low + high * 2 ^ 32
 
 -- the registers that an access uses: the address, and the value
 abbrev pub x8_number : ℕ
-x8_number = 0x1008
+x8_number = first_x_number + 8
 
 abbrev pub x9_number : ℕ
-x9_number = 0x1009
+x9_number = first_x_number + 9
 
 abbrev pub ebreak_word : ℕ
 ebreak_word = 0x00100073

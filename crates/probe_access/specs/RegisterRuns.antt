@@ -1,17 +1,20 @@
 -- The calls by which a register is read or written: a transfer, and the data words behind or before it.
 -- RISC-V Debug Specification 1.0, "Access Register" and "Abstract Data 0".
 use Rattle.std.specs.Prelude.{◌≡◌, ◌≢◌, ◌∷◌, ℕ, List, [], true, false}
+use Rattle.debug_model.specs.Addresses.{data0_address, data1_address}
 use Rattle.debug_model.specs.declared.dmi.DmiFault.{DmiFault}
 use Rattle.debug_model.specs.declared.dmi_op.DmiOp.TheVariants.{Read, Write}
 use Rattle.debug_model.specs.Commands.{high_half, low_half}
 use Rattle.probe_access.specs.declared.fault.AccessFault.{AccessFault}
 use Rattle.probe_access.specs.declared.fault.AccessFault.TheVariants as fault
+use Rattle.probe_access.specs.declared.odd.OddStatus.{OddStatus}
+use Rattle.probe_access.specs.declared.odd.OddStatus.TheVariants.{Abstractcs}
 use Rattle.probe_run.specs.Acts.{Act, Attempt, Did, Tells}
 use Rattle.probe_run.specs.Acts.Act.{Got, Put}
 use Rattle.probe_run.specs.Acts.Attempt.{Operation}
 use Rattle.probe_access.specs.CommandRuns.{CommandFailed, RanCommand, error_shown}
 use Rattle.probe_access.specs.Faults.{BrokeIn}
-use Rattle.probe_access.specs.RegisterAccess.{data0_address, data1_address, joined, transfer_word}
+use Rattle.probe_access.specs.RegisterAccess.{joined, transfer_word}
 
 -- ---- the data words
 
@@ -48,7 +51,9 @@ pub record RanTo (word error : ℕ) (old new : Tells) : Type 0 where
   pub error_is : error_shown last ≡ error
 
 -- a command ran, and this abstractcs shows an error that is neither
-pub record RanOddly (word last : ℕ) (old new : Tells) : Type 0 where
+pub record RanOddly (word : ℕ) (shown : OddStatus) (old new : Tells) : Type 0 where
+  pub last : ℕ
+  pub is : shown ≡ Abstractcs last
   pub ran : RanCommand word last old new
   pub some : error_shown last ≢ no_error
   pub other : error_shown last ≢ exception_error
@@ -77,7 +82,7 @@ ReadFailed number old_count new_count old new (fault.Memory address) = ⊥
 ReadFailed number old_count new_count old new (fault.Register asked) = RefusedAs number asked (transfer_word false number) old new
 ReadFailed number old_count new_count old new (fault.Run why) = ⊥
 ReadFailed number old_count new_count old new fault.StillBusy = CommandFailed (transfer_word false number) old_count new_count old new fault.StillBusy
-ReadFailed number old_count new_count old new (fault.Odd word) = RanOddly (transfer_word false number) word old new
+ReadFailed number old_count new_count old new (fault.Odd shown) = RanOddly (transfer_word false number) shown old new
 
 -- ---- a register is written
 
@@ -88,7 +93,8 @@ pub record RegisterWritten (number value : ℕ) (old new : Tells) : Type 0 where
 
 -- the writing of the words failed, or behind it the command
 pub data WriteFailedAt (number value old_count new_count : ℕ) (old new : Tells) : AccessFault → Type 0 where
-  in_words : (why : DmiFault) → BrokeIn (DoubleWrites value) old_count new_count old new.far why → WriteFailedAt number value old_count new_count old new (fault.Dmi why)
+  in_words : (why : DmiFault) → BrokeIn (DoubleWrites value) old_count new_count old new.far why
+      → WriteFailedAt number value old_count new_count old new (fault.Dmi why)
   in_command : (mid : Tells) → Did old (double_written value) mid → (e : AccessFault) → CommandFailed (transfer_word true number) old_count new_count mid new e
       → WriteFailedAt number value old_count new_count old new e
 
@@ -101,7 +107,9 @@ pub record BehindWords (value : ℕ) (old : Tells) (P : Tells → Type 0) : Type
 abbrev pub WriteFailed : ℕ → ℕ → ℕ → ℕ → Tells → Tells → AccessFault → Type 0
 WriteFailed number value old_count new_count old new (fault.Dmi why) = WriteFailedAt number value old_count new_count old new (fault.Dmi why)
 WriteFailed number value old_count new_count old new (fault.Memory address) = ⊥
-WriteFailed number value old_count new_count old new (fault.Register asked) = BehindWords value old (λ mid. RefusedAs number asked (transfer_word true number) mid new)
+WriteFailed number value old_count new_count old new (fault.Register asked) = BehindWords value old
+    (λ mid. RefusedAs number asked (transfer_word true number) mid new)
 WriteFailed number value old_count new_count old new (fault.Run why) = ⊥
-WriteFailed number value old_count new_count old new fault.StillBusy = BehindWords value old (λ mid. CommandFailed (transfer_word true number) old_count new_count mid new fault.StillBusy)
-WriteFailed number value old_count new_count old new (fault.Odd word) = BehindWords value old (λ mid. RanOddly (transfer_word true number) word mid new)
+WriteFailed number value old_count new_count old new fault.StillBusy = BehindWords value old
+    (λ mid. CommandFailed (transfer_word true number) old_count new_count mid new fault.StillBusy)
+WriteFailed number value old_count new_count old new (fault.Odd shown) = BehindWords value old (λ mid. RanOddly (transfer_word true number) shown mid new)

@@ -34,7 +34,7 @@ abbrev pub site_before : Chip → Site
 site_before c = c.inside.works.site
 
 -- the register held this, and holds it still
-pub record GotRegister (h number value : ℕ) (c : Chip) (new : Option Far) : Type 0 where
+pub record RegisterReadAt (h number value : ℕ) (c : Chip) (new : Option Far) : Type 0 where
   pub far : Far
   pub is : new ≡ Some far
   pub hart : Hart
@@ -43,7 +43,7 @@ pub record GotRegister (h number value : ℕ) (c : Chip) (new : Option Far) : Ty
   pub passed : TurnsPassed (site_before c) (site_of far)
 
 -- the register was written, as far as it can be, and nothing else
-pub record SetRegister (h number value : ℕ) (c : Chip) (new : Option Far) : Type 0 where
+pub record RegisterWrittenAt (h number value : ℕ) (c : Chip) (new : Option Far) : Type 0 where
   pub far : Far
   pub is : new ≡ Some far
   pub hart : Hart
@@ -57,7 +57,7 @@ abbrev pub reaches : Bool → Hart → ℕ → Bool
 reaches write hart number = is_some (debug_value hart number) && not (write && debug_refuses number)
 
 -- it can't, and nothing was done
-pub record DeniedRegister (write : Bool) (h number : ℕ) (c : Chip) (new : Option Far) : Type 0 where
+pub record RegisterRefusedAt (write : Bool) (h number : ℕ) (c : Chip) (new : Option Far) : Type 0 where
   pub far : Far
   pub is : new ≡ Some far
   pub hart : Hart
@@ -69,10 +69,10 @@ pub record DeniedRegister (write : Bool) (h number : ℕ) (c : Chip) (new : Opti
 abbrev pub RegisterLeft : Bool → ℕ → ℕ → Option Far → Option Far → AccessFault → Type 0
 RegisterLeft write h number old new (fault.Dmi why) = Unit {0}
 RegisterLeft write h number old new (fault.Memory address) = ⊥
-RegisterLeft write h number old new (fault.Register asked) = WhereTold (DeniedRegister write h number) old new
+RegisterLeft write h number old new (fault.Register asked) = WhereTold (RegisterRefusedAt write h number) old new
 RegisterLeft write h number old new fault.StillBusy = Unit {0}
 RegisterLeft write h number old new (fault.Run why) = ⊥
-RegisterLeft write h number old new (fault.Odd word) = old ≡ None
+RegisterLeft write h number old new (fault.Odd shown) = old ≡ None
 
 -- a fact that holds behind a fault of the register
 abbrev pub IfRegister : Type 0 → AccessFault → Type 0
@@ -81,4 +81,4 @@ IfRegister P (fault.Memory address) = Unit {0}
 IfRegister P (fault.Register asked) = P
 IfRegister P fault.StillBusy = Unit {0}
 IfRegister P (fault.Run why) = Unit {0}
-IfRegister P (fault.Odd word) = Unit {0}
+IfRegister P (fault.Odd shown) = Unit {0}

@@ -35,4 +35,4 @@ ScratchLeft old (fault.Memory at) = ⊥
 ScratchLeft old (fault.Register number) = old ≡ None
 ScratchLeft old fault.StillBusy = Unit {0}
 ScratchLeft old (fault.Run why) = ⊥
-ScratchLeft old (fault.Odd word) = old ≡ None
+ScratchLeft old (fault.Odd shown) = old ≡ None

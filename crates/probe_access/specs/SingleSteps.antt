@@ -78,4 +78,4 @@ StepLeft h old new (fault.Memory at) = ⊥
 StepLeft h old new (fault.Register number) = old ≡ None
 StepLeft h old new fault.StillBusy = Unit {0}
 StepLeft h old new (fault.Run why) = RunLeft h old new why
-StepLeft h old new (fault.Odd word) = old ≡ None
+StepLeft h old new (fault.Odd shown) = old ≡ None

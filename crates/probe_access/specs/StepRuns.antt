@@ -24,7 +24,8 @@ pub record FlagWritten (on : Bool) (old new : Tells) : Type 0 where
 
 pub data FlagFailed (on : Bool) (old_count new_count : ℕ) (old new : Tells) (e : AccessFault) : Type 0 where
   at_read : ReadFailed dcsr_number old_count new_count old new e → FlagFailed on old_count new_count old new e
-  at_write : (word : ℕ) (mid : Tells) → RegisterRead dcsr_number word old mid → WriteFailed dcsr_number (with_flag on word) old_count new_count mid new e → FlagFailed on old_count new_count old new e
+  at_write : (word : ℕ) (mid : Tells) → RegisterRead dcsr_number word old mid → WriteFailed dcsr_number (with_flag on word) old_count new_count mid new e
+      → FlagFailed on old_count new_count old new e
 
 -- a fault of run control among those of accesses: one of the link is the same here as there
 abbrev pub of_run : RunFault → AccessFault
@@ -42,5 +43,7 @@ pub record SteppedOnce (h : ℕ) (old new : Tells) : Type 0 where
 
 pub data StepFailed (h old_count new_count : ℕ) (old new : Tells) (e : AccessFault) : Type 0 where
   in_set : FlagFailed true old_count new_count old new e → StepFailed h old_count new_count old new e
-  in_run : (begun : Tells) → FlagWritten true old begun → (why : RunFault) → StepFails h old_count new_count begun new why → e ≡ of_run why → StepFailed h old_count new_count old new e
-  in_clear : (begun ran : Tells) → FlagWritten true old begun → SteppedBy h begun ran → FlagFailed false old_count new_count ran new e → StepFailed h old_count new_count old new e
+  in_run : (begun : Tells) → FlagWritten true old begun → (why : RunFault) → StepFails h old_count new_count begun new why → e ≡ of_run why
+      → StepFailed h old_count new_count old new e
+  in_clear : (begun ran : Tells) → FlagWritten true old begun → SteppedBy h begun ran → FlagFailed false old_count new_count ran new e
+      → StepFailed h old_count new_count old new e

@@ -24,7 +24,8 @@ pub record StopRead (pc cause : ℕ) (old new : Tells) : Type 0 where
 
 pub data StopFailed (old_count new_count : ℕ) (old new : Tells) (e : AccessFault) : Type 0 where
   at_dpc : ReadFailed dpc_number old_count new_count old new e → StopFailed old_count new_count old new e
-  at_dcsr : (pc : ℕ) (mid : Tells) → RegisterRead dpc_number pc old mid → ReadFailed dcsr_number old_count new_count mid new e → StopFailed old_count new_count old new e
+  at_dcsr : (pc : ℕ) (mid : Tells) → RegisterRead dpc_number pc old mid → ReadFailed dcsr_number old_count new_count mid new e
+      → StopFailed old_count new_count old new e
 
 -- the hart stands there, for this reason
 pub record StoppedAt (h pc cause : ℕ) (c : Chip) (new : Option Far) : Type 0 where

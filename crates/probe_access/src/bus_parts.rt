@@ -2,7 +2,8 @@
 
 ghost use Rattle.std.specs.Prelude.{◌≡◌, ◌≤◌, ◌<◌, ◌^◌, ◌∷◌, [], true, false, IfOk, IfErr, OnOk, Some};
 ghost use Rattle.probe_run.specs.Acts.{Did};
-ghost use Rattle.probe_access.specs.BusRuns.{BusEndFailed, BusEnded, BusFetched, BusFetching, BusPollFailed, BusPolled, Starting, access_number, addressed, read_started, setting, write_started};
+ghost use Rattle.probe_access.specs.BusRuns.{BusEndFailed, BusEnded, BusFetched, BusFetching, BusPollFailed, BusPolled, Starting, access_number, addressed};
+ghost use Rattle.probe_access.specs.BusRuns.{read_started, setting, write_started};
 ghost use Rattle.probe_access.specs.Faults.{BrokeIn};
 ghost use Rattle.debug_model.specs.Kept.{CanCall, Keeps};
 ghost use Rattle.probe_run.specs.Told.{Breaks, Fails, told};
@@ -11,20 +12,10 @@ ghost use Rattle.probe_access.specs.Faults.{access_why};
 use crate::doubles::{high_word, join, low_word};
 use crate::fault::AccessFault;
 use crate::memory::cut_to;
+use crate::odd::OddStatus;
 use crate::polling::POLLS_MOST;
-use debug_model::{Dmi, DmiFault, Sbcs};
+use debug_model::{Dmi, DmiFault, Sbaddress0, Sbaddress1, Sbcs, Sbdata0, Sbdata1};
 use rv_model::Size;
-
-/// The addresses of the system bus's registers.
-const SBCS: u8 = 0x38;
-
-const SBADDRESS0: u8 = 0x39;
-
-const SBADDRESS1: u8 = 0x3a;
-
-const SBDATA0: u8 = 0x3c;
-
-const SBDATA1: u8 = 0x3d;
 
 /// The word of `sbcs` that clears every error.
 const CLEARS_SBERROR: u32 = 0x0040_7000;
@@ -70,9 +61,9 @@ fn set_up<D: Dmi>(link: &mut D, setting: u32, address: u64) -> Result<(), DmiFau
     ensures broke { IfErr result (Breaks (BrokeIn (Starting (addressed setting address))) (D.seen link.old) (D.seen link.new)) }
     ensures keeps { Keeps Some (D.seen link.old) (D.seen link.new) result }
 {
-    link.write(SBCS, setting)?;
-    link.write(SBADDRESS1, high_word(address))?;
-    link.write(SBADDRESS0, low_word(address))?;
+    link.write(Sbcs::ADDRESS, setting)?;
+    link.write(Sbaddress1::ADDRESS, high_word(address))?;
+    link.write(Sbaddress0::ADDRESS, low_word(address))?;
     Ok(())
 }
 
@@ -100,8 +91,8 @@ pub fn start_write<D: Dmi>(
     ensures keeps { Keeps Some (D.seen link.old) (D.seen link.new) result }
 {
     set_up(link, setting_of(false, size), address)?;
-    link.write(SBDATA1, high_word(value))?;
-    link.write(SBDATA0, low_word(value))?;
+    link.write(Sbdata1::ADDRESS, high_word(value))?;
+    link.write(Sbdata0::ADDRESS, low_word(value))?;
     Ok(())
 }
 
@@ -113,7 +104,7 @@ fn poll_bus<D: Dmi>(link: &mut D) -> Result<u32, AccessFault>
     ensures keeps { Keeps access_why (D.seen link.old) (D.seen link.new) result }
 {
     'polls: for _polls in 0..POLLS_MOST {
-        let word = link.read(SBCS)?;
+        let word = link.read(Sbcs::ADDRESS)?;
         let bus = Sbcs::from_word(word);
         if !bus.sbbusy {
             return Ok(word);
@@ -132,13 +123,13 @@ pub fn finish<D: Dmi>(link: &mut D, address: u64) -> Result<(), AccessFault>
     let last = poll_bus(link)?;
     let bus = Sbcs::from_word(last);
     if bus.sberror == OUTSIDE {
-        link.write(SBCS, CLEARS_SBERROR)?;
+        link.write(Sbcs::ADDRESS, CLEARS_SBERROR)?;
         return Err(AccessFault::Memory(address));
     }
     if bus.sberror == 0 && !bus.sbbusyerror {
         return Ok(());
     }
-    Err(AccessFault::Odd(last))
+    Err(AccessFault::Odd(OddStatus::Sbcs(last)))
 }
 
 /// Reads what the access has read.
@@ -148,7 +139,7 @@ pub fn fetch<D: Dmi>(link: &mut D, size: Size) -> Result<u64, DmiFault>
     ensures broke { IfErr result (Breaks (BrokeIn BusFetching) (D.seen link.old) (D.seen link.new)) }
     ensures keeps { Keeps Some (D.seen link.old) (D.seen link.new) result }
 {
-    let low = link.read(SBDATA0)?;
-    let high = link.read(SBDATA1)?;
+    let low = link.read(Sbdata0::ADDRESS)?;
+    let high = link.read(Sbdata1::ADDRESS)?;
     Ok(cut_to(size, join(low, high)))
 }

@@ -5,6 +5,7 @@ ghost use Rattle.std.specs.Prelude.{◌≡◌, true};
 
 use crate::bus::{bus_load, bus_store};
 use crate::fault::AccessFault;
+use crate::odd::OddStatus;
 use crate::scripted_tests::ENDED;
 use arrayvec::ArrayVec;
 use debug_model::ScriptedDmi;
@@ -62,10 +63,26 @@ fn loads_by_the_bus_in_vain(rt: HostRuntime) {
     let cases: [(usize, &[u32], AccessFault); 8] = [
         (63, &[BUS_OUTSIDE], AccessFault::Memory(PLACE)),
         (64, &[], AccessFault::StillBusy),
-        (0, &[0x2016_380f], AccessFault::Odd(0x2016_380f)),
-        (3, &[0x2016_480f], AccessFault::Odd(0x2016_480f)),
-        (0, &[0x2016_780f], AccessFault::Odd(0x2016_780f)),
-        (0, &[0x2056_080f], AccessFault::Odd(0x2056_080f)),
+        (
+            0,
+            &[0x2016_380f],
+            AccessFault::Odd(OddStatus::Sbcs(0x2016_380f)),
+        ),
+        (
+            3,
+            &[0x2016_480f],
+            AccessFault::Odd(OddStatus::Sbcs(0x2016_480f)),
+        ),
+        (
+            0,
+            &[0x2016_780f],
+            AccessFault::Odd(OddStatus::Sbcs(0x2016_780f)),
+        ),
+        (
+            0,
+            &[0x2056_080f],
+            AccessFault::Odd(OddStatus::Sbcs(0x2056_080f)),
+        ),
         (0, &[0x2056_280f], AccessFault::Memory(PLACE)),
         (2, &[BUS_IDLE, 7], ENDED),
     ];

@@ -7,11 +7,8 @@ ghost use Rattle.probe_run.specs.Told.{Fails, told};
 ghost use Rattle.probe_access.specs.Faults.{access_why};
 
 use crate::fault::AccessFault;
-use crate::polling::{ABSTRACTCS, poll};
+use crate::polling::poll;
 use debug_model::{AbstractCommand, Abstractcs, Dmi};
-
-/// The address of `command`.
-const COMMAND: u8 = 0x17;
 
 /// The word of `abstractcs` that clears `cmderr`.
 const CLEARS_CMDERR: u32 = 0x700;
@@ -56,12 +53,12 @@ pub fn run_command<D: Dmi>(link: &mut D, command: AbstractCommand) -> Result<u32
     ensures failed { IfErr result (Fails (CommandFailed (command_word command)) (D.seen link.old) (D.seen link.new)) }
     ensures keeps { Keeps access_why (D.seen link.old) (D.seen link.new) result }
 {
-    link.write(COMMAND, command.word())?;
+    link.write(AbstractCommand::ADDRESS, command.word())?;
     let last = poll(link)?;
     let status = Abstractcs::from_word(last);
     if status.cmderr == 0 {
         return Ok(last);
     }
-    link.write(ABSTRACTCS, CLEARS_CMDERR)?;
+    link.write(Abstractcs::ADDRESS, CLEARS_CMDERR)?;
     Ok(last)
 }

@@ -7,12 +7,7 @@ ghost use Rattle.probe_access.specs.RegisterAccess.{joined};
 ghost use Rattle.debug_model.specs.Kept.{CanCall, Keeps};
 ghost use Rattle.probe_run.specs.Told.{Breaks, told};
 
-use debug_model::{Dmi, DmiFault};
-
-/// The addresses of the data words.
-const DATA0: u8 = 0x04;
-
-const DATA1: u8 = 0x05;
+use debug_model::{Data0, Data1, Dmi, DmiFault};
 
 /// The lower 32 bits.
 pub fn low_word(value: u64) -> u32
@@ -42,8 +37,8 @@ pub fn read_double<D: Dmi>(link: &mut D) -> Result<u64, DmiFault>
     ensures broke { IfErr result (Breaks (BrokeIn DoubleReads) (D.seen link.old) (D.seen link.new)) }
     ensures keeps { Keeps Some (D.seen link.old) (D.seen link.new) result }
 {
-    let low = link.read(DATA0)?;
-    let high = link.read(DATA1)?;
+    let low = link.read(Data0::ADDRESS)?;
+    let high = link.read(Data1::ADDRESS)?;
     Ok(join(low, high))
 }
 
@@ -54,7 +49,7 @@ pub fn write_double<D: Dmi>(link: &mut D, value: u64) -> Result<(), DmiFault>
     ensures broke { IfErr result (Breaks (BrokeIn (DoubleWrites value)) (D.seen link.old) (D.seen link.new)) }
     ensures keeps { Keeps Some (D.seen link.old) (D.seen link.new) result }
 {
-    link.write(DATA0, low_word(value))?;
-    link.write(DATA1, high_word(value))?;
+    link.write(Data0::ADDRESS, low_word(value))?;
+    link.write(Data1::ADDRESS, high_word(value))?;
     Ok(())
 }

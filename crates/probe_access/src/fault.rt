@@ -2,6 +2,7 @@ ghost use Rattle.std.specs.Prelude.{◌≡◌};
 ghost use Rattle.probe_access.specs.declared.fault.AccessFault.TheVariants as access_fault;
 ghost use Rattle.probe_access.specs.StepRuns.{of_run};
 
+use crate::odd::OddStatus;
 use debug_model::DmiFault;
 use probe_run::RunFault;
 use thiserror::Error;
@@ -25,8 +26,8 @@ pub enum AccessFault {
     #[error("{0}")]
     Run(RunFault),
     /// `abstractcs` or `sbcs`, as kept, shows an error that no other case names.
-    #[error("unexpected error in {0:#010x}")]
-    Odd(u32),
+    #[error("unexpected error in {0}")]
+    Odd(OddStatus),
 }
 
 impl From<DmiFault> for AccessFault {

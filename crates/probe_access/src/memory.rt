@@ -46,7 +46,8 @@ pub(crate) fn store_around<D: Dmi>(
 ) -> Result<(), AccessFault>
     requires callable { CanCall (D.seen link.old) }
     ensures stored { OnOk result (Around (StoredInside size address value) (told (D.seen link.old)) (told (D.seen link.new))) }
-    ensures failed { IfErr result (Fails (AroundFailed (StoredInside size address value) (StoreFailedInside size address value)) (D.seen link.old) (D.seen link.new)) }
+    ensures failed { IfErr result
+        (Fails (AroundFailed (StoredInside size address value) (StoreFailedInside size address value)) (D.seen link.old) (D.seen link.new)) }
     ensures keeps { Keeps access_why (D.seen link.old) (D.seen link.new) result }
 {
     let scratch = save_scratch(link)?;
@@ -118,8 +119,10 @@ pub fn store<D: Dmi>(
     ensures stored { OnOk result (OnChip (StoredAt size address value) (D.seen link.old) (D.seen link.new)) }
     ensures around { OnOk result (Around (StoredInside size address value) (told (D.seen link.old)) (told (D.seen link.new))) }
     ensures left { IfErr result (AccessLeft (StoreRefused size address) address (D.seen link.old).far (D.seen link.new).far) }
-    ensures failed { IfErr result (Fails (AroundFailed (StoredInside size address value) (StoreFailedInside size address value)) (D.seen link.old) (D.seen link.new)) }
-    ensures cut { IfErr result (IfCut (Leaves (AccessLeftOff Scratched (StoreLeaves size address value) halted.now.number) (D.seen link.old).far (D.seen link.new).far)) }
+    ensures failed { IfErr result
+        (Fails (AroundFailed (StoredInside size address value) (StoreFailedInside size address value)) (D.seen link.old) (D.seen link.new)) }
+    ensures cut { IfErr result
+        (IfCut (Leaves (AccessLeftOff Scratched (StoreLeaves size address value) halted.now.number) (D.seen link.old).far (D.seen link.new).far)) }
     ensures serving { OnOk result (Serving halted.now.number (D.seen link.new).far) }
     ensures serving_still { IfErr result (IfMemory (Serving halted.now.number (D.seen link.new).far)) }
     ensures keeps { Keeps access_why (D.seen link.old) (D.seen link.new) result }

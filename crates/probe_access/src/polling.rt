@@ -7,9 +7,6 @@ ghost use Rattle.probe_access.specs.Faults.{access_why};
 use crate::fault::AccessFault;
 use debug_model::{Abstractcs, Dmi};
 
-/// The address of `abstractcs`.
-pub const ABSTRACTCS: u8 = 0x16;
-
 /// How many polls a call makes at most.
 pub const POLLS_MOST: u32 = 64;
 
@@ -21,7 +18,7 @@ pub fn poll<D: Dmi>(link: &mut D) -> Result<u32, AccessFault>
     ensures keeps { Keeps access_why (D.seen link.old) (D.seen link.new) result }
 {
     'polls: for _polls in 0..POLLS_MOST {
-        let word = link.read(ABSTRACTCS)?;
+        let word = link.read(Abstractcs::ADDRESS)?;
         let status = Abstractcs::from_word(word);
         if !status.busy {
             return Ok(word);

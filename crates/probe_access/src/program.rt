@@ -9,20 +9,16 @@ ghost use Rattle.probe_access.specs.Faults.{access_why};
 
 use crate::commands::{program, run_command};
 use crate::fault::AccessFault;
+use crate::odd::OddStatus;
 use crate::transfers::{EXCEPTION, write_register};
-use debug_model::{Abstractcs, Dmi, DmiFault};
-use rv_model::Size;
+use debug_model::{Abstractcs, Dmi, DmiFault, Progbuf0, Progbuf1};
+use rv_model::{Size, register_number};
 
 /// The number of x8, which holds the address of an access.
-pub const X8: u16 = 0x1008;
+pub const X8: u16 = register_number::X0 + 8;
 
 /// The number of x9, which holds its value.
-pub const X9: u16 = 0x1009;
-
-/// The addresses of the program buffer's first two words.
-const PROGBUF0: u8 = 0x20;
-
-const PROGBUF1: u8 = 0x21;
+pub const X9: u16 = register_number::X0 + 9;
 
 /// `ebreak`
 const EBREAK: u32 = 0x0010_0073;
@@ -76,8 +72,8 @@ fn write_program<D: Dmi>(link: &mut D, instruction: u32) -> Result<(), DmiFault>
     ensures broke { IfErr result (Breaks (BrokeIn (ProgramBegun instruction)) (D.seen link.old) (D.seen link.new)) }
     ensures keeps { Keeps Some (D.seen link.old) (D.seen link.new) result }
 {
-    link.write(PROGBUF0, instruction)?;
-    link.write(PROGBUF1, EBREAK)?;
+    link.write(Progbuf0::ADDRESS, instruction)?;
+    link.write(Progbuf1::ADDRESS, EBREAK)?;
     Ok(())
 }
 
@@ -94,6 +90,6 @@ pub fn perform<D: Dmi>(link: &mut D, instruction: u32, address: u64) -> Result<(
     match Abstractcs::from_word(last).cmderr {
         0 => Ok(()),
         EXCEPTION => Err(AccessFault::Memory(address)),
-        _ => Err(AccessFault::Odd(last)),
+        _ => Err(AccessFault::Odd(OddStatus::Abstractcs(last))),
     }
 }

@@ -1,7 +1,7 @@
 ghost use Rattle.std.specs.Prelude.{◌≡◌, ◌≤◌, true, false, IfOk, IfErr, OnOk};
 ghost use Rattle.probe_access.specs.Cuts.{IfCut, LeftAside, Leaves, MaybeWritten, Unchanged};
 ghost use Rattle.probe_access.specs.RegisterRuns.{ReadFailed, RegisterRead, RegisterWritten, WriteFailed};
-ghost use Rattle.probe_access.specs.Registers.{GotRegister, IfRegister, RegisterLeft, SetRegister};
+ghost use Rattle.probe_access.specs.Registers.{RegisterReadAt, IfRegister, RegisterLeft, RegisterWrittenAt};
 ghost use Rattle.debug_model.specs.Kept.{CanCall, Keeps};
 ghost use Rattle.probe_run.specs.Told.{Fails, OnChip, told};
 ghost use Rattle.probe_access.specs.Faults.{access_why};
@@ -17,7 +17,7 @@ use probe_run::Halted;
 pub fn reg<D: Dmi>(link: &mut D, halted: &Halted, register: u16) -> Result<u64, AccessFault>
     requires callable { CanCall (D.seen link.old) }
     requires serving { Serving halted.now.number (D.seen link.old).far }
-    ensures got { IfOk result (λ value. OnChip (GotRegister halted.now.number register value) (D.seen link.old) (D.seen link.new)) }
+    ensures got { IfOk result (λ value. OnChip (RegisterReadAt halted.now.number register value) (D.seen link.old) (D.seen link.new)) }
     ensures read { IfOk result (λ value. RegisterRead register value (told (D.seen link.old)) (told (D.seen link.new))) }
     ensures left { IfErr result (RegisterLeft false halted.now.number register (D.seen link.old).far (D.seen link.new).far) }
     ensures failed { IfErr result (Fails (ReadFailed register) (D.seen link.old) (D.seen link.new)) }
@@ -41,7 +41,7 @@ pub fn set_reg<D: Dmi>(
 ) -> Result<(), AccessFault>
     requires callable { CanCall (D.seen link.old) }
     requires serving { Serving halted.now.number (D.seen link.old).far }
-    ensures set_to { OnOk result (OnChip (SetRegister halted.now.number register value) (D.seen link.old) (D.seen link.new)) }
+    ensures set_to { OnOk result (OnChip (RegisterWrittenAt halted.now.number register value) (D.seen link.old) (D.seen link.new)) }
     ensures written { OnOk result (RegisterWritten register value (told (D.seen link.old)) (told (D.seen link.new))) }
     ensures left { IfErr result (RegisterLeft true halted.now.number register (D.seen link.old).far (D.seen link.new).far) }
     ensures failed { IfErr result (Fails (WriteFailed register value) (D.seen link.old) (D.seen link.new)) }

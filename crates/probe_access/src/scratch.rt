@@ -75,7 +75,8 @@ impl Scratch {
     /// Hands a fault on, and puts x8 and x9 back first where the hart still serves. A fault of that comes in its place.
     pub(crate) fn give_up<D: Dmi>(self, link: &mut D, fault: AccessFault) -> AccessFault
         requires behind { StandsUnless (D.seen link.old) (access_why fault) }
-        ensures gave_up { GaveUp self.x8 self.x9 (D.seen link.old).fault_count (D.seen link.new).fault_count (told (D.seen link.old)) (told (D.seen link.new)) fault result }
+        ensures gave_up { GaveUp self.x8 self.x9 (D.seen link.old).fault_count (D.seen link.new).fault_count (told (D.seen link.old))
+            (told (D.seen link.new)) fault result }
         ensures behind { StandsUnless (D.seen link.new) (access_why result) }
         ensures later { (D.seen link.old).fault_count ≤ (D.seen link.new).fault_count }
         ensures fixed { (D.seen link.new).fixed ≡ (D.seen link.old).fixed }

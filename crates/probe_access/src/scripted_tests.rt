@@ -7,6 +7,7 @@ ghost use Rattle.debug_model.specs.Kept.{CanCall};
 
 use crate::blocks::{load_block, store_block};
 use crate::fault::AccessFault;
+use crate::odd::OddStatus;
 use crate::single::step;
 use arrayvec::ArrayVec;
 use debug_model::{Dmi, DmiFault, ScriptedDmi, WireFault};
@@ -82,7 +83,7 @@ impl From<AccessFault> for Fault {
 /// `dcsr` was refused, and an error was shown that is another.
 const NO_DCSR: Fault = Fault::Access(AccessFault::Register(0x7b0));
 
-const ODDLY: Fault = Fault::Access(AccessFault::Odd(UNSUPPORTED));
+const ODDLY: Fault = Fault::Access(AccessFault::Odd(OddStatus::Abstractcs(UNSUPPORTED)));
 
 /// A step whose first Look sees the hart halted again, and one whose third does.
 const AT_ONCE: [u32; 9] = [
@@ -239,7 +240,7 @@ fn stores_blocks(rt: HostRuntime) {
         ),
         (
             &[IDLE, 8, 0, IDLE, 9, 0, IDLE, IDLE, 0x0400_0402],
-            Err(Fault::Access(AccessFault::Odd(0x0400_0402))),
+            Err(Fault::Access(AccessFault::Odd(OddStatus::Abstractcs(0x0400_0402)))),
         ),
     ];
     for (words, wanted) in cases {

@@ -10,11 +10,10 @@ ghost use Rattle.probe_access.specs.Faults.{access_why};
 ghost use Rattle.probe_run.specs.Told.{Serving};
 
 use crate::fault::AccessFault;
-use crate::stops::DCSR;
 use crate::transfers::{read_register, write_register};
 use debug_model::Dmi;
 use probe_run::Halted;
-use rv_model::Dcsr;
+use rv_model::{Dcsr, register_number};
 
 /// A word of `dcsr` with its step flag so.
 fn flagged(word: u64, on: bool) -> u64
@@ -40,8 +39,8 @@ fn set_flag<D: Dmi>(link: &mut D, halted: &Halted, on: bool) -> Result<(), Acces
     ensures keeps { Keeps access_why (D.seen link.old) (D.seen link.new) result }
 {
     let _halted = halted;
-    let word = read_register(link, DCSR)?;
-    write_register(link, DCSR, flagged(word, on))?;
+    let word = read_register(link, register_number::DCSR)?;
+    write_register(link, register_number::DCSR, flagged(word, on))?;
     Ok(())
 }
 

@@ -12,12 +12,7 @@ use crate::stopped::Stop;
 use crate::transfers::read_register;
 use debug_model::Dmi;
 use probe_run::Halted;
-use rv_model::Dcsr;
-
-/// The numbers of `dpc` and `dcsr`.
-const DPC: u16 = 0x7b1;
-
-pub const DCSR: u16 = 0x7b0;
+use rv_model::{Dcsr, register_number};
 
 /// Where the halted hart stands, which is selected, and why it halted: its `dpc`, and the cause in its `dcsr`.
 pub fn stop<D: Dmi>(link: &mut D, halted: &Halted) -> Result<Stop, AccessFault>
@@ -32,8 +27,8 @@ pub fn stop<D: Dmi>(link: &mut D, halted: &Halted) -> Result<Stop, AccessFault>
     ensures keeps { Keeps access_why (D.seen link.old) (D.seen link.new) result }
 {
     let _halted = halted;
-    let pc = read_register(link, DPC)?;
-    let word = read_register(link, DCSR)?;
+    let pc = read_register(link, register_number::DPC)?;
+    let word = read_register(link, register_number::DCSR)?;
     let dcsr = Dcsr::from_word(word);
     Ok(Stop {
         pc,

@@ -5,6 +5,7 @@ ghost use Rattle.std.specs.Prelude.{◌≡◌, true};
 
 use crate::fault::AccessFault;
 use crate::memory::{is_aligned, load_around, store_around};
+use crate::odd::OddStatus;
 use crate::transfers::{read_register, write_register};
 use arrayvec::ArrayVec;
 use debug_model::{DmiFault, ScriptedDmi, WireFault};
@@ -48,10 +49,26 @@ fn reads_a_register(rt: HostRuntime) {
         (61, &[IDLE, 0, 1], Ok(0x1_0000_0000)),
         (63, &[EXCEPTION], Err(AccessFault::Register(0x7b1))),
         (63, &[BUSY], Err(AccessFault::StillBusy)),
-        (5, &[0x0400_0102], Err(AccessFault::Odd(0x0400_0102))),
-        (0, &[0x0400_0202], Err(AccessFault::Odd(0x0400_0202))),
-        (0, &[0x0400_0402], Err(AccessFault::Odd(0x0400_0402))),
-        (0, &[0x0400_0702], Err(AccessFault::Odd(0x0400_0702))),
+        (
+            5,
+            &[0x0400_0102],
+            Err(AccessFault::Odd(OddStatus::Abstractcs(0x0400_0102))),
+        ),
+        (
+            0,
+            &[0x0400_0202],
+            Err(AccessFault::Odd(OddStatus::Abstractcs(0x0400_0202))),
+        ),
+        (
+            0,
+            &[0x0400_0402],
+            Err(AccessFault::Odd(OddStatus::Abstractcs(0x0400_0402))),
+        ),
+        (
+            0,
+            &[0x0400_0702],
+            Err(AccessFault::Odd(OddStatus::Abstractcs(0x0400_0702))),
+        ),
         (2, &[IDLE, 7], Err(ENDED)),
     ];
     for (busy, words, wanted) in cases {
@@ -91,11 +108,11 @@ fn loads(rt: HostRuntime) {
         ),
         (
             &[IDLE, 8, 0, IDLE, 9, 0, IDLE, 0x0400_0102],
-            Err(AccessFault::Odd(0x0400_0102)),
+            Err(AccessFault::Odd(OddStatus::Abstractcs(0x0400_0102))),
         ),
         (
             &[IDLE, 8, 0, IDLE, 9, 0, IDLE, EXCEPTION, IDLE, 0x0400_0402],
-            Err(AccessFault::Odd(0x0400_0402)),
+            Err(AccessFault::Odd(OddStatus::Abstractcs(0x0400_0402))),
         ),
         (
             &[IDLE, 8, 0, IDLE, 9, 0, EXCEPTION, IDLE, IDLE],

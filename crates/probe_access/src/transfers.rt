@@ -7,6 +7,7 @@ ghost use Rattle.probe_access.specs.Faults.{access_why};
 use crate::commands::{run_command, transfer_of};
 use crate::doubles::{read_double, write_double};
 use crate::fault::AccessFault;
+use crate::odd::OddStatus;
 use debug_model::{Abstractcs, Dmi};
 
 /// `cmderr` of a register that is not there or not writable, and of an exception in the program buffer.
@@ -26,7 +27,7 @@ pub fn read_register<D: Dmi>(link: &mut D, register: u16) -> Result<u64, AccessF
             Ok(value)
         }
         EXCEPTION => Err(AccessFault::Register(register)),
-        _ => Err(AccessFault::Odd(last)),
+        _ => Err(AccessFault::Odd(OddStatus::Abstractcs(last))),
     }
 }
 
@@ -42,6 +43,6 @@ pub fn write_register<D: Dmi>(link: &mut D, register: u16, value: u64) -> Result
     match Abstractcs::from_word(last).cmderr {
         0 => Ok(()),
         EXCEPTION => Err(AccessFault::Register(register)),
-        _ => Err(AccessFault::Odd(last)),
+        _ => Err(AccessFault::Odd(OddStatus::Abstractcs(last))),
     }
 }

@@ -12,7 +12,7 @@ use Rattle.abstract_debugger.specs.Turns.{after_turns}
 use Rattle.probe_run.specs.Sites.{spun}
 use Rattle.probe_run.proofs.Asking.{GoAsked, HaltAsked, HaltSeen, KeptByTurns, OnlyAt, Stopped, Unasked, only_at_kept}
 use Rattle.probe_run.proofs.Wide.{BoardWide, EachHart, each_changed, each_turns, wide_turns}
-use Rattle.probe_run.proofs.WideHart.{HartWide}
+use Rattle.rv_model.proofs.WideHart.{HartWide}
 
 pub record Between (P : DebugPart → Type 0) (h : ℕ) (s : Site) : Type 0 where
   pub unit : ModuleReady s.unit

@@ -1,5 +1,6 @@
 -- What a halt did at a told chip, by its answer.
 use Rattle.std.proofs.Common.{◌≡◌, ◌++◌, ◌<◌, ◌≤◌, ◌^◌, ℕ, [], map, Option, Some, None, ap, append-nil, arith}
+use Rattle.debug_model.specs.Addresses.{dmcontrol_address, dmstatus_address}
 use Rattle.debug_model.specs.declared.dmi.DmiFault.{DmiFault}
 use Rattle.debug_model.specs.declared.dmi_op.DmiOp.TheVariants.{Read, Write}
 use Rattle.debug_model.specs.declared.point.Point.TheVariants.{HaltReq, HaltClear}
@@ -15,7 +16,7 @@ use Rattle.probe_run.specs.Happens.{Exists, HaltCut, HaltsAt, Leaves, LeftBy, Mi
 use Rattle.probe_run.specs.Looks.{Met, Missed, look_act, looks_until, seen_in}
 use Rattle.probe_run.specs.Outcomes.{ClearBroke, HaltedBy, RunBroke, asks}
 use Rattle.probe_run.specs.Outcomes.RunBroke.{at_request, at_look}
-use Rattle.probe_run.specs.Requests.{control_word, dmcontrol_address, dmstatus_address}
+use Rattle.probe_run.specs.Requests.{control_word}
 use Rattle.probe_run.proofs.ActLemmas.{broke_list, broke_then, did_then}
 use Rattle.probe_run.proofs.Asking.{HaltAsked, HaltSeen}
 use Rattle.probe_run.proofs.Calls.{HappenedCut, Holds, Outcome, broke_outcome, did_outcome, outcome_holds, outcome_leaves, outcome_left}

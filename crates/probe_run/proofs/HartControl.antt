@@ -3,6 +3,7 @@ use Rattle.std.proofs.Common.{◌≡◌, ◌∙◌, ◌++◌, ◌+◌, ◌<◌, 
 use Rattle.std.proofs.lemmas.Bool.{false≢true}
 use Rattle.rv_model.specs.declared.cause.Cause.{Cause}
 use Rattle.rv_model.specs.Board.{Board, Hart}
+use Rattle.debug_model.specs.Addresses.{dmcontrol_address, dmstatus_address}
 use Rattle.debug_model.specs.declared.dmi_op.DmiOp.TheVariants.{Read, Write}
 use Rattle.debug_model.specs.declared.point.Point.{Point}
 use Rattle.debug_model.specs.declared.point.Point.TheVariants.{Look, HaltReq, HaltClear}
@@ -15,7 +16,7 @@ use Rattle.probe_run.specs.declared.control.Request.TheVariants.{Nothing, Halt}
 use Rattle.probe_run.specs.Happens.{HaltsAt, InVain, MetAt, target_of}
 use Rattle.probe_run.specs.Looks.{Shows, ShowsNot, look_act, looks_until, seen_in}
 use Rattle.probe_run.specs.Outcomes.{asks}
-use Rattle.probe_run.specs.Requests.{control_word, dmcontrol_address, dmstatus_address}
+use Rattle.probe_run.specs.Requests.{control_word}
 use Rattle.probe_run.proofs.Asking.{GoAsked, HaltAsked, HaltSeen, OnlyAt, Stopped, Unasked, halt_asked_kept, halt_seen_kept}
 use Rattle.probe_run.proofs.Between.{Between, between_ready, between_weaker, ready_between, stopped_unasked}
 use Rattle.probe_run.proofs.Calls.{RanBoth, ran_split}

@@ -1,13 +1,6 @@
 pub mod ActLemmas
 pub mod SiteLemmas
 pub mod Waiting
-pub mod WideWords
-pub mod WideOperands
-pub mod WideCore
-pub mod WideMemory
-pub mod WideEffects
-pub mod WideHart
-pub mod Widths
 pub mod Wide
 pub mod Asking
 pub mod ControlAndStatus

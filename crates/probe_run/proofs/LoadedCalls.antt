@@ -1,6 +1,7 @@
 -- The opening of a chip that is told as it was loaded: Ok leaves it ready, and no register is refused.
 use Rattle.std.proofs.Common.{◌≡◌, ◌∙◌, ◌++◌, ℕ, List, [], ◌∷◌, map, Bool, true, false, Option, Some, None, refl, sym, ap, subst, append-nil}
 use Rattle.std.proofs.lemmas.Bool.{false≢true}
+use Rattle.debug_model.specs.Addresses.{dmcontrol_address, dmstatus_address, abstractcs_address, abstractauto_address, sbcs_address}
 use Rattle.debug_model.specs.declared.dmi.DmiFault.{DmiFault}
 use Rattle.debug_model.specs.declared.dmi_op.DmiOp.{DmiOp}
 use Rattle.debug_model.specs.declared.dmi_op.DmiOp.TheVariants.{Read, Write}
@@ -17,13 +18,13 @@ use Rattle.probe_run.specs.Acts.Act.{Scanned, Put}
 use Rattle.probe_run.specs.Acts.Attempt.{Scan, Operation}
 use Rattle.probe_run.specs.Happens.{target_of}
 use Rattle.probe_run.specs.Looks.{look_act}
-use Rattle.probe_run.specs.Opening.{ActivateBroke, BusBroke, CommandsBroke, IsDmiFault, bus_fits, commands_fit, is_active, module_fits, BusFits, CommandsFit, ConnectFails, LosesLoaded, Opened, OpenedChip, OpeningBroke, OpensLoaded, Then, UnopenedChip, UpToBus, UpToCommands, UpToModule, abstractauto_address, abstractcs_address, active_act, bus_act, clears_cmderr, clears_sberror, commands_act, sbcs_address, starts_none, transport_fits}
+use Rattle.probe_run.specs.Opening.{ActivateBroke, BusBroke, CommandsBroke, IsDmiFault, bus_fits, commands_fit, is_active, module_fits, BusFits, CommandsFit, ConnectFails, LosesLoaded, Opened, OpenedChip, OpeningBroke, OpensLoaded, Then, UnopenedChip, UpToBus, UpToCommands, UpToModule, active_act, bus_act, clears_cmderr, clears_sberror, commands_act, starts_none, transport_fits}
 use Rattle.probe_run.specs.Opening.ActivateBroke.{at_read, at_write}
 use Rattle.probe_run.specs.Opening.CommandsBroke.{at_abstractauto, at_abstractcs, at_cmderr}
 use Rattle.probe_run.specs.Opening.BusBroke.{at_sbcs, at_sberror}
 use Rattle.probe_run.specs.Opening.OpeningBroke.{in_activation, in_bus, in_commands, in_module, in_transport}
 use Rattle.probe_run.specs.Outcomes.{asks}
-use Rattle.probe_run.specs.Requests.{control_word, dmcontrol_address, dmstatus_address}
+use Rattle.probe_run.specs.Requests.{control_word}
 use Rattle.probe_run.proofs.Between.{between_ready}
 use Rattle.probe_run.proofs.Calls.{CallRan}
 use Rattle.probe_run.proofs.Fresh.{Fresh, QuietUnit, Turns, cut_look, cut_went, fresh_deeds}

@@ -17,12 +17,13 @@ use Rattle.rv_model.proofs.WholeBoards.{reset_is_hart}
 use Rattle.debug_model.specs.Chip.{Live}
 use Rattle.debug_model.specs.Loaded.{AsLoaded, loaded_board, loaded_memory, reset_harts}
 use Rattle.debug_model.specs.Module.{reset_module}
-use Rattle.debug_model.specs.Told.{Far, MemoryReady, site_of}
+use Rattle.rv_model.specs.Widths.{MemoryReady}
+use Rattle.debug_model.specs.Told.{Far, site_of}
 use Rattle.probe_run.proofs.Asking.{Unasked}
 use Rattle.probe_run.proofs.Fresh.{Fresh}
-use Rattle.probe_run.proofs.WideCore.{CoreWide, zero_by, zero_wide}
-use Rattle.probe_run.proofs.WideHart.{HartWide, registers_wide}
-use Rattle.probe_run.proofs.WideWords.{IsWide}
+use Rattle.rv_model.proofs.WideCore.{CoreWide, zero_by, zero_wide}
+use Rattle.rv_model.proofs.WideHart.{HartWide, registers_wide}
+use Rattle.rv_model.proofs.WideWords.{IsWide}
 
 -- ---- a hart as a reset leaves it
 

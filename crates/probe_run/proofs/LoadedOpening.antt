@@ -1,5 +1,6 @@
 -- The opening of a chip as it was loaded, step by step: every register shows what is asked of it, and one Look of hart 0 is all that happens.
 use Rattle.std.proofs.Common.{◌≡◌, ◌∙◌, ◌++◌, ℕ, [], ◌∷◌, Bool, true, false, slice_get, refl, sym, ap, subst, append-nil, arith, if◌then◌else◌}
+use Rattle.debug_model.specs.Addresses.{dmcontrol_address, dmstatus_address, abstractcs_address, abstractauto_address, sbcs_address}
 use Rattle.debug_model.specs.declared.dmi_op.DmiOp.TheVariants.{Read, Write}
 use Rattle.debug_model.specs.declared.module_register.ModuleRegister.TheVariants.{Abstractcs, Dmcontrol, Sbcs}
 use Rattle.debug_model.specs.declared.point.Point.TheVariants.{Look}
@@ -11,8 +12,8 @@ use Rattle.debug_model.specs.SystemBus.{reset_bus, sbcs_written}
 use Rattle.debug_model.specs.Told.{ModuleReady}
 use Rattle.chip_laws.proofs.ModuleLemmas.{plain_reads}
 use Rattle.probe_run.specs.declared.control.Request.TheVariants.{Nothing}
-use Rattle.probe_run.specs.Opening.{abstractauto_address, abstractcs_address, bus_fits, clears_cmderr, clears_sberror, commands_fit, is_active, sbcs_address, starts_none}
-use Rattle.probe_run.specs.Requests.{control_word, dmcontrol_address, dmstatus_address}
+use Rattle.probe_run.specs.Opening.{bus_fits, clears_cmderr, clears_sberror, commands_fit, is_active, starts_none}
+use Rattle.probe_run.specs.Requests.{control_word}
 use Rattle.probe_run.proofs.Fresh.{QuietUnit, Turns}
 use Rattle.probe_run.proofs.Moves.{select_point}
 use Rattle.probe_run.proofs.SiteLemmas.{same_site}

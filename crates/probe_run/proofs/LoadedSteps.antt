@@ -2,6 +2,7 @@
 use Rattle.std.proofs.Common.{◌≡◌, ◌∙◌, ◌++◌, ℕ, List, [], ◌∷◌, map, Bool, true, false, Option, Some, None, is_some, slice_get, refl, sym, ap, subst, append_assoc, append-nil, if◌then◌else◌}
 use Rattle.rv_model.specs.declared.cause.Cause.{Cause}
 use Rattle.rv_model.specs.Board.{Hart}
+use Rattle.debug_model.specs.Addresses.{dmcontrol_address, dmstatus_address, abstractcs_address, abstractauto_address, sbcs_address}
 use Rattle.debug_model.specs.declared.dmi_op.DmiOp.{DmiOp}
 use Rattle.debug_model.specs.declared.dmi_op.DmiOp.TheVariants.{Read, Write}
 use Rattle.debug_model.specs.declared.module_register.ModuleRegister.TheVariants.{Dmstatus}
@@ -17,9 +18,9 @@ use Rattle.probe_run.specs.declared.control.Request.TheVariants.{Nothing}
 use Rattle.probe_run.specs.Acts.Act.{Scanned, Put}
 use Rattle.probe_run.specs.Happens.{target_of}
 use Rattle.probe_run.specs.Looks.{look_act}
-use Rattle.probe_run.specs.Opening.{abstractauto_address, abstractcs_address, active_act, bus_act, bus_fits, clears_cmderr, clears_sberror, commands_act, commands_fit, is_active, module_fits, sbcs_address, starts_none, transport_fits}
+use Rattle.probe_run.specs.Opening.{active_act, bus_act, bus_fits, clears_cmderr, clears_sberror, commands_act, commands_fit, is_active, module_fits, starts_none, transport_fits}
 use Rattle.probe_run.specs.Outcomes.{asks}
-use Rattle.probe_run.specs.Requests.{control_word, dmcontrol_address, dmstatus_address}
+use Rattle.probe_run.specs.Requests.{control_word}
 use Rattle.probe_run.specs.Sites.{TurnsAlone, spun}
 use Rattle.probe_run.proofs.Fresh.{Fresh, QuietUnit, Turns, Went, fresh_along, fresh_deeds, went, went_look, went_on}
 use Rattle.probe_run.proofs.LoadedOpening.{activates, active_quiet, active_unit, clears_auto, clears_bus, clears_commands, looks_at_first, opened_quiet, opened_unit, reads_bus, reads_commands, reads_control, reset_quiet, shows_active, shows_bus, shows_commands}

@@ -1,6 +1,7 @@
 -- What one Look did at a told chip, and what it hands out.
 use Rattle.std.proofs.Common.{◌≡◌, ◌∙◌, ◌++◌, append_assoc, ◌<◌, ◌≤◌, ◌^◌, ℕ, List, [], ◌∷◌, Bool, true, Option, Some, None, is_some, slice_get, refl, sym, ap, subst, inl, inr}
 use Rattle.rv_model.specs.Board.{Hart}
+use Rattle.debug_model.specs.Addresses.{dmcontrol_address, dmstatus_address}
 use Rattle.debug_model.specs.declared.dmi.DmiFault.{DmiFault}
 use Rattle.debug_model.specs.declared.dmi_op.DmiOp.TheVariants.{Read, Write}
 use Rattle.debug_model.specs.declared.point.Point.{Point}
@@ -20,11 +21,11 @@ use Rattle.probe_run.specs.declared.hart.Seen.{Seen}
 use Rattle.probe_run.specs.declared.hart.Seen.TheVariants as seen
 use Rattle.probe_run.specs.Acts.{Did, Tells}
 use Rattle.probe_run.specs.Acts.Act.{Put}
-use Rattle.probe_run.specs.Happens.{IsAsSeen, Leaves, LeftBy, SeesAt, target_of}
+use Rattle.probe_run.specs.Happens.{IsAsSeen, Leaves, LeftBy, LooksAt, target_of}
 use Rattle.probe_run.specs.Looks.{look_act, seen_in}
 use Rattle.probe_run.specs.Outcomes.{IsSeen, LookFailed, LookedAt, asks}
 use Rattle.probe_run.specs.Outcomes.LookFailed.{at_selection, at_look}
-use Rattle.probe_run.specs.Requests.{control_word, dmcontrol_address, dmstatus_address}
+use Rattle.probe_run.specs.Requests.{control_word}
 use Rattle.probe_run.specs.Waits.{LookBroke}
 use Rattle.probe_run.proofs.ActLemmas.{broke_then, did_then}
 use Rattle.probe_run.specs.Sites.{IsQuiet, TurnsAlone, spun}
@@ -165,9 +166,9 @@ look_outcome : (h : ℕ) → h < 2 ^ 10 → (old new : Tells) (s : Seen) → IsR
 look_outcome h small old new s ready l =
     did_outcome (Put dmcontrol_address (control_word Nothing h) ∷ look_act l.word ∷ []) (LookRan h l.word) SiteReady old new ready (λ x t r ran. look_ran h l.word small x t r ran) l.did
 
-pub look_happened : (h : ℕ) → h < 2 ^ 10 → (old new : Tells) (s : Seen) → IsReady old.far → LookedAt h old new s → WhereTold (Leaves (SeesAt h s) h) old.far new.far
+pub look_happened : (h : ℕ) → h < 2 ^ 10 → (old new : Tells) (s : Seen) → IsReady old.far → LookedAt h old new s → WhereTold (Leaves (LooksAt h s) h) old.far new.far
 look_happened h small old new s ready l =
-    outcome_leaves (SeesAt h s) h (LookRan h l.word) old.far new.far (λ x t r. record { happened = record { now = seen_in l.word; look = r.looked; is = l.shows }; unit = r.unit }) (look_outcome h small old new s ready l)
+    outcome_leaves (LooksAt h s) h (LookRan h l.word) old.far new.far (λ x t r. record { happened = record { now = seen_in l.word; look = r.looked; is = l.shows }; unit = r.unit }) (look_outcome h small old new s ready l)
 
 pub look_ready : (h : ℕ) → h < 2 ^ 10 → (old new : Tells) (s : Seen) → IsReady old.far → LookedAt h old new s → IsReady new.far
 look_ready h small old new s ready l = outcome_holds SiteReady (LookRan h l.word) old.far new.far (λ x t r. known_ready h t (seen_in l.word) r.known) (look_outcome h small old new s ready l)

@@ -3,6 +3,7 @@ use Rattle.std.proofs.Common.{◌≡◌, ◌∙◌, ◌++◌, ◌<◌, ◌^◌, 
 use Rattle.std.specs.Prelude.{◌⊎◌}
 use Rattle.std.proofs.lemmas.Bool.{false≢true}
 use Rattle.rv_model.specs.Board.{Board, DebugPart, Hart}
+use Rattle.debug_model.specs.Addresses.{dmcontrol_address, dmstatus_address}
 use Rattle.debug_model.specs.declared.dmi_op.DmiOp.{DmiOp}
 use Rattle.debug_model.specs.declared.dmi_op.DmiOp.TheVariants.{Read, Write}
 use Rattle.debug_model.specs.declared.point.Point.{Point}
@@ -19,7 +20,7 @@ use Rattle.abstract_debugger.specs.Turns.{after_turns}
 use Rattle.probe_run.specs.declared.control.Request.TheVariants.{Nothing, Halt, Resume}
 use Rattle.probe_run.specs.Happens.{target_of}
 use Rattle.probe_run.specs.Looks.{seen_in}
-use Rattle.probe_run.specs.Requests.{control_word, dmcontrol_address, dmstatus_address}
+use Rattle.probe_run.specs.Requests.{control_word}
 use Rattle.probe_run.specs.Sites.{IsQuiet, TurnsAlone, spun}
 use Rattle.probe_run.proofs.Asking.{GoAsked, HaltAsked, HaltSeen, KeptByTurns, OnlyAt, Stopped, Unasked, go_asked_kept, halt_asked_kept, halt_seen_kept, stopped_kept, unasked_kept}
 use Rattle.probe_run.proofs.Between.{Between, between_spun, changed_there, halt_asks, halt_clears, only_weaker, resume_asks, there_turns}

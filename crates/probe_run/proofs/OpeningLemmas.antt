@@ -1,6 +1,7 @@
 -- The steps of an opening from the calls that they make.
 use Rattle.std.proofs.Common.{◌≡◌, ◌++◌, ◌+◌, ◌<◌, ◌≤◌, ℕ, List, [], ◌∷◌, length, map, All, Bool, true, false, Option, Some, None, IfSome, refl, sym, ap, subst, arith, length-append, append-nil}
 use Rattle.std.proofs.lemmas.List.Elements.{All-nil, All-push}
+use Rattle.debug_model.specs.Addresses.{dmcontrol_address}
 use Rattle.debug_model.specs.declared.dmi.DmiFault.{DmiFault}
 use Rattle.debug_model.specs.declared.dmi_op.DmiOp.{DmiOp}
 use Rattle.debug_model.specs.declared.dmi_op.DmiOp.TheVariants.{Read}
@@ -15,7 +16,6 @@ use Rattle.probe_run.specs.Acts.Act.{Scanned}
 use Rattle.probe_run.specs.Acts.Attempt.{Scan, Operation}
 use Rattle.probe_run.specs.Opening.{Activated, ActivationBroke, NotActivated, ReadAs, ThenBroke, active_act, is_active}
 use Rattle.probe_run.specs.Outcomes.{asks}
-use Rattle.probe_run.specs.Requests.{dmcontrol_address}
 use Rattle.probe_run.proofs.ActLemmas.{broke_op, broke_then, did_list, did_one, did_then, scanned_cause}
 
 -- ---- dtmcs

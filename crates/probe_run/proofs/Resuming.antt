@@ -1,6 +1,7 @@
 -- What a resume and a single step did at a told chip, by their answers.
 use Rattle.std.proofs.Common.{◌≡◌, ◌++◌, ◌+◌, ◌<◌, ◌^◌, ℕ, List, [], length, map, All, Bool, Option, ap, subst}
 use Rattle.rv_model.specs.Board.{DebugPart}
+use Rattle.debug_model.specs.Addresses.{dmcontrol_address, dmstatus_address}
 use Rattle.debug_model.specs.declared.dmi.DmiFault.{DmiFault}
 use Rattle.debug_model.specs.declared.dmi_op.DmiOp.TheVariants.{Read, Write}
 use Rattle.debug_model.specs.declared.point.Point.TheVariants.{ResumeReq}
@@ -15,7 +16,7 @@ use Rattle.probe_run.specs.Happens.{Exists, Leaves, LeftBy, MetAt, MissedAt, Run
 use Rattle.probe_run.specs.Looks.{Met, Missed, Shows, ShowsNot, look_act, looks_until, seen_in}
 use Rattle.probe_run.specs.Outcomes.{RunBroke, asks}
 use Rattle.probe_run.specs.Outcomes.RunBroke.{at_request, at_look}
-use Rattle.probe_run.specs.Requests.{control_word, dmcontrol_address, dmstatus_address}
+use Rattle.probe_run.specs.Requests.{control_word}
 use Rattle.probe_run.proofs.Asking.{GoAsked, KeptByTurns, Stopped, Unasked, go_asked_kept, stopped_kept, unasked_kept}
 use Rattle.probe_run.proofs.Between.{between_ready, between_weaker, ready_between, stopped_unasked}
 use Rattle.probe_run.proofs.Calls.{HappenedCut, Holds, Outcome, broke_outcome, did_outcome, outcome_holds, outcome_leaves, outcome_left}

@@ -3,6 +3,7 @@ use Rattle.std.proofs.Common.{◌≡◌, ◌∙◌, ◌++◌, ◌+◌, ◌<◌, 
 use Rattle.std.specs.Prelude.{◌⊎◌}
 use Rattle.std.proofs.lemmas.List.Elements.{All-head, All-tail}
 use Rattle.rv_model.specs.Board.{DebugPart}
+use Rattle.debug_model.specs.Addresses.{dmstatus_address}
 use Rattle.debug_model.specs.declared.dmi_op.DmiOp.TheVariants.{Read}
 use Rattle.debug_model.specs.declared.point.Point.{Point}
 use Rattle.debug_model.specs.declared.point.Point.TheVariants.{Look}
@@ -14,7 +15,6 @@ use Rattle.probe_run.specs.Acts.{Act}
 use Rattle.probe_run.specs.Happens.{InVain, MetAt, MissedAt, RunCut, target_of}
 use Rattle.probe_run.specs.Happens.InVain.{none, again}
 use Rattle.probe_run.specs.Looks.{Shows, ShowsNot, look_act, looks_until, seen_in}
-use Rattle.probe_run.specs.Requests.{dmstatus_address}
 use Rattle.probe_run.proofs.Asking.{KeptByTurns}
 use Rattle.probe_run.proofs.Between.{Between}
 use Rattle.probe_run.proofs.Moves.{CutAs, Moved, Reveals, Saw, cut_point, look_notes, saw, selected_in}

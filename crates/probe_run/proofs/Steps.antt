@@ -2,6 +2,7 @@
 use Rattle.std.proofs.Common.{◌≡◌, ◌∙◌, ◌++◌, ◌<◌, ◌^◌, ℕ, List, [], ◌∷◌, Bool, true, false, Option, Some, None, slice_get, refl, sym, ap, append_assoc, append-nil, if◌then◌else◌}
 use Rattle.std.proofs.lemmas.Bool.{false≢true}
 use Rattle.rv_model.specs.Board.{Board, Hart}
+use Rattle.debug_model.specs.Addresses.{dmcontrol_address, dmstatus_address}
 use Rattle.debug_model.specs.declared.dmi_op.DmiOp.{DmiOp}
 use Rattle.debug_model.specs.declared.dmi_op.DmiOp.TheVariants.{Read, Write}
 use Rattle.debug_model.specs.declared.micro.Micro.{Micro}
@@ -21,7 +22,7 @@ use Rattle.abstract_debugger.proofs.StandsLemmas.{after_turns-append, turns-appe
 use Rattle.probe_run.specs.declared.control.Request.{Request}
 use Rattle.probe_run.specs.Happens.{target_of}
 use Rattle.probe_run.specs.Looks.{seen_in}
-use Rattle.probe_run.specs.Requests.{control_word, dmcontrol_address, dmstatus_address}
+use Rattle.probe_run.specs.Requests.{control_word}
 use Rattle.probe_run.specs.Sites.{Amid, IsQuiet, TurnsAlone, spun}
 use Rattle.probe_run.proofs.SiteLemmas.{same_site}
 use Rattle.probe_run.proofs.ControlAndStatus.{control_for, control_read, seen_status}

@@ -9,10 +9,10 @@ use Rattle.rv_model.specs.Memory.{Memory}
 use Rattle.rv_model.specs.Turn.{place_of, turn, turn_by}
 use Rattle.rv_model.proofs.MapLemmas.{slice_get-set_same, slice_get-set_other}
 use Rattle.debug_model.specs.Journal.{debug_changed, debug_changed_by, halt_requested, resume_asked, resume_asked_by, with_debug}
-use Rattle.debug_model.specs.Told.{MemoryReady}
+use Rattle.rv_model.specs.Widths.{MemoryReady}
 use Rattle.abstract_debugger.specs.Turns.{after_turns}
-use Rattle.probe_run.proofs.Widths.{place_wide, memory_wide}
-use Rattle.probe_run.proofs.WideHart.{HartWide}
+use Rattle.rv_model.proofs.Widths.{place_wide, memory_wide}
+use Rattle.rv_model.proofs.WideHart.{HartWide}
 
 -- ---- harts, each with its number
 

@@ -28,7 +28,8 @@ Exists h told = IfSome told (λ f. HartExists h (site_of f).board)
 -- so many Looks of hart h, none of which showed what was wanted, and what the last of them showed
 pub data InVain (test : Sight → Bool) (h : ℕ) (old : Target) : ℕ → Sight → Target → Type 0 where
   none : InVain test h old 0 unseen old
-  again : (n : ℕ) (last now : Sight) (mid new : Target) → InVain test h old n last mid → Looked h now mid new → test now ≡ false → InVain test h old (n + 1) now new
+  again : (n : ℕ) (last now : Sight) (mid new : Target) → InVain test h old n last mid → Looked h now mid new → test now ≡ false
+      → InVain test h old (n + 1) now new
 
 -- a request, and at most 64 Looks, of which the last alone showed what was wanted
 pub record MetAt (request : Point) (test : Sight → Bool) (h : ℕ) (old new : Target) : Type 0 where
@@ -86,7 +87,7 @@ abbrev pub StepsAt : ℕ → Target → Target → Type 0
 StepsAt h = MetAt (ResumeReq h) sees_both h
 
 -- one Look, whose sight is the one that was handed out
-pub record SeesAt (h : ℕ) (s : Seen) (old new : Target) : Type 0 where
+pub record LooksAt (h : ℕ) (s : Seen) (old new : Target) : Type 0 where
   pub now : Sight
   pub look : Looked h now old new
   pub is : IsSeen h now s

@@ -1,6 +1,7 @@
 -- Looks: what a word of dmstatus shows of a hart, and so many Looks until one shows what is wanted.
 -- RISC-V Debug Specification 1.0, "Debug Module Status". That a debugger gives up behind 64 Looks is this project's own choice.
 use Rattle.std.specs.Prelude.{◌≡◌, ◌++◌, ◌<◌, ◌+◌, ℕ, List, [], ◌∷◌, length, map, All, Bool, true, false, if◌then◌else◌}
+use Rattle.debug_model.specs.Addresses.{dmstatus_address}
 use Rattle.debug_model.specs.declared.dmstatus.Dmstatus.{Dmstatus}
 use Rattle.debug_model.specs.ModuleWords.{dmstatus_of}
 use Rattle.abstract_debugger.specs.Debugger.{Seen, most_looks, sees_ack, sees_both, sees_halted}
@@ -11,7 +12,6 @@ use Rattle.probe_run.specs.declared.wait.Waited.{Waited}
 use Rattle.probe_run.specs.declared.wait.Waited.TheVariants as waited
 use Rattle.probe_run.specs.Acts.{Act, Did, Tells}
 use Rattle.probe_run.specs.Acts.Act.{Got}
-use Rattle.probe_run.specs.Requests.{dmstatus_address}
 
 -- an absent hart is neither halted nor running, whatever else is shown
 abbrev pub seen_in_status : Dmstatus → Seen

@@ -1,6 +1,8 @@
 -- The opening of a chip: which registers are read and written, in order, and what each of them must show.
 -- RISC-V Debug Specification 1.0, "Debug Module Registers" and "DTM Control and Status". What is asked of each register is this project's own choice.
-use Rattle.std.specs.Prelude.{◌≡◌, ◌++◌, ◌+◌, ◌<◌, ◌==◌, ◌&&◌, not, nat_le, ◌%◌, ℕ, List, [], ◌∷◌, length, map, All, Bool, true, false, Option, Some, None, IfSome}
+use Rattle.std.specs.Prelude.{◌≡◌, ◌++◌, ◌+◌, ◌<◌, ◌==◌, ◌&&◌, not, nat_le, ◌%◌, ℕ, List, [], ◌∷◌, length, map, All, Bool, true, false, Option, Some, None}
+use Rattle.std.specs.Prelude.{IfSome}
+use Rattle.debug_model.specs.Addresses.{dmcontrol_address, abstractcs_address, abstractauto_address, sbcs_address}
 use Rattle.debug_model.specs.declared.dmi.DmiFault.{DmiFault}
 use Rattle.debug_model.specs.declared.dmi_op.DmiOp.TheVariants.{Read, Write}
 use Rattle.debug_model.specs.declared.point.Point.TheVariants.{Look}
@@ -19,7 +21,6 @@ use Rattle.probe_run.specs.Acts.Attempt.{Scan, Operation}
 use Rattle.probe_run.specs.Happens.{target_of}
 use Rattle.probe_run.specs.Looks.{look_act}
 use Rattle.probe_run.specs.Outcomes.{AskBroke, asks}
-use Rattle.probe_run.specs.Requests.{dmcontrol_address}
 use Rattle.probe_run.specs.Waits.{LookBroke}
 
 -- ---- what is asked of each register
@@ -44,15 +45,6 @@ abbrev pub bus_fits : ℕ → Bool
 bus_fits w = (sbcs_of w).sbversion == 1 && ((sbcs_of w).sbasize == bus_address_bits && (sbcs_of w).sizes % 16 == 15)
 
 -- ---- the registers
-
-abbrev pub abstractcs_address : ℕ
-abstractcs_address = 0x16
-
-abbrev pub abstractauto_address : ℕ
-abstractauto_address = 0x18
-
-abbrev pub sbcs_address : ℕ
-sbcs_address = 0x38
 
 -- every error of commands is cleared
 abbrev pub clears_cmderr : ℕ
@@ -166,15 +158,18 @@ ModuleFails old_count new_count old new (Bus word) = ⊥
 ModuleFails old_count new_count old new (Dmi fault) = LookBroke [] old_count new_count old new.far fault
 
 -- an operation failed behind some steps
-pub record ThenBroke (R : Tells → Tells → Type 0) (acts : List Act) (failed : Attempt) (old_count new_count : ℕ) (old : Tells) (told : Option Far) (fault : DmiFault) : Type 0 where
+pub record ThenBroke (R : Tells → Tells → Type 0) (acts : List Act) (failed : Attempt) (old_count new_count : ℕ) (old : Tells) (told : Option Far)
+    (fault : DmiFault) : Type 0 where
   pub mid : Tells
   pub first : R old mid
   pub broke : Broke acts failed old_count new_count mid told fault
 
 pub data CommandsBroke (old_count new_count : ℕ) (old : Tells) (told : Option Far) (fault : DmiFault) : Type 0 where
   at_abstractcs : Broke [] (Operation (Read abstractcs_address)) old_count new_count old told fault → CommandsBroke old_count new_count old told fault
-  at_cmderr : ThenBroke CommandsFit [] (Operation (Write abstractcs_address clears_cmderr)) old_count new_count old told fault → CommandsBroke old_count new_count old told fault
-  at_abstractauto : ThenBroke CommandsFit (Put abstractcs_address clears_cmderr ∷ []) (Operation (Write abstractauto_address starts_none)) old_count new_count old told fault
+  at_cmderr : ThenBroke CommandsFit [] (Operation (Write abstractcs_address clears_cmderr)) old_count new_count old told fault
+      → CommandsBroke old_count new_count old told fault
+  at_abstractauto : ThenBroke CommandsFit (Put abstractcs_address clears_cmderr ∷ [])
+      (Operation (Write abstractauto_address starts_none)) old_count new_count old told fault
       → CommandsBroke old_count new_count old told fault
 
 abbrev pub CommandsFail : ℕ → ℕ → Tells → Tells → ConnectFault → Type 0
@@ -186,7 +181,8 @@ CommandsFail old_count new_count old new (Dmi fault) = CommandsBroke old_count n
 
 pub data BusBroke (old_count new_count : ℕ) (old : Tells) (told : Option Far) (fault : DmiFault) : Type 0 where
   at_sbcs : Broke [] (Operation (Read sbcs_address)) old_count new_count old told fault → BusBroke old_count new_count old told fault
-  at_sberror : ThenBroke BusFits [] (Operation (Write sbcs_address clears_sberror)) old_count new_count old told fault → BusBroke old_count new_count old told fault
+  at_sberror : ThenBroke BusFits [] (Operation (Write sbcs_address clears_sberror)) old_count new_count old told fault
+      → BusBroke old_count new_count old told fault
 
 abbrev pub BusFails : ℕ → ℕ → Tells → Tells → ConnectFault → Type 0
 BusFails old_count new_count old new (Dtm word) = ⊥

@@ -1,6 +1,7 @@
 -- What each call of run control did at the link: the operations that it made, in order, with what the Looks showed, and where a fault came.
 -- RISC-V Debug Specification 1.0, "Halt Control" and "Run Control".
 use Rattle.std.specs.Prelude.{◌≡◌, ℕ, List, [], ◌∷◌, Bool, true, false, Option, Some, None}
+use Rattle.debug_model.specs.Addresses.{dmcontrol_address}
 use Rattle.debug_model.specs.declared.dmi.DmiFault.{DmiFault}
 use Rattle.debug_model.specs.declared.dmi_op.DmiOp.TheVariants.{Write}
 use Rattle.debug_model.specs.Told.{Far}
@@ -18,7 +19,7 @@ use Rattle.probe_run.specs.Acts.{Act, Broke, Did, Tells}
 use Rattle.probe_run.specs.Acts.Act.{Put}
 use Rattle.probe_run.specs.Acts.Attempt.{Operation}
 use Rattle.probe_run.specs.Looks.{Met, Missed, look_act, seen_in, test_of}
-use Rattle.probe_run.specs.Requests.{control_word, dmcontrol_address}
+use Rattle.probe_run.specs.Requests.{control_word}
 use Rattle.probe_run.specs.Waits.{LookBroke, WaitBroke}
 
 -- ---- faults
@@ -36,12 +37,14 @@ abbrev pub asks : Request → ℕ → List Act
 asks request h = Put dmcontrol_address (control_word request h) ∷ []
 
 abbrev pub AskBroke : Request → ℕ → ℕ → ℕ → Tells → Option Far → DmiFault → Type 0
-AskBroke request h old_count new_count old told fault = Broke [] (Operation (Write dmcontrol_address (control_word request h))) old_count new_count old told fault
+AskBroke request h old_count new_count old told fault =
+    Broke [] (Operation (Write dmcontrol_address (control_word request h))) old_count new_count old told fault
 
 -- by what a wait behind a request answers
 abbrev pub AskedAs : Request → ℕ → Wanted → Tells → Tells → Waited → Type 0
 AskedAs request h what old new waited.Shown = Met (test_of what) (asks request h) old new
-AskedAs request h what old new (waited.Unshown acknowledged) = (last : ℕ) × Missed (test_of what) last (asks request h) old new × (acknowledged ≡ sees_ack (seen_in last))
+AskedAs request h what old new (waited.Unshown acknowledged) = (last : ℕ) × Missed (test_of what) last (asks request h) old new
+    × (acknowledged ≡ sees_ack (seen_in last))
 
 -- the request failed, or a Look behind it
 pub data RunBroke (request : Request) (test : Sight → Bool) (h old_count new_count : ℕ) (old : Tells) (told : Option Far) (fault : DmiFault) : Type 0 where

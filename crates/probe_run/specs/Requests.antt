@@ -5,12 +5,6 @@ use Rattle.debug_model.specs.ModuleWords.{dmcontrol_word}
 use Rattle.probe_run.specs.declared.control.Request.{Request}
 use Rattle.probe_run.specs.declared.control.Request.TheVariants.{Nothing, Halt, Resume}
 
-abbrev pub dmcontrol_address : ℕ
-dmcontrol_address = 0x10
-
-abbrev pub dmstatus_address : ℕ
-dmstatus_address = 0x11
-
 abbrev pub asks_halt : Request → Bool
 asks_halt Nothing = false
 asks_halt Halt = true

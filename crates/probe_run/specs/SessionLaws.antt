@@ -22,4 +22,5 @@ ResumesLead = (m : Machine) (h : ℕ) (o : Origin) (next : Plan) (lines : List L
 -- between the change in front of a step and the one behind it
 abbrev pub StepsLead : Type 0
 StepsLead = (m : Machine) (h : ℕ) (o : Origin) (next : Plan) (lines : List Line) (old new : Target)
-    → StepsAt h old new → Deals m h Holding o (take (ResumeReq h) (until most_looks h sees_both lost_step next unseen)) lines old → Deals m h Over o next lines new
+    → StepsAt h old new → Deals m h Holding o (take (ResumeReq h) (until most_looks h sees_both lost_step next unseen)) lines old
+    → Deals m h Over o next lines new

@@ -1,6 +1,7 @@
 -- What has become of a wait whose Look failed.
 -- RISC-V Debug Specification 1.0, "Debug Module Status".
 use Rattle.std.specs.Prelude.{◌++◌, ◌<◌, ℕ, List, map, All, length, Bool, Option}
+use Rattle.debug_model.specs.Addresses.{dmstatus_address}
 use Rattle.debug_model.specs.declared.dmi.DmiFault.{DmiFault}
 use Rattle.debug_model.specs.declared.dmi_op.DmiOp.TheVariants.{Read}
 use Rattle.debug_model.specs.Told.{Far}
@@ -8,7 +9,6 @@ use Rattle.abstract_debugger.specs.Debugger.{Seen, most_looks}
 use Rattle.probe_run.specs.Acts.{Act, Broke, Tells}
 use Rattle.probe_run.specs.Acts.Attempt.{Operation}
 use Rattle.probe_run.specs.Looks.{ShowsNot, look_act}
-use Rattle.probe_run.specs.Requests.{dmstatus_address}
 
 -- a Look failed behind these calls
 abbrev pub LookBroke : List Act → ℕ → ℕ → Tells → Option Far → DmiFault → Type 0

@@ -1,17 +1,12 @@
 ghost use Rattle.std.specs.Prelude.{◌≡◌, ◌≤◌, ◌∷◌, [], ◌<◌, ◌^◌, true, false, IfErr, OnOk, Some};
+ghost use Rattle.debug_model.specs.Addresses.{dmcontrol_address};
 ghost use Rattle.debug_model.specs.declared.dmi_op.DmiOp.TheVariants.{Write};
 ghost use Rattle.probe_run.specs.Acts.{Attempt, Broke, Did, Put};
-ghost use Rattle.probe_run.specs.Requests.{control_word, dmcontrol_address};
+ghost use Rattle.probe_run.specs.Requests.{control_word};
 ghost use Rattle.debug_model.specs.Kept.{CanCall, Keeps};
 ghost use Rattle.probe_run.specs.Told.{Breaks, told};
 
 use debug_model::{Dmcontrol, Dmi, DmiFault};
-
-/// The address of `dmcontrol`.
-pub const DMCONTROL: u8 = 0x10;
-
-/// The address of `dmstatus`.
-pub const DMSTATUS: u8 = 0x11;
 
 /// What a write of `dmcontrol` asks of the hart that it selects.
 #[derive(Clone, Copy, PartialEq, Eq)]
@@ -42,9 +37,10 @@ fn word_for(hart: u16, request: Request) -> u32
 pub fn control<D: Dmi>(link: &mut D, hart: u16, request: Request) -> Result<(), DmiFault>
     requires callable { CanCall (D.seen link.old) }
     ensures did { OnOk result (Did (told (D.seen link.old)) (Put dmcontrol_address (control_word request hart) ∷ []) (told (D.seen link.new))) }
-    ensures broke { IfErr result (Breaks (Broke [] (Attempt.Operation (Write dmcontrol_address (control_word request hart)))) (D.seen link.old) (D.seen link.new)) }
+    ensures broke { IfErr result (Breaks (Broke [] (Attempt.Operation (Write dmcontrol_address (control_word request hart)))) (D.seen link.old)
+        (D.seen link.new)) }
     ensures keeps { Keeps Some (D.seen link.old) (D.seen link.new) result }
 {
-    link.write(DMCONTROL, word_for(hart, request))?;
+    link.write(Dmcontrol::ADDRESS, word_for(hart, request))?;
     Ok(())
 }

@@ -2,23 +2,18 @@
 
 ghost use Rattle.std.specs.Prelude.{◌≡◌, ◌≤◌, ◌∷◌, [], true, false, IfErr, OnOk};
 ghost use Rattle.debug_model.specs.Told.{IsAsLoaded, IsReady, Selects};
-ghost use Rattle.probe_run.specs.Opening.{Activated, ActivationFails, BusCleared, BusFails, BusFits, CommandsCleared, CommandsFail, CommandsFit, ConnectFails, LosesLoaded, ModuleFails, ModuleFits, Opened, OpensLoaded, Then, TransportFails, TransportFits, bus_fits, clears_cmderr, clears_sberror, commands_fit, module_fits, starts_none, transport_fits};
+ghost use Rattle.probe_run.specs.Opening.{Activated, ActivationFails, BusCleared, BusFails, BusFits, CommandsCleared, CommandsFail, CommandsFit};
+ghost use Rattle.probe_run.specs.Opening.{ConnectFails, LosesLoaded, ModuleFails, ModuleFits, Opened, OpensLoaded, Then, TransportFails, TransportFits};
+ghost use Rattle.probe_run.specs.Opening.{bus_fits, clears_cmderr, clears_sberror, commands_fit, module_fits, starts_none, transport_fits};
 ghost use Rattle.debug_model.specs.Kept.{CanCall, Keeps};
 ghost use Rattle.probe_run.specs.Told.{Fails, told};
 ghost use Rattle.probe_run.specs.Opening.{opening_why};
 
-use crate::control::{DMCONTROL, Request, control};
+use crate::control::{Request, control};
 use crate::fault::ConnectFault;
 use crate::target::{Target, opened};
 use crate::wait::look;
 use debug_model::{Abstractauto, Abstractcs, Dmcontrol, Dmi, Dmstatus, Dtmcs, Sbcs};
-
-/// The addresses of `abstractcs`, `abstractauto` and `sbcs`.
-const ABSTRACTCS: u8 = 0x16;
-
-const ABSTRACTAUTO: u8 = 0x18;
-
-const SBCS: u8 = 0x38;
 
 /// How often `dmcontrol` is read at most until dmactive is 1.
 const READS_MOST: u32 = 64;
@@ -126,7 +121,7 @@ fn activate<D: Dmi>(link: &mut D) -> Result<(), ConnectFault>
     control(link, 0, Request::Nothing)?;
     let mut last = 0;
     'reads: for _reads in 0..READS_MOST {
-        let word = link.read(DMCONTROL)?;
+        let word = link.read(Dmcontrol::ADDRESS)?;
         if Dmcontrol::from_word(word).dmactive {
             return Ok(());
         }
@@ -156,12 +151,12 @@ fn check_commands<D: Dmi>(link: &mut D) -> Result<(), ConnectFault>
     ensures fails { IfErr result (Fails CommandsFail (D.seen link.old) (D.seen link.new)) }
     ensures keeps { Keeps opening_why (D.seen link.old) (D.seen link.new) result }
 {
-    let word = link.read(ABSTRACTCS)?;
+    let word = link.read(Abstractcs::ADDRESS)?;
     if !has_commands(word) {
         return Err(ConnectFault::Abstract(word));
     }
-    link.write(ABSTRACTCS, cleared_cmderr())?;
-    link.write(ABSTRACTAUTO, no_autoexec())?;
+    link.write(Abstractcs::ADDRESS, cleared_cmderr())?;
+    link.write(Abstractauto::ADDRESS, no_autoexec())?;
     Ok(())
 }
 
@@ -172,11 +167,11 @@ fn check_bus<D: Dmi>(link: &mut D) -> Result<(), ConnectFault>
     ensures fails { IfErr result (Fails BusFails (D.seen link.old) (D.seen link.new)) }
     ensures keeps { Keeps opening_why (D.seen link.old) (D.seen link.new) result }
 {
-    let word = link.read(SBCS)?;
+    let word = link.read(Sbcs::ADDRESS)?;
     if !has_bus(word) {
         return Err(ConnectFault::Bus(word));
     }
-    link.write(SBCS, cleared_sberror())?;
+    link.write(Sbcs::ADDRESS, cleared_sberror())?;
     Ok(())
 }
 

@@ -1,6 +1,6 @@
 ghost use Rattle.std.specs.Prelude.{◌≡◌, ◌≤◌, ◌<◌, ◌^◌, IfOk, IfErr, OnOk};
 ghost use Rattle.debug_model.specs.Told.{IsReady, Selects};
-ghost use Rattle.probe_run.specs.Happens.{IsAsSeen, Leaves, LookLeft, SeesAt};
+ghost use Rattle.probe_run.specs.Happens.{IsAsSeen, Leaves, LookLeft, LooksAt};
 ghost use Rattle.probe_run.specs.Outcomes.{IsSeen, LookFails, LookedAt};
 ghost use Rattle.probe_run.specs.Looks.{seen_in};
 ghost use Rattle.debug_model.specs.Kept.{CanCall, Keeps};
@@ -42,7 +42,7 @@ impl Target {
         requires ready { IsReady (D.seen link.old).far }
         ensures did { IfOk result (LookedAt hart (told (D.seen link.old)) (told (D.seen link.new))) }
         ensures fails { IfErr result (Fails (LookFails hart) (D.seen link.old) (D.seen link.new)) }
-        ensures happened { IfOk result (λ seen. OnChip (Leaves (SeesAt hart seen) hart) (D.seen link.old) (D.seen link.new)) }
+        ensures happened { IfOk result (λ seen. OnChip (Leaves (LooksAt hart seen) hart) (D.seen link.old) (D.seen link.new)) }
         ensures left { IfErr result (LookLeft hart (D.seen link.old).far (D.seen link.new).far) }
         ensures ready { OnOk result (IsReady (D.seen link.new).far) }
         ensures selects { OnOk result (Selects hart (D.seen link.new).far) }

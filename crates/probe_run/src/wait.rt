@@ -5,7 +5,6 @@ ghost use Rattle.probe_run.specs.Waits.{WaitBroke, LookBroke};
 ghost use Rattle.debug_model.specs.Kept.{CanCall, Keeps};
 ghost use Rattle.probe_run.specs.Told.{Breaks, told};
 
-use crate::control::DMSTATUS;
 use debug_model::{Dmi, DmiFault, Dmstatus};
 
 /// How many Looks a call makes at most.
@@ -57,7 +56,7 @@ pub fn look<D: Dmi>(link: &mut D) -> Result<u32, DmiFault>
     ensures broke { IfErr result (Breaks (LookBroke []) (D.seen link.old) (D.seen link.new)) }
     ensures keeps { Keeps Some (D.seen link.old) (D.seen link.new) result }
 {
-    let word = link.read(DMSTATUS)?;
+    let word = link.read(Dmstatus::ADDRESS)?;
     Ok(word)
 }
 

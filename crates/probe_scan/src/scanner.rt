@@ -46,7 +46,7 @@ impl<W: Wire> Scanner<W> {
 }
 
 /// Receives as many answers as `into` holds, at most 64, and reads their bits. What came before a fault is judged too: a bad answer is told before the fault.
-#[tactic(auto, using(crate::proofs::Received::bad_judged, crate::proofs::Received::bad_own, crate::proofs::Received::bad_kept, crate::proofs::Received::fault_cause, crate::proofs::Received::wire_own))]
+#[tactic(auto, using(crate::proofs::Received::bad_judged, crate::proofs::Received::bad_own, crate::proofs::Received::bad_kept))]
 fn receive<W: Wire>(wire: &mut W, into: &mut [u8]) -> Result<Bits, WireFault>
     requires most { length into.old ≤ bits_most }
     requires open { IsOpen (W.far wire.old) }
@@ -97,7 +97,8 @@ impl<W: Wire> Scan for Scanner<W> {
         ensures length { IfOk result (λ out. length out ≡ length bits) }
         ensures cut { OnErr result (WhereTold (ScanCut (Some 0) bits) (W.far self.old.wire) (W.far self.new.wire)) }
         ensures judged { IfErr result (Judged (option_map Answers (W.coming self.old.wire)) (option_map Answers (W.coming self.new.wire))) }
-        ensures cause { IfErr result (ScanFails (scan_seen (W.far self.old.wire) (W.coming self.old.wire) (W.fault_count self.old.wire) (W.ties self.old.wire) W.gives)
+        ensures cause { IfErr result (ScanFails
+            (scan_seen (W.far self.old.wire) (W.coming self.old.wire) (W.fault_count self.old.wire) (W.ties self.old.wire) W.gives)
             (scan_seen (W.far self.new.wire) (W.coming self.new.wire) (W.fault_count self.new.wire) (W.ties self.new.wire) W.gives)) }
         ensures keeps { ScanKeeps (scan_seen (W.far self.old.wire) (W.coming self.old.wire) (W.fault_count self.old.wire) (W.ties self.old.wire) W.gives)
             (scan_seen (W.far self.new.wire) (W.coming self.new.wire) (W.fault_count self.new.wire) (W.ties self.new.wire) W.gives) result }

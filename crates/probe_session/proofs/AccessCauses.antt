@@ -30,7 +30,7 @@ AccessWire old_count new_count told (fault.Memory address) = Unit {0}
 AccessWire old_count new_count told (fault.Register number) = Unit {0}
 AccessWire old_count new_count told fault.StillBusy = Unit {0}
 AccessWire old_count new_count told (fault.Run why) = IfSome (run_why why) (DmiWire old_count new_count told)
-AccessWire old_count new_count told (fault.Odd word) = Unit {0}
+AccessWire old_count new_count told (fault.Odd shown) = Unit {0}
 
 broke_in : (why : DmiFault) {Begun : List Act → Attempt → Type 0} {old_count new_count : ℕ} {old : Tells} {told : Option Far} → BrokeIn Begun old_count new_count old told why → DmiWire old_count new_count told why
 broke_in why b = broke_wire why b.broke
@@ -43,7 +43,7 @@ command_wire (fault.Memory address) word old_count new_count old new f = tt
 command_wire (fault.Register number) word old_count new_count old new f = tt
 command_wire fault.StillBusy word old_count new_count old new f = tt
 command_wire (fault.Run why) word old_count new_count old new f = absurd f
-command_wire (fault.Odd kept) word old_count new_count old new f = tt
+command_wire (fault.Odd shown) word old_count new_count old new f = tt
 
 read_at : (e : AccessFault) (number old_count new_count : ℕ) (old new : Tells) → ReadFailedAt number old_count new_count old new e → AccessWire old_count new_count new.far e
 read_at _ number old_count new_count old new (ReadFailedAt.in_command e f) = command_wire e (transfer_word false number) old_count new_count old new f
@@ -55,7 +55,7 @@ read_wire (fault.Memory address) number old_count new_count old new f = tt
 read_wire (fault.Register asked) number old_count new_count old new f = tt
 read_wire fault.StillBusy number old_count new_count old new f = tt
 read_wire (fault.Run why) number old_count new_count old new f = absurd f
-read_wire (fault.Odd word) number old_count new_count old new f = tt
+read_wire (fault.Odd shown) number old_count new_count old new f = tt
 
 write_at : (e : AccessFault) (number value old_count new_count : ℕ) (old new : Tells) → WriteFailedAt number value old_count new_count old new e → AccessWire old_count new_count new.far e
 write_at _ number value old_count new_count old new (WriteFailedAt.in_words why b) = broke_in why b
@@ -67,7 +67,7 @@ write_wire (fault.Memory address) number value old_count new_count old new f = t
 write_wire (fault.Register asked) number value old_count new_count old new f = tt
 write_wire fault.StillBusy number value old_count new_count old new f = tt
 write_wire (fault.Run why) number value old_count new_count old new f = absurd f
-write_wire (fault.Odd word) number value old_count new_count old new f = tt
+write_wire (fault.Odd shown) number value old_count new_count old new f = tt
 
 pub stop_wire : (e : AccessFault) (old_count new_count : ℕ) (old new : Tells) → StopFailed old_count new_count old new e → AccessWire old_count new_count new.far e
 stop_wire e old_count new_count old new (StopFailed.at_dpc f) = read_wire e dpc_number old_count new_count old new f
@@ -81,7 +81,7 @@ by_cause (fault.Memory address) old_count new_count old new c = tt
 by_cause (fault.Register number) old_count new_count old new c = tt
 by_cause fault.StillBusy old_count new_count old new c = tt
 by_cause (fault.Run why) old_count new_count old new c = absurd c
-by_cause (fault.Odd word) old_count new_count old new c = tt
+by_cause (fault.Odd shown) old_count new_count old new c = tt
 
 pub load_wire : (e : AccessFault) (size : Size) (address old_count new_count : ℕ) (old new : Tells) → old_count ≤ new_count → AroundFailed (LoadedAny size address) (LoadFailedInside size address) old_count new_count old new e
     → AccessWire old_count new_count new.far e
@@ -103,7 +103,7 @@ bus_end (fault.Memory at) address old_count new_count old new f = tt
 bus_end (fault.Register number) address old_count new_count old new f = tt
 bus_end fault.StillBusy address old_count new_count old new f = tt
 bus_end (fault.Run why) address old_count new_count old new f = absurd f
-bus_end (fault.Odd word) address old_count new_count old new f = tt
+bus_end (fault.Odd shown) address old_count new_count old new f = tt
 
 by_link : (e : AccessFault) (old_count new_count : ℕ) (told : Option Far) (why : DmiFault) → e ≡ fault.Dmi why → DmiWire old_count new_count told why → AccessWire old_count new_count told e
 by_link e old_count new_count told why is w = subst (AccessWire old_count new_count told) (sym is) w

@@ -16,7 +16,7 @@ use Rattle.abstract_debugger.specs.Ways.{Way}
 use Rattle.abstract_debugger.specs.Turns.{turns}
 use Rattle.probe_access.specs.Accesses.{BusLoadRefused, BusStoreRefused, LoadRefused, StoreRefused}
 use Rattle.probe_access.specs.Cuts.{AccessLeftOff, BusLeftOff, Leaves, LeftAside, LoadLeaves, MaybeWritten, Scratched, StoreLeaves, Unchanged}
-use Rattle.probe_access.specs.Registers.{SetRegister}
+use Rattle.probe_access.specs.Registers.{RegisterWrittenAt}
 use Rattle.probe_run.specs.Acts.{Tells}
 use Rattle.probe_run.specs.Happens.{target_of}
 use Rattle.probe_trig.specs.declared.change.Change.TheVariants.{Forget}
@@ -80,7 +80,7 @@ slots_fell Whole h m sel way o p lines old_count new_count old new f fell a =
     (aside_still DebugAlone h m sel way o p lines old.far new.far a)
 
 -- behind a register that was written
-behind_given : (h number value : ℕ) (m : Machine) (sel : ℕ) (way : Way) (o : Origin) (p : Plan) (lines : List Line) (old mid new : Option Far) → At m sel way o p lines (target_at old) → WhereTold (SetRegister h number value) old mid
+behind_given : (h number value : ℕ) (m : Machine) (sel : ℕ) (way : Way) (o : Origin) (p : Plan) (lines : List Line) (old mid new : Option Far) → At m sel way o p lines (target_at old) → WhereTold (RegisterWrittenAt h number value) old mid
     → Leaves (LeftAside DebugAlone h) mid new → Still (OnWay o lines) new
 behind_given h number value m sel way o p lines None mid new a w l = absurd (none-some a.target a.is)
 behind_given h number value m sel way o p lines (Some c) mid new a w l = made (subst (λ x. Leaves (LeftAside DebugAlone h) x new) w.is l)
@@ -139,6 +139,6 @@ forget_fell h number value m sel way o p lines old_count new_count old mid new f
     by_access fell.why f o lines new.far (Leaves (LeftAside DebugAlone h) mid.far new.far) fell.is (scratch_of_link fell.why mid.far (still_told old.far mid.far gave.told a) fell.told) fell.cut
     (behind_given h number value m sel way o p lines old.far mid.far new.far a gave.told)
   where
-    still_told : (x y : Option Far) → WhereTold (SetRegister h number value) x y → At m sel way o p lines (target_at x) → y ≡ None → ⊥
+    still_told : (x y : Option Far) → WhereTold (RegisterWrittenAt h number value) x y → At m sel way o p lines (target_at x) → y ≡ None → ⊥
     still_told None y w b none = is_told m sel way o p lines None b refl
     still_told (Some c) y w b none = absurd (none-some w.far (sym none ∙ w.is))

@@ -19,7 +19,7 @@ use Rattle.probe_access.specs.declared.fault.AccessFault.{AccessFault}
 use Rattle.probe_access.specs.declared.fault.AccessFault.TheVariants as fault
 use Rattle.probe_access.specs.Accesses.{AccessLeft}
 use Rattle.probe_access.specs.Cuts.{IfCut, Leaves}
-use Rattle.probe_access.specs.Registers.{DeniedRegister, RegisterLeft}
+use Rattle.probe_access.specs.Registers.{RegisterRefusedAt, RegisterLeft}
 use Rattle.probe_access.specs.Scratches.{ScratchLeft}
 use Rattle.probe_run.specs.Happens.{target_of}
 use Rattle.debug_model.specs.Module.{Site}
@@ -38,7 +38,7 @@ LeftAs o lines (failure.Lost lost.DmiFailed) last = OnTheWay o lines (site_of la
 LeftAs o lines (failure.Lost lost.StillBusy) last = OnTheWay o lines (site_of last).journal
 LeftAs o lines (failure.Lost (lost.NoHalt looks)) last = IsTranscribed o (End.NoHalt looks) lines (target_of (site_of last))
 LeftAs o lines (failure.Lost (lost.NoAck looks)) last = IsTranscribed o (End.NoAck looks) lines (target_of (site_of last))
-LeftAs o lines (failure.Lost (lost.Odd word)) last = ⊥
+LeftAs o lines (failure.Lost (lost.Odd odd)) last = ⊥
 LeftAs o lines failure.Sink last = ⊥
 
 abbrev pub OnWay : Origin → List Line → Far → Type 0
@@ -80,7 +80,7 @@ OfTheLink (fault.Memory at) = Unit {0}
 OfTheLink (fault.Register number) = ⊥
 OfTheLink fault.StillBusy = Unit {0}
 OfTheLink (fault.Run why) = ⊥
-OfTheLink (fault.Odd word) = ⊥
+OfTheLink (fault.Odd shown) = ⊥
 
 pub by_access : (why : AccessFault) (f : Failure) (o : Origin) (lines : List Line) (new : Option Far) (P : Type 0) → Became why f → OfTheLink why → IfCut P why → (P → Still (OnWay o lines) new) → Still (LeftAs o lines f) new
 by_access (fault.Dmi why) f o lines new P is of cut step = by_dmi why f o lines new is (step cut)
@@ -88,7 +88,7 @@ by_access (fault.Memory at) f o lines new P is of cut step = absurd is
 by_access (fault.Register number) f o lines new P is of cut step = absurd of
 by_access fault.StillBusy f o lines new P is of cut step = subst (λ g. Still (LeftAs o lines g) new) (sym is) (step cut)
 by_access (fault.Run why) f o lines new P is of cut step = absurd of
-by_access (fault.Odd word) f o lines new P is of cut step = absurd of
+by_access (fault.Odd shown) f o lines new P is of cut step = absurd of
 
 pub scratch_of_link : (why : AccessFault) (old : Option Far) → (old ≡ None → ⊥) → ScratchLeft old why → OfTheLink why
 scratch_of_link (fault.Dmi why) old told left = tt
@@ -96,7 +96,7 @@ scratch_of_link (fault.Memory at) old told left = tt
 scratch_of_link (fault.Register number) old told left = told left
 scratch_of_link fault.StillBusy old told left = tt
 scratch_of_link (fault.Run why) old told left = left
-scratch_of_link (fault.Odd word) old told left = told left
+scratch_of_link (fault.Odd shown) old told left = told left
 
 pub access_of_link : (R : Chip → Option Far → Type 0) (address : ℕ) (why : AccessFault) (old new : Option Far) → (old ≡ None → ⊥) → AccessLeft R address old new why → OfTheLink why
 access_of_link R address (fault.Dmi why) old new told left = tt
@@ -104,7 +104,7 @@ access_of_link R address (fault.Memory at) old new told left = tt
 access_of_link R address (fault.Register number) old new told left = told left
 access_of_link R address fault.StillBusy old new told left = tt
 access_of_link R address (fault.Run why) old new told left = left
-access_of_link R address (fault.Odd word) old new told left = told left
+access_of_link R address (fault.Odd shown) old new told left = told left
 
 -- a register that may be refused, and was not
 pub asked_of_link : (write : Bool) (h number : ℕ) (why : AccessFault) (old new : Option Far) → (old ≡ None → ⊥) → IsNotRegister why → RegisterLeft write h number old new why → OfTheLink why
@@ -113,14 +113,14 @@ asked_of_link write h number (fault.Memory at) old new told other left = tt
 asked_of_link write h number (fault.Register asked) old new told other left = other
 asked_of_link write h number fault.StillBusy old new told other left = tt
 asked_of_link write h number (fault.Run why) old new told other left = left
-asked_of_link write h number (fault.Odd word) old new told other left = told left
+asked_of_link write h number (fault.Odd shown) old new told other left = told left
 
 -- one that no chip refuses
 abbrev CanBe : Bool → ℕ → Type 0
 CanBe true number = debug_refuses number ≡ false
 CanBe false number = Unit {0}
 
-none_denied : (write : Bool) (h number : ℕ) (old new : Option Far) → (old ≡ None → ⊥) → IsOfHarts number → CanBe write number → WhereTold (DeniedRegister write h number) old new → ⊥
+none_denied : (write : Bool) (h number : ℕ) (old new : Option Far) → (old ≡ None → ⊥) → IsOfHarts number → CanBe write number → WhereTold (RegisterRefusedAt write h number) old new → ⊥
 none_denied write h number None new told of can w = told refl
 none_denied true h number (Some f) new told of can w =
     false≢true (sym w.denied ∙ ap (λ (b : Bool). b && not (true && debug_refuses number)) (of w.hart) ∙ ap (λ (b : Bool). not b) can)
@@ -132,4 +132,4 @@ register_of_link write h number (fault.Memory at) old new told of can left = tt
 register_of_link write h number (fault.Register asked) old new told of can left = none_denied write h number old new told of can left
 register_of_link write h number fault.StillBusy old new told of can left = tt
 register_of_link write h number (fault.Run why) old new told of can left = left
-register_of_link write h number (fault.Odd word) old new told of can left = told left
+register_of_link write h number (fault.Odd shown) old new told of can left = told left

@@ -10,7 +10,7 @@ use Rattle.probe_access.specs.BusRuns.{cut_to}
 use Rattle.probe_access.specs.MemoryRuns.{Around, LoadedInside}
 use Rattle.probe_access.proofs.ReadyTurns.{BoardReady, board_ready_turns}
 use Rattle.probe_run.specs.Acts.{Tells}
-use Rattle.probe_run.proofs.WideMemory.{loaded_small}
+use Rattle.rv_model.proofs.WideMemory.{loaded_small}
 use Rattle.probe_session.specs.Calls.{Loaded}
 
 cut_same : (size : Size) (v : ℕ) → v < 256 ^ count_of size → cut_to size v ≡ v

@@ -69,7 +69,7 @@ left_written (failure.Lost lost.DmiFailed) script first last said was is left pu
 left_written (failure.Lost lost.StillBusy) script first last said was is left put = front_of script first last said was is left put
 left_written (failure.Lost (lost.NoHalt looks)) script first last said was is left put = transcript_of script first last said (End.NoHalt looks) was is left put
 left_written (failure.Lost (lost.NoAck looks)) script first last said was is left put = transcript_of script first last said (End.NoAck looks) was is left put
-left_written (failure.Lost (lost.Odd word)) script first last said was is left put = left
+left_written (failure.Lost (lost.Odd odd)) script first last said was is left put = left
 left_written failure.Sink script first last said was is left put = absurd left
 
 fell_by : (f : Failure) (script : List Command) (first : Far) (old_count new_count : ℕ) (mid new : Tells) (sink_old sink_new : ℕ) (was is : Option (List ℕ)) → Fell Anyhow (at_commands script first_state) old_count new_count mid new sink_old sink_new was is f

@@ -8,7 +8,7 @@ use Rattle.abstract_debugger.specs.Plan.{Plan}
 use Rattle.abstract_debugger.specs.Stands.{At, Origin}
 use Rattle.abstract_debugger.specs.Ways.Way.{Still as StillWay}
 use Rattle.abstract_debugger.proofs.DealsLemmas.{deals_went_on}
-use Rattle.probe_access.specs.Registers.{GotRegister}
+use Rattle.probe_access.specs.Registers.{RegisterReadAt}
 use Rattle.probe_access.specs.Stops.{StoppedAt}
 use Rattle.probe_run.specs.Acts.{Tells}
 use Rattle.probe_run.specs.Happens.{target_of}
@@ -28,7 +28,7 @@ use Rattle.probe_session.proofs.Tolds.{at_far, told_case, went_by}
 -- what was read passed the plan by
 passing : (h : ℕ) (m : Machine) (o : Origin) (p : Plan) (lines : List Line) (old mid : Tells) → Passing h old mid → At m h StillWay o p lines (target_at old.far) → At m h StillWay o p lines (target_at mid.far)
 passing h m o p lines old mid (Passing.got {number} {value} got) a =
-    told_case (GotRegister h number value) m h StillWay o p lines (λ n. At m h StillWay o p lines (target_at n)) old.far mid.far
+    told_case (RegisterReadAt h number value) m h StillWay o p lines (λ n. At m h StillWay o p lines (target_at n)) old.far mid.far
     (λ c d g. at_far m h StillWay o p lines g.far mid.far g.is (deals_went_on m h StillWay o p lines (target_of (site_of c)) (target_of (site_of g.far)) d (went_by (site_of c) (site_of g.far) g.passed))) got.told a
 passing h m o p lines old mid (Passing.found {pc} {cause} found) a =
     told_case (StoppedAt h pc cause) m h StillWay o p lines (λ n. At m h StillWay o p lines (target_at n)) old.far mid.far

@@ -26,10 +26,10 @@ use Rattle.abstract_debugger.specs.Ways.Way.{Idle, Ready, Still}
 use Rattle.abstract_debugger.proofs.DealsLemmas.{deals_at_plan, deals_put, deals_rests, deals_selects, deals_unspent, deals_went_on}
 use Rattle.abstract_debugger.proofs.StandsLemmas.{seen}
 use Rattle.probe_access.specs.Accesses as access
-use Rattle.probe_access.specs.Registers.{DeniedRegister, GotRegister, SetRegister, TurnsPassed, TurnsPassedBut}
+use Rattle.probe_access.specs.Registers.{RegisterRefusedAt, RegisterReadAt, RegisterWrittenAt, TurnsPassed, TurnsPassedBut}
 use Rattle.probe_access.specs.Stops.{StoppedAt}
 use Rattle.probe_run.specs.Acts.{Tells}
-use Rattle.probe_run.specs.Happens.{HaltsAt, Leaves, ResumesAt, SeesAt, target_of}
+use Rattle.probe_run.specs.Happens.{HaltsAt, Leaves, ResumesAt, LooksAt, target_of}
 use Rattle.probe_run.specs.Sites.{TurnsAlone}
 use Rattle.probe_run.proofs.SiteLemmas.{quiet_deeds}
 use Rattle.probe_trig.specs.declared.slot_use.SlotView.{SlotView}
@@ -95,7 +95,7 @@ hits_gone h v refused next m o lines c f new x here takes passed g d =
     at_far m h Still o next lines g.far new g.is (write_pc_deals m h v o refused next lines (site_of c) (site_of f) (target_of (site_of g.far)) x here takes passed g.happened d)
 
 ebreak_given : (h word : ℕ) (on : Bool) (next : Plan) (m : Machine) (o : Origin) (lines : List Line) (c f : Far) (new : Option Far) (x : Hart) → slice_get (site_of c).board.harts h ≡ Some x → debug_value x dcsr_number ≡ Some word
-    → TurnsPassed (site_of c) (site_of f) → SetRegister h dcsr_number (with_ebreakm on word) f.live.chip new → Deals m h Still o (change (EbreakHalts h on) next) lines (target_of (site_of c)) → At m h Still o next lines (target_at new)
+    → TurnsPassed (site_of c) (site_of f) → RegisterWrittenAt h dcsr_number (with_ebreakm on word) f.live.chip new → Deals m h Still o (change (EbreakHalts h on) next) lines (target_of (site_of c)) → At m h Still o next lines (target_at new)
 ebreak_given h word on next m o lines c f new x here is passed g d =
     at_far m h Still o next lines g.far new g.is (ebreak_deals m h word on o next lines (site_of c) (site_of f) (site_of g.far) x g.hart here is passed g.here g.passed d)
 
@@ -149,12 +149,12 @@ step_leads from to old new said (Step.unspent {h} {p} {t}) m o lines a =
 step_leads from to old new said (Step.says {heard} {way} {h} {line} {next} {t} may) m o lines a =
     kept m m way way h h o (say line next) next lines (lines ++ line ∷ []) (target_at t.far) (λ x d. deals_put m h way o line next lines x d) a
 step_leads from to old new said (Step.looks {h} {s} absent running halted saw) m o lines a =
-    none_said m o to lines new.far (left_so (SeesAt h s) h m 0 (behind_look s h absent running halted).hart Idle (behind_look s h absent running halted).way o _ (behind_look s h absent running halted).plan lines old.far new.far
+    none_said m o to lines new.far (left_so (LooksAt h s) h m 0 (behind_look s h absent running halted).hart Idle (behind_look s h absent running halted).way o _ (behind_look s h absent running halted).plan lines old.far new.far
     (λ x y l d. look_deals s m h o absent running halted lines x y l d) saw.told a)
 step_leads from to old new said (Step.looks_again {h} {s} n failed found saw not_yet) m o lines a =
-    none_said m o to lines new.far (left_so (SeesAt h s) h m 0 0 Idle Idle o _ (until n h sees_halted (λ _. failed) found unseen) lines old.far new.far (λ x y l d. again_deals s m h o n failed found lines x y not_yet l d) saw.told a)
+    none_said m o to lines new.far (left_so (LooksAt h s) h m 0 0 Idle Idle o _ (until n h sees_halted (λ _. failed) found unseen) lines old.far new.far (λ x y l d. again_deals s m h o n failed found lines x y not_yet l d) saw.told a)
 step_leads from to old new said (Step.looks_enough {h} {s} n failed found saw halted) m o lines a =
-    none_said m o to lines new.far (left_so (SeesAt h s) h m 0 h Idle Still o _ found lines old.far new.far (λ x y l d. enough_deals s m h o n failed found lines x y halted l d) saw.told a)
+    none_said m o to lines new.far (left_so (LooksAt h s) h m 0 h Idle Still o _ found lines old.far new.far (λ x y l d. enough_deals s m h o n failed found lines x y halted l d) saw.told a)
 step_leads from to old new said (Step.halts {h} next made) m o lines a =
     none_said m o to lines new.far (left_so (HaltsAt h) h m 0 h Idle Still o (halting h next) next lines old.far new.far (λ x y l d. halt_deals m h o next lines x y l d) made.told a)
 step_leads from to old new said (Step.resumes {h} next made) m o lines a =
@@ -182,26 +182,26 @@ step_leads from to old new said (Step.stands_by_trigger {h} {pc} {view} next {mi
     none_said m o to lines new.far (told_case (StoppedAt h pc trigger_cause) m h Still o (stop_line h next) lines (λ n. At m h Still o (say (Line.Halted pc trigger_cause (hits_in view.hits)) next) lines (target_at new.far)) old.far mid.far
     (λ c d l. shown_hits h pc view m o next lines c l.far new.far l.hart l.here l.pc_is l.cause_is l.passed (subst (λ x. WhereTold (AtHarts (ViewedAt view h)) x new.far) l.is viewed.told) d) found.told a)
 step_leads from to old new said (Step.reads {h} {number} {value} next got of) m o lines a =
-    none_said m o to lines new.far (told_case (GotRegister h number value) m h Still o _ lines (λ n. At m h Still o (next value) lines (target_at n)) old.far new.far
+    none_said m o to lines new.far (told_case (RegisterReadAt h number value) m h Still o _ lines (λ n. At m h Still o (next value) lines (target_at n)) old.far new.far
     (λ c d l. at_far m h Still o (next value) lines l.far _ l.is (read_deals m h number value o next lines (site_of c) (site_of l.far) l.hart of l.here l.value_is l.passed d)) got.told a)
 step_leads from to old new said (Step.reads_next {h} {number} {value} numbers next got of) m o lines a =
-    none_said m o to lines new.far (told_case (GotRegister h number value) m h Still o _ lines (λ n. At m h Still o (say (Line.Register number value) (see (λ b. saying (map (register_line h b) numbers) next))) lines (target_at n)) old.far new.far
+    none_said m o to lines new.far (told_case (RegisterReadAt h number value) m h Still o _ lines (λ n. At m h Still o (say (Line.Register number value) (see (λ b. saying (map (register_line h b) numbers) next))) lines (target_at n)) old.far new.far
     (λ c d l. at_far m h Still o _ lines l.far _ l.is (read_next_deals m h number value numbers o next lines (site_of c) (site_of l.far) l.hart of l.here l.value_is l.passed d)) got.told a)
 step_leads from to old new said (Step.reads_none {h} {number} next none of) m o lines a =
-    none_said m o to lines new.far (told_case (DeniedRegister false h number) m h Still o _ lines (λ n. At m h Still o (say (Line.RegisterRefused number) next) lines (target_at n)) old.far new.far
+    none_said m o to lines new.far (told_case (RegisterRefusedAt false h number) m h Still o _ lines (λ n. At m h Still o (say (Line.RegisterRefused number) next) lines (target_at n)) old.far new.far
     (λ c d l. absurd (never_refused number l.hart of l.denied)) none.told a)
 step_leads from to old new said (Step.writes {h} {number} {value} refused next gave of other) m o lines a =
-    none_said m o to lines new.far (told_case (SetRegister h number value) m h Still o _ lines (λ n. At m h Still o next lines (target_at n)) old.far new.far
+    none_said m o to lines new.far (told_case (RegisterWrittenAt h number value) m h Still o _ lines (λ n. At m h Still o next lines (target_at n)) old.far new.far
     (λ c d l. at_far m h Still o next lines l.far _ l.is (write_deals m h number value o refused next lines (site_of c) (site_of l.far) l.hart of other l.here l.writable l.passed d)) gave.told a)
 step_leads from to old new said (Step.writes_pc {h} {value} refused next {mid = mid} gave forgot) m o lines a =
-    none_said m o to lines new.far (told_case (SetRegister h pc_number value) m h Still o _ lines (λ n. At m h Still o next lines (target_at new.far)) old.far mid.far
+    none_said m o to lines new.far (told_case (RegisterWrittenAt h pc_number value) m h Still o _ lines (λ n. At m h Still o next lines (target_at new.far)) old.far mid.far
     (λ c d l. hits_gone h value refused next m o lines c l.far new.far l.hart l.here l.writable l.passed (subst (λ x. WhereTold (AtHarts (ForgotAt h)) x new.far) l.is forgot.told) d) gave.told a)
 step_leads from to old new said (Step.writes_none {h} {number} {value} refused written none of) m o lines a =
-    none_said m o to lines new.far (told_case (DeniedRegister true h number) m h Still o _ lines (λ n. At m h Still o refused lines (target_at n)) old.far new.far
+    none_said m o to lines new.far (told_case (RegisterRefusedAt true h number) m h Still o _ lines (λ n. At m h Still o refused lines (target_at n)) old.far new.far
     (λ c d l. at_far m h Still o refused lines l.far _ l.is (write_refused_deals m h number o refused written lines (site_of c) (site_of l.far) l.hart of l.denied l.passed d)) none.told a)
 step_leads from to old new said (Step.sets_ebreakm {h} {word} {on} next {mid = mid} got gave) m o lines a =
-    none_said m o to lines new.far (told_case (GotRegister h dcsr_number word) m h Still o _ lines (λ n. At m h Still o next lines (target_at new.far)) old.far mid.far
-    (λ c d l. ebreak_given h word on next m o lines c l.far new.far l.hart l.here l.value_is l.passed (subst (λ x. WhereTold (SetRegister h dcsr_number (with_ebreakm on word)) x new.far) l.is gave.told) d) got.told a)
+    none_said m o to lines new.far (told_case (RegisterReadAt h dcsr_number word) m h Still o _ lines (λ n. At m h Still o next lines (target_at new.far)) old.far mid.far
+    (λ c d l. ebreak_given h word on next m o lines c l.far new.far l.hart l.here l.value_is l.passed (subst (λ x. WhereTold (RegisterWrittenAt h dcsr_number (with_ebreakm on word)) x new.far) l.is gave.told) d) got.told a)
 step_leads from to old new said (Step.shows_slots {h} {view} next viewed) m o lines a =
     none_said m o to lines new.far (at_harts_so (ViewedAt view h) m h h Still Still o _ (saying (lines_of_view view) next) lines old.far new.far (λ x y l d. slots_deals m h view o next lines x y l d) viewed.told a)
 step_leads from to old new said (Step.arms {h} {slot} {meant} what next taken is can) m o lines a =

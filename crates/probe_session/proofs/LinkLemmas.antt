@@ -12,6 +12,7 @@ use Rattle.probe_run.specs.declared.fault.RunFault.{RunFault}
 use Rattle.probe_run.specs.declared.fault.RunFault.TheVariants as run_fault
 use Rattle.probe_session.specs.declared.fault.Failure.{Failure}
 use Rattle.probe_session.specs.declared.fault.Failure.TheVariants as failure
+use Rattle.probe_session.specs.declared.odd.Odd.TheVariants as odd
 use Rattle.probe_session.specs.declared.fault.LostCause.TheVariants as lost
 use Rattle.probe_session.specs.Failures.{Became, failure_of_dmi, failure_of_run}
 use Rattle.probe_session.specs.Links.{LeftBy}
@@ -40,7 +41,7 @@ run_left s (run_fault.NoAck looks) b = can_quit s b
 pub access_left : (s : DmiSeen) (why : AccessFault) (f : Failure) → StandsUnless s (access_why why) → Became why f → LeftBy s f
 access_left s (access_fault.Dmi why) f b is = to s f (failure_of_dmi why) is (dmi_left s why b)
 access_left s (access_fault.Memory address) f b is = absurd is
-access_left s (access_fault.Register number) f b is = to s f (failure.Lost (lost.Odd number)) is (can_quit s b)
+access_left s (access_fault.Register number) f b is = to s f (failure.Lost (lost.Odd (odd.Register number))) is (can_quit s b)
 access_left s access_fault.StillBusy f b is = to s f (failure.Lost lost.StillBusy) is (can_quit s b)
 access_left s (access_fault.Run why) f b is = to s f (failure_of_run why) is (run_left s why b)
-access_left s (access_fault.Odd word) f b is = to s f (failure.Lost (lost.Odd word)) is (can_quit s b)
+access_left s (access_fault.Odd shown) f b is = to s f (failure.Lost (lost.Odd (odd.Status shown))) is (can_quit s b)

@@ -89,7 +89,7 @@ over_by (fault.Run (run_fault.NoAck looks)) f h m o stepped other lines old new 
     subst (λ g. Still (LeftAs o lines g) new) (sym is)
     (missed false h looks (λ n. End.NoAck n) m o stepped other lines (failure_of_run (run_fault.NoAck looks)) old new told.0
     (λ s t d last ack x. step_not_acknowledged m h o (behind_it h stepped other) last lines x.held t ack (held_deals h m o stepped other lines s x.held d x.holds) x.missed) (λ g t. t) told.1.0 told.1.1 told.1.2 a)
-over_by (fault.Odd word) f h m o stepped other lines old new is told cut a = absurd (is_told m h StillWay o (one h stepped other) lines old a told)
+over_by (fault.Odd shown) f h m o stepped other lines old new is told cut a = absurd (is_told m h StillWay o (one h stepped other) lines old a told)
 
 pub over_fell : (h : ℕ) (m : Machine) (o : Origin) (stepped other : Plan) (lines : List Line) (old_count new_count : ℕ) (old new : Tells) (f : Failure) → OverFell h old_count new_count old new f
     → At m h StillWay o (one h stepped other) lines (target_at old.far) → Still (LeftAs o lines f) new.far

@@ -32,7 +32,7 @@ is_other (fault.Memory address) other = tt
 is_other (fault.Register number) other = absurd (other number refl)
 is_other fault.StillBusy other = tt
 is_other (fault.Run why) other = tt
-is_other (fault.Odd word) other = tt
+is_other (fault.Odd shown) other = tt
 
 -- ---- those with a name
 

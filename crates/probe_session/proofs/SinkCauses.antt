@@ -52,7 +52,7 @@ of_access (fault.Memory address) f is = absurd is
 of_access (fault.Register number) f is = subst IsNotSink (sym is) tt
 of_access fault.StillBusy f is = subst IsNotSink (sym is) tt
 of_access (fault.Run why) f is = of_run why f is
-of_access (fault.Odd word) f is = subst IsNotSink (sym is) tt
+of_access (fault.Odd shown) f is = subst IsNotSink (sym is) tt
 
 -- ---- a call that failed
 

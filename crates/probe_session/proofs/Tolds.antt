@@ -24,7 +24,7 @@ use Rattle.abstract_debugger.proofs.FrozenLemmas.{stays_same}
 use Rattle.probe_access.specs.Registers.{TurnsPassed}
 use Rattle.probe_run.specs.declared.hart.Seen.{Seen}
 use Rattle.probe_run.specs.declared.hart.Seen.TheVariants as seen
-use Rattle.probe_run.specs.Happens.{HaltsAt, ResumesAt, SeesAt, target_of}
+use Rattle.probe_run.specs.Happens.{HaltsAt, ResumesAt, LooksAt, target_of}
 use Rattle.probe_run.specs.Outcomes.{IsSeen}
 use Rattle.probe_run.proofs.SessionLemmas.{halts_lead, resumes_lead, steps_lead}
 use Rattle.probe_trig.specs.Stepping.{OverAt}
@@ -61,7 +61,7 @@ look_by (seen.Halted x) (Sight.Running ack) m h o a r p lines old new l is d = a
 look_by (seen.Halted x) (Sight.Halted ack) m h o a r p lines old new l is d =
     deals_halted m h o (by_state a r p) (Sight.Halted ack) lines old new refl (deals_selects m 0 h o (look h (by_state a r p)) lines old d) l
 
-pub look_deals : (s : Seen) (m : Machine) (h : ℕ) (o : Origin) (a r p : Plan) (lines : List Line) (old new : Target) → SeesAt h s old new → Deals m 0 Idle o (look h (by_state a r p)) lines old
+pub look_deals : (s : Seen) (m : Machine) (h : ℕ) (o : Origin) (a r p : Plan) (lines : List Line) (old new : Target) → LooksAt h s old new → Deals m 0 Idle o (look h (by_state a r p)) lines old
     → Deals m (behind_look s h a r p).hart (behind_look s h a r p).way o (behind_look s h a r p).plan lines new
 look_deals s m h o a r p lines old new l d = look_by s l.now m h o a r p lines old new l.look l.is d
 
@@ -84,7 +84,7 @@ unfolding until
 until_last zero h test failed found l k = refl
 until_last (suc n) h test failed found l k = refl
 
-pub again_deals : (s : Seen) (m : Machine) (h : ℕ) (o : Origin) (n : ℕ) (failed found : Plan) (lines : List Line) (old new : Target) → is_halted s ≡ false → SeesAt h s old new
+pub again_deals : (s : Seen) (m : Machine) (h : ℕ) (o : Origin) (n : ℕ) (failed found : Plan) (lines : List Line) (old new : Target) → is_halted s ≡ false → LooksAt h s old new
     → Deals m 0 Idle o (until (suc n) h sees_halted (λ _. failed) found unseen) lines old → Deals m 0 Idle o (until n h sees_halted (λ _. failed) found unseen) lines new
 again_deals s m h o n failed found lines old new not_yet l d =
     deals_selects m h 0 o (until n h sees_halted (λ _. failed) found unseen) lines new
@@ -92,7 +92,7 @@ again_deals s m h o n failed found lines old new not_yet l d =
     (deals_again m h Idle o n sees_halted (λ _. failed) found unseen l.now lines old new (not_seen s l.now h l.is not_yet)
     (deals_selects m 0 h o (until (suc n) h sees_halted (λ _. failed) found unseen) lines old d) l.look))
 
-pub enough_deals : (s : Seen) (m : Machine) (h : ℕ) (o : Origin) (n : ℕ) (failed found : Plan) (lines : List Line) (old new : Target) → is_halted s ≡ true → SeesAt h s old new
+pub enough_deals : (s : Seen) (m : Machine) (h : ℕ) (o : Origin) (n : ℕ) (failed found : Plan) (lines : List Line) (old new : Target) → is_halted s ≡ true → LooksAt h s old new
     → Deals m 0 Idle o (until (suc n) h sees_halted (λ _. failed) found unseen) lines old → Deals m h Still o found lines new
 enough_deals s m h o n failed found lines old new halted l d =
     deals_found m h Idle Still o n sees_halted (λ _. failed) found unseen l.now lines old new (seen_so s l.now h l.is halted) (known-still m h)

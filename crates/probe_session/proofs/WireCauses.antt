@@ -66,7 +66,7 @@ of_access (fault.Memory address) f old_count new_count told is w = absurd is
 of_access (fault.Register number) f old_count new_count told is w = subst (FailureWire old_count new_count told) (sym is) tt
 of_access fault.StillBusy f old_count new_count told is w = subst (FailureWire old_count new_count told) (sym is) tt
 of_access (fault.Run why) f old_count new_count told is w = of_run why f old_count new_count told is w
-of_access (fault.Odd word) f old_count new_count told is w = subst (FailureWire old_count new_count told) (sym is) tt
+of_access (fault.Odd shown) f old_count new_count told is w = subst (FailureWire old_count new_count told) (sym is) tt
 
 -- ---- since an earlier count of faults
 

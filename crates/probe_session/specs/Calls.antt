@@ -16,14 +16,14 @@ use Rattle.probe_access.specs.BusRuns.{BusLoadFailed, BusLoaded, BusStoreFailed,
 use Rattle.probe_access.specs.Cuts.{AccessLeftOff, BusLeftOff, IfCut, Leaves as LeavesChip, LeftAside, LoadLeaves, MaybeWritten, Scratched, StoreLeaves, Unchanged}
 use Rattle.probe_access.specs.MemoryRuns.{Around, AroundFailed, LoadFailedInside, LoadedAny, LoadedInside, StoreFailedInside, StoredInside}
 use Rattle.probe_access.specs.RegisterRuns.{BehindWords, ReadFailed, RefusedAs, RegisterRead, RegisterWritten, WriteFailed}
-use Rattle.probe_access.specs.Registers.{DeniedRegister, GotRegister, RegisterLeft, SetRegister}
+use Rattle.probe_access.specs.Registers.{RegisterRefusedAt, RegisterReadAt, RegisterLeft, RegisterWrittenAt}
 use Rattle.probe_access.specs.Scratches.{ScratchLeft}
 use Rattle.probe_access.specs.Stops.{StopFailed, StopRead, StoppedAt}
 use Rattle.probe_access.specs.RegisterAccess.{transfer_word}
 use Rattle.probe_run.specs.declared.fault.RunFault.{RunFault}
 use Rattle.probe_run.specs.declared.hart.Seen.{Seen}
 use Rattle.probe_run.specs.Acts.{Tells}
-use Rattle.probe_run.specs.Happens.{HaltLeft, HaltsAt, Leaves, LookLeft, ResumeLeft, ResumesAt, SeesAt}
+use Rattle.probe_run.specs.Happens.{HaltLeft, HaltsAt, Leaves, LookLeft, ResumeLeft, ResumesAt, LooksAt}
 use Rattle.probe_run.specs.Told.{Serving}
 use Rattle.probe_run.specs.Outcomes.{HaltFails, HaltedBy, LookFails, LookedAt, ResumeFails, ResumedBy}
 use Rattle.probe_trig.specs.declared.change.Change.TheVariants.{Forget}
@@ -49,7 +49,7 @@ pub record Identified (number : ℕ) (old new : Tells) : Type 0 where
 
 pub record Saw (h : ℕ) (old new : Tells) (seen : Seen) : Type 0 where
   pub heard : LookedAt h old new seen
-  pub told : WhereTold (Leaves (SeesAt h seen) h) old.far new.far
+  pub told : WhereTold (Leaves (LooksAt h seen) h) old.far new.far
 
 pub record HaltMade (h : ℕ) (old new : Tells) : Type 0 where
   pub heard : HaltedBy h old new
@@ -57,21 +57,21 @@ pub record HaltMade (h : ℕ) (old new : Tells) : Type 0 where
 
 pub record Got (h number value : ℕ) (old new : Tells) : Type 0 where
   pub heard : RegisterRead number value old new
-  pub told : WhereTold (GotRegister h number value) old.far new.far
+  pub told : WhereTold (RegisterReadAt h number value) old.far new.far
 
 -- the chip refused to read it
 pub record GotNone (h number : ℕ) (old new : Tells) : Type 0 where
   pub heard : RefusedAs number number (transfer_word false number) old new
-  pub told : WhereTold (DeniedRegister false h number) old.far new.far
+  pub told : WhereTold (RegisterRefusedAt false h number) old.far new.far
 
 pub record Gave (h number value : ℕ) (old new : Tells) : Type 0 where
   pub heard : RegisterWritten number value old new
-  pub told : WhereTold (SetRegister h number value) old.far new.far
+  pub told : WhereTold (RegisterWrittenAt h number value) old.far new.far
 
 -- the chip refused to write it
 pub record GaveNone (h number value : ℕ) (old new : Tells) : Type 0 where
   pub heard : BehindWords value old (λ mid. RefusedAs number number (transfer_word true number) mid new)
-  pub told : WhereTold (DeniedRegister true h number) old.far new.far
+  pub told : WhereTold (RegisterRefusedAt true h number) old.far new.far
 
 pub record FoundStop (h pc cause : ℕ) (old new : Tells) : Type 0 where
   pub heard : StopRead pc cause old new
@@ -195,7 +195,7 @@ IsNotRegister (fault.Memory address) = Unit {0}
 IsNotRegister (fault.Register number) = ⊥
 IsNotRegister fault.StillBusy = Unit {0}
 IsNotRegister (fault.Run why) = Unit {0}
-IsNotRegister (fault.Odd word) = Unit {0}
+IsNotRegister (fault.Odd shown) = Unit {0}
 
 pub record AskFell (h number old_count new_count : ℕ) (old new : Tells) (f : Failure) : Type 0 where
   pub fell : ReadFell h number old_count new_count old new f

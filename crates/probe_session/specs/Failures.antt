@@ -1,15 +1,18 @@
 -- What a fault of a layer below makes of a session.
 -- It is this project's own.
-use Rattle.std.specs.Prelude.{◌≡◌}
+use Rattle.std.specs.Prelude.{◌≡◌, ℕ}
 use Rattle.debug_model.specs.declared.dmi.DmiFault.{DmiFault}
 use Rattle.debug_model.specs.declared.dmi.DmiFault.TheVariants as dmi_fault
 use Rattle.probe_access.specs.declared.fault.AccessFault.{AccessFault}
 use Rattle.probe_access.specs.declared.fault.AccessFault.TheVariants as access_fault
+use Rattle.probe_access.specs.declared.odd.OddStatus.TheVariants.{Abstractcs, Sbcs}
 use Rattle.probe_run.specs.declared.fault.RunFault.{RunFault}
 use Rattle.probe_run.specs.declared.fault.RunFault.TheVariants as run_fault
 use Rattle.probe_session.specs.declared.fault.Failure.{Failure}
 use Rattle.probe_session.specs.declared.fault.Failure.TheVariants as failure
 use Rattle.probe_session.specs.declared.fault.LostCause.TheVariants as lost
+use Rattle.probe_session.specs.declared.odd.Odd.{Odd}
+use Rattle.probe_session.specs.declared.odd.Odd.TheVariants as odd
 
 abbrev pub failure_of_dmi : DmiFault → Failure
 failure_of_dmi (dmi_fault.Wire why) = failure.Wire why
@@ -28,12 +31,18 @@ IsNotMemory (access_fault.Memory address) = ⊥
 IsNotMemory (access_fault.Register number) = Unit {0}
 IsNotMemory access_fault.StillBusy = Unit {0}
 IsNotMemory (access_fault.Run why) = Unit {0}
-IsNotMemory (access_fault.Odd word) = Unit {0}
+IsNotMemory (access_fault.Odd shown) = Unit {0}
 
 abbrev pub Became : AccessFault → Failure → Type 0
 Became (access_fault.Dmi why) f = f ≡ failure_of_dmi why
 Became (access_fault.Memory address) f = ⊥
-Became (access_fault.Register number) f = f ≡ failure.Lost (lost.Odd number)
+Became (access_fault.Register number) f = f ≡ failure.Lost (lost.Odd (odd.Register number))
 Became access_fault.StillBusy f = f ≡ failure.Lost lost.StillBusy
 Became (access_fault.Run why) f = f ≡ failure_of_run why
-Became (access_fault.Odd word) f = f ≡ failure.Lost (lost.Odd word)
+Became (access_fault.Odd shown) f = f ≡ failure.Lost (lost.Odd (odd.Status shown))
+
+-- what is printed of an answer that no case names: the register as it was read, or the number of the one that was refused
+abbrev pub odd_word : Odd → ℕ
+odd_word (odd.Status (Abstractcs word)) = word
+odd_word (odd.Status (Sbcs word)) = word
+odd_word (odd.Register number) = number

@@ -51,7 +51,7 @@ WrittenAs script was is first last (ended.Lost lost.DmiFailed) = IsFrontOf scrip
 WrittenAs script was is first last (ended.Lost lost.StillBusy) = IsFrontOf script was is first last
 WrittenAs script was is first last (ended.Lost (lost.NoHalt looks)) = IsTranscript script (End.NoHalt looks) was is first last
 WrittenAs script was is first last (ended.Lost (lost.NoAck looks)) = IsTranscript script (End.NoAck looks) was is first last
-WrittenAs script was is first last (ended.Lost (lost.Odd word)) = ⊥
+WrittenAs script was is first last (ended.Lost (lost.Odd odd)) = ⊥
 WrittenAs script was is first last ended.Sink = IsCutTranscript script was is first last
 
 abbrev pub TranscribedAs : List Command → (was is : Option (List ℕ)) → (old new : Option Far) → Ended → Type 0

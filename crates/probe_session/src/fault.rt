@@ -2,6 +2,7 @@ ghost use Rattle.std.specs.Prelude.{◌≡◌};
 ghost use Rattle.probe_session.specs.Failures.{Became, IsNotMemory, failure_of_dmi, failure_of_run};
 ghost use Rattle.probe_session.specs.declared.fault.Failure.TheVariants as failure;
 
+use crate::odd::Odd;
 use debug_model::{DmiFault, WireFault};
 use jt_base::SinkFault;
 use probe_access::AccessFault;
@@ -18,8 +19,8 @@ pub enum LostCause {
     NoHalt(u32),
     /// So many Looks did not see a resume acknowledged.
     NoAck(u32),
-    /// An answer that no case names: `abstractcs` or `sbcs` as kept, or the number of a register that was refused.
-    Odd(u32),
+    /// An answer that no case names.
+    Odd(Odd),
 }
 
 /// Why a command did not come to its end.
@@ -73,9 +74,9 @@ pub(crate) fn lost_by(fault: AccessFault) -> Failure
     match fault {
         AccessFault::Dmi(why) => Failure::from(why),
         AccessFault::Memory(_) => unreachable!(),
-        AccessFault::Register(number) => Failure::Lost(LostCause::Odd(u32::from(number))),
+        AccessFault::Register(number) => Failure::Lost(LostCause::Odd(Odd::Register(number))),
         AccessFault::StillBusy => Failure::Lost(LostCause::StillBusy),
         AccessFault::Run(why) => Failure::from(why),
-        AccessFault::Odd(word) => Failure::Lost(LostCause::Odd(word)),
+        AccessFault::Odd(shown) => Failure::Lost(LostCause::Odd(Odd::Status(shown))),
     }
 }

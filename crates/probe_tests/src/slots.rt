@@ -5,7 +5,7 @@ ghost use Rattle.std.specs.Prelude.{◌≡◌, true};
 
 use arrayvec::ArrayVec;
 use debug_model::{DmiFault, ScriptedDmi, WireFault};
-use probe_access::AccessFault;
+use probe_access::{AccessFault, OddStatus};
 use probe_run::{Seen, connect};
 use probe_trig::{
     Gone, SlotUse, SlotView, TrigFault, arm, disarm, forget_hits, let_go, slots, step_over,
@@ -146,7 +146,7 @@ fn check(rt: &impl Abort, call: Call, words: &[u32], wanted: Result<Answer, Trig
             assert!(rt; named);
             assert_eq!(rt;
                 play(call, words, cut, Some(ODD)),
-                Err(TrigFault::Access(AccessFault::Odd(ODD)))
+                Err(TrigFault::Access(AccessFault::Odd(OddStatus::Abstractcs(ODD))))
             );
         }
     }

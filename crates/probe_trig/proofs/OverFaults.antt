@@ -1,5 +1,6 @@
 -- Faults in the course of stepping over and of letting go.
 use Rattle.std.proofs.Common.{◌≤◌, ◌++◌, ℕ, Bool, true, false, List, [], map, Option}
+use Rattle.debug_model.specs.Addresses.{dmcontrol_address, dmstatus_address}
 use Rattle.debug_model.specs.declared.dmi.DmiFault.{DmiFault}
 use Rattle.debug_model.specs.declared.dmi_op.DmiOp.TheVariants.{Read, Write}
 use Rattle.debug_model.specs.Scan.{WhereTold}
@@ -22,7 +23,7 @@ use Rattle.probe_run.specs.Happens.{ResumeLeft}
 use Rattle.probe_run.specs.Looks.{look_act}
 use Rattle.probe_run.specs.Outcomes.{ResumeFails, RunBroke, asks}
 use Rattle.probe_run.specs.Outcomes.RunBroke.{at_look, at_request}
-use Rattle.probe_run.specs.Requests.{control_word, dmcontrol_address, dmstatus_address}
+use Rattle.probe_run.specs.Requests.{control_word}
 use Rattle.probe_run.proofs.ActLemmas.{broke_then}
 use Rattle.probe_trig.specs.Going.{GoLeft, IsThroughAt, NoAckLeft}
 use Rattle.probe_trig.specs.Slots.{AtHarts}

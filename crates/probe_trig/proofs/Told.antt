@@ -19,7 +19,7 @@ use Rattle.abstract_debugger.proofs.FrozenLemmas.{frozen_stays}
 use Rattle.abstract_debugger.proofs.OverLemmas.{set-over, slice_get-over_same}
 use Rattle.rv_model.proofs.MapLemmas.{set_same}
 use Rattle.abstract_debugger.proofs.StandsLemmas.{rewrote_then}
-use Rattle.probe_access.specs.Registers.{GotRegister, IsHartAt, SetRegister, TurnsPassed, TurnsPassedBut}
+use Rattle.probe_access.specs.Registers.{RegisterReadAt, IsHartAt, RegisterWrittenAt, TurnsPassed, TurnsPassedBut}
 use Rattle.probe_run.specs.Acts.{Tells, tells}
 use Rattle.probe_run.specs.Happens.{target_of}
 use Rattle.probe_trig.specs.Slots.{AtHarts}
@@ -130,7 +130,7 @@ led_then h x y ts s mid told is fx fy w bus l =
 pub made_led : (h : ℕ) (f : Far) (x : Hart) (ts : List Transfer) (old new : Tells) → IsHartAt h (site_of f).board x → IsFrozen x.debug → old.far ≡ Some f → Made h old ts new → Led h x ts (site_of f) new.far
 made_led h f x ts old new is frozen at nothing = record { far = f; is = at; shown = tt; wrote = stood_still h x (site_of f) is; bus = refl }
 made_led h f x ts old new is frozen at (first {mid = now} {t = Got r v} {ts = more} d rest) =
-    let g : GotRegister h (number_of r) v f.live.chip now.far = subst (λ o. WhereTold (GotRegister h (number_of r) v) o now.far) at d.got in
+    let g : RegisterReadAt h (number_of r) v f.live.chip now.far = subst (λ o. WhereTold (RegisterReadAt h (number_of r) v) o now.far) at d.got in
     let same : g.hart ≡ x = same_Some g.hart x (sym g.here ∙ is) in
     let w : Rewrote (becomes x) h (target_of (site_of f)) (target_of (site_of g.far)) = passed_wrote h x (site_of f) (site_of g.far) is frozen g.passed in
     let l : Led h x more (site_of g.far) new.far = made_led h g.far x more now new (now_there h x x (target_of (site_of f)) (target_of (site_of g.far)) is frozen w) frozen g.is rest in
@@ -142,7 +142,7 @@ made_led h f x ts old new is frozen at (first {mid = now} {t = Got r v} {ts = mo
       bus = l.bus ∙ g.passed.bus;
     }
 made_led h f x ts old new is frozen at (first {mid = now} {t = Set r v} {ts = more} d rest) =
-    let g : SetRegister h (number_of r) v f.live.chip now.far = subst (λ o. WhereTold (SetRegister h (number_of r) v) o now.far) at d.set_to in
+    let g : RegisterWrittenAt h (number_of r) v f.live.chip now.far = subst (λ o. WhereTold (RegisterWrittenAt h (number_of r) v) o now.far) at d.set_to in
     let same : g.hart ≡ x = same_Some g.hart x (sym g.here ∙ is) in
     let y : Hart = debug_written x (number_of r) v in
     let fy : IsFrozen y.debug = frozen_written x (number_of r) v frozen in

@@ -10,7 +10,7 @@ use Rattle.debug_model.specs.Scan.{WhereTold}
 use Rattle.debug_model.specs.Told.{Far}
 use Rattle.probe_access.specs.declared.fault.AccessFault.{AccessFault}
 use Rattle.probe_access.specs.declared.fault.AccessFault.TheVariants as access_fault
-use Rattle.probe_access.specs.Registers.{DeniedRegister, GotRegister, RegisterLeft, SetRegister, reaches}
+use Rattle.probe_access.specs.Registers.{RegisterRefusedAt, RegisterReadAt, RegisterLeft, RegisterWrittenAt, reaches}
 use Rattle.probe_access.specs.Scratches.{ScratchLeft}
 use Rattle.probe_run.specs.Acts.{Tells, tells}
 use Rattle.debug_model.specs.Dmi.{DmiScript}
@@ -23,11 +23,11 @@ use Rattle.probe_trig.specs.Transfers.Transfer.{Got, Set}
 
 -- ---- a chip that is not told
 
-got_back : (h number value : ℕ) (old new : Option Far) → WhereTold (GotRegister h number value) old new → new ≡ None → old ≡ None
+got_back : (h number value : ℕ) (old new : Option Far) → WhereTold (RegisterReadAt h number value) old new → new ≡ None → old ≡ None
 got_back h number value None new g end = refl
 got_back h number value (Some f) new g end = absurd (none-some g.far (sym end ∙ g.is))
 
-set_back : (h number value : ℕ) (old new : Option Far) → WhereTold (SetRegister h number value) old new → new ≡ None → old ≡ None
+set_back : (h number value : ℕ) (old new : Option Far) → WhereTold (RegisterWrittenAt h number value) old new → new ≡ None → old ≡ None
 set_back h number value None new g end = refl
 set_back h number value (Some f) new g end = absurd (none-some g.far (sym end ∙ g.is))
 
@@ -39,11 +39,11 @@ pub made_back : (h : ℕ) (ts : List Transfer) (old new : Tells) → Made h old 
 made_back h ts old new nothing end = end
 made_back h ts old new (first {mid = now} {t = t} {ts = more} d rest) end = moved_back h t old now d (made_back h more now new rest end)
 
-got_none : (h number value : ℕ) (old new : Option Far) → WhereTold (GotRegister h number value) old new → old ≡ None → new ≡ None
+got_none : (h number value : ℕ) (old new : Option Far) → WhereTold (RegisterReadAt h number value) old new → old ≡ None → new ≡ None
 got_none h number value None new g end = g
 got_none h number value (Some f) new g end = absurd (none-some f (sym end))
 
-set_none : (h number value : ℕ) (old new : Option Far) → WhereTold (SetRegister h number value) old new → old ≡ None → new ≡ None
+set_none : (h number value : ℕ) (old new : Option Far) → WhereTold (RegisterWrittenAt h number value) old new → old ≡ None → new ≡ None
 set_none h number value None new g end = g
 set_none h number value (Some f) new g end = absurd (none-some f (sym end))
 
@@ -68,7 +68,7 @@ reached false x Tdata1 = refl
 reached false x Tdata2 = refl
 reached false x Dcsr = refl
 
-not_denied : (write : Bool) (h : ℕ) (r : TriggerRegister) (old new : Option Far) → WhereTold (DeniedRegister write h (number_of r)) old new → old ≡ None
+not_denied : (write : Bool) (h : ℕ) (r : TriggerRegister) (old new : Option Far) → WhereTold (RegisterRefusedAt write h (number_of r)) old new → old ≡ None
 not_denied write h r None new d = refl
 not_denied write h r (Some f) new d = absurd (false≢true (sym d.denied ∙ reached write d.hart r))
 

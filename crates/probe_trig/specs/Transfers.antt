@@ -7,7 +7,7 @@ use Rattle.rv_model.specs.TriggerWords.{tdata1_number, tdata2_number, tselect_nu
 use Rattle.probe_access.specs.declared.fault.AccessFault.{AccessFault}
 use Rattle.probe_access.specs.Cuts.{IfCut, LeftAside, Leaves, MaybeWritten, Unchanged}
 use Rattle.probe_access.specs.RegisterRuns.{ReadFailed, RegisterRead, RegisterWritten, WriteFailed}
-use Rattle.probe_access.specs.Registers.{GotRegister, RegisterLeft, SetRegister}
+use Rattle.probe_access.specs.Registers.{RegisterReadAt, RegisterLeft, RegisterWrittenAt}
 use Rattle.probe_run.specs.Acts.{Tells}
 use Rattle.probe_trig.specs.declared.register.TriggerRegister.{TriggerRegister}
 use Rattle.probe_trig.specs.declared.register.TriggerRegister.TheVariants.{Tselect, Tdata1, Tdata2, Dcsr}
@@ -27,11 +27,11 @@ pub data Transfer : Type 0 where
 -- along the link, and at hart h of a told chip
 pub record DidGet (h : ℕ) (r : TriggerRegister) (value : ℕ) (old new : Tells) : Type 0 where
   pub read : RegisterRead (number_of r) value old new
-  pub got : WhereTold (GotRegister h (number_of r) value) old.far new.far
+  pub got : WhereTold (RegisterReadAt h (number_of r) value) old.far new.far
 
 pub record DidSet (h : ℕ) (r : TriggerRegister) (value : ℕ) (old new : Tells) : Type 0 where
   pub written : RegisterWritten (number_of r) value old new
-  pub set_to : WhereTold (SetRegister h (number_of r) value) old.far new.far
+  pub set_to : WhereTold (RegisterWrittenAt h (number_of r) value) old.far new.far
 
 abbrev pub Transferred : ℕ → Transfer → Tells → Tells → Type 0
 Transferred h (Transfer.Got r value) old new = DidGet h r value old new

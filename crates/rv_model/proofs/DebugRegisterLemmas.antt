@@ -17,7 +17,7 @@ use Rattle.rv_model.proofs.SlotLemmas.{set_fits, selected_fits, written_fits}
 -- ---- worked examples
 
 pub debug_register_numbers : DebugRegisterNumbers
-debug_register_numbers = record { tselect = refl; tdata1 = refl; tdata2 = refl; tinfo = refl; tinfo_reads = refl; dcsr = refl; dpc = refl }
+debug_register_numbers = record { tselect = refl; tdata1 = refl; tdata2 = refl; tinfo = refl; tinfo_reads = refl; dcsr = refl; dpc = refl; x0 = refl }
 
 pub debug_register_examples : DebugRegisterExamples
 unfolding debug_value debug_refuses debug_written csr_value csr_read_only csr_written dcsr_word tdata1_of trigger_csr_value trigger_csr_written

@@ -15,3 +15,10 @@ pub mod SlotLemmas
 pub mod TouchLemmas
 pub mod TurnLemmas
 pub mod WholeBoards
+pub mod WideWords
+pub mod WideOperands
+pub mod WideCore
+pub mod WideMemory
+pub mod WideEffects
+pub mod WideHart
+pub mod Widths

@@ -6,7 +6,7 @@ use Rattle.rv_model.specs.declared.debug_did.DebugDid.TheVariants as ended
 use Rattle.rv_model.specs.declared.insn.Insn.{Insn}
 use Rattle.rv_model.specs.declared.insn.Insn.TheVariants.{Load, Csr, CsrImmediate}
 use Rattle.rv_model.specs.declared.load_op.LoadOp.TheVariants.{Ld}
-use Rattle.rv_model.specs.declared.register_number.TheConstants.{TSELECT, TDATA1, TDATA2, TINFO, DCSR, DPC}
+use Rattle.rv_model.specs.declared.register_number.TheConstants.{TSELECT, TDATA1, TDATA2, TINFO, DCSR, DPC, X0}
 use Rattle.rv_model.specs.declared.trigger_word.TheConstants.{TINFO_VALUE}
 use Rattle.rv_model.specs.Board.{DebugPart, Hart, IsHart, reset_hart, slot_count}
 use Rattle.rv_model.specs.Core.{with_x, aligned, register_count}
@@ -15,7 +15,7 @@ use Rattle.rv_model.specs.DebugRegisters.{dcsr_number, debug_value, debug_refuse
 use Rattle.rv_model.specs.Laws.{KeepsCore}
 use Rattle.rv_model.specs.Memory.{Memory}
 use Rattle.rv_model.specs.ProgramBuffer.{Debugged, debugged, ran_word}
-use Rattle.rv_model.specs.Registers.{pc_number}
+use Rattle.rv_model.specs.Registers.{first_x_number, pc_number}
 use Rattle.rv_model.specs.Rows.{meaning}
 use Rattle.rv_model.specs.TriggerWords.{tselect_number, tdata1_number, tdata2_number, tinfo_number, tdata1_of, trigger_of, tinfo_value}
 
@@ -29,6 +29,7 @@ pub record DebugRegisterNumbers : Type 0 where
   pub tinfo_reads : TINFO_VALUE ≡ tinfo_value
   pub dcsr : DCSR ≡ dcsr_number
   pub dpc : DPC ≡ pc_number
+  pub x0 : X0 ≡ first_x_number
 
 -- ---- worked examples: hart 2, halted by reset
 

@@ -35,7 +35,7 @@ undebugged_behind script was is first last (ends.Lost lost.DmiFailed) w = tt
 undebugged_behind script was is first last (ends.Lost lost.StillBusy) w = tt
 undebugged_behind script was is first last (ends.Lost (lost.NoHalt looks)) w = undebugged_by script first last w.board_is
 undebugged_behind script was is first last (ends.Lost (lost.NoAck looks)) w = undebugged_by script first last w.board_is
-undebugged_behind script was is first last (ends.Lost (lost.Odd word)) w = tt
+undebugged_behind script was is first last (ends.Lost (lost.Odd odd)) w = tt
 undebugged_behind script was is first last ends.Sink w = undebugged_by script first last w.board_is
 
 -- the harts have had just the turns of the schedule with which the chip was loaded

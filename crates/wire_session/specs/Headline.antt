@@ -36,7 +36,7 @@ UndebuggedBehind (ends.Lost lost.DmiFailed) script first last = Unit {0}
 UndebuggedBehind (ends.Lost lost.StillBusy) script first last = Unit {0}
 UndebuggedBehind (ends.Lost (lost.NoHalt looks)) script first last = IsUndebugged script first last
 UndebuggedBehind (ends.Lost (lost.NoAck looks)) script first last = IsUndebugged script first last
-UndebuggedBehind (ends.Lost (lost.Odd word)) script first last = Unit {0}
+UndebuggedBehind (ends.Lost (lost.Odd odd)) script first last = Unit {0}
 UndebuggedBehind ends.Sink script first last = IsUndebugged script first last
 
 -- of this script, by the chip before and behind the session, and what was printed before it and behind it

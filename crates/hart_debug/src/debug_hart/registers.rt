@@ -11,20 +11,17 @@ ghost use Rattle.hart_debug.specs.RegisterAnswers.{write_answer};
 use super::DebugHart;
 use rv_hart::{CsrFault, Hart};
 use rv_model::Dcsr;
-use rv_model::register_number::{DCSR, DPC};
-
-/// The number of x0; those of x1 to x31 follow.
-const FIRST_X: u16 = 0x1000;
+use rv_model::register_number::{DCSR, DPC, X0};
 
 /// The number behind that of x31.
-const END_OF_X: u16 = 0x1020;
+const END_OF_X: u16 = X0 + 32;
 
 /// A register of the core, or `None` where it has none of this number.
 fn read_core(hart: &Hart, regno: u16) -> Option<u64>
     ensures { result ≡ reg_value hart.now regno }
 {
-    if regno >= FIRST_X && regno < END_OF_X {
-        return Some(hart.x((regno - FIRST_X) as u8));
+    if regno >= X0 && regno < END_OF_X {
+        return Some(hart.x((regno - X0) as u8));
     }
     if regno == DPC {
         return Some(hart.pc());
@@ -40,8 +37,8 @@ fn write_core(hart: &mut Hart, regno: u16, value: u64) -> Result<(), CsrFault>
     ensures after { hart.new ≡ reg_written hart.old regno value }
     ensures refused { IfErr result (λ _. hart.new ≡ hart.old) }
 {
-    if regno >= FIRST_X && regno < END_OF_X {
-        hart.set_x((regno - FIRST_X) as u8, value);
+    if regno >= X0 && regno < END_OF_X {
+        hart.set_x((regno - X0) as u8, value);
         return Ok(());
     }
     if regno == DPC {

@@ -7,32 +7,10 @@ ghost use Rattle.rv_hart.specs.CsrAnswer.{csr_answer};
 use super::Hart;
 use super::mstatus::mstatus_written;
 use crate::csr_fault::CsrFault;
-
-const MSTATUS: u16 = 0x300;
-
-const MISA: u16 = 0x301;
-
-const MIE: u16 = 0x304;
-
-const MTVEC: u16 = 0x305;
-
-const MSCRATCH: u16 = 0x340;
-
-const MEPC: u16 = 0x341;
-
-const MCAUSE: u16 = 0x342;
-
-const MTVAL: u16 = 0x343;
-
-const MIP: u16 = 0x344;
-
-const MVENDORID: u16 = 0xf11;
-
-const MARCHID: u16 = 0xf12;
-
-const MIMPID: u16 = 0xf13;
-
-const MHARTID: u16 = 0xf14;
+use rv_model::register_number::{
+    MARCHID, MCAUSE, MEPC, MHARTID, MIE, MIMPID, MIP, MISA, MSCRATCH, MSTATUS, MTVAL, MTVEC,
+    MVENDORID,
+};
 
 /// What misa reads: 64 bits, with the extensions A, I and M.
 const MISA_VALUE: u64 = 0x8000_0000_0000_1101;

@@ -1,3 +1,4 @@
+use Rattle.debug_model.specs.Addresses.{sbcs_address}
 use Rattle.probe_run.specs.Told.{told}
 use Rattle.std.proofs.Common.{◌∙◌, refl, sym, ap}
 use Rattle.debug_model.specs.declared.sbcs.Sbcs.{Sbcs}
@@ -19,6 +20,6 @@ returns-then-bus-eq-OUTSIDE-clause-failed g c = (
     mid = told (g.D.Dmi.seen c.poll_bus.new.link);
     polled = c.in_ok-last.ensures.polled;
     outside = sym (ap (λ (s : Sbcs). s.sberror) c.from_word-bus.ensures) ∙ c.if-bus-eq-OUTSIDE.true;
-    cleared = put_did 56 0x407000 _ _ c.in_ok-write.ensures.operated c.in_ok-write.ensures.passes;
+    cleared = put_did sbcs_address 0x407000 _ _ c.in_ok-write.ensures.operated c.in_ok-write.ensures.passes;
   },
 )

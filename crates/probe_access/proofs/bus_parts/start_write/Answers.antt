@@ -1,9 +1,10 @@
 use Rattle.probe_run.specs.Told.{told}
 use Rattle.std.proofs.Common.{◌≡◌, ◌++◌, ℕ, refl, subst, [], ◌∷◌, arith}
+use Rattle.debug_model.specs.Addresses.{sbdata0_address, sbdata1_address}
 use Rattle.debug_model.specs.Commands.{high_half, low_half}
 use Rattle.probe_run.specs.Acts.{Did, Tells}
 use Rattle.probe_run.specs.Acts.Act.{Put}
-use Rattle.probe_access.specs.BusRuns.{Starting, addressed, sbdata0_address, sbdata1_address, setting, supplied, write_started}
+use Rattle.probe_access.specs.BusRuns.{Starting, addressed, setting, supplied, write_started}
 use Rattle.probe_access.specs.BusRuns.Starting.{next}
 use Rattle.std.proofs.Common.{false}
 use Rattle.probe_access.specs.Faults.{BrokeIn}

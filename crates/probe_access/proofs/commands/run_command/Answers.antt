@@ -1,3 +1,4 @@
+use Rattle.debug_model.specs.Addresses.{abstractcs_address}
 use Rattle.probe_run.specs.Told.{told}
 use Rattle.std.proofs.Common.{[], refl, sym, ap, ◌∙◌, arith}
 use Rattle.debug_model.specs.declared.abstractcs.Abstractcs.{Abstractcs}
@@ -36,5 +37,5 @@ returns-in_err-write-2-clause-failed g c =
 pub returns-clause-ran : goal.returns-clause-ran
 returns-clause-ran g c =
     put_then_poll (command_word c.args.command) c.in_ok-last.last _ _ _ (word_put 23 c.word.result (command_word c.args.command) _ _ c.word.ensures c.in_ok-write.ensures.operated c.in_ok-write.ensures.passes)
-    c.in_ok-last.ensures.polled _ _ (put_did 22 0x700 _ _ c.in_ok-write-2.ensures.operated c.in_ok-write-2.ensures.passes)
+    c.in_ok-last.ensures.polled _ _ (put_did abstractcs_address 0x700 _ _ c.in_ok-write-2.ensures.operated c.in_ok-write-2.ensures.passes)
     (some_cleared _ (λ e. c.if-status-eq0.false (ap (λ (s : Abstractcs). s.cmderr) c.from_word-status.ensures ∙ e)))

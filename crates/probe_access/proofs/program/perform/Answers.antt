@@ -1,5 +1,6 @@
 use Rattle.probe_run.specs.Told.{told}
-use Rattle.std.proofs.Common.{sym, ap, ◌∙◌, arith}
+use Rattle.std.proofs.Common.{sym, ap, ◌∙◌, arith, refl}
+use Rattle.probe_access.specs.declared.odd.OddStatus.TheVariants as odd_status
 use Rattle.debug_model.specs.declared.abstractcs.Abstractcs.{Abstractcs}
 use Rattle.probe_access.specs.MemoryRuns.PerformFailed.{in_program, in_address, in_run, faulted, oddly}
 use Rattle.probe_access.proofs.Counted.{command_counted, write_counted}
@@ -44,8 +45,10 @@ returns-in-3-clause-failed g c = faulted (record {
 pub returns-in_default-clause-failed : goal.returns-in_default-clause-failed
 returns-in_default-clause-failed g c =
     let same = ap (λ (s : Abstractcs). s.cmderr) c.from_word.ensures in
-    oddly _ _ c.in_ok-write_program.ensures.did c.in_ok-write_register.ensures.written c.in_ok-last.last
+    oddly _ _ c.in_ok-write_program.ensures.did c.in_ok-write_register.ensures.written (odd_status.Abstractcs c.in_ok-last.last)
     (record {
+      last = c.in_ok-last.last;
+      is = refl;
       ran = same_ran _ _ c.in_ok-last.last _ _ c.program.ensures c.in_ok-last.ensures.ran;
       some = λ e. let f = same ∙ e in omega arith;
       other = λ e. let f = same ∙ e in omega arith;

@@ -1,3 +1,4 @@
+use Rattle.debug_model.specs.Addresses.{progbuf0_address, progbuf1_address}
 use Rattle.probe_run.specs.Told.{told}
 use Rattle.std.proofs.Common.{refl}
 use Rattle.probe_access.specs.MemoryRuns.{ProgramBegun}
@@ -16,8 +17,8 @@ pub returns-in_err-write-2-clause-broke : goal.returns-in_err-write-2-clause-bro
 returns-in_err-write-2-clause-broke g c =
     fault_failed c.from_residual-in_err-write-2.result c.in_err-write-2.field-0.0 _ c.from_residual-in_err-write-2.ensures.1
     (word_broke_behind (ProgramBegun c.args.instruction) _ 33 0x00100073 0x00100073 _ _ _ (told (g.D.Dmi.seen c.args.link.now)) (told (g.D.Dmi.seen c.write.new.self)) _ c.in_err-write-2.field-0.0 refl second
-    (put_did 32 c.args.instruction _ _ c.in_ok-write.ensures.operated c.in_ok-write.ensures.passes) c.write.ensures.keeps.later c.write-2.ensures.keeps.later c.in_err-write-2.ensures.cut c.in_err-write-2.ensures.cause)
+    (put_did progbuf0_address c.args.instruction _ _ c.in_ok-write.ensures.operated c.in_ok-write.ensures.passes) c.write.ensures.keeps.later c.write-2.ensures.keeps.later c.in_err-write-2.ensures.cut c.in_err-write-2.ensures.cause)
 
 pub returns-clause-did : goal.returns-clause-did
 returns-clause-did g c =
-    did_then _ _ _ (put_did 32 c.args.instruction _ _ c.in_ok-write.ensures.operated c.in_ok-write.ensures.passes) _ _ (put_did 33 0x00100073 _ _ c.in_ok-write-2.ensures.operated c.in_ok-write-2.ensures.passes)
+    did_then _ _ _ (put_did progbuf0_address c.args.instruction _ _ c.in_ok-write.ensures.operated c.in_ok-write.ensures.passes) _ _ (put_did progbuf1_address 0x00100073 _ _ c.in_ok-write-2.ensures.operated c.in_ok-write-2.ensures.passes)

@@ -1,9 +1,10 @@
 use Rattle.probe_run.specs.Told.{told}
 use Rattle.std.proofs.Common.{[], ap}
+use Rattle.debug_model.specs.Addresses.{dmcontrol_address}
 use Rattle.debug_model.specs.declared.dmi_op.DmiOp.TheVariants.{Write}
 use Rattle.probe_run.specs.Acts.{Broke}
 use Rattle.probe_run.specs.Acts.Attempt.{Operation}
-use Rattle.probe_run.specs.Requests.{control_word, dmcontrol_address}
+use Rattle.probe_run.specs.Requests.{control_word}
 use Rattle.probe_run.proofs.ActLemmas.{broke_op, did_put, if_err}
 use Rattle.probe_run.proofs.control.control.Goals as goal
 

@@ -1,9 +1,9 @@
 use Rattle.probe_run.specs.Told.{told}
 use Rattle.std.proofs.Common.{◌∙◌, ◌≤◌, ap, sym, arith}
+use Rattle.debug_model.specs.Addresses.{dmcontrol_address}
 use Rattle.debug_model.specs.declared.dmcontrol.Dmcontrol.{Dmcontrol}
 use Rattle.probe_run.specs.Opening.{ActivationFails}
 use Rattle.probe_run.specs.Opening.ActivateBroke.{at_read}
-use Rattle.probe_run.specs.Requests.{dmcontrol_address}
 use Rattle.probe_run.proofs.ActLemmas.{did_got, if_err}
 use Rattle.probe_run.proofs.OpeningLemmas.{reads_active, reads_again, reads_all, reads_broke, reads_start}
 use Rattle.probe_run.proofs.opening.activate.Goals as goal

@@ -1,8 +1,9 @@
 use Rattle.probe_run.specs.Told.{told}
 use Rattle.std.proofs.Common.{sym, ◌∙◌, ap, refl, []}
+use Rattle.debug_model.specs.Addresses.{sbcs_address}
 use Rattle.debug_model.specs.declared.dmi_op.DmiOp.TheVariants.{Read, Write}
 use Rattle.probe_run.specs.Acts.{Did}
-use Rattle.probe_run.specs.Opening.{BusFails, BusFits, bus_fits, bus_act, sbcs_address, clears_sberror}
+use Rattle.probe_run.specs.Opening.{BusFails, BusFits, bus_fits, bus_act, clears_sberror}
 use Rattle.probe_run.specs.Opening.BusBroke.{at_sbcs, at_sberror}
 use Rattle.probe_run.proofs.ActLemmas.{broke_op, did_got, did_put, if_err}
 use Rattle.probe_run.proofs.OpeningLemmas.{broke_behind, read_as}

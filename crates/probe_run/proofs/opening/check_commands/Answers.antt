@@ -1,9 +1,10 @@
 use Rattle.probe_run.specs.Told.{told}
 use Rattle.std.proofs.Common.{sym, ◌∙◌, ◌≤◌, ap, refl, [], ◌∷◌, arith}
+use Rattle.debug_model.specs.Addresses.{abstractcs_address, abstractauto_address}
 use Rattle.debug_model.specs.declared.dmi_op.DmiOp.TheVariants.{Read, Write}
 use Rattle.probe_run.specs.Acts.{Did}
 use Rattle.probe_run.specs.Acts.Act.{Put}
-use Rattle.probe_run.specs.Opening.{CommandsFail, CommandsFit, commands_fit, commands_act, abstractcs_address, abstractauto_address, clears_cmderr, starts_none}
+use Rattle.probe_run.specs.Opening.{CommandsFail, CommandsFit, commands_fit, commands_act, clears_cmderr, starts_none}
 use Rattle.probe_run.specs.Opening.CommandsBroke.{at_abstractcs, at_cmderr, at_abstractauto}
 use Rattle.probe_run.proofs.ActLemmas.{broke_op, did_got, did_put, did_then, if_err}
 use Rattle.probe_run.proofs.OpeningLemmas.{broke_behind, read_as}

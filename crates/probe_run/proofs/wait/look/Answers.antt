@@ -1,7 +1,7 @@
 use Rattle.probe_run.specs.Told.{told}
 use Rattle.std.proofs.Common.{[], refl}
+use Rattle.debug_model.specs.Addresses.{dmstatus_address}
 use Rattle.debug_model.specs.declared.dmi_op.DmiOp.TheVariants.{Read}
-use Rattle.probe_run.specs.Requests.{dmstatus_address}
 use Rattle.probe_run.specs.Waits.{LookBroke}
 use Rattle.probe_run.proofs.ActLemmas.{broke_op, did_got, if_err}
 use Rattle.probe_run.proofs.wait.look.Goals as goal

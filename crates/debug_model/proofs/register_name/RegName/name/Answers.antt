@@ -1,8 +1,7 @@
-use Rattle.std.proofs.Common.{◌∙◌}
-use Rattle.debug_model.proofs.RegisterLemmas.{name_in_registers, name_in_known}
+use Rattle.debug_model.proofs.RegisterLemmas.{name_in_registers}
 use Rattle.debug_model.proofs.register_name.RegName.name.Goals as goal
 
 pub loop-name-init : goal.loop-name-init
 loop-name-init c =
     let rows = c.named_registers-name-items.result.now in
-    (name_in_registers c.args.self.0 rows c.named_registers-name-items.ensures, name_in_known c.args.self.0 rows c.named_registers-name-items.ensures ∙ c.requires)
+    name_in_registers c.args.self.0 rows c.named_registers-name-items.ensures

@@ -5,7 +5,7 @@ use Rattle.rv_model.specs.declared.insn.Insn.{Insn}
 use Rattle.rv_model.specs.declared.insn.Insn.TheVariants.{Lui, Auipc, Jal, Jalr, Branch, Immediate, Shift, WordShift, CsrImmediate}
 use Rattle.rv_model.specs.Fields.{field, imm_b, imm_i, imm_j, imm_s, imm_u}
 use Rattle.rv_model.specs.Rows.{Row, matches, meaning, meaning_in, rows}
-use Rattle.probe_run.proofs.WideWords.{IsWide, extended_wide}
+use Rattle.rv_model.proofs.WideWords.{IsWide, extended_wide}
 
 imm_i_wide : (w : ℕ) → IsWide (imm_i w)
 imm_i_wide w = extended_wide 12 (field 20 12 w) (omega arith) (omega arith) (omega arith)

@@ -19,8 +19,8 @@ use Rattle.rv_model.specs.Fields.{bit_value}
 use Rattle.rv_model.specs.Registers.{csr_value, is_x_number, reg_value}
 use Rattle.rv_model.specs.TriggerWords.{CountFits, comparison_number, selected_slot, tdata1_of, trigger_csr_value, triggers_of}
 use Rattle.rv_model.proofs.DebugRegisterLemmas.{is_x}
-use Rattle.probe_run.proofs.WideCore.{CoreWide, csr_value_wide, x_wide, zero_by}
-use Rattle.probe_run.proofs.WideWords.{IsWide}
+use Rattle.rv_model.proofs.WideCore.{CoreWide, csr_value_wide, x_wide, zero_by}
+use Rattle.rv_model.proofs.WideWords.{IsWide}
 
 pub record HartWide (h : ℕ) (hart : Hart) : Type 0 where
   pub whole : IsHart h hart

@@ -19,11 +19,11 @@ use Rattle.rv_model.specs.Fields.{sign_extended}
 use Rattle.rv_model.specs.Memory.{Memory, covers, loaded, store_answer}
 use Rattle.rv_model.specs.Rows.{meaning}
 use Rattle.rv_model.specs.Size.{count_of}
-use Rattle.debug_model.specs.Told.{MemoryReady}
-use Rattle.probe_run.proofs.WideCore.{CoreWide, after_load_wide, amo_wide, branches_wide, goes_on_wide, illegal_wide, jumps_wide, offset_wide, sc_wide, sets_rd_wide, stored_wide, swaps_wide, trap_left_wide, traps_wide, x_wide, zero_wide}
-use Rattle.probe_run.proofs.WideMemory.{amo_ready, loaded_small, reserve_ready, sc_ready, stored_ready}
-use Rattle.probe_run.proofs.WideOperands.{ImmediateWide, meaning_wide}
-use Rattle.probe_run.proofs.WideWords.{IsWide, alu_wide, extended_wide}
+use Rattle.rv_model.specs.Widths.{MemoryReady}
+use Rattle.rv_model.proofs.WideCore.{CoreWide, after_load_wide, amo_wide, branches_wide, goes_on_wide, illegal_wide, jumps_wide, offset_wide, sc_wide, sets_rd_wide, stored_wide, swaps_wide, trap_left_wide, traps_wide, x_wide, zero_wide}
+use Rattle.rv_model.proofs.WideMemory.{amo_ready, loaded_small, reserve_ready, sc_ready, stored_ready}
+use Rattle.rv_model.proofs.WideOperands.{ImmediateWide, meaning_wide}
+use Rattle.rv_model.proofs.WideWords.{IsWide, alu_wide, extended_wide}
 
 pub record OutcomeWide (o : Outcome) : Type 0 where
   pub core : CoreWide o.step.core

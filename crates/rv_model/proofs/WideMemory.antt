@@ -12,7 +12,7 @@ use Rattle.rv_model.specs.declared.alu_op.AluOp.{AluOp}
 use Rattle.rv_model.specs.Core.{Core}
 use Rattle.rv_model.specs.Memory.{Bytes, Memory, after_store, is_aligned, is_inside, loaded, or_outside, value_at, with_byte, with_value}
 use Rattle.rv_model.specs.Size.{count_of}
-use Rattle.debug_model.specs.Told.{MemoryReady}
+use Rattle.rv_model.specs.Widths.{MemoryReady}
 use Rattle.rv_model.proofs.MapLemmas.{small_with}
 
 abbrev pub BytesReady : Bytes → Type 0

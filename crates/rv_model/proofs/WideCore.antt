@@ -10,7 +10,7 @@ use Rattle.rv_model.specs.Core.{Core, next_pc, offset_by, with_x, x_of}
 use Rattle.rv_model.specs.Effects.{Step, after_load, amo_step, branches, goes_on, jumps, retires, sc_step, sets_rd, stored_step, swapped_csr, swaps_csr, traps}
 use Rattle.rv_model.specs.Registers.{Register, csr_read_only, csr_value, csr_written, kept_of, register_at, registers, written_at}
 use Rattle.rv_model.specs.Traps.{load_cause, store_cause, trap_left}
-use Rattle.probe_run.proofs.WideWords.{IsWide, mod_wide}
+use Rattle.rv_model.proofs.WideWords.{IsWide, mod_wide}
 
 pub record CoreWide (c : Core) : Type 0 where
   pub id : IsWide c.id

@@ -12,11 +12,11 @@ use Rattle.rv_model.specs.Touch.{touch_of}
 use Rattle.rv_model.specs.Triggers.{slot_counted, slot_marked, trigger_fires}
 use Rattle.rv_model.specs.Turn.{executes, memory_after, place_by, place_of, some_fires, stops_at_ebreak}
 use Rattle.rv_model.proofs.WholeBoards.{turn_keeps_hart}
-use Rattle.debug_model.specs.Told.{MemoryReady}
-use Rattle.probe_run.proofs.WideCore.{CoreWide}
-use Rattle.probe_run.proofs.WideEffects.{OutcomeWide, exec_wide}
-use Rattle.probe_run.proofs.WideMemory.{if_ready}
-use Rattle.probe_run.proofs.WideHart.{HartWide, core_wide, registers_wide}
+use Rattle.rv_model.specs.Widths.{MemoryReady}
+use Rattle.rv_model.proofs.WideCore.{CoreWide}
+use Rattle.rv_model.proofs.WideEffects.{OutcomeWide, exec_wide}
+use Rattle.rv_model.proofs.WideMemory.{if_ready}
+use Rattle.rv_model.proofs.WideHart.{HartWide, core_wide, registers_wide}
 
 abbrev SlotsWide : List Slot → Type 0
 SlotsWide slots = (k : ℕ) (s : Slot) → slice_get slots k ≡ Some s → s.tdata2 < 2 ^ 64
