@@ -5,3 +5,5 @@ pub mod LineLemmas
 pub mod Follows
 pub mod OutcomeLemmas
 pub mod PathLemmas
+pub mod WaveLemmas
+pub mod Drawn

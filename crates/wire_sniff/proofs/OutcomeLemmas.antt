@@ -17,10 +17,10 @@ seen_all (suc n) [] = refl
 seen_all (suc n) (b ∷ bits) = ap (and_seen (Some b)) (seen_all n bits)
 
 -- as many as the register has come out
-take_front : (was given : List Bool) → length given ≡ length was → take (length given) (was ++ given) ≡ was
+pub take_front : (was given : List Bool) → length given ≡ length was → take (length given) (was ++ given) ≡ was
 take_front was given same = ap (λ n. take n (was ++ given)) same ∙ take-append_seam was given
 
-drop_front : (was given : List Bool) → length given ≡ length was → drop (length given) (was ++ given) ≡ given
+pub drop_front : (was given : List Bool) → length given ≡ length was → drop (length given) (was ++ given) ≡ given
 drop_front was given same = ap (λ n. drop n (was ++ given)) same ∙ drop_seam was where
   drop_seam : (xs : List Bool) → drop (length xs) (xs ++ given) ≡ given
   drop_seam [] = refl

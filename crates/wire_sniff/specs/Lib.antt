@@ -3,3 +3,4 @@ pub mod Laws
 pub mod Sniffed
 pub mod SniffedText
 pub mod State
+pub mod Waves

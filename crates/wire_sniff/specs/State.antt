@@ -6,9 +6,11 @@ use Rattle.debug_model.specs.declared.sign.Sign.{Sign}
 use Rattle.debug_model.specs.declared.sign.Sign.TheVariants.{Pins, Ask, Light, Reset, Quit}
 use Rattle.wire_sniff.specs.Sniffed.{Sniffer as Definition, SniffedLine, scanned_code, seen_bits, status_width}
 use Rattle.wire_sniff.specs.Sniffed.SniffedLine.{DmiOdd, DmiUnseen, DmiFailed, DmiBusy, Operation}
+use Rattle.wire_sniff.specs.Waves.{Moment as DefinedMoment, line_change}
 use Rattle.wire_sniff.specs.declared.line.DmiLine.{DmiLine}
 use Rattle.wire_sniff.specs.declared.line.DmiLine.TheVariants.{Odd, Unseen, Failed, Busy, Asked}
 use Rattle.wire_sniff.specs.declared.scan.Scan.{Scan}
+use Rattle.wire_sniff.specs.declared.moment.Moment.{Moment}
 use Rattle.wire_sniff.specs.declared.sniffer.Sniffer.{Sniffer}
 
 -- given bits and one more, of which no more than `most` are kept
@@ -61,3 +63,14 @@ line_of (Asked op) = Operation op
 abbrev pub lines_shown : Option DmiLine → List SniffedLine
 lines_shown None = []
 lines_shown (Some line) = line_of line ∷ []
+
+-- a moment of a waveform
+pub record IsMoment (answers : List ℕ) (moment : Moment) (m : DefinedMoment) : Type 0 where
+  pub tms : moment.tms ≡ m.tms
+  pub tdi : moment.tdi ≡ m.tdi
+  pub sniffer : IsSniffer answers moment.sniffer m.sniffer
+
+-- what the line of a scan of dmi changes in a waveform
+abbrev pub change_of : Option DmiLine → List ℕ
+change_of None = []
+change_of (Some line) = line_change (line_of line)

@@ -5,12 +5,15 @@
 
 mod laws;
 mod line;
+mod moment;
 mod scan;
 mod sniff_end;
 mod sniffer;
 mod sniffing;
 mod text;
+mod waves;
 
 pub use laws::{dmi_scans_show_their_outcome, paths_show_their_scans};
 pub use sniff_end::SniffEnd;
 pub use sniffing::sniff;
+pub use waves::draw_waves;

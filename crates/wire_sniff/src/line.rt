@@ -1,12 +1,13 @@
-ghost use Rattle.std.specs.Prelude.{◌≡◌, ◌≤◌, ◌+◌, ◌++◌, Bool, List, Option};
+ghost use Rattle.std.specs.Prelude.{◌≡◌, ◌≤◌, ◌+◌, ◌++◌, ℕ, Bool, List, Option};
 ghost use Rattle.arrayvec.specs.ArrayVec.{array_vec_len};
 ghost use Rattle.debug_model.specs.Transport.{operation_of};
-ghost use Rattle.wire_sniff.specs.Sniffed.{dmi_lines, requested_line};
+ghost use Rattle.wire_sniff.specs.Sniffed.{Sniffer as Definition, dmi_lines, requested_line, selected_lines};
 ghost use Rattle.wire_sniff.specs.Sniffed.SniffedLine.{Data, Instruction};
 ghost use Rattle.wire_sniff.specs.SniffedText.{spelled_scan, spelled_seen, text_of};
-ghost use Rattle.wire_sniff.specs.State.{IsScan, line_of, lines_shown};
+ghost use Rattle.wire_sniff.specs.State.{IsScan, IsSniffer, line_of, lines_shown};
 
 use crate::scan::{SHOWN_MOST, Scan};
+use crate::sniffer::Sniffer;
 use crate::text::{LINE_MOST, LineText, push_decimal, push_number, push_word};
 use debug_model::{DmiOp, DmiScan};
 use jt_base::Bits;
@@ -26,6 +27,9 @@ const SPELLED_BITS: usize = 18;
 /// The bits of dmi, whose address has 7.
 const DMI_WIDTH: u64 = 41;
 
+/// The instruction that selects dmi.
+const DMI_INSTRUCTION: u8 = 0x11;
+
 /// The status of an operation that is done, as dmi captures it.
 const STATUS_DONE: u64 = 0;
 
@@ -39,6 +43,7 @@ const OP_READ: u8 = 1;
 const OP_WRITE: u8 = 2;
 
 /// What a scan of dmi shows.
+#[derive(Drop)]
 pub(crate) enum DmiLine {
     /// It was of another length than its register.
     Odd,
@@ -71,7 +76,7 @@ fn asked(request: Option<DmiOp>) -> Option<DmiLine>
 }
 
 /// What a scan shows beside its bits where dmi is selected; None where it asks for nothing.
-pub(crate) fn shown(scan: &Scan) -> Option<DmiLine>
+fn shown(scan: &Scan) -> Option<DmiLine>
     ensures { (given : List Bool) → (taken : List (Option Bool)) → IsScan scan.now given taken → lines_shown result ≡ dmi_lines given taken }
 {
     if scan.count != DMI_WIDTH {
@@ -84,6 +89,17 @@ pub(crate) fn shown(scan: &Scan) -> Option<DmiLine>
         STATUS_DONE => asked(requested(DmiScan::from_bits(scan.given.value()))),
         STATUS_FAILED => Some(DmiLine::Failed),
         _ => Some(DmiLine::Busy),
+    }
+}
+
+/// What a scan of the selected data register shows beside its bits.
+pub(crate) fn shown_by(sniffer: &Sniffer) -> Option<DmiLine>
+    ensures { (answers : List ℕ) → (s : Definition) → IsSniffer answers sniffer.now s → lines_shown result ≡ selected_lines s.code s.given s.taken }
+{
+    if sniffer.code == DMI_INSTRUCTION {
+        shown(&sniffer.scan)
+    } else {
+        None
     }
 }
 

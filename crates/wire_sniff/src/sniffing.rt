@@ -9,7 +9,7 @@ ghost use Rattle.wire_sniff.specs.Sniffed.{data_lines, lines_at, lines_from, sel
 ghost use Rattle.wire_sniff.specs.SniffedText.{text_of_all};
 ghost use Rattle.wire_sniff.specs.State.{IsSniffer, lines_shown};
 
-use crate::line::{DmiLine, data_line, dmi_line, instruction_line, shown};
+use crate::line::{DmiLine, data_line, dmi_line, instruction_line, shown_by};
 use crate::sniff_end::SniffEnd;
 use crate::sniffer::Sniffer;
 use bitbang_stream::classify;
@@ -18,9 +18,6 @@ use jt_base::{Sink, SinkFault};
 
 /// The sign that ends a stream.
 const QUIT: u8 = b'Q';
-
-/// The instruction that selects dmi.
-const DMI_INSTRUCTION: u8 = 0x11;
 
 /// The place of the first `Q`.
 fn quit_place(stream: &[u8]) -> Option<usize>
@@ -31,7 +28,7 @@ fn quit_place(stream: &[u8]) -> Option<usize>
 }
 
 /// The signs that count: those before the first `Q`.
-fn counted(stream: &[u8]) -> &[u8]
+pub(crate) fn counted(stream: &[u8]) -> &[u8]
     ensures { result.now ≡ counted_signs stream.now }
 {
     match quit_place(stream) {
@@ -71,7 +68,7 @@ fn bad_answer(answers: &[u8]) -> Option<u8>
 }
 
 /// What is wrong with these signs and answers, in the order of checks.
-fn refusal(signs: &[u8], answers: &[u8]) -> Option<SniffEnd>
+pub(crate) fn refusal(signs: &[u8], answers: &[u8]) -> Option<SniffEnd>
     ensures { result ≡ refusal_of signs.now answers.now }
 {
     let asked = match questions(signs) {
@@ -86,17 +83,6 @@ fn refusal(signs: &[u8], answers: &[u8]) -> Option<SniffEnd>
         return None;
     }
     Some(SniffEnd::Count { asked, given })
-}
-
-/// What a scan of the selected data register shows beside its bits.
-fn shown_by(sniffer: &Sniffer) -> Option<DmiLine>
-    ensures { (answers : List ℕ) → (s : Definition) → IsSniffer answers sniffer.now s → lines_shown result ≡ selected_lines s.code s.given s.taken }
-{
-    if sniffer.code == DMI_INSTRUCTION {
-        shown(&sniffer.scan)
-    } else {
-        None
-    }
 }
 
 /// Puts what a scan shows beside its bits.
