@@ -7,6 +7,8 @@
 mod accesses;
 #[cfg(test)]
 mod breaks;
+#[cfg(test)]
+mod costs;
 mod fault;
 #[cfg(test)]
 mod operations;

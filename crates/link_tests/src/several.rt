@@ -78,7 +78,14 @@ fn first_call<Q: Schedule>(bench: &mut Bench<Q>, operations: &[DmiOp], paced: bo
     }
 }
 
-fn seeded(alloc: Global, operations: &[DmiOp], paced: bool, harts: u8, seed: u64, busy: u8) -> Result<Came, Fail>
+fn seeded(
+    alloc: Global,
+    operations: &[DmiOp],
+    paced: bool,
+    harts: u8,
+    seed: u64,
+    busy: u8,
+) -> Result<Came, Fail>
     requires some { 0 < length operations.now }
     requires few { length operations.now ≤ operations_most }
     requires operations { All IsOperation operations.now }

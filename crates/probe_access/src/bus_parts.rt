@@ -13,7 +13,6 @@ use crate::commands::POLLS_MOST;
 use crate::doubles::{high_word, join, low_word};
 use crate::fault::AccessFault;
 use crate::memory::cut_to;
-use crate::commands::POLLS_MOST;
 use crate::odd::OddStatus;
 use debug_model::{Dmi, DmiFault, Sbaddress0, Sbaddress1, Sbcs, Sbdata0, Sbdata1};
 use rv_model::Size;

@@ -1,0 +1,88 @@
+//! What calls on a loaded chip cost in rises of TCK, where the transport is never found busy: 46 for each scan of `dmi`, and one scan more than operations for each call.
+
+ghost use Rattle.std.specs.Prelude.{◌<◌, ◌^◌, IfSome, IsSome};
+ghost use Rattle.debug_model.specs.Kept.{CanCall};
+ghost use Rattle.debug_model.specs.Loaded.{AsLoaded};
+ghost use Rattle.debug_model.specs.Told.{IsAsLoaded};
+
+use crate::fault::Fault;
+use chip_core::{Bench, BenchWire};
+use debug_model::{Dmi, Schedule};
+use hart_debug::Start;
+use probe_access::{reg, set_reg};
+use probe_dmi::Link;
+use probe_run::{Seen, connect};
+use probe_scan::Scanner;
+use std::test::Fail;
+use sys_events::SeedSchedule;
+
+/// The bytes of the smallest RAM.
+const RAM_LEAST: u64 = 65_536;
+
+const X5: u16 = 0x1005;
+
+/// What a register read or written costs at most: a command with its poll in three scans, and the data words in three.
+const REGISTER_RISES: u64 = 280;
+
+/// Opens a session, writes x5 so often and reads it so often, on hart 0, which is halted.
+fn visit<D: Dmi>(link: &mut D, writes: u8, reads: u8) -> Result<u64, Fault>
+    requires callable { CanCall (D.seen link.old) }
+    requires loaded { IsAsLoaded (D.seen link.old).far }
+{
+    let target = connect(link)?;
+    let Seen::Halted(halted) = target.look(link, 0)? else {
+        return Err(Fault::SeenOtherwise);
+    };
+    if writes > 0 {
+        set_reg(link, &halted, X5, 0x8877_6655_4433_2211)?;
+    }
+    if writes > 1 {
+        set_reg(link, &halted, X5, 0x1122_3344_5566_7788)?;
+    }
+    let mut value = 0;
+    if reads > 0 {
+        value = reg(link, &halted, X5)?;
+    }
+    if reads > 1 {
+        value = reg(link, &halted, X5)?;
+    }
+    Ok(value)
+}
+
+fn over<Q: Schedule>(bench: &mut Bench<Q>, writes: u8, reads: u8) -> Result<u64, Fault>
+    requires loaded { IsSome bench.old }
+    requires fresh { IfSome bench.old AsLoaded }
+{
+    let mut link = Link::paced(Scanner::new(BenchWire::new(bench, 256)));
+    visit(&mut link, writes, reads)
+}
+
+#[test]
+fn a_register_is_read_and_written_in_six_scans(rt: HostRuntime) -> Result<(), Fail> {
+    // so many writes and reads, and what is read
+    let cases = [
+        (0, 1, 0),
+        (0, 2, 0),
+        (1, 1, 0x8877_6655_4433_2211),
+        (2, 1, 0x1122_3344_5566_7788),
+    ];
+    let mut rounds = [0; 4];
+    for (place, (writes, reads, wanted)) in cases.iter().enumerate() {
+        let mut bench = Bench::blank();
+        bench.load(
+            rt.alloc(),
+            &[],
+            1,
+            RAM_LEAST,
+            Start::Halted,
+            SeedSchedule::new(7, 1, 1),
+        )?;
+        assert_eq!(rt; over(&mut bench, *writes, *reads), Ok(*wanted));
+        assert_eq!(rt; bench.counts().dmi_busy, 0);
+        rounds[place] = bench.counts().rounds;
+    }
+    let [read_once, read_twice, written_once, written_twice] = rounds;
+    assert!(rt; read_twice > read_once && read_twice - read_once <= REGISTER_RISES);
+    assert!(rt; written_twice > written_once && written_twice - written_once <= REGISTER_RISES);
+    Ok(())
+}
