@@ -4,7 +4,7 @@ use Rattle.std.proofs.lemmas.Bool.{false≢true}
 use Rattle.rv_model.specs.Board.{Board, DebugPart, Hart, Machine, machine_of}
 use Rattle.debug_model.specs.declared.point.Point.{Point}
 use Rattle.debug_model.specs.declared.point.Point.TheVariants.{Turn, Look, HaltReq, HaltClear, ResumeReq, Access}
-use Rattle.abstract_debugger.specs.Debugger.{Seen, halted_of, look, seen_at, sees_halted, until}
+use Rattle.abstract_debugger.specs.Debugger.{Seen, by_state, halted_of, look, seen_at, sees_halted, until, waiting}
 use Rattle.abstract_debugger.specs.Known.{IsFresh, IsKnown}
 use Rattle.abstract_debugger.specs.Laws.{IsChangeOf, IsFrozen, IsFrozenAt}
 use Rattle.abstract_debugger.specs.Lines.{Line}
@@ -212,6 +212,14 @@ until-suc n h test failed found last = refl
 pub until-zero : (h : ℕ) (test : Seen → Bool) (failed : Seen → Plan) (found : Plan) (last : Seen) → until zero h test failed found last ≡ failed last
 unfolding until
 until-zero h test failed found last = refl
+
+pub waiting-suc : (n h : ℕ) (absent running halted : Plan) → waiting (suc n) h absent running halted ≡ look h (by_state absent (waiting n h absent running halted) halted)
+unfolding waiting
+waiting-suc n h absent running halted = refl
+
+pub waiting-zero : (h : ℕ) (absent running halted : Plan) → waiting zero h absent running halted ≡ running
+unfolding waiting
+waiting-zero h absent running halted = refl
 
 pub if_true : (b : Bool) (p q : Plan) → b ≡ true → (if b then p else q) ≡ p
 if_true true p q is = refl

@@ -9,11 +9,11 @@ use Rattle.rv_model.specs.Registers.{csr_value, csr_read_only}
 use Rattle.rv_model.specs.Rows.{meaning}
 use Rattle.debug_model.specs.Registers.{name_of_register, named_registers}
 use Rattle.debug_model.specs.Spelling.{hexadecimal}
-use Rattle.abstract_debugger.specs.Debugger.{session, stepping, until}
+use Rattle.abstract_debugger.specs.Debugger.{session, stepping, until, waiting}
 use Rattle.abstract_debugger.specs.ExampleCases.{Case, Happens, Holds}
 use Rattle.abstract_debugger.specs.LineExamples.{LinesRead}
 use Rattle.abstract_debugger.specs.LossExamples.{no_halt, no_ack, step_without_halt, step_without_ack, wait_in_vain, cut_in_a_step, foreign_request, LossesHappen}
-use Rattle.abstract_debugger.specs.RefusalExamples.{five_breaks, hart_7, hart_1_running, read_only_register, misaligned_read, RefusalsHappen}
+use Rattle.abstract_debugger.specs.RefusalExamples.{five_breaks, hart_7, hart_1_running, read_only_register, misaligned_read, no_hart_to_wait_for, RefusalsHappen}
 use Rattle.abstract_debugger.specs.StopExamples.{step_from_reset, break_twice, pc_onto_break, pc_onto_the_same_break, step_onto_break, count_five, watched_store, ebreak_halts, halt_running, StopsHappen}
 use Rattle.abstract_debugger.specs.Transcript.{End, Outcome, start, transcript}
 use Rattle.abstract_debugger.proofs.Fetched.{computed, computed-agrees, some-unwrap}
@@ -49,87 +49,91 @@ happens c computes m holds =
     }
 
 step_from_reset_happens : Happens step_from_reset
-unfolding computed meaning alu_of effect_of stepping until csr_value csr_read_only
+unfolding computed meaning alu_of effect_of stepping until waiting csr_value csr_read_only
 step_from_reset_happens = happens step_from_reset (λ m. record { memory_is = refl; some = refl; lines = refl; end = refl; past = refl })
 
 break_twice_happens : Happens break_twice
-unfolding computed meaning alu_of effect_of stepping until csr_value csr_read_only
+unfolding computed meaning alu_of effect_of stepping until waiting csr_value csr_read_only
 break_twice_happens = happens break_twice (λ m. record { memory_is = refl; some = refl; lines = refl; end = refl; past = refl })
 
 pc_onto_break_happens : Happens pc_onto_break
-unfolding computed meaning alu_of effect_of stepping until csr_value csr_read_only
+unfolding computed meaning alu_of effect_of stepping until waiting csr_value csr_read_only
 pc_onto_break_happens = happens pc_onto_break (λ m. record { memory_is = refl; some = refl; lines = refl; end = refl; past = refl })
 
 pc_onto_the_same_break_happens : Happens pc_onto_the_same_break
-unfolding computed meaning alu_of effect_of stepping until csr_value csr_read_only
+unfolding computed meaning alu_of effect_of stepping until waiting csr_value csr_read_only
 pc_onto_the_same_break_happens = happens pc_onto_the_same_break (λ m. record { memory_is = refl; some = refl; lines = refl; end = refl; past = refl })
 
 step_onto_break_happens : Happens step_onto_break
-unfolding computed meaning alu_of effect_of stepping until csr_value csr_read_only
+unfolding computed meaning alu_of effect_of stepping until waiting csr_value csr_read_only
 step_onto_break_happens = happens step_onto_break (λ m. record { memory_is = refl; some = refl; lines = refl; end = refl; past = refl })
 
 count_five_happens : Happens count_five
-unfolding computed meaning alu_of effect_of stepping until csr_value csr_read_only
+unfolding computed meaning alu_of effect_of stepping until waiting csr_value csr_read_only
 count_five_happens = happens count_five (λ m. record { memory_is = refl; some = refl; lines = refl; end = refl; past = refl })
 
 watched_store_happens : Happens watched_store
-unfolding computed meaning alu_of effect_of stepping until csr_value csr_read_only
+unfolding computed meaning alu_of effect_of stepping until waiting csr_value csr_read_only
 watched_store_happens = happens watched_store (λ m. record { memory_is = refl; some = refl; lines = refl; end = refl; past = refl })
 
 ebreak_halts_happens : Happens ebreak_halts
-unfolding computed meaning alu_of effect_of stepping until csr_value csr_read_only
+unfolding computed meaning alu_of effect_of stepping until waiting csr_value csr_read_only
 ebreak_halts_happens = happens ebreak_halts (λ m. record { memory_is = refl; some = refl; lines = refl; end = refl; past = refl })
 
 halt_running_happens : Happens halt_running
-unfolding computed meaning alu_of effect_of stepping until csr_value csr_read_only
+unfolding computed meaning alu_of effect_of stepping until waiting csr_value csr_read_only
 halt_running_happens = happens halt_running (λ m. record { memory_is = refl; some = refl; lines = refl; end = refl; past = refl })
 
 five_breaks_happens : Happens five_breaks
-unfolding computed meaning alu_of effect_of stepping until csr_value csr_read_only
+unfolding computed meaning alu_of effect_of stepping until waiting csr_value csr_read_only
 five_breaks_happens = happens five_breaks (λ m. record { memory_is = refl; some = refl; lines = refl; end = refl; past = refl })
 
 hart_7_happens : Happens hart_7
-unfolding computed meaning alu_of effect_of stepping until csr_value csr_read_only
+unfolding computed meaning alu_of effect_of stepping until waiting csr_value csr_read_only
 hart_7_happens = happens hart_7 (λ m. record { memory_is = refl; some = refl; lines = refl; end = refl; past = refl })
 
 hart_1_running_happens : Happens hart_1_running
-unfolding computed meaning alu_of effect_of stepping until csr_value csr_read_only
+unfolding computed meaning alu_of effect_of stepping until waiting csr_value csr_read_only
 hart_1_running_happens = happens hart_1_running (λ m. record { memory_is = refl; some = refl; lines = refl; end = refl; past = refl })
 
+no_hart_to_wait_for_happens : Happens no_hart_to_wait_for
+unfolding computed meaning alu_of effect_of stepping until waiting csr_value csr_read_only
+no_hart_to_wait_for_happens = happens no_hart_to_wait_for (λ m. record { memory_is = refl; some = refl; lines = refl; end = refl; past = refl })
+
 read_only_register_happens : Happens read_only_register
-unfolding computed meaning alu_of effect_of stepping until csr_value csr_read_only
+unfolding computed meaning alu_of effect_of stepping until waiting csr_value csr_read_only
 read_only_register_happens = happens read_only_register (λ m. record { memory_is = refl; some = refl; lines = refl; end = refl; past = refl })
 
 misaligned_read_happens : Happens misaligned_read
-unfolding computed meaning alu_of effect_of stepping until csr_value csr_read_only
+unfolding computed meaning alu_of effect_of stepping until waiting csr_value csr_read_only
 misaligned_read_happens = happens misaligned_read (λ m. record { memory_is = refl; some = refl; lines = refl; end = refl; past = refl })
 
 no_halt_happens : Happens no_halt
-unfolding computed meaning alu_of effect_of stepping until csr_value csr_read_only
+unfolding computed meaning alu_of effect_of stepping until waiting csr_value csr_read_only
 no_halt_happens = happens no_halt (λ m. record { memory_is = refl; some = refl; lines = refl; end = refl; past = refl })
 
 no_ack_happens : Happens no_ack
-unfolding computed meaning alu_of effect_of stepping until csr_value csr_read_only
+unfolding computed meaning alu_of effect_of stepping until waiting csr_value csr_read_only
 no_ack_happens = happens no_ack (λ m. record { memory_is = refl; some = refl; lines = refl; end = refl; past = refl })
 
 step_without_halt_happens : Happens step_without_halt
-unfolding computed meaning alu_of effect_of stepping until csr_value csr_read_only
+unfolding computed meaning alu_of effect_of stepping until waiting csr_value csr_read_only
 step_without_halt_happens = happens step_without_halt (λ m. record { memory_is = refl; some = refl; lines = refl; end = refl; past = refl })
 
 step_without_ack_happens : Happens step_without_ack
-unfolding computed meaning alu_of effect_of stepping until csr_value csr_read_only
+unfolding computed meaning alu_of effect_of stepping until waiting csr_value csr_read_only
 step_without_ack_happens = happens step_without_ack (λ m. record { memory_is = refl; some = refl; lines = refl; end = refl; past = refl })
 
 wait_in_vain_happens : Happens wait_in_vain
-unfolding computed meaning alu_of effect_of stepping until csr_value csr_read_only
+unfolding computed meaning alu_of effect_of stepping until waiting csr_value csr_read_only
 wait_in_vain_happens = happens wait_in_vain (λ m. record { memory_is = refl; some = refl; lines = refl; end = refl; past = refl })
 
 cut_in_a_step_happens : Happens cut_in_a_step
-unfolding computed meaning alu_of effect_of stepping until csr_value csr_read_only
+unfolding computed meaning alu_of effect_of stepping until waiting csr_value csr_read_only
 cut_in_a_step_happens = happens cut_in_a_step (λ m. record { memory_is = refl; some = refl; lines = refl; end = refl; past = refl })
 
 foreign_request_happens : Happens foreign_request
-unfolding computed meaning alu_of effect_of stepping until csr_value csr_read_only
+unfolding computed meaning alu_of effect_of stepping until waiting csr_value csr_read_only
 foreign_request_happens = happens foreign_request (λ m. record { memory_is = refl; some = refl; lines = refl; end = refl; past = refl })
 
 -- ---- together
@@ -151,6 +155,7 @@ pub refusals_happen : RefusalsHappen
 refusals_happen = record {
   slots = five_breaks_happens;
   absent = hart_7_happens;
+  none = no_hart_to_wait_for_happens;
   running = hart_1_running_happens;
   register = read_only_register_happens;
   misaligned = misaligned_read_happens;

@@ -3,7 +3,7 @@ use Rattle.std.proofs.Common.{◌≡◌, ◌∙◌, ℕ, zero, suc, Bool, true, 
 use Rattle.rv_model.specs.Board.{Board, Machine}
 use Rattle.debug_model.specs.declared.point.Point.{Point}
 use Rattle.debug_model.specs.declared.point.Point.TheVariants.{Turn, Look, HaltReq, HaltClear, ResumeReq, Access}
-use Rattle.abstract_debugger.specs.Debugger.{Seen, at_halted, by_state, going, halted_of, halting, look, lost_step, most_looks, one, seen_at, sees_ack, sees_both, sees_halted, stop_line, stop_line_of, unseen, until}
+use Rattle.abstract_debugger.specs.Debugger.{Seen, at_halted, by_state, going, halted_of, halting, look, lost_step, most_looks, one, seen_at, sees_ack, sees_both, sees_halted, stop_line, stop_line_of, unseen, until, waiting}
 use Rattle.abstract_debugger.specs.Debugger.Seen.{Absent, Running, Halted}
 use Rattle.abstract_debugger.specs.FirstMatch.{FirstMatch}
 use Rattle.abstract_debugger.specs.Known.{IsKnown}
@@ -137,6 +137,13 @@ good-until m h way way' (suc n) test failed found last sees gf g =
     good-look m h way h (λ s. if test s then found else until n h test failed found s)
     (λ w k j. chosen m (test (seen_at h w.board)) found (until n h test failed found (seen_at h w.board)) w j (λ e. g.goes w (sees w e k) j)
     (λ e. (good-until m h way way' n test failed found (seen_at h w.board) sees gf g).goes w k j))
+
+pub good-waiting : (m : Machine) (n h : ℕ) (absent running halted : Plan) → Good m h Idle absent → Good m h Idle running → Good m h Still halted
+    → Good m h Idle (waiting n h absent running halted)
+unfolding waiting
+good-waiting m zero h absent running halted ga gr gh = gr
+good-waiting m (suc n) h absent running halted ga gr gh =
+    good-look_by m h absent (waiting n h absent running halted) halted ga (good-waiting m n h absent running halted ga gr gh) gh
 
 pub good-halted : (m : Machine) (h : ℕ) (next body : Plan) → Fine m next → Good m h Still body → Good m h Idle (at_halted h next body)
 good-halted m h next body fine g =

@@ -15,7 +15,7 @@ use Rattle.debug_model.specs.declared.command.Path.{Path}
 use Rattle.debug_model.specs.declared.command.Path.TheVariants.{Progbuf, Bus}
 use Rattle.debug_model.specs.declared.point.Point.{Point}
 use Rattle.debug_model.specs.declared.point.Point.TheVariants.{Turn, Look, HaltReq, HaltClear, ResumeReq, Access}
-use Rattle.abstract_debugger.specs.Debugger.{Seen, State, act, arming, arming_at, at_aligned, at_halted, at_path, by_load, by_path, by_state, by_store, commands, dumping, first_state, freeing, going, halted_of, halting, is_free_slot, look, lost_step, most_looks, one, reading, register_line, row_bytes, saying, saying_row, seen_at, sees_ack, sees_both, sees_halted, shown_registers, slot_lines, stepping, stop_line, stop_line_of, unseen, until, writing}
+use Rattle.abstract_debugger.specs.Debugger.{Seen, State, act, arming, arming_at, at_aligned, at_halted, at_path, by_load, by_path, by_state, by_store, commands, dumping, first_state, freeing, going, halted_of, halting, is_free_slot, look, lost_step, most_looks, one, reading, register_line, row_bytes, saying, saying_row, seen_at, sees_ack, sees_both, sees_halted, shown_registers, slot_lines, stepping, stop_line, stop_line_of, unseen, until, waiting, writing}
 use Rattle.abstract_debugger.specs.Debugger.Seen.{Absent, Running, Halted}
 use Rattle.abstract_debugger.specs.Laws.{CommandsSpeakInOrder, IsFront}
 use Rattle.abstract_debugger.specs.Lines.{Line}
@@ -89,6 +89,12 @@ f-until zero h test failed failed' found found' last ff f = ff last
 f-until (suc n) h test failed failed' found found' last ff f =
     f-look h (λ s. if test s then found else until n h test failed found s) (λ s. if test s then found' else until n h test failed' found' s)
     (λ s. f-if (test s) found (until n h test failed found s) found' (until n h test failed' found' s) f (f-until n h test failed failed' found found' s ff f))
+
+f-waiting : (n k : ℕ) (a r h a' r' h' : Plan) → Fronts a a' → Fronts r r' → Fronts h h' → Fronts (waiting n k a r h) (waiting n k a' r' h')
+unfolding waiting
+f-waiting zero k a r h a' r' h' fa fr fh = fr
+f-waiting (suc n) k a r h a' r' h' fa fr fh =
+    f-look_by k a (waiting n k a r h) h a' (waiting n k a' r' h') h' fa (f-waiting n k a r h a' r' h' fa fr fh) fh
 
 f-halted : (h : ℕ) (next body next' body' : Plan) → Fronts next next' → Fronts body body' → Fronts (at_halted h next body) (at_halted h next' body')
 f-halted h next body next' body' f fb =
@@ -244,8 +250,9 @@ act-fronts (command.Step k) s next more f =
     f-halted s.hart (next s) (stepping k s.hart (stop_line s.hart (next s))) (more s) (stepping k s.hart (stop_line s.hart (more s))) (f s)
     (f-stepping k s.hart (stop_line s.hart (next s)) (stop_line s.hart (more s)) (f-stop_line s.hart (next s) (more s) (f s)))
 act-fronts (command.Wait k) s next more f =
-    f-until k s.hart sees_halted (λ seen. say Line.Running (next s)) (λ seen. say Line.Running (more s)) (stop_line s.hart (next s)) (stop_line s.hart (more s)) unseen
-    (λ seen. f-say Line.Running (next s) (more s) (f s)) (f-stop_line s.hart (next s) (more s) (f s))
+    f-waiting k s.hart (say (Line.NoHart s.hart) (next s)) (say Line.Running (next s)) (stop_line s.hart (next s))
+    (say (Line.NoHart s.hart) (more s)) (say Line.Running (more s)) (stop_line s.hart (more s))
+    (f-say (Line.NoHart s.hart) (next s) (more s) (f s)) (f-say Line.Running (next s) (more s) (f s)) (f-stop_line s.hart (next s) (more s) (f s))
 act-fronts command.Regs s next more f = f-halted s.hart (next s) _ (more s) _ (f s) (f-seen (λ b. map (register_line s.hart b) shown_registers) (next s) (more s) (f s))
 act-fronts (command.Reg r) s next more f = f-halted s.hart (next s) _ (more s) _ (f s) (f-seen (λ b. register_line s.hart b r.0 ∷ []) (next s) (more s) (f s))
 act-fronts (command.SetReg r v) s next more f = f-halted s.hart (next s) _ (more s) _ (f s)

@@ -15,7 +15,7 @@ use Rattle.debug_model.specs.declared.command.Path.{Path}
 use Rattle.debug_model.specs.declared.command.Path.TheVariants.{Progbuf, Bus}
 use Rattle.debug_model.specs.declared.point.Point.{Point}
 use Rattle.debug_model.specs.declared.point.Point.TheVariants.{Turn, Look, HaltClear, ResumeReq, Access}
-use Rattle.abstract_debugger.specs.Debugger.{Seen, State, act, arming, arming_at, at_aligned, at_halted, at_path, by_load, by_path, by_state, by_store, commands, dumping, first_state, freeing, going, halted_of, halting, is_free_slot, look, lost_step, most_looks, one, reading, register_line, row_bytes, saying, saying_row, seen_at, sees_ack, sees_both, sees_halted, shown_registers, slot_lines, stepping, stop_line, stop_line_of, unseen, until, writing}
+use Rattle.abstract_debugger.specs.Debugger.{Seen, State, act, arming, arming_at, at_aligned, at_halted, at_path, by_load, by_path, by_state, by_store, commands, dumping, first_state, freeing, going, halted_of, halting, is_free_slot, look, lost_step, most_looks, one, reading, register_line, row_bytes, saying, saying_row, seen_at, sees_ack, sees_both, sees_halted, shown_registers, slot_lines, stepping, stop_line, stop_line_of, unseen, until, waiting, writing}
 use Rattle.abstract_debugger.specs.Debugger.Seen.{Absent, Running, Halted}
 use Rattle.abstract_debugger.specs.Laws.{CommandsAreQuiet, Quiet, QuietBoards, SaysQuietly, SessionsSayQuietly}
 use Rattle.abstract_debugger.specs.Lines.{Line}
@@ -110,6 +110,12 @@ calm-until zero h test failed found last cf s = cf last
 calm-until (suc n) h test failed found last cf s =
     calm-look h (λ t. if test t then found else until n h test failed found t)
     (λ t. says-if (test t) found (until n h test failed found t) s (says_of (until n h test failed found t) (calm-until n h test failed found t cf s)))
+
+calm-waiting : (n h : ℕ) (absent running halted : Plan) → Says absent → Calm running → Says halted → Calm (waiting n h absent running halted)
+unfolding waiting
+calm-waiting zero h absent running halted sa cr sh = cr
+calm-waiting (suc n) h absent running halted sa cr sh =
+    calm-look_by h absent (waiting n h absent running halted) halted sa (says_of (waiting n h absent running halted) (calm-waiting n h absent running halted sa cr sh)) sh
 
 calm-halted : (h : ℕ) (next body : Plan) → Calm next → Says body → Calm (at_halted h next body)
 calm-halted h next body c s =
@@ -235,7 +241,8 @@ act-calm command.Resume s next f = calm-halted s.hart (next s) _ (f s) (says-see
 act-calm (command.Step k) s next f =
     calm-halted s.hart (next s) (stepping k s.hart (stop_line s.hart (next s))) (f s) (says-stepping k s.hart (stop_line s.hart (next s)) (says-stop_line s.hart (next s) (f s)))
 act-calm (command.Wait k) s next f =
-    calm-until k s.hart sees_halted (λ seen. say Line.Running (next s)) (stop_line s.hart (next s)) unseen (λ seen. calm-say Line.Running (next s) (f s)) (says-stop_line s.hart (next s) (f s))
+    calm-waiting k s.hart (say (Line.NoHart s.hart) (next s)) (say Line.Running (next s)) (stop_line s.hart (next s))
+    (says-say (Line.NoHart s.hart) (next s) (f s)) (calm-say Line.Running (next s) (f s)) (says-stop_line s.hart (next s) (f s))
 act-calm command.Regs s next f = calm-halted s.hart (next s) _ (f s) (says-seen (λ b. map (register_line s.hart b) shown_registers) (next s) (f s))
 act-calm (command.Reg r) s next f = calm-halted s.hart (next s) _ (f s) (says-seen (λ b. register_line s.hart b r.0 ∷ []) (next s) (f s))
 act-calm (command.SetReg r v) s next f = calm-halted s.hart (next s) _ (f s)

@@ -21,7 +21,7 @@ use Rattle.debug_model.specs.declared.command.Path.{Path}
 use Rattle.debug_model.specs.declared.command.Path.TheVariants.{Progbuf, Bus}
 use Rattle.debug_model.specs.declared.point.Point.{Point}
 use Rattle.debug_model.specs.declared.point.Point.TheVariants.{Access}
-use Rattle.abstract_debugger.specs.Debugger.{State, act, arming, arming_at, at_aligned, at_halted, at_path, by_load, by_path, by_store, commands, dumping, first_state, freeing, going, halting, is_free_slot, one, reading, register_line, row_bytes, saying, saying_row, sees_halted, shown_registers, slot_lines, stepping, stop_line, unseen, writing}
+use Rattle.abstract_debugger.specs.Debugger.{State, act, arming, arming_at, at_aligned, at_halted, at_path, by_load, by_path, by_store, commands, dumping, first_state, freeing, going, halting, is_free_slot, one, reading, register_line, row_bytes, saying, saying_row, shown_registers, slot_lines, stepping, stop_line, writing}
 use Rattle.abstract_debugger.specs.FirstMatch.{FirstMatch}
 use Rattle.abstract_debugger.specs.Known.{IsKnown}
 use Rattle.abstract_debugger.specs.Laws.{EachNoteIsRight, FirstMatchHolds, ResetIsFresh}
@@ -37,11 +37,11 @@ use Rattle.abstract_debugger.specs.Trace.What.{Break, Watch, Count}
 use Rattle.abstract_debugger.specs.Transcript.{World, changed, replay, start}
 use Rattle.abstract_debugger.specs.Ways.{Way}
 use Rattle.abstract_debugger.specs.Ways.Way.{Idle, Still, Ready}
-use Rattle.abstract_debugger.proofs.GoodLemmas.{Fine, Good, chosen, fine_idle, fine_still, good-change, good-going, good-halted, good-halting, good-if, good-look_all, good-look_by, good-one, good-say, good-see, good-stop, good-stop_line, good-take, good-until, idle_fine, still_ready}
+use Rattle.abstract_debugger.proofs.GoodLemmas.{Fine, Good, chosen, fine_idle, fine_still, good-change, good-going, good-halted, good-halting, good-if, good-look_all, good-look_by, good-one, good-say, good-see, good-stop, good-stop_line, good-take, good-waiting, idle_fine, still_ready}
 use Rattle.abstract_debugger.proofs.SlotLemmas.{CanArm}
 use Rattle.abstract_debugger.proofs.KnownChanges.{HasSlot, known-arm, known-ebreak, known-free, known-write_mem, known-write_reg}
 use Rattle.abstract_debugger.proofs.KnownHarts.{known-start}
-use Rattle.abstract_debugger.proofs.KnownPoints.{known-ready, known-still}
+use Rattle.abstract_debugger.proofs.KnownPoints.{known-ready}
 
 -- ---- loops
 
@@ -201,8 +201,9 @@ act-fine m command.Resume s next in_range f = halted_fine m s.hart (next s) (see
 act-fine m (command.Step k) s next in_range f =
     halted_fine m s.hart (next s) (stepping k s.hart (stop_line s.hart (next s))) (f s) (stepping-good m s.hart k (stop_line s.hart (next s)) (good-stop_line m s.hart (next s) (f s)))
 act-fine m (command.Wait k) s next in_range f =
-    idle_fine m s.hart (act (command.Wait k) s next) (good-until m s.hart Idle Still k sees_halted (λ seen. say Line.Running (next s)) (stop_line s.hart (next s)) unseen (known-still m s.hart)
-    (λ seen. good-say m s.hart Idle Line.Running (next s) (fine_idle m s.hart (next s) (f s))) (good-stop_line m s.hart (next s) (f s)))
+    idle_fine m s.hart (act (command.Wait k) s next) (good-waiting m k s.hart (say (Line.NoHart s.hart) (next s)) (say Line.Running (next s)) (stop_line s.hart (next s))
+    (good-say m s.hart Idle (Line.NoHart s.hart) (next s) (fine_idle m s.hart (next s) (f s)))
+    (good-say m s.hart Idle Line.Running (next s) (fine_idle m s.hart (next s) (f s))) (good-stop_line m s.hart (next s) (f s)))
 act-fine m command.Regs s next in_range f =
     halted_fine m s.hart (next s) (see (λ b. saying (map (register_line s.hart b) shown_registers) (next s))) (f s) (seen-good m s.hart (λ b. map (register_line s.hart b) shown_registers) (next s) (f s))
 act-fine m (command.Reg r) s next in_range f =

@@ -1,6 +1,7 @@
 -- The abstract debugger: what each command of a script does, as a plan, with the hart and the path that are then selected.
 -- It is this project's own (docs/SCRIPT.md). Behind a Look at a halted hart its registers and slots are read and written at once.
-use Rattle.std.specs.Prelude.{ℕ, zero, suc, ◌+◌, ◌&&◌, Bool, true, false, List, [], ◌∷◌, ◌++◌, length, map, Option, Some, None, Result, Ok, Err, ⊤, unwrap_or, slice_get, if◌then◌else◌, ◌==◌}
+use Rattle.std.specs.Prelude.{ℕ, zero, suc, ◌+◌, ◌&&◌, Bool, true, false, List, [], ◌∷◌, ◌++◌, length, map, Option, Some, None, Result, Ok, Err, ⊤, unwrap_or}
+use Rattle.std.specs.Prelude.{slice_get, if◌then◌else◌, ◌==◌}
 use Rattle.std.specs.List.{range_with_len}
 use Rattle.rv_model.specs.declared.cause.Cause.{Cause}
 use Rattle.rv_model.specs.declared.cause.Cause.TheVariants as cause
@@ -138,6 +139,11 @@ unfoldable pub stepping : ℕ → ℕ → (next : Plan) → Plan
 stepping zero h next = next
 stepping (suc k) h next = one h (stepping k h next) next
 
+-- Looks of hart h until one does not see it running, at most so many
+unfoldable pub waiting : ℕ → ℕ → (absent running halted : Plan) → Plan
+waiting zero h absent running halted = running
+waiting (suc n) h absent running halted = look h (by_state absent (waiting n h absent running halted) halted)
+
 -- ---- registers
 
 abbrev pub value_here : Option Hart → ℕ → ℕ
@@ -247,7 +253,7 @@ act command.Resume s next =
     then one s.hart (going s.hart (say Line.Resumed (next s))) (stop_line s.hart (next s))
     else going s.hart (say Line.Resumed (next s))))
 act (command.Step k) s next = at_halted s.hart (next s) (stepping k s.hart (stop_line s.hart (next s)))
-act (command.Wait k) s next = until k s.hart sees_halted (λ seen. say Line.Running (next s)) (stop_line s.hart (next s)) unseen
+act (command.Wait k) s next = waiting k s.hart (say (Line.NoHart s.hart) (next s)) (say Line.Running (next s)) (stop_line s.hart (next s))
 act command.Regs s next = at_halted s.hart (next s) (see (λ b. saying (map (register_line s.hart b) shown_registers) (next s)))
 act (command.Reg r) s next = at_halted s.hart (next s) (see (λ b. say (register_line s.hart b r.0) (next s)))
 act (command.SetReg r v) s next =

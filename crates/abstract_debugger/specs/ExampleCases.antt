@@ -44,6 +44,9 @@ halted_board m = record { harts = reset_hart 0 halted_by_reset ∷ []; memory = 
 abbrev pub running_board : Memory → Board
 running_board m = record { harts = reset_hart 0 runs ∷ reset_hart 1 runs ∷ []; memory = m }
 
+abbrev pub empty_board : Memory → Board
+empty_board m = record { harts = []; memory = m }
+
 -- ---- what an example says
 
 pub record IsOutcome (o : Outcome) (lines : List Line) (end : End) (past : Past) : Type 0 where

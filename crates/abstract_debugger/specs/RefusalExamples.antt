@@ -9,7 +9,7 @@ use Rattle.abstract_debugger.specs.Slots.Use.{Armed, Unused}
 use Rattle.abstract_debugger.specs.Trace.Note.{Arm, Free}
 use Rattle.abstract_debugger.specs.Trace.What.{Break}
 use Rattle.abstract_debugger.specs.Transcript.{End}
-use Rattle.abstract_debugger.specs.ExampleCases.{Case, Happens, halted_board, running_board, x5}
+use Rattle.abstract_debugger.specs.ExampleCases.{Case, Happens, empty_board, halted_board, running_board, x5}
 
 -- ---- slots and harts
 
@@ -35,6 +35,18 @@ hart_7 = record {
   script = command.Hart 7 ∷ [];
   journal = Look 0 ∷ Look 7 ∷ [];
   lines = Line.NoHart 7 ∷ [];
+  end = End.WithErrors;
+  past = [];
+}
+
+-- `wait` and `state` say the same of a hart that is not there, each behind one Look
+abbrev pub no_hart_to_wait_for : Case
+no_hart_to_wait_for = record {
+  program = [];
+  board = empty_board;
+  script = command.Wait 3 ∷ command.State ∷ [];
+  journal = Look 0 ∷ Look 0 ∷ Look 0 ∷ [];
+  lines = Line.NoHart 0 ∷ Line.NoHart 0 ∷ [];
   end = End.WithErrors;
   past = [];
 }
@@ -80,6 +92,7 @@ misaligned_read = record {
 pub record RefusalsHappen : Type 0 where
   pub slots : Happens five_breaks
   pub absent : Happens hart_7
+  pub none : Happens no_hart_to_wait_for
   pub running : Happens hart_1_running
   pub register : Happens read_only_register
   pub misaligned : Happens misaligned_read

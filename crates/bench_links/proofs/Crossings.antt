@@ -8,7 +8,7 @@ use Rattle.debug_model.specs.Told.{Far}
 use Rattle.debug_model.specs.declared.net.End.{End}
 use Rattle.debug_model.specs.declared.net.End.TheVariants as ends
 use Rattle.jtag_net.proofs.Takes.{after_twice as near_twice, front_more}
-use Rattle.bench_links.specs.Looped.{Came, Holds, is_looped, is_piped, unread_at}
+use Rattle.bench_links.specs.Looped.{Came, Holds, TookSome, is_looped, is_piped, unread_at}
 
 -- ---- a looped net
 
@@ -87,7 +87,7 @@ same_pipe at None = refl
 same_pipe ends.Near (Some p) = refl
 same_pipe ends.Far (Some p) = refl
 
-nothing_taken : (at : End) (s : NetState) → s ≡ after_take at 0 s
+pub nothing_taken : (at : End) (s : NetState) → s ≡ after_take at 0 s
 nothing_taken ends.Near s =
     ap (λ g. record s { near_given = g }) (sym (add-zero s.near_given))
     ∙ ap (λ c. record s { near_given = s.near_given + 0; chip = c }) (same_far s.chip)
@@ -131,6 +131,16 @@ pipe_more : (at : End) (a k n : ℕ) (told : Option Pipe) (into piece : List ℕ
 pipe_more at a k n None into piece front next within most = tt
 pipe_more ends.Near a k n (Some p) into piece front next within most = front_more a k n p.near into piece front next within most
 pipe_more ends.Far a k n (Some p) into piece front next within most = front_more a k n p.far into piece front next within most
+
+-- behind a call that failed, or that found the other side ended
+pub took_none : (at : End) (a most : ℕ) (into : List ℕ) (old mid new : NetState) → Came at a into old mid → new ≡ mid → a ≤ most → TookSome at most old new
+took_none at a most into old mid new came same within = record { count = a; few = within; is = same ∙ came.is }
+
+pub took_no_more : (at : End) (a most : ℕ) (into : List ℕ) (old mid new : NetState) → Came at a into old mid → new ≡ after_take at 0 mid → a ≤ most → TookSome at most old new
+took_no_more at a most into old mid new came is within = took_none at a most into old mid new came (is ∙ sym (nothing_taken at mid)) within
+
+pub took_nothing : (at : End) (most : ℕ) (s : NetState) → TookSome at most s s
+took_nothing at most s = record { count = 0; few = omega arith; is = nothing_taken at s }
 
 -- one piece more
 pub came_more : (at : End) (a k n : ℕ) (into piece : List ℕ) (old mid new : NetState) → Came at a into old mid → Gives at n piece mid → new ≡ after_take at n mid → a ≤ length into → n ≤ length piece

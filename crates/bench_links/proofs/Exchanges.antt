@@ -5,7 +5,7 @@ use Rattle.std.proofs.Math.Seq.{drop-length, take-length}
 use Rattle.jt_base.proofs.FaultLemmas.{rises_from}
 use Rattle.jt_base.specs.Faults.{Rises}
 use Rattle.debug_model.specs.Chip.{Live, feed, said}
-use Rattle.debug_model.specs.Net.{NetState, Pipe, PutFront, after_put, after_take, put_far, put_near, take_far}
+use Rattle.debug_model.specs.Net.{Exchange, NetState, Pipe, PutFront, after_put, after_take, more_put, put_far, put_near, take_far}
 use Rattle.debug_model.specs.Told.{Far}
 use Rattle.debug_model.specs.Wire.{sent}
 use Rattle.debug_model.specs.declared.net.End.{End}
@@ -13,8 +13,8 @@ use Rattle.debug_model.specs.declared.net.End.TheVariants as ends
 use Rattle.chip_core.specs.Feeds.{feed_of, said_of}
 use Rattle.bench_links.specs.declared.crossing.Lost.{Lost}
 use Rattle.bench_links.specs.declared.crossing.Lost.TheVariants as lost
-use Rattle.bench_links.proofs.Crossings.{piped_still}
-use Rattle.bench_links.specs.Looped.{Came, FedFront, Holds, InStep, LostBy, TakeLost, crossed, exchanged, is_looped}
+use Rattle.bench_links.proofs.Crossings.{nothing_taken, piped_still}
+use Rattle.bench_links.specs.Looped.{Came, CrossedFront, FedFront, Holds, InStep, LostBy, TakeLost, TookSome, crossed, exchanged, is_looped}
 
 -- ---- puts
 
@@ -68,6 +68,112 @@ differ_untold bytes came old mid new room empty is whole differ =
 
 pub crossed_whole : (bytes came : List ℕ) (old mid new : NetState) → length came ≡ length bytes → mid ≡ after_put ends.Near bytes old → Came ends.Far (length came) came mid new → new ≡ crossed bytes old
 crossed_whole bytes came old mid new room is whole = whole.is ∙ ap (λ s. after_take ends.Far (length came) s) is ∙ ap (λ n. after_take ends.Far n (after_put ends.Near bytes old)) room
+
+-- ---- what is left on the net behind a fault
+
+near_kept : (told : Option Pipe) → told ≡ option_map (put_far []) told
+near_kept None = refl
+near_kept (Some p) = ap (λ l. Some (record p { near = l })) (sym (append-nil p.near))
+
+none_put : (s : NetState) → s ≡ after_put ends.Far [] s
+none_put s = ap (λ p. record s { pipe = p }) (near_kept s.pipe)
+
+-- the put failed
+pub none_crossed : (bytes : List ℕ) (old new : NetState) → PutFront ends.Near bytes old new → CrossedFront bytes [] old new
+none_crossed bytes old new put = record {
+  front = put.front;
+  back = put.back;
+  cut = put.cut;
+  count = 0;
+  few = omega arith;
+  answered = [];
+  unanswered = [];
+  answers_cut = refl;
+  is = put.is ∙ nothing_taken ends.Far (after_put ends.Near put.front old) ∙ none_put (after_take ends.Far 0 (after_put ends.Near put.front old));
+}
+
+-- the take did
+pub some_crossed : (bytes came : List ℕ) (old mid new : NetState) → mid ≡ after_put ends.Near bytes old → TookSome ends.Far (length came) mid new → length came ≡ length bytes → CrossedFront bytes [] old new
+some_crossed bytes came old mid new is took room = record {
+  front = bytes;
+  back = [];
+  cut = sym (append-nil bytes);
+  count = took.count;
+  few = omega (arith, took.few, room);
+  answered = [];
+  unanswered = [];
+  answers_cut = refl;
+  is = took.is ∙ ap (after_take ends.Far took.count) is ∙ none_put (after_take ends.Far took.count (after_put ends.Near bytes old));
+}
+
+-- other bytes came
+pub others_crossed : (bytes came : List ℕ) (old mid new : NetState) → mid ≡ after_put ends.Near bytes old → Came ends.Far (length came) came mid new → length came ≡ length bytes → CrossedFront bytes [] old new
+others_crossed bytes came old mid new is whole room =
+    some_crossed bytes came old mid new is (record { count = length came; few = omega arith; is = whole.is }) room
+
+pub not_answered : (bytes kept : List ℕ) (old new : NetState) → kept ≡ [] → CrossedFront bytes [] old new → CrossedFront bytes kept old new
+not_answered bytes kept old new none front = subst (λ l. CrossedFront bytes l old new) (sym none) front
+
+-- the chip is at its limit
+pub none_answered : (bytes kept : List ℕ) (old new : NetState) → new ≡ crossed bytes old → CrossedFront bytes kept old new
+none_answered bytes kept old new is = record {
+  front = bytes;
+  back = [];
+  cut = sym (append-nil bytes);
+  count = length bytes;
+  few = omega arith;
+  answered = [];
+  unanswered = kept;
+  answers_cut = refl;
+  is = is ∙ none_put (crossed bytes old);
+}
+
+-- the put of its answers failed
+pub some_answered : (bytes kept : List ℕ) (old mid new : NetState) → mid ≡ crossed bytes old → PutFront ends.Far kept mid new → CrossedFront bytes kept old new
+some_answered bytes kept old mid new is put = record {
+  front = bytes;
+  back = [];
+  cut = sym (append-nil bytes);
+  count = length bytes;
+  few = omega arith;
+  answered = put.front;
+  unanswered = put.back;
+  answers_cut = put.cut;
+  is = put.is ∙ ap (after_put ends.Far put.front) is;
+}
+
+-- no call was made
+nothing_crossed : (s : NetState) → s ≡ after_put ends.Near [] s
+unfolding feed said
+nothing_crossed s =
+    ap (λ c. record s { chip = c }) (chip_unsent s.chip)
+    ∙ ap (λ e. record s { chip = option_map (sent []) s.chip; script = e }) (script_unsent s.script)
+    ∙ ap (λ p. record s { chip = option_map (sent []) s.chip; script = option_map (more_put []) s.script; pipe = p }) (pipe_unsent s.pipe)
+  where
+    chip_unsent : (told : Option Far) → told ≡ option_map (sent []) told
+    chip_unsent None = refl
+    chip_unsent (Some f) = ap (λ u. Some (record f { unread = u })) (sym (append-nil f.unread))
+
+    script_unsent : (told : Option Exchange) → told ≡ option_map (more_put []) told
+    script_unsent None = refl
+    script_unsent (Some e) = ap (λ l. Some (record e { put = l })) (sym (append-nil e.put))
+
+    pipe_unsent : (told : Option Pipe) → told ≡ option_map (put_near []) told
+    pipe_unsent None = refl
+    pipe_unsent (Some p) = ap (λ l. Some (record p { far = l })) (sym (append-nil p.far))
+
+pub untouched : (bytes kept : List ℕ) (s : NetState) → CrossedFront bytes kept s s
+untouched bytes kept s = record {
+  front = [];
+  back = bytes;
+  cut = refl;
+  count = 0;
+  few = omega arith;
+  answered = [];
+  unanswered = kept;
+  answers_cut = refl;
+  is = nothing_crossed s ∙ nothing_taken ends.Far (after_put ends.Near [] s) ∙ none_put (after_take ends.Far 0 (after_put ends.Near [] s));
+}
 
 -- ---- causes
 

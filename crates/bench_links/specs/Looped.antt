@@ -52,6 +52,24 @@ crossed bytes s = after_take ends.Far (length bytes) (after_put ends.Near bytes 
 abbrev pub exchanged : List ℕ → List ℕ → NetState → NetState
 exchanged bytes answers s = after_put ends.Far answers (crossed bytes s)
 
+-- at most so many bytes were taken at an end, and nothing else was done there
+pub record TookSome (at : End) (most : ℕ) (old new : NetState) : Type 0 where
+  pub count : ℕ
+  pub few : count ≤ most
+  pub is : new ≡ after_take at count old
+
+-- a front of these bytes was put at the near end, some of it was taken at the far end, and then a front of these answers was put there
+pub record CrossedFront (bytes answers : List ℕ) (old new : NetState) : Type 0 where
+  pub front : List ℕ
+  pub back : List ℕ
+  pub cut : bytes ≡ front ++ back
+  pub count : ℕ
+  pub few : count ≤ length front
+  pub answered : List ℕ
+  pub unanswered : List ℕ
+  pub answers_cut : answers ≡ answered ++ unanswered
+  pub is : new ≡ after_put ends.Far answered (after_take ends.Far count (after_put ends.Near front old))
+
 -- the chip was fed a front of these bytes and nothing else, and what it said to them is kept
 pub record FedFront (bytes : List ℕ) (old new : Option Live) (unread kept : List ℕ) : Type 0 where
   pub front : List ℕ

@@ -4,7 +4,7 @@ ghost use Rattle.debug_model.specs.Net.{after_take};
 ghost use Rattle.debug_model.specs.declared.net.End.TheVariants as end;
 ghost use Rattle.debug_model.specs.Wire.{no_answer, piece_most};
 ghost use Rattle.chip_core.specs.Feeds.{feed_of, limit_met, said_of};
-ghost use Rattle.bench_links.specs.Looped.{Came, FedFront, Holds, InStep, LostBy, TakeLost, crossed, exchanged, is_looped};
+ghost use Rattle.bench_links.specs.Looped.{Came, CrossedFront, FedFront, Holds, InStep, LostBy, TakeLost, TookSome, crossed, exchanged, is_looped};
 
 use chip_core::{Answers, Bench};
 use debug_model::{End, Net, Schedule, fill_unanswered};
@@ -30,11 +30,12 @@ fn differ(came: &[u8], wanted: &[u8]) -> bool
 }
 
 /// Fills `into` with the next bytes at this end.
-#[tactic(auto, using(crate::proofs::Crossings::opens, crate::proofs::Crossings::may_take, crate::proofs::Crossings::nothing_came, crate::proofs::Crossings::still_looped, crate::proofs::Crossings::still_tied))]
+#[tactic(auto, using(crate::proofs::Crossings::opens, crate::proofs::Crossings::may_take, crate::proofs::Crossings::nothing_came, crate::proofs::Crossings::still_looped, crate::proofs::Crossings::still_tied, crate::proofs::Crossings::took_none, crate::proofs::Crossings::took_no_more))]
 fn take_whole<N: Net>(net: &mut N, end: End, into: &mut [u8]) -> Result<(), Lost>
     requires looped { IsTrue (is_looped (N.state net.old)) }
     requires holds { Holds end (length into.old) (N.state net.old).pipe }
     ensures came { OnOk result (Came end (length into.new) into.new (N.state net.old) (N.state net.new)) }
+    ensures some { OnErr result (TookSome end (length into.new) (N.state net.old) (N.state net.new)) }
     ensures looped { IsTrue (is_looped (N.state net.new)) }
     ensures ties { (N.state net.new).ties ≡ (N.state net.old).ties }
     ensures cause { IfErr result (TakeLost (N.fault_count net.old) (N.fault_count net.new) (N.end_count net.old) (N.end_count net.new)) }
@@ -56,13 +57,14 @@ fn take_whole<N: Net>(net: &mut N, end: End, into: &mut [u8]) -> Result<(), Lost
 }
 
 /// Puts the bytes at the near end, takes as many at the far end into `came`, and compares them.
-#[tactic(auto, using(crate::proofs::Crossings::may_put, crate::proofs::Crossings::opens, crate::proofs::Exchanges::put_looped, crate::proofs::Exchanges::front_looped, crate::proofs::Exchanges::front_tied, crate::proofs::Exchanges::put_tied, crate::proofs::Exchanges::put_holds, crate::proofs::Exchanges::differ_untold, crate::proofs::Exchanges::crossed_whole, crate::proofs::Exchanges::lost_later))]
+#[tactic(auto, using(crate::proofs::Crossings::may_put, crate::proofs::Crossings::opens, crate::proofs::Exchanges::put_looped, crate::proofs::Exchanges::front_looped, crate::proofs::Exchanges::front_tied, crate::proofs::Exchanges::put_tied, crate::proofs::Exchanges::put_holds, crate::proofs::Exchanges::differ_untold, crate::proofs::Exchanges::crossed_whole, crate::proofs::Exchanges::lost_later, crate::proofs::Exchanges::none_crossed, crate::proofs::Exchanges::some_crossed, crate::proofs::Exchanges::others_crossed))]
 fn cross<N: Net>(net: &mut N, bytes: &[u8], came: &mut [u8]) -> Result<(), Lost>
     requires looped { IsTrue (is_looped (N.state net.old)) }
     requires in_step { IfSome (N.state net.old).pipe (λ p. p.far ≡ []) }
     requires room { length came.old ≡ length bytes.now }
     ensures came { OnOk result (came.new ≡ bytes.now) }
     ensures crossed { OnOk result (N.state net.new ≡ crossed bytes.now (N.state net.old)) }
+    ensures front { OnErr result (CrossedFront bytes.now [] (N.state net.old) (N.state net.new)) }
     ensures looped { IsTrue (is_looped (N.state net.new)) }
     ensures ties { (N.state net.new).ties ≡ (N.state net.old).ties }
     ensures cause { IfErr result
@@ -85,7 +87,7 @@ fn cross<N: Net>(net: &mut N, bytes: &[u8], came: &mut [u8]) -> Result<(), Lost>
 
 /// Sends the bytes across the net, feeds the chip what came out of it, and puts the answers at the far end. They are kept in `answers`, which is empty
 /// before; `came` has room for just the bytes. Nothing is put behind the event limit.
-#[tactic(auto, using(crate::proofs::Crossings::opens, crate::proofs::Exchanges::put_looped, crate::proofs::Exchanges::front_looped, crate::proofs::Exchanges::front_tied, crate::proofs::Exchanges::put_tied, crate::proofs::Exchanges::lost_before, crate::proofs::Exchanges::none_fed, crate::proofs::Exchanges::all_fed, crate::proofs::Exchanges::still_in_step, crate::proofs::Exchanges::step_empty))]
+#[tactic(auto, using(crate::proofs::Crossings::opens, crate::proofs::Exchanges::put_looped, crate::proofs::Exchanges::front_looped, crate::proofs::Exchanges::front_tied, crate::proofs::Exchanges::put_tied, crate::proofs::Exchanges::lost_before, crate::proofs::Exchanges::none_fed, crate::proofs::Exchanges::all_fed, crate::proofs::Exchanges::still_in_step, crate::proofs::Exchanges::step_empty, crate::proofs::Exchanges::not_answered, crate::proofs::Exchanges::none_answered, crate::proofs::Exchanges::some_answered))]
 pub fn exchange<N: Net, Q: Schedule>(
     net: &mut N,
     bench: &mut Bench<Q>,
@@ -100,6 +102,7 @@ pub fn exchange<N: Net, Q: Schedule>(
     requires room { length came.old ≡ length bytes.now }
     requires none { answers.old.items ≡ [] }
     ensures exchanged { OnOk result (N.state net.new ≡ exchanged bytes.now (said_of bench.old bytes.now) (N.state net.old)) }
+    ensures crossed_front { OnErr result (CrossedFront bytes.now answers.new.items (N.state net.old) (N.state net.new)) }
     ensures in_step { OnOk result (InStep answers.new.items (N.state net.new).pipe) }
     ensures chip { OnOk result (bench.new ≡ feed_of bench.old bytes.now) }
     ensures answers { OnOk result (answers.new.items ≡ said_of bench.old bytes.now) }
@@ -137,6 +140,7 @@ pub fn take_answers<N: Net>(net: &mut N, answers: &mut Answers, into: &mut [u8])
     requires waiting { length into.old ≤ length answers.old.items }
     ensures gave { OnOk result (answers.old.items ≡ into.new ++ answers.new.items) }
     ensures took { OnOk result (N.state net.new ≡ after_take end.Near (length into.new) (N.state net.old)) }
+    ensures took_some { OnErr result (TookSome end.Near (length into.new) (N.state net.old) (N.state net.new)) }
     ensures in_step { OnOk result (InStep answers.new.items (N.state net.new).pipe) }
     ensures kept { OnErr result (answers.new.items ≡ answers.old.items) }
     ensures blank { OnErr result (into.new ≡ replicate (length into.old) no_answer) }

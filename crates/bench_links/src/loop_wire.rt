@@ -8,7 +8,7 @@ ghost use Rattle.debug_model.specs.Wire.{IsPiece, ReadsFront, ReadsSome, RecvCau
 ghost use Rattle.debug_model.specs.declared.net.End.TheVariants as end;
 ghost use Rattle.chip_core.specs.Feeds.{far_of, feed_of, limit_met, nothing_coming, said_of};
 ghost use Rattle.jtag_net.specs.Wired.{net_gives};
-ghost use Rattle.bench_links.specs.Looped.{FedFront, InStep, IsBlamed, LoopCause, counts, exchanged, is_looped, loop_ties, looped};
+ghost use Rattle.bench_links.specs.Looped.{CrossedFront, FedFront, InStep, IsBlamed, LoopCause, TookSome, counts, exchanged, is_looped, loop_ties, looped};
 
 use crate::crossing::{Lost, exchange, take_answers};
 use chip_core::{Answers, Bench};
@@ -89,7 +89,7 @@ impl<'a, N: Net, Q: Schedule> Wire for LoopWire<'a, N, Q> {
 
     ghost ties = { λ w. loop_ties w.net.ghost_name w.bench.ghost_name (N.lenders w.net.now) (N.state w.net.now) (far_of w.bench.now w.unread.items) w.began.faults w.began.ends };
 
-    #[tactic(auto, using(crate::proofs::Loops::read_none, crate::proofs::Loops::sent_whole, crate::proofs::Loops::sent_front, crate::proofs::Loops::fed_ties, crate::proofs::Loops::front_ties, crate::proofs::Loops::kept_ties, crate::proofs::Loops::fault_rises, crate::proofs::Loops::end_rises, crate::proofs::Loops::difference_rises, crate::proofs::Lives::lives_on, crate::proofs::Lives::met_limit, crate::proofs::Exchanges::none_fed))]
+    #[tactic(auto, using(crate::proofs::Loops::read_none, crate::proofs::Loops::sent_whole, crate::proofs::Loops::sent_front, crate::proofs::Loops::fed_ties, crate::proofs::Loops::front_ties, crate::proofs::Loops::kept_ties, crate::proofs::Loops::fault_rises, crate::proofs::Loops::end_rises, crate::proofs::Loops::difference_rises, crate::proofs::Lives::lives_on, crate::proofs::Lives::met_limit, crate::proofs::Exchanges::none_fed, crate::proofs::Exchanges::untouched))]
     fn send(&mut self, bytes: &[u8]) -> Result<(), WireFault>
         requires most { length bytes.now ≤ piece_most }
         requires piece { IsPiece bytes.now }
@@ -114,6 +114,7 @@ impl<'a, N: Net, Q: Schedule> Wire for LoopWire<'a, N, Q> {
             ≡ loop_ties self.old.net.ghost_name self.old.bench.ghost_name (N.lenders self.old.net.now) (N.state self.old.net.now)
             (far_of self.old.bench.now self.old.unread.items) self.old.began.faults self.old.began.ends }
         ensures net { OnOk result (N.state self.new.net.now ≡ exchanged bytes.now (said_of self.old.bench.now bytes.now) (N.state self.old.net.now)) }
+        ensures net_front { OnErr result (CrossedFront bytes.now self.new.unread.items (N.state self.old.net.now) (N.state self.new.net.now)) }
         ensures chip { OnOk result (self.new.bench.now ≡ feed_of self.old.bench.now bytes.now) }
         ensures in_step { OnOk result (InStep self.new.unread.items (N.state self.new.net.now).pipe) }
         ensures front { OnErr result (FedFront bytes.now self.old.bench.now self.new.bench.now self.old.unread.items self.new.unread.items) }
@@ -153,7 +154,7 @@ impl<'a, N: Net, Q: Schedule> Wire for LoopWire<'a, N, Q> {
         }
     }
 
-    #[tactic(auto, using(crate::proofs::Loops::answers_read, crate::proofs::Loops::chip_kept, crate::proofs::Loops::kept_ties, crate::proofs::Loops::fault_rises, crate::proofs::Loops::end_rises, crate::proofs::Loops::difference_rises, crate::proofs::Lives::met_limit))]
+    #[tactic(auto, using(crate::proofs::Loops::answers_read, crate::proofs::Loops::chip_kept, crate::proofs::Loops::kept_ties, crate::proofs::Loops::fault_rises, crate::proofs::Loops::end_rises, crate::proofs::Loops::difference_rises, crate::proofs::Lives::met_limit, crate::proofs::Crossings::took_nothing))]
     fn recv(&mut self, into: &mut [u8]) -> Result<(), WireFault>
         requires open { IsOpen (far_of self.old.bench.now self.old.unread.items) }
         requires waiting { IfSome (far_of self.old.bench.now self.old.unread.items) (λ f. length into.old ≤ length f.unread) }
@@ -176,6 +177,7 @@ impl<'a, N: Net, Q: Schedule> Wire for LoopWire<'a, N, Q> {
             ≡ loop_ties self.old.net.ghost_name self.old.bench.ghost_name (N.lenders self.old.net.now) (N.state self.old.net.now)
             (far_of self.old.bench.now self.old.unread.items) self.old.began.faults self.old.began.ends }
         ensures net { OnOk result (N.state self.new.net.now ≡ after_take end.Near (length into.new) (N.state self.old.net.now)) }
+        ensures net_some { OnErr result (TookSome end.Near (length into.new) (N.state self.old.net.now) (N.state self.new.net.now)) }
         ensures bench { self.new.bench.now ≡ self.old.bench.now }
         ensures in_step { OnOk result (InStep self.new.unread.items (N.state self.new.net.now).pipe) }
         ensures loop_cause { IfErr result (LoopCause (counts self.old.differences (N.fault_count self.old.net.now) (N.end_count self.old.net.now))

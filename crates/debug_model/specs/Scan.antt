@@ -1,7 +1,7 @@
 -- Scans of a chip that runs: the clocks that carry one, what comes out of the selected register, what stays in it, and the rounds that pass meanwhile.
 -- IEEE 1149.1, the state diagram for the paths and the shifting of a register for the two cuts; OpenOCD, remote_bitbang, for the bytes of a clock.
-use Rattle.std.specs.Prelude.{◌≡◌, ◌≢◌, ◌⊎◌, ◌++◌, ℕ, zero, suc, ◌+◌, ◌≤◌, List, [], ◌∷◌, length, map, take, drop, replicate, Bool, true, false, Option, Some}
-use Rattle.std.specs.Prelude.{None, IfSome}
+use Rattle.std.specs.Prelude.{◌≡◌, ◌≢◌, ◌⊎◌, ◌++◌, ℕ, zero, suc, ◌+◌, ◌≤◌, List, [], ◌∷◌, length, map, take, drop, Bool, true, false, Option, Some, None}
+use Rattle.std.specs.Prelude.{IfSome, replicate}
 use Rattle.jt_base.specs.BitList.{bits_of}
 use Rattle.jt_base.specs.Faults.{Rises}
 use Rattle.debug_model.specs.declared.data_register.DataRegister.{DataRegister}

@@ -2,7 +2,6 @@
 use Rattle.std.proofs.Common.{ℕ, List}
 use Rattle.rv_model.specs.Board.{Machine}
 use Rattle.debug_model.specs.Told.{site_of}
-use Rattle.abstract_debugger.specs.Debugger.{sees_halted, unseen}
 use Rattle.abstract_debugger.specs.Lines.{Line}
 use Rattle.abstract_debugger.specs.Plan.{Plan}
 use Rattle.abstract_debugger.specs.Stands.{At, Origin}
@@ -22,7 +21,7 @@ use Rattle.probe_session.specs.Transcribed.{Still}
 use Rattle.probe_session.proofs.AccessFaults.{asked_fell, forget_fell, given_fell, gotten_fell, load_fell, slots_fell, stop_fell, store_fell, written_fell}
 use Rattle.probe_session.proofs.BrokeOff.{LeftAs}
 use Rattle.probe_session.proofs.OverFaults.{over_fell}
-use Rattle.probe_session.proofs.RunFaults.{halt_fell, idcode_fell, look_fell, resume_fell, wait_fell}
+use Rattle.probe_session.proofs.RunFaults.{halt_fell, idcode_fell, look_fell, resume_fell}
 use Rattle.probe_session.proofs.Tolds.{at_far, told_case, went_by}
 
 -- what was read passed the plan by
@@ -37,7 +36,6 @@ passing h m o p lines old mid (Passing.found {pc} {cause} found) a =
 pub fault_left : (p : Place) (old_count new_count : ℕ) (old new : Tells) (f : Failure) → Fault p old_count new_count old new f → (m : Machine) (o : Origin) (lines : List Line) → DealsAt m o p lines old.far → Still (LeftAs o lines f) new.far
 fault_left p old_count new_count old new f (Fault.idcode fell) m o lines a = idcode_fell m p.hart p.way o p.plan lines old_count new_count old new f fell a
 fault_left p old_count new_count old new f (Fault.looking {h} next fell) m o lines a = look_fell h m o next lines old_count new_count old new f fell a
-fault_left p old_count new_count old new f (Fault.waiting {h} n failed found fell) m o lines a = wait_fell h n m o sees_halted (λ _. failed) found unseen lines old_count new_count old new f fell a
 fault_left p old_count new_count old new f (Fault.halt {h} next fell) m o lines a = halt_fell h m o next lines old_count new_count old new f fell a
 fault_left p old_count new_count old new f (Fault.resuming {h} next fell) m o lines a = resume_fell h m o next lines old_count new_count old new f fell a
 fault_left p old_count new_count old new f (Fault.stepping_over {h} stepped other fell) m o lines a = over_fell h m o stepped other lines old_count new_count old new f fell a

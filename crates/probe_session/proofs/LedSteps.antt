@@ -14,7 +14,7 @@ use Rattle.debug_model.specs.Scan.{WhereTold}
 use Rattle.debug_model.specs.Module.{Site}
 use Rattle.debug_model.specs.Tap.{idcode}
 use Rattle.debug_model.specs.Told.{Far, IsReady, site_of}
-use Rattle.abstract_debugger.specs.Debugger.{arming, by_load, by_store, freeing, going, halting, one, register_line, saying, sees_halted, stop_line, unseen, until}
+use Rattle.abstract_debugger.specs.Debugger.{arming, by_load, by_store, freeing, going, halting, one, register_line, saying, stop_line}
 use Rattle.abstract_debugger.specs.Lines.{Line}
 use Rattle.abstract_debugger.specs.Plan.{Plan}
 use Rattle.abstract_debugger.specs.Plan.Change.{EbreakHalts, WriteMem, WriteReg}
@@ -41,7 +41,7 @@ use Rattle.probe_session.specs.Goes.Goes.{start, step}
 use Rattle.probe_session.specs.Led.{DealsAt, GoesLead, Leads, target_at}
 use Rattle.probe_session.specs.Places.{Place, ready}
 use Rattle.probe_session.specs.Steps.{Step, behind_look, behind_step, lines_of_view, step_cause, trigger_cause, with_ebreakm}
-use Rattle.probe_session.proofs.Tolds.{again_deals, at_far, enough_deals, halt_deals, look_deals, other_found_deals, over_deals, resume_deals, step_found_deals, stop_deals, stop_trigger_deals, told_case}
+use Rattle.probe_session.proofs.Tolds.{at_far, halt_deals, look_deals, other_found_deals, over_deals, resume_deals, step_found_deals, stop_deals, stop_trigger_deals, told_case}
 use Rattle.probe_session.proofs.ToldWrites.{armed_deals, ebreak_deals, freed_deals, full_deals, hits_deals, load_deals, load_none_deals, never_refused, no_hits_deals, read_deals, read_next_deals, slots_deals, store_deals, store_none_deals, unused_deals, write_deals, write_pc_deals, write_refused_deals}
 
 -- lines that grow by none
@@ -151,10 +151,6 @@ step_leads from to old new said (Step.says {heard} {way} {h} {line} {next} {t} m
 step_leads from to old new said (Step.looks {h} {s} absent running halted saw) m o lines a =
     none_said m o to lines new.far (left_so (LooksAt h s) h m 0 (behind_look s h absent running halted).hart Idle (behind_look s h absent running halted).way o _ (behind_look s h absent running halted).plan lines old.far new.far
     (λ x y l d. look_deals s m h o absent running halted lines x y l d) saw.told a)
-step_leads from to old new said (Step.looks_again {h} {s} n failed found saw not_yet) m o lines a =
-    none_said m o to lines new.far (left_so (LooksAt h s) h m 0 0 Idle Idle o _ (until n h sees_halted (λ _. failed) found unseen) lines old.far new.far (λ x y l d. again_deals s m h o n failed found lines x y not_yet l d) saw.told a)
-step_leads from to old new said (Step.looks_enough {h} {s} n failed found saw halted) m o lines a =
-    none_said m o to lines new.far (left_so (LooksAt h s) h m 0 h Idle Still o _ found lines old.far new.far (λ x y l d. enough_deals s m h o n failed found lines x y halted l d) saw.told a)
 step_leads from to old new said (Step.halts {h} next made) m o lines a =
     none_said m o to lines new.far (left_so (HaltsAt h) h m 0 h Idle Still o (halting h next) next lines old.far new.far (λ x y l d. halt_deals m h o next lines x y l d) made.told a)
 step_leads from to old new said (Step.resumes {h} next made) m o lines a =

@@ -1,11 +1,11 @@
 -- Commands of one line.
-use Rattle.std.proofs.Common.{◌≡◌, ◌≤◌, ◌+◌, ◌<◌, ℕ, zero, suc, false, [], Result, Ok, Err, IfOk, IfErr, refl, subst, arith}
+use Rattle.std.proofs.Common.{◌≡◌, ◌≤◌, ◌+◌, ◌<◌, ℕ, zero, suc, [], Result, Ok, Err, IfOk, IfErr, subst, arith}
 use Rattle.debug_model.specs.declared.command.Command.TheVariants as command
-use Rattle.abstract_debugger.specs.Debugger.{State, at_halted, by_state, halting, look, sees_halted, stop_line, unseen, until}
+use Rattle.abstract_debugger.specs.Debugger.{State, at_halted, by_state, halting, look, stop_line, waiting}
 use Rattle.abstract_debugger.specs.Lines.{Line}
 use Rattle.abstract_debugger.specs.Plan.{Plan}
 use Rattle.abstract_debugger.specs.Plan.Plan.{say}
-use Rattle.abstract_debugger.proofs.DealsLemmas.{until-zero}
+use Rattle.abstract_debugger.proofs.DealsLemmas.{waiting-suc, waiting-zero}
 use Rattle.probe_run.specs.declared.hart.Halted.{Halted}
 use Rattle.probe_run.specs.declared.hart.Running.{Running}
 use Rattle.probe_run.specs.declared.hart.Seen.{Seen}
@@ -20,8 +20,7 @@ use Rattle.probe_session.specs.Goes.{Fault}
 use Rattle.probe_session.specs.Met.{MetAs, Rest, before_look}
 use Rattle.probe_session.specs.Places.{Place, at_say, idle, still}
 use Rattle.probe_session.specs.Seen.{IsOf}
-use Rattle.probe_session.specs.Steps.{is_halted}
-use Rattle.probe_session.specs.Steps.Step.{looks, looks_again, looks_enough, halts, rests, same}
+use Rattle.probe_session.specs.Steps.Step.{looks, halts, rests, same}
 use Rattle.probe_session.proofs.WentLemmas.{falls_at, falls_then, falls_within, went_none, went_one, went_then, within}
 
 -- ---- what a callee hands on
@@ -187,56 +186,63 @@ halt_made_falls s x {old_count} {count} {new_count} {t} {u} {v} {f} is saw le fe
 
 -- ---- `wait`
 
-abbrev pub waiting : ℕ → State → (State → Plan) → Place
-waiting n s next = idle (until n s.hart sees_halted (λ _. say Line.Running (next s)) (stop_line s.hart (next s)) unseen)
+abbrev wait_left : ℕ → State → (State → Plan) → Plan
+wait_left n s next = waiting n s.hart (absent_line s next) (running_line s next) (stopping s next)
 
--- so many Looks did not see it halted
+abbrev pub at_wait : ℕ → State → (State → Plan) → Place
+at_wait n s next = idle (wait_left n s next)
+
+-- so many Looks saw it running
 pub record Waited (s : State) (limit tries : ℕ) (t u : Tells) : Type 0 where
   pub left : ℕ
   pub all : tries + left ≡ limit
-  pub went : Went (before (command.Wait limit) s) (waiting left s) [] t u
+  pub went : Went (before (command.Wait limit) s) (at_wait left s) [] t u
 
 pub waited_none : (s : State) (limit : ℕ) (t : Tells) → Waited s limit 0 t t
 waited_none s limit t = record { left = limit; all = omega arith; went = went_none }
 
-not_halted : (s : Seen) → ((x : Halted) → s ≡ seen.Halted x → ⊥) → is_halted s ≡ false
-not_halted seen.Absent other = refl
-not_halted (seen.Running x) other = refl
-not_halted (seen.Halted x) other = absurd (other x refl)
+-- in front of the next Look
+pub record NextLook (s : State) (limit tries : ℕ) (t u : Tells) : Type 0 where
+  pub left : ℕ
+  pub all : tries + 1 + left ≡ limit
+  pub went : Went (before (command.Wait limit) s) (at_look s.hart (absent_line s) (wait_left left s) (stopping s)) [] t u
 
-again_by : (s : State) (limit tries left : ℕ) (look : Seen) {t u v : Tells} → tries < limit → tries + left ≡ limit → Went (before (command.Wait limit) s) (waiting left s) [] t u → Saw s.hart u v look → is_halted look ≡ false
-    → Waited s limit (tries + 1) t v
-again_by s limit tries zero look below all w saw not_yet = absurd (omega arith)
-again_by s limit tries (suc n) look below all w saw not_yet = record {
+next_by : (s : State) (limit tries left : ℕ) {t u : Tells} → tries < limit → tries + left ≡ limit → Went (before (command.Wait limit) s) (at_wait left s) [] t u → NextLook s limit tries t u
+next_by s limit tries zero below all w = absurd (omega arith)
+next_by s limit tries (suc n) below all w = record {
   left = n;
   all = omega arith;
-  went = went_then w (went_one (λ next. looks_again n (say Line.Running (next s)) (stop_line s.hart (next s)) saw not_yet));
+  went = went_then w (went_one (λ next. same (waiting-suc n s.hart (absent_line s next) (running_line s next) (stopping s next))));
 }
 
-pub waited_again : (s : State) (limit tries : ℕ) (look : Seen) {t u v : Tells} → tries < limit → Waited s limit tries t u → Saw s.hart u v look → ((x : Halted) → look ≡ seen.Halted x → ⊥) → Waited s limit (tries + 1) t v
-waited_again s limit tries look below w saw other = again_by s limit tries w.left look below w.all w.went saw (not_halted look other)
+next_look : (s : State) (limit tries : ℕ) {t u : Tells} → tries < limit → Waited s limit tries t u → NextLook s limit tries t u
+next_look s limit tries below w = next_by s limit tries w.left below w.all w.went
 
-enough_by : (s : State) (limit tries left : ℕ) (x : Halted) {t u v : Tells} → tries < limit → tries + left ≡ limit → Went (before (command.Wait limit) s) (waiting left s) [] t u → Saw s.hart u v (seen.Halted x)
-    → Went (before (command.Wait limit) s) (at_stop s) [] t v
-enough_by s limit tries zero x below all w saw = absurd (omega arith)
-enough_by s limit tries (suc n) x below all w saw = went_then w (went_one (λ next. looks_enough n (say Line.Running (next s)) (stop_line s.hart (next s)) saw refl))
+pub waited_again : (s : State) (limit tries : ℕ) (x : Running) {t u v : Tells} → tries < limit → Waited s limit tries t u → Saw s.hart u v (seen.Running x) → Waited s limit (tries + 1) t v
+waited_again s limit tries x below w saw =
+    let n = next_look s limit tries below w in
+    record { left = n.left; all = n.all; went = went_then n.went (looked_running s.hart (absent_line s) (wait_left n.left s) (stopping s) x saw) }
 
-pub waited_enough : (s : State) (limit tries : ℕ) (x : Halted) {t u v : Tells} → tries < limit → Waited s limit tries t u → Saw s.hart u v (seen.Halted x) → Went (before (command.Wait limit) s) (at_stop s) [] t v
-waited_enough s limit tries x below w saw = enough_by s limit tries w.left x below w.all w.went saw
+pub waited_absent : (s : State) (limit tries : ℕ) {t u v : Tells} → tries < limit → Waited s limit tries t u → Saw s.hart u v seen.Absent → Went (before (command.Wait limit) s) (at_line (Line.NoHart s.hart) s) [] t v
+waited_absent s limit tries below w saw =
+    let n = next_look s limit tries below w in
+    went_then n.went (looked_absent s.hart (absent_line s) (wait_left n.left s) (stopping s) saw)
 
-out_by : (s : State) (limit left : ℕ) {t u : Tells} → left ≡ 0 → Went (before (command.Wait limit) s) (waiting left s) [] t u → Went (before (command.Wait limit) s) (at_line Line.Running s) [] t u
+pub waited_halted : (s : State) (limit tries : ℕ) (x : Halted) {t u v : Tells} → tries < limit → Waited s limit tries t u → Saw s.hart u v (seen.Halted x) → Went (before (command.Wait limit) s) (at_stop s) [] t v
+waited_halted s limit tries x below w saw =
+    let n = next_look s limit tries below w in
+    went_then n.went (looked_halted s.hart (absent_line s) (wait_left n.left s) (stopping s) x saw)
+
+out_by : (s : State) (limit left : ℕ) {t u : Tells} → left ≡ 0 → Went (before (command.Wait limit) s) (at_wait left s) [] t u → Went (before (command.Wait limit) s) (at_line Line.Running s) [] t u
 out_by s limit left {t} {u} is w =
-    went_then (subst (λ n. Went (before (command.Wait limit) s) (waiting n s) [] t u) is w)
-    (went_one (λ next. same (until-zero s.hart sees_halted (λ _. say Line.Running (next s)) (stop_line s.hart (next s)) unseen)))
+    went_then (subst (λ n. Went (before (command.Wait limit) s) (at_wait n s) [] t u) is w)
+    (went_one (λ next. same (waiting-zero s.hart (absent_line s next) (running_line s next) (stopping s next))))
 
 pub waited_out : (s : State) (limit tries : ℕ) {t u : Tells} → tries ≡ limit → Waited s limit tries t u → Went (before (command.Wait limit) s) (at_line Line.Running s) [] t u
 waited_out s limit tries all w = let e : w.left ≡ 0 = omega (arith, w.all) in out_by s limit w.left e w.went
 
-falls_by : (s : State) (limit tries left : ℕ) {old_count count new_count : ℕ} {t u v : Tells} {f : Failure} → tries < limit → tries + left ≡ limit → Went (before (command.Wait limit) s) (waiting left s) [] t u → old_count ≤ count
-    → LookFell s.hart count new_count u v f → Falls (before (command.Wait limit) s) [] old_count new_count t v f
-falls_by s limit tries zero below all w le fell = absurd (omega arith)
-falls_by s limit tries (suc n) below all w le fell = falls_then w le (falls_at (λ next. Fault.waiting n (say Line.Running (next s)) (stop_line s.hart (next s)) fell))
-
 pub waited_falls : (s : State) (limit tries : ℕ) {old_count count new_count : ℕ} {t u v : Tells} {f : Failure} → tries < limit → Waited s limit tries t u → old_count ≤ count → LookFell s.hart count new_count u v f
     → Falls (before (command.Wait limit) s) [] old_count new_count t v f
-waited_falls s limit tries below w le fell = falls_by s limit tries w.left below w.all w.went le fell
+waited_falls s limit tries below w le fell =
+    let n = next_look s limit tries below w in
+    falls_then n.went le (look_falls s.hart (absent_line s) (wait_left n.left s) (stopping s) fell)

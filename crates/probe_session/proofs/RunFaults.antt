@@ -1,5 +1,5 @@
 -- Each call of a session that fails, over a told chip.
-use Rattle.std.proofs.Common.{◌≡◌, ◌∙◌, ◌++◌, ℕ, suc, Bool, List, Option, Some, None, sym, ap, subst}
+use Rattle.std.proofs.Common.{◌≡◌, ◌∙◌, ◌++◌, ℕ, List, Option, Some, None, sym, ap, subst}
 use Rattle.std.proofs.lemmas.Option.{none-some, same_Some}
 use Rattle.rv_model.specs.Board.{Machine}
 use Rattle.debug_model.specs.declared.point.Point.TheVariants.{HaltReq, Look, ResumeReq}
@@ -7,7 +7,7 @@ use Rattle.debug_model.specs.Dmi.{NoneOperated}
 use Rattle.debug_model.specs.Module.{Site}
 use Rattle.debug_model.specs.Scan.{WhereTold}
 use Rattle.debug_model.specs.Told.{Far, IsReady, site_of}
-use Rattle.abstract_debugger.specs.Debugger.{Seen, going, halting, look, most_looks, sees_ack, sees_halted, until}
+use Rattle.abstract_debugger.specs.Debugger.{Seen, going, halting, look, most_looks, sees_ack, sees_halted}
 use Rattle.abstract_debugger.specs.Lines.{Line}
 use Rattle.abstract_debugger.specs.Plan.{Plan}
 use Rattle.abstract_debugger.specs.Stands.{At, Cut, Deals, IsTranscribed, Origin, Target}
@@ -29,7 +29,7 @@ use Rattle.probe_session.specs.Failures.{failure_of_run}
 use Rattle.probe_session.specs.Led.{target_at}
 use Rattle.probe_session.specs.Transcribed.{OnTheWay, Still}
 use Rattle.probe_session.proofs.BrokeOff.{LeftAs, OnWay, by_dmi, told_still}
-use Rattle.probe_session.proofs.OnTheWay.{cut_way, halt_cut_way, halt_missed, look_cut_way, turns_way}
+use Rattle.probe_session.proofs.OnTheWay.{cut_way, halt_cut_way, halt_missed, turns_way}
 use Rattle.probe_session.proofs.ResumedWay.{resume_cut_way, resume_missed}
 
 -- ---- the transport
@@ -62,12 +62,6 @@ pub look_fell : (h : ℕ) (m : Machine) (o : Origin) (next : Seen → Plan) (lin
     → At m 0 Idle o (look h next) lines (target_at old.far) → Still (LeftAs o lines f) new.far
 look_fell h m o next lines old_count new_count old new f fell a =
     run_fell fell.why f h m o (look h next) lines old_count new_count old new (λ s t d c. cut_way o (Look h) _ lines s t tt d.stands c) fell.heard fell.told fell.is a
-
-pub wait_fell : (h n : ℕ) (m : Machine) (o : Origin) (test : Seen → Bool) (failed : Seen → Plan) (found : Plan) (last : Seen) (lines : List Line) (old_count new_count : ℕ) (old new : Tells) (f : Failure) → LookFell h old_count new_count old new f
-    → At m 0 Idle o (until (suc n) h test failed found last) lines (target_at old.far) → Still (LeftAs o lines f) new.far
-wait_fell h n m o test failed found last lines old_count new_count old new f fell a =
-    run_fell fell.why f h m o (until (suc n) h test failed found last) lines old_count new_count old new
-    (λ s t d c. look_cut_way m h Idle o n test failed found last lines s t (deals_selects m 0 h o (until (suc n) h test failed found last) lines s d) c) fell.heard fell.told fell.is a
 
 -- 64 Looks in vain
 at_most : (looks : ℕ) (o : Origin) (lines : List Line) (e : ℕ → End) (t : Target) → looks ≡ most_looks → IsTranscribed o (e most_looks) lines t → IsTranscribed o (e looks) lines t

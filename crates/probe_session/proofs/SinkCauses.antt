@@ -67,7 +67,6 @@ of_store size address value old_count new_count old new f (StoreFell.by_bus why 
 of_fault : (p : Place) (old_count new_count : ℕ) (old new : Tells) (f : Failure) → Fault p old_count new_count old new f → IsNotSink f
 of_fault p old_count new_count old new f (Fault.idcode r) = of_dmi r.why f r.is
 of_fault p old_count new_count old new f (Fault.looking next r) = of_run r.why f r.is
-of_fault p old_count new_count old new f (Fault.waiting n failed found r) = of_run r.why f r.is
 of_fault p old_count new_count old new f (Fault.halt next r) = of_run r.why f r.is
 of_fault p old_count new_count old new f (Fault.resuming next r) = of_run r.why f r.is
 of_fault p old_count new_count old new f (Fault.stepping_over stepped other r) = of_access r.why f r.is

@@ -1,6 +1,5 @@
 -- What the calls of the layers below did at a told chip, as steps of the abstract debugger's plan: Looks, run control, and where a hart stands.
-use Rattle.std.proofs.Common.{◌≡◌, ◌≢◌, ◌∙◌, ℕ, zero, suc, Bool, true, false, List, [], Option, Some, None, slice_get, refl, sym, ap, subst, arith}
-use Rattle.std.proofs.lemmas.Bool.{false≢true}
+use Rattle.std.proofs.Common.{◌≡◌, ◌≢◌, ◌∙◌, ℕ, Bool, true, false, List, [], Option, Some, None, slice_get, refl, sym, ap, subst, arith}
 use Rattle.std.proofs.lemmas.Option.{none-some, same_Some}
 use Rattle.rv_model.specs.declared.cause.Cause.{Cause}
 use Rattle.rv_model.specs.declared.cause.Cause.TheVariants as cause
@@ -11,7 +10,7 @@ use Rattle.debug_model.specs.Chip.{Chip}
 use Rattle.debug_model.specs.Scan.{WhereTold}
 use Rattle.debug_model.specs.Module.{Site}
 use Rattle.debug_model.specs.Told.{Far, site_of}
-use Rattle.abstract_debugger.specs.Debugger.{Seen as Sight, by_state, going, halted_of, halting, look, one, sees_halted, shown_hits, stop_line, stop_line_of, unseen, until}
+use Rattle.abstract_debugger.specs.Debugger.{Seen as Sight, by_state, going, halted_of, halting, look, one, shown_hits, stop_line, stop_line_of}
 use Rattle.abstract_debugger.specs.Lines.{Line}
 use Rattle.abstract_debugger.specs.Plan.{Plan, is_step}
 use Rattle.abstract_debugger.specs.Plan.Plan.{say, see}
@@ -19,7 +18,7 @@ use Rattle.abstract_debugger.specs.Slots.{hits_of, slots_at, slots_here}
 use Rattle.abstract_debugger.specs.Stands.{At, Deals, Looked, Origin, Target, WentOn}
 use Rattle.abstract_debugger.specs.Ways.{Way}
 use Rattle.abstract_debugger.specs.Ways.Way.{Idle, Ready, Still}
-use Rattle.abstract_debugger.proofs.DealsLemmas.{deals_again, deals_at_plan, deals_done, deals_found, deals_halted, deals_hold, deals_looked, deals_otherwise, deals_seen, deals_selects, deals_stepped, deals_went_on, target_frozen}
+use Rattle.abstract_debugger.proofs.DealsLemmas.{deals_at_plan, deals_done, deals_halted, deals_hold, deals_looked, deals_otherwise, deals_seen, deals_selects, deals_stepped, deals_went_on, target_frozen}
 use Rattle.abstract_debugger.proofs.FrozenLemmas.{stays_same}
 use Rattle.probe_access.specs.Registers.{TurnsPassed}
 use Rattle.probe_run.specs.declared.hart.Seen.{Seen}
@@ -29,8 +28,7 @@ use Rattle.probe_run.specs.Outcomes.{IsSeen}
 use Rattle.probe_run.proofs.SessionLemmas.{halts_lead, resumes_lead, steps_lead}
 use Rattle.probe_trig.specs.Stepping.{OverAt}
 use Rattle.probe_session.specs.Led.{target_at}
-use Rattle.probe_session.specs.Steps.{behind_look, behind_step, is_halted, step_cause, trigger_cause}
-use Rattle.abstract_debugger.proofs.KnownPoints.{known-still}
+use Rattle.probe_session.specs.Steps.{behind_look, behind_step, step_cause, trigger_cause}
 use Rattle.rv_model.specs.Dcsr.{shown_cause}
 
 -- ---- an object that tells
@@ -64,39 +62,6 @@ look_by (seen.Halted x) (Sight.Halted ack) m h o a r p lines old new l is d =
 pub look_deals : (s : Seen) (m : Machine) (h : ℕ) (o : Origin) (a r p : Plan) (lines : List Line) (old new : Target) → LooksAt h s old new → Deals m 0 Idle o (look h (by_state a r p)) lines old
     → Deals m (behind_look s h a r p).hart (behind_look s h a r p).way o (behind_look s h a r p).plan lines new
 look_deals s m h o a r p lines old new l d = look_by s l.now m h o a r p lines old new l.look l.is d
-
-not_seen : (s : Seen) (now : Sight) (h : ℕ) → IsSeen h now s → is_halted s ≡ false → sees_halted now ≡ false
-not_seen s Sight.Absent h is no_halt = refl
-not_seen s (Sight.Running ack) h is no_halt = refl
-not_seen seen.Absent (Sight.Halted ack) h is no_halt = absurd is
-not_seen (seen.Running x) (Sight.Halted ack) h is no_halt = absurd is
-not_seen (seen.Halted x) (Sight.Halted ack) h is no_halt = absurd (false≢true (sym no_halt))
-
-seen_so : (s : Seen) (now : Sight) (h : ℕ) → IsSeen h now s → is_halted s ≡ true → sees_halted now ≡ true
-seen_so s (Sight.Halted ack) h is halted = refl
-seen_so seen.Absent now h is halted = absurd (false≢true halted)
-seen_so (seen.Running x) now h is halted = absurd (false≢true halted)
-seen_so (seen.Halted x) Sight.Absent h is halted = absurd is
-seen_so (seen.Halted x) (Sight.Running ack) h is halted = absurd is
-
-until_last : (n h : ℕ) (test : Sight → Bool) (failed found : Plan) (l k : Sight) → until n h test (λ _. failed) found l ≡ until n h test (λ _. failed) found k
-unfolding until
-until_last zero h test failed found l k = refl
-until_last (suc n) h test failed found l k = refl
-
-pub again_deals : (s : Seen) (m : Machine) (h : ℕ) (o : Origin) (n : ℕ) (failed found : Plan) (lines : List Line) (old new : Target) → is_halted s ≡ false → LooksAt h s old new
-    → Deals m 0 Idle o (until (suc n) h sees_halted (λ _. failed) found unseen) lines old → Deals m 0 Idle o (until n h sees_halted (λ _. failed) found unseen) lines new
-again_deals s m h o n failed found lines old new not_yet l d =
-    deals_selects m h 0 o (until n h sees_halted (λ _. failed) found unseen) lines new
-    (deals_at_plan m h Idle o _ _ lines new (until_last n h sees_halted failed found l.now unseen)
-    (deals_again m h Idle o n sees_halted (λ _. failed) found unseen l.now lines old new (not_seen s l.now h l.is not_yet)
-    (deals_selects m 0 h o (until (suc n) h sees_halted (λ _. failed) found unseen) lines old d) l.look))
-
-pub enough_deals : (s : Seen) (m : Machine) (h : ℕ) (o : Origin) (n : ℕ) (failed found : Plan) (lines : List Line) (old new : Target) → is_halted s ≡ true → LooksAt h s old new
-    → Deals m 0 Idle o (until (suc n) h sees_halted (λ _. failed) found unseen) lines old → Deals m h Still o found lines new
-enough_deals s m h o n failed found lines old new halted l d =
-    deals_found m h Idle Still o n sees_halted (λ _. failed) found unseen l.now lines old new (seen_so s l.now h l.is halted) (known-still m h)
-    (deals_selects m 0 h o (until (suc n) h sees_halted (λ _. failed) found unseen) lines old d) l.look
 
 -- ---- run control
 

@@ -115,7 +115,6 @@ fault_wired : (p : Place) (old_count new_count : ℕ) (old new : Tells) (f : Fai
 fault_wired p old_count new_count old new f (Fault.idcode r) =
     record { later = r.later; cause = of_dmi r.why f old_count new_count new.far r.is (scanned_wire r.why old_count new_count new.far old.script r.cause) }
 fault_wired p old_count new_count old new f (Fault.looking {h} next r) = look_wired h old_count new_count old new f r
-fault_wired p old_count new_count old new f (Fault.waiting {h} n failed found r) = look_wired h old_count new_count old new f r
 fault_wired p old_count new_count old new f (Fault.halt {h} next r) = record { later = r.later; cause = of_run r.why f old_count new_count new.far r.is (halt_wire r.why h old_count new_count old new r.heard) }
 fault_wired p old_count new_count old new f (Fault.resuming {h} next r) = record { later = r.later; cause = of_run r.why f old_count new_count new.far r.is (resume_wire r.why h old_count new_count old new r.heard) }
 fault_wired p old_count new_count old new f (Fault.stepping_over {h} stepped other r) =

@@ -1,12 +1,12 @@
 -- How a session went: steps from one place of the plan to another, and where it broke off.
 -- It is this project's own.
-use Rattle.std.specs.Prelude.{◌≡◌, ◌≤◌, ◌++◌, ℕ, suc, Bool, true, false, List, [], Option}
+use Rattle.std.specs.Prelude.{◌≡◌, ◌≤◌, ◌++◌, ℕ, Bool, true, false, List, [], Option}
 use Rattle.jt_base.specs.Faults.{Rises}
 use Rattle.jt_base.specs.Sink.{GrewByPrefix, grown}
 use Rattle.rv_model.specs.declared.size.Size.{Size}
 use Rattle.rv_model.specs.Board.{Board}
 use Rattle.debug_model.specs.declared.point.Point.TheVariants.{Access}
-use Rattle.abstract_debugger.specs.Debugger.{Seen, State, going, halting, look, one, sees_halted, unseen, until}
+use Rattle.abstract_debugger.specs.Debugger.{Seen, State, going, halting, look, one}
 use Rattle.abstract_debugger.specs.Laws.{Quiet}
 use Rattle.abstract_debugger.specs.Lines.{Line, any_error, text_of, text_of_all}
 use Rattle.abstract_debugger.specs.Plan.{Plan}
@@ -44,8 +44,6 @@ pub data Fault : Place → ℕ → ℕ → Tells → Tells → Failure → Type 
   idcode : {p : Place} {old_count new_count : ℕ} {old new : Tells} {f : Failure} → IdcodeFell old_count new_count old new f → Fault p old_count new_count old new f
   looking : {h old_count new_count : ℕ} (next : Seen → Plan) {old new : Tells} {f : Failure} → LookFell h old_count new_count old new f
       → Fault (idle (look h next)) old_count new_count old new f
-  waiting : {h old_count new_count : ℕ} (n : ℕ) (failed found : Plan) {old new : Tells} {f : Failure} → LookFell h old_count new_count old new f
-      → Fault (idle (until (suc n) h sees_halted (λ _. failed) found unseen)) old_count new_count old new f
   halt : {h old_count new_count : ℕ} (next : Plan) {old new : Tells} {f : Failure} → HaltFell h old_count new_count old new f
       → Fault (idle (halting h next)) old_count new_count old new f
   resuming : {h old_count new_count : ℕ} (next : Plan) {old new : Tells} {f : Failure} → ResumeFell h old_count new_count old new f

@@ -9,7 +9,7 @@ use Rattle.rv_model.specs.Registers.{csr_read_only, pc_number}
 use Rattle.rv_model.specs.Size.{count_of}
 use Rattle.debug_model.specs.declared.point.Point.TheVariants.{Access}
 use Rattle.debug_model.specs.Tap.{idcode}
-use Rattle.abstract_debugger.specs.Debugger.{arming, by_load, by_state, by_store, freeing, going, halted_of, halting, look, one, register_line, saying, sees_halted, slot_lines, stop_line, unseen, until, value_here}
+use Rattle.abstract_debugger.specs.Debugger.{arming, by_load, by_state, by_store, freeing, going, halted_of, halting, look, one, register_line, saying, slot_lines, stop_line, value_here}
 use Rattle.abstract_debugger.specs.Lines.{Line}
 use Rattle.abstract_debugger.specs.Plan.{Plan, is_step}
 use Rattle.abstract_debugger.specs.Plan.Change.{EbreakHalts, WriteMem, WriteReg}
@@ -36,11 +36,6 @@ abbrev pub behind_look : Seen → ℕ → (absent running halted : Plan) → Pla
 behind_look seen.Absent h absent running halted = idle absent
 behind_look (seen.Running r) h absent running halted = idle running
 behind_look (seen.Halted x) h absent running halted = still h halted
-
-abbrev pub is_halted : Seen → Bool
-is_halted seen.Absent = false
-is_halted (seen.Running r) = false
-is_halted (seen.Halted x) = true
 
 -- dcsr's number for a halt by a trigger, beside which the slots with a hit are shown
 abbrev pub trigger_cause : ℕ
@@ -86,10 +81,6 @@ pub data Step : Place → Tells → List Line → Place → Tells → Type 0 whe
   -- Looks
   looks : {h : ℕ} {s : Seen} (absent running halted : Plan) {old new : Tells} → Saw h old new s
       → Step (idle (look h (by_state absent running halted))) old [] (behind_look s h absent running halted) new
-  looks_again : {h : ℕ} {s : Seen} (n : ℕ) (failed found : Plan) {old new : Tells} → Saw h old new s → is_halted s ≡ false
-      → Step (idle (until (suc n) h sees_halted (λ _. failed) found unseen)) old [] (idle (until n h sees_halted (λ _. failed) found unseen)) new
-  looks_enough : {h : ℕ} {s : Seen} (n : ℕ) (failed found : Plan) {old new : Tells} → Saw h old new s → is_halted s ≡ true
-      → Step (idle (until (suc n) h sees_halted (λ _. failed) found unseen)) old [] (still h found) new
   -- run control
   halts : {h : ℕ} (next : Plan) {old new : Tells} → HaltMade h old new → Step (idle (halting h next)) old [] (still h next) new
   resumes : {h : ℕ} (next : Plan) {old new : Tells} → ResumeMade h old new → Step (ready h (going h next)) old [] (idle next) new

@@ -84,7 +84,7 @@ impl Session {
         }
     }
 
-    /// Looks at the hart until it is halted, at most so often, and says where it stands, or that it runs.
+    /// Looks at the hart until it does not run, at most so often, and says where it stands, that it runs, or that there is none.
     pub(crate) fn wait<D: Dmi>(&self, link: &mut D, looks: u16) -> Result<Line, Failure>
         requires serving { Attached (D.seen link.old) }
         ensures went { IfOk result (λ line. Went (before (command.Wait looks) (state_of self.now)) (at_line (said_by line) (state_of self.now)) []
@@ -93,8 +93,10 @@ impl Session {
         ensures keeps { Goes (λ _. Attached) (D.seen link.old) (D.seen link.new) result }
     {
         'looking: for _look in 0..looks {
-            if let Seen::Halted(halted) = see(link, &self.target, self.hart)? {
-                return stop_line(link, &halted);
+            match see(link, &self.target, self.hart)? {
+                Seen::Absent => return Ok(Line::NoHart(self.hart)),
+                Seen::Running(_) => {}
+                Seen::Halted(halted) => return stop_line(link, &halted),
             }
         }
         Ok(Line::Running)

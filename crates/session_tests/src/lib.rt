@@ -12,6 +12,8 @@ mod ended;
 #[cfg(test)]
 mod memory;
 #[cfg(test)]
+mod scripted;
+#[cfg(test)]
 mod stepping;
 #[cfg(test)]
 mod stopping;
