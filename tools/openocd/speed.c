@@ -1,8 +1,8 @@
 // How fast a served chip answers over the loopback address, beside a bare echo server: `speed PORT` is the client of a chip that listens there.
 //
-//   cc -O2 -o speed speed.c && ./jtag chip --at 127.0.0.1:9824 --image empty.bin & ./speed 9824
+//   cc -O2 -o speed speed.c && ./jtag chip --at 127.0.0.1:9824 --image empty.bin --events 1000000000 & ./speed 9824
 //
-// Five turns let TCK rise 13.6 million times, which stays below the limit of points of a chip with one hart. It asks one `R` at a time of the chip and of an echo server of its own, by turns; then it sends pieces of 4,096 bytes, of clocks alone and of clocks that each ask.
+// Five turns let TCK rise 13.6 million times. It asks one `R` at a time of the chip and of an echo server of its own, by turns; then it sends pieces of 4,096 bytes, of clocks alone and of clocks that each ask.
 #include <arpa/inet.h>
 #include <netinet/tcp.h>
 #include <stdio.h>

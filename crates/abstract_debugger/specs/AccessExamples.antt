@@ -15,8 +15,10 @@ use Rattle.abstract_debugger.specs.ExampleCases.{IsOutcome, halted_board, runnin
 -- one element outside memory: one Access, and the error line, on either path
 abbrev pub ReadFaults : Type 0
 ReadFaults = (m : Memory) → loaded m 0x80010000 B8 ≡ Err Outside
-    → IsOutcome (transcript (halted_board m) (command.Read B8 0x80010000 1 ∷ []) (Look 0 ∷ Look 0 ∷ Access ∷ [])) (Line.MemoryFault 0x80010000 ∷ []) End.WithErrors []
-    × IsOutcome (transcript (running_board m) (command.Via Bus ∷ command.Read B8 0x80010000 1 ∷ []) (Look 0 ∷ Access ∷ [])) (Line.Via Bus ∷ Line.MemoryFault 0x80010000 ∷ []) End.WithErrors []
+    → IsOutcome (transcript (halted_board m) (command.Read B8 0x80010000 1 ∷ []) (Look 0 ∷ Look 0 ∷ Access ∷ []))
+    (Line.MemoryFault 0x80010000 ∷ []) End.WithErrors []
+    × IsOutcome (transcript (running_board m) (command.Via Bus ∷ command.Read B8 0x80010000 1 ∷ []) (Look 0 ∷ Access ∷ []))
+    (Line.Via Bus ∷ Line.MemoryFault 0x80010000 ∷ []) End.WithErrors []
 
 -- of two elements the first is read, and the fault ends the command
 abbrev pub SecondReadFaults : Type 0
@@ -27,11 +29,13 @@ SecondReadFaults = (m : Memory) → loaded m 0x8000fff8 B8 ≡ Ok 0x112233445566
 -- a store is an entry, and one outside memory is none
 abbrev pub WriteStores : Type 0
 WriteStores = (m : Memory) → store_answer m 0x80000000 B4 ≡ Ok tt
-    → IsOutcome (transcript (halted_board m) (command.Write B4 0x80000000 0x00700293 1 ∷ []) (Look 0 ∷ Look 0 ∷ Access ∷ [])) (Line.Wrote 1 ∷ []) End.Clean (Did (SetMem 0x80000000 4 0x00700293) ∷ [])
+    → IsOutcome (transcript (halted_board m) (command.Write B4 0x80000000 0x00700293 1 ∷ []) (Look 0 ∷ Look 0 ∷ Access ∷ [])) (Line.Wrote 1 ∷ []) End.Clean
+    (Did (SetMem 0x80000000 4 0x00700293) ∷ [])
 
 abbrev pub WriteFaults : Type 0
 WriteFaults = (m : Memory) → store_answer m 0x80010000 B4 ≡ Err Outside
-    → IsOutcome (transcript (running_board m) (command.Via Bus ∷ command.Write B4 0x80010000 1 2 ∷ []) (Look 0 ∷ Access ∷ [])) (Line.Via Bus ∷ Line.MemoryFault 0x80010000 ∷ []) End.WithErrors []
+    → IsOutcome (transcript (running_board m) (command.Via Bus ∷ command.Write B4 0x80010000 1 2 ∷ []) (Look 0 ∷ Access ∷ []))
+    (Line.Via Bus ∷ Line.MemoryFault 0x80010000 ∷ []) End.WithErrors []
 
 -- the bytes of an unfinished row come before the error line
 abbrev pub DumpFaults : Type 0

@@ -1,4 +1,5 @@
--- What is known of a world in the middle of a session: it is transparent, first match holds so far, and each hart fits the way in which the debugger stands to it.
+-- What is known of a world in the middle of a session: it is transparent, first match holds so far, and each hart fits the way in which the debugger stands
+-- to it.
 -- It is this project's own.
 use Rattle.std.specs.Prelude.{◌≡◌, ◌==◌, ℕ, false, Some, slice_get, if◌then◌else◌}
 use Rattle.rv_model.specs.declared.slot.Slot.{Slot}

@@ -122,7 +122,8 @@ FrozenStays = (h : ℕ) (hart : Hart) (b : Board) (harts : List ℕ) → slice_g
 
 -- and a change of it that leaves it frozen may be made before some turns or behind them
 abbrev pub FrozenMayWait : Type 0
-FrozenMayWait = (f : Hart → Hart) (h : ℕ) (hart : Hart) (b : Board) (harts : List ℕ) → slice_get b.harts h ≡ Some hart → IsFrozen hart.debug → IsFrozen (f hart).debug
+FrozenMayWait =
+    (f : Hart → Hart) (h : ℕ) (hart : Hart) (b : Board) (harts : List ℕ) → slice_get b.harts h ≡ Some hart → IsFrozen hart.debug → IsFrozen (f hart).debug
     → after_turns harts (hart_over f h b) ≡ hart_over f h (after_turns harts b)
 
 -- the same, of a hart that may be absent

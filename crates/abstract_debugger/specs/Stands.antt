@@ -104,7 +104,8 @@ At m selected way o p lines told = IsTold (Deals m selected way o p lines) told
 -- ---- run control, by what it makes of the plan
 
 -- after so many Looks of a wait that did not see what was wanted
-abbrev pub Since : Machine → (selected : ℕ) → Way → Origin → (limit : ℕ) → (test : Seen → Bool) → (failed : Seen → Plan) → (found : Plan) → List Line → (tries : ℕ) → (now : Option Target) → Type 0
+abbrev pub Since : Machine → (selected : ℕ) → Way → Origin → (limit : ℕ) → (test : Seen → Bool) → (failed : Seen → Plan) → (found : Plan) → List Line
+    → (tries : ℕ) → (now : Option Target) → Type 0
 Since m selected way o limit test failed found lines tries now =
     (n : ℕ) → tries + n ≡ limit → (last : Seen) × At m selected way o (until n selected test failed found last) lines now
 
@@ -121,7 +122,8 @@ SteppedOver h false old new =
 
 -- up to so many single steps
 abbrev pub Steps : ℕ → ℕ → (old new : Option Target) → Type 0
-Steps h count old new = (m : Machine) (o : Origin) (lines : List Line) (next : Plan) → At m h Still o (stepping count h next) lines old → At m h Still o next lines new
+Steps h count old new =
+    (m : Machine) (o : Origin) (lines : List Line) (next : Plan) → At m h Still o (stepping count h next) lines old → At m h Still o next lines new
 
 -- ---- what a session that has stopped shows
 

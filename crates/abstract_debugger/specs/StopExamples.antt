@@ -11,7 +11,8 @@ use Rattle.abstract_debugger.specs.Slots.Use.{Armed, Unused}
 use Rattle.abstract_debugger.specs.Trace.Note.{Did, Stop, Arm}
 use Rattle.abstract_debugger.specs.Trace.What.{Break, Watch, Count}
 use Rattle.abstract_debugger.specs.Transcript.{End}
-use Rattle.abstract_debugger.specs.ExampleCases.{Case, Happens, breaker, counter, go_points, halted_board, one_points, pc, running_board, slot_0, stepped_at, storer, triggered_at, x5, x5_is}
+use Rattle.abstract_debugger.specs.ExampleCases.{Case, Happens, breaker, counter, go_points, halted_board, one_points, pc, running_board, slot_0, stepped_at}
+use Rattle.abstract_debugger.specs.ExampleCases.{storer, triggered_at, x5, x5_is}
 
 -- ---- single steps and stops
 
@@ -35,7 +36,8 @@ break_twice = record {
   script = command.Break 0x80000008 ∷ command.Resume ∷ command.Wait 64 ∷ command.Reg x5 ∷ command.Resume ∷ command.Wait 64 ∷ command.Reg x5 ∷ [];
   journal = Look 0 ∷ Look 0 ∷ Look 0 ∷ go_points ++ Turn 0 ∷ Look 0 ∷ Turn 0 ∷ Turn 0 ∷ Look 0 ∷ Look 0 ∷
       Look 0 ∷ one_points ++ go_points ++ Turn 0 ∷ Turn 0 ∷ Look 0 ∷ Look 0 ∷ [];
-  lines = Line.Slot 0 (Armed (Break 0x80000008)) false ∷ Line.Resumed ∷ triggered_at 0x80000008 ∷ x5_is 6 ∷ Line.Resumed ∷ triggered_at 0x80000008 ∷ x5_is 7 ∷ [];
+  lines = Line.Slot 0 (Armed (Break 0x80000008)) false ∷ Line.Resumed ∷ triggered_at 0x80000008 ∷ x5_is 6 ∷ Line.Resumed ∷ triggered_at 0x80000008 ∷ x5_is 7
+      ∷ [];
   end = End.Clean;
   past = Stop 0 cause.Trigger slot_0 ∷ Did (Exec 0) ∷ Stop 0 cause.Step [] ∷ Did (Exec 0) ∷
       Stop 0 cause.Trigger slot_0 ∷ Did (Exec 0) ∷ Did (Exec 0) ∷ Arm 0 0 (Break 0x80000008) ∷ [];
@@ -63,7 +65,8 @@ pc_onto_the_same_break = record {
   lines = Line.Slot 0 (Armed (Break 0x80000008)) false ∷ Line.Resumed ∷ triggered_at 0x80000008 ∷ Line.Register 0x7b1 0x80000008 ∷ Line.Resumed ∷
       triggered_at 0x80000008 ∷ x5_is 6 ∷ [];
   end = End.Clean;
-  past = Stop 0 cause.Trigger slot_0 ∷ Did (SetReg 0 0x7b1 0x80000008) ∷ Stop 0 cause.Trigger slot_0 ∷ Did (Exec 0) ∷ Did (Exec 0) ∷ Arm 0 0 (Break 0x80000008) ∷ [];
+  past = Stop 0 cause.Trigger slot_0 ∷ Did (SetReg 0 0x7b1 0x80000008) ∷ Stop 0 cause.Trigger slot_0 ∷ Did (Exec 0) ∷ Did (Exec 0)
+      ∷ Arm 0 0 (Break 0x80000008) ∷ [];
 }
 
 -- five steps end at the third, which meets the break; `halt` then says so again

@@ -1,6 +1,8 @@
 //! Laws of replays and transcripts. Each is the contract of a function that does nothing; `specs/Laws.antt` has the statements.
 
-ghost use Rattle.abstract_debugger.specs.Laws.{ChangesMayWait, CommandsAreQuiet, CommandsSpeakInOrder, CutBoards, CutLinesAreAFront, EachNoteIsRight, FirstMatchHolds, FrozenMayWait, FrozenStays, LinesGrow, OnlyOpenOnesGrow, PastsAreUndebugged, QuietBoards, ResetIsFresh, SessionsSayQuietly, Transparent, TurnsKeepOn};
+ghost use Rattle.abstract_debugger.specs.Laws.{ChangesMayWait, CommandsAreQuiet, CommandsSpeakInOrder, CutBoards, CutLinesAreAFront, EachNoteIsRight};
+ghost use Rattle.abstract_debugger.specs.Laws.{FirstMatchHolds, FrozenMayWait, FrozenStays, LinesGrow, OnlyOpenOnesGrow, PastsAreUndebugged, QuietBoards};
+ghost use Rattle.abstract_debugger.specs.Laws.{ResetIsFresh, SessionsSayQuietly, Transparent, TurnsKeepOn};
 
 /// Memory and every hart's core end as those of a machine that nobody debugs, whatever the plan, the board, the journal and the end.
 pub fn transparent()

@@ -118,7 +118,8 @@ just_loaded l a =
         bytes = subst (All (λ x. x < 256)) (sym (image_is a.image a.ram a.fits)) (whole_bytes a.image a.ram a.bytes);
       };
       plan = record { rounds = a.rounds; first = a.first };
-      is = ap (λ b. live (loaded_chip b a.plan)) (sym (reloaded_is a.image a.harts a.ram a.halted a.fits a.right a.start));
+      limit = a.limit;
+      is = ap (λ b. live (loaded_chip b a.plan a.most_points)) (sym (reloaded_is a.image a.harts a.ram a.halted a.fits a.right a.start));
     })
 
 as_loaded : (l : Live) → IsJustLoaded l → AsLoaded l
@@ -130,6 +131,7 @@ as_loaded l j =
       ram = ram_size board.memory;
       halted = start_of board.harts;
       plan = l.chip.inside.plan;
+      most_points = l.chip.inside.works.most_points;
       right = j.board.right;
       size = j.board.size;
       fits = let all : _ = length_bytes board.memory.bytes ram_base (ram_size board.memory) in omega (arith, all);
@@ -137,6 +139,7 @@ as_loaded l j =
       start = start_either board.harts;
       rounds = j.plan.rounds;
       first = j.plan.first;
+      limit = j.limit;
       is = j.is;
     }
 

@@ -1,5 +1,5 @@
--- A chip as it was loaded, told by what stands on the bench alone: its harts, the bytes of its memory and its schedule. So it is a fact that has one proof,
--- which a net can keep until it is opened. How a program comes into the chip is this project's own choice.
+-- A chip as it was loaded, told by what stands on the bench alone: its harts, the bytes of its memory, its schedule and its limit.
+-- So it is a fact that has one proof, which a net can keep until it is opened. How a program comes into the chip is this project's own choice.
 use Rattle.std.specs.Prelude.{◌≡◌, ℕ, zero, suc, ◌+◌, ◌<◌, ◌≤◌, List, [], ◌∷◌, length, All, Option, None, Some, IfSome, unwrap_or}
 use Rattle.std.specs.FinMap.{get}
 use Rattle.rv_model.specs.declared.cause.Cause.{Cause}
@@ -8,7 +8,7 @@ use Rattle.rv_model.specs.Image.{ram_size}
 use Rattle.rv_model.specs.Memory.{Bytes, IsRamSize, Memory, ram_base}
 use Rattle.debug_model.specs.declared.event.Event.{Event}
 use Rattle.debug_model.specs.Chip.{Live}
-use Rattle.debug_model.specs.Loaded.{RightHarts, live, loaded_board, loaded_chip}
+use Rattle.debug_model.specs.Loaded.{RightHarts, RightLimit, live, loaded_board, loaded_chip}
 use Rattle.debug_model.specs.Schedule.{RoundPlan}
 
 -- so many bytes from an address on, and 0 where memory has none
@@ -35,6 +35,9 @@ board_of l = l.chip.inside.works.site.board
 abbrev pub plan_of : Live → RoundPlan
 plan_of l = l.chip.inside.plan
 
+abbrev pub limit_of : Live → ℕ
+limit_of l = l.chip.inside.works.most_points
+
 -- the board with what it has in memory as its image, as a load leaves it
 abbrev pub reloaded : Board → Board
 reloaded b = loaded_board (image_of b.memory) (length b.harts) (ram_size b.memory) (start_of b.harts)
@@ -52,7 +55,8 @@ pub record IsFirstPlan (p : RoundPlan) : Type 0 where
 pub record IsJustLoaded (l : Live) : Type 0 where
   pub board : IsLoadedBoard (board_of l)
   pub plan : IsFirstPlan (plan_of l)
-  pub is : l ≡ live (loaded_chip (reloaded (board_of l)) (plan_of l))
+  pub limit : RightLimit (limit_of l)
+  pub is : l ≡ live (loaded_chip (reloaded (board_of l)) (plan_of l) (limit_of l))
 
 -- a bench whose chip was just loaded, and which has answered nothing yet
 pub record IsFresh (bench : Option Live) (unread : List ℕ) : Type 0 where

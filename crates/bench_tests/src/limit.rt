@@ -1,10 +1,18 @@
 //! The limit of points, which a rise meets.
 
-use crate::bench::{Listed, bench_of, feed};
-use chip_core::Fed;
+ghost use Rattle.std.specs.Prelude.{IfOk, IsSome};
+ghost use Rattle.debug_model.specs.Loaded.{RightLimit};
+
+use crate::bench::{Listed, bench_of, feed, listed};
+use chip_core::{Bench, Fed, LoadFault};
 use debug_model::Event;
 use hart_debug::Start;
+use std::alloc::Global;
+use std::process::Abort;
 use std::test::Fail;
+
+/// A round of five turns.
+const CROWDED: &[Event] = &[Event::Turn(0); 5];
 
 /// 128 clocks of TCK.
 fn clocks() -> [u8; 256] {
@@ -30,20 +38,52 @@ fn feed_to_an_end(bench: &mut Listed) -> (u32, Fed) {
     (30_000, Fed::All)
 }
 
-// 16,777,200 points are 3,355,440 rounds of five turns. The rise behind them still takes its round, and the next one
-// none: so 3,355,441 rises are taken, which is 26,214 pieces of 128 and 49 more.
-#[test]
-fn the_limit_is_met_at_its_rise(rt: HostRuntime) -> Result<(), Fail> {
-    let mut bench = bench_of(rt.alloc(), 1, Start::Halted, &[Event::Turn(0); 5])?;
-    let (pieces, fed) = feed_to_an_end(&mut bench);
-    assert_eq!(rt; pieces, 26_214);
-    assert_eq!(rt; fed, Fed::EventLimit(99));
+/// A chip whose hart stands halted takes so many pieces whole, and ends at this place of the next one, behind so many rises in all and five turns in each.
+fn check_limit(rt: &impl Abort, bench: Listed, pieces: u32, place: usize, rises: u64) {
+    let mut bench = bench;
+    assert_eq!(rt;
+        feed_to_an_end(&mut bench),
+        (pieces, Fed::EventLimit(place))
+    );
     assert!(rt; bench.at_limit());
-    assert_eq!(rt; bench.journal().len(), 16_777_205);
-    assert_eq!(rt; bench.counts().rounds, 3_355_441);
+    assert_eq!(rt; bench.counts().rounds, rises);
+    let journal = bench.journal();
+    assert_eq!(rt;
+        (journal.len(), journal.turns()),
+        (rises.wrapping_mul(5), rises.wrapping_mul(5))
+    );
     if bench.is_loaded() {
         let (again, _) = feed(&mut bench, b"R0");
         assert_eq!(rt; again, Fed::EventLimit(0));
     }
+}
+
+// 16,777,200 points are 3,355,440 rounds of five turns. The rise behind them still takes its round, and the next one
+// none: so 3,355,441 rises are taken, which is 26,214 pieces of 128 and 49 more.
+#[test]
+fn the_usual_limit_is_met_at_its_rise(rt: HostRuntime) -> Result<(), Fail> {
+    let bench = bench_of(rt.alloc(), 1, Start::Halted, CROWDED)?;
+    check_limit(&rt, bench, 26_214, 99, 3_355_441);
+    Ok(())
+}
+
+/// A bench whose chip has this limit.
+fn limited(alloc: Global, most_points: u64) -> Result<Listed, LoadFault>
+    requires { RightLimit most_points }
+    ensures { IfOk result (λ b. IsSome b) }
+{
+    let mut bench = Bench::blank();
+    let schedule = listed(alloc, CROWDED)?;
+    bench.load_with_limit(alloc, &[], 1, 65_536, Start::Halted, schedule, most_points)?;
+    Ok(bench)
+}
+
+// The first rise finds no point, the second one five, and the fourth one fifteen.
+#[test]
+fn a_limit_that_is_given_is_met_at_its_rise(rt: HostRuntime) -> Result<(), Fail> {
+    let alloc = rt.alloc();
+    check_limit(&rt, limited(alloc, 1)?, 0, 3, 1);
+    check_limit(&rt, limited(alloc, 14)?, 0, 7, 3);
+    check_limit(&rt, limited(alloc, 15)?, 0, 9, 4);
     Ok(())
 }

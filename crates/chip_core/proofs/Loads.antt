@@ -8,13 +8,13 @@ use Rattle.rv_model.specs.Board.{halted_by_reset, reset_hart, runs}
 use Rattle.rv_model.specs.Image.{ram_size}
 use Rattle.rv_model.specs.Memory.{IsRamSize, zero_memory}
 use Rattle.debug_model.specs.Chip.{Live}
-use Rattle.debug_model.specs.Loaded.{AsLoaded, Fits, reset_harts}
+use Rattle.debug_model.specs.Loaded.{AsLoaded, Fits, RightLimit, reset_harts}
 use Rattle.debug_model.specs.Schedule.{RoundPlan}
 use Rattle.hart_debug.specs.Changes.{start_cause}
 use Rattle.hart_debug.specs.declared.start.Start.{Start}
 use Rattle.hart_debug.specs.declared.start.Start.TheVariants.{Running, Halted}
 use Rattle.rv_mem.proofs.ImageLemmas.{len-map_of}
-use Rattle.chip_core.specs.Loads.{IsFirst, loaded}
+use Rattle.chip_core.specs.Loads.{IsFirst, loaded_with}
 
 pub one_hart_more : (n : ℕ) (why : Option Cause) → reset_harts (n + 1) why ≡ reset_harts n why ++ reset_hart n why ∷ []
 one_hart_more n why = ap (λ k. reset_harts k why) (add-one n)
@@ -26,15 +26,16 @@ start_known : (start : Start) → (start_cause start ≡ runs) ⊎ (start_cause 
 start_known Running = inl refl
 start_known Halted = inr refl
 
-pub as_loaded : (l : Live) (image : List ℕ) (harts ram : ℕ) (start : Start) (plan : RoundPlan)
-    → 1 ≤ harts → harts ≤ 4 → IsRamSize ram → Fits image ram → ((i : ℕ) → get_or image i 0 < 256) → IsFirst plan
-    → l ≡ loaded image harts ram start plan → AsLoaded l
-as_loaded l image harts ram start plan some most size fits bytes first is = record {
+pub as_loaded : (l : Live) (image : List ℕ) (harts ram : ℕ) (start : Start) (plan : RoundPlan) (most_points : ℕ)
+    → 1 ≤ harts → harts ≤ 4 → IsRamSize ram → Fits image ram → ((i : ℕ) → get_or image i 0 < 256) → IsFirst plan → RightLimit most_points
+    → l ≡ loaded_with image harts ram start plan most_points → AsLoaded l
+as_loaded l image harts ram start plan most_points some most size fits bytes first limit is = record {
   image = image;
   harts = harts;
   ram = ram;
   halted = start_cause start;
   plan = plan;
+  most_points = most_points;
   right = record { some = omega arith; most = most };
   size = size;
   fits = fits;
@@ -42,5 +43,6 @@ as_loaded l image harts ram start plan some most size fits bytes first is = reco
   start = start_known start;
   rounds = first.rounds;
   first = first.place;
+  limit = limit;
   is = is;
 }

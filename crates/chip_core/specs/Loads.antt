@@ -3,15 +3,20 @@
 use Rattle.std.specs.Prelude.{◌≡◌, ℕ, ◌≤◌, List, length, All}
 use Rattle.debug_model.specs.declared.event.Event.{Event}
 use Rattle.debug_model.specs.Chip.{Live}
-use Rattle.debug_model.specs.Loaded.{live, loaded_board, loaded_chip}
+use Rattle.debug_model.specs.Loaded.{live, loaded_board, loaded_chip, usual_points}
 use Rattle.debug_model.specs.Schedule.{RoundPlan}
 use Rattle.hart_debug.specs.Changes.{start_cause}
 use Rattle.hart_debug.specs.declared.start.Start.{Start}
 use Rattle.chip_core.specs.declared.load_fault.LoadFault.{LoadFault}
 use Rattle.chip_core.specs.declared.load_fault.LoadFault.TheVariants.{BadHarts, BadSize, TooLong, NoMemory}
 
+-- with this limit of points
+abbrev pub loaded_with : List ℕ → ℕ → ℕ → Start → RoundPlan → ℕ → Live
+loaded_with image harts ram start plan most_points = live (loaded_chip (loaded_board image harts ram (start_cause start)) plan most_points)
+
+-- with the usual one
 abbrev pub loaded : List ℕ → ℕ → ℕ → Start → RoundPlan → Live
-loaded image harts ram start plan = live (loaded_chip (loaded_board image harts ram (start_cause start)) plan)
+loaded image harts ram start plan = loaded_with image harts ram start plan usual_points
 
 -- a schedule that has given no round yet
 pub record IsFirst (plan : RoundPlan) : Type 0 where

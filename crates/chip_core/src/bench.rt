@@ -43,7 +43,7 @@ impl<Q: Schedule> Model for Bench<Q> {
 
     ghost view = { λ b. b.chip };
 
-    ghost invariant = { λ b. b.nothing_noted.points ≡ [] };
+    ghost invariant = { λ b. b.nothing_noted ≡ [] };
 }
 
 impl<Q: Schedule> Bench<Q> {
@@ -87,7 +87,7 @@ impl<Q: Schedule> Bench<Q> {
 
     /// What has happened since the load; nothing on a blank bench.
     pub fn journal(&self) -> &Journal
-        ensures { result.now.points ≡ journal_of self.now }
+        ensures { result.now ≡ journal_of self.now }
     {
         match &self.chip {
             Some(chip) => chip.system().journal(),

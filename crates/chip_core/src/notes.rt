@@ -1,5 +1,6 @@
 ghost use Rattle.std.specs.Prelude.{◌≡◌, ◌+◌, ◌≤◌, ◌++◌, length};
 ghost use Rattle.debug_model.specs.Deeds.{access_points};
+ghost use Rattle.sys_events.specs.Journal.{journal_room};
 
 use debug_model::Point;
 use sys_events::Journal;
@@ -7,9 +8,8 @@ use sys_events::Journal;
 /// Appends these points, in order.
 #[inline(always)]
 pub(crate) fn note_all(journal: &mut Journal, points: &[Point])
-    requires { length journal.old.points + length points.now ≤ journal.old.room }
-    ensures points { journal.new.points ≡ journal.old.points ++ points.now }
-    ensures room { journal.new.room ≡ journal.old.room }
+    requires { length journal.old + length points.now ≤ journal_room }
+    ensures { journal.new ≡ journal.old ++ points.now }
 {
     let mut rest = points;
     'points: while let [point, after @ ..] = rest {
@@ -21,9 +21,8 @@ pub(crate) fn note_all(journal: &mut Journal, points: &[Point])
 /// Appends the point of an access, where one was made.
 #[inline(always)]
 pub(crate) fn note_access(journal: &mut Journal, accessed: bool)
-    requires { length journal.old.points + 1 ≤ journal.old.room }
-    ensures points { journal.new.points ≡ journal.old.points ++ access_points accessed }
-    ensures room { journal.new.room ≡ journal.old.room }
+    requires { length journal.old + 1 ≤ journal_room }
+    ensures { journal.new ≡ journal.old ++ access_points accessed }
 {
     if accessed {
         journal.note(Point::Access);

@@ -8,7 +8,7 @@ ghost use Rattle.debug_model.specs.Port.{reset_port};
 ghost use Rattle.debug_model.specs.Transport.{fresh_dtm};
 ghost use Rattle.rv_model.specs.Memory.{hart_places};
 ghost use Rattle.std.specs.Prelude.{◌≤◌, [], vec_len};
-ghost use Rattle.sys_events.specs.Journal.{journal_room};
+ghost use Rattle.debug_model.specs.Loaded.{RightLimit};
 ghost use Rattle.chip_core.specs.Counted.{IsCounted};
 ghost use Rattle.chip_core.specs.Parts.{parts_held};
 
@@ -23,9 +23,6 @@ use rv_mem::Ram;
 use std::marker::Model;
 use sys_events::Journal;
 
-/// A rise of TCK that finds more points than this takes nothing.
-const MOST_POINTS: u32 = 16_777_200;
-
 /// A rise of TCK that finds so many rounds takes nothing.
 const MOST_ROUNDS: u64 = 1 << 62;
 
@@ -38,15 +35,16 @@ pub(crate) struct System {
     ram: Ram,
     journal: Journal,
     counts: Counts,
+    most_points: u64,
 }
 
 impl Model for System {
     ghost use Rattle.std.specs.Coded.{codes};
-    ghost use Rattle.std.specs.Prelude.{◌≡◌, ◌≤◌, vec_len};
+    ghost use Rattle.std.specs.Prelude.{◌≤◌, vec_len};
     ghost use Rattle.rv_model.specs.Codes.{hart_code};
     ghost use Rattle.rv_model.specs.Memory.{hart_places, memory_code};
     ghost use Rattle.dbg_module.specs.Served.{IsServedBy};
-    ghost use Rattle.sys_events.specs.Journal.{journal_room};
+    ghost use Rattle.debug_model.specs.Loaded.{RightLimit};
     ghost use Rattle.chip_core.specs.Parts.{Parts};
 
     ghost Value = { Parts };
@@ -57,25 +55,28 @@ impl Model for System {
       port = s.tap.port;
       works = record {
         dtm = s.tap.dtm;
-        site = record { unit = s.debug_module; board = record { harts = s.harts.items; memory = s.ram }; journal = s.journal.points };
+        site = record { unit = s.debug_module; board = record { harts = s.harts.items; memory = s.ram }; journal = s.journal };
         counts = s.counts;
+        most_points = s.most_points;
       };
     } };
 
-    ghost invariant = { λ s. (s.journal.room ≡ journal_room) × (vec_len s.harts ≤ hart_places) × IsServedBy s.debug_module s.harts.items };
+    ghost invariant = { λ s. RightLimit s.most_points × (vec_len s.harts ≤ hart_places) × IsServedBy s.debug_module s.harts.items };
 }
 
 impl System {
-    /// These harts and this memory behind a TAP and a debug module as a reset leaves them. Nothing was noted or counted.
-    pub(crate) fn new(harts: Vec<DebugHart>, ram: Ram, journal: Journal) -> Self
+    /// These harts and this memory behind a TAP and a debug module as a reset leaves them, with this limit of points. Nothing was noted
+    /// or counted.
+    pub(crate) fn new(harts: Vec<DebugHart>, ram: Ram, most_points: u64) -> Self
         requires harts { vec_len harts ≤ hart_places }
-        requires journal { journal ≡ record { points = []; room = journal_room } }
+        requires limit { RightLimit most_points }
         ensures system { result ≡ record {
           port = reset_port;
           works = record {
             dtm = fresh_dtm;
             site = record { unit = reset_module; board = record { harts = harts.items; memory = ram }; journal = [] };
             counts = no_counts;
+            most_points = most_points;
           };
         } }
         ensures counted { IsCounted 0 result.works }
@@ -85,13 +86,14 @@ impl System {
             debug_module: Module::new(),
             harts,
             ram,
-            journal,
+            journal: Journal::empty(),
             counts: Counts {
                 rounds: 0,
                 dmi_done: 0,
                 dmi_busy: 0,
                 dmi_failed: 0,
             },
+            most_points,
         }
     }
 
@@ -100,7 +102,7 @@ impl System {
     pub(crate) fn is_at_limit(&self) -> bool
         ensures { result ≡ at_limit self.now.works }
     {
-        self.journal.len() > MOST_POINTS || self.counts.rounds >= MOST_ROUNDS
+        self.journal.len() > self.most_points || self.counts.rounds >= MOST_ROUNDS
     }
 
     /// TRST takes this level.
@@ -134,7 +136,7 @@ impl System {
 
     /// What happened.
     pub(crate) fn journal(&self) -> &Journal
-        ensures { result.now.points ≡ self.now.works.site.journal }
+        ensures { result.now ≡ self.now.works.site.journal }
     {
         &self.journal
     }

@@ -6,3 +6,8 @@ pub mod Events
 pub mod Turns
 pub mod Timing
 pub mod TapLemmas
+pub mod CommandLemmas
+pub mod BusLemmas
+pub mod TransportLemmas
+pub mod HaltsumLemmas
+pub mod SeveralOperations

@@ -1,8 +1,8 @@
 -- Operations that ask no hart, reads that change nothing, micro steps and other harts, and harts that rest.
-use Rattle.std.proofs.Common.{◌≡◌, ◌≢◌, ℕ, List, [], ◌∷◌, Bool, true, false, Option, Some, None, refl, length-set, if◌then◌else◌}
-use Rattle.rv_model.proofs.MapLemmas.{slice_get-set_other}
+use Rattle.std.proofs.Common.{◌≡◌, ◌≢◌, ℕ, List, [], ◌∷◌, Bool, true, false, Option, Some, None, refl, sym, ap, ◌∙◌, length-set, if◌then◌else◌, zero, suc, ◌<◌, length, slice_get, arith}
+use Rattle.rv_model.proofs.MapLemmas.{slice_get-set_other, slice_get-set_same}
 use Rattle.rv_model.specs.declared.cause.Cause.{Cause}
-use Rattle.rv_model.specs.Board.{Hart}
+use Rattle.rv_model.specs.Board.{Board, DebugPart, Hart}
 use Rattle.rv_model.specs.Memory.{Memory}
 use Rattle.rv_model.specs.Turn.{memory_after, place_of, executes}
 use Rattle.debug_model.specs.declared.dmi_op.DmiOp.{DmiOp}
@@ -10,9 +10,13 @@ use Rattle.debug_model.specs.declared.dmi_op.DmiOp.TheVariants.{Read, Write}
 use Rattle.debug_model.specs.declared.micro.Micro.{Micro}
 use Rattle.debug_model.specs.declared.module_register.ModuleRegister.{ModuleRegister}
 use Rattle.debug_model.specs.declared.module_register.ModuleRegister.TheVariants.{Word, Dmcontrol, Dmstatus, Abstractcs, Command, Abstractauto, Sbcs, Sbaddress0, Sbaddress1, Sbdata0, Sbdata1, Haltsum0, Nothing}
+use Rattle.debug_model.specs.declared.point.Point.TheVariants.{ResumeReq}
+use Rattle.debug_model.specs.Commands.{busy}
 use Rattle.debug_model.specs.Deeds.{command_stepped, stepped_by}
+use Rattle.debug_model.specs.Journal.{after_point, resume_asked}
 use Rattle.debug_model.specs.Module.{Site, after_read, operated, read_by, register_at, selected_hart, write_by, written_by}
-use Rattle.chip_laws.specs.ModuleLaws.{AsksNoHart, IsPlain, KeepsOtherHarts, Rests}
+use Rattle.chip_laws.proofs.StreamLemmas.{some_none}
+use Rattle.chip_laws.specs.ModuleLaws.{AsksNoHart, DmcontrolWhileBusy, IsPlain, KeepsOtherHarts, Rests}
 
 -- ---- boards
 
@@ -102,3 +106,21 @@ commands_keep_others s = keeps_others s.unit.commands.steps (selected_hart s) s
 pub rests : (hart : Hart) (m : Memory) (why : Cause) → hart.debug.halted ≡ Some why → hart.debug.resume_request ≡ false → Rests hart m
 unfolding place_of memory_after executes
 rests hart m why halted quiet = record { same = rw (halted, quiet) refl; memory = rw (halted, quiet) refl }
+
+-- ---- dmcontrol
+
+pub busy_ignores : (v : ℕ) (s : Site) → busy s.unit.commands ≡ true → DmcontrolWhileBusy v s
+busy_ignores v s is = record { ignored = λ active. rw (active, is) refl; resets = λ inactive. rw inactive refl }
+
+asked_running : (d : DebugPart) → d.halted ≡ None → resume_asked d ≡ record d { resume_ack = false }
+asked_running d runs = rw runs refl
+
+there_below : {X : Type 0} (xs : List X) (i : ℕ) (x : X) → slice_get xs i ≡ Some x → i < length xs
+there_below [] i x is = some_none x (sym is)
+there_below (y ∷ ys) zero x is = omega arith
+there_below (y ∷ ys) (suc i) x is = omega (arith, there_below ys i x is)
+
+pub running_keeps_none : (h : ℕ) (b : Board) (hart : Hart) → slice_get b.harts h ≡ Some hart → hart.debug.halted ≡ None
+    → slice_get (after_point (ResumeReq h) b).harts h ≡ Some (record hart { debug = record hart.debug { resume_ack = false } })
+running_keeps_none h b hart is runs = rw is (slice_get-set_same b.harts h _ (there_below b.harts h hart is)
+    ∙ ap (λ d. Some (record hart { debug = d })) (asked_running hart.debug runs))

@@ -35,7 +35,7 @@ said_ended c end (b ∷ bs) = said_ended c end bs
 pub takes_nothing : (c : Chip) (end : ChipEnd) (bytes : List ℕ) → TakesNothing (ended_chip c end) bytes
 takes_nothing c end bytes = record { chip = feed_ended c end bytes; answers = said_ended c end bytes }
 
-some_none : {A B : Type 0} (x : A) → Some x ≡ None → B
+pub some_none : {A B : Type 0} (x : A) → Some x ≡ None → B
 some_none x e = absurd (let none : ⊥ = cc in none)
 
 abbrev fresh : Chip → Live

@@ -1,4 +1,4 @@
--- What no byte changes of a chip's schedule: its list of rounds, and whether the harts have had just the turns that these offered.
+-- What no byte changes of a chip's schedule and of its limit: the list of rounds, whether the harts have had just the turns that these offered, and the most points.
 use Rattle.std.proofs.Common.{◌≡◌, ℕ, zero, suc, ◌+◌, ◌<◌, ◌≤◌, ◌&&◌, Bool, true, false, List, [], ◌∷◌, ◌++◌, length, Option, Some, None, refl, sym, ap, ◌∙◌, add-one, arith, inl, inr}
 use Rattle.std.proofs.lemmas.Bool.{and_parts, cases_lt, le-ltb, lt-ltb}
 use Rattle.std.proofs.lemmas.List.{append_cancel_right}
@@ -6,10 +6,12 @@ use Rattle.std.proofs.lemmas.Slice.Eq.{bytes_eq-Decides}
 use Rattle.std.specs.Bool.{one_answer}
 use Rattle.std.specs.Cmp.{unsigned_Decides}
 use Rattle.debug_model.specs.declared.chip_end.ChipEnd.{ChipEnd}
+use Rattle.debug_model.specs.declared.dmi_op.DmiOp.{DmiOp}
 use Rattle.debug_model.specs.declared.event.Event.{Event}
+use Rattle.debug_model.specs.declared.event.Event.TheVariants.{Turn, DmiDone, DmiFail, CmdStep, BusDone}
 use Rattle.debug_model.specs.declared.sign.Sign.{Sign}
 use Rattle.debug_model.specs.declared.sign.Sign.TheVariants.{Pins, Ask, Light, Reset, Quit}
-use Rattle.debug_model.specs.Chip.{Chip, Inside, Live, Works, after, after_events, counted, end_of, feed, pins, rise, signed, taken_by, tick, unless_ended, works_risen}
+use Rattle.debug_model.specs.Chip.{Chip, Inside, Live, Works, after, after_event, after_events, counted, end_of, feed, lost_by, performed_by, pins, rise, signed, taken_by, tick, unless_ended, works_risen}
 use Rattle.debug_model.specs.Offered.{HasOfferedTurns, first_rounds, has_offered_turns, moved_on, offered, timing_of}
 use Rattle.debug_model.specs.Port.{Port, rise_finds_busy}
 use Rattle.debug_model.specs.Schedule.{RoundPlan, at_start, following, moved, round_of}
@@ -82,11 +84,36 @@ timing_decides c =
       λ is. both_parts _ _ ((unsigned_Decides _ _).1 (ap (λ (p : RoundPlan). p.place) is.plan)) ((bytes_eq-Decides _ _).1 is.turns),
     )
 
-same_timing : (c d : Chip) → d.inside.plan.rounds ≡ c.inside.plan.rounds → (HasOfferedTurns c → HasOfferedTurns d) → (HasOfferedTurns d → HasOfferedTurns c) → timing_of d ≡ timing_of c
-same_timing c d rounds there back =
+same_timing : (c d : Chip) → d.inside.plan.rounds ≡ c.inside.plan.rounds → d.inside.works.most_points ≡ c.inside.works.most_points → (HasOfferedTurns c → HasOfferedTurns d) → (HasOfferedTurns d → HasOfferedTurns c) → timing_of d ≡ timing_of c
+same_timing c d rounds limit there back =
     let same : has_offered_turns d ≡ has_offered_turns c =
     one_answer (has_offered_turns d) (has_offered_turns c) (timing_decides d) (λ e. there ((timing_decides c).0 e), λ is. (timing_decides c).1 (back is)) in
-    ap (λ r. record { rounds = r; offered = has_offered_turns d }) rounds ∙ ap (λ b. record { rounds = c.inside.plan.rounds; offered = b }) same
+    ap (λ r. record { rounds = r; offered = has_offered_turns d; most_points = d.inside.works.most_points }) rounds
+    ∙ ap (λ b. record { rounds = c.inside.plan.rounds; offered = b; most_points = d.inside.works.most_points }) same
+    ∙ ap (λ n. record { rounds = c.inside.plan.rounds; offered = has_offered_turns c; most_points = n }) limit
+
+-- ---- the limit
+
+done_limit : (flight : Option DmiOp) (w : Works) → (performed_by flight w).most_points ≡ w.most_points
+done_limit None w = refl
+done_limit (Some op) w = refl
+
+lost_limit : (flight : Option DmiOp) (w : Works) → (lost_by flight w).most_points ≡ w.most_points
+lost_limit None w = refl
+lost_limit (Some op) w = refl
+
+event_limit : (e : Event) (w : Works) → (after_event e w).most_points ≡ w.most_points
+unfolding after_event
+event_limit (Turn h) w = refl
+event_limit DmiDone w = done_limit w.dtm.flight w
+event_limit DmiFail w = lost_limit w.dtm.flight w
+event_limit CmdStep w = refl
+event_limit BusDone w = refl
+
+events_limit : (es : List Event) (w : Works) → (after_events es w).most_points ≡ w.most_points
+unfolding after_events
+events_limit [] w = refl
+events_limit (e ∷ es) w = events_limit es (after_event e w) ∙ event_limit e w
 
 -- ---- rounds
 
@@ -117,10 +144,14 @@ tick_rounds : (i : Inside) → (tick i).plan.rounds ≡ i.plan.rounds
 unfolding tick
 tick_rounds i = refl
 
+tick_limit : (i : Inside) → (tick i).works.most_points ≡ i.works.most_points
+unfolding tick
+tick_limit i = events_limit (round_of i.plan) (counted i.works)
+
 tick_timing : (tck tck' : Bool) (port port' : Port) (i : Inside) → timing_of (record { tck = tck'; port = port'; inside = tick i }) ≡ timing_of (record { tck = tck; port = port; inside = i })
 unfolding tick
 tick_timing tck tck' port port' i =
-    same_timing (record { tck = tck; port = port; inside = i }) (record { tck = tck'; port = port'; inside = tick i }) (tick_rounds i)
+    same_timing (record { tck = tck; port = port; inside = i }) (record { tck = tck'; port = port'; inside = tick i }) (tick_rounds i) (tick_limit i)
     (tick_offered (at_start i.plan) tck tck' port port' i) (tick_back tck tck' port port' i)
 
 works_timing : (c : Chip) → timing_of (record c { inside = record c.inside { works = works_risen c.port c.inside.works } }) ≡ timing_of c
@@ -128,7 +159,7 @@ works_timing c =
     let d : Chip = record c { inside = record c.inside { works = works_risen c.port c.inside.works } } in
     let rounds : d.inside.works.counts.rounds ≡ c.inside.works.counts.rounds = busy_rounds (rise_finds_busy c.port c.inside.works.dtm) c.inside.works.counts in
     let first : RoundPlan = at_start c.inside.plan in
-    same_timing c d refl (works_offered first c) (λ is. record {
+    same_timing c d refl refl (works_offered first c) (λ is. record {
       turns = is.turns ∙ ap (λ r. offered (length c.inside.works.site.board.harts) (first_rounds r first)) rounds;
       plan = is.plan ∙ ap (λ r. moved_on r first) rounds;
     })

@@ -124,12 +124,12 @@ feeds_offer first l bytes is = feed_offered first bytes l is
 
 -- ---- a loaded chip
 
-pub board_offers : (board : Board) (plan : RoundPlan) → TurnsOffered plan (loaded_chip board plan)
+pub board_offers : (board : Board) (plan : RoundPlan) (most_points : ℕ) → TurnsOffered plan (loaded_chip board plan most_points)
 unfolding turns_of offered first_rounds moved_on
-board_offers board plan = record { turns = refl; plan = refl }
+board_offers board plan most_points = record { turns = refl; plan = refl }
 
 plan_offers : (l : Live) → AsLoaded l → TurnsOffered l.chip.inside.plan l.chip
-plan_offers l a = subst (λ (m : Live). TurnsOffered m.chip.inside.plan m.chip) (sym a.is) (board_offers _ _)
+plan_offers l a = subst (λ (m : Live). TurnsOffered m.chip.inside.plan m.chip) (sym a.is) (board_offers _ _ _)
 
 pub at_its_start : (l : Live) → AsLoaded l → at_start l.chip.inside.plan ≡ l.chip.inside.plan
 at_its_start l a = subst (λ (m : Live). at_start m.chip.inside.plan ≡ m.chip.inside.plan) (sym a.is) (ap (λ place. record a.plan { place = place }) (sym a.first))

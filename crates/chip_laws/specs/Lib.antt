@@ -3,3 +3,6 @@ pub mod ModuleLaws
 pub mod StreamLaws
 pub mod TurnLaws
 pub mod TapLaws
+pub mod CommandLaws
+pub mod BusLaws
+pub mod TransportLaws

@@ -1,16 +1,23 @@
 -- Laws of the debug module in the standard's words: who may ask a hart, what a read leaves, and whom a command touches.
 -- RISC-V Debug Specification 1.0, "Selecting Harts", "Run Control" and "Abstract Commands".
-use Rattle.std.specs.Prelude.{◌≡◌, ◌≢◌, ℕ, ⊤, false, length, Some, slice_get}
+use Rattle.std.specs.Prelude.{◌≡◌, ◌≢◌, ℕ, ⊤, ◌<◌, true, false, List, length, Some, None, slice_get}
+use Rattle.std.specs.Option.{option_map_or}
 use Rattle.rv_model.specs.declared.cause.Cause.{Cause}
-use Rattle.rv_model.specs.Board.{Hart}
+use Rattle.rv_model.specs.Board.{Board, Hart}
+use Rattle.rv_model.specs.Fields.{bit}
 use Rattle.rv_model.specs.Memory.{Memory}
 use Rattle.rv_model.specs.Turn.{memory_after, place_of}
 use Rattle.debug_model.specs.declared.dmi_op.DmiOp.{DmiOp}
 use Rattle.debug_model.specs.declared.dmi_op.DmiOp.TheVariants.{Read, Write}
 use Rattle.debug_model.specs.declared.module_register.ModuleRegister.{ModuleRegister}
-use Rattle.debug_model.specs.declared.module_register.ModuleRegister.TheVariants.{Word, Dmcontrol, Dmstatus, Abstractcs, Command, Abstractauto, Sbcs, Sbaddress0, Sbaddress1, Sbdata0, Sbdata1, Haltsum0, Nothing}
+use Rattle.debug_model.specs.declared.module_register.ModuleRegister.TheVariants.{Word, Dmcontrol, Dmstatus, Abstractcs, Command, Abstractauto, Sbcs}
+use Rattle.debug_model.specs.declared.module_register.ModuleRegister.TheVariants.{Sbaddress0, Sbaddress1, Sbdata0, Sbdata1, Haltsum0, Nothing}
+use Rattle.debug_model.specs.declared.point.Point.TheVariants.{ResumeReq}
+use Rattle.debug_model.specs.Commands.{busy}
 use Rattle.debug_model.specs.Deeds.{command_stepped}
-use Rattle.debug_model.specs.Module.{Site, after_read, operated, register_at}
+use Rattle.debug_model.specs.Journal.{after_point}
+use Rattle.debug_model.specs.Module.{Site, after_read, controlled, group_size, haltsum, is_halted, operated, register_at, reset_module}
+use Rattle.debug_model.specs.ModuleWords.{dmcontrol_of}
 
 -- ---- harts are asked by dmcontrol alone
 
@@ -62,3 +69,25 @@ pub record Rests (hart : Hart) (m : Memory) : Type 0 where
 
 abbrev pub ServedHartsRest : Type 0
 ServedHartsRest = (hart : Hart) (m : Memory) (why : Cause) → hart.debug.halted ≡ Some why → hart.debug.resume_request ≡ false → Rests hart m
+
+-- ---- dmcontrol
+
+-- while a command is under way a write of dmcontrol is ignored, but one with dmactive 0 resets the module all the same; harts and journal stay
+pub record DmcontrolWhileBusy (v : ℕ) (s : Site) : Type 0 where
+  pub ignored : (dmcontrol_of v).dmactive ≡ true → controlled v s ≡ s
+  pub resets : (dmcontrol_of v).dmactive ≡ false → controlled v s ≡ record s { unit = reset_module }
+
+abbrev pub BusyModulesIgnoreDmcontrol : Type 0
+BusyModulesIgnoreDmcontrol = (v : ℕ) (s : Site) → busy s.unit.commands ≡ true → DmcontrolWhileBusy v s
+
+-- a resume that is asked of a running hart takes away the ack of an earlier one, and is not kept
+abbrev pub RunningHartsKeepNoResume : Type 0
+RunningHartsKeepNoResume = (h : ℕ) (b : Board) (hart : Hart) → slice_get b.harts h ≡ Some hart → hart.debug.halted ≡ None
+    → slice_get (after_point (ResumeReq h) b).harts h ≡ Some (record hart { debug = record hart.debug { resume_ack = false } })
+
+-- ---- haltsum0
+
+-- of the selected group of 32 harts, bit h is set exactly where hart h is there and halted
+abbrev pub HaltsumShowsHaltedHarts : Type 0
+HaltsumShowsHaltedHarts = (selected : ℕ) (harts : List Hart) (h : ℕ) → selected < group_size
+    → bit h (haltsum selected harts) ≡ option_map_or is_halted (slice_get harts h) false

@@ -7,7 +7,8 @@ use Rattle.debug_model.specs.declared.data_register.DataRegister.TheVariants.{Id
 use Rattle.debug_model.specs.declared.sign.Sign.{Sign}
 use Rattle.debug_model.specs.declared.sign.Sign.TheVariants.{Pins, Ask, Light, Reset, Quit}
 use Rattle.debug_model.specs.declared.tap_state.TapState.{TapState}
-use Rattle.debug_model.specs.declared.tap_state.TapState.TheVariants.{TestLogicReset, CaptureDr, ShiftDr, Exit1Dr, PauseDr, Exit2Dr, UpdateDr, CaptureIr, ShiftIr, Exit1Ir, PauseIr, Exit2Ir, UpdateIr}
+use Rattle.debug_model.specs.declared.tap_state.TapState.TheVariants.{TestLogicReset, CaptureDr, ShiftDr, Exit1Dr, PauseDr, Exit2Dr, UpdateDr, CaptureIr}
+use Rattle.debug_model.specs.declared.tap_state.TapState.TheVariants.{ShiftIr, Exit1Ir, PauseIr, Exit2Ir, UpdateIr}
 use Rattle.debug_model.specs.Chip.{Chip, Live, feed, run, said, signed}
 use Rattle.debug_model.specs.Loaded.{live}
 use Rattle.debug_model.specs.Port.{Port, data_register_of, port_fallen, port_held, port_risen}

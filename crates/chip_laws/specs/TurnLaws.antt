@@ -15,7 +15,7 @@ LoadedChipsOffer = (l : Live) → AsLoaded l → HasOfferedTurns l.chip
 abbrev pub FeedsOfferTurns : Type 0
 FeedsOfferTurns = (first : RoundPlan) (l : Live) (bytes : List ℕ) → TurnsOffered first l.chip → TurnsOffered first (feed l bytes).chip
 
--- no byte changes the schedule's list, nor whether the harts have had just the turns that it offered from its first round on
+-- no byte changes the schedule's list, nor whether the harts have had just the turns that it offered from its first round on, nor the chip's limit
 abbrev pub FeedsKeepTiming : Type 0
 FeedsKeepTiming = (l : Live) (bytes : List ℕ) → timing_of (feed l bytes).chip ≡ timing_of l.chip
 

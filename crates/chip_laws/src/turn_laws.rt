@@ -12,7 +12,7 @@ pub fn feeds_offer_turns()
     ensures { FeedsOfferTurns }
 {}
 
-/// Whatever bytes are fed, the schedule's list stays, and whether the harts have had just the turns that it offered.
+/// Whatever bytes are fed, the schedule's list stays, whether the harts have had just the turns that it offered, and the chip's limit of points.
 pub fn feeds_keep_timing()
     ensures { FeedsKeepTiming }
 {}

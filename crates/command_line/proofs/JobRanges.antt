@@ -9,7 +9,7 @@ use Rattle.command_line.specs.declared.job.Job.{Job}
 use Rattle.command_line.specs.declared.fault.WordsFault.{WordsFault}
 use Rattle.command_line.specs.Job.{Gives, InputsValue, JobValue, Text, job_value}
 use Rattle.command_line.specs.Options.{both_command, chip_command, probe_command}
-use Rattle.command_line.specs.WrittenJob.{◌>>=◌, HasRanges, InRange, both_from, both_in, both_of, busy_unsaid, chip_from, chip_in, chip_of, flag_in, harts_unsaid, inputs_in, job_by, job_of, least_busy, least_piece, most_busy, number_in, options_from, options_in, piece_unsaid, probe_from, probe_in, probe_of, ram_unsaid, ranged_in, rows_in, seed_unsaid, value_in, within}
+use Rattle.command_line.specs.WrittenJob.{◌>>=◌, HasRanges, InRange, OptionsInRange, both_from, both_in, both_of, busy_unsaid, chip_from, chip_in, chip_of, events_unsaid, flag_in, harts_unsaid, inputs_in, job_by, job_of, least_busy, least_events, least_piece, most_busy, most_events, number_in, options_from, options_in, piece_unsaid, probe_from, probe_in, probe_of, ram_unsaid, ranged_in, rows_in, seed_unsaid, value_in, within}
 
 none : {A : Type 0} {B : Type 0} (x : A) → None ≡ Some x → B
 none x e = absurd (none-some x e)
@@ -27,26 +27,36 @@ ranged_is : (rows : List Row) (name : Text) (unsaid least most n : ℕ) → rang
 unfolding ranged_in
 ranged_is rows name unsaid least most n e = ranged_by least most n (number_in rows name unsaid) e
 
-busy_is : (harts ram seed busy : Option ℕ) (halted : Bool) (options : ChipOptions) → options_from harts ram seed busy halted ≡ Some options → busy ≡ Some options.busy
-busy_is (Some h) (Some r) (Some s) (Some b) halted options e = ap (λ (o : ChipOptions). Some o.busy) (same_Some _ options e)
-busy_is (Some h) (Some r) (Some s) None halted options e = none options e
-busy_is (Some h) (Some r) None busy halted options e = none options e
-busy_is (Some h) None seed busy halted options e = none options e
-busy_is None ram seed busy halted options e = none options e
+record Said (busy events : Option ℕ) (options : ChipOptions) : Type 0 where
+  busy_is : busy ≡ Some options.busy
+  events_is : events ≡ Some options.events
 
-options_range : (rows : List Row) (options : ChipOptions) → options_in rows ≡ Some options → InRange least_busy most_busy options.busy
+said_are : (harts ram seed busy events : Option ℕ) (halted : Bool) (options : ChipOptions) → options_from harts ram seed busy events halted ≡ Some options → Said busy events options
+said_are (Some h) (Some r) (Some s) (Some b) (Some n) halted options e =
+    record { busy_is = ap (λ (o : ChipOptions). Some o.busy) (same_Some _ options e); events_is = ap (λ (o : ChipOptions). Some o.events) (same_Some _ options e) }
+said_are (Some h) (Some r) (Some s) (Some b) None halted options e = none options e
+said_are (Some h) (Some r) (Some s) None events halted options e = none options e
+said_are (Some h) (Some r) None busy events halted options e = none options e
+said_are (Some h) None seed busy events halted options e = none options e
+said_are None ram seed busy events halted options e = none options e
+
+options_range : (rows : List Row) (options : ChipOptions) → options_in rows ≡ Some options → OptionsInRange options
 unfolding options_in
-options_range rows options e = ranged_is rows (codes "busy") busy_unsaid least_busy most_busy options.busy
-    (busy_is (number_in rows (codes "harts") harts_unsaid) (number_in rows (codes "ram") ram_unsaid) (number_in rows (codes "seed") seed_unsaid)
-    (ranged_in rows (codes "busy") busy_unsaid least_busy most_busy) (flag_in rows (codes "halted")) options e)
+options_range rows options e =
+    let said = said_are (number_in rows (codes "harts") harts_unsaid) (number_in rows (codes "ram") ram_unsaid) (number_in rows (codes "seed") seed_unsaid)
+    (ranged_in rows (codes "busy") busy_unsaid least_busy most_busy) (ranged_in rows (codes "events") events_unsaid least_events most_events) (flag_in rows (codes "halted")) options e in
+    record {
+      busy = ranged_is rows (codes "busy") busy_unsaid least_busy most_busy options.busy said.busy_is;
+      events = ranged_is rows (codes "events") events_unsaid least_events most_events options.events said.events_is;
+    }
 
 both_ranges_by : (inputs : Option InputsValue) (options : Option ChipOptions) (piece : Option ℕ) (loopback : Bool) (v : JobValue)
-    → ((o : ChipOptions) → options ≡ Some o → InRange least_busy most_busy o.busy) → ((n : ℕ) → piece ≡ Some n → InRange least_piece piece_most n)
+    → ((o : ChipOptions) → options ≡ Some o → OptionsInRange o) → ((n : ℕ) → piece ≡ Some n → InRange least_piece piece_most n)
     → both_from inputs options piece loopback ≡ Some v → HasRanges v
-both_ranges_by (Some i) (Some o) (Some n) loopback v busy small e = subst HasRanges (same_Some _ v e) (small n refl, busy o refl)
-both_ranges_by (Some i) (Some o) None loopback v busy small e = none v e
-both_ranges_by (Some i) None piece loopback v busy small e = none v e
-both_ranges_by None options piece loopback v busy small e = none v e
+both_ranges_by (Some i) (Some o) (Some n) loopback v ranges small e = subst HasRanges (same_Some _ v e) (small n refl, ranges o refl)
+both_ranges_by (Some i) (Some o) None loopback v ranges small e = none v e
+both_ranges_by (Some i) None piece loopback v ranges small e = none v e
+both_ranges_by None options piece loopback v ranges small e = none v e
 
 both_ranges : (rows : List Row) (v : JobValue) → both_in rows ≡ Some v → HasRanges v
 unfolding both_in
@@ -62,11 +72,11 @@ probe_ranges : (rows : List Row) (v : JobValue) → probe_in rows ≡ Some v →
 unfolding probe_in
 probe_ranges rows v e = probe_ranges_by (value_in rows (codes "at")) (value_in rows (codes "script")) v e
 
-chip_ranges_by : (at image : Option Text) (options : Option ChipOptions) (v : JobValue) → ((o : ChipOptions) → options ≡ Some o → InRange least_busy most_busy o.busy) → chip_from at image options ≡ Some v → HasRanges v
-chip_ranges_by (Some a) (Some i) (Some o) v busy e = subst HasRanges (same_Some _ v e) (busy o refl)
-chip_ranges_by (Some a) (Some i) None v busy e = none v e
-chip_ranges_by (Some a) None options v busy e = none v e
-chip_ranges_by None image options v busy e = none v e
+chip_ranges_by : (at image : Option Text) (options : Option ChipOptions) (v : JobValue) → ((o : ChipOptions) → options ≡ Some o → OptionsInRange o) → chip_from at image options ≡ Some v → HasRanges v
+chip_ranges_by (Some a) (Some i) (Some o) v ranges e = subst HasRanges (same_Some _ v e) (ranges o refl)
+chip_ranges_by (Some a) (Some i) None v ranges e = none v e
+chip_ranges_by (Some a) None options v ranges e = none v e
+chip_ranges_by None image options v ranges e = none v e
 
 chip_ranges : (rows : List Row) (v : JobValue) → chip_in rows ≡ Some v → HasRanges v
 unfolding chip_in

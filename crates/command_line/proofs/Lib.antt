@@ -4,3 +4,4 @@ pub mod JobLemmas
 pub mod JobRanges
 pub mod RangeLemmas
 pub mod RowLemmas
+pub mod Whys

@@ -1,3 +1,4 @@
 pub mod Job
 pub mod Options
 pub mod WrittenJob
+pub mod Why

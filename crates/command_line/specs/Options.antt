@@ -7,7 +7,7 @@ use Rattle.clap.specs.declared.builder.action.ArgAction.TheVariants.{SetTrue}
 use Rattle.command_line.specs.Job.{Text}
 
 abbrev pub both_options : List Text
-both_options = codes "image" ∷ codes "script" ∷ codes "gen" ∷ codes "harts" ∷ codes "ram" ∷ codes "seed" ∷ codes "busy" ∷ codes "piece" ∷ []
+both_options = codes "image" ∷ codes "script" ∷ codes "gen" ∷ codes "harts" ∷ codes "ram" ∷ codes "seed" ∷ codes "busy" ∷ codes "events" ∷ codes "piece" ∷ []
 
 abbrev pub both_flags : List Text
 both_flags = codes "halted" ∷ codes "loopback" ∷ []
@@ -19,7 +19,7 @@ abbrev pub probe_flags : List Text
 probe_flags = []
 
 abbrev pub chip_options : List Text
-chip_options = codes "at" ∷ codes "image" ∷ codes "harts" ∷ codes "ram" ∷ codes "seed" ∷ codes "busy" ∷ []
+chip_options = codes "at" ∷ codes "image" ∷ codes "harts" ∷ codes "ram" ∷ codes "seed" ∷ codes "busy" ∷ codes "events" ∷ []
 
 abbrev pub chip_flags : List Text
 chip_flags = codes "halted" ∷ []

@@ -1,9 +1,11 @@
 -- The job that words write, or none: the first word names the program, and the rest are the options of its command.
 -- The words are this project's own (docs/FORMATS.md, "Words"); which words a command takes, and what it finds in them, is what the crate `clap` says.
-use Rattle.std.specs.Prelude.{◌≤◌, ℕ, Bool, false, ◌&&◌, nat_le, List, [], ◌∷◌, codes, bytes_eq, Option, Some, None, option_map, Result, Ok, Err, if◌then◌else◌}
+use Rattle.std.specs.Prelude.{◌≤◌, ◌^◌, ℕ, ◌&&◌, nat_le}
+use Rattle.std.specs.Prelude.{Bool, false, List, [], ◌∷◌, codes, bytes_eq, Option, Some, None, option_map, Result, Ok, Err, if◌then◌else◌}
 use Rattle.std.specs.Borrow.{Bor}
 use Rattle.clap.specs.Words.{App, Kinds, Row, fault_of, first_of, found_of, matches_of, rows_of}
 use Rattle.clap.specs.declared.parser.matches.ArgMatches.{ArgMatches}
+use Rattle.debug_model.specs.Loaded.{usual_points}
 use Rattle.debug_model.specs.ScriptNumber.{number_read}
 use Rattle.debug_model.specs.Wire.{piece_most}
 use Rattle.debug_model.specs.declared.script_error.ScriptFault.{ScriptFault}
@@ -28,6 +30,15 @@ least_busy = 1
 
 abbrev pub most_busy : ℕ
 most_busy = 32
+
+abbrev pub events_unsaid : ℕ
+events_unsaid = usual_points
+
+abbrev pub least_events : ℕ
+least_events = 1
+
+abbrev pub most_events : ℕ
+most_events = 2 ^ 62
 
 abbrev pub least_piece : ℕ
 least_piece = 1
@@ -92,19 +103,20 @@ within least most number = if nat_le least number && nat_le number most then Som
 unfoldable pub ranged_in : List Row → Text → ℕ → ℕ → ℕ → Option ℕ
 ranged_in rows name unsaid least most = number_in rows name unsaid >>= within least most
 
-abbrev pub options_from : Option ℕ → Option ℕ → Option ℕ → Option ℕ → Bool → Option ChipOptions
-options_from said_harts said_ram said_seed said_busy halted = do
+abbrev pub options_from : Option ℕ → Option ℕ → Option ℕ → Option ℕ → Option ℕ → Bool → Option ChipOptions
+options_from said_harts said_ram said_seed said_busy said_events halted = do
   harts ← said_harts
   ram ← said_ram
   seed ← said_seed
   busy ← said_busy
-  Some (record { harts = harts; ram = ram; halted = halted; seed = seed; busy = busy })
+  events ← said_events
+  Some (record { harts = harts; ram = ram; halted = halted; seed = seed; busy = busy; events = events })
 
 -- the options of a chip
 unfoldable pub options_in : List Row → Option ChipOptions
 options_in rows = options_from (number_in rows (codes "harts") harts_unsaid) (number_in rows (codes "ram") ram_unsaid)
     (number_in rows (codes "seed") seed_unsaid) (ranged_in rows (codes "busy") busy_unsaid least_busy most_busy)
-    (flag_in rows (codes "halted"))
+    (ranged_in rows (codes "events") events_unsaid least_events most_events) (flag_in rows (codes "halted"))
 
 -- an image and a script without a number, or a number alone
 abbrev pub inputs_from : Option Text → Option Text → Option Text → Option InputsValue
@@ -175,8 +187,12 @@ pub record InRange (least most n : ℕ) : Type 0 where
   pub low : least ≤ n
   pub high : n ≤ most
 
+pub record OptionsInRange (options : ChipOptions) : Type 0 where
+  pub busy : InRange least_busy most_busy options.busy
+  pub events : InRange least_events most_events options.events
+
 -- the numbers of a job that have a range are within it; of the others `load` judges
 abbrev pub HasRanges : JobValue → Type 0
-HasRanges (both inputs options piece loopback) = InRange least_piece piece_most piece × InRange least_busy most_busy options.busy
+HasRanges (both inputs options piece loopback) = InRange least_piece piece_most piece × OptionsInRange options
 HasRanges (probe at script) = Unit {0}
-HasRanges (chip at image options) = InRange least_busy most_busy options.busy
+HasRanges (chip at image options) = OptionsInRange options

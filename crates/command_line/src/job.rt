@@ -49,4 +49,6 @@ pub struct ChipOptions {
     pub seed: u64,
     /// In how many rounds each event of the schedule comes once, from 1 to 32.
     pub busy: u8,
+    /// The chip's limit of events: how many points a rise of TCK may find, from 1 to 2^62.
+    pub events: u64,
 }

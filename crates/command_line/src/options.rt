@@ -17,6 +17,8 @@ use std::alloc::{AllocError, Global};
 pub(crate) const AT: &str = "at";
 /// The most rounds between two events of a kind.
 pub(crate) const BUSY: &str = "busy";
+/// The most points that a rise of TCK may find.
+pub(crate) const EVENTS: &str = "events";
 /// The number from which image and script are made.
 pub(crate) const GEN: &str = "gen";
 /// Whether the harts stand halted at the start.
@@ -36,13 +38,13 @@ pub(crate) const SCRIPT: &str = "script";
 /// The number from which the schedule is made.
 pub(crate) const SEED: &str = "seed";
 
-static BOTH_OPTIONS: [&str; 8] = [IMAGE, SCRIPT, GEN, HARTS, RAM, SEED, BUSY, PIECE];
+static BOTH_OPTIONS: [&str; 9] = [IMAGE, SCRIPT, GEN, HARTS, RAM, SEED, BUSY, EVENTS, PIECE];
 
 static BOTH_FLAGS: [&str; 2] = [HALTED, LOOPBACK];
 
 static PROBE_OPTIONS: [&str; 2] = [AT, SCRIPT];
 
-static CHIP_OPTIONS: [&str; 6] = [AT, IMAGE, HARTS, RAM, SEED, BUSY];
+static CHIP_OPTIONS: [&str; 7] = [AT, IMAGE, HARTS, RAM, SEED, BUSY, EVENTS];
 
 static CHIP_FLAGS: [&str; 1] = [HALTED];
 

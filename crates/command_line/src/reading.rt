@@ -19,7 +19,7 @@ use std::alloc::Global;
 /// The most bytes of a piece of the stream, where the words give none.
 const PIECE_UNSAID: u64 = PIECE_MOST as u64;
 
-const PIECE_LEAST: u64 = 1;
+pub(crate) const PIECE_LEAST: u64 = 1;
 
 /// The job that the words after the program's name write.
 ///
@@ -148,7 +148,7 @@ fn matches_of<'a>(command: Command<'a>, words: &'a [String]) -> Result<ArgMatche
 }
 
 /// The fault of an error.
-fn fault_by(error: &Error) -> WordsFault
+pub(crate) fn fault_by(error: &Error) -> WordsFault
     ensures { result ≡ WordsFault.Refused → kind_of error.now ≢ OutOfMemory }
 {
     match error.kind() {

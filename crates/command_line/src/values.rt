@@ -4,8 +4,9 @@ ghost use Rattle.command_line.specs.WrittenJob.{flag_in, inputs_from, inputs_in,
 
 use crate::fault::WordsFault;
 use crate::job::{ChipOptions, Inputs};
-use crate::options::{BUSY, GEN, HALTED, HARTS, IMAGE, RAM, SCRIPT, SEED};
+use crate::options::{BUSY, EVENTS, GEN, HALTED, HARTS, IMAGE, RAM, SCRIPT, SEED};
 use clap::ArgMatches;
+use debug_model::{POINTS_HIGHEST, POINTS_USUAL};
 use script_lang::read_number;
 use std::alloc::Global;
 use std::ops::RangeInclusive;
@@ -19,9 +20,11 @@ const SEED_UNSAID: u64 = 0;
 /// The most rounds between two events of a kind, where the words give none.
 const BUSY_UNSAID: u64 = 1;
 
-const BUSY_LEAST: u64 = 1;
+pub(crate) const BUSY_LEAST: u64 = 1;
 
-const BUSY_MOST: u64 = 32;
+pub(crate) const BUSY_MOST: u64 = 32;
+
+pub(crate) const EVENTS_LEAST: u64 = 1;
 
 /// The value of an option, where it was given.
 pub(crate) fn value<'a>(matches: &ArgMatches<'a>, name: &str) -> Option<&'a str>
@@ -54,7 +57,7 @@ pub(crate) fn flag(matches: &ArgMatches, name: &str) -> bool
 
 /// The number that a word writes.
 #[tactic(auto, unfolding(crate::specs::WrittenJob::number_of))]
-fn number_of(word: &str) -> Result<u64, WordsFault>
+pub(crate) fn number_of(word: &str) -> Result<u64, WordsFault>
     ensures { Gives (λ number. number) result (number_of word.now) }
 {
     match read_number(word.as_bytes()) {
@@ -101,12 +104,14 @@ pub(crate) fn chip_options(matches: &ArgMatches) -> Result<ChipOptions, WordsFau
     let ram = number_in(matches, RAM, RAM_UNSAID)?;
     let seed = number_in(matches, SEED, SEED_UNSAID)?;
     let busy = ranged(matches, BUSY, BUSY_UNSAID, BUSY_LEAST, BUSY_MOST)?;
+    let events = ranged(matches, EVENTS, POINTS_USUAL, EVENTS_LEAST, POINTS_HIGHEST)?;
     Ok(ChipOptions {
         harts,
         ram,
         halted: flag(matches, HALTED),
         seed,
         busy: busy as u8,
+        events,
     })
 }
 

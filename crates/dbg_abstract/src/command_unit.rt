@@ -33,7 +33,19 @@ impl Model for CommandUnit {
 
     ghost Value = { CommandUnit };
 
-    ghost view = { λ u. record { data0 = u.data0; data1 = u.data1; progbuf0 = u.progbuf0; progbuf1 = u.progbuf1; progbuf2 = u.progbuf2; progbuf3 = u.progbuf3; auto = u.auto; command = u.command; error = u.error; steps = u.steps.items; late = u.late } };
+    ghost view = { λ u. record {
+      data0 = u.data0;
+      data1 = u.data1;
+      progbuf0 = u.progbuf0;
+      progbuf1 = u.progbuf1;
+      progbuf2 = u.progbuf2;
+      progbuf3 = u.progbuf3;
+      auto = u.auto;
+      command = u.command;
+      error = u.error;
+      steps = u.steps.items;
+      late = u.late;
+    } };
 }
 
 impl CommandUnit {

@@ -4,7 +4,9 @@ ghost use Rattle.std.specs.Prelude.{◌≡◌, Some};
 ghost use Rattle.rv_model.specs.Memory.{after_store, is_aligned, loaded, store_answer};
 ghost use Rattle.debug_model.specs.Commands.{high_half, low_half};
 ghost use Rattle.debug_model.specs.ModuleWords.{sbcs_word};
-ghost use Rattle.debug_model.specs.SystemBus.{access_size, bus_busy, bus_done, bus_done_by, bus_looked, bus_read_by, bus_started, bus_wrote_by, grown, is_clear, reset_bus, sbaddress0_written, sbaddress1_written, sbcs_shown, sbcs_written, sbdata0_read, sbdata0_written, sbdata1_written};
+ghost use Rattle.debug_model.specs.SystemBus.{access_size, bus_busy, bus_done, bus_done_by, bus_looked, bus_read_by, bus_started, bus_wrote_by, grown};
+ghost use Rattle.debug_model.specs.SystemBus.{is_clear, reset_bus, sbaddress0_written, sbaddress1_written, sbcs_shown, sbcs_written, sbdata0_read};
+ghost use Rattle.debug_model.specs.SystemBus.{sbdata0_written, sbdata1_written};
 
 use crate::halves::{high_half, joined_halves, low_half};
 use debug_model::{BusAccess, Sbcs, Sberror};
@@ -43,7 +45,17 @@ impl Model for BusUnit {
 
     ghost Value = { BusUnit };
 
-    ghost view = { λ u. record { readonaddr = u.reads_on_address; access = u.access; autoincrement = u.autoincrement; readondata = u.reads_on_data; error = u.error; busyerror = u.busy_error; address = u.address; value = u.value; pending = u.pending } };
+    ghost view = { λ u. record {
+      readonaddr = u.reads_on_address;
+      access = u.access;
+      autoincrement = u.autoincrement;
+      readondata = u.reads_on_data;
+      error = u.error;
+      busyerror = u.busy_error;
+      address = u.address;
+      value = u.value;
+      pending = u.pending;
+    } };
 }
 
 /// The size that `sbaccess` names, none above 8 bytes.

@@ -1,6 +1,6 @@
 -- The chip: pins, the TAP with its transport, the debug module, harts and memory, the journal, the schedule and counts; and the fold of the stream's bytes.
 -- OpenOCD, remote_bitbang, for the bytes; IEEE 1149.1 for the edges of TCK. That harts and module go on by rounds, one at each rise of TCK, and the
--- limits of journal and rounds, are this project's own choices.
+-- limits of points and rounds, are this project's own choices.
 use Rattle.std.specs.Prelude.{ℕ, ◌+◌, ◌^◌, List, [], ◌∷◌, ◌++◌, length, Bool, true, false, not, ◌||◌, if◌then◌else◌, nat_lt, Option, Some, None}
 use Rattle.debug_model.specs.declared.counts.Counts.{Counts}
 use Rattle.debug_model.specs.declared.dmi_op.DmiOp.{DmiOp}
@@ -20,11 +20,12 @@ use Rattle.debug_model.specs.Transport.{Dtm, finished, dropped}
 abbrev pub no_counts : Counts
 no_counts = record { rounds = 0; dmi_done = 0; dmi_busy = 0; dmi_failed = 0 }
 
--- what the events of a round change
+-- what the events of a round change, and the chip's limit, which nothing changes
 pub record Works : Type 0 where
   pub dtm : Dtm
   pub site : Site
   pub counts : Counts
+  pub most_points : ℕ  -- a rise of TCK that finds more points than this takes nothing
 
 -- all of a chip but its pins and its TAP
 pub record Inside : Type 0 where
@@ -40,7 +41,7 @@ pub record Chip : Type 0 where
 -- ---- one event
 
 abbrev pub performed_by : Option DmiOp → Works → Works
-performed_by (Some op) w = record {
+performed_by (Some op) w = record w {
   dtm = finished (operation_result op w.site) w.dtm;
   site = operated op w.site;
   counts = record w.counts { dmi_done = w.counts.dmi_done + 1 };
@@ -148,16 +149,13 @@ pub record Live : Type 0 where
   pub chip : Chip
   pub ended : Option ChipEnd
 
--- a rise that finds more points than this takes nothing
-abbrev pub most_points : ℕ
-most_points = 16777200
-
--- and one that finds so many rounds
+-- a rise that finds so many rounds takes nothing
 abbrev pub most_rounds : ℕ
 most_rounds = 2 ^ 62
 
+-- and so does one that finds more points than the chip's limit
 abbrev pub at_limit : Works → Bool
-at_limit w = nat_lt most_points (length w.site.journal) || not (nat_lt w.counts.rounds most_rounds)
+at_limit w = nat_lt w.most_points (length w.site.journal) || not (nat_lt w.counts.rounds most_rounds)
 
 abbrev pub rise_end : Bool → Bool → Works → Option ChipEnd
 rise_end false true w = if at_limit w then Some AtLimit else None

@@ -7,6 +7,7 @@ use Rattle.debug_model.specs.declared.dmi.DmiFault.{DmiFault}
 use Rattle.debug_model.specs.declared.dmi.DmiFault.TheVariants.{Wire, Failed, StillBusy}
 use Rattle.debug_model.specs.declared.counts.Counts.{Counts}
 use Rattle.debug_model.specs.declared.dmi_op.DmiOp.{DmiOp}
+use Rattle.debug_model.specs.declared.dmi_op.DmiOp.TheVariants.{Read, Write}
 use Rattle.debug_model.specs.declared.dmi_scan.DmiScan.{DmiScan}
 use Rattle.debug_model.specs.Chip.{Chip}
 use Rattle.debug_model.specs.Course.{Course, DeedsAlone, Happening, OneOperation, Spans}
@@ -19,6 +20,11 @@ use Rattle.debug_model.specs.Transport.{dmi_width, dtmcs_width}
 use Rattle.debug_model.specs.TransportWords.{dmi_of, status_busy, status_done, status_failed}
 
 -- ---- when a call may be made
+
+-- an operation that the fields of dmi hold
+abbrev pub IsOperation : DmiOp → Type 0
+IsOperation (Read address) = address < 2 ^ 7
+IsOperation (Write address value) = (address < 2 ^ 7) × (value < 2 ^ 32)
 
 -- the TAP stands in Test-Logic-Reset or in Run-Test/Idle
 abbrev pub IsAtRest : Option Far → Type 0

@@ -6,6 +6,7 @@ use Rattle.debug_model.specs.declared.dmi.DmiFault.TheVariants.{Wire, Failed, St
 use Rattle.debug_model.specs.declared.wire.WireFault.{WireFault}
 use Rattle.debug_model.specs.declared.wire.WireFault.TheVariants.{SendFailed, RecvFailed, Ended, BadAnswer}
 use Rattle.debug_model.specs.Dmi.{CanOperate, DmiCause, DmiScript, LeavesStream, ScannedCause}
+use Rattle.debug_model.specs.Many.{ManyCause}
 use Rattle.debug_model.specs.Scan.{ScanCause, Script}
 use Rattle.debug_model.specs.Ties.{Ties}
 use Rattle.debug_model.specs.Told.{Far, IsFree, IsIdle, IsLive, IsOpen, IsRead}
@@ -119,3 +120,7 @@ OperationFails old new why = DmiCause old.fault_count new.fault_count old.far ne
 
 abbrev pub RegisterScanFails : DmiSeen → DmiSeen → DmiFault → Type 0
 RegisterScanFails old new why = ScannedCause old.fault_count new.fault_count new.far old.coming why
+
+-- and how several in one call failed, by how many were asked for
+abbrev pub ManyFails : ℕ → DmiSeen → DmiSeen → DmiFault → Type 0
+ManyFails operations old new why = ManyCause operations old.fault_count new.fault_count old.far new.far old.coming why

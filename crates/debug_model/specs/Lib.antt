@@ -9,6 +9,7 @@ pub mod Grammar
 pub mod Journal
 pub mod Kept
 pub mod Loaded
+pub mod Many
 pub mod Module
 pub mod ModuleWords
 pub mod Net

@@ -1,6 +1,6 @@
--- The chip as it is loaded: an image in memory, harts as a reset leaves them, an empty journal, and no byte taken yet.
--- How a program comes into the chip, and where its harts start, is this project's own choice.
-use Rattle.std.specs.Prelude.{◌≡◌, ◌⊎◌, ℕ, zero, suc, ◌<◌, ◌≤◌, false, List, [], ◌∷◌, ◌++◌, length, replicate, Option, None, All}
+-- The chip as it is loaded: an image in memory, harts as a reset leaves them, an empty journal with the limit of its points, and no byte taken yet.
+-- How a program comes into the chip, where its harts start, and how many points it may have, is this project's own choice.
+use Rattle.std.specs.Prelude.{◌≡◌, ◌⊎◌, ℕ, zero, suc, ◌<◌, ◌≤◌, ◌^◌, false, List, [], ◌∷◌, ◌++◌, length, replicate, Option, None, All}
 use Rattle.rv_model.specs.declared.cause.Cause.{Cause}
 use Rattle.debug_model.specs.declared.event.Event.{Event}
 use Rattle.rv_model.specs.Board.{Board, Hart, halted_by_reset, reset_hart, runs}
@@ -24,18 +24,19 @@ loaded_memory image ram = record { bytes = with_image (map_of (replicate ram 0))
 abbrev pub loaded_board : List ℕ → ℕ → ℕ → Option Cause → Board
 loaded_board image harts ram halted = record { harts = reset_harts harts halted; memory = loaded_memory image ram }
 
-abbrev pub loaded_inside : Board → RoundPlan → Inside
-loaded_inside board plan = record {
+abbrev pub loaded_inside : Board → RoundPlan → ℕ → Inside
+loaded_inside board plan most_points = record {
   works = record {
     dtm = fresh_dtm;
     site = record { unit = reset_module; board = board; journal = [] };
     counts = no_counts;
+    most_points = most_points;
   };
   plan = plan;
 }
 
-abbrev pub loaded_chip : Board → RoundPlan → Chip
-loaded_chip board plan = record { tck = false; port = reset_port; inside = loaded_inside board plan }
+abbrev pub loaded_chip : Board → RoundPlan → ℕ → Chip
+loaded_chip board plan most_points = record { tck = false; port = reset_port; inside = loaded_inside board plan most_points }
 
 abbrev pub live : Chip → Live
 live c = record { chip = c; ended = None }
@@ -49,13 +50,22 @@ pub record RightHarts (harts : ℕ) : Type 0 where
 abbrev pub Fits : List ℕ → ℕ → Type 0
 Fits image ram = length image ≤ ram
 
--- a chip as loaded, by some image of bytes, size, harts, start and schedule at its start
+-- the limit of points of a chip for which no other is named
+abbrev pub usual_points : ℕ
+usual_points = 16777200
+
+pub record RightLimit (most_points : ℕ) : Type 0 where
+  pub some : 0 < most_points
+  pub most : most_points ≤ 2 ^ 62
+
+-- a chip as loaded, by some image of bytes, size, harts, start, schedule at its start and limit
 pub record AsLoaded (l : Live) : Type 0 where
   pub image : List ℕ
   pub harts : ℕ
   pub ram : ℕ
   pub halted : Option Cause
   pub plan : RoundPlan
+  pub most_points : ℕ
   pub right : RightHarts harts
   pub size : IsRamSize ram
   pub fits : Fits image ram
@@ -63,4 +73,5 @@ pub record AsLoaded (l : Live) : Type 0 where
   pub start : (halted ≡ runs) ⊎ (halted ≡ halted_by_reset)
   pub rounds : All (λ (r : List Event). length r ≤ 8) plan.rounds
   pub first : plan.place ≡ 0
-  pub is : l ≡ live (loaded_chip (loaded_board image harts ram halted) plan)
+  pub limit : RightLimit most_points
+  pub is : l ≡ live (loaded_chip (loaded_board image harts ram halted) plan most_points)

@@ -68,10 +68,12 @@ has_offered_turns c =
     nat_eq c.inside.plan.place (moved_on rounds first).place
     && same_numbers (turns_of c.inside.works.site.journal) (offered (length c.inside.works.site.board.harts) (first_rounds rounds first))
 
--- what no byte changes of a chip's schedule: its list of rounds, and whether the harts have had just the turns that these offered
+-- what no byte changes of a chip's schedule and of its limit: the list of rounds, whether the harts have had just the turns that these offered, and how many
+-- points a rise may find
 pub record Timing : Type 0 where
   pub rounds : List (List Event)
   pub offered : Bool
+  pub most_points : ℕ
 
 abbrev pub timing_of : Chip → Timing
-timing_of c = record { rounds = c.inside.plan.rounds; offered = has_offered_turns c }
+timing_of c = record { rounds = c.inside.plan.rounds; offered = has_offered_turns c; most_points = c.inside.works.most_points }

@@ -1,7 +1,7 @@
 -- Scans of a chip that runs: the clocks that carry one, what comes out of the selected register, what stays in it, and the rounds that pass meanwhile.
 -- IEEE 1149.1, the state diagram for the paths and the shifting of a register for the two cuts; OpenOCD, remote_bitbang, for the bytes of a clock.
 use Rattle.std.specs.Prelude.{◌≡◌, ◌≢◌, ◌⊎◌, ◌++◌, ℕ, zero, suc, ◌+◌, ◌≤◌, List, [], ◌∷◌, length, map, take, drop, Bool, true, false, Option, Some, None}
-use Rattle.std.specs.Prelude.{IfSome}
+use Rattle.std.specs.Prelude.{IfSome, replicate}
 use Rattle.jt_base.specs.BitList.{bits_of}
 use Rattle.jt_base.specs.Faults.{Rises}
 use Rattle.debug_model.specs.declared.data_register.DataRegister.{DataRegister}
@@ -80,6 +80,14 @@ dr_bytes bits = to_shift_dr ++ (asked_bits bits ++ to_idle)
 abbrev pub ir_bytes : ℕ → List ℕ
 ir_bytes code = to_shift_ir ++ (sent_bits (bits_of instruction_width code) ++ to_idle)
 
+-- so many clocks in Run-Test/Idle
+abbrev pub idle_bytes : ℕ → List ℕ
+idle_bytes clocks = path (replicate clocks false)
+
+-- at most so many in one call
+abbrev pub idle_most : ℕ
+idle_most = 32
+
 -- the clocks of each path
 abbrev pub reset_clocks : ℕ
 reset_clocks = 6
@@ -157,6 +165,7 @@ pub record Scanned (slack : Option ℕ) (bits out : List Bool) (c : Chip) (new :
   pub before : ℕ
   pub between : ℕ
   pub behind : ℕ
+  pub shifts : length bits ≤ between
   pub out_is : out ≡ dr_out bits c.port.selected (ticks before c.inside)
   pub is : new ≡ Some (far_at true (idle_port c.port.selected (dr_stays bits c.port.selected (ticks before c.inside)))
       (dr_inside before between behind bits c.port.selected c.inside))
@@ -171,6 +180,16 @@ pub record Selected (slack : Option ℕ) (code : ℕ) (c : Chip) (new : Option F
   pub is : new ≡ Some (far_at tck (idle_port (data_register_of code) shift) (ticks rises c.inside))
   pub least : c.port.selected ≢ data_register_of code → ir_clocks ≤ rises
   pub most : WithinSlack slack ir_clocks rises
+
+-- it stood in Run-Test/Idle for so many clocks: rounds passed, and nothing else
+pub record StayedIdle (slack : Option ℕ) (clocks : ℕ) (c : Chip) (new : Option Far) : Type 0 where
+  pub far : Far
+  pub rises : ℕ
+  pub is : new ≡ Some far
+  pub passed : (chip_of far).inside ≡ ticks rises c.inside
+  pub selected : (chip_of far).port.selected ≡ c.port.selected
+  pub least : clocks ≤ rises
+  pub most : WithinSlack slack clocks rises
 
 -- behind a reset from these states rounds have passed, and nothing else: from others a register may have been updated on the way
 abbrev pub StoodAtRest : Chip → Type 0

@@ -1,13 +1,16 @@
-ghost use Rattle.std.specs.Prelude.{◌≡◌, ◌<◌, ◌^◌, Some, OnOk, OnErr, IfOk, IfErr, IfSome};
+ghost use Rattle.std.specs.Prelude.{◌≡◌, ◌<◌, ◌≤◌, ◌^◌, All, [], length, Some, OnOk, OnErr, IfOk, IfErr, IfSome};
 ghost use Rattle.debug_model.specs.declared.dmi_op.DmiOp.TheVariants.{Read, Write};
-ghost use Rattle.debug_model.specs.Dmi.{Answers, NoneOperated, Operated, OperationCut, Passes, Shows};
-ghost use Rattle.debug_model.specs.Kept.{CanCall, DmiSeen, Keeps, OperationFails, RegisterScanFails};
+ghost use Rattle.debug_model.specs.Dmi.{Answers, IsOperation, NoneOperated, Operated, OperationCut, Passes, Shows};
+ghost use Rattle.debug_model.specs.Kept.{CanCall, DmiSeen, Keeps, ManyFails, OperationFails, RegisterScanFails};
+ghost use Rattle.debug_model.specs.Many.{AnswersAll, OperatedAll, OperationsCut, operations_most};
 ghost use Rattle.debug_model.specs.Scan.{WhereTold};
 ghost use Rattle.debug_model.specs.Tap.{idcode};
 ghost use Rattle.debug_model.specs.Transport.{dtmcs_seen, fresh_dtm};
 ghost use Rattle.debug_model.specs.TransportWords.{dtmcs_word};
 
+use crate::dmi_op::DmiOp;
 use crate::wire::WireFault;
+use arrayvec::ArrayVec;
 use thiserror::Error;
 
 /// Why an operation on the debug module interface has no result.
@@ -33,6 +36,9 @@ impl From<WireFault> for DmiFault {
         DmiFault::Wire(wire)
     }
 }
+
+/// How many operations one call takes at most.
+pub const OPERATIONS_MOST: usize = 128;
 
 /// Operations on the registers of a debug module, and the two registers of the transport that tell what it is
 /// (RISC-V Debug Specification 1.0, "Debug Module Interface").
@@ -82,6 +88,26 @@ pub trait Dmi: Drop {
         ensures passes { OnOk result (Passes (seen self.old).coming (seen self.new).coming) }
         ensures cut { OnErr result (WhereTold (OperationCut (Write address value)) (seen self.old).far (seen self.new).far) }
         ensures cause { IfErr result (OperationFails (seen self.old) (seen self.new)) }
+        ensures keeps { Keeps Some (seen self.old) (seen self.new) result };
+
+    /// Does from 1 to 128 operations, in order, each once: `results` is empty, and then holds each one's own result, a write's being its data. The scan that
+    /// fetches one result carries the next operation. Behind a fault the first of them were done, each once, and `results` is empty.
+    fn many(
+        &mut self,
+        ops: &[DmiOp],
+        results: &mut ArrayVec<u32, OPERATIONS_MOST>,
+    ) -> Result<(), DmiFault>
+        requires some { 0 < length ops.now }
+        requires room { length ops.now ≤ operations_most }
+        requires operations { All IsOperation ops.now }
+        requires empty { results.old.items ≡ [] }
+        requires callable { CanCall (seen self.old) }
+        ensures count { OnOk result (length results.new.items ≡ length ops.now) }
+        ensures operated { OnOk result (WhereTold (OperatedAll ops.now results.new.items) (seen self.old).far (seen self.new).far) }
+        ensures answers { OnOk result (AnswersAll ops.now results.new.items (seen self.old).coming (seen self.new).coming) }
+        ensures cut { OnErr result (WhereTold (OperationsCut ops.now) (seen self.old).far (seen self.new).far) }
+        ensures none { OnErr result (results.new.items ≡ []) }
+        ensures cause { IfErr result (ManyFails (length ops.now) (seen self.old) (seen self.new)) }
         ensures keeps { Keeps Some (seen self.old) (seen self.new) result };
 
     /// Whether calls can be made: no call has failed.

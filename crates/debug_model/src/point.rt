@@ -16,8 +16,3 @@ pub enum Point {
     #[default]
     Access,
 }
-
-/// The most bytes that a point takes, by which a journal's memory is reckoned.
-const POINT_BYTES: usize = 8;
-
-const _: () = prove!(size_of::<Point>() <= POINT_BYTES);

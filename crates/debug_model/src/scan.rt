@@ -1,6 +1,6 @@
-ghost use Rattle.std.specs.Prelude.{◌≡◌, ◌<◌, length, OnOk, OnErr, IfOk, IfErr};
+ghost use Rattle.std.specs.Prelude.{◌≡◌, ◌<◌, ◌≤◌, length, OnOk, OnErr, IfOk, IfErr};
 ghost use Rattle.debug_model.specs.Kept.{CanReset, CanShift, ScanFails, ScanKeeps, ScanSeen};
-ghost use Rattle.debug_model.specs.Scan.{Fits, Judged, Scanned, Selected, WasReset, ScanCut, RoundsPassed, ResetCut, WhereTold, ComesOut, ir_clocks};
+ghost use Rattle.debug_model.specs.Scan.{Fits, Judged, Scanned, Selected, StayedIdle, WasReset, ScanCut, RoundsPassed, ResetCut, WhereTold, ComesOut, idle_most, ir_clocks};
 ghost use Rattle.debug_model.specs.Ties.{lent_by};
 
 use crate::wire::WireFault;
@@ -47,6 +47,17 @@ pub trait Scan: Drop {
         ensures cause { IfErr result (ScanFails (seen self.old) (seen self.new)) }
         ensures keeps { ScanKeeps (seen self.old) (seen self.new) result };
 
+    /// Stays in Run-Test/Idle for so many clocks, from 1 to 32.
+    fn idle(&mut self, clocks: u8) -> Result<(), WireFault>
+        requires some { 0 < clocks }
+        requires few { clocks ≤ idle_most }
+        requires callable { CanShift (seen self.old) }
+        ensures passed { OnOk result (WhereTold (StayedIdle (seen self.old).fixed.slack clocks) (seen self.old).far (seen self.new).far) }
+        ensures cut { OnErr result (WhereTold (RoundsPassed (seen self.old).fixed.slack clocks) (seen self.old).far (seen self.new).far) }
+        ensures coming { (seen self.new).coming ≡ (seen self.old).coming }
+        ensures cause { IfErr result (ScanFails (seen self.old) (seen self.new)) }
+        ensures keeps { ScanKeeps (seen self.old) (seen self.new) result };
+
     /// How many calls of what carries the scans have failed. The count stays at the top of a `u64`.
     fn faults(&self) -> u64
         ensures { result ≡ (seen self.now).fault_count };
@@ -65,6 +76,10 @@ impl<S: Scan> Scan for &mut S {
 
     fn dr(&mut self, bits: Bits) -> Result<Bits, WireFault> {
         (**self).dr(bits)
+    }
+
+    fn idle(&mut self, clocks: u8) -> Result<(), WireFault> {
+        (**self).idle(clocks)
     }
 
     fn faults(&self) -> u64 {

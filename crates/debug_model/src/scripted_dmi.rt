@@ -2,9 +2,11 @@ ghost use Rattle.std.specs.Prelude.{◌≡◌, ◌≤◌, [], ◌∷◌, Some, N
 ghost use Rattle.jt_base.specs.Faults.{Rises};
 ghost use Rattle.debug_model.specs.Dmi.{Results};
 ghost use Rattle.debug_model.specs.Kept.{gives_end_of_answers};
+ghost use Rattle.debug_model.specs.Many.{TakesOne};
 ghost use Rattle.debug_model.specs.Ties.{no_ties};
 
-use crate::dmi::{Dmi, DmiFault};
+use crate::dmi::{Dmi, DmiFault, OPERATIONS_MOST};
+use crate::dmi_op::DmiOp;
 use crate::wire::WireFault;
 use arrayvec::ArrayVec;
 use jt_base::count_fault;
@@ -54,6 +56,21 @@ impl ScriptedDmi {
         }
         Ok(self.results.remove(0))
     }
+
+    /// What an operation answers: a read the next number, and a write its data.
+    fn result_of(&mut self, op: DmiOp) -> Result<u32, DmiFault>
+        ensures took { IfOk result (λ value. TakesOne op value self.old.results.items self.new.results.items) }
+        ensures alive { OnOk result (self.new.alive ≡ self.old.alive) }
+        ensures dead { OnErr result (self.new.alive ≡ false) }
+        ensures fault { IfErr result (λ fault. fault ≡ DmiFault.Wire WireFault.RecvFailed) }
+        ensures later { self.old.failed ≤ self.new.failed }
+        ensures rises { OnErr result (Rises self.old.failed self.new.failed) }
+    {
+        match op {
+            DmiOp::Read(_) => self.answer(),
+            DmiOp::Write(_, value) => Ok(value),
+        }
+    }
 }
 
 impl Dmi for ScriptedDmi {
@@ -84,6 +101,25 @@ impl Dmi for ScriptedDmi {
     fn write(&mut self, address: u8, value: u32) -> Result<(), DmiFault> {
         let _address = address;
         let _value = value;
+        Ok(())
+    }
+
+    fn many(
+        &mut self,
+        ops: &[DmiOp],
+        results: &mut ArrayVec<u32, OPERATIONS_MOST>,
+    ) -> Result<(), DmiFault> {
+        let mut rest = ops;
+        'operations: while let [op, after @ ..] = rest {
+            match self.result_of(*op) {
+                Ok(value) => results.push(value),
+                Err(fault) => {
+                    results.clear();
+                    return Err(fault);
+                }
+            }
+            rest = after;
+        }
         Ok(())
     }
 

@@ -1,4 +1,5 @@
--- How a hart is made, and the changes of its debug part that neither a turn nor a request makes: the bits of dcsr, and the debugger's word that it knows of a reset.
+-- How a hart is made, and the changes of its debug part that neither a turn nor a request makes: the bits of dcsr, and the debugger's word that it knows of
+-- a reset.
 -- RISC-V Debug Specification 1.0, "Debug Control and Status" (step, ebreakm) and "Debug Module Control" (ackhavereset).
 use Rattle.std.specs.Prelude.{Bool, false, Option}
 use Rattle.rv_model.specs.declared.cause.Cause.{Cause}

@@ -39,7 +39,21 @@ impl Model for DebugHart {
 
     ghost coded = { hart_code };
 
-    ghost view = { λ h. record { core = h.hart; debug = record { halted = h.halted; halt_request = h.halt_request; resume_request = h.resume_request; resume_ack = h.resume_ack; have_reset = h.have_reset; step = h.step; stepie = h.stepie; ebreakm = h.ebreakm; tselect = h.slots.tselect; slots = h.slots.slots } } };
+    ghost view = { λ h. record {
+      core = h.hart;
+      debug = record {
+        halted = h.halted;
+        halt_request = h.halt_request;
+        resume_request = h.resume_request;
+        resume_ack = h.resume_ack;
+        have_reset = h.have_reset;
+        step = h.step;
+        stepie = h.stepie;
+        ebreakm = h.ebreakm;
+        tselect = h.slots.tselect;
+        slots = h.slots.slots;
+      };
+    } };
 }
 
 /// Why a hart is halted that comes out of reset like this.

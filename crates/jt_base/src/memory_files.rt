@@ -152,7 +152,8 @@ impl Files for MemoryFiles {
         ensures asked { OnOk result (Some self.new.asked ≡ asked_more name.now (Some self.old.asked)) }
         ensures asked_err { IfErr result (λ fault. AskedAt fault name.now (Some self.old.asked) (Some self.new.asked)) }
         ensures lenders { ◌≡◌ {A = List GName} [] [] }
-        ensures answer { MatchResult result (λ bytes. answer name.now limit self.old ≡ Ok bytes.items) (λ fault. IsFault fault (answer name.now limit self.old)) }
+        ensures answer { MatchResult result (λ bytes. answer name.now limit self.old ≡ Ok bytes.items)
+            (λ fault. IsFault fault (answer name.now limit self.old)) }
         ensures state { MatchResult result (λ _. self.new ≡ after_read name.now self.old) (λ fault. AfterFault fault name.now self.old self.new) }
     {
         let listed = self.begin(alloc, name)?;

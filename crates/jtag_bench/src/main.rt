@@ -1,10 +1,15 @@
-//! The program: the words behind its name, and what lies outside for real.
+//! The program: the words behind its name, and what lies outside for real. What it refused it says on standard error too.
 #![tactic(auto)]
 
+mod explain;
+mod kept_files;
+
 use chip_core::Bench;
+use explain::explain;
 use jt_base::{DiskFiles, StdSink};
 use jtag_net::TcpNet;
 use jtag_run::{Refusal, refuse, run};
+use kept_files::KeptFiles;
 use std::io::ErrorKind;
 use std::process::ExitCode;
 use std::rt::Env;
@@ -32,19 +37,25 @@ fn main(rt: HostRuntime) -> ExitCode {
     let mut out = StdSink::new(&rt);
     let status = match words_given(&rt) {
         Ok(words) => {
-            let mut files = DiskFiles::new(&rt);
+            let mut files = KeptFiles::new(DiskFiles::new(&rt));
             let mut net = TcpNet::new(&rt);
             let mut bench = Bench::blank();
-            run(
+            let status = run(
                 rt.alloc(),
                 &words,
                 &mut files,
                 &mut net,
                 &mut out,
                 &mut bench,
-            )
+            );
+            // What standard error does not take is lost.
+            let _ = explain(&rt, rt.alloc(), &words, status, files.last());
+            status
         }
-        Err(error) => refuse(&mut out, words_refusal(&error)),
+        Err(error) => {
+            let _ = eprintln!(rt; "the words were refused: {error}");
+            refuse(&mut out, words_refusal(&error))
+        }
     };
     ExitCode::from(status.code())
 }

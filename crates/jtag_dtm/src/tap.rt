@@ -1,7 +1,8 @@
 #![tactic(auto, unfolding(debug_model::specs::Port::captured_code))]
 
 ghost use Rattle.std.specs.Prelude.{◌≡◌, IsSome};
-ghost use Rattle.debug_model.specs.Port.{busy_in, captured_in, data_register_of, reset_tap, rise_finds_busy, selected_in, shift_after, tap_falls, tap_holds, tap_rises};
+ghost use Rattle.debug_model.specs.Port.{busy_in, captured_in, data_register_of, reset_tap, rise_finds_busy, selected_in, shift_after, tap_falls, tap_holds};
+ghost use Rattle.debug_model.specs.Port.{tap_rises};
 ghost use Rattle.debug_model.specs.Transport.{dropped, finished};
 
 use crate::controller::next_state;
@@ -79,7 +80,9 @@ impl Tap {
     /// What the state before a rise does at it: a capture or a shift. Answers whether it set the sticky status to 3.
     #[inline(always)]
     fn act(&mut self, tdi: bool) -> bool
-        ensures port { self.new.port ≡ record self.old.port { shift = shift_after self.old.port.state self.old.port.selected self.old.dtm tdi self.old.port.shift } }
+        ensures port { self.new.port ≡ record self.old.port {
+          shift = shift_after self.old.port.state self.old.port.selected self.old.dtm tdi self.old.port.shift;
+        } }
         ensures transport { self.new.dtm ≡ captured_in self.old.port.state self.old.port.selected self.old.dtm }
         ensures busy { result ≡ busy_in self.old.port.state self.old.port.selected self.old.dtm }
     {

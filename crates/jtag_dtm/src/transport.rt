@@ -1,7 +1,8 @@
 #![tactic(auto, unfolding(debug_model::specs::Transport::captured_bits, debug_model::specs::Transport::updated_dtm))]
 
 ghost use Rattle.std.specs.Prelude.{◌≡◌, IsSome};
-ghost use Rattle.debug_model.specs.Transport.{address_of, captured_bits, captured_dtm, cleared_by, controlled, dropped, finds_busy, finished, fresh_dtm, launched, operation_of, seen, sets_busy, status_number, updated_dtm};
+ghost use Rattle.debug_model.specs.Transport.{address_of, captured_bits, captured_dtm, cleared_by, controlled, dropped, finds_busy, finished, fresh_dtm};
+ghost use Rattle.debug_model.specs.Transport.{launched, operation_of, seen, sets_busy, status_number, updated_dtm};
 
 use debug_model::{DataRegister, DmiOp, DmiScan, Dtmcs, Sticky};
 use jt_base::Bits;

@@ -10,6 +10,7 @@ mod net_wire;
 mod stream;
 mod take_all;
 mod tcp_net;
+mod tcp_open;
 
 pub use memory_net::MemoryNet;
 pub use net_wire::NetWire;

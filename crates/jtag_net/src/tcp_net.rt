@@ -1,24 +1,22 @@
-//! Real connections: the trusted edge, which tells nothing of what crosses them.
+//! Real connections: the trusted edge, which tells nothing of what crosses them, and says on standard error how they were opened.
 ghost use Rattle.std.specs.Prelude.{◌≡◌, ◌≤◌, false, true, None, is_some, IfErr, OnOk, OnErr};
 ghost use Rattle.std.specs.Io.KnownBytes.{Appends};
 ghost use Rattle.debug_model.specs.Net.{CallCause, faults_after};
 ghost use Rattle.jtag_net.specs.Stream.{AppendsFront, held};
 
 use crate::stream::{read_some, tally, write_whole};
+use crate::tcp_open::{accept_at, connect_to, join_ends};
 use debug_model::{Call, End, Net, NetFault};
 use jt_base::count_fault;
 use std::alloc::Global;
 use std::io::Write;
 use std::marker::Model;
-use std::net::{OpenListener, OpenStream, TcpListener, TcpStream};
-use std::{io, net};
-
-/// Where a connection to itself listens: a free port that the system picks.
-const LOOP_BACK: &str = "127.0.0.1:0";
+use std::net;
+use std::time::Clock;
 
 /// One TCP connection. Contracts see what opened it, which ends are open, and its counts.
 #[derive(Drop)]
-pub struct TcpNet<R: net::Net + Drop> {
+pub struct TcpNet<R: net::Net + Eprint + Clock + Drop> {
     runtime: R,
     near: Option<R::Stream>,
     far: Option<R::Stream>,
@@ -29,7 +27,7 @@ pub struct TcpNet<R: net::Net + Drop> {
     ended: u64,
 }
 
-impl<R: net::Net + Drop> Model for TcpNet<R> {
+impl<R: net::Net + Eprint + Clock + Drop> Model for TcpNet<R> {
     ghost use Rattle.std.specs.Prelude.{is_some};
     ghost use Rattle.jtag_net.specs.Connection.{Connection};
 
@@ -38,7 +36,7 @@ impl<R: net::Net + Drop> Model for TcpNet<R> {
     ghost view = { λ n. record { opening = n.opening; near_open = is_some n.near; far_open = is_some n.far; near_given = n.near_given; far_given = n.far_given; faults = n.failed; ends = n.ended } };
 }
 
-impl<R: net::Net + Drop> TcpNet<R> {
+impl<R: net::Net + Eprint + Clock + Drop> TcpNet<R> {
     /// A connection that this runtime will open.
     pub fn new(runtime: R) -> Self
         ensures { result ≡ record { opening = None; near_open = false; far_open = false; near_given = 0; far_given = 0; faults = 0; ends = 0 } }
@@ -54,30 +52,6 @@ impl<R: net::Net + Drop> TcpNet<R> {
             ended: 0,
         }
     }
-}
-
-// A stream that sends each piece at once.
-fn ready<S: OpenStream + Drop>(stream: S) -> io::Result<S> {
-    stream.set_nodelay(true)?;
-    Ok(stream)
-}
-
-fn connect_to<R: net::Net>(runtime: &R, at: &str) -> io::Result<R::Stream> {
-    ready(TcpStream::connect(runtime, at)?)
-}
-
-fn accept_at<R: net::Net>(runtime: &R, at: &str) -> io::Result<R::Stream> {
-    let listener = TcpListener::bind(runtime, at)?;
-    let (stream, _) = listener.accept()?;
-    ready(stream)
-}
-
-// The listener's queue takes the connection, so that one thread opens both ends.
-fn join_ends<R: net::Net>(runtime: &R) -> io::Result<(R::Stream, R::Stream)> {
-    let listener = TcpListener::bind(runtime, LOOP_BACK)?;
-    let near = TcpStream::connect(runtime, listener.local_addr()?)?;
-    let (far, _) = listener.accept()?;
-    Ok((ready(near)?, ready(far)?))
 }
 
 // Puts at one end. A fault is counted.
@@ -97,7 +71,7 @@ fn put_at<S: Write>(end: &mut Option<S>, failed: &mut u64, bytes: &[u8]) -> Resu
     Ok(())
 }
 
-impl<R: net::Net + Drop> Net for TcpNet<R> {
+impl<R: net::Net + Eprint + Clock + Drop> Net for TcpNet<R> {
     ghost use Rattle.std.specs.Prelude.{[]};
     ghost use Rattle.jtag_net.specs.Connection.{nobody, untold};
 

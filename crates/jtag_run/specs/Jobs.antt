@@ -7,7 +7,7 @@ use Rattle.hart_debug.specs.declared.start.Start.{Start}
 use Rattle.hart_debug.specs.declared.start.Start.TheVariants.{Running, Halted}
 use Rattle.command_line.specs.declared.job.ChipOptions.{ChipOptions}
 use Rattle.command_line.specs.Job.{JobValue, both, probe, chip, files, gen}
-use Rattle.command_line.specs.WrittenJob.{InRange, least_busy, least_piece, most_busy}
+use Rattle.command_line.specs.WrittenJob.{InRange, OptionsInRange, least_piece}
 use Rattle.jtag_run.specs.declared.words.BothJob.{BothJob}
 use Rattle.jtag_run.specs.declared.words.ChipJob.{ChipJob}
 use Rattle.jtag_run.specs.declared.words.GenJob.{GenJob}
@@ -83,10 +83,10 @@ IsWork said (work.Chip job) = said ≡ Some (said_chip (chip_value job))
 
 -- the numbers of a job are within their ranges
 abbrev pub HasWorkRanges : Work → Type 0
-HasWorkRanges (work.Both job) = InRange least_piece piece_most job.piece × InRange least_busy most_busy job.options.busy
-HasWorkRanges (work.Gen job) = InRange least_piece piece_most job.piece × InRange least_busy most_busy job.options.busy
+HasWorkRanges (work.Both job) = InRange least_piece piece_most job.piece × OptionsInRange job.options
+HasWorkRanges (work.Gen job) = InRange least_piece piece_most job.piece × OptionsInRange job.options
 HasWorkRanges (work.Probe job) = Unit {0}
-HasWorkRanges (work.Chip job) = InRange least_busy most_busy job.options.busy
+HasWorkRanges (work.Chip job) = OptionsInRange job.options
 
 -- ---- the chip of the options
 

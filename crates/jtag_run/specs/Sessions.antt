@@ -1,6 +1,6 @@
 -- A session over the chip on a bench, straight or over a connection of the machine to itself, and a session over a net: what it did there.
 -- The program is this project's own.
-use Rattle.std.specs.Prelude.{◌≡◌, ℕ, List, [], Bool, true, false, Option, Some}
+use Rattle.std.specs.Prelude.{◌≡◌, ℕ, List, [], Bool, true, false, Option, Some, IfSome}
 use Rattle.jt_base.specs.Faults.{Rises}
 use Rattle.bench_links.specs.Looped.{looped}
 use Rattle.chip_core.specs.Feeds.{far_of, nothing_coming}
@@ -59,10 +59,13 @@ pub data Carried (loopback : Bool) (first : Live) (script : List Command) (net_w
 
 -- ---- over a net
 
--- the near end of a net as a wire: its faults and its ends are faults of the wire
-abbrev pub wired : NetSeen → WireSeen
-wired net = record { far = net.state.chip; coming = coming_of net.state; faults = summed net.faults net.ends }
+-- the near end of a net as a wire: its reads that ended at a byte that is no answer, and the net's faults and ends, are faults of the wire
+abbrev pub wired : ℕ → NetSeen → WireSeen
+wired bad net = record { far = net.state.chip; coming = coming_of net.state; faults = summed bad net.faults net.ends }
 
+-- over a net that tells its chip no byte came that is no answer
 pub record OnNet (script : List Command) (net_was net_is : NetSeen) (was is : SinkSeen) (closed : End) : Type 0 where
-  pub session : WireSession script (wired net_was) (wired net_is) was is closed
+  pub bad_answers : ℕ
+  pub session : WireSession script (wired 0 net_was) (wired bad_answers net_is) was is closed
   pub ties : net_is.state.ties ≡ net_was.state.ties
+  pub judged : IfSome net_is.state.chip (λ _. bad_answers ≡ 0)

@@ -6,7 +6,7 @@ ghost use Rattle.jtag_run.specs.Ran.{RanBoth};
 ghost use Rattle.jtag_run.specs.Ends.{BenchEnd, LoopEnd};
 ghost use Rattle.jtag_run.specs.Sessions.{IsLoadedBench};
 ghost use Rattle.jtag_run.specs.Jobs.{both_value};
-ghost use Rattle.command_line.specs.WrittenJob.{InRange, least_busy, least_piece, most_busy};
+ghost use Rattle.command_line.specs.WrittenJob.{InRange, OptionsInRange, least_piece};
 
 use crate::last_line::{refuse, tell};
 use crate::opening::refusal_of;
@@ -75,7 +75,7 @@ pub fn run_both<F: Files, N: Net, K: Sink>(
     bench: &mut Bench<SeedSchedule>,
 ) -> Status
     requires piece { InRange least_piece piece_most job.now.piece }
-    requires busy { InRange least_busy most_busy job.now.options.busy }
+    requires options { OptionsInRange job.now.options }
     requires unopened { (N.state net.old).ties.opening ≡ None }
     ensures ended { RanBoth (both_value job.now)
         (record {

@@ -4,7 +4,7 @@ ghost use Rattle.std.specs.Prelude.{◌≡◌, IsSome, None};
 ghost use Rattle.jtag_run.specs.Refusal.{ChipCause, Refused};
 ghost use Rattle.jtag_run.specs.ServedChip.{RanChip, ServedAt, Told, limit_first};
 ghost use Rattle.jtag_run.specs.Jobs.{chip_value};
-ghost use Rattle.command_line.specs.WrittenJob.{InRange, least_busy, most_busy};
+ghost use Rattle.command_line.specs.WrittenJob.{OptionsInRange};
 
 use crate::last_line::{EVENT_LIMIT, close, refuse};
 use crate::lines::{bad_byte_line, wire_failed_line};
@@ -82,7 +82,7 @@ pub fn run_chip<F: Files, N: Net, K: Sink>(
     out: &mut K,
     bench: &mut Bench<SeedSchedule>,
 ) -> Status
-    requires busy { InRange least_busy most_busy job.now.options.busy }
+    requires options { OptionsInRange job.now.options }
     requires unopened { (N.state net.old).ties.opening ≡ None }
     ensures ended { RanChip (chip_value job.now)
         (record {

@@ -8,7 +8,7 @@ ghost use Rattle.jtag_run.specs.Refusal.{GenCause};
 ghost use Rattle.jtag_run.specs.Sessions.{IsLoadedBench};
 ghost use Rattle.jtag_run.specs.Jobs.{gen_value};
 ghost use Rattle.wire_session.specs.Closing.{IsOfRegister};
-ghost use Rattle.command_line.specs.WrittenJob.{InRange, least_busy, least_piece, most_busy};
+ghost use Rattle.command_line.specs.WrittenJob.{InRange, OptionsInRange, least_piece};
 
 use crate::last_line::{refuse, tell};
 use crate::opening::refusal_of;
@@ -33,7 +33,7 @@ fn make(
     job: &GenJob,
     bench: &mut Bench<SeedSchedule>,
 ) -> Result<Script, Refusal<'static>>
-    requires busy { InRange least_busy most_busy job.now.options.busy }
+    requires options { OptionsInRange job.now.options }
     ensures made { IfOk result (λ script. Made (gen_value job.now) script bench.new) }
     ensures cause { IfErr result (GenCause (gen_value job.now)) }
     ensures kept { OnErr result (bench.new ≡ bench.old) }
@@ -87,7 +87,7 @@ pub fn run_gen<N: Net, K: Sink>(
     bench: &mut Bench<SeedSchedule>,
 ) -> Status
     requires piece { InRange least_piece piece_most job.now.piece }
-    requires busy { InRange least_busy most_busy job.now.options.busy }
+    requires options { OptionsInRange job.now.options }
     requires unopened { (N.state net.old).ties.opening ≡ None }
     ensures ended { RanGen (gen_value job.now)
         (record { state = N.state net.old; peer = N.peer net.old; faults = N.fault_count net.old; ends = N.end_count net.old })

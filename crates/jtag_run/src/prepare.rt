@@ -9,7 +9,7 @@ ghost use Rattle.jtag_run.specs.First.{CanLoad, first_chip};
 ghost use Rattle.jtag_run.specs.Refusal.{ChipCause, HoldsScript, ImageFileCause, JobCause, LoadCause, ScriptFileCause, asked_both, asked_image};
 ghost use Rattle.jtag_run.specs.ServedChip.{PreparedChip};
 ghost use Rattle.jtag_run.specs.Jobs.{both_value, chip_value, plan_of, start_of};
-ghost use Rattle.command_line.specs.WrittenJob.{InRange, least_busy, most_busy};
+ghost use Rattle.command_line.specs.WrittenJob.{OptionsInRange};
 
 use crate::refusal::Refusal;
 use crate::script_text::{ScriptRefusal, read_script};
@@ -82,7 +82,7 @@ fn read_image<'a, F: Files>(
 
 /// The schedule of a chip with these options. The harts of another number than one to four are refused by the load.
 fn schedule_of(options: &ChipOptions) -> SeedSchedule
-    requires busy { InRange least_busy most_busy options.now.busy }
+    requires options { OptionsInRange options.now }
     ensures plan { result ≡ plan_of options.now }
     ensures first { IsFirst result }
 {
@@ -112,20 +112,21 @@ pub fn load_chip(
     image: &[u8],
     options: &ChipOptions,
 ) -> Result<(), Refusal<'static>>
-    requires busy { InRange least_busy most_busy options.now.busy }
+    requires options { OptionsInRange options.now }
     ensures chip { OnOk result (bench.new ≡ Some (first_chip options.now image.now)) }
     ensures loads { OnOk result (CanLoad options.now image.now) }
     ensures as_loaded { OnOk result (IfSome bench.new AsLoaded) }
     ensures cause { IfErr result (LoadCause image.now options.now) }
     ensures kept { OnErr result (bench.new ≡ bench.old) }
 {
-    let loaded = bench.load(
+    let loaded = bench.load_with_limit(
         alloc,
         image,
         options.harts,
         options.ram,
         start_of(options.halted),
         schedule_of(options),
+        options.events,
     );
     match loaded {
         Ok(()) => Ok(()),
@@ -141,7 +142,7 @@ pub fn prepare<'a, F: Files>(
     files: &mut F,
     bench: &mut Bench<SeedSchedule>,
 ) -> Result<Script, Refusal<'a>>
-    requires busy { InRange least_busy most_busy job.now.options.busy }
+    requires options { OptionsInRange job.now.options }
     ensures prepared { IfOk result (λ script. Prepared (both_value job.now) (F.held files.old) script bench.new) }
     ensures asked { OnOk result (F.asked files.new
         ≡ asked_both (both_value job.now)
@@ -164,7 +165,7 @@ pub fn prepare_chip<'a, F: Files>(
     files: &mut F,
     bench: &mut Bench<SeedSchedule>,
 ) -> Result<(), Refusal<'a>>
-    requires busy { InRange least_busy most_busy job.now.options.busy }
+    requires options { OptionsInRange job.now.options }
     ensures prepared { OnOk result (PreparedChip (chip_value job.now) (F.held files.old) bench.new) }
     ensures asked { OnOk result (F.asked files.new
         ≡ asked_image (chip_value job.now)

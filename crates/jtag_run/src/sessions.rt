@@ -80,5 +80,7 @@ pub fn run_on_net<N: Net, K: Sink>(script: &Script, net: &mut N, out: &mut K) ->
     ensures sink_later { K.fault_count out.old ≤ K.fault_count out.new }
 {
     let mut wire = NetWire::new(net);
-    run_session(&mut wire, script, out)
+    let ended = run_session(&mut wire, script, out);
+    wire.know_sound();
+    ended
 }

@@ -109,22 +109,18 @@ fn two_rounds_come_in_turn(rt: HostRuntime) -> Result<(), Fail> {
 }
 
 #[test]
-fn reserves_with_ample_memory_and_notes(rt: HostRuntime) -> Result<(), Fail> {
-    let mut journal = Journal::reserve(rt.alloc())?;
+fn a_journal_counts_points_by_their_kinds(rt: HostRuntime) {
+    let mut journal = Journal::empty();
     assert!(rt; journal.is_empty());
-    assert_eq!(rt; journal.room_left(), 16_777_216);
     journal.note(Point::Look(1023));
+    journal.note(Point::Turn(3));
+    journal.note(Point::HaltReq(0));
+    journal.note(Point::HaltClear(0));
+    journal.note(Point::ResumeReq(0));
     journal.note(Point::Access);
-    assert_eq!(rt; journal.len(), 2);
-    assert_eq!(rt; journal.room_left(), 16_777_214);
-    assert_eq!(rt; journal.at(0), Point::Look(1023));
-    assert_eq!(rt; journal.at(1), Point::Access);
-    Ok(())
-}
-
-#[test]
-fn empty_has_no_room(rt: HostRuntime) {
-    let journal = Journal::empty();
-    assert!(rt; journal.is_empty());
-    assert_eq!(rt; journal.room_left(), 0);
+    journal.note(Point::Access);
+    assert!(rt; !journal.is_empty());
+    assert_eq!(rt; journal.len(), 7);
+    assert_eq!(rt; (journal.turns(), journal.looks()), (1, 1));
+    assert_eq!(rt; (journal.requests(), journal.accesses()), (3, 2));
 }

@@ -16,7 +16,7 @@ struct FakeWire<'a> {
 }
 
 impl<'a> Wire for FakeWire<'a> {
-    ghost use Rattle.std.specs.Prelude.{None};
+    ghost use Rattle.std.specs.Prelude.{None, true};
     ghost use Rattle.debug_model.specs.Ties.{no_ties};
 
     ghost far = { λ _. None };
@@ -25,7 +25,7 @@ impl<'a> Wire for FakeWire<'a> {
 
     ghost fault_count = { λ w. w.failed };
 
-    ghost gives = { λ _. Unit {0} };
+    ghost gives = { λ _. true };
 
     ghost ties = { λ _. no_ties };
 

@@ -1,10 +1,11 @@
 //! Registers and memory of loaded chips, by abstract commands and the program buffer. What is read is what was loaded or written.
 
-ghost use Rattle.std.specs.Prelude.{◌≡◌, ◌<◌, ◌≤◌, ◌^◌, IfSome, IsSome, true};
-ghost use Rattle.debug_model.specs.Dmi.{CanOperate};
+ghost use Rattle.std.specs.Prelude.{◌<◌, ◌≤◌, ◌^◌, IfSome, IsSome};
+ghost use Rattle.debug_model.specs.Kept.{CanCall};
 ghost use Rattle.debug_model.specs.Loaded.{AsLoaded};
-ghost use Rattle.debug_model.specs.Told.{IsAsLoaded, IsHalted, IsReady, Selects};
+ghost use Rattle.debug_model.specs.Told.{IsAsLoaded};
 ghost use Rattle.debug_model.specs.Wire.{piece_most};
+ghost use Rattle.probe_run.specs.Told.{Serving};
 
 use crate::fault::Fault;
 use chip_core::{Bench, BenchWire};
@@ -54,11 +55,8 @@ struct Found {
 
 /// The probe's calls on a halted hart.
 fn visit<D: Dmi>(link: &mut D, halted: &Halted) -> Result<Found, Fault>
-    requires alive { D.is_alive link.old ≡ true }
-    requires link { CanOperate (D.far link.old) }
-    requires ready { IsReady (D.far link.old) }
-    requires selects { Selects halted.now.number (D.far link.old) }
-    requires halted { IsHalted halted.now.number (D.far link.old) }
+    requires callable { CanCall (D.seen link.old) }
+    requires serving { Serving halted.now.number (D.seen link.old).far }
 {
     let at = stop(link, halted)?;
     set_reg(link, halted, X8, 0x11)?;
@@ -93,9 +91,8 @@ fn visit<D: Dmi>(link: &mut D, halted: &Halted) -> Result<Found, Fault>
 
 fn open_and_visit<D: Dmi>(link: &mut D, hart: u16) -> Result<Found, Fault>
     requires hart { hart < 2 ^ 10 }
-    requires alive { D.is_alive link.old ≡ true }
-    requires link { CanOperate (D.far link.old) }
-    requires loaded { IsAsLoaded (D.far link.old) }
+    requires callable { CanCall (D.seen link.old) }
+    requires loaded { IsAsLoaded (D.seen link.old).far }
 {
     let target = connect(link)?;
     let Seen::Halted(halted) = target.look(link, hart)? else {

@@ -1,10 +1,10 @@
 //! Breaks and counts of loaded chips: where they stop the hart, and stepping over them. Where it stops and why is RISC-V Debug Specification 1.0,
 //! "Debug Control and Status" and "Sdtrig (ISA Extension)".
 
-ghost use Rattle.std.specs.Prelude.{◌≡◌, ◌<◌, ◌≤◌, ◌^◌, IfOk, IfSome, IsSome, OnOk, true};
-ghost use Rattle.debug_model.specs.Dmi.{CanOperate};
+ghost use Rattle.std.specs.Prelude.{◌≤◌, IfSome, IsSome};
+ghost use Rattle.debug_model.specs.Kept.{CanCall};
 ghost use Rattle.debug_model.specs.Loaded.{AsLoaded};
-ghost use Rattle.debug_model.specs.Told.{IsAsLoaded, IsHalted, IsReady, Selects};
+ghost use Rattle.debug_model.specs.Told.{IsAsLoaded};
 
 use crate::fault::Fault;
 use crate::standing::{At, PROGRAM, go, halted_hart, loaded, see, standing};
@@ -32,9 +32,8 @@ const EBREAKM: u64 = 1 << 15;
 
 /// One break: the slot that is armed, where the hart stops, and where it stands behind the step.
 fn one_break<D: Dmi>(link: &mut D) -> Result<(u8, At, At), Fault>
-    requires alive { D.is_alive link.old ≡ true }
-    requires link { CanOperate (D.far link.old) }
-    requires loaded { IsAsLoaded (D.far link.old) }
+    requires callable { CanCall (D.seen link.old) }
+    requires loaded { IsAsLoaded (D.seen link.old).far }
 {
     let target = connect(link)?;
     let halted = halted_hart(link, &target, 0)?;
@@ -48,9 +47,8 @@ fn one_break<D: Dmi>(link: &mut D) -> Result<(u8, At, At), Fault>
 
 /// Two breaks, the second at the instruction behind the first: the hart is let go, stepped over the first, and let go again and again.
 fn two_breaks<D: Dmi>(link: &mut D) -> Result<[At; 5], Fault>
-    requires alive { D.is_alive link.old ≡ true }
-    requires link { CanOperate (D.far link.old) }
-    requires loaded { IsAsLoaded (D.far link.old) }
+    requires callable { CanCall (D.seen link.old) }
+    requires loaded { IsAsLoaded (D.seen link.old).far }
 {
     let target = connect(link)?;
     let halted = halted_hart(link, &target, 0)?;
@@ -71,9 +69,8 @@ fn two_breaks<D: Dmi>(link: &mut D) -> Result<[At; 5], Fault>
 
 /// A break at an ebreak that halts: neither a step nor a resume gets past it, and the hit stays.
 fn break_at_ebreak<D: Dmi>(link: &mut D) -> Result<[At; 3], Fault>
-    requires alive { D.is_alive link.old ≡ true }
-    requires link { CanOperate (D.far link.old) }
-    requires loaded { IsAsLoaded (D.far link.old) }
+    requires callable { CanCall (D.seen link.old) }
+    requires loaded { IsAsLoaded (D.seen link.old).far }
 {
     let target = connect(link)?;
     let halted = halted_hart(link, &target, 0)?;
@@ -93,9 +90,8 @@ fn break_at_ebreak<D: Dmi>(link: &mut D) -> Result<[At; 3], Fault>
 
 /// A count of one turn, which runs out in the step, and stops the hart as soon as it is let go.
 fn count_runs_out<D: Dmi>(link: &mut D) -> Result<[At; 3], Fault>
-    requires alive { D.is_alive link.old ≡ true }
-    requires link { CanOperate (D.far link.old) }
-    requires loaded { IsAsLoaded (D.far link.old) }
+    requires callable { CanCall (D.seen link.old) }
+    requires loaded { IsAsLoaded (D.seen link.old).far }
 {
     let target = connect(link)?;
     let halted = halted_hart(link, &target, 0)?;

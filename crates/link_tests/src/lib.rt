@@ -13,6 +13,8 @@ mod operations;
 #[cfg(test)]
 mod run_control;
 #[cfg(test)]
+mod several;
+#[cfg(test)]
 mod slots;
 #[cfg(test)]
 mod standing;

@@ -1,8 +1,8 @@
 //! Operations on the debug module of a loaded chip. Expected values are the standard's: what is written to data0 and data1 is read there, and each
 //! operation is performed once, however often the transport answers that it is busy.
 
-ghost use Rattle.std.specs.Prelude.{◌≡◌, ◌≤◌, IfSome, IsSome, true};
-ghost use Rattle.debug_model.specs.Dmi.{CanOperate};
+ghost use Rattle.std.specs.Prelude.{◌≤◌, IfSome, IsSome};
+ghost use Rattle.debug_model.specs.Kept.{CanCall};
 ghost use Rattle.debug_model.specs.Loaded.{AsLoaded};
 ghost use Rattle.debug_model.specs.Wire.{piece_most};
 
@@ -29,8 +29,7 @@ const RAM_LEAST: u64 = 65_536;
 
 /// Activates the module, writes both data words and reads them.
 fn five_operations<D: Dmi>(link: &mut D) -> Result<(u32, u32), DmiFault>
-    requires alive { D.is_alive link.old ≡ true }
-    requires link { CanOperate (D.far link.old) }
+    requires callable { CanCall (D.seen link.old) }
 {
     link.write(DMCONTROL, DMACTIVE)?;
     link.write(DATA0, 7)?;

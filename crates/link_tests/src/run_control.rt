@@ -1,8 +1,8 @@
 //! Run control of loaded chips. What a Look sees is what was loaded; a hart without turns neither halts nor acknowledges.
 
-ghost use Rattle.std.specs.Prelude.{◌≡◌, ◌<◌, ◌≤◌, ◌^◌, IfOk, IfSome, IsSome, true};
+ghost use Rattle.std.specs.Prelude.{◌<◌, ◌≤◌, ◌^◌, IfOk, IfSome, IsSome};
 ghost use Rattle.chip_core.specs.Loads.{IsFirst};
-ghost use Rattle.debug_model.specs.Dmi.{CanOperate};
+ghost use Rattle.debug_model.specs.Kept.{CanCall};
 ghost use Rattle.debug_model.specs.Loaded.{AsLoaded};
 ghost use Rattle.debug_model.specs.Told.{IsAsLoaded};
 
@@ -28,9 +28,8 @@ const PIECE: usize = 256;
 fn halt_running<D: Dmi>(link: &mut D, absent: u16, hart: u16) -> Result<u16, Fault>
     requires absent { absent < 2 ^ 10 }
     requires hart { hart < 2 ^ 10 }
-    requires alive { D.is_alive link.old ≡ true }
-    requires link { CanOperate (D.far link.old) }
-    requires loaded { IsAsLoaded (D.far link.old) }
+    requires callable { CanCall (D.seen link.old) }
+    requires loaded { IsAsLoaded (D.seen link.old).far }
 {
     let target = connect(link)?;
     let Seen::Absent = target.look(link, absent)? else {
@@ -45,9 +44,8 @@ fn halt_running<D: Dmi>(link: &mut D, absent: u16, hart: u16) -> Result<u16, Fau
 
 /// Opens the chip and lets hart 0 go, which is halted.
 fn resume_halted<D: Dmi>(link: &mut D) -> Result<u16, Fault>
-    requires alive { D.is_alive link.old ≡ true }
-    requires link { CanOperate (D.far link.old) }
-    requires loaded { IsAsLoaded (D.far link.old) }
+    requires callable { CanCall (D.seen link.old) }
+    requires loaded { IsAsLoaded (D.seen link.old).far }
 {
     let target = connect(link)?;
     let Seen::Halted(halted) = target.look(link, 0)? else {

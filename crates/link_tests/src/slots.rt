@@ -1,10 +1,10 @@
 //! Slots of loaded chips: the lowest free one is armed, one that someone else programmed is passed by, and another hart's slots stay
 //! (RISC-V Debug Specification 1.0, "Sdtrig (ISA Extension)").
 
-ghost use Rattle.std.specs.Prelude.{◌≡◌, ◌<◌, ◌≤◌, ◌^◌, IfOk, IfSome, IsSome, OnOk, true};
-ghost use Rattle.debug_model.specs.Dmi.{CanOperate};
+ghost use Rattle.std.specs.Prelude.{IfSome, IsSome};
+ghost use Rattle.debug_model.specs.Kept.{CanCall};
 ghost use Rattle.debug_model.specs.Loaded.{AsLoaded};
-ghost use Rattle.debug_model.specs.Told.{IsAsLoaded, IsHalted, IsReady, Selects};
+ghost use Rattle.debug_model.specs.Told.{IsAsLoaded};
 
 use crate::fault::Fault;
 use crate::standing::{PROGRAM, halted_hart, loaded};
@@ -31,9 +31,8 @@ const AT_LEAST: u64 = 0x6800_0000_0000_1144;
 
 /// Slots of hart 1 beside one that nobody here programs, and those of hart 0; five are armed on hart 1, and one of them is freed twice.
 fn fill_up<D: Dmi>(link: &mut D) -> Result<([Result<u8, TrigFault>; 4], SlotView, SlotView), Fault>
-    requires alive { D.is_alive link.old ≡ true }
-    requires link { CanOperate (D.far link.old) }
-    requires loaded { IsAsLoaded (D.far link.old) }
+    requires callable { CanCall (D.seen link.old) }
+    requires loaded { IsAsLoaded (D.seen link.old).far }
 {
     let target = connect(link)?;
     let one = halted_hart(link, &target, 1)?;
@@ -54,9 +53,8 @@ fn fill_up<D: Dmi>(link: &mut D) -> Result<([Result<u8, TrigFault>; 4], SlotView
 
 /// Five are armed, and slot 2 is freed twice.
 fn free_twice<D: Dmi>(link: &mut D) -> Result<([u8; 4], SlotView), Fault>
-    requires alive { D.is_alive link.old ≡ true }
-    requires link { CanOperate (D.far link.old) }
-    requires loaded { IsAsLoaded (D.far link.old) }
+    requires callable { CanCall (D.seen link.old) }
+    requires loaded { IsAsLoaded (D.seen link.old).far }
 {
     let target = connect(link)?;
     let halted = halted_hart(link, &target, 0)?;

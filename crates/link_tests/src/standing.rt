@@ -1,9 +1,10 @@
 //! Where a halted hart of a loaded chip stands, what its slots show, and how it is brought to stop.
 
-ghost use Rattle.std.specs.Prelude.{◌≡◌, ◌<◌, ◌≤◌, ◌^◌, IfOk, IfSome, IsSome, OnOk, true};
-ghost use Rattle.debug_model.specs.Dmi.{CanOperate};
+ghost use Rattle.std.specs.Prelude.{◌<◌, ◌≤◌, ◌^◌, IfOk, IfSome, IsSome, OnOk};
+ghost use Rattle.debug_model.specs.Kept.{CanCall};
 ghost use Rattle.debug_model.specs.Loaded.{AsLoaded};
-ghost use Rattle.debug_model.specs.Told.{IsAsLoaded, IsHalted, IsReady, Selects};
+ghost use Rattle.debug_model.specs.Told.{IsReady};
+ghost use Rattle.probe_run.specs.Told.{Serving};
 
 use crate::fault::Fault;
 use chip_core::Bench;
@@ -46,16 +47,10 @@ pub fn standing(pc: u64, cause: u8, used: [SlotUse; 4], hits: u8) -> At {
 
 /// Where the halted hart stands, and what its slots show.
 pub fn see<D: Dmi>(link: &mut D, halted: &Halted) -> Result<At, Fault>
-    requires alive { D.is_alive link.old ≡ true }
-    requires link { CanOperate (D.far link.old) }
-    requires ready { IsReady (D.far link.old) }
-    requires selects { Selects halted.now.number (D.far link.old) }
-    requires halted { IsHalted halted.now.number (D.far link.old) }
-    ensures alive { OnOk result (D.is_alive link.new ≡ true) }
-    ensures link { OnOk result (CanOperate (D.far link.new)) }
-    ensures ready { OnOk result (IsReady (D.far link.new)) }
-    ensures selects { OnOk result (Selects halted.now.number (D.far link.new)) }
-    ensures halted { OnOk result (IsHalted halted.now.number (D.far link.new)) }
+    requires callable { CanCall (D.seen link.old) }
+    requires serving { Serving halted.now.number (D.seen link.old).far }
+    ensures callable { OnOk result (CanCall (D.seen link.new)) }
+    ensures serving { OnOk result (Serving halted.now.number (D.seen link.new).far) }
 {
     let stopped = stop(link, halted)?;
     let view = slots(link, halted)?;
@@ -69,14 +64,10 @@ pub fn see<D: Dmi>(link: &mut D, halted: &Halted) -> Result<At, Fault>
 /// Looks at a hart that must be halted.
 pub fn halted_hart<D: Dmi>(link: &mut D, target: &Target, hart: u16) -> Result<Halted, Fault>
     requires hart { hart < 2 ^ 10 }
-    requires alive { D.is_alive link.old ≡ true }
-    requires link { CanOperate (D.far link.old) }
-    requires ready { IsReady (D.far link.old) }
-    ensures alive { OnOk result (D.is_alive link.new ≡ true) }
-    ensures link { OnOk result (CanOperate (D.far link.new)) }
-    ensures ready { OnOk result (IsReady (D.far link.new)) }
-    ensures selects { IfOk result (λ halted. Selects halted.number (D.far link.new)) }
-    ensures halted { IfOk result (λ halted. IsHalted halted.number (D.far link.new)) }
+    requires callable { CanCall (D.seen link.old) }
+    requires ready { IsReady (D.seen link.old).far }
+    ensures callable { OnOk result (CanCall (D.seen link.new)) }
+    ensures serving { IfOk result (λ halted. Serving halted.number (D.seen link.new).far) }
 {
     match target.look(link, hart)? {
         Seen::Halted(halted) => Ok(halted),
@@ -86,16 +77,10 @@ pub fn halted_hart<D: Dmi>(link: &mut D, target: &Target, hart: u16) -> Result<H
 
 /// Lets the hart go, which must stop again by itself before it is looked at.
 pub fn go<D: Dmi>(link: &mut D, target: &Target, halted: Halted) -> Result<Halted, Fault>
-    requires alive { D.is_alive link.old ≡ true }
-    requires link { CanOperate (D.far link.old) }
-    requires ready { IsReady (D.far link.old) }
-    requires selects { Selects halted.number (D.far link.old) }
-    requires halted { IsHalted halted.number (D.far link.old) }
-    ensures alive { OnOk result (D.is_alive link.new ≡ true) }
-    ensures link { OnOk result (CanOperate (D.far link.new)) }
-    ensures ready { OnOk result (IsReady (D.far link.new)) }
-    ensures selects { IfOk result (λ halted. Selects halted.number (D.far link.new)) }
-    ensures halted { IfOk result (λ halted. IsHalted halted.number (D.far link.new)) }
+    requires callable { CanCall (D.seen link.old) }
+    requires serving { Serving halted.number (D.seen link.old).far }
+    ensures callable { OnOk result (CanCall (D.seen link.new)) }
+    ensures serving { IfOk result (λ halted. Serving halted.number (D.seen link.new).far) }
 {
     match let_go(link, halted)? {
         Gone::Free(running) => halted_hart(link, target, running.hart()),

@@ -4,9 +4,10 @@ ghost use Rattle.std.specs.Prelude.{◌≡◌, ◌≤◌, ◌+◌, ◌*◌, [], 
 ghost use Rattle.rv_model.specs.Memory.{is_aligned};
 ghost use Rattle.rv_model.specs.Size.{count_of};
 ghost use Rattle.debug_model.specs.Command.{most_elements, all_addresses};
-ghost use Rattle.debug_model.specs.Dmi.{CanOperate};
+ghost use Rattle.debug_model.specs.Kept.{CanCall};
 ghost use Rattle.debug_model.specs.Loaded.{AsLoaded};
-ghost use Rattle.debug_model.specs.Told.{IsAsLoaded, IsHalted, IsReady, Selects};
+ghost use Rattle.debug_model.specs.Told.{IsAsLoaded};
+ghost use Rattle.probe_run.specs.Told.{Serving};
 
 use crate::memory::{FIRST, PIECE, RAM_END, RAM_FIRST, RAM_LEAST, X8, X9};
 use arrayvec::ArrayVec;
@@ -43,19 +44,13 @@ fn try_store_block<D: Dmi>(
     address: u64,
     count: u16,
 ) -> Result<Result<(), AccessFault>, Fault>
-    requires alive { D.is_alive link.old ≡ true }
-    requires link { CanOperate (D.far link.old) }
-    requires ready { IsReady (D.far link.old) }
-    requires selects { Selects halted.now.number (D.far link.old) }
-    requires halted { IsHalted halted.now.number (D.far link.old) }
+    requires callable { CanCall (D.seen link.old) }
+    requires serving { Serving halted.now.number (D.seen link.old).far }
     requires aligned { is_aligned address size ≡ true }
     requires some { (1 ≤ count) × (count ≤ most_elements) }
     requires ends { address + count * count_of size ≤ all_addresses }
-    ensures alive { OnOk result (D.is_alive link.new ≡ true) }
-    ensures link { OnOk result (CanOperate (D.far link.new)) }
-    ensures ready { OnOk result (IsReady (D.far link.new)) }
-    ensures selects { OnOk result (Selects halted.now.number (D.far link.new)) }
-    ensures halted { OnOk result (IsHalted halted.now.number (D.far link.new)) }
+    ensures callable { OnOk result (CanCall (D.seen link.new)) }
+    ensures serving { OnOk result (Serving halted.now.number (D.seen link.new).far) }
 {
     match store_block(link, halted, size, address, count, FIRST) {
         Ok(()) => Ok(Ok(())),
@@ -73,20 +68,14 @@ fn try_load_block<D: Dmi>(
     count: u16,
     into: &mut ArrayVec<u64, 512>,
 ) -> Result<Result<(), AccessFault>, Fault>
-    requires alive { D.is_alive link.old ≡ true }
-    requires link { CanOperate (D.far link.old) }
-    requires ready { IsReady (D.far link.old) }
-    requires selects { Selects halted.now.number (D.far link.old) }
-    requires halted { IsHalted halted.now.number (D.far link.old) }
+    requires callable { CanCall (D.seen link.old) }
+    requires serving { Serving halted.now.number (D.seen link.old).far }
     requires aligned { is_aligned address size ≡ true }
     requires some { (1 ≤ count) × (count ≤ most_elements) }
     requires ends { address + count * count_of size ≤ all_addresses }
     requires empty { into.old.items ≡ [] }
-    ensures alive { OnOk result (D.is_alive link.new ≡ true) }
-    ensures link { OnOk result (CanOperate (D.far link.new)) }
-    ensures ready { OnOk result (IsReady (D.far link.new)) }
-    ensures selects { OnOk result (Selects halted.now.number (D.far link.new)) }
-    ensures halted { OnOk result (IsHalted halted.now.number (D.far link.new)) }
+    ensures callable { OnOk result (CanCall (D.seen link.new)) }
+    ensures serving { OnOk result (Serving halted.now.number (D.seen link.new).far) }
 {
     match load_block(link, halted, size, address, count, into) {
         Ok(()) => Ok(Ok(())),
@@ -97,9 +86,8 @@ fn try_load_block<D: Dmi>(
 
 /// Stores a block and loads it again.
 fn visit_block<D: Dmi>(link: &mut D, size: Size, address: u64, count: u16) -> Result<Block, Fault>
-    requires alive { D.is_alive link.old ≡ true }
-    requires link { CanOperate (D.far link.old) }
-    requires loaded { IsAsLoaded (D.far link.old) }
+    requires callable { CanCall (D.seen link.old) }
+    requires loaded { IsAsLoaded (D.seen link.old).far }
     requires aligned { is_aligned address size ≡ true }
     requires some { (1 ≤ count) × (count ≤ most_elements) }
     requires ends { address + count * count_of size ≤ all_addresses }

@@ -2,9 +2,10 @@
 
 ghost use Rattle.std.specs.Prelude.{◌≡◌, OnOk, IfSome, IsSome, true};
 ghost use Rattle.rv_model.specs.Memory.{is_aligned};
-ghost use Rattle.debug_model.specs.Dmi.{CanOperate};
+ghost use Rattle.debug_model.specs.Kept.{CanCall};
 ghost use Rattle.debug_model.specs.Loaded.{AsLoaded};
-ghost use Rattle.debug_model.specs.Told.{IsAsLoaded, IsHalted, IsReady, Selects};
+ghost use Rattle.debug_model.specs.Told.{IsAsLoaded, IsReady};
+ghost use Rattle.probe_run.specs.Told.{Serving};
 
 use chip_core::{Bench, BenchWire};
 use debug_model::{Dmi, Schedule};
@@ -46,17 +47,11 @@ fn try_store<D: Dmi>(
     address: u64,
     value: u64,
 ) -> Result<bool, Fault>
-    requires alive { D.is_alive link.old ≡ true }
-    requires link { CanOperate (D.far link.old) }
-    requires ready { IsReady (D.far link.old) }
-    requires selects { Selects halted.now.number (D.far link.old) }
-    requires halted { IsHalted halted.now.number (D.far link.old) }
+    requires callable { CanCall (D.seen link.old) }
+    requires serving { Serving halted.now.number (D.seen link.old).far }
     requires aligned { is_aligned address size ≡ true }
-    ensures alive { OnOk result (D.is_alive link.new ≡ true) }
-    ensures link { OnOk result (CanOperate (D.far link.new)) }
-    ensures ready { OnOk result (IsReady (D.far link.new)) }
-    ensures selects { OnOk result (Selects halted.now.number (D.far link.new)) }
-    ensures halted { OnOk result (IsHalted halted.now.number (D.far link.new)) }
+    ensures callable { OnOk result (CanCall (D.seen link.new)) }
+    ensures serving { OnOk result (Serving halted.now.number (D.seen link.new).far) }
 {
     match store(link, halted, size, address, value) {
         Ok(()) => Ok(true),
@@ -72,17 +67,11 @@ fn try_load<D: Dmi>(
     size: Size,
     address: u64,
 ) -> Result<Option<u64>, Fault>
-    requires alive { D.is_alive link.old ≡ true }
-    requires link { CanOperate (D.far link.old) }
-    requires ready { IsReady (D.far link.old) }
-    requires selects { Selects halted.now.number (D.far link.old) }
-    requires halted { IsHalted halted.now.number (D.far link.old) }
+    requires callable { CanCall (D.seen link.old) }
+    requires serving { Serving halted.now.number (D.seen link.old).far }
     requires aligned { is_aligned address size ≡ true }
-    ensures alive { OnOk result (D.is_alive link.new ≡ true) }
-    ensures link { OnOk result (CanOperate (D.far link.new)) }
-    ensures ready { OnOk result (IsReady (D.far link.new)) }
-    ensures selects { OnOk result (Selects halted.now.number (D.far link.new)) }
-    ensures halted { OnOk result (IsHalted halted.now.number (D.far link.new)) }
+    ensures callable { OnOk result (CanCall (D.seen link.new)) }
+    ensures serving { OnOk result (Serving halted.now.number (D.seen link.new).far) }
 {
     match load(link, halted, size, address) {
         Ok(value) => Ok(Some(value)),
@@ -93,13 +82,11 @@ fn try_load<D: Dmi>(
 
 /// Stores by the bus. False where memory refused it.
 fn try_bus_store<D: Dmi>(link: &mut D, size: Size, address: u64, value: u64) -> Result<bool, Fault>
-    requires alive { D.is_alive link.old ≡ true }
-    requires link { CanOperate (D.far link.old) }
-    requires ready { IsReady (D.far link.old) }
+    requires callable { CanCall (D.seen link.old) }
+    requires ready { IsReady (D.seen link.old).far }
     requires aligned { is_aligned address size ≡ true }
-    ensures alive { OnOk result (D.is_alive link.new ≡ true) }
-    ensures link { OnOk result (CanOperate (D.far link.new)) }
-    ensures ready { OnOk result (IsReady (D.far link.new)) }
+    ensures callable { OnOk result (CanCall (D.seen link.new)) }
+    ensures ready { OnOk result (IsReady (D.seen link.new).far) }
 {
     match bus_store(link, size, address, value) {
         Ok(()) => Ok(true),
@@ -110,13 +97,11 @@ fn try_bus_store<D: Dmi>(link: &mut D, size: Size, address: u64, value: u64) -> 
 
 /// Loads by the bus. None where memory refused it.
 fn try_bus_load<D: Dmi>(link: &mut D, size: Size, address: u64) -> Result<Option<u64>, Fault>
-    requires alive { D.is_alive link.old ≡ true }
-    requires link { CanOperate (D.far link.old) }
-    requires ready { IsReady (D.far link.old) }
+    requires callable { CanCall (D.seen link.old) }
+    requires ready { IsReady (D.seen link.old).far }
     requires aligned { is_aligned address size ≡ true }
-    ensures alive { OnOk result (D.is_alive link.new ≡ true) }
-    ensures link { OnOk result (CanOperate (D.far link.new)) }
-    ensures ready { OnOk result (IsReady (D.far link.new)) }
+    ensures callable { OnOk result (CanCall (D.seen link.new)) }
+    ensures ready { OnOk result (IsReady (D.seen link.new).far) }
 {
     match bus_load(link, size, address) {
         Ok(value) => Ok(Some(value)),
@@ -139,9 +124,8 @@ struct Place {
 
 /// Stores and loads there, on both paths.
 fn visit<D: Dmi>(link: &mut D, size: Size, address: u64) -> Result<Place, Fault>
-    requires alive { D.is_alive link.old ≡ true }
-    requires link { CanOperate (D.far link.old) }
-    requires loaded { IsAsLoaded (D.far link.old) }
+    requires callable { CanCall (D.seen link.old) }
+    requires loaded { IsAsLoaded (D.seen link.old).far }
     requires aligned { is_aligned address size ≡ true }
 {
     let target = connect(link)?;

@@ -3,7 +3,7 @@
 ghost use Rattle.std.specs.Prelude.{◌≡◌, OnOk, IfSome, IsSome, true};
 ghost use Rattle.rv_model.specs.Memory.{is_aligned};
 ghost use Rattle.rv_model.specs.declared.size.Size.TheVariants.{B8};
-ghost use Rattle.debug_model.specs.Dmi.{CanOperate};
+ghost use Rattle.debug_model.specs.Kept.{CanCall};
 ghost use Rattle.debug_model.specs.Loaded.{AsLoaded};
 ghost use Rattle.debug_model.specs.Told.{IsAsLoaded, IsReady};
 
@@ -43,12 +43,10 @@ const X7: u16 = 0x1007;
 
 /// Hart 1, which is halted at its first instruction, makes its reservation.
 fn reserve<D: Dmi>(link: &mut D, target: &Target) -> Result<(), Fault>
-    requires alive { D.is_alive link.old ≡ true }
-    requires link { CanOperate (D.far link.old) }
-    requires ready { IsReady (D.far link.old) }
-    ensures alive { OnOk result (D.is_alive link.new ≡ true) }
-    ensures link { OnOk result (CanOperate (D.far link.new)) }
-    ensures ready { OnOk result (IsReady (D.far link.new)) }
+    requires callable { CanCall (D.seen link.old) }
+    requires ready { IsReady (D.seen link.old).far }
+    ensures callable { OnOk result (CanCall (D.seen link.new)) }
+    ensures ready { OnOk result (IsReady (D.seen link.new).far) }
 {
     let Seen::Halted(halted) = target.look(link, 1)? else {
         return Err(Fault::SeenOtherwise);
@@ -61,9 +59,8 @@ fn reserve<D: Dmi>(link: &mut D, target: &Target) -> Result<(), Fault>
 
 /// Hart 1 makes its conditional store. The answer is 0 where it had its reservation, and else 1.
 fn store_conditionally<D: Dmi>(link: &mut D, target: &Target) -> Result<u64, Fault>
-    requires alive { D.is_alive link.old ≡ true }
-    requires link { CanOperate (D.far link.old) }
-    requires ready { IsReady (D.far link.old) }
+    requires callable { CanCall (D.seen link.old) }
+    requires ready { IsReady (D.seen link.old).far }
 {
     let Seen::Halted(halted) = target.look(link, 1)? else {
         return Err(Fault::SeenOtherwise);
@@ -74,9 +71,8 @@ fn store_conditionally<D: Dmi>(link: &mut D, target: &Target) -> Result<u64, Fau
 
 /// Hart 0 stores to this address by its program buffer between the two.
 fn with_store<D: Dmi>(link: &mut D, address: u64) -> Result<u64, Fault>
-    requires alive { D.is_alive link.old ≡ true }
-    requires link { CanOperate (D.far link.old) }
-    requires loaded { IsAsLoaded (D.far link.old) }
+    requires callable { CanCall (D.seen link.old) }
+    requires loaded { IsAsLoaded (D.seen link.old).far }
     requires aligned { is_aligned address B8 ≡ true }
 {
     let target = connect(link)?;
@@ -90,9 +86,8 @@ fn with_store<D: Dmi>(link: &mut D, address: u64) -> Result<u64, Fault>
 
 /// The same by the system bus.
 fn with_bus_store<D: Dmi>(link: &mut D, address: u64) -> Result<u64, Fault>
-    requires alive { D.is_alive link.old ≡ true }
-    requires link { CanOperate (D.far link.old) }
-    requires loaded { IsAsLoaded (D.far link.old) }
+    requires callable { CanCall (D.seen link.old) }
+    requires loaded { IsAsLoaded (D.seen link.old).far }
     requires aligned { is_aligned address B8 ≡ true }
 {
     let target = connect(link)?;

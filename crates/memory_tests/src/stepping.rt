@@ -1,8 +1,8 @@
 //! Single steps of loaded chips. Each does one instruction, and the step flag is off again.
 
-ghost use Rattle.std.specs.Prelude.{◌≡◌, ◌≤◌, ◌^◌, IfOk, IfSome, IsSome, true};
+ghost use Rattle.std.specs.Prelude.{IfOk, IfSome, IsSome};
 ghost use Rattle.chip_core.specs.Loads.{IsFirst};
-ghost use Rattle.debug_model.specs.Dmi.{CanOperate};
+ghost use Rattle.debug_model.specs.Kept.{CanCall};
 ghost use Rattle.debug_model.specs.Loaded.{AsLoaded};
 ghost use Rattle.debug_model.specs.Told.{IsAsLoaded};
 
@@ -45,9 +45,8 @@ struct Stepped {
 
 /// Opens the chip and makes two steps with hart 0, which is halted.
 fn step_twice<D: Dmi>(link: &mut D) -> Result<Stepped, Fault>
-    requires alive { D.is_alive link.old ≡ true }
-    requires link { CanOperate (D.far link.old) }
-    requires loaded { IsAsLoaded (D.far link.old) }
+    requires callable { CanCall (D.seen link.old) }
+    requires loaded { IsAsLoaded (D.seen link.old).far }
 {
     let target = connect(link)?;
     let Seen::Halted(halted) = target.look(link, 0)? else {

@@ -37,13 +37,18 @@ fn wire_gives_input_in_any_pieces(rt: HostRuntime) -> Result<(), Fail> {
         wire.send(b"2R6")?;
         wire.recv(&mut two)?;
         assert_eq!(rt; (&three, &two), (b"101", b"10"), "pieces of {piece}");
-        // what came before the end is handed on, and `0` in the place of what did not come
+        // a byte that is no answer ends the read: it is handed on, and `0` in the place of what did not come
         assert_eq!(rt;
             (wire.recv(&mut three), wire.faults()),
-            (Err(WireFault::Ended), 1),
+            (Err(WireFault::RecvFailed), 1),
             "pieces of {piece}"
         );
         assert_eq!(rt; &three, b"x00", "pieces of {piece}");
+        assert_eq!(rt;
+            (wire.recv(&mut two), wire.faults()),
+            (Err(WireFault::Ended), 2),
+            "pieces of {piece}"
+        );
         assert_eq!(rt; (net.faults(), net.ends()), (0, 1), "pieces of {piece}");
         assert_eq!(rt; net.sent(), b"0R42R6".as_slice());
     }
@@ -121,6 +126,28 @@ fn joined_nets_carry_bytes_both_ways(rt: HostRuntime) -> Result<(), Fail> {
             "call {call}"
         );
     }
+    Ok(())
+}
+
+// The peer's connection stays open, so that a second take would wait forever.
+#[test]
+fn silent_peer_that_is_no_chip_holds_nobody(rt: HostRuntime) -> Result<(), Fail> {
+    let alloc = rt.alloc();
+    let listener = TcpListener::bind(&rt, "127.0.0.1:0")?;
+    let at = format!(in alloc; "{}", listener.local_addr()?)?;
+    let mut net = TcpNet::new(&rt);
+    net.connect(alloc, at.as_str())?;
+    let mut peer = listener.accept()?.0;
+    peer.write_all(b"1x")?;
+    let mut wire = NetWire::new(&mut net);
+    let mut answers = [0; 4];
+    assert_eq!(rt;
+        (wire.recv(&mut answers), wire.faults()),
+        (Err(WireFault::RecvFailed), 1)
+    );
+    assert_eq!(rt; &answers, b"1x00");
+    assert_eq!(rt; (net.faults(), net.ends()), (0, 0));
+    drop(peer);
     Ok(())
 }
 

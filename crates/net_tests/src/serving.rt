@@ -1,11 +1,11 @@
 //! Chips that are served over nets. The stream is IEEE 1149.1's path to the device identification register, and the answers are its bits, the lowest first.
 
-ghost use Rattle.std.specs.Prelude.{◌≡◌, ◌<◌, ◌≤◌, IsSome, None, length};
-ghost use Rattle.debug_model.specs.Wire.{piece_most};
+ghost use Rattle.std.specs.Prelude.{◌≡◌, ◌<◌, IsSome, None};
+ghost use Rattle.debug_model.specs.Loaded.{RightLimit};
 
-use chip_core::{Answers, Bench};
+use chip_core::Bench;
 use chip_server::{Served, serve};
-use debug_model::{End, Event, Net, NetFault, Round, Schedule, WireFault};
+use debug_model::{End, Event, Net, NetFault, POINTS_USUAL, Round, Schedule, WireFault};
 use hart_debug::Start;
 use jtag_net::{MemoryNet, TcpNet};
 use std::alloc::{AllocError, Global};
@@ -43,19 +43,26 @@ const NO_FAILURE: u32 = 1000;
 /// The bytes of the smallest RAM.
 const RAM_LEAST: u64 = 65_536;
 
-/// A bench with one hart over memory of zeros, and this round again and again.
-fn bench_of(alloc: Global, start: Start, round: &[Event]) -> Result<Bench<ListSchedule>, Fail> {
+/// A bench with one hart over memory of zeros, this round again and again, and this limit of points.
+fn bench_of(
+    alloc: Global,
+    start: Start,
+    round: &[Event],
+    most_points: u64,
+) -> Result<Bench<ListSchedule>, Fail>
+    requires { RightLimit most_points }
+{
     let mut rounds = Vec::new(alloc);
     rounds.push(Round::try_from(round)?)?;
     let mut bench = Bench::blank();
     let schedule = ListSchedule::new(rounds);
-    bench.load(alloc, &[], 1, RAM_LEAST, start, schedule)?;
+    bench.load_with_limit(alloc, &[], 1, RAM_LEAST, start, schedule, most_points)?;
     Ok(bench)
 }
 
 /// A bench whose hart runs.
 fn running(alloc: Global) -> Result<Bench<ListSchedule>, Fail> {
-    bench_of(alloc, Start::Running, &[Event::Turn(0)])
+    bench_of(alloc, Start::Running, &[Event::Turn(0)], POINTS_USUAL)
 }
 
 /// What comes to a chip, how it is given, the room for the answers, and the call that is to fail: the first is the opening.
@@ -194,32 +201,12 @@ fn a_net_that_fails_is_told(rt: HostRuntime) -> Result<(), Fail> {
     Ok(())
 }
 
-/// Feeds these bytes so often.
-fn feed_often(rt: &impl Abort, bench: &mut Bench<ListSchedule>, bytes: &[u8], times: u32)
-    requires { length bytes.now ≤ piece_most }
-{
-    for _ in 0..times {
-        assert!(rt; bench.is_loaded());
-        bench.feed(bytes, &mut Answers::new());
-    }
-}
-
-/// A bench that takes 25 rises more. 16,777,200 points are 3,355,440 rounds of five turns. The rise behind them still takes its round, and the next one none: so
-/// 3,355,441 rises are taken, of which 28,926 times 116 come here.
-fn near_the_limit(rt: &impl Abort, alloc: Global) -> Result<Bench<ListSchedule>, Fail> {
-    let mut bench = bench_of(alloc, Start::Halted, &[Event::Turn(0); 5])?;
-    let clocks = "04".repeat(alloc, 116)?;
-    assert!(rt; clocks.len() <= 256);
-    feed_often(rt, &mut bench, clocks.as_bytes(), 28_926);
-    assert!(rt; !bench.at_limit());
-    Ok(bench)
-}
-
-// Of the 25 rises 9 lead to the register, and 16 shift it. Behind them one more bit is answered, and none where the chip is served again.
+// 120 points are 24 rounds of five turns. The rise behind them still takes its round, and the next one none. Of these 25 rises 9 lead to the
+// register, and 16 shift it. Behind them one more bit is answered, and none where the chip is served again.
 #[test]
 fn the_limit_ends_the_serving(rt: HostRuntime) -> Result<(), Fail> {
     let alloc = rt.alloc();
-    let mut bench = near_the_limit(&rt, alloc)?;
+    let mut bench = bench_of(alloc, Start::Halted, &[Event::Turn(0); 5], 120)?;
     let input = stream(alloc)?;
     let given = Given {
         input: &input,

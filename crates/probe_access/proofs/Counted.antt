@@ -4,6 +4,7 @@ use Rattle.rv_model.specs.declared.size.Size.{Size}
 use Rattle.probe_access.specs.declared.fault.AccessFault.{AccessFault}
 use Rattle.probe_access.specs.declared.fault.AccessFault.TheVariants as access_fault
 use Rattle.probe_run.specs.Acts.{Tells}
+use Rattle.probe_access.specs.Faults.{Among}
 use Rattle.probe_access.specs.CommandRuns.{CommandBegun, CommandFailed}
 use Rattle.probe_access.specs.MemoryRuns.{LoadFailedInside, PerformFailed, ProgramBegun, PutBackFailed, StoreFailedInside}
 use Rattle.probe_access.specs.MemoryRuns.PerformFailed.{in_program, in_address, in_run, faulted, oddly}
@@ -17,7 +18,7 @@ use Rattle.probe_access.specs.RegisterAccess.{program_word, transfer_word, x8_nu
 use Rattle.probe_access.proofs.RegisterCalls.{broke_counted}
 
 pub command_counted : (word count mid_count new_count : ℕ) (old new : Tells) (e : AccessFault) → count ≤ mid_count → mid_count ≤ new_count → CommandFailed word mid_count new_count old new e → CommandFailed word count new_count old new e
-command_counted word count mid_count new_count old new (access_fault.Dmi why) le later f = broke_counted (CommandBegun word) count mid_count new_count old new.far why le later f
+command_counted word count mid_count new_count old new (access_fault.Dmi why) le later f = broke_counted (Among (CommandBegun word)) count mid_count new_count old new.far why le later f
 command_counted word count mid_count new_count old new (access_fault.Memory address) le later f = f
 command_counted word count mid_count new_count old new (access_fault.Register asked) le later f = f
 command_counted word count mid_count new_count old new access_fault.StillBusy le later f = f
@@ -26,7 +27,7 @@ command_counted word count mid_count new_count old new (access_fault.Odd shown) 
 
 read_at_counted : (number count mid_count new_count : ℕ) (old new : Tells) (e : AccessFault) → count ≤ mid_count → mid_count ≤ new_count → ReadFailedAt number mid_count new_count old new e → ReadFailedAt number count new_count old new e
 read_at_counted number count mid_count new_count old new e le later (read_in_command _ f) = read_in_command e (command_counted (transfer_word false number) count mid_count new_count old new e le later f)
-read_at_counted number count mid_count new_count old new e le later (read_in_words mid ran why b) = read_in_words mid ran why (broke_counted DoubleReads count mid_count new_count mid new.far why le later b)
+read_at_counted number count mid_count new_count old new e le later (read_in_words mid ran why b) = read_in_words mid ran why (broke_counted (Among DoubleReads) count mid_count new_count mid new.far why le later b)
 
 pub read_counted : (number count mid_count new_count : ℕ) (old new : Tells) (e : AccessFault) → count ≤ mid_count → mid_count ≤ new_count → ReadFailed number mid_count new_count old new e → ReadFailed number count new_count old new e
 read_counted number count mid_count new_count old new (access_fault.Dmi why) le later f = read_at_counted number count mid_count new_count old new (access_fault.Dmi why) le later f
@@ -37,7 +38,7 @@ read_counted number count mid_count new_count old new (access_fault.Run why) le 
 read_counted number count mid_count new_count old new (access_fault.Odd shown) le later f = f
 
 write_at_counted : (number value count mid_count new_count : ℕ) (old new : Tells) (e : AccessFault) → count ≤ mid_count → mid_count ≤ new_count → WriteFailedAt number value mid_count new_count old new e → WriteFailedAt number value count new_count old new e
-write_at_counted number value count mid_count new_count old new e le later (written_in_words why b) = written_in_words why (broke_counted (DoubleWrites value) count mid_count new_count old new.far why le later b)
+write_at_counted number value count mid_count new_count old new e le later (written_in_words why b) = written_in_words why (broke_counted (Among (DoubleWrites value)) count mid_count new_count old new.far why le later b)
 write_at_counted number value count mid_count new_count old new e le later (written_in_command mid did _ f) = written_in_command mid did e (command_counted (transfer_word true number) count mid_count new_count mid new e le later f)
 
 pub write_counted : (number value count mid_count new_count : ℕ) (old new : Tells) (e : AccessFault) → count ≤ mid_count → mid_count ≤ new_count → WriteFailed number value mid_count new_count old new e → WriteFailed number value count new_count old new e

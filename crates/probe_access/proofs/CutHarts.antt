@@ -6,7 +6,7 @@ use Rattle.debug_model.specs.Addresses.{data0_address, data1_address, abstractcs
 use Rattle.debug_model.specs.declared.abstract_command.AbstractCommand.{AbstractCommand}
 use Rattle.debug_model.specs.declared.cmderr.Cmderr.TheVariants.{Fine, Exception}
 use Rattle.debug_model.specs.declared.dmi.DmiFault.{DmiFault}
-use Rattle.debug_model.specs.declared.dmi_op.DmiOp.TheVariants.{Read, Write}
+use Rattle.debug_model.specs.declared.dmi_op.DmiOp.TheVariants.{Write}
 use Rattle.debug_model.specs.declared.micro.Micro.TheVariants.{Transfer}
 use Rattle.debug_model.specs.Commands.{high_half, low_half}
 use Rattle.debug_model.specs.Deeds.{ran}
@@ -17,8 +17,7 @@ use Rattle.debug_model.specs.SystemBus.{BusUnit}
 use Rattle.debug_model.specs.Told.{Far, site_of}
 use Rattle.probe_access.specs.declared.fault.AccessFault.{AccessFault}
 use Rattle.probe_access.specs.declared.fault.AccessFault.TheVariants as access_fault
-use Rattle.probe_run.specs.Acts.{Act, Attempt, Broke, Did, Tells}
-use Rattle.probe_run.specs.Acts.Act.{Got, Put}
+use Rattle.probe_run.specs.Acts.{Act, Did, Tells}
 use Rattle.probe_access.specs.CommandRuns.{CommandFailed, error_shown}
 use Rattle.probe_access.specs.Cuts.{IfCut}
 use Rattle.probe_access.specs.MemoryRuns.{PutBackFailed, SaveFailed}
@@ -32,7 +31,9 @@ use Rattle.probe_access.specs.RegisterRuns.WriteFailedAt.{in_command as written_
 use Rattle.probe_access.specs.RegisterAccess.{transfer_command, transfer_word, x8_number, x9_number}
 use Rattle.probe_access.proofs.Along.{AtSites, did_sites}
 use Rattle.probe_access.proofs.Aside.{Frozen, aside, passed}
-use Rattle.probe_access.proofs.CutSites.{CommandCutAt, CommandCutTold, CutAt, Rests, SentAt, command_cut_told, cut_at, got_cut, if_cut, put_cut}
+use Rattle.debug_model.specs.declared.dmi_op.DmiOp.{DmiOp}
+use Rattle.probe_run.specs.Acts.Attempt.{Operation}
+use Rattle.probe_access.proofs.CutSites.{CommandCutAt, CommandCutTold, CutAt, CutWithin, Rests, SentAt, command_cut_told, cut_within, got_cut, if_cut, put_cut}
 use Rattle.probe_access.proofs.CutSites.CommandCutAt.{unsent, sent, ended}
 use Rattle.probe_access.proofs.ReadyUnit.{Held, Kept, commands_of, done_ran, unit_of, unit_with}
 use Rattle.probe_access.proofs.RegAnswers.{CommandTold, ReadTold, StoodTold, WrittenTold, command_told, halves_joined, read_told, written_told}
@@ -143,29 +144,24 @@ transfer_hung write number h bus y base w old_count new_count old new e small st
 got_hung : (a h : ℕ) (bus : BusUnit) (y : Hart) (base : Site) (w : Hart) (f : Far) (told : Option Far) (k : Kept) (s : Site) (far : Far) → told ≡ Some far → Rests h bus y base w (site_of far) → Hung (λ z. z ≡ y) h bus base told
 got_hung a h bus y base w f told k s far is r = record { far = far; is = is; hung = hung_stood (λ z. z ≡ y) h bus y base w r.kept (site_of far) refl r.stood }
 
-words_read_cut : (h : ℕ) (bus : BusUnit) (y : Hart) (base : Site) (w : Hart) (old_count new_count : ℕ) (old : Tells) (told : Option Far) (why : DmiFault) (acts : List Act) (failed : Attempt) → StoodTold h bus y base w old.far → DoubleReads acts failed
-    → Broke acts failed old_count new_count old told why → Hung (λ z. z ≡ y) h bus base told
+words_read_cut : (h : ℕ) (bus : BusUnit) (y : Hart) (base : Site) (w : Hart) (far told : Option Far) (acts : List Act) (op : DmiOp) → (st : StoodTold h bus y base w far) → DoubleReads acts (Operation op)
+    → CutAt acts op st.far told → Hung (λ z. z ≡ y) h bus base told
 unfolding register_at
-words_read_cut h bus y base w old_count new_count old told why _ _ st low_read b =
-    let c : CutAt [] (Read data0_address) st.far told = cut_at [] (Read data0_address) old_count new_count old told why st.far st.is b in
+words_read_cut h bus y base w far told _ _ st low_read c =
     got_hung data0_address h bus y base w st.far told st.kept c.mid c.far c.is
     (got_cut data0_address h bus y base w st.kept c.mid (site_of c.far) (subst (λ s. Stood h bus y base w st.kept s) (sym c.acts_are) st.stood) (λ z. refl) c.cut)
-words_read_cut h bus y base w old_count new_count old told why _ _ st (high_read low) b =
-    let c : CutAt (Got data0_address low ∷ []) (Read data1_address) st.far told = cut_at (Got data0_address low ∷ []) (Read data1_address) old_count new_count old told why st.far st.is b in
+words_read_cut h bus y base w far told _ _ st (high_read low) c =
     let p = c.acts_are in
     let mid : Stood h bus y base w st.kept c.mid = subst (λ s. Stood h bus y base w st.kept s) (sym p.2) (got_at data0_address low h bus y base w st.kept (site_of st.far) p.0 st.stood p.1 (λ z. refl)) in
     got_hung data1_address h bus y base w st.far told st.kept c.mid c.far c.is (got_cut data1_address h bus y base w st.kept c.mid (site_of c.far) mid (λ z. refl) c.cut)
 
-words_write_cut : (value h : ℕ) (bus : BusUnit) (y : Hart) (base : Site) (w : Hart) (old_count new_count : ℕ) (old : Tells) (told : Option Far) (why : DmiFault) (acts : List Act) (failed : Attempt) → StoodTold h bus y base w old.far → DoubleWrites value acts failed
-    → Broke acts failed old_count new_count old told why → Hung (λ z. z ≡ y) h bus base told
+words_write_cut : (value h : ℕ) (bus : BusUnit) (y : Hart) (base : Site) (w : Hart) (far told : Option Far) (acts : List Act) (op : DmiOp) → (st : StoodTold h bus y base w far) → DoubleWrites value acts (Operation op)
+    → CutAt acts op st.far told → Hung (λ z. z ≡ y) h bus base told
 unfolding register_at
-words_write_cut value h bus y base w old_count new_count old told why _ _ st low_written b =
-    let c : CutAt [] (Write data0_address (low_half value)) st.far told = cut_at [] (Write data0_address (low_half value)) old_count new_count old told why st.far st.is b in
+words_write_cut value h bus y base w far told _ _ st low_written c =
     got_hung data0_address h bus y base w st.far told st.kept c.mid c.far c.is
     (put_cut data0_address (low_half value) h bus y base w st.kept (with_data0 (low_half value) st.kept) c.mid (site_of c.far) (subst (λ s. Stood h bus y base w st.kept s) (sym c.acts_are) st.stood) (λ z. refl) c.cut)
-words_write_cut value h bus y base w old_count new_count old told why _ _ st high_written b =
-    let c : CutAt (Put data0_address (low_half value) ∷ []) (Write data1_address (high_half value)) st.far told =
-    cut_at (Put data0_address (low_half value) ∷ []) (Write data1_address (high_half value)) old_count new_count old told why st.far st.is b in
+words_write_cut value h bus y base w far told _ _ st high_written c =
     let mid : Stood h bus y base w (with_data0 (low_half value) st.kept) c.mid = put_at data0_address (low_half value) h bus y base w st.kept (with_data0 (low_half value) st.kept) (site_of st.far) c.mid st.stood c.acts_are (λ z. refl) in
     got_hung data1_address h bus y base w st.far told st.kept c.mid c.far c.is
     (put_cut data1_address (high_half value) h bus y base w (with_data0 (low_half value) st.kept) (with_double value st.kept) c.mid (site_of c.far) mid (λ z. refl) c.cut)
@@ -190,7 +186,9 @@ read_at_hung number h bus y base w old_count new_count old new why small st (rea
     hung_map (Either false number st.kept y) (λ z. z ≡ y) h bus base new.far (λ z e. same_either number st.kept y z e) (transfer_hung false number h bus y base w old_count new_count old new (access_fault.Dmi why) small st f)
 read_at_hung number h bus y base w old_count new_count old new why small st (read_in_words mid ran _ f) =
     let c : CommandTold false number ran.last h bus y base w st.kept mid.far = command_told false number ran.last h bus y base w old mid small st ran.ran in
-    words_read_cut h bus y base w old_count new_count mid new.far why f.acts f.failed (taken_stood number ran.last h bus y base w st.kept mid.far c.far c.is c.transfer) f.begun f.broke
+    let stood : StoodTold h bus y base w mid.far = taken_stood number ran.last h bus y base w st.kept mid.far c.far c.is c.transfer in
+    let cut : CutWithin DoubleReads stood.far new.far = cut_within DoubleReads old_count new_count mid new.far why stood.far stood.is f in
+    words_read_cut h bus y base w mid.far new.far cut.acts cut.op stood cut.begun cut.cut
 
 pub read_hung : (number h : ℕ) (bus : BusUnit) (y : Hart) (base : Site) (w : Hart) (old_count new_count : ℕ) (old new : Tells) (e : AccessFault) → number < 2 ^ 16 → StoodTold h bus y base w old.far → ReadFailed number old_count new_count old new e
     → IfCut (Hung (λ z. z ≡ y) h bus base new.far) e
@@ -226,7 +224,8 @@ write_command_hung number value h bus y base w old_count new_count old mid new e
 write_at_hung : (number value h : ℕ) (bus : BusUnit) (y : Hart) (base : Site) (w : Hart) (old_count new_count : ℕ) (old new : Tells) (why : DmiFault) → number < 2 ^ 16 → StoodTold h bus y base w old.far
     → WriteFailedAt number value old_count new_count old new (access_fault.Dmi why) → Hung (Written number value y) h bus base new.far
 write_at_hung number value h bus y base w old_count new_count old new why small st (written_in_words _ f) =
-    hung_map (λ z. z ≡ y) (Written number value y) h bus base new.far (λ z e. inl e) (words_write_cut value h bus y base w old_count new_count old new.far why f.acts f.failed st f.begun f.broke)
+    let cut : CutWithin (DoubleWrites value) st.far new.far = cut_within (DoubleWrites value) old_count new_count old new.far why st.far st.is f in
+    hung_map (λ z. z ≡ y) (Written number value y) h bus base new.far (λ z e. inl e) (words_write_cut value h bus y base w old.far new.far cut.acts cut.op st cut.begun cut.cut)
 write_at_hung number value h bus y base w old_count new_count old new why small st (written_in_command mid did _ f) = write_command_hung number value h bus y base w old_count new_count old mid new (access_fault.Dmi why) small st did f
 
 pub write_hung : (number value h : ℕ) (bus : BusUnit) (y : Hart) (base : Site) (w : Hart) (old_count new_count : ℕ) (old new : Tells) (e : AccessFault) → number < 2 ^ 16 → StoodTold h bus y base w old.far → WriteFailed number value old_count new_count old new e

@@ -1,5 +1,5 @@
 -- Where a call broke off, as what stands behind the transport sees it.
-use Rattle.std.proofs.Common.{◌≡◌, ◌∙◌, ◌++◌, ℕ, List, [], ◌∷◌, map, false, Option, Some, refl, sym, ap, subst}
+use Rattle.std.proofs.Common.{◌≡◌, ◌∙◌, ◌++◌, ℕ, List, ◌∷◌, map, false, Option, Some, refl, sym, ap, subst}
 use Rattle.rv_model.specs.Board.{Hart}
 use Rattle.debug_model.specs.Addresses.{abstractcs_address, command_address}
 use Rattle.debug_model.specs.declared.dmi.DmiFault.{DmiFault}
@@ -15,14 +15,17 @@ use Rattle.debug_model.specs.SystemBus.{BusUnit}
 use Rattle.debug_model.specs.Told.{Far, site_of}
 use Rattle.probe_access.specs.declared.fault.AccessFault.{AccessFault}
 use Rattle.probe_access.specs.declared.fault.AccessFault.TheVariants as access_fault
-use Rattle.probe_run.specs.Acts.{Act, Attempt, Broke, Tells}
+use Rattle.probe_run.specs.Acts.{Act, Attempt, Broke, Tells, act_of}
+use Rattle.probe_access.specs.Faults.{Among, BrokeIn}
+use Rattle.chip_laws.proofs.SeveralOperations.{StoppedAt, stopped_at}
+use Rattle.debug_model.specs.Many.{OperationsCut}
 use Rattle.probe_run.specs.Acts.Act.{Put}
-use Rattle.probe_run.specs.Acts.Attempt.{Operation}
+use Rattle.probe_run.specs.Acts.Attempt.{Scan, Operation, Several}
 use Rattle.probe_access.specs.CommandRuns.{CommandBegun, CommandFailed, error_shown, poll_act, shows_busy}
 use Rattle.probe_access.specs.CommandRuns.CommandBegun.{writes, polls, clears}
 use Rattle.probe_access.specs.Cuts.{IfCut}
 use Rattle.probe_access.specs.MemoryRuns.{Recovers}
-use Rattle.probe_access.proofs.Along.{AtSites, SiteActs, did_sites}
+use Rattle.probe_access.proofs.Along.{AtSites, SiteActs, did_sites, operations_acts, site_acts-append}
 use Rattle.probe_access.proofs.Aside.{aside, passed}
 use Rattle.chip_laws.proofs.PathLemmas.{ran-append}
 use Rattle.probe_access.proofs.ReadyUnit.{Kept, OpAt, done_ran, op_at, unit_of}
@@ -45,6 +48,40 @@ cut_at acts op old_count new_count old told why f is b =
     let at : AtSites acts f b.mid.far = did_sites old acts b.mid f b.did is in
     let c : OperationCut op at.far.live.chip told = subst (λ (m : Option Far). WhereTold (OperationCut op) m told) at.is b.cut in
     record { mid = site_of at.far; acts_are = at.acts_are; far = c.far; is = c.is; cut = c.site }
+
+-- and where it was, alone or among several in one call
+pub record CutWithin (Begun : List Act → Attempt → Type 0) (f : Far) (told : Option Far) : Type 0 where
+  pub acts : List Act
+  pub op : DmiOp
+  pub begun : Begun acts (Operation op)
+  pub cut : CutAt acts op f told
+
+several_cut : (Begun : List Act → Attempt → Type 0) (acts : List Act) (op : DmiOp) (ops : List DmiOp) (old_count new_count : ℕ) (old : Tells) (told : Option Far) (why : DmiFault) (f : Far) → old.far ≡ Some f → Among Begun acts (Several op ops)
+    → Broke acts (Several op ops) old_count new_count old told why → CutWithin Begun f told
+several_cut Begun acts op ops old_count new_count old told why f is begun b =
+    let at : AtSites acts f b.mid.far = did_sites old acts b.mid f b.did is in
+    let c : OperationsCut (op ∷ ops) at.far.live.chip told = subst (λ (m : Option Far). WhereTold (OperationsCut (op ∷ ops)) m told) at.is b.cut in
+    let s : StoppedAt (op ∷ ops) (site_of at.far) (site_of c.far) = stopped_at op ops c.done c.rest c.happened (site_of at.far) (site_of c.far) c.asked c.once c.site in
+    record {
+      acts = acts ++ map act_of s.done;
+      op = s.op;
+      begun = begun s.done s.op s.left s.asked;
+      cut = record {
+        mid = s.mid;
+        acts_are = site_acts-append acts (map act_of s.done) (site_of f) (site_of at.far) s.mid at.acts_are (operations_acts s.done (site_of at.far) s.mid s.before);
+        far = c.far;
+        is = c.is;
+        cut = s.cut;
+      };
+    }
+
+pub cut_within : (Begun : List Act → Attempt → Type 0) (old_count new_count : ℕ) (old : Tells) (told : Option Far) (why : DmiFault) (f : Far) → old.far ≡ Some f → BrokeIn (Among Begun) old_count new_count old told why → CutWithin Begun f told
+cut_within Begun old_count new_count old told why f is b = by b.failed b.begun b.broke
+  where
+    by : (failed : Attempt) → Among Begun b.acts failed → Broke b.acts failed old_count new_count old told why → CutWithin Begun f told
+    by Scan begun broke = absurd begun
+    by (Operation op) begun broke = record { acts = b.acts; op = op; begun = begun; cut = cut_at b.acts op old_count new_count old told why f is broke }
+    by (Several op ops) begun broke = several_cut Begun b.acts op ops old_count new_count old told why f is begun broke
 
 -- ---- operations that leave the module quiet
 
@@ -120,31 +157,27 @@ pub record CommandCutTold (word : ℕ) (h : ℕ) (bus : BusUnit) (y : Hart) (bas
   pub is : told ≡ Some far
   pub cut : CommandCutAt word h bus y base w k (site_of far)
 
-cut_begun : (word h : ℕ) (bus : BusUnit) (y : Hart) (base : Site) (w : Hart) (old_count new_count : ℕ) (old : Tells) (told : Option Far) (why : DmiFault) (acts : List Act) (failed : Attempt) → (st : StoodTold h bus y base w old.far)
-    → CommandBegun word acts failed → Broke acts failed old_count new_count old told why → CommandCutTold word h bus y base w st.kept told
-cut_begun word h bus y base w old_count new_count old told why _ _ st writes b =
-    let c : CutAt [] (Write command_address word) st.far told = cut_at [] (Write command_address word) old_count new_count old told why st.far st.is b in
+cut_begun : (word h : ℕ) (bus : BusUnit) (y : Hart) (base : Site) (w : Hart) (far : Option Far) (told : Option Far) (acts : List Act) (op : DmiOp) → (st : StoodTold h bus y base w far)
+    → CommandBegun word acts (Operation op) → CutAt acts op st.far told → CommandCutTold word h bus y base w st.kept told
+cut_begun word h bus y base w far told _ _ st writes c =
     record { far = c.far; is = c.is; cut = written_cut word h bus y base w st.kept c.mid (site_of c.far) (subst (λ s. Stood h bus y base w st.kept s) (sym c.acts_are) st.stood) c.cut }
-cut_begun word h bus y base w old_count new_count old told why _ _ st (polls words vain) b =
-    let c : CutAt (Put command_address word ∷ map poll_act words) (Read abstractcs_address) st.far told = cut_at (Put command_address word ∷ map poll_act words) (Read abstractcs_address) old_count new_count old told why st.far st.is b in
-    record {
-      far = c.far;
-      is = c.is;
-      cut = sent (sent_more word (unit_of st.kept h bus) h y base c.mid (site_of c.far) (sent_polls word words h bus y base w st.kept (site_of st.far) c.mid st.stood c.acts_are) (status_cut c.mid (site_of c.far) c.cut));
-    }
-cut_begun word h bus y base w old_count new_count old told why _ _ st (clears words last vain idle error) b =
-    let c : CutAt (Put command_address word ∷ (map poll_act words ++ poll_act last ∷ [])) (Write abstractcs_address clears_cmderr) st.far told =
-    cut_at (Put command_address word ∷ (map poll_act words ++ poll_act last ∷ [])) (Write abstractcs_address clears_cmderr) old_count new_count old told why st.far st.is b in
-    record {
-      far = c.far;
-      is = c.is;
-      cut = ended last c.mid idle error (commanded word words last (unit_of st.kept h bus) h y base w (site_of st.far) c.mid st.stood.held st.stood.frozen refl st.stood.idle st.stood.at c.acts_are) c.cut;
-    }
+cut_begun word h bus y base w far told _ _ st (polls words vain) c = record {
+  far = c.far;
+  is = c.is;
+  cut = sent (sent_more word (unit_of st.kept h bus) h y base c.mid (site_of c.far) (sent_polls word words h bus y base w st.kept (site_of st.far) c.mid st.stood c.acts_are) (status_cut c.mid (site_of c.far) c.cut));
+}
+cut_begun word h bus y base w far told _ _ st (clears words last vain idle error) c = record {
+  far = c.far;
+  is = c.is;
+  cut = ended last c.mid idle error (commanded word words last (unit_of st.kept h bus) h y base w (site_of st.far) c.mid st.stood.held st.stood.frozen refl st.stood.idle st.stood.at c.acts_are) c.cut;
+}
 
 -- by the fault
 pub command_cut_told : (word h : ℕ) (bus : BusUnit) (y : Hart) (base : Site) (w : Hart) (old_count new_count : ℕ) (old new : Tells) (e : AccessFault) → (st : StoodTold h bus y base w old.far) → CommandFailed word old_count new_count old new e
     → IfCut (CommandCutTold word h bus y base w st.kept new.far) e
-command_cut_told word h bus y base w old_count new_count old new (access_fault.Dmi why) st f = cut_begun word h bus y base w old_count new_count old new.far why f.acts f.failed st f.begun f.broke
+command_cut_told word h bus y base w old_count new_count old new (access_fault.Dmi why) st f =
+    let c : CutWithin (CommandBegun word) st.far new.far = cut_within (CommandBegun word) old_count new_count old new.far why st.far st.is f in
+    cut_begun word h bus y base w old.far new.far c.acts c.op st c.begun c.cut
 command_cut_told word h bus y base w old_count new_count old new (access_fault.Memory at) st f = tt
 command_cut_told word h bus y base w old_count new_count old new (access_fault.Register number) st f = tt
 command_cut_told word h bus y base w old_count new_count old new access_fault.StillBusy st f =

@@ -9,7 +9,7 @@ use Rattle.probe_access.specs.declared.fault.AccessFault.TheVariants as fault
 use Rattle.probe_run.specs.Acts.{Act, Attempt, Did, Tells}
 use Rattle.probe_run.specs.Acts.Act.{Got, Put}
 use Rattle.probe_run.specs.Acts.Attempt.{Operation}
-use Rattle.probe_access.specs.Faults.{BrokeIn}
+use Rattle.probe_access.specs.Faults.{Among, BrokeIn}
 use Rattle.probe_run.specs.Opening.{clears_cmderr}
 
 abbrev pub polls_most : ℕ
@@ -34,30 +34,12 @@ pub record InVain (words : List ℕ) : Type 0 where
   pub busy : All ShowsBusy words
   pub few : length words < polls_most
 
--- a poll that showed none, behind others that did
-pub record Polled (last : ℕ) (old new : Tells) : Type 0 where
-  pub words : List ℕ
-  pub vain : InVain words
-  pub idle : shows_busy last ≡ false
-  pub did : Did old (map poll_act words ++ poll_act last ∷ []) new
-
 -- 64 polls in a row showed a command under way, behind these calls
 pub record AlwaysBusy (first : List Act) (old new : Tells) : Type 0 where
   pub words : List ℕ
   pub busy : All ShowsBusy words
   pub all : length words ≡ polls_most
   pub did : Did old (first ++ map poll_act words) new
-
-pub data PollBegun : List Act → Attempt → Type 0 where
-  polls : (words : List ℕ) → InVain words → PollBegun (map poll_act words) (Operation (Read abstractcs_address))
-
-abbrev pub PollFailed : ℕ → ℕ → Tells → Tells → AccessFault → Type 0
-PollFailed old_count new_count old new (fault.Dmi why) = BrokeIn PollBegun old_count new_count old new.far why
-PollFailed old_count new_count old new (fault.Memory address) = ⊥
-PollFailed old_count new_count old new (fault.Register number) = ⊥
-PollFailed old_count new_count old new (fault.Run why) = ⊥
-PollFailed old_count new_count old new fault.StillBusy = AlwaysBusy [] old new
-PollFailed old_count new_count old new (fault.Odd shown) = ⊥
 
 -- ---- the command
 
@@ -67,6 +49,13 @@ clearing error = if error == 0 then [] else Put abstractcs_address clears_cmderr
 
 abbrev pub command_acts : ℕ → List ℕ → ℕ → List Act
 command_acts word words last = Put command_address word ∷ (map poll_act words ++ poll_act last ∷ clearing (error_shown last))
+
+-- a poll that showed none under way, behind the command and polls that did
+pub record EndedCommand (word last : ℕ) (old new : Tells) : Type 0 where
+  pub words : List ℕ
+  pub vain : InVain words
+  pub idle : shows_busy last ≡ false
+  pub did : Did old (Put command_address word ∷ (map poll_act words ++ poll_act last ∷ [])) new
 
 -- the command was written once, and ended; the last poll was answered so
 pub record RanCommand (word last : ℕ) (old new : Tells) : Type 0 where
@@ -82,7 +71,7 @@ pub data CommandBegun (word : ℕ) : List Act → Attempt → Type 0 where
       → CommandBegun word (Put command_address word ∷ (map poll_act words ++ poll_act last ∷ [])) (Operation (Write abstractcs_address clears_cmderr))
 
 abbrev pub CommandFailed : ℕ → ℕ → ℕ → Tells → Tells → AccessFault → Type 0
-CommandFailed word old_count new_count old new (fault.Dmi why) = BrokeIn (CommandBegun word) old_count new_count old new.far why
+CommandFailed word old_count new_count old new (fault.Dmi why) = BrokeIn (Among (CommandBegun word)) old_count new_count old new.far why
 CommandFailed word old_count new_count old new (fault.Memory address) = ⊥
 CommandFailed word old_count new_count old new (fault.Register number) = ⊥
 CommandFailed word old_count new_count old new (fault.Run why) = ⊥

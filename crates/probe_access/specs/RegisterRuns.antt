@@ -13,7 +13,7 @@ use Rattle.probe_run.specs.Acts.{Act, Attempt, Did, Tells}
 use Rattle.probe_run.specs.Acts.Act.{Got, Put}
 use Rattle.probe_run.specs.Acts.Attempt.{Operation}
 use Rattle.probe_access.specs.CommandRuns.{CommandFailed, RanCommand, error_shown}
-use Rattle.probe_access.specs.Faults.{BrokeIn}
+use Rattle.probe_access.specs.Faults.{Among, BrokeIn}
 use Rattle.probe_access.specs.RegisterAccess.{joined, transfer_word}
 
 -- ---- the data words
@@ -68,7 +68,7 @@ pub record RegisterRead (number value : ℕ) (old new : Tells) : Type 0 where
 -- the command failed, or behind it the reading of its words
 pub data ReadFailedAt (number old_count new_count : ℕ) (old new : Tells) : AccessFault → Type 0 where
   in_command : (e : AccessFault) → CommandFailed (transfer_word false number) old_count new_count old new e → ReadFailedAt number old_count new_count old new e
-  in_words : (mid : Tells) → RanTo (transfer_word false number) no_error old mid → (why : DmiFault) → BrokeIn DoubleReads old_count new_count mid new.far why
+  in_words : (mid : Tells) → RanTo (transfer_word false number) no_error old mid → (why : DmiFault) → BrokeIn (Among DoubleReads) old_count new_count mid new.far why
       → ReadFailedAt number old_count new_count old new (fault.Dmi why)
 
 -- a register was refused, and it is the one that was meant
@@ -93,7 +93,7 @@ pub record RegisterWritten (number value : ℕ) (old new : Tells) : Type 0 where
 
 -- the writing of the words failed, or behind it the command
 pub data WriteFailedAt (number value old_count new_count : ℕ) (old new : Tells) : AccessFault → Type 0 where
-  in_words : (why : DmiFault) → BrokeIn (DoubleWrites value) old_count new_count old new.far why
+  in_words : (why : DmiFault) → BrokeIn (Among (DoubleWrites value)) old_count new_count old new.far why
       → WriteFailedAt number value old_count new_count old new (fault.Dmi why)
   in_command : (mid : Tells) → Did old (double_written value) mid → (e : AccessFault) → CommandFailed (transfer_word true number) old_count new_count mid new e
       → WriteFailedAt number value old_count new_count old new e

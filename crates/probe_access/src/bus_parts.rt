@@ -9,11 +9,12 @@ ghost use Rattle.debug_model.specs.Kept.{CanCall, Keeps};
 ghost use Rattle.probe_run.specs.Told.{Breaks, Fails, told};
 ghost use Rattle.probe_access.specs.Faults.{access_why};
 
+use crate::commands::POLLS_MOST;
 use crate::doubles::{high_word, join, low_word};
 use crate::fault::AccessFault;
 use crate::memory::cut_to;
+use crate::commands::POLLS_MOST;
 use crate::odd::OddStatus;
-use crate::polling::POLLS_MOST;
 use debug_model::{Dmi, DmiFault, Sbaddress0, Sbaddress1, Sbcs, Sbdata0, Sbdata1};
 use rv_model::Size;
 

@@ -1,13 +1,14 @@
 ghost use Rattle.std.specs.Prelude.{◌≡◌, ◌≤◌, ◌<◌, ◌^◌, ◌∷◌, [], IfOk, IfErr, OnOk, Some};
 ghost use Rattle.probe_run.specs.Acts.{Did};
-ghost use Rattle.probe_access.specs.Faults.{BrokeIn};
+ghost use Rattle.probe_access.specs.Faults.{Among, BrokeIn};
 ghost use Rattle.probe_access.specs.RegisterRuns.{DoubleRead, DoubleReads, DoubleWrites, double_written};
 ghost use Rattle.debug_model.specs.Commands.{high_half, low_half};
 ghost use Rattle.probe_access.specs.RegisterAccess.{joined};
 ghost use Rattle.debug_model.specs.Kept.{CanCall, Keeps};
 ghost use Rattle.probe_run.specs.Told.{Breaks, told};
 
-use debug_model::{Data0, Data1, Dmi, DmiFault};
+use arrayvec::ArrayVec;
+use debug_model::{Data0, Data1, Dmi, DmiFault, DmiOp};
 
 /// The lower 32 bits.
 pub fn low_word(value: u64) -> u32
@@ -34,22 +35,25 @@ pub fn join(low: u32, high: u32) -> u64
 pub fn read_double<D: Dmi>(link: &mut D) -> Result<u64, DmiFault>
     requires callable { CanCall (D.seen link.old) }
     ensures read { IfOk result (λ value. DoubleRead value (told (D.seen link.old)) (told (D.seen link.new))) }
-    ensures broke { IfErr result (Breaks (BrokeIn DoubleReads) (D.seen link.old) (D.seen link.new)) }
+    ensures broke { IfErr result (Breaks (BrokeIn (Among DoubleReads)) (D.seen link.old) (D.seen link.new)) }
     ensures keeps { Keeps Some (D.seen link.old) (D.seen link.new) result }
 {
-    let low = link.read(Data0::ADDRESS)?;
-    let high = link.read(Data1::ADDRESS)?;
-    Ok(join(low, high))
+    let mut words = ArrayVec::new();
+    let operations = [DmiOp::Read(Data0::ADDRESS), DmiOp::Read(Data1::ADDRESS)];
+    link.many(&operations, &mut words)?;
+    Ok(join(words[0], words[1]))
 }
 
 /// Writes a number into the data words.
 pub fn write_double<D: Dmi>(link: &mut D, value: u64) -> Result<(), DmiFault>
     requires callable { CanCall (D.seen link.old) }
     ensures did { OnOk result (Did (told (D.seen link.old)) (double_written value) (told (D.seen link.new))) }
-    ensures broke { IfErr result (Breaks (BrokeIn (DoubleWrites value)) (D.seen link.old) (D.seen link.new)) }
+    ensures broke { IfErr result (Breaks (BrokeIn (Among (DoubleWrites value))) (D.seen link.old) (D.seen link.new)) }
     ensures keeps { Keeps Some (D.seen link.old) (D.seen link.new) result }
 {
-    link.write(Data0::ADDRESS, low_word(value))?;
-    link.write(Data1::ADDRESS, high_word(value))?;
+    let low = DmiOp::Write(Data0::ADDRESS, low_word(value));
+    let high = DmiOp::Write(Data1::ADDRESS, high_word(value));
+    let mut words = ArrayVec::new();
+    link.many(&[low, high], &mut words)?;
     Ok(())
 }

@@ -14,7 +14,6 @@ mod fault;
 mod inside;
 mod memory;
 mod odd;
-mod polling;
 mod program;
 mod registers;
 mod scratch;

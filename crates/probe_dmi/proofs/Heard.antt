@@ -21,18 +21,18 @@ pub record Next (new : Option Script) : Type 0 where
   pub next : Script
   pub is : new ≡ Some next
 
-took_some : (out : List Bool) (s : Script) (new : Option Script) → TookOut out s new → Next new
+pub took_some : (out : List Bool) (s : Script) (new : Option Script) → TookOut out s new → Next new
 took_some out (Numbers numbers) new t = record { next = Numbers t.1; is = t.4 }
 took_some out (Answers bytes) new t = record { next = Answers t.0; is = t.2 }
 
-took_all_then : (outs more : List (List Bool)) (s mid new : Script) → TookAll outs s mid → TookAll more mid new → TookAll (outs ++ more) s new
+pub took_all_then : (outs more : List (List Bool)) (s mid new : Script) → TookAll outs s mid → TookAll more mid new → TookAll (outs ++ more) s new
 took_all_then [] more s mid new a b = subst (λ x. TookAll more x new) a b
 took_all_then (out ∷ outs) more s mid new a b = (a.0, a.1, took_all_then outs more a.0 mid new a.2 b)
 
-took_one : (out : List Bool) (s : Script) (new : Option Script) (next : Script) → TookOut out s new → new ≡ Some next → TookAll (out ∷ []) s next
+pub took_one : (out : List Bool) (s : Script) (new : Option Script) (next : Script) → TookOut out s new → new ≡ Some next → TookAll (out ∷ []) s next
 took_one out s new next t is = (next, subst (TookOut out s) is t, refl)
 
-took_two : (out more : List Bool) (s mid new : Script) → TookAll (out ∷ []) s mid → TookAll (more ∷ []) mid new → TookAll (out ∷ more ∷ []) s new
+pub took_two : (out more : List Bool) (s mid new : Script) → TookAll (out ∷ []) s mid → TookAll (more ∷ []) mid new → TookAll (out ∷ more ∷ []) s new
 took_two out more s mid new a b = took_all_then (out ∷ []) (more ∷ []) s mid new a b
 
 -- ---- the scans of an operation so far
@@ -48,11 +48,11 @@ abbrev pub SoFar : ℕ → Bool → Option Script → Option Script → Type 0
 SoFar n taken None new = new ≡ None
 SoFar n taken (Some script) new = SoFarIn n taken script new
 
-pub nothing_heard : (old : Option Script) → SoFar 0 false old old
-nothing_heard None = refl
-nothing_heard (Some s) = record { outs = []; awaited = begun; next = s; is = refl; took = refl }
+pub nothing_heard : (old new : Option Script) → new ≡ old → SoFar 0 false old new
+nothing_heard None new same = same
+nothing_heard (Some s) new same = record { outs = []; awaited = begun; next = s; is = same; took = refl }
 
-op_of : (out : DmiScan) (bits : List Bool) (n : ℕ) → out ≡ heard bits → out.op ≡ n → (heard bits).op ≡ n
+pub op_of : (out : DmiScan) (bits : List Bool) (n : ℕ) → out ≡ heard bits → out.op ≡ n → (heard bits).op ≡ n
 op_of out bits n is e = ap (λ (x : DmiScan). x.op) (sym is) ∙ e
 
 status_cases : (n : ℕ) → n < 4 → n ≢ 0 → n ≢ 2 → (n ≡ 3) ⊎ (n ≡ 1)
@@ -62,7 +62,7 @@ status_cases (suc (suc zero)) small a b = absurd (b refl)
 status_cases (suc (suc (suc zero))) small a b = inl refl
 status_cases (suc (suc (suc (suc n)))) small a b = absurd (omega (arith, small))
 
-was_busy : (out : DmiScan) (bits : List Bool) → out ≡ heard bits → out.op ≢ 0 → out.op ≢ 2 → WasBusy bits
+pub was_busy : (out : DmiScan) (bits : List Bool) → out ≡ heard bits → out.op ≢ 0 → out.op ≢ 2 → WasBusy bits
 was_busy out bits is undone unfailed = status_cases (heard bits).op (omega arith) (λ e. undone (ap (λ (x : DmiScan). x.op) is ∙ e)) (λ e. unfailed (ap (λ (x : DmiScan). x.op) is ∙ e))
 
 pub heard_carried : (n : ℕ) (out : DmiScan) (old mid new : Option Script) → out.op ≡ 0 → SoFar n false old mid → HeardDmi out mid new → SoFar n true old new
@@ -144,7 +144,7 @@ took_through : (b : ℕ) (out : List Bool) (s : Script) (new : Option Script) �
 took_through b out (Numbers numbers) new t w = subst (λ m. IfSome m (WrongIn b)) t.4 w
 took_through b out (Answers bytes) new t w = wrong_behind b out bytes t.0 t.1 (subst (λ m. IfSome m (WrongIn b)) t.2 w)
 
-all_through : (b : ℕ) (outs : List (List Bool)) (s new : Script) → TookAll outs s new → WrongIn b new → WrongIn b s
+pub all_through : (b : ℕ) (outs : List (List Bool)) (s new : Script) → TookAll outs s new → WrongIn b new → WrongIn b s
 all_through b [] s new t w = subst (WrongIn b) t w
 all_through b (out ∷ outs) s new t w = took_through b out s (Some t.0) t.1 (all_through b outs t.0 new t.2 w)
 
@@ -156,9 +156,13 @@ pub dmi_through : (out : DmiScan) (old new : Option Script) → HeardDmi out old
 dmi_through out None new h b w = tt
 dmi_through out (Some script) new h b w = took_through b h.bits script new h.took w
 
+pub number_through : (value : ℕ) (old new : Option Script) → HeardNumber value old new → Through old new
+number_through value None new h b w = tt
+number_through value (Some script) new h b w = took_through b h.bits script new h.took w
+
 -- ---- causes
 
-end_back : (old mid new : ℕ) (told : Option Far) → old ≤ mid → mid ≤ new → EndCause mid new told → EndCause old new told
+pub end_back : (old mid new : ℕ) (told : Option Far) → old ≤ mid → mid ≤ new → EndCause mid new told → EndCause old new told
 end_back old mid new told e f (inl r) = inl (rises_from old mid new e f r)
 end_back old mid new told e f (inr m) = inr m
 
@@ -176,3 +180,14 @@ scan_cause old mid new told before script (BadAnswer b) e f through c = bad_back
 pub wire_cause : {T : Type 0} (old new : ℕ) (was told : Option Far) (script : Option DmiScript) (fault : WireFault) (result : Result T DmiFault) → IsErrAnd result (λ e. e ≡ Wire fault) → ScanCause old new told (scanned_script script) fault → IfErr result (DmiCause old new was told script)
 wire_cause old new was told script fault (Ok x) h cause = tt
 wire_cause old new was told script fault (Err e) h cause = subst (DmiCause old new was told script) (sym h) cause
+
+-- why a scan failed, behind others
+pub again_cause : (old mid new : ℕ) (told : Option Far) (before script : Option Script) (fault : WireFault) → old ≤ mid → mid ≤ new → Through before script → ScanCause mid new told script fault → ScanCause old new told before fault
+again_cause old mid new told before script SendFailed e f through c = rises_from old mid new e f c
+again_cause old mid new told before script RecvFailed e f through c = rises_from old mid new e f c
+again_cause old mid new told before script Ended e f through c = end_back old mid new told e f c
+again_cause old mid new told before script (BadAnswer b) e f through c = (c.0, c.1, c.2, through b c.3)
+
+pub from_err : {T : Type 0} (P : WireFault → Type 0) (fault : WireFault) (result : Result T WireFault) → IsErrAnd result (λ e. e ≡ fault) → P fault → IfErr result P
+from_err P fault (Ok x) h holds = tt
+from_err P fault (Err e) h holds = subst P (sym h) holds

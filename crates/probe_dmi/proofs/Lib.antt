@@ -1,10 +1,16 @@
+pub mod Carrying
 pub mod Conditions
 pub mod Counts
+pub mod Courses
 pub mod Flight
 pub mod Heard
+pub mod ManyHeard
+pub mod Places
 pub mod Readings
 pub mod Scans
 pub mod Stages
+pub mod StreamEnds
+pub mod Streams
 pub mod Told
 pub mod Updates
 pub mod WholeScans

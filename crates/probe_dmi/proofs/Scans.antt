@@ -8,11 +8,11 @@ use Rattle.debug_model.specs.declared.dmi_scan.DmiScan.{DmiScan}
 use Rattle.debug_model.specs.Chip.{Inside}
 use Rattle.debug_model.specs.Dmi.{IsAtRest, heard}
 use Rattle.debug_model.specs.Port.{data_register_of}
-use Rattle.debug_model.specs.Scan.{ResetCut, RoundsPassed, ScanCut, Scanned, Selected, Stage, WasReset, WhereTold, capture, dr_inside, dr_out, dr_stays, ticks, update}
+use Rattle.debug_model.specs.Scan.{ResetCut, RoundsPassed, ScanCut, Scanned, Selected, Stage, StayedIdle, WasReset, WhereTold, capture, dr_inside, dr_out, dr_stays, ticks, update}
 use Rattle.debug_model.specs.Scan.Stage.{not_captured, captured, updated}
 use Rattle.debug_model.specs.Told.{Far, chip_of}
 use Rattle.debug_model.specs.TransportWords.{dmi_word}
-use Rattle.probe_dmi.specs.Registers.{CutFrom, DmiScanned, IsWidth, Part, Prepared, ScannedFrom, Waited, WordScanned}
+use Rattle.probe_dmi.specs.Registers.{CutFrom, DmiScanned, IsChosen, IsWidth, Part, Prepared, ScannedFrom, Waited, WordScanned, dmi_bits}
 use Rattle.probe_dmi.specs.Registers.Part.{before_capture, behind_capture, behind_update}
 
 -- a scan, from the inside at its capture on
@@ -55,6 +55,30 @@ selected_at slack code f new w n e s = record { far = _; is = s.is; rounds = n +
 pub selected_then : (slack : Option ℕ) (code : ℕ) (old mid new : Option Far) → WhereTold Waited old mid → WhereTold (Selected slack code) mid new → WhereTold (Prepared (data_register_of code)) old new
 selected_then slack code None mid new w s = subst (λ m. WhereTold (Selected slack code) m new) w s
 selected_then slack code (Some f) mid new w s = selected_at slack code f new w.far w.rounds w.passed (subst (λ m. WhereTold (Selected slack code) m new) w.is s)
+
+-- ---- clocks in Run-Test/Idle
+
+pub idled : (slack : Option ℕ) (clocks : ℕ) (r : DataRegister) (old new : Option Far) → IsChosen r old → WhereTold (StayedIdle slack clocks) old new → WhereTold (Prepared r) old new
+idled slack clocks r None new chosen s = s
+idled slack clocks r (Some f) new chosen s = record { far = s.far; is = s.is; rounds = s.rises; passed = s.passed; selected = s.selected ∙ chosen }
+
+pub not_idled : (r : DataRegister) (old : Option Far) → IsChosen r old → WhereTold (Prepared r) old old
+unfolding ticks
+not_idled r None chosen = refl
+not_idled r (Some f) chosen = record { far = f; is = refl; rounds = 0; passed = refl; selected = chosen }
+
+pub rounds_waited : (slack : Option ℕ) (clocks : ℕ) (old new : Option Far) → WhereTold (RoundsPassed slack clocks) old new → WhereTold Waited old new
+rounds_waited slack clocks None new p = p
+rounds_waited slack clocks (Some f) new p = record { far = p.far; is = p.is; rounds = p.rises; passed = p.passed }
+
+pub chosen_of : (r : DataRegister) (old new : Option Far) → WhereTold (Prepared r) old new → IsChosen r new
+chosen_of r None new p = rw p tt
+chosen_of r (Some f) new p = subst (IsChosen r) (sym p.is) p.selected
+
+-- a scan leaves the instruction
+pub chosen_still : (slack : Option ℕ) (r : DataRegister) (bits out : List Bool) (old new : Option Far) → IsChosen r old → WhereTold (Scanned slack bits out) old new → IsChosen r new
+chosen_still slack r bits out None new chosen d = rw d tt
+chosen_still slack r bits out (Some f) new chosen d = subst (IsChosen r) (sym d.is) chosen
 
 -- ---- a scan
 
@@ -104,3 +128,44 @@ word_of r sent bits out value (Some f) new e v d = record { out = out; value_is 
 pub dmi_of_scan : (abits : ℕ) (sent out : DmiScan) (bits took : List Bool) (old new : Option Far) → bits ≡ bits_of (34 + abits) (dmi_word sent) → out ≡ heard took → IsWidth abits old → WhereTold (ScannedFrom Dmi bits took) old new → WhereTold (DmiScanned sent out) old new
 dmi_of_scan abits sent out bits took None new e h w d = d
 dmi_of_scan abits sent out bits took (Some f) new e h w d = record { bits = took; out_is = h; scanned = subst (λ b. ScannedFrom Dmi b took (chip_of f) new) (e ∙ ap (λ n. bits_of (34 + n) (dmi_word sent)) w) d }
+
+-- ---- and rounds behind it
+
+word_at : (r q : DataRegister) (bits : List Bool) (value : ℕ) (f : Far) (mid new : Option Far) (m : WordScanned r bits value (chip_of f) mid) → Prepared q (chip_of m.scanned.far) new → WordScanned r bits value (chip_of f) new
+word_at r q bits value f mid new m p =
+    let x = m.scanned in
+    record {
+      out = m.out;
+      value_is = m.value_is;
+      scanned = record {
+        far = p.far;
+        is = p.is;
+        before = x.before;
+        between = x.between;
+        behind = x.behind + p.rounds;
+        out_is = x.out_is;
+        passed = p.passed ∙ ap (ticks p.rounds) x.passed ∙ ticks_join x.behind p.rounds _;
+      };
+    }
+
+pub word_then : (r q : DataRegister) (bits : List Bool) (value : ℕ) (old mid new : Option Far) → WhereTold (WordScanned r bits value) old mid → WhereTold (Prepared q) mid new → WhereTold (WordScanned r bits value) old new
+word_then r q bits value None mid new m p = subst (λ m. WhereTold (Prepared q) m new) m p
+word_then r q bits value (Some f) mid new m p = word_at r q bits value f mid new m (subst (λ m. WhereTold (Prepared q) m new) m.scanned.is p)
+
+word_cut_at : (r : DataRegister) (bits : List Bool) (value : ℕ) (f : Far) (mid new : Option Far) (m : WordScanned r bits value (chip_of f) mid) → Waited (chip_of m.scanned.far) new → CutFrom r bits (chip_of f) new
+word_cut_at r bits value f mid new m w =
+    let x = m.scanned in
+    record {
+      far = w.far;
+      is = w.is;
+      part = subst (Part r bits (chip_of f).inside) (sym (w.passed ∙ ap (ticks w.rounds) x.passed ∙ ticks_join x.behind w.rounds _)) (behind_update x.before x.between (x.behind + w.rounds));
+    }
+
+pub word_cut : (r : DataRegister) (bits : List Bool) (value : ℕ) (old mid new : Option Far) → WhereTold (WordScanned r bits value) old mid → WhereTold Waited mid new → WhereTold (CutFrom r bits) old new
+word_cut r bits value None mid new m w = subst (λ m. WhereTold Waited m new) m w
+word_cut r bits value (Some f) mid new m w = word_cut_at r bits value f mid new m (subst (λ m. WhereTold Waited m new) m.scanned.is w)
+
+-- a cut scan of dmi
+pub dmi_cut_of : (abits : ℕ) (sent : DmiScan) (bits : List Bool) (old new : Option Far) → bits ≡ bits_of (34 + abits) (dmi_word sent) → IsWidth abits old → WhereTold (CutFrom Dmi bits) old new → WhereTold (CutFrom Dmi (dmi_bits sent)) old new
+dmi_cut_of abits sent bits None new e w d = d
+dmi_cut_of abits sent bits (Some f) new e w d = subst (λ b. CutFrom Dmi b (chip_of f) new) (e ∙ ap (λ n. bits_of (34 + n) (dmi_word sent)) w) d

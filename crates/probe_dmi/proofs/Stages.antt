@@ -16,7 +16,8 @@ use Rattle.debug_model.specs.Dmi.AtMostOnce.{not_sent, in_flight, performed_once
 use Rattle.debug_model.specs.Scan.{capture, dr_inside, dr_stays, dtm_of, ticks, update}
 use Rattle.debug_model.specs.Transport.{Dtm, dmi_seen, finds_busy, launched, operation_of, seen, status_number, updated_dtm}
 use Rattle.debug_model.specs.TransportWords.{dmi_of}
-use Rattle.probe_dmi.specs.Operations.{IsOperation, carrying, nop}
+use Rattle.debug_model.specs.Dmi.{IsOperation}
+use Rattle.probe_dmi.specs.Operations.{carrying, nop}
 use Rattle.probe_dmi.specs.Registers.{Part, dmi_bits, idcode_bits, reset_bits}
 use Rattle.probe_dmi.specs.Registers.Part.{before_capture, behind_capture, behind_update}
 use Rattle.probe_dmi.proofs.Counts.{counts_in, course_losses, losses_one, scan_found, scan_losses, scan_unfound}
@@ -27,19 +28,19 @@ use Rattle.probe_dmi.proofs.Updates.{ClearedBusy, Keeps, Spares, idcode_keeps, n
 
 -- ---- scans while nothing is in flight
 
-seen_is : (s t : Sticky) (f g : Option DmiOp) (a b : Bool) → s ≡ t → f ≡ g → a ≡ b → seen s f a ≡ seen t g b
+pub seen_is : (s t : Sticky) (f g : Option DmiOp) (a b : Bool) → s ≡ t → f ≡ g → a ≡ b → seen s f a ≡ seen t g b
 seen_is s t f g a b d e h = cc
 
 settled_seen : (hs : List Happening) (v : ℕ) (i j : Inside) → Settled hs v i j → seen (dtm_of j).sticky (dtm_of j).flight (dtm_of j).failed ≡ Clear
 settled_seen hs v i j s = seen_is _ Clear _ None _ false s.clear s.flight s.failed
 
-settle_capture : (r : DataRegister) (hs : List Happening) (v : ℕ) (i j : Inside) → Settled hs v i j → Settled hs v i (capture r j)
+pub settle_capture : (r : DataRegister) (hs : List Happening) (v : ℕ) (i j : Inside) → Settled hs v i j → Settled hs v i (capture r j)
 settle_capture Dmi hs v i j s = record { path = captured Dmi hs j s.path; flight = s.flight; failed = s.failed; clear = settled_seen hs v i j s; value_is = s.value_is }
 settle_capture Dtmcs hs v i j s = record { path = captured Dtmcs hs j s.path; flight = s.flight; failed = s.failed; clear = s.clear; value_is = s.value_is }
 settle_capture Idcode hs v i j s = record { path = captured Idcode hs j s.path; flight = s.flight; failed = s.failed; clear = s.clear; value_is = s.value_is }
 settle_capture Bypass hs v i j s = record { path = captured Bypass hs j s.path; flight = s.flight; failed = s.failed; clear = s.clear; value_is = s.value_is }
 
-settle_update : (r : DataRegister) (bits : List Bool) (hs : List Happening) (v : ℕ) (i j : Inside) → Keeps r bits (dtm_of j) → Settled hs v i j → Settled hs v i (update r bits j)
+pub settle_update : (r : DataRegister) (bits : List Bool) (hs : List Happening) (v : ℕ) (i j : Inside) → Keeps r bits (dtm_of j) → Settled hs v i j → Settled hs v i (update r bits j)
 settle_update r bits hs v i j k s = record {
   path = subst (λ xs. Course i xs (update r bits j)) (ap (λ xs. hs ++ xs) k.none ∙ append-nil hs) (updated r bits hs j s.path);
   flight = ap (λ (d : Dtm). d.flight) k.same ∙ s.flight;
@@ -79,14 +80,14 @@ settle_part r bits h hs v i j k s (behind_update before between behind) = settle
 
 -- ---- scans while an operation is awaited
 
-wait_update : (r : DataRegister) (bits : List Bool) (op : DmiOp) (i j : Inside) → Spares r bits (dtm_of j) → Waiting op i j → Waiting op i (update r bits j)
+pub wait_update : (r : DataRegister) (bits : List Bool) (op : DmiOp) (i j : Inside) → Spares r bits (dtm_of j) → Waiting op i j → Waiting op i (update r bits j)
 wait_update r bits op i j k w = record {
   happened = w.happened;
   path = subst (λ xs. Course i xs (update r bits j)) (ap (λ xs. w.happened ++ xs) k.none ∙ append-nil w.happened) (updated r bits w.happened j w.path);
   phase = alike op w.happened (dtm_of j) (dtm_of (update r bits j)) k.flight k.failed k.value w.phase;
 }
 
-wait_captured : (r : DataRegister) (before between : ℕ) (op : DmiOp) (i j : Inside) → Waiting op i j → Waiting op i (ticks between (capture r (ticks before j)))
+pub wait_captured : (r : DataRegister) (before between : ℕ) (op : DmiOp) (i j : Inside) → Waiting op i j → Waiting op i (ticks between (capture r (ticks before j)))
 wait_captured r before between op i j w = wait_ticks between op i (capture r (ticks before j)) (wait_capture r op i (ticks before j) (wait_ticks before op i j w))
 
 -- as long as these bits, with an update that spares what is awaited
@@ -117,10 +118,10 @@ wait_part r bits op i j k h w (behind_update before between behind) = wait_scan 
 
 -- ---- the scan that carries it
 
-record Launching (op : DmiOp) (bits : List Bool) (d : Dtm) : Type 0 where
-  happened : in_update Dmi bits d ≡ Launched op ∷ []
-  flight : (updated_dtm Dmi bits d).flight ≡ Some op
-  clear : (updated_dtm Dmi bits d).sticky ≡ Clear
+pub record Launching (op : DmiOp) (bits : List Bool) (d : Dtm) : Type 0 where
+  pub happened : in_update Dmi bits d ≡ Launched op ∷ []
+  pub flight : (updated_dtm Dmi bits d).flight ≡ Some op
+  pub clear : (updated_dtm Dmi bits d).sticky ≡ Clear
 
 launched_some : (s : Sticky) (o : Option DmiOp) (op : DmiOp) (d : Dtm) → s ≡ Clear → o ≡ Some op → (launches_by s o ≡ Launched op ∷ []) × ((launched s o d).flight ≡ Some op) × ((launched s o d).sticky ≡ d.sticky)
 launched_some Clear (Some p) op d e f = (ap (λ q. Launched q ∷ []) (let is : p ≡ op = cc in is), f, refl)
@@ -128,13 +129,13 @@ launched_some Clear None op d e f = absurd (let no : ⊥ = cc in no)
 launched_some Failed o op d e f = absurd (let no : ⊥ = cc in no)
 launched_some Busy o op d e f = absurd (let no : ⊥ = cc in no)
 
-launching : (op : DmiOp) (d : Dtm) → IsOperation op → d.sticky ≡ Clear → Launching op (dmi_bits (carrying op)) d
+pub launching : (op : DmiOp) (d : Dtm) → IsOperation op → d.sticky ≡ Clear → Launching op (dmi_bits (carrying op)) d
 unfolding updated_dtm
 launching op d small clear =
     let l = launched_some d.sticky (operation_of (dmi_of (number_of (dmi_bits (carrying op))))) op d clear (asks_for op small) in
     record { happened = l.0; flight = l.1; clear = l.2 ∙ clear }
 
-launch_update : (op : DmiOp) (bits : List Bool) (v : ℕ) (i j : Inside) → Launching op bits (dtm_of j) → Settled [] v i j → Waiting op i (update Dmi bits j)
+pub launch_update : (op : DmiOp) (bits : List Bool) (v : ℕ) (i j : Inside) → Launching op bits (dtm_of j) → Settled [] v i j → Waiting op i (update Dmi bits j)
 launch_update op bits v i j l s = record {
   happened = [] ++ in_update Dmi bits (dtm_of j);
   path = updated Dmi bits [] j s.path;
@@ -160,7 +161,7 @@ pub record Reached (op : DmiOp) (i k : Inside) : Type 0 where
   pub path : Course i happened k
   pub once : AtMostOnce op happened
 
-once_of : (op : DmiOp) (hs : List Happening) (d : Dtm) → Phase op hs d → AtMostOnce op hs
+pub once_of : (op : DmiOp) (hs : List Happening) (d : Dtm) → Phase op hs d → AtMostOnce op hs
 once_of op hs d (flying h f) = subst (AtMostOnce op) (sym h) in_flight
 once_of op hs d (landed result h f k v) = subst (AtMostOnce op) (sym h) (performed_once result)
 once_of op hs d (missed h f k) = subst (AtMostOnce op) (sym h) lost_once
@@ -194,7 +195,7 @@ pub data Outcome (op : DmiOp) (i j k : Inside) (out : DmiScan) : Type 0 where
   was_done : (result : ℕ) → out.op ≡ 0 → out.value ≡ result % 4294967296 → Settled (Launched op ∷ Performed op result ∷ []) result i k → Outcome op i j k out
   was_lost : out.op ≡ 2 → Waiting op i k → (counts_in i).dmi_failed < (counts_in k).dmi_failed → Outcome op i j k out
 
-op_seen : (d : Dtm) (out : DmiScan) (s : Sticky) → out ≡ cut_scan (dmi_seen d) → seen d.sticky d.flight d.failed ≡ s → out.op ≡ status_number s % 4
+pub op_seen : (d : Dtm) (out : DmiScan) (s : Sticky) → out ≡ cut_scan (dmi_seen d) → seen d.sticky d.flight d.failed ≡ s → out.op ≡ status_number s % 4
 op_seen d out s is e = ap (λ (x : DmiScan). x.op) is ∙ ap (λ q. status_number q % 4) e
 
 -- the update of a nop leaves the status of the capture
@@ -205,7 +206,7 @@ nop_sticky before between behind j =
     let k : Keeps Dmi left (dtm_of n) = subst (λ x. Keeps Dmi x (dtm_of n)) (sym (dmi_left nop (ticks before j))) (nop_keeps (dtm_of n)) in
     ticks_sticky behind (update Dmi left n) ∙ ap (λ (d : Dtm). d.sticky) k.same ∙ ticks_sticky between (capture Dmi (ticks before j))
 
-finds_is : (s t : Sticky) (f g : Option DmiOp) → s ≡ t → f ≡ g → finds_busy s f ≡ finds_busy t g
+pub finds_is : (s t : Sticky) (f g : Option DmiOp) → s ≡ t → f ≡ g → finds_busy s f ≡ finds_busy t g
 finds_is s t f g d e = cc
 
 settle_from : (between behind : ℕ) (hs : List Happening) (v : ℕ) (i m : Inside) → Settled hs v i m → Settled hs v i (dr_inside 0 between behind (dmi_bits nop) Dmi m)

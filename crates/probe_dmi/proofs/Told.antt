@@ -15,11 +15,12 @@ use Rattle.debug_model.specs.Dmi.SiteCut.{unperformed, was_performed}
 use Rattle.debug_model.specs.Scan.{WhereTold, dr_inside, dtm_of, ticks}
 use Rattle.debug_model.specs.Told.{DtmClean, Far, IsClean, chip_of, site_of}
 use Rattle.debug_model.specs.Transport.{dmi_seen}
-use Rattle.probe_dmi.specs.Operations.{IsOperation, carrying, next_scan, nop}
-use Rattle.probe_dmi.specs.Registers.{CutFrom, DmiScanned, WordScanned, dmi_bits, reset_bits}
-use Rattle.probe_dmi.proofs.Counts.{counts_in}
-use Rattle.probe_dmi.proofs.Flight.{Settled, Waiting}
-use Rattle.probe_dmi.proofs.Stages.{Outcome, Reached, Sent, Stage, await, launch_busy, launch_part, launch_scan, nop_part, ready_op, reset_count, reset_part, reset_wait, stage_reached, wait_reached}
+use Rattle.debug_model.specs.Dmi.{IsOperation}
+use Rattle.probe_dmi.specs.Operations.{carrying, next_scan, nop}
+use Rattle.probe_dmi.specs.Registers.{CutFrom, DmiScanned, Prepared, Waited, WordScanned, dmi_bits, reset_bits}
+use Rattle.probe_dmi.proofs.Counts.{counts_in, ticks_busy}
+use Rattle.probe_dmi.proofs.Flight.{Settled, Waiting, settle_ticks, ticks_sticky}
+use Rattle.probe_dmi.proofs.Stages.{Outcome, Reached, Sent, Stage, await, launch_busy, launch_part, launch_scan, nop_part, ready_op, reset_count, reset_part, reset_wait, settle_reached, stage_reached, wait_reached}
 use Rattle.probe_dmi.proofs.Stages.Outcome.{went_on, was_done, was_lost}
 use Rattle.probe_dmi.proofs.Stages.Stage.{ready, sent}
 use Rattle.probe_dmi.proofs.WholeScans.{cut_scan, heard_of}
@@ -60,18 +61,32 @@ again_then Q T op taken busy (Some f) mid new step u q = step f u (subst (λ m. 
 pub settled_first : (c : Chip) → DtmClean (dtm_of c.inside) → Settled [] (dtm_of c.inside).value c.inside c.inside
 settled_first c clean = record { path = nothing; flight = clean.none_in_flight; failed = clean.not_failed; clear = clean.clear; value_is = refl }
 
-pub begun : (op : DmiOp) (old : Option Far) → IsClean old → WhereTold (Underway op false 0) old old
-begun op None clean = refl
-begun op (Some f) clean = record { far = f; is = refl; stage = ready refl (dtm_of (chip_of f).inside).value (settled_first (chip_of f) clean); clear = clean.clear; found = omega arith }
-
--- ---- what a scan of dmi heard
-
-heard_is : (word out : DmiScan) (c : Chip) (new : Option Far) → (d : DmiScanned word out c new) → out ≡ cut_scan (dmi_seen (dtm_of (ticks d.scanned.before c.inside)))
-heard_is word out c new d = d.out_is ∙ heard_of word d.bits (ticks d.scanned.before c.inside) d.scanned.out_is
-
 -- the chip behind it, where its inside is so
 pub at_passed : (P : Inside → Type 0) (far : Far) (k : Inside) → (chip_of far).inside ≡ k → P k → P (chip_of far).inside
 at_passed P far k e p = subst P (sym e) p
+
+-- behind the instruction
+begun_at : (op : DmiOp) (f : Far) (new : Option Far) → IsClean (Some f) → Prepared Dmi (chip_of f) new → Underway op false 0 (chip_of f) new
+begun_at op f new clean p =
+    let i = (chip_of f).inside in
+    let v = (dtm_of i).value in
+    let k = ticks p.rounds i in
+    record {
+      far = p.far;
+      is = p.is;
+      stage = at_passed (λ (n : Inside). Stage op false i n) p.far k p.passed (ready refl v (settle_ticks p.rounds [] v i i (settled_first (chip_of f) clean)));
+      clear = at_passed (λ (n : Inside). (dtm_of n).sticky ≡ Clear) p.far k p.passed (ticks_sticky p.rounds i ∙ clean.clear);
+      found = at_passed (λ (n : Inside). (counts_in n).dmi_busy ≡ (counts_in i).dmi_busy + 0) p.far k p.passed (omega (arith, ticks_busy p.rounds i));
+    }
+
+pub begun : (op : DmiOp) (old new : Option Far) → IsClean old → WhereTold (Prepared Dmi) old new → WhereTold (Underway op false 0) old new
+begun op None new clean p = p
+begun op (Some f) new clean p = begun_at op f new clean p
+
+-- ---- what a scan of dmi heard
+
+pub heard_is : (word out : DmiScan) (c : Chip) (new : Option Far) → (d : DmiScanned word out c new) → out ≡ cut_scan (dmi_seen (dtm_of (ticks d.scanned.before c.inside)))
+heard_is word out c new d = d.out_is ∙ heard_of word d.bits (ticks d.scanned.before c.inside) d.scanned.out_is
 
 carried_step : (op : DmiOp) (busy : ℕ) (out : DmiScan) (f : Far) (c : Chip) (new : Option Far) → IsOperation op → (v : ℕ) → Settled [] v (chip_of f).inside c.inside
     → (counts_in c.inside).dmi_busy ≡ (counts_in (chip_of f).inside).dmi_busy + busy → DmiScanned (carrying op) out c new → Underway op true busy (chip_of f) new
@@ -89,10 +104,10 @@ carried_step op busy out f c new small v s found d =
       found = at_passed (λ (n : Inside). (counts_in n).dmi_busy ≡ (counts_in i).dmi_busy + busy) x.far k x.passed (launch_busy op x.before x.between x.behind v i j s ∙ found);
     }
 
-false_is_true : {P : Type 0} → false ≡ true → P
+pub false_is_true : {P : Type 0} → false ≡ true → P
 false_is_true e = absurd (let no : ⊥ = cc in no)
 
-other_op : {P : Type 0} (n a b : ℕ) → n ≡ a → n ≡ b → a ≢ b → P
+pub other_op : {P : Type 0} (n a b : ℕ) → n ≡ a → n ≡ b → a ≢ b → P
 other_op n a b e f differ = absurd (differ (sym e ∙ f))
 
 -- the transport took it
@@ -175,6 +190,17 @@ part_reached op false f c new small (ready e v s) d = launch_part op v (chip_of 
 part_reached op false f c new small (sent e w) d = false_is_true e
 part_reached op true f c new small (ready e v s) d = false_is_true (sym e)
 part_reached op true f c new small (sent e w) d = wait_reached op (chip_of f).inside (chip_of d.far).inside (nop_part op (chip_of f).inside c.inside (chip_of d.far).inside w d.part)
+
+-- of the instruction's path
+waited_at : (op : DmiOp) (f : Far) (new : Option Far) → IsClean (Some f) → Waited (chip_of f) new → OperationCut op (chip_of f) new
+waited_at op f new clean w =
+    let i = (chip_of f).inside in
+    let v = (dtm_of i).value in
+    cut_of op f new w.far w.is (at_passed (λ (n : Inside). Reached op i n) w.far (ticks w.rounds i) w.passed (settle_reached op v i (ticks w.rounds i) (settle_ticks w.rounds [] v i i (settled_first (chip_of f) clean))))
+
+pub untaken : (op : DmiOp) (old new : Option Far) → IsClean old → WhereTold Waited old new → WhereTold (OperationCut op) old new
+untaken op None new clean w = w
+untaken op (Some f) new clean w = waited_at op f new clean w
 
 -- of a scan of dmi
 pub dmi_cut : (op : DmiOp) (taken : Bool) (busy : ℕ) (old mid new : Option Far) → IsOperation op → WhereTold (Underway op taken busy) old mid → WhereTold (CutFrom Dmi (dmi_bits (next_scan op taken))) mid new

@@ -16,7 +16,8 @@ use Rattle.debug_model.specs.Tap.{idcode}
 use Rattle.debug_model.specs.Transport.{Dtm, captured_bits, dmi_seen, dtmcs_seen, fresh_dtm, operation_of}
 use Rattle.debug_model.specs.TransportWords.{dmi_of, dmi_word, dtmcs_of, dtmcs_word}
 use Rattle.debug_model.proofs.Cuts.{comes_out_all, stays_all}
-use Rattle.probe_dmi.specs.Operations.{IsOperation, carrying, nop}
+use Rattle.debug_model.specs.Dmi.{IsOperation}
+use Rattle.probe_dmi.specs.Operations.{carrying, nop}
 use Rattle.probe_dmi.specs.Registers.{dmi_bits, idcode_bits, reset_bits}
 
 same_length : (n v w : ℕ) → length (bits_of n v) ≡ length (bits_of n w)

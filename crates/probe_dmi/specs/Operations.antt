@@ -1,6 +1,6 @@
 -- What the scans of an operation carry, and what is seen of a link.
 -- RISC-V Debug Specification 1.0, "Debug Module Interface Access": a nop asks for nothing and shows how the operation in flight goes.
-use Rattle.std.specs.Prelude.{◌≡◌, ℕ, ◌<◌, ◌^◌, Bool, true, false, ◌&&◌, nat_le, if◌then◌else◌, Result, Ok, Err, option_map}
+use Rattle.std.specs.Prelude.{◌≡◌, ℕ, ◌++◌, List, [], ◌∷◌, Bool, true, false, ◌&&◌, nat_le, if◌then◌else◌, Result, Ok, Err, option_map}
 use Rattle.debug_model.specs.declared.dmi_op.DmiOp.{DmiOp}
 use Rattle.debug_model.specs.declared.dmi_op.DmiOp.TheVariants.{Read, Write}
 use Rattle.debug_model.specs.declared.dmi_scan.DmiScan.{DmiScan}
@@ -9,11 +9,6 @@ use Rattle.debug_model.specs.Kept.{DmiSeen, ScanSeen}
 use Rattle.debug_model.specs.TransportWords.{op_nop, op_read, op_write}
 use Rattle.probe_dmi.specs.declared.state.State.{State}
 use Rattle.probe_dmi.specs.declared.state.State.TheVariants.{New, Idle, Dead}
-
--- an operation that the fields of dmi hold
-abbrev pub IsOperation : DmiOp → Type 0
-IsOperation (Read address) = address < 2 ^ 7
-IsOperation (Write address value) = (address < 2 ^ 7) × (value < 2 ^ 32)
 
 abbrev pub carrying : DmiOp → DmiScan
 carrying (Read address) = record { address = address; value = 0; op = op_read }
@@ -26,6 +21,16 @@ nop = record { address = 0; value = 0; op = op_nop }
 abbrev pub next_scan : DmiOp → Bool → DmiScan
 next_scan op false = carrying op
 next_scan op true = nop
+
+-- the first of several that the transport has not taken, and behind the last of them nothing
+abbrev pub first_scan : List DmiOp → DmiScan
+first_scan [] = nop
+first_scan (op ∷ ops) = carrying op
+
+-- the results behind a scan that was no ignored one: it fetched one where an operation was in flight
+abbrev pub kept : Bool → ℕ → List ℕ → List ℕ
+kept false value results = results
+kept true value results = results ++ value ∷ []
 
 abbrev pub is_alive_as : State → Bool
 is_alive_as New = true

@@ -28,6 +28,10 @@ IsWidth abits told = IfSome told (λ _. abits ≡ address_bits)
 abbrev pub IsAsLong : DataRegister → List Bool → Option Far → Type 0
 IsAsLong r bits told = IfSome told (λ _. length bits ≡ width_of r)
 
+-- the instruction selects this register of a told chip
+abbrev pub IsChosen : DataRegister → Option Far → Type 0
+IsChosen r told = IfSome told (λ f. (chip_of f).port.selected ≡ r)
+
 -- ---- what was done to a told chip
 
 -- rounds passed

@@ -3,11 +3,14 @@ ghost use Rattle.std.proofs.Props.{props};
 ghost use Rattle.debug_model.specs.Dmi.{CanOperate};
 ghost use Rattle.probe_dmi.specs.declared.state.State.TheVariants.{New};
 ghost use Rattle.probe_dmi.specs.Operations.{abits_behind, link_seen};
+ghost use Rattle.probe_dmi.specs.Pace.{IsPace, never_waits, nothing_learnt};
 ghost use Rattle.probe_dmi.specs.Registers.{IsWidth};
 
+use crate::pace::Pace;
 use crate::register::{ABITS_LEAST, ABITS_MOST, Registers};
 use crate::state::State;
-use debug_model::{Dmi, DmiFault, DmiOp, Dtmcs, Scan};
+use arrayvec::ArrayVec;
+use debug_model::{Dmi, DmiFault, DmiOp, Dtmcs, OPERATIONS_MOST, Scan};
 
 /// Operations over scans.
 ///
@@ -16,17 +19,42 @@ use debug_model::{Dmi, DmiFault, DmiOp, Dtmcs, Scan};
 pub struct Link<S: Scan> {
     registers: Registers<S>,
     abits: u8,
+    pace: Pace,
     ghost in_range: { (7 ≤ abits) × (abits ≤ 30) },
+    ghost is_pace: { IsPace pace } by { Prim.hlevel props },
     ghost width: { IsWidth abits (S.seen registers.scan).far } by { Prim.hlevel props },
 }
 
 impl<S: Scan> Link<S> {
-    /// Operations over these scans, which `into_scan` hands back. The first call resets the TAP.
+    /// Operations over these scans, which `into_scan` hands back. The first call resets the TAP. It never waits.
     pub fn new(scan: S) -> Self
         requires link { CanOperate (S.seen scan).far }
         ensures scan { result.registers.scan ≡ scan }
         ensures state { result.registers.state ≡ New }
         ensures abits { result.abits ≡ 7 }
+        ensures pace { result.pace ≡ never_waits }
+    {
+        Link::with_pace(scan, Pace::never())
+    }
+
+    /// As `new`, but it learns from busy answers for how many clocks, at most 24, it is to wait in Run-Test/Idle before each scan of several operations.
+    pub fn paced(scan: S) -> Self
+        requires link { CanOperate (S.seen scan).far }
+        ensures scan { result.registers.scan ≡ scan }
+        ensures state { result.registers.state ≡ New }
+        ensures abits { result.abits ≡ 7 }
+        ensures pace { result.pace ≡ nothing_learnt }
+    {
+        Link::with_pace(scan, Pace::learning())
+    }
+
+    fn with_pace(scan: S, pace: Pace) -> Self
+        requires pace { IsPace pace }
+        requires link { CanOperate (S.seen scan).far }
+        ensures scan { result.registers.scan ≡ scan }
+        ensures state { result.registers.state ≡ New }
+        ensures abits { result.abits ≡ 7 }
+        ensures pace { result.pace ≡ pace }
     {
         Link {
             registers: Registers {
@@ -34,6 +62,7 @@ impl<S: Scan> Link<S> {
                 state: State::New,
             },
             abits: ABITS_LEAST,
+            pace,
         }
     }
 
@@ -74,14 +103,30 @@ impl<S: Scan> Dmi for Link<S> {
     }
 
     fn read(&mut self, address: u8) -> Result<u32, DmiFault> {
-        let value = self.registers.operate(self.abits, DmiOp::Read(address))?;
+        let value = self
+            .registers
+            .operate(self.abits, &mut self.pace, DmiOp::Read(address))?;
         Ok(value)
     }
 
     fn write(&mut self, address: u8, value: u32) -> Result<(), DmiFault> {
         self.registers
-            .operate(self.abits, DmiOp::Write(address, value))?;
+            .operate(self.abits, &mut self.pace, DmiOp::Write(address, value))?;
         Ok(())
+    }
+
+    fn many(
+        &mut self,
+        ops: &[DmiOp],
+        results: &mut ArrayVec<u32, OPERATIONS_MOST>,
+    ) -> Result<(), DmiFault> {
+        let done = self
+            .registers
+            .stream(self.abits, &mut self.pace, ops, results);
+        if done.is_err() {
+            results.clear();
+        }
+        done
     }
 
     fn alive(&self) -> bool {

@@ -1,11 +1,13 @@
 ghost use Rattle.std.specs.Prelude.{◌≡◌, ◌≤◌, Some, OnErr, IfOk, IfErr, option_map};
-ghost use Rattle.debug_model.specs.Dmi.{Answers, CanOperate, Operated, OperationCut, Scans};
+ghost use Rattle.debug_model.specs.Dmi.{Answers, CanOperate, IsOperation, Operated, OperationCut, Scans};
 ghost use Rattle.debug_model.specs.Kept.{Keeps, OperationFails};
 ghost use Rattle.debug_model.specs.Scan.{WhereTold};
+ghost use Rattle.probe_dmi.specs.Pace.{IsPace};
 ghost use Rattle.probe_dmi.specs.Registers.{IsWidth};
-ghost use Rattle.probe_dmi.specs.Operations.{IsOperation, LeavesState, link_seen, next_scan};
+ghost use Rattle.probe_dmi.specs.Operations.{LeavesState, link_seen, next_scan};
 
-use crate::register::Registers;
+use crate::pace::Pace;
+use crate::register::{DMI_CODE, Registers};
 use crate::state::State;
 use debug_model::{DmiFault, DmiOp, DmiScan, Scan};
 
@@ -17,15 +19,15 @@ const OP_READ: u8 = 1;
 const OP_WRITE: u8 = 2;
 
 /// The field `op` as it is captured: done, and failed. The others are taken as busy.
-const STATUS_DONE: u8 = 0;
+pub const STATUS_DONE: u8 = 0;
 
-const STATUS_FAILED: u8 = 2;
+pub const STATUS_FAILED: u8 = 2;
 
 /// With so many busy answers a call gives up.
-const BUSY_MOST: u8 = 64;
+pub const BUSY_MOST: u8 = 64;
 
 /// What the next scan of an operation carries: the operation until the transport has taken it, and then nothing.
-fn next_scan(op: DmiOp, taken: bool) -> DmiScan
+pub fn next_scan(op: DmiOp, taken: bool) -> DmiScan
     ensures { result ≡ next_scan op taken }
 {
     if taken {
@@ -50,12 +52,13 @@ fn next_scan(op: DmiOp, taken: bool) -> DmiScan
 }
 
 impl<S: Scan> Registers<S> {
-    /// Does one operation: sends it until the transport has taken it, and awaits its result.
-    pub fn operate(&mut self, abits: u8, op: DmiOp) -> Result<u32, DmiFault>
+    /// Does one operation: sends it until the transport has taken it, and awaits its result. It never waits, and each busy answer teaches the pace.
+    pub fn operate(&mut self, abits: u8, pace: &mut Pace, op: DmiOp) -> Result<u32, DmiFault>
         requires operation { IsOperation op }
         requires least { 7 ≤ abits }
         requires most { abits ≤ 30 }
         requires width { IsWidth abits (S.seen self.old.scan).far }
+        requires pace { IsPace pace.old }
         requires link { CanOperate (S.seen self.old.scan).far }
         ensures operated { IfOk result (λ value. WhereTold (Operated op value) (S.seen self.old.scan).far (S.seen self.new.scan).far) }
         ensures answers { IfOk result (λ value. Answers value (option_map Scans (S.seen self.old.scan).coming)
@@ -64,11 +67,14 @@ impl<S: Scan> Registers<S> {
         ensures cause { IfErr result (OperationFails (link_seen (S.seen self.old.scan) self.old.state) (link_seen (S.seen self.new.scan) self.new.state)) }
         ensures state { LeavesState self.new.state result }
         ensures keeps { Keeps Some (link_seen (S.seen self.old.scan) self.old.state) (link_seen (S.seen self.new.scan) self.new.state) result }
+        ensures pace { IsPace pace.new }
+        ensures paced { pace.new.most ≡ pace.old.most }
     {
+        self.select(DMI_CODE)?;
         let mut busy = 0;
         let mut taken = false;
         'scans: while busy < BUSY_MOST {
-            let out = self.exchange(abits, next_scan(op, taken))?;
+            let out = self.exchange_behind(0, abits, next_scan(op, taken))?;
             if out.op == STATUS_FAILED {
                 self.state = State::Dead;
                 return Err(DmiFault::Failed);
@@ -80,7 +86,8 @@ impl<S: Scan> Registers<S> {
                 taken = true;
                 continue;
             }
-            self.clear()?;
+            self.clear_again()?;
+            *pace = pace.behind_busy();
             busy += 1;
         }
         self.state = State::Dead;

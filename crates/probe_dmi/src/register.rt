@@ -3,7 +3,7 @@ ghost use Rattle.std.proofs.Props.{props};
 ghost use Rattle.debug_model.specs.Port.{data_register_of};
 ghost use Rattle.debug_model.specs.declared.data_register.DataRegister.TheVariants as dr;
 ghost use Rattle.debug_model.specs.Kept.{ScanFails, ScanKeeps, ScanRests};
-ghost use Rattle.debug_model.specs.Scan.{ComesOut, Fits, ScanCut, Scanned, WhereTold};
+ghost use Rattle.debug_model.specs.Scan.{ComesOut, Fits, ScanCut, Scanned, WhereTold, idle_most};
 ghost use Rattle.debug_model.specs.Told.{IsIdle};
 ghost use Rattle.probe_dmi.specs.declared.state.State.TheVariants.{Idle, New};
 ghost use Rattle.probe_dmi.specs.Operations.{LeavesState, is_alive_as};
@@ -14,6 +14,7 @@ ghost use Rattle.probe_dmi.specs.Registers.{
   HeardDmi,
   HeardNumber,
   IsAsLong,
+  IsChosen,
   IsWidth,
   Prepared,
   ScannedFrom,
@@ -32,7 +33,7 @@ use jt_base::Bits;
 const DTMCS_CODE: u8 = 0x10;
 
 /// The instruction code of `dmi`.
-const DMI_CODE: u8 = 0x11;
+pub const DMI_CODE: u8 = 0x11;
 
 /// The bits of IDCODE, and of `dtmcs`.
 const WORD_BITS: u8 = 32;
@@ -97,7 +98,7 @@ impl<S: Scan> Registers<S> {
     }
 
     /// Makes this code, below 32, the instruction.
-    fn select(&mut self, code: u8) -> Result<(), WireFault>
+    pub fn select(&mut self, code: u8) -> Result<(), WireFault>
         requires code { code < 32 }
         requires scan { CanScan (S.seen self.old.scan).far }
         ensures prepared { OnOk result (WhereTold (Prepared (data_register_of code)) (S.seen self.old.scan).far (S.seen self.new.scan).far) }
@@ -194,20 +195,68 @@ impl<S: Scan> Registers<S> {
         Ok(out.value() as u32)
     }
 
-    /// Scans `dmi` with this in it, at an address of 7 to 30 bits.
-    pub fn exchange(&mut self, abits: u8, sent: DmiScan) -> Result<DmiScan, WireFault>
+    /// Stays in Run-Test/Idle for so many clocks, at most 32, and sends nothing where it is 0.
+    fn pause(&mut self, clocks: u8) -> Result<(), WireFault>
+        requires few { clocks ≤ idle_most }
+        requires rests { ScanRests (S.seen self.old.scan) }
+        requires chosen { IsChosen dr.Dmi (S.seen self.old.scan).far }
+        requires idle { self.old.state ≡ Idle }
+        ensures prepared { OnOk result (WhereTold (Prepared dr.Dmi) (S.seen self.old.scan).far (S.seen self.new.scan).far) }
+        ensures cut { OnErr result (WhereTold Waited (S.seen self.old.scan).far (S.seen self.new.scan).far) }
+        ensures coming { (S.seen self.new.scan).coming ≡ (S.seen self.old.scan).coming }
+        ensures cause { IfErr result (ScanFails (S.seen self.old.scan) (S.seen self.new.scan)) }
+        ensures state { LeavesState self.new.state result }
+        ensures keeps { ScanKeeps (S.seen self.old.scan) (S.seen self.new.scan) result }
+    {
+        if clocks == 0 {
+            return Ok(());
+        }
+        self.state = State::Dead;
+        self.scan.idle(clocks)?;
+        self.state = State::Idle;
+        Ok(())
+    }
+
+    /// Waits for so many clocks, at most 32, and scans `dmi`, which is selected, with this in it, at an address of 7 to 30 bits.
+    pub fn exchange_behind(
+        &mut self,
+        clocks: u8,
+        abits: u8,
+        sent: DmiScan,
+    ) -> Result<DmiScan, WireFault>
+        requires few { clocks ≤ idle_most }
         requires least { 7 ≤ abits }
         requires most { abits ≤ 30 }
         requires width { IsWidth abits (S.seen self.old.scan).far }
-        requires scan { CanScan (S.seen self.old.scan).far }
+        requires rests { ScanRests (S.seen self.old.scan) }
+        requires chosen { IsChosen dr.Dmi (S.seen self.old.scan).far }
+        requires idle { self.old.state ≡ Idle }
         ensures scanned { IfOk result (λ out. WhereTold (DmiScanned sent out) (S.seen self.old.scan).far (S.seen self.new.scan).far) }
+        ensures chosen { OnOk result (IsChosen dr.Dmi (S.seen self.new.scan).far) }
         ensures cut { OnErr result (WhereTold (CutFrom dr.Dmi (dmi_bits sent)) (S.seen self.old.scan).far (S.seen self.new.scan).far) }
         ensures heard { IfOk result (λ out. HeardDmi out (S.seen self.old.scan).coming (S.seen self.new.scan).coming) }
         ensures cause { IfErr result (ScanFails (S.seen self.old.scan) (S.seen self.new.scan)) }
         ensures state { LeavesState self.new.state result }
         ensures keeps { ScanKeeps (S.seen self.old.scan) (S.seen self.new.scan) result }
     {
-        let out = self.register(DMI_CODE, Bits::from_u64(sent.bits(), BELOW_ADDRESS + abits))?;
+        self.pause(clocks)?;
+        let out = self.shift(Bits::from_u64(sent.bits(), BELOW_ADDRESS + abits))?;
         Ok(DmiScan::from_bits(out.value()))
+    }
+
+    /// Scans `dtmcs` with `dmireset` set, and selects `dmi` again.
+    pub fn clear_again(&mut self) -> Result<u32, WireFault>
+        requires scan { CanScan (S.seen self.old.scan).far }
+        ensures scanned { IfOk result (λ value. WhereTold (WordScanned dr.Dtmcs reset_bits value) (S.seen self.old.scan).far (S.seen self.new.scan).far) }
+        ensures chosen { OnOk result (IsChosen dr.Dmi (S.seen self.new.scan).far) }
+        ensures cut { OnErr result (WhereTold (CutFrom dr.Dtmcs reset_bits) (S.seen self.old.scan).far (S.seen self.new.scan).far) }
+        ensures heard { IfOk result (λ value. HeardNumber value (S.seen self.old.scan).coming (S.seen self.new.scan).coming) }
+        ensures cause { IfErr result (ScanFails (S.seen self.old.scan) (S.seen self.new.scan)) }
+        ensures state { LeavesState self.new.state result }
+        ensures keeps { ScanKeeps (S.seen self.old.scan) (S.seen self.new.scan) result }
+    {
+        let value = self.clear()?;
+        self.select(DMI_CODE)?;
+        Ok(value)
     }
 }

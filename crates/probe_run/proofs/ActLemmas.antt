@@ -1,19 +1,20 @@
 -- Calls made one after another: two stretches are one, and a failed call behind more of them.
-use Rattle.std.proofs.Common.{◌≡◌, ◌≤◌, ◌++◌, ℕ, List, [], ◌∷◌, Option, Result, Ok, Err, IfErr, IsErrAnd, sym, subst, append_assoc, append-nil, inl, inr}
+use Rattle.std.proofs.Common.{◌≡◌, ◌≤◌, ◌++◌, ℕ, List, [], ◌∷◌, length, Option, Result, Ok, Err, IfErr, IsErrAnd, sym, subst, append_assoc, append-nil, inl, inr}
 use Rattle.jt_base.proofs.FaultLemmas.{rises_from}
 use Rattle.debug_model.specs.declared.dmi.DmiFault.{DmiFault}
 use Rattle.debug_model.specs.declared.dmi.DmiFault.TheVariants.{Wire, Failed, StillBusy}
 use Rattle.debug_model.specs.declared.wire.WireFault.{WireFault}
 use Rattle.debug_model.specs.declared.wire.WireFault.TheVariants.{SendFailed, RecvFailed, Ended, BadAnswer}
-use Rattle.debug_model.specs.Dmi.{Answers, DmiCause, DmiScript, Operated, OperationCut, Passes, ScannedCause}
+use Rattle.debug_model.specs.Dmi.{Answers, DmiCause, DmiScript, Operated, OperationCut, Passes, ScannedCause, scanned_script}
+use Rattle.debug_model.specs.Many.{ManyCause}
 use Rattle.debug_model.specs.Scan.{ScanCause, Script, WhereTold}
 use Rattle.debug_model.specs.Told.{Far}
-use Rattle.probe_run.specs.Acts.{Act, Attempt, Broke, Did, Tells, chip_cut, chip_did, tells, was_heard}
+use Rattle.probe_run.specs.Acts.{Act, Attempt, AttemptCause, Broke, Did, DoesTogether, Tells, acts_of, chip_cut, chip_did, tells, was_heard}
 use Rattle.probe_run.specs.Acts.Act.{Got, Put}
-use Rattle.probe_run.specs.Acts.Attempt.{Operation}
+use Rattle.probe_run.specs.Acts.Attempt.{Scan, Operation, Several}
 use Rattle.debug_model.specs.declared.dmi_op.DmiOp.{DmiOp}
 use Rattle.debug_model.specs.declared.dmi_op.DmiOp.TheVariants.{Read, Write}
-use Rattle.probe_run.specs.Acts.Did.{nothing, further}
+use Rattle.probe_run.specs.Acts.Did.{nothing, further, together}
 
 pub did_one : (act : Act) (old new : Tells) → WhereTold (chip_did act) old.far new.far → was_heard act old.script new.script → Did old (act ∷ []) new
 did_one act old new told heard = further [] act old new nothing (record { told = told; heard = heard })
@@ -26,6 +27,13 @@ did_then xs old mid d ys new nothing = did_list xs (xs ++ []) old mid (sym (appe
 did_then xs old mid d ys new (further zs act at new' before does) =
     did_list ((xs ++ zs) ++ act ∷ []) (xs ++ (zs ++ act ∷ [])) old new (append_assoc xs zs (act ∷ []))
     (further (xs ++ zs) act at new (did_then xs old mid d zs at before) does)
+did_then xs old mid d ys new (together zs op ops results at new' before does) =
+    did_list ((xs ++ zs) ++ acts_of (op ∷ ops) results) (xs ++ (zs ++ acts_of (op ∷ ops) results)) old new (append_assoc xs zs (acts_of (op ∷ ops) results))
+    (together (xs ++ zs) op ops results at new (did_then xs old mid d zs at before) does)
+
+-- several in one call
+pub did_together : (op : DmiOp) (ops : List DmiOp) (results : List ℕ) (old new : Tells) → DoesTogether (op ∷ ops) results old new → Did old (acts_of (op ∷ ops) results) new
+did_together op ops results old new does = together [] op ops results old new nothing does
 
 -- ---- causes
 
@@ -41,13 +49,29 @@ cause_from old mid new was told script (Wire fault) le later c = scan_cause_from
 cause_from old mid new was told script Failed le later c = c
 cause_from old mid new was told script StillBusy le later c = c
 
+pub many_cause_from : (operations old mid new : ℕ) (was told : Option Far) (script : Option DmiScript) (fault : DmiFault) → old ≤ mid → mid ≤ new → ManyCause operations mid new was told script fault → ManyCause operations old new was told script fault
+many_cause_from operations old mid new was told script (Wire fault) le later c = scan_cause_from old mid new told _ fault le later c
+many_cause_from operations old mid new was told script Failed le later c = c
+many_cause_from operations old mid new was told script StillBusy le later c = c
+
+pub attempt_cause_from : (failed : Attempt) (old mid new : ℕ) (was told : Option Far) (script : Option DmiScript) (fault : DmiFault) → old ≤ mid → mid ≤ new → AttemptCause failed mid new was told script fault → AttemptCause failed old new was told script fault
+attempt_cause_from Scan old mid new was told script fault le later c = cause_from old mid new was told script fault le later c
+attempt_cause_from (Operation op) old mid new was told script fault le later c = cause_from old mid new was told script fault le later c
+attempt_cause_from (Several op ops) old mid new was told script fault le later c = many_cause_from (length (op ∷ ops)) old mid new was told script fault le later c
+
+-- a fault of the wire has the same cause in each
+pub attempt_wire : (failed : Attempt) (old new : ℕ) (was told : Option Far) (script : Option DmiScript) (why : WireFault) → AttemptCause failed old new was told script (Wire why) → ScanCause old new told (scanned_script script) why
+attempt_wire Scan old new was told script why c = c
+attempt_wire (Operation op) old new was told script why c = c
+attempt_wire (Several op ops) old new was told script why c = c
+
 pub scanned_cause : (old new : ℕ) (was told : Option Far) (script : Option DmiScript) (fault : DmiFault) → ScannedCause old new told script fault → DmiCause old new was told script fault
 scanned_cause old new was told script (Wire fault) c = c
 scanned_cause old new was told script Failed c = absurd c
 scanned_cause old new was told script StillBusy c = absurd c
 
 pub broke_one : (failed : Attempt) (old_count new_count : ℕ) (old : Tells) (told : Option Far) (fault : DmiFault) → WhereTold (chip_cut failed) old.far told
-    → DmiCause old_count new_count old.far told old.script fault → Broke [] failed old_count new_count old told fault
+    → AttemptCause failed old_count new_count old.far told old.script fault → Broke [] failed old_count new_count old told fault
 broke_one failed old_count new_count old told fault cut cause = record { mid = old; did = nothing; cut = cut; cause = cause }
 
 pub broke_then : (xs : List Act) (old mid : Tells) → Did old xs mid → (ys : List Act) (failed : Attempt) (count mid_count new_count : ℕ) (told : Option Far) (fault : DmiFault) → count ≤ mid_count → mid_count ≤ new_count
@@ -56,7 +80,7 @@ broke_then xs old mid d ys failed count mid_count new_count told fault le later 
   mid = b.mid;
   did = did_then xs old mid d ys b.mid b.did;
   cut = b.cut;
-  cause = cause_from count mid_count new_count b.mid.far told b.mid.script fault le later b.cause;
+  cause = attempt_cause_from failed count mid_count new_count b.mid.far told b.mid.script fault le later b.cause;
 }
 
 pub broke_list : (xs xs' : List Act) (failed : Attempt) (old_count new_count : ℕ) (old : Tells) (told : Option Far) (fault : DmiFault) → xs ≡ xs'

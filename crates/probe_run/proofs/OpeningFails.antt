@@ -10,12 +10,12 @@ use Rattle.probe_run.specs.Opening.ActivateBroke.{at_read, at_write}
 use Rattle.probe_run.specs.Opening.CommandsBroke.{at_abstractauto, at_abstractcs, at_cmderr}
 use Rattle.probe_run.specs.Opening.BusBroke.{at_sbcs, at_sberror}
 use Rattle.probe_run.specs.Opening.OpeningBroke.{in_activation, in_bus, in_commands, in_module, in_transport}
-use Rattle.probe_run.proofs.ActLemmas.{cause_from}
+use Rattle.probe_run.proofs.ActLemmas.{attempt_cause_from}
 
 -- counted from an earlier count of faults
 broke_from : (acts : List Act) (failed : Attempt) (count mid_count new_count : ℕ) (old : Tells) (told : Option Far) (fault : DmiFault) → count ≤ mid_count → mid_count ≤ new_count → Broke acts failed mid_count new_count old told fault
     → Broke acts failed count new_count old told fault
-broke_from acts failed count mid_count new_count old told fault le later b = record { mid = b.mid; did = b.did; cut = b.cut; cause = cause_from count mid_count new_count b.mid.far told b.mid.script fault le later b.cause }
+broke_from acts failed count mid_count new_count old told fault le later b = record { mid = b.mid; did = b.did; cut = b.cut; cause = attempt_cause_from failed count mid_count new_count b.mid.far told b.mid.script fault le later b.cause }
 
 then_from : (R : Tells → Tells → Type 0) (acts : List Act) (failed : Attempt) (count mid_count new_count : ℕ) (old : Tells) (told : Option Far) (fault : DmiFault) → count ≤ mid_count → mid_count ≤ new_count
     → ThenBroke R acts failed mid_count new_count old told fault → ThenBroke R acts failed count new_count old told fault

@@ -6,7 +6,7 @@ use crate::hart::{Halted, Running, Seen};
 use crate::target::opened;
 use crate::{ConnectFault, RunFault, connect};
 use arrayvec::ArrayVec;
-use debug_model::{Dmi, DmiFault, ScriptedDmi, WireFault};
+use debug_model::{Dmi, DmiFault, DmiOp, OPERATIONS_MOST, ScriptedDmi, WireFault};
 
 /// Operations whose every read answers the same, and what was written.
 #[derive(Drop)]
@@ -46,6 +46,22 @@ impl Dmi for SameDmi {
     fn write(&mut self, address: u8, value: u32) -> Result<(), DmiFault> {
         let _address = address;
         let _full = self.written.try_push(value).is_err();
+        Ok(())
+    }
+
+    fn many(
+        &mut self,
+        ops: &[DmiOp],
+        results: &mut ArrayVec<u32, OPERATIONS_MOST>,
+    ) -> Result<(), DmiFault> {
+        let mut rest = ops;
+        'operations: while let [op, after @ ..] = rest {
+            results.push(match *op {
+                DmiOp::Read(_) => self.answer,
+                DmiOp::Write(_, value) => value,
+            });
+            rest = after;
+        }
         Ok(())
     }
 

@@ -35,7 +35,7 @@ cut_of_send bytes f new s =
       took = record { front = t.front; back = t.back ++ s.1; cut = s.2 ∙ ap (λ xs. xs ++ s.1) t.cut ∙ append_assoc t.front t.back s.1; is = t.is };
     }
 
-along_cut : (Q : Inside → Type 0) (bytes : List ℕ) (f : Far) (new : Option Far) → (cut : CutAt bytes f new) → Along Q f.live.chip bytes → Q cut.far.live.chip.inside
+pub along_cut : (Q : Inside → Type 0) (bytes : List ℕ) (f : Far) (new : Option Far) → (cut : CutAt bytes f new) → Along Q f.live.chip bytes → Q cut.far.live.chip.inside
 along_cut Q bytes f new cut a = subst (λ (d : Chip). Q d.inside) (sym cut.took.is) (along_front Q cut.took.front cut.took.back f.live.chip (subst (Along Q f.live.chip) cut.took.cut a))
 
 -- ---- a reset

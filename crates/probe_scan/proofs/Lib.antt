@@ -1,6 +1,7 @@
 pub mod Along
 pub mod Ends
 pub mod Faults
+pub mod Idling
 pub mod Paths
 pub mod Received
 pub mod Rounds

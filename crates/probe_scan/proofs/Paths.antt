@@ -197,11 +197,11 @@ reset_idle false r bits tdo i = refl
 abbrev pub IsQuiet : List ℕ → Type 0
 IsQuiet bytes = (c : Chip) → told_by c bytes ≡ []
 
-nothing_quiet : IsQuiet []
+pub nothing_quiet : IsQuiet []
 unfolding told_by
 nothing_quiet c = refl
 
-clock_quiet : (tms tdi : Bool) (rest : List ℕ) → IsQuiet rest → IsQuiet (clock tms tdi ++ rest)
+pub clock_quiet : (tms tdi : Bool) (rest : List ℕ) → IsQuiet rest → IsQuiet (clock tms tdi ++ rest)
 unfolding told_by
 clock_quiet true true rest quiet c = quiet _
 clock_quiet true false rest quiet c = quiet _

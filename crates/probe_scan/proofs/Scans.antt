@@ -35,7 +35,7 @@ state_at s c free is = any_at c free ∙ ap (λ t. chip_at c.tck t c.port.select
 abbrev far_with : Live → List ℕ → Far
 far_with l u = record { live = l; unread = u }
 
-far_of : (l l' : Live) (u u' : List ℕ) → l ≡ l' → u ≡ u' → far_with l u ≡ far_with l' u'
+pub far_of : (l l' : Live) (u u' : List ℕ) → l ≡ l' → u ≡ u' → far_with l u ≡ far_with l' u'
 far_of l l' u u' p q = cc
 
 -- a chip by its parts
@@ -270,6 +270,7 @@ done_told bits out answers f new got spelled =
         before = 2;
         between = suc (suc (length bits));
         behind = 1;
+        shifts = omega arith;
         out_is = same_bits _ _ (sym spelled ∙ got.answers_are);
         is = got.is;
         least = omega arith;

@@ -2,7 +2,7 @@
 
 ghost use Rattle.std.specs.Prelude.{◌≡◌, ◌≤◌, ◌<◌, ◌+◌, ◌*◌, ◌++◌, length, map, IfOk, IfErr};
 ghost use Rattle.debug_model.specs.Chip.{answer_byte};
-ghost use Rattle.debug_model.specs.Scan.{asked_bits, dr_bytes, ir_bytes, path, reset_bytes, sent_bits};
+ghost use Rattle.debug_model.specs.Scan.{asked_bits, dr_bytes, idle_bytes, idle_most, ir_bytes, path, reset_bytes, sent_bits};
 ghost use Rattle.debug_model.specs.Wire.{piece_most};
 ghost use Rattle.probe_scan.specs.Answers.{IsFirstBad, bits_most};
 
@@ -24,6 +24,9 @@ const SHIFT_IR_PATH: [bool; 4] = [true, true, false, false];
 
 /// TMS from Exit1-DR or Exit1-IR to Run-Test/Idle.
 const IDLE_PATH: [bool; 2] = [true, false];
+
+/// The most clocks in Run-Test/Idle of one call.
+const IDLE_MOST: usize = 32;
 
 /// Appends a clock for each level of TMS, with TDI 0.
 fn push_path(batch: &mut Batch, levels: &[bool])
@@ -82,6 +85,16 @@ pub fn ir_batch(code: u8) -> Batch
         Bits::from_u64(u64::from(code), INSTRUCTION_BITS),
     );
     push_path(&mut batch, &IDLE_PATH);
+    batch
+}
+
+/// The bytes of so many clocks in Run-Test/Idle, at most 32.
+pub fn idle_batch(clocks: u8) -> Batch
+    requires { clocks ≤ idle_most }
+    ensures { result ≡ idle_bytes clocks }
+{
+    let mut batch = Batch::new();
+    push_path(&mut batch, &[false; IDLE_MOST][..clocks as usize]);
     batch
 }
 

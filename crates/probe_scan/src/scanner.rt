@@ -8,7 +8,7 @@ ghost use Rattle.debug_model.specs.Wire.{ReadsFront, TakesComing};
 ghost use Rattle.probe_scan.specs.Answers.{KeepsChip, ReceiveCause, bits_most, or_bad, scan_seen};
 ghost use Rattle.probe_scan.specs.Remembered.{IsRemembered};
 
-use crate::batch::{dr_batch, ir_batch, read_bits, reset_batch};
+use crate::batch::{dr_batch, idle_batch, ir_batch, read_bits, reset_batch};
 use debug_model::{NO_ANSWER, Scan, Wire, WireFault};
 use jt_base::Bits;
 
@@ -109,6 +109,13 @@ impl<W: Wire> Scan for Scanner<W> {
         let out = receive(&mut self.wire, &mut answers[..bits.len() as usize])?;
         self.remembered = remembered;
         Ok(out)
+    }
+
+    fn idle(&mut self, clocks: u8) -> Result<(), WireFault> {
+        let remembered = self.remembered.take();
+        self.wire.send(idle_batch(clocks).bytes())?;
+        self.remembered = remembered;
+        Ok(())
     }
 
     fn faults(&self) -> u64 {

@@ -13,7 +13,7 @@ const NUMBERS_MOST: usize = 128;
 /// Scans without a chip: what comes out is given beforehand.
 ///
 /// Each `dr` answers the lowest bits of the next number, as many as were sent. Where none is left it counts a fault and
-/// answers `RecvFailed`. `reset` and `ir` are Ok. It takes no memory.
+/// answers `RecvFailed`. `reset`, `ir` and `idle` are Ok. It takes no memory.
 #[derive(Drop)]
 pub struct ScriptedScan {
     numbers: ArrayVec<u64, NUMBERS_MOST>,
@@ -69,6 +69,11 @@ impl Scan for ScriptedScan {
                 Err(WireFault::RecvFailed)
             }
         }
+    }
+
+    fn idle(&mut self, clocks: u8) -> Result<(), WireFault> {
+        let _clocks = clocks;
+        Ok(())
     }
 
     fn faults(&self) -> u64 {

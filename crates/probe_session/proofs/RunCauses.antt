@@ -11,6 +11,7 @@ use Rattle.probe_run.specs.declared.fault.RunFault.TheVariants as run_fault
 use Rattle.probe_run.specs.Acts.{Act, Attempt, Broke, Tells}
 use Rattle.probe_run.specs.Opening.{ActivateBroke, BusBroke, CommandsBroke, OpeningBroke}
 use Rattle.probe_run.specs.Outcomes.{HaltBroke, HaltFails, LookFailed, LookFails, ResumeFails, RunBroke, StepFails, run_why}
+use Rattle.probe_run.proofs.ActLemmas.{attempt_wire}
 use Rattle.probe_session.specs.Causes.{WireCause}
 
 -- a fault of the wire has its cause, and no other fault needs one
@@ -22,7 +23,7 @@ DmiWire old_count new_count told dmi_fault.StillBusy = Unit {0}
 -- ---- one call of the link
 
 pub broke_wire : (why : DmiFault) {acts : List Act} {failed : Attempt} {old_count new_count : ℕ} {old : Tells} {told : Option Far} → Broke acts failed old_count new_count old told why → DmiWire old_count new_count told why
-broke_wire (dmi_fault.Wire why) b = record { script = scanned_script b.mid.script; cause = b.cause }
+broke_wire (dmi_fault.Wire why) {failed = failed} {old_count = old_count} {new_count = new_count} {told = told} b = record { script = scanned_script b.mid.script; cause = attempt_wire failed old_count new_count b.mid.far told b.mid.script why b.cause }
 broke_wire dmi_fault.Failed b = tt
 broke_wire dmi_fault.StillBusy b = tt
 

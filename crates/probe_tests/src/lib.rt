@@ -6,4 +6,6 @@
 #[cfg(test)]
 mod operations;
 #[cfg(test)]
+mod several;
+#[cfg(test)]
 mod slots;

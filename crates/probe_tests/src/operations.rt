@@ -9,27 +9,31 @@ use jt_base::{Bits, count_fault};
 use probe_dmi::Link;
 use probe_scan::ScriptedScan;
 
+/// The most calls that a recorder keeps.
+const CALLS_MOST: usize = 64;
+
 /// One call of a scan.
 #[derive(Clone, Copy, Debug, Default, PartialEq, Eq)]
-enum Call {
+pub enum Call {
     #[default]
     Reset,
     Ir(u8),
     /// How many bits, and the number that they spell.
     Dr(u8, u64),
+    Idle(u8),
 }
 
 /// Scans that keep what is sent, and take these numbers out.
 #[derive(Drop)]
-struct Recorder<'a> {
-    calls: ArrayVec<Call, 32>,
+pub struct Recorder<'a> {
+    pub calls: ArrayVec<Call, CALLS_MOST>,
     numbers: &'a [u64],
     taken: usize,
     failed: u64,
 }
 
 impl<'a> Recorder<'a> {
-    fn new(numbers: &'a [u64]) -> Self
+    pub fn new(numbers: &'a [u64]) -> Self
         ensures { result.numbers.now ≡ numbers.now }
     {
         Recorder {
@@ -52,20 +56,15 @@ impl<'a> Recorder<'a> {
 }
 
 impl<'a> Scan for Recorder<'a> {
-    ghost use Rattle.std.specs.Prelude.{None};
+    ghost use Rattle.std.specs.Prelude.{None, true};
     ghost use Rattle.debug_model.specs.Ties.{no_ties};
 
-    ghost far = { λ _. None };
-
-    ghost script = { λ _. None };
-
-    ghost fault_count = { λ s. s.failed };
-
-    ghost slack = { λ _. None };
-
-    ghost gives = { λ _. Unit {0} };
-
-    ghost ties = { λ _. no_ties };
+    ghost seen = { λ s. record {
+      far = None;
+      coming = None;
+      fault_count = s.failed;
+      fixed = record { slack = None; ties = no_ties; gives = λ _. true };
+    } };
 
     fn reset(&mut self) -> Result<(), WireFault> {
         self.keep(Call::Reset);
@@ -91,12 +90,17 @@ impl<'a> Scan for Recorder<'a> {
         }
     }
 
+    fn idle(&mut self, clocks: u8) -> Result<(), WireFault> {
+        self.keep(Call::Idle(clocks));
+        Ok(())
+    }
+
     fn faults(&self) -> u64 {
         self.failed
     }
 }
 
-fn scripted(numbers: &[u64]) -> ScriptedScan {
+pub fn scripted(numbers: &[u64]) -> ScriptedScan {
     let mut list = ArrayVec::new();
     if list.try_extend_from_slice(numbers).is_err() {
         list.clear();
@@ -105,7 +109,7 @@ fn scripted(numbers: &[u64]) -> ScriptedScan {
 }
 
 /// `dtmcs` with version 1, idle 1, status 3 and 7 bits of an address.
-const DTMCS_BUSY: u64 = 0x1c71;
+pub const DTMCS_BUSY: u64 = 0x1c71;
 
 #[test]
 fn reads_by_a_script(rt: HostRuntime) {
@@ -168,7 +172,6 @@ fn sends_an_operation_until_it_is_taken(rt: HostRuntime) {
         Call::Dr(32, 0x1_0000),
         Call::Ir(0x11),
         Call::Dr(41, 0x40_0000_0006),
-        Call::Ir(0x11),
         Call::Dr(41, 0),
         Call::Ir(0x10),
         Call::Dr(32, 0x1_0000),
@@ -195,7 +198,6 @@ fn takes_the_address_bits_of_dtmcs(rt: HostRuntime) {
             Call::Dr(32, 0x1_0000),
             Call::Ir(0x11),
             Call::Dr(width, 0x10_0000_0001),
-            Call::Ir(0x11),
             Call::Dr(width, 0),
         ];
         assert_eq!(rt; link.into_scan().calls.as_slice(), &wanted[..]);

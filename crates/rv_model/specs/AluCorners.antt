@@ -3,7 +3,8 @@
 use Rattle.std.specs.Prelude.{◌≡◌}
 use Rattle.rv_model.specs.declared.alu_op.AluOp.TheVariants.{Immediate, Register, Amo}
 use Rattle.rv_model.specs.declared.alu_op.ImmediateOp.TheVariants.{Slti, Sltiu, Addiw}
-use Rattle.rv_model.specs.declared.alu_op.RegisterOp.TheVariants.{Add, Srl, Sub, Sra, Mulh, Mulhsu, Mulhu, Div, Divu, Rem, Sllw, Srlw, Subw, Sraw, Mulw, Divw, Divuw, Remw, Remuw}
+use Rattle.rv_model.specs.declared.alu_op.RegisterOp.TheVariants.{Add, Srl, Sub, Sra, Mulh, Mulhsu, Mulhu, Div, Divu, Rem, Sllw, Srlw, Subw, Sraw, Mulw, Divw}
+use Rattle.rv_model.specs.declared.alu_op.RegisterOp.TheVariants.{Divuw, Remw, Remuw}
 use Rattle.rv_model.specs.declared.alu_op.AmoOp.TheVariants.{Amomin, Amomax, Amominu, Amomaxu}
 use Rattle.rv_model.specs.declared.width.Width.TheVariants.{Word, DoubleWord}
 use Rattle.rv_model.specs.Alu.{alu_of}

@@ -22,7 +22,17 @@ core_code =
     code_by (ℕ × (List ℕ × (ℕ × (ℕ × (ℕ × (ℕ × (ℕ × (ℕ × ℕ))))))))
     (coded× coded_ℕ (coded× (coded_list coded_ℕ) (coded× coded_ℕ (coded× coded_ℕ (coded× coded_ℕ (coded× coded_ℕ (coded× coded_ℕ (coded× coded_ℕ coded_ℕ))))))))
     (λ c. (c.id, (c.x, (c.pc, (c.mstatus, (c.mtvec, (c.mscratch, (c.mepc, (c.mcause, c.mtval)))))))))
-    (λ p. record { id = p.0; x = p.1.0; pc = p.1.1.0; mstatus = p.1.1.1.0; mtvec = p.1.1.1.1.0; mscratch = p.1.1.1.1.1.0; mepc = p.1.1.1.1.1.1.0; mcause = p.1.1.1.1.1.1.1.0; mtval = p.1.1.1.1.1.1.1.1 })
+    (λ p. record {
+      id = p.0;
+      x = p.1.0;
+      pc = p.1.1.0;
+      mstatus = p.1.1.1.0;
+      mtvec = p.1.1.1.1.0;
+      mscratch = p.1.1.1.1.1.0;
+      mepc = p.1.1.1.1.1.1.0;
+      mcause = p.1.1.1.1.1.1.1.0;
+      mtval = p.1.1.1.1.1.1.1.1;
+    })
     (λ _. refl)
 
 -- ---- a cause, and how a slot compares, by their numbers
@@ -92,9 +102,22 @@ slot_code =
 abbrev pub debug_code : Coded DebugPart
 debug_code =
     code_by (Option Cause × (Bool × (Bool × (Bool × (Bool × (Bool × (Bool × (Bool × (ℕ × List Slot)))))))))
-    (coded× (coded_option cause_code) (coded× coded_bool (coded× coded_bool (coded× coded_bool (coded× coded_bool (coded× coded_bool (coded× coded_bool (coded× coded_bool (coded× coded_ℕ (coded_list slot_code))))))))))
+    (coded× (coded_option cause_code)
+    (coded× coded_bool (coded× coded_bool (coded× coded_bool (coded× coded_bool (coded× coded_bool (coded× coded_bool (coded× coded_bool
+    (coded× coded_ℕ (coded_list slot_code))))))))))
     (λ d. (d.halted, (d.halt_request, (d.resume_request, (d.resume_ack, (d.have_reset, (d.step, (d.stepie, (d.ebreakm, (d.tselect, d.slots))))))))))
-    (λ p. record { halted = p.0; halt_request = p.1.0; resume_request = p.1.1.0; resume_ack = p.1.1.1.0; have_reset = p.1.1.1.1.0; step = p.1.1.1.1.1.0; stepie = p.1.1.1.1.1.1.0; ebreakm = p.1.1.1.1.1.1.1.0; tselect = p.1.1.1.1.1.1.1.1.0; slots = p.1.1.1.1.1.1.1.1.1 })
+    (λ p. record {
+      halted = p.0;
+      halt_request = p.1.0;
+      resume_request = p.1.1.0;
+      resume_ack = p.1.1.1.0;
+      have_reset = p.1.1.1.1.0;
+      step = p.1.1.1.1.1.0;
+      stepie = p.1.1.1.1.1.1.0;
+      ebreakm = p.1.1.1.1.1.1.1.0;
+      tselect = p.1.1.1.1.1.1.1.1.0;
+      slots = p.1.1.1.1.1.1.1.1.1;
+    })
     (λ _. refl)
 
 abbrev pub hart_code : Coded Hart

@@ -80,8 +80,12 @@ pub record ProgramBufferExamples : Type 0 where
   pub load_means : meaning 0x00043483 ≡ Some (Load Ld (record { rd = 9; rs1 = 8; imm = 0 }))  -- ld x9, 0(x8)
   pub adds : (m : Memory) → ran_word 0x00140413 halted_hart m ≡ debugged ended.Next false (with_x8 1) m  -- addi x8, x8, 1: pc stays
   pub reads_dcsr : (m : Memory) → ran_word 0x7b002473 halted_hart m ≡ debugged ended.Next false (with_x8 0x40000143) m  -- csrrs x8, dcsr, x0
-  pub sets_step : (m : Memory) → ran_word 0x7b026073 halted_hart m ≡ debugged ended.Next false (record halted_hart { debug = record halted_hart.debug { step = true } }) m  -- csrrsi x0, dcsr, 4
-  pub sets_dpc : (m : Memory) → ran_word 0x7b125073 halted_hart m ≡ debugged ended.Next false (record halted_hart { core = record halted_hart.core { pc = 4 } }) m  -- csrrwi x0, dpc, 4
+  -- csrrsi x0, dcsr, 4
+  pub sets_step : (m : Memory) → ran_word 0x7b026073 halted_hart m
+      ≡ debugged ended.Next false (record halted_hart { debug = record halted_hart.debug { step = true } }) m
+  -- csrrwi x0, dpc, 4
+  pub sets_dpc : (m : Memory) → ran_word 0x7b125073 halted_hart m
+      ≡ debugged ended.Next false (record halted_hart { core = record halted_hart.core { pc = 4 } }) m
   pub writes_mhartid : IsException 0xf1401073  -- csrrw x0, mhartid, x0
   pub reads_dscratch0 : IsException 0x7b202473  -- csrrs x8, dscratch0, x0: there is none
   pub faulting_load : (m : Memory) → ran_word 0x00102483 halted_hart m ≡ debugged ended.Exception true halted_hart m  -- lw x9, 1(x0)

@@ -18,7 +18,8 @@ pub record DcsrExamples : Type 0 where
   pub running : dcsr_value (reset_debug None) ≡ 0x40000003
   pub stopped_by_trigger : dcsr_value (record (reset_debug (Some TriggerCause)) { step = true; ebreakm = true }) ≡ 0x40008087
   pub all_zeros_written : dcsr_written 0 (record (reset_debug (Some Reset)) { step = true; stepie = true; ebreakm = true }) ≡ reset_debug (Some Reset)
-  pub all_ones_written : dcsr_written 0xffffffffffffffff (reset_debug (Some Reset)) ≡ record (reset_debug (Some Reset)) { step = true; stepie = true; ebreakm = true }
+  pub all_ones_written : dcsr_written 0xffffffffffffffff (reset_debug (Some Reset))
+      ≡ record (reset_debug (Some Reset)) { step = true; stepie = true; ebreakm = true }
 
 -- what stands in dcsr's writable bits is read back, and the cause stays
 abbrev pub DcsrReadBack : Type 0

@@ -64,7 +64,8 @@ StepsTo word before after did = (m : Memory) → loaded m before.pc B4 ≡ Ok wo
 
 -- the word gives x5 this value, and the hart goes on
 abbrev pub Gives : ℕ → ℕ → ℕ → ℕ → Type 0
-Gives word x6 x7 x5 = StepsTo word (hart_with x6 x7) (record (hart_with x6 x7) { x = slice_set (slice_set (slice_set (replicate 32 0) 6 x6) 7 x7) 5 x5; pc = 0x80000004 }) Retired
+Gives word x6 x7 x5 =
+    StepsTo word (hart_with x6 x7) (record (hart_with x6 x7) { x = slice_set (slice_set (slice_set (replicate 32 0) 6 x6) 7 x7) 5 x5; pc = 0x80000004 }) Retired
 
 -- the hart in its trap handler, by cause and value
 abbrev pub in_handler : ℕ → ℕ → ℕ → ℕ → Core

@@ -1,7 +1,8 @@
 -- Memory as a finite map from addresses to bytes, and the reservations that stand beside it, one place for each hart.
 -- Unprivileged manual, "Load and Store Instructions" and "Load-Reserved/Store-Conditional Instructions"; what lies outside RAM has no byte,
 -- an access is misaligned before it is outside, and a reservation is the aligned eight bytes round its address: these are this project's own choice.
-use Rattle.std.specs.Prelude.{◌≡◌, ℕ, zero, suc, ◌+◌, ◌*◌, ◌/◌, ◌%◌, ◌≤◌, Bool, false, ◌&&◌, if◌then◌else◌, nat_lt, nat_le, ◌==◌, List, map, replicate, ⊤, Option, Some, None, is_some, Result, Ok, Err, option_map, slice_get, slice_set}
+use Rattle.std.specs.Prelude.{◌≡◌, ℕ, zero, suc, ◌+◌, ◌*◌, ◌/◌, ◌%◌, ◌≤◌, Bool, false, ◌&&◌, if◌then◌else◌, nat_lt, nat_le, ◌==◌, List, map, replicate, ⊤}
+use Rattle.std.specs.Prelude.{Option, Some, None, is_some, Result, Ok, Err, option_map, slice_get, slice_set}
 use Rattle.std.specs.Coded.{Coded, code_by, coded×, coded_ℕ, coded_list, coded_option}
 use Rattle.std.specs.FinMap.{FinMap, code, get, insert, from_entries}
 use Rattle.std.specs.Ordering.{nat_cmp}
@@ -134,4 +135,5 @@ after_store m a size v =
 -- a memory is stored as the pair of its fields
 abbrev pub memory_code : Coded Memory
 memory_code =
-    code_by (Bytes × List (Option ℕ)) (coded× (code coded_ℕ coded_ℕ) (coded_list (coded_option coded_ℕ))) (λ m. (m.bytes, m.reserved)) (λ p. record { bytes = p.0; reserved = p.1 }) (λ _. refl)
+    code_by (Bytes × List (Option ℕ)) (coded× (code coded_ℕ coded_ℕ) (coded_list (coded_option coded_ℕ))) (λ m. (m.bytes, m.reserved))
+    (λ p. record { bytes = p.0; reserved = p.1 }) (λ _. refl)

@@ -1,6 +1,8 @@
 -- The control and status registers of Machine Mode as a table, and what a read and a write of one do.
--- Privileged manual, "Machine-Level CSRs"; which bits are writable, and that the others keep their reset value, is this project's own choice within its WARL rules.
-use Rattle.std.specs.Prelude.{codes, ℕ, ◌+◌, ◌-◌, ◌^◌, Bool, true, false, if◌then◌else◌, nat_lt, ◌==◌, List, [], ◌∷◌, Option, Some, None, find, option_map, bit_and}
+-- Privileged manual, "Machine-Level CSRs"; which bits are writable, and that the others keep their reset value, is this project's own choice within its WARL
+-- rules.
+use Rattle.std.specs.Prelude.{codes, ℕ, ◌+◌, ◌-◌, ◌^◌, Bool, true, false, if◌then◌else◌, nat_lt, ◌==◌, List, [], ◌∷◌, Option, Some, None, find, option_map}
+use Rattle.std.specs.Prelude.{bit_and}
 use Rattle.rv_model.specs.Core.{Core, x_of, with_x, aligned, register_count, mpp_machine}
 
 pub record Register : Type 0 where
@@ -13,7 +15,8 @@ pub record Register : Type 0 where
   pub write : ℕ → Core → Core
 
 abbrev pub register : ℕ → List ℕ → ℕ → ℕ → (Core → ℕ) → (ℕ → Core → Core) → Register
-register number name reset writable read write = record { number = number; name = name; reset = reset; writable = writable; refuses = false; read = read; write = write }
+register number name reset writable read write =
+    record { number = number; name = name; reset = reset; writable = writable; refuses = false; read = read; write = write }
 
 -- a register whose writes are ignored
 abbrev pub constant : ℕ → List ℕ → ℕ → Register

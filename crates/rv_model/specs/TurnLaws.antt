@@ -16,7 +16,8 @@ TurnLeavesOthers = (h : ℕ) (b : Board) → LeavesHarts h b (turn h b)
 
 -- what reset leaves is a board, of one to four harts
 abbrev pub ResetBoardsAreBoards : Type 0
-ResetBoardsAreBoards = (halted : List (Option Cause)) (m : Memory) → 0 < length halted → length halted ≤ hart_places → length m.reserved ≡ hart_places → IsBoard (reset_board halted m)
+ResetBoardsAreBoards = (halted : List (Option Cause)) (m : Memory) → 0 < length halted → length halted ≤ hart_places → length m.reserved ≡ hart_places
+    → IsBoard (reset_board halted m)
 
 -- and a turn leaves a board
 abbrev pub TurnKeepsBoard : Type 0

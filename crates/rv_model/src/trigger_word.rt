@@ -2,7 +2,8 @@
 //! (RISC-V Debug Specification 1.0, "Trigger Data 1", "Match Control Type 6", "Instruction Count").
 
 ghost use Rattle.std.specs.Prelude.{◌≡◌, ◌<◌};
-ghost use Rattle.rv_model.specs.TriggerWords.{comparison_number, comparison_of, count_limit, mcontrol6_word, mcontrol6_of, icount_word, icount_of, tdata1_of, trigger_of, CountFits};
+ghost use Rattle.rv_model.specs.TriggerWords.{comparison_number, comparison_of, count_limit, mcontrol6_word, mcontrol6_of, icount_word, icount_of, tdata1_of};
+ghost use Rattle.rv_model.specs.TriggerWords.{trigger_of, CountFits};
 
 use crate::bits::{bit, bit_value, field};
 use crate::slot::{Comparison, Icount, Mcontrol6, Trigger};

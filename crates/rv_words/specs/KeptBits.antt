@@ -1,5 +1,6 @@
 -- The bits of a word that tell its instruction and its operands. The others are free: the instruction is the same whatever they are.
--- Unprivileged manual, "Atomic" extension: the bits aq and rl order memory, and no more; "Memory Ordering Instructions": fields that an implementation may ignore.
+-- Unprivileged manual, "Atomic" extension: the bits aq and rl order memory, and no more; "Memory Ordering Instructions": fields that an implementation may
+-- ignore.
 use Rattle.std.specs.Prelude.{ℕ}
 use Rattle.rv_model.specs.declared.insn.Insn.{Insn}
 use Rattle.rv_model.specs.declared.insn.Insn.TheVariants.{LoadReserved, StoreConditional, Amo, Fence, FenceI}

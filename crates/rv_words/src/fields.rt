@@ -3,7 +3,8 @@
 
 ghost use Rattle.std.specs.Prelude.{◌≡◌, ◌+◌, ◌<◌, ◌≤◌, ◌^◌};
 ghost use Rattle.rv_model.specs.Fields.{field, sign_extended, imm_i, imm_s, imm_b, imm_u, imm_j};
-ghost use Rattle.rv_model.specs.Operands.{rd_of, rs1_of, rs2_of, r_type, i_type, s_type, b_type, u_type, j_type, shift_type, shift_word_type, load_reserved_type, csr_type, csr_imm_type};
+ghost use Rattle.rv_model.specs.Operands.{rd_of, rs1_of, rs2_of, r_type, i_type, s_type, b_type, u_type, j_type, shift_type, shift_word_type};
+ghost use Rattle.rv_model.specs.Operands.{load_reserved_type, csr_type, csr_imm_type};
 ghost use Rattle.rv_model.specs.OperandsFit.{RFits, IFits, SFits, BFits, UFits, JFits, ShiftFits, ShiftWordFits, LoadReservedFits, CsrFits, CsrImmFits};
 
 use rv_model::{

@@ -2,7 +2,8 @@ ghost use Rattle.std.specs.Prelude.{◌≡◌, ◌+◌, ◌-◌, ◌*◌, ◌^�
 ghost use Rattle.debug_model.specs.Command.{IsBlock, all_addresses};
 ghost use Rattle.debug_model.specs.Registers.{is_register};
 ghost use Rattle.rv_model.specs.Size.{count_of};
-ghost use Rattle.debug_model.specs.ScriptArguments.{one_word, ranged, ranged_or, address_of, value_of, count_from, length_from, size_named, path_named, watch_kind_named, switch_named, register_named, ending};
+ghost use Rattle.debug_model.specs.ScriptArguments.{one_word, ranged, ranged_or, address_of, value_of, count_from, length_from, size_named, path_named};
+ghost use Rattle.debug_model.specs.ScriptArguments.{watch_kind_named, switch_named, register_named, ending};
 ghost use Rattle.script_lang.specs.Takes.{Takes, TakesWord};
 
 use crate::number::read_number;

@@ -1,6 +1,8 @@
 ghost use Rattle.std.specs.Prelude.{◌≡◌, option_map, IfOk, IfSome};
 ghost use Rattle.debug_model.specs.Command.{IsWithinRanges};
-ghost use Rattle.debug_model.specs.ScriptForms.{hart_form, step_form, wait_form, reg_form, read_form, write_form, dump_form, via_form, break_form, watch_form, count_form, clear_form, ebreak_form, no_arguments, plain_forms, hart_forms, memory_forms, slot_forms, form_in, command_read};
+ghost use Rattle.debug_model.specs.ScriptForms.{hart_form, step_form, wait_form, reg_form, read_form, write_form, dump_form, via_form, break_form};
+ghost use Rattle.debug_model.specs.ScriptForms.{watch_form, count_form, clear_form, ebreak_form, no_arguments, plain_forms, hart_forms, memory_forms};
+ghost use Rattle.debug_model.specs.ScriptForms.{slot_forms, form_in, command_read};
 ghost use Rattle.script_lang.specs.Takes.{Takes, TakesBy};
 
 use crate::arguments::{

@@ -1,5 +1,6 @@
 //! The language of scripts. `parse` reads a text as the grammar of `debug_model` does: it gives the script, or the first
-//! faulty line with its first fault; a text that is too long is refused before a line is read. `print` writes each command in its one spelling, which `parse` reads as this script.
+//! faulty line with its first fault; a text that is too long is refused before a line is read. `print` writes each command in its one spelling, which
+//! `parse` reads as this script.
 #![tactic(auto)]
 
 mod arguments;

@@ -1,3 +1,4 @@
+mod Walks
 pub mod FirstWords
 pub mod Pairs
 pub mod Made

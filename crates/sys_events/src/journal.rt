@@ -1,101 +1,103 @@
-ghost use Rattle.std.specs.Prelude.{◌≡◌, ◌+◌, ◌<◌, ◌≤◌, [], ◌∷◌, ◌++◌, length, slice_get, IfOk, IsTrue, ◌↔◌};
-ghost use Rattle.sys_events.specs.Journal.{journal_room};
+ghost use Rattle.std.specs.Prelude.{◌≡◌, ◌<◌, ◌≤◌, [], ◌∷◌, ◌++◌, length, count_by, IsTrue, ◌↔◌};
+ghost use Rattle.sys_events.specs.Journal.{is_access, is_look, is_request, is_turn, journal_room};
 
+use crate::told::Told;
 use debug_model::Point;
-use std::alloc::{AllocError, Global};
 use std::marker::Model;
 
-/// How many points fit into a journal with memory.
-pub const JOURNAL_ROOM: u32 = 16_777_216;
-
-/// The points of a chip, in the order in which they came.
+/// The points of a chip, which it counts by their kinds and keeps none of. It takes no memory.
 ///
-/// Contracts see its `points` and its `room`, which is how many points fit in all.
+/// A clause reads it as the list of the points that it was told, in the order in which they came.
 #[derive(Drop)]
 pub struct Journal {
-    memory: Option<Vec<Point>>,
+    turns: u64,
+    looks: u64,
+    requests: u64,
+    accesses: u64,
+    told: Told,
 }
 
 impl Model for Journal {
-    ghost use Rattle.std.specs.Prelude.{◌≤◌, [], vec_len, vec_capacity, IfSome};
-    ghost use Rattle.std.specs.Option.{option_map_or};
-    ghost use Rattle.sys_events.specs.Journal.{Journal as Points, journal_room};
+    ghost use Rattle.std.specs.Prelude.{List};
+    ghost use Rattle.debug_model.specs.declared.point.Point.{Point};
+    ghost use Rattle.sys_events.specs.Journal.{AreCountsOf};
 
-    ghost Value = { Points };
+    ghost Value = { List Point };
 
-    ghost view = { λ j. record {
-      points = option_map_or (λ v. v.items) j.memory [];
-      room = option_map_or (λ _. journal_room) j.memory 0;
-    } };
+    ghost view = { λ j. j.told.points };
 
-    ghost invariant = { λ j. IfSome j.memory (λ v. (vec_len v ≤ journal_room) × (journal_room ≤ vec_capacity v)) };
+    ghost invariant = { λ j. AreCountsOf j.turns j.looks j.requests j.accesses j.told.points };
 }
 
 impl Journal {
-    /// An empty journal with memory for all the points that a chip may note.
-    pub fn reserve(alloc: Global) -> Result<Journal, AllocError>
-        ensures { IfOk result (λ j. j ≡ record { points = []; room = journal_room }) }
-    {
-        Ok(Journal {
-            memory: Some(Vec::with_capacity(alloc, JOURNAL_ROOM as usize)?),
-        })
-    }
-
-    /// A journal with no room. It takes no memory.
+    /// A journal that was told nothing yet.
     pub fn empty() -> Journal
-        ensures { result ≡ record { points = []; room = 0 } }
+        ensures { result ≡ [] }
     {
-        Journal { memory: None }
+        Journal {
+            turns: 0,
+            looks: 0,
+            requests: 0,
+            accesses: 0,
+            told: Told::new(),
+        }
     }
 
-    /// Appends a point. It takes no memory, and always the same short time.
+    /// Appends a point. It takes always the same short time.
     #[inline(always)]
     pub fn note(&mut self, point: Point)
-        requires { length self.old.points < self.old.room }
-        ensures points { self.new.points ≡ self.old.points ++ point ∷ [] }
-        ensures room { self.new.room ≡ self.old.room }
+        requires { length self.old < journal_room }
+        ensures { self.new ≡ self.old ++ point ∷ [] }
     {
-        if let Some(points) = &mut self.memory {
-            points.push_reserved(point);
+        match point {
+            Point::Turn(_) => self.turns += 1,
+            Point::Look(_) => self.looks += 1,
+            Point::HaltReq(_) | Point::HaltClear(_) | Point::ResumeReq(_) => self.requests += 1,
+            Point::Access => self.accesses += 1,
         }
+        self.told = self.told.and(&point);
     }
 
     /// How many points have come.
-    pub fn len(&self) -> u32
-        ensures value { result ≡ length self.now.points }
-        ensures fits { result ≤ self.now.room }
+    #[inline(always)]
+    pub fn len(&self) -> u64
+        ensures { result ≡ length self.now }
     {
-        match &self.memory {
-            Some(points) => points.len() as u32,
-            None => 0,
-        }
+        self.turns + self.looks + self.requests + self.accesses
     }
 
     /// Whether no point has come.
     pub fn is_empty(&self) -> bool
-        ensures { IsTrue result ↔ (self.now.points ≡ []) }
+        ensures { IsTrue result ↔ (self.now ≡ []) }
     {
         self.len() == 0
     }
 
-    /// How many more points fit.
-    pub fn room_left(&self) -> u32
-        ensures { result + length self.now.points ≡ self.now.room }
+    /// How many turns the harts had, also while they were halted.
+    pub fn turns(&self) -> u64
+        ensures { result ≡ count_by is_turn self.now }
     {
-        match &self.memory {
-            Some(points) => JOURNAL_ROOM - points.len() as u32,
-            None => 0,
-        }
+        self.turns
     }
 
-    /// The point that came as number `place`, from 0.
-    pub fn at(&self, place: u32) -> Point
-        requires { place < length self.now.points }
-        ensures { slice_get self.now.points place ≡ Some result }
+    /// How often a debugger looked at a hart.
+    pub fn looks(&self) -> u64
+        ensures { result ≡ count_by is_look self.now }
     {
-        match &self.memory {
-            Some(points) => points[place as usize],
-            None => unreachable!(),
-        }
+        self.looks
+    }
+
+    /// How often a debugger set or took back a halt request, or requested that a hart resume.
+    pub fn requests(&self) -> u64
+        ensures { result ≡ count_by is_request self.now }
+    {
+        self.requests
+    }
+
+    /// How many accesses to memory a debugger had made.
+    pub fn accesses(&self) -> u64
+        ensures { result ≡ count_by is_access self.now }
+    {
+        self.accesses
     }
 }

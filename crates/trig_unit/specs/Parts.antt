@@ -10,7 +10,8 @@ use Rattle.rv_model.specs.TriggerWords.{TriggerPart, CountFits}
 use Rattle.trig_unit.specs.Armed.{some_armed}
 
 abbrev pub trigger_part_code : Coded TriggerPart
-trigger_part_code = code_by (ℕ × List Slot) (coded× coded_ℕ (coded_list slot_code)) (λ t. (t.tselect, t.slots)) (λ p. record { tselect = p.0; slots = p.1 }) (λ _. refl)
+trigger_part_code =
+    code_by (ℕ × List Slot) (coded× coded_ℕ (coded_list slot_code)) (λ t. (t.tselect, t.slots)) (λ p. record { tselect = p.0; slots = p.1 }) (λ _. refl)
 
 abbrev pub CountsFit : List Slot → Type 0
 CountsFit slots = All (λ s. CountFits s.trigger) slots

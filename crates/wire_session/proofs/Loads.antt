@@ -7,8 +7,8 @@ use Rattle.debug_model.specs.Loaded.{live, loaded_board, loaded_chip}
 use Rattle.debug_model.specs.Schedule.{RoundPlan}
 use Rattle.debug_model.specs.Told.{Far, IsAsLoaded, IsRead}
 
-operates_at : (board : Board) (plan : RoundPlan) (unread : List ℕ) → unread ≡ [] → CanOperate (Some (record { live = live (loaded_chip board plan); unread = unread }))
-operates_at board plan unread read = record {
+operates_at : (board : Board) (plan : RoundPlan) (most_points : ℕ) (unread : List ℕ) → unread ≡ [] → CanOperate (Some (record { live = live (loaded_chip board plan most_points); unread = unread }))
+operates_at board plan most_points unread read = record {
   unended = tt;
   read = read;
   free = refl;
@@ -20,4 +20,4 @@ pub loaded_operates : (told : Option Far) → IsAsLoaded told → IsRead told �
 loaded_operates None loaded read = record { unended = tt; read = tt; free = tt; rest = tt; clean = tt }
 loaded_operates (Some f) loaded read =
     subst (λ (l : Live). CanOperate (Some (record { live = l; unread = f.unread }))) (sym loaded.is)
-    (operates_at (loaded_board loaded.image loaded.harts loaded.ram loaded.halted) loaded.plan f.unread read)
+    (operates_at (loaded_board loaded.image loaded.harts loaded.ram loaded.halted) loaded.plan loaded.most_points f.unread read)

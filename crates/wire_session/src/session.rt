@@ -37,7 +37,7 @@ fn run_over_scans<S: Scan, K: Sink>(scan: S, script: &Script, out: &mut K) -> (E
     ensures fixed { (S.seen result.1).fixed ≡ (S.seen scan).fixed }
     ensures sink_later { K.fault_count out.old ≤ K.fault_count out.new }
 {
-    let mut link = Link::new(scan);
+    let mut link = Link::paced(scan);
     let ended = run_script(&mut link, script, out);
     (ended, link.into_scan())
 }

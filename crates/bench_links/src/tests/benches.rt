@@ -1,10 +1,10 @@
 //! Benches and bytes as the tests use them.
 
 ghost use Rattle.std.specs.Prelude.{◌≡◌, IfOk, IfSome, IsSome, None};
-ghost use Rattle.debug_model.specs.Loaded.{AsLoaded};
+ghost use Rattle.debug_model.specs.Loaded.{AsLoaded, RightLimit};
 
 use chip_core::Bench;
-use debug_model::{Event, Round};
+use debug_model::{Event, POINTS_USUAL, Round};
 use hart_debug::Start;
 use std::alloc::Global;
 use std::test::Fail;
@@ -35,12 +35,34 @@ pub fn bench_of(alloc: Global, events: &[Event]) -> Result<Bench<ListSchedule>, 
     ensures fresh { IfOk result (λ bench. IfSome bench AsLoaded) }
     ensures live { IfOk result (λ bench. IfSome bench (λ l. l.ended ≡ None)) }
 {
+    bench_with_limit(alloc, events, POINTS_USUAL)
+}
+
+/// The same with this limit of points.
+pub fn bench_with_limit(
+    alloc: Global,
+    events: &[Event],
+    most_points: u64,
+) -> Result<Bench<ListSchedule>, Fail>
+    requires { RightLimit most_points }
+    ensures loaded { IfOk result IsSome }
+    ensures fresh { IfOk result (λ bench. IfSome bench AsLoaded) }
+    ensures live { IfOk result (λ bench. IfSome bench (λ l. l.ended ≡ None)) }
+{
     let mut rounds = Vec::new(alloc);
     if let Ok(round) = Round::try_from(events) {
         rounds.push(round)?;
     }
     let mut bench = Bench::blank();
     let schedule = ListSchedule::new(rounds);
-    bench.load(alloc, IMAGE, 1, RAM_LEAST, Start::Halted, schedule)?;
+    bench.load_with_limit(
+        alloc,
+        IMAGE,
+        1,
+        RAM_LEAST,
+        Start::Halted,
+        schedule,
+        most_points,
+    )?;
     Ok(bench)
 }

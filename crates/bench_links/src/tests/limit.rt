@@ -6,7 +6,7 @@ ghost use Rattle.debug_model.specs.Wire.{are_open};
 ghost use Rattle.chip_core.specs.Feeds.{far_of};
 
 use super::bench_nets::{ask_net, listed};
-use super::benches::{TO_SHIFT, bench_of};
+use super::benches::{TO_SHIFT, bench_with_limit};
 use super::loops::{ask, memory, read};
 use crate::{BenchNet, LoopWire};
 use debug_model::{Event, Net, NetFault, Wire, WireFault};
@@ -18,41 +18,41 @@ use sys_events::ListSchedule;
 const CLOCKS: &[u8; 256] =
     b"0404040404040404040404040404040404040404040404040404040404040404040404040404040404040404040404040404040404040404040404040404040404040404040404040404040404040404040404040404040404040404040404040404040404040404040404040404040404040404040404040404040404040404";
 
-/// A round of five turns, so that 16,777,200 points are met early.
+/// A round of five turns.
 const CROWDED: &[Event] = &[Event::Turn(0); 5];
 
-/// How many puts of 128 clocks are taken before one fails. At most 30,000 are made.
+/// How many puts of 128 clocks are taken before one fails. At most 10 are made.
 #[tactic(auto, unfolding(debug_model::specs::Wire::are_open))]
 fn puts_to_the_limit(net: &mut BenchNet<ListSchedule>) -> u32
     requires open { IsOpen (far_of net.old.bench.now net.old.unread.items) }
     ensures open { IsOpen (far_of net.new.bench.now net.new.unread.items) }
     ensures same_reference { net.new.bench.ghost_name ≡ net.old.bench.ghost_name }
 {
-    'puts: for count in 0..30_000 {
+    'puts: for count in 0..10 {
         if ask_net(net, CLOCKS, &mut []).is_err() {
             return count;
         }
     }
-    30_000
+    10
 }
 
-// 16,777,200 points are 3,355,440 rounds of five turns. The rise behind them still takes its round, and the next one none: so 3,355,441 rises are taken, which is
-// 26,214 puts of 128 and 49 more.
+// 1,500 points are 300 rounds of five turns. The rise behind them still takes its round, and the next one none: so 301 rises are taken, which is
+// two puts of 128 and 45 more.
 #[test]
 #[tactic(auto, unfolding(debug_model::specs::Wire::are_open), using(crate::proofs::Asked::live_open, crate::proofs::Asked::same_open))]
 fn links_stop_at_the_limit(rt: HostRuntime) -> Result<(), Fail> {
     let alloc = rt.alloc();
-    let mut bench = bench_of(alloc, CROWDED)?;
+    let mut bench = bench_with_limit(alloc, CROWDED, 1_500)?;
     let mut net = BenchNet::new(&mut bench, 256, listed(&[]));
     net.connect(alloc, "the bench")?;
     let puts = puts_to_the_limit(&mut net);
     let again = ask_net(&mut net, TO_SHIFT, &mut []);
     assert_eq!(rt;
         (puts, again, net.faults()),
-        (26_214, Err(NetFault::Failed), 2)
+        (2, Err(NetFault::Failed), 2)
     );
     assert!(rt; bench.at_limit());
-    assert_eq!(rt; bench.counts().rounds, 3_355_441);
+    assert_eq!(rt; bench.counts().rounds, 301);
     let mut joined = memory(&rt, 256, &[])?;
     joined.join(alloc)?;
     let mut wire = LoopWire::new(&mut joined, &mut bench);

@@ -2,20 +2,19 @@
 
 ghost use Rattle.std.specs.Prelude.{◌≡◌, ◌≤◌, ◌↔◌, Err, IfOk, IfSome, OnErr, OnOk, Some, length, vec_len};
 ghost use Rattle.rv_model.specs.Memory.{IsRamSize, hart_places};
-ghost use Rattle.debug_model.specs.Loaded.{AsLoaded, Fits, RightHarts, loaded_memory, reset_harts};
+ghost use Rattle.debug_model.specs.Loaded.{AsLoaded, Fits, RightHarts, RightLimit, loaded_memory, reset_harts};
 ghost use Rattle.hart_debug.specs.Changes.{start_cause};
-ghost use Rattle.chip_core.specs.Loads.{IsFirst, loaded};
+ghost use Rattle.chip_core.specs.Loads.{IsFirst, loaded, loaded_with};
 ghost use Rattle.debug_model.specs.Offered.{TurnsOffered};
 
 use super::Bench;
 use crate::chip::Chip;
 use crate::load_fault::LoadFault;
 use crate::system::System;
-use debug_model::Schedule;
+use debug_model::{POINTS_USUAL, Schedule};
 use hart_debug::{DebugHart, Start};
 use rv_mem::{Ram, RamFault};
 use std::alloc::{AllocError, Global};
-use sys_events::Journal;
 
 /// The most harts.
 const MOST_HARTS: u64 = 4;
@@ -61,7 +60,7 @@ fn make_ram(alloc: Global, image: &[u8], size: u64) -> Result<Ram, LoadFault>
 impl<Q: Schedule> Bench<Q> {
     /// Puts a chip onto the bench in the place of what was there: the image at address 0x80000000 and zeros behind it, one to four harts
     /// that run or are halted, an empty journal, and the TAP in Test-Logic-Reset. RAM has a multiple of 4,096 bytes, from 65,536 to
-    /// 16,777,216. After a refusal the bench is as before.
+    /// 16,777,216. Its limit of points is the usual one. After a refusal the bench is as before.
     pub fn load(
         &mut self,
         alloc: Global,
@@ -80,6 +79,30 @@ impl<Q: Schedule> Bench<Q> {
         ensures bad_size { (result ≡ Err LoadFault.BadSize) ↔ (RightHarts harts × ¬ IsRamSize ram) }
         ensures too_long { (result ≡ Err LoadFault.TooLong) ↔ (RightHarts harts × (IsRamSize ram × ¬ Fits image.now ram)) }
     {
+        self.load_with_limit(alloc, image, harts, ram, start, schedule, POINTS_USUAL)
+    }
+
+    /// The same with a limit of points, from 1 to 2^62: the chip ends at the first rise of TCK that finds more points than this in its journal.
+    pub fn load_with_limit(
+        &mut self,
+        alloc: Global,
+        image: &[u8],
+        harts: u64,
+        ram: u64,
+        start: Start,
+        schedule: Q,
+        most_points: u64,
+    ) -> Result<(), LoadFault>
+        requires limit { RightLimit most_points }
+        ensures chip { OnOk result (self.new ≡ Some (loaded_with image.now harts ram start (Q.plan schedule) most_points)) }
+        ensures as_loaded { OnOk result (IsFirst (Q.plan schedule) → IfSome self.new AsLoaded) }
+        ensures turns { OnOk result (IfSome self.new (λ l. TurnsOffered (Q.plan schedule) l.chip)) }
+        ensures kept { OnErr result (self.new ≡ self.old) }
+        ensures right { OnOk result (RightHarts harts × (IsRamSize ram × Fits image.now ram)) }
+        ensures bad_harts { (result ≡ Err LoadFault.BadHarts) ↔ ¬ RightHarts harts }
+        ensures bad_size { (result ≡ Err LoadFault.BadSize) ↔ (RightHarts harts × ¬ IsRamSize ram) }
+        ensures too_long { (result ≡ Err LoadFault.TooLong) ↔ (RightHarts harts × (IsRamSize ram × ¬ Fits image.now ram)) }
+    {
         if harts < 1 || harts > MOST_HARTS {
             return Err(LoadFault::BadHarts);
         }
@@ -87,10 +110,8 @@ impl<Q: Schedule> Bench<Q> {
         let Ok(made) = make_harts(alloc, harts as u8, start) else {
             return Err(LoadFault::NoMemory);
         };
-        let Ok(journal) = Journal::reserve(alloc) else {
-            return Err(LoadFault::NoMemory);
-        };
-        self.chip = Some(Chip::new(System::new(made, memory, journal), schedule));
+        let system = System::new(made, memory, most_points);
+        self.chip = Some(Chip::new(system, schedule));
         Ok(())
     }
 }

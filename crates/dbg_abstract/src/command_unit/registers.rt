@@ -1,7 +1,8 @@
 //! Reads and writes of the unit's registers. While a command is under way none of them changes a word or starts anything.
 
 ghost use Rattle.std.specs.Prelude.{◌≡◌, option_map};
-ghost use Rattle.debug_model.specs.Commands.{abstractauto_written, abstractcs_shown, abstractcs_written, auto_started, command_written, is_auto, noted_error, with_word, word_in, word_read, word_written};
+ghost use Rattle.debug_model.specs.Commands.{abstractauto_written, abstractcs_shown, abstractcs_written, auto_started, command_written, is_auto, noted_error};
+ghost use Rattle.debug_model.specs.Commands.{with_word, word_in, word_read, word_written};
 ghost use Rattle.debug_model.specs.ModuleWords.{abstractauto_word, abstractcs_word};
 
 use super::CommandUnit;

@@ -49,7 +49,8 @@ impl CommandUnit {
     /// The transfer between the data words and the register of a command, and what is behind it.
     fn transfer(&mut self, command: AbstractCommand, hart: &mut DebugHart)
         requires { is_some hart.old.debug.halted ≡ true }
-        ensures { (m : Memory) → stepped_to self.new hart.new m false ≡ transferred (debug_value hart.old command.regno) command self.old.steps hart.old m self.old }
+        ensures { (m : Memory) → stepped_to self.new hart.new m false
+            ≡ transferred (debug_value hart.old command.regno) command self.old.steps hart.old m self.old }
     {
         if let Some(value) = hart.reg_read(command.regno) {
             if command.write {

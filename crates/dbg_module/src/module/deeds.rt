@@ -19,7 +19,8 @@ impl Module {
     #[tactic(auto, using(crate::proofs::StepLemmas::idle_stepped))]
     pub fn command_step(&mut self, harts: &mut [DebugHart], ram: &mut Ram) -> bool
         requires { IsServedBy self.old harts.old }
-        ensures site { (j : List Point) → command_stepped (site_of self.old harts.old ram.old j) ≡ site_of self.new harts.new ram.new (j ++ access_points result) }
+        ensures site { (j : List Point) → command_stepped (site_of self.old harts.old ram.old j)
+            ≡ site_of self.new harts.new ram.new (j ++ access_points result) }
         ensures served { IsServedBy self.new harts.new }
     {
         if !self.commands.is_busy() {
@@ -45,7 +46,8 @@ impl Module {
     /// It answers whether there was one: it touched memory, or tried to, and the journal has that.
     #[inline(always)]
     pub fn bus_step(&mut self, ram: &mut Ram) -> bool
-        ensures site { (hs : List Hart) (j : List Point) → bus_stepped (site_of self.old hs ram.old j) ≡ site_of self.new hs ram.new (j ++ access_points result) }
+        ensures site { (hs : List Hart) (j : List Point) → bus_stepped (site_of self.old hs ram.old j)
+            ≡ site_of self.new hs ram.new (j ++ access_points result) }
         ensures served { (hs : List Hart) → IsServedBy self.old hs → IsServedBy self.new hs }
     {
         self.bus.done(ram)

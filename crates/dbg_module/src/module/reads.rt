@@ -17,7 +17,8 @@ impl Module {
     /// A read of a register: while the module does not work, it changes nothing and tells nothing of the harts.
     pub(super) fn read(&mut self, register: ModuleRegister, harts: &[DebugHart]) -> Performed
         requires { length harts.now ≤ hart_places }
-        ensures site { (if self.old.active then read_by register (bare_site self.old harts.now []) else bare_site self.old harts.now []) ≡ bare_site self.new harts.now result.points.items }
+        ensures site { (if self.old.active then read_by register (bare_site self.old harts.now []) else bare_site self.old harts.now [])
+            ≡ bare_site self.new harts.now result.points.items }
         ensures result { result.result ≡ result_by self.old.active register (bare_site self.old harts.now []) }
     {
         if self.active {

@@ -86,7 +86,8 @@ impl DebugHart {
         requires halted { is_some self.old.debug.halted ≡ true }
         requires rd { p.rd < 32 }
         requires rs1 { p.rs1 < 32 }
-        ensures { (m : Memory) → ran_to self.new m result ≡ swapped (debug_value self.old p.csr) (csr_swap change p.rs1 p.csr (x_of self.old.core p.rs1) p.rd) self.old m }
+        ensures { (m : Memory) → ran_to self.new m result
+            ≡ swapped (debug_value self.old p.csr) (csr_swap change p.rs1 p.csr (x_of self.old.core p.rs1) p.rd) self.old m }
     {
         let operand = self.hart.x(p.rs1);
         self.swap(writes(change, p.rs1), change, p.csr, operand, p.rd)
@@ -132,7 +133,8 @@ impl DebugHart {
     /// The effect of an instruction with pc as it was, or nothing in the place of a trap.
     fn execute_in_place(&mut self, insn: Insn, ram: &mut Ram) -> RanWord
         requires { OperandsFit insn }
-        ensures { ran_to self.new ram.new result ≡ executed (effect_of insn self.old.core ram.old) (touches_memory (touch insn self.old.core)) self.old ram.old }
+        ensures { ran_to self.new ram.new result
+            ≡ executed (effect_of insn self.old.core ram.old) (touches_memory (touch insn self.old.core)) self.old ram.old }
     {
         let touch = self.hart.touch_by(insn);
         let accessed = is_access(&touch);

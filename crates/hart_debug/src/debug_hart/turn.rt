@@ -1,6 +1,6 @@
 //! A hart's turn, one function for each case (RISC-V Debug Specification 1.0, "Sdext (ISA Extension)").
 
-ghost use Rattle.std.specs.Prelude.{◌≡◌, nat_lt};
+ghost use Rattle.std.specs.Prelude.{◌≡◌, ◌<◌, nat_lt};
 ghost use Rattle.rv_model.specs.Execute.{exec_of};
 ghost use Rattle.rv_model.specs.Turn.{place_of, memory_after, resumed, halted_for, some_fires, stops_at_ebreak, ran};
 ghost use Rattle.rv_model.specs.Touch.{touch_of};
@@ -57,6 +57,7 @@ impl DebugHart {
     pub fn fired(&self, ram: &Ram) -> SlotSet
         ensures members { members result ≡ fires (touch_of self.now.core ram.now) self.now.debug.slots }
         ensures some { nat_lt 0 result.0 ≡ some_fires (touch_of self.now.core ram.now) self.now }
+        ensures small { result.0 < 16 }
     {
         self.slots.fires(&self.hart.touch(ram))
     }

@@ -2,10 +2,7 @@
 
 use super::sessions::{FAULTY, FAULTY_BUS, Row, check_row};
 use super::{PROGRAM, quiet_net};
-use chip_core::Bench;
-use debug_model::Point;
 use std::test::Fail;
-use sys_events::SeedSchedule;
 
 /// Four elements, up to the end of RAM.
 const FOUR_READ: Row = Row {
@@ -46,21 +43,9 @@ x9 0x0000000000000022
 ",
 };
 
-/// How many accesses to memory the chip on a bench has noted.
-fn accesses(bench: &Bench<SeedSchedule>) -> u32 {
-    let journal = bench.journal();
-    let mut count: u32 = 0;
-    for place in 0..journal.len() {
-        if journal.at(place) == Point::Access {
-            count = count.wrapping_add(1);
-        }
-    }
-    count
-}
-
 // An access outside RAM is made and faults, and one that is misaligned is not made.
 #[test]
-fn a_journal_has_each_access(rt: HostRuntime) -> Result<(), Fail> {
+fn each_access_is_counted(rt: HostRuntime) -> Result<(), Fail> {
     let alloc = rt.alloc();
     let cases = [
         (FOUR_READ, 4),
@@ -71,7 +56,7 @@ fn a_journal_has_each_access(rt: HostRuntime) -> Result<(), Fail> {
     ];
     for (row, count) in cases {
         let bench = check_row(&rt, alloc, "", &row, &mut quiet_net(alloc)?)?;
-        assert_eq!(rt; accesses(&bench), count);
+        assert_eq!(rt; bench.journal().accesses(), count);
     }
     Ok(())
 }

@@ -1,11 +1,11 @@
 //! How sessions end over a chip whose schedule a test lists: the statuses that no seed's schedule gives.
 
 ghost use Rattle.std.specs.Prelude.{IfOk, IfSome, IsSome};
-ghost use Rattle.debug_model.specs.Loaded.{AsLoaded};
+ghost use Rattle.debug_model.specs.Loaded.{AsLoaded, RightLimit};
 
 use super::PROGRAM;
 use chip_core::Bench;
-use debug_model::{Event, Round, Schedule, Script};
+use debug_model::{Event, POINTS_USUAL, Round, Schedule, Script};
 use hart_debug::Start;
 use jt_base::{MemorySink, Sink};
 use jtag_run::{Status, both_with};
@@ -23,8 +23,14 @@ const AMPLE: usize = 524_288;
 /// The bytes of a piece.
 const PIECE: usize = 256;
 
-/// A chip with two harts, whose rounds are all this one.
-fn chip_with(alloc: Global, start: Start, events: &[Event]) -> Result<Bench<ListSchedule>, Fail>
+/// A chip with two harts and this limit of points, whose rounds are all this one.
+fn chip_with(
+    alloc: Global,
+    start: Start,
+    events: &[Event],
+    most_points: u64,
+) -> Result<Bench<ListSchedule>, Fail>
+    requires { RightLimit most_points }
     ensures loaded { IfOk result IsSome }
     ensures fresh { IfOk result (λ bench. IfSome bench AsLoaded) }
 {
@@ -33,13 +39,14 @@ fn chip_with(alloc: Global, start: Start, events: &[Event]) -> Result<Bench<List
         rounds.push(round)?;
     }
     let mut bench = Bench::blank();
-    bench.load(
+    bench.load_with_limit(
         alloc,
         PROGRAM,
         2,
         RAM_LEAST,
         start,
         ListSchedule::new(rounds),
+        most_points,
     )?;
     Ok(bench)
 }
@@ -66,7 +73,7 @@ const FAILING: &[Event] = &[Event::Turn(0), Event::DmiFail];
 /// A round in which no operation is done.
 const SILENT: &[Event] = &[Event::Turn(0), Event::Turn(1)];
 
-/// A round of five turns, so that 16,777,200 points are met early.
+/// A round of five turns, so that a limit of points is met early.
 const CROWDED: &[Event] = &[
     Event::Turn(0),
     Event::Turn(1),
@@ -83,9 +90,12 @@ fn ended_over(
     alloc: Global,
     start: Start,
     events: &[Event],
+    most_points: u64,
     script: &str,
-) -> Result<(Status, bool, MemorySink), Fail> {
-    let mut bench = chip_with(alloc, start, events)?;
+) -> Result<(Status, bool, MemorySink), Fail>
+    requires { RightLimit most_points }
+{
+    let mut bench = chip_with(alloc, start, events, most_points)?;
     let script = parse(alloc, script.as_bytes())?;
     let mut out = MemorySink::new(alloc, AMPLE, Vec::new(alloc))?;
     let status = run_fresh(&script, &mut bench, &mut out);
@@ -109,7 +119,13 @@ fn sessions_that_are_lost_say_why(rt: HostRuntime) -> Result<(), Fail> {
         (SILENT, "idcode\n", "lost: still busy\n"),
     ];
     for (events, script, printed) in cases {
-        let (status, limit, out) = ended_over(rt.alloc(), Start::Running, events, script)?;
+        let (status, limit, out) = ended_over(
+            rt.alloc(),
+            Start::Running,
+            events,
+            POINTS_USUAL,
+            script,
+        )?;
         assert_eq!(rt; status.code(), 9);
         assert_eq!(rt; out.bytes(), printed.as_bytes());
         assert!(rt; !limit);
@@ -119,9 +135,8 @@ fn sessions_that_are_lost_say_why(rt: HostRuntime) -> Result<(), Fail> {
 
 #[test]
 fn a_session_that_meets_the_limit_says_so(rt: HostRuntime) -> Result<(), Fail> {
-    let alloc = rt.alloc();
-    let dumps = "dump 0x80000000 256\n".repeat(alloc, 32)?;
-    let (status, limit, out) = ended_over(alloc, Start::Halted, CROWDED, dumps.as_str())?;
+    let script = "dump 0x80000000 256\n";
+    let (status, limit, out) = ended_over(rt.alloc(), Start::Halted, CROWDED, 500_000, script)?;
     assert_eq!(rt; status.code(), 10);
     assert!(rt;
         out.bytes()

@@ -49,13 +49,22 @@ struct Wanted<'a> {
     ends: u64,
 }
 
-/// A run that serves one chip.
-fn check_run(rt: &impl Abort, alloc: Global, given: &Given, wanted: &Wanted) -> Result<(), Fail>
+/// The words of a run that serves one chip.
+const SERVED: &str = "chip --at here --image i";
+
+/// A run of these words, which serves one chip.
+fn check_run(
+    rt: &impl Abort,
+    alloc: Global,
+    line: &str,
+    given: &Given,
+    wanted: &Wanted,
+) -> Result<(), Fail>
     requires { 0 < given.now.piece }
 {
     let mut files = two_files(alloc, PROGRAM, b"", NO_FAILURE)?;
     let mut net = net_of(alloc, given.input, given.piece, given.room, given.fail_at)?;
-    let outcome = outcome_of(alloc, "chip --at here --image i", &mut files, &mut net)?;
+    let outcome = outcome_of(alloc, line, &mut files, &mut net)?;
     assert_eq!(rt; outcome.status, wanted.status);
     assert_eq!(rt; net.sent(), wanted.answers);
     assert_eq!(rt; outcome.out.bytes(), wanted.printed.as_bytes());
@@ -79,7 +88,7 @@ fn check_pieces(
             room: AMPLE,
             fail_at: NO_FAILURE,
         };
-        check_run(rt, alloc, &given, wanted)?;
+        check_run(rt, alloc, SERVED, &given, wanted)?;
     }
     Ok(())
 }
@@ -125,7 +134,7 @@ fn check_failure(
         room,
         fail_at,
     };
-    check_run(rt, alloc, &given, wanted)
+    check_run(rt, alloc, SERVED, &given, wanted)
 }
 
 /// A net that failed.
@@ -156,6 +165,37 @@ fn a_net_that_fails_gives_its_status(rt: HostRuntime) -> Result<(), Fail> {
     ];
     for (room, fail_at, wanted) in &cases {
         check_failure(&rt, alloc, *room, *fail_at, wanted)?;
+    }
+    Ok(())
+}
+
+// One hart has one turn in each round. A rise that finds 24 points takes its round, and the one behind it none: of these 25 rises 9 lead to the
+// register, and 16 shift it. Behind them one more bit is answered. With one event more it is one bit more.
+#[test]
+fn a_served_chip_has_the_limit_of_its_words(rt: HostRuntime) -> Result<(), Fail> {
+    let alloc = rt.alloc();
+    let input = stream(alloc)?;
+    let given = Given {
+        input: &input,
+        piece: 59,
+        room: AMPLE,
+        fail_at: NO_FAILURE,
+    };
+    let cases: [(&str, &[u8]); 2] = [
+        ("chip --at here --image i --events 24", b"10000000000000100"),
+        (
+            "chip --at here --image i --events 25",
+            b"100000000000001001",
+        ),
+    ];
+    for (line, answers) in cases {
+        let wanted = Wanted {
+            status: 10,
+            answers,
+            printed: "event limit\n",
+            ends: 0,
+        };
+        check_run(&rt, alloc, line, &given, &wanted)?;
     }
     Ok(())
 }

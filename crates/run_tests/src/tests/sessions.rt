@@ -60,27 +60,55 @@ fn scripts_are_run_or_refused(rt: HostRuntime) -> Result<(), Fail> {
     Ok(())
 }
 
-/// How many rounds pass, and how many points are noted, in a session that reads the IDCODE of a chip that these words describe.
-fn counted(alloc: Global, chip: &str) -> Result<(u64, u64), Fail> {
+// The first rises of TCK bring no answer yet, and the highest limit is 2^62.
+#[test]
+fn the_limit_is_that_of_the_words(rt: HostRuntime) -> Result<(), Fail> {
+    let cases = [
+        ("--events 1", Status::EventLimit, "event limit\n"),
+        (
+            "--events 0x4000000000000000",
+            Status::Clean,
+            "idcode 0x10d64001\n",
+        ),
+        ("--events 0", Status::Words, "words refused\n"),
+    ];
+    for (events, status, printed) in cases {
+        let line = format!(in rt.alloc(); "both --image i --script s {events}")?;
+        let held = Held {
+            image: PROGRAM,
+            script: b"idcode",
+            fail_at: NO_FAILURE,
+        };
+        check_words(&rt, rt.alloc(), line.as_str(), held, status, printed)?;
+    }
+    Ok(())
+}
+
+/// How many rounds pass, how many turns the harts have and how many Looks are taken in a session that reads the IDCODE of a chip that these words describe.
+fn counted(alloc: Global, chip: &str) -> Result<(u64, u64, u64), Fail> {
     let line = format!(in alloc; "both --image i --script s --piece 3 {chip}")?;
     let mut files = two_files(alloc, PROGRAM, b"idcode", NO_FAILURE)?;
     let outcome = outcome_of(alloc, line.as_str(), &mut files, &mut quiet_net(alloc)?)?;
-    let points = u64::from(outcome.bench.journal().len());
-    Ok((outcome.bench.counts().rounds, points))
+    let journal = outcome.bench.journal();
+    Ok((
+        outcome.bench.counts().rounds,
+        journal.turns(),
+        journal.looks(),
+    ))
 }
 
-// At busy 1 each running hart has its turn in each round, and at busy 2 in every second one. The opening of a session takes one Look.
+// At busy 1 each hart has its turn in each round, running or halted, and at busy 2 in every second one. The opening of a session takes one Look.
 #[test]
 fn harts_have_the_turns_of_their_schedule(rt: HostRuntime) -> Result<(), Fail> {
     let alloc = rt.alloc();
-    let (rounds, points) = counted(alloc, "--harts 1 --busy 1")?;
+    let (rounds, turns, looks) = counted(alloc, "--harts 1 --busy 1")?;
     assert!(rt; rounds > 43);
-    assert_eq!(rt; points.wrapping_sub(1), rounds);
-    let (rounds, points) = counted(alloc, "--harts 4 --busy 1")?;
-    assert_eq!(rt; points.wrapping_sub(1), rounds.wrapping_mul(4));
-    let (rounds, points) = counted(alloc, "--harts 1 --busy 2")?;
-    let turns = points.wrapping_sub(1);
+    assert_eq!(rt; (turns, looks), (rounds, 1));
+    let (rounds, turns, looks) = counted(alloc, "--harts 4 --busy 1 --halted")?;
+    assert_eq!(rt; (turns, looks), (rounds.wrapping_mul(4), 1));
+    let (rounds, turns, looks) = counted(alloc, "--harts 1 --busy 2")?;
     assert!(rt; rounds / 2 <= turns && turns <= (rounds / 2).wrapping_add(1));
+    assert_eq!(rt; looks, 1);
     Ok(())
 }
 

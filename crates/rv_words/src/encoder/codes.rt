@@ -2,7 +2,8 @@
 //! (unprivileged manual, "RV32/64G Instruction Set Listings").
 
 ghost use Rattle.std.specs.Prelude.{◌≡◌, bit_and};
-ghost use Rattle.rv_model.specs.Means.{amo_code, branch_code, csr_code, csr_immediate_code, immediate_code, load_code, load_reserved_code, register_code, shift_code, store_code, store_conditional_code, word_shift_code};
+ghost use Rattle.rv_model.specs.Means.{amo_code, branch_code, csr_code, csr_immediate_code, immediate_code, load_code, load_reserved_code, register_code};
+ghost use Rattle.rv_model.specs.Means.{shift_code, store_code, store_conditional_code, word_shift_code};
 
 use crate::code;
 use crate::mask::{FUNCT3_MASK, FUNCT5_MASK, FUNCT6_MASK, FUNCT7_MASK};

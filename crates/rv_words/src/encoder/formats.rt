@@ -4,7 +4,8 @@
 
 ghost use Rattle.std.specs.Prelude.{◌≡◌, ◌+◌, ◌/◌, ◌%◌, ◌<◌, ◌≤◌, ◌^◌, bit_and};
 ghost use Rattle.rv_model.specs.Fields.{field};
-ghost use Rattle.rv_model.specs.Operands.{r_type, i_type, s_type, b_type, u_type, j_type, shift_type, shift_word_type, load_reserved_type, csr_type, csr_imm_type};
+ghost use Rattle.rv_model.specs.Operands.{r_type, i_type, s_type, b_type, u_type, j_type, shift_type, shift_word_type, load_reserved_type, csr_type};
+ghost use Rattle.rv_model.specs.Operands.{csr_imm_type};
 ghost use Rattle.rv_words.specs.KeptBits.{all_but_ordering};
 ghost use Rattle.rv_model.specs.OperandsFit.{RFits, IFits, SFits, BFits, UFits, JFits, ShiftFits, ShiftWordFits, LoadReservedFits, CsrFits, CsrImmFits};
 

@@ -1,11 +1,11 @@
 use Rattle.std.proofs.Common.{◌≡◌, ◌+◌, ◌≤◌, ◌++◌, length}
+use Rattle.sys_events.specs.Journal.{journal_room}
 use Rattle.chip_core.proofs.notes.note_all.Given as goal
 
 abbrev pub invariant-points : goal.invariant-points
 invariant-points l = record {
-  points : l.journal.points ++ l.rest ≡ l.fn.journal.points ++ l.fn.points;
-  fits : length l.journal.points + length l.rest ≤ l.journal.room;
-  room : l.journal.room ≡ l.fn.journal.room;
+  points : l.journal ++ l.rest ≡ l.fn.journal ++ l.fn.points;
+  fits : length l.journal + length l.rest ≤ journal_room;
 }
 
 abbrev pub decreases-points : goal.decreases-points

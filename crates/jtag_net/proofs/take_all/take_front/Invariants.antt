@@ -1,10 +1,11 @@
-use Rattle.std.proofs.Common.{◌≡◌, ◌≤◌, ◌-◌, length, IsTrue}
-use Rattle.jtag_net.specs.Wired.{Took, is_wired}
+use Rattle.std.proofs.Common.{◌≡◌, ◌≤◌, ◌-◌, length, take, IsTrue}
+use Rattle.jtag_net.specs.Wired.{Took, are_answers, is_wired}
 use Rattle.jtag_net.proofs.take_all.take_front.Given as goal
 
 abbrev pub invariant-pieces : goal.invariant-pieces
 invariant-pieces g l = record {
   took : Took l.came l.into (g.N.Net.state l.fn.net) (g.N.Net.state l.net);
+  good : IsTrue (are_answers (take l.came l.into));
   within : l.came ≤ length l.into;
   whole : length l.into ≡ length l.fn.into;
   wired : IsTrue (is_wired (g.N.Net.state l.net));

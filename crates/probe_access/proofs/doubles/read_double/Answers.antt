@@ -1,29 +1,22 @@
-use Rattle.probe_run.specs.Told.{told}
+use Rattle.std.proofs.Common.{◌∙◌, List, ℕ, slice_index_or, ap, arith}
 use Rattle.debug_model.specs.declared.dmi_op.DmiOp.TheVariants.{Read}
-use Rattle.probe_run.specs.Acts.Attempt.{Operation}
+use Rattle.probe_run.specs.Told.{told}
+use Rattle.probe_access.specs.RegisterAccess.{joined}
 use Rattle.probe_access.specs.RegisterRuns.{DoubleReads}
+use Rattle.debug_model.specs.Dmi.{value_of}
 use Rattle.probe_access.specs.RegisterRuns.DoubleReads.{lower, upper}
-use Rattle.probe_run.proofs.ActLemmas.{broke_one, did_then}
-use Rattle.probe_access.proofs.Polls.{read_did}
-use Rattle.probe_access.proofs.RegisterCalls.{broke_first, fault_failed, read_broke_behind}
+use Rattle.probe_access.proofs.RegisterCalls.{fault_failed, two_broke, two_did, two_small}
 use Rattle.probe_access.proofs.doubles.read_double.Goals as goal
 
-pub returns-in_err-low-clause-broke : goal.returns-in_err-low-clause-broke
-returns-in_err-low-clause-broke g c =
-    fault_failed c.from_residual.result c.in_err-low.field-0.0 _ c.from_residual.ensures.1
-    (broke_first DoubleReads (Operation (Read 4)) _ _ (told (g.D.Dmi.seen c.args.link.now)) _ c.in_err-low.field-0.0 lower
-    (broke_one (Operation (Read 4)) _ _ _ _ c.in_err-low.field-0.0 c.in_err-low.ensures.cut c.in_err-low.ensures.cause))
-
-pub returns-in_err-high-clause-broke : goal.returns-in_err-high-clause-broke
-returns-in_err-high-clause-broke g c =
-    fault_failed c.from_residual-in_err-high.result c.in_err-high.field-0.0 _ c.from_residual-in_err-high.ensures.1
-    (read_broke_behind DoubleReads _ 5 _ _ _ (told (g.D.Dmi.seen c.args.link.now)) (told (g.D.Dmi.seen c.read.new.self)) _ c.in_err-high.field-0.0 (upper c.in_ok-low.low)
-    (read_did 4 c.in_ok-low.low _ _ c.in_ok-low.ensures.operated c.in_ok-low.ensures.answers) c.read.ensures.keeps.later c.read-2.ensures.keeps.later c.in_err-high.ensures.cut c.in_err-high.ensures.cause)
+pub returns-in_err-many-clause-broke : goal.returns-in_err-many-clause-broke
+returns-in_err-many-clause-broke g c =
+    fault_failed c.from_residual.result c.in_err-many.field-0.0 _ c.from_residual.ensures.1
+    (two_broke DoubleReads (Read 4) (Read 5) _ _ (told (g.D.Dmi.seen c.args.link.now)) _ c.in_err-many.field-0.0 lower (λ result. upper (value_of result)) c.in_err-many.ensures.cut c.in_err-many.ensures.cause)
 
 pub returns-clause-read : goal.returns-clause-read
 returns-clause-read g c = record {
-  low = c.in_ok-low.low;
-  high = c.in_ok-high.high;
-  is = c.join.ensures;
-  did = did_then _ _ _ (read_did 4 c.in_ok-low.low _ _ c.in_ok-low.ensures.operated c.in_ok-low.ensures.answers) _ _ (read_did 5 c.in_ok-high.high _ _ c.in_ok-high.ensures.operated c.in_ok-high.ensures.answers);
+  low = slice_index_or c.many.new.results.items 0 0;
+  high = slice_index_or c.many.new.results.items 1 0;
+  is = c.join.ensures ∙ ap (λ (xs : List ℕ). joined (slice_index_or xs 0 0) (slice_index_or c.deref-2.result.now 1 0)) c.deref.ensures.0 ∙ ap (λ (xs : List ℕ). joined (slice_index_or c.many.new.results.items 0 0) (slice_index_or xs 1 0)) c.deref-2.ensures.0;
+  did = two_did (Read 4) (Read 5) c.many.new.results.items 0 0 _ _ (two_small (Read 4) (Read 5) (omega arith) (omega arith)) c.in_ok-many.ensures.count c.in_ok-many.ensures.operated c.in_ok-many.ensures.answers;
 }

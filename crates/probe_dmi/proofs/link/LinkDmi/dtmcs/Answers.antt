@@ -24,5 +24,6 @@ returns-clause-keeps g c = let o = can_operate _ c.in_ok-dtmcs.ensures.keeps.beh
 pub invariant_of-self-2 : goal.invariant_of-self-2
 invariant_of-self-2 g c = record {
   in_range = (c.abits_behind-self.ensures.least, c.abits_behind-self.ensures.most);
+  is_pace = c.args.self.now.is_pace;
   width = abits_told c.in_ok-dtmcs.dtmcs c.args.self.now.abits c.abits_behind-self.result (g.S.Scan.seen c.args.self.now.registers.scan).far _ c.requires.callable.link.clean (c.abits_behind-self.ensures.value ∙ ap (λ (r : TheDtmcs). abits_behind r.abits c.args.self.now.abits) c.from_word.ensures) c.in_ok-dtmcs.ensures.scanned;
 }

@@ -2,26 +2,36 @@ use Rattle.std.proofs.Common.{◌∙◌, ◌+◌, true, false, refl, subst, arit
 use Rattle.debug_model.specs.Scan.{WhereTold}
 use Rattle.probe_dmi.proofs.Heard.{SoFar, dmi_through, heard_again, heard_busy, heard_carried, heard_failed, heard_result, nothing_heard, scan_cause, so_far_through, wire_cause}
 use Rattle.jt_base.proofs.Pieces.{on_err}
-use Rattle.probe_dmi.proofs.Conditions.{can_again, can_first, can_operate, width_kept}
-use Rattle.probe_dmi.proofs.Told.{Underway, begun, busy_cut, busy_found, carried, clear_cut, cleared, cut_as, dmi_cut, failed, failed_cut, failed_lost, fetched, fetched_clean, fetched_operated, found_again, sent_as, under_as}
+use Rattle.debug_model.specs.declared.data_register.DataRegister.TheVariants.{Dmi}
+use Rattle.probe_dmi.specs.Registers.{Prepared}
+use Rattle.probe_dmi.proofs.Conditions.{can_operate, width_kept}
+use Rattle.probe_dmi.proofs.Scans.{chosen_of}
+use Rattle.probe_dmi.proofs.Told.{Underway, begun, busy_cut, busy_found, carried, clear_cut, cleared, cut_as, dmi_cut, failed, failed_cut, failed_lost, fetched, fetched_clean, fetched_operated, found_again, sent_as, under_as, untaken}
 use Rattle.probe_dmi.proofs.register.Registers.operate.Goals as goal
 
 pub scans-init : goal.scans-init
 scans-init g c = record {
-  underway = begun c.args.op _ c.requires.link.clean;
-  so_far = nothing_heard _;
-  can = can_first _ c.requires.link;
-  width = c.requires.width;
+  underway = begun c.args.op _ _ c.requires.link.clean c.in_ok-select.ensures.prepared;
+  so_far = nothing_heard _ _ c.select.ensures.coming;
+  rests = c.in_ok-select.ensures.keeps.behind;
+  chosen = chosen_of Dmi _ _ c.in_ok-select.ensures.prepared;
+  idle = c.in_ok-select.ensures.state;
+  width = width_kept (Prepared Dmi) c.args.abits _ _ c.in_ok-select.ensures.prepared c.requires.width;
   few = omega arith;
-  later = omega arith;
-  fixed = refl;
+  pace = c.requires.pace;
+  paced = refl;
+  later = c.select.ensures.keeps.later;
+  fixed = c.select.ensures.keeps.fixed;
 }
+
+pub returns-in_err-select-clause-cut : goal.returns-in_err-select-clause-cut
+returns-in_err-select-clause-cut g c = on_err _ (untaken c.args.op _ _ c.requires.link.clean c.in_err-select.ensures.cut)
 
 pub returns-in_err-out-clause-cut : goal.returns-in_err-out-clause-cut
 returns-in_err-out-clause-cut g c = on_err _ (dmi_cut c.args.op c.scans.taken c.scans.busy _ (g.S.Scan.seen c.scans.self.scan).far _ c.requires.operation c.scans.invariant.underway (cut_as c.args.op c.scans.taken c.next_scan.result (g.S.Scan.seen c.scans.self.scan).far _ c.next_scan.ensures c.in_err-out.ensures.cut))
 
 pub returns-in_err-out-clause-cause : goal.returns-in_err-out-clause-cause
-returns-in_err-out-clause-cause g c = wire_cause _ _ _ _ _ c.in_err-out.field-0.0 _ c.from_residual.ensures.1 (scan_cause _ (g.S.Scan.seen c.scans.self.scan).fault_count _ _ _ (g.S.Scan.seen c.scans.self.scan).coming c.in_err-out.field-0.0 c.scans.invariant.later c.exchange.ensures.keeps.later (so_far_through c.scans.busy c.scans.taken _ _ c.scans.invariant.so_far) c.in_err-out.ensures.cause)
+returns-in_err-out-clause-cause g c = wire_cause _ _ _ _ _ c.in_err-out.field-0.0 _ c.from_residual-in_err-out.ensures.1 (scan_cause _ (g.S.Scan.seen c.scans.self.scan).fault_count _ _ _ (g.S.Scan.seen c.scans.self.scan).coming c.in_err-out.field-0.0 c.scans.invariant.later c.exchange_behind.ensures.keeps.later (so_far_through c.scans.busy c.scans.taken _ _ c.scans.invariant.so_far) c.in_err-out.ensures.cause)
 
 pub returns-then-out-eq-STATUS_FAILED-clause-cut : goal.returns-then-out-eq-STATUS_FAILED-clause-cut
 returns-then-out-eq-STATUS_FAILED-clause-cut g c = failed_cut c.args.op _ _ (failed c.args.op c.scans.taken c.scans.busy c.in_ok-out.out _ (g.S.Scan.seen c.scans.self.scan).far _ c.if-out-eq-STATUS_FAILED.true c.scans.invariant.underway (sent_as c.args.op c.scans.taken c.scans.taken c.next_scan.result c.in_ok-out.out (g.S.Scan.seen c.scans.self.scan).far _ c.next_scan.ensures refl c.in_ok-out.ensures.scanned))
@@ -29,7 +39,7 @@ returns-then-out-eq-STATUS_FAILED-clause-cut g c = failed_cut c.args.op _ _ (fai
 pub returns-then-out-eq-STATUS_FAILED-clause-cause : goal.returns-then-out-eq-STATUS_FAILED-clause-cause
 returns-then-out-eq-STATUS_FAILED-clause-cause g c = (
   failed_lost c.args.op _ _ (failed c.args.op c.scans.taken c.scans.busy c.in_ok-out.out _ (g.S.Scan.seen c.scans.self.scan).far _ c.if-out-eq-STATUS_FAILED.true c.scans.invariant.underway (sent_as c.args.op c.scans.taken c.scans.taken c.next_scan.result c.in_ok-out.out (g.S.Scan.seen c.scans.self.scan).far _ c.next_scan.ensures refl c.in_ok-out.ensures.scanned)),
-  heard_failed c.scans.busy c.scans.taken c.in_ok-out.out _ (g.S.Scan.seen c.scans.self.scan).coming (g.S.Scan.seen c.exchange.new.self.scan).coming c.scans-test.true c.if-out-eq-STATUS_FAILED.true c.scans.invariant.so_far c.in_ok-out.ensures.heard,
+  heard_failed c.scans.busy c.scans.taken c.in_ok-out.out _ (g.S.Scan.seen c.scans.self.scan).coming (g.S.Scan.seen c.exchange_behind.new.self.scan).coming c.scans-test.true c.if-out-eq-STATUS_FAILED.true c.scans.invariant.so_far c.in_ok-out.ensures.heard,
 )
 
 pub returns-then-taken-clause-operated : goal.returns-then-taken-clause-operated
@@ -43,45 +53,53 @@ returns-then-taken-clause-keeps g c = let o = can_operate _ c.in_ok-out.ensures.
 
 pub scans-preserved-then-out-eq-STATUS_DONE : goal.scans-preserved-then-out-eq-STATUS_DONE
 scans-preserved-then-out-eq-STATUS_DONE g c =
-    let u : WhereTold (Underway c.args.op true c.scans.busy) (g.S.Scan.seen c.args.self.now.scan).far (g.S.Scan.seen c.exchange.new.self.scan).far =
+    let u : WhereTold (Underway c.args.op true c.scans.busy) (g.S.Scan.seen c.args.self.now.scan).far (g.S.Scan.seen c.exchange_behind.new.self.scan).far =
     carried c.args.op c.scans.busy c.in_ok-out.out _ (g.S.Scan.seen c.scans.self.scan).far _ c.requires.operation
     (under_as c.args.op c.scans.taken false c.scans.busy _ _ c.if-taken.false c.scans.invariant.underway)
     (sent_as c.args.op c.scans.taken false c.next_scan.result c.in_ok-out.out (g.S.Scan.seen c.scans.self.scan).far _ c.next_scan.ensures c.if-taken.false c.in_ok-out.ensures.scanned) in
     record {
       underway = u;
       so_far = heard_carried c.scans.busy c.in_ok-out.out _ (g.S.Scan.seen c.scans.self.scan).coming _ c.if-out-eq-STATUS_DONE.true (subst (λ b. SoFar c.scans.busy b (g.S.Scan.seen c.args.self.now.scan).coming (g.S.Scan.seen c.scans.self.scan).coming) c.if-taken.false c.scans.invariant.so_far) c.in_ok-out.ensures.heard;
-      can = can_again _ c.in_ok-out.ensures.keeps.behind;
+      rests = c.in_ok-out.ensures.keeps.behind;
+      chosen = c.in_ok-out.ensures.chosen;
+      idle = c.in_ok-out.ensures.state;
       width = width_kept (Underway c.args.op true c.scans.busy) c.args.abits (g.S.Scan.seen c.args.self.now.scan).far _ u c.requires.width;
       few = c.scans.invariant.few;
-      later = omega (arith, c.scans.invariant.later, c.exchange.ensures.keeps.later);
-      fixed = c.exchange.ensures.keeps.fixed ∙ c.scans.invariant.fixed;
+      pace = c.scans.invariant.pace;
+      paced = c.scans.invariant.paced;
+      later = omega (arith, c.scans.invariant.later, c.exchange_behind.ensures.keeps.later);
+      fixed = c.exchange_behind.ensures.keeps.fixed ∙ c.scans.invariant.fixed;
     }
 
-pub returns-in_err-clear-clause-cut : goal.returns-in_err-clear-clause-cut
-returns-in_err-clear-clause-cut g c = on_err _ (clear_cut c.args.op c.scans.taken c.scans.busy _ (g.S.Scan.seen c.exchange.new.self.scan).far _
+pub returns-in_err-clear_again-clause-cut : goal.returns-in_err-clear_again-clause-cut
+returns-in_err-clear_again-clause-cut g c = on_err _ (clear_cut c.args.op c.scans.taken c.scans.busy _ (g.S.Scan.seen c.exchange_behind.new.self.scan).far _
     (found_again c.args.op c.scans.taken c.scans.busy c.in_ok-out.out _ (g.S.Scan.seen c.scans.self.scan).far _ c.if-out-eq-STATUS_DONE.false c.if-out-eq-STATUS_FAILED.false c.scans.invariant.underway
     (sent_as c.args.op c.scans.taken c.scans.taken c.next_scan.result c.in_ok-out.out (g.S.Scan.seen c.scans.self.scan).far _ c.next_scan.ensures refl c.in_ok-out.ensures.scanned))
-    c.in_err-clear.ensures.cut)
+    c.in_err-clear_again.ensures.cut)
 
-pub returns-in_err-clear-clause-cause : goal.returns-in_err-clear-clause-cause
-returns-in_err-clear-clause-cause g c = wire_cause _ _ _ _ _ c.in_err-clear.field-0.0 _ c.from_residual-in_err-clear.ensures.1 (scan_cause _ (g.S.Scan.seen c.exchange.new.self.scan).fault_count _ _ _ (g.S.Scan.seen c.exchange.new.self.scan).coming c.in_err-clear.field-0.0 (omega (arith, c.scans.invariant.later, c.exchange.ensures.keeps.later)) c.clear.ensures.keeps.later
-    (λ b w. so_far_through c.scans.busy c.scans.taken _ _ c.scans.invariant.so_far b (dmi_through c.in_ok-out.out _ _ c.in_ok-out.ensures.heard b w)) c.in_err-clear.ensures.cause)
+pub returns-in_err-clear_again-clause-cause : goal.returns-in_err-clear_again-clause-cause
+returns-in_err-clear_again-clause-cause g c = wire_cause _ _ _ _ _ c.in_err-clear_again.field-0.0 _ c.from_residual-in_err-clear_again.ensures.1 (scan_cause _ (g.S.Scan.seen c.exchange_behind.new.self.scan).fault_count _ _ _ (g.S.Scan.seen c.exchange_behind.new.self.scan).coming c.in_err-clear_again.field-0.0 (omega (arith, c.scans.invariant.later, c.exchange_behind.ensures.keeps.later)) c.clear_again.ensures.keeps.later
+    (λ b w. so_far_through c.scans.busy c.scans.taken _ _ c.scans.invariant.so_far b (dmi_through c.in_ok-out.out _ _ c.in_ok-out.ensures.heard b w)) c.in_err-clear_again.ensures.cause)
 
 pub scans-preserved : goal.scans-preserved
 scans-preserved g c =
-    let u : WhereTold (Underway c.args.op c.scans.taken (c.scans.busy + 1)) (g.S.Scan.seen c.args.self.now.scan).far (g.S.Scan.seen c.clear.new.self.scan).far =
-    cleared c.args.op c.scans.taken c.scans.busy c.in_ok-clear.field-0 _ (g.S.Scan.seen c.exchange.new.self.scan).far _
+    let u : WhereTold (Underway c.args.op c.scans.taken (c.scans.busy + 1)) (g.S.Scan.seen c.args.self.now.scan).far (g.S.Scan.seen c.clear_again.new.self.scan).far =
+    cleared c.args.op c.scans.taken c.scans.busy c.in_ok-clear_again.field-0 _ (g.S.Scan.seen c.exchange_behind.new.self.scan).far _
     (found_again c.args.op c.scans.taken c.scans.busy c.in_ok-out.out _ (g.S.Scan.seen c.scans.self.scan).far _ c.if-out-eq-STATUS_DONE.false c.if-out-eq-STATUS_FAILED.false c.scans.invariant.underway
     (sent_as c.args.op c.scans.taken c.scans.taken c.next_scan.result c.in_ok-out.out (g.S.Scan.seen c.scans.self.scan).far _ c.next_scan.ensures refl c.in_ok-out.ensures.scanned))
-    c.in_ok-clear.ensures.scanned in
+    c.in_ok-clear_again.ensures.scanned in
     record {
       underway = u;
-      so_far = heard_again c.scans.busy c.scans.taken c.in_ok-out.out c.in_ok-clear.field-0 _ (g.S.Scan.seen c.scans.self.scan).coming (g.S.Scan.seen c.exchange.new.self.scan).coming _ c.if-out-eq-STATUS_DONE.false c.if-out-eq-STATUS_FAILED.false c.scans.invariant.so_far c.in_ok-out.ensures.heard c.in_ok-clear.ensures.heard;
-      can = can_again _ c.in_ok-clear.ensures.keeps.behind;
+      so_far = heard_again c.scans.busy c.scans.taken c.in_ok-out.out c.in_ok-clear_again.field-0 _ (g.S.Scan.seen c.scans.self.scan).coming (g.S.Scan.seen c.exchange_behind.new.self.scan).coming _ c.if-out-eq-STATUS_DONE.false c.if-out-eq-STATUS_FAILED.false c.scans.invariant.so_far c.in_ok-out.ensures.heard c.in_ok-clear_again.ensures.heard;
+      rests = c.in_ok-clear_again.ensures.keeps.behind;
+      chosen = c.in_ok-clear_again.ensures.chosen;
+      idle = c.in_ok-clear_again.ensures.state;
       width = width_kept (Underway c.args.op c.scans.taken (c.scans.busy + 1)) c.args.abits (g.S.Scan.seen c.args.self.now.scan).far _ u c.requires.width;
       few = omega (arith, c.scans-test.true);
-      later = omega (arith, c.scans.invariant.later, c.exchange.ensures.keeps.later, c.clear.ensures.keeps.later);
-      fixed = c.clear.ensures.keeps.fixed ∙ c.exchange.ensures.keeps.fixed ∙ c.scans.invariant.fixed;
+      pace = c.behind_busy.ensures.pace;
+      paced = c.behind_busy.ensures.most ∙ c.scans.invariant.paced;
+      later = omega (arith, c.scans.invariant.later, c.exchange_behind.ensures.keeps.later, c.clear_again.ensures.keeps.later);
+      fixed = c.clear_again.ensures.keeps.fixed ∙ c.exchange_behind.ensures.keeps.fixed ∙ c.scans.invariant.fixed;
     }
 
 pub returns-clause-cut : goal.returns-clause-cut

@@ -1,6 +1,10 @@
 use Rattle.std.proofs.Common.{◌≡◌, ◌≤◌, ◌+◌, ◌-◌, ◌*◌, if◌then◌else◌}
 use Rattle.debug_model.specs.Scan.{WhereTold}
-use Rattle.probe_dmi.specs.Registers.{CanScan, IsWidth}
+use Rattle.probe_dmi.specs.Pace.{IsPace}
+use Rattle.debug_model.specs.Kept.{ScanRests}
+use Rattle.debug_model.specs.declared.data_register.DataRegister.TheVariants.{Dmi}
+use Rattle.probe_dmi.specs.declared.state.State.TheVariants.{Idle}
+use Rattle.probe_dmi.specs.Registers.{IsChosen, IsWidth}
 use Rattle.probe_dmi.proofs.Heard.{SoFar}
 use Rattle.probe_dmi.proofs.Told.{Underway}
 use Rattle.probe_dmi.proofs.register.Registers.operate.Given as goal
@@ -9,9 +13,13 @@ abbrev pub invariant-scans : goal.invariant-scans
 invariant-scans g l = record {
   underway : WhereTold (Underway l.op l.taken l.busy) (g.S.Scan.seen l.fn.self.scan).far (g.S.Scan.seen l.self.scan).far;
   so_far : SoFar l.busy l.taken (g.S.Scan.seen l.fn.self.scan).coming (g.S.Scan.seen l.self.scan).coming;
-  can : CanScan (g.S.Scan.seen l.self.scan).far;
+  rests : ScanRests (g.S.Scan.seen l.self.scan);
+  chosen : IsChosen Dmi (g.S.Scan.seen l.self.scan).far;
+  idle : l.self.state ≡ Idle;
   width : IsWidth l.abits (g.S.Scan.seen l.self.scan).far;
   few : l.busy ≤ 64;
+  pace : IsPace l.pace;
+  paced : l.pace.most ≡ l.fn.pace.most;
   later : (g.S.Scan.seen l.fn.self.scan).fault_count ≤ (g.S.Scan.seen l.self.scan).fault_count;
   fixed : (g.S.Scan.seen l.self.scan).fixed ≡ (g.S.Scan.seen l.fn.self.scan).fixed;
 }

@@ -1,0 +1,24 @@
+use Rattle.std.proofs.Common.{refl, sym, ◌∙◌, map, string_bytes}
+use Rattle.command_line.proofs.Whys.{named_both, named_chip, named_none, named_probe}
+use Rattle.command_line.specs.declared.why.Refused.TheVariants.{NoJob}
+use Rattle.command_line.proofs.why.why_of.Goals as goal
+
+pub returns-then-eq : goal.returns-then-eq
+returns-then-eq c = record { named = named_both c.args.job.now (map string_bytes c.args.words.now) _ (sym c.eq.ensures ∙ c.if-eq.true) c.why_both.ensures.named }
+
+pub returns-then-eq-2 : goal.returns-then-eq-2
+returns-then-eq-2 c = record {
+  named = named_probe c.args.job.now (map string_bytes c.args.words.now) _ (sym c.eq.ensures ∙ c.if-eq.false) (sym c.eq-else-eq.ensures ∙ c.if-eq-2.true) c.why_probe.ensures.named;
+}
+
+pub returns-then-eq-3 : goal.returns-then-eq-3
+returns-then-eq-3 c = record {
+  named = named_chip c.args.job.now (map string_bytes c.args.words.now) _ (sym c.eq.ensures ∙ c.if-eq.false) (sym c.eq-else-eq.ensures ∙ c.if-eq-2.false)
+      (sym c.eq-else-eq-2.ensures ∙ c.if-eq-3.true) c.why_chip.ensures.named;
+}
+
+pub returns-else-eq-3 : goal.returns-else-eq-3
+returns-else-eq-3 c = record {
+  named = named_none c.args.job.now (map string_bytes c.args.words.now) (NoJob c.args.job) (sym c.eq.ensures ∙ c.if-eq.false) (sym c.eq-else-eq.ensures ∙ c.if-eq-2.false)
+      (sym c.eq-else-eq-2.ensures ∙ c.if-eq-3.false) refl;
+}

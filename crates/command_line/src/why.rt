@@ -1,0 +1,260 @@
+ghost use Rattle.std.specs.Prelude.{◌≡◌, ◌≤◌, IfErr, map, string_bytes, true};
+ghost use Rattle.clap.specs.Words.{app_of, is_simple_and_free};
+ghost use Rattle.command_line.specs.Why.{Names, NamesAt, NamesBy, NamesIn, UnlessTaken, command_at, least_of, most_of};
+ghost use Rattle.command_line.specs.Options.{both_command, chip_command, probe_command};
+ghost use Rattle.command_line.specs.WrittenJob.{rows_found, rows_in};
+ghost use Rattle.command_line.specs.declared.why.Refused.TheVariants.{NoMemory};
+
+use crate::fault::WordsFault;
+use crate::options::{
+    AT, BUSY, EVENTS, GEN, HARTS, IMAGE, PIECE, RAM, SCRIPT, SEED, both_command, chip_command,
+    probe_command,
+};
+use crate::reading::{PIECE_LEAST, fault_by};
+use crate::values::{BUSY_LEAST, BUSY_MOST, EVENTS_LEAST, number_of, value};
+use clap::{ArgMatches, Command};
+use debug_model::{PIECE_MOST, POINTS_HIGHEST};
+use std::alloc::{AllocError, AllocFailed, Global};
+use std::fmt::{Display, Formatter};
+use std::{error, fmt};
+
+/// Which of the words is why they write no job. Its `Display` is a sentence for the user.
+#[derive(Debug, Drop)]
+pub enum Refused<'a> {
+    /// There are none.
+    NoWords,
+    /// The first word names no job.
+    NoJob(&'a str),
+    /// The job's command does not take the rest: what `clap` says of that.
+    Unfit(String),
+    /// An option is not there.
+    Missing(&'static str),
+    /// An option that stands beside `--gen`.
+    BesideGen(&'static str),
+    /// The word of this option is no number below 2^64.
+    NoNumber(&'static str, &'a str),
+    /// The number of this option is out of its range.
+    OutOfRange {
+        option: &'static str,
+        word: &'a str,
+        least: u64,
+        most: u64,
+    },
+    /// No memory was left to tell.
+    NoMemory,
+}
+
+impl From<AllocError> for Refused<'_> {
+    ghost from_gives = { λ _ e. e ≡ NoMemory };
+
+    fn from(_: AllocError) -> Self {
+        Refused::NoMemory
+    }
+}
+
+impl<T: Drop> From<AllocFailed<T>> for Refused<'_> {
+    ghost from_gives = { λ _ e. e ≡ NoMemory };
+
+    fn from(_: AllocFailed<T>) -> Self {
+        Refused::NoMemory
+    }
+}
+
+impl Display for Refused<'_> {
+    fn fmt<W: fmt::Write>(&self, f: &mut Formatter<W>) -> fmt::Result {
+        match self {
+            Refused::NoWords => write!(f, "there are none"),
+            Refused::NoJob(word) => write!(f, "'{word}' is no job: both, probe and chip are"),
+            Refused::Unfit(text) => {
+                let line = text.as_str().lines().next().unwrap_or("");
+                write!(f, "{}", line.strip_prefix("error: ").unwrap_or(line))
+            }
+            Refused::Missing(option) => write!(f, "--{option} is missing"),
+            Refused::BesideGen(option) => write!(f, "--{option} may not stand beside --gen"),
+            Refused::NoNumber(option, word) => write!(
+                f,
+                "'{word}' of --{option} is no number below 2^64, decimal or 0x and hexadecimal digits"
+            ),
+            Refused::OutOfRange {
+                option,
+                word,
+                least,
+                most,
+            } => write!(f, "{word} of --{option} is not from {least} to {most}"),
+            Refused::NoMemory => write!(f, "no memory was left to tell which"),
+        }
+    }
+}
+
+impl error::Error for Refused<'_> {}
+
+/// Which of the words after the program's name is why they write no job. Ok where none is found.
+#[tactic(auto, using(crate::proofs::Whys::names_first, crate::proofs::Whys::names_no_words))]
+pub fn why_refused<'a>(alloc: Global, words: &'a [String]) -> Result<(), Refused<'a>>
+    ensures named { IfErr result (Names (map string_bytes words.now)) }
+{
+    let Some(job) = words.first() else {
+        return Err(Refused::NoWords);
+    };
+    why_of(alloc, job.as_str(), words)
+}
+
+/// The same of words of which the first is `job`.
+fn why_of<'a>(alloc: Global, job: &'a str, words: &'a [String]) -> Result<(), Refused<'a>>
+    ensures named { IfErr result (NamesAt (command_at job.now) job.now (map string_bytes words.now)) }
+{
+    if job == "both" {
+        why_both(alloc, words)
+    } else if job == "probe" {
+        why_probe(alloc, words)
+    } else if job == "chip" {
+        why_chip(alloc, words)
+    } else {
+        Err(Refused::NoJob(job))
+    }
+}
+
+/// The same of the words of `both`.
+#[tactic(auto, using(crate::proofs::Whys::names_taken, crate::proofs::Whys::names_untaken))]
+fn why_both<'a>(alloc: Global, words: &'a [String]) -> Result<(), Refused<'a>>
+    ensures named { IfErr result (NamesBy (rows_in both_command (map string_bytes words.now))) }
+{
+    let command = both_command(alloc)?;
+    let matches = matched(alloc, command, words)?;
+    check_both(&matches)
+}
+
+/// The same of the words of `probe`.
+#[tactic(auto, using(crate::proofs::Whys::names_taken, crate::proofs::Whys::names_untaken))]
+fn why_probe<'a>(alloc: Global, words: &'a [String]) -> Result<(), Refused<'a>>
+    ensures named { IfErr result (NamesBy (rows_in probe_command (map string_bytes words.now))) }
+{
+    let command = probe_command(alloc)?;
+    let matches = matched(alloc, command, words)?;
+    check_probe(&matches)
+}
+
+/// The same of the words of `chip`.
+#[tactic(auto, using(crate::proofs::Whys::names_taken, crate::proofs::Whys::names_untaken))]
+fn why_chip<'a>(alloc: Global, words: &'a [String]) -> Result<(), Refused<'a>>
+    ensures named { IfErr result (NamesBy (rows_in chip_command (map string_bytes words.now))) }
+{
+    let command = chip_command(alloc)?;
+    let matches = matched(alloc, command, words)?;
+    check_chip(&matches)
+}
+
+/// What the command finds in the words after the first, where it takes them.
+fn matched<'a>(
+    alloc: Global,
+    command: Command<'a>,
+    words: &'a [String],
+) -> Result<ArgMatches<'a>, Refused<'a>>
+    requires { is_simple_and_free (app_of command) ≡ true }
+    ensures taken { UnlessTaken (app_of command.entry) (map string_bytes words.entry.now) result }
+{
+    match command.try_get_matches_from(words) {
+        Ok(matches) => Ok(matches),
+        Err(error) => match fault_by(&error) {
+            WordsFault::NoMemory => Err(Refused::NoMemory),
+            WordsFault::Refused => Err(Refused::Unfit(format!(in alloc; "{error}")?)),
+        },
+    }
+}
+
+/// Checks the options of `both`, in the order in which they are read.
+fn check_both<'a>(matches: &ArgMatches<'a>) -> Result<(), Refused<'a>>
+    ensures { IfErr result (NamesIn (rows_found matches.now)) }
+{
+    check_inputs(matches)?;
+    check_chip_options(matches)?;
+    check_number(matches, PIECE, PIECE_LEAST, PIECE_MOST as u64)
+}
+
+/// Checks the options of `probe`.
+fn check_probe<'a>(matches: &ArgMatches<'a>) -> Result<(), Refused<'a>>
+    ensures { IfErr result (NamesIn (rows_found matches.now)) }
+{
+    check_given(matches, AT)?;
+    check_given(matches, SCRIPT)
+}
+
+/// Checks the options of `chip`.
+fn check_chip<'a>(matches: &ArgMatches<'a>) -> Result<(), Refused<'a>>
+    ensures { IfErr result (NamesIn (rows_found matches.now)) }
+{
+    check_given(matches, AT)?;
+    check_given(matches, IMAGE)?;
+    check_chip_options(matches)
+}
+
+/// Checks the numbers that say how a chip is made.
+fn check_chip_options<'a>(matches: &ArgMatches<'a>) -> Result<(), Refused<'a>>
+    ensures { IfErr result (NamesIn (rows_found matches.now)) }
+{
+    check_number(matches, HARTS, 0, u64::MAX)?;
+    check_number(matches, RAM, 0, u64::MAX)?;
+    check_number(matches, SEED, 0, u64::MAX)?;
+    check_number(matches, BUSY, BUSY_LEAST, BUSY_MOST)?;
+    check_number(matches, EVENTS, EVENTS_LEAST, POINTS_HIGHEST)
+}
+
+/// Two files without a number, or a number alone.
+fn check_inputs<'a>(matches: &ArgMatches<'a>) -> Result<(), Refused<'a>>
+    ensures { IfErr result (NamesIn (rows_found matches.now)) }
+{
+    if value(matches, GEN).is_none() {
+        check_given(matches, IMAGE)?;
+        return check_given(matches, SCRIPT);
+    }
+    check_beside(matches, IMAGE)?;
+    check_beside(matches, SCRIPT)?;
+    check_number(matches, GEN, 0, u64::MAX)
+}
+
+/// An option that has to be given.
+fn check_given<'a>(matches: &ArgMatches<'a>, option: &'static str) -> Result<(), Refused<'a>>
+    ensures { IfErr result (NamesIn (rows_found matches.now)) }
+{
+    match value(matches, option) {
+        Some(_) => Ok(()),
+        None => Err(Refused::Missing(option)),
+    }
+}
+
+/// An option that may not be given beside `--gen`.
+fn check_beside<'a>(matches: &ArgMatches<'a>, option: &'static str) -> Result<(), Refused<'a>>
+    ensures { IfErr result (NamesIn (rows_found matches.now)) }
+{
+    match (value(matches, option), value(matches, GEN)) {
+        (Some(_), Some(_)) => Err(Refused::BesideGen(option)),
+        _ => Ok(()),
+    }
+}
+
+/// The number of an option, where it is given.
+fn check_number<'a>(
+    matches: &ArgMatches<'a>,
+    option: &'static str,
+    least: u64,
+    most: u64,
+) -> Result<(), Refused<'a>>
+    requires least { least ≡ least_of option.now }
+    requires most { most ≡ most_of option.now }
+    ensures { IfErr result (NamesIn (rows_found matches.now)) }
+{
+    let Some(word) = value(matches, option) else {
+        return Ok(());
+    };
+    match number_of(word) {
+        Ok(number) if least <= number && number <= most => Ok(()),
+        Ok(_) => Err(Refused::OutOfRange {
+            option,
+            word,
+            least,
+            most,
+        }),
+        Err(WordsFault::Refused) => Err(Refused::NoNumber(option, word)),
+        Err(WordsFault::NoMemory) => Err(Refused::NoMemory),
+    }
+}

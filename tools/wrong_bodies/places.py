@@ -1,0 +1,67 @@
+"""Where edits stand, and where what a crate stands on is taken from."""
+import contextlib
+import os
+import shutil
+import subprocess
+import sys
+import tempfile
+
+from batches import rtlib, try_edits
+
+KEPT = "out/incremental"  # where `rt check` keeps the proofs of a crate
+
+
+def stop(why):
+    print(f"wrong_bodies: {why}", file=sys.stderr)
+    sys.exit(2)
+
+
+def edits_in(folder):
+    return [f"{folder}/{name}" for name in sorted(os.listdir(folder)) if name.endswith(".edit")] if os.path.isdir(folder) else []
+
+
+def edits_of(crate, since):
+    """The edits of a crate that are to be tried, by their paths."""
+    gated = [] if since is not None else edits_in(f"{crate.folder}/must-fail")
+    return gated + edits_in(f"{crate.folder}/wrong-bodies")
+
+
+def is_of_gate(crate, since):
+    """Whether a library is one that the gate has made since then of its sources as they stand. It leaves no stamp there, by which `rt` would take it for its own."""
+    made = f"{crate.rlib}/format"
+    if os.path.exists(f"{os.path.dirname(crate.rlib)}/stamp") or not os.path.isfile(made) or os.path.getmtime(made) < since:
+        return False
+    return all(os.path.getmtime(it) < os.path.getmtime(made) for it in rtlib.files_of(crate.folder))
+
+
+def make_ready(crate, since):
+    """Has the libraries below the crate made, and the crate proved as it stands. Stops where that fails.
+
+    A library is good only over those that it was made over, so all are `rt`'s own or all are those of the gate."""
+    if since is None:
+        ran = subprocess.run(["rt", "check"], cwd=crate.folder, stdin=subprocess.DEVNULL, stdout=subprocess.PIPE, stderr=subprocess.STDOUT, text=True, errors="replace")
+        if ran.returncode:
+            last = "\n".join(ran.stdout.rstrip().split("\n")[-6:])
+            stop(f"{crate.name} is not proved as it stands, so nothing was tried:\n{last}")
+    elif not all(it.is_built() for it in crate.below()) and not all(is_of_gate(it, since) for it in crate.below()):
+        stop(f"no `rt ci` in this place has made the libraries below {crate.name} since then")
+
+
+def tried(crate, paths, since):
+    """Whether each edit is refused, and a line on it."""
+    with tempfile.TemporaryDirectory(prefix="kept-") as room:
+        kept = f"{room}/kept"
+        if since is None:
+            shutil.copytree(f"{crate.folder}/{KEPT}", kept)
+        return [*try_edits(crate, paths, kept, since is not None)]
+
+
+@contextlib.contextmanager
+def own_room():
+    """Has all folders that this process and `rt` make stand in one, by whose name tools/gate_cost knows what a check is for."""
+    with tempfile.TemporaryDirectory(prefix="wrong-bodies-") as room:
+        tempfile.tempdir = room
+        try:
+            yield
+        finally:
+            tempfile.tempdir = None
