@@ -55,7 +55,7 @@ at_load r first at row is =
 
 pub byte_fell : (r : Reach) (first at : ℕ) (row : List ℕ) {old_count new_count : ℕ} {t u : Tells} (sink_old sink_new : ℕ) (c : Option (List ℕ)) {f : Failure} → at ≡ first + length row → LoadFell B1 at old_count new_count t u f
     → Fell CalmBytes (at_next_byte r first row) old_count new_count t u sink_old sink_new c c f
-byte_fell r first at row sink_old sink_new c is fell = went_fell (at_load r first at row is) (omega arith) (fell_first sink_old sink_new c (falls_at (λ k. Fault.loading _ fell)))
+byte_fell r first at row sink_old sink_new c is fell = went_fell (at_load r first at row is) (omega arith) (fell_first sink_old sink_new c (falls_at (λ k. Fault.loading _ _ fell)))
 
 -- ---- the bytes that wait in a row
 

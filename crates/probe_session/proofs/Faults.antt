@@ -1,9 +1,16 @@
 -- Wherever a call of a session failed, over a told chip.
 use Rattle.std.proofs.Common.{ℕ, List}
 use Rattle.rv_model.specs.Board.{Machine}
+use Rattle.rv_model.specs.DebugRegisters.{dcsr_number}
+use Rattle.rv_model.specs.Memory.{loaded, store_answer}
+use Rattle.rv_model.specs.Registers.{pc_number}
+use Rattle.rv_model.specs.Size.{count_of}
 use Rattle.debug_model.specs.Told.{site_of}
+use Rattle.abstract_debugger.specs.Debugger.{by_load, by_store}
 use Rattle.abstract_debugger.specs.Lines.{Line}
 use Rattle.abstract_debugger.specs.Plan.{Plan}
+use Rattle.abstract_debugger.specs.Plan.Change.{WriteMem}
+use Rattle.abstract_debugger.specs.Plan.Plan.{change}
 use Rattle.abstract_debugger.specs.Stands.{At, Origin}
 use Rattle.abstract_debugger.specs.Ways.Way.{Still as StillWay}
 use Rattle.abstract_debugger.proofs.DealsLemmas.{deals_went_on}
@@ -17,10 +24,12 @@ use Rattle.probe_session.specs.declared.fault.Failure.{Failure}
 use Rattle.probe_session.specs.Goes.{Fault, Passing}
 use Rattle.probe_session.specs.Led.{DealsAt, target_at}
 use Rattle.probe_session.specs.Places.{Place}
+use Rattle.probe_session.specs.Steps.{with_ebreakm}
 use Rattle.probe_session.specs.Transcribed.{Still}
 use Rattle.probe_session.proofs.AccessFaults.{asked_fell, forget_fell, given_fell, gotten_fell, load_fell, slots_fell, stop_fell, store_fell, written_fell}
 use Rattle.probe_session.proofs.BrokeOff.{LeftAs}
 use Rattle.probe_session.proofs.OverFaults.{over_fell}
+use Rattle.probe_session.proofs.RegisterLemmas.{dcsr_of_harts, dcsr_taken}
 use Rattle.probe_session.proofs.RunFaults.{halt_fell, idcode_fell, look_fell, resume_fell}
 use Rattle.probe_session.proofs.Tolds.{at_far, told_case, went_by}
 
@@ -41,14 +50,17 @@ fault_left p old_count new_count old new f (Fault.resuming {h} next fell) m o li
 fault_left p old_count new_count old new f (Fault.stepping_over {h} stepped other fell) m o lines a = over_fell h m o stepped other lines old_count new_count old new f fell a
 fault_left p old_count new_count old new f (Fault.asking {h} {number} fell) m o lines a = asked_fell h number m p.hart p.way o p.plan lines old_count new_count old new f fell a
 fault_left p old_count new_count old new f (Fault.reading {h} {number} fell of) m o lines a = gotten_fell h number m p.hart p.way o p.plan lines old_count new_count old new f of fell a
-fault_left p old_count new_count old new f (Fault.giving {h} {number} {value} fell) m o lines a = given_fell h number value m p.hart p.way o p.plan lines old_count new_count old new f fell a
-fault_left p old_count new_count old new f (Fault.writing {h} {number} {value} fell of can) m o lines a = written_fell h number value m p.hart p.way o p.plan lines old_count new_count old new f of can fell a
+fault_left p old_count new_count old new f (Fault.giving {h} {number} {value} refused next fell) m o lines a = given_fell h number value m p.hart p.way o p.plan lines old_count new_count old new f fell a
+fault_left p old_count new_count old new f (Fault.writing {h} {word} {count = count} {on = on} next {mid = mid} at le fell) m o lines a =
+    written_fell h dcsr_number (with_ebreakm on word) m p.hart p.way o p.plan lines count new_count mid new f dcsr_of_harts dcsr_taken fell (passing h m o p.plan lines old mid (Passing.got at) a)
 fault_left p old_count new_count old new f (Fault.viewing {h} fell) m o lines a = slots_fell ReadsAny h m p.hart p.way o p.plan lines old_count new_count old new f fell a
 fault_left p old_count new_count old new f (Fault.arming {h} {meant = meant} fell) m o lines a = slots_fell (ArmsAny meant) h m p.hart p.way o p.plan lines old_count new_count old new f fell a
 fault_left p old_count new_count old new f (Fault.freeing {h} {slot} fell) m o lines a = slots_fell (FreesAny slot) h m p.hart p.way o p.plan lines old_count new_count old new f fell a
 fault_left p old_count new_count old new f (Fault.forgetting {h} fell) m o lines a = slots_fell (ChangesAny Forget) h m p.hart p.way o p.plan lines old_count new_count old new f fell a
-fault_left p old_count new_count old new f (Fault.forgetting_behind {h} {number} {value} {count = count} {mid = mid} gave le fell) m o lines a = forget_fell h number value m p.hart p.way o p.plan lines count new_count old mid new f gave fell a
+fault_left p old_count new_count old new f (Fault.forgetting_behind {h} {value} {count = count} refused next {mid = mid} gave le fell) m o lines a = forget_fell h pc_number value m p.hart p.way o p.plan lines count new_count old mid new f gave fell a
 fault_left p old_count new_count old new f (Fault.behind {h} {count = count} {p = q} {mid = mid} passed le fell) m o lines a = fault_left _ count new_count mid new f fell m o lines (passing h m o q lines old mid passed a)
 fault_left p old_count new_count old new f (Fault.stopping {h} fell) m o lines a = stop_fell h m p.hart p.way o p.plan lines old_count new_count old new f fell a
-fault_left p old_count new_count old new f (Fault.loading {way} {h} {address} {size = size} next fell) m o lines a = load_fell size address m h way o next lines old_count new_count old new f fell a
-fault_left p old_count new_count old new f (Fault.storing {way} {h} {address} {value} {size = size} next fell) m o lines a = store_fell size address value m h way o next lines old_count new_count old new f fell a
+fault_left p old_count new_count old new f (Fault.loading {way} {h} {address} {size = size} faulted read fell) m o lines a =
+    load_fell size address m h way o (λ b. by_load (loaded b.memory address size) faulted read) lines old_count new_count old new f fell a
+fault_left p old_count new_count old new f (Fault.storing {way} {h} {address} {value} {size = size} faulted next fell) m o lines a =
+    store_fell size address value m h way o (λ b. by_store (store_answer b.memory address size) faulted (change (WriteMem address (count_of size) value) next)) lines old_count new_count old new f fell a

@@ -1,7 +1,7 @@
 -- What a halted hart's lines come from.
 use Rattle.std.proofs.Common.{◌≡◌, ◌≢◌, ◌≤◌, ℕ, Bool, false, List, [], subst, sym, ap, refl, if◌then◌else◌}
 use Rattle.std.proofs.lemmas.Bool.{ne_eqb}
-use Rattle.rv_model.specs.DebugRegisters.{dcsr_number, debug_refuses}
+use Rattle.rv_model.specs.DebugRegisters.{dcsr_number}
 use Rattle.rv_model.specs.Registers.{pc_number}
 use Rattle.abstract_debugger.specs.Lines.{Line}
 use Rattle.abstract_debugger.specs.Plan.{Plan}
@@ -24,7 +24,7 @@ use Rattle.probe_session.specs.Goes.{Falls, Went}
 use Rattle.probe_session.specs.Goes.{Fault}
 use Rattle.probe_session.specs.Goes.{Goes}
 use Rattle.probe_session.specs.Goes.Goes.{step}
-use Rattle.probe_session.specs.Goes.Passing.{found, got}
+use Rattle.probe_session.specs.Goes.Passing.{found}
 use Rattle.probe_session.specs.Places.{Place, is_identity, spot, still}
 use Rattle.abstract_debugger.specs.Ways.Way.{Idle}
 use Rattle.probe_session.specs.Said.{shown_beside}
@@ -85,11 +85,13 @@ written_pc h number value {t} {u} {v} is at forgot =
     (went_one (λ next. writes_pc _ _ (subst (λ n. Gave h n value t u) is at) forgot))
 
 pub write_falls : (h number value : ℕ) {old_count new_count : ℕ} {t u : Tells} {f : Failure} → GiveFell h number value old_count new_count t u f → Falls (at_written_register h number value) [] old_count new_count t u f
-write_falls h number value fell = falls_at (λ next. Fault.giving fell)
+write_falls h number value fell = falls_at (λ next. Fault.giving _ _ fell)
 
-pub forget_falls : (h number value : ℕ) {old_count count new_count : ℕ} {t u v : Tells} {f : Failure} → Gave h number value t u → old_count ≤ count → SlotsFell (ChangesAny Forget) h count new_count u v f
+pub forget_falls : (h number value : ℕ) {old_count count new_count : ℕ} {t u v : Tells} {f : Failure} → number ≡ pc_number → Gave h number value t u → old_count ≤ count → SlotsFell (ChangesAny Forget) h count new_count u v f
     → Falls (at_written_register h number value) [] old_count new_count t v f
-forget_falls h number value at le fell = falls_at (λ next. Fault.forgetting_behind at le fell)
+forget_falls h number value {old_count} {count} {new_count} {t} {u} {v} {f} is at le fell =
+    subst (λ n. Falls (at_written_register h n value) [] old_count new_count t v f) (sym is)
+    (falls_at (λ next. Fault.forgetting_behind _ _ (subst (λ n. Gave h n value t u) is at) le fell))
 
 -- ---- dcsr
 
@@ -99,9 +101,10 @@ ebreak_said h word written on {t} {u} {v} at is gives = rested (λ next. sets_eb
 pub ebreak_falls : (h : ℕ) (on : Bool) {old_count new_count : ℕ} {t u : Tells} {f : Failure} → IsOfHarts dcsr_number → ReadFell h dcsr_number old_count new_count t u f → Falls (at_ebreak h on) [] old_count new_count t u f
 ebreak_falls h on of fell = falls_at (λ next. Fault.reading fell of)
 
-pub ebreak_set_falls : (h word written : ℕ) (on : Bool) {old_count count new_count : ℕ} {t u v : Tells} {f : Failure} → IsOfHarts dcsr_number → debug_refuses dcsr_number ≡ false → Got h dcsr_number word t u → old_count ≤ count
+pub ebreak_set_falls : (h word written : ℕ) (on : Bool) {old_count count new_count : ℕ} {t u v : Tells} {f : Failure} → written ≡ with_ebreakm on word → Got h dcsr_number word t u → old_count ≤ count
     → WriteFell h dcsr_number written count new_count u v f → Falls (at_ebreak h on) [] old_count new_count t v f
-ebreak_set_falls h word written on of takes at le fell = falls_at (λ next. Fault.behind (got at) le (Fault.writing fell of takes))
+ebreak_set_falls h word written on {old_count} {count} {new_count} {t} {u} {v} {f} is at le fell =
+    falls_at (λ next. Fault.writing (say (Line.Ebreak on) next) at le (subst (λ n. WriteFell h dcsr_number n count new_count u v f) is fell))
 
 -- ---- slots
 

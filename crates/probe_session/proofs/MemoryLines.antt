@@ -160,8 +160,8 @@ write_falls_by : (r : Reach) (size : Size) (a v count done left at : ℕ) {old_c
     → Went (at_write r size a v count) (λ next. place_by r (writing left size (a + done * count_of size) v next (done_line count next))) [] t u → StoreFell size at v mid_count new_count u w f
     → Falls (at_write r size a v count) [] old_count new_count t w f
 write_falls_by r size a v count done zero at is below all le went fell = absurd (omega arith)
-write_falls_by r size a v count done (suc n) at is below all le went fell =
-    falls_then (went_then went (went_one (λ next. same (writing-suc n size (a + done * count_of size) v next (done_line count next))))) le (falls_at (λ next. Fault.storing _ fell))
+write_falls_by r size a v count done (suc n) at {mid_count = mid_count} {new_count} {u = u} {w} {f} is below all le went fell =
+    falls_then (went_then went (went_one (λ next. same (writing-suc n size (a + done * count_of size) v next (done_line count next))))) le (falls_at (λ next. Fault.storing _ _ (subst (λ x. StoreFell size x v mid_count new_count u w f) is fell)))
 
 pub write_falls : (r : Reach) (size : Size) (a v count done at : ℕ) {old_count mid_count new_count : ℕ} {t u w : Tells} {f : Failure} → at ≡ a + done * count_of size → done < count → old_count ≤ mid_count → Writes r size a v count done t u
     → StoreFell size at v mid_count new_count u w f → Falls (at_write r size a v count) [] old_count new_count t w f

@@ -83,7 +83,7 @@ next_element r size a count done at is below e = next_by r size a count done e.l
 
 pub element_fell : (r : Reach) (size : Size) (a count done at : ℕ) {old_count mid_count new_count : ℕ} {t u v : Tells} (sink_old sink_new : ℕ) {c d : Option (List ℕ)} {f : Failure} → NextElement r size a count done at t u c d → old_count ≤ mid_count
     → LoadFell size at mid_count new_count u v f → Fell Quiet (at_read r size a count) old_count new_count t v sink_old sink_new c d f
-element_fell r size a count done at sink_old sink_new n le fell = fell_call sink_old sink_new n.spoke le (falls_at (λ next. Fault.loading _ fell))
+element_fell r size a count done at sink_old sink_new n le fell = fell_call sink_old sink_new n.spoke le (falls_at (λ next. Fault.loading _ _ fell))
 
 refused_at : (r : Reach) (size : Size) (a count done at : ℕ) {t u v : Tells} {c d : Option (List ℕ)} → NextElement r size a count done at t u c d → LoadedNone size at u v
     → Spoke (at_read r size a count) (λ next. place_by r (say (Line.MemoryFault at) next)) false t v c d

@@ -72,17 +72,17 @@ of_fault p old_count new_count old new f (Fault.resuming next r) = of_run r.why 
 of_fault p old_count new_count old new f (Fault.stepping_over stepped other r) = of_access r.why f r.is
 of_fault p old_count new_count old new f (Fault.asking r) = of_access r.fell.why f r.fell.is
 of_fault p old_count new_count old new f (Fault.reading r of) = of_access r.why f r.is
-of_fault p old_count new_count old new f (Fault.giving r) = of_access r.fell.why f r.fell.is
-of_fault p old_count new_count old new f (Fault.writing r of can) = of_access r.why f r.is
+of_fault p old_count new_count old new f (Fault.giving refused next r) = of_access r.fell.why f r.fell.is
+of_fault p old_count new_count old new f (Fault.writing next at le r) = of_access r.why f r.is
 of_fault p old_count new_count old new f (Fault.viewing r) = of_access r.why f r.is
 of_fault p old_count new_count old new f (Fault.arming r) = of_access r.why f r.is
 of_fault p old_count new_count old new f (Fault.freeing r) = of_access r.why f r.is
 of_fault p old_count new_count old new f (Fault.forgetting r) = of_access r.why f r.is
-of_fault p old_count new_count old new f (Fault.forgetting_behind gave le r) = of_access r.why f r.is
+of_fault p old_count new_count old new f (Fault.forgetting_behind refused next gave le r) = of_access r.why f r.is
 of_fault p old_count new_count old new f (Fault.behind {count = count} {mid = mid} passed le r) = of_fault _ count new_count mid new f r
 of_fault p old_count new_count old new f (Fault.stopping r) = of_access r.why f r.is
-of_fault p old_count new_count old new f (Fault.loading {address = address} {size = size} next r) = of_load size address old_count new_count old new f r
-of_fault p old_count new_count old new f (Fault.storing {address = address} {value = value} {size = size} next r) = of_store size address value old_count new_count old new f r
+of_fault p old_count new_count old new f (Fault.loading {address = address} {size = size} faulted read r) = of_load size address old_count new_count old new f r
+of_fault p old_count new_count old new f (Fault.storing {address = address} {value = value} {size = size} faulted next r) = of_store size address value old_count new_count old new f r
 
 fault_not_sink : (p : Place) (old_count new_count : ℕ) (old new : Tells) → Fault p old_count new_count old new failure.Sink → ⊥
 fault_not_sink p old_count new_count old new r = of_fault p old_count new_count old new failure.Sink r

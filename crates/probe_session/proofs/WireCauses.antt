@@ -23,6 +23,8 @@ use Rattle.probe_trig.specs.declared.change.Change.TheVariants.{Forget}
 use Rattle.probe_trig.specs.Runs.{ArmsAny, ChangesAny, FreesAny, ReadsAny}
 use Rattle.probe_trig.specs.Transfers.{Transfer}
 use Rattle.rv_model.specs.declared.size.Size.{Size}
+use Rattle.rv_model.specs.DebugRegisters.{dcsr_number}
+use Rattle.probe_session.specs.Steps.{with_ebreakm}
 use Rattle.probe_session.specs.Calls.{LoadFell, LookFell, ReadFell, SlotsFell, StoreFell, WriteFell}
 use Rattle.probe_session.specs.Causes.{EndCaused, WireCause}
 use Rattle.probe_session.specs.Failures.{Became, failure_of_dmi, failure_of_run}
@@ -121,18 +123,19 @@ fault_wired p old_count new_count old new f (Fault.stepping_over {h} stepped oth
     record { later = r.later; cause = of_access r.why f old_count new_count new.far r.is (over_wire r.why h old_count new_count old new r.heard) }
 fault_wired p old_count new_count old new f (Fault.asking {h} {number} r) = read_wired h number old_count new_count old new f r.fell
 fault_wired p old_count new_count old new f (Fault.reading {h} {number} r of) = read_wired h number old_count new_count old new f r
-fault_wired p old_count new_count old new f (Fault.giving {h} {number} {value} r) = write_wired h number value old_count new_count old new f r.fell
-fault_wired p old_count new_count old new f (Fault.writing {h} {number} {value} r of can) = write_wired h number value old_count new_count old new f r
+fault_wired p old_count new_count old new f (Fault.giving {h} {number} {value} refused next r) = write_wired h number value old_count new_count old new f r.fell
+fault_wired p old_count new_count old new f (Fault.writing {h} {word} {count = count} {on = on} next {mid = mid} at le r) =
+    wired_since f old_count count new_count new.far le (write_wired h dcsr_number (with_ebreakm on word) count new_count mid new f r)
 fault_wired p old_count new_count old new f (Fault.viewing {h} r) = slots_wired ReadsAny h old_count new_count old new f r
 fault_wired p old_count new_count old new f (Fault.arming {h} {meant = meant} r) = slots_wired (ArmsAny meant) h old_count new_count old new f r
 fault_wired p old_count new_count old new f (Fault.freeing {h} {slot} r) = slots_wired (FreesAny slot) h old_count new_count old new f r
 fault_wired p old_count new_count old new f (Fault.forgetting {h} r) = slots_wired (ChangesAny Forget) h old_count new_count old new f r
-fault_wired p old_count new_count old new f (Fault.forgetting_behind {h} {count = count} {mid = mid} gave le r) =
+fault_wired p old_count new_count old new f (Fault.forgetting_behind {h} {count = count} refused next {mid = mid} gave le r) =
     wired_since f old_count count new_count new.far le (slots_wired (ChangesAny Forget) h count new_count mid new f r)
 fault_wired p old_count new_count old new f (Fault.behind {count = count} {mid = mid} passed le r) = wired_since f old_count count new_count new.far le (fault_wired _ count new_count mid new f r)
 fault_wired p old_count new_count old new f (Fault.stopping r) = record { later = r.later; cause = of_access r.why f old_count new_count new.far r.is (stop_wire r.why old_count new_count old new r.heard) }
-fault_wired p old_count new_count old new f (Fault.loading {address = address} {size = size} next r) = load_wired size address old_count new_count old new f r
-fault_wired p old_count new_count old new f (Fault.storing {address = address} {value = value} {size = size} next r) = store_wired size address value old_count new_count old new f r
+fault_wired p old_count new_count old new f (Fault.loading {address = address} {size = size} faulted read r) = load_wired size address old_count new_count old new f r
+fault_wired p old_count new_count old new f (Fault.storing {address = address} {value = value} {size = size} faulted next r) = store_wired size address value old_count new_count old new f r
 
 -- ---- wherever the session broke off
 

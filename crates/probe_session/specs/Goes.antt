@@ -1,32 +1,36 @@
 -- How a session went: steps from one place of the plan to another, and where it broke off.
 -- It is this project's own.
-use Rattle.std.specs.Prelude.{◌≡◌, ◌≤◌, ◌++◌, ℕ, Bool, true, false, List, [], Option}
+use Rattle.std.specs.Prelude.{◌≡◌, ◌≤◌, ◌++◌, ℕ, Bool, true, List, [], Option, if◌then◌else◌}
 use Rattle.jt_base.specs.Faults.{Rises}
 use Rattle.jt_base.specs.Sink.{GrewByPrefix, grown}
 use Rattle.rv_model.specs.declared.size.Size.{Size}
-use Rattle.rv_model.specs.Board.{Board}
 use Rattle.debug_model.specs.declared.point.Point.TheVariants.{Access}
-use Rattle.abstract_debugger.specs.Debugger.{Seen, State, going, halting, look, one}
+use Rattle.abstract_debugger.specs.Debugger.{Seen, State, by_load, by_store, going, halting, look, one}
 use Rattle.abstract_debugger.specs.Laws.{Quiet}
 use Rattle.abstract_debugger.specs.Lines.{Line, any_error, text_of, text_of_all}
 use Rattle.abstract_debugger.specs.Plan.{Plan}
-use Rattle.abstract_debugger.specs.Plan.Plan.{say, see, take}
+use Rattle.abstract_debugger.specs.Plan.Change.{EbreakHalts, WriteMem, WriteReg}
+use Rattle.abstract_debugger.specs.Plan.Plan.{change, say, see, take}
 use Rattle.abstract_debugger.specs.Ways.{Way}
 use Rattle.probe_run.specs.Acts.{Tells}
 use Rattle.probe_trig.specs.declared.change.Change.TheVariants.{Forget}
 use Rattle.probe_trig.specs.declared.slot_use.SlotUse.{SlotUse}
 use Rattle.probe_trig.specs.Runs.{ArmsAny, ChangesAny, FreesAny, ReadsAny}
-use Rattle.rv_model.specs.DebugRegisters.{debug_refuses}
+use Rattle.rv_model.specs.DebugRegisters.{dcsr_number}
+use Rattle.rv_model.specs.Memory.{loaded, store_answer}
+use Rattle.rv_model.specs.Registers.{csr_read_only, pc_number}
+use Rattle.rv_model.specs.Size.{count_of}
 use Rattle.probe_session.specs.declared.fault.Failure.{Failure}
 use Rattle.probe_session.specs.declared.fault.Failure.TheVariants as failure
 use Rattle.probe_session.specs.Calls.{AskFell, FoundStop, Gave, GiveFell, Got, HaltFell, IdcodeFell, IsOfHarts, LoadFell, LookFell, OverFell, ReadFell, ResumeFell, SlotsFell, StopFell, StoreFell, WriteFell}
 use Rattle.probe_session.specs.Places.{Place, idle, may_say, place, ready, spot, still}
-use Rattle.probe_session.specs.Steps.{Step}
+use Rattle.probe_session.specs.Steps.{Step, with_ebreakm}
 
 -- from one place to another, with these lines said on the way
 pub data Goes (from : Place) (old : Tells) : List Line → Place → Tells → Type 0 where
   start : Goes from old [] from old
-  step : {said more : List Line} {mid to : Place} {between new : Tells} → Goes from old said mid between → Step mid between more to new → Goes from old (said ++ more) to new
+  step : {said more : List Line} {mid to : Place} {between new : Tells} → Goes from old said mid between → Step mid between more to new
+      → Goes from old (said ++ more) to new
 
 -- the same, whatever follows in the plan
 pub record Went {K : Type 0} (before after : K → Place) (said : List Line) (old new : Tells) : Type 0 where
@@ -39,9 +43,10 @@ pub data Passing (h : ℕ) (old new : Tells) : Type 0 where
   got : {number value : ℕ} → Got h number value old new → Passing h old new
   found : {pc cause : ℕ} → FoundStop h pc cause old new → Passing h old new
 
--- the call that this place asks for failed; a register may be read or written at any place of a halted hart, and the IDCODE at any place
+-- the call that this place asks for failed; a register may be read at any place of a halted hart, and the IDCODE at any place
 pub data Fault : Place → ℕ → ℕ → Tells → Tells → Failure → Type 0 where
-  idcode : {p : Place} {old_count new_count : ℕ} {old new : Tells} {f : Failure} → IdcodeFell old_count new_count old new f → Fault p old_count new_count old new f
+  idcode : {p : Place} {old_count new_count : ℕ} {old new : Tells} {f : Failure} → IdcodeFell old_count new_count old new f
+      → Fault p old_count new_count old new f
   looking : {h old_count new_count : ℕ} (next : Seen → Plan) {old new : Tells} {f : Failure} → LookFell h old_count new_count old new f
       → Fault (idle (look h next)) old_count new_count old new f
   halt : {h old_count new_count : ℕ} (next : Plan) {old new : Tells} {f : Failure} → HaltFell h old_count new_count old new f
@@ -54,10 +59,13 @@ pub data Fault : Place → ℕ → ℕ → Tells → Tells → Failure → Type 
       → Fault (still h p) old_count new_count old new f
   reading : {h number old_count new_count : ℕ} {p : Plan} {old new : Tells} {f : Failure} → ReadFell h number old_count new_count old new f → IsOfHarts number
       → Fault (still h p) old_count new_count old new f
-  giving : {h number value old_count new_count : ℕ} {p : Plan} {old new : Tells} {f : Failure} → GiveFell h number value old_count new_count old new f
-      → Fault (still h p) old_count new_count old new f
-  writing : {h number value old_count new_count : ℕ} {p : Plan} {old new : Tells} {f : Failure} → WriteFell h number value old_count new_count old new f → IsOfHarts number → debug_refuses number ≡ false
-      → Fault (still h p) old_count new_count old new f
+  giving : {h number value old_count new_count : ℕ} (refused next : Plan) {old new : Tells} {f : Failure}
+      → GiveFell h number value old_count new_count old new f
+      → Fault (still h (if csr_read_only number then refused else change (WriteReg h number value) next)) old_count new_count old new f
+  writing : {h word old_count count new_count : ℕ} {on : Bool} (next : Plan) {old mid new : Tells} {f : Failure} → Got h dcsr_number word old mid
+      → old_count ≤ count
+      → WriteFell h dcsr_number (with_ebreakm on word) count new_count mid new f
+      → Fault (still h (change (EbreakHalts h on) next)) old_count new_count old new f
   viewing : {h old_count new_count : ℕ} {p : Plan} {old new : Tells} {f : Failure} → SlotsFell ReadsAny h old_count new_count old new f
       → Fault (still h p) old_count new_count old new f
   arming : {h old_count new_count : ℕ} {p : Plan} {meant : SlotUse} {old new : Tells} {f : Failure} → SlotsFell (ArmsAny meant) h old_count new_count old new f
@@ -66,16 +74,22 @@ pub data Fault : Place → ℕ → ℕ → Tells → Tells → Failure → Type 
       → Fault (still h p) old_count new_count old new f
   forgetting : {h old_count new_count : ℕ} {p : Plan} {old new : Tells} {f : Failure} → SlotsFell (ChangesAny Forget) h old_count new_count old new f
       → Fault (still h p) old_count new_count old new f
-  forgetting_behind : {h number value old_count count new_count : ℕ} {p : Plan} {old mid new : Tells} {f : Failure} → Gave h number value old mid → old_count ≤ count
-      → SlotsFell (ChangesAny Forget) h count new_count mid new f → Fault (still h p) old_count new_count old new f
-  behind : {h old_count count new_count : ℕ} {p : Plan} {old mid new : Tells} {f : Failure} → Passing h old mid → old_count ≤ count → Fault (still h p) count new_count mid new f
+  forgetting_behind : {h value old_count count new_count : ℕ} (refused next : Plan) {old mid new : Tells} {f : Failure} → Gave h pc_number value old mid
+      → old_count ≤ count
+      → SlotsFell (ChangesAny Forget) h count new_count mid new f
+      → Fault (still h (if csr_read_only pc_number then refused else change (WriteReg h pc_number value) next)) old_count new_count old new f
+  behind : {h old_count count new_count : ℕ} {p : Plan} {old mid new : Tells} {f : Failure} → Passing h old mid → old_count ≤ count
+      → Fault (still h p) count new_count mid new f
       → Fault (still h p) old_count new_count old new f
   stopping : {h old_count new_count : ℕ} {p : Plan} {old new : Tells} {f : Failure} → StopFell h old_count new_count old new f
       → Fault (still h p) old_count new_count old new f
-  loading : {way : Way} {h address old_count new_count : ℕ} {size : Size} (next : Board → Plan) {old new : Tells} {f : Failure} → LoadFell size address old_count new_count old new f
-      → Fault (place way h (take Access (see next))) old_count new_count old new f
-  storing : {way : Way} {h address value old_count new_count : ℕ} {size : Size} (next : Board → Plan) {old new : Tells} {f : Failure} → StoreFell size address value old_count new_count old new f
-      → Fault (place way h (take Access (see next))) old_count new_count old new f
+  loading : {way : Way} {h address old_count new_count : ℕ} {size : Size} (faulted : Plan) (read : ℕ → Plan) {old new : Tells} {f : Failure}
+      → LoadFell size address old_count new_count old new f
+      → Fault (place way h (take Access (see (λ b. by_load (loaded b.memory address size) faulted read)))) old_count new_count old new f
+  storing : {way : Way} {h address value old_count new_count : ℕ} {size : Size} (faulted next : Plan) {old new : Tells} {f : Failure}
+      → StoreFell size address value old_count new_count old new f
+      → Fault (place way h (take Access (see (λ b.
+      by_store (store_answer b.memory address size) faulted (change (WriteMem address (count_of size) value) next))))) old_count new_count old new f
 
 -- it went so far, and there a call failed
 pub record Falls {K : Type 0} (before : K → Place) (said : List Line) (old_count new_count : ℕ) (old new : Tells) (f : Failure) : Type 0 where
@@ -107,9 +121,11 @@ pub record Spoke {K : Type 0} (before after : K → Place) (wrong : Bool) (old n
 
 -- all lines that were said were written, and there a call failed; or a line could not be written, behind which nothing is changed up to the next point
 -- where what follows the whole is as T says
-pub data Fell {K : Type 0} (T : K → Type 0) (before : K → Place) (old_count new_count : ℕ) (old new : Tells) (sink_old sink_new : ℕ) (was is : Option (List ℕ)) : Failure → Type 0 where
+pub data Fell {K : Type 0} (T : K → Type 0) (before : K
+    → Place) (old_count new_count : ℕ) (old new : Tells) (sink_old sink_new : ℕ) (was is : Option (List ℕ)) : Failure → Type 0 where
   in_call : {f : Failure} (said : List Line) → Falls before said old_count new_count old new f → is ≡ grown (text_of_all said) was
       → Fell T before old_count new_count old new sink_old sink_new was is f
-  at_line : (said : List Line) (line : Line) (heard : Bool) (way : Way) (h : ℕ) (next : K → Plan) → may_say heard line ≡ true → ((k : K) → T k → Quiet (next k)) → Went before (λ k. spot heard way h (say line (next k))) said old new
+  at_line : (said : List Line) (line : Line) (heard : Bool) (way : Way) (h : ℕ) (next : K → Plan) → may_say heard line ≡ true
+      → ((k : K) → T k → Quiet (next k)) → Went before (λ k. spot heard way h (say line (next k))) said old new
       → GrewByPrefix (text_of line) (grown (text_of_all said) was) is → Rises sink_old sink_new
       → Fell T before old_count new_count old new sink_old sink_new was is failure.Sink

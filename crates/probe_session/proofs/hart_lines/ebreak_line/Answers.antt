@@ -1,6 +1,6 @@
 use Rattle.probe_session.proofs.HartLines.{ebreak_falls, ebreak_said, ebreak_set_falls}
 use Rattle.probe_session.proofs.LinkLemmas.{if_err}
-use Rattle.probe_session.proofs.RegisterLemmas.{dcsr_of_harts, dcsr_taken}
+use Rattle.probe_session.proofs.RegisterLemmas.{dcsr_of_harts}
 use Rattle.probe_session.proofs.hart_lines.ebreak_line.Goals as goal
 
 pub returns-in_err-word-clause-falls : goal.returns-in_err-word-clause-falls
@@ -8,7 +8,7 @@ returns-in_err-word-clause-falls g c = if_err _ c.in_err-word.field-0.0 _ c.from
 
 pub returns-in_err-set-clause-falls : goal.returns-in_err-set-clause-falls
 returns-in_err-set-clause-falls g c =
-    if_err _ c.in_err-set.field-0.0 _ c.from_residual-in_err-set.ensures.1 (ebreak_set_falls c.args.halted.now.number c.in_ok-word.word _ c.args.is_on dcsr_of_harts dcsr_taken c.in_ok-word.ensures.got c.get.ensures.keeps.later c.in_err-set.ensures.fell)
+    if_err _ c.in_err-set.field-0.0 _ c.from_residual-in_err-set.ensures.1 (ebreak_set_falls c.args.halted.now.number c.in_ok-word.word _ c.args.is_on c.with_ebreakm.ensures c.in_ok-word.ensures.got c.get.ensures.keeps.later c.in_err-set.ensures.fell)
 
 pub returns-clause-went : goal.returns-clause-went
 returns-clause-went g c = ebreak_said c.args.halted.now.number c.in_ok-word.word _ c.args.is_on c.in_ok-word.ensures.got c.with_ebreakm.ensures c.in_ok-set.ensures.gave

@@ -14,7 +14,7 @@ pub returns-then-not-branch-clause-went : goal.returns-then-not-branch-clause-we
 returns-then-not-branch-clause-went g c = write_refused c.args.halted.now.number c.args.number c.args.value c.requires.of (gave_false c.if-not-branch.true c.in_ok-give.ensures.gave)
 
 pub returns-in_err-forget-clause-falls : goal.returns-in_err-forget-clause-falls
-returns-in_err-forget-clause-falls g c = if_err _ c.in_err-forget.field-0.0 _ c.from_residual-in_err-forget.ensures.1 (forget_falls c.args.halted.now.number c.args.number c.args.value (gave_true c.if-not-branch.false c.in_ok-give.ensures.gave) c.give.ensures.keeps.later c.in_err-forget.ensures.fell)
+returns-in_err-forget-clause-falls g c = if_err _ c.in_err-forget.field-0.0 _ c.from_residual-in_err-forget.ensures.1 (forget_falls c.args.halted.now.number c.args.number c.args.value c.if-number-eq-DPC.true (gave_true c.if-not-branch.false c.in_ok-give.ensures.gave) c.give.ensures.keeps.later c.in_err-forget.ensures.fell)
 
 pub returns-then-number-eq-DPC-clause-went : goal.returns-then-number-eq-DPC-clause-went
 returns-then-number-eq-DPC-clause-went g c =
