@@ -125,14 +125,15 @@ def applied(crate, group):
     return whole
 
 
-def as_asked(function):
-    """How the prover is asked for a function: by its whole name, or, as a type's functions may stand in another module, by its type and its own name."""
-    words = function.split("::")
-    return "::".join(words[-2:] if len(words) > 1 and words[-2][:1].isupper() else words)
+def paths_of(texts):
+    """How the prover is asked for each function below src/: by its whole name, or, as it puts a type's functions where the type stands, by its type and its own name where no other has these."""
+    names = [name for path, text in texts.items() if path.endswith(".rt") for name, _, _ in items_of(path, text).functions]
+    ends = {name: "::".join(name.split("::")[-2:]) for name in names if re.search(r"(^|::)[A-Z]\w*::\w+$", name)}
+    return {name: ends[name] if [*ends.values()].count(ends.get(name)) == 1 else name for name in names}
 
 
 def checked(crate, texts, kept, only):
-    """What a check says of the crate with these texts in the place of its own, or of these functions alone and what they call. It goes past what is not proved."""
+    """What a check says of the crate with these texts in the place of its own, or of some functions alone and what they call. It goes past what is not proved."""
     with tempfile.TemporaryDirectory(prefix="batch-") as room:
         for part in rtlib.PARTS:
             if os.path.isdir(f"{crate.folder}/{part}"):
@@ -141,7 +142,7 @@ def checked(crate, texts, kept, only):
             with open(f"{room}/{path}", "w", encoding="utf-8") as it:
                 it.write(text)
         words = [rtlib.RATTLE, "check", *crate.words(ONE_JOB, keeps=False), "--incremental", kept, "--allow-holes"]
-        words += [it for function in sorted(only) for it in ("--only", as_asked(function))]
+        words += [it for path in sorted(only) for it in ("--only", path)]
         how = {"cwd": room, "stdin": subprocess.DEVNULL, "stdout": subprocess.PIPE, "stderr": subprocess.STDOUT, "errors": "replace"}
         return subprocess.run([*rtlib.guarded(), *words], **how).stdout
 
@@ -155,9 +156,9 @@ def name_in(function, names):
     return like[0] if len(like) == 1 and "::" in last else None
 
 
-def try_group(crate, group, kept, is_proved):
+def try_group(crate, group, kept, paths):
     """What refuses each edit, by its path; those that no such check refuses are not there. A group that can't be judged is tried in halves."""
-    only = {function for it in group for function in it.functions} if is_proved else set()
+    only = {paths[function] for it in group for function in it.functions if function in paths}
     texts = applied(crate, group)
     found = judged(crate.name, checked(crate, texts, kept, only)) if texts else None
     names = {it.path: [name_in(function, found or {}) for function in sorted(it.functions)] for it in group}
@@ -166,7 +167,7 @@ def try_group(crate, group, kept, is_proved):
         half = len(group) // 2
         if not half:
             return {}
-        return try_group(crate, group[:half], kept, is_proved) | try_group(crate, group[half:], kept, is_proved)
+        return try_group(crate, group[:half], kept, paths) | try_group(crate, group[half:], kept, paths)
     goals = {path: next((f"{it}: {found[it].goal}" for it in owned if it and found[it].goal), "") for path, owned in names.items()}
     return {path: goal if len(goal) <= SHOWN else f"{goal[:SHOWN]} .." for path, goal in goals.items() if goal}
 
@@ -185,7 +186,7 @@ def try_edits(crate, paths, kept, is_proved):
     read = [read_edit(it, crate, texts) for it in paths]
     refused = {}
     for group in grouped(crate, [edit for edit, why in read if not why]):
-        refused |= try_group(crate, group, kept, is_proved)
+        refused |= try_group(crate, group, kept, paths_of(texts) if is_proved else {})
     for edit, why in read:
         if why:
             yield False, f"{edit.label}: BROKEN: {why}"

@@ -37,21 +37,23 @@ def is_of_gate(crate, since):
 def make_ready(crate, since):
     """Has the libraries below the crate made, and the crate proved as it stands. Stops where that fails.
 
-    A library is good only over those that it was made over, so all are `rt`'s own or all are those of the gate."""
-    if since is None:
-        ran = subprocess.run(["rt", "check"], cwd=crate.folder, stdin=subprocess.DEVNULL, stdout=subprocess.PIPE, stderr=subprocess.STDOUT, text=True, errors="replace")
-        if ran.returncode:
-            last = "\n".join(ran.stdout.rstrip().split("\n")[-6:])
-            stop(f"{crate.name} is not proved as it stands, so nothing was tried:\n{last}")
-    elif not all(it.is_built() for it in crate.below()) and not all(is_of_gate(it, since) for it in crate.below()):
-        stop(f"no `rt ci` in this place has made the libraries below {crate.name} since then")
+    Behind the gate both are done. But a library is good only over those that it was made over, so all must be those of the gate or all `rt`'s own: where earlier checks were made in this
+    place, the gate puts what these had made back."""
+    if since is not None:
+        if all(is_of_gate(it, since) for it in crate.below()) or all(it.is_built() for it in crate.below()):
+            return
+        print(f"wrong_bodies: the libraries below {crate.name} are not all those of the gate, so `rt check` makes them", file=sys.stderr, flush=True)
+    ran = subprocess.run(["rt", "check"], cwd=crate.folder, stdin=subprocess.DEVNULL, stdout=subprocess.PIPE, stderr=subprocess.STDOUT, text=True, errors="replace")
+    if ran.returncode:
+        last = "\n".join(ran.stdout.rstrip().split("\n")[-6:])
+        stop(f"{crate.name} is not proved as it stands, so nothing was tried:\n{last}")
 
 
 def tried(crate, paths, since):
     """Whether each edit is refused, and a line on it."""
     with tempfile.TemporaryDirectory(prefix="kept-") as room:
         kept = f"{room}/kept"
-        if since is None:
+        if os.path.isdir(f"{crate.folder}/{KEPT}"):
             shutil.copytree(f"{crate.folder}/{KEPT}", kept)
         return [*try_edits(crate, paths, kept, since is not None)]
 

@@ -4,9 +4,7 @@ ghost use Rattle.std.specs.Prelude.{◌≡◌, ◌<◌, None, IfOk};
 
 mod accesses;
 mod ended;
-mod every_command;
 mod generated;
-mod lines;
 mod loopback;
 mod probe;
 mod refused;

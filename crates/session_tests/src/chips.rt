@@ -6,13 +6,11 @@ ghost use Rattle.debug_model.specs.Loaded.{AsLoaded};
 use chip_core::{Bench, BenchWire};
 use debug_model::{Schedule, Script};
 use hart_debug::Start;
-use jt_base::{MemorySink, Sink};
+use jt_base::Sink;
 use probe_dmi::Link;
 use probe_scan::Scanner;
 use probe_session::{Ended, run_script};
-use script_lang::parse;
 use std::alloc::Global;
-use std::process::Abort;
 use std::test::Fail;
 use sys_events::SeedSchedule;
 
@@ -75,34 +73,4 @@ pub fn run_on<Q: Schedule, K: Sink>(bench: &mut Bench<Q>, script: &Script, out: 
 {
     let mut link = Link::new(Scanner::new(BenchWire::new(bench, PIECE)));
     run_script(&mut link, script, out)
-}
-
-/// A session of this script on a chip with this image ends so, and prints this.
-pub fn check_on(
-    rt: &impl Abort,
-    alloc: Global,
-    image: &[u8],
-    how: Loading,
-    script: &str,
-    ended: Ended,
-    printed: &str,
-) -> Result<(), Fail> {
-    let mut bench = loaded(alloc, image, how)?;
-    let commands = parse(alloc, script.as_bytes())?;
-    let mut out = MemorySink::new(alloc, AMPLE, Vec::new(alloc))?;
-    let end = run_on(&mut bench, &commands, &mut out);
-    assert_eq!(rt; out.bytes(), printed.as_bytes());
-    assert_eq!(rt; end, ended);
-    Ok(())
-}
-
-/// The same of the program above, with one halted hart.
-pub fn check(
-    rt: &impl Abort,
-    alloc: Global,
-    script: &str,
-    ended: Ended,
-    printed: &str,
-) -> Result<(), Fail> {
-    check_on(rt, alloc, PROGRAM, HALTED, script, ended, printed)
 }

@@ -1,4 +1,4 @@
-//! Tests of whole sessions over a chip on its bench: a script's text, and what it prints.
+//! Tests of sessions over a chip on its bench that no session of sessions/ can show: a schedule that a test lists, a sink that fails, and answers given beforehand.
 //!
 //! They stand in a crate of their own, above the chip and above the probe, which know nothing of one another.
 #![tactic(auto)]
@@ -6,14 +6,6 @@
 #[cfg(test)]
 mod chips;
 #[cfg(test)]
-mod each_command;
-#[cfg(test)]
 mod ended;
 #[cfg(test)]
-mod memory;
-#[cfg(test)]
 mod scripted;
-#[cfg(test)]
-mod stepping;
-#[cfg(test)]
-mod stopping;

@@ -1,4 +1,4 @@
-//! Sessions straight to the chip on a bench.
+//! Sessions straight to the chip on a bench: what they do that their lines do not show. The sessions of scripts stand in sessions/.
 
 ghost use Rattle.std.specs.Prelude.{◌≡◌, None};
 
@@ -10,55 +10,6 @@ use std::alloc::Global;
 use std::process::Abort;
 use std::test::Fail;
 use sys_events::SeedSchedule;
-
-#[test]
-fn scripts_are_run_or_refused(rt: HostRuntime) -> Result<(), Fail> {
-    let cases: [(&[u8], &[u8], Status, &str); 8] = [
-        (b"", b"", Status::Clean, ""),
-        (b"", b"idcode", Status::Clean, "idcode 0x10d64001\n"),
-        (
-            b"",
-            b" idcode # twice\r\n\nidcode\n",
-            Status::Clean,
-            "idcode 0x10d64001\nidcode 0x10d64001\n",
-        ),
-        (
-            b"",
-            b"idcode\nend\nidcode\n",
-            Status::Clean,
-            "idcode 0x10d64001\n",
-        ),
-        (
-            b"",
-            b"state\nread 3 0x80000000\n",
-            Status::Script,
-            "script refused: line 2 fault 6\n",
-        ),
-        (
-            PROGRAM,
-            b"state\nhart 1\n",
-            Status::WithErrors,
-            "running\nerror: no hart 1\n",
-        ),
-        (
-            b"x",
-            b"idcodes",
-            Status::Script,
-            "script refused: line 1 fault 2\n",
-        ),
-        (PROGRAM, b"idcode", Status::Clean, "idcode 0x10d64001\n"),
-    ];
-    let line = "both --image i --script s";
-    for (image, script, status, printed) in cases {
-        let held = Held {
-            image,
-            script,
-            fail_at: NO_FAILURE,
-        };
-        check_words(&rt, rt.alloc(), line, held, status, printed)?;
-    }
-    Ok(())
-}
 
 // The first rises of TCK bring no answer yet, and the highest limit is 2^62.
 #[test]
