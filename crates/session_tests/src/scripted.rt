@@ -16,14 +16,7 @@ use std::test::Fail;
 const AMPLE: usize = 65_536;
 
 /// What the opening is answered, and the Look of hart 0 at its end, which shows it running.
-const OPENING: [u32; 6] = [
-    0x1071,
-    1,
-    0x000c_0c83,
-    0x0400_0002,
-    0x2004_080f,
-    RUNNING,
-];
+const OPENING: [u32; 6] = [0x1071, 1, 0x000c_0c83, 0x0400_0002, 0x2004_080f, RUNNING];
 
 /// A hart that runs: `anyrunning` and `allrunning`.
 const RUNNING: u32 = 0x0c83;

@@ -47,10 +47,7 @@ fn links_stop_at_the_limit(rt: HostRuntime) -> Result<(), Fail> {
     net.connect(alloc, "the bench")?;
     let puts = puts_to_the_limit(&mut net);
     let again = ask_net(&mut net, TO_SHIFT, &mut []);
-    assert_eq!(rt;
-        (puts, again, net.faults()),
-        (2, Err(NetFault::Failed), 2)
-    );
+    assert_eq!(rt; (puts, again, net.faults()), (2, Err(NetFault::Failed), 2));
     assert!(rt; bench.at_limit());
     assert_eq!(rt; bench.counts().rounds, 301);
     let mut joined = memory(&rt, 256, &[])?;
