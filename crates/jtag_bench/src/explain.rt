@@ -1,7 +1,7 @@
 //! What the program says on standard error of words, a script or an image that it has refused. It is judged once more by the calls that refused it.
 
 use chip_core::{Bench, LoadFault};
-use command_line::{ChipOptions, Inputs, Job, read_words, why_refused};
+use command_line::{ChipOptions, Job, read_words, why_refused};
 use debug_model::{ScriptError, ScriptFault};
 use hart_debug::Start;
 use jt_base::FileFault;

@@ -1,0 +1,7 @@
+pub mod Bits
+pub mod Rounds
+pub mod Scans
+pub mod Signs
+pub mod Stream
+pub mod Updates
+pub mod Benches
