@@ -7,7 +7,7 @@ use Rattle.rv_model.specs.Registers.{reg_written}
 use Rattle.abstract_debugger.specs.Laws.{CutBoards, IsChangeOf, IsFrozen, IsFrozenAt, IsWritten, WritesOnly}
 use Rattle.abstract_debugger.specs.Plan.{Change, Plan, changed_board, hart_over}
 use Rattle.abstract_debugger.specs.Plan.Change.{WriteReg, WriteMem, ArmSlot, FreeSlot, StepOver, StepDone, EbreakHalts}
-use Rattle.abstract_debugger.specs.Plan.Plan.{take, see, change, say, stop}
+use Rattle.abstract_debugger.specs.Plan.Plan.{take, on_path, see, change, say, stop}
 use Rattle.abstract_debugger.specs.Slots.{over}
 use Rattle.abstract_debugger.specs.Transcript.{World, changed, replay, said}
 use Rattle.abstract_debugger.specs.Turns.{after_turns, turns}
@@ -35,9 +35,15 @@ same (Some r) c = inl refl
 
 nothing : (n : Option ℕ) (h : ℕ) (b : Board) (harts : List ℕ) (end : Board) → end ≡ after_turns harts b → Ends n h b harts end
 unfolding with_harts
-nothing n h b harts end is = record { f = λ x. x; written = λ x. same n x.core; is = is ∙ ap (with_harts (after_turns harts b)) (sym (over_id h (after_turns harts b).harts)) }
+nothing n h b harts end is = record {
+  f = λ x. x;
+  written = λ x. same n x.core;
+  is = is
+      ∙ ap (with_harts (after_turns harts b)) (sym (over_id h (after_turns harts b).harts));
+}
 
-moved_hart : (o : Option Hart) (g : Hart → Hart) (x : Hart) → ((y : Hart) → o ≡ Some y → IsFrozen y.debug) → ((y : Hart) → IsFrozen y.debug → IsFrozen (g y).debug) → option_map g o ≡ Some x → IsFrozen x.debug
+moved_hart : (o : Option Hart) (g : Hart → Hart) (x : Hart) → ((y : Hart) → o ≡ Some y → IsFrozen y.debug)
+    → ((y : Hart) → IsFrozen y.debug → IsFrozen (g y).debug) → option_map g o ≡ Some x → IsFrozen x.debug
 moved_hart None g x frozen keeps is = absurd (none-some x is)
 moved_hart (Some y) g x frozen keeps is = subst (λ (z : Hart). IsFrozen z.debug) (same_Some (g y) x is) (keeps y (frozen y refl))
 
@@ -62,9 +68,11 @@ changed_frozen c h b of_h frozen = subst (IsFrozenAt h) (sym (changed_hart c h b
 write_is : (n : Option ℕ) (r v : ℕ) (c d : Core) → n ≡ Some r → d ≡ reg_written c r v → IsWritten n c d
 write_is n r v c d is e = subst (λ m. IsWritten m c d) (sym is) (inr (v, e))
 
-ends : (plan : Plan) (w : World) (h : ℕ) (n : Option ℕ) (harts : List ℕ) → WritesOnly h n plan → IsFrozenAt h w.board → Ends n h w.board harts (replay plan w (turns harts)).world.board
+ends : (plan : Plan) (w : World) (h : ℕ) (n : Option ℕ) (harts : List ℕ) → WritesOnly h n plan → IsFrozenAt h w.board
+    → Ends n h w.board harts (replay plan w (turns harts)).world.board
 unfolding replay
 ends (take point next) w h n harts only frozen = nothing n h w.board harts _ (taking-board point (replay next) w harts)
+ends (on_path path next) w h n harts only frozen = ends next w h n harts only frozen
 ends (see next) w h n harts only frozen = ends (next w.board) w h n harts (only w.board) frozen
 ends (change (WriteReg j r v) next) w h n harts only frozen =
     changed_ends n None h (WriteReg j r v) w.board harts _ only.0 frozen (λ x d e. write_is n r v x.core d only.1 e)

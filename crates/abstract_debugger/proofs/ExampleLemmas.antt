@@ -12,9 +12,12 @@ use Rattle.debug_model.specs.Spelling.{hexadecimal}
 use Rattle.abstract_debugger.specs.Debugger.{session, stepping, until, waiting}
 use Rattle.abstract_debugger.specs.ExampleCases.{Case, Happens, Holds}
 use Rattle.abstract_debugger.specs.LineExamples.{LinesRead}
-use Rattle.abstract_debugger.specs.LossExamples.{no_halt, no_ack, step_without_halt, step_without_ack, wait_in_vain, cut_in_a_step, foreign_request, LossesHappen}
-use Rattle.abstract_debugger.specs.RefusalExamples.{five_breaks, hart_7, hart_1_running, read_only_register, misaligned_read, no_hart_to_wait_for, RefusalsHappen}
-use Rattle.abstract_debugger.specs.StopExamples.{step_from_reset, break_twice, pc_onto_break, pc_onto_the_same_break, step_onto_break, count_five, watched_store, ebreak_halts, halt_running, StopsHappen}
+use Rattle.abstract_debugger.specs.LossExamples.{no_halt, no_ack, step_without_halt, step_without_ack, wait_in_vain, cut_in_a_step, foreign_request}
+use Rattle.abstract_debugger.specs.LossExamples.{LossesHappen}
+use Rattle.abstract_debugger.specs.RefusalExamples.{five_breaks, hart_7, hart_1_running, read_only_register, misaligned_read, no_hart_to_wait_for}
+use Rattle.abstract_debugger.specs.RefusalExamples.{RefusalsHappen}
+use Rattle.abstract_debugger.specs.StopExamples.{step_from_reset, break_twice, pc_onto_break, pc_onto_the_same_break, step_onto_break, count_five}
+use Rattle.abstract_debugger.specs.StopExamples.{watched_store, ebreak_halts, halt_running, StopsHappen}
 use Rattle.abstract_debugger.specs.Transcript.{End, Outcome, start, transcript}
 use Rattle.abstract_debugger.proofs.Fetched.{computed, computed-agrees, some-unwrap}
 

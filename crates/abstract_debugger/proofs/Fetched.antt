@@ -1,5 +1,6 @@
 -- A replay computed with the words at pc given by a program: none where a word is not listed, or where memory would change.
-use Rattle.std.proofs.Common.{◌≡◌, ◌∙◌, ℕ, List, [], ◌∷◌, Bool, true, false, ◌&&◌, Option, Some, None, is_some, Result, Ok, slice_get, slice_set, refl, sym, ap, subst, if◌then◌else◌}
+use Rattle.std.proofs.Common.{◌≡◌, ◌∙◌, ℕ, List, [], ◌∷◌, Bool, true, false, ◌&&◌, Option, Some, None, is_some, Result, Ok, slice_get, slice_set}
+use Rattle.std.proofs.Common.{refl, sym, ap, subst, if◌then◌else◌}
 use Rattle.std.specs.Prelude.{unwrap_or, ◌==◌}
 use Rattle.std.proofs.lemmas.Bool.{eqb-true}
 use Rattle.rv_model.specs.declared.insn.Insn.{Insn}
@@ -22,7 +23,7 @@ use Rattle.debug_model.specs.declared.point.Point.TheVariants.{Turn, Look, HaltR
 use Rattle.abstract_debugger.specs.ExampleCases.{Holds, Program}
 use Rattle.abstract_debugger.specs.Plan.{Change, Plan, PlanEnd}
 use Rattle.abstract_debugger.specs.Plan.Change.{WriteReg, WriteMem, ArmSlot, FreeSlot, StepOver, StepDone, EbreakHalts}
-use Rattle.abstract_debugger.specs.Plan.Plan.{take, see, change, say, stop}
+use Rattle.abstract_debugger.specs.Plan.Plan.{take, on_path, see, change, say, stop}
 use Rattle.abstract_debugger.specs.Trace.{noted_by}
 use Rattle.abstract_debugger.specs.Transcript.{End, Outcome, World, changed, finish, graded, passed, replay, said, same_point, taking}
 
@@ -63,7 +64,8 @@ memory_kept (Some _) c m is = absurd (cc)
 
 abbrev executes_with : Result ℕ MemFault → Hart → Bool
 executes_with r hart =
-    executes_by hart.debug.halted hart.debug.resume_request hart.debug.halt_request (some_fires (touch_fetched r hart.core) hart) (hart.debug.ebreakm && is_ebreak_word r)
+    executes_by hart.debug.halted hart.debug.resume_request hart.debug.halt_request (some_fires (touch_fetched r hart.core) hart)
+    (hart.debug.ebreakm && is_ebreak_word r)
 
 abbrev memory_with : Result ℕ MemFault → Hart → Memory → Memory
 memory_with r hart m = if executes_with r hart then (fetched r hart.core m).memory else m
@@ -72,16 +74,19 @@ abbrev world_with : Result ℕ MemFault → Memory → Hart → ℕ → World �
 world_with r behind hart h w = record w {
   board = record {
     harts = slice_set w.board.harts h
-        (place_by hart.debug.halted hart.debug.resume_request hart.debug.halt_request (some_fires (touch_fetched r hart.core) hart) (hart.debug.ebreakm && is_ebreak_word r)
+        (place_by hart.debug.halted hart.debug.resume_request hart.debug.halt_request (some_fires (touch_fetched r hart.core) hart)
+        (hart.debug.ebreakm && is_ebreak_word r)
         (touch_fetched r hart.core) (fetched r hart.core w.board.memory) hart).hart;
     memory = behind;
   };
-  past = noted_by hart.debug.halted hart.debug.halt_request (some_fires (touch_fetched r hart.core) hart) (hart.debug.ebreakm && is_ebreak_word r) hart.debug.step
+  past = noted_by hart.debug.halted hart.debug.halt_request (some_fires (touch_fetched r hart.core) hart)
+      (hart.debug.ebreakm && is_ebreak_word r) hart.debug.step
       h (fires (touch_fetched r hart.core) hart.debug.slots) w.past;
 }
 
 abbrev passed_by : Option Hart → ℕ → World → World
-passed_by (Some hart) h w = world_with (loaded w.board.memory hart.core.pc B4) (memory_with (loaded w.board.memory hart.core.pc B4) hart w.board.memory) hart h w
+passed_by (Some hart) h w = world_with (loaded w.board.memory hart.core.pc B4)
+    (memory_with (loaded w.board.memory hart.core.pc B4) hart w.board.memory) hart h w
 passed_by None h w = w
 
 passed-by : (o : Option Hart) (h : ℕ) (w : World) → slice_get w.board.harts h ≡ o → passed (Turn h) w ≡ passed_by o h w
@@ -124,18 +129,21 @@ turn_word-same : (o : Option ℕ) (hart : Hart) (h : ℕ) (w v : World) → ((wo
 turn_word-same None hart h w v held is = absurd (cc)
 turn_word-same (Some word) hart h w v held is =
     let s : Same (world_with (Ok word) (memory_with (Ok word) hart w.board.memory) hart h w) v w.board.memory =
-    turn_if-same (executes_with (Ok word) hart) (keeps_memory (meaning word)) w.board.memory (decoded (meaning word) hart.core w.board.memory).memory hart (Ok word) h w v
+    turn_if-same (executes_with (Ok word) hart) (keeps_memory (meaning word)) w.board.memory (decoded (meaning word) hart.core w.board.memory).memory
+    hart (Ok word) h w v
     (memory_kept (meaning word) hart.core w.board.memory) is in
     record { worlds = ap (λ r. world_with r (memory_with r hart w.board.memory) hart h w) (held word refl) ∙ s.worlds; memories = s.memories }
 
-turn_at-same : (p : Program) (o : Option Hart) (h : ℕ) (w v : World) → Holds p w.board.memory → turn_at p o h w ≡ Some v → Same (passed_by o h w) v w.board.memory
+turn_at-same : (p : Program) (o : Option Hart) (h : ℕ) (w v : World) → Holds p w.board.memory → turn_at p o h w ≡ Some v
+    → Same (passed_by o h w) v w.board.memory
 turn_at-same p None h w v holds is =
     let e : w ≡ v = cc in
     record { worlds = e; memories = ap (λ (x : World). x.board.memory) (sym e) }
 turn_at-same p (Some hart) h w v holds is =
     turn_word-same (word_in p hart.core.pc) hart h w v (λ word found. word_held p w.board.memory hart.core.pc word holds found) is
 
-turn-same : (p : Program) (h : ℕ) (w v : World) → Holds p w.board.memory → turn_at p (slice_get w.board.harts h) h w ≡ Some v → Same (passed (Turn h) w) v w.board.memory
+turn-same : (p : Program) (h : ℕ) (w v : World) → Holds p w.board.memory → turn_at p (slice_get w.board.harts h) h w ≡ Some v
+    → Same (passed (Turn h) w) v w.board.memory
 turn-same p h w v holds is =
     let s : Same (passed_by (slice_get w.board.harts h) h w) v w.board.memory = turn_at-same p (slice_get w.board.harts h) h w v holds is in
     record { worlds = passed-by (slice_get w.board.harts h) h w refl ∙ s.worlds; memories = s.memories }
@@ -167,6 +175,7 @@ changed_if (EbreakHalts h on) w = Some (changed (EbreakHalts h on) w)
 
 unfoldable pub computed : Program → Plan → World → List Point → Option Outcome
 computed words (take p next) w j = computed_taking words p (computed words next) w j
+computed words (on_path path next) w j = computed words next w j
 computed words (see next) w j = computed words (next w.board) w j
 computed words (change c next) w j = onward (changed_if c w) (λ v. computed words next v j)
 computed words (say line next) w j = computed words next (said line w) j
@@ -200,23 +209,28 @@ taking-agrees : (words : Program) (p : Point) (real : World → List Point → O
     → Agrees words real with_words → Agrees words (taking p real) (computed_taking words p with_words)
 taking-agrees words p real with_words agrees w [] o holds is = some_is _ o is
 taking-agrees words p real with_words agrees w (Turn h ∷ j) o holds is =
-    onward-agrees words (turn_at words (slice_get w.board.harts h) h w) (passed (Turn h) w) (λ v. taking p real v j) (λ v. computed_taking words p with_words v j) o w.board.memory
+    onward-agrees words (turn_at words (slice_get w.board.harts h) h w) (passed (Turn h) w) (λ v. taking p real v j)
+    (λ v. computed_taking words p with_words v j) o w.board.memory
     holds (λ v at. turn-same words h w v holds at) (λ v still. taking-agrees words p real with_words agrees v j o still) is
 taking-agrees words p real with_words agrees w (Look n ∷ j) o holds is =
     either-agrees (same_point p (Look n)) _ _ o _ (agrees (passed (Look n) w) j o holds) is
 taking-agrees words p real with_words agrees w (HaltReq h ∷ j) o holds is =
-    either-agrees (same_point p (HaltReq h)) _ _ o _ (agrees (passed (HaltReq h) w) j o (subst (Holds words) (sym (point-kept (slice_get w.board.harts h) (halt_requested true) h w.board)) holds)) is
+    either-agrees (same_point p (HaltReq h)) _ _ o _ (agrees (passed (HaltReq h) w) j o
+    (subst (Holds words) (sym (point-kept (slice_get w.board.harts h) (halt_requested true) h w.board)) holds)) is
 taking-agrees words p real with_words agrees w (HaltClear h ∷ j) o holds is =
-    either-agrees (same_point p (HaltClear h)) _ _ o _ (agrees (passed (HaltClear h) w) j o (subst (Holds words) (sym (point-kept (slice_get w.board.harts h) (halt_requested false) h w.board)) holds)) is
+    either-agrees (same_point p (HaltClear h)) _ _ o _ (agrees (passed (HaltClear h) w) j o
+    (subst (Holds words) (sym (point-kept (slice_get w.board.harts h) (halt_requested false) h w.board)) holds)) is
 taking-agrees words p real with_words agrees w (ResumeReq h ∷ j) o holds is =
-    either-agrees (same_point p (ResumeReq h)) _ _ o _ (agrees (passed (ResumeReq h) w) j o (subst (Holds words) (sym (point-kept (slice_get w.board.harts h) resume_asked h w.board)) holds)) is
+    either-agrees (same_point p (ResumeReq h)) _ _ o _ (agrees (passed (ResumeReq h) w) j o
+    (subst (Holds words) (sym (point-kept (slice_get w.board.harts h) resume_asked h w.board)) holds)) is
 taking-agrees words p real with_words agrees w (Access ∷ j) o holds is =
     either-agrees (same_point p Access) _ _ o _ (agrees (passed Access w) j o holds) is
 
 finish-agrees : (words : Program) (end : PlanEnd) → Agrees words (finish end) (computed_finish words end)
 finish-agrees words end w [] o holds is = some_is _ o is
 finish-agrees words end w (Turn h ∷ j) o holds is =
-    onward-agrees words (turn_at words (slice_get w.board.harts h) h w) (passed (Turn h) w) (λ v. finish end v j) (λ v. computed_finish words end v j) o w.board.memory
+    onward-agrees words (turn_at words (slice_get w.board.harts h) h w) (passed (Turn h) w) (λ v. finish end v j)
+    (λ v. computed_finish words end v j) o w.board.memory
     holds (λ v at. turn-same words h w v holds at) (λ v still. finish-agrees words end v j o still) is
 finish-agrees words end w (Look n ∷ j) o holds is = some_is _ o is
 finish-agrees words end w (HaltReq h ∷ j) o holds is = some_is _ o is
@@ -238,9 +252,11 @@ changed-same (StepOver h) w v is = some_world _ v w.board.memory refl is
 changed-same (StepDone h) w v is = some_world _ v w.board.memory refl is
 changed-same (EbreakHalts h on) w v is = some_world _ v w.board.memory refl is
 
-pub computed-agrees : (words : Program) (p : Plan) (w : World) (j : List Point) (o : Outcome) → Holds words w.board.memory → computed words p w j ≡ Some o → replay p w j ≡ o
+pub computed-agrees : (words : Program) (p : Plan) (w : World) (j : List Point) (o : Outcome) → Holds words w.board.memory
+    → computed words p w j ≡ Some o → replay p w j ≡ o
 unfolding computed replay
 computed-agrees words (take p next) w j o holds is = taking-agrees words p (replay next) (computed words next) (computed-agrees words next) w j o holds is
+computed-agrees words (on_path path next) w j o holds is = computed-agrees words next w j o holds is
 computed-agrees words (see next) w j o holds is = computed-agrees words (next w.board) w j o holds is
 computed-agrees words (change c next) w j o holds is =
     onward-agrees words (changed_if c w) (changed c w) (λ v. replay next v j) (λ v. computed words next v j) o w.board.memory

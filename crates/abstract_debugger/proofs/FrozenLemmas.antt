@@ -1,5 +1,6 @@
 -- A halted hart that nobody asks to resume: turns pass it by, and a change of it may wait.
-use Rattle.std.proofs.Common.{◌≡◌, ◌∙◌, ℕ, zero, suc, List, [], ◌∷◌, set, Bool, true, false, Option, Some, None, option_map, slice_get, refl, sym, ap, subst, if◌then◌else◌, inl, inr}
+use Rattle.std.proofs.Common.{◌≡◌, ◌∙◌, ℕ, zero, suc, List, [], ◌∷◌, set, Bool, true, false, Option, Some, None, option_map, slice_get, refl, sym, ap}
+use Rattle.std.proofs.Common.{subst, if◌then◌else◌, inl, inr}
 use Rattle.std.specs.Prelude.{slice_set, ◌==◌}
 use Rattle.std.proofs.lemmas.Bool.{cases_eq}
 use Rattle.std.proofs.lemmas.Option.{none-some, same_Some}
@@ -12,7 +13,8 @@ use Rattle.rv_model.specs.Touch.{touch_of}
 use Rattle.rv_model.specs.Execute.{exec_of}
 use Rattle.rv_model.proofs.MapLemmas.{slice_get-set_other}
 use Rattle.abstract_debugger.specs.Laws.{ChangesMayWait, FrozenMayWait, FrozenStays, IsChangeOf, IsFrozen, IsFrozenAt}
-use Rattle.abstract_debugger.specs.Plan.{Change, changed_board, ebreak_halts, hart_over, register_set, slot_changed, slot_freed, step_begun, step_ended, with_debug_part}
+use Rattle.abstract_debugger.specs.Plan.{Change, changed_board, ebreak_halts, hart_over, register_set, slot_changed, slot_freed, step_begun}
+use Rattle.abstract_debugger.specs.Plan.{step_ended, with_debug_part}
 use Rattle.abstract_debugger.specs.Plan.Change.{WriteReg, WriteMem, ArmSlot, FreeSlot, StepOver, StepDone, EbreakHalts}
 use Rattle.abstract_debugger.specs.Slots.{hits_forgotten, over, with_slots}
 use Rattle.abstract_debugger.specs.Turns.{after_turns}
@@ -22,7 +24,8 @@ use Rattle.rv_model.proofs.MapLemmas.{set_same}
 
 -- ---- its own turn
 
-halted_executes : (halted : Option Cause) (resume request fired at_ebreak : Bool) (why : Cause) → halted ≡ Some why → executes_by halted resume request fired at_ebreak ≡ false
+halted_executes : (halted : Option Cause) (resume request fired at_ebreak : Bool) (why : Cause) → halted ≡ Some why
+    → executes_by halted resume request fired at_ebreak ≡ false
 halted_executes (Some w) true request fired at_ebreak why is = refl
 halted_executes (Some w) false request fired at_ebreak why is = refl
 halted_executes None resume request fired at_ebreak why is = absurd (none-some why is)
@@ -31,7 +34,8 @@ frozen_memory : (hart : Hart) (m : Memory) → IsFrozen hart.debug → memory_af
 unfolding memory_after executes
 frozen_memory hart m f =
     ap (λ b. if b then (exec_of hart.core m).memory else m)
-    (halted_executes hart.debug.halted hart.debug.resume_request hart.debug.halt_request (some_fires (touch_of hart.core m) hart) (stops_at_ebreak hart m) f.why f.halted)
+    (halted_executes hart.debug.halted hart.debug.resume_request hart.debug.halt_request (some_fires (touch_of hart.core m) hart)
+    (stops_at_ebreak hart m) f.why f.halted)
 
 abbrev board_of : Memory → List Hart → Board
 board_of m hs = record { harts = hs; memory = m }
@@ -41,7 +45,8 @@ frozen_turn_by None h hart b at is f = absurd (none-some hart is)
 frozen_turn_by (Some x) h hart b at is f =
     let e : hart ≡ x = sym (same_Some x hart is) in
     let fx : IsFrozen x.debug = subst (λ (y : Hart). IsFrozen y.debug) e f in
-    let hs : slice_set b.harts h (place_of x b.memory).hart ≡ b.harts = ap (λ (y : Hart). set b.harts h y) (frozen_place x b.memory fx.why fx.halted fx.not_asked) ∙ set_same b.harts h x at in
+    let hs : slice_set b.harts h (place_of x b.memory).hart ≡ b.harts = ap (λ (y : Hart). set b.harts h y)
+    (frozen_place x b.memory fx.why fx.halted fx.not_asked) ∙ set_same b.harts h x at in
     ap (λ m. board_of m (slice_set b.harts h (place_of x b.memory).hart)) (frozen_memory x b.memory fx) ∙ ap (board_of b.memory) hs
 
 frozen_turn : (h : ℕ) (hart : Hart) (b : Board) → slice_get b.harts h ≡ Some hart → IsFrozen hart.debug → turn h b ≡ b
@@ -112,7 +117,8 @@ absent_stays : (harts : List ℕ) (h : ℕ) (b : Board) → slice_get b.harts h 
 absent_stays [] h b is = is
 absent_stays (g ∷ harts) h b is = absent_stays harts h (turn g b) (turned_absent (slice_get b.harts g) g h b is)
 
-same_by : (o : Option Hart) (h : ℕ) (b : Board) (harts : List ℕ) → slice_get b.harts h ≡ o → IsFrozenAt h b → slice_get (after_turns harts b).harts h ≡ slice_get b.harts h
+same_by : (o : Option Hart) (h : ℕ) (b : Board) (harts : List ℕ) → slice_get b.harts h ≡ o → IsFrozenAt h b
+    → slice_get (after_turns harts b).harts h ≡ slice_get b.harts h
 same_by (Some x) h b harts is frozen = frozen_stays h x b harts is (frozen x is) ∙ sym is
 same_by None h b harts is frozen = absent_stays harts h b is ∙ sym is
 
@@ -120,7 +126,8 @@ same_by None h b harts is frozen = absent_stays harts h b is ∙ sym is
 pub stays_same : (h : ℕ) (b : Board) (harts : List ℕ) → IsFrozenAt h b → slice_get (after_turns harts b).harts h ≡ slice_get b.harts h
 stays_same h b harts frozen = same_by (slice_get b.harts h) h b harts refl frozen
 
-wait_by : (o : Option Hart) (f : Hart → Hart) (h : ℕ) (b : Board) (harts : List ℕ) → slice_get b.harts h ≡ o → IsFrozenAt h b → ((x : Hart) → IsFrozen x.debug → IsFrozen (f x).debug)
+wait_by : (o : Option Hart) (f : Hart → Hart) (h : ℕ) (b : Board) (harts : List ℕ) → slice_get b.harts h ≡ o → IsFrozenAt h b
+    → ((x : Hart) → IsFrozen x.debug → IsFrozen (f x).debug)
     → after_turns harts (hart_over f h b) ≡ hart_over f h (after_turns harts b)
 wait_by (Some x) f h b harts is frozen keeps = frozen_may_wait f h x b harts is (frozen x is) (keeps x (frozen x is))
 wait_by None f h b harts is frozen keeps =

@@ -1,5 +1,6 @@
 -- The turn of one hart: it keeps the way in which the debugger stands to it, and what it notes is right.
-use Rattle.std.proofs.Common.{◌≡◌, ◌∙◌, ◌+◌, ℕ, zero, suc, Bool, true, false, not, ◌&&◌, ◌||◌, List, [], ◌∷◌, Option, Some, None, slice_get, option_map, refl, sym, ap, subst, if◌then◌else◌, inl, inr}
+use Rattle.std.proofs.Common.{◌≡◌, ◌∙◌, ◌+◌, ℕ, zero, suc, Bool, true, false, not, ◌&&◌, ◌||◌, List, [], ◌∷◌, Option, Some, None, slice_get}
+use Rattle.std.proofs.Common.{option_map, refl, sym, ap, subst, if◌then◌else◌, inl, inr}
 use Rattle.std.specs.List.{list_any}
 use Rattle.std.proofs.lemmas.Bool.{false≢true, or_parts, or_right}
 use Rattle.std.proofs.lemmas.Option.{slice_get-map, none-some}
@@ -47,15 +48,18 @@ none_has (x ∷ xs) (suc k) none = none_has xs k (or_parts x (list_any (λ b. b)
 
 -- of slots that are off where they are spent
 fires-held : (m : Machine) (h : ℕ) (past : Past) (c : Core) (mem : Memory) (slots : List Slot) → SlotsHeld h past slots → (k : ℕ)
-    → has (fires (touch_of c mem) slots) k ≡ (not (story h k past).spent && armed_matches (story h k past).armed c mem (story h k past).execs (story h k past).stopped)
+    → has (fires (touch_of c mem) slots) k ≡ (not (story h k past).spent && armed_matches (story h k past).armed c mem (story h k past).execs
+    (story h k past).stopped)
 fires-held m h past c mem slots are k =
     has-fires (touch_of c mem) slots k
-    ∙ slot-fires c mem (slice_get slots k) (story h k past).armed (not (story h k past).spent) (story h k past).spent (story h k past).execs (story h k past).stopped (are k)
+    ∙ slot-fires c mem (slice_get slots k) (story h k past).armed (not (story h k past).spent) (story h k past).spent (story h k past).execs
+    (story h k past).stopped (are k)
 
 right_stop : (m : Machine) (h : ℕ) (past : Past) (c : Core) (mem : Memory) (slots : List Slot) → SlotsHeld h past slots → Knows m h past c mem
     → list_any (λ b. b) (fires (touch_of c mem) slots) ≡ true → StopsAtMatch m h (fires (touch_of c mem) slots) past
 right_stop m h past c mem slots are knows some = record {
-  each = λ k. fires-held m h past c mem slots are k ∙ ap (λ b. not (story h k past).spent && b) (sym (knows k)) ∙ and_comm (not (story h k past).spent) (matching m h k past);
+  each = λ k. fires-held m h past c mem slots are k ∙ ap (λ b. not (story h k past).spent && b) (sym (knows k))
+      ∙ and_comm (not (story h k past).spent) (matching m h k past);
   some = some;
 }
 
@@ -81,7 +85,8 @@ off_is_spent true is = refl
 off_is_spent false is = absurd (false≢true (sym is))
 
 stop-slot : (c : Core) (mem : Memory) (slots : List Slot) (k : ℕ) (on : Bool) (v : Story) → IsSlot (slice_get slots k) on v.spent v
-    → IsSlotFor (slice_get (marked (touch_of c mem) slots) k) v.armed on (has (fires (touch_of c mem) slots) k || v.spent) v.execs (has (fires (touch_of c mem) slots) k || v.stopped)
+    → IsSlotFor (slice_get (marked (touch_of c mem) slots) k) v.armed on (has (fires (touch_of c mem) slots) k || v.spent) v.execs
+    (has (fires (touch_of c mem) slots) k || v.stopped)
 stop-slot c mem slots k on v is =
     subst (λ o. IsSlotFor o v.armed on (has (fires (touch_of c mem) slots) k || v.spent) v.execs (has (fires (touch_of c mem) slots) k || v.stopped))
     (sym (slice_get-map (slot_marked (touch_of c mem)) slots k))
@@ -148,14 +153,17 @@ run_on false false true m h past hart mem o running not_asked no_step are unspen
   right = λ r. (tt, r);
 }
 run_on false false false m h past hart mem o running not_asked no_step are unspent knows fires_is = record {
-  fits = subst (Fits Idle h (Did (Exec h) ∷ past)) (sym (ap (λ b. if b then halted_for cause.Step (record hart.debug { slots = counted_down hart.debug.slots }) else record hart.debug { slots = counted_down hart.debug.slots }) no_step))
+  fits = subst (Fits Idle h (Did (Exec h) ∷ past)) (sym (ap (λ b. if b then halted_for cause.Step (record hart.debug { slots = counted_down hart.debug.slots })
+      else record hart.debug { slots = counted_down hart.debug.slots }) no_step))
       (inr (record {
         is_running = running;
         moves = record {
           starts = runs running not_asked;
           step_is = no_step;
-          slots_are = λ k. subst (λ (v : Story). IsSlot (slice_get (counted_down hart.debug.slots) k) (not v.spent) v.spent v) (sym (story-here h k (Did (Exec h)) past (same_number h)))
-              (subst (λ b. IsSlotFor (slice_get (counted_down hart.debug.slots) k) (story h k past).armed (not b) b ((story h k past).execs + 1) (story h k past).stopped) (unspent k)
+          slots_are = λ k. subst (λ (v : Story). IsSlot (slice_get (counted_down hart.debug.slots) k) (not v.spent) v.spent v)
+              (sym (story-here h k (Did (Exec h)) past (same_number h)))
+              (subst (λ b. IsSlotFor (slice_get (counted_down hart.debug.slots) k) (story h k past).armed (not b) b ((story h k past).execs + 1)
+              (story h k past).stopped) (unspent k)
               (exec-slot hart.core mem hart.debug.slots k (story h k past) (are k) (calm_there m h past hart.core mem hart.debug.slots are fires_is k)));
           unspent = λ w k. ap (λ (v : Story). v.spent) (story-here h k (Did (Exec h)) past (same_number h));
         };
@@ -212,13 +220,15 @@ run_once false false true m h past hart mem o running not_asked step_is are know
 }
 run_once false false false m h past hart mem o running not_asked step_is are knows fires_is = record {
   fits = subst (Fits Asked h (Stop h cause.Step no_slots ∷ Did (Exec h) ∷ past))
-      (sym (ap (λ b. if b then halted_for cause.Step (record hart.debug { slots = counted_down hart.debug.slots }) else record hart.debug { slots = counted_down hart.debug.slots }) step_is))
+      (sym (ap (λ b. if b then halted_for cause.Step (record hart.debug { slots = counted_down hart.debug.slots }) else record hart.debug
+      { slots = counted_down hart.debug.slots }) step_is))
       (inl (record {
         why = cause.Step;
         is_halted = refl;
         not_asked = not_asked;
         slots_are = λ k. subst (IsSteppedSlot (slice_get (counted_down hart.debug.slots) k) true)
-            (sym (story-here h k (Stop h cause.Step no_slots) (Did (Exec h) ∷ past) (same_number h) ∙ ap (told k (Stop h cause.Step no_slots)) (story-here h k (Did (Exec h)) past (same_number h))))
+            (sym (story-here h k (Stop h cause.Step no_slots) (Did (Exec h) ∷ past) (same_number h)
+            ∙ ap (told k (Stop h cause.Step no_slots)) (story-here h k (Did (Exec h)) past (same_number h))))
             (record {
               m = not (story h k past).spent;
               hit = (story h k past).spent;
@@ -232,14 +242,16 @@ run_once false false false m h past hart mem o running not_asked step_is are kno
 
 -- ---- a hart that is halted
 
-frozen_by : (halted : Option Cause) (asked request fired at_ebreak : Bool) (t : Touch) (o : Outcome) (hart : Hart) (why : Cause) → halted ≡ Some why → asked ≡ false
+frozen_by : (halted : Option Cause) (asked request fired at_ebreak : Bool) (t : Touch) (o : Outcome) (hart : Hart) (why : Cause)
+    → halted ≡ Some why → asked ≡ false
     → (place_by halted asked request fired at_ebreak t o hart).hart ≡ hart
 frozen_by (Some w) false request fired at_ebreak t o hart why is_halted not_asked = refl
 frozen_by (Some w) true request fired at_ebreak t o hart why is_halted not_asked = absurd (false≢true (sym not_asked))
 frozen_by None asked request fired at_ebreak t o hart why is_halted not_asked = absurd (none-some why is_halted)
 
 -- a halted hart that nobody asks to resume stays as it is
-pub frozen_place : (hart : Hart) (mem : Memory) (why : Cause) → hart.debug.halted ≡ Some why → hart.debug.resume_request ≡ false → (place_of hart mem).hart ≡ hart
+pub frozen_place : (hart : Hart) (mem : Memory) (why : Cause) → hart.debug.halted ≡ Some why → hart.debug.resume_request ≡ false
+    → (place_of hart mem).hart ≡ hart
 unfolding place_of
 frozen_place hart mem why is_halted not_asked =
     frozen_by hart.debug.halted hart.debug.resume_request hart.debug.halt_request (some_fires (touch_of hart.core mem) hart) (stops_at_ebreak hart mem)
@@ -258,7 +270,8 @@ halted_turn h hart mem past why is =
 abbrev pub TurnedTo : Way → Machine → ℕ → Past → Hart → Memory → Type 0
 TurnedTo way m h past hart mem = Turned way m h past (noted_turn h hart mem past) (place_of hart mem).hart.debug
 
-stays : (way : Way) (m : Machine) (h : ℕ) (past : Past) (hart : Hart) (mem : Memory) (why : Cause) → hart.debug.halted ≡ Some why → hart.debug.resume_request ≡ false
+stays : (way : Way) (m : Machine) (h : ℕ) (past : Past) (hart : Hart) (mem : Memory) (why : Cause) → hart.debug.halted ≡ Some why
+    → hart.debug.resume_request ≡ false
     → Fits way h past hart.debug → TurnedTo way m h past hart mem
 stays way m h past hart mem why is_halted not_asked fits = record {
   fits = subst (λ new. Fits way h new (place_of hart mem).hart.debug) (sym (halted_turn h hart mem past why is_halted))
@@ -267,19 +280,22 @@ stays way m h past hart mem why is_halted not_asked fits = record {
 }
 
 -- and one that is asked to runs
-resumed_by : (halted : Option Cause) (asked request fired at_ebreak : Bool) (t : Touch) (o : Outcome) (hart : Hart) (why : Cause) → halted ≡ Some why → asked ≡ true
+resumed_by : (halted : Option Cause) (asked request fired at_ebreak : Bool) (t : Touch) (o : Outcome) (hart : Hart) (why : Cause)
+    → halted ≡ Some why → asked ≡ true
     → (place_by halted asked request fired at_ebreak t o hart).hart ≡ record hart { debug = resumed hart.debug }
 resumed_by (Some w) true request fired at_ebreak t o hart why is_halted is_asked = refl
 resumed_by (Some w) false request fired at_ebreak t o hart why is_halted is_asked = absurd (false≢true is_asked)
 resumed_by None asked request fired at_ebreak t o hart why is_halted is_asked = absurd (none-some why is_halted)
 
-resumed_place : (hart : Hart) (mem : Memory) (why : Cause) → hart.debug.halted ≡ Some why → hart.debug.resume_request ≡ true → (place_of hart mem).hart ≡ record hart { debug = resumed hart.debug }
+resumed_place : (hart : Hart) (mem : Memory) (why : Cause) → hart.debug.halted ≡ Some why → hart.debug.resume_request ≡ true
+    → (place_of hart mem).hart ≡ record hart { debug = resumed hart.debug }
 unfolding place_of
 resumed_place hart mem why is_halted is_asked =
     resumed_by hart.debug.halted hart.debug.resume_request hart.debug.halt_request (some_fires (touch_of hart.core mem) hart) (stops_at_ebreak hart mem)
     (touch_of hart.core mem) (exec_of hart.core mem) hart why is_halted is_asked
 
-goes : (way : Way) (m : Machine) (h : ℕ) (past : Past) (hart : Hart) (mem : Memory) (why : Cause) → hart.debug.halted ≡ Some why → hart.debug.resume_request ≡ true
+goes : (way : Way) (m : Machine) (h : ℕ) (past : Past) (hart : Hart) (mem : Memory) (why : Cause) → hart.debug.halted ≡ Some why
+    → hart.debug.resume_request ≡ true
     → Fits way h past (resumed hart.debug) → TurnedTo way m h past hart mem
 goes way m h past hart mem why is_halted is_asked fits = record {
   fits = subst (λ new. Fits way h new (place_of hart mem).hart.debug) (sym (halted_turn h hart mem past why is_halted))
@@ -295,8 +311,10 @@ at_fields P x x' y y' z z' ex ey ez is =
 
 abbrev turned_with : Way → Machine → ℕ → Past → Hart → Memory → Option Cause → Bool → Bool → Type 0
 turned_with way m h past hart mem halted asked step =
-    Turned way m h past (noted_by halted hart.debug.halt_request (some_fires (touch_of hart.core mem) hart) (stops_at_ebreak hart mem) step h (fires (touch_of hart.core mem) hart.debug.slots) past)
-    (place_by halted asked hart.debug.halt_request (some_fires (touch_of hart.core mem) hart) (stops_at_ebreak hart mem) (touch_of hart.core mem) (exec_of hart.core mem) hart).hart.debug
+    Turned way m h past (noted_by halted hart.debug.halt_request (some_fires (touch_of hart.core mem) hart) (stops_at_ebreak hart mem) step h
+    (fires (touch_of hart.core mem) hart.debug.slots) past)
+    (place_by halted asked hart.debug.halt_request (some_fires (touch_of hart.core mem) hart) (stops_at_ebreak hart mem) (touch_of hart.core mem)
+    (exec_of hart.core mem) hart).hart.debug
 
 turn_on : (m : Machine) (h : ℕ) (past : Past) (hart : Hart) (mem : Memory) → hart.debug.halted ≡ None → hart.debug.resume_request ≡ false
     → Moves false h past hart.debug.halted hart.debug.resume_request hart.debug.resume_ack hart.debug.step hart.debug.slots → Knows m h past hart.core mem
@@ -317,7 +335,8 @@ turn_once m h past hart mem running not_asked moves knows =
     running not_asked moves.step_is moves.slots_are knows refl)
 
 -- the moves of a hart that has begun to run
-begun : (once : Bool) (h : ℕ) (past : Past) (d : DebugPart) → Moves once h past d.halted d.resume_request d.resume_ack d.step d.slots → Moves once h past None false true d.step d.slots
+begun : (once : Bool) (h : ℕ) (past : Past) (d : DebugPart) → Moves once h past d.halted d.resume_request d.resume_ack d.step d.slots
+    → Moves once h past None false true d.step d.slots
 begun once h past d moves = record { starts = runs refl refl; step_is = moves.step_is; slots_are = moves.slots_are; unspent = moves.unspent }
 
 idle_goes : (m : Machine) (h : ℕ) (past : Past) (hart : Hart) (mem : Memory) → TurnedTo Idle m h past hart mem → TurnedTo Going m h past hart mem
@@ -331,22 +350,26 @@ going_turn : (m : Machine) (h : ℕ) (past : Past) (hart : Hart) (mem : Memory) 
     → Moves false h past hart.debug.halted hart.debug.resume_request hart.debug.resume_ack hart.debug.step hart.debug.slots → Knows m h past hart.core mem
     → TurnedTo Going m h past hart mem
 going_turn m h past hart mem (runs running not_asked) moves knows = idle_goes m h past hart mem (turn_on m h past hart mem running not_asked moves knows)
-going_turn m h past hart mem (waits why is_halted is_asked no_ack) moves knows = goes Going m h past hart mem why is_halted is_asked (inr (begun false h past hart.debug moves))
+going_turn m h past hart mem (waits why is_halted is_asked no_ack) moves knows =
+    goes Going m h past hart mem why is_halted is_asked (inr (begun false h past hart.debug moves))
 
 asked_turn : (m : Machine) (h : ℕ) (past : Past) (hart : Hart) (mem : Memory) → Starts hart.debug.halted hart.debug.resume_request hart.debug.resume_ack
     → Moves true h past hart.debug.halted hart.debug.resume_request hart.debug.resume_ack hart.debug.step hart.debug.slots → Knows m h past hart.core mem
     → TurnedTo Asked m h past hart mem
 asked_turn m h past hart mem (runs running not_asked) moves knows = turn_once m h past hart mem running not_asked moves knows
-asked_turn m h past hart mem (waits why is_halted is_asked no_ack) moves knows = goes Asked m h past hart mem why is_halted is_asked (inr (begun true h past hart.debug moves))
+asked_turn m h past hart mem (waits why is_halted is_asked no_ack) moves knows =
+    goes Asked m h past hart mem why is_halted is_asked (inr (begun true h past hart.debug moves))
 
 running_not_asked : (halted : Option Cause) (asked ack : Bool) → halted ≡ None → Starts halted asked ack → asked ≡ false
 running_not_asked halted asked ack running (runs _ not_asked) = not_asked
 running_not_asked halted asked ack running (waits why is_halted _ _) = absurd (none-some why (sym running ∙ is_halted))
 
-pub turn-fits : (way : Way) (m : Machine) (h : ℕ) (past : Past) (hart : Hart) (mem : Memory) → Knows m h past hart.core mem → Fits way h past hart.debug → TurnedTo way m h past hart mem
+pub turn-fits : (way : Way) (m : Machine) (h : ℕ) (past : Past) (hart : Hart) (mem : Memory) → Knows m h past hart.core mem → Fits way h past hart.debug
+    → TurnedTo way m h past hart mem
 turn-fits Idle m h past hart mem knows (inl r) = stays Idle m h past hart mem r.why r.is_halted r.not_asked (inl r)
 turn-fits Idle m h past hart mem knows (inr r) =
-    turn_on m h past hart mem r.is_running (running_not_asked hart.debug.halted hart.debug.resume_request hart.debug.resume_ack r.is_running r.moves.starts) r.moves knows
+    turn_on m h past hart mem r.is_running (running_not_asked hart.debug.halted hart.debug.resume_request hart.debug.resume_ack r.is_running
+    r.moves.starts) r.moves knows
 turn-fits Still m h past hart mem knows r = stays Still m h past hart mem r.why r.is_halted r.not_asked r
 turn-fits Ready m h past hart mem knows r = stays Ready m h past hart mem r.rests.why r.rests.is_halted r.rests.not_asked r
 turn-fits Going m h past hart mem knows (inl r) = stays Going m h past hart mem r.why r.is_halted r.not_asked (inl r)

@@ -4,7 +4,7 @@ use Rattle.debug_model.specs.declared.point.Point.{Point}
 use Rattle.debug_model.specs.declared.point.Point.TheVariants.{Turn, Look, HaltReq, HaltClear, ResumeReq, Access}
 use Rattle.abstract_debugger.specs.Lines.{Line}
 use Rattle.abstract_debugger.specs.Plan.{Change, Plan, PlanEnd}
-use Rattle.abstract_debugger.specs.Plan.Plan.{take, see, change, say, stop}
+use Rattle.abstract_debugger.specs.Plan.Plan.{take, on_path, see, change, say, stop}
 use Rattle.abstract_debugger.specs.Transcript.{World, Outcome, changed, finish, passed, replay, said, same_point, taking}
 
 pub record Keeps (P : World → Type 0) : Type 0 where
@@ -39,6 +39,7 @@ finish-keeps P k end w (Access ∷ j) is = is
 pub replay-keeps : (P : World → Type 0) (k : Keeps P) (p : Plan) (w : World) (j : List Point) → P w → P (replay p w j).world
 unfolding replay
 replay-keeps P k (take p next) w j is = taking-keeps P k p (replay next) (replay-keeps P k next) w j is
+replay-keeps P k (on_path path next) w j is = replay-keeps P k next w j is
 replay-keeps P k (see next) w j is = replay-keeps P k (next w.board) w j is
 replay-keeps P k (change c next) w j is = replay-keeps P k next (changed c w) j (k.changes c w is)
 replay-keeps P k (say line next) w j is = replay-keeps P k next (said line w) j (k.says line w is)

@@ -1,5 +1,6 @@
 -- What is known of a world behind each change that a debugger makes.
-use Rattle.std.proofs.Common.{◌≡◌, ◌∙◌, ℕ, Bool, true, false, not, ◌&&◌, ◌||◌, List, ◌∷◌, map, Some, slice_get, option_map, refl, sym, ap, subst, if◌then◌else◌, inl, inr}
+use Rattle.std.proofs.Common.{◌≡◌, ◌∙◌, ℕ, Bool, true, false, not, ◌&&◌, ◌||◌, List, ◌∷◌, map, Some, slice_get, option_map, refl, sym, ap, subst}
+use Rattle.std.proofs.Common.{if◌then◌else◌, inl, inr}
 use Rattle.std.specs.Prelude.{◌==◌}
 use Rattle.std.proofs.lemmas.Bool.{cases_eq, eq-eqb, ne_eqb}
 use Rattle.std.proofs.lemmas.Option.{slice_get-map}
@@ -11,7 +12,8 @@ use Rattle.abstract_debugger.specs.FirstMatch.{FirstMatch, Story, newly_armed, s
 use Rattle.abstract_debugger.specs.Known.{IsKnown, way_at}
 use Rattle.abstract_debugger.specs.Plan.{Change, ebreak_halts, is_step, register_set, slot_changed, slot_freed, step_begun, step_ended, with_debug_part}
 use Rattle.abstract_debugger.specs.Plan.Change.{WriteReg, WriteMem, ArmSlot, FreeSlot, StepOver, StepDone, EbreakHalts}
-use Rattle.abstract_debugger.specs.Slots.{armed_for, freed, hits_forgotten, over, slots_back, trigger_back, trigger_forgotten, trigger_held, with_slots, with_trigger}
+use Rattle.abstract_debugger.specs.Slots.{armed_for, freed, hits_forgotten, over, slots_back, trigger_back, trigger_forgotten, trigger_held}
+use Rattle.abstract_debugger.specs.Slots.{with_slots, with_trigger}
 use Rattle.abstract_debugger.specs.Trace.{Note, Past, What}
 use Rattle.abstract_debugger.specs.Trace.Note.{Did, Arm, Free}
 use Rattle.abstract_debugger.specs.Transcript.{World, changed}
@@ -25,11 +27,13 @@ use Rattle.abstract_debugger.proofs.KnownHarts.{ChangedAt, changed-over, known_s
 
 known_changed : (m : Machine) (sel : ℕ) (way way' : Way) (c : Change) (w : World) (g : Hart → Hart) → ChangedAt sel g w.board.harts (changed c w).board.harts
     → FirstMatch m (changed c w).past → ((j : ℕ) → (j ≡ sel → ⊥) → Alike j w.past (changed c w).past)
-    → ((x : Hart) → slice_get w.board.harts sel ≡ Some x → Fits way sel w.past x.debug → Fits way' sel (changed c w).past (g x).debug) → IsKnown m sel way w → IsKnown m sel way' (changed c w)
+    → ((x : Hart) → slice_get w.board.harts sel ≡ Some x → Fits way sel w.past x.debug → Fits way' sel (changed c w).past (g x).debug) → IsKnown m sel way w
+    → IsKnown m sel way' (changed c w)
 known_changed m sel way way' c w g at right alike moves k =
     known_selected m sel way way' w (changed c w) g k ((erased-keeps m).changes c w k.erased) right at alike moves
 
-lift_slot : (f : Slot → Slot) (slots : List Slot) (k : ℕ) (on hit : Bool) (v : Story) → IsSlotFor (option_map f (slice_get slots k)) v.armed on hit v.execs v.stopped
+lift_slot : (f : Slot → Slot) (slots : List Slot) (k : ℕ) (on hit : Bool) (v : Story)
+    → IsSlotFor (option_map f (slice_get slots k)) v.armed on hit v.execs v.stopped
     → IsSlotFor (slice_get (map f slots) k) v.armed on hit v.execs v.stopped
 lift_slot f slots k on hit v is = subst (λ o. IsSlotFor o v.armed on hit v.execs v.stopped) (sym (slice_get-map f slots k)) is
 
@@ -45,14 +49,16 @@ begun_step h past d r = record {
 
 pub known-step_over : (m : Machine) (sel : ℕ) (w : World) → IsKnown m sel Still w → IsKnown m sel Holding (changed (StepOver sel) w)
 known-step_over m sel w k =
-    known_changed m sel Still Holding (StepOver sel) w (with_debug_part step_begun) (changed-over sel (with_debug_part step_begun) w.board.harts) k.right (λ j other l. refl)
+    known_changed m sel Still Holding (StepOver sel) w (with_debug_part step_begun) (changed-over sel (with_debug_part step_begun) w.board.harts) k.right
+    (λ j other l. refl)
     (λ x is. begun_step sel w.past x.debug) k
 
 on_or_hit : (m hit : Bool) → (m ≡ false → hit ≡ true) → (m || hit) ≡ true
 on_or_hit true hit off = refl
 on_or_hit false hit off = off refl
 
-back_slot : (d : DebugPart) (k : ℕ) (whole : Bool) (v : Story) (s : IsSteppedSlot (slice_get d.slots k) whole v) → IsSlotFor (slice_get (slots_back d.slots) k) v.armed true s.hit v.execs v.stopped
+back_slot : (d : DebugPart) (k : ℕ) (whole : Bool) (v : Story) (s : IsSteppedSlot (slice_get d.slots k) whole v)
+    → IsSlotFor (slice_get (slots_back d.slots) k) v.armed true s.hit v.execs v.stopped
 back_slot d k whole v s =
     subst (λ b. IsSlotFor (slice_get (slots_back d.slots) k) v.armed b s.hit v.execs v.stopped) (on_or_hit s.m s.hit s.off)
     (lift_slot (with_trigger trigger_back) d.slots k (s.m || s.hit) s.hit v (slot-back (slice_get d.slots k) v.armed s.m s.hit v.execs v.stopped s.is))
@@ -80,7 +86,8 @@ ended_step h past d r = record {
 
 pub known-step_done : (m : Machine) (sel : ℕ) (w : World) → IsKnown m sel Over w → IsKnown m sel Still (changed (StepDone sel) w)
 known-step_done m sel w k =
-    known_changed m sel Over Still (StepDone sel) w (with_debug_part step_ended) (changed-over sel (with_debug_part step_ended) w.board.harts) k.right (λ j other l. refl)
+    known_changed m sel Over Still (StepDone sel) w (with_debug_part step_ended) (changed-over sel (with_debug_part step_ended) w.board.harts) k.right
+    (λ j other l. refl)
     (λ x is. ended_step sel w.past x.debug) k
 
 ebreak_fits : (h : ℕ) (past : Past) (on : Bool) (d : DebugPart) → Fits Still h past d → Fits Still h past (ebreak_halts on d)
@@ -88,7 +95,8 @@ ebreak_fits h past on d r = r
 
 pub known-ebreak : (m : Machine) (sel : ℕ) (on : Bool) (w : World) → IsKnown m sel Still w → IsKnown m sel Still (changed (EbreakHalts sel on) w)
 known-ebreak m sel on w k =
-    known_changed m sel Still Still (EbreakHalts sel on) w (with_debug_part (ebreak_halts on)) (changed-over sel (with_debug_part (ebreak_halts on)) w.board.harts) k.right (λ j other l. refl)
+    known_changed m sel Still Still (EbreakHalts sel on) w (with_debug_part (ebreak_halts on))
+    (changed-over sel (with_debug_part (ebreak_halts on)) w.board.harts) k.right (λ j other l. refl)
     (λ x is. ebreak_fits sel w.past on x.debug) k
 
 pub known-write_mem : (m : Machine) (sel : ℕ) (way : Way) (a count v : ℕ) (w : World) → IsKnown m sel way w → IsKnown m sel way (changed (WriteMem a count v) w)
@@ -106,8 +114,10 @@ written_part is_pc d = if is_pc then with_slots hits_forgotten d else d
 abbrev written_story : Bool → Story → Story
 written_story is_pc v = record v { spent = if is_pc then false else v.spent }
 
-written_slot : (is_pc : Bool) (d : DebugPart) (k : ℕ) (v : Story) → IsSlot (slice_get d.slots k) true v.spent v → IsSlot (slice_get (written_part is_pc d).slots k) true (written_story is_pc v).spent (written_story is_pc v)
-written_slot true d k v is = lift_slot (with_trigger trigger_forgotten) d.slots k true false v (slot-forgotten (slice_get d.slots k) v.armed true v.spent v.execs v.stopped is)
+written_slot : (is_pc : Bool) (d : DebugPart) (k : ℕ) (v : Story) → IsSlot (slice_get d.slots k) true v.spent v
+    → IsSlot (slice_get (written_part is_pc d).slots k) true (written_story is_pc v).spent (written_story is_pc v)
+written_slot true d k v is = lift_slot (with_trigger trigger_forgotten) d.slots k true false v
+    (slot-forgotten (slice_get d.slots k) v.armed true v.spent v.execs v.stopped is)
 written_slot false d k v is = is
 
 written_spent : (is_pc : Bool) (v : Story) → v.spent ≡ false → (written_story is_pc v).spent ≡ false
@@ -127,7 +137,8 @@ written_fits h r v past d rests = record {
   slots_are = λ k. subst (λ (u : Story). IsSlot (slice_get (written_part (r == pc_number) d).slots k) true u.spent u)
       (sym (story-here h k (Did (SetReg h r v)) past (same_number h))) (written_slot (r == pc_number) d k (story h k past) (rests.slots_are k));
   whole = λ w k. ap (λ (u : Story). u.spent) (story-here h k (Did (SetReg h r v)) past (same_number h))
-      ∙ written_spent (r == pc_number) (story h k past) (rests.whole (written_same (r == pc_number) d (λ x. is_step x.halted ≡ true → is_step d.halted ≡ true) (λ e. e) (λ e. e) w) k);
+      ∙ written_spent (r == pc_number) (story h k past) (rests.whole (written_same (r == pc_number) d (λ x. is_step x.halted ≡ true → is_step d.halted ≡ true)
+      (λ e. e) (λ e. e) w) k);
 }
 
 pub known-write_reg : (m : Machine) (sel r v : ℕ) (w : World) → IsKnown m sel Still w → IsKnown m sel Still (changed (WriteReg sel r v) w)
@@ -154,7 +165,8 @@ slot_fits h slot past n new f d s there tells unspent is rests = record {
   no_step = rests.no_step;
   slots_are = λ k. subst (λ (u : Story). IsSlot (slice_get (over slot f d.slots) k) true u.spent u) (sym (tells k)) (elim (cases_eq k slot) [
     | inl e ↦ subst (λ (u : Story). IsSlot (slice_get (over slot f d.slots) k) true u.spent u) (sym (told_at k slot new (story h k past) e))
-        (subst (λ o. IsSlot o true new.spent new) (sym (ap (slice_get (over slot f d.slots)) e ∙ slice_get-over_same f slot d.slots ∙ ap (option_map f) there)) is)
+        (subst (λ o. IsSlot o true new.spent new) (sym (ap (slice_get (over slot f d.slots)) e ∙ slice_get-over_same f slot d.slots
+        ∙ ap (option_map f) there)) is)
     | inr other ↦ subst (λ (u : Story). IsSlot (slice_get (over slot f d.slots) k) true u.spent u) (sym (told_other k slot new (story h k past) other))
         (subst (λ o. IsSlot o true (story h k past).spent (story h k past)) (sym (slice_get-over_other f slot k d.slots other)) (rests.slots_are k))
   ]);
@@ -168,16 +180,19 @@ slot_fits h slot past n new f d s there tells unspent is rests = record {
 abbrev pub HasSlot : ℕ → ℕ → World → Type 0
 HasSlot h slot w = (x : Hart) → slice_get w.board.harts h ≡ Some x → (s : Slot) × (slice_get x.debug.slots slot ≡ Some s)
 
-pub known-arm : (m : Machine) (sel slot : ℕ) (what : What) (w : World) → CanArm what → HasSlot sel slot w → IsKnown m sel Still w → IsKnown m sel Still (changed (ArmSlot sel slot what) w)
+pub known-arm : (m : Machine) (sel slot : ℕ) (what : What) (w : World) → CanArm what → HasSlot sel slot w → IsKnown m sel Still w
+    → IsKnown m sel Still (changed (ArmSlot sel slot what) w)
 known-arm m sel slot what w can there k =
-    known_changed m sel Still Still (ArmSlot sel slot what) w (with_debug_part (slot_changed slot what)) (changed-over sel (with_debug_part (slot_changed slot what)) w.board.harts) (tt, k.right)
+    known_changed m sel Still Still (ArmSlot sel slot what) w (with_debug_part (slot_changed slot what))
+    (changed-over sel (with_debug_part (slot_changed slot what)) w.board.harts) (tt, k.right)
     (λ j other l. story-there j l (Arm sel slot what) w.past (ne_eqb j sel other))
     (λ x is. slot_fits sel slot w.past (Arm sel slot what) (newly_armed what) (armed_for what) x.debug (there x is).0 (there x is).1
     (λ l. story-here sel l (Arm sel slot what) w.past (same_number sel)) refl (slot-armed what (there x is).0 can)) k
 
 pub known-free : (m : Machine) (sel slot : ℕ) (w : World) → HasSlot sel slot w → IsKnown m sel Still w → IsKnown m sel Still (changed (FreeSlot sel slot) w)
 known-free m sel slot w there k =
-    known_changed m sel Still Still (FreeSlot sel slot) w (with_debug_part (slot_freed slot)) (changed-over sel (with_debug_part (slot_freed slot)) w.board.harts) (tt, k.right)
+    known_changed m sel Still Still (FreeSlot sel slot) w (with_debug_part (slot_freed slot))
+    (changed-over sel (with_debug_part (slot_freed slot)) w.board.harts) (tt, k.right)
     (λ j other l. story-there j l (Free sel slot) w.past (ne_eqb j sel other))
     (λ x is. slot_fits sel slot w.past (Free sel slot) unarmed freed x.debug (there x is).0 (there x is).1
     (λ l. story-here sel l (Free sel slot) w.past (same_number sel)) refl (slot-freed (there x is).0 true)) k

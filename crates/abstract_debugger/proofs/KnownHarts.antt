@@ -1,5 +1,6 @@
 -- What is known of a world, hart by hart: where one hart is changed, where more is known of the selected hart, and where a session begins.
-use Rattle.std.proofs.Common.{◌≡◌, ◌∙◌, ℕ, Bool, true, false, List, [], Option, Some, None, slice_get, option_map, refl, sym, ap, subst, if◌then◌else◌, inl, inr}
+use Rattle.std.proofs.Common.{◌≡◌, ◌∙◌, ℕ, Bool, true, false, List, [], Option, Some, None, slice_get, option_map, refl, sym, ap, subst}
+use Rattle.std.proofs.Common.{if◌then◌else◌, inl, inr}
 use Rattle.std.specs.Prelude.{◌==◌, slice_set}
 use Rattle.std.proofs.lemmas.Bool.{cases_eq, ne_eqb}
 use Rattle.std.proofs.lemmas.Option.{none-some, same_Some}
@@ -35,7 +36,11 @@ set_by (Some x) h g hs = slice_set hs h (g x)
 set_by None h g hs = hs
 
 pub changed-set : (o : Option Hart) (h : ℕ) (g : Hart → Hart) (hs : List Hart) → slice_get hs h ≡ o → ChangedAt h g hs (set_by o h g hs)
-changed-set (Some x) h g hs is = record { here = slice_get-set_here hs h x (g x) is ∙ sym (ap (option_map g) is); others = λ j other. slice_get-set_other hs h j (g x) other }
+changed-set (Some x) h g hs is = record {
+  here = slice_get-set_here hs h x (g x) is
+      ∙ sym (ap (option_map g) is);
+  others = λ j other. slice_get-set_other hs h j (g x) other;
+}
 changed-set None h g hs is = record { here = is ∙ sym (ap (option_map g) is); others = λ j other. refl }
 
 changed_same : (h : ℕ) (hs : List Hart) → ChangedAt h (λ x. x) hs hs
@@ -46,15 +51,18 @@ changed_same h hs = record { here = map_id (slice_get hs h); others = λ j other
     map_id None = refl
 
 moved_here : (o : Option Hart) (h : ℕ) (g : Hart → Hart) (way way' : Way) (past past' : Past) (x : Hart) → option_map g o ≡ Some x
-    → ((y : Hart) → o ≡ Some y → Fits way h past y.debug) → ((y : Hart) → o ≡ Some y → Fits way h past y.debug → Fits way' h past' (g y).debug) → Fits way' h past' x.debug
+    → ((y : Hart) → o ≡ Some y → Fits way h past y.debug) → ((y : Hart) → o ≡ Some y → Fits way h past y.debug → Fits way' h past' (g y).debug)
+    → Fits way' h past' x.debug
 moved_here None h g way way' past past' x is fits moves = absurd (none-some x is)
-moved_here (Some y) h g way way' past past' x is fits moves = subst (λ (z : Hart). Fits way' h past' z.debug) (same_Some (g y) x is) (moves y refl (fits y refl))
+moved_here (Some y) h g way way' past past' x is fits moves = subst (λ (z : Hart). Fits way' h past' z.debug) (same_Some (g y) x is)
+    (moves y refl (fits y refl))
 
 -- each hart of a board fits its way again
 pub each-moved : (h : ℕ) (g : Hart → Hart) (old new : List Hart) (ways ways' : ℕ → Way) (past past' : Past) → ChangedAt h g old new
     → ((x : Hart) → slice_get old h ≡ Some x → Fits (ways h) h past x.debug → Fits (ways' h) h past' (g x).debug)
     → ((j : ℕ) → (j ≡ h → ⊥) → ways' j ≡ ways j) → ((j : ℕ) → (j ≡ h → ⊥) → Alike j past past')
-    → ((j : ℕ) (x : Hart) → slice_get old j ≡ Some x → Fits (ways j) j past x.debug) → (j : ℕ) (x : Hart) → slice_get new j ≡ Some x → Fits (ways' j) j past' x.debug
+    → ((j : ℕ) (x : Hart) → slice_get old j ≡ Some x → Fits (ways j) j past x.debug) → (j : ℕ) (x : Hart) → slice_get new j ≡ Some x
+    → Fits (ways' j) j past' x.debug
 each-moved h g old new ways ways' past past' at moves same alike each j x is = elim (cases_eq j h) [
   | inl e ↦ subst (λ n. slice_get new n ≡ Some x → Fits (ways' n) n past' x.debug) (sym e)
       (λ here. moved_here (slice_get old h) h g (ways h) (ways' h) past past' x (sym at.here ∙ here) (each h) moves) is
@@ -70,21 +78,24 @@ way_there sel way j other = ap (λ b. if b then way else Idle) (ne_eqb j sel oth
 
 -- ---- changes of the selected hart, or of no hart
 
-pub known_selected : (m : Machine) (sel : ℕ) (way way' : Way) (w v : World) (g : Hart → Hart) → IsKnown m sel way w → machine_of v.board ≡ lived m v.past → FirstMatch m v.past
+pub known_selected : (m : Machine) (sel : ℕ) (way way' : Way) (w v : World) (g : Hart → Hart) → IsKnown m sel way w → machine_of v.board ≡ lived m v.past
+    → FirstMatch m v.past
     → ChangedAt sel g w.board.harts v.board.harts → ((j : ℕ) → (j ≡ sel → ⊥) → Alike j w.past v.past)
     → ((x : Hart) → slice_get w.board.harts sel ≡ Some x → Fits way sel w.past x.debug → Fits way' sel v.past (g x).debug) → IsKnown m sel way' v
 known_selected m sel way way' w v g k erased right at alike moves = record {
   erased = erased;
   right = right;
   each = each-moved sel g w.board.harts v.board.harts (way_at sel way) (way_at sel way') w.past v.past at
-      (λ x is fits. subst (λ y. Fits y sel v.past (g x).debug) (sym (way_here sel way')) (moves x is (subst (λ y. Fits y sel w.past x.debug) (way_here sel way) fits)))
+      (λ x is fits. subst (λ y. Fits y sel v.past (g x).debug) (sym (way_here sel way'))
+      (moves x is (subst (λ y. Fits y sel w.past x.debug) (way_here sel way) fits)))
       (λ j other. way_there sel way' j other ∙ sym (way_there sel way j other)) alike k.each;
 }
 
 -- more is known of the selected hart
 pub known_refined : (m : Machine) (sel : ℕ) (way way' : Way) (w : World) → IsKnown m sel way w
     → ((x : Hart) → slice_get w.board.harts sel ≡ Some x → Fits way sel w.past x.debug → Fits way' sel w.past x.debug) → IsKnown m sel way' w
-known_refined m sel way way' w k moves = known_selected m sel way way' w w (λ x. x) k k.erased k.right (changed_same sel w.board.harts) (λ j other l. refl) moves
+known_refined m sel way way' w k moves = known_selected m sel way way' w w (λ x. x) k k.erased k.right (changed_same sel w.board.harts)
+    (λ j other l. refl) moves
 
 -- no hart is selected where all are idle
 pub known_idle : (m : Machine) (sel sel' : ℕ) (w : World) → IsKnown m sel Idle w → IsKnown m sel' Idle w

@@ -1,5 +1,6 @@
 -- What is known of a world behind each point, and behind each Look by what it saw.
-use Rattle.std.proofs.Common.{◌≡◌, ◌∙◌, ℕ, zero, suc, Bool, true, false, not, ◌&&◌, List, [], ◌∷◌, Option, Some, None, slice_get, option_map, refl, sym, ap, subst, inl, inr}
+use Rattle.std.proofs.Common.{◌≡◌, ◌∙◌, ℕ, zero, suc, Bool, true, false, not, ◌&&◌, List, [], ◌∷◌, Option, Some, None, slice_get, option_map, refl}
+use Rattle.std.proofs.Common.{sym, ap, subst, inl, inr}
 use Rattle.std.specs.Prelude.{slice_set}
 use Rattle.std.specs.List.{list_any}
 use Rattle.std.proofs.lemmas.Bool.{false≢true, or_parts}
@@ -36,7 +37,8 @@ use Rattle.abstract_debugger.proofs.KnownHarts.{ChangedAt, changed-set, set_by, 
 core_here : (o : Option Hart) (hart : Hart) → o ≡ Some hart → option_map (λ (x : Hart). x.core) o ≡ Some hart.core
 core_here o hart is = ap (option_map (λ (x : Hart). x.core)) is
 
-knows_hart : (m : Machine) (h : ℕ) (w : World) (hart : Hart) → machine_of w.board ≡ lived m w.past → slice_get w.board.harts h ≡ Some hart → Knows m h w.past hart.core w.board.memory
+knows_hart : (m : Machine) (h : ℕ) (w : World) (hart : Hart) → machine_of w.board ≡ lived m w.past → slice_get w.board.harts h ≡ Some hart
+    → Knows m h w.past hart.core w.board.memory
 knows_hart m h w hart erased is k =
     ap (λ (x : Machine). matches_at (slice_get x.cores h) x.memory (story h k w.past)) (sym erased)
     ∙ ap (λ o. matches_at o w.board.memory (story h k w.past)) (slice_get-cores w.board.harts h ∙ core_here (slice_get w.board.harts h) hart is)
@@ -53,11 +55,14 @@ known_turned m sel way h w (Some x) is k erased =
     record {
       erased = erased;
       right = t.right k.right;
-      each = each-moved h (λ (y : Hart). (place_of y mem).hart) w.board.harts (slice_set w.board.harts h (place_of x mem).hart) (way_at sel way) (way_at sel way) w.past (noted_here (Some x) h mem w.past)
+      each = each-moved h (λ (y : Hart). (place_of y mem).hart) w.board.harts (slice_set w.board.harts h (place_of x mem).hart) (way_at sel way)
+          (way_at sel way) w.past (noted_here (Some x) h mem w.past)
           (changed-set (Some x) h (λ (y : Hart). (place_of y mem).hart) w.board.harts is)
-          (λ y at fits. subst (λ (z : Hart). Fits (way_at sel way h) h (noted_here (Some x) h mem w.past) (place_of z mem).hart.debug) (same_Some x y (sym is ∙ at)) t.fits)
+          (λ y at fits. subst (λ (z : Hart). Fits (way_at sel way h) h (noted_here (Some x) h mem w.past) (place_of z mem).hart.debug)
+          (same_Some x y (sym is ∙ at)) t.fits)
           (λ j other. refl)
-          (λ j other l. turn-elsewhere x.debug.halted x.debug.halt_request (some_fires (touch_of x.core mem) x) (stops_at_ebreak x mem) x.debug.step h (fires (touch_of x.core mem) x.debug.slots) w.past j l other)
+          (λ j other l. turn-elsewhere x.debug.halted x.debug.halt_request (some_fires (touch_of x.core mem) x) (stops_at_ebreak x mem) x.debug.step h
+          (fires (touch_of x.core mem) x.debug.slots) w.past j l other)
           k.each;
     }
 
@@ -66,7 +71,8 @@ known-turn m sel way h w k = known_turned m sel way h w (slice_get w.board.harts
 
 -- ---- points that a debugger takes
 
-known_request : (m : Machine) (sel : ℕ) (way : Way) (h : ℕ) (on : Bool) (w v : World) (o : Option Hart) → slice_get w.board.harts h ≡ o → IsKnown m sel way w → machine_of v.board ≡ lived m v.past
+known_request : (m : Machine) (sel : ℕ) (way : Way) (h : ℕ) (on : Bool) (w v : World) (o : Option Hart) → slice_get w.board.harts h ≡ o → IsKnown m sel way w
+    → machine_of v.board ≡ lived m v.past
     → v.past ≡ w.past → v.board.harts ≡ set_by o h (with_debug (halt_requested on)) w.board.harts → IsKnown m sel way v
 known_request m sel way h on w v o is k erased past_is harts_are = record {
   erased = erased;
@@ -76,7 +82,8 @@ known_request m sel way h on w v o is k erased past_is harts_are = record {
       (λ x at fits. request_fits (way_at sel way h) h w.past v.past x on past_is fits) (λ j other. refl) (λ j other l. ap (story j l) past_is) k.each;
 }
   where
-    request_fits : (way : Way) (h : ℕ) (past past' : Past) (x : Hart) (on : Bool) → past' ≡ past → Fits way h past x.debug → Fits way h past' (with_debug (halt_requested on) x).debug
+    request_fits : (way : Way) (h : ℕ) (past past' : Past) (x : Hart) (on : Bool) → past' ≡ past → Fits way h past x.debug
+        → Fits way h past' (with_debug (halt_requested on) x).debug
     request_fits way h past past' x on e fits = subst (λ p. Fits way h p (with_debug (halt_requested on) x).debug) (sym e) fits
 
 requested_harts : (o : Option Hart) (f : DebugPart → DebugPart) (h : ℕ) (b : Board) → (debug_changed_by o f h b).harts ≡ set_by o h (with_debug f) b.harts
@@ -96,7 +103,8 @@ known-halt_clear m sel way h w k =
 -- a request to resume
 
 known_resume : (m : Machine) (sel : ℕ) (way way' : Way) (w : World)
-    → ((x : Hart) → Fits way sel w.past x.debug → Fits way' sel w.past (resume_asked x.debug)) → IsKnown m sel way w → IsKnown m sel way' (passed (ResumeReq sel) w)
+    → ((x : Hart) → Fits way sel w.past x.debug → Fits way' sel w.past (resume_asked x.debug)) → IsKnown m sel way w
+    → IsKnown m sel way' (passed (ResumeReq sel) w)
 known_resume m sel way way' w moves k =
     known_selected m sel way way' w (passed (ResumeReq sel) w) (with_debug resume_asked) k ((erased-keeps m).passes (ResumeReq sel) w k.erased) k.right
     (subst (ChangedAt sel (with_debug resume_asked) w.board.harts) (sym (requested_harts (slice_get w.board.harts sel) resume_asked sel w.board))
@@ -177,7 +185,8 @@ known-gone m sel w seen k =
     known_refined m sel Going Idle w k (λ x is. idle_by sel w.past x.debug
     (sym (ack_seen x.debug.halted x.debug.resume_ack) ∙ sym (ap sees_ack (seen_hart (slice_get w.board.harts sel) x is)) ∙ seen))
 
-over_by : (h : ℕ) (past : Past) (d : DebugPart) → d.resume_ack ≡ true → sees_halted (seen_by d.halted d.resume_ack) ≡ true → Fits Asked h past d → Fits Over h past d
+over_by : (h : ℕ) (past : Past) (d : DebugPart) → d.resume_ack ≡ true → sees_halted (seen_by d.halted d.resume_ack) ≡ true → Fits Asked h past d
+    → Fits Over h past d
 over_by h past d ack seen (inl r) = r
 over_by h past d ack seen (inr r) = absurd (none r.starts)
   where
@@ -191,7 +200,8 @@ known-over m sel w seen k =
     known_refined m sel Asked Over w k (λ x is.
     let e : seen_at sel w.board ≡ seen_by x.debug.halted x.debug.resume_ack = seen_hart (slice_get w.board.harts sel) x is in
     over_by sel w.past x.debug
-    (sym (ack_seen x.debug.halted x.debug.resume_ack) ∙ sym (ap sees_ack e) ∙ both_left (sees_ack (seen_at sel w.board)) (sees_halted (seen_at sel w.board)) seen)
+    (sym (ack_seen x.debug.halted x.debug.resume_ack) ∙ sym (ap sees_ack e)
+    ∙ both_left (sees_ack (seen_at sel w.board)) (sees_halted (seen_at sel w.board)) seen)
     (sym (ap sees_halted e) ∙ both_right (sees_ack (seen_at sel w.board)) (sees_halted (seen_at sel w.board)) seen))
 
 -- a hart that rests, without a hit
@@ -213,7 +223,8 @@ known-ready m sel w none k =
     known_refined m sel Still Ready w k (λ x is. ready_by sel w.past x.debug (sym (ap (λ o. any_hit (slots_here o)) is) ∙ none))
 
 -- a hart that rests behind a whole step
-pub known-stepped : (m : Machine) (sel : ℕ) (w : World) → ((x : Hart) → slice_get w.board.harts sel ≡ Some x → is_step x.debug.halted ≡ true) → IsKnown m sel Still w → IsKnown m sel Ready w
+pub known-stepped : (m : Machine) (sel : ℕ) (w : World) → ((x : Hart) → slice_get w.board.harts sel ≡ Some x → is_step x.debug.halted ≡ true)
+    → IsKnown m sel Still w → IsKnown m sel Ready w
 known-stepped m sel w whole k = known_refined m sel Still Ready w k (λ x is r. record { rests = r; none = r.whole (whole x is) })
 
 pub known-rests : (m : Machine) (sel : ℕ) (w : World) → IsKnown m sel Still w → IsKnown m sel Idle w

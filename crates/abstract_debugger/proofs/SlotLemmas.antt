@@ -1,5 +1,6 @@
 -- One slot, as its story says it is: when it fires, and what a stop, an execution and a debugger make of it.
-use Rattle.std.proofs.Common.{◌≡◌, ◌∙◌, ◌≤◌, ◌<◌, ◌+◌, ◌-◌, ℕ, Bool, true, false, not, ◌&&◌, ◌||◌, Option, Some, None, option_map, refl, sym, ap, if◌then◌else◌, inl, inr, arith}
+use Rattle.std.proofs.Common.{◌≡◌, ◌∙◌, ◌≤◌, ◌<◌, ◌+◌, ◌-◌, ℕ, Bool, true, false, not, ◌&&◌, ◌||◌, Option, Some, None, option_map, refl, sym, ap}
+use Rattle.std.proofs.Common.{if◌then◌else◌, inl, inr, arith}
 use Rattle.std.specs.Prelude.{◌==◌, nat_lt}
 use Rattle.std.proofs.lemmas.Bool.{cases_eq, cases_lt, eq-eqb, ne_eqb, eqb-true, lt-ltb, false≢true, or_from, false_from_ne_true}
 use Rattle.std.proofs.Math.Bool.{and-false, or-false}
@@ -74,7 +75,8 @@ count-low : (hit : Bool) (turns n : ℕ) (st : Bool) → n < turns → st ≡ fa
 count-low hit turns n st low not_yet =
     ap (λ b. kind.Icount (if b then (record { hit = hit; count = turns - n - 1; m = true; pending = if turns - n == 1 then true else pends n turns st })
     else (record { hit = hit; count = turns - n; m = true; pending = pends n turns st }))) (lt-ltb 0 (turns - n) (omega arith))
-    ∙ pending-same hit true (turns - n - 1) (turns - (n + 1)) (if turns - n == 1 then true else pends n turns st) (pends (n + 1) turns st) (omega arith) (elim (cases_eq (turns - n) 1) [
+    ∙ pending-same hit true (turns - n - 1) (turns - (n + 1)) (if turns - n == 1 then true else pends n turns st) (pends (n + 1) turns st) (omega arith)
+    (elim (cases_eq (turns - n) 1) [
       | inl last ↦ ap (λ b. if b then true else pends n turns st) (eq-eqb (turns - n) 1 last) ∙ sym (pends_now (n + 1) turns st (omega arith) not_yet)
       | inr more ↦
           ap (λ b. if b then true else pends n turns st) (ne_eqb (turns - n) 1 more) ∙ pends_not n turns st (λ e. absurd (omega arith))
@@ -87,12 +89,14 @@ count-high hit turns n st high not_pending =
     let none : turns - n ≡ 0 = omega arith in
     ap (λ b. kind.Icount (if b then (record { hit = hit; count = turns - n - 1; m = true; pending = if turns - n == 1 then true else pends n turns st })
     else (record { hit = hit; count = turns - n; m = true; pending = pends n turns st }))) (ap (λ c. nat_lt 0 c) none)
-    ∙ pending-same hit true (turns - n) (turns - (n + 1)) (pends n turns st) (pends (n + 1) turns st) (omega arith) (not_pending ∙ sym (pends_not (n + 1) turns st (λ e. absurd (omega arith))))
+    ∙ pending-same hit true (turns - n) (turns - (n + 1)) (pends n turns st) (pends (n + 1) turns st) (omega arith)
+    (not_pending ∙ sym (pends_not (n + 1) turns st (λ e. absurd (omega arith))))
 
 count-off : (hit : Bool) (turns n : ℕ) (st : Bool) → turns ≤ n → st ≡ true
     → trigger_counted (icount hit (turns - n) false (pends n turns st)) ≡ icount hit (turns - (n + 1)) false (pends (n + 1) turns st)
 count-off hit turns n st high stopped =
-    pending-same hit false (turns - n) (turns - (n + 1)) (pends n turns st) (pends (n + 1) turns st) (omega arith) (pends_stopped n turns st stopped ∙ sym (pends_stopped (n + 1) turns st stopped))
+    pending-same hit false (turns - n) (turns - (n + 1)) (pends n turns st) (pends (n + 1) turns st) (omega arith)
+    (pends_stopped n turns st stopped ∙ sym (pends_stopped (n + 1) turns st stopped))
 
 count-next : (m hit : Bool) (turns n : ℕ) (st : Bool) → (m && pends n turns st) ≡ false → (st ≡ true → turns ≤ n) → (m ≡ false → st ≡ true)
     → trigger_counted (icount hit (turns - n) m (pends n turns st)) ≡ icount hit (turns - (n + 1)) m (pends (n + 1) turns st)
@@ -104,7 +108,8 @@ count-next true hit turns n st calm run_down off = elim (cases_lt n turns) [
 
 -- ---- an execution at which it does not fire
 
-trigger-counted : (what : What) (c : Core) (mem : Memory) (m hit : Bool) (n : ℕ) (st : Bool) → (m && matches what c mem n st) ≡ false → (st ≡ true → HasRunDown what n) → (m ≡ false → st ≡ true)
+trigger-counted : (what : What) (c : Core) (mem : Memory) (m hit : Bool) (n : ℕ) (st : Bool) → (m && matches what c mem n st) ≡ false
+    → (st ≡ true → HasRunDown what n) → (m ≡ false → st ≡ true)
     → trigger_counted (trigger_like m hit what n st) ≡ trigger_like m hit what (n + 1) st
 trigger-counted (Break a) c mem m hit n st calm run_down off = refl
 trigger-counted (Watch Load a) c mem m hit n st calm run_down off = refl
@@ -153,7 +158,8 @@ fired_run_down (Count turns) c mem m n st is =
     let e : n ≡ turns = eqb-true n turns (left_true (n == turns) (not st) (right_true m (pends n turns st) is)) in
     omega arith
 
-marked-like : (c : Core) (mem : Memory) (f m hit : Bool) (what : What) (n : ℕ) (st : Bool) (s : Slot) → (m && matches what c mem n st) ≡ f → Like m hit what n st s
+marked-like : (c : Core) (mem : Memory) (f m hit : Bool) (what : What) (n : ℕ) (st : Bool) (s : Slot) → (m && matches what c mem n st) ≡ f
+    → Like m hit what n st s
     → Like m (f || hit) what n (f || st) (if f then record s { trigger = trigger_hit s.trigger } else s)
 marked-like c mem false m hit what n st s fired is = is
 marked-like c mem true m hit what n st s fired is = record {
@@ -171,8 +177,11 @@ pub slot-marked : (c : Core) (mem : Memory) (o : Option Slot) (a : Option What) 
     → IsSlotFor (option_map (slot_marked (touch_of c mem)) o) a m (fires_here (touch_of c mem) o || hit) n (fires_here (touch_of c mem) o || st)
 slot-marked c mem None None m hit n st is = is
 slot-marked c mem None (Some what) m hit n st is = is
-slot-marked c mem (Some s) None m hit n st is =
-    (marked-free (slot_fires (touch_of c mem) s) s is.0, or_from (slot_fires (touch_of c mem) s) hit (ap (λ t. trigger_fires t s.tdata2 (touch_of c mem)) is.0) is.1)
+slot-marked c mem (Some s) None m hit n st is = (
+  marked-free (slot_fires (touch_of c mem) s) s is.0,
+  or_from (slot_fires (touch_of c mem) s) hit
+      (ap (λ t. trigger_fires t s.tdata2 (touch_of c mem)) is.0) is.1,
+)
 slot-marked c mem (Some s) (Some what) m hit n st is =
     marked-like c mem (slot_fires (touch_of c mem) s) m hit what n st s (sym (slot-fires c mem (Some s) (Some what) m hit n st is)) is
 
@@ -217,13 +226,16 @@ trigger-forgotten m hit n st (Watch Store a) = refl
 trigger-forgotten m hit n st (Watch Access a) = refl
 trigger-forgotten m hit n st (Count turns) = refl
 
-pub slot-held : (o : Option Slot) (a : Option What) (m hit : Bool) (n : ℕ) (st : Bool) → IsSlotFor o a m hit n st → IsSlotFor (option_map (with_trigger trigger_held) o) a (m && not hit) hit n st
+pub slot-held : (o : Option Slot) (a : Option What) (m hit : Bool) (n : ℕ) (st : Bool) → IsSlotFor o a m hit n st
+    → IsSlotFor (option_map (with_trigger trigger_held) o) a (m && not hit) hit n st
 slot-held o a m hit n st is = lifted trigger_held o a m hit (m && not hit) hit n st (trigger-held m hit n st) refl (λ t. t) is
 
-pub slot-back : (o : Option Slot) (a : Option What) (m hit : Bool) (n : ℕ) (st : Bool) → IsSlotFor o a m hit n st → IsSlotFor (option_map (with_trigger trigger_back) o) a (m || hit) hit n st
+pub slot-back : (o : Option Slot) (a : Option What) (m hit : Bool) (n : ℕ) (st : Bool) → IsSlotFor o a m hit n st
+    → IsSlotFor (option_map (with_trigger trigger_back) o) a (m || hit) hit n st
 slot-back o a m hit n st is = lifted trigger_back o a m hit (m || hit) hit n st (trigger-back m hit n st) refl (λ t. t) is
 
-pub slot-forgotten : (o : Option Slot) (a : Option What) (m hit : Bool) (n : ℕ) (st : Bool) → IsSlotFor o a m hit n st → IsSlotFor (option_map (with_trigger trigger_forgotten) o) a m false n st
+pub slot-forgotten : (o : Option Slot) (a : Option What) (m hit : Bool) (n : ℕ) (st : Bool) → IsSlotFor o a m hit n st
+    → IsSlotFor (option_map (with_trigger trigger_forgotten) o) a m false n st
 slot-forgotten o a m hit n st is = lifted trigger_forgotten o a m hit m false n st (trigger-forgotten m hit n st) refl (λ t. absurd (false≢true t)) is
 
 trigger-hit_is : (what : What) (m hit : Bool) (n : ℕ) (st : Bool) → trigger_has_hit (trigger_like m hit what n st) ≡ hit
@@ -234,7 +246,8 @@ trigger-hit_is (Watch Access a) m hit n st = refl
 trigger-hit_is (Count turns) m hit n st = refl
 
 -- what a slot shows as its hit
-pub slot-hit : (o : Option Slot) (a : Option What) (m hit : Bool) (n : ℕ) (st : Bool) → IsSlotFor o a m hit n st → has_here (option_map (λ (s : Slot). trigger_has_hit s.trigger) o) ≡ hit
+pub slot-hit : (o : Option Slot) (a : Option What) (m hit : Bool) (n : ℕ) (st : Bool) → IsSlotFor o a m hit n st
+    → has_here (option_map (λ (s : Slot). trigger_has_hit s.trigger) o) ≡ hit
 slot-hit None None m hit n st is = sym is
 slot-hit None (Some what) m hit n st is = absurd is
 slot-hit (Some s) None m hit n st is = ap trigger_has_hit is.0 ∙ sym is.1
@@ -251,7 +264,8 @@ armed-trigger (Break a) s can = refl
 armed-trigger (Watch Load a) s can = refl
 armed-trigger (Watch Store a) s can = refl
 armed-trigger (Watch Access a) s can = refl
-armed-trigger (Count turns) s can = pending-same false true turns (turns - 0) false (pends 0 turns false) (omega arith) (sym (pends_not 0 turns false (λ e. absurd (omega arith))))
+armed-trigger (Count turns) s can = pending-same false true turns (turns - 0) false (pends 0 turns false) (omega arith)
+    (sym (pends_not 0 turns false (λ e. absurd (omega arith))))
 
 armed-at : (what : What) (s : Slot) → IsAt what (armed_for what s).tdata2
 armed-at (Break a) s = refl

@@ -1,12 +1,14 @@
 -- The steps of a session: how each call on the link moves the place where the replay stands.
 -- What builds a place is an abbreviation, so that the world in it is seen through.
-use Rattle.std.proofs.Common.{◌≡◌, ◌∙◌, ℕ, List, [], ◌∷◌, ◌++◌, Bool, true, false, Option, slice_get, refl, sym, ap, subst, append_assoc, append-nil, if◌then◌else◌}
+use Rattle.std.proofs.Common.{◌≡◌, ◌∙◌, ℕ, List, [], ◌∷◌, ◌++◌, Bool, true, false, Option, slice_get, refl, sym, ap, subst, append_assoc, append-nil}
+use Rattle.std.proofs.Common.{if◌then◌else◌}
 use Rattle.std.specs.Prelude.{◌≢◌}
 use Rattle.std.proofs.lemmas.Bool.{eq-eqb, false≢true}
 use Rattle.rv_model.specs.Board.{Board, Hart, machine_of}
 use Rattle.rv_model.specs.Turn.{turn}
 use Rattle.rv_model.specs.Undebugged.{undebugged}
 use Rattle.debug_model.specs.Journal.{after_point}
+use Rattle.debug_model.specs.declared.command.Path.{Path}
 use Rattle.debug_model.specs.declared.point.Point.{Point}
 use Rattle.debug_model.specs.declared.point.Point.TheVariants.{Turn, Look, HaltReq, HaltClear, ResumeReq, Access}
 use Rattle.abstract_debugger.specs.Debugger.{Seen, look, seen_at}
@@ -14,7 +16,7 @@ use Rattle.abstract_debugger.specs.Laws.{IsChangeOf, IsFront, IsFrozen, IsFrozen
 use Rattle.abstract_debugger.specs.Lines.{Line}
 use Rattle.abstract_debugger.specs.Own.{own}
 use Rattle.abstract_debugger.specs.Plan.{Change, Plan, PlanEnd, changed_board, hart_over}
-use Rattle.abstract_debugger.specs.Plan.Plan.{take, see, change, say, stop}
+use Rattle.abstract_debugger.specs.Plan.Plan.{take, on_path, see, change, say, stop}
 use Rattle.abstract_debugger.specs.Stands.{Cut, CutWith, IsTranscribed, Left, Looked, Origin, Pointed, PointedWith, Rewrote, Stands, Target, WentOn}
 use Rattle.abstract_debugger.proofs.OverLemmas.{over_twice}
 use Rattle.abstract_debugger.specs.Transcript.{End, Outcome, World, changed, finish, graded, passed, replay, said, same_point, start, taking, trace}
@@ -69,13 +71,19 @@ taking-here (HaltClear h) ok next w j = pick (same_point (HaltClear h) (HaltClea
 taking-here (ResumeReq h) ok next w j = pick (same_point (ResumeReq h) (ResumeReq h)) _ _ (eq-eqb h h refl)
 taking-here Access ok next w j = refl
 
-taking-turns : (p : Point) → IsTaken p → (next : World → List Point → Outcome) (hs : List ℕ) (w : World) (j : List Point) → taking p next w (turns hs ++ (p ∷ j)) ≡ next (passed p (spin hs w)) j
+taking-turns : (p : Point) → IsTaken p → (next : World → List Point → Outcome) (hs : List ℕ) (w : World) (j : List Point)
+    → taking p next w (turns hs ++ (p ∷ j)) ≡ next (passed p (spin hs w)) j
 taking-turns p ok next [] w j = taking-here p ok next w j
 taking-turns p ok next (h ∷ hs) w j = taking-turns p ok next hs (passed (Turn h) w) j
 
-pub replay-take : (p : Point) → IsTaken p → (next : Plan) (hs : List ℕ) (w : World) (j : List Point) → replay (take p next) w (turns hs ++ (p ∷ j)) ≡ replay next (passed p (spin hs w)) j
+pub replay-take : (p : Point) → IsTaken p → (next : Plan) (hs : List ℕ) (w : World) (j : List Point)
+    → replay (take p next) w (turns hs ++ (p ∷ j)) ≡ replay next (passed p (spin hs w)) j
 unfolding replay
 replay-take p ok next hs w j = taking-turns p ok (replay next) hs w j
+
+pub replay-on_path : (path : Path) (next : Plan) (w : World) (j : List Point) → replay (on_path path next) w j ≡ replay next w j
+unfolding replay
+replay-on_path path next w j = refl
 
 pub replay-see : (next : Board → Plan) (w : World) (j : List Point) → replay (see next) w j ≡ replay (next w.board) w j
 unfolding replay
@@ -113,10 +121,12 @@ at_plan o p q lines t e s = record {
 
 -- ---- turns, and a point behind them
 
-pub journal_on : (o : Origin) (p : Plan) (w : World) (rest harts : List ℕ) (old new more : List Point) → ((j : List Point) → replay o.plan o.world (old ++ j) ≡ replay p w (turns rest ++ j))
+pub journal_on : (o : Origin) (p : Plan) (w : World) (rest harts : List ℕ) (old new more : List Point)
+    → ((j : List Point) → replay o.plan o.world (old ++ j) ≡ replay p w (turns rest ++ j))
     → new ≡ old ++ turns harts → replay o.plan o.world (new ++ more) ≡ replay p w (turns (rest ++ harts) ++ more)
 journal_on o p w rest harts old new more replayed is =
-    ap (λ (j : List Point). replay o.plan o.world (j ++ more)) is ∙ ap (replay o.plan o.world) (append_assoc old (turns harts) more) ∙ replayed (turns harts ++ more)
+    ap (λ (j : List Point). replay o.plan o.world (j ++ more)) is ∙ ap (replay o.plan o.world) (append_assoc old (turns harts) more)
+    ∙ replayed (turns harts ++ more)
     ∙ ap (replay p w) (sym (append_assoc (turns rest) (turns harts) more) ∙ ap (λ (j : List Point). j ++ more) (sym (turns-append rest harts)))
 
 pub board_on : (b old new : Board) (rest harts : List ℕ) → old ≡ after_turns rest b → new ≡ after_turns harts old → new ≡ after_turns (rest ++ harts) b
@@ -141,12 +151,14 @@ point_on o q next w rest before behind old new more ok replayed is =
     ∙ replay-take q ok next (rest ++ before) w (turns behind ++ more)
 
 -- the board at a point
-pub point_board : (q : Point) (w : World) (old : Board) (rest before : List ℕ) → old ≡ after_turns rest w.board → after_point q (after_turns before old) ≡ (passed q (spin (rest ++ before) w)).board
+pub point_board : (q : Point) (w : World) (old : Board) (rest before : List ℕ) → old ≡ after_turns rest w.board
+    → after_point q (after_turns before old) ≡ (passed q (spin (rest ++ before) w)).board
 point_board q w old rest before is =
     ap (after_point q) (ap (after_turns before) is ∙ sym (after_turns-append rest before w.board) ∙ sym (spin-board (rest ++ before) w))
 
 -- a point is taken
-abbrev pub taken : (o : Origin) (q : Point) (next : Plan) (lines : List Line) (old new : Target) → IsTaken q → Stands o (take q next) lines old → Pointed q old new → Stands o next lines new
+abbrev pub taken : (o : Origin) (q : Point) (next : Plan) (lines : List Line) (old new : Target) → IsTaken q → Stands o (take q next) lines old
+    → Pointed q old new → Stands o next lines new
 taken o q next lines old new ok s at = record {
   world = passed q (spin (s.rest ++ at.before) s.world);
   rest = at.behind;
@@ -156,27 +168,31 @@ taken o q next lines old new ok s at = record {
 }
 
 -- a point is taken, and the plan goes on by what the board shows there, as at a load
-abbrev pub taken_seen : (o : Origin) (q : Point) (next : Board → Plan) (lines : List Line) (old new : Target) → IsTaken q → Stands o (take q (see next)) lines old → (at : Pointed q old new)
+abbrev pub taken_seen : (o : Origin) (q : Point) (next : Board → Plan) (lines : List Line) (old new : Target) → IsTaken q
+    → Stands o (take q (see next)) lines old → (at : Pointed q old new)
     → Stands o (next (after_point q (after_turns at.before old.board))) lines new
 taken_seen o q next lines old new ok s at = record {
   world = passed q (spin (s.rest ++ at.before) s.world);
   rest = at.behind;
   replayed = λ more. point_on o q (see next) s.world s.rest at.before at.behind old.journal new.journal more ok s.replayed at.journal
       ∙ replay-see next (passed q (spin (s.rest ++ at.before) s.world)) (turns at.behind ++ more)
-      ∙ ap (λ (b : Board). replay (next b) (passed q (spin (s.rest ++ at.before) s.world)) (turns at.behind ++ more)) (sym (point_board q s.world old.board s.rest at.before s.board));
+      ∙ ap (λ (b : Board). replay (next b) (passed q (spin (s.rest ++ at.before) s.world)) (turns at.behind ++ more))
+      (sym (point_board q s.world old.board s.rest at.before s.board));
   board = at.board ∙ ap (after_turns at.behind) (point_board q s.world old.board s.rest at.before s.board);
   spoken = spin-lines (s.rest ++ at.before) s.world ∙ s.spoken;
 }
 
 -- a point is taken, and a change goes with it: the one that the plan makes by what the board shows there, as at a store
-abbrev pub taken_with : (o : Origin) (q : Point) (c : Change) (next : Board → Plan) (rest : Plan) (lines : List Line) (old new : Target) → IsTaken q → Stands o (take q (see next)) lines old
+abbrev pub taken_with : (o : Origin) (q : Point) (c : Change) (next : Board → Plan) (rest : Plan) (lines : List Line) (old new : Target) → IsTaken q
+    → Stands o (take q (see next)) lines old
     → (at : PointedWith q c old new) → next (after_point q (after_turns at.before old.board)) ≡ change c rest → Stands o rest lines new
 taken_with o q c next rest lines old new ok s at goes = record {
   world = changed c (passed q (spin (s.rest ++ at.before) s.world));
   rest = at.behind;
   replayed = λ more. point_on o q (see next) s.world s.rest at.before at.behind old.journal new.journal more ok s.replayed at.journal
       ∙ replay-see next (passed q (spin (s.rest ++ at.before) s.world)) (turns at.behind ++ more)
-      ∙ ap (λ p. replay p (passed q (spin (s.rest ++ at.before) s.world)) (turns at.behind ++ more)) (ap next (sym (point_board q s.world old.board s.rest at.before s.board)) ∙ goes)
+      ∙ ap (λ p. replay p (passed q (spin (s.rest ++ at.before) s.world)) (turns at.behind ++ more))
+      (ap next (sym (point_board q s.world old.board s.rest at.before s.board)) ∙ goes)
       ∙ replay-change c rest (passed q (spin (s.rest ++ at.before) s.world)) (turns at.behind ++ more);
   board = at.board ∙ ap (λ (b : Board). after_turns at.behind (changed_board c b)) (point_board q s.world old.board s.rest at.before s.board);
   spoken = spin-lines (s.rest ++ at.before) s.world ∙ s.spoken;
@@ -187,16 +203,30 @@ taken_with o q c next rest lines old new ok s at goes = record {
 pub left_at : (o : Origin) (p : Plan) (lines : List Line) (t : Target) → Stands o p lines t → Left o lines t
 left_at o p lines t s = record { plan = p; stands = s }
 
-pub left_cut : (o : Origin) (q : Point) (next : Plan) (lines : List Line) (old new : Target) → IsTaken q → Stands o (take q next) lines old → Cut q old new → Left o lines new
+pub left_cut : (o : Origin) (q : Point) (next : Plan) (lines : List Line) (old new : Target) → IsTaken q → Stands o (take q next) lines old
+    → Cut q old new → Left o lines new
 left_cut o q next lines old new ok s (Cut.before went) = record { plan = take q next; stands = went_on o (take q next) lines old new s went }
 left_cut o q next lines old new ok s (Cut.behind pointed) = record { plan = next; stands = taken o q next lines old new ok s pointed }
 
-pub left_cut_with : (o : Origin) (q : Point) (c : Change) (next : Board → Plan) (rest : Plan) (lines : List Line) (old new : Target) → IsTaken q → Stands o (take q (see next)) lines old
+pub left_cut_with : (o : Origin) (q : Point) (c : Change) (next : Board → Plan) (rest : Plan) (lines : List Line) (old new : Target) → IsTaken q
+    → Stands o (take q (see next)) lines old
     → CutWith q c old new → ((at : PointedWith q c old new) → next (after_point q (after_turns at.before old.board)) ≡ change c rest) → Left o lines new
-left_cut_with o q c next rest lines old new ok s (CutWith.before went) goes = record { plan = take q (see next); stands = went_on o (take q (see next)) lines old new s went }
-left_cut_with o q c next rest lines old new ok s (CutWith.behind at) goes = record { plan = rest; stands = taken_with o q c next rest lines old new ok s at (goes at) }
+left_cut_with o q c next rest lines old new ok s (CutWith.before went) goes =
+    record { plan = take q (see next); stands = went_on o (take q (see next)) lines old new s went }
+left_cut_with o q c next rest lines old new ok s (CutWith.behind at) goes =
+    record { plan = rest; stands = taken_with o q c next rest lines old new ok s at (goes at) }
 
 -- ---- what is seen and said
+
+-- the path of an access is told by the calls that made it, and by no journal
+abbrev pub unpathed : (o : Origin) (path : Path) (next : Plan) (lines : List Line) (t : Target) → Stands o (on_path path next) lines t → Stands o next lines t
+unpathed o path next lines t s = record {
+  world = s.world;
+  rest = s.rest;
+  replayed = λ more. s.replayed more ∙ replay-on_path path next s.world (turns s.rest ++ more);
+  board = s.board;
+  spoken = s.spoken;
+}
 
 -- a plan goes on by the board behind the last point
 abbrev pub seen : (o : Origin) (next : Board → Plan) (lines : List Line) (t : Target) (s : Stands o (see next) lines t) → Stands o (next s.world.board) lines t
@@ -208,7 +238,8 @@ seen o next lines t s = record {
   spoken = s.spoken;
 }
 
-abbrev pub put : (o : Origin) (line : Line) (next : Plan) (lines : List Line) (t : Target) → Stands o (say line next) lines t → Stands o next (lines ++ line ∷ []) t
+abbrev pub put : (o : Origin) (line : Line) (next : Plan) (lines : List Line) (t : Target) → Stands o (say line next) lines t
+    → Stands o next (lines ++ line ∷ []) t
 put o line next lines t s = record {
   world = said line s.world;
   rest = s.rest;
@@ -218,7 +249,8 @@ put o line next lines t s = record {
 }
 
 -- a Look, and what it showed
-abbrev pub looked : (o : Origin) (h : ℕ) (next : Seen → Plan) (now : Seen) (lines : List Line) (old new : Target) → Stands o (look h next) lines old → Looked h now old new → Stands o (next now) lines new
+abbrev pub looked : (o : Origin) (h : ℕ) (next : Seen → Plan) (now : Seen) (lines : List Line) (old new : Target) → Stands o (look h next) lines old
+    → Looked h now old new → Stands o (next now) lines new
 looked o h next now lines old new s at =
     at_plan o (next (seen_at h (after_turns at.pointed.before old.board))) (next now) lines new (ap next (sym at.shows))
     (taken_seen o (Look h) (λ b. next (seen_at h b)) lines old new tt s at.pointed)
@@ -226,11 +258,13 @@ looked o h next now lines old new s at =
 -- ---- what is read of a halted hart, and written to it
 
 -- a frozen hart shows what it was behind the last point
-pub shown : (o : Origin) (h : ℕ) (p : Plan) (lines : List Line) (t : Target) (s : Stands o p lines t) → IsFrozenAt h s.world.board → slice_get t.board.harts h ≡ slice_get s.world.board.harts h
+pub shown : (o : Origin) (h : ℕ) (p : Plan) (lines : List Line) (t : Target) (s : Stands o p lines t) → IsFrozenAt h s.world.board
+    → slice_get t.board.harts h ≡ slice_get s.world.board.harts h
 shown o h p lines t s frozen = ap (λ (b : Board). slice_get b.harts h) s.board ∙ stays_same h s.world.board s.rest frozen
 
 -- so a plan that goes on by it goes on by what the chip shows
-abbrev pub seen_hart : (o : Origin) (h : ℕ) (next : Option Hart → Plan) (lines : List Line) (t : Target) (s : Stands o (see (λ b. next (slice_get b.harts h))) lines t)
+abbrev pub seen_hart : (o : Origin) (h : ℕ) (next : Option Hart → Plan) (lines : List Line) (t : Target)
+    (s : Stands o (see (λ b. next (slice_get b.harts h))) lines t)
     → IsFrozenAt h s.world.board → Stands o (next (slice_get t.board.harts h)) lines t
 seen_hart o h next lines t s frozen =
     at_plan o (next (slice_get s.world.board.harts h)) (next (slice_get t.board.harts h)) lines t
@@ -242,7 +276,8 @@ abbrev pub wrote : (o : Origin) (h : ℕ) (c : Change) (next : Plan) (lines : Li
 wrote o h c next lines old new s of_h frozen at = record {
   world = changed c s.world;
   rest = s.rest ++ at.harts;
-  replayed = λ more. journal_on o (change c next) s.world s.rest at.harts old.journal new.journal more s.replayed at.journal ∙ replay-change c next s.world (turns (s.rest ++ at.harts) ++ more);
+  replayed = λ more. journal_on o (change c next) s.world s.rest at.harts old.journal new.journal more s.replayed at.journal
+      ∙ replay-change c next s.world (turns (s.rest ++ at.harts) ++ more);
   board = at.board ∙ ap (hart_over (hart_change c) h) (board_on s.world.board old.board (after_turns at.harts old.board) s.rest at.harts s.board refl)
       ∙ sym (may_wait (hart_change c) h s.world.board (s.rest ++ at.harts) frozen (hart_change-frozen c))
       ∙ ap (after_turns (s.rest ++ at.harts)) (sym (changed_hart c h s.world.board of_h));
@@ -251,12 +286,14 @@ wrote o h c next lines old new s of_h frozen at = record {
 
 -- ---- where a session has stopped, and where it was cut
 
-nothing_more : (o : Origin) (p : Plan) (lines : List Line) (t : Target) (s : Stands o p lines t) → replay o.plan o.world t.journal ≡ replay p s.world (turns s.rest)
+nothing_more : (o : Origin) (p : Plan) (lines : List Line) (t : Target) (s : Stands o p lines t)
+    → replay o.plan o.world t.journal ≡ replay p s.world (turns s.rest)
 nothing_more o p lines t s = ap (replay o.plan o.world) (sym (append-nil t.journal)) ∙ s.replayed [] ∙ ap (replay p s.world) (append-nil (turns s.rest))
 
 pub transcribed : (o : Origin) (e : PlanEnd) (lines : List Line) (t : Target) → Stands o (stop e) lines t → IsTranscribed o (graded e lines) lines t
 transcribed o e lines t s =
-    let is : replay o.plan o.world t.journal ≡ record { world = spin s.rest s.world; end = graded e (spin s.rest s.world).lines } = nothing_more o (stop e) lines t s ∙ replay-stop e s.rest s.world in
+    let is : replay o.plan o.world t.journal ≡ record { world = spin s.rest s.world; end = graded e (spin s.rest s.world).lines } =
+    nothing_more o (stop e) lines t s ∙ replay-stop e s.rest s.world in
     record {
       end_is = ap (λ (x : Outcome). x.end) is ∙ ap (graded e) (spin-lines s.rest s.world ∙ s.spoken);
       lines_are = ap (λ (x : Outcome). x.world.lines) is ∙ spin-lines s.rest s.world ∙ s.spoken;
@@ -273,11 +310,14 @@ pub not_astray : (o : Origin) (p : Plan) (lines : List Line) (t : Target) → St
 not_astray o p lines t s is = turns_keep_on p s.world s.rest (sym (ap (λ (x : Outcome). x.end) (nothing_more o p lines t s)) ∙ is)
 
 -- where nothing was left to be changed, the board is the transcript's
-pub quiet_board : (o : Origin) (p : Plan) (lines : List Line) (t : Target) → Quiet p → Stands o p lines t → (replay o.plan o.world t.journal).world.board ≡ t.board
+pub quiet_board : (o : Origin) (p : Plan) (lines : List Line) (t : Target) → Quiet p → Stands o p lines t
+    → (replay o.plan o.world t.journal).world.board ≡ t.board
 quiet_board o p lines t quiet s = ap (λ (x : Outcome). x.world.board) (nothing_more o p lines t s) ∙ quiet_boards p s.world s.rest quiet ∙ sym s.board
 
--- where a command was cut that changes one halted hart, the transcript's board is the chip's but for that hart's debug part, and for the register that it writes
-pub cut_board : (o : Origin) (p : Plan) (lines : List Line) (t : Target) (h : ℕ) (n : Option ℕ) (s : Stands o p lines t) → WritesOnly h n p → IsFrozenAt h s.world.board
+-- where a command was cut that changes one halted hart, the transcript's board is the chip's but for that hart's debug part, and for the register that it
+-- writes
+pub cut_board : (o : Origin) (p : Plan) (lines : List Line) (t : Target) (h : ℕ) (n : Option ℕ) (s : Stands o p lines t) → WritesOnly h n p
+    → IsFrozenAt h s.world.board
     → (f : Hart → Hart) × ((x : Hart) → IsWritten n x.core (f x).core) × ((replay o.plan o.world t.journal).world.board ≡ hart_over f h t.board)
 cut_board o p lines t h n s only frozen =
     let (f, written, is) = cut_boards p s.world h n s.rest only frozen in
@@ -295,7 +335,8 @@ pub rewrote_then : (f g : Hart → Hart) (h : ℕ) (first second third : Target)
 rewrote_then f g h first second third frozen keeps a b = record {
   harts = a.harts ++ b.harts;
   board = b.board
-      ∙ ap (hart_over g h) (ap (after_turns b.harts) a.board ∙ may_wait f h (after_turns a.harts first.board) b.harts (still_frozen h first.board a.harts frozen) keeps
+      ∙ ap (hart_over g h) (ap (after_turns b.harts) a.board ∙ may_wait f h (after_turns a.harts first.board) b.harts
+      (still_frozen h first.board a.harts frozen) keeps
       ∙ ap (hart_over f h) (sym (after_turns-append a.harts b.harts first.board)))
       ∙ over_both f g h (after_turns (a.harts ++ b.harts) first.board);
   journal = b.journal ∙ ap (λ (j : List Point). j ++ turns b.harts) a.journal ∙ append_assoc first.journal (turns a.harts) (turns b.harts)

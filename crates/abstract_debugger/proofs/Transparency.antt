@@ -1,5 +1,6 @@
 -- The machine of a replay's board is the undebugged run of its own entries, whatever the plan, the journal and the end.
-use Rattle.std.proofs.Common.{◌≡◌, ◌∙◌, ℕ, zero, suc, List, [], ◌∷◌, ◌++◌, Bool, true, false, Option, Some, None, slice_get, slice_set, refl, sym, ap, if◌then◌else◌}
+use Rattle.std.proofs.Common.{◌≡◌, ◌∙◌, ℕ, zero, suc, List, [], ◌∷◌, ◌++◌, Bool, true, false, Option, Some, None, slice_get, slice_set, refl, sym, ap}
+use Rattle.std.proofs.Common.{if◌then◌else◌}
 use Rattle.rv_model.specs.declared.cause.Cause.{Cause}
 use Rattle.rv_model.specs.Board.{Board, DebugPart, Hart, Machine, cores, execute, machine_of}
 use Rattle.rv_model.specs.Core.{Core}
@@ -16,7 +17,8 @@ use Rattle.debug_model.specs.declared.point.Point.TheVariants.{Turn, Look, HaltR
 use Rattle.debug_model.proofs.JournalLemmas.{points_forget_debugging}
 use Rattle.abstract_debugger.specs.Laws.{Transparent, PastsAreUndebugged}
 use Rattle.abstract_debugger.specs.Own.{lived, own}
-use Rattle.abstract_debugger.specs.Plan.{Change, changed_board, changed_past, ebreak_halts, hart_over, register_set, slot_changed, slot_freed, step_begun, step_ended, with_debug_part}
+use Rattle.abstract_debugger.specs.Plan.{Change, changed_board, changed_past, ebreak_halts, hart_over, register_set, slot_changed, slot_freed}
+use Rattle.abstract_debugger.specs.Plan.{step_begun, step_ended, with_debug_part}
 use Rattle.abstract_debugger.specs.Plan.Change.{WriteReg, WriteMem, ArmSlot, FreeSlot, StepOver, StepDone, EbreakHalts}
 use Rattle.abstract_debugger.specs.Slots.{over}
 use Rattle.abstract_debugger.specs.Trace.{Note, Past, noted, noted_by, noted_here, trace_of}
@@ -33,7 +35,8 @@ own-append (Stop h why slots ∷ xs) ys = own-append xs ys
 own-append (Arm h slot what ∷ xs) ys = own-append xs ys
 own-append (Free h slot ∷ xs) ys = own-append xs ys
 
-own_last : (m : Machine) (past : Past) (n : Note) → undebugged m (own (trace_of past ++ n ∷ [])) ≡ undebugged (undebugged m (own (trace_of past))) (own (n ∷ []))
+own_last : (m : Machine) (past : Past) (n : Note) → undebugged m (own (trace_of past ++ n ∷ [])) ≡ undebugged
+    (undebugged m (own (trace_of past))) (own (n ∷ []))
 own_last m past n = ap (undebugged m) (own-append (trace_of past) (n ∷ [])) ∙ undebugged-append m (own (trace_of past)) (own (n ∷ []))
 
 pub pasts_are_undebugged : PastsAreUndebugged
@@ -46,7 +49,8 @@ pasts_are_undebugged m (Free h slot ∷ past) = own_last m past (Free h slot) �
 -- ---- a point
 
 noted_by-lived : (halted : Option Cause) (resume request fired at_ebreak step : Bool) (h : ℕ) (slots : List Bool) (past : Past) (m now : Machine)
-    → now ≡ lived m past → (if executes_by halted resume request fired at_ebreak then execute h now else now) ≡ lived m (noted_by halted request fired at_ebreak step h slots past)
+    → now ≡ lived m past → (if executes_by halted resume request fired at_ebreak then execute h now else now) ≡ lived m
+    (noted_by halted request fired at_ebreak step h slots past)
 noted_by-lived (Some why) true request fired at_ebreak step h slots past m now is = is
 noted_by-lived (Some why) false request fired at_ebreak step h slots past m now is = is
 noted_by-lived None resume true fired at_ebreak step h slots past m now is = is
@@ -60,7 +64,8 @@ noted_here-lived : (o : Option Hart) (h : ℕ) (memory : Memory) (past : Past) (
 unfolding executes
 noted_here-lived None h memory past m now is = is
 noted_here-lived (Some hart) h memory past m now is =
-    noted_by-lived hart.debug.halted hart.debug.resume_request hart.debug.halt_request (some_fires (touch_of hart.core memory) hart) (stops_at_ebreak hart memory) hart.debug.step
+    noted_by-lived hart.debug.halted hart.debug.resume_request hart.debug.halt_request (some_fires (touch_of hart.core memory) hart)
+    (stops_at_ebreak hart memory) hart.debug.step
     h (fires (touch_of hart.core memory) hart.debug.slots) past m now is
 
 pub point-lived : (q : Point) (b : Board) (past : Past) (m : Machine) → machine_of b ≡ lived m past → machine_after_point q b ≡ lived m (noted q b past)
@@ -105,7 +110,8 @@ register-lived : (h r v : ℕ) (b : Board) → machine_of (hart_over (register_s
 register-lived h r v b =
     ap (with_cores b.memory) (over-written h r v b.harts) ∙ entered-written (slice_get (cores b.harts) h) h r v (machine_of b)
 
-pub change-lived : (c : Change) (b : Board) (past : Past) (m : Machine) → machine_of b ≡ lived m past → machine_of (changed_board c b) ≡ lived m (changed_past c past)
+pub change-lived : (c : Change) (b : Board) (past : Past) (m : Machine) → machine_of b ≡ lived m past
+    → machine_of (changed_board c b) ≡ lived m (changed_past c past)
 change-lived (WriteReg h r v) b past m is = register-lived h r v b ∙ ap (entered (SetReg h r v)) is
 change-lived (WriteMem a count v) b past m is = ap (entered (SetMem a count v)) is
 change-lived (ArmSlot h slot what) b past m is = debug-lived (slot_changed slot what) h b ∙ is

@@ -22,7 +22,7 @@ use Rattle.debug_model.specs.Tap.{idcode}
 use Rattle.abstract_debugger.specs.Lines.{Line}
 use Rattle.abstract_debugger.specs.Plan.{Plan, is_step}
 use Rattle.abstract_debugger.specs.Plan.Change.{WriteReg, WriteMem, ArmSlot, FreeSlot, StepOver, StepDone, EbreakHalts}
-use Rattle.abstract_debugger.specs.Plan.Plan.{take, see, change, say, stop}
+use Rattle.abstract_debugger.specs.Plan.Plan.{take, on_path, see, change, say, stop}
 use Rattle.abstract_debugger.specs.Plan.PlanEnd.{Done, NoHalt, NoAck}
 use Rattle.abstract_debugger.specs.Slots.{any_hit, first_free, hits_of, is_free, slots_at, trigger_has_hit, use_of}
 use Rattle.abstract_debugger.specs.Slots.Use.{Armed, Unused}
@@ -182,17 +182,21 @@ abbrev pub by_store : Result ⊤ MemFault → (faulted stored : Plan) → Plan
 by_store (Ok _) faulted stored = stored
 by_store (Err fault) faulted stored = faulted
 
+-- an access on a path, and what follows by the board that it met
+abbrev pub access : Path → (next : Board → Plan) → Plan
+access path next = on_path path (take Access (see next))
+
 -- so many elements from an address on
-unfoldable pub reading : ℕ → Size → ℕ → (next : Plan) → Plan
-reading zero size a next = next
-reading (suc n) size a next = take Access (see (λ b. by_load (loaded b.memory a size) (say (Line.MemoryFault a) next)
-    (λ v. say (Line.Element a size v) (reading n size (a + count_of size) next))))
+unfoldable pub reading : Path → ℕ → Size → ℕ → (next : Plan) → Plan
+reading path zero size a next = next
+reading path (suc n) size a next = access path (λ b. by_load (loaded b.memory a size) (say (Line.MemoryFault a) next)
+    (λ v. say (Line.Element a size v) (reading path n size (a + count_of size) next)))
 
 -- a value stored so many times from an address on; what lies outside memory is refused, and nothing is written
-unfoldable pub writing : ℕ → Size → ℕ → ℕ → (next written : Plan) → Plan
-writing zero size a v next written = written
-writing (suc n) size a v next written = take Access (see (λ b. by_store (store_answer b.memory a size) (say (Line.MemoryFault a) next)
-    (change (WriteMem a (count_of size) v) (writing n size (a + count_of size) v next written))))
+unfoldable pub writing : Path → ℕ → Size → ℕ → ℕ → (next written : Plan) → Plan
+writing path zero size a v next written = written
+writing path (suc n) size a v next written = access path (λ b. by_store (store_answer b.memory a size) (say (Line.MemoryFault a) next)
+    (change (WriteMem a (count_of size) v) (writing path n size (a + count_of size) v next written)))
 
 abbrev pub row_bytes : ℕ
 row_bytes = 16
@@ -203,14 +207,14 @@ saying_row first [] next = next
 saying_row first (byte ∷ bytes) next = say (Line.Row first (byte ∷ bytes)) next
 
 -- so many bytes, sixteen to a row, behind those of the row that begins at `first`
-unfoldable pub dumping : ℕ → ℕ → List ℕ → (next : Plan) → Plan
-dumping zero first bytes next = saying_row first bytes next
-dumping (suc n) first bytes next =
-    take Access (see (λ b. by_load (loaded b.memory (first + length bytes) B1)
+unfoldable pub dumping : Path → ℕ → ℕ → List ℕ → (next : Plan) → Plan
+dumping path zero first bytes next = saying_row first bytes next
+dumping path (suc n) first bytes next =
+    access path (λ b. by_load (loaded b.memory (first + length bytes) B1)
     (saying_row first bytes (say (Line.MemoryFault (first + length bytes)) next))
     (λ v. if length bytes + 1 == row_bytes
-    then say (Line.Row first (bytes ++ v ∷ [])) (dumping n (first + row_bytes) [] next)
-    else dumping n first (bytes ++ v ∷ []) next)))
+    then say (Line.Row first (bytes ++ v ∷ [])) (dumping path n (first + row_bytes) [] next)
+    else dumping path n first (bytes ++ v ∷ []) next))
 
 -- ---- slots
 
@@ -259,10 +263,10 @@ act (command.Reg r) s next = at_halted s.hart (next s) (see (λ b. say (register
 act (command.SetReg r v) s next =
     at_halted s.hart (next s) (if csr_read_only r.0 then say (Line.RegisterRefused r.0) (next s)
     else change (WriteReg s.hart r.0 v) (see (λ b. say (register_line s.hart b r.0) (next s))))
-act (command.Read size a count) s next = at_path s (next s) (at_aligned a size (next s) (reading count size a (next s)))
+act (command.Read size a count) s next = at_path s (next s) (at_aligned a size (next s) (reading s.path count size a (next s)))
 act (command.Write size a v count) s next =
-    at_path s (next s) (at_aligned a size (next s) (writing count size a v (next s) (say (Line.Wrote count) (next s))))
-act (command.Dump a count) s next = at_path s (next s) (dumping count a [] (next s))
+    at_path s (next s) (at_aligned a size (next s) (writing s.path count size a v (next s) (say (Line.Wrote count) (next s))))
+act (command.Dump a count) s next = at_path s (next s) (dumping s.path count a [] (next s))
 act (command.Via path) s next = say (Line.Via path) (next (record s { path = path }))
 act (command.Break a) s next = at_halted s.hart (next s) (arming s.hart (Break a) (next s))
 act (command.Watch kind a) s next = at_halted s.hart (next s) (arming s.hart (Watch kind a) (next s))

@@ -17,7 +17,7 @@ use Rattle.abstract_debugger.specs.Own as entries
 use Rattle.abstract_debugger.specs.Own.{lived}
 use Rattle.abstract_debugger.specs.Plan.{Change, Plan, hart_over, changed_board}
 use Rattle.abstract_debugger.specs.Plan.Change.{WriteReg, WriteMem, ArmSlot, FreeSlot, StepOver, StepDone, EbreakHalts}
-use Rattle.abstract_debugger.specs.Plan.Plan.{take, see, change, say, stop}
+use Rattle.abstract_debugger.specs.Plan.Plan.{take, on_path, see, change, say, stop}
 use Rattle.abstract_debugger.specs.Trace.{Note, Past, trace_of}
 use Rattle.abstract_debugger.specs.Transcript.{World, replay, start, trace, transcript}
 use Rattle.abstract_debugger.specs.Transcript.End.{Open, Astray}
@@ -85,6 +85,7 @@ TurnsKeepOn = (plan : Plan) (w : World) (harts : List ℕ) → (replay plan w (t
 -- no change, up to the next point or the end
 abbrev pub Quiet : Plan → Type 0
 Quiet (take point next) = Unit {0}
+Quiet (on_path path next) = Quiet next
 Quiet (see next) = (b : Board) → Quiet (next b)
 Quiet (change what next) = ⊥
 Quiet (say line next) = Quiet next
@@ -97,6 +98,7 @@ QuietBoards = (plan : Plan) (w : World) (harts : List ℕ) → Quiet plan → (r
 -- what follows any line is quiet
 abbrev pub SaysQuietly : Plan → Type 0
 SaysQuietly (take point next) = SaysQuietly next
+SaysQuietly (on_path path next) = SaysQuietly next
 SaysQuietly (see next) = (b : Board) → SaysQuietly (next b)
 SaysQuietly (change what next) = SaysQuietly next
 SaysQuietly (say line next) = Quiet next × SaysQuietly next
@@ -149,6 +151,7 @@ ChangesMayWait = (c : Change) (h : ℕ) (hart : Hart) (b : Board) (harts : List 
 -- up to the next point a plan changes hart h alone, and of what a program sees at most one register: that of this number, where there is one
 abbrev pub WritesOnly : ℕ → Option ℕ → Plan → Type 0
 WritesOnly h n (take point next) = Unit {0}
+WritesOnly h n (on_path path next) = WritesOnly h n next
 WritesOnly h n (see next) = (b : Board) → WritesOnly h n (next b)
 WritesOnly h n (change (WriteReg j number value) next) = (j ≡ h) × (n ≡ Some number) × WritesOnly h None next
 WritesOnly h n (change (WriteMem address count value) next) = ⊥

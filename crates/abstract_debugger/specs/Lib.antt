@@ -1,6 +1,7 @@
 pub mod Trace
 pub mod Own
 pub mod Slots
+pub mod SlotUses
 pub mod Lines
 pub mod Plan
 pub mod Debugger

@@ -6,6 +6,7 @@ use Rattle.rv_model.specs.declared.cause.Cause.TheVariants as cause
 use Rattle.rv_model.specs.Board.{Board, DebugPart, Hart}
 use Rattle.rv_model.specs.Registers.{pc_number, reg_written}
 use Rattle.rv_model.specs.Undebugged.{SetMem, SetReg, with_bytes}
+use Rattle.debug_model.specs.declared.command.Path.{Path}
 use Rattle.debug_model.specs.declared.point.Point.{Point}
 use Rattle.abstract_debugger.specs.Lines.{Line}
 use Rattle.abstract_debugger.specs.Slots.{armed_for, freed, hits_forgotten, over, slots_back, slots_held, with_slots}
@@ -30,6 +31,7 @@ pub data PlanEnd : Type 0 where
 
 pub data Plan : Type 0 where
   take : (point : Point) → (next : Plan) → Plan  -- the turns that stand in front, then this point
+  on_path : (path : Path) → (next : Plan) → Plan  -- the access that comes next is made on this path; a journal doesn't tell the two apart
   see : (next : Board → Plan) → Plan  -- goes on by the board as it is behind the last point taken
   change : (what : Change) → (next : Plan) → Plan
   say : (line : Line) → (next : Plan) → Plan

@@ -11,7 +11,7 @@ use Rattle.abstract_debugger.specs.Debugger.{session}
 use Rattle.abstract_debugger.specs.Lines.{Line, any_error}
 use Rattle.abstract_debugger.specs.Own as entries
 use Rattle.abstract_debugger.specs.Plan.{Change, Plan, PlanEnd, changed_board, changed_past}
-use Rattle.abstract_debugger.specs.Plan.Plan.{take, see, change, say, stop}
+use Rattle.abstract_debugger.specs.Plan.Plan.{take, on_path, see, change, say, stop}
 use Rattle.abstract_debugger.specs.Plan.PlanEnd.{Done}
 use Rattle.abstract_debugger.specs.Trace.{Note, Past, noted, trace_of}
 
@@ -87,6 +87,7 @@ finish end w (q ∷ journal) = record { world = w; end = Astray }
 
 unfoldable pub replay : Plan → World → List Point → Outcome
 replay (take p next) w journal = taking p (replay next) w journal
+replay (on_path path next) w journal = replay next w journal
 replay (see next) w journal = replay (next w.board) w journal
 replay (change what next) w journal = replay next (changed what w) journal
 replay (say line next) w journal = replay next (said line w) journal

@@ -17,11 +17,13 @@ same_open bench next unread kept same opens = subst (λ b. IsOpen (far_of b kept
   by None opens = tt
   by (Some l) opens = opens
 
-still_open : (bench : Option Live) (unread kept bytes : List ℕ) → IsOpen (far_of bench unread) → IsTrue (are_open bytes) → IsOpen (far_of (feed_of bench bytes) kept)
+still_open : (bench : Option Live) (unread kept bytes : List ℕ) → IsOpen (far_of bench unread) → IsTrue (are_open bytes)
+    → IsOpen (far_of (feed_of bench bytes) kept)
 still_open None unread kept bytes opens signs = tt
 still_open (Some l) unread kept bytes opens signs = feed_stays_open bytes l opens signs
 
-pub fed_open_still : (bench next : Option Live) (unread kept bytes : List ℕ) → next ≡ feed_of bench bytes → IsOpen (far_of bench unread) → IsTrue (are_open bytes) → IsOpen (far_of next kept)
+pub fed_open_still : (bench next : Option Live) (unread kept bytes : List ℕ) → next ≡ feed_of bench bytes → IsOpen (far_of bench unread)
+    → IsTrue (are_open bytes) → IsOpen (far_of next kept)
 fed_open_still bench next unread kept bytes fed opens signs = subst (λ b. IsOpen (far_of b kept)) (sym fed) (still_open bench unread kept bytes opens signs)
 
 front_signs : (bytes front back : List ℕ) → bytes ≡ front ++ back → IsTrue (are_open bytes) → IsTrue (are_open front)
@@ -29,8 +31,10 @@ unfolding are_open
 front_signs bytes front back cut signs =
     (and_parts (are_open front) (are_open back) (sym (list_all-append (λ b. stays_open (sign_of b)) front back) ∙ ap are_open (sym cut) ∙ signs)).0
 
-pub front_open : (bench next : Option Live) (unread kept bytes : List ℕ) → FedFront bytes bench next unread kept → IsOpen (far_of bench unread) → IsTrue (are_open bytes) → IsOpen (far_of next kept)
-front_open bench next unread kept bytes fed opens signs = fed_open_still bench next unread kept fed.front fed.fed opens (front_signs bytes fed.front fed.back fed.cut signs)
+pub front_open : (bench next : Option Live) (unread kept bytes : List ℕ) → FedFront bytes bench next unread kept → IsOpen (far_of bench unread)
+    → IsTrue (are_open bytes) → IsOpen (far_of next kept)
+front_open bench next unread kept bytes fed opens signs =
+    fed_open_still bench next unread kept fed.front fed.fed opens (front_signs bytes fed.front fed.back fed.cut signs)
 
 none_open : (o : Option ChipEnd) → o ≡ None → StaysOpen o
 none_open o none = subst StaysOpen (sym none) tt
@@ -39,6 +43,7 @@ pub live_open : (bench : Option Live) (unread : List ℕ) → IfSome bench (λ l
 live_open None unread live = tt
 live_open (Some l) unread live = none_open l.ended live
 
-pub put_open : (listed : Bool) (bench next : Option Live) (unread kept bytes : List ℕ) → next ≡ (if listed then bench else feed_of bench bytes) → IsOpen (far_of bench unread) → IsTrue (are_open bytes) → IsOpen (far_of next kept)
+pub put_open : (listed : Bool) (bench next : Option Live) (unread kept bytes : List ℕ) → next ≡ (if listed then bench else feed_of bench bytes)
+    → IsOpen (far_of bench unread) → IsTrue (are_open bytes) → IsOpen (far_of next kept)
 put_open true bench next unread kept bytes is opens signs = same_open bench next unread kept is opens
 put_open false bench next unread kept bytes is opens signs = fed_open_still bench next unread kept bytes is opens signs

@@ -17,18 +17,26 @@ unfolding feed said
 none_sent None = refl
 none_sent (Some f) = ap (λ u. Some (record f { unread = u })) (sym (append-nil f.unread))
 
-pub nothing_put : (at : End) (opening : Option Call) (near : Bool) (given : ℕ) (bench : Option Live) (unread bytes : List ℕ) → is_open at (net_state opening near given bench unread) ≡ true
+pub nothing_put : (at : End) (opening : Option Call) (near : Bool) (given : ℕ) (bench : Option Live) (unread bytes : List ℕ)
+    → is_open at (net_state opening near given bench unread) ≡ true
     → PutFront at bytes (net_state opening near given bench unread) (net_state opening near given bench unread)
 nothing_put ends.Near opening near given bench unread bytes opens =
-    record { front = []; back = bytes; cut = refl; is = ap (λ c. record (net_state opening near given bench unread) { chip = c }) (none_sent (told_behind near (far_of bench unread))) }
+    record {
+      front = [];
+      back = bytes;
+      cut = refl;
+      is = ap (λ c. record (net_state opening near given bench unread) { chip = c }) (none_sent (told_behind near (far_of bench unread)));
+    }
 nothing_put ends.Far opening near given bench unread bytes opens = absurd (let none : ⊥ = cc in none)
 
-far_sent : (near : Bool) (bench : Option Live) (bytes unread : List ℕ) → told_behind near (far_of (feed_of bench bytes) (unread ++ said_of bench bytes)) ≡ option_map (sent bytes) (told_behind near (far_of bench unread))
+far_sent : (near : Bool) (bench : Option Live) (bytes unread : List ℕ)
+    → told_behind near (far_of (feed_of bench bytes) (unread ++ said_of bench bytes)) ≡ option_map (sent bytes) (told_behind near (far_of bench unread))
 far_sent false bench bytes unread = refl
 far_sent true None bytes unread = refl
 far_sent true (Some l) bytes unread = refl
 
-pub all_put : (at : End) (opening : Option Call) (near : Bool) (given : ℕ) (bench new : Option Live) (unread kept bytes : List ℕ) → is_open at (net_state opening near given bench unread) ≡ true → new ≡ feed_of bench bytes → kept ≡ unread ++ said_of bench bytes
+pub all_put : (at : End) (opening : Option Call) (near : Bool) (given : ℕ) (bench new : Option Live) (unread kept bytes : List ℕ)
+    → is_open at (net_state opening near given bench unread) ≡ true → new ≡ feed_of bench bytes → kept ≡ unread ++ said_of bench bytes
     → PutFront at bytes (net_state opening near given bench unread) (net_state opening near given new kept)
 all_put ends.Near opening near given bench new unread kept bytes opens fed said =
     record {
@@ -40,11 +48,13 @@ all_put ends.Near opening near given bench new unread kept bytes opens fed said 
     }
 all_put ends.Far opening near given bench new unread kept bytes opens fed said = absurd (let none : ⊥ = cc in none)
 
-near_lives : (near : Bool) (bench new : Option Live) (unread kept bytes : List ℕ) → IsOpen (told_behind near (far_of bench unread)) → new ≡ feed_of bench bytes → limit_met new ≡ false → IsTrue (are_open bytes) → IsLive (told_behind near (far_of new kept))
+near_lives : (near : Bool) (bench new : Option Live) (unread kept bytes : List ℕ) → IsOpen (told_behind near (far_of bench unread)) → new ≡ feed_of bench bytes
+    → limit_met new ≡ false → IsTrue (are_open bytes) → IsLive (told_behind near (far_of new kept))
 near_lives false bench new unread kept bytes opens fed below signs = tt
 near_lives true bench new unread kept bytes opens fed below signs = lives_on bench new unread kept bytes fed opens below signs
 
-pub lives_behind : (at : End) (opening : Option Call) (near : Bool) (given : ℕ) (bench new : Option Live) (unread kept bytes : List ℕ) → MayPut at bytes (net_state opening near given bench unread) → new ≡ feed_of bench bytes → limit_met new ≡ false
+pub lives_behind : (at : End) (opening : Option Call) (near : Bool) (given : ℕ) (bench new : Option Live) (unread kept bytes : List ℕ)
+    → MayPut at bytes (net_state opening near given bench unread) → new ≡ feed_of bench bytes → limit_met new ≡ false
     → LivesOn at bytes (net_state opening near given new kept)
 lives_behind ends.Near opening near given bench new unread kept bytes may fed below = near_lives near bench new unread kept bytes may.stays_open fed below
 lives_behind ends.Far opening near given bench new unread kept bytes may fed below = tt

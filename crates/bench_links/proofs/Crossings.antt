@@ -1,9 +1,53 @@
 -- What comes out of the ends of a joined net, piece after piece.
-use Rattle.std.proofs.Common.{◌≡◌, ℕ, ◌+◌, ◌<◌, ◌≤◌, List, length, take, true, Option, None, Some, IfSome, IsTrue, is_none, is_some, not, ◌&&◌, ◌||◌, option_map, refl, sym, ap, subst, ◌∙◌, add_assoc, add-zero, arith}
+use Rattle.std.proofs.Common.{
+  ◌≡◌,
+  ℕ,
+  ◌+◌,
+  ◌<◌,
+  ◌≤◌,
+  List,
+  length,
+  take,
+  true,
+  Option,
+  None,
+  Some,
+  IfSome,
+  IsTrue,
+  is_none,
+  is_some,
+  not,
+  ◌&&◌,
+  ◌||◌,
+  option_map,
+  refl,
+  sym,
+  ap,
+  subst,
+  ◌∙◌,
+  add_assoc,
+  add-zero,
+  arith,
+}
 use Rattle.std.proofs.lemmas.Bool.{and_parts}
 use Rattle.std.proofs.lemmas.List.{drop-drop, length-drop}
 use borrow.Rule.Slice.PartMut.{put_mid}
-use Rattle.debug_model.specs.Net.{Exchange, Gives, IsFront, MayPut, MaySend, MayTake, NetState, Pipe, after_take, is_open, read_on, take_far, take_near, without}
+use Rattle.debug_model.specs.Net.{
+  Exchange,
+  Gives,
+  IsFront,
+  MayPut,
+  MaySend,
+  MayTake,
+  NetState,
+  Pipe,
+  after_take,
+  is_open,
+  read_on,
+  take_far,
+  take_near,
+  without,
+}
 use Rattle.debug_model.specs.Told.{Far}
 use Rattle.debug_model.specs.declared.net.End.{End}
 use Rattle.debug_model.specs.declared.net.End.TheVariants as ends
@@ -14,14 +58,16 @@ use Rattle.bench_links.specs.Looped.{Came, Holds, TookSome, is_looped, is_piped,
 
 pub opens : (at : End) (s : NetState) → IsTrue (is_looped s) → is_open at s ≡ true
 opens ends.Near s looped = (and_parts s.near_open (s.far_open && (is_none s.chip && is_piped s)) looped).0
-opens ends.Far s looped = (and_parts s.far_open (is_none s.chip && is_piped s) (and_parts s.near_open (s.far_open && (is_none s.chip && is_piped s)) looped).1).0
+opens ends.Far s looped = (and_parts s.far_open (is_none s.chip && is_piped s)
+    (and_parts s.near_open (s.far_open && (is_none s.chip && is_piped s)) looped).1).0
 
 none_is : (o : Option Far) → is_none o ≡ true → o ≡ None
 none_is None is = refl
 none_is (Some f) is = absurd (let none : ⊥ = cc in none)
 
 no_chip : (s : NetState) → IsTrue (is_looped s) → s.chip ≡ None
-no_chip s looped = none_is s.chip (and_parts (is_none s.chip) (is_piped s) (and_parts s.far_open (is_none s.chip && is_piped s) (and_parts s.near_open (s.far_open && (is_none s.chip && is_piped s)) looped).1).1).0
+no_chip s looped = none_is s.chip (and_parts (is_none s.chip) (is_piped s)
+    (and_parts s.far_open (is_none s.chip && is_piped s) (and_parts s.near_open (s.far_open && (is_none s.chip && is_piped s)) looped).1).1).0
 
 pub may_put : (bytes : List ℕ) (s : NetState) → IsTrue (is_looped s) → MayPut ends.Near bytes s
 may_put bytes s looped = subst (λ o. MaySend bytes o) (sym (no_chip s looped)) (record { most = tt; piece = tt; stays_open = tt; read = tt })
@@ -70,9 +116,11 @@ takes : (at : End) (s : NetState) → s.chip ≡ None → IfSome s.pipe (λ p. 0
 takes ends.Near s none some = record { of_chip = subst (λ o. IfSome o (λ f. 0 < length f.unread)) (sym none) tt; of_pipe = some }
 takes ends.Far s none some = some
 
-pub may_take : (at : End) (n : ℕ) (into : List ℕ) (m : ℕ) (old s : NetState) → Came at n into old s → Holds at m old.pipe → n < m → IsTrue (is_looped s) → MayTake at s
+pub may_take : (at : End) (n : ℕ) (into : List ℕ) (m : ℕ) (old s : NetState) → Came at n into old s → Holds at m old.pipe → n < m → IsTrue (is_looped s)
+    → MayTake at s
 may_take at n into m old s came holds below looped =
-    takes at s (no_chip s looped) (subst (λ o. IfSome o (λ p. 0 < length (unread_at at p))) (sym (ap (λ x. x.pipe) came.is ∙ pipe_after at n old)) (left at n m old.pipe holds below))
+    takes at s (no_chip s looped) (subst (λ o. IfSome o (λ p. 0 < length (unread_at at p))) (sym (ap (λ x. x.pipe) came.is ∙ pipe_after at n old))
+    (left at n m old.pipe holds below))
 
 same_far : (told : Option Far) → told ≡ option_map (read_on 0) told
 same_far None = refl
@@ -92,7 +140,8 @@ nothing_taken ends.Near s =
     ap (λ g. record s { near_given = g }) (sym (add-zero s.near_given))
     ∙ ap (λ c. record s { near_given = s.near_given + 0; chip = c }) (same_far s.chip)
     ∙ ap (λ e. record s { near_given = s.near_given + 0; chip = option_map (read_on 0) s.chip; script = e }) (same_script s.script)
-    ∙ ap (λ p. record s { near_given = s.near_given + 0; chip = option_map (read_on 0) s.chip; script = option_map (without 0) s.script; pipe = p }) (same_pipe ends.Near s.pipe)
+    ∙ ap (λ p. record s { near_given = s.near_given + 0; chip = option_map (read_on 0) s.chip; script = option_map (without 0) s.script; pipe = p })
+    (same_pipe ends.Near s.pipe)
 nothing_taken ends.Far s =
     ap (λ g. record s { far_given = g }) (sym (add-zero s.far_given))
     ∙ ap (λ p. record s { far_given = s.far_given + 0; pipe = p }) (same_pipe ends.Far s.pipe)
@@ -126,7 +175,8 @@ given_front : (at : End) (n : ℕ) (piece : List ℕ) (s : NetState) → Gives a
 given_front ends.Near n piece s gives = fronts n piece s.pipe gives.of_pipe
 given_front ends.Far n piece s gives = far_fronts n piece s.pipe gives
 
-pipe_more : (at : End) (a k n : ℕ) (told : Option Pipe) (into piece : List ℕ) → IfSome told (λ p. take a (unread_at at p) ≡ take a into) → IfSome (option_map (taken_at at a) told) (λ p. IsFront n piece (unread_at at p))
+pipe_more : (at : End) (a k n : ℕ) (told : Option Pipe) (into piece : List ℕ) → IfSome told (λ p. take a (unread_at at p) ≡ take a into)
+    → IfSome (option_map (taken_at at a) told) (λ p. IsFront n piece (unread_at at p))
     → a ≤ length into → n ≤ length piece → IfSome told (λ p. take (a + n) (unread_at at p) ≡ take (a + n) (put_mid a k into piece))
 pipe_more at a k n None into piece front next within most = tt
 pipe_more ends.Near a k n (Some p) into piece front next within most = front_more a k n p.near into piece front next within most
@@ -136,17 +186,20 @@ pipe_more ends.Far a k n (Some p) into piece front next within most = front_more
 pub took_none : (at : End) (a most : ℕ) (into : List ℕ) (old mid new : NetState) → Came at a into old mid → new ≡ mid → a ≤ most → TookSome at most old new
 took_none at a most into old mid new came same within = record { count = a; few = within; is = same ∙ came.is }
 
-pub took_no_more : (at : End) (a most : ℕ) (into : List ℕ) (old mid new : NetState) → Came at a into old mid → new ≡ after_take at 0 mid → a ≤ most → TookSome at most old new
+pub took_no_more : (at : End) (a most : ℕ) (into : List ℕ) (old mid new : NetState) → Came at a into old mid → new ≡ after_take at 0 mid → a ≤ most
+    → TookSome at most old new
 took_no_more at a most into old mid new came is within = took_none at a most into old mid new came (is ∙ sym (nothing_taken at mid)) within
 
 pub took_nothing : (at : End) (most : ℕ) (s : NetState) → TookSome at most s s
 took_nothing at most s = record { count = 0; few = omega arith; is = nothing_taken at s }
 
 -- one piece more
-pub came_more : (at : End) (a k n : ℕ) (into piece : List ℕ) (old mid new : NetState) → Came at a into old mid → Gives at n piece mid → new ≡ after_take at n mid → a ≤ length into → n ≤ length piece
+pub came_more : (at : End) (a k n : ℕ) (into piece : List ℕ) (old mid new : NetState) → Came at a into old mid → Gives at n piece mid
+    → new ≡ after_take at n mid → a ≤ length into → n ≤ length piece
     → Came at (a + n) (put_mid a k into piece) old new
 came_more at a k n into piece old mid new came gives is within most =
-    let next : IfSome (option_map (taken_at at a) old.pipe) (λ p. IsFront n piece (unread_at at p)) = subst (λ o. IfSome o (λ p. IsFront n piece (unread_at at p))) (ap (λ s. s.pipe) came.is ∙ pipe_after at a old) (given_front at n piece mid gives) in
+    let next : IfSome (option_map (taken_at at a) old.pipe) (λ p. IsFront n piece (unread_at at p)) =
+    subst (λ o. IfSome o (λ p. IsFront n piece (unread_at at p))) (ap (λ s. s.pipe) came.is ∙ pipe_after at a old) (given_front at n piece mid gives) in
     record {
       is = is ∙ ap (after_take at n) came.is ∙ after_twice at a n old;
       of_pipe = pipe_more at a k n old.pipe into piece came.of_pipe next within most;

@@ -1,5 +1,33 @@
 -- What crosses a joined net whole: bytes to the chip, and its answers back.
-use Rattle.std.proofs.Common.{◌≡◌, ◌≢◌, ℕ, ◌≤◌, List, [], ◌++◌, length, take, drop, Option, None, Some, IfSome, IsTrue, is_none, is_some, not, ◌&&◌, ◌||◌, option_map, refl, sym, ap, subst, ◌∙◌, arith}
+use Rattle.std.proofs.Common.{
+  ◌≡◌,
+  ◌≢◌,
+  ℕ,
+  ◌≤◌,
+  List,
+  [],
+  ◌++◌,
+  length,
+  take,
+  drop,
+  Option,
+  None,
+  Some,
+  IfSome,
+  IsTrue,
+  is_none,
+  is_some,
+  not,
+  ◌&&◌,
+  ◌||◌,
+  option_map,
+  refl,
+  sym,
+  ap,
+  subst,
+  ◌∙◌,
+  arith,
+}
 use Rattle.std.proofs.lemmas.List.{append-nil, take_all}
 use Rattle.std.proofs.Math.Seq.{drop-length, take-length}
 use Rattle.jt_base.proofs.FaultLemmas.{rises_from}
@@ -46,28 +74,35 @@ front_tied at bytes old new put = put_tied at put.front old new put.is
 
 -- ---- to the far end
 
-holds : (bytes came : List ℕ) (told : Option Pipe) → length came ≡ length bytes → IfSome told (λ p. p.far ≡ []) → Holds ends.Far (length came) (option_map (put_near bytes) told)
+holds : (bytes came : List ℕ) (told : Option Pipe) → length came ≡ length bytes → IfSome told (λ p. p.far ≡ [])
+    → Holds ends.Far (length came) (option_map (put_near bytes) told)
 holds bytes came None room empty = tt
 holds bytes came (Some p) room empty = let all : length (p.far ++ bytes) ≡ length bytes = ap (λ l. length (l ++ bytes)) empty in omega (arith, room, all)
 
-pub put_holds : (bytes came : List ℕ) (old mid : NetState) → length came ≡ length bytes → IfSome old.pipe (λ p. p.far ≡ []) → mid ≡ after_put ends.Near bytes old → Holds ends.Far (length came) mid.pipe
+pub put_holds : (bytes came : List ℕ) (old mid : NetState) → length came ≡ length bytes → IfSome old.pipe (λ p. p.far ≡ [])
+    → mid ≡ after_put ends.Near bytes old → Holds ends.Far (length came) mid.pipe
 put_holds bytes came old mid room empty is = subst (λ o. Holds ends.Far (length came) o) (sym (ap (λ s. s.pipe) is)) (holds bytes came old.pipe room empty)
 
 same_front : (bytes came : List ℕ) (told : Option Pipe) → length came ≡ length bytes → IfSome told (λ p. p.far ≡ [])
     → IfSome (option_map (put_near bytes) told) (λ p. take (length came) p.far ≡ take (length came) came) → came ≢ bytes → told ≡ None
 same_front bytes came None room empty front differ = refl
 same_front bytes came (Some p) room empty front differ =
-    let put : take (length came) (p.far ++ bytes) ≡ bytes = ap (λ l. take (length came) (l ++ bytes)) empty ∙ take_all (length came) bytes (omega (arith, room)) in
+    let put : take (length came) (p.far ++ bytes) ≡ bytes = ap (λ l. take (length came) (l ++ bytes)) empty
+    ∙ take_all (length came) bytes (omega (arith, room)) in
     absurd (differ (sym (sym put ∙ front ∙ take-length came)))
 
 -- only where no pipe is told does something else come
-pub differ_untold : (bytes came : List ℕ) (old mid new : NetState) → length came ≡ length bytes → IfSome old.pipe (λ p. p.far ≡ []) → mid ≡ after_put ends.Near bytes old
+pub differ_untold : (bytes came : List ℕ) (old mid new : NetState) → length came ≡ length bytes → IfSome old.pipe (λ p. p.far ≡ [])
+    → mid ≡ after_put ends.Near bytes old
     → Came ends.Far (length came) came mid new → came ≢ bytes → old.pipe ≡ None
 differ_untold bytes came old mid new room empty is whole differ =
-    same_front bytes came old.pipe room empty (subst (λ o. IfSome o (λ p. take (length came) p.far ≡ take (length came) came)) (ap (λ s. s.pipe) is) whole.of_pipe) differ
+    same_front bytes came old.pipe room empty (subst (λ o. IfSome o (λ p. take (length came) p.far ≡ take (length came) came))
+    (ap (λ s. s.pipe) is) whole.of_pipe) differ
 
-pub crossed_whole : (bytes came : List ℕ) (old mid new : NetState) → length came ≡ length bytes → mid ≡ after_put ends.Near bytes old → Came ends.Far (length came) came mid new → new ≡ crossed bytes old
-crossed_whole bytes came old mid new room is whole = whole.is ∙ ap (λ s. after_take ends.Far (length came) s) is ∙ ap (λ n. after_take ends.Far n (after_put ends.Near bytes old)) room
+pub crossed_whole : (bytes came : List ℕ) (old mid new : NetState) → length came ≡ length bytes → mid ≡ after_put ends.Near bytes old
+    → Came ends.Far (length came) came mid new → new ≡ crossed bytes old
+crossed_whole bytes came old mid new room is whole = whole.is ∙ ap (λ s. after_take ends.Far (length came) s) is
+    ∙ ap (λ n. after_take ends.Far n (after_put ends.Near bytes old)) room
 
 -- ---- what is left on the net behind a fault
 
@@ -93,7 +128,8 @@ none_crossed bytes old new put = record {
 }
 
 -- the take did
-pub some_crossed : (bytes came : List ℕ) (old mid new : NetState) → mid ≡ after_put ends.Near bytes old → TookSome ends.Far (length came) mid new → length came ≡ length bytes → CrossedFront bytes [] old new
+pub some_crossed : (bytes came : List ℕ) (old mid new : NetState) → mid ≡ after_put ends.Near bytes old → TookSome ends.Far (length came) mid new
+    → length came ≡ length bytes → CrossedFront bytes [] old new
 some_crossed bytes came old mid new is took room = record {
   front = bytes;
   back = [];
@@ -107,7 +143,8 @@ some_crossed bytes came old mid new is took room = record {
 }
 
 -- other bytes came
-pub others_crossed : (bytes came : List ℕ) (old mid new : NetState) → mid ≡ after_put ends.Near bytes old → Came ends.Far (length came) came mid new → length came ≡ length bytes → CrossedFront bytes [] old new
+pub others_crossed : (bytes came : List ℕ) (old mid new : NetState) → mid ≡ after_put ends.Near bytes old → Came ends.Far (length came) came mid new
+    → length came ≡ length bytes → CrossedFront bytes [] old new
 others_crossed bytes came old mid new is whole room =
     some_crossed bytes came old mid new is (record { count = length came; few = omega arith; is = whole.is }) room
 
@@ -180,7 +217,8 @@ untouched bytes kept s = record {
 rises_same : (e k e' : ℕ) → k ≡ e → Rises k e' → Rises e e'
 rises_same e k e' same rises = subst (λ n. Rises n e') same rises
 
-pub lost_later : (why : Lost) (told : Option Pipe) (bench : Option Live) (f m f' e k e' : ℕ) → f ≤ m → m ≤ f' → k ≡ e → TakeLost m f' k e' why → LostBy told f f' e e' bench why
+pub lost_later : (why : Lost) (told : Option Pipe) (bench : Option Live) (f m f' e k e' : ℕ) → f ≤ m → m ≤ f' → k ≡ e → TakeLost m f' k e' why
+    → LostBy told f f' e e' bench why
 lost_later lost.Failed told bench f m f' e k e' more still same cause = rises_from f m f' more still cause
 lost_later lost.Ended told bench f m f' e k e' more still same cause = rises_same e k e' same cause
 lost_later lost.Differs told bench f m f' e k e' more still same cause = absurd cause
@@ -206,9 +244,17 @@ nothing_said None = refl
 nothing_said (Some l) = refl
 
 pub none_fed : (bytes unread : List ℕ) (bench : Option Live) → FedFront bytes bench bench unread unread
-none_fed bytes unread bench = record { front = []; back = bytes; cut = refl; fed = nothing_fed bench; said = sym (append-nil unread) ∙ ap (λ l. unread ++ l) (sym (nothing_said bench)) }
+none_fed bytes unread bench = record {
+  front = [];
+  back = bytes;
+  cut = refl;
+  fed = nothing_fed bench;
+  said = sym (append-nil unread)
+      ∙ ap (λ l. unread ++ l) (sym (nothing_said bench));
+}
 
-pub all_fed : (bytes came unread kept : List ℕ) (old new : Option Live) → came ≡ bytes → new ≡ feed_of old came → kept ≡ unread ++ said_of old came → FedFront bytes old new unread kept
+pub all_fed : (bytes came unread kept : List ℕ) (old new : Option Live) → came ≡ bytes → new ≡ feed_of old came → kept ≡ unread ++ said_of old came
+    → FedFront bytes old new unread kept
 all_fed bytes came unread kept old new same fed said =
     record { front = bytes; back = []; cut = sym (append-nil bytes); fed = fed ∙ ap (feed_of old) same; said = said ∙ ap (λ l. unread ++ said_of old l) same }
 
@@ -220,7 +266,8 @@ stepped bytes answers unread None none step = tt
 stepped bytes answers unread (Some p) none step =
     (ap (λ l. l ++ answers) (step.0 ∙ none), ap (λ l. drop (length bytes) (l ++ bytes)) step.1 ∙ drop-length bytes)
 
-pub still_in_step : (bytes answers unread : List ℕ) (old new : NetState) → unread ≡ [] → InStep unread old.pipe → new ≡ exchanged bytes answers old → InStep answers new.pipe
+pub still_in_step : (bytes answers unread : List ℕ) (old new : NetState) → unread ≡ [] → InStep unread old.pipe → new ≡ exchanged bytes answers old
+    → InStep answers new.pipe
 still_in_step bytes answers unread old new none step is = subst (InStep answers) (sym (ap (λ s. s.pipe) is)) (stepped bytes answers unread old.pipe none step)
 
 far_empty : (unread : List ℕ) (told : Option Pipe) → InStep unread told → IfSome told (λ p. p.far ≡ [])

@@ -1,5 +1,37 @@
 -- A chip as it was loaded, and the one proof of it that a net keeps.
-use Rattle.std.proofs.Common.{◌≡◌, ◌⊎◌, ℕ, zero, suc, ◌+◌, ◌<◌, ◌≤◌, List, [], ◌∷◌, ◌++◌, length, drop, replicate, All, Option, None, Some, IfSome, slice_get, unwrap_or, refl, sym, ap, subst, ◌∙◌, append_assoc, arith, inl, inr}
+use Rattle.std.proofs.Common.{
+  ◌≡◌,
+  ◌⊎◌,
+  ℕ,
+  zero,
+  suc,
+  ◌+◌,
+  ◌<◌,
+  ◌≤◌,
+  List,
+  [],
+  ◌∷◌,
+  ◌++◌,
+  length,
+  drop,
+  replicate,
+  All,
+  Option,
+  None,
+  Some,
+  IfSome,
+  slice_get,
+  unwrap_or,
+  refl,
+  sym,
+  ap,
+  subst,
+  ◌∙◌,
+  append_assoc,
+  arith,
+  inl,
+  inr,
+}
 use Rattle.std.proofs.lemmas.List.{append-nil, drop_all, length-append, length-drop, length-replicate}
 use Rattle.std.proofs.lemmas.List.Elements.{All-append, All-drop, All-replicate}
 use Rattle.std.specs.FinMap.{len}
@@ -10,7 +42,8 @@ use Rattle.rv_model.specs.Memory.{Bytes, IsRamSize, map_of, ram_base}
 use Rattle.rv_model.proofs.MapLemmas.{get-map_of}
 use Rattle.rv_mem.proofs.ImageLemmas.{len-map_of, with_image-map_of}
 use Rattle.debug_model.specs.Chip.{Live}
-use Rattle.debug_model.specs.Loaded.{AsLoaded, Fits, RightHarts, live, loaded_board, loaded_chip, loaded_memory, reset_harts}
+use Rattle.debug_model.proofs.LoadedHarts.{one_hart_more}
+use Rattle.debug_model.specs.Loaded.{AsLoaded, Fits, RightHarts, live, loaded_board, loaded_chip, loaded_harts, loaded_memory}
 use Rattle.debug_model.specs.Told.{IsAsLoaded}
 use Rattle.chip_core.specs.Feeds.{far_of}
 use Rattle.bench_links.specs.Fresh.{IsFresh, IsJustLoaded, bytes_at, image_of, reloaded, start_by, start_of}
@@ -43,7 +76,13 @@ whole image ram = image ++ drop (length image) (replicate ram 0)
 
 length_whole : (image : List ℕ) (ram : ℕ) → Fits image ram → length (whole image ram) ≡ ram
 length_whole image ram fits =
-    omega (arith, fits, length-append image (drop (length image) (replicate ram 0)), length-drop {A = ℕ} (length image) (replicate ram 0), length-replicate {A = ℕ} ram 0)
+    omega (
+      arith,
+      fits,
+      length-append image (drop (length image) (replicate ram 0)),
+      length-drop {A = ℕ} (length image) (replicate ram 0),
+      length-replicate {A = ℕ} ram 0,
+    )
 
 memory_is : (image : List ℕ) (ram : ℕ) → (loaded_memory image ram).bytes ≡ map_of (whole image ram)
 memory_is image ram = with_image-map_of (replicate ram 0) image
@@ -68,11 +107,11 @@ memory_again image ram fits =
 
 -- ---- harts
 
-length_harts : (harts : ℕ) (halted : Option Cause) → length (reset_harts harts halted) ≡ harts
+length_harts : (harts : ℕ) (halted : Option Cause) → length (loaded_harts harts halted) ≡ harts
 length_harts zero halted = refl
-length_harts (suc n) halted = let more : _ = length-append (reset_harts n halted) (reset_hart n halted ∷ []) in omega (arith, more, length_harts n halted)
+length_harts (suc n) halted = let more : _ = length-append (loaded_harts n halted) (reset_hart n halted ∷ []) in omega (arith, ap length (one_hart_more n halted), more, length_harts n halted)
 
-starts : (harts : ℕ) (halted : Option Cause) → RightHarts harts → start_of (reset_harts harts halted) ≡ start_by halted
+starts : (harts : ℕ) (halted : Option Cause) → RightHarts harts → start_of (loaded_harts harts halted) ≡ start_by halted
 starts zero halted right = absurd (omega (arith, right.some))
 starts (suc zero) halted right = refl
 starts (suc (suc zero)) halted right = refl
@@ -106,7 +145,8 @@ reloaded_is image harts ram halted fits right start =
 
 whole_bytes : (image : List ℕ) (ram : ℕ) → All (λ x. x < 256) image → All (λ x. x < 256) (whole image ram)
 whole_bytes image ram bytes =
-    All-append (λ x. x < 256) image (drop (length image) (replicate ram 0)) bytes (All-drop (λ x. x < 256) (length image) (replicate ram 0) (All-replicate (λ x. x < 256) ram 0 (omega arith)))
+    All-append (λ x. x < 256) image (drop (length image) (replicate ram 0)) bytes
+    (All-drop (λ x. x < 256) (length image) (replicate ram 0) (All-replicate (λ x. x < 256) ram 0 (omega arith)))
 
 just_loaded : (l : Live) → AsLoaded l → IsJustLoaded l
 just_loaded l a =

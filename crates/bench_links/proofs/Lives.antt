@@ -9,7 +9,8 @@ use Rattle.chip_core.specs.Feeds.{far_of, feed_of, is_limit, limit_met}
 use Rattle.chip_core.proofs.Ends.{stays_live}
 
 -- where the limit isn't met behind open signs, nothing has ended the chip
-pub lives_on : (bench new : Option Live) (unread kept bytes : List ℕ) → new ≡ feed_of bench bytes → IsOpen (far_of bench unread) → limit_met new ≡ false → IsTrue (are_open bytes) → IsLive (far_of new kept)
+pub lives_on : (bench new : Option Live) (unread kept bytes : List ℕ) → new ≡ feed_of bench bytes → IsOpen (far_of bench unread) → limit_met new ≡ false
+    → IsTrue (are_open bytes) → IsLive (far_of new kept)
 lives_on bench new unread kept bytes is opens below signs = stays_live bench new unread kept bytes is opens signs below
 
 limit_is : (o : Option ChipEnd) → is_limit o ≡ true → o ≡ Some AtLimit

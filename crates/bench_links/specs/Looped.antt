@@ -1,6 +1,33 @@
 -- A wire that goes through both ends of a joined net to a chip on a bench: over which nets it works, what one call of it does
 -- to the net and to the chip, how it counts what failed, and why it fails. No public standard defines this.
-use Rattle.std.specs.Prelude.{◌≡◌, ◌⊎◌, ℕ, ◌+◌, ◌-◌, ◌^◌, ◌≤◌, ◌&&◌, ◌||◌, true, false, not, min, List, [], ◌∷◌, ◌++◌, length, take, Bool, is_none, is_some, Option, None, Some, IfSome}
+use Rattle.std.specs.Prelude.{
+  ◌≡◌,
+  ◌⊎◌,
+  ℕ,
+  ◌+◌,
+  ◌-◌,
+  ◌^◌,
+  ◌≤◌,
+  ◌&&◌,
+  ◌||◌,
+  true,
+  false,
+  not,
+  min,
+  List,
+  [],
+  ◌∷◌,
+  ◌++◌,
+  length,
+  take,
+  Bool,
+  is_none,
+  is_some,
+  Option,
+  None,
+  Some,
+  IfSome,
+}
 use Rattle.std.specs.Borrow.{GName}
 use Rattle.jt_base.specs.Faults.{Rises}
 use Rattle.debug_model.specs.Chip.{Live}
@@ -132,4 +159,9 @@ IsBlamed tells sound limit differences faults faults' ends ends' =
 
 -- its references to the net and to the bench, those of the net, how the net was opened, of the chip's schedule, and what the net had counted
 abbrev pub loop_ties : GName → GName → List GName → NetState → Option Far → (faults ends : ℕ) → Ties
-loop_ties net bench lenders s far faults ends = record { lenders = net ∷ bench ∷ lenders; net = s.ties; timing = timing_told far; began = Some (record { faults = faults; ends = ends }) }
+loop_ties net bench lenders s far faults ends = record {
+  lenders = net ∷ bench ∷ lenders;
+  net = s.ties;
+  timing = timing_told far;
+  began = Some (record { faults = faults; ends = ends });
+}

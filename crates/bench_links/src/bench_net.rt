@@ -1,5 +1,37 @@
 //! A net that ends at the chip on a bench.
-ghost use Rattle.std.specs.Prelude.{◌≡◌, ◌≢◌, ℕ, ◌+◌, ◌-◌, ◌<◌, ◌≤◌, ◌&&◌, ◌∷◌, ◌++◌, [], List, None, Some, true, false, drop, if◌then◌else◌, is_none, is_ok, length, min, nat_lt, not, take, IfErr, IfOk, IfSome, IsSome, OnErr, OnOk};
+ghost use Rattle.std.specs.Prelude.{
+  ◌≡◌,
+  ◌≢◌,
+  ℕ,
+  ◌+◌,
+  ◌-◌,
+  ◌<◌,
+  ◌≤◌,
+  ◌&&◌,
+  ◌∷◌,
+  ◌++◌,
+  [],
+  List,
+  None,
+  Some,
+  true,
+  false,
+  drop,
+  if◌then◌else◌,
+  is_none,
+  is_ok,
+  length,
+  min,
+  nat_lt,
+  not,
+  take,
+  IfErr,
+  IfOk,
+  IfSome,
+  IsSome,
+  OnErr,
+  OnOk,
+};
 ghost use Rattle.rv_model.specs.Codes.{hart_code};
 ghost use Rattle.rv_model.specs.Memory.{memory_code};
 ghost use Rattle.std.proofs.Props.{props};
@@ -8,7 +40,25 @@ ghost use Rattle.std.specs.Borrow.{GName};
 ghost use Rattle.jt_base.specs.Faults.{Rises, count_after, counted};
 ghost use Rattle.jt_base.specs.FileStore.{is_listed};
 ghost use Rattle.debug_model.specs.Loaded.{AsLoaded};
-ghost use Rattle.debug_model.specs.Net.{Called, CallCause, Gives, IsAccepted, IsConnected, IsJoined, LivesOn, MayPut, MayTake, OpenCause, PutFront, after_put, after_take, faults_after, given, given_most, is_open};
+ghost use Rattle.debug_model.specs.Net.{
+  Called,
+  CallCause,
+  Gives,
+  IsAccepted,
+  IsConnected,
+  IsJoined,
+  LivesOn,
+  MayPut,
+  MayTake,
+  OpenCause,
+  PutFront,
+  after_put,
+  after_take,
+  faults_after,
+  given,
+  given_most,
+  is_open,
+};
 ghost use Rattle.debug_model.specs.Told.{IsAsLoaded};
 ghost use Rattle.debug_model.specs.Wire.{piece_most};
 ghost use Rattle.debug_model.specs.declared.net.Call.TheVariants as calls;
@@ -27,8 +77,8 @@ pub const FAILING_MOST: usize = 8;
 
 /// A net whose `connect` ends at the chip on a bench, which the caller keeps. It tells its chip, and takes no memory.
 ///
-/// Its calls are numbered from 0. Those whose numbers are listed fail and do nothing, and so do `accept` and `join`. A put fails where the chip has met its event limit, in
-/// the call or before, and a take where 2^40 bytes were given; nothing else fails. The count of faults rises by one at each call that fails.
+/// Its calls are numbered from 0. Those whose numbers are listed fail and do nothing, and so do `accept` and `join`. A put fails where the chip has met its
+/// event limit, in the call or before, and a take where 2^40 bytes were given; nothing else fails. The count of faults rises by one at each call that fails.
 #[derive(Drop)]
 pub struct BenchNet<'a, Q: Schedule> {
     bench: &'a mut Bench<Q>,
@@ -68,8 +118,8 @@ fn fail(failed: &mut u64) -> NetFault
 }
 
 impl<'a, Q: Schedule> BenchNet<'a, Q> {
-    /// A net that ends at this bench, which is as it was loaded. Bytes are handed on in pieces of at most the given size, from 1 to 256. The calls whose numbers,
-    /// from 0, are listed fail and do nothing.
+    /// A net that ends at this bench, which is as it was loaded. Bytes are handed on in pieces of at most the given size, from 1 to 256. The calls whose
+    /// numbers, from 0, are listed fail and do nothing.
     #[tactic(auto, using(crate::proofs::FreshChips::fresh))]
     pub fn new(bench: &'a mut Bench<Q>, piece: usize, fail_at: ArrayVec<u32, FAILING_MOST>) -> Self
         requires piece { (1 ≤ piece) × (piece ≤ piece_most) }

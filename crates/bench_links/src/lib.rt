@@ -1,7 +1,7 @@
 //! Links to the chip on a bench that go over a net.
 //!
-//! A `LoopWire` is a wire through both ends of a joined net, with the chip at its far end: each byte crosses the net once and in order, and is compared with what was
-//! put in. A `BenchNet` is a net whose `connect` ends at the chip.
+//! A `LoopWire` is a wire through both ends of a joined net, with the chip at its far end: each byte crosses the net once and in order, and is compared with
+//! what was put in. A `BenchNet` is a net whose `connect` ends at the chip.
 #![tactic(auto)]
 
 mod bench_net;

@@ -39,7 +39,8 @@ pub struct LoopWire<'a, N: Net, Q: Schedule> {
     ghost loaded: { IsSome bench.now },
     ghost in_step: { sound ≡ true → InStep unread.items (N.state net.now).pipe } by { Prim.hlevel props },
     ghost later: { (began.faults ≤ N.fault_count net.now) × (began.ends ≤ N.end_count net.now) },
-    ghost blamed: { IsBlamed (N.state net.now).ties.tells_pipe sound (limit_met bench.now) differences began.faults (N.fault_count net.now) began.ends (N.end_count net.now) } by { Prim.hlevel props },
+    ghost blamed: { IsBlamed (N.state net.now).ties.tells_pipe sound (limit_met bench.now) differences began.faults (N.fault_count net.now) began.ends
+        (N.end_count net.now) } by { Prim.hlevel props },
 }
 
 impl<'a, N: Net, Q: Schedule> LoopWire<'a, N, Q> {
@@ -87,7 +88,8 @@ impl<'a, N: Net, Q: Schedule> Wire for LoopWire<'a, N, Q> {
 
     ghost gives = { net_gives };
 
-    ghost ties = { λ w. loop_ties w.net.ghost_name w.bench.ghost_name (N.lenders w.net.now) (N.state w.net.now) (far_of w.bench.now w.unread.items) w.began.faults w.began.ends };
+    ghost ties = { λ w. loop_ties w.net.ghost_name w.bench.ghost_name (N.lenders w.net.now) (N.state w.net.now)
+        (far_of w.bench.now w.unread.items) w.began.faults w.began.ends };
 
     #[tactic(auto, using(crate::proofs::Loops::read_none, crate::proofs::Loops::sent_whole, crate::proofs::Loops::sent_front, crate::proofs::Loops::fed_ties, crate::proofs::Loops::front_ties, crate::proofs::Loops::kept_ties, crate::proofs::Loops::fault_rises, crate::proofs::Loops::end_rises, crate::proofs::Loops::difference_rises, crate::proofs::Lives::lives_on, crate::proofs::Lives::met_limit, crate::proofs::Exchanges::none_fed, crate::proofs::Exchanges::untouched))]
     fn send(&mut self, bytes: &[u8]) -> Result<(), WireFault>

@@ -12,7 +12,8 @@ performed_counted : (o : Option DmiOp) (w : Works) → w.dtm.flight ≡ o → Is
 performed_counted None w here is = is
 performed_counted (Some op) w here is =
     let before : in_flight w.dtm.flight ≡ 1 = ap in_flight here in
-    let after : in_flight (finished_by w.dtm.flight (operation_result op w.site) w.dtm).flight ≡ 0 = ap (λ o. in_flight (finished_by o (operation_result op w.site) w.dtm).flight) here in
+    let after : in_flight (finished_by w.dtm.flight (operation_result op w.site) w.dtm).flight ≡ 0 =
+    ap (λ o. in_flight (finished_by o (operation_result op w.site) w.dtm).flight) here in
     let total : w.counts.dmi_done + w.counts.dmi_failed + in_flight w.dtm.flight ≤ w.counts.rounds + 0 = is.tally in
     record { tally = omega arith; busy = is.busy; rounds = is.rounds }
 

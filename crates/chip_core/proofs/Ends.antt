@@ -35,7 +35,8 @@ sign_stays b (Some (Reset trst)) c opens = tt
 sign_stays b (Some Quit) c opens = absurd (let none : ⊥ = cc in none)
 sign_stays b None c opens = absurd (let none : ⊥ = cc in none)
 
-taken_stays : (ended end : Option ChipEnd) (next : Chip) (l : Live) → StaysOpen l.ended → StaysOpen end → StaysOpen (unless_ended ended (taken_by end next l.chip) l).ended
+taken_stays : (ended end : Option ChipEnd) (next : Chip) (l : Live) → StaysOpen l.ended → StaysOpen end
+    → StaysOpen (unless_ended ended (taken_by end next l.chip) l).ended
 taken_stays None None next l here there = tt
 taken_stays None (Some end) next l here there = there
 taken_stays (Some ended) end next l here there = here
@@ -45,7 +46,8 @@ unfolding feed
 feed_stays_open [] l here opens = here
 feed_stays_open (b ∷ bs) l here opens =
     let signs : _ = open_first b bs opens in
-    feed_stays_open bs (after l b) (taken_stays l.ended (end_of b (sign_of b) l.chip) (signed (sign_of b) l.chip) l here (sign_stays b (sign_of b) l.chip signs.0)) signs.1
+    feed_stays_open bs (after l b) (taken_stays l.ended (end_of b (sign_of b) l.chip) (signed (sign_of b) l.chip) l here
+    (sign_stays b (sign_of b) l.chip signs.0)) signs.1
 
 not_limit : (o : Option ChipEnd) → StaysOpen o → is_limit o ≡ false → o ≡ None
 not_limit None opens below = refl

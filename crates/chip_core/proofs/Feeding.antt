@@ -39,7 +39,8 @@ moved_at Quitted n place = refl
 moved_at (BadByte b) n place = refl
 moved_at AtLimit n place = refl
 
-moved_placed : (o : Option ChipEnd) (n place : ℕ) (first whole : Fed) → whole ≡ moved_by n first → placed o (n + place) whole ≡ moved_by n (placed o place first)
+moved_placed : (o : Option ChipEnd) (n place : ℕ) (first whole : Fed) → whole ≡ moved_by n first
+    → placed o (n + place) whole ≡ moved_by n (placed o place first)
 moved_placed None n place first whole is = is
 moved_placed (Some e) n place first whole is = moved_at e n place
 
@@ -57,11 +58,13 @@ joined_at Quitted n place second = refl
 joined_at (BadByte b) n place second = refl
 joined_at AtLimit n place second = refl
 
-joined_placed : (o : Option ChipEnd) (n place : ℕ) (whole first second : Fed) → whole ≡ joined n first second → placed o place whole ≡ joined n (placed o place first) second
+joined_placed : (o : Option ChipEnd) (n place : ℕ) (whole first second : Fed) → whole ≡ joined n first second
+    → placed o place whole ≡ joined n (placed o place first) second
 joined_placed None n place whole first second is = is
 joined_placed (Some e) n place whole first second is = joined_at e n place second
 
-fed_append : (place n : ℕ) (l : Live) (xs ys : List ℕ) → n ≡ place + length xs → fed_from place l (xs ++ ys) ≡ joined n (fed_from place l xs) (fed (feed l xs) ys)
+fed_append : (place n : ℕ) (l : Live) (xs ys : List ℕ) → n ≡ place + length xs
+    → fed_from place l (xs ++ ys) ≡ joined n (fed_from place l xs) (fed (feed l xs) ys)
 unfolding fed_from feed
 fed_append place n l [] ys is =
     let same : place ≡ n + 0 = omega arith in
@@ -88,7 +91,8 @@ said_of-append (Some l) xs ys = sym (pieces_join l xs ys).answers
 pub piece_said : (bench new : Option Live) (front back rest xs ys zs : List ℕ) → new ≡ feed_of bench front → ys ≡ xs ++ said_of bench front
     → rest ≡ front ++ back → xs ++ said_of bench rest ≡ zs → ys ++ said_of new back ≡ zs
 piece_said bench new front back rest xs ys zs next answers whole all =
-    ap (λ b. ys ++ said_of b back) next ∙ ap (λ vs. vs ++ said_of (feed_of bench front) back) answers ∙ append_assoc xs (said_of bench front) (said_of (feed_of bench front) back)
+    ap (λ b. ys ++ said_of b back) next ∙ ap (λ vs. vs ++ said_of (feed_of bench front) back) answers
+    ∙ append_assoc xs (said_of bench front) (said_of (feed_of bench front) back)
     ∙ ap (λ vs. xs ++ vs) (said_of-append bench front back ∙ ap (λ bs. said_of bench bs) (sym whole)) ∙ all
 
 pub nothing_fed : (bench : Option Live) (bytes : List ℕ) → length bytes < 1 → feed_of bench bytes ≡ bench

@@ -55,7 +55,8 @@ pub said_next : (l m : Live) (bytes xs ys zs : List ℕ) → 1 ≤ length bytes 
     → xs ++ said l bytes ≡ zs → ys ++ said m (tail bytes) ≡ zs
 said_next l m bytes xs ys zs some next answers all =
     let b : ℕ = get_or bytes 0 0 in
-    ap (λ x. ys ++ said x (tail bytes)) next ∙ ap (λ x. x ++ said (after l b) (tail bytes)) answers ∙ append_assoc xs (answer l b) (said (after l b) (tail bytes))
+    ap (λ x. ys ++ said x (tail bytes)) next ∙ ap (λ x. x ++ said (after l b) (tail bytes)) answers
+    ∙ append_assoc xs (answer l b) (said (after l b) (tail bytes))
     ∙ ap (λ x. xs ++ x) (said_first l bytes some) ∙ all
 
 pub fed_next : (l m : Live) (place : ℕ) (bytes : List ℕ) → 1 ≤ length bytes → m ≡ after l (get_or bytes 0 0) → m.ended ≡ None
@@ -63,7 +64,8 @@ pub fed_next : (l m : Live) (place : ℕ) (bytes : List ℕ) → 1 ≤ length by
 fed_next l m place bytes some next live =
     let b : ℕ = get_or bytes 0 0 in
     let unended : (after l b).ended ≡ None = ap (λ (x : Live). x.ended) (sym next) ∙ live in
-    ap (λ x. fed_from (place + 1) x (tail bytes)) next ∙ ap (λ o. placed o place (fed_from (place + 1) (after l b) (tail bytes))) (sym unended) ∙ fed_first place l bytes some
+    ap (λ x. fed_from (place + 1) x (tail bytes)) next ∙ ap (λ o. placed o place (fed_from (place + 1) (after l b) (tail bytes))) (sym unended)
+    ∙ fed_first place l bytes some
 
 -- a byte that ended the chip
 pub feed_met : (l m : Live) (e : ChipEnd) (bytes : List ℕ) → 1 ≤ length bytes → m ≡ after l (get_or bytes 0 0) → m.ended ≡ Some e → m ≡ feed l bytes

@@ -8,7 +8,8 @@ use Rattle.rv_model.specs.Board.{halted_by_reset, reset_hart, runs}
 use Rattle.rv_model.specs.Image.{ram_size}
 use Rattle.rv_model.specs.Memory.{IsRamSize, zero_memory}
 use Rattle.debug_model.specs.Chip.{Live}
-use Rattle.debug_model.specs.Loaded.{AsLoaded, Fits, RightLimit, reset_harts}
+use Rattle.debug_model.proofs.LoadedHarts.{one_hart_more}
+use Rattle.debug_model.specs.Loaded.{AsLoaded, Fits, RightLimit, loaded_harts}
 use Rattle.debug_model.specs.Schedule.{RoundPlan}
 use Rattle.hart_debug.specs.Changes.{start_cause}
 use Rattle.hart_debug.specs.declared.start.Start.{Start}
@@ -16,8 +17,8 @@ use Rattle.hart_debug.specs.declared.start.Start.TheVariants.{Running, Halted}
 use Rattle.rv_mem.proofs.ImageLemmas.{len-map_of}
 use Rattle.chip_core.specs.Loads.{IsFirst, loaded_with}
 
-pub one_hart_more : (n : ℕ) (why : Option Cause) → reset_harts (n + 1) why ≡ reset_harts n why ++ reset_hart n why ∷ []
-one_hart_more n why = ap (λ k. reset_harts k why) (add-one n)
+pub one_hart_on : (n : ℕ) (why : Option Cause) → loaded_harts (n + 1) why ≡ loaded_harts n why ++ reset_hart n why ∷ []
+one_hart_on n why = ap (λ k. loaded_harts k why) (add-one n) ∙ one_hart_more n why
 
 pub zero_size : (n : ℕ) → ram_size (zero_memory n) ≡ n
 zero_size n = len-map_of (replicate n 0) ∙ length-replicate n 0

@@ -26,7 +26,15 @@ unfolding feed fed_from
 first_ends k l b bs e live is =
     let here : k ≡ k + 0 = omega arith in
     at e 0 (ap (λ o. placed o k (fed_from (k + 1) (after l b) bs)) is ∙ ap (fed_at e) here)
-    (record { front = []; byte = b; back = bs; are = refl; before = refl; unended = live; met = kept l.ended (end_of b (sign_of b) l.chip) (signed (sign_of b) l.chip) l e live is })
+    (record {
+      front = [];
+      byte = b;
+      back = bs;
+      are = refl;
+      before = refl;
+      unended = live;
+      met = kept l.ended (end_of b (sign_of b) l.chip) (signed (sign_of b) l.chip) l e live is;
+    })
 
 later : (k : ℕ) (l : Live) (b : ℕ) (bs : List ℕ) → (after l b).ended ≡ None → From (k + 1) (after l b) bs → From k l (b ∷ bs)
 unfolding feed fed_from
@@ -35,7 +43,15 @@ later k l b bs is (at e place answer there) =
     let next : k + 1 + place ≡ k + (place + 1) = omega arith in
     let long : length (b ∷ there.front) ≡ place + 1 = let n : length there.front ≡ place = there.before in omega arith in
     at e (place + 1) (ap (λ o. placed o k (fed_from (k + 1) (after l b) bs)) is ∙ answer ∙ ap (fed_at e) next)
-    (record { front = b ∷ there.front; byte = there.byte; back = there.back; are = ap (λ xs. b ∷ xs) there.are; before = long; unended = there.unended; met = there.met })
+    (record {
+      front = b ∷ there.front;
+      byte = there.byte;
+      back = there.back;
+      are = ap (λ xs. b ∷ xs) there.are;
+      before = long;
+      unended = there.unended;
+      met = there.met;
+    })
 
 step : (k : ℕ) (l : Live) (b : ℕ) (bs : List ℕ) (o : Option ChipEnd) → l.ended ≡ None → (after l b).ended ≡ o
     → ((after l b).ended ≡ None → From (k + 1) (after l b) bs) → From k l (b ∷ bs)

@@ -10,7 +10,8 @@ pub fed_timing : (bench : Option Live) (bytes unread items : List ℕ) → timin
 fed_timing None bytes unread items = refl
 fed_timing (Some l) bytes unread items = ap (λ (t : Timing). Some t) (feed_timing l bytes)
 
-pub fed_ties : (bench new : Option Live) (bytes unread items : List ℕ) → new ≡ feed_of bench bytes → ties_told (far_of new items) ≡ ties_told (far_of bench unread)
+pub fed_ties : (bench new : Option Live) (bytes unread items : List ℕ) → new ≡ feed_of bench bytes
+    → ties_told (far_of new items) ≡ ties_told (far_of bench unread)
 fed_ties bench new bytes unread items is =
     ap (λ b. ties_told (far_of b items)) is ∙ ap (λ t. record { lenders = []; net = no_net; timing = t; began = None }) (fed_timing bench bytes unread items)
 

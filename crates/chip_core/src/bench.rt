@@ -79,10 +79,7 @@ impl<Q: Schedule> Bench<Q> {
         requires { IsSome self.now }
         ensures { memory_of self.now ≡ Some result.now }
     {
-        match &self.chip {
-            Some(chip) => chip.system().ram(),
-            None => unreachable!(),
-        }
+        self.chip.as_ref().unwrap().system().ram()
     }
 
     /// What has happened since the load; nothing on a blank bench.

@@ -78,15 +78,18 @@ impl<'a, Q: Schedule> Wire for BenchWire<'a, Q> {
         requires piece { IsPiece bytes.now }
         requires open { IsOpen (far_of self.old.bench.now self.old.unread.items) }
         requires read { IsRead (far_of self.old.bench.now self.old.unread.items) }
-        ensures sent { OnOk result (far_of self.new.bench.now self.new.unread.items ≡ option_map (sent bytes.now) (far_of self.old.bench.now self.old.unread.items)) }
+        ensures sent { OnOk result (far_of self.new.bench.now self.new.unread.items
+            ≡ option_map (sent bytes.now) (far_of self.old.bench.now self.old.unread.items)) }
         ensures live { OnOk result (IsTrue (are_open bytes.now) → IsLive (far_of self.new.bench.now self.new.unread.items)) }
-        ensures prefix { OnErr result (SentFront bytes.now (far_of self.old.bench.now self.old.unread.items) (far_of self.new.bench.now self.new.unread.items)) }
+        ensures prefix { OnErr result (SentFront bytes.now (far_of self.old.bench.now self.old.unread.items)
+            (far_of self.new.bench.now self.new.unread.items)) }
         ensures coming { nothing_coming ≡ nothing_coming }
         ensures later { 0 ≤ 0 }
         ensures still { OnOk result (◌≡◌ {A = ℕ} 0 0) }
         ensures own { IfErr result (λ why. bench_gives why ≡ true) }
         ensures cause { IfErr result (SendCause 0 0 (far_of self.new.bench.now self.new.unread.items)) }
-        ensures ties { lent_by self.new.bench.ghost_name (ties_told (far_of self.new.bench.now self.new.unread.items)) ≡ lent_by self.old.bench.ghost_name (ties_told (far_of self.old.bench.now self.old.unread.items)) }
+        ensures ties { lent_by self.new.bench.ghost_name (ties_told (far_of self.new.bench.now self.new.unread.items))
+            ≡ lent_by self.old.bench.ghost_name (ties_told (far_of self.old.bench.now self.old.unread.items)) }
         ensures limit { (result ≡ Err WireFault.Ended) ↔ (limit_met self.new.bench.now ≡ true) }
     {
         feed_pieces(self.bench, bytes, self.piece, &mut self.unread);
@@ -108,7 +111,8 @@ impl<'a, Q: Schedule> Wire for BenchWire<'a, Q> {
         ensures still { OnOk result (◌≡◌ {A = ℕ} 0 0) }
         ensures own { IfErr result (λ why. bench_gives why ≡ true) }
         ensures cause { IfErr result (RecvCause 0 0 (far_of self.new.bench.now self.new.unread.items)) }
-        ensures ties { lent_by self.new.bench.ghost_name (ties_told (far_of self.new.bench.now self.new.unread.items)) ≡ lent_by self.old.bench.ghost_name (ties_told (far_of self.old.bench.now self.old.unread.items)) }
+        ensures ties { lent_by self.new.bench.ghost_name (ties_told (far_of self.new.bench.now self.new.unread.items))
+            ≡ lent_by self.old.bench.ghost_name (ties_told (far_of self.old.bench.now self.old.unread.items)) }
         ensures limit { (result ≡ Err WireFault.Ended) ↔ (limit_met self.new.bench.now ≡ true) }
     {
         if self.bench.at_limit() {

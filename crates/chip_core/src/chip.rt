@@ -108,7 +108,8 @@ impl<Q: Schedule> Chip<Q> {
     #[inline(always)]
     fn set_pins(&mut self, tck: bool, tms: bool, tdi: bool)
         requires live { self.old.ended ≡ None }
-        ensures { self.new ≡ taken_by (rise_end self.old.chip.tck tck self.old.chip.inside.works) (pins self.old.chip.tck tck tms tdi self.old.chip) self.old.chip }
+        ensures { self.new ≡ taken_by (rise_end self.old.chip.tck tck self.old.chip.inside.works)
+            (pins self.old.chip.tck tck tms tdi self.old.chip) self.old.chip }
     {
         match (self.clock, tck) {
             (false, true) => {

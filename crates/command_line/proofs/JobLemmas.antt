@@ -3,29 +3,38 @@ use Rattle.std.proofs.Common.{◌≡◌, Bool, true, false, bytes_eq, cond, code
 use Rattle.std.specs.Prelude.{String, slice_get, IfOk, IsErrOf}
 use Rattle.std.proofs.Common.{Global}
 use Rattle.command_line.specs.Job.{Gives, JobValue, Text, job_value}
-use Rattle.command_line.specs.WrittenJob.{both_of, chip_of, job_by, job_of, probe_of}
+use Rattle.command_line.specs.WrittenJob.{both_of, chip_of, job_by, job_of, probe_of, sniff_of}
 use Rattle.command_line.specs.declared.fault.WordsFault.{WordsFault}
 use Rattle.command_line.specs.declared.fault.WordsFault.TheVariants.{Refused, NoMemory}
 use Rattle.command_line.specs.declared.job.Job.{Job}
 
-chosen : Text → List Text → Bool → Bool → Bool → Option JobValue
-chosen p words a b c = cond a (both_of words) (cond b (probe_of words) (cond c (chip_of words) None))
+chosen : Text → List Text → Bool → Bool → Bool → Bool → Option JobValue
+chosen p words a b c d = cond a (both_of words) (cond b (probe_of words) (cond c (chip_of words) (cond d (sniff_of words) None)))
 
 pub job_by-both : (p : Text) (words : List Text) → bytes_eq p (codes "both") ≡ true → job_by p words ≡ both_of words
 unfolding job_by chosen
-job_by-both p words a = λ i. chosen p words (a i) (bytes_eq p (codes "probe")) (bytes_eq p (codes "chip"))
+job_by-both p words a = λ i. chosen p words (a i) (bytes_eq p (codes "probe")) (bytes_eq p (codes "chip")) (bytes_eq p (codes "sniff"))
 
 pub job_by-probe : (p : Text) (words : List Text) → bytes_eq p (codes "both") ≡ false → bytes_eq p (codes "probe") ≡ true → job_by p words ≡ probe_of words
 unfolding job_by chosen
-job_by-probe p words a b = λ i. chosen p words (a i) (b i) (bytes_eq p (codes "chip"))
+job_by-probe p words a b = λ i. chosen p words (a i) (b i) (bytes_eq p (codes "chip")) (bytes_eq p (codes "sniff"))
 
-pub job_by-chip : (p : Text) (words : List Text) → bytes_eq p (codes "both") ≡ false → bytes_eq p (codes "probe") ≡ false → bytes_eq p (codes "chip") ≡ true → job_by p words ≡ chip_of words
+pub job_by-chip : (p : Text) (words : List Text) → bytes_eq p (codes "both") ≡ false → bytes_eq p (codes "probe") ≡ false
+    → bytes_eq p (codes "chip") ≡ true → job_by p words ≡ chip_of words
 unfolding job_by chosen
-job_by-chip p words a b c = λ i. chosen p words (a i) (b i) (c i)
+job_by-chip p words a b c = λ i. chosen p words (a i) (b i) (c i) (bytes_eq p (codes "sniff"))
 
-pub job_by-none : (p : Text) (words : List Text) → bytes_eq p (codes "both") ≡ false → bytes_eq p (codes "probe") ≡ false → bytes_eq p (codes "chip") ≡ false → job_by p words ≡ None
+pub job_by-sniff : (p : Text) (words : List Text) → bytes_eq p (codes "both") ≡ false → bytes_eq p (codes "probe") ≡ false
+    → bytes_eq p (codes "chip") ≡ false → bytes_eq p (codes "sniff") ≡ true
+    → job_by p words ≡ sniff_of words
 unfolding job_by chosen
-job_by-none p words a b c = λ i. chosen p words (a i) (b i) (c i)
+job_by-sniff p words a b c d = λ i. chosen p words (a i) (b i) (c i) (d i)
+
+pub job_by-none : (p : Text) (words : List Text) → bytes_eq p (codes "both") ≡ false → bytes_eq p (codes "probe") ≡ false
+    → bytes_eq p (codes "chip") ≡ false → bytes_eq p (codes "sniff") ≡ false
+    → job_by p words ≡ None
+unfolding job_by chosen
+job_by-none p words a b c d = λ i. chosen p words (a i) (b i) (c i) (d i)
 
 -- the first word decides
 pub job_of-first : (words : List (String Global)) (p : String Global) → Some p ≡ slice_get words 0 → job_by (string_bytes p) (map string_bytes words) ≡ job_of (map string_bytes words)

@@ -8,8 +8,12 @@ use Rattle.command_line.specs.declared.job.ChipOptions.{ChipOptions}
 use Rattle.command_line.specs.declared.job.Job.{Job}
 use Rattle.command_line.specs.declared.fault.WordsFault.{WordsFault}
 use Rattle.command_line.specs.Job.{Gives, InputsValue, JobValue, Text, job_value}
-use Rattle.command_line.specs.Options.{both_command, chip_command, probe_command}
-use Rattle.command_line.specs.WrittenJob.{◌>>=◌, HasRanges, InRange, OptionsInRange, both_from, both_in, both_of, busy_unsaid, chip_from, chip_in, chip_of, events_unsaid, flag_in, harts_unsaid, inputs_in, job_by, job_of, least_busy, least_events, least_piece, most_busy, most_events, number_in, options_from, options_in, piece_unsaid, probe_from, probe_in, probe_of, ram_unsaid, ranged_in, rows_in, seed_unsaid, value_in, within}
+use Rattle.command_line.specs.Options.{both_command, chip_command, probe_command, sniff_command}
+use Rattle.command_line.specs.WrittenJob.{◌>>=◌, HasRanges, InRange, OptionsInRange, both_from, both_in, both_of, chip_from, chip_in, chip_of, job_by, job_of}
+use Rattle.command_line.specs.WrittenJob.{busy_unsaid, events_unsaid, harts_unsaid, piece_unsaid, ram_unsaid, seed_unsaid}
+use Rattle.command_line.specs.WrittenJob.{least_busy, least_events, least_piece, most_busy, most_events}
+use Rattle.command_line.specs.WrittenJob.{flag_in, inputs_in, number_in, options_from, options_in, probe_from, probe_in, probe_of, ranged_in, rows_in}
+use Rattle.command_line.specs.WrittenJob.{sniff_from, sniff_in, sniff_of, value_in, within}
 
 none : {A : Type 0} {B : Type 0} (x : A) → None ≡ Some x → B
 none x e = absurd (none-some x e)
@@ -82,20 +86,32 @@ chip_ranges : (rows : List Row) (v : JobValue) → chip_in rows ≡ Some v → H
 unfolding chip_in
 chip_ranges rows v e = chip_ranges_by (value_in rows (codes "at")) (value_in rows (codes "image")) (options_in rows) v (λ o is. options_range rows o is) e
 
+sniff_ranges_by : (stream answers : Option Text) (waves : Bool) (v : JobValue) → sniff_from stream answers waves ≡ Some v → HasRanges v
+sniff_ranges_by (Some s) (Some a) waves v e = subst HasRanges (same_Some _ v e) tt
+sniff_ranges_by (Some s) None waves v e = none v e
+sniff_ranges_by None answers waves v e = none v e
+
+sniff_ranges : (rows : List Row) (v : JobValue) → sniff_in rows ≡ Some v → HasRanges v
+unfolding sniff_in
+sniff_ranges rows v e = sniff_ranges_by (value_in rows (codes "stream")) (value_in rows (codes "answers")) (flag_in rows (codes "vcd")) v e
+
 -- rows that are read as a job, where there are rows
 read_ranges : (read : List Row → Option JobValue) → ((rows : List Row) (v : JobValue) → read rows ≡ Some v → HasRanges v) → (rows : Option (List Row)) (v : JobValue) → (rows >>= read) ≡ Some v → HasRanges v
 read_ranges read ranges None v e = none v e
 read_ranges read ranges (Some rows) v e = ranges rows v e
 
-chosen_ranges : (words : List Text) (a b c : Bool) (v : JobValue) → cond a (both_of words) (cond b (probe_of words) (cond c (chip_of words) None)) ≡ Some v → HasRanges v
-chosen_ranges words true b c v e = read_ranges both_in both_ranges (rows_in both_command words) v e
-chosen_ranges words false true c v e = read_ranges probe_in probe_ranges (rows_in probe_command words) v e
-chosen_ranges words false false true v e = read_ranges chip_in chip_ranges (rows_in chip_command words) v e
-chosen_ranges words false false false v e = none v e
+chosen_ranges : (words : List Text) (a b c d : Bool) (v : JobValue)
+    → cond a (both_of words) (cond b (probe_of words) (cond c (chip_of words) (cond d (sniff_of words) None))) ≡ Some v → HasRanges v
+chosen_ranges words true b c d v e = read_ranges both_in both_ranges (rows_in both_command words) v e
+chosen_ranges words false true c d v e = read_ranges probe_in probe_ranges (rows_in probe_command words) v e
+chosen_ranges words false false true d v e = read_ranges chip_in chip_ranges (rows_in chip_command words) v e
+chosen_ranges words false false false true v e = read_ranges sniff_in sniff_ranges (rows_in sniff_command words) v e
+chosen_ranges words false false false false v e = none v e
 
 by_ranges : (program : Text) (words : List Text) (v : JobValue) → job_by program words ≡ Some v → HasRanges v
 unfolding job_by
-by_ranges program words v e = chosen_ranges words (bytes_eq program (codes "both")) (bytes_eq program (codes "probe")) (bytes_eq program (codes "chip")) v e
+by_ranges program words v e = chosen_ranges words (bytes_eq program (codes "both")) (bytes_eq program (codes "probe"))
+    (bytes_eq program (codes "chip")) (bytes_eq program (codes "sniff")) v e
 
 job_ranges : (words : List Text) (v : JobValue) → job_of words ≡ Some v → HasRanges v
 unfolding job_of

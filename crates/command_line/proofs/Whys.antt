@@ -3,7 +3,7 @@ use Rattle.std.proofs.Common.{◌≡◌, Bool, true, false, bytes_eq, cond, code
 use Rattle.std.specs.Prelude.{String, slice_get, IfErr}
 use Rattle.clap.specs.Words.{App, Row}
 use Rattle.command_line.specs.Job.{Text}
-use Rattle.command_line.specs.Options.{both_command, chip_command, probe_command}
+use Rattle.command_line.specs.Options.{both_command, chip_command, probe_command, sniff_command}
 use Rattle.command_line.specs.Why.{Names, NamesAt, NamesBy, NamesIn, NamesNone, UntakenBy, command_at}
 use Rattle.command_line.specs.WrittenJob.{rows_in}
 use Rattle.command_line.specs.declared.why.Refused.{Refused}
@@ -29,39 +29,64 @@ names_untaken command words (whys.NoNumber option word) untaken = absurd untaken
 names_untaken command words (whys.OutOfRange option word least most) untaken = absurd untaken
 names_untaken command words whys.NoMemory untaken = tt
 
-chosen : Bool → Bool → Bool → Option App
-chosen a b c = cond a (Some both_command) (cond b (Some probe_command) (cond c (Some chip_command) None))
+chosen : Bool → Bool → Bool → Bool → Option App
+chosen a b c d = cond a (Some both_command) (cond b (Some probe_command) (cond c (Some chip_command) (cond d (Some sniff_command) None)))
 
 at-both : (job : Text) → bytes_eq job (codes "both") ≡ true → command_at job ≡ Some both_command
 unfolding command_at chosen
-at-both job a = ap (λ x. chosen x (bytes_eq job (codes "probe")) (bytes_eq job (codes "chip"))) a
+at-both job a = ap (λ x. chosen x (bytes_eq job (codes "probe")) (bytes_eq job (codes "chip")) (bytes_eq job (codes "sniff"))) a
 
 at-probe : (job : Text) → bytes_eq job (codes "both") ≡ false → bytes_eq job (codes "probe") ≡ true → command_at job ≡ Some probe_command
 unfolding command_at chosen
-at-probe job a b = λ i. chosen (a i) (b i) (bytes_eq job (codes "chip"))
+at-probe job a b = λ i. chosen (a i) (b i) (bytes_eq job (codes "chip")) (bytes_eq job (codes "sniff"))
 
-at-chip : (job : Text) → bytes_eq job (codes "both") ≡ false → bytes_eq job (codes "probe") ≡ false → bytes_eq job (codes "chip") ≡ true → command_at job ≡ Some chip_command
+at-chip : (job : Text) → bytes_eq job (codes "both") ≡ false → bytes_eq job (codes "probe") ≡ false
+    → bytes_eq job (codes "chip") ≡ true → command_at job ≡ Some chip_command
 unfolding command_at chosen
-at-chip job a b c = λ i. chosen (a i) (b i) (c i)
+at-chip job a b c = λ i. chosen (a i) (b i) (c i) (bytes_eq job (codes "sniff"))
 
-at-none : (job : Text) → bytes_eq job (codes "both") ≡ false → bytes_eq job (codes "probe") ≡ false → bytes_eq job (codes "chip") ≡ false → command_at job ≡ None
+at-sniff : (job : Text) → bytes_eq job (codes "both") ≡ false → bytes_eq job (codes "probe") ≡ false
+    → bytes_eq job (codes "chip") ≡ false → bytes_eq job (codes "sniff") ≡ true
+    → command_at job ≡ Some sniff_command
 unfolding command_at chosen
-at-none job a b c = λ i. chosen (a i) (b i) (c i)
+at-sniff job a b c d = λ i. chosen (a i) (b i) (c i) (d i)
 
-if_names : {T : Type 0} (said : Option App) (command : App) (job : Text) (words : List Text) (r : Result T Refused) → said ≡ Some command → IfErr r (NamesBy (rows_in command words)) → IfErr r (NamesAt said job words)
+at-none : (job : Text) → bytes_eq job (codes "both") ≡ false → bytes_eq job (codes "probe") ≡ false
+    → bytes_eq job (codes "chip") ≡ false → bytes_eq job (codes "sniff") ≡ false
+    → command_at job ≡ None
+unfolding command_at chosen
+at-none job a b c d = λ i. chosen (a i) (b i) (c i) (d i)
+
+if_names : {T : Type 0} (said : Option App) (command : App) (job : Text) (words : List Text) (r : Result T Refused) → said ≡ Some command
+    → IfErr r (NamesBy (rows_in command words)) → IfErr r (NamesAt said job words)
 if_names said command job words r is names = subst (λ (o : Option App). IfErr r (NamesAt o job words)) (sym is) names
 
-pub named_both : {T : Type 0} (job : Text) (words : List Text) (r : Result T Refused) → bytes_eq job (codes "both") ≡ true → IfErr r (NamesBy (rows_in both_command words)) → IfErr r (NamesAt (command_at job) job words)
+pub named_both : {T : Type 0} (job : Text) (words : List Text) (r : Result T Refused)
+    → bytes_eq job (codes "both") ≡ true → IfErr r (NamesBy (rows_in both_command words))
+    → IfErr r (NamesAt (command_at job) job words)
 named_both job words r a names = if_names _ _ job words r (at-both job a) names
 
-pub named_probe : {T : Type 0} (job : Text) (words : List Text) (r : Result T Refused) → bytes_eq job (codes "both") ≡ false → bytes_eq job (codes "probe") ≡ true → IfErr r (NamesBy (rows_in probe_command words)) → IfErr r (NamesAt (command_at job) job words)
+pub named_probe : {T : Type 0} (job : Text) (words : List Text) (r : Result T Refused)
+    → bytes_eq job (codes "both") ≡ false → bytes_eq job (codes "probe") ≡ true → IfErr r (NamesBy (rows_in probe_command words))
+    → IfErr r (NamesAt (command_at job) job words)
 named_probe job words r a b names = if_names _ _ job words r (at-probe job a b) names
 
-pub named_chip : {T : Type 0} (job : Text) (words : List Text) (r : Result T Refused) → bytes_eq job (codes "both") ≡ false → bytes_eq job (codes "probe") ≡ false → bytes_eq job (codes "chip") ≡ true → IfErr r (NamesBy (rows_in chip_command words)) → IfErr r (NamesAt (command_at job) job words)
+pub named_chip : {T : Type 0} (job : Text) (words : List Text) (r : Result T Refused)
+    → bytes_eq job (codes "both") ≡ false → bytes_eq job (codes "probe") ≡ false
+    → bytes_eq job (codes "chip") ≡ true → IfErr r (NamesBy (rows_in chip_command words))
+    → IfErr r (NamesAt (command_at job) job words)
 named_chip job words r a b c names = if_names _ _ job words r (at-chip job a b c) names
 
-pub named_none : (job : Text) (words : List Text) (why : Refused) → bytes_eq job (codes "both") ≡ false → bytes_eq job (codes "probe") ≡ false → bytes_eq job (codes "chip") ≡ false → NamesNone job why → NamesAt (command_at job) job words why
-named_none job words why a b c names = subst (λ (o : Option App). NamesAt o job words why) (sym (at-none job a b c)) names
+pub named_sniff : {T : Type 0} (job : Text) (words : List Text) (r : Result T Refused)
+    → bytes_eq job (codes "both") ≡ false → bytes_eq job (codes "probe") ≡ false
+    → bytes_eq job (codes "chip") ≡ false → bytes_eq job (codes "sniff") ≡ true
+    → IfErr r (NamesBy (rows_in sniff_command words)) → IfErr r (NamesAt (command_at job) job words)
+named_sniff job words r a b c d names = if_names _ _ job words r (at-sniff job a b c d) names
+
+pub named_none : (job : Text) (words : List Text) (why : Refused) → bytes_eq job (codes "both") ≡ false → bytes_eq job (codes "probe") ≡ false
+    → bytes_eq job (codes "chip") ≡ false → bytes_eq job (codes "sniff") ≡ false
+    → NamesNone job why → NamesAt (command_at job) job words why
+named_none job words why a b c d names = subst (λ (o : Option App). NamesAt o job words why) (sym (at-none job a b c d)) names
 
 -- the first word decides
 pub names_first : {T : Type 0} (words : List (String Global)) (job : String Global) (r : Result T Refused) → Some job ≡ slice_get words 0

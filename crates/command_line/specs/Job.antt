@@ -7,7 +7,7 @@ use Rattle.command_line.specs.declared.job.ChipOptions.{ChipOptions}
 use Rattle.command_line.specs.declared.job.Inputs.{Inputs}
 use Rattle.command_line.specs.declared.job.Inputs.TheVariants.{Files, Gen}
 use Rattle.command_line.specs.declared.job.Job.{Job}
-use Rattle.command_line.specs.declared.job.Job.TheVariants.{Both, Probe, Chip}
+use Rattle.command_line.specs.declared.job.Job.TheVariants.{Both, Probe, Chip, Sniff}
 
 abbrev pub Text : Type 0
 Text = List ℕ
@@ -18,11 +18,13 @@ pub data InputsValue : Type 0 where
   gen : ℕ → InputsValue
 
 -- `both` has its inputs, the chip's options, the most bytes of a piece and whether the bytes go over a connection;
--- `probe` an address and the script's name; `chip` an address, the image's name and its options
+-- `probe` an address and the script's name; `chip` an address, the image's name and its options;
+-- `sniff` the names of a recorded stream and of its answers, and whether they are drawn as a waveform
 pub data JobValue : Type 0 where
   both : InputsValue → ChipOptions → ℕ → Bool → JobValue
   probe : Text → Text → JobValue
   chip : Text → Text → ChipOptions → JobValue
+  sniff : Text → Text → Bool → JobValue
 
 abbrev pub inputs_value : Inputs → InputsValue
 inputs_value (Files image script) = files (string_bytes image) (string_bytes script)
@@ -32,6 +34,7 @@ abbrev pub job_value : Job → JobValue
 job_value (Both inputs options piece loopback) = both (inputs_value inputs) options piece loopback
 job_value (Probe at script) = probe (string_bytes at) (string_bytes script)
 job_value (Chip at image options) = chip (string_bytes at) (string_bytes image) options
+job_value (Sniff stream answers waves) = sniff (string_bytes stream) (string_bytes answers) waves
 
 -- A reading is refused where the words say nothing. Want of memory may stand for anything that they say.
 abbrev pub Fails : {Y : Type 0} → WordsFault → Option Y → Type 0

@@ -24,6 +24,12 @@ chip_options = codes "at" ∷ codes "image" ∷ codes "harts" ∷ codes "ram" �
 abbrev pub chip_flags : List Text
 chip_flags = codes "halted" ∷ []
 
+abbrev pub sniff_options : List Text
+sniff_options = codes "stream" ∷ codes "answers" ∷ []
+
+abbrev pub sniff_flags : List Text
+sniff_flags = codes "vcd" ∷ []
+
 -- `--name VALUE`
 abbrev pub option_rule : Text → Rule
 option_rule name = record (new_rule name) { long = Some name }
@@ -51,3 +57,6 @@ probe_command = command_of (codes "probe") probe_options probe_flags
 
 abbrev pub chip_command : App
 chip_command = command_of (codes "chip") chip_options chip_flags
+
+abbrev pub sniff_command : App
+sniff_command = command_of (codes "sniff") sniff_options sniff_flags

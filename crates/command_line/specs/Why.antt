@@ -6,7 +6,7 @@ use Rattle.clap.specs.Words.{App, Row}
 use Rattle.clap.specs.declared.parser.matches.ArgMatches.{ArgMatches}
 use Rattle.debug_model.specs.Wire.{piece_most}
 use Rattle.command_line.specs.Job.{Text}
-use Rattle.command_line.specs.Options.{both_command, probe_command, chip_command}
+use Rattle.command_line.specs.Options.{both_command, probe_command, chip_command, sniff_command}
 use Rattle.command_line.specs.WrittenJob.{least_busy, least_events, least_piece, most_busy, most_events, number_of, rows_found, rows_in, value_in}
 use Rattle.command_line.specs.declared.why.Refused.{Refused}
 use Rattle.command_line.specs.declared.why.Refused.TheVariants as whys
@@ -32,7 +32,8 @@ command_at job =
     if bytes_eq job (codes "both") then Some both_command
     else (if bytes_eq job (codes "probe") then Some probe_command
     else (if bytes_eq job (codes "chip") then Some chip_command
-    else None))
+    else (if bytes_eq job (codes "sniff") then Some sniff_command
+    else None)))
 
 -- the number that a word writes is outside these bounds
 abbrev pub IsOutside : ℕ → ℕ → Text → Type 0

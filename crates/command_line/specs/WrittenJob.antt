@@ -9,8 +9,8 @@ use Rattle.debug_model.specs.Loaded.{usual_points}
 use Rattle.debug_model.specs.ScriptNumber.{number_read}
 use Rattle.debug_model.specs.Wire.{piece_most}
 use Rattle.debug_model.specs.declared.script_error.ScriptFault.{ScriptFault}
-use Rattle.command_line.specs.Job.{Text, InputsValue, files, gen, JobValue, both, probe, chip}
-use Rattle.command_line.specs.Options.{both_command, probe_command, chip_command}
+use Rattle.command_line.specs.Job.{Text, InputsValue, files, gen, JobValue, both, probe, chip, sniff}
+use Rattle.command_line.specs.Options.{both_command, probe_command, chip_command, sniff_command}
 use Rattle.command_line.specs.declared.job.ChipOptions.{ChipOptions}
 
 abbrev pub harts_unsaid : ℕ
@@ -158,6 +158,15 @@ chip_from said_at said_image said_options = do
 unfoldable pub chip_in : List Row → Option JobValue
 chip_in rows = chip_from (value_in rows (codes "at")) (value_in rows (codes "image")) (options_in rows)
 
+abbrev pub sniff_from : Option Text → Option Text → Bool → Option JobValue
+sniff_from said_stream said_answers waves = do
+  stream ← said_stream
+  answers ← said_answers
+  Some (sniff stream answers waves)
+
+unfoldable pub sniff_in : List Row → Option JobValue
+sniff_in rows = sniff_from (value_in rows (codes "stream")) (value_in rows (codes "answers")) (flag_in rows (codes "vcd"))
+
 -- the job of the words of a program
 abbrev pub both_of : List Text → Option JobValue
 both_of words = rows_in both_command words >>= both_in
@@ -168,13 +177,17 @@ probe_of words = rows_in probe_command words >>= probe_in
 abbrev pub chip_of : List Text → Option JobValue
 chip_of words = rows_in chip_command words >>= chip_in
 
+abbrev pub sniff_of : List Text → Option JobValue
+sniff_of words = rows_in sniff_command words >>= sniff_in
+
 -- the job of words of which the first is `program`
 unfoldable pub job_by : Text → List Text → Option JobValue
 job_by program words =
     if bytes_eq program (codes "both") then both_of words
     else (if bytes_eq program (codes "probe") then probe_of words
     else (if bytes_eq program (codes "chip") then chip_of words
-    else None))
+    else (if bytes_eq program (codes "sniff") then sniff_of words
+    else None)))
 
 -- the job of the words after the program's own name
 unfoldable pub job_of : List Text → Option JobValue
@@ -196,3 +209,4 @@ abbrev pub HasRanges : JobValue → Type 0
 HasRanges (both inputs options piece loopback) = InRange least_piece piece_most piece × OptionsInRange options
 HasRanges (probe at script) = Unit {0}
 HasRanges (chip at image options) = OptionsInRange options
+HasRanges (sniff stream answers waves) = Unit {0}

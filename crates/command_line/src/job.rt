@@ -20,6 +20,15 @@ pub enum Job {
         /// How the chip is made.
         options: ChipOptions,
     },
+    /// A recording of a wire.
+    Sniff {
+        /// The name of the file of the recorded stream.
+        stream: String,
+        /// The name of the file of the answers that came to it.
+        answers: String,
+        /// Whether it is drawn as a waveform, and not listed.
+        waves: bool,
+    },
 }
 
 /// Where image and script come from.

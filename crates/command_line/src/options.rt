@@ -6,6 +6,7 @@ ghost use Rattle.command_line.specs.Options.{
   both_command,
   probe_command,
   chip_command,
+  sniff_command,
   option_rule,
   flag_rule,
 };
@@ -13,6 +14,8 @@ ghost use Rattle.command_line.specs.Options.{
 use clap::{Arg, ArgAction, Command};
 use std::alloc::{AllocError, Global};
 
+/// The file of the answers to a recorded stream.
+pub(crate) const ANSWERS: &str = "answers";
 /// The address of the target, or the one at which the chip waits.
 pub(crate) const AT: &str = "at";
 /// The most rounds between two events of a kind.
@@ -37,6 +40,10 @@ pub(crate) const RAM: &str = "ram";
 pub(crate) const SCRIPT: &str = "script";
 /// The number from which the schedule is made.
 pub(crate) const SEED: &str = "seed";
+/// The file of a recorded stream.
+pub(crate) const STREAM: &str = "stream";
+/// Whether a recording is drawn as a Value Change Dump.
+pub(crate) const VCD: &str = "vcd";
 
 static BOTH_OPTIONS: [&str; 9] = [IMAGE, SCRIPT, GEN, HARTS, RAM, SEED, BUSY, EVENTS, PIECE];
 
@@ -47,6 +54,10 @@ static PROBE_OPTIONS: [&str; 2] = [AT, SCRIPT];
 static CHIP_OPTIONS: [&str; 7] = [AT, IMAGE, HARTS, RAM, SEED, BUSY, EVENTS];
 
 static CHIP_FLAGS: [&str; 1] = [HALTED];
+
+static SNIFF_OPTIONS: [&str; 2] = [STREAM, ANSWERS];
+
+static SNIFF_FLAGS: [&str; 1] = [VCD];
 
 /// The command of `both`.
 pub(crate) fn both_command<'a>(alloc: Global) -> Result<Command<'a>, AllocError>
@@ -67,6 +78,13 @@ pub(crate) fn chip_command<'a>(alloc: Global) -> Result<Command<'a>, AllocError>
     ensures { IfOk result (λ command. app_of command ≡ chip_command) }
 {
     command(alloc, "chip", &CHIP_OPTIONS, &CHIP_FLAGS)
+}
+
+/// The command of `sniff`.
+pub(crate) fn sniff_command<'a>(alloc: Global) -> Result<Command<'a>, AllocError>
+    ensures { IfOk result (λ command. app_of command ≡ sniff_command) }
+{
+    command(alloc, "sniff", &SNIFF_OPTIONS, &SNIFF_FLAGS)
 }
 
 /// The command of a program that takes these options and flags.

@@ -2,13 +2,15 @@ ghost use Rattle.std.specs.Prelude.{◌≡◌, ◌≢◌, IfOk, IsErrOf, Some, N
 ghost use Rattle.clap.specs.Words.{app_of, is_simple_and_free, kind_of};
 ghost use Rattle.clap.specs.declared.error.kind.ErrorKind.TheVariants.{OutOfMemory};
 ghost use Rattle.command_line.specs.Job.{Gives, job_value};
-ghost use Rattle.command_line.specs.Options.{both_command, chip_command, probe_command};
-ghost use Rattle.command_line.specs.WrittenJob.{HasRanges, both_in, both_of, chip_in, chip_of, job_by, job_of, probe_in, probe_of, rows_found, rows_in};
+ghost use Rattle.command_line.specs.Options.{both_command, chip_command, probe_command, sniff_command};
+ghost use Rattle.command_line.specs.WrittenJob.{HasRanges, both_in, both_of, chip_in, chip_of, job_by, job_of};
+ghost use Rattle.command_line.specs.WrittenJob.{probe_in, probe_of, rows_found, rows_in, sniff_in, sniff_of};
 
 use crate::fault::WordsFault;
 use crate::job::Job;
 use crate::options::{
-    AT, IMAGE, LOOPBACK, PIECE, SCRIPT, both_command, chip_command, probe_command,
+    ANSWERS, AT, IMAGE, LOOPBACK, PIECE, SCRIPT, STREAM, VCD, both_command, chip_command,
+    probe_command, sniff_command,
 };
 use crate::values::{chip_options, flag, inputs, ranged, required};
 use clap::error::ErrorKind;
@@ -54,6 +56,8 @@ fn read_by(alloc: Global, program: &str, words: &[String]) -> Result<Job, WordsF
         read_probe(alloc, words)
     } else if program == "chip" {
         read_chip(alloc, words)
+    } else if program == "sniff" {
+        read_sniff(alloc, words)
     } else {
         Err(WordsFault::Refused)
     }
@@ -81,6 +85,14 @@ fn read_chip(alloc: Global, words: &[String]) -> Result<Job, WordsFault>
 {
     let matches = chip_matches(alloc, words)?;
     chip_in(alloc, &matches)
+}
+
+/// The job of the words of `sniff`.
+fn read_sniff(alloc: Global, words: &[String]) -> Result<Job, WordsFault>
+    ensures { Gives job_value result (sniff_of (map string_bytes words.now)) }
+{
+    let matches = sniff_matches(alloc, words)?;
+    sniff_in(alloc, &matches)
 }
 
 /// The job of chip and probe in one process.
@@ -112,6 +124,20 @@ fn chip_in(alloc: Global, matches: &ArgMatches) -> Result<Job, WordsFault>
     Ok(Job::Chip { at, image, options })
 }
 
+/// The job of a recording.
+fn sniff_in(alloc: Global, matches: &ArgMatches) -> Result<Job, WordsFault>
+    ensures { Gives job_value result (sniff_in (rows_found matches.now)) }
+{
+    let stream = required(alloc, matches, STREAM)?;
+    let answers = required(alloc, matches, ANSWERS)?;
+    let waves = flag(matches, VCD);
+    Ok(Job::Sniff {
+        stream,
+        answers,
+        waves,
+    })
+}
+
 /// What `both` finds in the words.
 fn both_matches(alloc: Global, words: &[String]) -> Result<ArgMatches<'_>, WordsFault>
     ensures { Gives rows_found result (rows_in both_command (map string_bytes words.entry.now)) }
@@ -133,6 +159,14 @@ fn chip_matches(alloc: Global, words: &[String]) -> Result<ArgMatches<'_>, Words
     ensures { Gives rows_found result (rows_in chip_command (map string_bytes words.entry.now)) }
 {
     let command = chip_command(alloc)?;
+    matches_of(command, words)
+}
+
+/// What `sniff` finds in the words.
+fn sniff_matches(alloc: Global, words: &[String]) -> Result<ArgMatches<'_>, WordsFault>
+    ensures { Gives rows_found result (rows_in sniff_command (map string_bytes words.entry.now)) }
+{
+    let command = sniff_command(alloc)?;
     matches_of(command, words)
 }
 

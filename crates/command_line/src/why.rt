@@ -1,14 +1,14 @@
 ghost use Rattle.std.specs.Prelude.{◌≡◌, ◌≤◌, IfErr, map, string_bytes, true};
 ghost use Rattle.clap.specs.Words.{app_of, is_simple_and_free};
 ghost use Rattle.command_line.specs.Why.{Names, NamesAt, NamesBy, NamesIn, UnlessTaken, command_at, least_of, most_of};
-ghost use Rattle.command_line.specs.Options.{both_command, chip_command, probe_command};
+ghost use Rattle.command_line.specs.Options.{both_command, chip_command, probe_command, sniff_command};
 ghost use Rattle.command_line.specs.WrittenJob.{rows_found, rows_in};
 ghost use Rattle.command_line.specs.declared.why.Refused.TheVariants.{NoMemory};
 
 use crate::fault::WordsFault;
 use crate::options::{
-    AT, BUSY, EVENTS, GEN, HARTS, IMAGE, PIECE, RAM, SCRIPT, SEED, both_command, chip_command,
-    probe_command,
+    ANSWERS, AT, BUSY, EVENTS, GEN, HARTS, IMAGE, PIECE, RAM, SCRIPT, SEED, STREAM, both_command,
+    chip_command, probe_command, sniff_command,
 };
 use crate::reading::{PIECE_LEAST, fault_by};
 use crate::values::{BUSY_LEAST, BUSY_MOST, EVENTS_LEAST, number_of, value};
@@ -64,7 +64,10 @@ impl Display for Refused<'_> {
     fn fmt<W: fmt::Write>(&self, f: &mut Formatter<W>) -> fmt::Result {
         match self {
             Refused::NoWords => write!(f, "there are none"),
-            Refused::NoJob(word) => write!(f, "'{word}' is no job: both, probe and chip are"),
+            Refused::NoJob(word) => write!(
+                f,
+                "'{word}' is no job: both, probe, chip and sniff are"
+            ),
             Refused::Unfit(text) => {
                 let line = text.as_str().lines().next().unwrap_or("");
                 write!(f, "{}", line.strip_prefix("error: ").unwrap_or(line))
@@ -109,6 +112,8 @@ fn why_of<'a>(alloc: Global, job: &'a str, words: &'a [String]) -> Result<(), Re
         why_probe(alloc, words)
     } else if job == "chip" {
         why_chip(alloc, words)
+    } else if job == "sniff" {
+        why_sniff(alloc, words)
     } else {
         Err(Refused::NoJob(job))
     }
@@ -142,6 +147,16 @@ fn why_chip<'a>(alloc: Global, words: &'a [String]) -> Result<(), Refused<'a>>
     let command = chip_command(alloc)?;
     let matches = matched(alloc, command, words)?;
     check_chip(&matches)
+}
+
+/// The same of the words of `sniff`.
+#[tactic(auto, using(crate::proofs::Whys::names_taken, crate::proofs::Whys::names_untaken))]
+fn why_sniff<'a>(alloc: Global, words: &'a [String]) -> Result<(), Refused<'a>>
+    ensures named { IfErr result (NamesBy (rows_in sniff_command (map string_bytes words.now))) }
+{
+    let command = sniff_command(alloc)?;
+    let matches = matched(alloc, command, words)?;
+    check_sniff(&matches)
 }
 
 /// What the command finds in the words after the first, where it takes them.
@@ -186,6 +201,14 @@ fn check_chip<'a>(matches: &ArgMatches<'a>) -> Result<(), Refused<'a>>
     check_given(matches, AT)?;
     check_given(matches, IMAGE)?;
     check_chip_options(matches)
+}
+
+/// Checks the options of `sniff`.
+fn check_sniff<'a>(matches: &ArgMatches<'a>) -> Result<(), Refused<'a>>
+    ensures { IfErr result (NamesIn (rows_found matches.now)) }
+{
+    check_given(matches, STREAM)?;
+    check_given(matches, ANSWERS)
 }
 
 /// Checks the numbers that say how a chip is made.

@@ -1,12 +1,12 @@
 -- Operations whose results are given beforehand, one after another.
 use Rattle.std.proofs.Common.{◌≡◌, ◌++◌, ◌<◌, ℕ, length, List, [], ◌∷◌, Option, Some, refl, sym, subst, append_assoc, append-nil, arith}
 use Rattle.debug_model.specs.declared.dmi_op.DmiOp.{DmiOp}
-use Rattle.debug_model.specs.Dmi.{DmiScript, Results}
+use Rattle.debug_model.specs.Dmi.{DmiComing, Results}
 use Rattle.debug_model.specs.Many.{TakesOne, TookEach}
 
 -- what is left to do completes what was done
 pub record EachSoFar (ops : List DmiOp) (numbers : List ℕ) (left : List DmiOp) (results now : List ℕ) : Type 0 where
-  pub completed : (more : List ℕ) (new : Option DmiScript) → TookEach left more now new → TookEach ops (results ++ more) numbers new
+  pub completed : (more : List ℕ) (new : Option DmiComing) → TookEach left more now new → TookEach ops (results ++ more) numbers new
 
 pub none_so_far : (ops : List DmiOp) (numbers results : List ℕ) → results ≡ [] → EachSoFar ops numbers ops results numbers
 none_so_far ops numbers results none = record { completed = λ more new t. subst (λ xs. TookEach ops (xs ++ more) numbers new) (sym none) t }

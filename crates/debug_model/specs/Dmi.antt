@@ -13,8 +13,8 @@ use Rattle.debug_model.specs.Chip.{Chip}
 use Rattle.debug_model.specs.Course.{Course, DeedsAlone, Happening, OneOperation, Spans}
 use Rattle.debug_model.specs.Course.Happening.{Launched, Performed, Lost}
 use Rattle.debug_model.specs.Module.{Site}
-use Rattle.debug_model.specs.Scan.{ScanCause, Script, StoodAtRest, TookOut}
-use Rattle.debug_model.specs.Scan.Script.{Numbers}
+use Rattle.debug_model.specs.Scan.{Coming, ScanCause, StoodAtRest, TookOut}
+use Rattle.debug_model.specs.Scan.Coming.{Numbers}
 use Rattle.debug_model.specs.Told.{Far, IsClean, IsFree, IsOpen, IsRead, chip_of, site_of}
 use Rattle.debug_model.specs.Transport.{dmi_width, dtmcs_width}
 use Rattle.debug_model.specs.TransportWords.{dmi_of, status_busy, status_done, status_failed}
@@ -93,14 +93,14 @@ pub record OperationCut (op : DmiOp) (c : Chip) (new : Option Far) : Type 0 wher
 
 -- ---- a scripted link: what is to be heard is given beforehand
 
-pub data DmiScript : Type 0 where
-  Results : (results : List ℕ) → DmiScript  -- each call that reads answers the next number
-  Scans : (script : Script) → DmiScript  -- the link's scans take this out
+pub data DmiComing : Type 0 where
+  Results : (results : List ℕ) → DmiComing  -- each call that reads answers the next number
+  Scans : (coming : Coming) → DmiComing  -- the link's scans take this out
 
 -- scans took these bits out, one after another
-abbrev pub TookAll : List (List Bool) → Script → Script → Type 0
-TookAll [] script new = new ≡ script
-TookAll (out ∷ outs) script new = (next : Script) × TookOut out script (Some next) × TookAll outs next new
+abbrev pub TookAll : List (List Bool) → Coming → Coming → Type 0
+TookAll [] coming new = new ≡ coming
+TookAll (out ∷ outs) coming new = (next : Coming) × TookOut out coming (Some next) × TookAll outs next new
 
 abbrev pub heard : List Bool → DmiScan
 heard out = dmi_of (number_of out)
@@ -132,7 +132,7 @@ abbrev pub busy_most : ℕ
 busy_most = 64
 
 -- the scans of an operation whose result this is
-pub record Fetched (result : ℕ) (script new : Script) : Type 0 where
+pub record Fetched (result : ℕ) (coming new : Coming) : Type 0 where
   pub busy_answers : ℕ
   pub few : busy_answers < busy_most
   pub outs : List (List Bool)
@@ -141,41 +141,41 @@ pub record Fetched (result : ℕ) (script new : Script) : Type 0 where
   pub width : IsDmi out
   pub done : WasDone out
   pub result_is : result ≡ (heard out).value
-  pub took : TookAll (outs ++ (out ∷ [])) script new
+  pub took : TookAll (outs ++ (out ∷ [])) coming new
 
-abbrev pub TookResult : ℕ → DmiScript → Option DmiScript → Type 0
+abbrev pub TookResult : ℕ → DmiComing → Option DmiComing → Type 0
 TookResult result (Results results) new = (rest : List ℕ) × (results ≡ result ∷ rest) × (new ≡ Some (Results rest))
-TookResult result (Scans script) new = (next : Script) × Fetched result script next × (new ≡ Some (Scans next))
+TookResult result (Scans coming) new = (next : Coming) × Fetched result coming next × (new ≡ Some (Scans next))
 
 -- a call that reads answered this
-abbrev pub Answers : ℕ → Option DmiScript → Option DmiScript → Type 0
+abbrev pub Answers : ℕ → Option DmiComing → Option DmiComing → Type 0
 Answers result None new = new ≡ None
-Answers result (Some script) new = TookResult result script new
+Answers result (Some coming) new = TookResult result coming new
 
-abbrev pub TookNothing : DmiScript → Option DmiScript → Type 0
+abbrev pub TookNothing : DmiComing → Option DmiComing → Type 0
 TookNothing (Results results) new = new ≡ Some (Results results)
-TookNothing (Scans script) new = (result : ℕ) × (next : Script) × Fetched result script next × (new ≡ Some (Scans next))
+TookNothing (Scans coming) new = (result : ℕ) × (next : Coming) × Fetched result coming next × (new ≡ Some (Scans next))
 
 -- a call that writes answers nothing, and its scans take out what they do
-abbrev pub Passes : Option DmiScript → Option DmiScript → Type 0
+abbrev pub Passes : Option DmiComing → Option DmiComing → Type 0
 Passes None new = new ≡ None
-Passes (Some script) new = TookNothing script new
+Passes (Some coming) new = TookNothing coming new
 
 -- one scan of 32 bits
-pub record TookWord (value : ℕ) (script new : Script) : Type 0 where
+pub record TookWord (value : ℕ) (coming new : Coming) : Type 0 where
   pub out : List Bool
   pub width : length out ≡ 32
   pub value_is : value ≡ number_of out
-  pub took : TookOut out script (Some new)
+  pub took : TookOut out coming (Some new)
 
-abbrev pub TookRegister : ℕ → DmiScript → Option DmiScript → Type 0
+abbrev pub TookRegister : ℕ → DmiComing → Option DmiComing → Type 0
 TookRegister value (Results results) new = (rest : List ℕ) × (results ≡ value ∷ rest) × (new ≡ Some (Results rest))
-TookRegister value (Scans script) new = (next : Script) × TookWord value script next × (new ≡ Some (Scans next))
+TookRegister value (Scans coming) new = (next : Coming) × TookWord value coming next × (new ≡ Some (Scans next))
 
 -- idcode or dtmcs was read as this
-abbrev pub Shows : ℕ → Option DmiScript → Option DmiScript → Type 0
+abbrev pub Shows : ℕ → Option DmiComing → Option DmiComing → Type 0
 Shows value None new = new ≡ None
-Shows value (Some script) new = TookRegister value script new
+Shows value (Some coming) new = TookRegister value coming new
 
 -- ---- why a call failed. Behind a fault the link is not alive.
 
@@ -192,7 +192,7 @@ pub record FoundBusy (c : Chip) (new : Option Far) : Type 0 where
   pub more : c.inside.works.counts.dmi_busy + busy_most ≤ (counts_of far).dmi_busy
 
 -- the last scan took out op 2
-pub record HeardFailed (script : Script) : Type 0 where
+pub record HeardFailed (coming : Coming) : Type 0 where
   pub busy_answers : ℕ
   pub few : busy_answers < busy_most
   pub taken : Bool
@@ -201,41 +201,41 @@ pub record HeardFailed (script : Script) : Type 0 where
   pub out : List Bool
   pub width : IsDmi out
   pub failed : (heard out).op ≡ status_failed
-  pub new : Script
-  pub took : TookAll (outs ++ (out ∷ [])) script new
+  pub new : Coming
+  pub took : TookAll (outs ++ (out ∷ [])) coming new
 
 -- 64 scans took out op 3 or op 1
-pub record HeardBusy (script : Script) : Type 0 where
+pub record HeardBusy (coming : Coming) : Type 0 where
   pub taken : Bool
   pub outs : List (List Bool)
   pub awaited : Awaited busy_most taken outs
-  pub new : Script
-  pub took : TookAll outs script new
+  pub new : Coming
+  pub took : TookAll outs coming new
 
-abbrev pub WhereScanned : (Script → Type 0) → DmiScript → Type 0
+abbrev pub WhereScanned : (Coming → Type 0) → DmiComing → Type 0
 WhereScanned P (Results results) = ⊥
-WhereScanned P (Scans script) = P script
+WhereScanned P (Scans coming) = P coming
 
 -- a bad answer is one of the scans: results hold none
-abbrev pub scans_of : DmiScript → Script
+abbrev pub scans_of : DmiComing → Coming
 scans_of (Results results) = Numbers []
-scans_of (Scans script) = script
+scans_of (Scans coming) = coming
 
-abbrev pub scanned_script : Option DmiScript → Option Script
-scanned_script None = None
-scanned_script (Some script) = Some (scans_of script)
+abbrev pub scanned_coming : Option DmiComing → Option Coming
+scanned_coming None = None
+scanned_coming (Some coming) = Some (scans_of coming)
 
--- by the counts of faults before and behind, the far end before and behind, and the script before
-abbrev pub DmiCause : ℕ → ℕ → Option Far → Option Far → Option DmiScript → DmiFault → Type 0
-DmiCause old new was told script (Wire fault) = ScanCause old new told (scanned_script script) fault
-DmiCause old new was told script Failed = IfSome was (λ f. LostOne (chip_of f) told) × IfSome script (WhereScanned HeardFailed)
-DmiCause old new was told script StillBusy = IfSome was (λ f. FoundBusy (chip_of f) told) × IfSome script (WhereScanned HeardBusy)
+-- by the counts of faults before and behind, the far end before and behind, and what was to be heard before
+abbrev pub DmiCause : ℕ → ℕ → Option Far → Option Far → Option DmiComing → DmiFault → Type 0
+DmiCause old new was told coming (Wire fault) = ScanCause old new told (scanned_coming coming) fault
+DmiCause old new was told coming Failed = IfSome was (λ f. LostOne (chip_of f) told) × IfSome coming (WhereScanned HeardFailed)
+DmiCause old new was told coming StillBusy = IfSome was (λ f. FoundBusy (chip_of f) told) × IfSome coming (WhereScanned HeardBusy)
 
 -- a register that is only scanned is never awaited
-abbrev pub ScannedCause : ℕ → ℕ → Option Far → Option DmiScript → DmiFault → Type 0
-ScannedCause old new told script (Wire fault) = ScanCause old new told (scanned_script script) fault
-ScannedCause old new told script Failed = ⊥
-ScannedCause old new told script StillBusy = ⊥
+abbrev pub ScannedCause : ℕ → ℕ → Option Far → Option DmiComing → DmiFault → Type 0
+ScannedCause old new told coming (Wire fault) = ScanCause old new told (scanned_coming coming) fault
+ScannedCause old new told coming Failed = ⊥
+ScannedCause old new told coming StillBusy = ⊥
 
 -- only behind a fault of the wire the stream may be cut
 abbrev pub LeavesStream : Option Far → DmiFault → Type 0

@@ -1,13 +1,15 @@
 -- What each call on a link keeps: what no call changes, what none lowers, what each Ok leaves, and each fault. A further promise of every call is a field
 -- here: unchanged, of `Fixed`; monotone, of `ScanKeeps` and `Keeps`; left by each Ok, of `ScanRests` and `Stands`; left by each fault, of `Fallen`.
-use Rattle.std.specs.Prelude.{◌≡◌, ◌≤◌, ℕ, Bool, true, false, Option, Some, None, Result, Ok, Err}
+use Rattle.std.specs.Prelude.{◌≡◌, ◌≤◌, ℕ, List, Bool, true, false, Option, Some, None, Result, Ok, Err}
+use Rattle.debug_model.specs.declared.asked.Asked.{Asked}
 use Rattle.debug_model.specs.declared.dmi.DmiFault.{DmiFault}
 use Rattle.debug_model.specs.declared.dmi.DmiFault.TheVariants.{Wire, Failed, StillBusy}
 use Rattle.debug_model.specs.declared.wire.WireFault.{WireFault}
 use Rattle.debug_model.specs.declared.wire.WireFault.TheVariants.{SendFailed, RecvFailed, Ended, BadAnswer}
-use Rattle.debug_model.specs.Dmi.{CanOperate, DmiCause, DmiScript, LeavesStream, ScannedCause}
+use Rattle.debug_model.specs.Asked.{Asking}
+use Rattle.debug_model.specs.Dmi.{CanOperate, DmiCause, DmiComing, LeavesStream, ScannedCause}
 use Rattle.debug_model.specs.Many.{ManyCause}
-use Rattle.debug_model.specs.Scan.{ScanCause, Script}
+use Rattle.debug_model.specs.Scan.{Coming, ScanCause}
 use Rattle.debug_model.specs.Ties.{Ties}
 use Rattle.debug_model.specs.Told.{Far, IsFree, IsIdle, IsLive, IsOpen, IsRead}
 
@@ -29,7 +31,8 @@ gives_end_of_answers (BadAnswer b) = false
 -- what is seen of what scans a TAP's registers
 pub record ScanSeen : Type 0 where
   pub far : Option Far  -- the chip at the far end and its unread answers, where they are told
-  pub coming : Option Script  -- what is to come out of scans, where it is told beside a chip or without one
+  pub coming : Option Coming  -- what is to come out of scans, where it is told beside a chip or without one
+  pub asked : Option (List Asked)  -- what was asked for, one call after another, where it is told
   pub fault_count : ℕ  -- how many calls of what carries the scans have failed
   pub fixed : Fixed
 
@@ -71,7 +74,8 @@ ScanFails old new why = ScanCause old.fault_count new.fault_count new.far old.co
 -- what is seen of what operates on a debug module
 pub record DmiSeen : Type 0 where
   pub far : Option Far  -- the chip at the far end and its unread answers, where they are told
-  pub coming : Option DmiScript  -- what is to be heard, where it is told beside a chip or without one
+  pub coming : Option DmiComing  -- what is to be heard, where it is told beside a chip or without one
+  pub asked : Option Asking  -- what scans were asked for, where it is told
   pub is_alive : Bool  -- whether calls can be made: no call has failed
   pub fault_count : ℕ  -- how many calls of what carries the operations have failed
   pub fixed : Fixed

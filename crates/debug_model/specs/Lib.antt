@@ -1,4 +1,5 @@
 pub mod Addresses
+pub mod Asked
 pub mod Chip
 pub mod Command
 pub mod Commands

@@ -3,7 +3,7 @@
 use Rattle.std.specs.Prelude.{◌≡◌, ◌⊎◌, ℕ, zero, suc, ◌<◌, ◌≤◌, ◌^◌, false, List, [], ◌∷◌, ◌++◌, length, replicate, Option, None, All}
 use Rattle.rv_model.specs.declared.cause.Cause.{Cause}
 use Rattle.debug_model.specs.declared.event.Event.{Event}
-use Rattle.rv_model.specs.Board.{Board, Hart, halted_by_reset, reset_hart, runs}
+use Rattle.rv_model.specs.Board.{Board, Hart, halted_by_reset, reset_harts, runs}
 use Rattle.rv_model.specs.Image.{with_image}
 use Rattle.rv_model.specs.Memory.{IsRamSize, Memory, hart_places, map_of}
 use Rattle.debug_model.specs.Chip.{Chip, Inside, Live, no_counts}
@@ -13,16 +13,15 @@ use Rattle.debug_model.specs.Schedule.{RoundPlan}
 use Rattle.debug_model.specs.Transport.{fresh_dtm}
 
 -- so many harts, numbered from 0, halted for this reason or running
-abbrev pub reset_harts : ℕ → Option Cause → List Hart
-reset_harts zero halted = []
-reset_harts (suc n) halted = reset_harts n halted ++ reset_hart n halted ∷ []
+abbrev pub loaded_harts : ℕ → Option Cause → List Hart
+loaded_harts harts halted = reset_harts 0 (replicate harts halted)
 
 -- the image from the start of RAM on, and zeros behind it
 abbrev pub loaded_memory : List ℕ → ℕ → Memory
 loaded_memory image ram = record { bytes = with_image (map_of (replicate ram 0)) image; reserved = replicate hart_places None }
 
 abbrev pub loaded_board : List ℕ → ℕ → ℕ → Option Cause → Board
-loaded_board image harts ram halted = record { harts = reset_harts harts halted; memory = loaded_memory image ram }
+loaded_board image harts ram halted = record { harts = loaded_harts harts halted; memory = loaded_memory image ram }
 
 abbrev pub loaded_inside : Board → RoundPlan → ℕ → Inside
 loaded_inside board plan most_points = record {

@@ -10,7 +10,7 @@ use Rattle.debug_model.specs.Chip.{Chip}
 use Rattle.debug_model.specs.Course.{Course, Happening, Operation, SitePath, Spans, each_once, performed}
 use Rattle.debug_model.specs.Dmi.{
   AtMostOnce,
-  DmiScript,
+  DmiComing,
   FoundBusy,
   IsDmi,
   IsDtmcs,
@@ -23,10 +23,10 @@ use Rattle.debug_model.specs.Dmi.{
   WhereScanned,
   busy_most,
   heard,
-  scanned_script,
+  scanned_coming,
   value_of,
 }
-use Rattle.debug_model.specs.Scan.{ScanCause, Script}
+use Rattle.debug_model.specs.Scan.{Coming, ScanCause}
 use Rattle.debug_model.specs.Told.{Far, chip_of, site_of}
 use Rattle.debug_model.specs.TransportWords.{status_failed}
 
@@ -85,7 +85,7 @@ pub data Streamed : ℕ → ℕ → Bool → List ℕ → List (List Bool) → T
       → (out : List Bool) → IsDmi out → WasDone out → Streamed (suc taken) 0 true (results ++ ((heard out).value ∷ [])) (outs ++ (out ∷ []))
 
 -- the scans of so many operations, whose results these are
-pub record FetchedAll (operations : ℕ) (results : List ℕ) (script new : Script) : Type 0 where
+pub record FetchedAll (operations : ℕ) (results : List ℕ) (coming new : Coming) : Type 0 where
   pub busy_answers : ℕ
   pub few : busy_answers < busy_most
   pub earlier : List ℕ
@@ -95,7 +95,7 @@ pub record FetchedAll (operations : ℕ) (results : List ℕ) (script new : Scri
   pub width : IsDmi out
   pub done : WasDone out
   pub results_are : results ≡ earlier ++ ((heard out).value ∷ [])
-  pub took : TookAll (outs ++ (out ∷ [])) script new
+  pub took : TookAll (outs ++ (out ∷ [])) coming new
 
 -- a read answers the next number, and a write its data
 abbrev pub TakesOne : DmiOp → ℕ → List ℕ → List ℕ → Type 0
@@ -103,24 +103,24 @@ TakesOne (Read address) value numbers new = numbers ≡ value ∷ new
 TakesOne (Write address written) value numbers new = (value ≡ written) × (new ≡ numbers)
 
 -- and so all of them, one after another
-abbrev pub TookEach : List DmiOp → List ℕ → List ℕ → Option DmiScript → Type 0
+abbrev pub TookEach : List DmiOp → List ℕ → List ℕ → Option DmiComing → Type 0
 TookEach [] results numbers new = (results ≡ []) × (new ≡ Some (Results numbers))
 TookEach (op ∷ ops) results numbers new =
     (value : ℕ) × (more : List ℕ) × (others : List ℕ) × (results ≡ value ∷ more) × TakesOne op value numbers others × TookEach ops more others new
 
-abbrev pub TookResults : List DmiOp → List ℕ → DmiScript → Option DmiScript → Type 0
+abbrev pub TookResults : List DmiOp → List ℕ → DmiComing → Option DmiComing → Type 0
 TookResults ops results (Results numbers) new = TookEach ops results numbers new
-TookResults ops results (Scans script) new = (next : Script) × FetchedAll (length ops) results script next × (new ≡ Some (Scans next))
+TookResults ops results (Scans coming) new = (next : Coming) × FetchedAll (length ops) results coming next × (new ≡ Some (Scans next))
 
 -- a call with these operations answered these results
-abbrev pub AnswersAll : List DmiOp → List ℕ → Option DmiScript → Option DmiScript → Type 0
+abbrev pub AnswersAll : List DmiOp → List ℕ → Option DmiComing → Option DmiComing → Type 0
 AnswersAll ops results None new = new ≡ None
-AnswersAll ops results (Some script) new = TookResults ops results script new
+AnswersAll ops results (Some coming) new = TookResults ops results coming new
 
 -- ---- why a call failed. Behind a fault the link is not alive.
 
 -- the last scan took out op 2, of so many operations
-pub record HeardManyFailed (operations : ℕ) (script : Script) : Type 0 where
+pub record HeardManyFailed (operations : ℕ) (coming : Coming) : Type 0 where
   pub taken : ℕ
   pub some : taken ≤ operations
   pub busy_answers : ℕ
@@ -132,24 +132,24 @@ pub record HeardManyFailed (operations : ℕ) (script : Script) : Type 0 where
   pub out : List Bool
   pub width : IsDmi out
   pub failed : (heard out).op ≡ status_failed
-  pub new : Script
-  pub took : TookAll (outs ++ (out ∷ [])) script new
+  pub new : Coming
+  pub took : TookAll (outs ++ (out ∷ [])) coming new
 
 -- 64 scans in a row took out op 3 or op 1
-pub record HeardManyBusy (operations : ℕ) (script : Script) : Type 0 where
+pub record HeardManyBusy (operations : ℕ) (coming : Coming) : Type 0 where
   pub taken : ℕ
   pub some : taken ≤ operations
   pub flight : Bool
   pub results : List ℕ
   pub outs : List (List Bool)
   pub streamed : Streamed taken busy_most flight results outs
-  pub new : Script
-  pub took : TookAll outs script new
+  pub new : Coming
+  pub took : TookAll outs coming new
 
--- by how many operations were asked for, the counts of faults before and behind, the far end before and behind, and the script before
-abbrev pub ManyCause : ℕ → ℕ → ℕ → Option Far → Option Far → Option DmiScript → DmiFault → Type 0
-ManyCause operations old new was told script (Wire fault) = ScanCause old new told (scanned_script script) fault
-ManyCause operations old new was told script Failed =
-    IfSome was (λ f. LostOne (chip_of f) told) × IfSome script (WhereScanned (HeardManyFailed operations))
-ManyCause operations old new was told script StillBusy =
-    IfSome was (λ f. FoundBusy (chip_of f) told) × IfSome script (WhereScanned (HeardManyBusy operations))
+-- by how many operations were asked for, the counts of faults before and behind, the far end before and behind, and what was to be heard before
+abbrev pub ManyCause : ℕ → ℕ → ℕ → Option Far → Option Far → Option DmiComing → DmiFault → Type 0
+ManyCause operations old new was told coming (Wire fault) = ScanCause old new told (scanned_coming coming) fault
+ManyCause operations old new was told coming Failed =
+    IfSome was (λ f. LostOne (chip_of f) told) × IfSome coming (WhereScanned (HeardManyFailed operations))
+ManyCause operations old new was told coming StillBusy =
+    IfSome was (λ f. FoundBusy (chip_of f) told) × IfSome coming (WhereScanned (HeardManyBusy operations))

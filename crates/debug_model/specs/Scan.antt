@@ -246,30 +246,30 @@ WhereTold R (Some f) new = R f.live.chip new
 
 -- ---- scripted scans: what comes out is given beforehand
 
-pub data Script : Type 0 where
-  Numbers : (numbers : List ℕ) → Script  -- each scan of n bits takes out the lowest n bits of the next number
-  Answers : (bytes : List ℕ) → Script  -- each asked bit is one answer byte
+pub data Coming : Type 0 where
+  Numbers : (numbers : List ℕ) → Coming  -- each scan of n bits takes out the lowest n bits of the next number
+  Answers : (bytes : List ℕ) → Coming  -- each asked bit is one answer byte
 
 -- a scan took these bits out
-abbrev pub TookOut : List Bool → Script → Option Script → Type 0
+abbrev pub TookOut : List Bool → Coming → Option Coming → Type 0
 TookOut out (Numbers numbers) new =
     (number : ℕ) × (rest : List ℕ) × (numbers ≡ number ∷ rest) × (out ≡ bits_of (length out) number) × (new ≡ Some (Numbers rest))
 TookOut out (Answers bytes) new = (rest : List ℕ) × (bytes ≡ map answer_byte out ++ rest) × (new ≡ Some (Answers rest))
 
-abbrev pub ComesOut : List Bool → Option Script → Option Script → Type 0
+abbrev pub ComesOut : List Bool → Option Coming → Option Coming → Type 0
 ComesOut out None new = new ≡ None
-ComesOut out (Some script) new = TookOut out script new
+ComesOut out (Some coming) new = TookOut out coming new
 
 -- a scan that failed took nothing but answers that are bits
-pub record TookBits (bytes : List ℕ) (new : Option Script) : Type 0 where
+pub record TookBits (bytes : List ℕ) (new : Option Coming) : Type 0 where
   pub good : List Bool
   pub left : List ℕ
   pub are : bytes ≡ map answer_byte good ++ left
   pub is : new ≡ Some (Answers left)
 
 -- a scan that failed judged all that it took: only the fault that keeps a bad answer may have taken one
-abbrev pub Judged : Option Script → Option Script → WireFault → Type 0
-Judged script new (BadAnswer b) = Unit {0}
+abbrev pub Judged : Option Coming → Option Coming → WireFault → Type 0
+Judged coming new (BadAnswer b) = Unit {0}
 Judged None new fault = new ≡ None
 Judged (Some (Numbers numbers)) new fault = new ≡ Some (Numbers numbers)
 Judged (Some (Answers bytes)) new fault = TookBits bytes new
@@ -282,16 +282,16 @@ pub record CameWrong (b : ℕ) (bytes : List ℕ) : Type 0 where
   pub rest : List ℕ
   pub is : bytes ≡ map answer_byte good ++ b ∷ rest
 
-abbrev pub WrongIn : ℕ → Script → Type 0
+abbrev pub WrongIn : ℕ → Coming → Type 0
 WrongIn b (Numbers numbers) = ⊥
 WrongIn b (Answers bytes) = CameWrong b bytes
 
 -- an answer that is neither 0 nor 1, also one that came before the wire failed: no told chip gives one, and of a scripted object it is the first such
-abbrev pub BadCause : ℕ → Option Far → Option Script → Type 0
-BadCause b told script = (told ≡ None) × (b ≢ 48) × (b ≢ 49) × IfSome script (WrongIn b)
+abbrev pub BadCause : ℕ → Option Far → Option Coming → Type 0
+BadCause b told coming = (told ≡ None) × (b ≢ 48) × (b ≢ 49) × IfSome coming (WrongIn b)
 
-abbrev pub ScanCause : ℕ → ℕ → Option Far → Option Script → WireFault → Type 0
-ScanCause old new told script SendFailed = Rises old new
-ScanCause old new told script RecvFailed = Rises old new
-ScanCause old new told script Ended = EndCause old new told
-ScanCause old new told script (BadAnswer b) = BadCause b told script
+abbrev pub ScanCause : ℕ → ℕ → Option Far → Option Coming → WireFault → Type 0
+ScanCause old new told coming SendFailed = Rises old new
+ScanCause old new told coming RecvFailed = Rises old new
+ScanCause old new told coming Ended = EndCause old new told
+ScanCause old new told coming (BadAnswer b) = BadCause b told coming

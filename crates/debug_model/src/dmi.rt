@@ -1,5 +1,6 @@
 ghost use Rattle.std.specs.Prelude.{◌≡◌, ◌<◌, ◌≤◌, ◌^◌, All, [], length, Some, OnOk, OnErr, IfOk, IfErr, IfSome};
 ghost use Rattle.debug_model.specs.declared.dmi_op.DmiOp.TheVariants.{Read, Write};
+ghost use Rattle.debug_model.specs.Asked.{AsksDtmcs, AsksIdcode, AsksOperation, AsksOperations};
 ghost use Rattle.debug_model.specs.Dmi.{Answers, IsOperation, NoneOperated, Operated, OperationCut, Passes, Shows};
 ghost use Rattle.debug_model.specs.Kept.{CanCall, DmiSeen, Keeps, ManyFails, OperationFails, RegisterScanFails};
 ghost use Rattle.debug_model.specs.Many.{AnswersAll, OperatedAll, OperationsCut, operations_most};
@@ -47,7 +48,8 @@ pub const OPERATIONS_MOST: usize = 128;
 /// answers were, an operation was performed exactly once. Where it tells what is to be heard, each answer is that. Behind any fault
 /// it is not alive, and no call can be made.
 pub trait Dmi: Drop {
-    /// The chip at the far end and what is to be heard, each where it is told; whether calls can be made; how many have failed; and what no call changes.
+    /// The chip at the far end, what is to be heard, and what scans were asked for, each where it is told; whether calls can be made; how many have failed; and
+    /// what no call changes.
     ghost seen: { Self → DmiSeen };
 
     /// Resets the TAP and reads the 32 bits of its IDCODE (IEEE 1149.1, the device identification register).
@@ -56,6 +58,7 @@ pub trait Dmi: Drop {
         ensures path { OnOk result (WhereTold NoneOperated (seen self.old).far (seen self.new).far) }
         ensures value { IfOk result (λ value. IfSome (seen self.old).far (λ _. value ≡ idcode)) }
         ensures shows { IfOk result (λ value. Shows value (seen self.old).coming (seen self.new).coming) }
+        ensures asked { OnOk result (AsksIdcode (seen self.old).asked (seen self.new).asked) }
         ensures cut { OnErr result (WhereTold NoneOperated (seen self.old).far (seen self.new).far) }
         ensures cause { IfErr result (RegisterScanFails (seen self.old) (seen self.new)) }
         ensures keeps { Keeps Some (seen self.old) (seen self.new) result };
@@ -66,6 +69,7 @@ pub trait Dmi: Drop {
         ensures path { OnOk result (WhereTold NoneOperated (seen self.old).far (seen self.new).far) }
         ensures value { IfOk result (λ value. IfSome (seen self.old).far (λ _. value ≡ dtmcs_word (dtmcs_seen fresh_dtm))) }
         ensures shows { IfOk result (λ value. Shows value (seen self.old).coming (seen self.new).coming) }
+        ensures asked { IfOk result (λ value. AsksDtmcs value (seen self.old).asked (seen self.new).asked) }
         ensures cut { OnErr result (WhereTold NoneOperated (seen self.old).far (seen self.new).far) }
         ensures cause { IfErr result (RegisterScanFails (seen self.old) (seen self.new)) }
         ensures keeps { Keeps Some (seen self.old) (seen self.new) result };
@@ -76,6 +80,7 @@ pub trait Dmi: Drop {
         requires callable { CanCall (seen self.old) }
         ensures operated { IfOk result (λ value. WhereTold (Operated (Read address) value) (seen self.old).far (seen self.new).far) }
         ensures answers { IfOk result (λ value. Answers value (seen self.old).coming (seen self.new).coming) }
+        ensures asked { OnOk result (AsksOperation (Read address) (seen self.old).asked (seen self.new).asked) }
         ensures cut { OnErr result (WhereTold (OperationCut (Read address)) (seen self.old).far (seen self.new).far) }
         ensures cause { IfErr result (OperationFails (seen self.old) (seen self.new)) }
         ensures keeps { Keeps Some (seen self.old) (seen self.new) result };
@@ -86,6 +91,7 @@ pub trait Dmi: Drop {
         requires callable { CanCall (seen self.old) }
         ensures operated { OnOk result (WhereTold (Operated (Write address value) value) (seen self.old).far (seen self.new).far) }
         ensures passes { OnOk result (Passes (seen self.old).coming (seen self.new).coming) }
+        ensures asked { OnOk result (AsksOperation (Write address value) (seen self.old).asked (seen self.new).asked) }
         ensures cut { OnErr result (WhereTold (OperationCut (Write address value)) (seen self.old).far (seen self.new).far) }
         ensures cause { IfErr result (OperationFails (seen self.old) (seen self.new)) }
         ensures keeps { Keeps Some (seen self.old) (seen self.new) result };
@@ -105,6 +111,7 @@ pub trait Dmi: Drop {
         ensures count { OnOk result (length results.new.items ≡ length ops.now) }
         ensures operated { OnOk result (WhereTold (OperatedAll ops.now results.new.items) (seen self.old).far (seen self.new).far) }
         ensures answers { OnOk result (AnswersAll ops.now results.new.items (seen self.old).coming (seen self.new).coming) }
+        ensures asked { OnOk result (AsksOperations ops.now (seen self.old).asked (seen self.new).asked) }
         ensures cut { OnErr result (WhereTold (OperationsCut ops.now) (seen self.old).far (seen self.new).far) }
         ensures none { OnErr result (results.new.items ≡ []) }
         ensures cause { IfErr result (ManyFails (length ops.now) (seen self.old) (seen self.new)) }

@@ -1,4 +1,6 @@
-ghost use Rattle.std.specs.Prelude.{◌≡◌, ◌<◌, ◌≤◌, length, OnOk, OnErr, IfOk, IfErr};
+ghost use Rattle.std.specs.Prelude.{◌≡◌, ◌<◌, ◌≤◌, [], ◌∷◌, length, OnOk, OnErr, IfOk, IfErr};
+ghost use Rattle.debug_model.specs.declared.asked.Asked.TheVariants as asked;
+ghost use Rattle.debug_model.specs.Asked.{and_asked};
 ghost use Rattle.debug_model.specs.Kept.{CanReset, CanShift, ScanFails, ScanKeeps, ScanSeen};
 ghost use Rattle.debug_model.specs.Scan.{Fits, Judged, Scanned, Selected, StayedIdle, WasReset, ScanCut, RoundsPassed, ResetCut, WhereTold, ComesOut, idle_most, ir_clocks};
 ghost use Rattle.debug_model.specs.Ties.{lent_by};
@@ -12,7 +14,8 @@ use jt_base::Bits;
 /// Run-Test/Idle. Whatever a call answers, the chip behind it comes from the one before it by the schedule's next rounds; a scan
 /// updates the selected register at most once, and nothing else updates it.
 pub trait Scan: Drop {
-    /// The chip at the far end and what is to come out of scans, each where it is told; how many calls have failed; and what no call changes.
+    /// The chip at the far end, what is to come out of scans, and what was asked for, each where it is told; how many calls have failed; and what no call
+    /// changes.
     ghost seen: { Self → ScanSeen };
 
     /// Brings the TAP from anywhere through Test-Logic-Reset to Run-Test/Idle, with IDCODE selected.
@@ -21,6 +24,7 @@ pub trait Scan: Drop {
         ensures reset { OnOk result (WhereTold (WasReset (seen self.old).fixed.slack) (seen self.old).far (seen self.new).far) }
         ensures cut { OnErr result (WhereTold (ResetCut (seen self.old).fixed.slack) (seen self.old).far (seen self.new).far) }
         ensures coming { (seen self.new).coming ≡ (seen self.old).coming }
+        ensures asked { (seen self.new).asked ≡ and_asked (asked.Reset ∷ []) (seen self.old).asked }
         ensures cause { IfErr result (ScanFails (seen self.old) (seen self.new)) }
         ensures keeps { ScanKeeps (seen self.old) (seen self.new) result };
 
@@ -31,6 +35,7 @@ pub trait Scan: Drop {
         ensures selected { OnOk result (WhereTold (Selected (seen self.old).fixed.slack code) (seen self.old).far (seen self.new).far) }
         ensures cut { OnErr result (WhereTold (RoundsPassed (seen self.old).fixed.slack ir_clocks) (seen self.old).far (seen self.new).far) }
         ensures coming { (seen self.new).coming ≡ (seen self.old).coming }
+        ensures asked { (seen self.new).asked ≡ and_asked (asked.Select code ∷ []) (seen self.old).asked }
         ensures cause { IfErr result (ScanFails (seen self.old) (seen self.new)) }
         ensures keeps { ScanKeeps (seen self.old) (seen self.new) result };
 
@@ -41,6 +46,7 @@ pub trait Scan: Drop {
         requires callable { CanShift (seen self.old) }
         ensures scanned { IfOk result (λ out. WhereTold (Scanned (seen self.old).fixed.slack bits out) (seen self.old).far (seen self.new).far) }
         ensures came { IfOk result (λ out. ComesOut out (seen self.old).coming (seen self.new).coming) }
+        ensures asked { (seen self.new).asked ≡ and_asked (asked.Shift bits ∷ []) (seen self.old).asked }
         ensures length { IfOk result (λ out. length out ≡ length bits) }
         ensures cut { OnErr result (WhereTold (ScanCut (seen self.old).fixed.slack bits) (seen self.old).far (seen self.new).far) }
         ensures judged { IfErr result (Judged (seen self.old).coming (seen self.new).coming) }
@@ -55,6 +61,7 @@ pub trait Scan: Drop {
         ensures passed { OnOk result (WhereTold (StayedIdle (seen self.old).fixed.slack clocks) (seen self.old).far (seen self.new).far) }
         ensures cut { OnErr result (WhereTold (RoundsPassed (seen self.old).fixed.slack clocks) (seen self.old).far (seen self.new).far) }
         ensures coming { (seen self.new).coming ≡ (seen self.old).coming }
+        ensures asked { (seen self.new).asked ≡ and_asked (asked.Idle clocks ∷ []) (seen self.old).asked }
         ensures cause { IfErr result (ScanFails (seen self.old) (seen self.new)) }
         ensures keeps { ScanKeeps (seen self.old) (seen self.new) result };
 

@@ -11,7 +11,7 @@ use crate::wire::WireFault;
 use arrayvec::ArrayVec;
 use jt_base::count_fault;
 
-/// How many results a script holds at most.
+/// How many results are given beforehand at most.
 const RESULTS_MOST: usize = 64;
 
 /// Operations without a chip: what each call that reads answers is given beforehand.
@@ -77,6 +77,7 @@ impl Dmi for ScriptedDmi {
     ghost seen = { λ s. record {
       far = None;
       coming = Some (Results s.results.items);
+      asked = None;
       is_alive = s.alive;
       fault_count = s.failed;
       fixed = record { slack = None; ties = no_ties; gives = gives_end_of_answers };

@@ -59,6 +59,7 @@ fn options_of(job: &Job) -> Option<ChipOptions> {
         Job::Both(_, options, _, _) => Some(*options),
         Job::Probe { .. } => None,
         Job::Chip { options, .. } => Some(*options),
+        Job::Sniff { .. } => None,
     }
 }
 
@@ -79,7 +80,7 @@ fn load_fault(alloc: Global, options: &ChipOptions) -> LoadFault {
     }
 }
 
-/// The image's fault.
+/// The fault of an image, or of a recording's file: this has one alone.
 fn explain_image<R: Eprint>(
     runtime: &R,
     alloc: Global,
@@ -90,7 +91,9 @@ fn explain_image<R: Eprint>(
         return Ok(());
     };
     let Some(options) = options_of(&job) else {
-        return Ok(());
+        return eprintln!(runtime;
+            "a file of the recording was refused: it has more than 16777216 bytes"
+        );
     };
     let fault = match image {
         Err(FileFault::TooLong) => LoadFault::TooLong,

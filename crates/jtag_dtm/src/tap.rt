@@ -7,18 +7,9 @@ ghost use Rattle.debug_model.specs.Transport.{dropped, finished};
 
 use crate::controller::next_state;
 use crate::transport::Transport;
-use debug_model::{DataRegister, DmiOp, TapState};
+use debug_model::{DataRegister, DmiOp, TapState, instruction_code};
 use jt_base::Bits;
 use std::marker::Model;
-
-/// The instruction code that selects the device identification register.
-const IDCODE_INSTRUCTION: u64 = 0x01;
-
-/// The instruction code that selects dtmcs.
-const DTMCS_INSTRUCTION: u64 = 0x10;
-
-/// The instruction code that selects dmi.
-const DMI_INSTRUCTION: u64 = 0x11;
 
 /// The bits of the instruction register.
 const INSTRUCTION_BITS: u8 = 5;
@@ -54,10 +45,10 @@ impl Model for Tap {
 fn select(code: u64) -> DataRegister
     ensures { result ≡ data_register_of code }
 {
-    match code {
-        IDCODE_INSTRUCTION => DataRegister::Idcode,
-        DTMCS_INSTRUCTION => DataRegister::Dtmcs,
-        DMI_INSTRUCTION => DataRegister::Dmi,
+    match u8::try_from(code) {
+        Ok(instruction_code::IDCODE) => DataRegister::Idcode,
+        Ok(instruction_code::DTMCS) => DataRegister::Dtmcs,
+        Ok(instruction_code::DMI) => DataRegister::Dmi,
         _ => DataRegister::Bypass,
     }
 }

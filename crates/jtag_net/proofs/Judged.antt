@@ -1,5 +1,37 @@
 -- Which bytes are answers: those of a chip all are, and what stands in a buffer in place of others.
-use Rattle.std.proofs.Common.{◌≡◌, ◌≤◌, ℕ, List, [], ◌∷◌, ◌++◌, length, replicate, take, drop, ◌+◌, zero, suc, Bool, true, false, ◌&&◌, Option, None, Some, IfSome, IsTrue, option_map, refl, sym, ap, subst, ◌∙◌, true≢false, arith}
+use Rattle.std.proofs.Common.{
+  ◌≡◌,
+  ◌≤◌,
+  ℕ,
+  List,
+  [],
+  ◌∷◌,
+  ◌++◌,
+  length,
+  replicate,
+  take,
+  drop,
+  ◌+◌,
+  zero,
+  suc,
+  Bool,
+  true,
+  false,
+  ◌&&◌,
+  Option,
+  None,
+  Some,
+  IfSome,
+  IsTrue,
+  option_map,
+  refl,
+  sym,
+  ap,
+  subst,
+  ◌∙◌,
+  true≢false,
+  arith,
+}
 use Rattle.std.specs.List.{list_all}
 use Rattle.std.proofs.lemmas.List.{length-replicate, take-append-drop, take_all}
 use Rattle.std.proofs.lemmas.List.Folds.{list_all-append}
@@ -48,10 +80,12 @@ padded xs n = joined xs (replicate n no_answer) ∙ ap (λ b. are_answers xs && 
     and_true false = refl
 
 front_true : (n : ℕ) (xs : List ℕ) → are_answers xs ≡ true → are_answers (take n xs) ≡ true
-front_true n xs is = first_true (are_answers (take n xs)) (are_answers (drop n xs)) (sym (joined (take n xs) (drop n xs)) ∙ ap are_answers (take-append-drop n xs) ∙ is)
+front_true n xs is = first_true (are_answers (take n xs)) (are_answers (drop n xs))
+    (sym (joined (take n xs) (drop n xs)) ∙ ap are_answers (take-append-drop n xs) ∙ is)
 
 rest_true : (n : ℕ) (xs : List ℕ) → are_answers xs ≡ true → are_answers (drop n xs) ≡ true
-rest_true n xs is = second_true (are_answers (take n xs)) (are_answers (drop n xs)) (sym (joined (take n xs) (drop n xs)) ∙ ap are_answers (take-append-drop n xs) ∙ is)
+rest_true n xs is = second_true (are_answers (take n xs)) (are_answers (drop n xs))
+    (sym (joined (take n xs) (drop n xs)) ∙ ap are_answers (take-append-drop n xs) ∙ is)
 
 -- ---- what a chip says
 
@@ -84,15 +118,18 @@ said_true l (b ∷ bs) = joined_true (answer l b) (said (after l b) bs) (unless_
 -- ---- what was taken
 
 -- what a failed take wrote into the part that it was given is no matter
-pub front_judged : (a k : ℕ) (into piece : List ℕ) (b : Bool) → are_answers (take a into) ≡ b → a ≤ length into → are_answers (take a (put_mid a k into piece)) ≡ b
+pub front_judged : (a k : ℕ) (into piece : List ℕ) (b : Bool) → are_answers (take a into) ≡ b → a ≤ length into
+    → are_answers (take a (put_mid a k into piece)) ≡ b
 front_judged a k into piece b is within = ap are_answers (take-put_mid_below a k into piece a (omega arith) within) ∙ is
 
 -- nor what was filled in behind it
-pub padded_judged : (a k n : ℕ) (into : List ℕ) (b : Bool) (old new : NetState) → are_answers (take a into) ≡ b → a ≤ length into → length (put_mid a k into (replicate n no_answer)) ≡ a + n
+pub padded_judged : (a k n : ℕ) (into : List ℕ) (b : Bool) (old new : NetState) → are_answers (take a into) ≡ b → a ≤ length into
+    → length (put_mid a k into (replicate n no_answer)) ≡ a + n
     → are_answers (put_mid a k into (replicate n no_answer)) ≡ b
 padded_judged a k n into b old new is within long =
     let filled = put_mid a k into (replicate n no_answer) in
-    ap are_answers (sym (take_all (a + n) filled (omega (arith, long))) ∙ take-put_mid a k into (replicate n no_answer) (a + n) (omega (arith, length-replicate n no_answer)) within)
+    ap are_answers (sym (take_all (a + n) filled (omega (arith, long)))
+    ∙ take-put_mid a k into (replicate n no_answer) (a + n) (omega (arith, length-replicate n no_answer)) within)
     ∙ padded (take a into) n ∙ is
 
 -- ---- a wire that is sound
@@ -134,4 +171,5 @@ none_bad n missing into (Some f) bad next sound front stands is =
 
 pub sound_bad : (into : List ℕ) (old new : NetState) (bad : ℕ) → Sound old bad → TookSome into old new → are_answers into ≡ false → Sound new (counted bad)
 sound_bad into old new bad sound some is =
-    subst (λ s. Sound s (counted bad)) (sym some.took.is) (none_bad some.count some.missing into old.chip bad (counted bad) sound some.took.of_chip some.padded is)
+    subst (λ s. Sound s (counted bad)) (sym some.took.is)
+    (none_bad some.count some.missing into old.chip bad (counted bad) sound some.took.of_chip some.padded is)

@@ -6,7 +6,8 @@ use Rattle.debug_model.specs.declared.net.End.{End}
 use Rattle.debug_model.specs.declared.net.End.TheVariants as ends
 use Rattle.jtag_net.specs.Store.{Store, called, failed, kept_at, left_at, pipe_of, script_of, state_of}
 
-script_put : (near far : Bool) (coming put bytes : List ℕ) → script_of near far coming (put ++ bytes) ≡ option_map (more_put bytes) (script_of near far coming put)
+script_put : (near far : Bool) (coming put bytes : List ℕ)
+    → script_of near far coming (put ++ bytes) ≡ option_map (more_put bytes) (script_of near far coming put)
 script_put false far coming put bytes = refl
 script_put true false coming put bytes = refl
 script_put true true coming put bytes = refl
@@ -28,13 +29,16 @@ pipe_put_far true coming put bytes = refl
 told_put : (at : End) (bytes : List ℕ) (s : Store) → is_open at (state_of s) ≡ true → state_of (kept_at at bytes s) ≡ after_put at bytes (state_of s)
 told_put ends.Near bytes s opens =
     ap (λ x. record (state_of s) { script = x; pipe = pipe_of s.far_open s.coming (s.put ++ bytes) }) (script_put s.near_open s.far_open s.coming s.put bytes)
-    ∙ ap (λ y. record (state_of s) { script = option_map (more_put bytes) (script_of s.near_open s.far_open s.coming s.put); pipe = y }) (pipe_put_near s.far_open s.coming s.put bytes)
+    ∙ ap (λ y. record (state_of s) { script = option_map (more_put bytes) (script_of s.near_open s.far_open s.coming s.put); pipe = y })
+    (pipe_put_near s.far_open s.coming s.put bytes)
 told_put ends.Far bytes s opens =
-    ap (λ x. record (state_of s) { script = x; pipe = pipe_of s.far_open (s.coming ++ bytes) s.put }) (no_script s.near_open s.far_open s.coming (s.coming ++ bytes) s.put opens)
+    ap (λ x. record (state_of s) { script = x; pipe = pipe_of s.far_open (s.coming ++ bytes) s.put })
+    (no_script s.near_open s.far_open s.coming (s.coming ++ bytes) s.put opens)
     ∙ ap (λ y. record (state_of s) { pipe = y }) (pipe_put_far s.far_open s.coming s.put bytes)
 
 -- a put that failed kept what fits, which is a front of the bytes
-pub kept_front : (at : End) (bytes : List ℕ) (old begun kept new : Store) → begun ≡ called old → kept ≡ kept_at at (take (left_at at begun) bytes) begun → new ≡ failed kept
+pub kept_front : (at : End) (bytes : List ℕ) (old begun kept new : Store) → begun ≡ called old → kept ≡ kept_at at (take (left_at at begun) bytes) begun
+    → new ≡ failed kept
     → is_open at (state_of old) ≡ true → PutFront at bytes (state_of old) (state_of new)
 kept_front at bytes old begun kept new begun_is kept_is new_is opens =
     let same : state_of begun ≡ state_of old = ap state_of begun_is in

@@ -1,7 +1,35 @@
 -- A net in memory: what it holds, what each call answers and changes, and what it tells. It gives its input in pieces of a
 -- set size, keeps what is put within a set room, and fails at the calls of the listed numbers. Behind `join` what is put at
 -- one end is unread at the other. No public standard defines this.
-use Rattle.std.specs.Prelude.{◌≡◌, ℕ, ◌+◌, ◌-◌, ◌&&◌, ◌==◌, min, List, [], ◌++◌, length, take, drop, Bool, true, false, not, if◌then◌else◌, nat_le, nat_lt, Option, None, Some, option_map, Result, Ok, Err}
+use Rattle.std.specs.Prelude.{
+  ◌≡◌,
+  ℕ,
+  ◌+◌,
+  ◌-◌,
+  ◌&&◌,
+  ◌==◌,
+  min,
+  List,
+  [],
+  ◌++◌,
+  length,
+  take,
+  drop,
+  Bool,
+  true,
+  false,
+  not,
+  if◌then◌else◌,
+  nat_le,
+  nat_lt,
+  Option,
+  None,
+  Some,
+  option_map,
+  Result,
+  Ok,
+  Err,
+}
 use Rattle.jt_base.specs.Faults.{counted}
 use Rattle.jt_base.specs.FileStore.{is_listed}
 use Rattle.debug_model.specs.Net.{given_most, Exchange, NetState, Peer, Pipe}
@@ -147,7 +175,8 @@ Refused faults.NoMemory new wanted = Unit {0}
 
 -- after a put: what fits is kept, and nothing where its number is listed
 abbrev pub after_put : End → List ℕ → Store → Store
-after_put at bytes s = if fails_here s then failed (called s) else if nat_le (length bytes) (left_at at s) then kept_at at bytes (called s) else failed (kept_at at (take (left_at at s) bytes) (called s))
+after_put at bytes s = if fails_here s then failed (called s) else if nat_le (length bytes) (left_at at s) then kept_at at bytes (called s)
+    else failed (kept_at at (take (left_at at s) bytes) (called s))
 
 -- after a take of so many bytes, of which none is the end
 abbrev pub counted_end : ℕ → Store → Store

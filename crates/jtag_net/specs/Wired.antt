@@ -1,6 +1,29 @@
 -- A wire over the near end of a net: over which nets it works, what a take of many bytes does, and why its calls fail.
 -- No public standard defines this, but OpenOCD's remote_bitbang which bytes are answers.
-use Rattle.std.specs.Prelude.{◌≡◌, ℕ, ◌+◌, ◌-◌, ◌^◌, ◌==◌, ◌&&◌, ◌||◌, min, List, ◌∷◌, ◌++◌, replicate, take, Bool, true, false, IsTrue, Option, None, is_none, IfSome}
+use Rattle.std.specs.Prelude.{
+  ◌≡◌,
+  ℕ,
+  ◌+◌,
+  ◌-◌,
+  ◌^◌,
+  ◌==◌,
+  ◌&&◌,
+  ◌||◌,
+  min,
+  List,
+  ◌∷◌,
+  ◌++◌,
+  replicate,
+  take,
+  Bool,
+  true,
+  false,
+  IsTrue,
+  Option,
+  None,
+  is_none,
+  IfSome,
+}
 use Rattle.std.specs.List.{list_all}
 use Rattle.jt_base.specs.Faults.{Rises, counted}
 use Rattle.std.specs.Borrow.{GName}

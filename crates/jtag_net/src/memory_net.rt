@@ -1,5 +1,33 @@
 //! Nets in memory, for tests.
-ghost use Rattle.std.specs.Prelude.{◌≡◌, ◌+◌, ◌-◌, ◌<◌, ◌≤◌, ◌++◌, [], List, None, Some, Option, take, drop, length, min, nat_le, false, true, vec_len, vec_capacity, IfOk, IfErr, OnOk, OnErr, IfSome, IfNone, OnSome};
+ghost use Rattle.std.specs.Prelude.{
+  ◌≡◌,
+  ◌+◌,
+  ◌-◌,
+  ◌<◌,
+  ◌≤◌,
+  ◌++◌,
+  [],
+  List,
+  None,
+  Some,
+  Option,
+  take,
+  drop,
+  length,
+  min,
+  nat_le,
+  false,
+  true,
+  vec_len,
+  vec_capacity,
+  IfOk,
+  IfErr,
+  OnOk,
+  OnErr,
+  IfSome,
+  IfNone,
+  OnSome,
+};
 ghost use Rattle.jt_base.specs.FileStore.{is_listed};
 ghost use Rattle.jt_base.specs.Faults.{Rises, counted};
 ghost use Rattle.debug_model.specs.Net.{given_most};
@@ -35,7 +63,22 @@ impl Model for MemoryNet {
 
     ghost Value = { Store };
 
-    ghost view = { λ n. record { coming = n.coming.items; put = n.put.items; piece = n.piece; room = n.room; fail_at = n.fail_at.items; calls = n.calls; opening = n.opening; address = option_map string_bytes n.address; near_open = n.near_open; far_open = n.far_open; near_given = n.near_given; far_given = n.far_given; faults = n.failed; ends = n.ended } };
+    ghost view = { λ n. record {
+      coming = n.coming.items;
+      put = n.put.items;
+      piece = n.piece;
+      room = n.room;
+      fail_at = n.fail_at.items;
+      calls = n.calls;
+      opening = n.opening;
+      address = option_map string_bytes n.address;
+      near_open = n.near_open;
+      far_open = n.far_open;
+      near_given = n.near_given;
+      far_given = n.far_given;
+      faults = n.failed;
+      ends = n.ended;
+    } };
 
     ghost invariant = { λ n. (0 < n.piece) × (n.room ≤ vec_capacity n.coming) × (n.room ≤ vec_capacity n.put) };
 }
@@ -92,7 +135,21 @@ fn give(coming: &mut Vec<u8>, piece: usize, given: &mut u64, into: &mut [u8]) ->
 
 impl MemoryNet {
     ghost use Rattle.std.specs.Prelude.{not};
-    ghost use Rattle.jtag_net.specs.Store.{called, count_at, failed, fails_here, given, kept_at, left_at, new_store, opened_both, opened_near, started, taken_at, unread};
+    ghost use Rattle.jtag_net.specs.Store.{
+      called,
+      count_at,
+      failed,
+      fails_here,
+      given,
+      kept_at,
+      left_at,
+      new_store,
+      opened_both,
+      opened_near,
+      started,
+      taken_at,
+      unread,
+    };
 
     /// A net that gives this input, in pieces of at most `piece` bytes, which is at least 1, and keeps what is put up to
     /// `room` bytes, whose memory is taken here. The calls whose numbers, from 0, are listed fail and do nothing.
@@ -225,9 +282,43 @@ impl MemoryNet {
 impl Net for MemoryNet {
     ghost use Rattle.std.specs.Prelude.{◌≢◌, is_ok};
     ghost use Rattle.std.specs.Borrow.{GName};
-    ghost use Rattle.debug_model.specs.Net.{Called, CallCause, Gives, IsAccepted, IsConnected, IsJoined, MayPut, MayTake, OpenCause, PutFront, is_open, after_put as net_after_put, after_take, faults_after};
+    ghost use Rattle.debug_model.specs.Net.{
+      Called,
+      CallCause,
+      Gives,
+      IsAccepted,
+      IsConnected,
+      IsJoined,
+      MayPut,
+      MayTake,
+      OpenCause,
+      PutFront,
+      is_open,
+      after_put as net_after_put,
+      after_take,
+      faults_after,
+    };
     ghost use Rattle.debug_model.specs.declared.net.Call.TheVariants as calls;
-    ghost use Rattle.jtag_net.specs.Store.{Opens, Refused, after_put, called, count_at, counted_end, failed, fails_here, given, gives_any, opened_both, opened_near, peer_of, refused_at, started, state_of, taken_at, takes_all};
+    ghost use Rattle.jtag_net.specs.Store.{
+      Opens,
+      Refused,
+      after_put,
+      called,
+      count_at,
+      counted_end,
+      failed,
+      fails_here,
+      given,
+      gives_any,
+      opened_both,
+      opened_near,
+      peer_of,
+      refused_at,
+      started,
+      state_of,
+      taken_at,
+      takes_all,
+    };
 
     ghost state = { λ n. state_of n };
 

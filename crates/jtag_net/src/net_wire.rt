@@ -68,11 +68,15 @@ impl<'a, N: Net> Wire for NetWire<'a, N> {
         ensures live { OnOk result (IsTrue (are_open bytes.now) → IsLive (N.state self.new.net.now).chip) }
         ensures prefix { OnErr result (SentFront bytes.now (N.state self.old.net.now).chip (N.state self.new.net.now).chip) }
         ensures coming { coming_of (N.state self.new.net.now) ≡ coming_of (N.state self.old.net.now) }
-        ensures later { summed self.old.bad_answers (N.fault_count self.old.net.now) (N.end_count self.old.net.now) ≤ summed self.new.bad_answers (N.fault_count self.new.net.now) (N.end_count self.new.net.now) }
-        ensures still { OnOk result (summed self.new.bad_answers (N.fault_count self.new.net.now) (N.end_count self.new.net.now) ≡ summed self.old.bad_answers (N.fault_count self.old.net.now) (N.end_count self.old.net.now)) }
+        ensures later { summed self.old.bad_answers (N.fault_count self.old.net.now) (N.end_count self.old.net.now)
+            ≤ summed self.new.bad_answers (N.fault_count self.new.net.now) (N.end_count self.new.net.now) }
+        ensures still { OnOk result (summed self.new.bad_answers (N.fault_count self.new.net.now) (N.end_count self.new.net.now)
+            ≡ summed self.old.bad_answers (N.fault_count self.old.net.now) (N.end_count self.old.net.now)) }
         ensures own { IfErr result (λ why. net_gives why ≡ true) }
-        ensures cause { IfErr result (SendCause (summed self.old.bad_answers (N.fault_count self.old.net.now) (N.end_count self.old.net.now)) (summed self.new.bad_answers (N.fault_count self.new.net.now) (N.end_count self.new.net.now)) (N.state self.new.net.now).chip) }
-        ensures ties { wired_ties self.new.net.ghost_name (N.lenders self.new.net.now) (N.state self.new.net.now) ≡ wired_ties self.old.net.ghost_name (N.lenders self.old.net.now) (N.state self.old.net.now) }
+        ensures cause { IfErr result (SendCause (summed self.old.bad_answers (N.fault_count self.old.net.now) (N.end_count self.old.net.now))
+            (summed self.new.bad_answers (N.fault_count self.new.net.now) (N.end_count self.new.net.now)) (N.state self.new.net.now).chip) }
+        ensures ties { wired_ties self.new.net.ghost_name (N.lenders self.new.net.now) (N.state self.new.net.now)
+            ≡ wired_ties self.old.net.ghost_name (N.lenders self.old.net.now) (N.state self.old.net.now) }
         ensures net { OnOk result (N.state self.new.net.now ≡ after_put end.Near bytes.now (N.state self.old.net.now)) }
         ensures net_front { OnErr result (PutFront end.Near bytes.now (N.state self.old.net.now) (N.state self.new.net.now)) }
         ensures faults { IfErr result (PutCause (N.fault_count self.old.net.now) (N.fault_count self.new.net.now)) }
@@ -92,11 +96,15 @@ impl<'a, N: Net> Wire for NetWire<'a, N> {
         ensures chip { OnErr result (ReadsSome into.new (N.state self.old.net.now).chip (N.state self.new.net.now).chip) }
         ensures came { OnOk result (TakesComing into.new (coming_of (N.state self.old.net.now)) (coming_of (N.state self.new.net.now))) }
         ensures some { OnErr result (TakesSome into.new (coming_of (N.state self.old.net.now)) (coming_of (N.state self.new.net.now))) }
-        ensures later { summed self.old.bad_answers (N.fault_count self.old.net.now) (N.end_count self.old.net.now) ≤ summed self.new.bad_answers (N.fault_count self.new.net.now) (N.end_count self.new.net.now) }
-        ensures still { OnOk result (summed self.new.bad_answers (N.fault_count self.new.net.now) (N.end_count self.new.net.now) ≡ summed self.old.bad_answers (N.fault_count self.old.net.now) (N.end_count self.old.net.now)) }
+        ensures later { summed self.old.bad_answers (N.fault_count self.old.net.now) (N.end_count self.old.net.now)
+            ≤ summed self.new.bad_answers (N.fault_count self.new.net.now) (N.end_count self.new.net.now) }
+        ensures still { OnOk result (summed self.new.bad_answers (N.fault_count self.new.net.now) (N.end_count self.new.net.now)
+            ≡ summed self.old.bad_answers (N.fault_count self.old.net.now) (N.end_count self.old.net.now)) }
         ensures own { IfErr result (λ why. net_gives why ≡ true) }
-        ensures cause { IfErr result (RecvCause (summed self.old.bad_answers (N.fault_count self.old.net.now) (N.end_count self.old.net.now)) (summed self.new.bad_answers (N.fault_count self.new.net.now) (N.end_count self.new.net.now)) (N.state self.new.net.now).chip) }
-        ensures ties { wired_ties self.new.net.ghost_name (N.lenders self.new.net.now) (N.state self.new.net.now) ≡ wired_ties self.old.net.ghost_name (N.lenders self.old.net.now) (N.state self.old.net.now) }
+        ensures cause { IfErr result (RecvCause (summed self.old.bad_answers (N.fault_count self.old.net.now) (N.end_count self.old.net.now))
+            (summed self.new.bad_answers (N.fault_count self.new.net.now) (N.end_count self.new.net.now)) (N.state self.new.net.now).chip) }
+        ensures ties { wired_ties self.new.net.ghost_name (N.lenders self.new.net.now) (N.state self.new.net.now)
+            ≡ wired_ties self.old.net.ghost_name (N.lenders self.old.net.now) (N.state self.old.net.now) }
         ensures net { OnOk result (Took (length into.new) into.new (N.state self.old.net.now) (N.state self.new.net.now)) }
         ensures net_some { OnErr result (TookSome into.new (N.state self.old.net.now) (N.state self.new.net.now)) }
         ensures answers { OnOk result (IsTrue (are_answers into.new)) }

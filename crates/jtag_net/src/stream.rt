@@ -1,5 +1,25 @@
 //! What a call of a net does on one stream, over any reader and any writer.
-ghost use Rattle.std.specs.Prelude.{◌≡◌, ◌≢◌, ◌==◌, if◌then◌else◌, is_ok, ◌+◌, ◌<◌, ◌≤◌, take, length, IfOk, IfErr, OnOk, OnErr, IfSome, IfNone, OnSome, None, Some};
+ghost use Rattle.std.specs.Prelude.{
+  ◌≡◌,
+  ◌≢◌,
+  ◌==◌,
+  if◌then◌else◌,
+  is_ok,
+  ◌+◌,
+  ◌<◌,
+  ◌≤◌,
+  take,
+  length,
+  IfOk,
+  IfErr,
+  OnOk,
+  OnErr,
+  IfSome,
+  IfNone,
+  OnSome,
+  None,
+  Some,
+};
 ghost use Rattle.std.specs.Io.KnownBytes.{Appends, Consumes, IsAtEnd, Keeps};
 ghost use Rattle.debug_model.specs.Net.{CallCause, given_most};
 ghost use Rattle.jt_base.specs.Faults.{Rises, counted};

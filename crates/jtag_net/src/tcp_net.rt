@@ -33,7 +33,15 @@ impl<R: net::Net + Eprint + Clock + Drop> Model for TcpNet<R> {
 
     ghost Value = { Connection };
 
-    ghost view = { λ n. record { opening = n.opening; near_open = is_some n.near; far_open = is_some n.far; near_given = n.near_given; far_given = n.far_given; faults = n.failed; ends = n.ended } };
+    ghost view = { λ n. record {
+      opening = n.opening;
+      near_open = is_some n.near;
+      far_open = is_some n.far;
+      near_given = n.near_given;
+      far_given = n.far_given;
+      faults = n.failed;
+      ends = n.ended;
+    } };
 }
 
 impl<R: net::Net + Eprint + Clock + Drop> TcpNet<R> {

@@ -7,7 +7,7 @@ use Rattle.debug_model.specs.declared.command.Command.{Command}
 use Rattle.debug_model.specs.declared.wire.WireFault.{WireFault}
 use Rattle.debug_model.specs.declared.wire.WireFault.TheVariants.{SendFailed, RecvFailed, Ended, BadAnswer}
 use Rattle.debug_model.specs.Chip.{Live}
-use Rattle.debug_model.specs.Scan.{ScanCause, Script}
+use Rattle.debug_model.specs.Scan.{Coming, ScanCause}
 use Rattle.debug_model.specs.Told.{Far, MetLimit, read_out}
 use Rattle.debug_model.specs.Wire.{EndCause, SendCause}
 use Rattle.jt_base.specs.Faults.{Rises}
@@ -30,11 +30,11 @@ limit_ends : (told : Option Far) (old new : ℕ) → old ≤ 0 → new ≤ 0 →
 limit_ends told old new first last (inl rises) = absurd (no_rise old new first last rises)
 limit_ends told old new first last (inr met) = met
 
-limit_failed : (f : Far) (n : ℕ) (script : Option Script) (why : WireFault) → n ≤ 0 → ScanCause 0 n (Some f) script why → MetLimit (Some f)
-limit_failed f n script SendFailed none cause = absurd (no_rise 0 n (omega arith) none cause)
-limit_failed f n script RecvFailed none cause = absurd (no_rise 0 n (omega arith) none cause)
-limit_failed f n script Ended none cause = limit_ends (Some f) 0 n (omega arith) none cause
-limit_failed f n script (BadAnswer b) none cause = absurd (none-some f (sym cause.0))
+limit_failed : (f : Far) (n : ℕ) (coming : Option Coming) (why : WireFault) → n ≤ 0 → ScanCause 0 n (Some f) coming why → MetLimit (Some f)
+limit_failed f n coming SendFailed none cause = absurd (no_rise 0 n (omega arith) none cause)
+limit_failed f n coming RecvFailed none cause = absurd (no_rise 0 n (omega arith) none cause)
+limit_failed f n coming Ended none cause = limit_ends (Some f) 0 n (omega arith) none cause
+limit_failed f n coming (BadAnswer b) none cause = absurd (none-some f (sym cause.0))
 
 limit_unsent : (told : Option Far) (n : ℕ) (why : WireFault) → n ≤ 0 → SendCause n 0 told why → MetLimit told
 limit_unsent told n SendFailed none cause = absurd (no_rise n 0 none (omega arith) cause)
@@ -53,7 +53,7 @@ fault_end : (bench : Option Live) (f : Far) (n : ℕ) (e : End) → sends_quit e
 fault_end bench f n ends.Clean sends none cause met = tt
 fault_end bench f n ends.WithErrors sends none cause met = tt
 fault_end bench f n (ends.Target fault) sends none cause met = absurd (false≢true (sym sends))
-fault_end bench f n (ends.Wire why) sends none cause met = met (limit_failed f n cause.script why none cause.cause)
+fault_end bench f n (ends.Wire why) sends none cause met = met (limit_failed f n cause.coming why none cause.cause)
 fault_end bench f n (ends.Lost why) sends none cause met = tt
 fault_end bench f n ends.Sink sends none cause met = tt
 

@@ -4,4 +4,5 @@ mod Countings
 mod Numbers
 pub mod Prepares
 pub mod Puts
+pub mod Recordings
 pub mod Runs

@@ -17,7 +17,7 @@ use Rattle.jtag_run.specs.declared.refusal.Refusal.{Refusal}
 use Rattle.jtag_run.specs.declared.refusal.Refusal.TheVariants.{Words, File, Script, Image, Open, OutOfMemory}
 use Rattle.jt_base.proofs.FaultLemmas.{rises_from}
 
-long_before : (name : List ℕ) (mid old : FilesSeen) (fault : LoadFault) → mid.held ≡ old.held → LongImage name mid fault → LongImage name old fault
+pub long_before : (name : List ℕ) (mid old : FilesSeen) (fault : LoadFault) → mid.held ≡ old.held → LongImage name mid fault → LongImage name old fault
 long_before name mid old TooLong same long = subst (λ h. HoldsMore h name most_image) same long
 long_before name mid old BadSize same long = absurd long
 long_before name mid old BadHarts same long = absurd long

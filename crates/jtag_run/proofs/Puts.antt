@@ -26,7 +26,11 @@ first_failed xs zs (Some hs) new g = record {
 pub second_failed : (xs ys zs : List ℕ) (held between new : Option (List ℕ)) → between ≡ grown xs held → GrewByPrefix ys between new → GrewByPrefix (xs ++ (ys ++ zs)) held new
 second_failed xs ys zs held between new is g = grew_behind xs ys zs held new (subst (λ b. GrewByPrefix ys b new) is g)
 
-two_put : (xs ys : List ℕ) (held first second : Option (List ℕ)) → first ≡ grown xs held → second ≡ grown ys first → second ≡ grown (xs ++ ys) held
+-- the last of two
+pub last_failed : (xs ys : List ℕ) (held between new : Option (List ℕ)) → between ≡ grown xs held → GrewByPrefix ys between new → GrewByPrefix (xs ++ ys) held new
+last_failed xs ys held between new is g = subst (λ part. GrewByPrefix (xs ++ part) held new) (append-nil ys) (second_failed xs ys [] held between new is g)
+
+pub two_put : (xs ys : List ℕ) (held first second : Option (List ℕ)) → first ≡ grown xs held → second ≡ grown ys first → second ≡ grown (xs ++ ys) held
 two_put xs ys held first second a b = b ∙ ap (grown ys) a ∙ grown_twice xs ys held
 
 pub third_failed : (xs ys zs : List ℕ) (held first second new : Option (List ℕ)) → first ≡ grown xs held → second ≡ grown ys first → GrewByPrefix zs second new → GrewByPrefix (xs ++ (ys ++ zs)) held new

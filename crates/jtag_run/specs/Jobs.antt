@@ -6,12 +6,13 @@ use Rattle.debug_model.specs.Wire.{piece_most}
 use Rattle.hart_debug.specs.declared.start.Start.{Start}
 use Rattle.hart_debug.specs.declared.start.Start.TheVariants.{Running, Halted}
 use Rattle.command_line.specs.declared.job.ChipOptions.{ChipOptions}
-use Rattle.command_line.specs.Job.{JobValue, both, probe, chip, files, gen}
+use Rattle.command_line.specs.Job.{JobValue, both, probe, chip, sniff, files, gen}
 use Rattle.command_line.specs.WrittenJob.{InRange, OptionsInRange, least_piece}
 use Rattle.jtag_run.specs.declared.words.BothJob.{BothJob}
 use Rattle.jtag_run.specs.declared.words.ChipJob.{ChipJob}
 use Rattle.jtag_run.specs.declared.words.GenJob.{GenJob}
 use Rattle.jtag_run.specs.declared.words.ProbeJob.{ProbeJob}
+use Rattle.jtag_run.specs.declared.words.SniffJob.{SniffJob}
 use Rattle.jtag_run.specs.declared.words.Work.{Work}
 use Rattle.jtag_run.specs.declared.words.Work.TheVariants as work
 use Rattle.sys_events.specs.Seed.{seed_plan}
@@ -60,6 +61,17 @@ pub record Chip : Type 0 where
 abbrev pub chip_value : ChipJob → Chip
 chip_value j = record { at = string_bytes j.at; image = string_bytes j.image; options = j.options }
 
+-- ---- a recording
+
+-- the names of the two files that a run reads, and whether they are drawn as a waveform
+pub record Sniff : Type 0 where
+  pub stream : List ℕ
+  pub answers : List ℕ
+  pub waves : Bool
+
+abbrev pub sniff_value : SniffJob → Sniff
+sniff_value j = record { stream = string_bytes j.stream; answers = string_bytes j.answers; waves = j.waves }
+
 -- ---- what words write
 
 abbrev pub said_both : Both → JobValue
@@ -74,12 +86,16 @@ said_probe j = probe j.at j.script
 abbrev pub said_chip : Chip → JobValue
 said_chip j = chip j.at j.image j.options
 
+abbrev pub said_sniff : Sniff → JobValue
+said_sniff j = sniff j.stream j.answers j.waves
+
 -- the words write this job
 abbrev pub IsWork : Option JobValue → Work → Type 0
 IsWork said (work.Both job) = said ≡ Some (said_both (both_value job))
 IsWork said (work.Gen job) = said ≡ Some (said_gen (gen_value job))
 IsWork said (work.Probe job) = said ≡ Some (said_probe (probe_value job))
 IsWork said (work.Chip job) = said ≡ Some (said_chip (chip_value job))
+IsWork said (work.Sniff job) = said ≡ Some (said_sniff (sniff_value job))
 
 -- the numbers of a job are within their ranges
 abbrev pub HasWorkRanges : Work → Type 0
@@ -87,6 +103,7 @@ HasWorkRanges (work.Both job) = InRange least_piece piece_most job.piece × Opti
 HasWorkRanges (work.Gen job) = InRange least_piece piece_most job.piece × OptionsInRange job.options
 HasWorkRanges (work.Probe job) = Unit {0}
 HasWorkRanges (work.Chip job) = OptionsInRange job.options
+HasWorkRanges (work.Sniff job) = Unit {0}
 
 -- ---- the chip of the options
 

@@ -83,6 +83,16 @@ lost_line cause = codes "lost: " ++ lost_by cause ++ line_feed ∷ []
 abbrev pub bad_byte : ℕ → ℕ → List ℕ
 bad_byte place byte = codes "bad byte 0x" ++ hexadecimal 2 byte ++ codes " at " ++ decimal place ++ line_feed ∷ []
 
+-- a recorded stream asks so often, and so many answers were given
+abbrev pub asked_part : ℕ → List ℕ
+asked_part asked = codes "answers refused: " ++ decimal asked ++ codes " asked, "
+
+abbrev pub given_part : ℕ → List ℕ
+given_part given = decimal given ++ codes " given" ++ line_feed ∷ []
+
+abbrev pub answers_refused : ℕ → ℕ → List ℕ
+answers_refused asked given = asked_part asked ++ given_part given
+
 -- a last line was put, and this is the status; or a front of it, and the status is the sink's
 pub data Closed (line : List ℕ) (wanted : Status) (old new : SinkSeen) : Status → Type 0 where
   said : new.printed ≡ grown line old.printed → Closed line wanted old new wanted

@@ -5,6 +5,7 @@ pub mod LastLine
 pub mod Opening
 pub mod Outside
 pub mod Ran
+pub mod Recording
 pub mod Refusal
 pub mod ScriptFault
 pub mod ScriptText

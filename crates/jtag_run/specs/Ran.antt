@@ -10,9 +10,10 @@ use Rattle.jt_base.specs.Files.{Holds, NamedFile, asked_more}
 use Rattle.jtag_run.specs.First.{CanLoad, first_chip}
 use Rattle.jtag_run.specs.Outside.{NetSeen, Outside}
 use Rattle.jtag_run.specs.Ends.{BenchEnd, GenEnd, LoopEnd, ProbeEnd}
-use Rattle.jtag_run.specs.Refusal.{GenCause, HoldsScript, JobCause, RefusalCause, Refused, ScriptFileCause, asked_both, asked_image}
+use Rattle.jtag_run.specs.Refusal.{GenCause, HoldsScript, JobCause, RefusalCause, Refused, ScriptFileCause, asked_both, asked_image, asked_recording}
+use Rattle.jtag_run.specs.Recording.{IsAcceptedSniff, SniffEnded}
 use Rattle.jtag_run.specs.ServedChip.{IsAcceptedChip, ServedAt}
-use Rattle.jtag_run.specs.Jobs.{Both, Chip, Gen, Probe, said_both, said_gen, said_probe}
+use Rattle.jtag_run.specs.Jobs.{Both, Chip, Gen, Probe, Sniff, said_both, said_gen, said_probe}
 use Rattle.jtag_run.specs.declared.refusal.Refusal.{Refusal}
 use Rattle.jtag_run.specs.declared.status.Status.{Status}
 use Rattle.command_line.specs.WrittenJob.{job_of}
@@ -84,7 +85,8 @@ pub data RanProbe (job : Probe) (old new : Outside) (status : Status) : Type 0 w
 -- ---- a run
 
 -- a run of these words was refused before a net was opened, and has loaded no chip; or what it asks for was accepted, just its files were asked for, in their order, and: the
--- session of a script ran on a chip on the bench; or that of a number; or a script's over a net, and no chip was loaded; or a chip was served over a net
+-- session of a script ran on a chip on the bench; or that of a number; or a script's over a net, and no chip was loaded; or a chip was served over a net;
+-- or a recording was shown, and no net was opened and no chip loaded
 pub data Ran (words : List (List ℕ)) (old new : Outside) (bench : Option Live) (status : Status) : Type 0 where
   refused : (refusal : Refusal) → RefusalCause words old.files new.files refusal → Refused refusal old.sink new.sink status → new.net ≡ old.net → bench ≡ None
       → Ran words old new bench status
@@ -96,3 +98,5 @@ pub data Ran (words : List (List ℕ)) (old new : Outside) (bench : Option Live)
       → ProbeEnd job.at commands old.net new.net old.sink new.sink status → bench ≡ None → Ran words old new bench status
   served : (job : Chip) (image : List ℕ) → IsAcceptedChip words old.files.held job image → new.files.asked ≡ asked_image job old.files
       → ServedAt job.at old.net new.net old.sink new.sink (Some (first_chip job.options image)) bench status → Ran words old new bench status
+  sniffed : (job : Sniff) (stream answers : List ℕ) → IsAcceptedSniff words old.files.held job stream answers → new.files.asked ≡ asked_recording job old.files
+      → SniffEnded job.waves stream answers old.sink new.sink status → new.net ≡ old.net → bench ≡ None → Ran words old new bench status

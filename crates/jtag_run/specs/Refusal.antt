@@ -1,5 +1,6 @@
 -- Why a run is refused before its session, and what it prints and answers then.
--- The order of the tests is this project's own: the words, the script, the image, the load, the opening of the net (docs/FORMATS.md, "Statuses").
+-- The order of the tests is this project's own: the words, the script, the image, the load, the opening of the net; of a recording the words, the stream,
+-- the answers (docs/FORMATS.md, "Statuses").
 use Rattle.std.specs.Prelude.{◌≡◌, ◌⊎◌, ℕ, List, Option, None, Some, IfSome, IsSomeAnd}
 use Rattle.chip_core.specs.declared.load_fault.LoadFault.{LoadFault}
 use Rattle.chip_core.specs.declared.load_fault.LoadFault.TheVariants as load
@@ -14,7 +15,7 @@ use Rattle.jtag_run.specs.LastLine.{Closed, words_refused, file_failed, script_r
 use Rattle.jtag_run.specs.Outside.{FilesSeen}
 use Rattle.wire_session.specs.Seen.{SinkSeen}
 use Rattle.jtag_run.specs.ScriptText.{IsAcceptedText}
-use Rattle.jtag_run.specs.Jobs.{Both, Chip, Gen, Probe, said_both, said_chip, said_gen, said_probe}
+use Rattle.jtag_run.specs.Jobs.{Both, Chip, Gen, Probe, Sniff, said_both, said_chip, said_gen, said_probe, said_sniff}
 use Rattle.jtag_run.specs.declared.refusal.Refusal.{Refusal}
 use Rattle.jtag_run.specs.declared.refusal.Refusal.TheVariants.{Words, File, Script, Image, Open, OutOfMemory}
 use Rattle.jtag_run.specs.declared.status.Status.{Status}
@@ -62,6 +63,10 @@ asked_both job old = asked_more job.image (asked_script job old)
 -- the image of a served chip, and no other file
 abbrev pub asked_image : Chip → FilesSeen → Option (List (List ℕ))
 asked_image job old = asked_more job.image old.asked
+
+-- the answers of a recording behind its stream, and no other file
+abbrev pub asked_recording : Sniff → FilesSeen → Option (List (List ℕ))
+asked_recording job old = asked_more job.answers (asked_more job.stream old.asked)
 
 -- ---- causes of one file
 
@@ -173,6 +178,27 @@ GenCause job (Image fault) = UnfitMade job fault
 GenCause job Open = ⊥
 GenCause job OutOfMemory = Unit {0}
 
+-- ---- the cause of each refusal of a recording
+
+-- which of the two files of a recording is at fault: the stream, or behind a stream that was read the answers
+pub data FaultyFile (job : Sniff) (old new : FilesSeen) (IsFaulty : List ℕ → Type 0) : Type 0 where
+  of_stream : IsFaulty job.stream → new.asked ≡ asked_more job.stream old.asked → FaultyFile job old new IsFaulty
+  of_answers : (stream : List ℕ) → Holds old.held job.stream stream → IsFaulty job.answers → new.asked ≡ asked_recording job old
+      → FaultyFile job old new IsFaulty
+
+-- no other file than the recording's was asked for, and none before its turn
+abbrev pub AskedRecordingFront : Sniff → FilesSeen → FilesSeen → Type 0
+AskedRecordingFront job old new = (new.asked ≡ old.asked) ⊎ ((new.asked ≡ asked_more job.stream old.asked) ⊎ (new.asked ≡ asked_recording job old))
+
+-- a file that is too long is refused as an image's is
+abbrev pub SniffCause : Sniff → FilesSeen → FilesSeen → Refusal → Type 0
+SniffCause job old new Words = ⊥
+SniffCause job old new (File name) = Rises old.faults new.faults × FaultyFile job old new (λ asked. name.now ≡ asked)
+SniffCause job old new (Script error) = ⊥
+SniffCause job old new (Image fault) = FaultyFile job old new (λ name. LongImage name old fault)
+SniffCause job old new Open = ⊥
+SniffCause job old new OutOfMemory = AskedRecordingFront job old new
+
 -- ---- every cause
 
 -- the causes that lie in the words alone
@@ -191,6 +217,7 @@ pub data RefusalCause (words : List (List ℕ)) (old new : FilesSeen) (refusal :
   of_gen : (job : Gen) → job_of words ≡ Some (said_gen job) → GenCause job refusal → new ≡ old → RefusalCause words old new refusal
   of_probe : (job : Probe) → job_of words ≡ Some (said_probe job) → ScriptFileCause job.script old new refusal → RefusalCause words old new refusal
   of_chip : (job : Chip) → job_of words ≡ Some (said_chip job) → ChipCause job old new refusal → RefusalCause words old new refusal
+  of_sniff : (job : Sniff) → job_of words ≡ Some (said_sniff job) → SniffCause job old new refusal → RefusalCause words old new refusal
 
 -- ---- a refusal
 

@@ -2,7 +2,8 @@
 -- They are this project's own (docs/FORMATS.md, "Statuses").
 use Rattle.std.specs.Prelude.{ℕ}
 use Rattle.jtag_run.specs.declared.status.Status.{Status}
-use Rattle.jtag_run.specs.declared.status.Status.TheVariants.{Clean, WithErrors, Words, File, Script, Image, Target, Wire, Sink, Lost, EventLimit, OutOfMemory, BadByte}
+use Rattle.jtag_run.specs.declared.status.Status.TheVariants.{Clean, WithErrors, Words, File, Script, Image, Target}
+use Rattle.jtag_run.specs.declared.status.Status.TheVariants.{Wire, Sink, Lost, EventLimit, OutOfMemory, BadByte, Answers}
 
 abbrev pub code_of : Status → ℕ
 code_of Clean = 0
@@ -18,3 +19,4 @@ code_of Lost = 9
 code_of EventLimit = 10
 code_of OutOfMemory = 11
 code_of BadByte = 12
+code_of Answers = 13

@@ -1,4 +1,4 @@
-//! The whole program as one call: words, files, image and script, the chip on its bench, the session or the serving, and the status with its last line.
+//! The whole program as one call: words, files, the chip on its bench, the session, the serving or the sniffing, and the status with its last line.
 //!
 //! `run` says of every run of every list of words what was printed and left, and why it ended so. `both_with` is a session over a chip on a bench with any schedule.
 //! Whatever lies outside, files, net and sink, is a bound: what they tell is what the clauses speak of.
@@ -13,6 +13,7 @@ mod opening;
 mod prepare;
 mod probe;
 mod program;
+mod recording;
 mod refusal;
 mod script_text;
 mod sessions;

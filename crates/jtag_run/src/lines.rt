@@ -1,23 +1,17 @@
 //! The text of the last lines that a run prints.
 
-ghost use Rattle.std.specs.Prelude.{◌≡◌, ◌≤◌, ◌+◌, ◌++◌, None, codes, decimal, length};
+ghost use Rattle.std.specs.Prelude.{◌≡◌, ◌≤◌, ◌+◌, ◌++◌, codes, decimal, length};
 ghost use Rattle.arrayvec.specs.ArrayVec.{array_vec_len};
-ghost use Rattle.jtag_run.specs.LastLine.{bad_byte, failed_at, image_refused, lost_by, lost_line, refused_register, refused_word, script_refused, target_refused, wire_failed};
+ghost use Rattle.jtag_run.specs.LastLine.{asked_part, bad_byte, failed_at, given_part, image_refused, lost_by, lost_line};
+ghost use Rattle.jtag_run.specs.LastLine.{refused_register, refused_word, script_refused, target_refused, wire_failed};
 ghost use Rattle.jtag_run.specs.Summary.{counted_line};
-ghost use Rattle.probe_run.specs.Opening.{opening_why};
 
 use chip_core::LoadFault;
 use debug_model::{ScriptError, WireFault};
 use itoa::Buffer;
-use printed_lines::{LINE_MOST, LineText, push_decimal, push_hex, push_word};
+use printed_lines::{LINE_MOST, LineText, push_decimal, push_hex_byte, push_hex_word, push_word};
 use probe_run::ConnectFault;
 use probe_session::LostCause;
-
-/// The digits of a byte.
-const BYTE_DIGITS: u8 = 2;
-
-/// The digits of a word.
-const WORD_DIGITS: u8 = 8;
 
 /// The most bytes of what several Looks did not see.
 const UNSEEN_MOST: usize = 16;
@@ -73,7 +67,7 @@ fn push_failed_at(text: &mut LineText, fault: WireFault)
         WireFault::Ended => push_word(text, b"ended"),
         WireFault::BadAnswer(byte) => {
             push_word(text, b"answer 0x");
-            push_hex(text, BYTE_DIGITS, u64::from(byte));
+            push_hex_byte(text, byte);
         }
     }
 }
@@ -102,7 +96,7 @@ fn push_lost_by(text: &mut LineText, cause: LostCause)
         LostCause::NoAck(looks) => push_looks(text, b"no resume after ", looks),
         LostCause::Odd(odd) => {
             push_word(text, b"register 0x");
-            push_hex(text, WORD_DIGITS, u64::from(odd.word()));
+            push_hex_word(text, odd.word());
         }
     }
 }
@@ -146,16 +140,37 @@ pub fn bad_byte_line(place: u64, byte: u8) -> LineText
 {
     let mut text = LineText::new();
     push_word(&mut text, b"bad byte 0x");
-    push_hex(&mut text, BYTE_DIGITS, u64::from(byte));
+    push_hex_byte(&mut text, byte);
     push_word(&mut text, b" at ");
     push_long(&mut text, place);
     text.push(b'\n');
     text
 }
 
-/// A register that is not as the opening of a session asks, and what it read as.
+/// The first part of the last line of a run whose recorded stream asks for other than the answers that were given: the whole has no room in one text.
+pub fn asked_part(asked: u64) -> LineText
+    ensures { result.items ≡ asked_part asked }
+{
+    let mut text = LineText::new();
+    push_word(&mut text, b"answers refused: ");
+    push_long(&mut text, asked);
+    push_word(&mut text, b" asked, ");
+    text
+}
+
+/// The rest of that line.
+pub fn given_part(given: u64) -> LineText
+    ensures { result.items ≡ given_part given }
+{
+    let mut text = LineText::new();
+    push_long(&mut text, given);
+    push_word(&mut text, b" given");
+    text.push(b'\n');
+    text
+}
+
+/// A register that is not as the opening of a session asks, and what it read as; none where an operation failed.
 fn refused_register(fault: ConnectFault) -> (&'static [u8], u32)
-    requires { opening_why fault ≡ None }
     ensures name { result.0.now ≡ refused_register fault }
     ensures short { length result.0.now ≤ REGISTER_MOST }
     ensures word { result.1 ≡ refused_word fault }
@@ -166,13 +181,12 @@ fn refused_register(fault: ConnectFault) -> (&'static [u8], u32)
         ConnectFault::Module(word, false) => (b"dmstatus", word),
         ConnectFault::Abstract(word) => (b"abstractcs", word),
         ConnectFault::Bus(word) => (b"sbcs", word),
-        ConnectFault::Dmi(_) => unreachable!(),
+        ConnectFault::Dmi(_) => (b"", 0),
     }
 }
 
 /// The last line of a run whose chip was refused for a register.
 pub fn target_refused_line(fault: ConnectFault) -> LineText
-    requires { opening_why fault ≡ None }
     ensures { result.items ≡ target_refused fault }
 {
     let (name, word) = refused_register(fault);
@@ -180,7 +194,7 @@ pub fn target_refused_line(fault: ConnectFault) -> LineText
     push_word(&mut text, b"target refused: ");
     push_word(&mut text, name);
     push_word(&mut text, b" 0x");
-    push_hex(&mut text, WORD_DIGITS, u64::from(word));
+    push_hex_word(&mut text, word);
     text.push(b'\n');
     text
 }

@@ -23,8 +23,8 @@ use script_lang::MOST_TEXT;
 use std::alloc::Global;
 use sys_events::{MOST_HARTS, SeedSchedule};
 
-/// The most bytes of an image's file.
-const IMAGE_MOST: usize = 16_777_216;
+/// The most bytes of an image's file, and of a recording's.
+const BYTES_MOST: usize = 16_777_216;
 
 /// Reads and judges the script of this name.
 pub fn load_script<'a, F: Files>(
@@ -58,8 +58,8 @@ pub fn load_script<'a, F: Files>(
     }
 }
 
-/// Reads the image of this name.
-fn read_image<'a, F: Files>(
+/// Reads the image, or the file of a recording, of this name. One that is too long is refused as an image.
+pub fn read_bytes<'a, F: Files>(
     alloc: Global,
     files: &mut F,
     name: &'a str,
@@ -72,7 +72,7 @@ fn read_image<'a, F: Files>(
     ensures asked { OnOk result (F.asked files.new ≡ asked_more name.now (F.asked files.old)) }
     ensures later { F.fault_count files.old ≤ F.fault_count files.new }
 {
-    match files.read(alloc, name, IMAGE_MOST) {
+    match files.read(alloc, name, BYTES_MOST) {
         Ok(image) => Ok(image),
         Err(FileFault::Failed) => Err(Refusal::File(name)),
         Err(FileFault::TooLong) => Err(Refusal::Image(LoadFault::TooLong)),
@@ -153,7 +153,7 @@ pub fn prepare<'a, F: Files>(
     ensures kept { OnErr result (bench.new ≡ bench.old) }
 {
     let script = load_script(alloc, files, job.script.as_str())?;
-    let image = read_image(alloc, files, job.image.as_str())?;
+    let image = read_bytes(alloc, files, job.image.as_str())?;
     load_chip(alloc, bench, &image, &job.options)?;
     Ok(script)
 }
@@ -175,7 +175,7 @@ pub fn prepare_chip<'a, F: Files>(
         (record { held = F.held files.new; asked = F.asked files.new; faults = F.fault_count files.new })) }
     ensures kept { OnErr result (bench.new ≡ bench.old) }
 {
-    let bytes = read_image(alloc, files, job.image.as_str())?;
+    let bytes = read_bytes(alloc, files, job.image.as_str())?;
     load_chip(alloc, bench, &bytes, &job.options)?;
     Ok(())
 }

@@ -8,6 +8,7 @@ use crate::chip::run_chip;
 use crate::generated::run_gen;
 use crate::last_line::refuse;
 use crate::probe::run_probe;
+use crate::recording::run_sniff;
 use crate::status::Status;
 use crate::words::{Work, read_work};
 use chip_core::Bench;
@@ -19,6 +20,7 @@ use sys_events::SeedSchedule;
 /// Runs the program: `words` are those behind its name, and no call has opened the net.
 ///
 /// The words are judged first, then a script is read and judged, then an image is read and loaded, or both are made from a number; then the net is opened, where the job has one.
+/// Of a recording the stream is read, and then its answers.
 /// The first refusal ends the run with its last line. Before the words are accepted nothing else is asked for, and before files and image are, no net is opened.
 pub fn run<F: Files, N: Net, K: Sink>(
     alloc: Global,
@@ -52,5 +54,6 @@ pub fn run<F: Files, N: Net, K: Sink>(
         Work::Gen(job) => run_gen(alloc, job, net, out, bench),
         Work::Probe(job) => run_probe(alloc, job, files, net, out),
         Work::Chip(job) => run_chip(alloc, job, files, net, out, bench),
+        Work::Sniff(job) => run_sniff(alloc, job, files, out),
     }
 }

@@ -28,8 +28,10 @@ pub enum Status {
     EventLimit,
     /// No memory was left before the session.
     OutOfMemory,
-    /// A byte that is no sign came over the net.
+    /// A byte that is no sign came over the net, or stands in a recorded stream.
     BadByte,
+    /// A recorded stream asks for more or fewer answers than there are.
+    Answers,
 }
 
 impl Status {
@@ -51,6 +53,7 @@ impl Status {
             Status::EventLimit => 10,
             Status::OutOfMemory => 11,
             Status::BadByte => 12,
+            Status::Answers => 13,
         }
     }
 }

@@ -58,6 +58,17 @@ pub struct ChipJob {
     pub options: ChipOptions,
 }
 
+/// A recording of a wire.
+#[derive(Drop)]
+pub struct SniffJob {
+    /// The file of the recorded stream.
+    pub stream: String,
+    /// The file of the answers that came to it.
+    pub answers: String,
+    /// Whether it is drawn as a waveform, and not listed.
+    pub waves: bool,
+}
+
 /// What the program is to do.
 #[derive(Drop)]
 pub enum Work {
@@ -69,6 +80,8 @@ pub enum Work {
     Probe(ProbeJob),
     /// The chip alone.
     Chip(ChipJob),
+    /// A recording of a wire.
+    Sniff(SniffJob),
 }
 
 /// A chip and a probe in one process, by where the image and the script come from.
@@ -102,6 +115,15 @@ fn work_of(job: Job) -> Work
         Job::Both(inputs, options, piece, loopback) => work_over(inputs, options, piece, loopback),
         Job::Probe { at, script } => Work::Probe(ProbeJob { at, script }),
         Job::Chip { at, image, options } => Work::Chip(ChipJob { at, image, options }),
+        Job::Sniff {
+            stream,
+            answers,
+            waves,
+        } => Work::Sniff(SniffJob {
+            stream,
+            answers,
+            waves,
+        }),
     }
 }
 

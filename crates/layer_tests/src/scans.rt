@@ -134,7 +134,7 @@ fn scans_two_bits(rt: HostRuntime) {
 }
 
 #[test]
-fn answers_by_a_script(rt: HostRuntime) {
+fn answers_what_was_given(rt: HostRuntime) {
     let numbers = ArrayVec::try_from(&[0xffff_ffff_ffff_ffff, 0x1071][..]).unwrap();
     let mut scan = ScriptedScan::new(numbers);
     assert_eq!(rt; scan.reset(), Ok(()));

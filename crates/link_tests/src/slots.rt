@@ -9,12 +9,12 @@ ghost use Rattle.debug_model.specs.Told.{IsAsLoaded};
 use crate::fault::Fault;
 use crate::standing::{PROGRAM, halted_hart, loaded};
 use chip_core::{Bench, BenchWire};
-use debug_model::{Dmi, Schedule, WatchKind};
+use debug_model::{Dmi, Schedule, SlotUse, WatchKind};
 use probe_access::set_reg;
 use probe_dmi::Link;
 use probe_run::connect;
 use probe_scan::Scanner;
-use probe_trig::{SlotUse, SlotView, TrigFault, arm, disarm, slots};
+use probe_trig::{SlotView, TrigFault, arm, disarm, slots};
 use rv_model::SlotSet;
 use std::test::Fail;
 

@@ -8,11 +8,11 @@ ghost use Rattle.probe_run.specs.Told.{Serving};
 
 use crate::fault::Fault;
 use chip_core::Bench;
-use debug_model::Dmi;
+use debug_model::{Dmi, SlotUse};
 use hart_debug::Start;
 use probe_access::stop;
 use probe_run::{Halted, Seen, Target};
-use probe_trig::{Gone, SlotUse, SlotView, let_go, slots};
+use probe_trig::{Gone, SlotView, let_go, slots};
 use rv_model::SlotSet;
 use std::alloc::Global;
 use std::test::Fail;

@@ -1,2 +1,3 @@
+mod HexLemmas
 mod HitLemmas
 mod WordLemmas

@@ -1,5 +1,27 @@
 -- How long the names of registers are, and that other numbers have none.
-use Rattle.std.proofs.Common.{◌≡◌, ℕ, ◌≤◌, Bool, true, false, ◌||◌, ◌&&◌, cond, ◌==◌, List, [], ◌∷◌, length, Option, Some, unwrap_or, option_map, nat_le, refl, arith}
+use Rattle.std.proofs.Common.{
+  ◌≡◌,
+  ℕ,
+  ◌≤◌,
+  Bool,
+  true,
+  false,
+  ◌||◌,
+  ◌&&◌,
+  cond,
+  ◌==◌,
+  List,
+  [],
+  ◌∷◌,
+  length,
+  Option,
+  Some,
+  unwrap_or,
+  option_map,
+  nat_le,
+  refl,
+  arith,
+}
 use Rattle.std.proofs.lemmas.Bool.{leb-true}
 use Rattle.std.specs.List.{find, list_any, list_all}
 use Rattle.std.specs.Fmt.{digits}
@@ -22,7 +44,8 @@ is_short r = nat_le (length r.0) most
 nil-short : length {A = ℕ} [] ≤ most
 nil-short = omega arith
 
-short_here : (here short later : Bool) (r : NamedRegister) (found : Option NamedRegister) → is_short r ≡ short → (short && later) ≡ true → (later ≡ true → length (name_found found) ≤ most) → length (name_found (cond here (Some r) found)) ≤ most
+short_here : (here short later : Bool) (r : NamedRegister) (found : Option NamedRegister) → is_short r ≡ short → (short && later) ≡ true
+    → (later ≡ true → length (name_found found) ≤ most) → length (name_found (cond here (Some r) found)) ≤ most
 short_here true true later r found s e rest = leb-true (length r.0) most s
 short_here false true later r found s e rest = rest e
 short_here here false later r found s e rest = cc
@@ -36,7 +59,8 @@ pub name_of_register-short : (number : ℕ) → length (name_of_register number)
 unfolding name_of_register named_registers digits
 name_of_register-short number = name_in-short number named_registers refl
 
-none_here : (here later : Bool) (r : NamedRegister) (found : Option NamedRegister) → (here || later) ≡ false → (later ≡ false → name_found found ≡ []) → name_found (cond here (Some r) found) ≡ []
+none_here : (here later : Bool) (r : NamedRegister) (found : Option NamedRegister) → (here || later) ≡ false → (later ≡ false → name_found found ≡ [])
+    → name_found (cond here (Some r) found) ≡ []
 none_here true later r found e rest = cc
 none_here false later r found e rest = rest e
 

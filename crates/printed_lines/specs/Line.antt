@@ -1,11 +1,29 @@
 -- Which line a value of the code stands for.
 -- The lines are those of abstract_debugger.
 use Rattle.abstract_debugger.specs.Lines.{Line}
-use Rattle.abstract_debugger.specs.Lines.Line.{Idcode, Selected, Halted, Running, Resumed, Register, Element, Wrote, Row, Via, Ebreak, Slot, NoHart, IsRunning, MemoryFault, RegisterRefused, NoFreeSlot, SlotNotInUse}
+use Rattle.abstract_debugger.specs.Lines.Line.{
+  Idcode,
+  Selected,
+  Halted,
+  Running,
+  Resumed,
+  Register,
+  Element,
+  Wrote,
+  Row,
+  Via,
+  Ebreak,
+  Slot,
+  NoHart,
+  IsRunning,
+  MemoryFault,
+  RegisterRefused,
+  NoFreeSlot,
+  SlotNotInUse,
+}
+use Rattle.abstract_debugger.specs.SlotUses.{hits_in, use_named}
 use Rattle.printed_lines.specs.declared.line.Line.{Line as PrintedLine}
 use Rattle.printed_lines.specs.declared.line.Line.TheVariants as line
-use Rattle.probe_trig.specs.Slots.{hits_in}
-use Rattle.probe_trig.specs.SlotRegisters.{use_named}
 
 abbrev pub line_of : PrintedLine → Line
 line_of (line.Idcode number) = Idcode number

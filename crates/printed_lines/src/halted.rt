@@ -2,7 +2,7 @@ ghost use Rattle.std.specs.Prelude.{◌≡◌, ◌≤◌, ◌<◌, ◌+◌, ◌+
 ghost use Rattle.arrayvec.specs.ArrayVec.{array_vec_len};
 ghost use Rattle.debug_model.specs.Spelling.{spelled_address};
 ghost use Rattle.abstract_debugger.specs.Lines.{places_from, spelled_cause, spelled_places};
-ghost use Rattle.probe_trig.specs.Slots.{hits_in};
+ghost use Rattle.abstract_debugger.specs.SlotUses.{hits_in};
 
 use crate::digits::{push_address, push_decimal};
 use crate::line_text::{LINE_MOST, LineText, push_word};

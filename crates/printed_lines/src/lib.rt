@@ -13,6 +13,8 @@ mod tests;
 mod text;
 mod words;
 
-pub use digits::{ADDRESS_LENGTH, DECIMAL_MOST, push_address, push_decimal, push_hex};
+pub use digits::{
+    ADDRESS_LENGTH, DECIMAL_MOST, push_address, push_decimal, push_hex_byte, push_hex_word,
+};
 pub use line::Line;
 pub use line_text::{LINE_MOST, LineText, push_word};

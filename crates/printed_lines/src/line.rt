@@ -3,8 +3,7 @@ ghost use Rattle.abstract_debugger.specs.Lines.{is_error};
 ghost use Rattle.printed_lines.specs.Line.{line_of};
 
 use arrayvec::ArrayVec;
-use debug_model::Path;
-use probe_trig::SlotUse;
+use debug_model::{Path, SlotUse};
 use rv_model::{Size, SlotSet};
 
 /// One line that a session prints. Registers go by their number for abstract commands

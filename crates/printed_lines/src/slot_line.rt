@@ -1,12 +1,11 @@
 ghost use Rattle.std.specs.Prelude.{◌≡◌, ◌≤◌, ◌<◌, ◌+◌, ◌++◌, codes, decimal};
 ghost use Rattle.arrayvec.specs.ArrayVec.{array_vec_len};
 ghost use Rattle.abstract_debugger.specs.Lines.{spelled_hit, spelled_use};
-ghost use Rattle.probe_trig.specs.SlotRegisters.{use_named};
+ghost use Rattle.abstract_debugger.specs.SlotUses.{use_named};
 
 use crate::digits::{push_address, push_decimal};
 use crate::line_text::{LINE_MOST, LineText, push_word};
-use debug_model::watch_word;
-use probe_trig::SlotUse;
+use debug_model::{SlotUse, watch_word};
 
 /// The most bytes of a slot's use: `watch access ` and an address.
 const USE_MOST: usize = 31;

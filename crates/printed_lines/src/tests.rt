@@ -2,8 +2,7 @@
 
 use crate::Line;
 use arrayvec::ArrayVec;
-use debug_model::{Path, WatchKind};
-use probe_trig::SlotUse;
+use debug_model::{Path, SlotUse, WatchKind};
 use rv_model::{Size, SlotSet};
 use std::process::Abort;
 use std::test::Fail;

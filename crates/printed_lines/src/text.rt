@@ -6,7 +6,9 @@ ghost use Rattle.debug_model.specs.Spelling.{hexadecimal, spelled_address};
 ghost use Rattle.abstract_debugger.specs.Lines.{spelled_digits, text_of, words_of_line};
 ghost use Rattle.printed_lines.specs.Line.{line_of};
 
-use crate::digits::{ADDRESS_LENGTH, DECIMAL_MOST, push_address, push_decimal, push_hex};
+use crate::digits::{
+    ADDRESS_LENGTH, DECIMAL_MOST, push_address, push_decimal, push_hex, push_hex_word,
+};
 use crate::halted::push_halted;
 use crate::line::Line;
 use crate::line_text::{LINE_MOST, LineText, push_word};
@@ -16,8 +18,8 @@ use arrayvec::ArrayVec;
 use debug_model::{path_word, switch_word};
 use rv_model::Size;
 
-/// The digits of an IDCODE, which has 32 bits.
-const IDCODE_DIGITS: u8 = 8;
+/// The bytes of a value, of which an element has as many of the lowest as its size.
+const VALUE_BYTES: usize = 8;
 
 /// Appends fixed words and a number in decimal.
 fn push_numbered(text: &mut LineText, words: &[u8], number: u32)
@@ -58,18 +60,10 @@ fn push_element(text: &mut LineText, address: u64, size: Size, value: u64)
 {
     push_address(text, address);
     push_word(text, b" 0x");
-    push_hex(text, 2 * size.count(), value);
-}
-
-/// Appends two digits for each byte.
-fn push_bytes(text: &mut LineText, bytes: &[u8])
-    requires { array_vec_len text.old + (length bytes.now + length bytes.now) ≤ LINE_MOST }
-    ensures bytes { text.new.items ≡ text.old.items ++ flat_map (hexadecimal 2) bytes.now }
-    ensures room { array_vec_len text.new ≡ array_vec_len text.old + (length bytes.now + length bytes.now) }
-{
-    for byte in bytes {
-        push_hex(text, 2, u64::from(*byte));
-    }
+    push_hex(
+        text,
+        &value.to_be_bytes()[VALUE_BYTES - usize::from(size.count())..],
+    );
 }
 
 /// Appends an address and the bytes from it on.
@@ -80,7 +74,7 @@ fn push_row(text: &mut LineText, address: u64, bytes: &ArrayVec<u8, 16>)
 {
     push_address(text, address);
     push_word(text, b" ");
-    push_bytes(text, bytes.as_slice());
+    push_hex(text, bytes.as_slice());
 }
 
 impl Line {
@@ -102,7 +96,7 @@ impl Line {
         match self {
             Line::Idcode(number) => {
                 push_word(&mut text, b"idcode 0x");
-                push_hex(&mut text, IDCODE_DIGITS, u64::from(*number));
+                push_hex_word(&mut text, *number);
             }
             Line::Selected(hart) => push_numbered(&mut text, b"hart ", u32::from(*hart)),
             Line::Halted { pc, cause, hits } => push_halted(&mut text, *pc, *cause, *hits),

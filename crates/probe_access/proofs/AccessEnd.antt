@@ -11,6 +11,7 @@ use Rattle.debug_model.specs.Told.{Far, HartHalted, SiteReady, site_of}
 use Rattle.abstract_debugger.specs.Turns.{after_turns, turns}
 use Rattle.probe_access.specs.Accesses.{OneAccess, with_memory}
 use Rattle.probe_access.specs.MemoryRuns.{Performed, PutBack, Saved}
+use Rattle.probe_access.specs.RegisterAccess.{x8_number, x9_number}
 use Rattle.probe_access.specs.RegisterRuns.{RegisterRead, RegisterWritten}
 use Rattle.probe_run.specs.Acts.{Tells}
 use Rattle.probe_access.proofs.Along.{did_untold}
@@ -27,16 +28,16 @@ pub read_untold : (number value : ℕ) (old new : Tells) → RegisterRead number
 read_untold number value old new r is = did_untold r.mid _ new r.words.did (did_untold old _ r.mid r.ran.ran.did is)
 
 pub written_untold : (number value : ℕ) (old new : Tells) → RegisterWritten number value old new → old.far ≡ None → new.far ≡ None
-written_untold number value old new r is = did_untold r.mid _ new r.ran.ran.did (did_untold old _ r.mid r.words is)
+written_untold number value old new r is = did_untold old _ new r.ran.did is
 
 pub saved_untold : (x8 x9 : ℕ) (old new : Tells) → Saved x8 x9 old new → old.far ≡ None → new.far ≡ None
 saved_untold x8 x9 old new s is = read_untold _ x9 s.mid new s.second (read_untold _ x8 old s.mid s.first is)
 
 pub back_untold : (x8 x9 : ℕ) (old new : Tells) → PutBack x8 x9 old new → old.far ≡ None → new.far ≡ None
-back_untold x8 x9 old new s is = written_untold _ x9 s.mid new s.second (written_untold _ x8 old s.mid s.first is)
+back_untold x8 x9 old new s is = written_untold x9_number x9 s.mid new s.second (written_untold x8_number x8 old s.mid s.first is)
 
 pub performed_untold : (word address error : ℕ) (old new : Tells) → Performed word address error old new → old.far ≡ None → new.far ≡ None
-performed_untold word address error old new p is = did_untold p.addressed _ new p.ran.ran.did (written_untold _ address p.written p.addressed p.x8 (did_untold old _ p.written p.program is))
+performed_untold word address error old new p is = did_untold old _ new p.ran.did is
 
 -- ---- of a told one
 

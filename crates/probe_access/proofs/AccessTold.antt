@@ -1,5 +1,5 @@
 -- An access to memory along a told link: saved registers, the program, and the registers put back.
-use Rattle.std.proofs.Common.{◌≡◌, ◌∙◌, ◌<◌, ◌^◌, ℕ, List, length, Option, Some, refl, sym, ap, subst, arith}
+use Rattle.std.proofs.Common.{◌≡◌, ◌∙◌, ◌<◌, ◌^◌, ℕ, List, [], ◌∷◌, length, true, Option, Some, refl, sym, ap, subst, arith}
 use Rattle.rv_model.specs.Board.{Hart}
 use Rattle.rv_model.specs.Core.{x_of}
 use Rattle.rv_model.specs.DebugRegisters.{debug_value, debug_written}
@@ -8,20 +8,23 @@ use Rattle.debug_model.specs.Addresses.{progbuf0_address, progbuf1_address}
 use Rattle.debug_model.specs.Module.{Site, register_at}
 use Rattle.debug_model.specs.SystemBus.{BusUnit}
 use Rattle.debug_model.specs.Told.{Far, site_of}
-use Rattle.probe_run.specs.Acts.{Did, Tells}
-use Rattle.probe_access.specs.CommandRuns.{RanCommand, error_shown}
-use Rattle.probe_access.specs.MemoryRuns.{PutBack, Saved, program_written}
-use Rattle.probe_access.specs.RegisterRuns.{RegisterWritten}
+use Rattle.probe_run.specs.Acts.{Act, Tells}
+use Rattle.probe_run.specs.Acts.Act.{Put}
+use Rattle.probe_access.specs.CommandRuns.{RanCommand, command_acts, error_shown}
+use Rattle.probe_access.specs.MemoryRuns.{PutBack, Saved, program_set}
+use Rattle.probe_access.specs.RegisterRuns.{RegisterRead, RegisterWritten, double_written}
 use Rattle.probe_access.specs.RegisterAccess.{ebreak_word, program_word, x8_number, x9_number}
 use Rattle.probe_access.proofs.AccessSteps.{WordDid}
-use Rattle.probe_access.proofs.Along.{AtSites, SiteActs, did_sites}
+use Rattle.probe_access.proofs.Along.{AtSites, Split, did_sites, site_acts-split}
 use Rattle.probe_access.proofs.Aside.{accessed, passed}
 use Rattle.probe_access.proofs.PerformTold.{ProgramTold, program_told}
 use Rattle.probe_access.proofs.PerformTold.ProgramTold.{faulted, went}
 use Rattle.probe_access.proofs.ReadyUnit.{Kept}
-use Rattle.probe_access.proofs.RegAnswers.{ReadTold, StoodTold, WrittenTold, read_told, written_told}
-use Rattle.probe_access.proofs.RegisterTold.{Stood, put_at}
+use Rattle.probe_access.proofs.RegAnswers.{ReadTold, StoodTold, WrittenTold, front_stood, halves_joined, read_told, written_told}
+use Rattle.probe_access.proofs.RegisterTold.{Stood, WordPuts, double_puts, with_double}
+use Rattle.probe_access.proofs.RegisterTold.WordPuts.{and_then}
 use Rattle.probe_access.proofs.ScratchLemmas.{scratch_back, scratched, x8_value, x9_value}
+use Rattle.probe_access.proofs.TransferLemmas.{hart_behind}
 
 -- ---- x8 and x9 are saved
 
@@ -64,49 +67,43 @@ with_program word k = record { data0 = k.data0; data1 = k.data1; progbuf0 = word
 abbrev pub with_first : ℕ → Kept → Kept
 with_first word k = record { data0 = k.data0; data1 = k.data1; progbuf0 = word; progbuf1 = k.progbuf1; progbuf2 = k.progbuf2; progbuf3 = k.progbuf3; command = k.command }
 
-program_put : (word h : ℕ) (bus : BusUnit) (y : Hart) (base : Site) (w : Hart) (k : Kept) (s t : Site) → Stood h bus y base w k s → SiteActs (program_written word) s t → Stood h bus y base w (with_program word k) t
+-- the program is there, and the data words hold the address
+abbrev pub set_up : ℕ → ℕ → Kept → Kept
+set_up word address k = with_double address (with_program word k)
+
+pub program_puts : (word address h : ℕ) (bus : BusUnit) (y : Hart) (k : Kept) → WordPuts h bus y k (program_set word address) (set_up word address k)
 unfolding register_at
-program_put word h bus y base w k s t st p =
-    put_at progbuf1_address ebreak_word h bus y base w (with_first word k) (with_program word k) p.0 t
-    (put_at progbuf0_address word h bus y base w k (with_first word k) s p.0 st (p.0, p.1, refl) (λ z. refl)) p.2 (λ z. refl)
+program_puts word address h bus y k =
+    and_then progbuf0_address word (Put progbuf1_address ebreak_word ∷ double_written address) k (with_first word k) (set_up word address k) (λ z. refl)
+    (and_then progbuf1_address ebreak_word (double_written address) (with_first word k) (with_program word k) (set_up word address k) (λ z. refl)
+    (double_puts address h bus y (with_program word k)))
+
+-- the hart with the address in x8
+pub set_up_hart : (word address : ℕ) (y : Hart) (k : Kept) → hart_behind true x8_number (set_up word address k) y ≡ debug_written y x8_number address
+set_up_hart word address y k = ap (debug_written y x8_number) (halves_joined address)
 
 pub record PerformedTold (P : Memory → Hart → Memory → Type 0) (Q : Memory → Type 0) (last h : ℕ) (bus : BusUnit) (y : Hart) (base : Site) (w : Hart) (told : Option Far) : Type 0 where
   pub far : Far
   pub is : told ≡ Some far
   pub program : ProgramTold P Q last h bus y base w (site_of far)
 
--- behind the words and the address
-pub record Addressed (word address h : ℕ) (bus : BusUnit) (y : Hart) (base : Site) (w : Hart) (told : Option Far) : Type 0 where
-  pub then : StoodTold h bus (debug_written y x8_number address) base w told
-  pub progbuf0 : then.kept.progbuf0 ≡ word
-  pub progbuf1 : then.kept.progbuf1 ≡ ebreak_word
-
-pub program_stood : (word h : ℕ) (bus : BusUnit) (y : Hart) (base : Site) (w : Hart) (old written : Tells) → StoodTold h bus y base w old.far → Did old (program_written word) written → StoodTold h bus y base w written.far
-program_stood word h bus y base w old written st did =
-    let at : AtSites _ st.far written.far = did_sites old _ written st.far did st.is in
-    record { far = at.far; is = at.is; kept = with_program word st.kept; stood = program_put word h bus y base w st.kept (site_of st.far) (site_of at.far) st.stood at.acts_are }
-
-pub addressed_told : (word address h : ℕ) (bus : BusUnit) (y : Hart) (base : Site) (w : Hart) (old written new : Tells) → StoodTold h bus y base w old.far → Did old (program_written word) written
-    → RegisterWritten x8_number address written new → Addressed word address h bus y base w new.far
-addressed_told word address h bus y base w old written new st did x8 =
-    let at : AtSites _ st.far written.far = did_sites old _ written st.far did st.is in
-    let mid : StoodTold h bus y base w written.far =
-    record { far = at.far; is = at.is; kept = with_program word st.kept; stood = program_put word h bus y base w st.kept (site_of st.far) (site_of at.far) st.stood at.acts_are } in
-    let a : WrittenTold x8_number address h bus y base w (with_program word st.kept) new.far = written_told x8_number address h bus y base w written new (omega arith) mid x8 in
-    record { then = a.then; progbuf0 = a.progbuf0; progbuf1 = a.progbuf1 }
-
-pub decided : (P : Memory → Hart → Memory → Type 0) (Q : Memory → Type 0) (word other : ℕ) (y : Hart) → other ≡ word → ((m : Memory) → WordDid P Q word y m) → (m : Memory) → WordDid P Q other y m
-decided P Q word other y is d m = subst (λ n. WordDid P Q n y m) (sym is) (d m)
-
-pub ran_told : (P : Memory → Hart → Memory → Type 0) (Q : Memory → Type 0) (word address last h : ℕ) (bus : BusUnit) (y : Hart) (base : Site) (w : Hart) (old new : Tells) → (a : Addressed word address h bus y base w old.far)
-    → ((m : Memory) → WordDid P Q word (debug_written y x8_number address) m) → RanCommand program_word last old new → PerformedTold P Q last h bus (debug_written y x8_number address) base w new.far
-ran_told P Q word address last h bus y base w old new a decides ran =
-    let at : AtSites _ a.then.far new.far = did_sites old _ new a.then.far ran.did a.then.is in
+pub ran_told : (P : Memory → Hart → Memory → Type 0) (Q : Memory → Type 0) (word address last h : ℕ) (bus : BusUnit) (y : Hart) (base : Site) (w : Hart) (old new : Tells) → StoodTold h bus y base w old.far
+    → ((m : Memory) → WordDid P Q word (debug_written y x8_number address) m) → RanCommand (program_set word address) program_word last old new
+    → PerformedTold P Q last h bus (debug_written y x8_number address) base w new.far
+ran_told P Q word address last h bus y base w old new st decides ran =
+    let at : AtSites _ st.far new.far = did_sites old _ new st.far ran.did st.is in
+    let front : List Act = program_set word address in
+    let rest : List Act = command_acts [] program_word ran.words last in
+    let k : Kept = set_up word address st.kept in
+    let is : hart_behind true x8_number k y ≡ debug_written y x8_number address = set_up_hart word address y st.kept in
+    let cut : Split front rest (site_of st.far) (site_of at.far) = site_acts-split front rest (site_of st.far) (site_of at.far) at.acts_are in
+    let ready : Stood h bus y base w k cut.mid =
+    front_stood front rest h bus y base w st.kept k (site_of st.far) (site_of at.far) (program_puts word address h bus y st.kept) st.stood cut in
     record {
       far = at.far;
       is = at.is;
-      program = program_told P Q ran.words last a.then.kept h bus (debug_written y x8_number address) base w (site_of a.then.far) (site_of at.far) a.then.stood a.progbuf1
-          (decided P Q word a.then.kept.progbuf0 (debug_written y x8_number address) a.progbuf0 decides) at.acts_are ran.idle;
+      program = subst (λ (z : Hart). ProgramTold P Q last h bus z base w (site_of at.far)) is
+          (program_told P Q ran.words last k h bus y base w cut.mid (site_of at.far) ready refl (subst (λ (z : Hart). (m : Memory) → WordDid P Q word z m) (sym is) decides) cut.rest ran.idle);
     }
 
 -- ---- by cmderr

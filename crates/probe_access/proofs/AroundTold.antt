@@ -1,5 +1,5 @@
 -- Faults of an access, where the chip is told: no register is refused and no other error comes, and behind a fault of memory the hart is whole again.
-use Rattle.std.proofs.Common.{◌≡◌, ◌∙◌, ◌<◌, ◌^◌, ℕ, length, true, false, Option, refl, sym, arith}
+use Rattle.std.proofs.Common.{◌≡◌, ◌∙◌, ◌<◌, ◌^◌, ℕ, List, length, true, false, Option, refl, sym, arith}
 use Rattle.std.proofs.lemmas.Bool.{false≢true}
 use Rattle.rv_model.specs.Board.{Hart}
 use Rattle.rv_model.specs.Core.{x_of}
@@ -11,21 +11,22 @@ use Rattle.debug_model.specs.SystemBus.{BusUnit}
 use Rattle.debug_model.specs.Told.{Far, site_of}
 use Rattle.probe_access.specs.declared.fault.AccessFault.{AccessFault}
 use Rattle.probe_access.specs.declared.fault.AccessFault.TheVariants as access_fault
-use Rattle.probe_run.specs.Acts.{Tells}
+use Rattle.probe_run.specs.Acts.{Act, Tells}
 use Rattle.probe_access.specs.CommandRuns.{CommandFailed}
-use Rattle.probe_access.specs.MemoryRuns.{AroundFailed, PerformFailed, Performed, PutBack, PutBackFailed, Recovers, SaveFailed}
+use Rattle.probe_access.specs.MemoryRuns.{AroundFailed, PerformFailed, Performed, PutBack, PutBackFailed, Recovers, SaveFailed, program_set}
 use Rattle.probe_access.specs.MemoryRuns.AroundFailed.{behind, in_restore, in_restore_behind, in_save, inside}
-use Rattle.probe_access.specs.MemoryRuns.PerformFailed.{in_program, in_address, in_run, faulted, oddly}
+use Rattle.probe_access.specs.MemoryRuns.PerformFailed.{in_run, faulted, oddly}
 use Rattle.probe_access.specs.MemoryRuns.PutBackFailed.{at_x8 as put_x8, at_x9 as put_x9}
 use Rattle.probe_access.specs.MemoryRuns.SaveFailed.{at_x8 as save_x8, at_x9 as save_x9}
 use Rattle.probe_access.specs.RegisterRuns.{ReadFailed, WriteFailed}
 use Rattle.probe_access.specs.Registers.{reaches}
 use Rattle.probe_access.specs.RegisterAccess.{program_word, x8_number, x9_number}
 use Rattle.probe_access.proofs.AccessSteps.{WordDid}
-use Rattle.probe_access.proofs.AccessTold.{Addressed, Faulted, PerformedTold, SavedTold, addressed_told, back_told, neither_told, program_stood, ran_told, saved_told}
+use Rattle.probe_access.proofs.AccessTold.{Faulted, PerformedTold, SavedTold, back_told, neither_told, ran_told, saved_told}
 use Rattle.probe_access.proofs.Aside.{Frozen, accessed, passed}
-use Rattle.probe_access.proofs.RegAnswers.{ReadTold, StoodTold, WrittenTold, denied_told, double_told, odd_told, read_told, written_told}
+use Rattle.probe_access.proofs.RegAnswers.{ReadTold, StoodTold, WrittenTold, read_denied, read_not_odd, read_told, write_denied, write_not_odd, written_told}
 use Rattle.probe_access.proofs.ScratchLemmas.{scratched}
+use Rattle.probe_access.proofs.TransferLemmas.{written_frozen}
 
 -- ---- a fault of the link, or too many polls
 
@@ -41,21 +42,21 @@ pub read_clean : (number h : ℕ) (bus : BusUnit) (y : Hart) (base : Site) (w : 
     → ReadFailed number old_count new_count old new e → Clean e
 read_clean number h bus y base w old_count new_count old new (access_fault.Dmi why) small there st f = tt
 read_clean number h bus y base w old_count new_count old new (access_fault.Memory at) small there st f = f
-read_clean number h bus y base w old_count new_count old new (access_fault.Register asked) small there st f = false≢true (sym (denied_told false number h bus y base w old new small st f.ran).denied_is ∙ there)
+read_clean number h bus y base w old_count new_count old new (access_fault.Register asked) small there st f = false≢true (sym (read_denied number h bus y base w old new small st f.ran).denied_is ∙ there)
 read_clean number h bus y base w old_count new_count old new access_fault.StillBusy small there st f = tt
 read_clean number h bus y base w old_count new_count old new (access_fault.Run why) small there st f = f
-read_clean number h bus y base w old_count new_count old new (access_fault.Odd shown) small there st f = odd_told false number shown h bus y base w old new small st f
+read_clean number h bus y base w old_count new_count old new (access_fault.Odd shown) small there st f = read_not_odd number shown h bus y base w old new small st f
 
 pub write_clean : (number value h : ℕ) (bus : BusUnit) (y : Hart) (base : Site) (w : Hart) (old_count new_count : ℕ) (old new : Tells) (e : AccessFault) → number < 2 ^ 16 → reaches true y number ≡ true → StoodTold h bus y base w old.far
     → WriteFailed number value old_count new_count old new e → Clean e
 write_clean number value h bus y base w old_count new_count old new (access_fault.Dmi why) small there st f = tt
 write_clean number value h bus y base w old_count new_count old new (access_fault.Memory at) small there st f = f
 write_clean number value h bus y base w old_count new_count old new (access_fault.Register asked) small there st f =
-    false≢true (sym (denied_told true number h bus y base w f.mid new small (double_told value h bus y base w old f.mid st f.words) f.then.ran).denied_is ∙ there)
+    false≢true (sym (write_denied number value h bus y base w old new small st f.ran).denied_is ∙ there)
 write_clean number value h bus y base w old_count new_count old new access_fault.StillBusy small there st f = tt
 write_clean number value h bus y base w old_count new_count old new (access_fault.Run why) small there st f = f
 write_clean number value h bus y base w old_count new_count old new (access_fault.Odd shown) small there st f =
-    odd_told true number shown h bus y base w f.mid new small (double_told value h bus y base w old f.mid st f.words) f.then
+    write_not_odd number value shown h bus y base w old new small st f
 
 -- ---- x8 and x9 can be reached
 
@@ -114,27 +115,24 @@ only_map address G H access_fault.StillBusy f p = tt
 only_map address G H (access_fault.Run why) f p = p
 only_map address G H (access_fault.Odd shown) f p = p
 
-command_clean : (word old_count new_count : ℕ) (old new : Tells) (e : AccessFault) → CommandFailed word old_count new_count old new e → Clean e
-command_clean word old_count new_count old new (access_fault.Dmi why) f = tt
-command_clean word old_count new_count old new (access_fault.Memory at) f = f
-command_clean word old_count new_count old new (access_fault.Register number) f = f
-command_clean word old_count new_count old new access_fault.StillBusy f = tt
-command_clean word old_count new_count old new (access_fault.Run why) f = f
-command_clean word old_count new_count old new (access_fault.Odd shown) f = f
+command_clean : (front : List Act) (word old_count new_count : ℕ) (old new : Tells) (e : AccessFault) → CommandFailed front word old_count new_count old new e → Clean e
+command_clean front word old_count new_count old new (access_fault.Dmi why) f = tt
+command_clean front word old_count new_count old new (access_fault.Memory at) f = f
+command_clean front word old_count new_count old new (access_fault.Register number) f = f
+command_clean front word old_count new_count old new access_fault.StillBusy f = tt
+command_clean front word old_count new_count old new (access_fault.Run why) f = f
+command_clean front word old_count new_count old new (access_fault.Odd shown) f = f
 
 pub perform_only : (P : Memory → Hart → Memory → Type 0) (Q : Memory → Type 0) (word address h : ℕ) (bus : BusUnit) (y : Hart) (base : Site) (w : Hart) (old_count new_count : ℕ) (old new : Tells) (e : AccessFault) → StoodTold h bus y base w old.far
     → (Frozen (debug_written y x8_number address) → (m : Memory) → WordDid P Q word (debug_written y x8_number address) m) → PerformFailed word address old_count new_count old new e
     → OnlyMemory address (Performed word address 3 old new) e
-perform_only P Q word address h bus y base w old_count new_count old new e st decides (in_program why b) = tt
-perform_only P Q word address h bus y base w old_count new_count old new e st decides (in_address written did _ f) =
-    let G : Type 0 = Performed word address 3 old new in
-    clean_only address G e (write_clean x8_number address h bus y base w old_count new_count written new e (omega arith) (writes_x8 y) (program_stood word h bus y base w old written st did) f)
-perform_only P Q word address h bus y base w old_count new_count old new e st decides (in_run written addressed did x8 _ f) = clean_only address (Performed word address 3 old new) e (command_clean program_word old_count new_count addressed new e f)
-perform_only P Q word address h bus y base w old_count new_count old new e st decides (faulted p) = (refl, p)
-perform_only P Q word address h bus y base w old_count new_count old new e st decides (oddly written addressed did x8 shown ran) =
-    let ad : Addressed word address h bus y base w addressed.far = addressed_told word address h bus y base w old written addressed st did x8 in
-    let r : PerformedTold P Q ran.last h bus (debug_written y x8_number address) base w new.far = ran_told P Q word address ran.last h bus y base w addressed new ad (decides ad.then.stood.frozen) ran.ran in
-    neither_told P Q ran.last h bus (debug_written y x8_number address) base w (site_of r.far) r.program ran.some ran.other
+perform_only P Q word address h bus y base w old_count new_count old new _ st decides (in_run e f) =
+    clean_only address (Performed word address 3 old new) e (command_clean (program_set word address) program_word old_count new_count old new e f)
+perform_only P Q word address h bus y base w old_count new_count old new _ st decides (faulted p) = (refl, p)
+perform_only P Q word address h bus y base w old_count new_count old new _ st decides (oddly shown r) =
+    let t : PerformedTold P Q r.last h bus (debug_written y x8_number address) base w new.far =
+    ran_told P Q word address r.last h bus y base w old new st (decides (written_frozen y x8_number address st.stood.frozen)) r.ran in
+    neither_told P Q r.last h bus (debug_written y x8_number address) base w (site_of t.far) t.program r.some r.other
 
 -- ---- the whole access
 
@@ -164,7 +162,7 @@ fault_back Q x8 x9 h bus x base last new all is8 is9 f p = record {
   then = back_told x8 x9 f.p f.q h bus x (accessed (passed f.fault.before base).board.memory (passed f.fault.before base)) x last new all is8 is9 f.fault.then p;
 }
 
-lost_only : (address : ℕ) (G H : Type 0) (e : AccessFault) → (Recovers e → ⊥) → OnlyMemory address G e → OnlyMemory address H e
+pub lost_only : (address : ℕ) (G H : Type 0) (e : AccessFault) → (Recovers e → ⊥) → OnlyMemory address G e → OnlyMemory address H e
 lost_only address G H (access_fault.Dmi why) loses p = tt
 lost_only address G H (access_fault.Memory at) loses p = absurd (loses tt)
 lost_only address G H (access_fault.Register number) loses p = p

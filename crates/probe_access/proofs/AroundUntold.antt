@@ -1,12 +1,12 @@
 -- Faults of an access, where no chip is told: a fault of memory names the address that was meant, and none of run control comes.
-use Rattle.std.proofs.Common.{◌≡◌, ℕ, None, refl}
+use Rattle.std.proofs.Common.{◌≡◌, ℕ, List, None, refl}
 use Rattle.probe_access.specs.declared.fault.AccessFault.{AccessFault}
 use Rattle.probe_access.specs.declared.fault.AccessFault.TheVariants as access_fault
-use Rattle.probe_run.specs.Acts.{Tells}
+use Rattle.probe_run.specs.Acts.{Act, Tells}
 use Rattle.probe_access.specs.CommandRuns.{CommandFailed}
-use Rattle.probe_access.specs.MemoryRuns.{AroundFailed, PerformFailed, PutBackFailed, SaveFailed}
+use Rattle.probe_access.specs.MemoryRuns.{AroundFailed, PerformFailed, PutBackFailed, SaveFailed, program_set}
 use Rattle.probe_access.specs.MemoryRuns.AroundFailed.{behind, in_restore, in_restore_behind, in_save, inside}
-use Rattle.probe_access.specs.MemoryRuns.PerformFailed.{in_program, in_address, in_run, faulted, oddly}
+use Rattle.probe_access.specs.MemoryRuns.PerformFailed.{in_run, faulted, oddly}
 use Rattle.probe_access.specs.MemoryRuns.PutBackFailed.{at_x8 as put_x8, at_x9 as put_x9}
 use Rattle.probe_access.specs.MemoryRuns.SaveFailed.{at_x8 as save_x8, at_x9 as save_x9}
 use Rattle.probe_access.specs.RegisterRuns.{ReadFailed, WriteFailed}
@@ -37,13 +37,13 @@ write_plain number value address G old_count new_count old new access_fault.Stil
 write_plain number value address G old_count new_count old new (access_fault.Run why) f = f
 write_plain number value address G old_count new_count old new (access_fault.Odd shown) f = tt
 
-command_plain : (word address : ℕ) (G : Type 0) (old_count new_count : ℕ) (old new : Tells) (e : AccessFault) → CommandFailed word old_count new_count old new e → PlainMemory address G e
-command_plain word address G old_count new_count old new (access_fault.Dmi why) f = tt
-command_plain word address G old_count new_count old new (access_fault.Memory at) f = absurd f
-command_plain word address G old_count new_count old new (access_fault.Register asked) f = tt
-command_plain word address G old_count new_count old new access_fault.StillBusy f = tt
-command_plain word address G old_count new_count old new (access_fault.Run why) f = f
-command_plain word address G old_count new_count old new (access_fault.Odd shown) f = tt
+command_plain : (front : List Act) (word address : ℕ) (G : Type 0) (old_count new_count : ℕ) (old new : Tells) (e : AccessFault) → CommandFailed front word old_count new_count old new e → PlainMemory address G e
+command_plain front word address G old_count new_count old new (access_fault.Dmi why) f = tt
+command_plain front word address G old_count new_count old new (access_fault.Memory at) f = absurd f
+command_plain front word address G old_count new_count old new (access_fault.Register asked) f = tt
+command_plain front word address G old_count new_count old new access_fault.StillBusy f = tt
+command_plain front word address G old_count new_count old new (access_fault.Run why) f = f
+command_plain front word address G old_count new_count old new (access_fault.Odd shown) f = tt
 
 pub save_plain : (address : ℕ) (G : Type 0) (old_count new_count : ℕ) (old new : Tells) (e : AccessFault) → SaveFailed old_count new_count old new e → PlainMemory address G e
 save_plain address G old_count new_count old new e (save_x8 f) = read_plain x8_number address G old_count new_count old new e f
@@ -54,11 +54,10 @@ put_back_plain x8 x9 address G old_count new_count old new e (put_x8 f) = write_
 put_back_plain x8 x9 address G old_count new_count old new e (put_x9 mid r f) = write_plain x9_number x9 address G old_count new_count mid new e f
 
 pub perform_plain : (word address old_count new_count : ℕ) (old new : Tells) (e : AccessFault) → old.far ≡ None → PerformFailed word address old_count new_count old new e → PlainMemory address (new.far ≡ None) e
-perform_plain word address old_count new_count old new e none (in_program why b) = tt
-perform_plain word address old_count new_count old new e none (in_address written did _ f) = write_plain x8_number address address (new.far ≡ None) old_count new_count written new e f
-perform_plain word address old_count new_count old new e none (in_run written addressed did x8 _ f) = command_plain program_word address (new.far ≡ None) old_count new_count addressed new e f
-perform_plain word address old_count new_count old new e none (faulted p) = (refl, performed_untold word address 3 old new p none)
-perform_plain word address old_count new_count old new e none (oddly written addressed did x8 shown ran) = tt
+perform_plain word address old_count new_count old new _ none (in_run e f) =
+    command_plain (program_set word address) program_word address (new.far ≡ None) old_count new_count old new e f
+perform_plain word address old_count new_count old new _ none (faulted p) = (refl, performed_untold word address 3 old new p none)
+perform_plain word address old_count new_count old new _ none (oddly shown r) = tt
 
 plain_map : (address : ℕ) (G H : Type 0) (e : AccessFault) → (G → H) → PlainMemory address G e → PlainMemory address H e
 plain_map address G H (access_fault.Dmi why) f p = tt

@@ -13,17 +13,38 @@ use Rattle.probe_access.specs.Accesses.{IfMemory}
 use Rattle.probe_access.specs.BlockRuns.{Causes, Denied, Fetched, Fetches, Reported, ReportedOddly}
 use Rattle.probe_access.specs.BlockRuns.Fetches.{nothing as none_fetched, further as fetched_further}
 use Rattle.probe_access.specs.BlockRuns.WordsRead.{lower_first}
-use Rattle.probe_access.specs.CommandRuns.{CommandFailed, clearing, command_acts, error_shown, poll_act}
-use Rattle.probe_access.specs.MemoryRuns.{Around, AroundFailed, LoadFailedInside, LoadedAny, LoadedInside, PerformFailed, Performed, PutBack, PutBackFailed, Recovers, SaveFailed, Saved, StoreFailedInside, StoredInside, program_written}
+use Rattle.probe_access.specs.CommandRuns.{CommandFailed, RanCommand, clearing, command_acts, error_shown, poll_act}
+use Rattle.probe_access.specs.MemoryRuns.{
+  Around,
+  AroundFailed,
+  LoadRun,
+  LoadRunFailed,
+  PerformFailed,
+  Performed,
+  PutBack,
+  PutBackFailed,
+  Recovers,
+  SaveFailed,
+  Saved,
+  StoreFailedInside,
+  StoredInside,
+  program_set,
+}
 use Rattle.probe_access.specs.MemoryRuns.AroundFailed.{behind, in_restore, in_restore_behind, in_save, inside}
-use Rattle.probe_access.specs.MemoryRuns.LoadFailedInside.{performing as load_performing, reading as load_reading}
-use Rattle.probe_access.specs.MemoryRuns.PerformFailed.{in_program, in_address, in_run, faulted, oddly}
+use Rattle.probe_access.specs.MemoryRuns.LoadRunFailed.{
+  in_restore as load_restoring,
+  in_restore_behind as load_restoring_behind,
+  in_save as load_saving,
+  performing as load_performing,
+  refused as load_refused,
+  taking as load_taking,
+}
+use Rattle.probe_access.specs.MemoryRuns.PerformFailed.{in_run, faulted, oddly}
 use Rattle.probe_access.specs.MemoryRuns.PutBackFailed.{at_x8 as put_x8, at_x9 as put_x9}
 use Rattle.probe_access.specs.MemoryRuns.SaveFailed.{at_x8 as save_x8, at_x9 as save_x9}
 use Rattle.probe_access.specs.MemoryRuns.StoreFailedInside.{performing as store_performing, writing as store_writing}
-use Rattle.probe_access.specs.RegisterRuns.{RanOddly, RanTo, ReadFailed, ReadFailedAt, RegisterRead, RegisterWritten, WriteFailed, WriteFailedAt}
+use Rattle.probe_access.specs.RegisterRuns.{RanOddly, RanTo, ReadFailed, ReadFailedAt, RegisterRead, RegisterWritten, WriteFailed, double_written}
 use Rattle.probe_access.specs.RegisterRuns.ReadFailedAt.{in_command as read_in_command, in_words as read_in_words}
-use Rattle.probe_access.specs.RegisterRuns.WriteFailedAt.{in_command as written_in_command, in_words as written_in_words}
 use Rattle.probe_access.specs.RegisterAccess.{joined, load_word, program_word, store_word, transfer_word, x8_number, x9_number}
 use Rattle.probe_access.proofs.RegisterCalls.{none_cleared}
 use Rattle.probe_run.proofs.ActLemmas.{broke_then, did_list, did_then}
@@ -44,7 +65,7 @@ read_calls : (number value : ℕ) (a b : Tells) → RegisterRead number value a 
 read_calls number value a b r = calls_then a r.mid b (calls _ a r.mid r.ran.ran.did) (calls _ r.mid b r.words.did)
 
 written_calls : (number value : ℕ) (a b : Tells) → RegisterWritten number value a b → Calls a b
-written_calls number value a b r = calls_then a r.mid b (calls _ a r.mid r.words) (calls _ r.mid b r.ran.ran.did)
+written_calls number value a b r = calls _ a b r.ran.did
 
 saved_calls : (x8 x9 : ℕ) (a b : Tells) → Saved x8 x9 a b → Calls a b
 saved_calls x8 x9 a b s = calls_then a s.mid b (read_calls x8_number x8 a s.mid s.first) (read_calls x9_number x9 s.mid b s.second)
@@ -52,14 +73,8 @@ saved_calls x8 x9 a b s = calls_then a s.mid b (read_calls x8_number x8 a s.mid 
 back_calls : (x8 x9 : ℕ) (a b : Tells) → PutBack x8 x9 a b → Calls a b
 back_calls x8 x9 a b s = calls_then a s.mid b (written_calls x8_number x8 a s.mid s.first) (written_calls x9_number x9 s.mid b s.second)
 
-addressed_calls : (word address : ℕ) (a b c : Tells) → Did a (program_written word) b → RegisterWritten x8_number address b c → Calls a c
-addressed_calls word address a b c did x8 = calls_then a b c (calls _ a b did) (written_calls x8_number address b c x8)
-
 performed_calls : (word address error : ℕ) (a b : Tells) → Performed word address error a b → Calls a b
-performed_calls word address error a b p = calls_then a p.addressed b (addressed_calls word address a p.written p.addressed p.program p.x8) (calls _ p.addressed b p.ran.ran.did)
-
-loaded_calls : (size : Size) (address value : ℕ) (a b : Tells) → LoadedInside size address value a b → Calls a b
-loaded_calls size address value a b l = calls_then a l.mid b (performed_calls (load_word size) address 0 a l.mid l.performed) (read_calls x9_number value l.mid b l.x9)
+performed_calls word address error a b p = calls _ a b p.ran.did
 
 stored_calls : (size : Size) (address value : ℕ) (a b : Tells) → StoredInside size address value a b → Calls a b
 stored_calls size address value a b l = calls_then a l.mid b (written_calls x9_number value a l.mid l.x9) (performed_calls (store_word size) address 0 l.mid b l.performed)
@@ -154,39 +169,46 @@ causes_calls a b was_count is_count (access_fault.Odd shown) f r = absurd r
 
 -- ---- of each part
 
-command_causes : (word old_count new_count : ℕ) (a b : Tells) (e : AccessFault) → CommandFailed word old_count new_count a b e → Causes old_count new_count a b e
-command_causes word old_count new_count a b (access_fault.Dmi why) f = (f.acts, f.failed, f.broke)
-command_causes word old_count new_count a b (access_fault.Memory address) f = absurd f
-command_causes word old_count new_count a b (access_fault.Register number) f = absurd f
-command_causes word old_count new_count a b (access_fault.Run why) f = f
-command_causes word old_count new_count a b access_fault.StillBusy f = record { front = Put command_address word ∷ []; busy = f }
-command_causes word old_count new_count a b (access_fault.Odd shown) f = absurd f
+command_causes : (front : List Act) (word old_count new_count : ℕ) (a b : Tells) (e : AccessFault) → CommandFailed front word old_count new_count a b e → Causes old_count new_count a b e
+command_causes front word old_count new_count a b (access_fault.Dmi why) f = (f.acts, f.failed, f.broke)
+command_causes front word old_count new_count a b (access_fault.Memory address) f = absurd f
+command_causes front word old_count new_count a b (access_fault.Register number) f = absurd f
+command_causes front word old_count new_count a b (access_fault.Run why) f = f
+command_causes front word old_count new_count a b access_fault.StillBusy f = record { front = front ++ Put command_address word ∷ []; busy = f }
+command_causes front word old_count new_count a b (access_fault.Odd shown) f = absurd f
 
-ran_oddly : (word : ℕ) (shown : OddStatus) (a b : Tells) → RanOddly word shown a b → ReportedOddly shown a b
-ran_oddly word shown a b r = record {
+-- what comes in front of the poll that showed the end
+polled_did : (front : List Act) (word last : ℕ) (a b : Tells) → (r : RanCommand front word last a b)
+    → Did a ((front ++ Put command_address word ∷ map poll_act r.words) ++ poll_act last ∷ clearing (error_shown last)) b
+polled_did front word last a b r =
+    did_list (command_acts front word r.words last) ((front ++ Put command_address word ∷ map poll_act r.words) ++ poll_act last ∷ clearing (error_shown last)) a b
+    (sym (append_assoc front (Put command_address word ∷ map poll_act r.words) (poll_act last ∷ clearing (error_shown last)))) r.did
+
+ran_oddly : (front : List Act) (word : ℕ) (shown : OddStatus) (a b : Tells) → RanOddly front word shown a b → ReportedOddly shown a b
+ran_oddly front word shown a b r = record {
   word = r.last;
   is = r.is;
-  front = Put command_address word ∷ map poll_act r.ran.words;
+  front = front ++ Put command_address word ∷ map poll_act r.ran.words;
   rest = clearing (error_shown r.last);
   idle = r.ran.idle;
   some = r.some;
   other = r.other;
-  did = r.ran.did;
+  did = polled_did front word r.last a b r.ran;
 }
 
-ran_reported : (word error : ℕ) (a b : Tells) → RanTo word error a b → Reported error a b
-ran_reported word error a b r = record {
-  front = Put command_address word ∷ map poll_act r.ran.words;
+ran_reported : (front : List Act) (word error : ℕ) (a b : Tells) → RanTo front word error a b → Reported error a b
+ran_reported front word error a b r = record {
+  front = front ++ Put command_address word ∷ map poll_act r.ran.words;
   last = r.last;
   rest = clearing (error_shown r.last);
   idle = r.ran.idle;
   error_is = r.error_is;
-  did = r.ran.did;
+  did = polled_did front word r.last a b r.ran;
 }
 
-ran_denied : (write : Bool) (number asked : ℕ) (a b : Tells) → asked ≡ number → RanTo (transfer_word write number) 3 a b → Denied asked a b
-ran_denied write number asked a b same r = subst (λ n. Denied n a b) (sym same) (record {
-  front = [];
+ran_denied : (front : List Act) (write : Bool) (number asked : ℕ) (a b : Tells) → asked ≡ number → RanTo front (transfer_word write number) 3 a b → Denied asked a b
+ran_denied front write number asked a b same r = subst (λ n. Denied n a b) (sym same) (record {
+  front = front;
   write = write;
   words = r.ran.words;
   last = r.last;
@@ -231,47 +253,30 @@ causes_same a b c p count new_count (access_fault.Run why) later f = f
 causes_same a b c p count new_count (access_fault.Odd shown) later f = causes_behind a b c p 0 0 0 (access_fault.Odd shown) (omega arith) (omega arith) f
 
 read_at_causes : (number count new_count : ℕ) (a b : Tells) (why : DmiFault) → count ≤ new_count → ReadFailedAt number count new_count a b (access_fault.Dmi why) → Causes count new_count a b (access_fault.Dmi why)
-read_at_causes number count new_count a b why later (read_in_command _ f) = command_causes (transfer_word false number) count new_count a b (access_fault.Dmi why) f
+read_at_causes number count new_count a b why later (read_in_command _ f) = command_causes [] (transfer_word false number) count new_count a b (access_fault.Dmi why) f
 read_at_causes number count new_count a b why later (read_in_words mid ran _ f) = causes_same a mid b (calls _ a mid ran.ran.did) count new_count (access_fault.Dmi why) later (f.acts, f.failed, f.broke)
 
 read_causes : (number count new_count : ℕ) (a b : Tells) (e : AccessFault) → LinkLater count new_count e → ReadFailed number count new_count a b e → Causes count new_count a b e
 read_causes number count new_count a b (access_fault.Dmi why) later f = read_at_causes number count new_count a b why later f
 read_causes number count new_count a b (access_fault.Memory address) later f = absurd f
-read_causes number count new_count a b (access_fault.Register asked) later f = ran_denied false number asked a b f.same f.ran
+read_causes number count new_count a b (access_fault.Register asked) later f = ran_denied [] false number asked a b f.same f.ran
 read_causes number count new_count a b (access_fault.Run why) later f = f
-read_causes number count new_count a b access_fault.StillBusy later f = command_causes (transfer_word false number) count new_count a b access_fault.StillBusy f
-read_causes number count new_count a b (access_fault.Odd shown) later f = ran_oddly (transfer_word false number) shown a b f
-
-write_at_causes : (number value count new_count : ℕ) (a b : Tells) (why : DmiFault) → count ≤ new_count → WriteFailedAt number value count new_count a b (access_fault.Dmi why) → Causes count new_count a b (access_fault.Dmi why)
-write_at_causes number value count new_count a b why later (written_in_words _ f) = (f.acts, f.failed, f.broke)
-write_at_causes number value count new_count a b why later (written_in_command mid did _ f) =
-    causes_same a mid b (calls _ a mid did) count new_count (access_fault.Dmi why) later (command_causes (transfer_word true number) count new_count mid b (access_fault.Dmi why) f)
+read_causes number count new_count a b access_fault.StillBusy later f = command_causes [] (transfer_word false number) count new_count a b access_fault.StillBusy f
+read_causes number count new_count a b (access_fault.Odd shown) later f = ran_oddly [] (transfer_word false number) shown a b f
 
 write_causes : (number value count new_count : ℕ) (a b : Tells) (e : AccessFault) → LinkLater count new_count e → WriteFailed number value count new_count a b e → Causes count new_count a b e
-write_causes number value count new_count a b (access_fault.Dmi why) later f = write_at_causes number value count new_count a b why later f
+write_causes number value count new_count a b (access_fault.Dmi why) later f = command_causes (double_written value) (transfer_word true number) count new_count a b (access_fault.Dmi why) f
 write_causes number value count new_count a b (access_fault.Memory address) later f = absurd f
-write_causes number value count new_count a b (access_fault.Register asked) later f =
-    causes_same a f.mid b (calls _ a f.mid f.words) count new_count (access_fault.Register asked) later (ran_denied true number asked f.mid b f.then.same f.then.ran)
+write_causes number value count new_count a b (access_fault.Register asked) later f = ran_denied (double_written value) true number asked a b f.same f.ran
 write_causes number value count new_count a b (access_fault.Run why) later f = f
 write_causes number value count new_count a b access_fault.StillBusy later f =
-    causes_same a f.mid b (calls _ a f.mid f.words) count new_count access_fault.StillBusy later (command_causes (transfer_word true number) count new_count f.mid b access_fault.StillBusy f.then)
-write_causes number value count new_count a b (access_fault.Odd shown) later f =
-    causes_same a f.mid b (calls _ a f.mid f.words) count new_count (access_fault.Odd shown) later (ran_oddly (transfer_word true number) shown f.mid b f.then)
+    command_causes (double_written value) (transfer_word true number) count new_count a b access_fault.StillBusy f
+write_causes number value count new_count a b (access_fault.Odd shown) later f = ran_oddly (double_written value) (transfer_word true number) shown a b f
 
 perform_causes : (word address count new_count : ℕ) (a b : Tells) (e : AccessFault) → LinkLater count new_count e → PerformFailed word address count new_count a b e → Causes count new_count a b e
-perform_causes word address count new_count a b _ later (in_program why f) = (f.acts, f.failed, f.broke)
-perform_causes word address count new_count a b _ later (in_address written did e f) = causes_same a written b (calls _ a written did) count new_count e later (write_causes x8_number address count new_count written b e later f)
-perform_causes word address count new_count a b _ later (in_run written addressed did x8 e f) =
-    causes_same a addressed b (addressed_calls word address a written addressed did x8) count new_count e later (command_causes program_word count new_count addressed b e f)
-perform_causes word address count new_count a b _ later (faulted p) =
-    causes_same a p.addressed b (addressed_calls word address a p.written p.addressed p.program p.x8) count new_count (access_fault.Memory address) later (ran_reported program_word 3 p.addressed b p.ran)
-perform_causes word address count new_count a b _ later (oddly written addressed did x8 shown ran) =
-    causes_same a addressed b (addressed_calls word address a written addressed did x8) count new_count (access_fault.Odd shown) later (ran_oddly program_word shown addressed b ran)
-
-pub load_causes : (size : Size) (address count new_count : ℕ) (a b : Tells) (e : AccessFault) → LinkLater count new_count e → LoadFailedInside size address count new_count a b e → Causes count new_count a b e
-load_causes size address count new_count a b e later (load_performing f) = perform_causes (load_word size) address count new_count a b e later f
-load_causes size address count new_count a b e later (load_reading mid p f) =
-    causes_same a mid b (performed_calls (load_word size) address 0 a mid p) count new_count e later (read_causes x9_number count new_count mid b e later f)
+perform_causes word address count new_count a b _ later (in_run e f) = command_causes (program_set word address) program_word count new_count a b e f
+perform_causes word address count new_count a b _ later (faulted p) = ran_reported (program_set word address) program_word 3 a b p
+perform_causes word address count new_count a b _ later (oddly shown ran) = ran_oddly (program_set word address) program_word shown a b ran
 
 pub store_causes : (size : Size) (address value count new_count : ℕ) (a b : Tells) (e : AccessFault) → LinkLater count new_count e → StoreFailedInside size address value count new_count a b e → Causes count new_count a b e
 store_causes size address value count new_count a b e later (store_writing f) = write_causes x9_number value count new_count a b e later f
@@ -306,8 +311,24 @@ around_causes R F count new_count a b e i later (in_restore_behind x8 x9 first l
     (calls_then a first last (saved_calls x8 x9 a first saved) (causes_calls first last was_count is_count was (i.failed was_count is_count first last was (no_link was_count is_count was recovers) f) recovers)) count new_count e later
     (back_causes x8 x9 count new_count last b e later g)
 
-pub load_inside_causes : (size : Size) (address : ℕ) → InsideCauses (LoadedAny size address) (LoadFailedInside size address)
-load_inside_causes size address = record { went = λ a b r. loaded_calls size address r.0 a b r.1; failed = λ count new_count a b e later f. load_causes size address count new_count a b e later f }
+pub load_causes : (size : Size) (address count new_count : ℕ) (a b : Tells) (e : AccessFault) → LinkLater count new_count e → LoadRunFailed size address count new_count a b e → Causes count new_count a b e
+load_causes size address count new_count a b _ later (load_saving e f) = read_causes x8_number count new_count a b e later f
+load_causes size address count new_count a b _ later (load_performing e x8 first saved f loses) =
+    causes_same a first b (read_calls x8_number x8 a first saved) count new_count e later (perform_causes (load_word size) address count new_count first b e later f)
+load_causes size address count new_count a b _ later (load_refused x8 first last saved p back) =
+    causes_same a first b (read_calls x8_number x8 a first saved) count new_count (access_fault.Memory address) later
+    (causes_then first last b count new_count count new_count (access_fault.Memory address) (ran_reported (program_set (load_word size) address) program_word 3 first last p) tt
+    (written_calls x8_number x8 last b back))
+load_causes size address count new_count a b _ later (load_restoring_behind e x8 first last saved p back) =
+    causes_same a last b (calls_then a first last (read_calls x8_number x8 a first saved) (performed_calls (load_word size) address 3 first last p)) count new_count e later
+    (write_causes x8_number x8 count new_count last b e later back)
+load_causes size address count new_count a b _ later (load_taking e x8 first mid saved p f) =
+    causes_same a mid b (calls_then a first mid (read_calls x8_number x8 a first saved) (performed_calls (load_word size) address 0 first mid p)) count new_count e later
+    (read_causes x8_number count new_count mid b e later f)
+load_causes size address count new_count a b _ later (load_restoring e x8 value first mid last saved p taken f) =
+    causes_same a last b
+    (calls_then a mid last (calls_then a first mid (read_calls x8_number x8 a first saved) (performed_calls (load_word size) address 0 first mid p))
+    (read_calls x8_number value mid last taken)) count new_count e later (write_causes x8_number x8 count new_count last b e later f)
 
 pub store_inside_causes : (size : Size) (address value : ℕ) → InsideCauses (StoredInside size address value) (StoreFailedInside size address value)
 store_inside_causes size address value = record { went = λ a b r. stored_calls size address value a b r; failed = λ count new_count a b e later f. store_causes size address value count new_count a b e later f }
@@ -334,7 +355,7 @@ register_fetched number value values old mid new f r =
     let polls : List Act = Put command_address (transfer_word false number) ∷ map poll_act r.ran.ran.words in
     let words : List Act = Got data0_address r.words.low ∷ Got data1_address r.words.high ∷ [] in
     let none : [] ≡ clearing (error_shown last) = none_cleared (error_shown last) r.ran.error_is in
-    let command : Did mid (polls ++ poll_act last ∷ []) r.mid = did_list (command_acts (transfer_word false number) r.ran.ran.words last) (polls ++ poll_act last ∷ []) mid r.mid (ap (λ cs. polls ++ poll_act last ∷ cs) (sym none)) r.ran.ran.did in
+    let command : Did mid (polls ++ poll_act last ∷ []) r.mid = did_list (command_acts [] (transfer_word false number) r.ran.ran.words last) (polls ++ poll_act last ∷ []) mid r.mid (ap (λ cs. polls ++ poll_act last ∷ cs) (sym none)) r.ran.ran.did in
     let both : Did mid ((polls ++ poll_act last ∷ []) ++ words) new = did_then (polls ++ poll_act last ∷ []) mid r.mid command words new r.words.did in
     let shaped : Did mid (polls ++ poll_act last ∷ (words ++ [])) new = did_list ((polls ++ poll_act last ∷ []) ++ words) (polls ++ poll_act last ∷ (words ++ [])) mid new (append_assoc polls (poll_act last ∷ []) words) both in
     let all : Did old (f.acts ++ (polls ++ poll_act last ∷ (words ++ []))) new = did_then f.acts old mid f.did (polls ++ poll_act last ∷ (words ++ [])) new shaped in
@@ -348,11 +369,11 @@ register_fetched number value values old mid new f r =
 fetched_calls : (values : List ℕ) (old mid new : Tells) → Fetched values old mid → Calls mid new → Fetched values old new
 fetched_calls values old mid new f p = record { acts = f.acts ++ p.acts; did = did_then f.acts old mid f.did p.acts new p.did; fetches = more_fetched values f.acts p.acts f.fetches }
 
-pub fetched_more : (size : Size) (address value : ℕ) (values : List ℕ) (old mid new : Tells) → Fetched values old mid → Around (LoadedInside size address value) mid new → Fetched (values ++ value ∷ []) old new
+pub fetched_more : (size : Size) (address value : ℕ) (values : List ℕ) (old mid new : Tells) → Fetched values old mid → LoadRun size address value mid new → Fetched (values ++ value ∷ []) old new
 fetched_more size address value values old mid new f r =
-    let at : Fetched values old r.inside.mid = fetched_calls values old mid r.inside.mid f
-    (calls_then mid r.first r.inside.mid (saved_calls r.x8 r.x9 mid r.first r.saved) (performed_calls (load_word size) address 0 r.first r.inside.mid r.inside.performed)) in
-    fetched_calls (values ++ value ∷ []) old r.last new (register_fetched x9_number value values old r.inside.mid r.last at r.inside.x9) (back_calls r.x8 r.x9 r.last new r.put_back)
+    let at : Fetched values old r.mid = fetched_calls values old mid r.mid f
+    (calls_then mid r.first r.mid (read_calls x8_number r.x8 mid r.first r.saved) (performed_calls (load_word size) address 0 r.first r.mid r.performed)) in
+    fetched_calls (values ++ value ∷ []) old r.last new (register_fetched x8_number value values old r.mid r.last at r.taken) (written_calls x8_number r.x8 r.last new r.put_back)
 
 pub fetched_made : (values : List ℕ) (old new : Tells) → Fetched values old new → Calls old new
 fetched_made values old new f = calls f.acts old new f.did

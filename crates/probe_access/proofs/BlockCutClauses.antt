@@ -5,7 +5,7 @@ use Rattle.rv_model.specs.Board.{Hart}
 use Rattle.rv_model.specs.Dcsr.{dcsr_value}
 use Rattle.rv_model.specs.DebugRegisters.{dcsr_number, debug_written}
 use Rattle.debug_model.specs.declared.point.Point.TheVariants.{ResumeReq}
-use Rattle.debug_model.specs.Dmi.{DmiScript}
+use Rattle.debug_model.specs.Dmi.{DmiComing}
 use Rattle.debug_model.specs.Module.{DebugModule, Site}
 use Rattle.debug_model.specs.Scan.{WhereTold}
 use Rattle.debug_model.specs.SystemBus.{BusUnit}
@@ -77,12 +77,12 @@ flag_hung on h bus x base w old_count new_count old new e small st (at_write wor
     (hung_map (Written dcsr_number (with_flag on word) x) (MaybeFlagged on x) h bus base new.far (λ z p. flag_as on x word z read p))
     (write_hung dcsr_number (with_flag on word) h bus x base w old_count new_count mid new e (omega arith) a.then f)
 
-pub flag_cut : (on : Bool) (h : ℕ) (far : Option Far) (script : Option DmiScript) (old_count new_count : ℕ) (new : Tells) (e : AccessFault) → IsReady far → Selects h far → IsHalted h far → FlagFailed on old_count new_count (tells far script) new e
+pub flag_cut : (on : Bool) (h : ℕ) (far : Option Far) (coming : Option DmiComing) (old_count new_count : ℕ) (new : Tells) (e : AccessFault) → IsReady far → Selects h far → IsHalted h far → FlagFailed on old_count new_count (tells far coming) new e
     → IfCut (Leaves (LeftAside (MaybeFlagged on) h) far new.far) e
-flag_cut on h None script old_count new_count new e ready selects halted f = cut_always (Leaves (LeftAside (MaybeFlagged on) h) None new.far) e tt
-flag_cut on h (Some c) script old_count new_count new e ready selects halted f =
+flag_cut on h None coming old_count new_count new e ready selects halted f = cut_always (Leaves (LeftAside (MaybeFlagged on) h) None new.far) e tt
+flag_cut on h (Some c) coming old_count new_count new e ready selects halted f =
     cut_left (MaybeFlagged on) h c halted new.far e
-    (flag_hung on h (site_of c).unit.bus halted.hart (site_of c) halted.hart old_count new_count (tells (Some c) script) new e ((ready.harts h halted.hart halted.is).registers dcsr_number (dcsr_value halted.hart.debug) (dcsr_held halted.hart))
+    (flag_hung on h (site_of c).unit.bus halted.hart (site_of c) halted.hart old_count new_count (tells (Some c) coming) new e ((ready.harts h halted.hart halted.is).registers dcsr_number (dcsr_value halted.hart.debug) (dcsr_held halted.hart))
     (first_told h c ready halted selects) f)
 
 -- ---- a single step

@@ -12,7 +12,7 @@ use Rattle.debug_model.specs.declared.bus_access.BusAccess.TheVariants.{Read, Wr
 use Rattle.debug_model.specs.declared.dmi.DmiFault.{DmiFault}
 use Rattle.debug_model.specs.declared.sberror.Sberror.TheVariants.{Fine, Address}
 use Rattle.debug_model.specs.Chip.{Chip}
-use Rattle.debug_model.specs.Dmi.{DmiScript}
+use Rattle.debug_model.specs.Dmi.{DmiComing}
 use Rattle.debug_model.specs.Module.{Site}
 use Rattle.debug_model.specs.Scan.{WhereTold}
 use Rattle.debug_model.specs.SystemBus.{BusUnit}
@@ -57,11 +57,11 @@ pub record Finished (p : BusUnit) (last : ℕ) (f : Far) (told : Option Far) : T
   pub is : told ≡ Some far
   pub made : BusMade p last (site_of f) (site_of far)
 
-pub load_finished : (size : Size) (address last : ℕ) (f : Far) (script : Option DmiScript) (started ended : Tells) → SiteReady (site_of f) → is_aligned address size ≡ true → Did (tells (Some f) script) (read_started size address) started
+pub load_finished : (size : Size) (address last : ℕ) (f : Far) (coming : Option DmiComing) (started ended : Tells) → SiteReady (site_of f) → is_aligned address size ≡ true → Did (tells (Some f) coming) (read_started size address) started
     → BusPolled last started ended → Finished (reading size address (site_of f)) last f ended.far
-load_finished size address last f script started ended ready aligned did polled =
+load_finished size address last f coming started ended ready aligned did polled =
     let s : Site = site_of f in
-    let one : AtSites (read_started size address) f started.far = did_sites (tells (Some f) script) (read_started size address) started f did refl in
+    let one : AtSites (read_started size address) f started.far = did_sites (tells (Some f) coming) (read_started size address) started f did refl in
     let two : AtSites _ one.far ended.far = did_sites started _ ended one.far polled.did one.is in
     record {
       far = two.far;
@@ -69,11 +69,11 @@ load_finished size address last f script started ended ready aligned did polled 
       made = read_made size address s.unit.bus.value last polled.words s (site_of one.far) (site_of two.far) (works_ready s ready) (read_begun size address s (site_of one.far) ready aligned one.acts_are) polled.idle two.acts_are;
     }
 
-pub store_finished : (size : Size) (address value last : ℕ) (f : Far) (script : Option DmiScript) (started ended : Tells) → SiteReady (site_of f) → is_aligned address size ≡ true → Did (tells (Some f) script) (write_started size address value) started
+pub store_finished : (size : Size) (address value last : ℕ) (f : Far) (coming : Option DmiComing) (started ended : Tells) → SiteReady (site_of f) → is_aligned address size ≡ true → Did (tells (Some f) coming) (write_started size address value) started
     → BusPolled last started ended → Finished (writing size address value) last f ended.far
-store_finished size address value last f script started ended ready aligned did polled =
+store_finished size address value last f coming started ended ready aligned did polled =
     let s : Site = site_of f in
-    let one : AtSites (write_started size address value) f started.far = did_sites (tells (Some f) script) (write_started size address value) started f did refl in
+    let one : AtSites (write_started size address value) f started.far = did_sites (tells (Some f) coming) (write_started size address value) started f did refl in
     let two : AtSites _ one.far ended.far = did_sites started _ ended one.far polled.did one.is in
     record {
       far = two.far;
@@ -124,12 +124,12 @@ load_by size address value last f ended new ready w fine fetched (not_read why i
     let a : MadeAs u m w.made.before last s (site_of w.far) = made_as (reading size address s) u m last s (site_of w.far) w.made done in
     absurd (two_not_zero (bus_error last) (ap bus_error a.shows ∙ (shown_by true size false true).error_is) fine)
 
-pub bus_load_ok : (size : Size) (address value : ℕ) (far : Option Far) (script : Option DmiScript) (new : Tells) → IsReady far → is_aligned address size ≡ true → BusLoaded size address value (tells far script) new → BusLoadOk size address value far new.far
-bus_load_ok size address value None script new ready aligned r =
-    let end : new.far ≡ None = did_untold r.ended _ new r.fetched.did (did_untold r.started _ r.ended r.ends.polled.did (did_untold (tells None script) _ r.started r.starts refl)) in
+pub bus_load_ok : (size : Size) (address value : ℕ) (far : Option Far) (coming : Option DmiComing) (new : Tells) → IsReady far → is_aligned address size ≡ true → BusLoaded size address value (tells far coming) new → BusLoadOk size address value far new.far
+bus_load_ok size address value None coming new ready aligned r =
+    let end : new.far ≡ None = did_untold r.ended _ new r.fetched.did (did_untold r.started _ r.ended r.ends.polled.did (did_untold (tells None coming) _ r.started r.starts refl)) in
     record { loaded_at = end; ready = subst (λ (o : Option Far). IsReady o) (sym end) tt }
-bus_load_ok size address value (Some f) script new ready aligned r =
-    let w : Finished (reading size address (site_of f)) r.ends.last f r.ended.far = load_finished size address r.ends.last f script r.started r.ended ready aligned r.starts r.ends.polled in
+bus_load_ok size address value (Some f) coming new ready aligned r =
+    let w : Finished (reading size address (site_of f)) r.ends.last f r.ended.far = load_finished size address r.ends.last f coming r.started r.ended ready aligned r.starts r.ends.polled in
     load_by size address value r.ends.last f r.ended new ready w r.ends.fine r.fetched (read_end size address (site_of f).unit.bus.value (memory_at w.made.before (site_of f)))
 
 -- ---- a store
@@ -165,12 +165,12 @@ store_by size address value last f new ready w fine (not_written why is makes) =
     let a : MadeAs u n w.made.before last s (site_of w.far) = made_as (writing size address value) u n last s (site_of w.far) w.made makes in
     absurd (two_not_zero (bus_error last) (ap bus_error a.shows ∙ (shown_by false size false true).error_is) fine)
 
-pub bus_store_ok : (size : Size) (address value : ℕ) (far : Option Far) (script : Option DmiScript) (new : Tells) → IsReady far → is_aligned address size ≡ true → BusStored size address value (tells far script) new → BusStoreOk size address value far new.far
-bus_store_ok size address value None script new ready aligned r =
-    let end : new.far ≡ None = did_untold r.started _ new r.ends.polled.did (did_untold (tells None script) _ r.started r.starts refl) in
+pub bus_store_ok : (size : Size) (address value : ℕ) (far : Option Far) (coming : Option DmiComing) (new : Tells) → IsReady far → is_aligned address size ≡ true → BusStored size address value (tells far coming) new → BusStoreOk size address value far new.far
+bus_store_ok size address value None coming new ready aligned r =
+    let end : new.far ≡ None = did_untold r.started _ new r.ends.polled.did (did_untold (tells None coming) _ r.started r.starts refl) in
     record { stored_at = end; ready = subst (λ (o : Option Far). IsReady o) (sym end) tt }
-bus_store_ok size address value (Some f) script new ready aligned r =
-    let w : Finished (writing size address value) r.ends.last f new.far = store_finished size address value r.ends.last f script r.started new ready aligned r.starts r.ends.polled in
+bus_store_ok size address value (Some f) coming new ready aligned r =
+    let w : Finished (writing size address value) r.ends.last f new.far = store_finished size address value r.ends.last f coming r.started new ready aligned r.starts r.ends.polled in
     store_by size address value r.ends.last f new ready w r.ends.fine (write_end size address value (memory_at w.made.before (site_of f)))
 
 -- ---- faults
@@ -244,25 +244,25 @@ load_odd size address last f told w other some (not_read why is done) =
     let a : MadeAs (bus_at true size address s.unit.bus.value Address None) (memory_at w.made.before s) w.made.before last s (site_of w.far) = made_as (reading size address s) _ _ last s (site_of w.far) w.made done in
     no_other true size address s.unit.bus.value last true (ap bus_error a.shows ∙ (shown_by true size false true).error_is) (ap bus_collided a.shows ∙ (shown_by true size false true).alone) other some
 
-load_end_err : (size : Size) (address : ℕ) (far : Option Far) (script : Option DmiScript) (started new : Tells) (old_count new_count : ℕ) (e : AccessFault) → IsReady far → is_aligned address size ≡ true → Did (tells far script) (read_started size address) started
+load_end_err : (size : Size) (address : ℕ) (far : Option Far) (coming : Option DmiComing) (started new : Tells) (old_count new_count : ℕ) (e : AccessFault) → IsReady far → is_aligned address size ≡ true → Did (tells far coming) (read_started size address) started
     → BusEndFailed address old_count new_count started new e → BusErr (BusLoadRefused size address) address far new.far e
-load_end_err size address None script started new old_count new_count e ready aligned did f =
-    end_err (BusLoadRefused size address) address None started new old_count new_count e (refused_untold (BusLoadRefused size address) started new (did_untold (tells None script) _ started did refl)) (λ shown o. refl) f
-load_end_err size address (Some c) script started new old_count new_count e ready aligned did f =
+load_end_err size address None coming started new old_count new_count e ready aligned did f =
+    end_err (BusLoadRefused size address) address None started new old_count new_count e (refused_untold (BusLoadRefused size address) started new (did_untold (tells None coming) _ started did refl)) (λ shown o. refl) f
+load_end_err size address (Some c) coming started new old_count new_count e ready aligned did f =
     end_err (BusLoadRefused size address) address (Some c) started new old_count new_count e
     (λ r.
-    let w : Finished (reading size address (site_of c)) r.last c r.mid.far = load_finished size address r.last c script started r.mid ready aligned did r.polled in
+    let w : Finished (reading size address (site_of c)) r.last c r.mid.far = load_finished size address r.last c coming started r.mid ready aligned did r.polled in
     load_refused size address r.last c r.mid new ready w r.outside r.cleared (read_end size address (site_of c).unit.bus.value (memory_at w.made.before (site_of c))))
     (λ shown o.
-    let w : Finished (reading size address (site_of c)) o.last c new.far = load_finished size address o.last c script started new ready aligned did o.polled in
+    let w : Finished (reading size address (site_of c)) o.last c new.far = load_finished size address o.last c coming started new ready aligned did o.polled in
     absurd (load_odd size address o.last c new.far w o.other o.some (read_end size address (site_of c).unit.bus.value (memory_at w.made.before (site_of c)))))
     f
 
-pub bus_load_err : (size : Size) (address : ℕ) (far : Option Far) (script : Option DmiScript) (new : Tells) (old_count new_count : ℕ) (e : AccessFault) → IsReady far → is_aligned address size ≡ true
-    → BusLoadFailed size address old_count new_count (tells far script) new e → BusErr (BusLoadRefused size address) address far new.far e
-bus_load_err size address far script new old_count new_count e ready aligned (load_start why is b) = link_err (BusLoadRefused size address) address far new.far e why is
-bus_load_err size address far script new old_count new_count e ready aligned (load_end started did f) = load_end_err size address far script started new old_count new_count e ready aligned did f
-bus_load_err size address far script new old_count new_count e ready aligned (load_fetch started ended did ends why is b) = link_err (BusLoadRefused size address) address far new.far e why is
+pub bus_load_err : (size : Size) (address : ℕ) (far : Option Far) (coming : Option DmiComing) (new : Tells) (old_count new_count : ℕ) (e : AccessFault) → IsReady far → is_aligned address size ≡ true
+    → BusLoadFailed size address old_count new_count (tells far coming) new e → BusErr (BusLoadRefused size address) address far new.far e
+bus_load_err size address far coming new old_count new_count e ready aligned (load_start why is b) = link_err (BusLoadRefused size address) address far new.far e why is
+bus_load_err size address far coming new old_count new_count e ready aligned (load_end started did f) = load_end_err size address far coming started new old_count new_count e ready aligned did f
+bus_load_err size address far coming new old_count new_count e ready aligned (load_fetch started ended did ends why is b) = link_err (BusLoadRefused size address) address far new.far e why is
 
 -- ---- a store that failed
 
@@ -308,21 +308,21 @@ store_odd size address value last f told w other some (not_written why is makes)
     let a : MadeAs (bus_at false size address value Address None) (after_store (memory_at w.made.before s) address size value) w.made.before last s (site_of w.far) = made_as (writing size address value) _ _ last s (site_of w.far) w.made makes in
     no_other false size address value last true (ap bus_error a.shows ∙ (shown_by false size false true).error_is) (ap bus_collided a.shows ∙ (shown_by false size false true).alone) other some
 
-store_end_err : (size : Size) (address value : ℕ) (far : Option Far) (script : Option DmiScript) (started new : Tells) (old_count new_count : ℕ) (e : AccessFault) → IsReady far → is_aligned address size ≡ true
-    → Did (tells far script) (write_started size address value) started → BusEndFailed address old_count new_count started new e → BusErr (BusStoreRefused size address) address far new.far e
-store_end_err size address value None script started new old_count new_count e ready aligned did f =
-    end_err (BusStoreRefused size address) address None started new old_count new_count e (refused_untold (BusStoreRefused size address) started new (did_untold (tells None script) _ started did refl)) (λ shown o. refl) f
-store_end_err size address value (Some c) script started new old_count new_count e ready aligned did f =
+store_end_err : (size : Size) (address value : ℕ) (far : Option Far) (coming : Option DmiComing) (started new : Tells) (old_count new_count : ℕ) (e : AccessFault) → IsReady far → is_aligned address size ≡ true
+    → Did (tells far coming) (write_started size address value) started → BusEndFailed address old_count new_count started new e → BusErr (BusStoreRefused size address) address far new.far e
+store_end_err size address value None coming started new old_count new_count e ready aligned did f =
+    end_err (BusStoreRefused size address) address None started new old_count new_count e (refused_untold (BusStoreRefused size address) started new (did_untold (tells None coming) _ started did refl)) (λ shown o. refl) f
+store_end_err size address value (Some c) coming started new old_count new_count e ready aligned did f =
     end_err (BusStoreRefused size address) address (Some c) started new old_count new_count e
     (λ r.
-    let w : Finished (writing size address value) r.last c r.mid.far = store_finished size address value r.last c script started r.mid ready aligned did r.polled in
+    let w : Finished (writing size address value) r.last c r.mid.far = store_finished size address value r.last c coming started r.mid ready aligned did r.polled in
     store_refused size address value r.last c r.mid new ready w r.outside r.cleared (write_end size address value (memory_at w.made.before (site_of c))))
     (λ shown o.
-    let w : Finished (writing size address value) o.last c new.far = store_finished size address value o.last c script started new ready aligned did o.polled in
+    let w : Finished (writing size address value) o.last c new.far = store_finished size address value o.last c coming started new ready aligned did o.polled in
     absurd (store_odd size address value o.last c new.far w o.other o.some (write_end size address value (memory_at w.made.before (site_of c)))))
     f
 
-pub bus_store_err : (size : Size) (address value : ℕ) (far : Option Far) (script : Option DmiScript) (new : Tells) (old_count new_count : ℕ) (e : AccessFault) → IsReady far → is_aligned address size ≡ true
-    → BusStoreFailed size address value old_count new_count (tells far script) new e → BusErr (BusStoreRefused size address) address far new.far e
-bus_store_err size address value far script new old_count new_count e ready aligned (store_start why is b) = link_err (BusStoreRefused size address) address far new.far e why is
-bus_store_err size address value far script new old_count new_count e ready aligned (store_end started did f) = store_end_err size address value far script started new old_count new_count e ready aligned did f
+pub bus_store_err : (size : Size) (address value : ℕ) (far : Option Far) (coming : Option DmiComing) (new : Tells) (old_count new_count : ℕ) (e : AccessFault) → IsReady far → is_aligned address size ≡ true
+    → BusStoreFailed size address value old_count new_count (tells far coming) new e → BusErr (BusStoreRefused size address) address far new.far e
+bus_store_err size address value far coming new old_count new_count e ready aligned (store_start why is b) = link_err (BusStoreRefused size address) address far new.far e why is
+bus_store_err size address value far coming new old_count new_count e ready aligned (store_end started did f) = store_end_err size address value far coming started new old_count new_count e ready aligned did f

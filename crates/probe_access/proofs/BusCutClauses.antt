@@ -11,7 +11,7 @@ use Rattle.debug_model.specs.declared.dmi_op.DmiOp.TheVariants.{Read, Write}
 use Rattle.debug_model.specs.declared.point.Point.{Point}
 use Rattle.debug_model.specs.declared.point.Point.TheVariants.{Access}
 use Rattle.debug_model.specs.declared.sberror.Sberror.TheVariants.{Fine, Address}
-use Rattle.debug_model.specs.Dmi.{DmiScript, SiteCut}
+use Rattle.debug_model.specs.Dmi.{DmiComing, SiteCut}
 use Rattle.debug_model.specs.Dmi.SiteCut.{was_performed}
 use Rattle.debug_model.specs.Module.{DebugModule, Site}
 use Rattle.debug_model.specs.SystemBus.{BusUnit}
@@ -137,25 +137,25 @@ load_clear size address last f mid told old_count new_count why ready w outside 
     let a : MadeAs (bus_at true size address s.unit.bus.value Address None) m w.made.before last s (site_of w.far) = made_as (reading size address s) _ _ last s (site_of w.far) w.made done in
     clear_cut LoadLeaves true size address s.unit.bus.value w.made.before m s old_count new_count mid w.far told why b.acts b.failed (works_ready s ready) refl w.is a.after b.begun b.broke
 
-load_ending : (size : Size) (address : ℕ) (f : Far) (script : Option DmiScript) (started new : Tells) (old_count new_count : ℕ) (why : DmiFault) → SiteReady (site_of f) → is_aligned address size ≡ true → Did (tells (Some f) script) (read_started size address) started
+load_ending : (size : Size) (address : ℕ) (f : Far) (coming : Option DmiComing) (started new : Tells) (old_count new_count : ℕ) (why : DmiFault) → SiteReady (site_of f) → is_aligned address size ≡ true → Did (tells (Some f) coming) (read_started size address) started
     → BusEnding old_count new_count started new why → BusCut LoadLeaves (site_of f) new.far
-load_ending size address f script started new old_count new_count why ready aligned did (at_poll b) =
+load_ending size address f coming started new old_count new_count why ready aligned did (at_poll b) =
     let s : Site = site_of f in
-    let one : AtSites (read_started size address) f started.far = did_sites (tells (Some f) script) (read_started size address) started f did refl in
+    let one : AtSites (read_started size address) f started.far = did_sites (tells (Some f) coming) (read_started size address) started f did refl in
     poll_cut LoadLeaves (reading size address s) s old_count new_count started new.far why b.acts b.failed one.far one.is (works_ready s ready) (pends true size address s.unit.bus.value access.Read) (read_leaves size address s.unit.bus.value)
     (read_begun size address s (site_of one.far) ready aligned one.acts_are) b.begun b.broke
-load_ending size address f script started new old_count new_count why ready aligned did (at_clear last mid polled outside b) =
-    let w : Finished (reading size address (site_of f)) last f mid.far = load_finished size address last f script started mid ready aligned did polled in
+load_ending size address f coming started new old_count new_count why ready aligned did (at_clear last mid polled outside b) =
+    let w : Finished (reading size address (site_of f)) last f mid.far = load_finished size address last f coming started mid ready aligned did polled in
     load_clear size address last f mid new.far old_count new_count why ready w outside b (read_end size address (site_of f).unit.bus.value (memory_at w.made.before (site_of f)))
 
-load_end_cut : (size : Size) (address : ℕ) (f : Far) (script : Option DmiScript) (started new : Tells) (old_count new_count : ℕ) (e : AccessFault) → SiteReady (site_of f) → is_aligned address size ≡ true → Did (tells (Some f) script) (read_started size address) started
+load_end_cut : (size : Size) (address : ℕ) (f : Far) (coming : Option DmiComing) (started new : Tells) (old_count new_count : ℕ) (e : AccessFault) → SiteReady (site_of f) → is_aligned address size ≡ true → Did (tells (Some f) coming) (read_started size address) started
     → BusEndFailed address old_count new_count started new e → IfCut (BusCut LoadLeaves (site_of f) new.far) e
-load_end_cut size address f script started new old_count new_count (access_fault.Dmi why) ready aligned did g = load_ending size address f script started new old_count new_count why ready aligned did g
-load_end_cut size address f script started new old_count new_count (access_fault.Memory at) ready aligned did g = tt
-load_end_cut size address f script started new old_count new_count (access_fault.Register number) ready aligned did g = tt
-load_end_cut size address f script started new old_count new_count access_fault.StillBusy ready aligned did g =
+load_end_cut size address f coming started new old_count new_count (access_fault.Dmi why) ready aligned did g = load_ending size address f coming started new old_count new_count why ready aligned did g
+load_end_cut size address f coming started new old_count new_count (access_fault.Memory at) ready aligned did g = tt
+load_end_cut size address f coming started new old_count new_count (access_fault.Register number) ready aligned did g = tt
+load_end_cut size address f coming started new old_count new_count access_fault.StillBusy ready aligned did g =
     let s : Site = site_of f in
-    let one : AtSites (read_started size address) f started.far = did_sites (tells (Some f) script) (read_started size address) started f did refl in
+    let one : AtSites (read_started size address) f started.far = did_sites (tells (Some f) coming) (read_started size address) started f did refl in
     let two : AtSites (map bus_poll g.words) one.far new.far = did_sites started (map bus_poll g.words) new one.far g.did one.is in
     record {
       far = two.far;
@@ -163,8 +163,8 @@ load_end_cut size address f script started new old_count new_count access_fault.
       left = stage_left LoadLeaves (reading size address s) s (site_of two.far) (read_leaves size address s.unit.bus.value)
           (stage_polls (reading size address s) g.words s (site_of one.far) (site_of two.far) (works_ready s ready) (pends true size address s.unit.bus.value access.Read) (read_begun size address s (site_of one.far) ready aligned one.acts_are) two.acts_are);
     }
-load_end_cut size address f script started new old_count new_count (access_fault.Run why) ready aligned did g = tt
-load_end_cut size address f script started new old_count new_count (access_fault.Odd shown) ready aligned did g = tt
+load_end_cut size address f coming started new old_count new_count (access_fault.Run why) ready aligned did g = tt
+load_end_cut size address f coming started new old_count new_count (access_fault.Odd shown) ready aligned did g = tt
 
 load_fetch_by : (size : Size) (address last : ℕ) (f : Far) (ended new : Tells) (old_count new_count : ℕ) (why : DmiFault) → SiteReady (site_of f) → (w : Finished (reading size address (site_of f)) last f ended.far) → bus_error last ≡ 0
     → BrokeIn BusFetching old_count new_count ended new.far why → ReadEnd size address (site_of f).unit.bus.value (memory_at w.made.before (site_of f)) → BusCut LoadLeaves (site_of f) new.far
@@ -180,13 +180,13 @@ load_fetch_by size address last f ended new old_count new_count why ready w fine
 by_fault : (P : Type 0) (e : AccessFault) (why : DmiFault) → e ≡ access_fault.Dmi why → P → IfCut P e
 by_fault P e why is p = cut_always P e p
 
-load_cut : (size : Size) (address : ℕ) (f : Far) (script : Option DmiScript) (new : Tells) (old_count new_count : ℕ) (e : AccessFault) → SiteReady (site_of f) → is_aligned address size ≡ true → BusLoadFailed size address old_count new_count (tells (Some f) script) new e
+load_cut : (size : Size) (address : ℕ) (f : Far) (coming : Option DmiComing) (new : Tells) (old_count new_count : ℕ) (e : AccessFault) → SiteReady (site_of f) → is_aligned address size ≡ true → BusLoadFailed size address old_count new_count (tells (Some f) coming) new e
     → IfCut (BusCut LoadLeaves (site_of f) new.far) e
-load_cut size address f script new old_count new_count e ready aligned (load_start why is b) =
-    by_fault (BusCut LoadLeaves (site_of f) new.far) e why is (read_start_cut size address old_count new_count f script new.far why b.acts b.failed ready aligned b.begun b.broke)
-load_cut size address f script new old_count new_count e ready aligned (load_end started did g) = load_end_cut size address f script started new old_count new_count e ready aligned did g
-load_cut size address f script new old_count new_count e ready aligned (load_fetch started ended did ends why is b) =
-    let w : Finished (reading size address (site_of f)) ends.last f ended.far = load_finished size address ends.last f script started ended ready aligned did ends.polled in
+load_cut size address f coming new old_count new_count e ready aligned (load_start why is b) =
+    by_fault (BusCut LoadLeaves (site_of f) new.far) e why is (read_start_cut size address old_count new_count f coming new.far why b.acts b.failed ready aligned b.begun b.broke)
+load_cut size address f coming new old_count new_count e ready aligned (load_end started did g) = load_end_cut size address f coming started new old_count new_count e ready aligned did g
+load_cut size address f coming new old_count new_count e ready aligned (load_fetch started ended did ends why is b) =
+    let w : Finished (reading size address (site_of f)) ends.last f ended.far = load_finished size address ends.last f coming started ended ready aligned did ends.polled in
     by_fault (BusCut LoadLeaves (site_of f) new.far) e why is (load_fetch_by size address ends.last f ended new old_count new_count why ready w ends.fine b (read_end size address (site_of f).unit.bus.value (memory_at w.made.before (site_of f))))
 
 -- ---- the end of a store
@@ -203,25 +203,25 @@ store_clear size address value last f mid told old_count new_count why ready w o
     let a : MadeAs (bus_at false size address value Address None) n w.made.before last s (site_of w.far) = made_as (writing size address value) _ _ last s (site_of w.far) w.made makes in
     clear_cut (StoreLeaves size address value) false size address value w.made.before n s old_count new_count mid w.far told why b.acts b.failed (works_ready s ready) refl w.is a.after b.begun b.broke
 
-store_ending : (size : Size) (address value : ℕ) (f : Far) (script : Option DmiScript) (started new : Tells) (old_count new_count : ℕ) (why : DmiFault) → SiteReady (site_of f) → is_aligned address size ≡ true
-    → Did (tells (Some f) script) (write_started size address value) started → BusEnding old_count new_count started new why → BusCut (StoreLeaves size address value) (site_of f) new.far
-store_ending size address value f script started new old_count new_count why ready aligned did (at_poll b) =
+store_ending : (size : Size) (address value : ℕ) (f : Far) (coming : Option DmiComing) (started new : Tells) (old_count new_count : ℕ) (why : DmiFault) → SiteReady (site_of f) → is_aligned address size ≡ true
+    → Did (tells (Some f) coming) (write_started size address value) started → BusEnding old_count new_count started new why → BusCut (StoreLeaves size address value) (site_of f) new.far
+store_ending size address value f coming started new old_count new_count why ready aligned did (at_poll b) =
     let s : Site = site_of f in
-    let one : AtSites (write_started size address value) f started.far = did_sites (tells (Some f) script) (write_started size address value) started f did refl in
+    let one : AtSites (write_started size address value) f started.far = did_sites (tells (Some f) coming) (write_started size address value) started f did refl in
     poll_cut (StoreLeaves size address value) (writing size address value) s old_count new_count started new.far why b.acts b.failed one.far one.is (works_ready s ready) (pends false size address value access.Write) (write_leaves size address value)
     (write_begun size address value s (site_of one.far) ready aligned one.acts_are) b.begun b.broke
-store_ending size address value f script started new old_count new_count why ready aligned did (at_clear last mid polled outside b) =
-    let w : Finished (writing size address value) last f mid.far = store_finished size address value last f script started mid ready aligned did polled in
+store_ending size address value f coming started new old_count new_count why ready aligned did (at_clear last mid polled outside b) =
+    let w : Finished (writing size address value) last f mid.far = store_finished size address value last f coming started mid ready aligned did polled in
     store_clear size address value last f mid new.far old_count new_count why ready w outside b (write_end size address value (memory_at w.made.before (site_of f)))
 
-store_end_cut : (size : Size) (address value : ℕ) (f : Far) (script : Option DmiScript) (started new : Tells) (old_count new_count : ℕ) (e : AccessFault) → SiteReady (site_of f) → is_aligned address size ≡ true
-    → Did (tells (Some f) script) (write_started size address value) started → BusEndFailed address old_count new_count started new e → IfCut (BusCut (StoreLeaves size address value) (site_of f) new.far) e
-store_end_cut size address value f script started new old_count new_count (access_fault.Dmi why) ready aligned did g = store_ending size address value f script started new old_count new_count why ready aligned did g
-store_end_cut size address value f script started new old_count new_count (access_fault.Memory at) ready aligned did g = tt
-store_end_cut size address value f script started new old_count new_count (access_fault.Register number) ready aligned did g = tt
-store_end_cut size address value f script started new old_count new_count access_fault.StillBusy ready aligned did g =
+store_end_cut : (size : Size) (address value : ℕ) (f : Far) (coming : Option DmiComing) (started new : Tells) (old_count new_count : ℕ) (e : AccessFault) → SiteReady (site_of f) → is_aligned address size ≡ true
+    → Did (tells (Some f) coming) (write_started size address value) started → BusEndFailed address old_count new_count started new e → IfCut (BusCut (StoreLeaves size address value) (site_of f) new.far) e
+store_end_cut size address value f coming started new old_count new_count (access_fault.Dmi why) ready aligned did g = store_ending size address value f coming started new old_count new_count why ready aligned did g
+store_end_cut size address value f coming started new old_count new_count (access_fault.Memory at) ready aligned did g = tt
+store_end_cut size address value f coming started new old_count new_count (access_fault.Register number) ready aligned did g = tt
+store_end_cut size address value f coming started new old_count new_count access_fault.StillBusy ready aligned did g =
     let s : Site = site_of f in
-    let one : AtSites (write_started size address value) f started.far = did_sites (tells (Some f) script) (write_started size address value) started f did refl in
+    let one : AtSites (write_started size address value) f started.far = did_sites (tells (Some f) coming) (write_started size address value) started f did refl in
     let two : AtSites (map bus_poll g.words) one.far new.far = did_sites started (map bus_poll g.words) new one.far g.did one.is in
     record {
       far = two.far;
@@ -229,14 +229,14 @@ store_end_cut size address value f script started new old_count new_count access
       left = stage_left (StoreLeaves size address value) (writing size address value) s (site_of two.far) (write_leaves size address value)
           (stage_polls (writing size address value) g.words s (site_of one.far) (site_of two.far) (works_ready s ready) (pends false size address value access.Write) (write_begun size address value s (site_of one.far) ready aligned one.acts_are) two.acts_are);
     }
-store_end_cut size address value f script started new old_count new_count (access_fault.Run why) ready aligned did g = tt
-store_end_cut size address value f script started new old_count new_count (access_fault.Odd shown) ready aligned did g = tt
+store_end_cut size address value f coming started new old_count new_count (access_fault.Run why) ready aligned did g = tt
+store_end_cut size address value f coming started new old_count new_count (access_fault.Odd shown) ready aligned did g = tt
 
-store_cut : (size : Size) (address value : ℕ) (f : Far) (script : Option DmiScript) (new : Tells) (old_count new_count : ℕ) (e : AccessFault) → SiteReady (site_of f) → is_aligned address size ≡ true
-    → BusStoreFailed size address value old_count new_count (tells (Some f) script) new e → IfCut (BusCut (StoreLeaves size address value) (site_of f) new.far) e
-store_cut size address value f script new old_count new_count e ready aligned (store_start why is b) =
-    by_fault (BusCut (StoreLeaves size address value) (site_of f) new.far) e why is (write_start_cut size address value old_count new_count f script new.far why b.acts b.failed ready aligned b.begun b.broke)
-store_cut size address value f script new old_count new_count e ready aligned (store_end started did g) = store_end_cut size address value f script started new old_count new_count e ready aligned did g
+store_cut : (size : Size) (address value : ℕ) (f : Far) (coming : Option DmiComing) (new : Tells) (old_count new_count : ℕ) (e : AccessFault) → SiteReady (site_of f) → is_aligned address size ≡ true
+    → BusStoreFailed size address value old_count new_count (tells (Some f) coming) new e → IfCut (BusCut (StoreLeaves size address value) (site_of f) new.far) e
+store_cut size address value f coming new old_count new_count e ready aligned (store_start why is b) =
+    by_fault (BusCut (StoreLeaves size address value) (site_of f) new.far) e why is (write_start_cut size address value old_count new_count f coming new.far why b.acts b.failed ready aligned b.begun b.broke)
+store_cut size address value f coming new old_count new_count e ready aligned (store_end started did g) = store_end_cut size address value f coming started new old_count new_count e ready aligned did g
 
 -- ---- by the board and the journal
 
@@ -270,12 +270,12 @@ bus_left N base t (made u before n left a) =
 cut_left : (N : Memory → Memory → Type 0) (f : Far) (new : Option Far) (e : AccessFault) → IfCut (BusCut N (site_of f) new) e → IfCut (Leaves (BusLeftOff N) (Some f) new) e
 cut_left N f new e c = if_cut (BusCut N (site_of f) new) (Leaves (BusLeftOff N) (Some f) new) e (λ p. record { far = p.far; is = p.is; left = bus_left N (site_of f) (site_of p.far) p.left }) c
 
-pub bus_load_cut : (size : Size) (address : ℕ) (far : Option Far) (script : Option DmiScript) (new : Tells) (old_count new_count : ℕ) (e : AccessFault) → IsReady far → is_aligned address size ≡ true
-    → BusLoadFailed size address old_count new_count (tells far script) new e → IfCut (Leaves (BusLeftOff LoadLeaves) far new.far) e
-bus_load_cut size address None script new old_count new_count e ready aligned f = cut_always (Leaves (BusLeftOff LoadLeaves) None new.far) e tt
-bus_load_cut size address (Some c) script new old_count new_count e ready aligned f = cut_left LoadLeaves c new.far e (load_cut size address c script new old_count new_count e ready aligned f)
+pub bus_load_cut : (size : Size) (address : ℕ) (far : Option Far) (coming : Option DmiComing) (new : Tells) (old_count new_count : ℕ) (e : AccessFault) → IsReady far → is_aligned address size ≡ true
+    → BusLoadFailed size address old_count new_count (tells far coming) new e → IfCut (Leaves (BusLeftOff LoadLeaves) far new.far) e
+bus_load_cut size address None coming new old_count new_count e ready aligned f = cut_always (Leaves (BusLeftOff LoadLeaves) None new.far) e tt
+bus_load_cut size address (Some c) coming new old_count new_count e ready aligned f = cut_left LoadLeaves c new.far e (load_cut size address c coming new old_count new_count e ready aligned f)
 
-pub bus_store_cut : (size : Size) (address value : ℕ) (far : Option Far) (script : Option DmiScript) (new : Tells) (old_count new_count : ℕ) (e : AccessFault) → IsReady far → is_aligned address size ≡ true
-    → BusStoreFailed size address value old_count new_count (tells far script) new e → IfCut (Leaves (BusLeftOff (StoreLeaves size address value)) far new.far) e
-bus_store_cut size address value None script new old_count new_count e ready aligned f = cut_always (Leaves (BusLeftOff (StoreLeaves size address value)) None new.far) e tt
-bus_store_cut size address value (Some c) script new old_count new_count e ready aligned f = cut_left (StoreLeaves size address value) c new.far e (store_cut size address value c script new old_count new_count e ready aligned f)
+pub bus_store_cut : (size : Size) (address value : ℕ) (far : Option Far) (coming : Option DmiComing) (new : Tells) (old_count new_count : ℕ) (e : AccessFault) → IsReady far → is_aligned address size ≡ true
+    → BusStoreFailed size address value old_count new_count (tells far coming) new e → IfCut (Leaves (BusLeftOff (StoreLeaves size address value)) far new.far) e
+bus_store_cut size address value None coming new old_count new_count e ready aligned f = cut_always (Leaves (BusLeftOff (StoreLeaves size address value)) None new.far) e tt
+bus_store_cut size address value (Some c) coming new old_count new_count e ready aligned f = cut_left (StoreLeaves size address value) c new.far e (store_cut size address value c coming new old_count new_count e ready aligned f)

@@ -55,7 +55,7 @@ pub waiting_always : (n : ℕ) (old new : Tells) → BusWaiting n old new → n 
 waiting_always n old new w all = record { words = w.words; busy = w.busy; all = w.count ∙ all; did = w.did }
 
 pub poll_broke : (n count mid_count new_count : ℕ) (old mid : Tells) (told : Option Far) (why : DmiFault) → BusWaiting n old mid → n < 64 → count ≤ mid_count → mid_count ≤ new_count
-    → WhereTold (OperationCut (Read sbcs_address)) mid.far told → DmiCause mid_count new_count mid.far told mid.script why → BrokeIn BusPollBegun count new_count old told why
+    → WhereTold (OperationCut (Read sbcs_address)) mid.far told → DmiCause mid_count new_count mid.far told mid.coming why → BrokeIn BusPollBegun count new_count old told why
 poll_broke n count mid_count new_count old mid told why w few le later cut cause = record {
   acts = map bus_poll w.words;
   failed = Operation (Read sbcs_address);
@@ -97,7 +97,7 @@ end_counted address count mid_count new_count old new (access_fault.Odd shown) l
 
 -- the clearing of an error failed
 pub clear_broke : (address last count mid_count new_count : ℕ) (old mid new : Tells) (why : DmiFault) → BusPolled last old mid → bus_error last ≡ outside_error → count ≤ mid_count → mid_count ≤ new_count
-    → WhereTold (OperationCut (Write sbcs_address clears_sberror)) mid.far new.far → DmiCause mid_count new_count mid.far new.far mid.script why → BusEndFailed address count new_count old new (access_fault.Dmi why)
+    → WhereTold (OperationCut (Write sbcs_address clears_sberror)) mid.far new.far → DmiCause mid_count new_count mid.far new.far mid.coming why → BusEndFailed address count new_count old new (access_fault.Dmi why)
 clear_broke address last count mid_count new_count old mid new why polled outside le later cut cause =
     at_clear last mid polled outside
     (broke_counted (Starting (Put sbcs_address clears_sberror ∷ [])) count mid_count new_count mid new.far why le later

@@ -1,32 +1,30 @@
 -- A fault is as well a fault since an earlier count of faults.
-use Rattle.std.proofs.Common.{◌≤◌, ℕ, true, false}
+use Rattle.std.proofs.Common.{◌≤◌, ℕ, List, [], true, false}
 use Rattle.rv_model.specs.declared.size.Size.{Size}
 use Rattle.probe_access.specs.declared.fault.AccessFault.{AccessFault}
 use Rattle.probe_access.specs.declared.fault.AccessFault.TheVariants as access_fault
-use Rattle.probe_run.specs.Acts.{Tells}
+use Rattle.probe_run.specs.Acts.{Act, Tells}
 use Rattle.probe_access.specs.Faults.{Among}
 use Rattle.probe_access.specs.CommandRuns.{CommandBegun, CommandFailed}
-use Rattle.probe_access.specs.MemoryRuns.{LoadFailedInside, PerformFailed, ProgramBegun, PutBackFailed, StoreFailedInside}
-use Rattle.probe_access.specs.MemoryRuns.PerformFailed.{in_program, in_address, in_run, faulted, oddly}
+use Rattle.probe_access.specs.MemoryRuns.{PerformFailed, PutBackFailed, StoreFailedInside, program_set}
+use Rattle.probe_access.specs.MemoryRuns.PerformFailed.{in_run, faulted, oddly}
 use Rattle.probe_access.specs.MemoryRuns.PutBackFailed.{at_x8 as put_x8, at_x9 as put_x9}
-use Rattle.probe_access.specs.MemoryRuns.LoadFailedInside.{performing as load_performing, reading as load_reading}
 use Rattle.probe_access.specs.MemoryRuns.StoreFailedInside.{performing as store_performing, writing as store_writing}
-use Rattle.probe_access.specs.RegisterRuns.{DoubleReads, DoubleWrites, ReadFailed, ReadFailedAt, WriteFailed, WriteFailedAt}
+use Rattle.probe_access.specs.RegisterRuns.{DoubleReads, ReadFailed, ReadFailedAt, WriteFailed, double_written}
 use Rattle.probe_access.specs.RegisterRuns.ReadFailedAt.{in_command as read_in_command, in_words as read_in_words}
-use Rattle.probe_access.specs.RegisterRuns.WriteFailedAt.{in_command as written_in_command, in_words as written_in_words}
 use Rattle.probe_access.specs.RegisterAccess.{program_word, transfer_word, x8_number, x9_number}
 use Rattle.probe_access.proofs.RegisterCalls.{broke_counted}
 
-pub command_counted : (word count mid_count new_count : ℕ) (old new : Tells) (e : AccessFault) → count ≤ mid_count → mid_count ≤ new_count → CommandFailed word mid_count new_count old new e → CommandFailed word count new_count old new e
-command_counted word count mid_count new_count old new (access_fault.Dmi why) le later f = broke_counted (Among (CommandBegun word)) count mid_count new_count old new.far why le later f
-command_counted word count mid_count new_count old new (access_fault.Memory address) le later f = f
-command_counted word count mid_count new_count old new (access_fault.Register asked) le later f = f
-command_counted word count mid_count new_count old new access_fault.StillBusy le later f = f
-command_counted word count mid_count new_count old new (access_fault.Run why) le later f = f
-command_counted word count mid_count new_count old new (access_fault.Odd shown) le later f = f
+pub command_counted : (front : List Act) (word count mid_count new_count : ℕ) (old new : Tells) (e : AccessFault) → count ≤ mid_count → mid_count ≤ new_count → CommandFailed front word mid_count new_count old new e → CommandFailed front word count new_count old new e
+command_counted front word count mid_count new_count old new (access_fault.Dmi why) le later f = broke_counted (Among (CommandBegun front word)) count mid_count new_count old new.far why le later f
+command_counted front word count mid_count new_count old new (access_fault.Memory address) le later f = f
+command_counted front word count mid_count new_count old new (access_fault.Register asked) le later f = f
+command_counted front word count mid_count new_count old new access_fault.StillBusy le later f = f
+command_counted front word count mid_count new_count old new (access_fault.Run why) le later f = f
+command_counted front word count mid_count new_count old new (access_fault.Odd shown) le later f = f
 
 read_at_counted : (number count mid_count new_count : ℕ) (old new : Tells) (e : AccessFault) → count ≤ mid_count → mid_count ≤ new_count → ReadFailedAt number mid_count new_count old new e → ReadFailedAt number count new_count old new e
-read_at_counted number count mid_count new_count old new e le later (read_in_command _ f) = read_in_command e (command_counted (transfer_word false number) count mid_count new_count old new e le later f)
+read_at_counted number count mid_count new_count old new e le later (read_in_command _ f) = read_in_command e (command_counted [] (transfer_word false number) count mid_count new_count old new e le later f)
 read_at_counted number count mid_count new_count old new e le later (read_in_words mid ran why b) = read_in_words mid ran why (broke_counted (Among DoubleReads) count mid_count new_count mid new.far why le later b)
 
 pub read_counted : (number count mid_count new_count : ℕ) (old new : Tells) (e : AccessFault) → count ≤ mid_count → mid_count ≤ new_count → ReadFailed number mid_count new_count old new e → ReadFailed number count new_count old new e
@@ -37,12 +35,8 @@ read_counted number count mid_count new_count old new access_fault.StillBusy le 
 read_counted number count mid_count new_count old new (access_fault.Run why) le later f = f
 read_counted number count mid_count new_count old new (access_fault.Odd shown) le later f = f
 
-write_at_counted : (number value count mid_count new_count : ℕ) (old new : Tells) (e : AccessFault) → count ≤ mid_count → mid_count ≤ new_count → WriteFailedAt number value mid_count new_count old new e → WriteFailedAt number value count new_count old new e
-write_at_counted number value count mid_count new_count old new e le later (written_in_words why b) = written_in_words why (broke_counted (Among (DoubleWrites value)) count mid_count new_count old new.far why le later b)
-write_at_counted number value count mid_count new_count old new e le later (written_in_command mid did _ f) = written_in_command mid did e (command_counted (transfer_word true number) count mid_count new_count mid new e le later f)
-
 pub write_counted : (number value count mid_count new_count : ℕ) (old new : Tells) (e : AccessFault) → count ≤ mid_count → mid_count ≤ new_count → WriteFailed number value mid_count new_count old new e → WriteFailed number value count new_count old new e
-write_counted number value count mid_count new_count old new (access_fault.Dmi why) le later f = write_at_counted number value count mid_count new_count old new (access_fault.Dmi why) le later f
+write_counted number value count mid_count new_count old new (access_fault.Dmi why) le later f = command_counted (double_written value) (transfer_word true number) count mid_count new_count old new (access_fault.Dmi why) le later f
 write_counted number value count mid_count new_count old new (access_fault.Memory address) le later f = f
 write_counted number value count mid_count new_count old new (access_fault.Register asked) le later f = f
 write_counted number value count mid_count new_count old new access_fault.StillBusy le later f = f
@@ -50,19 +44,14 @@ write_counted number value count mid_count new_count old new (access_fault.Run w
 write_counted number value count mid_count new_count old new (access_fault.Odd shown) le later f = f
 
 pub perform_counted : (word address count mid_count new_count : ℕ) (old new : Tells) (e : AccessFault) → count ≤ mid_count → mid_count ≤ new_count → PerformFailed word address mid_count new_count old new e → PerformFailed word address count new_count old new e
-perform_counted word address count mid_count new_count old new e le later (in_program why b) = in_program why (broke_counted (ProgramBegun word) count mid_count new_count old new.far why le later b)
-perform_counted word address count mid_count new_count old new e le later (in_address written did _ f) = in_address written did e (write_counted x8_number address count mid_count new_count written new e le later f)
-perform_counted word address count mid_count new_count old new e le later (in_run written addressed did x8 _ f) = in_run written addressed did x8 e (command_counted program_word count mid_count new_count addressed new e le later f)
-perform_counted word address count mid_count new_count old new e le later (faulted p) = faulted p
-perform_counted word address count mid_count new_count old new e le later (oddly written addressed did x8 shown ran) = oddly written addressed did x8 shown ran
+perform_counted word address count mid_count new_count old new _ le later (in_run e f) =
+    in_run e (command_counted (program_set word address) program_word count mid_count new_count old new e le later f)
+perform_counted word address count mid_count new_count old new _ le later (faulted p) = faulted p
+perform_counted word address count mid_count new_count old new _ le later (oddly shown ran) = oddly shown ran
 
 pub put_back_counted : (x8 x9 count mid_count new_count : ℕ) (old new : Tells) (e : AccessFault) → count ≤ mid_count → mid_count ≤ new_count → PutBackFailed x8 x9 mid_count new_count old new e → PutBackFailed x8 x9 count new_count old new e
 put_back_counted x8 x9 count mid_count new_count old new e le later (put_x8 f) = put_x8 (write_counted x8_number x8 count mid_count new_count old new e le later f)
 put_back_counted x8 x9 count mid_count new_count old new e le later (put_x9 mid w f) = put_x9 mid w (write_counted x9_number x9 count mid_count new_count mid new e le later f)
-
-pub load_counted : (size : Size) (address count mid_count new_count : ℕ) (old new : Tells) (e : AccessFault) → count ≤ mid_count → mid_count ≤ new_count → LoadFailedInside size address mid_count new_count old new e → LoadFailedInside size address count new_count old new e
-load_counted size address count mid_count new_count old new e le later (load_performing f) = load_performing (perform_counted _ address count mid_count new_count old new e le later f)
-load_counted size address count mid_count new_count old new e le later (load_reading mid p f) = load_reading mid p (read_counted x9_number count mid_count new_count mid new e le later f)
 
 pub store_counted : (size : Size) (address value count mid_count new_count : ℕ) (old new : Tells) (e : AccessFault) → count ≤ mid_count → mid_count ≤ new_count → StoreFailedInside size address value mid_count new_count old new e → StoreFailedInside size address value count new_count old new e
 store_counted size address value count mid_count new_count old new e le later (store_writing f) = store_writing (write_counted x9_number value count mid_count new_count old new e le later f)

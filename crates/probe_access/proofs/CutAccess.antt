@@ -1,5 +1,5 @@
 -- Where an access to memory by the program buffer broke off: before it was made, or behind it.
-use Rattle.std.proofs.Common.{◌≡◌, ◌∙◌, ◌<◌, ◌^◌, ℕ, List, [], ◌∷◌, length, set, Option, Some, refl, sym, ap, subst, arith, inl, inr}
+use Rattle.std.proofs.Common.{◌≡◌, ◌∙◌, ◌<◌, ◌^◌, ℕ, List, [], ◌∷◌, length, set, true, Option, Some, None, refl, sym, ap, subst, arith, inl, inr}
 use Rattle.std.proofs.Math.Seq.{set-set}
 use Rattle.rv_model.specs.declared.size.Size.{Size}
 use Rattle.rv_model.specs.Board.{Hart}
@@ -7,46 +7,49 @@ use Rattle.rv_model.specs.Core.{x_of}
 use Rattle.rv_model.specs.DebugRegisters.{debug_written}
 use Rattle.rv_model.specs.Memory.{Memory, after_store}
 use Rattle.rv_model.proofs.MemoryLemmas.{after_store_refused}
-use Rattle.debug_model.specs.Addresses.{abstractcs_address, command_address, progbuf0_address, progbuf1_address}
+use Rattle.debug_model.specs.Addresses.{abstractcs_address, command_address}
 use Rattle.debug_model.specs.declared.cmderr.Cmderr.TheVariants.{Fine, Exception}
-use Rattle.debug_model.specs.declared.dmi.DmiFault.{DmiFault}
 use Rattle.debug_model.specs.declared.dmi_op.DmiOp.TheVariants.{Write}
 use Rattle.debug_model.specs.Deeds.{ran}
 use Rattle.debug_model.specs.Dmi.{SiteCut}
-use Rattle.debug_model.specs.Module.{Site, after_write, register_at}
+use Rattle.debug_model.specs.Module.{Site, after_write}
 use Rattle.debug_model.specs.SystemBus.{BusUnit}
 use Rattle.debug_model.specs.Told.{Far, site_of}
 use Rattle.probe_access.specs.declared.fault.AccessFault.{AccessFault}
-use Rattle.probe_run.specs.Acts.{Act, Attempt, Broke, Tells}
-use Rattle.probe_run.specs.Acts.Act.{Put}
+use Rattle.probe_run.specs.Acts.{Tells}
 use Rattle.probe_access.specs.CommandRuns.{error_shown}
 use Rattle.probe_access.specs.Cuts.{IfCut, LoadLeaves, StoreLeaves}
-use Rattle.probe_access.specs.MemoryRuns.{AroundFailed, LoadFailedInside, LoadedAny, LoadedInside, PerformFailed, ProgramBegun, StoreFailedInside, StoredInside}
+use Rattle.probe_access.specs.MemoryRuns.{AroundFailed, LoadRunFailed, PerformFailed, StoreFailedInside, StoredInside, program_set}
 use Rattle.probe_access.specs.MemoryRuns.AroundFailed.{behind, in_restore, in_restore_behind, in_save, inside}
-use Rattle.probe_access.specs.MemoryRuns.LoadFailedInside.{performing as load_performing, reading as load_reading}
-use Rattle.probe_access.specs.MemoryRuns.PerformFailed.{in_program, in_address, in_run, faulted, oddly}
-use Rattle.probe_access.specs.MemoryRuns.ProgramBegun.{first as first_word, second as second_word}
+use Rattle.probe_access.specs.MemoryRuns.LoadRunFailed.{
+  in_restore as load_restoring,
+  in_restore_behind as load_restoring_behind,
+  in_save as load_saving,
+  performing as load_performing,
+  refused as load_refused,
+  taking as load_taking,
+}
+use Rattle.probe_access.specs.MemoryRuns.PerformFailed.{in_run, faulted, oddly}
 use Rattle.probe_access.specs.MemoryRuns.StoreFailedInside.{performing as store_performing, writing as store_writing}
-use Rattle.probe_access.specs.RegisterAccess.{ebreak_word, load_word, program_command, program_word, store_word, x8_number, x9_number}
-use Rattle.probe_access.proofs.AccessSteps.{Running, Stage, WordDid, program_of, rest_of, running, stage_ran}
-use Rattle.probe_access.proofs.AccessSteps.Stage.{at_start, in_middle, at_end, at_fault}
-use Rattle.probe_access.proofs.AccessTold.{Addressed, SavedTold, addressed_told, decided, program_stood, saved_told, with_first, with_program}
+use Rattle.probe_access.specs.RegisterAccess.{load_word, program_command, program_word, store_word, x8_number, x9_number}
+use Rattle.probe_access.proofs.AccessSteps.{Running, Stage, WordDid, all_of, program_of, rest_of, running, stage_ran}
+use Rattle.probe_access.proofs.AccessSteps.Stage.{at_transfer, at_start, in_middle, at_end, at_fault}
+use Rattle.probe_access.proofs.AccessTold.{Faulted, SavedTold, program_puts, saved_told, set_up, set_up_hart}
 use Rattle.probe_access.proofs.AroundTold.{FaultInside, OnlyMemory, recovered}
 use Rattle.probe_access.proofs.Aside.{Frozen, accessed, aside, passed}
 use Rattle.probe_access.proofs.CutHarts.{Hung, HungAt, PutBack, Written, back_hung, clear_cut, hung_map, hung_stood, read_hung, save_hung, write_hung}
-use Rattle.probe_access.proofs.CutSites.{CommandCutAt, CommandCutTold, CutAt, Rests, command_cut_told, cut_at, if_cut, put_cut, recovers_uncut}
+use Rattle.probe_access.proofs.CutSites.{CommandCutAt, CommandCutTold, command_cut_told, if_cut, recovers_uncut}
 use Rattle.probe_access.proofs.CutSites.CommandCutAt.{unsent, sent, ended}
-use Rattle.probe_access.proofs.LoadClauses.{LoadWent, addressed_in, load_badly, load_went}
-use Rattle.probe_access.proofs.PerformTold.{PerformEnd, held_behind, program_ends, program_starts, programmed}
+use Rattle.probe_access.proofs.LoadClauses.{LoadWent, load_decides, load_faulted, load_went, x8_read}
+use Rattle.probe_access.proofs.PerformTold.{PerformEnd, held_behind, program_ends, program_runs, program_starts, programmed}
 use Rattle.probe_access.proofs.PerformTold.PerformEnd.{ran_well, ran_badly}
-use Rattle.probe_access.proofs.ReadyUnit.{Kept, unit_of, unit_with}
-use Rattle.probe_access.proofs.RegAnswers.{ReadTold, StoodTold, WrittenTold, read_told, written_told}
-use Rattle.probe_access.proofs.RegisterTold.{Stood, put_at}
-use Rattle.probe_access.proofs.ScratchLemmas.{after_load_scratched, after_store_scratched, scratched, set_itself, with_core_x, x8_written, x9_written}
+use Rattle.probe_access.proofs.ReadyUnit.{Held, Kept, unit_of, unit_with}
+use Rattle.probe_access.proofs.RegAnswers.{StoodTold, WrittenTold, written_told}
+use Rattle.probe_access.proofs.ScratchLemmas.{after_load, after_store_scratched, scratched, set_itself, with_core_x, x8_scratched, x8_written, x9_written}
 use Rattle.probe_access.proofs.StoreClauses.{StoreWent, aimed, aimed_at, aimed_value, store_badly, store_went, valued}
-use Rattle.probe_access.proofs.TransferLemmas.{command_starts}
+use Rattle.probe_access.proofs.TransferLemmas.{command_starts, hart_behind, written_frozen}
 use Rattle.probe_access.proofs.Turns.{set-swap, stays_passed}
-use Rattle.probe_access.proofs.WordAccess.{LoadFaults, Loads, StoreFaults, Stores, load_did, store_did}
+use Rattle.probe_access.proofs.WordAccess.{LoadFaults, Loads, StoreFaults, Stores, store_did}
 use Rattle.probe_access.proofs.WordLemmas.{program_back}
 use Rattle.probe_run.specs.Opening.{clears_cmderr}
 
@@ -78,81 +81,58 @@ pub record Fits (P : Memory → Hart → Memory → Type 0) (Q : Memory → Type
   pub memory : (m : Memory) (z : Hart) (n : Memory) → P m z n → N m n
   pub refused : (m : Memory) → Q m → N m m
 
-stage_hung : (P : Memory → Hart → Memory → Type 0) (Q : Memory → Type 0) (Y : Hart → Type 0) (N : Memory → Memory → Type 0) (k : Kept) (h : ℕ) (bus : BusUnit) (y : Hart) (base t : Site) → Fits P Q Y N y → Stage P Q k h bus y base t → InsideAt Y N h bus base t
-stage_hung P Q Y N k h bus y base t f (at_start harts is) = not_yet (record { unit = running k (program_of k) h bus; bus_is = refl; hart = y; one = f.first; harts = harts; at = is })
-stage_hung P Q Y N k h bus y base t f (in_middle before harts z n p fz is) =
+stage_hung : (P : Memory → Hart → Memory → Type 0) (Q : Memory → Type 0) (Y : Hart → Type 0) (N : Memory → Memory → Type 0) (k : Kept) (h : ℕ) (bus : BusUnit) (x y : Hart) (base t : Site) → Y x → Fits P Q Y N y → Stage P Q k h bus x y base t → InsideAt Y N h bus base t
+stage_hung P Q Y N k h bus x y base t one f (at_transfer harts is) = not_yet (record { unit = running k (all_of k) h bus; bus_is = refl; hart = x; one = one; harts = harts; at = is })
+stage_hung P Q Y N k h bus x y base t one f (at_start harts is) = not_yet (record { unit = running k (program_of k) h bus; bus_is = refl; hart = y; one = f.first; harts = harts; at = is })
+stage_hung P Q Y N k h bus x y base t one f (in_middle before harts z n p fz is) =
     made before n (f.memory (passed before base).board.memory z n p) (record { unit = running k (rest_of k) h bus; bus_is = refl; hart = z; one = f.hart (passed before base).board.memory z n p; harts = harts; at = is })
-stage_hung P Q Y N k h bus y base t f (at_end before harts z n p fz is) =
+stage_hung P Q Y N k h bus x y base t one f (at_end before harts z n p fz is) =
     made before n (f.memory (passed before base).board.memory z n p) (record { unit = unit_of k h bus; bus_is = refl; hart = z; one = f.hart (passed before base).board.memory z n p; harts = harts; at = is })
-stage_hung P Q Y N k h bus y base t f (at_fault before harts q is) =
+stage_hung P Q Y N k h bus x y base t one f (at_fault before harts q is) =
     made before (passed before base).board.memory (f.refused (passed before base).board.memory q) (record { unit = unit_with k Exception [] h bus; bus_is = refl; hart = y; one = f.first; harts = harts; at = is })
 
-program_end_cut : (P : Memory → Hart → Memory → Type 0) (Q : Memory → Type 0) (Y : Hart → Type 0) (N : Memory → Memory → Type 0) (last : ℕ) (k : Kept) (h : ℕ) (bus : BusUnit) (y : Hart) (base : Site) (w : Hart) (mid t : Site) → Fits P Q Y N y
-    → Running P Q k h bus y base w → (error_shown last ≡ 0 → ⊥) → PerformEnd P Q last k h bus y base mid → SiteCut (Write abstractcs_address clears_cmderr) mid t → InsideAt Y N h bus base t
-program_end_cut P Q Y N last k h bus y base w mid t f r error (ran_well before z n p fz end) cut = absurd (error end.error_is)
-program_end_cut P Q Y N last k h bus y base w mid t f r error (ran_badly before q end) cut =
+program_end_cut : (P : Memory → Hart → Memory → Type 0) (Q : Memory → Type 0) (Y : Hart → Type 0) (N : Memory → Memory → Type 0) (last : ℕ) (k : Kept) (h : ℕ) (bus : BusUnit) (x y : Hart) (base : Site) (w : Hart) (mid t : Site) → Fits P Q Y N y
+    → Running P Q k h bus x y base w → (error_shown last ≡ 0 → ⊥) → PerformEnd P Q last k h bus y base mid → SiteCut (Write abstractcs_address clears_cmderr) mid t → InsideAt Y N h bus base t
+program_end_cut P Q Y N last k h bus x y base w mid t f r error (ran_well before z n p fz end) cut = absurd (error end.error_is)
+program_end_cut P Q Y N last k h bus x y base w mid t f r error (ran_badly before q end) cut =
     let m : Memory = (passed before base).board.memory in
     made before m (f.refused m q) (clear_cut Y last h bus y (accessed m (passed before base)) w k mid t end.error_is (held_behind h w base before m r.held) r.frozen r.idle f.first end.done_at cut)
 
-program_cut : (P : Memory → Hart → Memory → Type 0) (Q : Memory → Type 0) (Y : Hart → Type 0) (N : Memory → Memory → Type 0) (h : ℕ) (bus : BusUnit) (y : Hart) (base : Site) (w : Hart) (k : Kept) (s t : Site) → Fits P Q Y N y
-    → Stood h bus y base w k s → k.progbuf1 ≡ 0x00100073 → ((m : Memory) → WordDid P Q k.progbuf0 y m) → CommandCutAt program_word h bus y base w k t → InsideAt Y N h bus base t
-program_cut P Q Y N h bus y base w k s t f st ebreak decides (unsent u) = not_yet (hung_stood Y h bus y base w k t f.first u)
-program_cut P Q Y N h bus y base w k s t f st ebreak decides (sent e) =
-    let r : Running P Q (programmed k) h bus y base w = record { held = st.held; frozen = st.frozen; idle = st.idle; ebreak = ebreak; decides = decides } in
-    let start : Site = after_write command_address program_word (aside (unit_of k h bus) h y (passed e.harts base)) in
-    let starts : start ≡ aside (running (programmed k) (program_of (programmed k)) h bus) h y (passed e.harts base) =
-    command_starts program_word program_command Fine k h bus y (passed e.harts base) w (stays_passed h e.harts base w r.held.here r.held.frozen) program_back (program_starts y r.frozen) in
-    stage_hung P Q Y N (programmed k) h bus y base t f
-    (subst (λ u. Stage P Q (programmed k) h bus y base u) (sym e.is) (stage_ran e.during P Q (programmed k) h bus y base w start r (at_start e.harts starts)))
-program_cut P Q Y N h bus y base w k s t f st ebreak decides (ended last mid idle error c cut) =
-    let r : Running P Q (programmed k) h bus y base w = record { held = st.held; frozen = st.frozen; idle = st.idle; ebreak = ebreak; decides = decides } in
-    program_end_cut P Q Y N last (programmed k) h bus y base w mid t f r error (program_ends P Q last k h bus y base w mid r c idle) cut
-
--- ---- its words
-
-word_hung : (h : ℕ) (bus : BusUnit) (y : Hart) (base : Site) (w : Hart) (told : Option Far) (far : Far) → told ≡ Some far → Rests h bus y base w (site_of far) → Hung (λ z. z ≡ y) h bus base told
-word_hung h bus y base w told far is r = record { far = far; is = is; hung = hung_stood (λ z. z ≡ y) h bus y base w r.kept (site_of far) refl r.stood }
-
-program_write_cut : (word h : ℕ) (bus : BusUnit) (y : Hart) (base : Site) (w : Hart) (old_count new_count : ℕ) (old : Tells) (told : Option Far) (why : DmiFault) (acts : List Act) (failed : Attempt) → StoodTold h bus y base w old.far
-    → ProgramBegun word acts failed → Broke acts failed old_count new_count old told why → Hung (λ z. z ≡ y) h bus base told
-unfolding register_at
-program_write_cut word h bus y base w old_count new_count old told why _ _ st first_word b =
-    let c : CutAt [] (Write progbuf0_address word) st.far told = cut_at [] (Write progbuf0_address word) old_count new_count old told why st.far st.is b in
-    word_hung h bus y base w told c.far c.is
-    (put_cut progbuf0_address word h bus y base w st.kept (with_first word st.kept) c.mid (site_of c.far) (subst (λ s. Stood h bus y base w st.kept s) (sym c.acts_are) st.stood) (λ z. refl) c.cut)
-program_write_cut word h bus y base w old_count new_count old told why _ _ st second_word b =
-    let c : CutAt (Put progbuf0_address word ∷ []) (Write progbuf1_address ebreak_word) st.far told =
-    cut_at (Put progbuf0_address word ∷ []) (Write progbuf1_address ebreak_word) old_count new_count old told why st.far st.is b in
-    let mid : Stood h bus y base w (with_first word st.kept) c.mid = put_at progbuf0_address word h bus y base w st.kept (with_first word st.kept) (site_of st.far) c.mid st.stood c.acts_are (λ z. refl) in
-    word_hung h bus y base w told c.far c.is (put_cut progbuf1_address ebreak_word h bus y base w (with_first word st.kept) (with_program word st.kept) c.mid (site_of c.far) mid (λ z. refl) c.cut)
+program_cut : (P : Memory → Hart → Memory → Type 0) (Q : Memory → Type 0) (Y : Hart → Type 0) (N : Memory → Memory → Type 0) (h : ℕ) (bus : BusUnit) (x : Hart) (base : Site) (w : Hart) (k : Kept) (t : Site) → Y x
+    → Fits P Q Y N (hart_behind true x8_number k x) → Held h w base → Frozen x → bus.pending ≡ None → k.progbuf1 ≡ 0x00100073
+    → ((m : Memory) → WordDid P Q k.progbuf0 (hart_behind true x8_number k x) m) → CommandCutAt program_word h bus x base w k t → InsideAt Y N h bus base t
+program_cut P Q Y N h bus x base w k t one f held fx idle ebreak decides (unsent u) = not_yet (hung_stood Y h bus x base w u.kept t one u.stood)
+program_cut P Q Y N h bus x base w k t one f held fx idle ebreak decides (sent e) =
+    let y : Hart = hart_behind true x8_number k x in
+    let r : Running P Q (programmed k) h bus x y base w = program_runs P Q h bus x base w k held fx idle ebreak decides in
+    let start : Site = after_write command_address program_word (aside (unit_of k h bus) h x (passed e.harts base)) in
+    let starts : start ≡ aside (running (programmed k) (all_of (programmed k)) h bus) h x (passed e.harts base) =
+    command_starts program_word (program_command x8_number) Fine k h bus x (passed e.harts base) w (stays_passed h e.harts base w held.here held.frozen) program_back (program_starts x fx) in
+    stage_hung P Q Y N (programmed k) h bus x y base t one f
+    (subst (λ u. Stage P Q (programmed k) h bus x y base u) (sym e.is) (stage_ran e.during P Q (programmed k) h bus x y base w start r (at_transfer e.harts starts)))
+program_cut P Q Y N h bus x base w k t one f held fx idle ebreak decides (ended last mid not_busy error c cut) =
+    let y : Hart = hart_behind true x8_number k x in
+    let r : Running P Q (programmed k) h bus x y base w = program_runs P Q h bus x base w k held fx idle ebreak decides in
+    program_end_cut P Q Y N last (programmed k) h bus x y base w mid t f r error (program_ends P Q last k h bus x y base w mid r c not_busy) cut
 
 -- ---- the whole instruction
-
-addressed_y : (Y : Hart → Type 0) (y : Hart) (address : ℕ) (z : Hart) → Y y → Y (debug_written y x8_number address) → Written x8_number address y z → Y z
-addressed_y Y y address z first second (inl e) = subst Y (sym e) first
-addressed_y Y y address z first second (inr e) = subst Y (sym e) second
 
 perform_hung : (P : Memory → Hart → Memory → Type 0) (Q : Memory → Type 0) (Y : Hart → Type 0) (N : Memory → Memory → Type 0) (word address h : ℕ) (bus : BusUnit) (y : Hart) (base : Site) (w : Hart) (old_count new_count : ℕ) (old new : Tells) (e : AccessFault)
     → Y y → Fits P Q Y N (debug_written y x8_number address) → StoodTold h bus y base w old.far → (Frozen (debug_written y x8_number address) → (m : Memory) → WordDid P Q word (debug_written y x8_number address) m)
     → PerformFailed word address old_count new_count old new e → IfCut (HungInside Y N h bus base new.far) e
-perform_hung P Q Y N word address h bus y base w old_count new_count old new _ one f st decides (in_program why b) =
-    outside (λ z. z ≡ y) Y N h bus base new.far (λ z e. subst Y (sym e) one) (program_write_cut word h bus y base w old_count new_count old new.far why b.acts b.failed st b.begun b.broke)
-perform_hung P Q Y N word address h bus y base w old_count new_count old new _ one f st decides (in_address written did e g) =
-    if_cut (Hung (Written x8_number address y) h bus base new.far) (HungInside Y N h bus base new.far) e
-    (outside (Written x8_number address y) Y N h bus base new.far (λ z p. addressed_y Y y address z one f.first p))
-    (write_hung x8_number address h bus y base w old_count new_count written new e (omega arith) (program_stood word h bus y base w old written st did) g)
-perform_hung P Q Y N word address h bus y base w old_count new_count old new _ one f st decides (in_run written addressed did x8 e g) =
-    let a : Addressed word address h bus y base w addressed.far = addressed_told word address h bus y base w old written addressed st did x8 in
-    let z : Hart = debug_written y x8_number address in
-    if_cut (CommandCutTold program_word h bus z base w a.then.kept new.far) (HungInside Y N h bus base new.far) e
+perform_hung P Q Y N word address h bus y base w old_count new_count old new _ one f st decides (in_run e g) =
+    let k : Kept = set_up word address st.kept in
+    let is : hart_behind true x8_number k y ≡ debug_written y x8_number address = set_up_hart word address y st.kept in
+    if_cut (CommandCutTold program_word h bus y base w k new.far) (HungInside Y N h bus base new.far) e
     (λ c. record {
       far = c.far;
       is = c.is;
-      inside = program_cut P Q Y N h bus z base w a.then.kept (site_of a.then.far) (site_of c.far) f a.then.stood a.progbuf1 (decided P Q word a.then.kept.progbuf0 z a.progbuf0 (decides a.then.stood.frozen)) c.cut;
+      inside = program_cut P Q Y N h bus y base w k (site_of c.far) one (subst (λ (z : Hart). Fits P Q Y N z) (sym is) f) st.stood.held st.stood.frozen st.stood.idle refl
+          (subst (λ (z : Hart). (m : Memory) → WordDid P Q word z m) (sym is) (decides (written_frozen y x8_number address st.stood.frozen))) c.cut;
     })
-    (command_cut_told program_word h bus z base w old_count new_count addressed new e a.then g)
+    (command_cut_told (program_set word address) program_word h bus y base w k old_count new_count old new e st (program_puts word address h bus y st.kept) g)
 perform_hung P Q Y N word address h bus y base w old_count new_count old new _ one f st decides (faulted p) = tt
-perform_hung P Q Y N word address h bus y base w old_count new_count old new _ one f st decides (oddly written addressed did x8 shown ran) = tt
+perform_hung P Q Y N word address h bus y base w old_count new_count old new _ one f st decides (oddly shown r) = tt
 
 -- ---- a hart with any x8 and x9
 
@@ -241,44 +221,56 @@ around_hung R F Q N address h bus x base old_count new_count old new e all i st 
 
 -- ---- a load
 
+any_loaded : (x : Hart) (p : ℕ) → length x.core.x ≡ 32 → AnyScratch x (with_core_x x 8 p)
+any_loaded x p all = record { p = p; q = x_of x.core 9; is = x8_scratched x p all }
+
 load_fits : (size : Size) (a : ℕ) (x : Hart) → length x.core.x ≡ 32 → Fits (Loads size a (debug_written x x8_number a)) (LoadFaults size a) (AnyScratch x) LoadLeaves (debug_written x x8_number a)
 load_fits size a x all = record {
   first = any_written8 x x a (itself x all);
-  hart = λ m z n l. record { p = a; q = l.value; is = l.hart ∙ after_load_scratched x a l.value };
+  hart = λ m z n l. any_same x (with_core_x x 8 l.value) z (l.hart ∙ after_load x a l.value) (any_loaded x l.value all);
   memory = λ m z n l. l.memory;
   refused = λ m q. refl;
 }
 
-load_inside_hung : (size : Size) (a h : ℕ) (bus : BusUnit) (x : Hart) (base : Site) (old_count new_count : ℕ) (first last : Tells) (e : AccessFault) → length x.core.x ≡ 32 → a < 2 ^ 64 → StoodTold h bus x base x first.far
-    → LoadFailedInside size a old_count new_count first last e → IfCut (HungInside (AnyScratch x) LoadLeaves h bus base last.far) e
-load_inside_hung size a h bus x base old_count new_count first last e all small st (load_performing f) =
-    perform_hung (Loads size a (debug_written x x8_number a)) (LoadFaults size a) (AnyScratch x) LoadLeaves (load_word size) a h bus x base x old_count new_count first last e (itself x all) (load_fits size a x all) st
-    (λ fy m. load_did size a (debug_written x x8_number a) m fy (addressed_in x a all small)) f
-load_inside_hung size a h bus x base old_count new_count first last e all small st (load_reading mid p f) =
-    let w : LoadWent size a h bus x base mid.far = load_went size a h bus x base first mid all small st p in
-    let z : Hart = with_core_x (debug_written x x8_number a) 9 w.value in
-    let m : Memory = (passed w.before base).board.memory in
-    let b : Site = accessed m (passed w.before base) in
-    if_cut (Hung (λ u. u ≡ z) h bus b last.far) (HungInside (AnyScratch x) LoadLeaves h bus base last.far) e
-    (behind_access (λ u. u ≡ z) (AnyScratch x) LoadLeaves h bus base w.before m last.far refl (λ u s. record { p = a; q = w.value; is = s ∙ after_load_scratched x a w.value }))
-    (read_hung x9_number h bus z b x old_count new_count mid last e (omega arith) w.then f)
+-- behind the access, with this in x8
+behind_load : (X : Hart → Type 0) (p h : ℕ) (bus : BusUnit) (x : Hart) (base : Site) (before : List ℕ) (told : Option Far) (e : AccessFault) → length x.core.x ≡ 32
+    → ((z : Hart) → X z → AnyScratch x z) → IfCut (Hung X h bus (accessed (passed before base).board.memory (passed before base)) told) e
+    → IfCut (HungInside (AnyScratch x) LoadLeaves h bus base told) e
+behind_load X p h bus x base before told e all f g =
+    let m : Memory = (passed before base).board.memory in
+    if_cut (Hung X h bus (accessed m (passed before base)) told) (HungInside (AnyScratch x) LoadLeaves h bus base told) e
+    (behind_access X (AnyScratch x) LoadLeaves h bus base before m told refl f) g
 
-load_made : (size : Size) (a h : ℕ) (bus : BusUnit) (x : Hart) (base : Site) (first last : Tells) → length x.core.x ≡ 32 → a < 2 ^ 64 → StoodTold h bus x base x first.far → LoadedAny size a first last → MadeInside LoadLeaves h bus x base last.far
-load_made size a h bus x base first last all small st r =
-    let i : LoadedInside size a r.0 first last = r.1 in
-    let w : LoadWent size a h bus x base i.mid.far = load_went size a h bus x base first i.mid all small st i.performed in
-    let z : Hart = with_core_x (debug_written x x8_number a) 9 w.value in
-    let m : Memory = (passed w.before base).board.memory in
-    let rd : ReadTold x9_number r.0 h bus z (accessed m (passed w.before base)) x last.far = read_told x9_number r.0 h bus z (accessed m (passed w.before base)) x i.mid last (omega arith) w.then i.x9 in
-    record { before = w.before; memory = m; left = refl; hart = z; any = record { p = a; q = w.value; is = after_load_scratched x a w.value }; then = rd.then }
+any_put : (x y : Hart) (v : ℕ) (z : Hart) → AnyScratch x y → Written x8_number v y z → AnyScratch x z
+any_put x y v z a (inl e) = any_same x y z e a
+any_put x y v z a (inr e) = any_same x (debug_written y x8_number v) z e (any_written8 x y v a)
 
-pub load_cut : (size : Size) (a h : ℕ) (bus : BusUnit) (x : Hart) (base : Site) → length x.core.x ≡ 32 → a < 2 ^ 64 → CutInside (LoadedAny size a) (LoadFailedInside size a) (LoadFaults size a) LoadLeaves a h bus x base
-load_cut size a h bus x base all small = record {
-  well = λ first last st r. load_made size a h bus x base first last all small st r;
-  badly = λ oc nc first last e st g. load_badly size a h bus x base oc nc first last e all small st g;
-  cut = λ oc nc first last e st g. load_inside_hung size a h bus x base oc nc first last e all small st g;
-  refused = λ m q. refl;
-}
+pub load_hung : (size : Size) (a h : ℕ) (bus : BusUnit) (x : Hart) (base : Site) (old_count new_count : ℕ) (old new : Tells) (e : AccessFault) → length x.core.x ≡ 32 → a < 2 ^ 64
+    → StoodTold h bus x base x old.far → LoadRunFailed size a old_count new_count old new e → IfCut (HungInside (AnyScratch x) LoadLeaves h bus base new.far) e
+load_hung size a h bus x base old_count new_count old new _ all small st (load_saving e f) =
+    if_cut (Hung (λ z. z ≡ x) h bus base new.far) (HungInside (AnyScratch x) LoadLeaves h bus base new.far) e
+    (outside (λ z. z ≡ x) (AnyScratch x) LoadLeaves h bus base new.far (λ z s. any_same x x z s (itself x all)))
+    (read_hung x8_number h bus x base x old_count new_count old new e (omega arith) st f)
+load_hung size a h bus x base old_count new_count old new _ all small st (load_performing e x8 first saved f loses) =
+    perform_hung (Loads size a (debug_written x x8_number a)) (LoadFaults size a) (AnyScratch x) LoadLeaves (load_word size) a h bus x base x old_count new_count first new e (itself x all)
+    (load_fits size a x all) (x8_read x8 h bus x base x old first st saved) (λ fy m. load_decides size a x m all small fy) f
+load_hung size a h bus x base old_count new_count old new _ all small st (load_refused x8 first last saved p back) = tt
+load_hung size a h bus x base old_count new_count old new _ all small st (load_restoring_behind e x8 first last saved p back) =
+    let f : Faulted (LoadFaults size a) h bus (with_core_x x 8 a) base x last.far = load_faulted size a h bus x base first last all small (x8_read x8 h bus x base x old first st saved) p in
+    let y : Hart = with_core_x x 8 a in
+    behind_load (Written x8_number x8 y) a h bus x base f.before new.far e all (λ z p. any_put x y x8 z (any_loaded x a all) p)
+    (write_hung x8_number x8 h bus y (accessed (passed f.before base).board.memory (passed f.before base)) x old_count new_count last new e (omega arith) f.then back)
+load_hung size a h bus x base old_count new_count old new _ all small st (load_taking e x8 first mid saved p f) =
+    let w : LoadWent size a h bus x base mid.far = load_went size a h bus x base first mid all small (x8_read x8 h bus x base x old first st saved) p in
+    let y : Hart = with_core_x x 8 w.value in
+    behind_load (λ z. z ≡ y) w.value h bus x base w.before new.far e all (λ z s. any_same x y z s (any_loaded x w.value all))
+    (read_hung x8_number h bus y (accessed (passed w.before base).board.memory (passed w.before base)) x old_count new_count mid new e (omega arith) w.then f)
+load_hung size a h bus x base old_count new_count old new _ all small st (load_restoring e x8 value first mid last saved p taken f) =
+    let w : LoadWent size a h bus x base mid.far = load_went size a h bus x base first mid all small (x8_read x8 h bus x base x old first st saved) p in
+    let y : Hart = with_core_x x 8 w.value in
+    let b : Site = accessed (passed w.before base).board.memory (passed w.before base) in
+    behind_load (Written x8_number x8 y) w.value h bus x base w.before new.far e all (λ z p. any_put x y x8 z (any_loaded x w.value all) p)
+    (write_hung x8_number x8 h bus y b x old_count new_count last new e (omega arith) (x8_read value h bus y b x mid last w.then taken) f)
 
 -- ---- a store
 

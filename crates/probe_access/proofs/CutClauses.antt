@@ -6,7 +6,7 @@ use Rattle.rv_model.specs.DebugRegisters.{dcsr_number, debug_written}
 use Rattle.rv_model.specs.Memory.{Memory}
 use Rattle.debug_model.specs.declared.point.Point.{Point}
 use Rattle.debug_model.specs.declared.point.Point.TheVariants.{Access}
-use Rattle.debug_model.specs.Dmi.{DmiScript}
+use Rattle.debug_model.specs.Dmi.{DmiComing}
 use Rattle.debug_model.specs.Module.{Site}
 use Rattle.debug_model.specs.SystemBus.{BusUnit}
 use Rattle.debug_model.specs.Told.{Far, HartHalted, IsHalted, IsReady, Selects, site_of}
@@ -17,13 +17,13 @@ use Rattle.probe_run.specs.Sites.{put_hart}
 use Rattle.probe_access.specs.Accesses.{with_memory}
 use Rattle.probe_access.specs.Cuts.{AccessLeftOff, IfCut, IsLeft, LeftAside, Leaves, LoadLeaves, MaybePutBack, MaybeWritten, Scratched, StoreLeaves, Unchanged}
 use Rattle.probe_access.specs.Cuts.AccessLeftOff.{before_it, behind_it}
-use Rattle.probe_access.specs.MemoryRuns.{AroundFailed, LoadFailedInside, LoadedAny, PutBackFailed, SaveFailed, StoreFailedInside, StoredInside}
+use Rattle.probe_access.specs.MemoryRuns.{AroundFailed, LoadRunFailed, PutBackFailed, SaveFailed, StoreFailedInside, StoredInside}
 use Rattle.probe_access.specs.RegisterRuns.{ReadFailed, WriteFailed}
 use Rattle.probe_access.specs.Stops.{StopFailed, dpc_number}
 use Rattle.probe_access.specs.Stops.StopFailed.{at_dcsr, at_dpc}
 use Rattle.probe_access.specs.RegisterAccess.{x9_number}
 use Rattle.probe_access.proofs.Aside.{accessed, passed}
-use Rattle.probe_access.proofs.CutAccess.{AnyScratch, HungInside, InsideAt, around_hung, load_cut, store_cut}
+use Rattle.probe_access.proofs.CutAccess.{AnyScratch, HungInside, InsideAt, around_hung, load_hung, store_cut}
 use Rattle.probe_access.proofs.CutAccess.InsideAt.{not_yet, made}
 use Rattle.probe_access.proofs.CutHarts.{Hung, HungAt, back_hung, read_hung, save_hung, write_hung}
 use Rattle.probe_access.proofs.CutSites.{cut_always, if_cut}
@@ -32,7 +32,7 @@ use Rattle.probe_access.proofs.ReadyTurns.{Passed, passed_turns}
 use Rattle.probe_access.proofs.RegAnswers.{ReadTold, StoodTold, read_told}
 use Rattle.probe_access.proofs.RegClauses.{first_told}
 use Rattle.probe_access.proofs.ScratchLemmas.{with_core_x, x8_written, x9_written}
-use Rattle.probe_access.proofs.WordAccess.{LoadFaults, StoreFaults}
+use Rattle.probe_access.proofs.WordAccess.{StoreFaults}
 
 -- ---- hart h aside
 
@@ -59,33 +59,33 @@ cut_left Y h c halted new e f = if_cut (Hung (Y halted.hart) h (site_of c).unit.
 
 -- ---- registers
 
-pub reg_cut : (h number : ℕ) (far : Option Far) (script : Option DmiScript) (old_count new_count : ℕ) (new : Tells) (e : AccessFault) → number < 2 ^ 16 → IsReady far → Selects h far → IsHalted h far
-    → ReadFailed number old_count new_count (tells far script) new e → IfCut (Leaves (LeftAside Unchanged h) far new.far) e
-reg_cut h number None script old_count new_count new e small ready selects halted f = cut_always (Leaves (LeftAside Unchanged h) None new.far) e tt
-reg_cut h number (Some c) script old_count new_count new e small ready selects halted f =
+pub reg_cut : (h number : ℕ) (far : Option Far) (coming : Option DmiComing) (old_count new_count : ℕ) (new : Tells) (e : AccessFault) → number < 2 ^ 16 → IsReady far → Selects h far → IsHalted h far
+    → ReadFailed number old_count new_count (tells far coming) new e → IfCut (Leaves (LeftAside Unchanged h) far new.far) e
+reg_cut h number None coming old_count new_count new e small ready selects halted f = cut_always (Leaves (LeftAside Unchanged h) None new.far) e tt
+reg_cut h number (Some c) coming old_count new_count new e small ready selects halted f =
     cut_left Unchanged h c halted new.far e
-    (read_hung number h (site_of c).unit.bus halted.hart (site_of c) halted.hart old_count new_count (tells (Some c) script) new e small (first_told h c ready halted selects) f)
+    (read_hung number h (site_of c).unit.bus halted.hart (site_of c) halted.hart old_count new_count (tells (Some c) coming) new e small (first_told h c ready halted selects) f)
 
-pub set_reg_cut : (h number value : ℕ) (far : Option Far) (script : Option DmiScript) (old_count new_count : ℕ) (new : Tells) (e : AccessFault) → number < 2 ^ 16 → IsReady far → Selects h far → IsHalted h far
-    → WriteFailed number value old_count new_count (tells far script) new e → IfCut (Leaves (LeftAside (MaybeWritten number value) h) far new.far) e
-set_reg_cut h number value None script old_count new_count new e small ready selects halted f = cut_always (Leaves (LeftAside (MaybeWritten number value) h) None new.far) e tt
-set_reg_cut h number value (Some c) script old_count new_count new e small ready selects halted f =
+pub set_reg_cut : (h number value : ℕ) (far : Option Far) (coming : Option DmiComing) (old_count new_count : ℕ) (new : Tells) (e : AccessFault) → number < 2 ^ 16 → IsReady far → Selects h far → IsHalted h far
+    → WriteFailed number value old_count new_count (tells far coming) new e → IfCut (Leaves (LeftAside (MaybeWritten number value) h) far new.far) e
+set_reg_cut h number value None coming old_count new_count new e small ready selects halted f = cut_always (Leaves (LeftAside (MaybeWritten number value) h) None new.far) e tt
+set_reg_cut h number value (Some c) coming old_count new_count new e small ready selects halted f =
     cut_left (MaybeWritten number value) h c halted new.far e
-    (write_hung number value h (site_of c).unit.bus halted.hart (site_of c) halted.hart old_count new_count (tells (Some c) script) new e small (first_told h c ready halted selects) f)
+    (write_hung number value h (site_of c).unit.bus halted.hart (site_of c) halted.hart old_count new_count (tells (Some c) coming) new e small (first_told h c ready halted selects) f)
 
 -- ---- reads of several registers
 
-pub save_cut : (h : ℕ) (far : Option Far) (script : Option DmiScript) (old_count new_count : ℕ) (new : Tells) (e : AccessFault) → IsReady far → Selects h far → IsHalted h far → SaveFailed old_count new_count (tells far script) new e
+pub save_cut : (h : ℕ) (far : Option Far) (coming : Option DmiComing) (old_count new_count : ℕ) (new : Tells) (e : AccessFault) → IsReady far → Selects h far → IsHalted h far → SaveFailed old_count new_count (tells far coming) new e
     → IfCut (Leaves (LeftAside Unchanged h) far new.far) e
-save_cut h None script old_count new_count new e ready selects halted f = cut_always (Leaves (LeftAside Unchanged h) None new.far) e tt
-save_cut h (Some c) script old_count new_count new e ready selects halted f =
-    cut_left Unchanged h c halted new.far e (save_hung h (site_of c).unit.bus halted.hart (site_of c) halted.hart old_count new_count (tells (Some c) script) new e (first_told h c ready halted selects) f)
+save_cut h None coming old_count new_count new e ready selects halted f = cut_always (Leaves (LeftAside Unchanged h) None new.far) e tt
+save_cut h (Some c) coming old_count new_count new e ready selects halted f =
+    cut_left Unchanged h c halted new.far e (save_hung h (site_of c).unit.bus halted.hart (site_of c) halted.hart old_count new_count (tells (Some c) coming) new e (first_told h c ready halted selects) f)
 
-pub restore_cut : (h x8 x9 : ℕ) (far : Option Far) (script : Option DmiScript) (old_count new_count : ℕ) (new : Tells) (e : AccessFault) → IsReady far → Selects h far → IsHalted h far → PutBackFailed x8 x9 old_count new_count (tells far script) new e
+pub restore_cut : (h x8 x9 : ℕ) (far : Option Far) (coming : Option DmiComing) (old_count new_count : ℕ) (new : Tells) (e : AccessFault) → IsReady far → Selects h far → IsHalted h far → PutBackFailed x8 x9 old_count new_count (tells far coming) new e
     → IfCut (Leaves (LeftAside (MaybePutBack x8 x9) h) far new.far) e
-restore_cut h x8 x9 None script old_count new_count new e ready selects halted f = cut_always (Leaves (LeftAside (MaybePutBack x8 x9) h) None new.far) e tt
-restore_cut h x8 x9 (Some c) script old_count new_count new e ready selects halted f =
-    cut_left (MaybePutBack x8 x9) h c halted new.far e (back_hung x8 x9 h (site_of c).unit.bus halted.hart (site_of c) halted.hart old_count new_count (tells (Some c) script) new e (first_told h c ready halted selects) f)
+restore_cut h x8 x9 None coming old_count new_count new e ready selects halted f = cut_always (Leaves (LeftAside (MaybePutBack x8 x9) h) None new.far) e tt
+restore_cut h x8 x9 (Some c) coming old_count new_count new e ready selects halted f =
+    cut_left (MaybePutBack x8 x9) h c halted new.far e (back_hung x8 x9 h (site_of c).unit.bus halted.hart (site_of c) halted.hart old_count new_count (tells (Some c) coming) new e (first_told h c ready halted selects) f)
 
 stop_hung : (h : ℕ) (bus : BusUnit) (y : Hart) (base : Site) (w : Hart) (old_count new_count : ℕ) (old new : Tells) (e : AccessFault) → StoodTold h bus y base w old.far → StopFailed old_count new_count old new e → IfCut (Hung (λ z. z ≡ y) h bus base new.far) e
 stop_hung h bus y base w old_count new_count old new e st (at_dpc f) = read_hung dpc_number h bus y base w old_count new_count old new e (omega arith) st f
@@ -93,11 +93,11 @@ stop_hung h bus y base w old_count new_count old new e st (at_dcsr pc mid r f) =
     let a : ReadTold dpc_number pc h bus y base w mid.far = read_told dpc_number pc h bus y base w old mid (omega arith) st r in
     read_hung dcsr_number h bus y base w old_count new_count mid new e (omega arith) a.then f
 
-pub stop_cut : (h : ℕ) (far : Option Far) (script : Option DmiScript) (old_count new_count : ℕ) (new : Tells) (e : AccessFault) → IsReady far → Selects h far → IsHalted h far → StopFailed old_count new_count (tells far script) new e
+pub stop_cut : (h : ℕ) (far : Option Far) (coming : Option DmiComing) (old_count new_count : ℕ) (new : Tells) (e : AccessFault) → IsReady far → Selects h far → IsHalted h far → StopFailed old_count new_count (tells far coming) new e
     → IfCut (Leaves (LeftAside Unchanged h) far new.far) e
-stop_cut h None script old_count new_count new e ready selects halted f = cut_always (Leaves (LeftAside Unchanged h) None new.far) e tt
-stop_cut h (Some c) script old_count new_count new e ready selects halted f =
-    cut_left Unchanged h c halted new.far e (stop_hung h (site_of c).unit.bus halted.hart (site_of c) halted.hart old_count new_count (tells (Some c) script) new e (first_told h c ready halted selects) f)
+stop_cut h None coming old_count new_count new e ready selects halted f = cut_always (Leaves (LeftAside Unchanged h) None new.far) e tt
+stop_cut h (Some c) coming old_count new_count new e ready selects halted f =
+    cut_left Unchanged h c halted new.far e (stop_hung h (site_of c).unit.bus halted.hart (site_of c) halted.hart old_count new_count (tells (Some c) coming) new e (first_told h c ready halted selects) f)
 
 -- ---- accesses to memory
 
@@ -133,20 +133,19 @@ access_is_left N h c halted new e f =
     if_cut (HungInside (AnyScratch halted.hart) N h (site_of c).unit.bus (site_of c) new) (Leaves (AccessLeftOff Scratched N h) (Some c) new) e
     (λ p. record { far = p.far; is = p.is; left = access_left N h (site_of c) halted (site_of p.far) p.inside }) f
 
-pub load_left_off : (size : Size) (address h : ℕ) (far : Option Far) (script : Option DmiScript) (old_count new_count : ℕ) (new : Tells) (e : AccessFault) → address < 2 ^ 64 → IsReady far → Selects h far → IsHalted h far
-    → AroundFailed (LoadedAny size address) (LoadFailedInside size address) old_count new_count (tells far script) new e → IfCut (Leaves (AccessLeftOff Scratched LoadLeaves h) far new.far) e
-load_left_off size address h None script old_count new_count new e small ready selects halted f = cut_always (Leaves (AccessLeftOff Scratched LoadLeaves h) None new.far) e tt
-load_left_off size address h (Some c) script old_count new_count new e small ready selects halted f =
+pub load_left_off : (size : Size) (address h : ℕ) (far : Option Far) (coming : Option DmiComing) (old_count new_count : ℕ) (new : Tells) (e : AccessFault) → address < 2 ^ 64 → IsReady far → Selects h far → IsHalted h far
+    → LoadRunFailed size address old_count new_count (tells far coming) new e → IfCut (Leaves (AccessLeftOff Scratched LoadLeaves h) far new.far) e
+load_left_off size address h None coming old_count new_count new e small ready selects halted f = cut_always (Leaves (AccessLeftOff Scratched LoadLeaves h) None new.far) e tt
+load_left_off size address h (Some c) coming old_count new_count new e small ready selects halted f =
     let all = (fits_of h (site_of c) ready halted).all in
     access_is_left LoadLeaves h c halted new.far e
-    (around_hung (LoadedAny size address) (LoadFailedInside size address) (LoadFaults size address) LoadLeaves address h (site_of c).unit.bus halted.hart (site_of c) old_count new_count (tells (Some c) script) new e all
-    (load_cut size address h (site_of c).unit.bus halted.hart (site_of c) all small) (first_told h c ready halted selects) f)
+    (load_hung size address h (site_of c).unit.bus halted.hart (site_of c) old_count new_count (tells (Some c) coming) new e all small (first_told h c ready halted selects) f)
 
-pub store_left_off : (size : Size) (address value h : ℕ) (far : Option Far) (script : Option DmiScript) (old_count new_count : ℕ) (new : Tells) (e : AccessFault) → address < 2 ^ 64 → IsReady far → Selects h far → IsHalted h far
-    → AroundFailed (StoredInside size address value) (StoreFailedInside size address value) old_count new_count (tells far script) new e → IfCut (Leaves (AccessLeftOff Scratched (StoreLeaves size address value) h) far new.far) e
-store_left_off size address value h None script old_count new_count new e small ready selects halted f = cut_always (Leaves (AccessLeftOff Scratched (StoreLeaves size address value) h) None new.far) e tt
-store_left_off size address value h (Some c) script old_count new_count new e small ready selects halted f =
+pub store_left_off : (size : Size) (address value h : ℕ) (far : Option Far) (coming : Option DmiComing) (old_count new_count : ℕ) (new : Tells) (e : AccessFault) → address < 2 ^ 64 → IsReady far → Selects h far → IsHalted h far
+    → AroundFailed (StoredInside size address value) (StoreFailedInside size address value) old_count new_count (tells far coming) new e → IfCut (Leaves (AccessLeftOff Scratched (StoreLeaves size address value) h) far new.far) e
+store_left_off size address value h None coming old_count new_count new e small ready selects halted f = cut_always (Leaves (AccessLeftOff Scratched (StoreLeaves size address value) h) None new.far) e tt
+store_left_off size address value h (Some c) coming old_count new_count new e small ready selects halted f =
     let all = (fits_of h (site_of c) ready halted).all in
     access_is_left (StoreLeaves size address value) h c halted new.far e
-    (around_hung (StoredInside size address value) (StoreFailedInside size address value) (StoreFaults size address) (StoreLeaves size address value) address h (site_of c).unit.bus halted.hart (site_of c) old_count new_count (tells (Some c) script) new e all
+    (around_hung (StoredInside size address value) (StoreFailedInside size address value) (StoreFaults size address) (StoreLeaves size address value) address h (site_of c).unit.bus halted.hart (site_of c) old_count new_count (tells (Some c) coming) new e all
     (store_cut size address value h (site_of c).unit.bus halted.hart (site_of c) all small) (first_told h c ready halted selects) f)

@@ -8,7 +8,6 @@ use Rattle.debug_model.specs.declared.cmderr.Cmderr.TheVariants.{Fine, Exception
 use Rattle.debug_model.specs.declared.dmi.DmiFault.{DmiFault}
 use Rattle.debug_model.specs.declared.dmi_op.DmiOp.TheVariants.{Write}
 use Rattle.debug_model.specs.declared.micro.Micro.TheVariants.{Transfer}
-use Rattle.debug_model.specs.Commands.{high_half, low_half}
 use Rattle.debug_model.specs.Deeds.{ran}
 use Rattle.debug_model.specs.Dmi.{SiteCut}
 use Rattle.debug_model.specs.Dmi.SiteCut.{unperformed, was_performed}
@@ -17,27 +16,25 @@ use Rattle.debug_model.specs.SystemBus.{BusUnit}
 use Rattle.debug_model.specs.Told.{Far, site_of}
 use Rattle.probe_access.specs.declared.fault.AccessFault.{AccessFault}
 use Rattle.probe_access.specs.declared.fault.AccessFault.TheVariants as access_fault
-use Rattle.probe_run.specs.Acts.{Act, Did, Tells}
+use Rattle.probe_run.specs.Acts.{Act, Tells}
 use Rattle.probe_access.specs.CommandRuns.{CommandFailed, error_shown}
 use Rattle.probe_access.specs.Cuts.{IfCut}
 use Rattle.probe_access.specs.MemoryRuns.{PutBackFailed, SaveFailed}
 use Rattle.probe_access.specs.MemoryRuns.PutBackFailed.{at_x8 as put_x8, at_x9 as put_x9}
 use Rattle.probe_access.specs.MemoryRuns.SaveFailed.{at_x8 as save_x8, at_x9 as save_x9}
-use Rattle.probe_access.specs.RegisterRuns.{DoubleReads, DoubleWrites, ReadFailed, ReadFailedAt, WriteFailed, WriteFailedAt, double_written}
+use Rattle.probe_access.specs.RegisterRuns.{DoubleReads, ReadFailed, ReadFailedAt, WriteFailed, double_written}
 use Rattle.probe_access.specs.RegisterRuns.DoubleReads.{lower as low_read, upper as high_read}
-use Rattle.probe_access.specs.RegisterRuns.DoubleWrites.{lower as low_written, upper as high_written}
 use Rattle.probe_access.specs.RegisterRuns.ReadFailedAt.{in_command as read_in_command, in_words as read_in_words}
-use Rattle.probe_access.specs.RegisterRuns.WriteFailedAt.{in_command as written_in_command, in_words as written_in_words}
 use Rattle.probe_access.specs.RegisterAccess.{transfer_command, transfer_word, x8_number, x9_number}
-use Rattle.probe_access.proofs.Along.{AtSites, did_sites}
 use Rattle.probe_access.proofs.Aside.{Frozen, aside, passed}
 use Rattle.debug_model.specs.declared.dmi_op.DmiOp.{DmiOp}
 use Rattle.probe_run.specs.Acts.Attempt.{Operation}
-use Rattle.probe_access.proofs.CutSites.{CommandCutAt, CommandCutTold, CutAt, CutWithin, Rests, SentAt, command_cut_told, cut_within, got_cut, if_cut, put_cut}
+use Rattle.probe_access.proofs.CutSites.{CommandCutAt, CommandCutTold, CutAt, CutWithin, Rests, SentAt, command_cut_told, cut_within, got_cut, if_cut}
 use Rattle.probe_access.proofs.CutSites.CommandCutAt.{unsent, sent, ended}
 use Rattle.probe_access.proofs.ReadyUnit.{Held, Kept, commands_of, done_ran, unit_of, unit_with}
 use Rattle.probe_access.proofs.RegAnswers.{CommandTold, ReadTold, StoodTold, WrittenTold, command_told, halves_joined, read_told, written_told}
-use Rattle.probe_access.proofs.RegisterTold.{Stood, TransferTold, error_cleared, got_at, put_at, with_data0, with_double, words_put}
+use Rattle.probe_access.proofs.RegisterTold.{Stood, TransferTold, WordPuts, double_puts, error_cleared, got_at, with_double}
+use Rattle.probe_access.proofs.RegisterTold.WordPuts.{no_more}
 use Rattle.probe_access.proofs.RegisterTold.TransferTold.{taken, denied}
 use Rattle.probe_access.proofs.Steps.{Between, Course, DoneAt, between_ran}
 use Rattle.probe_access.proofs.Steps.Between.{still, done}
@@ -125,19 +122,21 @@ end_cut write number last h bus y base w k mid t held fy idle error (took v is f
 end_cut write number last h bus y base w k mid t held fy idle error (refused none end) cut =
     clear_cut (Either write number k y) last h bus y base w (with_command (transfer_command write number) k) mid t end.error_is held fy idle (inl refl) end.done_at cut
 
-transfer_cut : (write : Bool) (number h : ℕ) (bus : BusUnit) (y : Hart) (base : Site) (w : Hart) (k : Kept) (s t : Site) → number < 2 ^ 16 → Stood h bus y base w k s → CommandCutAt (transfer_word write number) h bus y base w k t
+transfer_cut : (write : Bool) (number h : ℕ) (bus : BusUnit) (y : Hart) (base : Site) (w : Hart) (k : Kept) (t : Site) → number < 2 ^ 16 → Held h w base → Frozen y → bus.pending ≡ None
+    → CommandCutAt (transfer_word write number) h bus y base w k t
     → HungAt (Either write number k y) h bus base t
-transfer_cut write number h bus y base w k s t small st (unsent u) = hung_stood (Either write number k y) h bus y base w k t (inl refl) u
-transfer_cut write number h bus y base w k s t small st (sent e) = sent_by write number h bus y base w k t (debug_value y number) (refusing write number) st.held st.frozen small st.idle refl refl e
-transfer_cut write number h bus y base w k s t small st (ended last mid idle error c cut) =
-    end_cut write number last h bus y base w k mid t st.held st.frozen st.idle error (transfer_ends write number last k h bus y base w mid st.held st.frozen small st.idle c idle) cut
+transfer_cut write number h bus y base w k t small held fy idle (unsent u) = hung_stood (Either write number k y) h bus y base w u.kept t (inl refl) u.stood
+transfer_cut write number h bus y base w k t small held fy idle (sent e) = sent_by write number h bus y base w k t (debug_value y number) (refusing write number) held fy small idle refl refl e
+transfer_cut write number h bus y base w k t small held fy none (ended last mid idle error c cut) =
+    end_cut write number last h bus y base w k mid t held fy none error (transfer_ends write number last k h bus y base w mid held fy small none c idle) cut
 
-transfer_hung : (write : Bool) (number h : ℕ) (bus : BusUnit) (y : Hart) (base : Site) (w : Hart) (old_count new_count : ℕ) (old new : Tells) (e : AccessFault) → number < 2 ^ 16 → (st : StoodTold h bus y base w old.far)
-    → CommandFailed (transfer_word write number) old_count new_count old new e → IfCut (Hung (Either write number st.kept y) h bus base new.far) e
-transfer_hung write number h bus y base w old_count new_count old new e small st f =
-    if_cut (CommandCutTold (transfer_word write number) h bus y base w st.kept new.far) (Hung (Either write number st.kept y) h bus base new.far) e
-    (λ c. record { far = c.far; is = c.is; hung = transfer_cut write number h bus y base w st.kept (site_of st.far) (site_of c.far) small st.stood c.cut })
-    (command_cut_told (transfer_word write number) h bus y base w old_count new_count old new e st f)
+transfer_hung : (front : List Act) (write : Bool) (number h : ℕ) (bus : BusUnit) (y : Hart) (base : Site) (w : Hart) (l : Kept) (old_count new_count : ℕ) (old new : Tells) (e : AccessFault) → number < 2 ^ 16
+    → (st : StoodTold h bus y base w old.far) → WordPuts h bus y st.kept front l → CommandFailed front (transfer_word write number) old_count new_count old new e
+    → IfCut (Hung (Either write number l y) h bus base new.far) e
+transfer_hung front write number h bus y base w l old_count new_count old new e small st puts f =
+    if_cut (CommandCutTold (transfer_word write number) h bus y base w l new.far) (Hung (Either write number l y) h bus base new.far) e
+    (λ c. record { far = c.far; is = c.is; hung = transfer_cut write number h bus y base w l (site_of c.far) small st.stood.held st.stood.frozen st.stood.idle c.cut })
+    (command_cut_told front (transfer_word write number) h bus y base w l old_count new_count old new e st puts f)
 
 -- ---- the data words
 
@@ -154,17 +153,6 @@ words_read_cut h bus y base w far told _ _ st (high_read low) c =
     let p = c.acts_are in
     let mid : Stood h bus y base w st.kept c.mid = subst (λ s. Stood h bus y base w st.kept s) (sym p.2) (got_at data0_address low h bus y base w st.kept (site_of st.far) p.0 st.stood p.1 (λ z. refl)) in
     got_hung data1_address h bus y base w st.far told st.kept c.mid c.far c.is (got_cut data1_address h bus y base w st.kept c.mid (site_of c.far) mid (λ z. refl) c.cut)
-
-words_write_cut : (value h : ℕ) (bus : BusUnit) (y : Hart) (base : Site) (w : Hart) (far told : Option Far) (acts : List Act) (op : DmiOp) → (st : StoodTold h bus y base w far) → DoubleWrites value acts (Operation op)
-    → CutAt acts op st.far told → Hung (λ z. z ≡ y) h bus base told
-unfolding register_at
-words_write_cut value h bus y base w far told _ _ st low_written c =
-    got_hung data0_address h bus y base w st.far told st.kept c.mid c.far c.is
-    (put_cut data0_address (low_half value) h bus y base w st.kept (with_data0 (low_half value) st.kept) c.mid (site_of c.far) (subst (λ s. Stood h bus y base w st.kept s) (sym c.acts_are) st.stood) (λ z. refl) c.cut)
-words_write_cut value h bus y base w far told _ _ st high_written c =
-    let mid : Stood h bus y base w (with_data0 (low_half value) st.kept) c.mid = put_at data0_address (low_half value) h bus y base w st.kept (with_data0 (low_half value) st.kept) (site_of st.far) c.mid st.stood c.acts_are (λ z. refl) in
-    got_hung data1_address h bus y base w st.far told st.kept c.mid c.far c.is
-    (put_cut data1_address (high_half value) h bus y base w (with_data0 (low_half value) st.kept) (with_double value st.kept) c.mid (site_of c.far) mid (λ z. refl) c.cut)
 
 -- ---- a register that is read
 
@@ -183,9 +171,9 @@ taken_stood number last h bus y base w k told f is (denied none error st) = reco
 read_at_hung : (number h : ℕ) (bus : BusUnit) (y : Hart) (base : Site) (w : Hart) (old_count new_count : ℕ) (old new : Tells) (why : DmiFault) → number < 2 ^ 16 → StoodTold h bus y base w old.far
     → ReadFailedAt number old_count new_count old new (access_fault.Dmi why) → Hung (λ z. z ≡ y) h bus base new.far
 read_at_hung number h bus y base w old_count new_count old new why small st (read_in_command _ f) =
-    hung_map (Either false number st.kept y) (λ z. z ≡ y) h bus base new.far (λ z e. same_either number st.kept y z e) (transfer_hung false number h bus y base w old_count new_count old new (access_fault.Dmi why) small st f)
+    hung_map (Either false number st.kept y) (λ z. z ≡ y) h bus base new.far (λ z e. same_either number st.kept y z e) (transfer_hung [] false number h bus y base w st.kept old_count new_count old new (access_fault.Dmi why) small st (no_more st.kept) f)
 read_at_hung number h bus y base w old_count new_count old new why small st (read_in_words mid ran _ f) =
-    let c : CommandTold false number ran.last h bus y base w st.kept mid.far = command_told false number ran.last h bus y base w old mid small st ran.ran in
+    let c : CommandTold false number ran.last h bus y base w st.kept mid.far = command_told [] false number ran.last h bus y base w st.kept old mid small st (no_more st.kept) ran.ran in
     let stood : StoodTold h bus y base w mid.far = taken_stood number ran.last h bus y base w st.kept mid.far c.far c.is c.transfer in
     let cut : CutWithin DoubleReads stood.far new.far = cut_within DoubleReads old_count new_count mid new.far why stood.far stood.is f in
     words_read_cut h bus y base w mid.far new.far cut.acts cut.op stood cut.begun cut.cut
@@ -196,7 +184,7 @@ read_hung number h bus y base w old_count new_count old new (access_fault.Dmi wh
 read_hung number h bus y base w old_count new_count old new (access_fault.Memory at) small st f = tt
 read_hung number h bus y base w old_count new_count old new (access_fault.Register asked) small st f = tt
 read_hung number h bus y base w old_count new_count old new access_fault.StillBusy small st f =
-    hung_map (Either false number st.kept y) (λ z. z ≡ y) h bus base new.far (λ z e. same_either number st.kept y z e) (transfer_hung false number h bus y base w old_count new_count old new access_fault.StillBusy small st f)
+    hung_map (Either false number st.kept y) (λ z. z ≡ y) h bus base new.far (λ z e. same_either number st.kept y z e) (transfer_hung [] false number h bus y base w st.kept old_count new_count old new access_fault.StillBusy small st (no_more st.kept) f)
 read_hung number h bus y base w old_count new_count old new (access_fault.Run why) small st f = tt
 read_hung number h bus y base w old_count new_count old new (access_fault.Odd shown) small st f = tt
 
@@ -209,31 +197,20 @@ written_either : (number value : ℕ) (k : Kept) (y z : Hart) → Either true nu
 written_either number value k y z (inl e) = inl e
 written_either number value k y z (inr e) = inr (e ∙ ap (debug_written y number) (halves_joined value))
 
-doubled : (value h : ℕ) (bus : BusUnit) (y : Hart) (base : Site) (w : Hart) (old mid : Tells) → (st : StoodTold h bus y base w old.far) → (at : AtSites (double_written value) st.far mid.far) → Stood h bus y base w (with_double value st.kept) (site_of at.far)
-doubled value h bus y base w old mid st at = words_put value h bus y base w st.kept (site_of st.far) (site_of at.far) st.stood at.acts_are
-
-write_command_hung : (number value h : ℕ) (bus : BusUnit) (y : Hart) (base : Site) (w : Hart) (old_count new_count : ℕ) (old mid new : Tells) (e : AccessFault) → number < 2 ^ 16 → StoodTold h bus y base w old.far → Did old (double_written value) mid
-    → CommandFailed (transfer_word true number) old_count new_count mid new e → IfCut (Hung (Written number value y) h bus base new.far) e
-write_command_hung number value h bus y base w old_count new_count old mid new e small st did f =
-    let at : AtSites (double_written value) st.far mid.far = did_sites old (double_written value) mid st.far did st.is in
-    let words : StoodTold h bus y base w mid.far = record { far = at.far; is = at.is; kept = with_double value st.kept; stood = doubled value h bus y base w old mid st at } in
-    if_cut (Hung (Either true number (with_double value st.kept) y) h bus base new.far) (Hung (Written number value y) h bus base new.far) e
-    (hung_map (Either true number (with_double value st.kept) y) (Written number value y) h bus base new.far (λ z p. written_either number value st.kept y z p))
-    (transfer_hung true number h bus y base w old_count new_count mid new e small words f)
-
-write_at_hung : (number value h : ℕ) (bus : BusUnit) (y : Hart) (base : Site) (w : Hart) (old_count new_count : ℕ) (old new : Tells) (why : DmiFault) → number < 2 ^ 16 → StoodTold h bus y base w old.far
-    → WriteFailedAt number value old_count new_count old new (access_fault.Dmi why) → Hung (Written number value y) h bus base new.far
-write_at_hung number value h bus y base w old_count new_count old new why small st (written_in_words _ f) =
-    let cut : CutWithin (DoubleWrites value) st.far new.far = cut_within (DoubleWrites value) old_count new_count old new.far why st.far st.is f in
-    hung_map (λ z. z ≡ y) (Written number value y) h bus base new.far (λ z e. inl e) (words_write_cut value h bus y base w old.far new.far cut.acts cut.op st cut.begun cut.cut)
-write_at_hung number value h bus y base w old_count new_count old new why small st (written_in_command mid did _ f) = write_command_hung number value h bus y base w old_count new_count old mid new (access_fault.Dmi why) small st did f
+write_command_hung : (number value h : ℕ) (bus : BusUnit) (y : Hart) (base : Site) (w : Hart) (old_count new_count : ℕ) (old new : Tells) (e : AccessFault) → number < 2 ^ 16 → StoodTold h bus y base w old.far
+    → CommandFailed (double_written value) (transfer_word true number) old_count new_count old new e → IfCut (Hung (Written number value y) h bus base new.far) e
+write_command_hung number value h bus y base w old_count new_count old new e small st f =
+    let l : Kept = with_double value st.kept in
+    if_cut (Hung (Either true number l y) h bus base new.far) (Hung (Written number value y) h bus base new.far) e
+    (hung_map (Either true number l y) (Written number value y) h bus base new.far (λ z p. written_either number value st.kept y z p))
+    (transfer_hung (double_written value) true number h bus y base w l old_count new_count old new e small st (double_puts value h bus y st.kept) f)
 
 pub write_hung : (number value h : ℕ) (bus : BusUnit) (y : Hart) (base : Site) (w : Hart) (old_count new_count : ℕ) (old new : Tells) (e : AccessFault) → number < 2 ^ 16 → StoodTold h bus y base w old.far → WriteFailed number value old_count new_count old new e
     → IfCut (Hung (Written number value y) h bus base new.far) e
-write_hung number value h bus y base w old_count new_count old new (access_fault.Dmi why) small st f = write_at_hung number value h bus y base w old_count new_count old new why small st f
+write_hung number value h bus y base w old_count new_count old new (access_fault.Dmi why) small st f = write_command_hung number value h bus y base w old_count new_count old new (access_fault.Dmi why) small st f
 write_hung number value h bus y base w old_count new_count old new (access_fault.Memory at) small st f = tt
 write_hung number value h bus y base w old_count new_count old new (access_fault.Register asked) small st f = tt
-write_hung number value h bus y base w old_count new_count old new access_fault.StillBusy small st f = write_command_hung number value h bus y base w old_count new_count old f.mid new access_fault.StillBusy small st f.words f.then
+write_hung number value h bus y base w old_count new_count old new access_fault.StillBusy small st f = write_command_hung number value h bus y base w old_count new_count old new access_fault.StillBusy small st f
 write_hung number value h bus y base w old_count new_count old new (access_fault.Run why) small st f = tt
 write_hung number value h bus y base w old_count new_count old new (access_fault.Odd shown) small st f = tt
 

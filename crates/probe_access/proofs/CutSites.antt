@@ -1,5 +1,5 @@
 -- Where a call broke off, as what stands behind the transport sees it.
-use Rattle.std.proofs.Common.{◌≡◌, ◌∙◌, ◌++◌, ℕ, List, ◌∷◌, map, false, Option, Some, refl, sym, ap, subst}
+use Rattle.std.proofs.Common.{◌≡◌, ◌∙◌, ◌++◌, ℕ, List, [], ◌∷◌, map, false, Option, Some, refl, sym, ap, subst, append_assoc}
 use Rattle.rv_model.specs.Board.{Hart}
 use Rattle.debug_model.specs.Addresses.{abstractcs_address, command_address}
 use Rattle.debug_model.specs.declared.dmi.DmiFault.{DmiFault}
@@ -22,15 +22,16 @@ use Rattle.debug_model.specs.Many.{OperationsCut}
 use Rattle.probe_run.specs.Acts.Act.{Put}
 use Rattle.probe_run.specs.Acts.Attempt.{Scan, Operation, Several}
 use Rattle.probe_access.specs.CommandRuns.{CommandBegun, CommandFailed, error_shown, poll_act, shows_busy}
-use Rattle.probe_access.specs.CommandRuns.CommandBegun.{writes, polls, clears}
+use Rattle.probe_access.specs.CommandRuns.CommandBegun.{ahead, writes, polls, clears}
 use Rattle.probe_access.specs.Cuts.{IfCut}
 use Rattle.probe_access.specs.MemoryRuns.{Recovers}
-use Rattle.probe_access.proofs.Along.{AtSites, SiteActs, did_sites, operations_acts, site_acts-append}
+use Rattle.probe_access.proofs.Along.{AtSites, SiteAct, SiteActs, Split, did_sites, operations_acts, site_acts-append, site_acts-split}
 use Rattle.probe_access.proofs.Aside.{aside, passed}
 use Rattle.chip_laws.proofs.PathLemmas.{ran-append}
 use Rattle.probe_access.proofs.ReadyUnit.{Kept, OpAt, done_ran, op_at, unit_of}
-use Rattle.probe_access.proofs.RegAnswers.{StoodTold}
-use Rattle.probe_access.proofs.RegisterTold.{Stood, got_at, put_at}
+use Rattle.probe_access.proofs.RegAnswers.{StoodTold, front_stood}
+use Rattle.probe_access.proofs.RegisterTold.{Stood, WordPuts, got_at, put_at, words_put}
+use Rattle.probe_access.proofs.RegisterTold.WordPuts.{and_then, no_more}
 use Rattle.probe_access.proofs.TransferLemmas.{Commanded, RanAlone, commanded, polls_ran, read_status}
 use Rattle.probe_run.specs.Opening.{clears_cmderr}
 
@@ -141,15 +142,39 @@ pub sent_polls : (word : ℕ) (words : List ℕ) (h : ℕ) (bus : BusUnit) (y : 
 sent_polls word words h bus y base w k s t st p =
     sent_more word (unit_of k h bus) h y base p.0 t (sent_first word h bus y base w k s p.0 st p.1) (polls_ran words p.0 t p.2)
 
--- where a command broke off
+-- ---- among the writes in front of it
+
+record SameFront (a v b u : ℕ) (xs ys : List Act) : Type 0 where
+  address : a ≡ b
+  value : v ≡ u
+  rest : xs ≡ ys
+
+same_front : (a v b u : ℕ) (xs ys : List Act) → Put a v ∷ xs ≡ Put b u ∷ ys → SameFront a v b u xs ys
+same_front a v b u xs ys e = record { address = cc; value = cc; rest = cc }
+
+front_cut : (h : ℕ) (bus : BusUnit) (y : Hart) (base : Site) (w : Hart) (k l : Kept) (front done rest : List Act) (a v : ℕ) (s mid t : Site) → WordPuts h bus y k front l
+    → front ≡ done ++ Put a v ∷ rest → Stood h bus y base w k s → SiteActs done s mid → SiteCut (Write a v) mid t → Rests h bus y base w t
+front_cut h bus y base w k _ _ [] rest a v s mid t (no_more _) is st p cut = absurd (let no : ⊥ = cc in no)
+front_cut h bus y base w k _ _ (x ∷ done) rest a v s mid t (no_more _) is st p cut = absurd (let no : ⊥ = cc in no)
+front_cut h bus y base w k l _ [] rest a v s mid t (and_then b u acts _ m _ changes more) is st p cut =
+    let e : SameFront b u a v acts rest = same_front b u a v acts rest is in
+    put_cut b u h bus y base w k m mid t (subst (λ z. Stood h bus y base w k z) (sym p) st) changes
+    (subst (λ n. SiteCut (Write n u) mid t) (sym e.address) (subst (λ n. SiteCut (Write a n) mid t) (sym e.value) cut))
+front_cut h bus y base w k l _ (x ∷ done) rest a v s mid t (and_then b u acts _ m _ changes more) is st p cut =
+    let first : x ≡ Put b u = cc in
+    let others : acts ≡ done ++ Put a v ∷ rest = cc in
+    let one : SiteAct (Put b u) s p.0 = subst (λ z. SiteAct z s p.0) first p.1 in
+    front_cut h bus y base w m l acts done rest a v p.0 mid t more others (put_at b u h bus y base w k m s p.0 st (p.0, one, refl) changes) p.2 cut
+
+-- ---- where a command broke off
 pub data CommandCutAt (word : ℕ) (h : ℕ) (bus : BusUnit) (y : Hart) (base : Site) (w : Hart) (k : Kept) (t : Site) : Type 0 where
-  unsent : Stood h bus y base w k t → CommandCutAt word h bus y base w k t
+  unsent : Rests h bus y base w t → CommandCutAt word h bus y base w k t
   sent : SentAt word (unit_of k h bus) h y base t → CommandCutAt word h bus y base w k t
   ended : (last : ℕ) (mid : Site) → shows_busy last ≡ false → (error_shown last ≡ 0 → ⊥) → Commanded word last (unit_of k h bus) h y base mid → SiteCut (Write abstractcs_address clears_cmderr) mid t
       → CommandCutAt word h bus y base w k t
 
 written_cut : (word h : ℕ) (bus : BusUnit) (y : Hart) (base : Site) (w : Hart) (k : Kept) (s t : Site) → Stood h bus y base w k s → SiteCut (Write command_address word) s t → CommandCutAt word h bus y base w k t
-written_cut word h bus y base w k s t st (unperformed d) = unsent (stood_ran h bus y base w k s t st d)
+written_cut word h bus y base w k s t st (unperformed d) = unsent (rests h bus y base w k t (stood_ran h bus y base w k s t st d))
 written_cut word h bus y base w k s t st (was_performed result o) = sent (sent_first word h bus y base w k s t st (record { before = o.before; behind = o.behind; is = o.is; result_is = refl }))
 
 pub record CommandCutTold (word : ℕ) (h : ℕ) (bus : BusUnit) (y : Hart) (base : Site) (w : Hart) (k : Kept) (told : Option Far) : Type 0 where
@@ -157,34 +182,53 @@ pub record CommandCutTold (word : ℕ) (h : ℕ) (bus : BusUnit) (y : Hart) (bas
   pub is : told ≡ Some far
   pub cut : CommandCutAt word h bus y base w k (site_of far)
 
-cut_begun : (word h : ℕ) (bus : BusUnit) (y : Hart) (base : Site) (w : Hart) (far : Option Far) (told : Option Far) (acts : List Act) (op : DmiOp) → (st : StoodTold h bus y base w far)
-    → CommandBegun word acts (Operation op) → CutAt acts op st.far told → CommandCutTold word h bus y base w st.kept told
-cut_begun word h bus y base w far told _ _ st writes c =
-    record { far = c.far; is = c.is; cut = written_cut word h bus y base w st.kept c.mid (site_of c.far) (subst (λ s. Stood h bus y base w st.kept s) (sym c.acts_are) st.stood) c.cut }
-cut_begun word h bus y base w far told _ _ st (polls words vain) c = record {
+cut_begun : (front : List Act) (word h : ℕ) (bus : BusUnit) (y : Hart) (base : Site) (w : Hart) (l : Kept) (far : Option Far) (told : Option Far) (acts : List Act) (op : DmiOp) → (st : StoodTold h bus y base w far)
+    → WordPuts h bus y st.kept front l → CommandBegun front word acts (Operation op) → CutAt acts op st.far told → CommandCutTold word h bus y base w l told
+cut_begun front word h bus y base w l far told _ _ st puts (ahead done rest a v is) c = record {
   far = c.far;
   is = c.is;
-  cut = sent (sent_more word (unit_of st.kept h bus) h y base c.mid (site_of c.far) (sent_polls word words h bus y base w st.kept (site_of st.far) c.mid st.stood c.acts_are) (status_cut c.mid (site_of c.far) c.cut));
+  cut = unsent (front_cut h bus y base w st.kept l front done rest a v (site_of st.far) c.mid (site_of c.far) puts is st.stood c.acts_are c.cut);
 }
-cut_begun word h bus y base w far told _ _ st (clears words last vain idle error) c = record {
-  far = c.far;
-  is = c.is;
-  cut = ended last c.mid idle error (commanded word words last (unit_of st.kept h bus) h y base w (site_of st.far) c.mid st.stood.held st.stood.frozen refl st.stood.idle st.stood.at c.acts_are) c.cut;
-}
+cut_begun front word h bus y base w l far told _ _ st puts writes c =
+    record { far = c.far; is = c.is; cut = written_cut word h bus y base w l c.mid (site_of c.far) (words_put h bus y base w st.kept l front (site_of st.far) c.mid puts st.stood c.acts_are) c.cut }
+cut_begun front word h bus y base w l far told _ _ st puts (polls words vain) c =
+    let tail : List Act = Put command_address word ∷ map poll_act words in
+    let split : Split front tail (site_of st.far) c.mid = site_acts-split front tail (site_of st.far) c.mid c.acts_are in
+    let ready : Stood h bus y base w l split.mid = front_stood front tail h bus y base w st.kept l (site_of st.far) c.mid puts st.stood split in
+    record {
+      far = c.far;
+      is = c.is;
+      cut = sent (sent_more word (unit_of l h bus) h y base c.mid (site_of c.far) (sent_polls word words h bus y base w l split.mid c.mid ready split.rest) (status_cut c.mid (site_of c.far) c.cut));
+    }
+cut_begun front word h bus y base w l far told _ _ st puts (clears words last vain idle error) c =
+    let tail : List Act = Put command_address word ∷ (map poll_act words ++ poll_act last ∷ []) in
+    let split : Split front tail (site_of st.far) c.mid = site_acts-split front tail (site_of st.far) c.mid c.acts_are in
+    let ready : Stood h bus y base w l split.mid = front_stood front tail h bus y base w st.kept l (site_of st.far) c.mid puts st.stood split in
+    record {
+      far = c.far;
+      is = c.is;
+      cut = ended last c.mid idle error (commanded word words last (unit_of l h bus) h y base w split.mid c.mid ready.held ready.frozen refl ready.idle ready.at split.rest) c.cut;
+    }
 
 -- by the fault
-pub command_cut_told : (word h : ℕ) (bus : BusUnit) (y : Hart) (base : Site) (w : Hart) (old_count new_count : ℕ) (old new : Tells) (e : AccessFault) → (st : StoodTold h bus y base w old.far) → CommandFailed word old_count new_count old new e
-    → IfCut (CommandCutTold word h bus y base w st.kept new.far) e
-command_cut_told word h bus y base w old_count new_count old new (access_fault.Dmi why) st f =
-    let c : CutWithin (CommandBegun word) st.far new.far = cut_within (CommandBegun word) old_count new_count old new.far why st.far st.is f in
-    cut_begun word h bus y base w old.far new.far c.acts c.op st c.begun c.cut
-command_cut_told word h bus y base w old_count new_count old new (access_fault.Memory at) st f = tt
-command_cut_told word h bus y base w old_count new_count old new (access_fault.Register number) st f = tt
-command_cut_told word h bus y base w old_count new_count old new access_fault.StillBusy st f =
-    let at : AtSites (Put command_address word ∷ map poll_act f.words) st.far new.far = did_sites old _ new st.far f.did st.is in
-    record { far = at.far; is = at.is; cut = sent (sent_polls word f.words h bus y base w st.kept (site_of st.far) (site_of at.far) st.stood at.acts_are) }
-command_cut_told word h bus y base w old_count new_count old new (access_fault.Run why) st f = tt
-command_cut_told word h bus y base w old_count new_count old new (access_fault.Odd shown) st f = tt
+pub command_cut_told : (front : List Act) (word h : ℕ) (bus : BusUnit) (y : Hart) (base : Site) (w : Hart) (l : Kept) (old_count new_count : ℕ) (old new : Tells) (e : AccessFault) → (st : StoodTold h bus y base w old.far)
+    → WordPuts h bus y st.kept front l → CommandFailed front word old_count new_count old new e → IfCut (CommandCutTold word h bus y base w l new.far) e
+command_cut_told front word h bus y base w l old_count new_count old new (access_fault.Dmi why) st puts f =
+    let c : CutWithin (CommandBegun front word) st.far new.far = cut_within (CommandBegun front word) old_count new_count old new.far why st.far st.is f in
+    cut_begun front word h bus y base w l old.far new.far c.acts c.op st puts c.begun c.cut
+command_cut_told front word h bus y base w l old_count new_count old new (access_fault.Memory at) st puts f = tt
+command_cut_told front word h bus y base w l old_count new_count old new (access_fault.Register number) st puts f = tt
+command_cut_told front word h bus y base w l old_count new_count old new access_fault.StillBusy st puts f =
+    let acts : List Act = (front ++ Put command_address word ∷ []) ++ map poll_act f.words in
+    let tail : List Act = Put command_address word ∷ map poll_act f.words in
+    let at : AtSites acts st.far new.far = did_sites old acts new st.far f.did st.is in
+    let shaped : SiteActs (front ++ tail) (site_of st.far) (site_of at.far) =
+    subst (λ xs. SiteActs xs (site_of st.far) (site_of at.far)) (append_assoc front (Put command_address word ∷ []) (map poll_act f.words)) at.acts_are in
+    let split : Split front tail (site_of st.far) (site_of at.far) = site_acts-split front tail (site_of st.far) (site_of at.far) shaped in
+    let ready : Stood h bus y base w l split.mid = front_stood front tail h bus y base w st.kept l (site_of st.far) (site_of at.far) puts st.stood split in
+    record { far = at.far; is = at.is; cut = sent (sent_polls word f.words h bus y base w l split.mid (site_of at.far) ready split.rest) }
+command_cut_told front word h bus y base w l old_count new_count old new (access_fault.Run why) st puts f = tt
+command_cut_told front word h bus y base w l old_count new_count old new (access_fault.Odd shown) st puts f = tt
 
 pub if_cut : (P Q : Type 0) (e : AccessFault) → (P → Q) → IfCut P e → IfCut Q e
 if_cut P Q (access_fault.Dmi why) f p = f p

@@ -8,6 +8,7 @@ pub mod ReadyUnit
 pub mod TransferLemmas
 pub mod Polls
 pub mod RegisterCalls
+pub mod SentCalls
 pub mod RegisterTold
 pub mod ReadyTurns
 pub mod RegAnswers
@@ -22,6 +23,7 @@ pub mod AccessTold
 pub mod AccessEnd
 pub mod AroundTold
 pub mod AroundUntold
+pub mod LoadCalls
 pub mod LoadClauses
 pub mod StoreClauses
 pub mod AccessErrs

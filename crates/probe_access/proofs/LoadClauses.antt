@@ -1,7 +1,6 @@
 -- The clauses of a load by the program buffer, where the chip is told.
 use Rattle.probe_run.specs.Told.{Serving}
 use Rattle.std.proofs.Common.{◌≡◌, ◌∙◌, ◌<◌, ◌^◌, ℕ, List, length, Option, Some, None, Ok, refl, sym, ap, subst, arith}
-use Rattle.std.proofs.lemmas.List.{length-set}
 use Rattle.rv_model.specs.declared.size.Size.{Size}
 use Rattle.rv_model.specs.declared.size.Size.TheVariants.{B1, B2, B4, B8}
 use Rattle.rv_model.specs.Board.{Board, Hart}
@@ -9,30 +8,33 @@ use Rattle.rv_model.specs.Core.{x_of}
 use Rattle.rv_model.specs.DebugRegisters.{debug_value, debug_written}
 use Rattle.rv_model.specs.Memory.{Memory, loaded}
 use Rattle.rv_model.specs.Size.{count_of}
-use Rattle.debug_model.specs.Dmi.{DmiScript}
+use Rattle.debug_model.specs.Dmi.{DmiComing}
 use Rattle.debug_model.specs.Module.{Site}
 use Rattle.debug_model.specs.Scan.{WhereTold}
 use Rattle.debug_model.specs.SystemBus.{BusUnit}
 use Rattle.rv_model.specs.Widths.{MemoryReady}
 use Rattle.debug_model.specs.Told.{Far, HartHalted, IsHalted, IsReady, Selects, SiteReady, chip_of, site_of}
 use Rattle.probe_run.specs.Acts.{Tells, tells}
+use Rattle.probe_access.specs.RegisterRuns.{RegisterRead, RegisterWritten}
+use Rattle.probe_access.proofs.AccessSteps.{WordDid}
 use Rattle.rv_model.proofs.WideMemory.{loaded_small}
 use Rattle.probe_access.specs.Accesses.{AccessLeft, IfMemory, LoadRefused, LoadedAt, unchanged}
 use Rattle.probe_access.specs.declared.fault.AccessFault.{AccessFault}
 use Rattle.probe_access.specs.declared.fault.AccessFault.TheVariants as access_fault
-use Rattle.probe_access.specs.MemoryRuns.{Around, AroundFailed, LoadFailedInside, LoadedAny, LoadedInside, Performed}
-use Rattle.probe_access.specs.MemoryRuns.LoadFailedInside.{performing, reading}
-use Rattle.probe_access.proofs.AroundTold.{FaultInside, OkInside, OnlyMemory, around_only, clean_only, only_map, perform_only, read_clean, reads_x9}
-use Rattle.probe_access.proofs.AroundUntold.{PlainMemory, around_plain, perform_plain, read_plain}
+use Rattle.probe_access.specs.MemoryRuns.{LoadRun, LoadRunFailed, Performed}
+use Rattle.probe_access.specs.MemoryRuns.LoadRunFailed.{in_restore, in_restore_behind, in_save, performing, refused, taking}
+use Rattle.probe_access.proofs.AroundTold.{OnlyMemory, clean_only, lost_only, only_map, perform_only, read_clean, reads_x8, write_clean, writes_x8}
+use Rattle.probe_access.proofs.AroundUntold.{PlainMemory, perform_plain, read_plain, write_plain}
 use Rattle.debug_model.specs.Chip.{Chip}
-use Rattle.probe_access.specs.RegisterAccess.{load_word, x8_number, x9_number}
-use Rattle.probe_access.proofs.AccessEnd.{AccessEnd, access_end, access_serving, back_untold, one_access, performed_untold, read_untold, ready_before, saved_untold}
-use Rattle.probe_access.proofs.AccessTold.{Addressed, Faulted, PerformedTold, SavedTold, Went, addressed_told, back_told, faulted_told, held_as, ran_told, saved_told, went_told}
-use Rattle.probe_access.proofs.Aside.{accessed, passed}
+use Rattle.probe_access.specs.RegisterAccess.{load_word, x8_number}
+use Rattle.probe_access.proofs.AccessEnd.{AccessEnd, access_end, access_serving, one_access, performed_untold, read_untold, ready_before, written_untold}
+use Rattle.probe_access.proofs.AccessTold.{Faulted, PerformedTold, Went, faulted_told, held_as, ran_told, went_told}
+use Rattle.probe_access.proofs.Aside.{Frozen, accessed, passed}
 use Rattle.probe_access.proofs.ReadyTurns.{passed_turns}
-use Rattle.probe_access.proofs.RegAnswers.{ReadTold, StoodTold, read_told}
+use Rattle.probe_access.proofs.RegAnswers.{ReadTold, StoodTold, WrittenTold, read_told, written_told}
 use Rattle.probe_access.proofs.RegClauses.{first_told, untold_serving}
-use Rattle.probe_access.proofs.ScratchLemmas.{after_fault_scratched, after_load_scratched, with_core_x, x8_holds, x8_value, x8_written, x9_holds, x9_value}
+use Rattle.probe_access.proofs.ScratchLemmas.{after_load, with_core_x, x8_back, x8_holds, x8_value, x8_written, x9_value}
+use Rattle.probe_access.proofs.TransferLemmas.{written_frozen}
 use Rattle.probe_access.proofs.WordAccess.{LoadFaults, Loads, address_in, in_x8, load_did}
 
 -- ---- the hart of an access
@@ -61,6 +63,24 @@ size_small B2 v lt = omega arith
 size_small B4 v lt = omega arith
 size_small B8 v lt = omega arith
 
+-- ---- x8
+
+pub x8_saved : (x8 h : ℕ) (bus : BusUnit) (y : Hart) (base : Site) (w : Hart) (old new : Tells) → StoodTold h bus y base w old.far → RegisterRead x8_number x8 old new
+    → x_of y.core 8 < 2 ^ 64 → x8 ≡ x_of y.core 8
+x8_saved x8 h bus y base w old new st r fits =
+    let a : ReadTold x8_number x8 h bus y base w new.far = read_told x8_number x8 h bus y base w old new (omega arith) st r in
+    held_as y x8_number a.held x8 (x_of y.core 8) (x8_value y) a.held_is a.value_is fits
+
+pub x8_read : (x8 h : ℕ) (bus : BusUnit) (y : Hart) (base : Site) (w : Hart) (old new : Tells) → StoodTold h bus y base w old.far → RegisterRead x8_number x8 old new
+    → StoodTold h bus y base w new.far
+x8_read x8 h bus y base w old new st r = let a : ReadTold x8_number x8 h bus y base w new.far = read_told x8_number x8 h bus y base w old new (omega arith) st r in a.then
+
+pub x8_put : (x8 p h : ℕ) (bus : BusUnit) (x : Hart) (base : Site) (w : Hart) (old new : Tells) → length x.core.x ≡ 32 → x8 ≡ x_of x.core 8
+    → StoodTold h bus (with_core_x x 8 p) base w old.far → RegisterWritten x8_number x8 old new → StoodTold h bus x base w new.far
+x8_put x8 p h bus x base w old new all is st r =
+    let a : WrittenTold x8_number x8 h bus (with_core_x x 8 p) base w st.kept new.far = written_told x8_number x8 h bus (with_core_x x 8 p) base w old new (omega arith) st r in
+    subst (λ (z : Hart). StoodTold h bus z base w new.far) (ap (debug_written (with_core_x x 8 p) x8_number) is ∙ x8_back x p all) a.then
+
 -- ---- a load
 
 -- through the program
@@ -68,7 +88,7 @@ pub record LoadWent (size : Size) (a h : ℕ) (bus : BusUnit) (x : Hart) (base :
   pub before : List ℕ
   pub value : ℕ
   pub is : loaded (passed before base).board.memory a size ≡ Ok value
-  pub then : StoodTold h bus (with_core_x (debug_written x x8_number a) 9 value) (accessed (passed before base).board.memory (passed before base)) x told
+  pub then : StoodTold h bus (with_core_x x 8 value) (accessed (passed before base).board.memory (passed before base)) x told
 
 load_went_by : (size : Size) (a h : ℕ) (bus : BusUnit) (x : Hart) (base : Site) (told : Option Far) → Went (Loads size a (debug_written x x8_number a)) h bus base x told → LoadWent size a h bus x base told
 load_went_by size a h bus x base told w = record {
@@ -76,57 +96,65 @@ load_went_by size a h bus x base told w = record {
   value = w.did.value;
   is = w.did.is;
   then =
-      subst (λ (n : Memory). StoodTold h bus (with_core_x (debug_written x x8_number a) 9 w.did.value) (accessed n (passed w.before base)) x told) w.did.memory
-      (subst (λ (z : Hart). StoodTold h bus z (accessed w.memory (passed w.before base)) x told) w.did.hart w.then);
+      subst (λ (n : Memory). StoodTold h bus (with_core_x x 8 w.did.value) (accessed n (passed w.before base)) x told) w.did.memory
+      (subst (λ (z : Hart). StoodTold h bus z (accessed w.memory (passed w.before base)) x told) (w.did.hart ∙ after_load x a w.did.value) w.then);
 }
 
+pub load_decides : (size : Size) (a : ℕ) (x : Hart) (m : Memory) → length x.core.x ≡ 32 → a < 2 ^ 64 → Frozen (debug_written x x8_number a)
+    → WordDid (Loads size a (debug_written x x8_number a)) (LoadFaults size a) (load_word size) (debug_written x x8_number a) m
+load_decides size a x m all small frozen = load_did size a (debug_written x x8_number a) m frozen (addressed_in x a all small)
+
 pub load_performed : (size : Size) (a error h : ℕ) (bus : BusUnit) (x : Hart) (base : Site) (old new : Tells) → length x.core.x ≡ 32 → a < 2 ^ 64 → StoodTold h bus x base x old.far → (p : Performed (load_word size) a error old new)
-    → PerformedTold (Loads size a (debug_written x x8_number a)) (LoadFaults size a) p.ran.last h bus (debug_written x x8_number a) base x new.far
+    → PerformedTold (Loads size a (debug_written x x8_number a)) (LoadFaults size a) p.last h bus (debug_written x x8_number a) base x new.far
 load_performed size a error h bus x base old new all small st p =
-    let ad : Addressed (load_word size) a h bus x base x p.addressed.far = addressed_told (load_word size) a h bus x base x old p.written p.addressed st p.program p.x8 in
-    ran_told (Loads size a (debug_written x x8_number a)) (LoadFaults size a) (load_word size) a p.ran.last h bus x base x p.addressed new ad
-    (λ m. load_did size a (debug_written x x8_number a) m ad.then.stood.frozen (addressed_in x a all small)) p.ran.ran
+    ran_told (Loads size a (debug_written x x8_number a)) (LoadFaults size a) (load_word size) a p.last h bus x base x old new st
+    (λ m. load_decides size a x m all small (written_frozen x x8_number a st.stood.frozen)) p.ran
 
 pub load_went : (size : Size) (a h : ℕ) (bus : BusUnit) (x : Hart) (base : Site) (old new : Tells) → length x.core.x ≡ 32 → a < 2 ^ 64 → StoodTold h bus x base x old.far → Performed (load_word size) a 0 old new → LoadWent size a h bus x base new.far
 load_went size a h bus x base old new all small st p =
     let r = load_performed size a 0 h bus x base old new all small st p in
-    load_went_by size a h bus x base new.far (went_told (Loads size a (debug_written x x8_number a)) (LoadFaults size a) p.ran.last h bus (debug_written x x8_number a) base x new.far r.far r.is p.ran.error_is r.program)
+    load_went_by size a h bus x base new.far (went_told (Loads size a (debug_written x x8_number a)) (LoadFaults size a) p.last h bus (debug_written x x8_number a) base x new.far r.far r.is p.error_is r.program)
 
--- x9 holds what was loaded
-pub x9_loaded : (x : Hart) (a v : ℕ) → length x.core.x ≡ 32 → debug_value (with_core_x (debug_written x x8_number a) 9 v) x9_number ≡ Some v
-x9_loaded x a v all =
-    let y : Hart = debug_written x x8_number a in
-    let n : length y.core.x ≡ 32 = ap (λ (z : Hart). length z.core.x) (x8_written x a) ∙ length-set x.core.x 8 a ∙ all in
-    x9_value (with_core_x y 9 v) ∙ ap Some (x9_holds y v n)
+-- memory refused it, with the address in x8
+pub load_faulted : (size : Size) (a h : ℕ) (bus : BusUnit) (x : Hart) (base : Site) (old new : Tells) → length x.core.x ≡ 32 → a < 2 ^ 64 → StoodTold h bus x base x old.far → Performed (load_word size) a 3 old new
+    → Faulted (LoadFaults size a) h bus (with_core_x x 8 a) base x new.far
+load_faulted size a h bus x base old new all small st p =
+    let r = load_performed size a 3 h bus x base old new all small st p in
+    subst (λ (y : Hart). Faulted (LoadFaults size a) h bus y base x new.far) (x8_written x a)
+    (faulted_told (Loads size a (debug_written x x8_number a)) (LoadFaults size a) p.last h bus (debug_written x x8_number a) base x new.far r.far r.is p.error_is r.program)
+
+-- x8 holds what was loaded
+x8_loaded : (x : Hart) (v : ℕ) → length x.core.x ≡ 32 → debug_value (with_core_x x 8 v) x8_number ≡ Some v
+x8_loaded x v all = x8_value (with_core_x x 8 v) ∙ ap Some (x8_holds x v all)
 
 pub record LoadOk (size : Size) (address value h : ℕ) (old new : Option Far) : Type 0 where
   pub loaded_at : WhereTold (LoadedAt size address value) old new
   pub serving : Serving h new
 
-pub load_ok : (size : Size) (address value h : ℕ) (far : Option Far) (script : Option DmiScript) (new : Tells) → address < 2 ^ 64 → IsReady far → Selects h far → IsHalted h far
-    → Around (LoadedInside size address value) (tells far script) new → LoadOk size address value h far new.far
-load_ok size address value h None script new small ready selects halted r =
-    let a : r.first.far ≡ None = saved_untold r.x8 r.x9 (tells None script) r.first r.saved refl in
-    let b : r.inside.mid.far ≡ None = performed_untold (load_word size) address 0 r.first r.inside.mid r.inside.performed a in
-    let c : r.last.far ≡ None = read_untold x9_number value r.inside.mid r.last r.inside.x9 b in
-    let d : new.far ≡ None = back_untold r.x8 r.x9 r.last new r.put_back c in
+pub load_ok : (size : Size) (address value h : ℕ) (far : Option Far) (coming : Option DmiComing) (new : Tells) → address < 2 ^ 64 → IsReady far → Selects h far → IsHalted h far
+    → LoadRun size address value (tells far coming) new → LoadOk size address value h far new.far
+load_ok size address value h None coming new small ready selects halted r =
+    let a : r.first.far ≡ None = read_untold x8_number r.x8 (tells None coming) r.first r.saved refl in
+    let b : r.mid.far ≡ None = performed_untold (load_word size) address 0 r.first r.mid r.performed a in
+    let c : r.last.far ≡ None = read_untold x8_number value r.mid r.last r.taken b in
+    let d : new.far ≡ None = written_untold x8_number r.x8 r.last new r.put_back c in
     record { loaded_at = d; serving = untold_serving h new.far d }
-load_ok size address value h (Some f) script new small ready selects halted r =
+load_ok size address value h (Some f) coming new small ready selects halted r =
     let s : Site = site_of f in
     let x : Hart = halted.hart in
     let fits : Fits x = fits_of h s ready halted in
-    let sv : SavedTold r.x8 r.x9 h s.unit.bus x s x r.first.far = saved_told r.x8 r.x9 h s.unit.bus x s x (tells (Some f) script) r.first (first_told h f ready halted selects) r.saved in
-    let w : LoadWent size address h s.unit.bus x s r.inside.mid.far = load_went size address h s.unit.bus x s r.first r.inside.mid fits.all small sv.then r.inside.performed in
+    let start : StoodTold h s.unit.bus x s x (Some f) = first_told h f ready halted selects in
+    let is8 : r.x8 ≡ x_of x.core 8 = x8_saved r.x8 h s.unit.bus x s x (tells (Some f) coming) r.first start r.saved fits.x8 in
+    let sv : StoodTold h s.unit.bus x s x r.first.far = x8_read r.x8 h s.unit.bus x s x (tells (Some f) coming) r.first start r.saved in
+    let w : LoadWent size address h s.unit.bus x s r.mid.far = load_went size address h s.unit.bus x s r.first r.mid fits.all small sv r.performed in
     let memory : Memory = (passed w.before s).board.memory in
     let base : Site = accessed memory (passed w.before s) in
-    let z : Hart = with_core_x (debug_written x x8_number address) 9 w.value in
-    let rd : ReadTold x9_number value h s.unit.bus z base x r.last.far = read_told x9_number value h s.unit.bus z base x r.inside.mid r.last (omega arith) w.then r.inside.x9 in
+    let z : Hart = with_core_x x 8 w.value in
+    let rd : ReadTold x8_number value h s.unit.bus z base x r.last.far = read_told x8_number value h s.unit.bus z base x r.mid r.last (omega arith) w.then r.taken in
     let was_ready : MemoryReady memory = (ready_before w.before s ready).memory in
     let value_fits : w.value < 2 ^ 64 = size_small size w.value (loaded_small memory address size w.value was_ready w.is) in
-    let value_is : value ≡ w.value = held_as z x9_number rd.held value w.value (x9_loaded x address w.value fits.all) rd.held_is rd.value_is value_fits in
-    let back : StoodTold h s.unit.bus x base x new.far =
-    back_told r.x8 r.x9 address w.value h s.unit.bus x base x r.last new fits.all (sv.x8_is fits.x8) (sv.x9_is fits.x9)
-    (subst (λ (y : Hart). StoodTold h s.unit.bus y base x r.last.far) (after_load_scratched x address w.value) rd.then) r.put_back in
+    let value_is : value ≡ w.value = held_as z x8_number rd.held value w.value (x8_loaded x w.value fits.all) rd.held_is rd.value_is value_fits in
+    let back : StoodTold h s.unit.bus x base x new.far = x8_put r.x8 w.value h s.unit.bus x base x r.last new fits.all is8 rd.then r.put_back in
     let e : AccessEnd memory w.before s (site_of back.far) = access_end h x memory w.before s new.far back in
     record {
       loaded_at = record {
@@ -142,43 +170,52 @@ load_ok size address value h (Some f) script new small ready selects halted r =
 
 -- ---- its faults
 
-load_inside_well : (size : Size) (a h : ℕ) (bus : BusUnit) (x : Hart) (base : Site) (first last : Tells) → length x.core.x ≡ 32 → a < 2 ^ 64 → StoodTold h bus x base x first.far → LoadedAny size a first last → OkInside h bus x last.far
-load_inside_well size a h bus x base first last all small st r =
-    let i : LoadedInside size a r.0 first last = r.1 in
-    let w : LoadWent size a h bus x base i.mid.far = load_went size a h bus x base first i.mid all small st i.performed in
-    let z : Hart = with_core_x (debug_written x x8_number a) 9 w.value in
+load_only : (size : Size) (a h : ℕ) (bus : BusUnit) (x : Hart) (base : Site) (old_count new_count : ℕ) (old new : Tells) (e : AccessFault) → Fits x → a < 2 ^ 64
+    → StoodTold h bus x base x old.far → LoadRunFailed size a old_count new_count old new e → OnlyMemory a (Faulted (LoadFaults size a) h bus x base x new.far) e
+load_only size a h bus x base old_count new_count old new _ fits small st (in_save e f) =
+    clean_only a (Faulted (LoadFaults size a) h bus x base x new.far) e (read_clean x8_number h bus x base x old_count new_count old new e (omega arith) (reads_x8 x) st f)
+load_only size a h bus x base old_count new_count old new _ fits small st (performing e x8 first saved f loses) =
+    lost_only a (Performed (load_word size) a 3 first new) (Faulted (LoadFaults size a) h bus x base x new.far) e loses
+    (perform_only (Loads size a (debug_written x x8_number a)) (LoadFaults size a) (load_word size) a h bus x base x old_count new_count first new e
+    (x8_read x8 h bus x base x old first st saved) (λ fy m. load_decides size a x m fits.all small fy) f)
+load_only size a h bus x base old_count new_count old new _ fits small st (refused x8 first last saved p back) =
+    let sv : StoodTold h bus x base x first.far = x8_read x8 h bus x base x old first st saved in
+    let f : Faulted (LoadFaults size a) h bus (with_core_x x 8 a) base x last.far = load_faulted size a h bus x base first last fits.all small sv p in (
+      refl,
+      record {
+        before = f.before;
+        did = f.did;
+        then = x8_put x8 a h bus x (accessed (passed f.before base).board.memory (passed f.before base)) x last new fits.all
+            (x8_saved x8 h bus x base x old first st saved fits.x8) f.then back;
+      },
+    )
+load_only size a h bus x base old_count new_count old new _ fits small st (in_restore_behind e x8 first last saved p back) =
+    let sv : StoodTold h bus x base x first.far = x8_read x8 h bus x base x old first st saved in
+    let f : Faulted (LoadFaults size a) h bus (with_core_x x 8 a) base x last.far = load_faulted size a h bus x base first last fits.all small sv p in
+    clean_only a (Faulted (LoadFaults size a) h bus x base x new.far) e
+    (write_clean x8_number x8 h bus (with_core_x x 8 a) (accessed (passed f.before base).board.memory (passed f.before base)) x old_count new_count last new e
+    (omega arith) (writes_x8 (with_core_x x 8 a)) f.then back)
+load_only size a h bus x base old_count new_count old new _ fits small st (taking e x8 first mid saved p f) =
+    let w : LoadWent size a h bus x base mid.far = load_went size a h bus x base first mid fits.all small (x8_read x8 h bus x base x old first st saved) p in
+    let z : Hart = with_core_x x 8 w.value in
+    clean_only a (Faulted (LoadFaults size a) h bus x base x new.far) e
+    (read_clean x8_number h bus z (accessed (passed w.before base).board.memory (passed w.before base)) x old_count new_count mid new e (omega arith) (reads_x8 z) w.then f)
+load_only size a h bus x base old_count new_count old new _ fits small st (in_restore e x8 value first mid last saved p taken f) =
+    let w : LoadWent size a h bus x base mid.far = load_went size a h bus x base first mid fits.all small (x8_read x8 h bus x base x old first st saved) p in
+    let z : Hart = with_core_x x 8 w.value in
     let b : Site = accessed (passed w.before base).board.memory (passed w.before base) in
-    let rd : ReadTold x9_number r.0 h bus z b x last.far = read_told x9_number r.0 h bus z b x i.mid last (omega arith) w.then i.x9 in
-    record { p = a; q = w.value; base = b; then = subst (λ (y : Hart). StoodTold h bus y b x last.far) (after_load_scratched x a w.value) rd.then }
+    clean_only a (Faulted (LoadFaults size a) h bus x base x new.far) e
+    (write_clean x8_number x8 h bus z b x old_count new_count last new e (omega arith) (writes_x8 z) (x8_read value h bus z b x mid last w.then taken) f)
 
-pub fault_at : (Q : Memory → Type 0) (a h : ℕ) (bus : BusUnit) (x : Hart) (base : Site) (told : Option Far) → length x.core.x ≡ 32 → Faulted Q h bus (debug_written x x8_number a) base x told → FaultInside Q h bus x base told
-fault_at Q a h bus x base told all f = record {
-  p = a;
-  q = x_of x.core 9;
-  fault = subst (λ (y : Hart). Faulted Q h bus y base x told) (after_fault_scratched x a all) f;
-}
-
-load_faulted : (size : Size) (a h : ℕ) (bus : BusUnit) (x : Hart) (base : Site) (old new : Tells) → length x.core.x ≡ 32 → a < 2 ^ 64 → StoodTold h bus x base x old.far → Performed (load_word size) a 3 old new → FaultInside (LoadFaults size a) h bus x base new.far
-load_faulted size a h bus x base old new all small st p =
-    let r = load_performed size a 3 h bus x base old new all small st p in
-    fault_at (LoadFaults size a) a h bus x base new.far all
-    (faulted_told (Loads size a (debug_written x x8_number a)) (LoadFaults size a) p.ran.last h bus (debug_written x x8_number a) base x new.far r.far r.is p.ran.error_is r.program)
-
-pub load_badly : (size : Size) (a h : ℕ) (bus : BusUnit) (x : Hart) (base : Site) (old_count new_count : ℕ) (first last : Tells) (e : AccessFault) → length x.core.x ≡ 32 → a < 2 ^ 64 → StoodTold h bus x base x first.far
-    → LoadFailedInside size a old_count new_count first last e → OnlyMemory a (FaultInside (LoadFaults size a) h bus x base last.far) e
-load_badly size a h bus x base old_count new_count first last e all small st (performing f) =
-    only_map a (Performed (load_word size) a 3 first last) (FaultInside (LoadFaults size a) h bus x base last.far) e (λ p. load_faulted size a h bus x base first last all small st p)
-    (perform_only (Loads size a (debug_written x x8_number a)) (LoadFaults size a) (load_word size) a h bus x base x old_count new_count first last e st
-    (λ fy m. load_did size a (debug_written x x8_number a) m fy (addressed_in x a all small)) f)
-load_badly size a h bus x base old_count new_count first last e all small st (reading mid p f) =
-    let w : LoadWent size a h bus x base mid.far = load_went size a h bus x base first mid all small st p in
-    let z : Hart = with_core_x (debug_written x x8_number a) 9 w.value in
-    clean_only a (FaultInside (LoadFaults size a) h bus x base last.far) e
-    (read_clean x9_number h bus z (accessed (passed w.before base).board.memory (passed w.before base)) x old_count new_count mid last e (omega arith) (reads_x9 z) w.then f)
-
-load_untold : (size : Size) (a old_count new_count : ℕ) (first last : Tells) (e : AccessFault) → first.far ≡ None → LoadFailedInside size a old_count new_count first last e → PlainMemory a (last.far ≡ None) e
-load_untold size a old_count new_count first last e none (performing f) = perform_plain (load_word size) a old_count new_count first last e none f
-load_untold size a old_count new_count first last e none (reading mid p f) = read_plain x9_number a (last.far ≡ None) old_count new_count mid last e f
+load_untold : (size : Size) (a old_count new_count : ℕ) (old new : Tells) (e : AccessFault) → old.far ≡ None → LoadRunFailed size a old_count new_count old new e → PlainMemory a (new.far ≡ None) e
+load_untold size a old_count new_count old new _ none (in_save e f) = read_plain x8_number a (new.far ≡ None) old_count new_count old new e f
+load_untold size a old_count new_count old new _ none (performing e x8 first saved f loses) =
+    perform_plain (load_word size) a old_count new_count first new e (read_untold x8_number x8 old first saved none) f
+load_untold size a old_count new_count old new _ none (refused x8 first last saved p back) =
+    (refl, written_untold x8_number x8 last new back (performed_untold (load_word size) a 3 first last p (read_untold x8_number x8 old first saved none)))
+load_untold size a old_count new_count old new _ none (in_restore_behind e x8 first last saved p back) = write_plain x8_number x8 a (new.far ≡ None) old_count new_count last new e back
+load_untold size a old_count new_count old new _ none (taking e x8 first mid saved p f) = read_plain x8_number a (new.far ≡ None) old_count new_count mid new e f
+load_untold size a old_count new_count old new _ none (in_restore e x8 value first mid last saved p taken f) = write_plain x8_number x8 a (new.far ≡ None) old_count new_count last new e f
 
 -- by what is known of a fault
 pub record AccessErr (R : Chip → Option Far → Type 0) (address h : ℕ) (old new : Option Far) (e : AccessFault) : Type 0 where
@@ -219,21 +256,13 @@ load_refused size address h f ready halted new w =
       access_serving h f ready halted memory w.before new (ready_before w.before s ready).memory w.then,
     )
 
-pub load_err : (size : Size) (address h : ℕ) (far : Option Far) (script : Option DmiScript) (old_count new_count : ℕ) (new : Tells) (e : AccessFault) → address < 2 ^ 64 → IsReady far → Selects h far → IsHalted h far
-    → AroundFailed (LoadedAny size address) (LoadFailedInside size address) old_count new_count (tells far script) new e → AccessErr (LoadRefused size address) address h far new.far e
-load_err size address h None script old_count new_count new e small ready selects halted f =
-    untold_err (LoadRefused size address) address h new.far e
-    (around_plain (LoadedAny size address) (LoadFailedInside size address) address old_count new_count (tells None script) new e
-    (record { badly = λ oc nc first last e none g. load_untold size address oc nc first last e none g }) refl f)
-load_err size address h (Some c) script old_count new_count new e small ready selects halted f =
+pub load_err : (size : Size) (address h : ℕ) (far : Option Far) (coming : Option DmiComing) (old_count new_count : ℕ) (new : Tells) (e : AccessFault) → address < 2 ^ 64 → IsReady far → Selects h far → IsHalted h far
+    → LoadRunFailed size address old_count new_count (tells far coming) new e → AccessErr (LoadRefused size address) address h far new.far e
+load_err size address h None coming old_count new_count new e small ready selects halted f =
+    untold_err (LoadRefused size address) address h new.far e (load_untold size address old_count new_count (tells None coming) new e refl f)
+load_err size address h (Some c) coming old_count new_count new e small ready selects halted f =
     let s : Site = site_of c in
     let x : Hart = halted.hart in
-    let fits : Fits x = fits_of h s ready halted in
     told_err (LoadRefused size address) address h c new.far e
     (only_map address (Faulted (LoadFaults size address) h s.unit.bus x s x new.far) (LoadRefused size address (chip_of c) new.far × Serving h new.far) e (λ w. load_refused size address h c ready halted new.far w)
-    (around_only (LoadedAny size address) (LoadFailedInside size address) (LoadFaults size address) address h s.unit.bus x s old_count new_count (tells (Some c) script) new e fits.all fits.x8 fits.x9
-    (record {
-      well = λ first last st r. load_inside_well size address h s.unit.bus x s first last fits.all small st r;
-      badly = λ oc nc first last e st g. load_badly size address h s.unit.bus x s oc nc first last e fits.all small st g;
-    })
-    (first_told h c ready halted selects) f))
+    (load_only size address h s.unit.bus x s old_count new_count (tells (Some c) coming) new e (fits_of h s ready halted) small (first_told h c ready halted selects) f))

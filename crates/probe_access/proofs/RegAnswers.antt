@@ -1,5 +1,5 @@
 -- What a register that was read or written says of a told chip.
-use Rattle.std.proofs.Common.{◌≡◌, ◌∙◌, ◌<◌, ◌^◌, ◌/◌, ◌%◌, ℕ, Bool, true, false, Option, Some, is_some, refl, sym, ap, subst, arith}
+use Rattle.std.proofs.Common.{◌≡◌, ◌∙◌, ◌<◌, ◌^◌, ◌/◌, ◌%◌, ℕ, List, [], Bool, true, false, Option, Some, is_some, refl, sym, ap, subst, arith}
 use Rattle.rv_model.specs.Board.{Board, Hart}
 use Rattle.rv_model.specs.DebugRegisters.{debug_refuses, debug_value, debug_written}
 use Rattle.debug_model.specs.Dmi.{value_of}
@@ -8,17 +8,18 @@ use Rattle.debug_model.specs.SystemBus.{BusUnit}
 use Rattle.debug_model.specs.Told.{Far, HartHalted, ModuleReady, SiteReady, site_of}
 use Rattle.abstract_debugger.specs.Turns.{after_turns}
 use Rattle.probe_access.specs.declared.odd.OddStatus.{OddStatus}
-use Rattle.probe_run.specs.Acts.{Did, Tells}
+use Rattle.probe_run.specs.Acts.{Act, Tells}
 use Rattle.probe_run.specs.Sites.{put_hart}
-use Rattle.probe_access.specs.CommandRuns.{RanCommand, error_shown}
+use Rattle.probe_access.specs.CommandRuns.{RanCommand, command_acts, error_shown}
 use Rattle.probe_access.specs.RegisterRuns.{DoubleRead, RanOddly, RanTo, RegisterRead, RegisterWritten, double_written}
 use Rattle.probe_access.specs.Registers.{TurnsPassed, TurnsPassedBut, reaches}
 use Rattle.probe_access.specs.RegisterAccess.{joined, transfer_word}
-use Rattle.probe_access.proofs.Along.{AtSites, did_sites}
+use Rattle.probe_access.proofs.Along.{AtSites, Split, did_sites, site_acts-split}
 use Rattle.probe_access.proofs.Aside.{passed}
 use Rattle.probe_access.proofs.ReadyTurns.{BoardReady, Passed, board_ready_turns, passed_turns}
 use Rattle.probe_access.proofs.ReadyUnit.{Held, Kept, at_first, halted_held, kept_of, unit_of}
-use Rattle.probe_access.proofs.RegisterTold.{Stood, TransferTold, WordsGot, transfer_told, words_got, words_put, with_double}
+use Rattle.probe_access.proofs.RegisterTold.{Stood, TransferTold, WordPuts, WordsGot, double_puts, transfer_told, words_got, words_put, with_double}
+use Rattle.probe_access.proofs.RegisterTold.WordPuts.{no_more}
 use Rattle.probe_access.proofs.RegisterTold.TransferTold.{taken, denied}
 use Rattle.probe_access.proofs.TransferLemmas.{words_behind}
 use Rattle.probe_access.proofs.Turns.{stays_passed}
@@ -92,11 +93,24 @@ pub record CommandTold (write : Bool) (number last h : ℕ) (bus : BusUnit) (y :
   pub is : told ≡ Some far
   pub transfer : TransferTold write number last h bus y base w k (site_of far)
 
-pub command_told : (write : Bool) (number last h : ℕ) (bus : BusUnit) (y : Hart) (base : Site) (w : Hart) (old new : Tells) → number < 2 ^ 16 → (st : StoodTold h bus y base w old.far) → RanCommand (transfer_word write number) last old new
-    → CommandTold write number last h bus y base w st.kept new.far
-command_told write number last h bus y base w old new small st ran =
+-- behind writes of the words
+pub front_stood : (front rest : List Act) (h : ℕ) (bus : BusUnit) (y : Hart) (base : Site) (w : Hart) (k l : Kept) (s t : Site) → WordPuts h bus y k front l
+    → Stood h bus y base w k s → (cut : Split front rest s t) → Stood h bus y base w l cut.mid
+front_stood front rest h bus y base w k l s t puts st cut = words_put h bus y base w k l front s cut.mid puts st cut.first
+
+pub command_told : (front : List Act) (write : Bool) (number last h : ℕ) (bus : BusUnit) (y : Hart) (base : Site) (w : Hart) (l : Kept) (old new : Tells) → number < 2 ^ 16
+    → (st : StoodTold h bus y base w old.far) → WordPuts h bus y st.kept front l → RanCommand front (transfer_word write number) last old new
+    → CommandTold write number last h bus y base w l new.far
+command_told front write number last h bus y base w l old new small st puts ran =
     let at : AtSites _ st.far new.far = did_sites old _ new st.far ran.did st.is in
-    record { far = at.far; is = at.is; transfer = transfer_told write number ran.words last h bus y base w st.kept (site_of st.far) (site_of at.far) small st.stood at.acts_are ran.idle }
+    let rest : List Act = command_acts [] (transfer_word write number) ran.words last in
+    let cut : Split front rest (site_of st.far) (site_of at.far) = site_acts-split front rest (site_of st.far) (site_of at.far) at.acts_are in
+    record {
+      far = at.far;
+      is = at.is;
+      transfer = transfer_told write number ran.words last h bus y base w l cut.mid (site_of at.far) small
+          (front_stood front rest h bus y base w st.kept l (site_of st.far) (site_of at.far) puts st.stood cut) cut.rest ran.idle;
+    }
 
 -- a register that is read
 pub record ReadTold (number value h : ℕ) (bus : BusUnit) (y : Hart) (base : Site) (w : Hart) (told : Option Far) : Type 0 where
@@ -124,7 +138,8 @@ read_told_by number value last h bus y base w k mid new f is fine (denied none e
 
 pub read_told : (number value h : ℕ) (bus : BusUnit) (y : Hart) (base : Site) (w : Hart) (old new : Tells) → number < 2 ^ 16 → StoodTold h bus y base w old.far → RegisterRead number value old new → ReadTold number value h bus y base w new.far
 read_told number value h bus y base w old new small st r =
-    let c : CommandTold false number r.ran.last h bus y base w st.kept r.mid.far = command_told false number r.ran.last h bus y base w old r.mid small st r.ran.ran in
+    let c : CommandTold false number r.ran.last h bus y base w st.kept r.mid.far =
+    command_told [] false number r.ran.last h bus y base w st.kept old r.mid small st (no_more st.kept) r.ran.ran in
     read_told_by number value r.ran.last h bus y base w st.kept r.mid new c.far c.is r.ran.error_is c.transfer r.words
 
 -- one that is written
@@ -151,19 +166,11 @@ written_told_by number value last h bus y base w k new f is fine (taken v held f
 }
 written_told_by number value last h bus y base w k new f is fine (denied none error st) = absurd (three_not_zero (error_shown last) error fine)
 
--- the words of a value are there
-pub double_told : (value h : ℕ) (bus : BusUnit) (y : Hart) (base : Site) (w : Hart) (old new : Tells) → (st : StoodTold h bus y base w old.far) → Did old (double_written value) new → StoodTold h bus y base w new.far
-double_told value h bus y base w old new st did =
-    let at : AtSites _ st.far new.far = did_sites old _ new st.far did st.is in
-    record { far = at.far; is = at.is; kept = with_double value st.kept; stood = words_put value h bus y base w st.kept (site_of st.far) (site_of at.far) st.stood at.acts_are }
-
 pub written_told : (number value h : ℕ) (bus : BusUnit) (y : Hart) (base : Site) (w : Hart) (old new : Tells) → number < 2 ^ 16 → (st : StoodTold h bus y base w old.far) → RegisterWritten number value old new → WrittenTold number value h bus y base w st.kept new.far
 written_told number value h bus y base w old new small st r =
-    let at : AtSites _ st.far r.mid.far = did_sites old _ r.mid st.far r.words st.is in
-    let words : Stood h bus y base w (with_double value st.kept) (site_of at.far) = words_put value h bus y base w st.kept (site_of st.far) (site_of at.far) st.stood at.acts_are in
-    let mid : StoodTold h bus y base w r.mid.far = record { far = at.far; is = at.is; kept = with_double value st.kept; stood = words } in
-    let c : CommandTold true number r.ran.last h bus y base w (with_double value st.kept) new.far = command_told true number r.ran.last h bus y base w r.mid new small mid r.ran.ran in
-    written_told_by number value r.ran.last h bus y base w st.kept new c.far c.is r.ran.error_is c.transfer
+    let c : CommandTold true number r.last h bus y base w (with_double value st.kept) new.far =
+    command_told (double_written value) true number r.last h bus y base w (with_double value st.kept) old new small st (double_puts value h bus y st.kept) r.ran in
+    written_told_by number value r.last h bus y base w st.kept new c.far c.is r.error_is c.transfer
 
 -- a transfer that was refused
 pub record DeniedTold (write : Bool) (number h : ℕ) (bus : BusUnit) (y : Hart) (base : Site) (w : Hart) (told : Option Far) : Type 0 where
@@ -175,17 +182,38 @@ denied_told_by : (write : Bool) (number last h : ℕ) (bus : BusUnit) (y : Hart)
 denied_told_by write number last h bus y base w k new f is refused (taken v held free error st) = absurd (three_not_zero (error_shown last) refused error)
 denied_told_by write number last h bus y base w k new f is refused (denied none error st) = record { denied_is = none; then = record { far = f; is = is; kept = _; stood = st } }
 
-pub denied_told : (write : Bool) (number h : ℕ) (bus : BusUnit) (y : Hart) (base : Site) (w : Hart) (old new : Tells) → number < 2 ^ 16 → StoodTold h bus y base w old.far → RanTo (transfer_word write number) 3 old new → DeniedTold write number h bus y base w new.far
-denied_told write number h bus y base w old new small st r =
-    let c : CommandTold write number r.last h bus y base w st.kept new.far = command_told write number r.last h bus y base w old new small st r.ran in
-    denied_told_by write number r.last h bus y base w st.kept new c.far c.is r.error_is c.transfer
+pub denied_told : (front : List Act) (write : Bool) (number h : ℕ) (bus : BusUnit) (y : Hart) (base : Site) (w : Hart) (l : Kept) (old new : Tells) → number < 2 ^ 16
+    → (st : StoodTold h bus y base w old.far) → WordPuts h bus y st.kept front l → RanTo front (transfer_word write number) 3 old new
+    → DeniedTold write number h bus y base w new.far
+denied_told front write number h bus y base w l old new small st puts r =
+    let c : CommandTold write number r.last h bus y base w l new.far = command_told front write number r.last h bus y base w l old new small st puts r.ran in
+    denied_told_by write number r.last h bus y base w l new c.far c.is r.error_is c.transfer
+
+pub read_denied : (number h : ℕ) (bus : BusUnit) (y : Hart) (base : Site) (w : Hart) (old new : Tells) → number < 2 ^ 16 → StoodTold h bus y base w old.far
+    → RanTo [] (transfer_word false number) 3 old new → DeniedTold false number h bus y base w new.far
+read_denied number h bus y base w old new small st r = denied_told [] false number h bus y base w st.kept old new small st (no_more st.kept) r
+
+pub write_denied : (number value h : ℕ) (bus : BusUnit) (y : Hart) (base : Site) (w : Hart) (old new : Tells) → number < 2 ^ 16 → StoodTold h bus y base w old.far
+    → RanTo (double_written value) (transfer_word true number) 3 old new → DeniedTold true number h bus y base w new.far
+write_denied number value h bus y base w old new small st r =
+    denied_told (double_written value) true number h bus y base w (with_double value st.kept) old new small st (double_puts value h bus y st.kept) r
 
 -- no other error comes
 odd_told_by : (write : Bool) (number last h : ℕ) (bus : BusUnit) (y : Hart) (base : Site) (w : Hart) (k : Kept) (t : Site) → TransferTold write number last h bus y base w k t → (error_shown last ≡ 0 → ⊥) → (error_shown last ≡ 3 → ⊥) → ⊥
 odd_told_by write number last h bus y base w k t (taken v held free error st) some other = some error
 odd_told_by write number last h bus y base w k t (denied none error st) some other = other error
 
-pub odd_told : (write : Bool) (number : ℕ) (shown : OddStatus) (h : ℕ) (bus : BusUnit) (y : Hart) (base : Site) (w : Hart) (old new : Tells) → number < 2 ^ 16 → StoodTold h bus y base w old.far → RanOddly (transfer_word write number) shown old new → ⊥
-odd_told write number shown h bus y base w old new small st r =
-    let c : CommandTold write number r.last h bus y base w st.kept new.far = command_told write number r.last h bus y base w old new small st r.ran in
-    odd_told_by write number r.last h bus y base w st.kept (site_of c.far) c.transfer r.some r.other
+odd_told : (front : List Act) (write : Bool) (number : ℕ) (shown : OddStatus) (h : ℕ) (bus : BusUnit) (y : Hart) (base : Site) (w : Hart) (l : Kept) (old new : Tells) → number < 2 ^ 16
+    → (st : StoodTold h bus y base w old.far) → WordPuts h bus y st.kept front l → RanOddly front (transfer_word write number) shown old new → ⊥
+odd_told front write number shown h bus y base w l old new small st puts r =
+    let c : CommandTold write number r.last h bus y base w l new.far = command_told front write number r.last h bus y base w l old new small st puts r.ran in
+    odd_told_by write number r.last h bus y base w l (site_of c.far) c.transfer r.some r.other
+
+pub read_not_odd : (number : ℕ) (shown : OddStatus) (h : ℕ) (bus : BusUnit) (y : Hart) (base : Site) (w : Hart) (old new : Tells) → number < 2 ^ 16
+    → StoodTold h bus y base w old.far → RanOddly [] (transfer_word false number) shown old new → ⊥
+read_not_odd number shown h bus y base w old new small st r = odd_told [] false number shown h bus y base w st.kept old new small st (no_more st.kept) r
+
+pub write_not_odd : (number value : ℕ) (shown : OddStatus) (h : ℕ) (bus : BusUnit) (y : Hart) (base : Site) (w : Hart) (old new : Tells) → number < 2 ^ 16
+    → StoodTold h bus y base w old.far → RanOddly (double_written value) (transfer_word true number) shown old new → ⊥
+write_not_odd number value shown h bus y base w old new small st r =
+    odd_told (double_written value) true number shown h bus y base w (with_double value st.kept) old new small st (double_puts value h bus y st.kept) r

@@ -1,7 +1,7 @@
 -- The clauses of the calls that read and write a register, where the chip is told.
 use Rattle.probe_run.specs.Told.{Serving}
 use Rattle.std.proofs.Common.{◌≡◌, ◌∙◌, ◌<◌, ◌^◌, ℕ, Bool, false, Option, Some, None, slice_get, refl, sym, ap, subst}
-use Rattle.debug_model.specs.Dmi.{DmiScript}
+use Rattle.debug_model.specs.Dmi.{DmiComing}
 use Rattle.debug_model.specs.Module.{Site}
 use Rattle.debug_model.specs.Scan.{WhereTold}
 use Rattle.debug_model.specs.Told.{Far, HartHalted, IsHalted, IsReady, Selects, SiteReady, site_of}
@@ -13,7 +13,7 @@ use Rattle.probe_access.specs.Registers.{RegisterReadAt, IfRegister, RegisterLef
 use Rattle.probe_access.proofs.Along.{did_untold}
 use Rattle.probe_access.proofs.Aside.{passed}
 use Rattle.probe_access.proofs.ReadyUnit.{kept_of, unit_of}
-use Rattle.probe_access.proofs.RegAnswers.{DeniedTold, ReadTold, StoodTold, denied_told, first_stood, odd_told, read_told, stood_passed, stood_ready, stood_selects}
+use Rattle.probe_access.proofs.RegAnswers.{DeniedTold, ReadTold, StoodTold, first_stood, read_denied, read_not_odd, read_told, stood_passed, stood_ready, stood_selects}
 use Rattle.probe_access.proofs.Turns.{stays_passed, hart_aside}
 
 -- ---- the start
@@ -48,13 +48,13 @@ pub record RegOk (h number value : ℕ) (old new : Option Far) : Type 0 where
   pub got : WhereTold (RegisterReadAt h number value) old new
   pub serving : Serving h new
 
-pub reg_ok : (h number value : ℕ) (far : Option Far) (script : Option DmiScript) (new : Tells) → number < 2 ^ 16 → IsReady far → Selects h far → IsHalted h far → RegisterRead number value (tells far script) new → RegOk h number value far new.far
-reg_ok h number value None script new small ready selects halted r =
-    let mid : r.mid.far ≡ None = did_untold (tells None script) _ r.mid r.ran.ran.did refl in
+pub reg_ok : (h number value : ℕ) (far : Option Far) (coming : Option DmiComing) (new : Tells) → number < 2 ^ 16 → IsReady far → Selects h far → IsHalted h far → RegisterRead number value (tells far coming) new → RegOk h number value far new.far
+reg_ok h number value None coming new small ready selects halted r =
+    let mid : r.mid.far ≡ None = did_untold (tells None coming) _ r.mid r.ran.ran.did refl in
     let end : new.far ≡ None = did_untold r.mid _ new r.words.did mid in
     record { got = end; serving = untold_serving h new.far end }
-reg_ok h number value (Some f) script new small ready selects halted r =
-    let t : ReadTold number value h (site_of f).unit.bus halted.hart (site_of f) halted.hart new.far = read_told number value h (site_of f).unit.bus halted.hart (site_of f) halted.hart (tells (Some f) script) new small (first_told h f ready halted selects) r in
+reg_ok h number value (Some f) coming new small ready selects halted r =
+    let t : ReadTold number value h (site_of f).unit.bus halted.hart (site_of f) halted.hart new.far = read_told number value h (site_of f).unit.bus halted.hart (site_of f) halted.hart (tells (Some f) coming) new small (first_told h f ready halted selects) r in
     let fits : t.held < 2 ^ 64 = (ready.harts h halted.hart halted.is).registers number t.held t.held_is in
     record {
       got = record {
@@ -86,19 +86,19 @@ reg_denied write h number asked f new ready halted t = record {
   serving = stood_serving h f ready halted new.far t.then;
 }
 
-pub reg_err : (h number : ℕ) (far : Option Far) (script : Option DmiScript) (old_count new_count : ℕ) (new : Tells) (e : AccessFault) → number < 2 ^ 16 → IsReady far → Selects h far → IsHalted h far
-    → ReadFailed number old_count new_count (tells far script) new e → RegErr false h number far new.far e
-reg_err h number far script old_count new_count new (access_fault.Dmi why) small ready selects halted f = record { left = tt; serving = tt }
-reg_err h number far script old_count new_count new (access_fault.Memory address) small ready selects halted f = absurd f
-reg_err h number None script old_count new_count new (access_fault.Register asked) small ready selects halted f =
-    let end : new.far ≡ None = did_untold (tells None script) _ new f.ran.ran.did refl in record { left = end; serving = untold_serving h new.far end }
-reg_err h number (Some c) script old_count new_count new (access_fault.Register asked) small ready selects halted f =
-    reg_denied false h number asked c new ready halted (denied_told false number h (site_of c).unit.bus halted.hart (site_of c) halted.hart (tells (Some c) script) new small (first_told h c ready halted selects) f.ran)
-reg_err h number far script old_count new_count new access_fault.StillBusy small ready selects halted f = record { left = tt; serving = tt }
-reg_err h number far script old_count new_count new (access_fault.Run why) small ready selects halted f = absurd f
-reg_err h number None script old_count new_count new (access_fault.Odd shown) small ready selects halted f = record { left = refl; serving = tt }
-reg_err h number (Some c) script old_count new_count new (access_fault.Odd shown) small ready selects halted f =
-    absurd (odd_told false number shown h (site_of c).unit.bus halted.hart (site_of c) halted.hart (tells (Some c) script) new small (first_told h c ready halted selects) f)
+pub reg_err : (h number : ℕ) (far : Option Far) (coming : Option DmiComing) (old_count new_count : ℕ) (new : Tells) (e : AccessFault) → number < 2 ^ 16 → IsReady far → Selects h far → IsHalted h far
+    → ReadFailed number old_count new_count (tells far coming) new e → RegErr false h number far new.far e
+reg_err h number far coming old_count new_count new (access_fault.Dmi why) small ready selects halted f = record { left = tt; serving = tt }
+reg_err h number far coming old_count new_count new (access_fault.Memory address) small ready selects halted f = absurd f
+reg_err h number None coming old_count new_count new (access_fault.Register asked) small ready selects halted f =
+    let end : new.far ≡ None = did_untold (tells None coming) _ new f.ran.ran.did refl in record { left = end; serving = untold_serving h new.far end }
+reg_err h number (Some c) coming old_count new_count new (access_fault.Register asked) small ready selects halted f =
+    reg_denied false h number asked c new ready halted (read_denied number h (site_of c).unit.bus halted.hart (site_of c) halted.hart (tells (Some c) coming) new small (first_told h c ready halted selects) f.ran)
+reg_err h number far coming old_count new_count new access_fault.StillBusy small ready selects halted f = record { left = tt; serving = tt }
+reg_err h number far coming old_count new_count new (access_fault.Run why) small ready selects halted f = absurd f
+reg_err h number None coming old_count new_count new (access_fault.Odd shown) small ready selects halted f = record { left = refl; serving = tt }
+reg_err h number (Some c) coming old_count new_count new (access_fault.Odd shown) small ready selects halted f =
+    absurd (read_not_odd number shown h (site_of c).unit.bus halted.hart (site_of c) halted.hart (tells (Some c) coming) new small (first_told h c ready halted selects) f)
 
 pub if_register : (P Q : Type 0) (e : AccessFault) → (P → Q) → IfRegister P e → IfRegister Q e
 if_register P Q (access_fault.Dmi why) f p = tt

@@ -9,6 +9,7 @@ use Rattle.debug_model.specs.Commands.{high_half, low_half}
 use Rattle.debug_model.specs.Dmi.{value_of}
 use Rattle.debug_model.specs.Module.{Site, operated, register_at}
 use Rattle.debug_model.specs.SystemBus.{BusUnit}
+use Rattle.probe_run.specs.Acts.{Act}
 use Rattle.probe_run.specs.Acts.Act.{Got, Put}
 use Rattle.probe_access.specs.CommandRuns.{clearing, command_acts, error_shown, poll_act, shows_busy}
 use Rattle.probe_access.specs.RegisterRuns.{double_written}
@@ -78,11 +79,24 @@ with_double v k =
 abbrev pub with_data0 : ℕ → Kept → Kept
 with_data0 v k = record { data0 = v; data1 = k.data1; progbuf0 = k.progbuf0; progbuf1 = k.progbuf1; progbuf2 = k.progbuf2; progbuf3 = k.progbuf3; command = k.command }
 
-pub words_put : (value h : ℕ) (bus : BusUnit) (y : Hart) (base : Site) (w : Hart) (k : Kept) (s t : Site) → Stood h bus y base w k s → SiteActs (double_written value) s t → Stood h bus y base w (with_double value k) t
+-- ---- writes that change the words alone, one after another
+
+pub data WordPuts (h : ℕ) (bus : BusUnit) (y : Hart) : Kept → List Act → Kept → Type 0 where
+  no_more : (k : Kept) → WordPuts h bus y k [] k
+  and_then : (a v : ℕ) (acts : List Act) (k l m : Kept) → ((z : Site) → operated (Write a v) (aside (unit_of k h bus) h y z) ≡ aside (unit_of l h bus) h y z)
+      → WordPuts h bus y l acts m → WordPuts h bus y k (Put a v ∷ acts) m
+
+pub words_put : (h : ℕ) (bus : BusUnit) (y : Hart) (base : Site) (w : Hart) (k l : Kept) (acts : List Act) (s t : Site) → WordPuts h bus y k acts l
+    → Stood h bus y base w k s → SiteActs acts s t → Stood h bus y base w l t
+words_put h bus y base w k _ _ s t (no_more _) st e = subst (λ u. Stood h bus y base w k u) (sym e) st
+words_put h bus y base w k l _ s t (and_then a v acts _ m _ changes more) st p =
+    words_put h bus y base w m l acts p.0 t more (put_at a v h bus y base w k m s p.0 st (p.0, p.1, refl) changes) p.2
+
+pub double_puts : (value h : ℕ) (bus : BusUnit) (y : Hart) (k : Kept) → WordPuts h bus y k (double_written value) (with_double value k)
 unfolding register_at
-words_put value h bus y base w k s t st p =
-    put_at data1_address (high_half value) h bus y base w (with_data0 (low_half value) k) (with_double value k) p.0 t
-    (put_at data0_address (low_half value) h bus y base w k (with_data0 (low_half value) k) s p.0 st (p.0, p.1, refl) (λ z. refl)) p.2 (λ z. refl)
+double_puts value h bus y k =
+    and_then data0_address (low_half value) (Put data1_address (high_half value) ∷ []) k (with_data0 (low_half value) k) (with_double value k) (λ z. refl)
+    (and_then data1_address (high_half value) [] (with_data0 (low_half value) k) (with_double value k) (with_double value k) (λ z. refl) (no_more (with_double value k)))
 
 -- ---- a command
 
@@ -91,7 +105,7 @@ pub record CommandCut (words : List ℕ) (word last : ℕ) (s t : Site) : Type 0
   pub ran : SiteActs (Put command_address word ∷ (map poll_act words ++ poll_act last ∷ [])) s mid
   pub cleared : SiteActs (clearing (error_shown last)) mid t
 
-pub command_cut : (words : List ℕ) (word last : ℕ) (s t : Site) → SiteActs (command_acts word words last) s t → CommandCut words word last s t
+pub command_cut : (words : List ℕ) (word last : ℕ) (s t : Site) → SiteActs (command_acts [] word words last) s t → CommandCut words word last s t
 command_cut words word last s t p =
     let joined_acts : (map poll_act words ++ poll_act last ∷ []) ++ clearing (error_shown last) ≡ map poll_act words ++ poll_act last ∷ clearing (error_shown last) = append_assoc (map poll_act words) (poll_act last ∷ []) (clearing (error_shown last)) in
     let q : SiteActs ((map poll_act words ++ poll_act last ∷ []) ++ clearing (error_shown last)) p.0 t = subst (λ xs. SiteActs xs p.0 t) (sym joined_acts) p.2 in
@@ -137,7 +151,7 @@ transfer_cleared write number last h bus y base w k mid t held fy idle (refused 
     denied is end.error_is (error_cleared (error_shown last) h bus y base w (with_command (transfer_command write number) k) mid t end.error_is held fy idle end.done_at p)
 
 pub transfer_told : (write : Bool) (number : ℕ) (words : List ℕ) (last : ℕ) (h : ℕ) (bus : BusUnit) (y : Hart) (base : Site) (w : Hart) (k : Kept) (s t : Site) → number < 2 ^ 16 → Stood h bus y base w k s
-    → SiteActs (command_acts (transfer_word write number) words last) s t → shows_busy last ≡ false → TransferTold write number last h bus y base w k t
+    → SiteActs (command_acts [] (transfer_word write number) words last) s t → shows_busy last ≡ false → TransferTold write number last h bus y base w k t
 transfer_told write number words last h bus y base w k s t small st p not_busy =
     let cut : CommandCut words (transfer_word write number) last s t = command_cut words (transfer_word write number) last s t p in
     let c : Commanded (transfer_word write number) last (unit_of k h bus) h y base cut.mid =

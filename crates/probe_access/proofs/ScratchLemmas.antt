@@ -76,9 +76,6 @@ scratch_back x p q all =
 
 -- ---- what an access leaves there
 
-pub after_load_scratched : (x : Hart) (a v : ℕ) → with_core_x (debug_written x 0x1008 a) 9 v ≡ scratched a v x
-after_load_scratched x a v = ap (λ (y : Hart). with_core_x y 9 v) (x8_written x a)
-
 pub after_fault_scratched : (x : Hart) (a : ℕ) → length x.core.x ≡ 32 → debug_written x 0x1008 a ≡ scratched a (x_of x.core 9) x
 after_fault_scratched x a all =
     x8_written x a
@@ -88,3 +85,15 @@ pub after_store_scratched : (x : Hart) (a v : ℕ) → debug_written (debug_writ
 after_store_scratched x a v =
     ap (λ (y : Hart). debug_written y 0x1008 a) (x9_written x v) ∙ x8_written (with_core_x x 9 v) a
     ∙ ap (hart_with x) (set-swap x.core.x 9 8 v a (λ e. omega arith))
+
+-- ---- x8 alone
+
+pub after_load : (x : Hart) (a v : ℕ) → with_core_x (debug_written x 0x1008 a) 8 v ≡ with_core_x x 8 v
+after_load x a v = ap (λ (y : Hart). with_core_x y 8 v) (x8_written x a) ∙ ap (hart_with x) (set-set x.core.x 8 a v)
+
+pub x8_back : (x : Hart) (p : ℕ) → length x.core.x ≡ 32 → debug_written (with_core_x x 8 p) 0x1008 (x_of x.core 8) ≡ x
+x8_back x p all =
+    x8_written (with_core_x x 8 p) (x_of x.core 8) ∙ ap (hart_with x) (set-set x.core.x 8 p (x_of x.core 8) ∙ set_itself x.core.x 8 (omega arith))
+
+pub x8_scratched : (x : Hart) (p : ℕ) → length x.core.x ≡ 32 → with_core_x x 8 p ≡ scratched p (x_of x.core 9) x
+x8_scratched x p all = sym (x8_written x p) ∙ after_fault_scratched x p all

@@ -8,7 +8,7 @@ use Rattle.rv_model.specs.DebugLaws.{WriteKeeps}
 use Rattle.rv_model.specs.DebugRegisters.{debug_written}
 use Rattle.rv_model.proofs.DebugLemmas.{writes_keep}
 use Rattle.rv_model.proofs.MapLemmas.{slice_get-set_other, slice_get-set_same}
-use Rattle.debug_model.specs.Dmi.{DmiScript}
+use Rattle.debug_model.specs.Dmi.{DmiComing}
 use Rattle.debug_model.specs.Module.{Site}
 use Rattle.debug_model.specs.Scan.{WhereTold}
 use Rattle.debug_model.specs.Told.{Far, HartHalted, HartReady, IsHalted, IsReady, Selects, SiteReady, site_of}
@@ -23,7 +23,7 @@ use Rattle.probe_access.proofs.Along.{did_untold}
 use Rattle.probe_access.proofs.Aside.{passed}
 use Rattle.probe_access.proofs.ReadyTurns.{BoardReady}
 use Rattle.probe_access.proofs.ReadyUnit.{unit_of}
-use Rattle.probe_access.proofs.RegAnswers.{StoodTold, WrittenTold, denied_told, double_told, odd_told, stood_passed_but, stood_selects, stood_unit, written_told}
+use Rattle.probe_access.proofs.RegAnswers.{StoodTold, WrittenTold, stood_passed_but, stood_selects, stood_unit, write_denied, write_not_odd, written_told}
 use Rattle.probe_access.proofs.RegClauses.{RegErr, first_told, reg_denied, told_serving, untold_serving}
 use Rattle.probe_access.proofs.Turns.{hart_aside, stays_passed}
 use Rattle.probe_access.proofs.WrittenReady.{written_ready}
@@ -70,13 +70,13 @@ pub record SetOk (h number value : ℕ) (old new : Option Far) : Type 0 where
   pub set_to : WhereTold (RegisterWrittenAt h number value) old new
   pub serving : Serving h new
 
-pub set_ok : (h number value : ℕ) (far : Option Far) (script : Option DmiScript) (new : Tells) → number < 2 ^ 16 → value < 2 ^ 64 → IsReady far → Selects h far → IsHalted h far → RegisterWritten number value (tells far script) new
+pub set_ok : (h number value : ℕ) (far : Option Far) (coming : Option DmiComing) (new : Tells) → number < 2 ^ 16 → value < 2 ^ 64 → IsReady far → Selects h far → IsHalted h far → RegisterWritten number value (tells far coming) new
     → SetOk h number value far new.far
-set_ok h number value None script new small fits ready selects halted r =
-    let end : new.far ≡ None = written_untold number value (tells None script) new r refl in record { set_to = end; serving = untold_serving h new.far end }
-set_ok h number value (Some f) script new small fits ready selects halted r =
+set_ok h number value None coming new small fits ready selects halted r =
+    let end : new.far ≡ None = written_untold number value (tells None coming) new r refl in record { set_to = end; serving = untold_serving h new.far end }
+set_ok h number value (Some f) coming new small fits ready selects halted r =
     let st : StoodTold h (site_of f).unit.bus halted.hart (site_of f) halted.hart (Some f) = first_told h f ready halted selects in
-    let t : WrittenTold number value h (site_of f).unit.bus halted.hart (site_of f) halted.hart st.kept new.far = written_told number value h (site_of f).unit.bus halted.hart (site_of f) halted.hart (tells (Some f) script) new small st r in
+    let t : WrittenTold number value h (site_of f).unit.bus halted.hart (site_of f) halted.hart st.kept new.far = written_told number value h (site_of f).unit.bus halted.hart (site_of f) halted.hart (tells (Some f) coming) new small st r in
     record {
       set_to = record {
         far = t.then.far;
@@ -90,19 +90,17 @@ set_ok h number value (Some f) script new small fits ready selects halted r =
       serving = set_serving h f ready halted (debug_written halted.hart number value) new.far (written_ready h halted.hart number value (ready.harts h halted.hart halted.is) fits) (still_halted halted.hart number value halted.halted) t.then;
     }
 
-pub set_err : (h number value : ℕ) (far : Option Far) (script : Option DmiScript) (old_count new_count : ℕ) (new : Tells) (e : AccessFault) → number < 2 ^ 16 → IsReady far → Selects h far → IsHalted h far
-    → WriteFailed number value old_count new_count (tells far script) new e → RegErr true h number far new.far e
-set_err h number value far script old_count new_count new (access_fault.Dmi why) small ready selects halted f = record { left = tt; serving = tt }
-set_err h number value far script old_count new_count new (access_fault.Memory address) small ready selects halted f = absurd f
-set_err h number value None script old_count new_count new (access_fault.Register asked) small ready selects halted f =
-    let end : new.far ≡ None = did_untold f.mid _ new f.then.ran.ran.did (did_untold (tells None script) _ f.mid f.words refl) in record { left = end; serving = untold_serving h new.far end }
-set_err h number value (Some c) script old_count new_count new (access_fault.Register asked) small ready selects halted f =
+pub set_err : (h number value : ℕ) (far : Option Far) (coming : Option DmiComing) (old_count new_count : ℕ) (new : Tells) (e : AccessFault) → number < 2 ^ 16 → IsReady far → Selects h far → IsHalted h far
+    → WriteFailed number value old_count new_count (tells far coming) new e → RegErr true h number far new.far e
+set_err h number value far coming old_count new_count new (access_fault.Dmi why) small ready selects halted f = record { left = tt; serving = tt }
+set_err h number value far coming old_count new_count new (access_fault.Memory address) small ready selects halted f = absurd f
+set_err h number value None coming old_count new_count new (access_fault.Register asked) small ready selects halted f =
+    let end : new.far ≡ None = did_untold (tells None coming) _ new f.ran.ran.did refl in record { left = end; serving = untold_serving h new.far end }
+set_err h number value (Some c) coming old_count new_count new (access_fault.Register asked) small ready selects halted f =
     reg_denied true h number asked c new ready halted
-    (denied_told true number h (site_of c).unit.bus halted.hart (site_of c) halted.hart f.mid new small
-    (double_told value h (site_of c).unit.bus halted.hart (site_of c) halted.hart (tells (Some c) script) f.mid (first_told h c ready halted selects) f.words) f.then.ran)
-set_err h number value far script old_count new_count new access_fault.StillBusy small ready selects halted f = record { left = tt; serving = tt }
-set_err h number value far script old_count new_count new (access_fault.Run why) small ready selects halted f = absurd f
-set_err h number value None script old_count new_count new (access_fault.Odd shown) small ready selects halted f = record { left = refl; serving = tt }
-set_err h number value (Some c) script old_count new_count new (access_fault.Odd shown) small ready selects halted f =
-    absurd (odd_told true number shown h (site_of c).unit.bus halted.hart (site_of c) halted.hart f.mid new small
-    (double_told value h (site_of c).unit.bus halted.hart (site_of c) halted.hart (tells (Some c) script) f.mid (first_told h c ready halted selects) f.words) f.then)
+    (write_denied number value h (site_of c).unit.bus halted.hart (site_of c) halted.hart (tells (Some c) coming) new small (first_told h c ready halted selects) f.ran)
+set_err h number value far coming old_count new_count new access_fault.StillBusy small ready selects halted f = record { left = tt; serving = tt }
+set_err h number value far coming old_count new_count new (access_fault.Run why) small ready selects halted f = absurd f
+set_err h number value None coming old_count new_count new (access_fault.Odd shown) small ready selects halted f = record { left = refl; serving = tt }
+set_err h number value (Some c) coming old_count new_count new (access_fault.Odd shown) small ready selects halted f =
+    absurd (write_not_odd number value shown h (site_of c).unit.bus halted.hart (site_of c) halted.hart (tells (Some c) coming) new small (first_told h c ready halted selects) f)

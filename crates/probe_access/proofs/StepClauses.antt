@@ -8,7 +8,7 @@ use Rattle.debug_model.specs.Addresses.{dmcontrol_address, dmstatus_address}
 use Rattle.debug_model.specs.declared.dmi.DmiFault.{DmiFault}
 use Rattle.debug_model.specs.declared.dmi_op.DmiOp.TheVariants.{Read, Write}
 use Rattle.debug_model.specs.declared.point.Point.TheVariants.{ResumeReq}
-use Rattle.debug_model.specs.Dmi.{DmiScript}
+use Rattle.debug_model.specs.Dmi.{DmiComing}
 use Rattle.debug_model.specs.Module.{DebugModule, Site}
 use Rattle.debug_model.specs.Scan.{WhereTold}
 use Rattle.debug_model.specs.SystemBus.{BusUnit}
@@ -58,11 +58,11 @@ flag_clean on h c bus x s old_count new_count old new e st (at_write word mid r 
     let a : ReadTold dcsr_number word h bus x s x mid.far = read_told dcsr_number word h bus x s x old mid (omega arith) st r in
     clean_left c e (write_clean dcsr_number (with_flag on word) h bus x s x old_count new_count mid new e (omega arith) (writes_dcsr x) a.then f)
 
-pub flag_err : (on : Bool) (h : ℕ) (far : Option Far) (script : Option DmiScript) (old_count new_count : ℕ) (new : Tells) (e : AccessFault) → IsReady far → Selects h far → IsHalted h far
-    → FlagFailed on old_count new_count (tells far script) new e → ScratchLeft far e
-flag_err on h None script old_count new_count new e ready selects halted f = flag_plain on old_count new_count (tells None script) new e f
-flag_err on h (Some c) script old_count new_count new e ready selects halted f =
-    flag_clean on h c (site_of c).unit.bus halted.hart (site_of c) old_count new_count (tells (Some c) script) new e (first_told h c ready halted selects) f
+pub flag_err : (on : Bool) (h : ℕ) (far : Option Far) (coming : Option DmiComing) (old_count new_count : ℕ) (new : Tells) (e : AccessFault) → IsReady far → Selects h far → IsHalted h far
+    → FlagFailed on old_count new_count (tells far coming) new e → ScratchLeft far e
+flag_err on h None coming old_count new_count new e ready selects halted f = flag_plain on old_count new_count (tells None coming) new e f
+flag_err on h (Some c) coming old_count new_count new e ready selects halted f =
+    flag_clean on h c (site_of c).unit.bus halted.hart (site_of c) old_count new_count (tells (Some c) coming) new e (first_told h c ready halted selects) f
 
 -- ---- faults since an earlier count of faults
 

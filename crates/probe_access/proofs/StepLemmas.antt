@@ -7,7 +7,7 @@ use Rattle.rv_model.specs.Dcsr.{dcsr_of, dcsr_of_word, dcsr_value, dcsr_word, wi
 use Rattle.rv_model.specs.DebugRegisters.{dcsr_number, debug_written}
 use Rattle.rv_model.specs.Registers.{csr_written}
 use Rattle.rv_model.proofs.DebugWordLemmas.{dcsr_read_back}
-use Rattle.debug_model.specs.Dmi.{DmiScript}
+use Rattle.debug_model.specs.Dmi.{DmiComing}
 use Rattle.debug_model.specs.Module.{Site}
 use Rattle.debug_model.specs.Scan.{WhereTold}
 use Rattle.debug_model.specs.SystemBus.{BusUnit}
@@ -71,18 +71,18 @@ pub record FlagOk (on : Bool) (h : ℕ) (old new : Option Far) : Type 0 where
 abbrev word_of : Hart → ℕ
 word_of x = dcsr_value x.debug
 
-pub flag_ok : (on : Bool) (h : ℕ) (far : Option Far) (script : Option DmiScript) (new : Tells) (r : FlagWritten on (tells far script) new) → with_flag on r.word < 2 ^ 64 → IsReady far → Selects h far → IsHalted h far
+pub flag_ok : (on : Bool) (h : ℕ) (far : Option Far) (coming : Option DmiComing) (new : Tells) (r : FlagWritten on (tells far coming) new) → with_flag on r.word < 2 ^ 64 → IsReady far → Selects h far → IsHalted h far
     → FlagOk on h far new.far
-flag_ok on h None script new r fits ready selects halted =
-    let mid : r.mid.far ≡ None = read_untold dcsr_number r.word (tells None script) r.mid r.first refl in
+flag_ok on h None coming new r fits ready selects halted =
+    let mid : r.mid.far ≡ None = read_untold dcsr_number r.word (tells None coming) r.mid r.first refl in
     let end : new.far ≡ None = written_untold dcsr_number (with_flag on r.word) r.mid new r.second mid in
     record { flagged_at = end; serving = untold_serving h new.far end }
-flag_ok on h (Some f) script new r fits ready selects halted =
+flag_ok on h (Some f) coming new r fits ready selects halted =
     let s : Site = site_of f in
     let x : Hart = halted.hart in
     let bus : BusUnit = s.unit.bus in
     let v : ℕ = with_flag on r.word in
-    let a : ReadTold dcsr_number r.word h bus x s x r.mid.far = read_told dcsr_number r.word h bus x s x (tells (Some f) script) r.mid (omega arith) (first_told h f ready halted selects) r.first in
+    let a : ReadTold dcsr_number r.word h bus x s x r.mid.far = read_told dcsr_number r.word h bus x s x (tells (Some f) coming) r.mid (omega arith) (first_told h f ready halted selects) r.first in
     let b : WrittenTold dcsr_number v h bus x s x a.then.kept new.far = written_told dcsr_number v h bus x s x r.mid new (omega arith) a.then r.second in
     let small : word_of x < 2 ^ 64 = (ready.harts h x halted.is).registers dcsr_number (word_of x) (dcsr_held x) in
     let read : r.word ≡ word_of x = held_as x dcsr_number a.held r.word (word_of x) (dcsr_held x) a.held_is a.value_is small in

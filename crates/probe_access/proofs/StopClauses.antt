@@ -10,7 +10,7 @@ use Rattle.rv_model.specs.Dcsr.{dcsr_of, dcsr_of_word, dcsr_value, shown_cause}
 use Rattle.rv_model.specs.DebugRegisters.{dcsr_number, debug_value}
 use Rattle.rv_model.specs.Registers.{csr_value}
 use Rattle.rv_model.proofs.DebugWordLemmas.{dcsr_read_back}
-use Rattle.debug_model.specs.Dmi.{DmiScript}
+use Rattle.debug_model.specs.Dmi.{DmiComing}
 use Rattle.debug_model.specs.Module.{Site}
 use Rattle.debug_model.specs.Scan.{WhereTold}
 use Rattle.debug_model.specs.SystemBus.{BusUnit}
@@ -63,15 +63,15 @@ pub record StopOk (h pc cause : ℕ) (old new : Option Far) : Type 0 where
   pub stopped_at : WhereTold (StoppedAt h pc cause) old new
   pub serving : Serving h new
 
-pub stop_ok : (h pc cause : ℕ) (far : Option Far) (script : Option DmiScript) (new : Tells) → IsReady far → Selects h far → IsHalted h far → StopRead pc cause (tells far script) new → StopOk h pc cause far new.far
-stop_ok h pc cause None script new ready selects halted r =
-    let end : new.far ≡ None = read_untold dcsr_number r.word r.mid new r.second (read_untold dpc_number pc (tells None script) r.mid r.first refl) in record { stopped_at = end; serving = untold_serving h new.far end }
-stop_ok h pc cause (Some f) script new ready selects halted r =
+pub stop_ok : (h pc cause : ℕ) (far : Option Far) (coming : Option DmiComing) (new : Tells) → IsReady far → Selects h far → IsHalted h far → StopRead pc cause (tells far coming) new → StopOk h pc cause far new.far
+stop_ok h pc cause None coming new ready selects halted r =
+    let end : new.far ≡ None = read_untold dcsr_number r.word r.mid new r.second (read_untold dpc_number pc (tells None coming) r.mid r.first refl) in record { stopped_at = end; serving = untold_serving h new.far end }
+stop_ok h pc cause (Some f) coming new ready selects halted r =
     let s : Site = site_of f in
     let x : Hart = halted.hart in
     let bus : BusUnit = s.unit.bus in
     let small = (ready.harts h x halted.is).registers in
-    let a : ReadTold dpc_number pc h bus x s x r.mid.far = read_told dpc_number pc h bus x s x (tells (Some f) script) r.mid (omega arith) (first_told h f ready halted selects) r.first in
+    let a : ReadTold dpc_number pc h bus x s x r.mid.far = read_told dpc_number pc h bus x s x (tells (Some f) coming) r.mid (omega arith) (first_told h f ready halted selects) r.first in
     let b : ReadTold dcsr_number r.word h bus x s x new.far = read_told dcsr_number r.word h bus x s x r.mid new (omega arith) a.then r.second in
     record {
       stopped_at = record {
@@ -99,7 +99,7 @@ stop_clean h c bus x s old_count new_count old new e st (at_dcsr pc mid r f) =
     let a : ReadTold dpc_number pc h bus x s x mid.far = read_told dpc_number pc h bus x s x old mid (omega arith) st r in
     clean_left c e (read_clean dcsr_number h bus x s x old_count new_count mid new e (omega arith) (reads_dcsr x) a.then f)
 
-pub stop_err : (h : ℕ) (far : Option Far) (script : Option DmiScript) (old_count new_count : ℕ) (new : Tells) (e : AccessFault) → IsReady far → Selects h far → IsHalted h far → StopFailed old_count new_count (tells far script) new e → ScratchLeft far e
-stop_err h None script old_count new_count new e ready selects halted f = stop_plain old_count new_count (tells None script) new e f
-stop_err h (Some c) script old_count new_count new e ready selects halted f =
-    stop_clean h c (site_of c).unit.bus halted.hart (site_of c) old_count new_count (tells (Some c) script) new e (first_told h c ready halted selects) f
+pub stop_err : (h : ℕ) (far : Option Far) (coming : Option DmiComing) (old_count new_count : ℕ) (new : Tells) (e : AccessFault) → IsReady far → Selects h far → IsHalted h far → StopFailed old_count new_count (tells far coming) new e → ScratchLeft far e
+stop_err h None coming old_count new_count new e ready selects halted f = stop_plain old_count new_count (tells None coming) new e f
+stop_err h (Some c) coming old_count new_count new e ready selects halted f =
+    stop_clean h c (site_of c).unit.bus halted.hart (site_of c) old_count new_count (tells (Some c) coming) new e (first_told h c ready halted selects) f

@@ -8,7 +8,7 @@ use Rattle.rv_model.specs.Core.{x_of}
 use Rattle.rv_model.specs.DebugRegisters.{debug_written}
 use Rattle.rv_model.specs.Memory.{Memory, after_store, store_answer}
 use Rattle.std.specs.Prelude.{⊤}
-use Rattle.debug_model.specs.Dmi.{DmiScript}
+use Rattle.debug_model.specs.Dmi.{DmiComing}
 use Rattle.debug_model.specs.Module.{Site}
 use Rattle.debug_model.specs.Scan.{WhereTold}
 use Rattle.debug_model.specs.SystemBus.{BusUnit}
@@ -23,13 +23,14 @@ use Rattle.probe_access.proofs.AroundTold.{FaultInside, OkInside, OnlyMemory, ar
 use Rattle.probe_access.proofs.AroundUntold.{PlainMemory, around_plain, perform_plain, write_plain}
 use Rattle.probe_access.specs.RegisterAccess.{store_word, x8_number, x9_number}
 use Rattle.probe_access.proofs.AccessEnd.{AccessEnd, access_end, access_serving, back_untold, one_access, performed_untold, ready_before, saved_untold, written_untold}
-use Rattle.probe_access.proofs.AccessTold.{Addressed, Faulted, PerformedTold, SavedTold, Went, addressed_told, back_told, faulted_told, ran_told, saved_told, went_told}
+use Rattle.probe_access.proofs.AccessTold.{Faulted, PerformedTold, SavedTold, Went, back_told, faulted_told, ran_told, saved_told, went_told}
 use Rattle.probe_access.proofs.LoadClauses.{AccessErr, Fits, fits_of, told_err, untold_err}
 use Rattle.probe_access.proofs.Aside.{accessed, passed}
 use Rattle.probe_access.proofs.ReadyTurns.{passed_turns}
 use Rattle.probe_access.proofs.RegAnswers.{StoodTold, WrittenTold, written_told}
 use Rattle.probe_access.proofs.RegClauses.{first_told, untold_serving}
 use Rattle.probe_access.proofs.ScratchLemmas.{after_store_scratched, scratched, x9_other, x8_holds, x8_written, x9_holds, x9_written}
+use Rattle.probe_access.proofs.TransferLemmas.{written_frozen}
 use Rattle.probe_access.proofs.WordAccess.{StoreFaults, Stores, address_in, in_x8, store_did}
 
 -- ---- the hart of a store
@@ -70,35 +71,34 @@ store_went_by size a v h bus x base told w = record {
 }
 
 store_performed : (size : Size) (a v error h : ℕ) (bus : BusUnit) (x : Hart) (base : Site) (old new : Tells) → length x.core.x ≡ 32 → a < 2 ^ 64 → StoodTold h bus (valued x v) base x old.far → (p : Performed (store_word size) a error old new)
-    → PerformedTold (Stores size a v (aimed x a v)) (StoreFaults size a) p.ran.last h bus (aimed x a v) base x new.far
+    → PerformedTold (Stores size a v (aimed x a v)) (StoreFaults size a) p.last h bus (aimed x a v) base x new.far
 store_performed size a v error h bus x base old new all small st p =
-    let ad : Addressed (store_word size) a h bus (valued x v) base x p.addressed.far = addressed_told (store_word size) a h bus (valued x v) base x old p.written p.addressed st p.program p.x8 in
-    ran_told (Stores size a v (aimed x a v)) (StoreFaults size a) (store_word size) a p.ran.last h bus (valued x v) base x p.addressed new ad
-    (λ m. store_did size a v (aimed x a v) m ad.then.stood.frozen (aimed_at x a v all small) (aimed_value x a v all)) p.ran.ran
+    ran_told (Stores size a v (aimed x a v)) (StoreFaults size a) (store_word size) a p.last h bus (valued x v) base x old new st
+    (λ m. store_did size a v (aimed x a v) m (written_frozen (valued x v) x8_number a st.stood.frozen) (aimed_at x a v all small) (aimed_value x a v all)) p.ran
 
 pub store_went : (size : Size) (a v h : ℕ) (bus : BusUnit) (x : Hart) (base : Site) (old new : Tells) → length x.core.x ≡ 32 → a < 2 ^ 64 → StoodTold h bus x base x old.far → StoredInside size a v old new → StoreWent size a v h bus x base new.far
 store_went size a v h bus x base old new all small st i =
     let wr : WrittenTold x9_number v h bus x base x st.kept i.mid.far = written_told x9_number v h bus x base x old i.mid (omega arith) st i.x9 in
     let r = store_performed size a v 0 h bus x base i.mid new all small wr.then i.performed in
-    store_went_by size a v h bus x base new.far (went_told (Stores size a v (aimed x a v)) (StoreFaults size a) i.performed.ran.last h bus (aimed x a v) base x new.far r.far r.is i.performed.ran.error_is r.program)
+    store_went_by size a v h bus x base new.far (went_told (Stores size a v (aimed x a v)) (StoreFaults size a) i.performed.last h bus (aimed x a v) base x new.far r.far r.is i.performed.error_is r.program)
 
 pub record StoreOk (size : Size) (address value h : ℕ) (old new : Option Far) : Type 0 where
   pub stored_at : WhereTold (StoredAt size address value) old new
   pub serving : Serving h new
 
-pub store_ok : (size : Size) (address value h : ℕ) (far : Option Far) (script : Option DmiScript) (new : Tells) → address < 2 ^ 64 → IsReady far → Selects h far → IsHalted h far
-    → Around (StoredInside size address value) (tells far script) new → StoreOk size address value h far new.far
-store_ok size address value h None script new small ready selects halted r =
-    let a : r.first.far ≡ None = saved_untold r.x8 r.x9 (tells None script) r.first r.saved refl in
+pub store_ok : (size : Size) (address value h : ℕ) (far : Option Far) (coming : Option DmiComing) (new : Tells) → address < 2 ^ 64 → IsReady far → Selects h far → IsHalted h far
+    → Around (StoredInside size address value) (tells far coming) new → StoreOk size address value h far new.far
+store_ok size address value h None coming new small ready selects halted r =
+    let a : r.first.far ≡ None = saved_untold r.x8 r.x9 (tells None coming) r.first r.saved refl in
     let b : r.inside.mid.far ≡ None = written_untold x9_number value r.first r.inside.mid r.inside.x9 a in
     let c : r.last.far ≡ None = performed_untold (store_word size) address 0 r.inside.mid r.last r.inside.performed b in
     let d : new.far ≡ None = back_untold r.x8 r.x9 r.last new r.put_back c in
     record { stored_at = d; serving = untold_serving h new.far d }
-store_ok size address value h (Some f) script new small ready selects halted r =
+store_ok size address value h (Some f) coming new small ready selects halted r =
     let s : Site = site_of f in
     let x : Hart = halted.hart in
     let fits : Fits x = fits_of h s ready halted in
-    let sv : SavedTold r.x8 r.x9 h s.unit.bus x s x r.first.far = saved_told r.x8 r.x9 h s.unit.bus x s x (tells (Some f) script) r.first (first_told h f ready halted selects) r.saved in
+    let sv : SavedTold r.x8 r.x9 h s.unit.bus x s x r.first.far = saved_told r.x8 r.x9 h s.unit.bus x s x (tells (Some f) coming) r.first (first_told h f ready halted selects) r.saved in
     let w : StoreWent size address value h s.unit.bus x s r.last.far = store_went size address value h s.unit.bus x s r.first r.last fits.all small sv.then r.inside in
     let was : Memory = (passed w.before s).board.memory in
     let memory : Memory = after_store was address size value in
@@ -133,7 +133,7 @@ store_faulted : (size : Size) (a v h : ℕ) (bus : BusUnit) (x : Hart) (base : S
 store_faulted size a v h bus x base old new all small st p =
     let r = store_performed size a v 3 h bus x base old new all small st p in
     store_fault_at (StoreFaults size a) a v h bus x base new.far
-    (faulted_told (Stores size a v (aimed x a v)) (StoreFaults size a) p.ran.last h bus (aimed x a v) base x new.far r.far r.is p.ran.error_is r.program)
+    (faulted_told (Stores size a v (aimed x a v)) (StoreFaults size a) p.last h bus (aimed x a v) base x new.far r.far r.is p.error_is r.program)
 
 pub store_badly : (size : Size) (a v h : ℕ) (bus : BusUnit) (x : Hart) (base : Site) (old_count new_count : ℕ) (first last : Tells) (e : AccessFault) → length x.core.x ≡ 32 → a < 2 ^ 64 → StoodTold h bus x base x first.far
     → StoreFailedInside size a v old_count new_count first last e → OnlyMemory a (FaultInside (StoreFaults size a) h bus x base last.far) e
@@ -167,19 +167,19 @@ store_refused size address h f ready halted new w =
       access_serving h f ready halted memory w.before new (ready_before w.before s ready).memory w.then,
     )
 
-pub store_err : (size : Size) (address value h : ℕ) (far : Option Far) (script : Option DmiScript) (old_count new_count : ℕ) (new : Tells) (e : AccessFault) → address < 2 ^ 64 → IsReady far → Selects h far → IsHalted h far
-    → AroundFailed (StoredInside size address value) (StoreFailedInside size address value) old_count new_count (tells far script) new e → AccessErr (StoreRefused size address) address h far new.far e
-store_err size address value h None script old_count new_count new e small ready selects halted f =
+pub store_err : (size : Size) (address value h : ℕ) (far : Option Far) (coming : Option DmiComing) (old_count new_count : ℕ) (new : Tells) (e : AccessFault) → address < 2 ^ 64 → IsReady far → Selects h far → IsHalted h far
+    → AroundFailed (StoredInside size address value) (StoreFailedInside size address value) old_count new_count (tells far coming) new e → AccessErr (StoreRefused size address) address h far new.far e
+store_err size address value h None coming old_count new_count new e small ready selects halted f =
     untold_err (StoreRefused size address) address h new.far e
-    (around_plain (StoredInside size address value) (StoreFailedInside size address value) address old_count new_count (tells None script) new e
+    (around_plain (StoredInside size address value) (StoreFailedInside size address value) address old_count new_count (tells None coming) new e
     (record { badly = λ oc nc first last e none g. store_untold size address value oc nc first last e none g }) refl f)
-store_err size address value h (Some c) script old_count new_count new e small ready selects halted f =
+store_err size address value h (Some c) coming old_count new_count new e small ready selects halted f =
     let s : Site = site_of c in
     let x : Hart = halted.hart in
     let fits : Fits x = fits_of h s ready halted in
     told_err (StoreRefused size address) address h c new.far e
     (only_map address (Faulted (StoreFaults size address) h s.unit.bus x s x new.far) (StoreRefused size address (chip_of c) new.far × Serving h new.far) e (λ w. store_refused size address h c ready halted new.far w)
-    (around_only (StoredInside size address value) (StoreFailedInside size address value) (StoreFaults size address) address h s.unit.bus x s old_count new_count (tells (Some c) script) new e fits.all fits.x8 fits.x9
+    (around_only (StoredInside size address value) (StoreFailedInside size address value) (StoreFaults size address) address h s.unit.bus x s old_count new_count (tells (Some c) coming) new e fits.all fits.x8 fits.x9
     (record {
       well = λ first last st r. store_inside_well size address value h s.unit.bus x s first last fits.all small st r;
       badly = λ oc nc first last e st g. store_badly size address value h s.unit.bus x s oc nc first last e fits.all small st g;

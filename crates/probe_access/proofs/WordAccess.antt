@@ -1,4 +1,4 @@
--- What the words of the program buffer do that load into x9 and store from it.
+-- What the words of the program buffer do that load into x8 and store from x9.
 use Rattle.std.proofs.Common.{◌≡◌, ◌∙◌, ℕ, ◌<◌, ◌^◌, ◌+◌, ◌%◌, true, Result, Ok, Err, refl, ap, arith}
 use Rattle.std.specs.Prelude.{⊤}
 use Rattle.rv_model.specs.declared.debug_did.DebugDid.TheVariants as ended
@@ -17,22 +17,22 @@ use Rattle.probe_access.proofs.AccessSteps.{WordDid}
 use Rattle.probe_access.proofs.AccessSteps.WordDid.{faulted, went}
 use Rattle.probe_access.proofs.Aside.{Frozen}
 
-abbrev pub with_x9 : ℕ → Hart → Hart
-with_x9 v y = record { core = with_x y.core 9 v; debug = y.debug }
+abbrev pub with_x8 : ℕ → Hart → Hart
+with_x8 v y = record { core = with_x y.core 8 v; debug = y.debug }
 
 -- the address that the words take
 abbrev pub address_in : Hart → ℕ
 address_in y = offset_by (x_of y.core 8) 0
 
 abbrev pub loaded_by : Result ℕ MemFault → Hart → Memory → Debugged
-loaded_by (Ok v) y m = debugged ended.Next true (with_x9 v y) m
+loaded_by (Ok v) y m = debugged ended.Next true (with_x8 v y) m
 loaded_by (Err fault) y m = debugged ended.Exception true y m
 
-load_by : (r : Result ℕ MemFault) (y : Hart) (m : Memory) → executed (same_memory m (after_load r whole 9 (address_in y) y.core)) true y m ≡ loaded_by r y m
+load_by : (r : Result ℕ MemFault) (y : Hart) (m : Memory) → executed (same_memory m (after_load r whole 8 (address_in y) y.core)) true y m ≡ loaded_by r y m
 load_by (Ok v) y m = refl
 load_by (Err fault) y m = refl
 
-load_ran : (size : Size) (y : Hart) (m : Memory) → ran_word (load_word size) y m ≡ executed (same_memory m (after_load (loaded m (address_in y) size) whole 9 (address_in y) y.core)) true y m
+load_ran : (size : Size) (y : Hart) (m : Memory) → ran_word (load_word size) y m ≡ executed (same_memory m (after_load (loaded m (address_in y) size) whole 8 (address_in y) y.core)) true y m
 unfolding ran_word meaning effect_of
 load_ran B1 y m = refl
 load_ran B2 y m = refl
@@ -60,7 +60,7 @@ store_ran B8 y m = refl
 pub record Loads (size : Size) (a : ℕ) (y : Hart) (m : Memory) (z : Hart) (n : Memory) : Type 0 where
   pub value : ℕ
   pub is : loaded m a size ≡ Ok value
-  pub hart : z ≡ with_x9 value y
+  pub hart : z ≡ with_x8 value y
   pub memory : n ≡ m
 
 pub record LoadFaults (size : Size) (a : ℕ) (m : Memory) : Type 0 where
@@ -85,7 +85,7 @@ in_x8 y a is small = ap (λ n. (n + 0) % 2 ^ 64) is ∙ fits a small
 
 load_did_by : (size : Size) (a : ℕ) (y : Hart) (m : Memory) (r : Result ℕ MemFault) → Frozen y → address_in y ≡ a → loaded m a size ≡ r → WordDid (Loads size a y) (LoadFaults size a) (load_word size) y m
 load_did_by size a y m (Ok v) f at is =
-    went (with_x9 v y) m (record { value = v; is = is; hart = refl; memory = refl }) (record { why = f.why; halted = f.halted; not_asked = f.not_asked })
+    went (with_x8 v y) m (record { value = v; is = is; hart = refl; memory = refl }) (record { why = f.why; halted = f.halted; not_asked = f.not_asked })
     (load_ran size y m ∙ load_by (loaded m (address_in y) size) y m ∙ ap (λ b. loaded_by (loaded m b size) y m) at ∙ ap (λ r. loaded_by r y m) is)
 load_did_by size a y m (Err why) f at is =
     faulted (record { why = why; is = is }) (load_ran size y m ∙ load_by (loaded m (address_in y) size) y m ∙ ap (λ b. loaded_by (loaded m b size) y m) at ∙ ap (λ r. loaded_by r y m) is)

@@ -8,7 +8,7 @@ use Rattle.debug_model.specs.declared.cmderr.Cmderr.TheVariants.{Fine, Busy, Not
 use Rattle.debug_model.specs.Commands.{CommandUnit, abstractcs_shown, busy}
 use Rattle.debug_model.specs.Dmi.{value_of}
 use Rattle.debug_model.specs.ModuleWords.{abstractcs_of, abstractcs_word, cmderr_cleared, cmderr_number, command_of}
-use Rattle.probe_access.specs.RegisterAccess.{program_command, program_word, transfer_command, transfer_word}
+use Rattle.probe_access.specs.RegisterAccess.{program_command, program_word, transfer_command, transfer_word, x8_number}
 
 -- ---- abstractcs
 
@@ -90,5 +90,5 @@ transfer_back false n small =
     same_fields (command_of (transfer_word false n)) (transfer_command false n) (omega arith) (omega arith)
     (bit_clear 19 (transfer_word false n) (omega arith)) (bit_clear 18 (transfer_word false n) (omega arith)) (bit_set 17 (transfer_word false n) (omega arith)) (bit_clear 16 (transfer_word false n) (omega arith)) (omega arith)
 
-pub program_back : command_of program_word ≡ program_command
+pub program_back : command_of program_word ≡ program_command x8_number
 program_back = refl

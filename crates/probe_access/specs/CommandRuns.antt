@@ -47,33 +47,73 @@ pub record AlwaysBusy (first : List Act) (old new : Tells) : Type 0 where
 abbrev pub clearing : ℕ → List Act
 clearing error = if error == 0 then [] else Put abstractcs_address clears_cmderr ∷ []
 
-abbrev pub command_acts : ℕ → List ℕ → ℕ → List Act
-command_acts word words last = Put command_address word ∷ (map poll_act words ++ poll_act last ∷ clearing (error_shown last))
+-- behind these writes: the command, polls that showed it under way, one that showed its end, and the clearing of an error
+abbrev pub command_acts : List Act → ℕ → List ℕ → ℕ → List Act
+command_acts front word words last = front ++ Put command_address word ∷ (map poll_act words ++ poll_act last ∷ clearing (error_shown last))
 
--- a poll that showed none under way, behind the command and polls that did
-pub record EndedCommand (word last : ℕ) (old new : Tells) : Type 0 where
+-- behind these writes the command was written once, and ended; the last poll was answered so
+pub record RanCommand (front : List Act) (word last : ℕ) (old new : Tells) : Type 0 where
   pub words : List ℕ
   pub vain : InVain words
   pub idle : shows_busy last ≡ false
-  pub did : Did old (Put command_address word ∷ (map poll_act words ++ poll_act last ∷ [])) new
+  pub did : Did old (command_acts front word words last) new
 
--- the command was written once, and ended; the last poll was answered so
-pub record RanCommand (word last : ℕ) (old new : Tells) : Type 0 where
-  pub words : List ℕ
-  pub vain : InVain words
-  pub idle : shows_busy last ≡ false
-  pub did : Did old (command_acts word words last) new
-
-pub data CommandBegun (word : ℕ) : List Act → Attempt → Type 0 where
-  writes : CommandBegun word [] (Operation (Write command_address word))
-  polls : (words : List ℕ) → InVain words → CommandBegun word (Put command_address word ∷ map poll_act words) (Operation (Read abstractcs_address))
+pub data CommandBegun (front : List Act) (word : ℕ) : List Act → Attempt → Type 0 where
+  ahead : (done rest : List Act) (address value : ℕ) → front ≡ done ++ Put address value ∷ rest → CommandBegun front word done (Operation (Write address value))
+  writes : CommandBegun front word front (Operation (Write command_address word))
+  polls : (words : List ℕ) → InVain words
+      → CommandBegun front word (front ++ Put command_address word ∷ map poll_act words) (Operation (Read abstractcs_address))
   clears : (words : List ℕ) (last : ℕ) → InVain words → shows_busy last ≡ false → error_shown last ≢ 0
-      → CommandBegun word (Put command_address word ∷ (map poll_act words ++ poll_act last ∷ [])) (Operation (Write abstractcs_address clears_cmderr))
+      → CommandBegun front word (front ++ Put command_address word ∷ (map poll_act words ++ poll_act last ∷ []))
+      (Operation (Write abstractcs_address clears_cmderr))
 
-abbrev pub CommandFailed : ℕ → ℕ → ℕ → Tells → Tells → AccessFault → Type 0
-CommandFailed word old_count new_count old new (fault.Dmi why) = BrokeIn (Among (CommandBegun word)) old_count new_count old new.far why
-CommandFailed word old_count new_count old new (fault.Memory address) = ⊥
-CommandFailed word old_count new_count old new (fault.Register number) = ⊥
-CommandFailed word old_count new_count old new (fault.Run why) = ⊥
-CommandFailed word old_count new_count old new fault.StillBusy = AlwaysBusy (Put command_address word ∷ []) old new
-CommandFailed word old_count new_count old new (fault.Odd shown) = ⊥
+abbrev pub CommandFailed : List Act → ℕ → ℕ → ℕ → Tells → Tells → AccessFault → Type 0
+CommandFailed front word old_count new_count old new (fault.Dmi why) = BrokeIn (Among (CommandBegun front word)) old_count new_count old new.far why
+CommandFailed front word old_count new_count old new (fault.Memory address) = ⊥
+CommandFailed front word old_count new_count old new (fault.Register number) = ⊥
+CommandFailed front word old_count new_count old new (fault.Run why) = ⊥
+CommandFailed front word old_count new_count old new fault.StillBusy = AlwaysBusy (front ++ Put command_address word ∷ []) old new
+CommandFailed front word old_count new_count old new (fault.Odd shown) = ⊥
+
+-- ---- its end, from the first poll on, which went with the command
+
+-- a poll that showed none under way, behind others that did
+pub record PolledFrom (first last : ℕ) (old new : Tells) : Type 0 where
+  pub words : List ℕ
+  pub vain : InVain words
+  pub idle : shows_busy last ≡ false
+  pub rest : List Act
+  pub is : poll_act first ∷ rest ≡ map poll_act words ++ poll_act last ∷ []
+  pub did : Did old rest new
+
+-- and the error was cleared
+pub record EndedFrom (first last : ℕ) (old new : Tells) : Type 0 where
+  pub words : List ℕ
+  pub vain : InVain words
+  pub idle : shows_busy last ≡ false
+  pub rest : List Act
+  pub is : poll_act first ∷ rest ≡ map poll_act words ++ poll_act last ∷ clearing (error_shown last)
+  pub did : Did old rest new
+
+-- all 64 polls showed a command under way
+pub record BusyFrom (first : ℕ) (old new : Tells) : Type 0 where
+  pub words : List ℕ
+  pub busy : All ShowsBusy words
+  pub all : length words ≡ polls_most
+  pub rest : List Act
+  pub is : poll_act first ∷ rest ≡ map poll_act words
+  pub did : Did old rest new
+
+pub data EndBegun (first : ℕ) : List Act → Attempt → Type 0 where
+  polls : (words : List ℕ) (rest : List Act) → InVain words → poll_act first ∷ rest ≡ map poll_act words
+      → EndBegun first rest (Operation (Read abstractcs_address))
+  clears : (words : List ℕ) (last : ℕ) (rest : List Act) → InVain words → shows_busy last ≡ false → error_shown last ≢ 0
+      → poll_act first ∷ rest ≡ map poll_act words ++ poll_act last ∷ [] → EndBegun first rest (Operation (Write abstractcs_address clears_cmderr))
+
+abbrev pub EndFailed : ℕ → ℕ → ℕ → Tells → Tells → AccessFault → Type 0
+EndFailed first old_count new_count old new (fault.Dmi why) = BrokeIn (EndBegun first) old_count new_count old new.far why
+EndFailed first old_count new_count old new (fault.Memory address) = ⊥
+EndFailed first old_count new_count old new (fault.Register number) = ⊥
+EndFailed first old_count new_count old new (fault.Run why) = ⊥
+EndFailed first old_count new_count old new fault.StillBusy = BusyFrom first old new
+EndFailed first old_count new_count old new (fault.Odd shown) = ⊥

@@ -1,19 +1,15 @@
--- The calls of an access to memory: x8 and x9 are saved, an instruction is executed from the program buffer, and both are put back.
+-- The calls of an access to memory: x8, and for a store x9, is saved, an instruction is executed from the program buffer, and they are put back.
 -- RISC-V Debug Specification 1.0, "Program Buffer" and "Debugger Implementation", "Reading Memory".
-use Rattle.std.specs.Prelude.{◌≡◌, ◌∷◌, ℕ, List, []}
+use Rattle.std.specs.Prelude.{◌≡◌, ◌++◌, ◌∷◌, ℕ, List, []}
 use Rattle.debug_model.specs.Addresses.{progbuf0_address, progbuf1_address}
-use Rattle.debug_model.specs.declared.dmi.DmiFault.{DmiFault}
-use Rattle.debug_model.specs.declared.dmi_op.DmiOp.TheVariants.{Write}
 use Rattle.rv_model.specs.declared.size.Size.{Size}
 use Rattle.probe_access.specs.declared.fault.AccessFault.{AccessFault}
 use Rattle.probe_access.specs.declared.fault.AccessFault.TheVariants as fault
 use Rattle.probe_access.specs.declared.odd.OddStatus.{OddStatus}
-use Rattle.probe_run.specs.Acts.{Act, Attempt, Did, Tells}
+use Rattle.probe_run.specs.Acts.{Act, Tells}
 use Rattle.probe_run.specs.Acts.Act.{Put}
-use Rattle.probe_run.specs.Acts.Attempt.{Operation}
 use Rattle.probe_access.specs.CommandRuns.{CommandFailed}
-use Rattle.probe_access.specs.Faults.{BrokeIn}
-use Rattle.probe_access.specs.RegisterRuns.{RanOddly, RanTo, ReadFailed, RegisterRead, RegisterWritten, WriteFailed, exception_error, no_error}
+use Rattle.probe_access.specs.RegisterRuns.{RanOddly, RanTo, ReadFailed, RegisterRead, RegisterWritten, WriteFailed, double_written, exception_error, no_error}
 use Rattle.probe_access.specs.RegisterAccess.{ebreak_word, load_word, program_word, store_word, x8_number, x9_number}
 
 -- ---- x8 and x9
@@ -38,51 +34,69 @@ pub data PutBackFailed (x8 x9 old_count new_count : ℕ) (old new : Tells) (e : 
   at_x9 : (mid : Tells) → RegisterWritten x8_number x8 old mid → WriteFailed x9_number x9 old_count new_count mid new e
       → PutBackFailed x8 x9 old_count new_count old new e
 
+-- ---- faults
+
+-- behind a fault of memory or of a register the hart still serves, and x8 and x9 can be put back
+abbrev pub Recovers : AccessFault → Type 0
+Recovers (fault.Dmi why) = ⊥
+Recovers (fault.Memory address) = Unit {0}
+Recovers (fault.Register number) = Unit {0}
+Recovers fault.StillBusy = ⊥
+Recovers (fault.Run why) = ⊥
+Recovers (fault.Odd shown) = ⊥
+
+abbrev pub Loses : AccessFault → Type 0
+Loses e = Recovers e → ⊥
+
 -- ---- one instruction from the program buffer
 
 abbrev pub program_written : ℕ → List Act
 program_written word = Put progbuf0_address word ∷ Put progbuf1_address ebreak_word ∷ []
 
-pub data ProgramBegun (word : ℕ) : List Act → Attempt → Type 0 where
-  first : ProgramBegun word [] (Operation (Write progbuf0_address word))
-  second : ProgramBegun word (Put progbuf0_address word ∷ []) (Operation (Write progbuf1_address ebreak_word))
+-- it is there, and the data words hold the address
+abbrev pub program_set : ℕ → ℕ → List Act
+program_set word address = program_written word ++ double_written address
 
 -- it was executed once, with this address in x8, and its end showed this cmderr
-pub record Performed (word address error : ℕ) (old new : Tells) : Type 0 where
-  pub written : Tells
-  pub addressed : Tells
-  pub program : Did old (program_written word) written
-  pub x8 : RegisterWritten x8_number address written addressed
-  pub ran : RanTo program_word error addressed new
+abbrev pub Performed : ℕ → ℕ → ℕ → Tells → Tells → Type 0
+Performed word address error old new = RanTo (program_set word address) program_word error old new
 
 pub data PerformFailed (word address old_count new_count : ℕ) (old new : Tells) : AccessFault → Type 0 where
-  in_program : (why : DmiFault) → BrokeIn (ProgramBegun word) old_count new_count old new.far why
-      → PerformFailed word address old_count new_count old new (fault.Dmi why)
-  in_address : (written : Tells) → Did old (program_written word) written → (e : AccessFault)
-      → WriteFailed x8_number address old_count new_count written new e → PerformFailed word address old_count new_count old new e
-  in_run : (written addressed : Tells) → Did old (program_written word) written → RegisterWritten x8_number address written addressed → (e : AccessFault)
-      → CommandFailed program_word old_count new_count addressed new e
+  in_run : (e : AccessFault) → CommandFailed (program_set word address) program_word old_count new_count old new e
       → PerformFailed word address old_count new_count old new e
   faulted : Performed word address exception_error old new → PerformFailed word address old_count new_count old new (fault.Memory address)
-  oddly : (written addressed : Tells) → Did old (program_written word) written → RegisterWritten x8_number address written addressed → (shown : OddStatus)
-      → RanOddly program_word shown addressed new
+  oddly : (shown : OddStatus) → RanOddly (program_set word address) program_word shown old new
       → PerformFailed word address old_count new_count old new (fault.Odd shown)
 
--- ---- between the saving and the putting back
+-- ---- a load: x8 is saved, has the address, has what was loaded, and is put back
 
-pub record LoadedInside (size : Size) (address value : ℕ) (old new : Tells) : Type 0 where
+pub record LoadRun (size : Size) (address value : ℕ) (old new : Tells) : Type 0 where
+  pub x8 : ℕ
+  pub first : Tells
   pub mid : Tells
-  pub performed : Performed (load_word size) address no_error old mid
-  pub x9 : RegisterRead x9_number value mid new
+  pub last : Tells
+  pub saved : RegisterRead x8_number x8 old first
+  pub performed : Performed (load_word size) address no_error first mid
+  pub taken : RegisterRead x8_number value mid last
+  pub put_back : RegisterWritten x8_number x8 last new
 
--- whatever was loaded
-abbrev pub LoadedAny : Size → ℕ → Tells → Tells → Type 0
-LoadedAny size address old new = (value : ℕ) × LoadedInside size address value old new
+-- behind a fault of memory x8 was put back
+pub data LoadRunFailed (size : Size) (address old_count new_count : ℕ) (old new : Tells) : AccessFault → Type 0 where
+  in_save : (e : AccessFault) → ReadFailed x8_number old_count new_count old new e → LoadRunFailed size address old_count new_count old new e
+  performing : (e : AccessFault) (x8 : ℕ) (first : Tells) → RegisterRead x8_number x8 old first
+      → PerformFailed (load_word size) address old_count new_count first new e → Loses e → LoadRunFailed size address old_count new_count old new e
+  refused : (x8 : ℕ) (first last : Tells) → RegisterRead x8_number x8 old first → Performed (load_word size) address exception_error first last
+      → RegisterWritten x8_number x8 last new → LoadRunFailed size address old_count new_count old new (fault.Memory address)
+  in_restore_behind : (e : AccessFault) (x8 : ℕ) (first last : Tells) → RegisterRead x8_number x8 old first
+      → Performed (load_word size) address exception_error first last
+      → WriteFailed x8_number x8 old_count new_count last new e → LoadRunFailed size address old_count new_count old new e
+  taking : (e : AccessFault) (x8 : ℕ) (first mid : Tells) → RegisterRead x8_number x8 old first → Performed (load_word size) address no_error first mid
+      → ReadFailed x8_number old_count new_count mid new e → LoadRunFailed size address old_count new_count old new e
+  in_restore : (e : AccessFault) (x8 value : ℕ) (first mid last : Tells) → RegisterRead x8_number x8 old first
+      → Performed (load_word size) address no_error first mid → RegisterRead x8_number value mid last
+      → WriteFailed x8_number x8 old_count new_count last new e → LoadRunFailed size address old_count new_count old new e
 
-pub data LoadFailedInside (size : Size) (address old_count new_count : ℕ) (old new : Tells) (e : AccessFault) : Type 0 where
-  performing : PerformFailed (load_word size) address old_count new_count old new e → LoadFailedInside size address old_count new_count old new e
-  reading : (mid : Tells) → Performed (load_word size) address no_error old mid → ReadFailed x9_number old_count new_count mid new e
-      → LoadFailedInside size address old_count new_count old new e
+-- ---- a store, between the saving and the putting back of x8 and x9
 
 pub record StoredInside (size : Size) (address value : ℕ) (old new : Tells) : Type 0 where
   pub mid : Tells
@@ -105,18 +119,6 @@ pub record Around (R : Tells → Tells → Type 0) (old new : Tells) : Type 0 wh
   pub saved : Saved x8 x9 old first
   pub inside : R first last
   pub put_back : PutBack x8 x9 last new
-
--- behind a fault of memory or of a register the hart still serves, and x8 and x9 can be put back
-abbrev pub Recovers : AccessFault → Type 0
-Recovers (fault.Dmi why) = ⊥
-Recovers (fault.Memory address) = Unit {0}
-Recovers (fault.Register number) = Unit {0}
-Recovers fault.StillBusy = ⊥
-Recovers (fault.Run why) = ⊥
-Recovers (fault.Odd shown) = ⊥
-
-abbrev pub Loses : AccessFault → Type 0
-Loses e = Recovers e → ⊥
 
 -- by what is Ok inside, and what a fault says there
 pub data AroundFailed (R : Tells → Tells → Type 0) (F : ℕ → ℕ → Tells → Tells → AccessFault → Type 0) (old_count new_count : ℕ) (old new : Tells)

@@ -12,15 +12,12 @@ abbrev pub transfer_command : Bool → ℕ → AbstractCommand
 transfer_command write number =
     record { cmdtype = 0; aarsize = 3; aarpostincrement = false; postexec = false; transfer = true; write = write; regno = number }
 
--- the program buffer alone
-abbrev pub program_command : AbstractCommand
-program_command = record { cmdtype = 0; aarsize = 3; aarpostincrement = false; postexec = true; transfer = false; write = false; regno = 0 }
+-- the data words go into a register, and then the program buffer is executed
+abbrev pub program_command : ℕ → AbstractCommand
+program_command number = record { cmdtype = 0; aarsize = 3; aarpostincrement = false; postexec = true; transfer = true; write = true; regno = number }
 
 abbrev pub transfer_word : Bool → ℕ → ℕ
 transfer_word write number = command_word (transfer_command write number)
-
-abbrev pub program_word : ℕ
-program_word = command_word program_command
 
 -- a value of 64 bits as two words, the lower one first
 abbrev pub joined : ℕ → ℕ → ℕ
@@ -28,22 +25,26 @@ joined low high = low + high * 2 ^ 32
 
 -- ---- accesses to memory
 
--- the registers that an access uses: the address, and the value
+-- the registers that an access uses: x8 has the address, and then what was loaded, and x9 what is stored
 abbrev pub x8_number : ℕ
 x8_number = first_x_number + 8
 
 abbrev pub x9_number : ℕ
 x9_number = first_x_number + 9
 
+-- the address goes into x8, and the program is executed
+abbrev pub program_word : ℕ
+program_word = command_word (program_command x8_number)
+
 abbrev pub ebreak_word : ℕ
 ebreak_word = 0x00100073
 
--- lbu, lhu, lwu and ld x9, 0(x8)
+-- lbu, lhu, lwu and ld x8, 0(x8)
 abbrev pub load_word : Size → ℕ
-load_word B1 = 0x00044483
-load_word B2 = 0x00045483
-load_word B4 = 0x00046483
-load_word B8 = 0x00043483
+load_word B1 = 0x00044403
+load_word B2 = 0x00045403
+load_word B4 = 0x00046403
+load_word B8 = 0x00043403
 
 -- sb, sh, sw and sd x9, 0(x8)
 abbrev pub store_word : Size → ℕ

@@ -3,7 +3,7 @@
 use Rattle.std.specs.Prelude.{◌≡◌, ◌≢◌, ◌∷◌, ℕ, List, [], true, false}
 use Rattle.debug_model.specs.Addresses.{data0_address, data1_address}
 use Rattle.debug_model.specs.declared.dmi.DmiFault.{DmiFault}
-use Rattle.debug_model.specs.declared.dmi_op.DmiOp.TheVariants.{Read, Write}
+use Rattle.debug_model.specs.declared.dmi_op.DmiOp.TheVariants.{Read}
 use Rattle.debug_model.specs.Commands.{high_half, low_half}
 use Rattle.probe_access.specs.declared.fault.AccessFault.{AccessFault}
 use Rattle.probe_access.specs.declared.fault.AccessFault.TheVariants as fault
@@ -31,10 +31,6 @@ pub data DoubleReads : List Act → Attempt → Type 0 where
 abbrev pub double_written : ℕ → List Act
 double_written value = Put data0_address (low_half value) ∷ Put data1_address (high_half value) ∷ []
 
-pub data DoubleWrites (value : ℕ) : List Act → Attempt → Type 0 where
-  lower : DoubleWrites value [] (Operation (Write data0_address (low_half value)))
-  upper : DoubleWrites value (Put data0_address (low_half value) ∷ []) (Operation (Write data1_address (high_half value)))
-
 -- ---- cmderr
 
 -- the numbers of cmderr for none, and for a register that is not there, not writable, or an exception
@@ -44,17 +40,17 @@ no_error = 0
 abbrev pub exception_error : ℕ
 exception_error = 3
 
--- a command ran and its end showed this cmderr
-pub record RanTo (word error : ℕ) (old new : Tells) : Type 0 where
+-- a command ran behind these writes, and its end showed this cmderr
+pub record RanTo (front : List Act) (word error : ℕ) (old new : Tells) : Type 0 where
   pub last : ℕ
-  pub ran : RanCommand word last old new
+  pub ran : RanCommand front word last old new
   pub error_is : error_shown last ≡ error
 
 -- a command ran, and this abstractcs shows an error that is neither
-pub record RanOddly (word : ℕ) (shown : OddStatus) (old new : Tells) : Type 0 where
+pub record RanOddly (front : List Act) (word : ℕ) (shown : OddStatus) (old new : Tells) : Type 0 where
   pub last : ℕ
   pub is : shown ≡ Abstractcs last
-  pub ran : RanCommand word last old new
+  pub ran : RanCommand front word last old new
   pub some : error_shown last ≢ no_error
   pub other : error_shown last ≢ exception_error
 
@@ -62,54 +58,42 @@ pub record RanOddly (word : ℕ) (shown : OddStatus) (old new : Tells) : Type 0 
 
 pub record RegisterRead (number value : ℕ) (old new : Tells) : Type 0 where
   pub mid : Tells
-  pub ran : RanTo (transfer_word false number) no_error old mid
+  pub ran : RanTo [] (transfer_word false number) no_error old mid
   pub words : DoubleRead value mid new
 
 -- the command failed, or behind it the reading of its words
 pub data ReadFailedAt (number old_count new_count : ℕ) (old new : Tells) : AccessFault → Type 0 where
-  in_command : (e : AccessFault) → CommandFailed (transfer_word false number) old_count new_count old new e → ReadFailedAt number old_count new_count old new e
-  in_words : (mid : Tells) → RanTo (transfer_word false number) no_error old mid → (why : DmiFault) → BrokeIn (Among DoubleReads) old_count new_count mid new.far why
+  in_command : (e : AccessFault) → CommandFailed [] (transfer_word false number) old_count new_count old new e
+      → ReadFailedAt number old_count new_count old new e
+  in_words : (mid : Tells) → RanTo [] (transfer_word false number) no_error old mid
+      → (why : DmiFault) → BrokeIn (Among DoubleReads) old_count new_count mid new.far why
       → ReadFailedAt number old_count new_count old new (fault.Dmi why)
 
 -- a register was refused, and it is the one that was meant
-pub record RefusedAs (number asked word : ℕ) (old new : Tells) : Type 0 where
+pub record RefusedAs (number asked : ℕ) (front : List Act) (word : ℕ) (old new : Tells) : Type 0 where
   pub same : asked ≡ number
-  pub ran : RanTo word exception_error old new
+  pub ran : RanTo front word exception_error old new
 
 abbrev pub ReadFailed : ℕ → ℕ → ℕ → Tells → Tells → AccessFault → Type 0
 ReadFailed number old_count new_count old new (fault.Dmi why) = ReadFailedAt number old_count new_count old new (fault.Dmi why)
 ReadFailed number old_count new_count old new (fault.Memory address) = ⊥
-ReadFailed number old_count new_count old new (fault.Register asked) = RefusedAs number asked (transfer_word false number) old new
+ReadFailed number old_count new_count old new (fault.Register asked) = RefusedAs number asked [] (transfer_word false number) old new
 ReadFailed number old_count new_count old new (fault.Run why) = ⊥
-ReadFailed number old_count new_count old new fault.StillBusy = CommandFailed (transfer_word false number) old_count new_count old new fault.StillBusy
-ReadFailed number old_count new_count old new (fault.Odd shown) = RanOddly (transfer_word false number) shown old new
+ReadFailed number old_count new_count old new fault.StillBusy = CommandFailed [] (transfer_word false number) old_count new_count old new fault.StillBusy
+ReadFailed number old_count new_count old new (fault.Odd shown) = RanOddly [] (transfer_word false number) shown old new
 
 -- ---- a register is written
 
-pub record RegisterWritten (number value : ℕ) (old new : Tells) : Type 0 where
-  pub mid : Tells
-  pub words : Did old (double_written value) mid
-  pub ran : RanTo (transfer_word true number) no_error mid new
-
--- the writing of the words failed, or behind it the command
-pub data WriteFailedAt (number value old_count new_count : ℕ) (old new : Tells) : AccessFault → Type 0 where
-  in_words : (why : DmiFault) → BrokeIn (Among (DoubleWrites value)) old_count new_count old new.far why
-      → WriteFailedAt number value old_count new_count old new (fault.Dmi why)
-  in_command : (mid : Tells) → Did old (double_written value) mid → (e : AccessFault) → CommandFailed (transfer_word true number) old_count new_count mid new e
-      → WriteFailedAt number value old_count new_count old new e
-
--- behind the words of this value
-pub record BehindWords (value : ℕ) (old : Tells) (P : Tells → Type 0) : Type 0 where
-  pub mid : Tells
-  pub words : Did old (double_written value) mid
-  pub then : P mid
+-- the command, behind the words of the value
+abbrev pub RegisterWritten : ℕ → ℕ → Tells → Tells → Type 0
+RegisterWritten number value old new = RanTo (double_written value) (transfer_word true number) no_error old new
 
 abbrev pub WriteFailed : ℕ → ℕ → ℕ → ℕ → Tells → Tells → AccessFault → Type 0
-WriteFailed number value old_count new_count old new (fault.Dmi why) = WriteFailedAt number value old_count new_count old new (fault.Dmi why)
+WriteFailed number value old_count new_count old new (fault.Dmi why) =
+    CommandFailed (double_written value) (transfer_word true number) old_count new_count old new (fault.Dmi why)
 WriteFailed number value old_count new_count old new (fault.Memory address) = ⊥
-WriteFailed number value old_count new_count old new (fault.Register asked) = BehindWords value old
-    (λ mid. RefusedAs number asked (transfer_word true number) mid new)
+WriteFailed number value old_count new_count old new (fault.Register asked) = RefusedAs number asked (double_written value) (transfer_word true number) old new
 WriteFailed number value old_count new_count old new (fault.Run why) = ⊥
-WriteFailed number value old_count new_count old new fault.StillBusy = BehindWords value old
-    (λ mid. CommandFailed (transfer_word true number) old_count new_count mid new fault.StillBusy)
-WriteFailed number value old_count new_count old new (fault.Odd shown) = BehindWords value old (λ mid. RanOddly (transfer_word true number) shown mid new)
+WriteFailed number value old_count new_count old new fault.StillBusy =
+    CommandFailed (double_written value) (transfer_word true number) old_count new_count old new fault.StillBusy
+WriteFailed number value old_count new_count old new (fault.Odd shown) = RanOddly (double_written value) (transfer_word true number) shown old new

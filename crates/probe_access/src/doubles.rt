@@ -1,7 +1,6 @@
-ghost use Rattle.std.specs.Prelude.{◌≡◌, ◌≤◌, ◌<◌, ◌^◌, ◌∷◌, [], IfOk, IfErr, OnOk, Some};
-ghost use Rattle.probe_run.specs.Acts.{Did};
+ghost use Rattle.std.specs.Prelude.{◌≡◌, ◌≤◌, ◌<◌, ◌^◌, IfOk, IfErr, Some};
 ghost use Rattle.probe_access.specs.Faults.{Among, BrokeIn};
-ghost use Rattle.probe_access.specs.RegisterRuns.{DoubleRead, DoubleReads, DoubleWrites, double_written};
+ghost use Rattle.probe_access.specs.RegisterRuns.{DoubleRead, DoubleReads};
 ghost use Rattle.debug_model.specs.Commands.{high_half, low_half};
 ghost use Rattle.probe_access.specs.RegisterAccess.{joined};
 ghost use Rattle.debug_model.specs.Kept.{CanCall, Keeps};
@@ -42,18 +41,4 @@ pub fn read_double<D: Dmi>(link: &mut D) -> Result<u64, DmiFault>
     let operations = [DmiOp::Read(Data0::ADDRESS), DmiOp::Read(Data1::ADDRESS)];
     link.many(&operations, &mut words)?;
     Ok(join(words[0], words[1]))
-}
-
-/// Writes a number into the data words.
-pub fn write_double<D: Dmi>(link: &mut D, value: u64) -> Result<(), DmiFault>
-    requires callable { CanCall (D.seen link.old) }
-    ensures did { OnOk result (Did (told (D.seen link.old)) (double_written value) (told (D.seen link.new))) }
-    ensures broke { IfErr result (Breaks (BrokeIn (Among (DoubleWrites value))) (D.seen link.old) (D.seen link.new)) }
-    ensures keeps { Keeps Some (D.seen link.old) (D.seen link.new) result }
-{
-    let low = DmiOp::Write(Data0::ADDRESS, low_word(value));
-    let high = DmiOp::Write(Data1::ADDRESS, high_word(value));
-    let mut words = ArrayVec::new();
-    link.many(&[low, high], &mut words)?;
-    Ok(())
 }

@@ -3,37 +3,46 @@ ghost use Rattle.rv_model.specs.Memory.{is_aligned};
 ghost use Rattle.probe_access.specs.Accesses.{AccessLeft, IfMemory, LoadRefused, LoadedAt, StoreRefused, StoredAt};
 ghost use Rattle.probe_access.specs.BusRuns.{cut_to};
 ghost use Rattle.probe_access.specs.Cuts.{AccessLeftOff, IfCut, Leaves, LoadLeaves, Scratched, StoreLeaves};
-ghost use Rattle.probe_access.specs.MemoryRuns.{Around, AroundFailed, LoadFailedInside, LoadedAny, LoadedInside, StoreFailedInside, StoredInside};
+ghost use Rattle.probe_access.specs.MemoryRuns.{Around, AroundFailed, LoadRun, LoadRunFailed, StoreFailedInside, StoredInside};
 ghost use Rattle.debug_model.specs.Kept.{CanCall, Keeps};
 ghost use Rattle.probe_run.specs.Told.{Fails, OnChip, told};
 ghost use Rattle.probe_access.specs.Faults.{access_why};
 ghost use Rattle.probe_run.specs.Told.{Serving};
 
 use crate::fault::AccessFault;
-use crate::inside::{load_inside, store_inside};
+use crate::inside::store_inside;
+use crate::program::{X8, load_of, perform};
 use crate::scratch::save_scratch;
+use crate::transfers::{read_register, write_register};
 use debug_model::Dmi;
 use probe_run::Halted;
 use rv_model::Size;
 
-/// Loads from memory by the selected hart, whose x8 and x9 are put back.
+/// Loads from memory by x8 of the selected hart, which has the address and then what was loaded, and is put back.
 pub(crate) fn load_around<D: Dmi>(
     link: &mut D,
     size: Size,
     address: u64,
 ) -> Result<u64, AccessFault>
     requires callable { CanCall (D.seen link.old) }
-    ensures loaded { IfOk result (λ value. Around (LoadedInside size address value) (told (D.seen link.old)) (told (D.seen link.new))) }
-    ensures failed { IfErr result (Fails (AroundFailed (LoadedAny size address) (LoadFailedInside size address)) (D.seen link.old) (D.seen link.new)) }
+    ensures loaded { IfOk result (λ value. LoadRun size address value (told (D.seen link.old)) (told (D.seen link.new))) }
+    ensures failed { IfErr result (Fails (LoadRunFailed size address) (D.seen link.old) (D.seen link.new)) }
     ensures keeps { Keeps access_why (D.seen link.old) (D.seen link.new) result }
 {
-    let scratch = save_scratch(link)?;
-    match load_inside(link, size, address) {
-        Ok(value) => {
-            scratch.put_back(link)?;
+    let x8 = read_register(link, X8)?;
+    match perform(link, load_of(size), address) {
+        Ok(()) => {
+            let value = read_register(link, X8)?;
+            write_register(link, X8, x8)?;
             Ok(value)
         }
-        Err(fault) => Err(scratch.give_up(link, fault)),
+        Err(fault) => match fault {
+            AccessFault::Memory(_) => {
+                write_register(link, X8, x8)?;
+                Err(fault)
+            }
+            _ => Err(fault),
+        },
     }
 }
 
@@ -80,7 +89,7 @@ pub fn is_aligned(size: Size, address: u64) -> bool
 }
 
 /// Loads 1, 2, 4 or 8 bytes of memory by the halted hart, which is selected: one access by its program buffer, the upper bits 0.
-/// `Memory` where a byte lies outside memory. x8 and x9 are put back (RISC-V Debug Specification 1.0, "Program Buffer").
+/// `Memory` where a byte lies outside memory. x8 is put back (RISC-V Debug Specification 1.0, "Program Buffer").
 pub fn load<D: Dmi>(
     link: &mut D,
     halted: &Halted,
@@ -91,9 +100,9 @@ pub fn load<D: Dmi>(
     requires serving { Serving halted.now.number (D.seen link.old).far }
     requires aligned { is_aligned address size ≡ true }
     ensures loaded { IfOk result (λ value. OnChip (LoadedAt size address value) (D.seen link.old) (D.seen link.new)) }
-    ensures around { IfOk result (λ value. Around (LoadedInside size address value) (told (D.seen link.old)) (told (D.seen link.new))) }
+    ensures around { IfOk result (λ value. LoadRun size address value (told (D.seen link.old)) (told (D.seen link.new))) }
     ensures left { IfErr result (AccessLeft (LoadRefused size address) address (D.seen link.old).far (D.seen link.new).far) }
-    ensures failed { IfErr result (Fails (AroundFailed (LoadedAny size address) (LoadFailedInside size address)) (D.seen link.old) (D.seen link.new)) }
+    ensures failed { IfErr result (Fails (LoadRunFailed size address) (D.seen link.old) (D.seen link.new)) }
     ensures cut { IfErr result (IfCut (Leaves (AccessLeftOff Scratched LoadLeaves halted.now.number) (D.seen link.old).far (D.seen link.new).far)) }
     ensures serving { OnOk result (Serving halted.now.number (D.seen link.new).far) }
     ensures serving_still { IfErr result (IfMemory (Serving halted.now.number (D.seen link.new).far)) }

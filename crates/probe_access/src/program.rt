@@ -1,36 +1,37 @@
-ghost use Rattle.std.specs.Prelude.{◌≡◌, ◌≤◌, ◌<◌, ◌^◌, IfErr, OnOk, Some};
-ghost use Rattle.probe_run.specs.Acts.{Did};
-ghost use Rattle.probe_access.specs.Faults.{BrokeIn};
-ghost use Rattle.probe_access.specs.MemoryRuns.{PerformFailed, Performed, ProgramBegun, program_written};
-ghost use Rattle.probe_access.specs.RegisterAccess.{load_word, store_word};
+ghost use Rattle.std.specs.Prelude.{◌≡◌, ◌≤◌, ◌<◌, ◌^◌, IfErr, IfOk, OnOk};
+ghost use Rattle.probe_access.specs.CommandRuns.{CommandFailed, RanCommand};
+ghost use Rattle.probe_access.specs.MemoryRuns.{PerformFailed, Performed, program_set};
+ghost use Rattle.probe_access.specs.RegisterAccess.{load_word, program_word, store_word};
 ghost use Rattle.debug_model.specs.Kept.{CanCall, Keeps};
-ghost use Rattle.probe_run.specs.Told.{Breaks, Fails, told};
+ghost use Rattle.probe_run.specs.Told.{Fails, told};
 ghost use Rattle.probe_access.specs.Faults.{access_why};
 
-use crate::commands::{program, run_command};
+use crate::commands::{end_command, program_of};
+use crate::doubles::{high_word, low_word};
 use crate::fault::AccessFault;
 use crate::odd::OddStatus;
-use crate::transfers::{EXCEPTION, write_register};
-use debug_model::{Abstractcs, Dmi, DmiFault, Progbuf0, Progbuf1};
+use crate::transfers::EXCEPTION;
+use arrayvec::ArrayVec;
+use debug_model::{AbstractCommand, Abstractcs, Data0, Data1, Dmi, DmiOp, Progbuf0, Progbuf1};
 use rv_model::{Size, register_number};
 
-/// The number of x8, which holds the address of an access.
+/// The number of x8, which holds the address of an access, and then what was loaded.
 pub const X8: u16 = register_number::X0 + 8;
 
-/// The number of x9, which holds its value.
+/// The number of x9, which holds what is stored.
 pub const X9: u16 = register_number::X0 + 9;
 
 /// `ebreak`
 const EBREAK: u32 = 0x0010_0073;
 
-/// `lbu x9, 0(x8)`, and the same for 2, 4 and 8 bytes.
-const LBU: u32 = 0x0004_4483;
+/// `lbu x8, 0(x8)`, and the same for 2, 4 and 8 bytes.
+const LBU: u32 = 0x0004_4403;
 
-const LHU: u32 = 0x0004_5483;
+const LHU: u32 = 0x0004_5403;
 
-const LWU: u32 = 0x0004_6483;
+const LWU: u32 = 0x0004_6403;
 
-const LD: u32 = 0x0004_3483;
+const LD: u32 = 0x0004_3403;
 
 /// `sb x9, 0(x8)`, and the same for 2, 4 and 8 bytes.
 const SB: u32 = 0x0094_0023;
@@ -41,7 +42,7 @@ const SW: u32 = 0x0094_2023;
 
 const SD: u32 = 0x0094_3023;
 
-/// The instruction that loads so many bytes into x9, the upper bits 0.
+/// The instruction that loads so many bytes from the address in x8 into x8, the upper bits 0.
 pub fn load_of(size: Size) -> u32
     ensures { result ≡ load_word size }
 {
@@ -53,7 +54,7 @@ pub fn load_of(size: Size) -> u32
     }
 }
 
-/// The instruction that stores so many bytes of x9.
+/// The instruction that stores so many bytes of x9 at the address in x8.
 pub fn store_of(size: Size) -> u32
     ensures { result ≡ store_word size }
 {
@@ -65,16 +66,26 @@ pub fn store_of(size: Size) -> u32
     }
 }
 
-/// Writes an instruction and `ebreak` into the program buffer.
-fn write_program<D: Dmi>(link: &mut D, instruction: u32) -> Result<(), DmiFault>
+/// Writes an instruction and `ebreak` into the program buffer and this address into x8, and executes it: all goes with the first poll for its end.
+/// Answers `abstractcs` as the last poll showed it; an error is cleared.
+fn run_program<D: Dmi>(link: &mut D, instruction: u32, address: u64) -> Result<u32, AccessFault>
     requires callable { CanCall (D.seen link.old) }
-    ensures did { OnOk result (Did (told (D.seen link.old)) (program_written instruction) (told (D.seen link.new))) }
-    ensures broke { IfErr result (Breaks (BrokeIn (ProgramBegun instruction)) (D.seen link.old) (D.seen link.new)) }
-    ensures keeps { Keeps Some (D.seen link.old) (D.seen link.new) result }
+    ensures ran { IfOk result (λ last. RanCommand (program_set instruction address) program_word last (told (D.seen link.old)) (told (D.seen link.new))) }
+    ensures failed { IfErr result (Fails (CommandFailed (program_set instruction address) program_word) (D.seen link.old) (D.seen link.new)) }
+    ensures keeps { Keeps access_why (D.seen link.old) (D.seen link.new) result }
 {
-    link.write(Progbuf0::ADDRESS, instruction)?;
-    link.write(Progbuf1::ADDRESS, EBREAK)?;
-    Ok(())
+    let operations = [
+        DmiOp::Write(Progbuf0::ADDRESS, instruction),
+        DmiOp::Write(Progbuf1::ADDRESS, EBREAK),
+        DmiOp::Write(Data0::ADDRESS, low_word(address)),
+        DmiOp::Write(Data1::ADDRESS, high_word(address)),
+        DmiOp::Write(AbstractCommand::ADDRESS, program_of(X8).word()),
+        DmiOp::Read(Abstractcs::ADDRESS),
+    ];
+    let mut words = ArrayVec::new();
+    link.many(&operations, &mut words)?;
+    let last = end_command(link, words[5])?;
+    Ok(last)
 }
 
 /// Executes one instruction of the selected hart, with this address in x8. `Memory` where it met an exception.
@@ -84,9 +95,7 @@ pub fn perform<D: Dmi>(link: &mut D, instruction: u32, address: u64) -> Result<(
     ensures failed { IfErr result (Fails (PerformFailed instruction address) (D.seen link.old) (D.seen link.new)) }
     ensures keeps { Keeps access_why (D.seen link.old) (D.seen link.new) result }
 {
-    write_program(link, instruction)?;
-    write_register(link, X8, address)?;
-    let last = run_command(link, program())?;
+    let last = run_program(link, instruction, address)?;
     match Abstractcs::from_word(last).cmderr {
         0 => Ok(()),
         EXCEPTION => Err(AccessFault::Memory(address)),

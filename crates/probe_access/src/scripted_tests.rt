@@ -23,7 +23,7 @@ const EXCEPTION: u32 = 0x0400_0302;
 /// `cmderr` 2.
 const UNSUPPORTED: u32 = 0x0400_0202;
 
-/// The script has ended.
+/// No answer is left.
 pub(crate) const ENDED: AccessFault = AccessFault::Dmi(DmiFault::Wire(WireFault::RecvFailed));
 
 /// The words of an opening, and of a Look that sees the hart halted.
@@ -172,34 +172,27 @@ fn loads_blocks(rt: HostRuntime) {
     let cases: [(&[u32], Result<(), AccessFault>, usize, Option<u64>); 4] = [
         (
             &[
-                IDLE, 8, 0, IDLE, 9, 0, IDLE, IDLE, IDLE, 0x1000, 0, IDLE, IDLE, IDLE, 8, 0, IDLE,
-                9, 0, IDLE, IDLE, IDLE, 0x0234, 0, IDLE, IDLE,
+                IDLE, 8, 0, IDLE, IDLE, 0x1000, 0, IDLE, IDLE, 8, 0, IDLE, IDLE, 0x0234, 0, IDLE,
             ],
             Ok(()),
             2,
             Some(0x0234),
         ),
         (
-            &[IDLE, 8, 0, IDLE, 9, 0, IDLE, EXCEPTION, IDLE, IDLE],
+            &[IDLE, 8, 0, EXCEPTION, IDLE],
             Err(AccessFault::Memory(0x8000_0000)),
             0,
             None,
         ),
         (
             &[
-                IDLE, 8, 0, IDLE, 9, 0, IDLE, IDLE, IDLE, 0x1000, 0, IDLE, IDLE, IDLE, 8, 0, IDLE,
-                9, 0, IDLE, EXCEPTION, IDLE, IDLE,
+                IDLE, 8, 0, IDLE, IDLE, 0x1000, 0, IDLE, IDLE, 8, 0, EXCEPTION, IDLE,
             ],
             Err(AccessFault::Memory(0x8000_0004)),
             1,
             Some(0x1000),
         ),
-        (
-            &[IDLE, 8, 0, IDLE, 9, 0, IDLE, IDLE, IDLE, 0x1000, 0, IDLE],
-            Err(ENDED),
-            0,
-            None,
-        ),
+        (&[IDLE, 8, 0, IDLE, IDLE, 0x1000, 0], Err(ENDED), 0, None),
     ];
     for (words, end, count, last) in cases {
         let mut link = opened(words);
@@ -226,20 +219,20 @@ fn stores_blocks(rt: HostRuntime) {
     let cases: [(&[u32], Result<(), Fault>); 3] = [
         (
             &[
-                IDLE, 8, 0, IDLE, 9, 0, IDLE, IDLE, IDLE, IDLE, IDLE, IDLE, 8, 0, IDLE, 9, 0, IDLE,
-                IDLE, IDLE, IDLE, IDLE,
+                IDLE, 8, 0, IDLE, 9, 0, IDLE, IDLE, IDLE, IDLE, IDLE, 8, 0, IDLE, 9, 0, IDLE, IDLE,
+                IDLE, IDLE,
             ],
             Ok(()),
         ),
         (
             &[
-                IDLE, 8, 0, IDLE, 9, 0, IDLE, IDLE, IDLE, IDLE, IDLE, IDLE, 8, 0, IDLE, 9, 0, IDLE,
-                IDLE, EXCEPTION, IDLE, IDLE,
+                IDLE, 8, 0, IDLE, 9, 0, IDLE, IDLE, IDLE, IDLE, IDLE, 8, 0, IDLE, 9, 0, IDLE,
+                EXCEPTION, IDLE, IDLE,
             ],
             Err(Fault::Access(AccessFault::Memory(0x8000_0001))),
         ),
         (
-            &[IDLE, 8, 0, IDLE, 9, 0, IDLE, IDLE, 0x0400_0402],
+            &[IDLE, 8, 0, IDLE, 9, 0, IDLE, 0x0400_0402],
             Err(Fault::Access(AccessFault::Odd(OddStatus::Abstractcs(0x0400_0402)))),
         ),
     ];

@@ -20,7 +20,7 @@ const BUSY: u32 = 0x0400_1002;
 /// `cmderr` 3.
 const EXCEPTION: u32 = 0x0400_0302;
 
-/// The script has ended.
+/// No answer is left.
 const ENDED: AccessFault = AccessFault::Dmi(DmiFault::Wire(WireFault::RecvFailed));
 
 /// Operations that answer so many busy polls first, and then these words.
@@ -95,29 +95,25 @@ fn writes_a_register(rt: HostRuntime) {
 #[test]
 fn loads(rt: HostRuntime) {
     let address = 0x8000_0010;
-    let cases: [(&[u32], Result<u64, AccessFault>); 5] = [
+    let cases: [(&[u32], Result<u64, AccessFault>); 6] = [
         (
-            &[
-                IDLE, 8, 0, IDLE, 9, 0, IDLE, IDLE, IDLE, 0x55, 0x66, IDLE, IDLE,
-            ],
+            &[IDLE, 8, 0, IDLE, IDLE, 0x55, 0x66, IDLE],
             Ok(0x66_0000_0055),
         ),
         (
-            &[IDLE, 8, 0, IDLE, 9, 0, IDLE, EXCEPTION, IDLE, IDLE],
+            &[IDLE, 8, 0, EXCEPTION, IDLE],
             Err(AccessFault::Memory(address)),
         ),
         (
-            &[IDLE, 8, 0, IDLE, 9, 0, IDLE, 0x0400_0102],
+            &[IDLE, 8, 0, 0x0400_0102],
             Err(AccessFault::Odd(OddStatus::Abstractcs(0x0400_0102))),
         ),
         (
-            &[IDLE, 8, 0, IDLE, 9, 0, IDLE, EXCEPTION, IDLE, 0x0400_0402],
+            &[IDLE, 8, 0, EXCEPTION, 0x0400_0402],
             Err(AccessFault::Odd(OddStatus::Abstractcs(0x0400_0402))),
         ),
-        (
-            &[IDLE, 8, 0, IDLE, 9, 0, EXCEPTION, IDLE, IDLE],
-            Err(AccessFault::Register(0x1008)),
-        ),
+        (&[IDLE, 8, 0, IDLE, IDLE, 0x55, 0x66], Err(ENDED)),
+        (&[EXCEPTION], Err(AccessFault::Register(0x1008))),
     ];
     for (words, wanted) in cases {
         let mut link = behind_busy(0, words);
@@ -129,18 +125,12 @@ fn loads(rt: HostRuntime) {
 fn stores(rt: HostRuntime) {
     let address = 0x8000_0010;
     let cases: [(&[u32], Result<(), AccessFault>); 3] = [
+        (&[IDLE, 8, 0, IDLE, 9, 0, IDLE, IDLE, IDLE, IDLE], Ok(())),
         (
-            &[IDLE, 8, 0, IDLE, 9, 0, IDLE, IDLE, IDLE, IDLE, IDLE],
-            Ok(()),
-        ),
-        (
-            &[IDLE, 8, 0, IDLE, 9, 0, IDLE, IDLE, EXCEPTION, IDLE, IDLE],
+            &[IDLE, 8, 0, IDLE, 9, 0, IDLE, EXCEPTION, IDLE, IDLE],
             Err(AccessFault::Memory(address)),
         ),
-        (
-            &[IDLE, 8, 0, IDLE, 9, 0, IDLE, IDLE, EXCEPTION, IDLE],
-            Err(ENDED),
-        ),
+        (&[IDLE, 8, 0, IDLE, 9, 0, IDLE, EXCEPTION, IDLE], Err(ENDED)),
     ];
     for (words, wanted) in cases {
         let mut link = behind_busy(0, words);

@@ -4,8 +4,8 @@ ghost use Rattle.debug_model.specs.Kept.{CanCall, Keeps};
 ghost use Rattle.probe_run.specs.Told.{Fails, told};
 ghost use Rattle.probe_access.specs.Faults.{access_why};
 
-use crate::commands::{run_command, transfer_of};
-use crate::doubles::{read_double, write_double};
+use crate::commands::{run_command, run_with, transfer_of};
+use crate::doubles::read_double;
 use crate::fault::AccessFault;
 use crate::odd::OddStatus;
 use debug_model::{Abstractcs, Dmi};
@@ -38,8 +38,7 @@ pub fn write_register<D: Dmi>(link: &mut D, register: u16, value: u64) -> Result
     ensures failed { IfErr result (Fails (WriteFailed register value) (D.seen link.old) (D.seen link.new)) }
     ensures keeps { Keeps access_why (D.seen link.old) (D.seen link.new) result }
 {
-    write_double(link, value)?;
-    let last = run_command(link, transfer_of(register, true))?;
+    let last = run_with(link, value, transfer_of(register, true))?;
     match Abstractcs::from_word(last).cmderr {
         0 => Ok(()),
         EXCEPTION => Err(AccessFault::Register(register)),

@@ -16,7 +16,7 @@ use Rattle.debug_model.specs.Dmi.{IsOperation}
 use Rattle.debug_model.specs.Scan.{capture, dr_inside, dr_stays, dtm_of, ticks, update}
 use Rattle.debug_model.specs.Transport.{Dtm, dmi_seen, launched, operation_of, seen, sets_busy, updated_dtm}
 use Rattle.debug_model.specs.TransportWords.{dmi_of}
-use Rattle.probe_dmi.specs.Operations.{carrying, nop}
+use Rattle.debug_model.specs.Asked.{carrying, nop}
 use Rattle.probe_dmi.specs.Registers.{dmi_bits}
 use Rattle.probe_dmi.proofs.Counts.{counts_in, course_losses, losses_one, scan_found, scan_losses, ticks_busy}
 use Rattle.probe_dmi.proofs.Flight.{Phase, Settled, Waiting, settle_ticks, ticks_sticky, wait_ticks}

@@ -5,10 +5,10 @@ use Rattle.debug_model.specs.declared.dmi.DmiFault.TheVariants.{Wire}
 use Rattle.debug_model.specs.declared.dmi_op.DmiOp.{DmiOp}
 use Rattle.debug_model.specs.declared.dmi_scan.DmiScan.{DmiScan}
 use Rattle.debug_model.specs.declared.wire.WireFault.{WireFault}
-use Rattle.debug_model.specs.Dmi.{DmiScript, IsDmi, Scans, TookAll, WasDone, WhereScanned, heard, scanned_script}
+use Rattle.debug_model.specs.Dmi.{DmiComing, IsDmi, Scans, TookAll, WasDone, WhereScanned, heard, scanned_coming}
 use Rattle.debug_model.specs.Many.{AnswersAll, FetchedAll, HeardManyBusy, HeardManyFailed, ManyCause, Streamed}
 use Rattle.debug_model.specs.Many.Streamed.{none_yet, found_busy, took_first, took_next}
-use Rattle.debug_model.specs.Scan.{ScanCause, Script}
+use Rattle.debug_model.specs.Scan.{Coming, ScanCause}
 use Rattle.debug_model.specs.Told.{Far}
 use Rattle.probe_dmi.specs.Operations.{kept}
 use Rattle.probe_dmi.specs.Registers.{HeardDmi, HeardNumber, TookDmi, TookNumber}
@@ -17,20 +17,20 @@ use Rattle.debug_model.specs.Scan.{WrongIn}
 
 -- ---- the scans so far, of so many operations, of which some are left
 
-pub record StreamedIn (total left busy : ℕ) (flight : Bool) (results : List ℕ) (script : Script) (new : Option Script) : Type 0 where
+pub record StreamedIn (total left busy : ℕ) (flight : Bool) (results : List ℕ) (coming : Coming) (new : Option Coming) : Type 0 where
   pub taken : ℕ
   pub count : taken + left ≡ total
   pub outs : List (List Bool)
   pub streamed : Streamed taken busy flight results outs
-  pub next : Script
+  pub next : Coming
   pub is : new ≡ Some next
-  pub took : TookAll outs script next
+  pub took : TookAll outs coming next
 
-abbrev pub HeardSoFar : ℕ → ℕ → ℕ → Bool → List ℕ → Option Script → Option Script → Type 0
+abbrev pub HeardSoFar : ℕ → ℕ → ℕ → Bool → List ℕ → Option Coming → Option Coming → Type 0
 HeardSoFar total left busy flight results None new = new ≡ None
-HeardSoFar total left busy flight results (Some script) new = StreamedIn total left busy flight results script new
+HeardSoFar total left busy flight results (Some coming) new = StreamedIn total left busy flight results coming new
 
-pub heard_begun : (total : ℕ) (results : List ℕ) (old new : Option Script) → results ≡ [] → new ≡ old → HeardSoFar total total 0 false results old new
+pub heard_begun : (total : ℕ) (results : List ℕ) (old new : Option Coming) → results ≡ [] → new ≡ old → HeardSoFar total total 0 false results old new
 heard_begun total results None new none same = same
 heard_begun total results (Some s) new none same = record { taken = 0; count = omega arith; outs = []; streamed = subst (λ xs. Streamed 0 0 false xs []) (sym none) none_yet; next = s; is = same; took = refl }
 
@@ -54,10 +54,10 @@ next_streamed taken busy false results outs value bits is few width done s =
 next_streamed taken busy true results outs value bits is few width done s =
     subst (λ n. Streamed (suc taken) 0 true (results ++ n ∷ []) (outs ++ bits ∷ [])) (sym is) (took_next taken busy results outs s few bits width done)
 
-pub heard_on : (total left left' busy : ℕ) (flight : Bool) (results results' : List ℕ) (out : DmiScan) (old mid new : Option Script) → busy < 64 → out.op ≡ 0 → results' ≡ kept flight out.value results → left' + 1 ≡ left → HeardSoFar total left busy flight results old mid → HeardDmi out mid new
+pub heard_on : (total left left' busy : ℕ) (flight : Bool) (results results' : List ℕ) (out : DmiScan) (old mid new : Option Coming) → busy < 64 → out.op ≡ 0 → results' ≡ kept flight out.value results → left' + 1 ≡ left → HeardSoFar total left busy flight results old mid → HeardDmi out mid new
     → HeardSoFar total left' 0 true results' old new
 heard_on total left left' busy flight results results' out None mid new few done kept_is fewer s h = subst (λ m. HeardDmi out m new) s h
-heard_on total left left' busy flight results results' out (Some script) mid new few done kept_is fewer s h =
+heard_on total left left' busy flight results results' out (Some coming) mid new few done kept_is fewer s h =
     let d : TookDmi out s.next new = subst (λ m. HeardDmi out m new) s.is h in
     let x = took_some d.bits s.next new d.took in
     record {
@@ -67,13 +67,13 @@ heard_on total left left' busy flight results results' out (Some script) mid new
       streamed = subst (λ rs. Streamed (suc s.taken) 0 true rs (s.outs ++ d.bits ∷ [])) (sym kept_is) (next_streamed s.taken busy flight results s.outs out.value d.bits (ap (λ (y : DmiScan). y.value) d.is) few d.width (op_of out d.bits 0 d.is done) s.streamed);
       next = x.next;
       is = x.is;
-      took = took_all_then s.outs (d.bits ∷ []) script s.next x.next s.took (took_one d.bits s.next new x.next d.took x.is);
+      took = took_all_then s.outs (d.bits ∷ []) coming s.next x.next s.took (took_one d.bits s.next new x.next d.took x.is);
     }
 
-pub heard_busy_again : (total left busy : ℕ) (flight : Bool) (results : List ℕ) (out : DmiScan) (value : ℕ) (old mid last new : Option Script) → out.op ≢ 0 → out.op ≢ 2 → HeardSoFar total left busy flight results old mid → HeardDmi out mid last → HeardNumber value last new
+pub heard_busy_again : (total left busy : ℕ) (flight : Bool) (results : List ℕ) (out : DmiScan) (value : ℕ) (old mid last new : Option Coming) → out.op ≢ 0 → out.op ≢ 2 → HeardSoFar total left busy flight results old mid → HeardDmi out mid last → HeardNumber value last new
     → HeardSoFar total left (busy + 1) flight results old new
 heard_busy_again total left busy flight results out value None mid last new undone unfailed s h k = subst (λ m. HeardNumber value m new) (subst (λ m. HeardDmi out m last) s h) k
-heard_busy_again total left busy flight results out value (Some script) mid last new undone unfailed s h k =
+heard_busy_again total left busy flight results out value (Some coming) mid last new undone unfailed s h k =
     let d : TookDmi out s.next last = subst (λ m. HeardDmi out m last) s.is h in
     let x = took_some d.bits s.next last d.took in
     let w : TookNumber value x.next new = subst (λ m. HeardNumber value m new) x.is k in
@@ -86,19 +86,19 @@ heard_busy_again total left busy flight results out value (Some script) mid last
       streamed = subst (λ m. Streamed s.taken m flight results (s.outs ++ (d.bits ∷ w.bits ∷ []))) more (found_busy s.taken busy flight results s.outs s.streamed d.bits w.bits d.width (was_busy out d.bits d.is undone unfailed) w.width);
       next = y.next;
       is = y.is;
-      took = took_all_then s.outs (d.bits ∷ w.bits ∷ []) script s.next y.next s.took
+      took = took_all_then s.outs (d.bits ∷ w.bits ∷ []) coming s.next y.next s.took
           (took_two d.bits w.bits s.next x.next y.next (took_one d.bits s.next last x.next d.took x.is) (took_one w.bits x.next new y.next w.took y.is));
     }
 
-pub heard_all : (ops : List DmiOp) (left busy : ℕ) (flight : Bool) (results results' : List ℕ) (out : DmiScan) (old mid new : Option Script) → busy < 64 → out.op ≡ 0 → flight ≡ true → results' ≡ kept flight out.value results → left ≡ 0
+pub heard_all : (ops : List DmiOp) (left busy : ℕ) (flight : Bool) (results results' : List ℕ) (out : DmiScan) (old mid new : Option Coming) → busy < 64 → out.op ≡ 0 → flight ≡ true → results' ≡ kept flight out.value results → left ≡ 0
     → HeardSoFar (length ops) left busy flight results old mid → HeardDmi out mid new → AnswersAll ops results' (option_map Scans old) (option_map Scans new)
 heard_all ops left busy flight results results' out None mid new few done one kept_is none s h = ap (option_map Scans) (subst (λ m. HeardDmi out m new) s h)
-heard_all ops left busy flight results results' out (Some script) mid new few done one kept_is none s h =
+heard_all ops left busy flight results results' out (Some coming) mid new few done one kept_is none s h =
     let d : TookDmi out s.next new = subst (λ m. HeardDmi out m new) s.is h in
     let x = took_some d.bits s.next new d.took in
     let all : s.taken ≡ length ops = omega (arith, s.count, none) in
     let streamed : Streamed s.taken busy true results s.outs = subst (λ b. Streamed s.taken busy b results s.outs) one s.streamed in
-    let f : FetchedAll (length ops) results' script x.next = record {
+    let f : FetchedAll (length ops) results' coming x.next = record {
       busy_answers = busy;
       few = few;
       earlier = results;
@@ -108,14 +108,14 @@ heard_all ops left busy flight results results' out (Some script) mid new few do
       width = d.width;
       done = op_of out d.bits 0 d.is done;
       results_are = kept_is ∙ ap (λ b. kept b out.value results) one ∙ ap (λ (y : DmiScan). results ++ y.value ∷ []) d.is;
-      took = took_all_then s.outs (d.bits ∷ []) script s.next x.next s.took (took_one d.bits s.next new x.next d.took x.is);
+      took = took_all_then s.outs (d.bits ∷ []) coming s.next x.next s.took (took_one d.bits s.next new x.next d.took x.is);
     } in
     (x.next, f, ap (option_map Scans) x.is)
 
-pub heard_many_failed : (total left busy : ℕ) (flight : Bool) (results : List ℕ) (out : DmiScan) (old mid new : Option Script) → busy < 64 → out.op ≡ 2 → HeardSoFar total left busy flight results old mid → HeardDmi out mid new
+pub heard_many_failed : (total left busy : ℕ) (flight : Bool) (results : List ℕ) (out : DmiScan) (old mid new : Option Coming) → busy < 64 → out.op ≡ 2 → HeardSoFar total left busy flight results old mid → HeardDmi out mid new
     → IfSome (option_map Scans old) (WhereScanned (HeardManyFailed total))
 heard_many_failed total left busy flight results out None mid new few gone s h = tt
-heard_many_failed total left busy flight results out (Some script) mid new few gone s h =
+heard_many_failed total left busy flight results out (Some coming) mid new few gone s h =
     let d : TookDmi out s.next new = subst (λ m. HeardDmi out m new) s.is h in
     let x = took_some d.bits s.next new d.took in
     record {
@@ -131,12 +131,12 @@ heard_many_failed total left busy flight results out (Some script) mid new few g
       width = d.width;
       failed = op_of out d.bits 2 d.is gone;
       new = x.next;
-      took = took_all_then s.outs (d.bits ∷ []) script s.next x.next s.took (took_one d.bits s.next new x.next d.took x.is);
+      took = took_all_then s.outs (d.bits ∷ []) coming s.next x.next s.took (took_one d.bits s.next new x.next d.took x.is);
     }
 
-pub heard_many_busy : (total left busy : ℕ) (flight : Bool) (results : List ℕ) (old mid : Option Script) → busy ≡ 64 → HeardSoFar total left busy flight results old mid → IfSome (option_map Scans old) (WhereScanned (HeardManyBusy total))
+pub heard_many_busy : (total left busy : ℕ) (flight : Bool) (results : List ℕ) (old mid : Option Coming) → busy ≡ 64 → HeardSoFar total left busy flight results old mid → IfSome (option_map Scans old) (WhereScanned (HeardManyBusy total))
 heard_many_busy total left busy flight results None mid many s = tt
-heard_many_busy total left busy flight results (Some script) mid many s = record {
+heard_many_busy total left busy flight results (Some coming) mid many s = record {
   taken = s.taken;
   some = omega (arith, s.count);
   flight = flight;
@@ -149,10 +149,10 @@ heard_many_busy total left busy flight results (Some script) mid many s = record
 
 -- ---- where a bad answer stood
 
-pub stream_through : (total left busy : ℕ) (flight : Bool) (results : List ℕ) (old new : Option Script) → HeardSoFar total left busy flight results old new → Through old new
+pub stream_through : (total left busy : ℕ) (flight : Bool) (results : List ℕ) (old new : Option Coming) → HeardSoFar total left busy flight results old new → Through old new
 stream_through total left busy flight results None new s b w = tt
-stream_through total left busy flight results (Some script) new s b w = all_through b s.outs script s.next s.took (subst (λ m. IfSome m (WrongIn b)) s.is w)
+stream_through total left busy flight results (Some coming) new s b w = all_through b s.outs coming s.next s.took (subst (λ m. IfSome m (WrongIn b)) s.is w)
 
-pub many_cause : {T : Type 0} (total old new : ℕ) (was told : Option Far) (script : Option DmiScript) (fault : WireFault) (result : Result T DmiFault) → IsErrAnd result (λ e. e ≡ Wire fault) → ScanCause old new told (scanned_script script) fault → IfErr result (ManyCause total old new was told script)
-many_cause total old new was told script fault (Ok x) h cause = tt
-many_cause total old new was told script fault (Err e) h cause = subst (ManyCause total old new was told script) (sym h) cause
+pub many_cause : {T : Type 0} (total old new : ℕ) (was told : Option Far) (coming : Option DmiComing) (fault : WireFault) (result : Result T DmiFault) → IsErrAnd result (λ e. e ≡ Wire fault) → ScanCause old new told (scanned_coming coming) fault → IfErr result (ManyCause total old new was told coming)
+many_cause total old new was told coming fault (Ok x) h cause = tt
+many_cause total old new was told coming fault (Err e) h cause = subst (ManyCause total old new was told coming) (sym h) cause

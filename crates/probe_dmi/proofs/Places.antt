@@ -13,7 +13,7 @@ use Rattle.debug_model.specs.Dmi.AtMostOnce.{not_sent}
 use Rattle.debug_model.specs.Many.{NextAtMostOnce, op_of}
 use Rattle.debug_model.specs.Scan.{dr_inside, dtm_of, ticks}
 use Rattle.debug_model.specs.Transport.{dmi_seen}
-use Rattle.probe_dmi.specs.Operations.{first_scan, nop}
+use Rattle.debug_model.specs.Asked.{first_scan, nop}
 use Rattle.probe_dmi.specs.Registers.{Part, dmi_bits}
 use Rattle.probe_dmi.specs.Registers.Part.{before_capture, behind_capture, behind_update}
 use Rattle.probe_dmi.proofs.Carrying.{Carried, carry, launch_here, nop_here, settled_here, to_update}

@@ -11,8 +11,8 @@ use Rattle.debug_model.specs.Tap.{idcode}
 use Rattle.debug_model.specs.Transport.{dtmcs_seen, fresh_dtm}
 use Rattle.debug_model.specs.TransportWords.{dtmcs_of, dtmcs_word}
 use Rattle.jt_base.specs.BitList.{number_of}
-use Rattle.probe_dmi.specs.Operations.{abits_behind}
-use Rattle.probe_dmi.specs.Registers.{CutFrom, IsWidth, WordScanned, idcode_bits, reset_bits}
+use Rattle.debug_model.specs.Asked.{abits_behind, idcode_bits, reset_bits}
+use Rattle.probe_dmi.specs.Registers.{CutFrom, IsWidth, WordScanned}
 use Rattle.probe_dmi.proofs.Flight.{Settled, ticks_sticky}
 use Rattle.probe_dmi.proofs.Stages.{Harmless, settle_part, settle_scan}
 use Rattle.probe_dmi.proofs.WholeScans.{dtmcs_read, idcode_read}

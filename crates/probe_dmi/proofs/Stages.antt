@@ -17,8 +17,8 @@ use Rattle.debug_model.specs.Scan.{capture, dr_inside, dr_stays, dtm_of, ticks, 
 use Rattle.debug_model.specs.Transport.{Dtm, dmi_seen, finds_busy, launched, operation_of, seen, status_number, updated_dtm}
 use Rattle.debug_model.specs.TransportWords.{dmi_of}
 use Rattle.debug_model.specs.Dmi.{IsOperation}
-use Rattle.probe_dmi.specs.Operations.{carrying, nop}
-use Rattle.probe_dmi.specs.Registers.{Part, dmi_bits, idcode_bits, reset_bits}
+use Rattle.debug_model.specs.Asked.{carrying, idcode_bits, nop, reset_bits}
+use Rattle.probe_dmi.specs.Registers.{Part, dmi_bits}
 use Rattle.probe_dmi.specs.Registers.Part.{before_capture, behind_capture, behind_update}
 use Rattle.probe_dmi.proofs.Counts.{counts_in, course_losses, losses_one, scan_found, scan_losses, scan_unfound}
 use Rattle.probe_dmi.proofs.Flight.{Phase, Settled, Waiting, alike, settle_ticks, ticks_sticky, wait_capture, wait_ticks}

@@ -14,8 +14,9 @@ use Rattle.debug_model.specs.Dmi.{FoundBusy, IsOperation, LostOne}
 use Rattle.debug_model.specs.Many.{OperatedAll, OperationsCut, op_of}
 use Rattle.debug_model.specs.Scan.{WhereTold, dr_inside, dtm_of}
 use Rattle.debug_model.specs.Told.{Far, IsClean, chip_of, site_of}
-use Rattle.probe_dmi.specs.Operations.{first_scan, kept, nop}
-use Rattle.probe_dmi.specs.Registers.{CutFrom, DmiScanned, WordScanned, dmi_bits, reset_bits}
+use Rattle.probe_dmi.specs.Operations.{kept}
+use Rattle.debug_model.specs.Asked.{first_scan, nop, reset_bits}
+use Rattle.probe_dmi.specs.Registers.{CutFrom, DmiScanned, WordScanned, dmi_bits}
 use Rattle.probe_dmi.proofs.Carrying.{Carried, nop_here, to_update}
 use Rattle.probe_dmi.proofs.Carrying.Carried.{going_on, came_back, got_lost}
 use Rattle.probe_dmi.proofs.Counts.{counts_in, course_losses}

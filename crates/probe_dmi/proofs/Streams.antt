@@ -14,7 +14,8 @@ use Rattle.debug_model.specs.Dmi.{IsOperation}
 use Rattle.debug_model.specs.Many.{OperationsCut, answer_of, op_of}
 use Rattle.debug_model.specs.Scan.{WhereTold, dr_inside, dtm_of, ticks}
 use Rattle.debug_model.specs.Told.{Far, IsClean, chip_of, site_of}
-use Rattle.probe_dmi.specs.Operations.{carrying, kept}
+use Rattle.probe_dmi.specs.Operations.{kept}
+use Rattle.debug_model.specs.Asked.{carrying}
 use Rattle.probe_dmi.specs.Registers.{DmiScanned, Prepared, Waited, dmi_bits}
 use Rattle.probe_dmi.proofs.Carrying.{Carried, carry, launch_here, scan_busy, settled_here, to_update}
 use Rattle.probe_dmi.proofs.Carrying.Carried.{going_on, came_back, got_lost}

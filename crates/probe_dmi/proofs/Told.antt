@@ -16,8 +16,8 @@ use Rattle.debug_model.specs.Scan.{WhereTold, dr_inside, dtm_of, ticks}
 use Rattle.debug_model.specs.Told.{DtmClean, Far, IsClean, chip_of, site_of}
 use Rattle.debug_model.specs.Transport.{dmi_seen}
 use Rattle.debug_model.specs.Dmi.{IsOperation}
-use Rattle.probe_dmi.specs.Operations.{carrying, next_scan, nop}
-use Rattle.probe_dmi.specs.Registers.{CutFrom, DmiScanned, Prepared, Waited, WordScanned, dmi_bits, reset_bits}
+use Rattle.debug_model.specs.Asked.{carrying, next_scan, nop, reset_bits}
+use Rattle.probe_dmi.specs.Registers.{CutFrom, DmiScanned, Prepared, Waited, WordScanned, dmi_bits}
 use Rattle.probe_dmi.proofs.Counts.{counts_in, ticks_busy}
 use Rattle.probe_dmi.proofs.Flight.{Settled, Waiting, settle_ticks, ticks_sticky}
 use Rattle.probe_dmi.proofs.Stages.{Outcome, Reached, Sent, Stage, await, launch_busy, launch_part, launch_scan, nop_part, ready_op, reset_count, reset_part, reset_wait, settle_reached, stage_reached, wait_reached}

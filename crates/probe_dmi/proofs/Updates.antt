@@ -6,9 +6,9 @@ use Rattle.debug_model.specs.declared.sticky.Sticky.{Sticky}
 use Rattle.debug_model.specs.declared.sticky.Sticky.TheVariants.{Clear, Failed, Busy}
 use Rattle.debug_model.specs.Course.{in_update, launches_by}
 use Rattle.debug_model.specs.Transport.{Dtm, cleared_by, controlled, launched, updated_dtm}
-use Rattle.probe_dmi.specs.Operations.{nop}
+use Rattle.debug_model.specs.Asked.{idcode_bits, nop, reset_bits}
 use Rattle.probe_dmi.proofs.WholeScans.{asks_nothing, asks_reset}
-use Rattle.probe_dmi.specs.Registers.{dmi_bits, idcode_bits, reset_bits}
+use Rattle.probe_dmi.specs.Registers.{dmi_bits}
 
 pub record Keeps (r : DataRegister) (bits : List Bool) (d : Dtm) : Type 0 where
   pub none : in_update r bits d ≡ []

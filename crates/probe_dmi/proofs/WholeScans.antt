@@ -17,8 +17,8 @@ use Rattle.debug_model.specs.Transport.{Dtm, captured_bits, dmi_seen, dtmcs_seen
 use Rattle.debug_model.specs.TransportWords.{dmi_of, dmi_word, dtmcs_of, dtmcs_word}
 use Rattle.debug_model.proofs.Cuts.{comes_out_all, stays_all}
 use Rattle.debug_model.specs.Dmi.{IsOperation}
-use Rattle.probe_dmi.specs.Operations.{carrying, nop}
-use Rattle.probe_dmi.specs.Registers.{dmi_bits, idcode_bits, reset_bits}
+use Rattle.debug_model.specs.Asked.{carrying, idcode_bits, nop, reset_bits}
+use Rattle.probe_dmi.specs.Registers.{dmi_bits}
 
 same_length : (n v w : ℕ) → length (bits_of n v) ≡ length (bits_of n w)
 same_length n v w = length-bits_of n v ∙ sym (length-bits_of n w)

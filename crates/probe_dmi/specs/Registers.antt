@@ -7,7 +7,7 @@ use Rattle.debug_model.specs.declared.data_register.DataRegister.TheVariants.{Dm
 use Rattle.debug_model.specs.declared.dmi_scan.DmiScan.{DmiScan}
 use Rattle.debug_model.specs.Chip.{Chip, Inside}
 use Rattle.debug_model.specs.Dmi.{IsAtRest, IsDmi, heard}
-use Rattle.debug_model.specs.Scan.{Script, TookOut, capture, dr_inside, dr_out, ticks}
+use Rattle.debug_model.specs.Scan.{Coming, TookOut, capture, dr_inside, dr_out, ticks}
 use Rattle.debug_model.specs.Told.{Far, IsFree, IsOpen, IsRead, chip_of}
 use Rattle.debug_model.specs.Transport.{dmi_width, dtmcs_width, idcode_width, width_of}
 use Rattle.debug_model.specs.TransportWords.{address_bits, dmi_word, dtmcs_word}
@@ -72,14 +72,6 @@ pub record CutFrom (r : DataRegister) (bits : List Bool) (c : Chip) (new : Optio
 
 -- ---- the registers of the transport
 
--- the bits of a scan that only reads
-abbrev pub idcode_bits : List Bool
-idcode_bits = bits_of idcode_width 0
-
--- dmireset and nothing else
-abbrev pub reset_bits : List Bool
-reset_bits = bits_of dtmcs_width (dtmcs_word (record { dtmhardreset = false; dmireset = true; idle = 0; dmistat = 0; abits = 0; version = 0 }))
-
 abbrev pub dmi_bits : DmiScan → List Bool
 dmi_bits s = bits_of dmi_width (dmi_word s)
 
@@ -96,22 +88,22 @@ pub record DmiScanned (sent out : DmiScan) (c : Chip) (new : Option Far) : Type 
 
 -- ---- what is heard of a scripted one
 
-pub record TookDmi (out : DmiScan) (script : Script) (new : Option Script) : Type 0 where
+pub record TookDmi (out : DmiScan) (coming : Coming) (new : Option Coming) : Type 0 where
   pub bits : List Bool
   pub is : out ≡ heard bits
   pub width : IsDmi bits
-  pub took : TookOut bits script new
+  pub took : TookOut bits coming new
 
-abbrev pub HeardDmi : DmiScan → Option Script → Option Script → Type 0
+abbrev pub HeardDmi : DmiScan → Option Coming → Option Coming → Type 0
 HeardDmi out None new = new ≡ None
-HeardDmi out (Some script) new = TookDmi out script new
+HeardDmi out (Some coming) new = TookDmi out coming new
 
-pub record TookNumber (value : ℕ) (script : Script) (new : Option Script) : Type 0 where
+pub record TookNumber (value : ℕ) (coming : Coming) (new : Option Coming) : Type 0 where
   pub bits : List Bool
   pub is : value ≡ number_of bits
   pub width : length bits ≡ 32
-  pub took : TookOut bits script new
+  pub took : TookOut bits coming new
 
-abbrev pub HeardNumber : ℕ → Option Script → Option Script → Type 0
+abbrev pub HeardNumber : ℕ → Option Coming → Option Coming → Type 0
 HeardNumber value None new = new ≡ None
-HeardNumber value (Some script) new = TookNumber value script new
+HeardNumber value (Some coming) new = TookNumber value coming new

@@ -2,7 +2,8 @@ ghost use Rattle.std.specs.Prelude.{◌≡◌, ◌≤◌};
 ghost use Rattle.std.proofs.Props.{props};
 ghost use Rattle.debug_model.specs.Dmi.{CanOperate};
 ghost use Rattle.probe_dmi.specs.declared.state.State.TheVariants.{New};
-ghost use Rattle.probe_dmi.specs.Operations.{abits_behind, link_seen};
+ghost use Rattle.probe_dmi.specs.Operations.{link_seen};
+ghost use Rattle.debug_model.specs.Asked.{abits_behind};
 ghost use Rattle.probe_dmi.specs.Pace.{IsPace, never_waits, nothing_learnt};
 ghost use Rattle.probe_dmi.specs.Registers.{IsWidth};
 
@@ -89,7 +90,7 @@ fn abits_behind(found: u8, old: u8) -> u8
 }
 
 impl<S: Scan> Dmi for Link<S> {
-    ghost seen = { λ l. link_seen (S.seen l.registers.scan) l.registers.state };
+    ghost seen = { λ l. link_seen (S.seen l.registers.scan) l.registers.state l.abits };
 
     fn idcode(&mut self) -> Result<u32, DmiFault> {
         let idcode = self.registers.idcode()?;

@@ -1,15 +1,16 @@
-ghost use Rattle.std.specs.Prelude.{◌≡◌, ◌≤◌, Some, OnErr, IfOk, IfErr, option_map};
+ghost use Rattle.std.specs.Prelude.{◌≡◌, ◌≤◌, Some, OnErr, OnOk, IfOk, IfErr, option_map};
 ghost use Rattle.debug_model.specs.Dmi.{Answers, CanOperate, IsOperation, Operated, OperationCut, Scans};
 ghost use Rattle.debug_model.specs.Kept.{Keeps, OperationFails};
 ghost use Rattle.debug_model.specs.Scan.{WhereTold};
 ghost use Rattle.probe_dmi.specs.Pace.{IsPace};
 ghost use Rattle.probe_dmi.specs.Registers.{IsWidth};
-ghost use Rattle.probe_dmi.specs.Operations.{LeavesState, link_seen, next_scan};
+ghost use Rattle.probe_dmi.specs.Operations.{LeavesState, link_seen};
+ghost use Rattle.debug_model.specs.Asked.{AsksOperation, next_scan};
 
 use crate::pace::Pace;
-use crate::register::{DMI_CODE, Registers};
+use crate::register::Registers;
 use crate::state::State;
-use debug_model::{DmiFault, DmiOp, DmiScan, Scan};
+use debug_model::{DmiFault, DmiOp, DmiScan, Scan, instruction_code};
 
 /// The field `op` as it is shifted in (RISC-V Debug Specification 1.0, "Debug Module Interface Access").
 const OP_NOP: u8 = 0;
@@ -63,14 +64,18 @@ impl<S: Scan> Registers<S> {
         ensures operated { IfOk result (λ value. WhereTold (Operated op value) (S.seen self.old.scan).far (S.seen self.new.scan).far) }
         ensures answers { IfOk result (λ value. Answers value (option_map Scans (S.seen self.old.scan).coming)
             (option_map Scans (S.seen self.new.scan).coming)) }
+        ensures asked { OnOk result (AsksOperation op (link_seen (S.seen self.old.scan) self.old.state abits).asked
+            (link_seen (S.seen self.new.scan) self.new.state abits).asked) }
         ensures cut { OnErr result (WhereTold (OperationCut op) (S.seen self.old.scan).far (S.seen self.new.scan).far) }
-        ensures cause { IfErr result (OperationFails (link_seen (S.seen self.old.scan) self.old.state) (link_seen (S.seen self.new.scan) self.new.state)) }
+        ensures cause { IfErr result (OperationFails (link_seen (S.seen self.old.scan) self.old.state abits)
+            (link_seen (S.seen self.new.scan) self.new.state abits)) }
         ensures state { LeavesState self.new.state result }
-        ensures keeps { Keeps Some (link_seen (S.seen self.old.scan) self.old.state) (link_seen (S.seen self.new.scan) self.new.state) result }
+        ensures keeps { Keeps Some (link_seen (S.seen self.old.scan) self.old.state abits)
+            (link_seen (S.seen self.new.scan) self.new.state abits) result }
         ensures pace { IsPace pace.new }
         ensures paced { pace.new.most ≡ pace.old.most }
     {
-        self.select(DMI_CODE)?;
+        self.select(instruction_code::DMI)?;
         let mut busy = 0;
         let mut taken = false;
         'scans: while busy < BUSY_MOST {

@@ -1,4 +1,4 @@
-ghost use Rattle.std.specs.Prelude.{◌≡◌, ◌<◌, ◌≤◌, ◌+◌, length, true, false, OnOk, OnErr, IfOk, IfErr};
+ghost use Rattle.std.specs.Prelude.{◌≡◌, ◌<◌, ◌≤◌, ◌+◌, [], ◌∷◌, ◌++◌, length, true, false, OnOk, OnErr, IfOk, IfErr};
 ghost use Rattle.std.proofs.Props.{props};
 ghost use Rattle.debug_model.specs.Port.{data_register_of};
 ghost use Rattle.debug_model.specs.declared.data_register.DataRegister.TheVariants as dr;
@@ -6,7 +6,7 @@ ghost use Rattle.debug_model.specs.Kept.{ScanFails, ScanKeeps, ScanRests};
 ghost use Rattle.debug_model.specs.Scan.{ComesOut, Fits, ScanCut, Scanned, WhereTold, idle_most};
 ghost use Rattle.debug_model.specs.Told.{IsIdle};
 ghost use Rattle.probe_dmi.specs.declared.state.State.TheVariants.{Idle, New};
-ghost use Rattle.probe_dmi.specs.Operations.{LeavesState, is_alive_as};
+ghost use Rattle.probe_dmi.specs.Operations.{LeavesState, is_alive_as, reset_first};
 ghost use Rattle.probe_dmi.specs.Registers.{
   CanScan,
   CutFrom,
@@ -21,19 +21,13 @@ ghost use Rattle.probe_dmi.specs.Registers.{
   Waited,
   WordScanned,
   dmi_bits,
-  idcode_bits,
-  reset_bits,
 };
+ghost use Rattle.debug_model.specs.declared.asked.Asked.TheVariants as asked;
+ghost use Rattle.debug_model.specs.Asked.{and_asked, bits_of_dmi, clearing, clearing_again, idcode_acts, idcode_bits, idles, reset_bits};
 
 use crate::state::State;
-use debug_model::{DmiScan, Dtmcs, Scan, WireFault};
+use debug_model::{DmiScan, Dtmcs, Scan, WireFault, instruction_code};
 use jt_base::Bits;
-
-/// The instruction code of `dtmcs` (RISC-V Debug Specification 1.0, "JTAG DTM Registers").
-const DTMCS_CODE: u8 = 0x10;
-
-/// The instruction code of `dmi`.
-pub const DMI_CODE: u8 = 0x11;
 
 /// The bits of IDCODE, and of `dtmcs`.
 const WORD_BITS: u8 = 32;
@@ -82,6 +76,7 @@ impl<S: Scan> Registers<S> {
         ensures rests { self.old.state ≡ New → OnOk result (ScanRests (S.seen self.new.scan)) }
         ensures cut { OnErr result (WhereTold Waited (S.seen self.old.scan).far (S.seen self.new.scan).far) }
         ensures coming { (S.seen self.new.scan).coming ≡ (S.seen self.old.scan).coming }
+        ensures asked { (S.seen self.new.scan).asked ≡ and_asked (reset_first self.old.state) (S.seen self.old.scan).asked }
         ensures cause { IfErr result (ScanFails (S.seen self.old.scan) (S.seen self.new.scan)) }
         ensures state { LeavesState self.new.state result }
         ensures later { (S.seen self.old.scan).fault_count ≤ (S.seen self.new.scan).fault_count }
@@ -104,6 +99,8 @@ impl<S: Scan> Registers<S> {
         ensures prepared { OnOk result (WhereTold (Prepared (data_register_of code)) (S.seen self.old.scan).far (S.seen self.new.scan).far) }
         ensures cut { OnErr result (WhereTold Waited (S.seen self.old.scan).far (S.seen self.new.scan).far) }
         ensures coming { (S.seen self.new.scan).coming ≡ (S.seen self.old.scan).coming }
+        ensures asked { OnOk result ((S.seen self.new.scan).asked
+            ≡ and_asked (reset_first self.old.state ++ asked.Select code ∷ []) (S.seen self.old.scan).asked) }
         ensures cause { IfErr result (ScanFails (S.seen self.old.scan) (S.seen self.new.scan)) }
         ensures state { LeavesState self.new.state result }
         ensures keeps { ScanKeeps (S.seen self.old.scan) (S.seen self.new.scan) result }
@@ -125,6 +122,7 @@ impl<S: Scan> Registers<S> {
         ensures cut { OnErr result (WhereTold (ScanCut (S.seen self.old.scan).fixed.slack bits) (S.seen self.old.scan).far (S.seen self.new.scan).far) }
         ensures came { IfOk result (λ out. ComesOut out (S.seen self.old.scan).coming (S.seen self.new.scan).coming) }
         ensures length { IfOk result (λ out. length out ≡ length bits) }
+        ensures asked { (S.seen self.new.scan).asked ≡ and_asked (asked.Shift bits ∷ []) (S.seen self.old.scan).asked }
         ensures cause { IfErr result (ScanFails (S.seen self.old.scan) (S.seen self.new.scan)) }
         ensures state { LeavesState self.new.state result }
         ensures keeps { ScanKeeps (S.seen self.old.scan) (S.seen self.new.scan) result }
@@ -145,6 +143,8 @@ impl<S: Scan> Registers<S> {
         ensures cut { OnErr result (WhereTold (CutFrom (data_register_of code) bits) (S.seen self.old.scan).far (S.seen self.new.scan).far) }
         ensures came { IfOk result (λ out. ComesOut out (S.seen self.old.scan).coming (S.seen self.new.scan).coming) }
         ensures length { IfOk result (λ out. length out ≡ length bits) }
+        ensures asked { OnOk result ((S.seen self.new.scan).asked
+            ≡ and_asked (reset_first self.old.state ++ asked.Select code ∷ asked.Shift bits ∷ []) (S.seen self.old.scan).asked) }
         ensures cause { IfErr result (ScanFails (S.seen self.old.scan) (S.seen self.new.scan)) }
         ensures state { LeavesState self.new.state result }
         ensures keeps { ScanKeeps (S.seen self.old.scan) (S.seen self.new.scan) result }
@@ -160,6 +160,7 @@ impl<S: Scan> Registers<S> {
         ensures scanned { IfOk result (λ value. WhereTold (WordScanned dr.Idcode idcode_bits value) (S.seen self.old.scan).far (S.seen self.new.scan).far) }
         ensures cut { OnErr result (WhereTold (CutFrom dr.Idcode idcode_bits) (S.seen self.old.scan).far (S.seen self.new.scan).far) }
         ensures heard { IfOk result (λ value. HeardNumber value (S.seen self.old.scan).coming (S.seen self.new.scan).coming) }
+        ensures asked { OnOk result ((S.seen self.new.scan).asked ≡ and_asked idcode_acts (S.seen self.old.scan).asked) }
         ensures cause { IfErr result (ScanFails (S.seen self.old.scan) (S.seen self.new.scan)) }
         ensures state { LeavesState self.new.state result }
         ensures keeps { ScanKeeps (S.seen self.old.scan) (S.seen self.new.scan) result }
@@ -176,6 +177,8 @@ impl<S: Scan> Registers<S> {
         ensures scanned { IfOk result (λ value. WhereTold (WordScanned dr.Dtmcs reset_bits value) (S.seen self.old.scan).far (S.seen self.new.scan).far) }
         ensures cut { OnErr result (WhereTold (CutFrom dr.Dtmcs reset_bits) (S.seen self.old.scan).far (S.seen self.new.scan).far) }
         ensures heard { IfOk result (λ value. HeardNumber value (S.seen self.old.scan).coming (S.seen self.new.scan).coming) }
+        ensures asked { OnOk result ((S.seen self.new.scan).asked
+            ≡ and_asked (reset_first self.old.state ++ clearing) (S.seen self.old.scan).asked) }
         ensures cause { IfErr result (ScanFails (S.seen self.old.scan) (S.seen self.new.scan)) }
         ensures state { LeavesState self.new.state result }
         ensures keeps { ScanKeeps (S.seen self.old.scan) (S.seen self.new.scan) result }
@@ -189,7 +192,7 @@ impl<S: Scan> Registers<S> {
             version: 0,
         };
         let out = self.register(
-            DTMCS_CODE,
+            instruction_code::DTMCS,
             Bits::from_u64(u64::from(reset.word()), WORD_BITS),
         )?;
         Ok(out.value() as u32)
@@ -204,6 +207,7 @@ impl<S: Scan> Registers<S> {
         ensures prepared { OnOk result (WhereTold (Prepared dr.Dmi) (S.seen self.old.scan).far (S.seen self.new.scan).far) }
         ensures cut { OnErr result (WhereTold Waited (S.seen self.old.scan).far (S.seen self.new.scan).far) }
         ensures coming { (S.seen self.new.scan).coming ≡ (S.seen self.old.scan).coming }
+        ensures asked { (S.seen self.new.scan).asked ≡ and_asked (idles clocks) (S.seen self.old.scan).asked }
         ensures cause { IfErr result (ScanFails (S.seen self.old.scan) (S.seen self.new.scan)) }
         ensures state { LeavesState self.new.state result }
         ensures keeps { ScanKeeps (S.seen self.old.scan) (S.seen self.new.scan) result }
@@ -235,6 +239,8 @@ impl<S: Scan> Registers<S> {
         ensures chosen { OnOk result (IsChosen dr.Dmi (S.seen self.new.scan).far) }
         ensures cut { OnErr result (WhereTold (CutFrom dr.Dmi (dmi_bits sent)) (S.seen self.old.scan).far (S.seen self.new.scan).far) }
         ensures heard { IfOk result (λ out. HeardDmi out (S.seen self.old.scan).coming (S.seen self.new.scan).coming) }
+        ensures asked { OnOk result ((S.seen self.new.scan).asked
+            ≡ and_asked (idles clocks ++ asked.Shift (bits_of_dmi abits sent) ∷ []) (S.seen self.old.scan).asked) }
         ensures cause { IfErr result (ScanFails (S.seen self.old.scan) (S.seen self.new.scan)) }
         ensures state { LeavesState self.new.state result }
         ensures keeps { ScanKeeps (S.seen self.old.scan) (S.seen self.new.scan) result }
@@ -251,12 +257,14 @@ impl<S: Scan> Registers<S> {
         ensures chosen { OnOk result (IsChosen dr.Dmi (S.seen self.new.scan).far) }
         ensures cut { OnErr result (WhereTold (CutFrom dr.Dtmcs reset_bits) (S.seen self.old.scan).far (S.seen self.new.scan).far) }
         ensures heard { IfOk result (λ value. HeardNumber value (S.seen self.old.scan).coming (S.seen self.new.scan).coming) }
+        ensures asked { OnOk result ((S.seen self.new.scan).asked
+            ≡ and_asked (reset_first self.old.state ++ clearing_again) (S.seen self.old.scan).asked) }
         ensures cause { IfErr result (ScanFails (S.seen self.old.scan) (S.seen self.new.scan)) }
         ensures state { LeavesState self.new.state result }
         ensures keeps { ScanKeeps (S.seen self.old.scan) (S.seen self.new.scan) result }
     {
         let value = self.clear()?;
-        self.select(DMI_CODE)?;
+        self.select(instruction_code::DMI)?;
         Ok(value)
     }
 }

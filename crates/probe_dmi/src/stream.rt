@@ -5,16 +5,17 @@ ghost use Rattle.debug_model.specs.Dmi.{CanOperate, IsOperation, Scans};
 ghost use Rattle.debug_model.specs.Kept.{Keeps, ManyFails};
 ghost use Rattle.debug_model.specs.Many.{AnswersAll, OperatedAll, OperationsCut, operations_most};
 ghost use Rattle.debug_model.specs.Scan.{WhereTold};
-ghost use Rattle.probe_dmi.specs.Operations.{LeavesState, first_scan, kept, link_seen};
+ghost use Rattle.probe_dmi.specs.Operations.{LeavesState, kept, link_seen};
+ghost use Rattle.debug_model.specs.Asked.{AsksOperations, first_scan};
 ghost use Rattle.probe_dmi.specs.Pace.{IsPace};
 ghost use Rattle.probe_dmi.specs.Registers.{IsWidth};
 
 use crate::operation::{BUSY_MOST, STATUS_DONE, STATUS_FAILED, next_scan};
 use crate::pace::Pace;
-use crate::register::{DMI_CODE, Registers};
+use crate::register::Registers;
 use crate::state::State;
 use arrayvec::ArrayVec;
-use debug_model::{DmiFault, DmiOp, DmiScan, OPERATIONS_MOST, Scan};
+use debug_model::{DmiFault, DmiOp, DmiScan, OPERATIONS_MOST, Scan, instruction_code};
 
 /// What the next scan carries: the first of these operations, which the transport has not taken, and behind the last of them nothing.
 fn first_scan(operations: &[DmiOp]) -> DmiScan
@@ -60,15 +61,18 @@ impl<S: Scan> Registers<S> {
         ensures operated { OnOk result (WhereTold (OperatedAll ops.now results.new.items) (S.seen self.old.scan).far (S.seen self.new.scan).far) }
         ensures answers { OnOk result (AnswersAll ops.now results.new.items (option_map Scans (S.seen self.old.scan).coming)
             (option_map Scans (S.seen self.new.scan).coming)) }
+        ensures asked { OnOk result (AsksOperations ops.now (link_seen (S.seen self.old.scan) self.old.state abits).asked
+            (link_seen (S.seen self.new.scan) self.new.state abits).asked) }
         ensures cut { OnErr result (WhereTold (OperationsCut ops.now) (S.seen self.old.scan).far (S.seen self.new.scan).far) }
-        ensures cause { IfErr result (ManyFails (length ops.now) (link_seen (S.seen self.old.scan) self.old.state)
-            (link_seen (S.seen self.new.scan) self.new.state)) }
+        ensures cause { IfErr result (ManyFails (length ops.now) (link_seen (S.seen self.old.scan) self.old.state abits)
+            (link_seen (S.seen self.new.scan) self.new.state abits)) }
         ensures state { LeavesState self.new.state result }
-        ensures keeps { Keeps Some (link_seen (S.seen self.old.scan) self.old.state) (link_seen (S.seen self.new.scan) self.new.state) result }
+        ensures keeps { Keeps Some (link_seen (S.seen self.old.scan) self.old.state abits)
+            (link_seen (S.seen self.new.scan) self.new.state abits) result }
         ensures pace { IsPace pace.new }
         ensures paced { pace.new.most ≡ pace.old.most }
     {
-        self.select(DMI_CODE)?;
+        self.select(instruction_code::DMI)?;
         let mut rest = ops;
         let mut in_flight = false;
         let mut busy = 0;

@@ -6,7 +6,10 @@ use Rattle.debug_model.specs.declared.dmi.DmiFault.{DmiFault}
 use Rattle.debug_model.specs.declared.dmi_op.DmiOp.{DmiOp}
 use Rattle.debug_model.specs.declared.dmi_op.DmiOp.TheVariants.{Read, Write}
 use Rattle.debug_model.specs.declared.point.Point.TheVariants.{Look}
+use Rattle.chip_laws.proofs.SeveralOperations.{StoppedAt, stopped_at}
+use Rattle.debug_model.specs.Course.{SitePath, performed}
 use Rattle.debug_model.specs.Dmi.{NoneOperated, OperationCut, SiteCut}
+use Rattle.debug_model.specs.Many.{OperationsCut}
 use Rattle.debug_model.specs.Module.{DebugModule, Site, reset_module}
 use Rattle.debug_model.specs.Told.{Far, ModuleReady, SiteReady, site_of}
 use Rattle.abstract_debugger.specs.Stands.{Cut, Target, WentOn}
@@ -15,12 +18,11 @@ use Rattle.probe_run.specs.declared.fault.ConnectFault.{ConnectFault}
 use Rattle.probe_run.specs.declared.fault.ConnectFault.TheVariants.{Dtm, Module, Abstract, Bus, Dmi}
 use Rattle.probe_run.specs.Acts.{Act, Broke, Did, Tells}
 use Rattle.probe_run.specs.Acts.Act.{Scanned, Put}
-use Rattle.probe_run.specs.Acts.Attempt.{Scan, Operation}
+use Rattle.probe_run.specs.Acts.Attempt.{Scan, Operation, Several}
 use Rattle.probe_run.specs.Happens.{target_of}
 use Rattle.probe_run.specs.Looks.{look_act}
-use Rattle.probe_run.specs.Opening.{ActivateBroke, BusBroke, CommandsBroke, IsDmiFault, bus_fits, commands_fit, is_active, module_fits, BusFits, CommandsFit, ConnectFails, LosesLoaded, Opened, OpenedChip, OpeningBroke, OpensLoaded, Then, UnopenedChip, UpToBus, UpToCommands, UpToModule, active_act, bus_act, clears_cmderr, clears_sberror, commands_act, starts_none, transport_fits}
-use Rattle.probe_run.specs.Opening.ActivateBroke.{at_read, at_write}
-use Rattle.probe_run.specs.Opening.CommandsBroke.{at_abstractauto, at_abstractcs, at_cmderr}
+use Rattle.probe_run.specs.Opening.{ActivateBroke, BusBroke, IsDmiFault, bus_fits, commands_fit, is_active, module_fits, BusFits, CommandsFit, ConnectFails, LosesLoaded, Opened, OpenedChip, OpeningBroke, OpensLoaded, Then, UnopenedChip, UpToBus, UpToCommands, UpToModule, active_act, bus_acts, clears_cmderr, clears_sberror, commands_acts, starts_none, transport_fits}
+use Rattle.probe_run.specs.Opening.ActivateBroke.{at_first, at_read}
 use Rattle.probe_run.specs.Opening.BusBroke.{at_sbcs, at_sberror}
 use Rattle.probe_run.specs.Opening.OpeningBroke.{in_activation, in_bus, in_commands, in_module, in_transport}
 use Rattle.probe_run.specs.Outcomes.{asks}
@@ -30,8 +32,10 @@ use Rattle.probe_run.proofs.Calls.{CallRan}
 use Rattle.probe_run.proofs.Fresh.{Fresh, QuietUnit, Turns, cut_look, cut_went, fresh_deeds}
 use Rattle.probe_run.proofs.LoadedChip.{fresh_loaded}
 use Rattle.probe_run.proofs.LoadedOpening.{activates, active_quiet, active_unit, clears_auto, clears_bus, clears_commands, looks_at_first, opened_quiet, opened_ready, opened_unit, reads_bus, reads_commands, reads_control, reset_quiet}
-use Rattle.probe_run.proofs.LoadedSteps.{After, On, activated_on, after_on, bus_on, cleared_on, cmderr_on, commands_on, module_after, on_after, on_on, opened_on, pointed_turns, transport_on, vain_activated}
+use Rattle.probe_run.proofs.LoadedSteps.{After, On, activated_on, after_on, bus_on, commands_on, module_after, on_after, on_on, opened_on, pointed_turns, transport_on, vain_activated}
 use Rattle.probe_run.proofs.Looking.{turns_pointed, turns_went}
+use Rattle.probe_run.proofs.QuietCuts.{Quietly, stopped_went}
+use Rattle.probe_run.proofs.QuietCuts.Quietly.{done, goes}
 use Rattle.probe_run.proofs.RanLemmas.{FarRan, Ran, far_ran, where_told}
 use Rattle.probe_run.proofs.Steps.{went_alone}
 
@@ -57,17 +61,11 @@ up_to_commands f old mid at fresh u =
     far_call _ (After active_unit) a.far u.mid mid a.is (λ t ran. (module_after u.second.0 (site_of a.far) t a.holds.fresh ran).0) u.second.1.did in
     record { far = b.far; is = b.is; holds = on_after active_unit active_unit (site_of f) (site_of a.far) (site_of b.far) a.holds b.holds }
 
-fit_commands : (f : Far) (old mid : Tells) → old.far ≡ Some f → Fresh reset_module (site_of f) → Then UpToCommands CommandsFit old mid → CallRan (After active_unit) f mid.far
-fit_commands f old mid at fresh u =
+up_to_bus : (f : Far) (old mid : Tells) → old.far ≡ Some f → Fresh reset_module (site_of f) → UpToBus old mid → CallRan (After active_unit) f mid.far
+up_to_bus f old mid at fresh u =
     let a : CallRan (After active_unit) f u.mid.far = up_to_commands f old u.mid at fresh u.first in
     let b : CallRan (On active_unit) a.far mid.far =
     far_call _ (On active_unit) a.far u.mid mid a.is (λ t ran. (commands_on u.second.0 (site_of a.far) t a.holds.fresh ran).0) u.second.1.did in
-    record { far = b.far; is = b.is; holds = after_on active_unit active_unit (site_of f) (site_of a.far) (site_of b.far) a.holds b.holds }
-
-up_to_bus : (f : Far) (old mid : Tells) → old.far ≡ Some f → Fresh reset_module (site_of f) → UpToBus old mid → CallRan (After active_unit) f mid.far
-up_to_bus f old mid at fresh u =
-    let a : CallRan (After active_unit) f u.second.mid.far = fit_commands f old u.second.mid at fresh (record { mid = u.mid; first = u.first; second = u.second.first }) in
-    let b : CallRan (On active_unit) a.far mid.far = far_call _ (On active_unit) a.far u.second.mid mid a.is (λ t ran. cleared_on (site_of a.far) t a.holds.fresh ran) u.second.second in
     record { far = b.far; is = b.is; holds = after_on active_unit active_unit (site_of f) (site_of a.far) (site_of b.far) a.holds b.holds }
 
 fit_bus : (f : Far) (old mid : Tells) → old.far ≡ Some f → Fresh reset_module (site_of f) → Then UpToBus BusFits old mid → CallRan (After active_unit) f mid.far
@@ -132,6 +130,43 @@ cut_after acts op v w f m mid old_count new_count new fault q q' leads after at 
       happened = Cut.behind (pointed_turns (target_of (site_of f)) (target_of (site_of m)) (target_of (site_of c.far)) after.pointed (turns_went (target_of (site_of m)) (target_of (site_of r.far)) (target_of (site_of c.far)) o.went g));
     }
 
+-- and several in one call
+pub record SeveralCut (m : Far) (new : Option Far) : Type 0 where
+  pub far : Far
+  pub is : new ≡ Some far
+  pub went : WentOn (target_of (site_of m)) (target_of (site_of far))
+
+several_cut : (op : DmiOp) (ops : List DmiOp) (u : DebugModule) (m : Far) (mid : Tells) (old_count new_count : ℕ) (new : Option Far) (fault : DmiFault) → Quietly (op ∷ ops) u → Fresh u (site_of m) → mid.far ≡ Some m
+    → Broke [] (Several op ops) old_count new_count mid new fault → SeveralCut m new
+several_cut op ops u m mid old_count new_count new fault quiet fresh at b =
+    let r : FarRan [] m b.mid.far = far_ran mid m at [] b.mid b.did in
+    let c : OperationsCut (op ∷ ops) r.far.live.chip new = where_told (OperationsCut (op ∷ ops)) b.mid.far new r.far r.is b.cut in
+    let path : SitePath (site_of m) (c.done ++ performed c.happened) (site_of c.far) = subst (λ x. SitePath x (c.done ++ performed c.happened) (site_of c.far)) r.ran c.site in
+    let st : StoppedAt (op ∷ ops) (site_of m) (site_of c.far) = stopped_at op ops c.done c.rest c.happened (site_of m) (site_of c.far) c.asked c.once path in
+    record { far = c.far; is = c.is; went = stopped_went st.done st.op st.left (op ∷ ops) u (site_of m) st.mid (site_of c.far) quiet fresh st.asked st.before st.cut }
+
+several_before : (op : DmiOp) (ops : List DmiOp) (u : DebugModule) (f m : Far) (mid : Tells) (old_count new_count : ℕ) (new : Option Far) (fault : DmiFault) → Quietly (op ∷ ops) u → On u (site_of f) (site_of m) → mid.far ≡ Some m
+    → Broke [] (Several op ops) old_count new_count mid new fault → UnopenedChip f new
+several_before op ops u f m mid old_count new_count new fault quiet on at b =
+    let c : SeveralCut m new = several_cut op ops u m mid old_count new_count new fault quiet on.fresh at b in
+    record { far = c.far; is = c.is; happened = Cut.before (turns_went (target_of (site_of f)) (target_of (site_of m)) (target_of (site_of c.far)) on.went c.went) }
+
+several_after : (op : DmiOp) (ops : List DmiOp) (u : DebugModule) (f m : Far) (mid : Tells) (old_count new_count : ℕ) (new : Option Far) (fault : DmiFault) → Quietly (op ∷ ops) u → After u (site_of f) (site_of m) → mid.far ≡ Some m
+    → Broke [] (Several op ops) old_count new_count mid new fault → UnopenedChip f new
+several_after op ops u f m mid old_count new_count new fault quiet after at b =
+    let c : SeveralCut m new = several_cut op ops u m mid old_count new_count new fault quiet after.fresh at b in
+    record { far = c.far; is = c.is; happened = Cut.behind (pointed_turns (target_of (site_of f)) (target_of (site_of m)) (target_of (site_of c.far)) after.pointed c.went) }
+
+-- dmactive is written, and dmcontrol read
+first_quietly : Quietly (Write dmcontrol_address (control_word Nothing 0) ∷ Read dmcontrol_address ∷ []) reset_module
+first_quietly = goes _ _ reset_module active_unit reset_quiet activates (goes _ _ active_unit active_unit active_quiet (reads_control active_unit) (done active_unit active_quiet))
+
+-- the errors of commands are cleared, and sbcs is read
+bus_quietly : Quietly (Write abstractcs_address clears_cmderr ∷ Write abstractauto_address starts_none ∷ Read sbcs_address ∷ []) active_unit
+bus_quietly =
+    goes _ _ active_unit active_unit active_quiet clears_commands
+    (goes _ _ active_unit active_unit active_quiet clears_auto (goes _ _ active_unit active_unit active_quiet (reads_bus active_unit) (done active_unit active_quiet)))
+
 stays_on : (v : DebugModule) (s t : Site) → Fresh v s → Ran [] s t → On v s t
 stays_on v s t f is = subst (λ x. On v s x) (sym is) (record { fresh = f; went = record { harts = []; board = refl; journal = sym (append-nil s.journal) } })
 
@@ -168,10 +203,9 @@ opening_cut f old new old_count new_count fault at fresh (in_transport b) = scan
 opening_cut f old new old_count new_count fault at fresh (in_activation b) = by_activation b.failed
   where
     by_activation : ActivateBroke old_count new_count b.mid new.far fault → UnopenedChip f new.far
-    by_activation (at_write w) =
+    by_activation (at_first w) =
         let a = at_transport f old b.mid at fresh b.first.0 b.first.1.did in
-        cut_before [] (Write dmcontrol_address (control_word Nothing 0)) reset_module reset_module active_unit f a.far b.mid old_count new_count new.far fault reset_quiet active_quiet activates a.holds.0 a.is
-        (λ t ran. stays_on reset_module (site_of a.far) t a.holds.0.fresh ran) w
+        several_before (Write dmcontrol_address (control_word Nothing 0)) (Read dmcontrol_address ∷ []) reset_module f a.far b.mid old_count new_count new.far fault first_quietly a.holds.0 a.is w
     by_activation (at_read w) =
         let a = at_transport f old b.mid at fresh b.first.0 b.first.1.did in
         cut_before (asks Nothing 0 ++ map active_act w.vain) (Read dmcontrol_address) reset_module active_unit active_unit f a.far b.mid old_count new_count new.far fault active_quiet active_quiet (reads_control active_unit) a.holds.0 a.is
@@ -179,28 +213,16 @@ opening_cut f old new old_count new_count fault at fresh (in_activation b) = by_
 opening_cut f old new old_count new_count fault at fresh (in_module b) =
     let a : CallRan (On active_unit) f b.mid.far = up_to_module f old b.mid at fresh b.first in
     look_cut f a.far b.mid old_count new_count new.far fault a.holds a.is b.failed
-opening_cut f old new old_count new_count fault at fresh (in_commands b) = by_commands b.failed
-  where
-    by_commands : CommandsBroke old_count new_count b.mid new.far fault → UnopenedChip f new.far
-    by_commands (at_abstractcs w) =
-        let a : CallRan (After active_unit) f b.mid.far = up_to_commands f old b.mid at fresh b.first in
-        cut_after [] (Read abstractcs_address) active_unit active_unit f a.far b.mid old_count new_count new.far fault active_quiet active_quiet (reads_commands active_unit) a.holds a.is
-        (λ t ran. stays_on active_unit (site_of a.far) t a.holds.fresh ran) w
-    by_commands (at_cmderr w) =
-        let a : CallRan (After active_unit) f w.mid.far = fit_commands f old w.mid at fresh (record { mid = b.mid; first = b.first; second = w.first }) in
-        cut_after [] (Write abstractcs_address clears_cmderr) active_unit active_unit f a.far w.mid old_count new_count new.far fault active_quiet active_quiet clears_commands a.holds a.is
-        (λ t ran. stays_on active_unit (site_of a.far) t a.holds.fresh ran) w.broke
-    by_commands (at_abstractauto w) =
-        let a : CallRan (After active_unit) f w.mid.far = fit_commands f old w.mid at fresh (record { mid = b.mid; first = b.first; second = w.first }) in
-        cut_after (Put abstractcs_address clears_cmderr ∷ []) (Write abstractauto_address starts_none) active_unit active_unit f a.far w.mid old_count new_count new.far fault active_quiet active_quiet clears_auto a.holds a.is
-        (λ t ran. cmderr_on (site_of a.far) t a.holds.fresh ran) w.broke
+opening_cut f old new old_count new_count fault at fresh (in_commands b) =
+    let a : CallRan (After active_unit) f b.mid.far = up_to_commands f old b.mid at fresh b.first in
+    cut_after [] (Read abstractcs_address) active_unit active_unit f a.far b.mid old_count new_count new.far fault active_quiet active_quiet (reads_commands active_unit) a.holds a.is
+    (λ t ran. stays_on active_unit (site_of a.far) t a.holds.fresh ran) b.failed
 opening_cut f old new old_count new_count fault at fresh (in_bus b) = by_bus b.failed
   where
     by_bus : BusBroke old_count new_count b.mid new.far fault → UnopenedChip f new.far
     by_bus (at_sbcs w) =
         let a : CallRan (After active_unit) f b.mid.far = up_to_bus f old b.mid at fresh b.first in
-        cut_after [] (Read sbcs_address) active_unit active_unit f a.far b.mid old_count new_count new.far fault active_quiet active_quiet (reads_bus active_unit) a.holds a.is
-        (λ t ran. stays_on active_unit (site_of a.far) t a.holds.fresh ran) w
+        several_after (Write abstractcs_address clears_cmderr) (Write abstractauto_address starts_none ∷ Read sbcs_address ∷ []) active_unit f a.far b.mid old_count new_count new.far fault bus_quietly a.holds a.is w
     by_bus (at_sberror w) =
         let a : CallRan (After active_unit) f w.mid.far = fit_bus f old w.mid at fresh (record { mid = b.mid; first = b.first; second = w.first }) in
         cut_after [] (Write sbcs_address clears_sberror) active_unit opened_unit f a.far w.mid old_count new_count new.far fault active_quiet opened_quiet clears_bus a.holds a.is
@@ -219,11 +241,11 @@ loses f old new old_count new_count (Module word false) at fresh r =
     refused _ (module_fits word) b.holds.1 r.second.tested
 loses f old new old_count new_count (Abstract word) at fresh r =
     let a : CallRan (After active_unit) f r.mid.far = up_to_commands f old r.mid at fresh r.first in
-    let b = far_call (commands_act word ∷ []) (λ s t. On active_unit s t × (commands_fit word ≡ true)) a.far r.mid new a.is (λ t ran. commands_on word (site_of a.far) t a.holds.fresh ran) r.second.did in
+    let b = far_call (commands_acts word) (λ s t. On active_unit s t × (commands_fit word ≡ true)) a.far r.mid new a.is (λ t ran. commands_on word (site_of a.far) t a.holds.fresh ran) r.second.did in
     refused _ (commands_fit word) b.holds.1 r.second.tested
 loses f old new old_count new_count (Bus word) at fresh r =
     let a : CallRan (After active_unit) f r.mid.far = up_to_bus f old r.mid at fresh r.first in
-    let b = far_call (bus_act word ∷ []) (λ s t. On active_unit s t × (bus_fits word ≡ true)) a.far r.mid new a.is (λ t ran. bus_on word (site_of a.far) t a.holds.fresh ran) r.second.did in
+    let b = far_call (bus_acts word) (λ s t. On active_unit s t × (bus_fits word ≡ true)) a.far r.mid new a.is (λ t ran. bus_on word (site_of a.far) t a.holds.fresh ran) r.second.did in
     refused _ (bus_fits word) b.holds.1 r.second.tested
 loses f old new old_count new_count (Dmi fault) at fresh r = (tt, opening_cut f old new old_count new_count fault at fresh r)
 

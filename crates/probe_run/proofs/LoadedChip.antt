@@ -15,7 +15,8 @@ use Rattle.rv_model.specs.Image.{with_image}
 use Rattle.rv_model.specs.Memory.{Bytes, map_of, ram_base}
 use Rattle.rv_model.proofs.WholeBoards.{reset_is_hart}
 use Rattle.debug_model.specs.Chip.{Live}
-use Rattle.debug_model.specs.Loaded.{AsLoaded, loaded_board, loaded_memory, reset_harts}
+use Rattle.debug_model.proofs.LoadedHarts.{one_hart_more}
+use Rattle.debug_model.specs.Loaded.{AsLoaded, loaded_board, loaded_harts, loaded_memory}
 use Rattle.debug_model.specs.Module.{reset_module}
 use Rattle.rv_model.specs.Widths.{MemoryReady}
 use Rattle.debug_model.specs.Told.{Far, site_of}
@@ -83,20 +84,20 @@ length_end : (xs : List Hart) (y : Hart) → length (xs ++ y ∷ []) ≡ suc (le
 length_end [] y = refl
 length_end (z ∷ zs) y = ap suc (length_end zs y)
 
-reset_length : (n : ℕ) (halted : Option Cause) → length (reset_harts n halted) ≡ n
-reset_length zero halted = refl
-reset_length (suc n) halted = length_end (reset_harts n halted) (reset_hart n halted) ∙ ap suc (reset_length n halted)
+loaded_length : (n : ℕ) (halted : Option Cause) → length (loaded_harts n halted) ≡ n
+loaded_length zero halted = refl
+loaded_length (suc n) halted = ap length (one_hart_more n halted) ∙ length_end (loaded_harts n halted) (reset_hart n halted) ∙ ap suc (loaded_length n halted)
 
-pub each_reset : (n : ℕ) (halted : Option Cause) → n ≤ 4 → (j : ℕ) (x : Hart) → slice_get (reset_harts n halted) j ≡ Some x → ResetAs j x
+pub each_reset : (n : ℕ) (halted : Option Cause) → n ≤ 4 → (j : ℕ) (x : Hart) → slice_get (loaded_harts n halted) j ≡ Some x → ResetAs j x
 each_reset zero halted most j x is = absurd (none-some x is)
 each_reset (suc n) halted most j x is =
     let zero_plus : 0 + j ≡ j = omega arith in
-    let end : 0 + length (reset_harts n halted) ≡ n = let e : length (reset_harts n halted) ≡ n = reset_length n halted in omega arith in
+    let end : 0 + length (loaded_harts n halted) ≡ n = let e : length (loaded_harts n halted) ≡ n = loaded_length n halted in omega arith in
     let last : ResetAs n (reset_hart n halted) = record { halted = halted; is = refl; small = omega arith } in
     subst (λ k. ResetAs k x) zero_plus
-    (at_end ResetAs (reset_harts n halted) (reset_hart n halted) 0
+    (at_end ResetAs (loaded_harts n halted) (reset_hart n halted) 0
     (λ i w at. let e : i ≡ 0 + i = omega arith in subst (λ k. ResetAs k w) e (each_reset n halted (omega arith) i w at))
-    (subst (λ k. ResetAs k (reset_hart n halted)) (sym end) last) j x is)
+    (subst (λ k. ResetAs k (reset_hart n halted)) (sym end) last) j x (subst (λ (hs : List Hart). slice_get hs j ≡ Some x) (one_hart_more n halted) is))
 
 -- ---- memory
 

@@ -18,7 +18,7 @@ use Rattle.probe_run.specs.declared.control.Request.TheVariants.{Nothing}
 use Rattle.probe_run.specs.Acts.Act.{Scanned, Put}
 use Rattle.probe_run.specs.Happens.{target_of}
 use Rattle.probe_run.specs.Looks.{look_act}
-use Rattle.probe_run.specs.Opening.{active_act, bus_act, bus_fits, clears_cmderr, clears_sberror, commands_act, commands_fit, is_active, module_fits, starts_none, transport_fits}
+use Rattle.probe_run.specs.Opening.{active_act, bus_acts, bus_fits, clears_cmderr, clears_sberror, commands_acts, commands_fit, is_active, module_fits, starts_none, transport_fits}
 use Rattle.probe_run.specs.Outcomes.{asks}
 use Rattle.probe_run.specs.Requests.{control_word}
 use Rattle.probe_run.specs.Sites.{TurnsAlone, spun}
@@ -130,27 +130,22 @@ module_after word s t f (m, did, is) =
     let a : After active_unit s m = record { fresh = w.fresh; pointed = went_look (Read dmstatus_address) did.result active_unit s m w } in
     (subst (λ x. After active_unit s x) (sym is) a, read_shows dmstatus_address word active_unit (Look 0 ∷ []) module_fits s m active_quiet looks_at_first shows_module f did)
 
-pub commands_on : (word : ℕ) (s t : Site) → Fresh active_unit s → Ran (commands_act word ∷ []) s t → On active_unit s t × (commands_fit word ≡ true)
+pub commands_on : (word : ℕ) (s t : Site) → Fresh active_unit s → Ran (commands_acts word) s t → On active_unit s t × (commands_fit word ≡ true)
 commands_on word s t f (m, did, is) = (
   on_moved active_unit s m t is (op_on (Read abstractcs_address) word active_unit active_unit s m active_quiet active_quiet (reads_commands active_unit) f did),
   read_shows abstractcs_address word active_unit [] commands_fit s m active_quiet (reads_commands active_unit) shows_commands f did,
 )
 
-pub bus_on : (word : ℕ) (s t : Site) → Fresh active_unit s → Ran (bus_act word ∷ []) s t → On active_unit s t × (bus_fits word ≡ true)
-bus_on word s t f (m, did, is) = (
-  on_moved active_unit s m t is (op_on (Read sbcs_address) word active_unit active_unit s m active_quiet active_quiet (reads_bus active_unit) f did),
-  read_shows sbcs_address word active_unit [] bus_fits s m active_quiet (reads_bus active_unit) shows_bus f did,
-)
-
-pub cmderr_on : (s t : Site) → Fresh active_unit s → Ran (Put abstractcs_address clears_cmderr ∷ []) s t → On active_unit s t
-cmderr_on s t f (m, did, is) = on_moved active_unit s m t is (op_on (Write abstractcs_address clears_cmderr) clears_cmderr active_unit active_unit s m active_quiet active_quiet clears_commands f did)
-
-pub cleared_on : (s t : Site) → Fresh active_unit s → Ran (Put abstractcs_address clears_cmderr ∷ Put abstractauto_address starts_none ∷ []) s t → On active_unit s t
-cleared_on s t f (m, did, rest) =
-    let a : On active_unit s m = op_on (Write abstractcs_address clears_cmderr) clears_cmderr active_unit active_unit s m active_quiet active_quiet clears_commands f did in
+pub bus_on : (word : ℕ) (s t : Site) → Fresh active_unit s → Ran (bus_acts word) s t → On active_unit s t × (bus_fits word ≡ true)
+bus_on word s t f (m, errors, rest) =
     let e : Site = rest.0 in
-    on_on active_unit active_unit s m t a
-    (on_moved active_unit m e t rest.2 (op_on (Write abstractauto_address starts_none) starts_none active_unit active_unit m e active_quiet active_quiet clears_auto a.fresh rest.1))
+    let n : Site = rest.2.0 in
+    let a : On active_unit s m = op_on (Write abstractcs_address clears_cmderr) clears_cmderr active_unit active_unit s m active_quiet active_quiet clears_commands f errors in
+    let b : On active_unit m e = op_on (Write abstractauto_address starts_none) starts_none active_unit active_unit m e active_quiet active_quiet clears_auto a.fresh rest.1 in
+    let c : On active_unit e n = op_on (Read sbcs_address) word active_unit active_unit e n active_quiet active_quiet (reads_bus active_unit) b.fresh rest.2.1 in (
+      on_on active_unit active_unit s m t a (on_on active_unit active_unit m e t b (on_moved active_unit e n t rest.2.2 c)),
+      read_shows sbcs_address word active_unit [] bus_fits e n active_quiet (reads_bus active_unit) shows_bus b.fresh rest.2.1,
+    )
 
 pub opened_on : (s t : Site) → Fresh active_unit s → Ran (Put sbcs_address clears_sberror ∷ []) s t → On opened_unit s t
 opened_on s t f (m, did, is) = on_moved opened_unit s m t is (op_on (Write sbcs_address clears_sberror) clears_sberror active_unit opened_unit s m active_quiet opened_quiet clears_bus f did)

@@ -2,21 +2,19 @@
 use Rattle.std.proofs.Common.{◌≡◌, Option, Some, None, refl, sym, subst}
 use Rattle.debug_model.specs.Told.{Far, IsAsLoaded, IsReady, Selects}
 use Rattle.probe_run.specs.Acts.{Tells}
-use Rattle.probe_run.specs.Opening.{BusCleared, BusFits, CommandsCleared, CommandsFit, Opened, OpenedChip, OpensLoaded, Then, UpToModule}
+use Rattle.probe_run.specs.Opening.{BusCleared, BusFits, Opened, OpenedChip, OpensLoaded, Then, UpToModule}
 use Rattle.probe_run.proofs.LoadedCalls.{opens_loaded}
 use Rattle.probe_run.proofs.RanLemmas.{none_ran}
 
 opened_none : (old new : Tells) → old.far ≡ None → Opened old new → new.far ≡ None
 opened_none old new is o =
     let t : UpToModule old o.first.first.mid = o.first.first.first in
-    let c : Then CommandsFit CommandsCleared o.first.mid o.mid = o.first.second in
     let b : Then BusFits BusCleared o.mid new = o.second in
     let in_transport : t.mid.far ≡ None = none_ran old is _ t.mid t.first.1.did in
     let active : o.first.first.mid.far ≡ None = none_ran t.mid in_transport _ o.first.first.mid t.second.did in
     let looked : o.first.mid.far ≡ None = none_ran o.first.first.mid active _ o.first.mid o.first.first.second.1.did in
-    let fit : c.mid.far ≡ None = none_ran o.first.mid looked _ c.mid c.first.1.did in
-    let cleared : o.mid.far ≡ None = none_ran c.mid fit _ o.mid c.second in
-    let on_bus : b.mid.far ≡ None = none_ran o.mid cleared _ b.mid b.first.1.did in
+    let fit : o.mid.far ≡ None = none_ran o.first.mid looked _ o.mid o.first.second.1.did in
+    let on_bus : b.mid.far ≡ None = none_ran o.mid fit _ b.mid b.first.1.did in
     none_ran b.mid on_bus _ new b.second
 
 ready_by : (old new : Tells) (told : Option Far) → old.far ≡ told → Opened old new → IsAsLoaded told → IsReady new.far

@@ -5,9 +5,8 @@ use Rattle.debug_model.specs.Told.{Far}
 use Rattle.probe_run.specs.declared.fault.ConnectFault.{ConnectFault}
 use Rattle.probe_run.specs.declared.fault.ConnectFault.TheVariants.{Dtm, Module, Abstract, Bus, Dmi}
 use Rattle.probe_run.specs.Acts.{Act, Attempt, Broke, Tells}
-use Rattle.probe_run.specs.Opening.{ActivateBroke, ActivationFails, BusBroke, BusFails, CommandsBroke, CommandsFail, ConnectFails, ModuleFails, ThenBroke, TransportFails, TransportFits, UpToBus, UpToCommands, UpToModule}
-use Rattle.probe_run.specs.Opening.ActivateBroke.{at_read, at_write}
-use Rattle.probe_run.specs.Opening.CommandsBroke.{at_abstractauto, at_abstractcs, at_cmderr}
+use Rattle.probe_run.specs.Opening.{ActivateBroke, ActivationFails, BusBroke, BusFails, CommandsFail, ConnectFails, ModuleFails, ThenBroke, TransportFails, TransportFits, UpToBus, UpToCommands, UpToModule}
+use Rattle.probe_run.specs.Opening.ActivateBroke.{at_first, at_read}
 use Rattle.probe_run.specs.Opening.BusBroke.{at_sbcs, at_sberror}
 use Rattle.probe_run.specs.Opening.OpeningBroke.{in_activation, in_bus, in_commands, in_module, in_transport}
 use Rattle.probe_run.proofs.ActLemmas.{attempt_cause_from}
@@ -15,7 +14,7 @@ use Rattle.probe_run.proofs.ActLemmas.{attempt_cause_from}
 -- counted from an earlier count of faults
 broke_from : (acts : List Act) (failed : Attempt) (count mid_count new_count : ℕ) (old : Tells) (told : Option Far) (fault : DmiFault) → count ≤ mid_count → mid_count ≤ new_count → Broke acts failed mid_count new_count old told fault
     → Broke acts failed count new_count old told fault
-broke_from acts failed count mid_count new_count old told fault le later b = record { mid = b.mid; did = b.did; cut = b.cut; cause = attempt_cause_from failed count mid_count new_count b.mid.far told b.mid.script fault le later b.cause }
+broke_from acts failed count mid_count new_count old told fault le later b = record { mid = b.mid; did = b.did; cut = b.cut; cause = attempt_cause_from failed count mid_count new_count b.mid.far told b.mid.coming fault le later b.cause }
 
 then_from : (R : Tells → Tells → Type 0) (acts : List Act) (failed : Attempt) (count mid_count new_count : ℕ) (old : Tells) (told : Option Far) (fault : DmiFault) → count ≤ mid_count → mid_count ≤ new_count
     → ThenBroke R acts failed mid_count new_count old told fault → ThenBroke R acts failed count new_count old told fault
@@ -23,14 +22,9 @@ then_from R acts failed count mid_count new_count old told fault le later b =
     record { mid = b.mid; first = b.first; broke = broke_from acts failed count mid_count new_count b.mid told fault le later b.broke }
 
 activation_from : (count mid_count new_count : ℕ) (old : Tells) (told : Option Far) (fault : DmiFault) → count ≤ mid_count → mid_count ≤ new_count → ActivateBroke mid_count new_count old told fault → ActivateBroke count new_count old told fault
-activation_from count mid_count new_count old told fault le later (at_write b) = at_write (broke_from [] _ count mid_count new_count old told fault le later b)
+activation_from count mid_count new_count old told fault le later (at_first b) = at_first (broke_from [] _ count mid_count new_count old told fault le later b)
 activation_from count mid_count new_count old told fault le later (at_read b) =
     at_read (record { vain = b.vain; none = b.none; few = b.few; broke = broke_from _ _ count mid_count new_count old told fault le later b.broke })
-
-commands_from : (count mid_count new_count : ℕ) (old : Tells) (told : Option Far) (fault : DmiFault) → count ≤ mid_count → mid_count ≤ new_count → CommandsBroke mid_count new_count old told fault → CommandsBroke count new_count old told fault
-commands_from count mid_count new_count old told fault le later (at_abstractcs b) = at_abstractcs (broke_from [] _ count mid_count new_count old told fault le later b)
-commands_from count mid_count new_count old told fault le later (at_cmderr b) = at_cmderr (then_from _ _ _ count mid_count new_count old told fault le later b)
-commands_from count mid_count new_count old told fault le later (at_abstractauto b) = at_abstractauto (then_from _ _ _ count mid_count new_count old told fault le later b)
 
 bus_from : (count mid_count new_count : ℕ) (old : Tells) (told : Option Far) (fault : DmiFault) → count ≤ mid_count → mid_count ≤ new_count → BusBroke mid_count new_count old told fault → BusBroke count new_count old told fault
 bus_from count mid_count new_count old told fault le later (at_sbcs b) = at_sbcs (broke_from [] _ count mid_count new_count old told fault le later b)
@@ -66,7 +60,7 @@ commands_fail count mid_count new_count old mid new (Dtm word) le later r f = ab
 commands_fail count mid_count new_count old mid new (Module word c) le later r f = absurd f
 commands_fail count mid_count new_count old mid new (Abstract word) le later r f = record { mid = mid; first = r; second = f }
 commands_fail count mid_count new_count old mid new (Bus word) le later r f = absurd f
-commands_fail count mid_count new_count old mid new (Dmi fault) le later r f = in_commands (record { mid = mid; first = r; failed = commands_from count mid_count new_count mid new.far fault le later f })
+commands_fail count mid_count new_count old mid new (Dmi fault) le later r f = in_commands (record { mid = mid; first = r; failed = broke_from [] _ count mid_count new_count mid new.far fault le later f })
 
 pub bus_fails : (count mid_count new_count : ℕ) (old mid new : Tells) (fault : ConnectFault) → count ≤ mid_count → mid_count ≤ new_count → UpToBus old mid → BusFails mid_count new_count mid new fault → ConnectFails count new_count old new fault
 bus_fails count mid_count new_count old mid new (Dtm word) le later r f = absurd f

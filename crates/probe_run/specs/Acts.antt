@@ -1,11 +1,11 @@
--- The calls that are made on a link, one after another, with what they answered: of the chip where it is told, along a script where that is told.
--- It is this project's own word for a debugger's use of the debug module interface.
+-- The calls that are made on a link, one after another, with what they answered: of the chip where it is told, and along what is to be heard where
+-- that is told. It is this project's own word for a debugger's use of the debug module interface.
 use Rattle.std.specs.Prelude.{◌≡◌, ◌++◌, ℕ, List, [], ◌∷◌, length, All, Option}
 use Rattle.debug_model.specs.declared.dmi.DmiFault.{DmiFault}
 use Rattle.debug_model.specs.declared.dmi_op.DmiOp.{DmiOp}
 use Rattle.debug_model.specs.declared.dmi_op.DmiOp.TheVariants.{Read, Write}
 use Rattle.debug_model.specs.Chip.{Chip}
-use Rattle.debug_model.specs.Dmi.{Answers, DmiCause, DmiScript, IsOperation, NoneOperated, Operated, OperationCut, Passes, Shows}
+use Rattle.debug_model.specs.Dmi.{Answers, DmiCause, DmiComing, IsOperation, NoneOperated, Operated, OperationCut, Passes, Shows}
 use Rattle.debug_model.specs.Course.{Operation as ThePerformed}
 use Rattle.debug_model.specs.Many.{AnswersAll, ManyCause, OperatedAll, OperationsCut, answer_of}
 use Rattle.debug_model.specs.Scan.{WhereTold}
@@ -16,10 +16,10 @@ use Rattle.debug_model.specs.TransportWords.{dtmcs_word}
 -- what a link tells: its chip, and what is to be heard
 pub record Tells : Type 0 where
   pub far : Option Far
-  pub script : Option DmiScript
+  pub coming : Option DmiComing
 
-abbrev pub tells : Option Far → Option DmiScript → Tells
-tells far script = record { far = far; script = script }
+abbrev pub tells : Option Far → Option DmiComing → Tells
+tells far coming = record { far = far; coming = coming }
 
 -- ---- calls that were Ok
 
@@ -38,14 +38,14 @@ chip_did (Scanned value) = ScannedAs value
 chip_did (Got address value) = Operated (Read address) value
 chip_did (Put address value) = Operated (Write address value) value
 
-abbrev pub was_heard : Act → Option DmiScript → Option DmiScript → Type 0
+abbrev pub was_heard : Act → Option DmiComing → Option DmiComing → Type 0
 was_heard (Scanned value) = Shows value
 was_heard (Got address value) = Answers value
 was_heard (Put address value) = Passes
 
 pub record Does (act : Act) (old new : Tells) : Type 0 where
   pub told : WhereTold (chip_did act) old.far new.far
-  pub heard : was_heard act old.script new.script
+  pub heard : was_heard act old.coming new.coming
 
 -- ---- several operations in one call
 
@@ -65,7 +65,7 @@ acts_of (op ∷ ops) (result ∷ results) = op_act op result ∷ acts_of ops res
 pub record DoesTogether (ops : List DmiOp) (results : List ℕ) (old new : Tells) : Type 0 where
   pub small : All IsOperation ops
   pub told : WhereTold (OperatedAll ops results) old.far new.far
-  pub heard : AnswersAll ops results old.script new.script
+  pub heard : AnswersAll ops results old.coming new.coming
 
 -- just these were done, in this order, each by a call of its own or some together in one, and each call was Ok
 pub data Did (old : Tells) : List Act → Tells → Type 0 where
@@ -86,15 +86,15 @@ chip_cut Scan = NoneOperated
 chip_cut (Operation op) = OperationCut op
 chip_cut (Several op ops) = OperationsCut (op ∷ ops)
 
--- by the counts of faults before and behind, the far end before and behind, and the script before
-abbrev pub AttemptCause : Attempt → ℕ → ℕ → Option Far → Option Far → Option DmiScript → DmiFault → Type 0
-AttemptCause Scan old new was told script fault = DmiCause old new was told script fault
-AttemptCause (Operation op) old new was told script fault = DmiCause old new was told script fault
-AttemptCause (Several op ops) old new was told script fault = ManyCause (length (op ∷ ops)) old new was told script fault
+-- by the counts of faults before and behind, the far end before and behind, and what was to be heard before
+abbrev pub AttemptCause : Attempt → ℕ → ℕ → Option Far → Option Far → Option DmiComing → DmiFault → Type 0
+AttemptCause Scan old new was told coming fault = DmiCause old new was told coming fault
+AttemptCause (Operation op) old new was told coming fault = DmiCause old new was told coming fault
+AttemptCause (Several op ops) old new was told coming fault = ManyCause (length (op ∷ ops)) old new was told coming fault
 
 -- behind these calls, which were Ok, this one failed, for this reason
 pub record Broke (acts : List Act) (failed : Attempt) (old_count new_count : ℕ) (old : Tells) (told : Option Far) (fault : DmiFault) : Type 0 where
   pub mid : Tells
   pub did : Did old acts mid
   pub cut : WhereTold (chip_cut failed) mid.far told
-  pub cause : AttemptCause failed old_count new_count mid.far told mid.script fault
+  pub cause : AttemptCause failed old_count new_count mid.far told mid.coming fault

@@ -17,10 +17,11 @@ use Rattle.probe_run.specs.declared.fault.ConnectFault.{ConnectFault}
 use Rattle.probe_run.specs.declared.fault.ConnectFault.TheVariants.{Dtm, Module, Abstract, Bus, Dmi}
 use Rattle.probe_run.specs.Acts.{Act, Attempt, Broke, Did, Tells}
 use Rattle.probe_run.specs.Acts.Act.{Scanned, Got, Put}
-use Rattle.probe_run.specs.Acts.Attempt.{Scan, Operation}
+use Rattle.probe_run.specs.Acts.Attempt.{Scan, Operation, Several}
 use Rattle.probe_run.specs.Happens.{target_of}
 use Rattle.probe_run.specs.Looks.{look_act}
-use Rattle.probe_run.specs.Outcomes.{AskBroke, asks}
+use Rattle.probe_run.specs.Outcomes.{asks}
+use Rattle.probe_run.specs.Requests.{control_word}
 use Rattle.probe_run.specs.Waits.{LookBroke}
 
 -- ---- what is asked of each register
@@ -66,13 +67,16 @@ pub record Then (R S : Tells → Tells → Type 0) (old new : Tells) : Type 0 wh
   pub first : R old mid
   pub second : S mid new
 
--- a register was read, and shows what is asked, or does not
-pub record ReadAs (act : ℕ → Act) (test : ℕ → Bool) (answer : Bool) (word : ℕ) (old new : Tells) : Type 0 where
-  pub did : Did old (act word ∷ []) new
+-- by these a register was read, and shows what is asked, or does not
+pub record ReadAs (acts : ℕ → List Act) (test : ℕ → Bool) (answer : Bool) (word : ℕ) (old new : Tells) : Type 0 where
+  pub did : Did old (acts word) new
   pub tested : test word ≡ answer
 
-abbrev pub ReadFit : (ℕ → Act) → (ℕ → Bool) → Tells → Tells → Type 0
-ReadFit act test old new = (word : ℕ) × ReadAs act test true word old new
+abbrev pub ReadFit : (ℕ → List Act) → (ℕ → Bool) → Tells → Tells → Type 0
+ReadFit acts test old new = (word : ℕ) × ReadAs acts test true word old new
+
+abbrev pub transport_acts : ℕ → List Act
+transport_acts word = Scanned word ∷ []
 
 abbrev pub active_act : ℕ → Act
 active_act word = Got dmcontrol_address word
@@ -104,41 +108,43 @@ pub record ActivationBroke (old_count new_count : ℕ) (old : Tells) (told : Opt
   pub few : length vain < reads_most
   pub broke : Broke (asks Nothing 0 ++ map active_act vain) (Operation (Read dmcontrol_address)) old_count new_count old told fault
 
-abbrev pub commands_act : ℕ → Act
-commands_act word = Got abstractcs_address word
+abbrev pub module_acts : ℕ → List Act
+module_acts word = look_act word ∷ []
 
-abbrev pub bus_act : ℕ → Act
-bus_act word = Got sbcs_address word
+abbrev pub commands_acts : ℕ → List Act
+commands_acts word = Got abstractcs_address word ∷ []
 
-abbrev pub CommandsCleared : Tells → Tells → Type 0
-CommandsCleared old new = Did old (Put abstractcs_address clears_cmderr ∷ Put abstractauto_address starts_none ∷ []) new
+-- the errors of commands are cleared, and no word starts a command again, before the bus is looked at
+abbrev pub bus_acts : ℕ → List Act
+bus_acts word = Put abstractcs_address clears_cmderr ∷ Put abstractauto_address starts_none ∷ Got sbcs_address word ∷ []
 
 abbrev pub BusCleared : Tells → Tells → Type 0
 BusCleared old new = Did old (Put sbcs_address clears_sberror ∷ []) new
 
 abbrev pub TransportFits : Tells → Tells → Type 0
-TransportFits = ReadFit Scanned transport_fits
+TransportFits = ReadFit transport_acts transport_fits
 
 abbrev pub ModuleFits : Tells → Tells → Type 0
-ModuleFits = ReadFit look_act module_fits
+ModuleFits = ReadFit module_acts module_fits
 
 abbrev pub CommandsFit : Tells → Tells → Type 0
-CommandsFit = ReadFit commands_act commands_fit
+CommandsFit = ReadFit commands_acts commands_fit
 
 abbrev pub BusFits : Tells → Tells → Type 0
-BusFits = ReadFit bus_act bus_fits
+BusFits = ReadFit bus_acts bus_fits
 
 -- ---- the faults of each step
 
 abbrev pub TransportFails : ℕ → ℕ → Tells → Tells → ConnectFault → Type 0
-TransportFails old_count new_count old new (Dtm word) = ReadAs Scanned transport_fits false word old new
+TransportFails old_count new_count old new (Dtm word) = ReadAs transport_acts transport_fits false word old new
 TransportFails old_count new_count old new (Module word control) = ⊥
 TransportFails old_count new_count old new (Abstract word) = ⊥
 TransportFails old_count new_count old new (Bus word) = ⊥
 TransportFails old_count new_count old new (Dmi fault) = Broke [] Scan old_count new_count old new.far fault
 
 pub data ActivateBroke (old_count new_count : ℕ) (old : Tells) (told : Option Far) (fault : DmiFault) : Type 0 where
-  at_write : AskBroke Nothing 0 old_count new_count old told fault → ActivateBroke old_count new_count old told fault
+  at_first : Broke [] (Several (Write dmcontrol_address (control_word Nothing 0)) (Read dmcontrol_address ∷ [])) old_count new_count old told fault
+      → ActivateBroke old_count new_count old told fault
   at_read : ActivationBroke old_count new_count old told fault → ActivateBroke old_count new_count old told fault
 
 abbrev pub ActivationFails : ℕ → ℕ → Tells → Tells → ConnectFault → Type 0
@@ -152,7 +158,7 @@ ActivationFails old_count new_count old new (Dmi fault) = ActivateBroke old_coun
 abbrev pub ModuleFails : ℕ → ℕ → Tells → Tells → ConnectFault → Type 0
 ModuleFails old_count new_count old new (Dtm word) = ⊥
 ModuleFails old_count new_count old new (Module word true) = ⊥
-ModuleFails old_count new_count old new (Module word false) = ReadAs look_act module_fits false word old new
+ModuleFails old_count new_count old new (Module word false) = ReadAs module_acts module_fits false word old new
 ModuleFails old_count new_count old new (Abstract word) = ⊥
 ModuleFails old_count new_count old new (Bus word) = ⊥
 ModuleFails old_count new_count old new (Dmi fault) = LookBroke [] old_count new_count old new.far fault
@@ -164,23 +170,17 @@ pub record ThenBroke (R : Tells → Tells → Type 0) (acts : List Act) (failed 
   pub first : R old mid
   pub broke : Broke acts failed old_count new_count mid told fault
 
-pub data CommandsBroke (old_count new_count : ℕ) (old : Tells) (told : Option Far) (fault : DmiFault) : Type 0 where
-  at_abstractcs : Broke [] (Operation (Read abstractcs_address)) old_count new_count old told fault → CommandsBroke old_count new_count old told fault
-  at_cmderr : ThenBroke CommandsFit [] (Operation (Write abstractcs_address clears_cmderr)) old_count new_count old told fault
-      → CommandsBroke old_count new_count old told fault
-  at_abstractauto : ThenBroke CommandsFit (Put abstractcs_address clears_cmderr ∷ [])
-      (Operation (Write abstractauto_address starts_none)) old_count new_count old told fault
-      → CommandsBroke old_count new_count old told fault
-
 abbrev pub CommandsFail : ℕ → ℕ → Tells → Tells → ConnectFault → Type 0
 CommandsFail old_count new_count old new (Dtm word) = ⊥
 CommandsFail old_count new_count old new (Module word control) = ⊥
-CommandsFail old_count new_count old new (Abstract word) = ReadAs commands_act commands_fit false word old new
+CommandsFail old_count new_count old new (Abstract word) = ReadAs commands_acts commands_fit false word old new
 CommandsFail old_count new_count old new (Bus word) = ⊥
-CommandsFail old_count new_count old new (Dmi fault) = CommandsBroke old_count new_count old new.far fault
+CommandsFail old_count new_count old new (Dmi fault) = Broke [] (Operation (Read abstractcs_address)) old_count new_count old new.far fault
 
 pub data BusBroke (old_count new_count : ℕ) (old : Tells) (told : Option Far) (fault : DmiFault) : Type 0 where
-  at_sbcs : Broke [] (Operation (Read sbcs_address)) old_count new_count old told fault → BusBroke old_count new_count old told fault
+  at_sbcs : Broke [] (Several (Write abstractcs_address clears_cmderr) (Write abstractauto_address starts_none ∷ Read sbcs_address ∷ []))
+      old_count new_count old told fault
+      → BusBroke old_count new_count old told fault
   at_sberror : ThenBroke BusFits [] (Operation (Write sbcs_address clears_sberror)) old_count new_count old told fault
       → BusBroke old_count new_count old told fault
 
@@ -188,7 +188,7 @@ abbrev pub BusFails : ℕ → ℕ → Tells → Tells → ConnectFault → Type 
 BusFails old_count new_count old new (Dtm word) = ⊥
 BusFails old_count new_count old new (Module word control) = ⊥
 BusFails old_count new_count old new (Abstract word) = ⊥
-BusFails old_count new_count old new (Bus word) = ReadAs bus_act bus_fits false word old new
+BusFails old_count new_count old new (Bus word) = ReadAs bus_acts bus_fits false word old new
 BusFails old_count new_count old new (Dmi fault) = BusBroke old_count new_count old new.far fault
 
 -- ---- the opening
@@ -200,7 +200,7 @@ abbrev pub UpToCommands : Tells → Tells → Type 0
 UpToCommands = Then UpToModule ModuleFits
 
 abbrev pub UpToBus : Tells → Tells → Type 0
-UpToBus = Then UpToCommands (Then CommandsFit CommandsCleared)
+UpToBus = Then UpToCommands CommandsFit
 
 abbrev pub Opened : Tells → Tells → Type 0
 Opened = Then UpToBus (Then BusFits BusCleared)
@@ -220,11 +220,11 @@ pub data OpeningBroke (old_count new_count : ℕ) (old new : Tells) (fault : Dmi
 
 -- each fault has the register as it was read, and comes where that is not what is asked
 abbrev pub ConnectFails : ℕ → ℕ → Tells → Tells → ConnectFault → Type 0
-ConnectFails old_count new_count old new (Dtm word) = ReadAs Scanned transport_fits false word old new
+ConnectFails old_count new_count old new (Dtm word) = ReadAs transport_acts transport_fits false word old new
 ConnectFails old_count new_count old new (Module word true) = Then TransportFits (NotActivated word) old new
-ConnectFails old_count new_count old new (Module word false) = Then UpToModule (ReadAs look_act module_fits false word) old new
-ConnectFails old_count new_count old new (Abstract word) = Then UpToCommands (ReadAs commands_act commands_fit false word) old new
-ConnectFails old_count new_count old new (Bus word) = Then UpToBus (ReadAs bus_act bus_fits false word) old new
+ConnectFails old_count new_count old new (Module word false) = Then UpToModule (ReadAs module_acts module_fits false word) old new
+ConnectFails old_count new_count old new (Abstract word) = Then UpToCommands (ReadAs commands_acts commands_fit false word) old new
+ConnectFails old_count new_count old new (Bus word) = Then UpToBus (ReadAs bus_acts bus_fits false word) old new
 ConnectFails old_count new_count old new (Dmi fault) = OpeningBroke old_count new_count old new fault
 
 -- ---- faults

@@ -20,7 +20,7 @@ pub enum Request {
 }
 
 /// The word of `dmcontrol` that selects a hart and asks this of it.
-fn word_for(hart: u16, request: Request) -> u32
+pub fn word_for(hart: u16, request: Request) -> u32
     ensures { result ≡ control_word request hart }
 {
     let control = Dmcontrol {

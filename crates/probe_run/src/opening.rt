@@ -2,18 +2,19 @@
 
 ghost use Rattle.std.specs.Prelude.{◌≡◌, ◌≤◌, ◌∷◌, [], true, false, IfErr, OnOk};
 ghost use Rattle.debug_model.specs.Told.{IsAsLoaded, IsReady, Selects};
-ghost use Rattle.probe_run.specs.Opening.{Activated, ActivationFails, BusCleared, BusFails, BusFits, CommandsCleared, CommandsFail, CommandsFit};
+ghost use Rattle.probe_run.specs.Opening.{Activated, ActivationFails, BusCleared, BusFails, BusFits, CommandsFail, CommandsFit};
 ghost use Rattle.probe_run.specs.Opening.{ConnectFails, LosesLoaded, ModuleFails, ModuleFits, Opened, OpensLoaded, Then, TransportFails, TransportFits};
-ghost use Rattle.probe_run.specs.Opening.{bus_fits, clears_cmderr, clears_sberror, commands_fit, module_fits, starts_none, transport_fits};
+ghost use Rattle.probe_run.specs.Opening.{bus_fits, clears_cmderr, clears_sberror, commands_fit, is_active, module_fits, starts_none, transport_fits};
 ghost use Rattle.debug_model.specs.Kept.{CanCall, Keeps};
 ghost use Rattle.probe_run.specs.Told.{Fails, told};
 ghost use Rattle.probe_run.specs.Opening.{opening_why};
 
-use crate::control::{Request, control};
+use crate::control::{Request, word_for};
 use crate::fault::ConnectFault;
 use crate::target::{Target, opened};
 use crate::wait::look;
-use debug_model::{Abstractauto, Abstractcs, Dmcontrol, Dmi, Dmstatus, Dtmcs, Sbcs};
+use arrayvec::ArrayVec;
+use debug_model::{Abstractauto, Abstractcs, Dmcontrol, Dmi, DmiOp, Dmstatus, Dtmcs, Sbcs};
 
 /// How often `dmcontrol` is read at most until dmactive is 1.
 const READS_MOST: u32 = 64;
@@ -24,6 +25,13 @@ fn has_transport(word: u32) -> bool
 {
     let dtmcs = Dtmcs::from_word(word);
     dtmcs.version == 1 && 7 <= dtmcs.abits && dtmcs.abits <= 30
+}
+
+/// Whether the module works.
+fn is_active(word: u32) -> bool
+    ensures { result ≡ is_active word }
+{
+    Dmcontrol::from_word(word).dmactive
 }
 
 /// Whether this is a debug module of version 3 that may be used.
@@ -118,16 +126,22 @@ fn activate<D: Dmi>(link: &mut D) -> Result<(), ConnectFault>
     ensures fails { IfErr result (Fails ActivationFails (D.seen link.old) (D.seen link.new)) }
     ensures keeps { Keeps opening_why (D.seen link.old) (D.seen link.new) result }
 {
-    control(link, 0, Request::Nothing)?;
-    let mut last = 0;
-    'reads: for _reads in 0..READS_MOST {
-        let word = link.read(Dmcontrol::ADDRESS)?;
-        if Dmcontrol::from_word(word).dmactive {
-            return Ok(());
+    let mut words = ArrayVec::new();
+    let operations = [
+        DmiOp::Write(Dmcontrol::ADDRESS, word_for(0, Request::Nothing)),
+        DmiOp::Read(Dmcontrol::ADDRESS),
+    ];
+    link.many(&operations, &mut words)?;
+    let mut last = words[1];
+    let mut reads = 1;
+    'reads: while !is_active(last) {
+        if reads == READS_MOST {
+            return Err(ConnectFault::Module(last, true));
         }
-        last = word;
+        last = link.read(Dmcontrol::ADDRESS)?;
+        reads += 1;
     }
-    Err(ConnectFault::Module(last, true))
+    Ok(())
 }
 
 /// Reads `dmstatus`.
@@ -144,10 +158,10 @@ fn check_module<D: Dmi>(link: &mut D) -> Result<(), ConnectFault>
     Ok(())
 }
 
-/// Reads `abstractcs`, clears its errors, and writes `abstractauto`.
+/// Reads `abstractcs`.
 fn check_commands<D: Dmi>(link: &mut D) -> Result<(), ConnectFault>
     requires callable { CanCall (D.seen link.old) }
-    ensures did { OnOk result (Then CommandsFit CommandsCleared (told (D.seen link.old)) (told (D.seen link.new))) }
+    ensures did { OnOk result (CommandsFit (told (D.seen link.old)) (told (D.seen link.new))) }
     ensures fails { IfErr result (Fails CommandsFail (D.seen link.old) (D.seen link.new)) }
     ensures keeps { Keeps opening_why (D.seen link.old) (D.seen link.new) result }
 {
@@ -155,19 +169,24 @@ fn check_commands<D: Dmi>(link: &mut D) -> Result<(), ConnectFault>
     if !has_commands(word) {
         return Err(ConnectFault::Abstract(word));
     }
-    link.write(Abstractcs::ADDRESS, cleared_cmderr())?;
-    link.write(Abstractauto::ADDRESS, no_autoexec())?;
     Ok(())
 }
 
-/// Reads `sbcs`, and clears its errors.
+/// Clears the errors of `abstractcs`, writes `abstractauto`, reads `sbcs`, and clears its errors.
 fn check_bus<D: Dmi>(link: &mut D) -> Result<(), ConnectFault>
     requires callable { CanCall (D.seen link.old) }
     ensures did { OnOk result (Then BusFits BusCleared (told (D.seen link.old)) (told (D.seen link.new))) }
     ensures fails { IfErr result (Fails BusFails (D.seen link.old) (D.seen link.new)) }
     ensures keeps { Keeps opening_why (D.seen link.old) (D.seen link.new) result }
 {
-    let word = link.read(Sbcs::ADDRESS)?;
+    let mut words = ArrayVec::new();
+    let operations = [
+        DmiOp::Write(Abstractcs::ADDRESS, cleared_cmderr()),
+        DmiOp::Write(Abstractauto::ADDRESS, no_autoexec()),
+        DmiOp::Read(Sbcs::ADDRESS),
+    ];
+    link.many(&operations, &mut words)?;
+    let word = words[2];
     if !has_bus(word) {
         return Err(ConnectFault::Bus(word));
     }

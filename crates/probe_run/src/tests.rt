@@ -24,6 +24,7 @@ impl Dmi for SameDmi {
     ghost seen = { λ _. record {
       far = None;
       coming = None;
+      asked = None;
       is_alive = true;
       fault_count = 0;
       fixed = record { slack = None; ties = no_ties; gives = λ _. false };
@@ -56,10 +57,16 @@ impl Dmi for SameDmi {
     ) -> Result<(), DmiFault> {
         let mut rest = ops;
         'operations: while let [op, after @ ..] = rest {
-            results.push(match *op {
-                DmiOp::Read(_) => self.answer,
-                DmiOp::Write(_, value) => value,
-            });
+            match *op {
+                DmiOp::Read(_) => {
+                    self.reads = self.reads.saturating_add(1);
+                    results.push(self.answer);
+                }
+                DmiOp::Write(_, value) => {
+                    let _full = self.written.try_push(value).is_err();
+                    results.push(value);
+                }
+            }
             rest = after;
         }
         Ok(())
@@ -83,7 +90,7 @@ fn same(answer: u32) -> SameDmi {
     }
 }
 
-fn script(words: &[u32]) -> ScriptedDmi
+fn answering(words: &[u32]) -> ScriptedDmi
     ensures { result.alive ≡ true }
 {
     let mut answers = ArrayVec::new();
@@ -124,7 +131,7 @@ fn opens(rt: HostRuntime) {
         (&[], Some(lost)),
     ];
     for (words, wanted) in cases {
-        assert_eq!(rt; connect(&mut script(words)).err(), wanted);
+        assert_eq!(rt; connect(&mut answering(words)).err(), wanted);
     }
 }
 

@@ -29,7 +29,11 @@ pub record TookAll (bytes : List ℕ) (c : Chip) (new : Live) (told : List ℕ) 
   pub chip : new ≡ living (run c bytes)
   pub answers : told ≡ told_by c bytes
 
-took_more : (b : ℕ) (bs : List ℕ) (c : Chip) (end : Option ChipEnd) → ((feed (living (signed (sign_of b) c)) bs).ended ≡ None → TookAll bs (signed (sign_of b) c) (feed (living (signed (sign_of b) c)) bs) (said (living (signed (sign_of b) c)) bs)) → (feed (taken_by end (signed (sign_of b) c) c) bs).ended ≡ None → TookAll (b ∷ bs) c (feed (taken_by end (signed (sign_of b) c) c) bs) (answered (sign_of b) c ++ said (taken_by end (signed (sign_of b) c) c) bs)
+took_more : (b : ℕ) (bs : List ℕ) (c : Chip) (end : Option ChipEnd)
+    → ((feed (living (signed (sign_of b) c)) bs).ended ≡ None
+    → TookAll bs (signed (sign_of b) c) (feed (living (signed (sign_of b) c)) bs) (said (living (signed (sign_of b) c)) bs))
+    → (feed (taken_by end (signed (sign_of b) c) c) bs).ended ≡ None
+    → TookAll (b ∷ bs) c (feed (taken_by end (signed (sign_of b) c) c) bs) (answered (sign_of b) c ++ said (taken_by end (signed (sign_of b) c) c) bs)
 unfolding run told_by
 took_more b bs c None again h = record { chip = (again h).chip; answers = ap (λ xs. answered (sign_of b) c ++ xs) (again h).answers }
 took_more b bs c (Some e) again h = dead_stays bs c e h
@@ -47,7 +51,9 @@ pub record TookAllLive (bytes : List ℕ) (old new : Live) (told : List ℕ) : T
 pub took_all_live : (bytes : List ℕ) (l : Live) → (feed l bytes).ended ≡ None → TookAllLive bytes l (feed l bytes) (said l bytes)
 took_all_live bytes l = by l.ended
   where
-    by : (e : Option ChipEnd) → (feed (record { chip = l.chip; ended = e }) bytes).ended ≡ None → TookAllLive bytes (record { chip = l.chip; ended = e }) (feed (record { chip = l.chip; ended = e }) bytes) (said (record { chip = l.chip; ended = e }) bytes)
+    by : (e : Option ChipEnd) → (feed (record { chip = l.chip; ended = e }) bytes).ended ≡ None
+        → TookAllLive bytes (record { chip = l.chip; ended = e }) (feed (record { chip = l.chip; ended = e }) bytes)
+        (said (record { chip = l.chip; ended = e }) bytes)
     by None h = record { live = refl; all = took_all bytes l.chip h }
     by (Some e) h = dead_stays bytes l.chip e h
 
@@ -63,7 +69,8 @@ took_none : (bytes : List ℕ) (c new : Chip) → new ≡ c → TookFront bytes 
 unfolding run
 took_none bytes c new is = record { front = []; back = bytes; cut = refl; is = is }
 
-took_one_more : (b : ℕ) (bs : List ℕ) (c : Chip) (end : Option ChipEnd) → TookFront bs (signed (sign_of b) c) (feed (living (signed (sign_of b) c)) bs).chip → TookFront (b ∷ bs) c (feed (taken_by end (signed (sign_of b) c) c) bs).chip
+took_one_more : (b : ℕ) (bs : List ℕ) (c : Chip) (end : Option ChipEnd) → TookFront bs (signed (sign_of b) c) (feed (living (signed (sign_of b) c)) bs).chip
+    → TookFront (b ∷ bs) c (feed (taken_by end (signed (sign_of b) c) c) bs).chip
 unfolding run
 took_one_more b bs c None more = record { front = b ∷ more.front; back = more.back; cut = ap (λ xs. b ∷ xs) more.cut; is = more.is }
 took_one_more b bs c (Some e) more = took_none (b ∷ bs) c _ (ap (λ (l : Live). l.chip) (fed_dead bs c e))

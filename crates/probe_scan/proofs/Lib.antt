@@ -1,3 +1,4 @@
+mod Walks
 pub mod Along
 pub mod Ends
 pub mod Faults

@@ -36,7 +36,7 @@ pub record IsWrong (b : ℕ) (told : Option Far) (coming : Option (List ℕ)) : 
   pub not_zero : b ≢ 48
   pub not_one : b ≢ 49
   pub of_chip : IfSome told (λ f. CameWrong b f.unread)
-  pub of_script : IfSome coming (CameWrong b)
+  pub of_coming : IfSome coming (CameWrong b)
 
 -- why answers were not all good: the counts of the wire's faults before and after, its far end before and after, and what was to come
 abbrev pub ReceiveCause : ℕ → ℕ → Option Far → Option Far → Option (List ℕ) → WireFault → Type 0
@@ -60,6 +60,7 @@ abbrev pub scan_seen : Option Far → Option (List ℕ) → ℕ → Ties → (Wi
 scan_seen far coming fault_count ties gives = record {
   far = far;
   coming = option_map Answers coming;
+  asked = None;
   fault_count = fault_count;
   fixed = record { slack = Some 0; ties = ties; gives = or_bad gives };
 }

@@ -5,6 +5,7 @@
 #![tactic(auto)]
 
 mod batch;
+mod calls;
 mod scanner;
 mod scripted_scan;
 

@@ -9,14 +9,11 @@ ghost use Rattle.probe_scan.specs.Answers.{KeepsChip, ReceiveCause, bits_most, o
 ghost use Rattle.probe_scan.specs.Remembered.{IsRemembered};
 
 use crate::batch::{dr_batch, idle_batch, ir_batch, read_bits, reset_batch};
-use debug_model::{NO_ANSWER, Scan, Wire, WireFault};
+use debug_model::{NO_ANSWER, Scan, Wire, WireFault, instruction_code};
 use jt_base::Bits;
 
 /// The most bits of one scan.
 const BITS_MOST: usize = 64;
-
-/// The instruction code that a reset selects: IDCODE.
-const RESET_CODE: u8 = 0x01;
 
 /// Scans over a wire.
 #[derive(Drop)]
@@ -74,7 +71,7 @@ impl<W: Wire> Scan for Scanner<W> {
     fn reset(&mut self) -> Result<(), WireFault> {
         self.remembered = None;
         self.wire.send(reset_batch().bytes())?;
-        self.remembered = Some(RESET_CODE);
+        self.remembered = Some(instruction_code::IDCODE);
         Ok(())
     }
 

@@ -3,11 +3,12 @@ ghost use Rattle.debug_model.specs.Kept.{gives_end_of_answers};
 ghost use Rattle.debug_model.specs.Scan.{Numbers};
 ghost use Rattle.debug_model.specs.Ties.{no_ties};
 
+use crate::calls::Calls;
 use arrayvec::ArrayVec;
-use debug_model::{Scan, WireFault};
+use debug_model::{Asked, Scan, WireFault};
 use jt_base::{Bits, count_fault};
 
-/// How many numbers a script holds at most.
+/// How many numbers are given beforehand at most.
 const NUMBERS_MOST: usize = 128;
 
 /// Scans without a chip: what comes out is given beforehand.
@@ -17,6 +18,7 @@ const NUMBERS_MOST: usize = 128;
 #[derive(Drop)]
 pub struct ScriptedScan {
     numbers: ArrayVec<u64, NUMBERS_MOST>,
+    calls: Calls,
     failed: u64,
 }
 
@@ -24,10 +26,12 @@ impl ScriptedScan {
     /// Scans that take out these numbers, the first first.
     pub fn new(answers: ArrayVec<u64, NUMBERS_MOST>) -> Self
         ensures numbers { result.numbers ≡ answers }
+        ensures calls { result.calls.calls ≡ [] }
         ensures failed { result.failed ≡ 0 }
     {
         ScriptedScan {
             numbers: answers,
+            calls: Calls::new(),
             failed: 0,
         }
     }
@@ -48,20 +52,23 @@ impl Scan for ScriptedScan {
     ghost seen = { λ s. record {
       far = None;
       coming = Some (Numbers s.numbers.items);
+      asked = Some s.calls.calls;
       fault_count = s.failed;
       fixed = record { slack = None; ties = no_ties; gives = gives_end_of_answers };
     } };
 
     fn reset(&mut self) -> Result<(), WireFault> {
+        self.calls = self.calls.and(&Asked::Reset);
         Ok(())
     }
 
     fn ir(&mut self, code: u8) -> Result<(), WireFault> {
-        let _code = code;
+        self.calls = self.calls.and(&Asked::Select(code));
         Ok(())
     }
 
     fn dr(&mut self, bits: Bits) -> Result<Bits, WireFault> {
+        self.calls = self.calls.and(&Asked::Shift(bits));
         match take_first(&mut self.numbers) {
             Some(number) => Ok(Bits::from_u64(number, bits.len())),
             None => {
@@ -72,7 +79,7 @@ impl Scan for ScriptedScan {
     }
 
     fn idle(&mut self, clocks: u8) -> Result<(), WireFault> {
-        let _clocks = clocks;
+        self.calls = self.calls.and(&Asked::Idle(clocks));
         Ok(())
     }
 

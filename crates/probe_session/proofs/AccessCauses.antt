@@ -1,5 +1,5 @@
 -- What caused a fault of the wire in an access, and in a call on a hart's slots.
-use Rattle.std.proofs.Common.{◌≡◌, ◌≤◌, ℕ, Bool, true, false, List, Option, IfSome, sym, subst}
+use Rattle.std.proofs.Common.{◌≡◌, ◌≤◌, ℕ, Bool, true, false, List, [], Option, IfSome, sym, subst}
 use Rattle.rv_model.specs.declared.size.Size.{Size}
 use Rattle.debug_model.specs.declared.dmi.DmiFault.{DmiFault}
 use Rattle.debug_model.specs.Told.{Far}
@@ -9,12 +9,12 @@ use Rattle.probe_access.specs.BlockRuns.{Causes}
 use Rattle.probe_access.specs.BusRuns.{BusEndFailed, BusEnding, BusLoadFailed, BusStoreFailed}
 use Rattle.probe_access.specs.CommandRuns.{CommandFailed}
 use Rattle.probe_access.specs.Faults.{BrokeIn}
-use Rattle.probe_access.specs.MemoryRuns.{AroundFailed, LoadFailedInside, LoadedAny, StoreFailedInside, StoredInside}
-use Rattle.probe_access.specs.RegisterRuns.{ReadFailed, ReadFailedAt, WriteFailed, WriteFailedAt}
+use Rattle.probe_access.specs.MemoryRuns.{AroundFailed, LoadRunFailed, StoreFailedInside, StoredInside}
+use Rattle.probe_access.specs.RegisterRuns.{ReadFailed, ReadFailedAt, WriteFailed}
 use Rattle.probe_access.specs.StepRuns.{FlagFailed, StepFailed, of_run, with_flag}
 use Rattle.probe_access.specs.Stops.{StopFailed, dpc_number}
 use Rattle.probe_access.specs.RegisterAccess.{transfer_word}
-use Rattle.probe_access.proofs.BlockCauses.{around_causes, link_later, load_inside_causes, store_inside_causes}
+use Rattle.probe_access.proofs.BlockCauses.{around_causes, link_later, load_causes, store_inside_causes}
 use Rattle.probe_run.specs.declared.fault.RunFault.{RunFault}
 use Rattle.probe_run.specs.declared.fault.RunFault.TheVariants as run_fault
 use Rattle.probe_run.specs.Acts.{Act, Attempt, Tells}
@@ -32,24 +32,28 @@ AccessWire old_count new_count told fault.StillBusy = Unit {0}
 AccessWire old_count new_count told (fault.Run why) = IfSome (run_why why) (DmiWire old_count new_count told)
 AccessWire old_count new_count told (fault.Odd shown) = Unit {0}
 
-broke_in : (why : DmiFault) {Begun : List Act → Attempt → Type 0} {old_count new_count : ℕ} {old : Tells} {told : Option Far} → BrokeIn Begun old_count new_count old told why → DmiWire old_count new_count told why
+broke_in : (why : DmiFault) {Begun : List Act → Attempt → Type 0} {old_count new_count : ℕ} {old : Tells} {told : Option Far}
+    → BrokeIn Begun old_count new_count old told why → DmiWire old_count new_count told why
 broke_in why b = broke_wire why b.broke
 
 -- ---- registers
 
-command_wire : (e : AccessFault) (word old_count new_count : ℕ) (old new : Tells) → CommandFailed word old_count new_count old new e → AccessWire old_count new_count new.far e
-command_wire (fault.Dmi why) word old_count new_count old new f = broke_in why f
-command_wire (fault.Memory address) word old_count new_count old new f = tt
-command_wire (fault.Register number) word old_count new_count old new f = tt
-command_wire fault.StillBusy word old_count new_count old new f = tt
-command_wire (fault.Run why) word old_count new_count old new f = absurd f
-command_wire (fault.Odd shown) word old_count new_count old new f = tt
+command_wire : (e : AccessFault) (front : List Act) (word old_count new_count : ℕ) (old new : Tells) → CommandFailed front word old_count new_count old new e
+    → AccessWire old_count new_count new.far e
+command_wire (fault.Dmi why) front word old_count new_count old new f = broke_in why f
+command_wire (fault.Memory address) front word old_count new_count old new f = tt
+command_wire (fault.Register number) front word old_count new_count old new f = tt
+command_wire fault.StillBusy front word old_count new_count old new f = tt
+command_wire (fault.Run why) front word old_count new_count old new f = absurd f
+command_wire (fault.Odd shown) front word old_count new_count old new f = tt
 
-read_at : (e : AccessFault) (number old_count new_count : ℕ) (old new : Tells) → ReadFailedAt number old_count new_count old new e → AccessWire old_count new_count new.far e
-read_at _ number old_count new_count old new (ReadFailedAt.in_command e f) = command_wire e (transfer_word false number) old_count new_count old new f
+read_at : (e : AccessFault) (number old_count new_count : ℕ) (old new : Tells) → ReadFailedAt number old_count new_count old new e
+    → AccessWire old_count new_count new.far e
+read_at _ number old_count new_count old new (ReadFailedAt.in_command e f) = command_wire e [] (transfer_word false number) old_count new_count old new f
 read_at _ number old_count new_count old new (ReadFailedAt.in_words mid ran why b) = broke_in why b
 
-pub read_wire : (e : AccessFault) (number old_count new_count : ℕ) (old new : Tells) → ReadFailed number old_count new_count old new e → AccessWire old_count new_count new.far e
+pub read_wire : (e : AccessFault) (number old_count new_count : ℕ) (old new : Tells) → ReadFailed number old_count new_count old new e
+    → AccessWire old_count new_count new.far e
 read_wire (fault.Dmi why) number old_count new_count old new f = read_at (fault.Dmi why) number old_count new_count old new f
 read_wire (fault.Memory address) number old_count new_count old new f = tt
 read_wire (fault.Register asked) number old_count new_count old new f = tt
@@ -57,19 +61,17 @@ read_wire fault.StillBusy number old_count new_count old new f = tt
 read_wire (fault.Run why) number old_count new_count old new f = absurd f
 read_wire (fault.Odd shown) number old_count new_count old new f = tt
 
-write_at : (e : AccessFault) (number value old_count new_count : ℕ) (old new : Tells) → WriteFailedAt number value old_count new_count old new e → AccessWire old_count new_count new.far e
-write_at _ number value old_count new_count old new (WriteFailedAt.in_words why b) = broke_in why b
-write_at _ number value old_count new_count old new (WriteFailedAt.in_command mid did e f) = command_wire e (transfer_word true number) old_count new_count mid new f
-
-pub write_wire : (e : AccessFault) (number value old_count new_count : ℕ) (old new : Tells) → WriteFailed number value old_count new_count old new e → AccessWire old_count new_count new.far e
-write_wire (fault.Dmi why) number value old_count new_count old new f = write_at (fault.Dmi why) number value old_count new_count old new f
+pub write_wire : (e : AccessFault) (number value old_count new_count : ℕ) (old new : Tells) → WriteFailed number value old_count new_count old new e
+    → AccessWire old_count new_count new.far e
+write_wire (fault.Dmi why) number value old_count new_count old new f = broke_in why f
 write_wire (fault.Memory address) number value old_count new_count old new f = tt
 write_wire (fault.Register asked) number value old_count new_count old new f = tt
 write_wire fault.StillBusy number value old_count new_count old new f = tt
 write_wire (fault.Run why) number value old_count new_count old new f = absurd f
 write_wire (fault.Odd shown) number value old_count new_count old new f = tt
 
-pub stop_wire : (e : AccessFault) (old_count new_count : ℕ) (old new : Tells) → StopFailed old_count new_count old new e → AccessWire old_count new_count new.far e
+pub stop_wire : (e : AccessFault) (old_count new_count : ℕ) (old new : Tells) → StopFailed old_count new_count old new e
+    → AccessWire old_count new_count new.far e
 stop_wire e old_count new_count old new (StopFailed.at_dpc f) = read_wire e dpc_number old_count new_count old new f
 stop_wire e old_count new_count old new (StopFailed.at_dcsr pc mid read f) = read_wire e dcsr_number old_count new_count mid new f
 
@@ -83,21 +85,25 @@ by_cause fault.StillBusy old_count new_count old new c = tt
 by_cause (fault.Run why) old_count new_count old new c = absurd c
 by_cause (fault.Odd shown) old_count new_count old new c = tt
 
-pub load_wire : (e : AccessFault) (size : Size) (address old_count new_count : ℕ) (old new : Tells) → old_count ≤ new_count → AroundFailed (LoadedAny size address) (LoadFailedInside size address) old_count new_count old new e
+pub load_wire : (e : AccessFault) (size : Size) (address old_count new_count : ℕ) (old new : Tells) → old_count ≤ new_count
+    → LoadRunFailed size address old_count new_count old new e
     → AccessWire old_count new_count new.far e
 load_wire e size address old_count new_count old new later f =
-    by_cause e old_count new_count old new (around_causes (LoadedAny size address) (LoadFailedInside size address) old_count new_count old new e (load_inside_causes size address) (link_later old_count new_count e later) f)
+    by_cause e old_count new_count old new (load_causes size address old_count new_count old new e (link_later old_count new_count e later) f)
 
-pub store_wire : (e : AccessFault) (size : Size) (address value old_count new_count : ℕ) (old new : Tells) → old_count ≤ new_count → AroundFailed (StoredInside size address value) (StoreFailedInside size address value) old_count new_count old new e
+pub store_wire : (e : AccessFault) (size : Size) (address value old_count new_count : ℕ) (old new : Tells) → old_count ≤ new_count
+    → AroundFailed (StoredInside size address value) (StoreFailedInside size address value) old_count new_count old new e
     → AccessWire old_count new_count new.far e
 store_wire e size address value old_count new_count old new later f =
-    by_cause e old_count new_count old new (around_causes (StoredInside size address value) (StoreFailedInside size address value) old_count new_count old new e (store_inside_causes size address value) (link_later old_count new_count e later) f)
+    by_cause e old_count new_count old new (around_causes (StoredInside size address value) (StoreFailedInside size address value) old_count new_count old new e
+    (store_inside_causes size address value) (link_later old_count new_count e later) f)
 
 bus_ending : (why : DmiFault) {old_count new_count : ℕ} {old new : Tells} → BusEnding old_count new_count old new why → DmiWire old_count new_count new.far why
 bus_ending why (BusEnding.at_poll b) = broke_in why b
 bus_ending why (BusEnding.at_clear last mid polled outside b) = broke_in why b
 
-bus_end : (e : AccessFault) (address old_count new_count : ℕ) (old new : Tells) → BusEndFailed address old_count new_count old new e → AccessWire old_count new_count new.far e
+bus_end : (e : AccessFault) (address old_count new_count : ℕ) (old new : Tells) → BusEndFailed address old_count new_count old new e
+    → AccessWire old_count new_count new.far e
 bus_end (fault.Dmi why) address old_count new_count old new f = bus_ending why f
 bus_end (fault.Memory at) address old_count new_count old new f = tt
 bus_end (fault.Register number) address old_count new_count old new f = tt
@@ -105,46 +111,58 @@ bus_end fault.StillBusy address old_count new_count old new f = tt
 bus_end (fault.Run why) address old_count new_count old new f = absurd f
 bus_end (fault.Odd shown) address old_count new_count old new f = tt
 
-by_link : (e : AccessFault) (old_count new_count : ℕ) (told : Option Far) (why : DmiFault) → e ≡ fault.Dmi why → DmiWire old_count new_count told why → AccessWire old_count new_count told e
+by_link : (e : AccessFault) (old_count new_count : ℕ) (told : Option Far) (why : DmiFault) → e ≡ fault.Dmi why → DmiWire old_count new_count told why
+    → AccessWire old_count new_count told e
 by_link e old_count new_count told why is w = subst (AccessWire old_count new_count told) (sym is) w
 
-pub bus_load_wire : (e : AccessFault) (size : Size) (address old_count new_count : ℕ) (old new : Tells) → BusLoadFailed size address old_count new_count old new e → AccessWire old_count new_count new.far e
+pub bus_load_wire : (e : AccessFault) (size : Size) (address old_count new_count : ℕ) (old new : Tells)
+    → BusLoadFailed size address old_count new_count old new e → AccessWire old_count new_count new.far e
 bus_load_wire e size address old_count new_count old new (BusLoadFailed.in_start why is b) = by_link e old_count new_count new.far why is (broke_in why b)
 bus_load_wire e size address old_count new_count old new (BusLoadFailed.in_end started starts f) = bus_end e address old_count new_count started new f
-bus_load_wire e size address old_count new_count old new (BusLoadFailed.in_fetch started ended starts ends why is b) = by_link e old_count new_count new.far why is (broke_in why b)
+bus_load_wire e size address old_count new_count old new (BusLoadFailed.in_fetch started ended starts ends why is b) =
+    by_link e old_count new_count new.far why is (broke_in why b)
 
-pub bus_store_wire : (e : AccessFault) (size : Size) (address value old_count new_count : ℕ) (old new : Tells) → BusStoreFailed size address value old_count new_count old new e → AccessWire old_count new_count new.far e
-bus_store_wire e size address value old_count new_count old new (BusStoreFailed.in_start why is b) = by_link e old_count new_count new.far why is (broke_in why b)
+pub bus_store_wire : (e : AccessFault) (size : Size) (address value old_count new_count : ℕ) (old new : Tells)
+    → BusStoreFailed size address value old_count new_count old new e → AccessWire old_count new_count new.far e
+bus_store_wire e size address value old_count new_count old new (BusStoreFailed.in_start why is b) =
+    by_link e old_count new_count new.far why is (broke_in why b)
 bus_store_wire e size address value old_count new_count old new (BusStoreFailed.in_end started starts f) = bus_end e address old_count new_count started new f
 
 -- ---- slots, and the step over them
 
-attempt_wire : (a : TransferAttempt) (e : AccessFault) (h old_count new_count : ℕ) (old new : Tells) → AttemptFailed h a old_count new_count old new e → AccessWire old_count new_count new.far e
+attempt_wire : (a : TransferAttempt) (e : AccessFault) (h old_count new_count : ℕ) (old new : Tells) → AttemptFailed h a old_count new_count old new e
+    → AccessWire old_count new_count new.far e
 attempt_wire (TransferAttempt.Getting r) e h old_count new_count old new f = read_wire e (number_of r) old_count new_count old new f.read
 attempt_wire (TransferAttempt.Setting r value) e h old_count new_count old new f = write_wire e (number_of r) value old_count new_count old new f.written
 
-pub slots_wire : (e : AccessFault) (Whole : List Transfer → Type 0) (h old_count new_count : ℕ) (old new : Tells) → FailedIn Whole h old_count new_count old new e → AccessWire old_count new_count new.far e
+pub slots_wire : (e : AccessFault) (Whole : List Transfer → Type 0) (h old_count new_count : ℕ) (old new : Tells)
+    → FailedIn Whole h old_count new_count old new e → AccessWire old_count new_count new.far e
 slots_wire e Whole h old_count new_count old new f = attempt_wire f.attempt e h old_count new_count f.mid new f.failed
 
-flag_wire : (e : AccessFault) (on : Bool) (old_count new_count : ℕ) (old new : Tells) → FlagFailed on old_count new_count old new e → AccessWire old_count new_count new.far e
+flag_wire : (e : AccessFault) (on : Bool) (old_count new_count : ℕ) (old new : Tells) → FlagFailed on old_count new_count old new e
+    → AccessWire old_count new_count new.far e
 flag_wire e on old_count new_count old new (FlagFailed.at_read f) = read_wire e dcsr_number old_count new_count old new f
 flag_wire e on old_count new_count old new (FlagFailed.at_write word mid read f) = write_wire e dcsr_number (with_flag on word) old_count new_count mid new f
 
-by_run : (why : RunFault) (old_count new_count : ℕ) (told : Option Far) → IfSome (run_why why) (DmiWire old_count new_count told) → AccessWire old_count new_count told (of_run why)
+by_run : (why : RunFault) (old_count new_count : ℕ) (told : Option Far) → IfSome (run_why why) (DmiWire old_count new_count told)
+    → AccessWire old_count new_count told (of_run why)
 by_run (run_fault.Dmi why) old_count new_count told w = w
 by_run (run_fault.NoHalt looks) old_count new_count told w = tt
 by_run (run_fault.NoAck looks) old_count new_count told w = tt
 
-single_step : (e : AccessFault) (h old_count new_count : ℕ) (old new : Tells) → StepFailed h old_count new_count old new e → AccessWire old_count new_count new.far e
+single_step : (e : AccessFault) (h old_count new_count : ℕ) (old new : Tells) → StepFailed h old_count new_count old new e
+    → AccessWire old_count new_count new.far e
 single_step e h old_count new_count old new (StepFailed.in_set f) = flag_wire e true old_count new_count old new f
 single_step e h old_count new_count old new (StepFailed.in_run begun sets why f is) =
     subst (AccessWire old_count new_count new.far) (sym is) (by_run why old_count new_count new.far (step_wire why h old_count new_count begun new f))
 single_step e h old_count new_count old new (StepFailed.in_clear begun ran sets runs f) = flag_wire e false old_count new_count ran new f
 
-back_wire : (e : AccessFault) (h old_count new_count : ℕ) (old new : Tells) → BackFailed h old_count new_count old new e → AccessWire old_count new_count new.far e
+back_wire : (e : AccessFault) (h old_count new_count : ℕ) (old new : Tells) → BackFailed h old_count new_count old new e
+    → AccessWire old_count new_count new.far e
 back_wire e h old_count new_count old new (BackFailed.in_step f cut) = single_step e h old_count new_count old new f
 back_wire e h old_count new_count old new (BackFailed.in_end ran steps f) = slots_wire e _ h old_count new_count ran new f
 
-pub over_wire : (e : AccessFault) (h old_count new_count : ℕ) (old new : Tells) → OverFailed h old_count new_count old new e → AccessWire old_count new_count new.far e
+pub over_wire : (e : AccessFault) (h old_count new_count : ℕ) (old new : Tells) → OverFailed h old_count new_count old new e
+    → AccessWire old_count new_count new.far e
 over_wire e h old_count new_count old new (OverFailed.in_hold f) = slots_wire e _ h old_count new_count old new f
 over_wire e h old_count new_count old new (OverFailed.in_back some held holds f) = back_wire e h old_count new_count held new f

@@ -5,6 +5,7 @@ use Rattle.rv_model.specs.declared.size.Size.{Size}
 use Rattle.rv_model.specs.Board.{Board, Hart, Machine}
 use Rattle.rv_model.specs.DebugRegisters.{debug_refuses}
 use Rattle.rv_model.specs.Memory.{Memory}
+use Rattle.debug_model.specs.declared.command.Path.{Path}
 use Rattle.debug_model.specs.declared.point.Point.TheVariants.{Access}
 use Rattle.debug_model.specs.Scan.{WhereTold}
 use Rattle.debug_model.specs.Told.{Far, site_of}
@@ -27,60 +28,80 @@ use Rattle.probe_session.specs.declared.fault.Failure.{Failure}
 use Rattle.probe_session.specs.Calls.{AskFell, Gave, GiveFell, IsOfHarts, LoadFell, ReadFell, SlotsFell, StopFell, StoreFell, WriteFell}
 use Rattle.probe_session.specs.Led.{target_at}
 use Rattle.probe_session.specs.Transcribed.{Still}
-use Rattle.probe_session.proofs.BrokeOff.{LeftAs, OfTheLink, OnWay, access_of_link, asked_of_link, by_access, is_told, left_still, register_of_link, scratch_of_link}
+use Rattle.probe_session.proofs.BrokeOff.{LeftAs, OfTheLink, OnWay, access_of_link, asked_of_link, by_access, is_told, left_still, register_of_link}
+use Rattle.probe_session.proofs.BrokeOff.{scratch_of_link}
 use Rattle.probe_session.proofs.OnTheWay.{point_way, turns_twice, turns_way}
 
 -- ---- beside the plan
 
 -- the hart was changed, or not, and turns passed
-aside_still : (Y : Hart → Hart → Type 0) (h : ℕ) (m : Machine) (sel : ℕ) (way : Way) (o : Origin) (p : Plan) (lines : List Line) (old new : Option Far) → At m sel way o p lines (target_at old) → Leaves (LeftAside Y h) old new → Still (OnWay o lines) new
+aside_still : (Y : Hart → Hart → Type 0) (h : ℕ) (m : Machine) (sel : ℕ) (way : Way) (o : Origin) (p : Plan) (lines : List Line) (old new : Option Far)
+    → At m sel way o p lines (target_at old) → Leaves (LeftAside Y h) old new → Still (OnWay o lines) new
 aside_still Y h m sel way o p lines old new a l =
-    left_still (LeftAside Y h) m sel way o p lines (OnWay o lines) old new (λ f g d c. turns_way o p lines (target_of (site_of f)) c.harts (site_of g).journal d.stands c.journal) l a
+    left_still (LeftAside Y h) m sel way o p lines (OnWay o lines) old new (λ f g d c. turns_way o p lines (target_of (site_of f)) c.harts (site_of g).journal
+    d.stands c.journal) l a
 
-pub read_fell : (h number : ℕ) (m : Machine) (sel : ℕ) (way : Way) (o : Origin) (p : Plan) (lines : List Line) (old_count new_count : ℕ) (old new : Tells) (f : Failure) (fell : ReadFell h number old_count new_count old new f) → OfTheLink fell.why
+pub read_fell : (h number : ℕ) (m : Machine) (sel : ℕ) (way : Way) (o : Origin) (p : Plan) (lines : List Line) (old_count new_count : ℕ) (old new : Tells)
+    (f : Failure) (fell : ReadFell h number old_count new_count old new f) → OfTheLink fell.why
     → At m sel way o p lines (target_at old.far) → Still (LeftAs o lines f) new.far
 read_fell h number m sel way o p lines old_count new_count old new f fell of a =
-    by_access fell.why f o lines new.far (Leaves (LeftAside Unchanged h) old.far new.far) fell.is of fell.cut (aside_still Unchanged h m sel way o p lines old.far new.far a)
-
-pub write_fell : (h number value : ℕ) (m : Machine) (sel : ℕ) (way : Way) (o : Origin) (p : Plan) (lines : List Line) (old_count new_count : ℕ) (old new : Tells) (f : Failure) (fell : WriteFell h number value old_count new_count old new f)
-    → OfTheLink fell.why → At m sel way o p lines (target_at old.far) → Still (LeftAs o lines f) new.far
-write_fell h number value m sel way o p lines old_count new_count old new f fell of a =
-    by_access fell.why f o lines new.far (Leaves (LeftAside (MaybeWritten number value) h) old.far new.far) fell.is of fell.cut (aside_still (MaybeWritten number value) h m sel way o p lines old.far new.far a)
-
-pub asked_fell : (h number : ℕ) (m : Machine) (sel : ℕ) (way : Way) (o : Origin) (p : Plan) (lines : List Line) (old_count new_count : ℕ) (old new : Tells) (f : Failure) → AskFell h number old_count new_count old new f
-    → At m sel way o p lines (target_at old.far) → Still (LeftAs o lines f) new.far
-asked_fell h number m sel way o p lines old_count new_count old new f fell a =
-    read_fell h number m sel way o p lines old_count new_count old new f fell.fell (asked_of_link false h number fell.fell.why old.far new.far (is_told m sel way o p lines old.far a) fell.other fell.fell.told) a
-
-pub given_fell : (h number value : ℕ) (m : Machine) (sel : ℕ) (way : Way) (o : Origin) (p : Plan) (lines : List Line) (old_count new_count : ℕ) (old new : Tells) (f : Failure) → GiveFell h number value old_count new_count old new f
-    → At m sel way o p lines (target_at old.far) → Still (LeftAs o lines f) new.far
-given_fell h number value m sel way o p lines old_count new_count old new f fell a =
-    write_fell h number value m sel way o p lines old_count new_count old new f fell.fell (asked_of_link true h number fell.fell.why old.far new.far (is_told m sel way o p lines old.far a) fell.other fell.fell.told) a
-
-pub gotten_fell : (h number : ℕ) (m : Machine) (sel : ℕ) (way : Way) (o : Origin) (p : Plan) (lines : List Line) (old_count new_count : ℕ) (old new : Tells) (f : Failure) → IsOfHarts number → ReadFell h number old_count new_count old new f
-    → At m sel way o p lines (target_at old.far) → Still (LeftAs o lines f) new.far
-gotten_fell h number m sel way o p lines old_count new_count old new f of fell a =
-    read_fell h number m sel way o p lines old_count new_count old new f fell (register_of_link false h number fell.why old.far new.far (is_told m sel way o p lines old.far a) of tt fell.told) a
-
-pub written_fell : (h number value : ℕ) (m : Machine) (sel : ℕ) (way : Way) (o : Origin) (p : Plan) (lines : List Line) (old_count new_count : ℕ) (old new : Tells) (f : Failure) → IsOfHarts number → debug_refuses number ≡ false
-    → WriteFell h number value old_count new_count old new f → At m sel way o p lines (target_at old.far) → Still (LeftAs o lines f) new.far
-written_fell h number value m sel way o p lines old_count new_count old new f of can fell a =
-    write_fell h number value m sel way o p lines old_count new_count old new f fell (register_of_link true h number fell.why old.far new.far (is_told m sel way o p lines old.far a) of can fell.told) a
-
-pub stop_fell : (h : ℕ) (m : Machine) (sel : ℕ) (way : Way) (o : Origin) (p : Plan) (lines : List Line) (old_count new_count : ℕ) (old new : Tells) (f : Failure) → StopFell h old_count new_count old new f → At m sel way o p lines (target_at old.far)
-    → Still (LeftAs o lines f) new.far
-stop_fell h m sel way o p lines old_count new_count old new f fell a =
-    by_access fell.why f o lines new.far (Leaves (LeftAside Unchanged h) old.far new.far) fell.is (scratch_of_link fell.why old.far (is_told m sel way o p lines old.far a) fell.told) fell.cut
+    by_access fell.why f o lines new.far (Leaves (LeftAside Unchanged h) old.far new.far) fell.is of fell.cut
     (aside_still Unchanged h m sel way o p lines old.far new.far a)
 
-pub slots_fell : (Whole : List Transfer → Type 0) (h : ℕ) (m : Machine) (sel : ℕ) (way : Way) (o : Origin) (p : Plan) (lines : List Line) (old_count new_count : ℕ) (old new : Tells) (f : Failure) → SlotsFell Whole h old_count new_count old new f
+pub write_fell : (h number value : ℕ) (m : Machine) (sel : ℕ) (way : Way) (o : Origin) (p : Plan) (lines : List Line) (old_count new_count : ℕ)
+    (old new : Tells) (f : Failure) (fell : WriteFell h number value old_count new_count old new f)
+    → OfTheLink fell.why → At m sel way o p lines (target_at old.far) → Still (LeftAs o lines f) new.far
+write_fell h number value m sel way o p lines old_count new_count old new f fell of a =
+    by_access fell.why f o lines new.far (Leaves (LeftAside (MaybeWritten number value) h) old.far new.far) fell.is of fell.cut
+    (aside_still (MaybeWritten number value) h m sel way o p lines old.far new.far a)
+
+pub asked_fell : (h number : ℕ) (m : Machine) (sel : ℕ) (way : Way) (o : Origin) (p : Plan) (lines : List Line) (old_count new_count : ℕ) (old new : Tells)
+    (f : Failure) → AskFell h number old_count new_count old new f
+    → At m sel way o p lines (target_at old.far) → Still (LeftAs o lines f) new.far
+asked_fell h number m sel way o p lines old_count new_count old new f fell a =
+    read_fell h number m sel way o p lines old_count new_count old new f fell.fell
+    (asked_of_link false h number fell.fell.why old.far new.far (is_told m sel way o p lines old.far a) fell.other fell.fell.told) a
+
+pub given_fell : (h number value : ℕ) (m : Machine) (sel : ℕ) (way : Way) (o : Origin) (p : Plan) (lines : List Line) (old_count new_count : ℕ)
+    (old new : Tells) (f : Failure) → GiveFell h number value old_count new_count old new f
+    → At m sel way o p lines (target_at old.far) → Still (LeftAs o lines f) new.far
+given_fell h number value m sel way o p lines old_count new_count old new f fell a =
+    write_fell h number value m sel way o p lines old_count new_count old new f fell.fell
+    (asked_of_link true h number fell.fell.why old.far new.far (is_told m sel way o p lines old.far a) fell.other fell.fell.told) a
+
+pub gotten_fell : (h number : ℕ) (m : Machine) (sel : ℕ) (way : Way) (o : Origin) (p : Plan) (lines : List Line) (old_count new_count : ℕ) (old new : Tells)
+    (f : Failure) → IsOfHarts number → ReadFell h number old_count new_count old new f
+    → At m sel way o p lines (target_at old.far) → Still (LeftAs o lines f) new.far
+gotten_fell h number m sel way o p lines old_count new_count old new f of fell a =
+    read_fell h number m sel way o p lines old_count new_count old new f fell
+    (register_of_link false h number fell.why old.far new.far (is_told m sel way o p lines old.far a) of tt fell.told) a
+
+pub written_fell : (h number value : ℕ) (m : Machine) (sel : ℕ) (way : Way) (o : Origin) (p : Plan) (lines : List Line) (old_count new_count : ℕ)
+    (old new : Tells) (f : Failure) → IsOfHarts number → debug_refuses number ≡ false
+    → WriteFell h number value old_count new_count old new f → At m sel way o p lines (target_at old.far) → Still (LeftAs o lines f) new.far
+written_fell h number value m sel way o p lines old_count new_count old new f of can fell a =
+    write_fell h number value m sel way o p lines old_count new_count old new f fell
+    (register_of_link true h number fell.why old.far new.far (is_told m sel way o p lines old.far a) of can fell.told) a
+
+pub stop_fell : (h : ℕ) (m : Machine) (sel : ℕ) (way : Way) (o : Origin) (p : Plan) (lines : List Line) (old_count new_count : ℕ) (old new : Tells)
+    (f : Failure) → StopFell h old_count new_count old new f → At m sel way o p lines (target_at old.far)
+    → Still (LeftAs o lines f) new.far
+stop_fell h m sel way o p lines old_count new_count old new f fell a =
+    by_access fell.why f o lines new.far (Leaves (LeftAside Unchanged h) old.far new.far) fell.is
+    (scratch_of_link fell.why old.far (is_told m sel way o p lines old.far a) fell.told) fell.cut
+    (aside_still Unchanged h m sel way o p lines old.far new.far a)
+
+pub slots_fell : (Whole : List Transfer → Type 0) (h : ℕ) (m : Machine) (sel : ℕ) (way : Way) (o : Origin) (p : Plan) (lines : List Line)
+    (old_count new_count : ℕ) (old new : Tells) (f : Failure) → SlotsFell Whole h old_count new_count old new f
     → At m sel way o p lines (target_at old.far) → Still (LeftAs o lines f) new.far
 slots_fell Whole h m sel way o p lines old_count new_count old new f fell a =
-    by_access fell.why f o lines new.far (Leaves (LeftAside DebugAlone h) old.far new.far) fell.is (scratch_of_link fell.why old.far (is_told m sel way o p lines old.far a) fell.told) fell.cut
+    by_access fell.why f o lines new.far (Leaves (LeftAside DebugAlone h) old.far new.far) fell.is
+    (scratch_of_link fell.why old.far (is_told m sel way o p lines old.far a) fell.told) fell.cut
     (aside_still DebugAlone h m sel way o p lines old.far new.far a)
 
 -- behind a register that was written
-behind_given : (h number value : ℕ) (m : Machine) (sel : ℕ) (way : Way) (o : Origin) (p : Plan) (lines : List Line) (old mid new : Option Far) → At m sel way o p lines (target_at old) → WhereTold (RegisterWrittenAt h number value) old mid
+behind_given : (h number value : ℕ) (m : Machine) (sel : ℕ) (way : Way) (o : Origin) (p : Plan) (lines : List Line) (old mid new : Option Far)
+    → At m sel way o p lines (target_at old) → WhereTold (RegisterWrittenAt h number value) old mid
     → Leaves (LeftAside DebugAlone h) mid new → Still (OnWay o lines) new
 behind_given h number value m sel way o p lines None mid new a w l = absurd (none-some a.target a.is)
 behind_given h number value m sel way o p lines (Some c) mid new a w l = made (subst (λ x. Leaves (LeftAside DebugAlone h) x new) w.is l)
@@ -96,15 +117,19 @@ behind_given h number value m sel way o p lines (Some c) mid new a w l = made (s
 
 -- ---- memory
 
-access_still : (Y : Hart → Hart → Type 0) (N : Memory → Memory → Type 0) (h : ℕ) (m : Machine) (sel : ℕ) (way : Way) (o : Origin) (next : Board → Plan) (lines : List Line) (old new : Option Far)
+access_still : (Y : Hart → Hart → Type 0) (N : Memory → Memory → Type 0) (h : ℕ) (m : Machine) (sel : ℕ) (way : Way) (o : Origin) (next : Board → Plan)
+    (lines : List Line) (old new : Option Far)
     → At m sel way o (take Access (see next)) lines (target_at old) → Leaves (AccessLeftOff Y N h) old new → Still (OnWay o lines) new
-access_still Y N h m sel way o next lines old new a l = left_still (AccessLeftOff Y N h) m sel way o (take Access (see next)) lines (OnWay o lines) old new cut l a
+access_still Y N h m sel way o next lines old new a l = left_still (AccessLeftOff Y N h) m sel way o (take Access (see next)) lines
+    (OnWay o lines) old new cut l a
   where
     cut : (f g : Far) → Deals m sel way o (take Access (see next)) lines (target_of (site_of f)) → AccessLeftOff Y N h (site_of f) (site_of g) → OnWay o lines g
     cut f g d (AccessLeftOff.before_it c) = turns_way o (take Access (see next)) lines (target_of (site_of f)) c.harts (site_of g).journal d.stands c.journal
-    cut f g d (AccessLeftOff.behind_it c) = point_way o Access (see next) lines (target_of (site_of f)) c.before c.behind (site_of g).journal tt d.stands c.journal
+    cut f g d (AccessLeftOff.behind_it c) = point_way o Access (see next) lines (target_of (site_of f)) c.before c.behind (site_of g).journal
+        tt d.stands c.journal
 
-bus_still : (N : Memory → Memory → Type 0) (m : Machine) (sel : ℕ) (way : Way) (o : Origin) (next : Board → Plan) (lines : List Line) (old new : Option Far) → At m sel way o (take Access (see next)) lines (target_at old)
+bus_still : (N : Memory → Memory → Type 0) (m : Machine) (sel : ℕ) (way : Way) (o : Origin) (next : Board → Plan) (lines : List Line) (old new : Option Far)
+    → At m sel way o (take Access (see next)) lines (target_at old)
     → Leaves (BusLeftOff N) old new → Still (OnWay o lines) new
 bus_still N m sel way o next lines old new a l = left_still (BusLeftOff N) m sel way o (take Access (see next)) lines (OnWay o lines) old new cut l a
   where
@@ -112,16 +137,20 @@ bus_still N m sel way o next lines old new a l = left_still (BusLeftOff N) m sel
     cut f g d (BusLeftOff.before_it c) = turns_way o (take Access (see next)) lines (target_of (site_of f)) c.harts (site_of g).journal d.stands c.journal
     cut f g d (BusLeftOff.behind_it c) = point_way o Access (see next) lines (target_of (site_of f)) c.before c.behind (site_of g).journal tt d.stands c.journal
 
-pub load_fell : (size : Size) (address : ℕ) (m : Machine) (sel : ℕ) (way : Way) (o : Origin) (next : Board → Plan) (lines : List Line) (old_count new_count : ℕ) (old new : Tells) (f : Failure) → LoadFell size address old_count new_count old new f
+pub load_fell : {path : Path} (size : Size) (address : ℕ) (m : Machine) (sel : ℕ) (way : Way) (o : Origin) (next : Board → Plan) (lines : List Line)
+    (old_count new_count : ℕ) (old new : Tells) (f : Failure) → LoadFell path size address old_count new_count old new f
     → At m sel way o (take Access (see next)) lines (target_at old.far) → Still (LeftAs o lines f) new.far
 load_fell size address m sel way o next lines old_count new_count old new f (LoadFell.by_hart h why at later heard told cut is) a =
     by_access why f o lines new.far (Leaves (AccessLeftOff Scratched LoadLeaves h) old.far new.far) is
-    (access_of_link (LoadRefused size address) address why old.far new.far (is_told m sel way o (take Access (see next)) lines old.far a) told) cut (access_still Scratched LoadLeaves h m sel way o next lines old.far new.far a)
+    (access_of_link (LoadRefused size address) address why old.far new.far (is_told m sel way o (take Access (see next)) lines old.far a) told) cut
+    (access_still Scratched LoadLeaves h m sel way o next lines old.far new.far a)
 load_fell size address m sel way o next lines old_count new_count old new f (LoadFell.by_bus why at later heard told cut is) a =
     by_access why f o lines new.far (Leaves (BusLeftOff LoadLeaves) old.far new.far) is
-    (access_of_link (BusLoadRefused size address) address why old.far new.far (is_told m sel way o (take Access (see next)) lines old.far a) told) cut (bus_still LoadLeaves m sel way o next lines old.far new.far a)
+    (access_of_link (BusLoadRefused size address) address why old.far new.far (is_told m sel way o (take Access (see next)) lines old.far a) told) cut
+    (bus_still LoadLeaves m sel way o next lines old.far new.far a)
 
-pub store_fell : (size : Size) (address value : ℕ) (m : Machine) (sel : ℕ) (way : Way) (o : Origin) (next : Board → Plan) (lines : List Line) (old_count new_count : ℕ) (old new : Tells) (f : Failure) → StoreFell size address value old_count new_count old new f
+pub store_fell : {path : Path} (size : Size) (address value : ℕ) (m : Machine) (sel : ℕ) (way : Way) (o : Origin) (next : Board → Plan) (lines : List Line)
+    (old_count new_count : ℕ) (old new : Tells) (f : Failure) → StoreFell path size address value old_count new_count old new f
     → At m sel way o (take Access (see next)) lines (target_at old.far) → Still (LeftAs o lines f) new.far
 store_fell size address value m sel way o next lines old_count new_count old new f (StoreFell.by_hart h why at later heard told cut is) a =
     by_access why f o lines new.far (Leaves (AccessLeftOff Scratched (StoreLeaves size address value) h) old.far new.far) is
@@ -129,14 +158,17 @@ store_fell size address value m sel way o next lines old_count new_count old new
     (access_still Scratched (StoreLeaves size address value) h m sel way o next lines old.far new.far a)
 store_fell size address value m sel way o next lines old_count new_count old new f (StoreFell.by_bus why at later heard told cut is) a =
     by_access why f o lines new.far (Leaves (BusLeftOff (StoreLeaves size address value)) old.far new.far) is
-    (access_of_link (BusStoreRefused size address) address why old.far new.far (is_told m sel way o (take Access (see next)) lines old.far a) told) cut (bus_still (StoreLeaves size address value) m sel way o next lines old.far new.far a)
+    (access_of_link (BusStoreRefused size address) address why old.far new.far (is_told m sel way o (take Access (see next)) lines old.far a) told) cut
+    (bus_still (StoreLeaves size address value) m sel way o next lines old.far new.far a)
 
 -- ---- hits that were to be forgotten, behind a written pc
 
-pub forget_fell : (h number value : ℕ) (m : Machine) (sel : ℕ) (way : Way) (o : Origin) (p : Plan) (lines : List Line) (old_count new_count : ℕ) (old mid new : Tells) (f : Failure) → Gave h number value old mid → SlotsFell (ChangesAny Forget) h old_count new_count mid new f
+pub forget_fell : (h number value : ℕ) (m : Machine) (sel : ℕ) (way : Way) (o : Origin) (p : Plan) (lines : List Line) (old_count new_count : ℕ)
+    (old mid new : Tells) (f : Failure) → Gave h number value old mid → SlotsFell (ChangesAny Forget) h old_count new_count mid new f
     → At m sel way o p lines (target_at old.far) → Still (LeftAs o lines f) new.far
 forget_fell h number value m sel way o p lines old_count new_count old mid new f gave fell a =
-    by_access fell.why f o lines new.far (Leaves (LeftAside DebugAlone h) mid.far new.far) fell.is (scratch_of_link fell.why mid.far (still_told old.far mid.far gave.told a) fell.told) fell.cut
+    by_access fell.why f o lines new.far (Leaves (LeftAside DebugAlone h) mid.far new.far) fell.is
+    (scratch_of_link fell.why mid.far (still_told old.far mid.far gave.told a) fell.told) fell.cut
     (behind_given h number value m sel way o p lines old.far mid.far new.far a gave.told)
   where
     still_told : (x y : Option Far) → WhereTold (RegisterWrittenAt h number value) x y → At m sel way o p lines (target_at x) → y ≡ None → ⊥

@@ -1,4 +1,5 @@
--- Where a call of a session failed over a told chip: the journal leads along the plan, and says no more than was said; or the chip was not seen halted, or gone.
+-- Where a call of a session failed over a told chip: the journal leads along the plan, and says no more than was said; or the chip was not seen halted, or
+-- gone.
 use Rattle.std.proofs.Common.{◌≡◌, ◌∙◌, ℕ, Bool, true, false, List, Option, Some, None, refl, sym, ap, subst}
 use Rattle.std.specs.Prelude.{◌&&◌, not}
 use Rattle.std.proofs.lemmas.Bool.{false≢true}
@@ -46,18 +47,29 @@ OnWay o lines last = OnTheWay o lines (site_of last).journal
 
 -- ---- an object that tells
 
-pub told_still : (R : Chip → Option Far → Type 0) (m : Machine) (sel : ℕ) (way : Way) (o : Origin) (p : Plan) (lines : List Line) (Q : Far → Type 0) (old new : Option Far)
-    → ((f : Far) → Deals m sel way o p lines (target_of (site_of f)) → R f.live.chip new → Still Q new) → WhereTold R old new → At m sel way o p lines (target_at old) → Still Q new
+pub told_still : (R : Chip → Option Far → Type 0) (m : Machine) (sel : ℕ) (way : Way) (o : Origin) (p : Plan) (lines : List Line) (Q : Far → Type 0)
+    (old new : Option Far)
+    → ((f : Far) → Deals m sel way o p lines (target_of (site_of f)) → R f.live.chip new → Still Q new) → WhereTold R old new
+    → At m sel way o p lines (target_at old) → Still Q new
 told_still R m sel way o p lines Q None new step w a = absurd (none-some a.target a.is)
-told_still R m sel way o p lines Q (Some f) new step w a = step f (subst (λ t. Deals m sel way o p lines t) (sym (same_Some (target_of (site_of f)) a.target a.is)) a.holds) w
+told_still R m sel way o p lines Q (Some f) new step w a = step f (subst (λ t. Deals m sel way o p lines t)
+    (sym (same_Some (target_of (site_of f)) a.target a.is)) a.holds) w
 
-pub left_still : (R : Site → Site → Type 0) (m : Machine) (sel : ℕ) (way : Way) (o : Origin) (p : Plan) (lines : List Line) (Q : Far → Type 0) (old new : Option Far)
-    → ((f g : Far) → Deals m sel way o p lines (target_of (site_of f)) → R (site_of f) (site_of g) → Q g) → Leaves R old new → At m sel way o p lines (target_at old) → Still Q new
+pub left_still : (R : Site → Site → Type 0) (m : Machine) (sel : ℕ) (way : Way) (o : Origin) (p : Plan) (lines : List Line) (Q : Far → Type 0)
+    (old new : Option Far)
+    → ((f g : Far) → Deals m sel way o p lines (target_of (site_of f)) → R (site_of f) (site_of g) → Q g) → Leaves R old new
+    → At m sel way o p lines (target_at old) → Still Q new
 left_still R m sel way o p lines Q None new step w a = absurd (none-some a.target a.is)
 left_still R m sel way o p lines Q (Some f) new step w a =
-    record { far = w.far; is = w.is; holds = step f w.far (subst (λ t. Deals m sel way o p lines t) (sym (same_Some (target_of (site_of f)) a.target a.is)) a.holds) w.left }
+    record {
+      far = w.far;
+      is = w.is;
+      holds = step f w.far (subst (λ t. Deals m sel way o p lines t)
+          (sym (same_Some (target_of (site_of f)) a.target a.is)) a.holds) w.left;
+    }
 
-pub is_told : (m : Machine) (sel : ℕ) (way : Way) (o : Origin) (p : Plan) (lines : List Line) (old : Option Far) → At m sel way o p lines (target_at old) → old ≡ None → ⊥
+pub is_told : (m : Machine) (sel : ℕ) (way : Way) (o : Origin) (p : Plan) (lines : List Line) (old : Option Far)
+    → At m sel way o p lines (target_at old) → old ≡ None → ⊥
 is_told m sel way o p lines old a none = none-some a.target (sym (ap target_at none) ∙ a.is)
 
 pub still_as : {P Q : Far → Type 0} (new : Option Far) → ((f : Far) → P f → Q f) → Still P new → Still Q new
@@ -70,7 +82,8 @@ dmi_as (dmi_fault.Wire why) o lines last way = way
 dmi_as dmi_fault.Failed o lines last way = way
 dmi_as dmi_fault.StillBusy o lines last way = way
 
-pub by_dmi : (why : DmiFault) (f : Failure) (o : Origin) (lines : List Line) (new : Option Far) → f ≡ failure_of_dmi why → Still (OnWay o lines) new → Still (LeftAs o lines f) new
+pub by_dmi : (why : DmiFault) (f : Failure) (o : Origin) (lines : List Line) (new : Option Far) → f ≡ failure_of_dmi why → Still (OnWay o lines) new
+    → Still (LeftAs o lines f) new
 by_dmi why f o lines new is s = subst (λ g. Still (LeftAs o lines g) new) (sym is) (still_as new (λ last way. dmi_as why o lines last way) s)
 
 -- an access fails so over a told chip alone by the link, or behind 64 polls in vain
@@ -82,7 +95,8 @@ OfTheLink fault.StillBusy = Unit {0}
 OfTheLink (fault.Run why) = ⊥
 OfTheLink (fault.Odd shown) = ⊥
 
-pub by_access : (why : AccessFault) (f : Failure) (o : Origin) (lines : List Line) (new : Option Far) (P : Type 0) → Became why f → OfTheLink why → IfCut P why → (P → Still (OnWay o lines) new) → Still (LeftAs o lines f) new
+pub by_access : (why : AccessFault) (f : Failure) (o : Origin) (lines : List Line) (new : Option Far) (P : Type 0) → Became why f → OfTheLink why → IfCut P why
+    → (P → Still (OnWay o lines) new) → Still (LeftAs o lines f) new
 by_access (fault.Dmi why) f o lines new P is of cut step = by_dmi why f o lines new is (step cut)
 by_access (fault.Memory at) f o lines new P is of cut step = absurd is
 by_access (fault.Register number) f o lines new P is of cut step = absurd of
@@ -98,7 +112,8 @@ scratch_of_link fault.StillBusy old told left = tt
 scratch_of_link (fault.Run why) old told left = left
 scratch_of_link (fault.Odd shown) old told left = told left
 
-pub access_of_link : (R : Chip → Option Far → Type 0) (address : ℕ) (why : AccessFault) (old new : Option Far) → (old ≡ None → ⊥) → AccessLeft R address old new why → OfTheLink why
+pub access_of_link : (R : Chip → Option Far → Type 0) (address : ℕ) (why : AccessFault) (old new : Option Far) → (old ≡ None → ⊥)
+    → AccessLeft R address old new why → OfTheLink why
 access_of_link R address (fault.Dmi why) old new told left = tt
 access_of_link R address (fault.Memory at) old new told left = tt
 access_of_link R address (fault.Register number) old new told left = told left
@@ -107,7 +122,8 @@ access_of_link R address (fault.Run why) old new told left = left
 access_of_link R address (fault.Odd shown) old new told left = told left
 
 -- a register that may be refused, and was not
-pub asked_of_link : (write : Bool) (h number : ℕ) (why : AccessFault) (old new : Option Far) → (old ≡ None → ⊥) → IsNotRegister why → RegisterLeft write h number old new why → OfTheLink why
+pub asked_of_link : (write : Bool) (h number : ℕ) (why : AccessFault) (old new : Option Far) → (old ≡ None → ⊥) → IsNotRegister why
+    → RegisterLeft write h number old new why → OfTheLink why
 asked_of_link write h number (fault.Dmi why) old new told other left = tt
 asked_of_link write h number (fault.Memory at) old new told other left = tt
 asked_of_link write h number (fault.Register asked) old new told other left = other
@@ -120,13 +136,15 @@ abbrev CanBe : Bool → ℕ → Type 0
 CanBe true number = debug_refuses number ≡ false
 CanBe false number = Unit {0}
 
-none_denied : (write : Bool) (h number : ℕ) (old new : Option Far) → (old ≡ None → ⊥) → IsOfHarts number → CanBe write number → WhereTold (RegisterRefusedAt write h number) old new → ⊥
+none_denied : (write : Bool) (h number : ℕ) (old new : Option Far) → (old ≡ None → ⊥) → IsOfHarts number → CanBe write number
+    → WhereTold (RegisterRefusedAt write h number) old new → ⊥
 none_denied write h number None new told of can w = told refl
 none_denied true h number (Some f) new told of can w =
     false≢true (sym w.denied ∙ ap (λ (b : Bool). b && not (true && debug_refuses number)) (of w.hart) ∙ ap (λ (b : Bool). not b) can)
 none_denied false h number (Some f) new told of can w = false≢true (sym w.denied ∙ ap (λ (b : Bool). b && true) (of w.hart))
 
-pub register_of_link : (write : Bool) (h number : ℕ) (why : AccessFault) (old new : Option Far) → (old ≡ None → ⊥) → IsOfHarts number → CanBe write number → RegisterLeft write h number old new why → OfTheLink why
+pub register_of_link : (write : Bool) (h number : ℕ) (why : AccessFault) (old new : Option Far) → (old ≡ None → ⊥) → IsOfHarts number → CanBe write number
+    → RegisterLeft write h number old new why → OfTheLink why
 register_of_link write h number (fault.Dmi why) old new told of can left = tt
 register_of_link write h number (fault.Memory at) old new told of can left = tt
 register_of_link write h number (fault.Register asked) old new told of can left = none_denied write h number old new told of can left

@@ -45,25 +45,35 @@ ended_by failure.Sink = ended.Sink
 
 -- ---- at the script's end
 
-at_end : (script : List Command) (wrong : Bool) (mid new : Tells) (was is : Option (List ℕ)) (old : Option Far) → IsAsLoaded old → OpensLoaded old mid.far → Spoke (at_commands script first_state) at_stop wrong mid new was is
+at_end : (script : List Command) (wrong : Bool) (mid new : Tells) (was is : Option (List ℕ)) (old : Option Far) → IsAsLoaded old → OpensLoaded old mid.far
+    → Spoke (at_commands script first_state) at_stop wrong mid new was is
     → IfSome old (λ first. Still (IsTranscript script (if wrong then End.WithErrors else End.Clean) was is first) new.far)
 at_end script wrong mid new was is None loaded opened s = tt
 at_end script wrong mid new was is (Some first) loaded opened s =
     let m : Machine = machine_of (site_of first).board in
     let d : DealsAt m (origin_of script first) (at_stop tt) s.said new.far =
-    goes_lead (at_commands script first_state tt) (at_stop tt) mid new s.said (s.went.goes tt) m (origin_of script first) [] (opened_deals script first mid.far loaded (opened loaded)) in
+    goes_lead (at_commands script first_state tt) (at_stop tt) mid new s.said (s.went.goes tt) m (origin_of script first) []
+    (opened_deals script first mid.far loaded (opened loaded)) in
     ran_transcribed script wrong first was is new.far s.said d s.wrong_is s.put
 
 -- ---- in the middle
 
-front_of : (script : List Command) (first last : Far) (said : List Line) (was is : Option (List ℕ)) → OnTheWay (origin_of script first) said (site_of last).journal → is ≡ grown (text_of_all said) was → IsFrontOf script was is first last
+front_of : (script : List Command) (first last : Far) (said : List Line) (was is : Option (List ℕ))
+    → OnTheWay (origin_of script first) said (site_of last).journal → is ≡ grown (text_of_all said) was → IsFrontOf script was is first last
 front_of script first last said was is way put = record { on_the_way = way.not_astray; written = front_written said _ was is way.front put }
 
-transcript_of : (script : List Command) (first last : Far) (said : List Line) (e : End) (was is : Option (List ℕ)) → IsTranscribed (origin_of script first) e said (target_of (site_of last)) → is ≡ grown (text_of_all said) was
+transcript_of : (script : List Command) (first last : Far) (said : List Line) (e : End) (was is : Option (List ℕ))
+    → IsTranscribed (origin_of script first) e said (target_of (site_of last)) → is ≡ grown (text_of_all said) was
     → IsTranscript script e was is first last
-transcript_of script first last said e was is t put = record { end_is = t.end_is; written = put ∙ ap (λ (l : List Line). grown (text_of_all l) was) (sym t.lines_are); board_is = t.board_is }
+transcript_of script first last said e was is t put = record {
+  end_is = t.end_is;
+  written = put
+      ∙ ap (λ (l : List Line). grown (text_of_all l) was) (sym t.lines_are);
+  board_is = t.board_is;
+}
 
-left_written : (f : Failure) (script : List Command) (first last : Far) (said : List Line) (was is : Option (List ℕ)) → LeftAs (origin_of script first) said f last → is ≡ grown (text_of_all said) was → WrittenAs script was is first last (ended_by f)
+left_written : (f : Failure) (script : List Command) (first last : Far) (said : List Line) (was is : Option (List ℕ))
+    → LeftAs (origin_of script first) said f last → is ≡ grown (text_of_all said) was → WrittenAs script was is first last (ended_by f)
 left_written (failure.Wire why) script first last said was is left put = front_of script first last said was is left put
 left_written (failure.Lost lost.DmiFailed) script first last said was is left put = front_of script first last said was is left put
 left_written (failure.Lost lost.StillBusy) script first last said was is left put = front_of script first last said was is left put
@@ -72,26 +82,32 @@ left_written (failure.Lost (lost.NoAck looks)) script first last said was is lef
 left_written (failure.Lost (lost.Odd odd)) script first last said was is left put = left
 left_written failure.Sink script first last said was is left put = absurd left
 
-fell_by : (f : Failure) (script : List Command) (first : Far) (old_count new_count : ℕ) (mid new : Tells) (sink_old sink_new : ℕ) (was is : Option (List ℕ)) → Fell Anyhow (at_commands script first_state) old_count new_count mid new sink_old sink_new was is f
-    → DealsAt (machine_of (site_of first).board) (origin_of script first) (at_commands script first_state tt) [] mid.far → Still (λ last. WrittenAs script was is first last (ended_by f)) new.far
+fell_by : (f : Failure) (script : List Command) (first : Far) (old_count new_count : ℕ) (mid new : Tells) (sink_old sink_new : ℕ) (was is : Option (List ℕ))
+    → Fell Anyhow (at_commands script first_state) old_count new_count mid new sink_old sink_new was is f
+    → DealsAt (machine_of (site_of first).board) (origin_of script first) (at_commands script first_state tt) [] mid.far
+    → Still (λ last. WrittenAs script was is first last (ended_by f)) new.far
 fell_by f script first old_count new_count mid new sink_old sink_new was is (Fell.in_call said falls put) d =
     let m : Machine = machine_of (site_of first).board in
-    let at : DealsAt m (origin_of script first) (falls.at tt) said falls.mid.far = goes_lead (at_commands script first_state tt) (falls.at tt) mid falls.mid said (falls.went.goes tt) m (origin_of script first) [] d in
+    let at : DealsAt m (origin_of script first) (falls.at tt) said falls.mid.far =
+    goes_lead (at_commands script first_state tt) (falls.at tt) mid falls.mid said (falls.went.goes tt) m (origin_of script first) [] d in
     still_as new.far (λ last left. left_written f script first last said was is left put)
     (fault_left (falls.at tt) falls.count new_count falls.mid new f (falls.fault tt) m (origin_of script first) said at)
 fell_by f script first old_count new_count mid new sink_old sink_new was is (Fell.at_line said line heard way h next may quiet went front rises) d =
     let m : Machine = machine_of (site_of first).board in
     let o : Origin = origin_of script first in
-    let at : DealsAt m o (spot heard way h (say line (next tt))) said new.far = goes_lead (at_commands script first_state tt) (spot heard way h (say line (next tt))) mid new said (went.goes tt) m o [] d in
+    let at : DealsAt m o (spot heard way h (say line (next tt))) said new.far =
+    goes_lead (at_commands script first_state tt) (spot heard way h (say line (next tt))) mid new said (went.goes tt) m o [] d in
     found_far (λ t. Deals m h way o (say line (next tt)) said t) (λ last. IsCutTranscript script was is first last) new.far at.target at.is at.holds (λ last e.
     let s : Stands o (next tt) (said ++ line ∷ []) (target_of (site_of last)) = (deals_put m h way o line (next tt) said (target_of (site_of last)) e).stands in
-    let w : OnTheWay o (said ++ line ∷ []) (site_of last).journal = on_way o (next tt) (said ++ line ∷ []) (target_of (site_of last)) (site_of last).journal s refl in
+    let w : OnTheWay o (said ++ line ∷ []) (site_of last).journal = on_way o (next tt) (said ++ line ∷ []) (target_of (site_of last))
+    (site_of last).journal s refl in
     record {
       front = record { on_the_way = w.not_astray; written = line_written said _ line was is w.front front };
       board_is = quiet_board o (next tt) (said ++ line ∷ []) (target_of (site_of last)) (quiet tt tt) s;
     })
 
-ran_into : (f : Failure) (script : List Command) (old_count new_count : ℕ) (old new : Tells) (sink_old sink_new : ℕ) (was is : Option (List ℕ)) → RanInto script old_count new_count old new sink_old sink_new was is f
+ran_into : (f : Failure) (script : List Command) (old_count new_count : ℕ) (old new : Tells) (sink_old sink_new : ℕ) (was is : Option (List ℕ))
+    → RanInto script old_count new_count old new sink_old sink_new was is f
     → (far : Option Far) → far ≡ old.far → IsAsLoaded far → IfSome far (λ first. Still (λ last. WrittenAs script was is first last (ended_by f)) new.far)
 ran_into f script old_count new_count old new sink_old sink_new was is r None e loaded = tt
 ran_into f script old_count new_count old new sink_old sink_new was is r (Some first) e loaded =
@@ -104,30 +120,38 @@ nothing : (was is : Option (List ℕ)) → is ≡ was → is ≡ grown [] was
 nothing None is e = e
 nothing (Some bytes) is e = e ∙ ap (λ (x : List ℕ). Some x) (sym (append-nil bytes))
 
-cut_opening : (script : List Command) (first : Far) (new : Option Far) → AsLoaded first.live → UnopenedChip first new → Still (OnWay (origin_of script first) []) new
+cut_opening : (script : List Command) (first : Far) (new : Option Far) → AsLoaded first.live → UnopenedChip first new
+    → Still (OnWay (origin_of script first) []) new
 cut_opening script first new a u = record {
   far = u.far;
   is = u.is;
-  holds = cut_way (origin_of script first) (Look 0) _ [] (target_of (site_of first)) (target_of (site_of u.far)) tt (begun_deals script first a).stands u.happened;
+  holds = cut_way (origin_of script first) (Look 0) _ [] (target_of (site_of first)) (target_of (site_of u.far)) tt
+      (begun_deals script first a).stands u.happened;
 }
 
-dmi_ended : (why : DmiFault) (script : List Command) (first last : Far) (was is : Option (List ℕ)) → IsFrontOf script was is first last → WrittenAs script was is first last (ended_by (failure_of_dmi why))
+dmi_ended : (why : DmiFault) (script : List Command) (first last : Far) (was is : Option (List ℕ)) → IsFrontOf script was is first last
+    → WrittenAs script was is first last (ended_by (failure_of_dmi why))
 dmi_ended (dmi_fault.Wire why) script first last was is f = f
 dmi_ended dmi_fault.Failed script first last was is f = f
 dmi_ended dmi_fault.StillBusy script first last was is f = f
 
-unopened_by : (why : DmiFault) (script : List Command) (old_count new_count : ℕ) (old new : Tells) (was is : Option (List ℕ)) → Unopened old_count new_count old new was is (connect.Dmi why) → (far : Option Far) → far ≡ old.far → IsAsLoaded far
+unopened_by : (why : DmiFault) (script : List Command) (old_count new_count : ℕ) (old new : Tells) (was is : Option (List ℕ))
+    → Unopened old_count new_count old new was is (connect.Dmi why) → (far : Option Far) → far ≡ old.far → IsAsLoaded far
     → IfSome far (λ first. Still (λ last. WrittenAs script was is first last (ended_by (failure_of_dmi why))) new.far)
 unopened_by why script old_count new_count old new was is u None e loaded = tt
 unopened_by why script old_count new_count old new was is u (Some first) e loaded =
     let told : LosesLoaded (Some first) new.far (connect.Dmi why) = subst (λ x. LosesLoaded x new.far (connect.Dmi why)) (sym e) u.told in
-    still_as new.far (λ last way. dmi_ended why script first last was is (front_of script first last [] was is way (nothing was is u.written))) (cut_opening script first new.far loaded (told loaded).1)
+    still_as new.far (λ last way. dmi_ended why script first last was is (front_of script first last [] was is way (nothing was is u.written)))
+    (cut_opening script first new.far loaded (told loaded).1)
 
-broke : (f : Failure) (script : List Command) (old_count new_count : ℕ) (old new : Tells) (sink_old sink_new : ℕ) (was is : Option (List ℕ)) → BrokeOff script old_count new_count old new sink_old sink_new was is f → IsAsLoaded old.far
+broke : (f : Failure) (script : List Command) (old_count new_count : ℕ) (old new : Tells) (sink_old sink_new : ℕ) (was is : Option (List ℕ))
+    → BrokeOff script old_count new_count old new sink_old sink_new was is f → IsAsLoaded old.far
     → TranscribedAs script was is old.far new.far (ended_by f)
 broke f script old_count new_count old new sink_old sink_new was is (BrokeOff.in_opening why u e) loaded =
-    subst (λ g. TranscribedAs script was is old.far new.far (ended_by g)) (sym e) (unopened_by why script old_count new_count old new was is u old.far refl loaded)
-broke f script old_count new_count old new sink_old sink_new was is (BrokeOff.in_script r) loaded = ran_into f script old_count new_count old new sink_old sink_new was is r old.far refl loaded
+    subst (λ g. TranscribedAs script was is old.far new.far (ended_by g)) (sym e)
+    (unopened_by why script old_count new_count old new was is u old.far refl loaded)
+broke f script old_count new_count old new sink_old sink_new was is (BrokeOff.in_script r) loaded =
+    ran_into f script old_count new_count old new sink_old sink_new was is r old.far refl loaded
 
 no_register : (fault : ConnectFault) → IsDmiFault fault → opening_why fault ≡ None → ⊥
 no_register (connect.Dtm word) dmi register = dmi
@@ -136,7 +160,8 @@ no_register (connect.Abstract word) dmi register = dmi
 no_register (connect.Bus word) dmi register = dmi
 no_register (connect.Dmi why) dmi register = none-some why (sym register)
 
-unfit : (fault : ConnectFault) (script : List Command) (old_count new_count : ℕ) (old new : Tells) (was is : Option (List ℕ)) → Unfit old_count new_count old new was is fault → (far : Option Far) → far ≡ old.far → IsAsLoaded far
+unfit : (fault : ConnectFault) (script : List Command) (old_count new_count : ℕ) (old new : Tells) (was is : Option (List ℕ))
+    → Unfit old_count new_count old new was is fault → (far : Option Far) → far ≡ old.far → IsAsLoaded far
     → IfSome far (λ first. Still (λ last. WrittenAs script was is first last (ended.Target fault)) new.far)
 unfit fault script old_count new_count old new was is u None e loaded = tt
 unfit fault script old_count new_count old new was is u (Some first) e loaded =
@@ -145,11 +170,18 @@ unfit fault script old_count new_count old new was is u (Some first) e loaded =
 
 -- ---- whatever it was
 
-pub ended_transcribed : (e : Ended) (script : List Command) (old_count new_count : ℕ) (old new : Tells) (sink_old sink_new : ℕ) (was is : Option (List ℕ)) → EndedAs script old_count new_count old new sink_old sink_new was is e → IsAsLoaded old.far
+pub ended_transcribed : (e : Ended) (script : List Command) (old_count new_count : ℕ) (old new : Tells) (sink_old sink_new : ℕ) (was is : Option (List ℕ))
+    → EndedAs script old_count new_count old new sink_old sink_new was is e → IsAsLoaded old.far
     → TranscribedAs script was is old.far new.far e
-ended_transcribed ended.Clean script old_count new_count old new sink_old sink_new was is r loaded = at_end script false r.mid new was is old.far loaded r.told r.spoke
-ended_transcribed ended.WithErrors script old_count new_count old new sink_old sink_new was is r loaded = at_end script true r.mid new was is old.far loaded r.told r.spoke
-ended_transcribed (ended.Target fault) script old_count new_count old new sink_old sink_new was is r loaded = unfit fault script old_count new_count old new was is r old.far refl loaded
-ended_transcribed (ended.Wire why) script old_count new_count old new sink_old sink_new was is r loaded = broke (failure.Wire why) script old_count new_count old new sink_old sink_new was is r loaded
-ended_transcribed (ended.Lost why) script old_count new_count old new sink_old sink_new was is r loaded = broke (failure.Lost why) script old_count new_count old new sink_old sink_new was is r loaded
-ended_transcribed ended.Sink script old_count new_count old new sink_old sink_new was is r loaded = ran_into failure.Sink script old_count new_count old new sink_old sink_new was is r old.far refl loaded
+ended_transcribed ended.Clean script old_count new_count old new sink_old sink_new was is r loaded =
+    at_end script false r.mid new was is old.far loaded r.told r.spoke
+ended_transcribed ended.WithErrors script old_count new_count old new sink_old sink_new was is r loaded =
+    at_end script true r.mid new was is old.far loaded r.told r.spoke
+ended_transcribed (ended.Target fault) script old_count new_count old new sink_old sink_new was is r loaded =
+    unfit fault script old_count new_count old new was is r old.far refl loaded
+ended_transcribed (ended.Wire why) script old_count new_count old new sink_old sink_new was is r loaded =
+    broke (failure.Wire why) script old_count new_count old new sink_old sink_new was is r loaded
+ended_transcribed (ended.Lost why) script old_count new_count old new sink_old sink_new was is r loaded =
+    broke (failure.Lost why) script old_count new_count old new sink_old sink_new was is r loaded
+ended_transcribed ended.Sink script old_count new_count old new sink_old sink_new was is r loaded =
+    ran_into failure.Sink script old_count new_count old new sink_old sink_new was is r old.far refl loaded

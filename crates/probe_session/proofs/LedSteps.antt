@@ -1,5 +1,6 @@
 -- Each step of a session over a told chip.
-use Rattle.std.proofs.Common.{◌≡◌, ◌++◌, ℕ, Bool, true, false, List, [], ◌∷◌, map, Option, Some, None, IfSome, slice_get, refl, sym, ap, subst, append_assoc, append-nil, if◌then◌else◌}
+use Rattle.std.proofs.Common.{◌≡◌, ◌++◌, ℕ, Bool, true, false, List, [], ◌∷◌, map, Option, Some, None, IfSome, slice_get, refl, sym, ap, subst}
+use Rattle.std.proofs.Common.{append_assoc, append-nil, if◌then◌else◌}
 use Rattle.rv_model.specs.declared.size.Size.{Size}
 use Rattle.std.proofs.lemmas.Option.{none-some, same_Some}
 use Rattle.rv_model.specs.Board.{Hart, Machine}
@@ -8,6 +9,7 @@ use Rattle.rv_model.specs.DebugRegisters.{dcsr_number, debug_refuses, debug_valu
 use Rattle.rv_model.specs.Memory.{loaded, store_answer}
 use Rattle.rv_model.specs.Registers.{csr_read_only, pc_number}
 use Rattle.rv_model.specs.Size.{count_of}
+use Rattle.debug_model.specs.declared.command.Path.{Path}
 use Rattle.debug_model.specs.declared.point.Point.TheVariants.{Access}
 use Rattle.debug_model.specs.Dmi.{NoneOperated}
 use Rattle.debug_model.specs.Scan.{WhereTold}
@@ -25,6 +27,7 @@ use Rattle.abstract_debugger.specs.Ways.{Way}
 use Rattle.abstract_debugger.specs.Ways.Way.{Idle, Ready, Still}
 use Rattle.abstract_debugger.proofs.DealsLemmas.{deals_at_plan, deals_put, deals_rests, deals_selects, deals_unspent, deals_went_on}
 use Rattle.abstract_debugger.proofs.StandsLemmas.{seen}
+use Rattle.abstract_debugger.specs.SlotUses.{hits_in}
 use Rattle.probe_access.specs.Accesses as access
 use Rattle.probe_access.specs.Registers.{RegisterRefusedAt, RegisterReadAt, RegisterWrittenAt, TurnsPassed, TurnsPassedBut}
 use Rattle.probe_access.specs.Stops.{StoppedAt}
@@ -32,8 +35,8 @@ use Rattle.probe_run.specs.Acts.{Tells}
 use Rattle.probe_run.specs.Happens.{HaltsAt, Leaves, ResumesAt, LooksAt, target_of}
 use Rattle.probe_run.specs.Sites.{TurnsAlone}
 use Rattle.probe_run.proofs.SiteLemmas.{quiet_deeds}
-use Rattle.probe_trig.specs.declared.slot_use.SlotView.{SlotView}
-use Rattle.probe_trig.specs.Slots.{ArmedAt, AtHarts, ForgotAt, FreedAt, FullAt, UnusedAt, ViewedAt, hits_in}
+use Rattle.probe_trig.specs.declared.slot_view.SlotView.{SlotView}
+use Rattle.probe_trig.specs.Slots.{ArmedAt, AtHarts, ForgotAt, FreedAt, FullAt, UnusedAt, ViewedAt}
 use Rattle.probe_trig.specs.Stepping.{OverAt}
 use Rattle.probe_session.specs.Calls.{Loaded, LoadedNone, Stored, StoredNone}
 use Rattle.probe_session.specs.Goes.{Goes}
@@ -41,37 +44,46 @@ use Rattle.probe_session.specs.Goes.Goes.{start, step}
 use Rattle.probe_session.specs.Led.{DealsAt, GoesLead, Leads, target_at}
 use Rattle.probe_session.specs.Places.{Place, ready}
 use Rattle.probe_session.specs.Steps.{Step, behind_look, behind_step, lines_of_view, step_cause, trigger_cause, with_ebreakm}
-use Rattle.probe_session.proofs.Tolds.{at_far, halt_deals, look_deals, other_found_deals, over_deals, resume_deals, step_found_deals, stop_deals, stop_trigger_deals, told_case}
-use Rattle.probe_session.proofs.ToldWrites.{armed_deals, ebreak_deals, freed_deals, full_deals, hits_deals, load_deals, load_none_deals, never_refused, no_hits_deals, read_deals, read_next_deals, slots_deals, store_deals, store_none_deals, unused_deals, write_deals, write_pc_deals, write_refused_deals}
+use Rattle.probe_session.proofs.Tolds.{at_access, at_far, halt_deals, look_deals, other_found_deals, over_deals, resume_deals, step_found_deals}
+use Rattle.probe_session.proofs.Tolds.{stop_deals, stop_trigger_deals, told_case}
+use Rattle.probe_session.proofs.ToldWrites.{armed_deals, ebreak_deals, freed_deals, full_deals, hits_deals, load_deals, load_none_deals}
+use Rattle.probe_session.proofs.ToldWrites.{never_refused, no_hits_deals, read_deals, read_next_deals, slots_deals, store_deals, store_none_deals}
+use Rattle.probe_session.proofs.ToldWrites.{unused_deals, write_deals, write_pc_deals, write_refused_deals}
 
 -- lines that grow by none
 none_said : (m : Machine) (o : Origin) (p : Place) (lines : List Line) (far : Option Far) → DealsAt m o p lines far → DealsAt m o p (lines ++ []) far
 none_said m o p lines far d = subst (λ l. DealsAt m o p l far) (sym (append-nil lines)) d
 
 -- a step without a call
-kept : (m m' : Machine) (way way' : Way) (sel sel' : ℕ) (o : Origin) (p q : Plan) (lines lines' : List Line) (told : Option Target) → ((t : Target) → Deals m sel way o p lines t → Deals m' sel' way' o q lines' t) → At m sel way o p lines told → At m' sel' way' o q lines' told
+kept : (m m' : Machine) (way way' : Way) (sel sel' : ℕ) (o : Origin) (p q : Plan) (lines lines' : List Line) (told : Option Target)
+    → ((t : Target) → Deals m sel way o p lines t → Deals m' sel' way' o q lines' t) → At m sel way o p lines told → At m' sel' way' o q lines' told
 kept m m' way way' sel sel' o p q lines lines' told f a = record { target = a.target; is = a.is; holds = f a.target a.holds }
 
 -- a call that left this at the harts
-left_so : (R : Target → Target → Type 0) (h : ℕ) (m : Machine) (sel sel' : ℕ) (way way' : Way) (o : Origin) (p q : Plan) (lines : List Line) (old new : Option Far)
-    → ((s t : Target) → R s t → Deals m sel way o p lines s → Deals m sel' way' o q lines t) → WhereTold (Leaves R h) old new → At m sel way o p lines (target_at old) → At m sel' way' o q lines (target_at new)
+left_so : (R : Target → Target → Type 0) (h : ℕ) (m : Machine) (sel sel' : ℕ) (way way' : Way) (o : Origin) (p q : Plan) (lines : List Line)
+    (old new : Option Far)
+    → ((s t : Target) → R s t → Deals m sel way o p lines s → Deals m sel' way' o q lines t) → WhereTold (Leaves R h) old new
+    → At m sel way o p lines (target_at old) → At m sel' way' o q lines (target_at new)
 left_so R h m sel sel' way way' o p q lines old new f w a =
     told_case (Leaves R h) m sel way o p lines (λ n. At m sel' way' o q lines (target_at n)) old new
     (λ c d l. at_far m sel' way' o q lines l.far _ l.is (f (target_of (site_of c)) (target_of (site_of l.far)) l.happened d)) w a
 
 at_harts_so : (R : Target → Target → Type 0) (m : Machine) (sel sel' : ℕ) (way way' : Way) (o : Origin) (p q : Plan) (lines : List Line) (old new : Option Far)
-    → ((s t : Target) → R s t → Deals m sel way o p lines s → Deals m sel' way' o q lines t) → WhereTold (AtHarts R) old new → At m sel way o p lines (target_at old) → At m sel' way' o q lines (target_at new)
+    → ((s t : Target) → R s t → Deals m sel way o p lines s → Deals m sel' way' o q lines t) → WhereTold (AtHarts R) old new
+    → At m sel way o p lines (target_at old) → At m sel' way' o q lines (target_at new)
 at_harts_so R m sel sel' way way' o p q lines old new f w a =
     told_case (AtHarts R) m sel way o p lines (λ n. At m sel' way' o q lines (target_at n)) old new
     (λ c d l. at_far m sel' way' o q lines l.far _ l.is (f (target_of (site_of c)) (target_of (site_of l.far)) l.happened d)) w a
 
 -- ---- the transport
 
-identified : (number : ℕ) (m : Machine) (o : Origin) (next : Plan) (lines : List Line) (old new : Option Far) → IfSome old (λ _. number ≡ idcode) → IsReady old → WhereTold NoneOperated old new
+identified : (number : ℕ) (m : Machine) (o : Origin) (next : Plan) (lines : List Line) (old new : Option Far) → IfSome old (λ _. number ≡ idcode) → IsReady old
+    → WhereTold NoneOperated old new
     → At m 0 Idle o (say (Line.Idcode idcode) next) lines (target_at old) → At m 0 Idle o (say (Line.Idcode number) next) lines (target_at new)
 identified number m o next lines None new is ready none a = absurd (none-some a.target a.is)
 identified number m o next lines (Some f) new is ready none a =
-    let turns_alone : TurnsAlone (site_of f) (site_of none.far) = quiet_deeds (site_of f) (site_of none.far) (record { no_command = ready.unit.commands.idle; no_access = ready.unit.bus.idle }) none.site in
+    let turns_alone : TurnsAlone (site_of f) (site_of none.far) = quiet_deeds (site_of f) (site_of none.far)
+    (record { no_command = ready.unit.commands.idle; no_access = ready.unit.bus.idle }) none.site in
     let went : WentOn (target_of (site_of f)) (target_of (site_of none.far)) =
     record { harts = turns_alone.harts; board = ap (λ (s : Site). s.board) turns_alone.is; journal = ap (λ (s : Site). s.journal) turns_alone.is } in
     at_far m 0 Idle o (say (Line.Idcode number) next) lines none.far new none.is
@@ -81,61 +93,85 @@ identified number m o next lines (Some f) new is ready none a =
 
 -- ---- two calls
 
-shown_hits : (h pc : ℕ) (view : SlotView) (m : Machine) (o : Origin) (next : Plan) (lines : List Line) (c f : Far) (new : Option Far) (x : Hart) → slice_get (site_of c).board.harts h ≡ Some x → pc ≡ x.core.pc → trigger_cause ≡ shown_cause x.debug.halted
+shown_hits : (h pc : ℕ) (view : SlotView) (m : Machine) (o : Origin) (next : Plan) (lines : List Line) (c f : Far) (new : Option Far) (x : Hart)
+    → slice_get (site_of c).board.harts h ≡ Some x → pc ≡ x.core.pc → trigger_cause ≡ shown_cause x.debug.halted
     → TurnsPassed (site_of c) (site_of f) → AtHarts (ViewedAt view h) f.live.chip new → Deals m h Still o (stop_line h next) lines (target_of (site_of c))
     → At m h Still o (say (Line.Halted pc trigger_cause (hits_in view.hits)) next) lines (target_at new)
 shown_hits h pc view m o next lines c f new x here pc_is cause_is passed v d =
     at_far m h Still o _ lines v.far new v.is
-    (stop_trigger_deals m h pc trigger_cause (hits_in view.hits) o next lines (site_of c) (site_of f) (target_of (site_of v.far)) x here pc_is cause_is refl passed v.happened.shows.hits_are v.happened.went d)
+    (stop_trigger_deals m h pc trigger_cause (hits_in view.hits) o next lines (site_of c) (site_of f) (target_of (site_of v.far)) x here pc_is cause_is refl
+    passed v.happened.shows.hits_are v.happened.went d)
 
-hits_gone : (h v : ℕ) (refused next : Plan) (m : Machine) (o : Origin) (lines : List Line) (c f : Far) (new : Option Far) (x : Hart) → slice_get (site_of c).board.harts h ≡ Some x → debug_refuses pc_number ≡ false
+hits_gone : (h v : ℕ) (refused next : Plan) (m : Machine) (o : Origin) (lines : List Line) (c f : Far) (new : Option Far) (x : Hart)
+    → slice_get (site_of c).board.harts h ≡ Some x → debug_refuses pc_number ≡ false
     → TurnsPassedBut h (debug_written x pc_number v) (site_of c) (site_of f) → AtHarts (ForgotAt h) f.live.chip new
-    → Deals m h Still o (if csr_read_only pc_number then refused else change (WriteReg h pc_number v) next) lines (target_of (site_of c)) → At m h Still o next lines (target_at new)
+    → Deals m h Still o (if csr_read_only pc_number then refused else change (WriteReg h pc_number v) next) lines (target_of (site_of c))
+    → At m h Still o next lines (target_at new)
 hits_gone h v refused next m o lines c f new x here takes passed g d =
-    at_far m h Still o next lines g.far new g.is (write_pc_deals m h v o refused next lines (site_of c) (site_of f) (target_of (site_of g.far)) x here takes passed g.happened d)
+    at_far m h Still o next lines g.far new g.is (write_pc_deals m h v o refused next lines (site_of c) (site_of f) (target_of (site_of g.far)) x here takes
+    passed g.happened d)
 
-ebreak_given : (h word : ℕ) (on : Bool) (next : Plan) (m : Machine) (o : Origin) (lines : List Line) (c f : Far) (new : Option Far) (x : Hart) → slice_get (site_of c).board.harts h ≡ Some x → debug_value x dcsr_number ≡ Some word
-    → TurnsPassed (site_of c) (site_of f) → RegisterWrittenAt h dcsr_number (with_ebreakm on word) f.live.chip new → Deals m h Still o (change (EbreakHalts h on) next) lines (target_of (site_of c)) → At m h Still o next lines (target_at new)
+ebreak_given : (h word : ℕ) (on : Bool) (next : Plan) (m : Machine) (o : Origin) (lines : List Line) (c f : Far) (new : Option Far) (x : Hart)
+    → slice_get (site_of c).board.harts h ≡ Some x → debug_value x dcsr_number ≡ Some word
+    → TurnsPassed (site_of c) (site_of f) → RegisterWrittenAt h dcsr_number (with_ebreakm on word) f.live.chip new
+    → Deals m h Still o (change (EbreakHalts h on) next) lines (target_of (site_of c)) → At m h Still o next lines (target_at new)
 ebreak_given h word on next m o lines c f new x here is passed g d =
-    at_far m h Still o next lines g.far new g.is (ebreak_deals m h word on o next lines (site_of c) (site_of f) (site_of g.far) x g.hart here is passed g.here g.passed d)
+    at_far m h Still o next lines g.far new g.is (ebreak_deals m h word on o next lines (site_of c) (site_of f) (site_of g.far) x g.hart here is
+    passed g.here g.passed d)
 
 -- ---- memory
 
-loaded_at : (m : Machine) (h : ℕ) (way : Way) (size : Size) (address v : ℕ) (o : Origin) (faulted : Plan) (read : ℕ → Plan) (lines : List Line) (old new : Tells) → Loaded size address v old new
-    → At m h way o (take Access (see (λ b. by_load (loaded b.memory address size) faulted read))) lines (target_at old.far) → At m h way o (read v) lines (target_at new.far)
+loaded_at : {path : Path} (m : Machine) (h : ℕ) (way : Way) (size : Size) (address v : ℕ) (o : Origin) (faulted : Plan) (read : ℕ → Plan) (lines : List Line)
+    (old new : Tells) → Loaded path size address v old new
+    → At m h way o (take Access (see (λ b. by_load (loaded b.memory address size) faulted read))) lines (target_at old.far)
+    → At m h way o (read v) lines (target_at new.far)
 loaded_at m h way size address v o faulted read lines old new (Loaded.by_hart held cut heard told) a =
     told_case (access.LoadedAt size address v) m h way o _ lines (λ n. At m h way o (read v) lines (target_at n)) old.far new.far
-    (λ c d l. at_far m h way o (read v) lines l.far _ l.is (load_deals m h way size address v o faulted read lines l.before l.behind (site_of c) (site_of l.far) l.value_is (record { board = l.access.board; journal = l.access.journal }) d)) told a
+    (λ c d l. at_far m h way o (read v) lines l.far _ l.is (load_deals m h way size address v o faulted read lines l.before l.behind (site_of c) (site_of l.far)
+    l.value_is (record { board = l.access.board; journal = l.access.journal }) d)) told a
 loaded_at m h way size address v o faulted read lines old new (Loaded.by_bus heard told) a =
     told_case (access.BusLoadedAt size address v) m h way o _ lines (λ n. At m h way o (read v) lines (target_at n)) old.far new.far
-    (λ c d l. at_far m h way o (read v) lines l.far _ l.is (load_deals m h way size address v o faulted read lines l.before l.behind (site_of c) (site_of l.far) l.value_is (record { board = l.access.board; journal = l.access.journal }) d)) told a
+    (λ c d l. at_far m h way o (read v) lines l.far _ l.is (load_deals m h way size address v o faulted read lines l.before l.behind (site_of c) (site_of l.far)
+    l.value_is (record { board = l.access.board; journal = l.access.journal }) d)) told a
 
-loaded_none_at : (m : Machine) (h : ℕ) (way : Way) (size : Size) (address : ℕ) (o : Origin) (faulted : Plan) (read : ℕ → Plan) (lines : List Line) (old new : Tells) → LoadedNone size address old new
-    → At m h way o (take Access (see (λ b. by_load (loaded b.memory address size) faulted read))) lines (target_at old.far) → At m h way o faulted lines (target_at new.far)
+loaded_none_at : {path : Path} (m : Machine) (h : ℕ) (way : Way) (size : Size) (address : ℕ) (o : Origin) (faulted : Plan) (read : ℕ → Plan) (lines : List Line)
+    (old new : Tells) → LoadedNone path size address old new
+    → At m h way o (take Access (see (λ b. by_load (loaded b.memory address size) faulted read))) lines (target_at old.far)
+    → At m h way o faulted lines (target_at new.far)
 loaded_none_at m h way size address o faulted read lines old new (LoadedNone.by_hart x y heard told) a =
     told_case (access.LoadRefused size address) m h way o _ lines (λ n. At m h way o faulted lines (target_at n)) old.far new.far
-    (λ c d l. at_far m h way o faulted lines l.far _ l.is (load_none_deals m h way size address l.why o faulted read lines l.before l.behind (site_of c) (site_of l.far) l.refused (record { board = l.access.board; journal = l.access.journal }) d)) told a
+    (λ c d l. at_far m h way o faulted lines l.far _ l.is (load_none_deals m h way size address l.why o faulted read lines l.before l.behind (site_of c)
+    (site_of l.far) l.refused (record { board = l.access.board; journal = l.access.journal }) d)) told a
 loaded_none_at m h way size address o faulted read lines old new (LoadedNone.by_bus x y heard told) a =
     told_case (access.BusLoadRefused size address) m h way o _ lines (λ n. At m h way o faulted lines (target_at n)) old.far new.far
-    (λ c d l. at_far m h way o faulted lines l.far _ l.is (load_none_deals m h way size address l.why o faulted read lines l.before l.behind (site_of c) (site_of l.far) l.refused (record { board = l.access.board; journal = l.access.journal }) d)) told a
+    (λ c d l. at_far m h way o faulted lines l.far _ l.is (load_none_deals m h way size address l.why o faulted read lines l.before l.behind (site_of c)
+    (site_of l.far) l.refused (record { board = l.access.board; journal = l.access.journal }) d)) told a
 
-stored_at : (m : Machine) (h : ℕ) (way : Way) (size : Size) (address v : ℕ) (o : Origin) (faulted next : Plan) (lines : List Line) (old new : Tells) → Stored size address v old new
-    → At m h way o (take Access (see (λ b. by_store (store_answer b.memory address size) faulted (change (WriteMem address (count_of size) v) next)))) lines (target_at old.far) → At m h way o next lines (target_at new.far)
+stored_at : {path : Path} (m : Machine) (h : ℕ) (way : Way) (size : Size) (address v : ℕ) (o : Origin) (faulted next : Plan) (lines : List Line)
+    (old new : Tells) → Stored path size address v old new
+    → At m h way o (take Access (see (λ b. by_store (store_answer b.memory address size) faulted (change (WriteMem address (count_of size) v) next)))) lines
+    (target_at old.far) → At m h way o next lines (target_at new.far)
 stored_at m h way size address v o faulted next lines old new (Stored.by_hart heard told) a =
     told_case (access.StoredAt size address v) m h way o _ lines (λ n. At m h way o next lines (target_at n)) old.far new.far
-    (λ c d l. at_far m h way o next lines l.far _ l.is (store_deals m h way size address v o faulted next lines l.before l.behind (site_of c) (site_of l.far) l.taken (record { board = l.access.board; journal = l.access.journal }) d)) told a
+    (λ c d l. at_far m h way o next lines l.far _ l.is (store_deals m h way size address v o faulted next lines l.before l.behind (site_of c) (site_of l.far)
+    l.taken (record { board = l.access.board; journal = l.access.journal }) d)) told a
 stored_at m h way size address v o faulted next lines old new (Stored.by_bus heard told) a =
     told_case (access.BusStoredAt size address v) m h way o _ lines (λ n. At m h way o next lines (target_at n)) old.far new.far
-    (λ c d l. at_far m h way o next lines l.far _ l.is (store_deals m h way size address v o faulted next lines l.before l.behind (site_of c) (site_of l.far) l.taken (record { board = l.access.board; journal = l.access.journal }) d)) told a
+    (λ c d l. at_far m h way o next lines l.far _ l.is (store_deals m h way size address v o faulted next lines l.before l.behind (site_of c) (site_of l.far)
+    l.taken (record { board = l.access.board; journal = l.access.journal }) d)) told a
 
-stored_none_at : (m : Machine) (h : ℕ) (way : Way) (size : Size) (address v : ℕ) (o : Origin) (faulted stored : Plan) (lines : List Line) (old new : Tells) → StoredNone size address v old new
-    → At m h way o (take Access (see (λ b. by_store (store_answer b.memory address size) faulted stored))) lines (target_at old.far) → At m h way o faulted lines (target_at new.far)
+stored_none_at : {path : Path} (m : Machine) (h : ℕ) (way : Way) (size : Size) (address v : ℕ) (o : Origin) (faulted stored : Plan) (lines : List Line)
+    (old new : Tells) → StoredNone path size address v old new
+    → At m h way o (take Access (see (λ b. by_store (store_answer b.memory address size) faulted stored))) lines (target_at old.far)
+    → At m h way o faulted lines (target_at new.far)
 stored_none_at m h way size address v o faulted stored lines old new (StoredNone.by_hart x y heard told) a =
     told_case (access.StoreRefused size address) m h way o _ lines (λ n. At m h way o faulted lines (target_at n)) old.far new.far
-    (λ c d l. at_far m h way o faulted lines l.far _ l.is (store_none_deals m h way size address l.why o faulted stored lines l.before l.behind (site_of c) (site_of l.far) l.refused (record { board = l.access.board; journal = l.access.journal }) d)) told a
+    (λ c d l. at_far m h way o faulted lines l.far _ l.is (store_none_deals m h way size address l.why o faulted stored lines l.before l.behind (site_of c)
+    (site_of l.far) l.refused (record { board = l.access.board; journal = l.access.journal }) d)) told a
 stored_none_at m h way size address v o faulted stored lines old new (StoredNone.by_bus x y heard told) a =
     told_case (access.BusStoreRefused size address) m h way o _ lines (λ n. At m h way o faulted lines (target_at n)) old.far new.far
-    (λ c d l. at_far m h way o faulted lines l.far _ l.is (store_none_deals m h way size address l.why o faulted stored lines l.before l.behind (site_of c) (site_of l.far) l.refused (record { board = l.access.board; journal = l.access.journal }) d)) told a
+    (λ c d l. at_far m h way o faulted lines l.far _ l.is (store_none_deals m h way size address l.why o faulted stored lines l.before l.behind (site_of c)
+    (site_of l.far) l.refused (record { board = l.access.board; journal = l.access.journal }) d)) told a
 
 -- ---- the steps
 
@@ -143,81 +179,123 @@ step_leads : (from to : Place) (old new : Tells) (said : List Line) → Step fro
 step_leads from to old new said (Step.same {way} {h} {p} {q} {t} is) m o lines a =
     none_said m o to lines new.far (kept m m way way h h o p q lines lines (target_at t.far) (λ x d. deals_at_plan m h way o p q lines x is d) a)
 step_leads from to old new said (Step.rests {h} {p} {t}) m o lines a =
-    none_said m o to lines new.far (kept m m Still Idle h 0 o p p lines lines (target_at t.far) (λ x d. deals_selects m h 0 o p lines x (deals_rests m h o p lines x d)) a)
+    none_said m o to lines new.far (kept m m Still Idle h 0 o p p lines lines (target_at t.far)
+    (λ x d. deals_selects m h 0 o p lines x (deals_rests m h o p lines x d)) a)
 step_leads from to old new said (Step.unspent {h} {p} {t}) m o lines a =
     none_said m o to lines new.far (kept m m Ready Still h h o p p lines lines (target_at t.far) (λ x d. deals_unspent m h o p lines x d) a)
 step_leads from to old new said (Step.says {heard} {way} {h} {line} {next} {t} may) m o lines a =
     kept m m way way h h o (say line next) next lines (lines ++ line ∷ []) (target_at t.far) (λ x d. deals_put m h way o line next lines x d) a
 step_leads from to old new said (Step.looks {h} {s} absent running halted saw) m o lines a =
-    none_said m o to lines new.far (left_so (LooksAt h s) h m 0 (behind_look s h absent running halted).hart Idle (behind_look s h absent running halted).way o _ (behind_look s h absent running halted).plan lines old.far new.far
+    none_said m o to lines new.far (left_so (LooksAt h s) h m 0 (behind_look s h absent running halted).hart Idle (behind_look s h absent running halted).way o
+    _ (behind_look s h absent running halted).plan lines old.far new.far
     (λ x y l d. look_deals s m h o absent running halted lines x y l d) saw.told a)
 step_leads from to old new said (Step.halts {h} next made) m o lines a =
-    none_said m o to lines new.far (left_so (HaltsAt h) h m 0 h Idle Still o (halting h next) next lines old.far new.far (λ x y l d. halt_deals m h o next lines x y l d) made.told a)
+    none_said m o to lines new.far (left_so (HaltsAt h) h m 0 h Idle Still o (halting h next) next lines old.far new.far
+    (λ x y l d. halt_deals m h o next lines x y l d) made.told a)
 step_leads from to old new said (Step.resumes {h} next made) m o lines a =
-    none_said m o to lines new.far (left_so (ResumesAt h) h m h 0 Ready Idle o (going h next) next lines old.far new.far (λ x y l d. resume_deals m h o next lines x y l d) made.told a)
+    none_said m o to lines new.far (left_so (ResumesAt h) h m h 0 Ready Idle o (going h next) next lines old.far new.far
+    (λ x y l d. resume_deals m h o next lines x y l d) made.told a)
 step_leads from to old new said (Step.steps_over {h} stepped other made) m o lines a =
-    none_said m o to lines new.far (at_harts_so (OverAt h) m h h Still Still o (one h stepped other) (behind_step h stepped other) lines old.far new.far (λ x y l d. over_deals m h o stepped other lines x y l d) made.told a)
+    none_said m o to lines new.far (at_harts_so (OverAt h) m h h Still Still o (one h stepped other) (behind_step h stepped other) lines old.far new.far
+    (λ x y l d. over_deals m h o stepped other lines x y l d) made.told a)
 step_leads from to old new said (Step.overlooks {way} {h} {p} {t}) m o lines a =
-    none_said m o to lines new.far (kept m m way way h h o (see (λ _. p)) p lines lines (target_at t.far) (λ x d. record { stands = seen o (λ _. p) lines x d.stands; knows = d.knows }) a)
+    none_said m o to lines new.far (kept m m way way h h o (see (λ _. p)) p lines lines (target_at t.far)
+    (λ x d. record { stands = seen o (λ _. p) lines x d.stands; knows = d.knows }) a)
 step_leads from to old new said (Step.identifies {number} {next} id) m o lines a =
     none_said m o to lines new.far (identified number m o next lines old.far new.far id.number_is id.ready id.told a)
 step_leads from to old new said (Step.finds_step {h} {pc} stepped other found) m o lines a =
-    none_said m o to lines new.far (told_case (StoppedAt h pc step_cause) m h Still o (behind_step h stepped other) lines (λ n. At m h Ready o stepped lines (target_at n)) old.far new.far
-    (λ c d l. at_far m h Ready o stepped lines l.far _ l.is (step_found_deals m h step_cause o stepped other lines (site_of c) (site_of l.far) l.hart l.here l.cause_is refl l.passed d)) found.told a)
+    none_said m o to lines new.far (told_case (StoppedAt h pc step_cause) m h Still o (behind_step h stepped other) lines
+    (λ n. At m h Ready o stepped lines (target_at n)) old.far new.far
+    (λ c d l. at_far m h Ready o stepped lines l.far _ l.is (step_found_deals m h step_cause o stepped other lines (site_of c) (site_of l.far) l.hart l.here
+    l.cause_is refl l.passed d)) found.told a)
 step_leads from to old new said (Step.finds_other {h} {pc} {cause} stepped other found not_step) m o lines a =
-    none_said m o to lines new.far (told_case (StoppedAt h pc cause) m h Still o (behind_step h stepped other) lines (λ n. At m h Still o other lines (target_at n)) old.far new.far
-    (λ c d l. at_far m h Still o other lines l.far _ l.is (other_found_deals m h cause o stepped other lines (site_of c) (site_of l.far) l.hart l.here l.cause_is not_step l.passed d)) found.told a)
+    none_said m o to lines new.far (told_case (StoppedAt h pc cause) m h Still o (behind_step h stepped other) lines
+    (λ n. At m h Still o other lines (target_at n)) old.far new.far
+    (λ c d l. at_far m h Still o other lines l.far _ l.is (other_found_deals m h cause o stepped other lines (site_of c) (site_of l.far) l.hart l.here
+    l.cause_is not_step l.passed d)) found.told a)
 step_leads from to old new said (Step.views_hits {h} {view} held free viewed any) m o lines a =
-    none_said m o to lines new.far (at_harts_so (ViewedAt view h) m h h Still Still o _ held lines old.far new.far (λ x y l d. hits_deals m h view o held free lines x y any l d) viewed.told a)
+    none_said m o to lines new.far (at_harts_so (ViewedAt view h) m h h Still Still o _ held lines old.far new.far
+    (λ x y l d. hits_deals m h view o held free lines x y any l d) viewed.told a)
 step_leads from to old new said (Step.views_none {h} {view} held free viewed none) m o lines a =
-    none_said m o to lines new.far (at_harts_so (ViewedAt view h) m h h Still Ready o _ free lines old.far new.far (λ x y l d. no_hits_deals m h view o held free lines x y none l d) viewed.told a)
+    none_said m o to lines new.far (at_harts_so (ViewedAt view h) m h h Still Ready o _ free lines old.far new.far
+    (λ x y l d. no_hits_deals m h view o held free lines x y none l d) viewed.told a)
 step_leads from to old new said (Step.stands {h} {pc} {cause} next found other) m o lines a =
-    none_said m o to lines new.far (told_case (StoppedAt h pc cause) m h Still o (stop_line h next) lines (λ n. At m h Still o (say (Line.Halted pc cause []) next) lines (target_at n)) old.far new.far
-    (λ c d l. at_far m h Still o _ lines l.far _ l.is (stop_deals m h pc cause o next lines (site_of c) (site_of l.far) l.hart l.here l.pc_is l.cause_is other l.passed d)) found.told a)
+    none_said m o to lines new.far (told_case (StoppedAt h pc cause) m h Still o (stop_line h next) lines
+    (λ n. At m h Still o (say (Line.Halted pc cause []) next) lines (target_at n)) old.far new.far
+    (λ c d l. at_far m h Still o _ lines l.far _ l.is (stop_deals m h pc cause o next lines (site_of c) (site_of l.far) l.hart l.here l.pc_is l.cause_is other
+    l.passed d)) found.told a)
 step_leads from to old new said (Step.stands_by_trigger {h} {pc} {view} next {mid = mid} found viewed) m o lines a =
-    none_said m o to lines new.far (told_case (StoppedAt h pc trigger_cause) m h Still o (stop_line h next) lines (λ n. At m h Still o (say (Line.Halted pc trigger_cause (hits_in view.hits)) next) lines (target_at new.far)) old.far mid.far
-    (λ c d l. shown_hits h pc view m o next lines c l.far new.far l.hart l.here l.pc_is l.cause_is l.passed (subst (λ x. WhereTold (AtHarts (ViewedAt view h)) x new.far) l.is viewed.told) d) found.told a)
+    none_said m o to lines new.far (told_case (StoppedAt h pc trigger_cause) m h Still o (stop_line h next) lines
+    (λ n. At m h Still o (say (Line.Halted pc trigger_cause (hits_in view.hits)) next) lines (target_at new.far)) old.far mid.far
+    (λ c d l. shown_hits h pc view m o next lines c l.far new.far l.hart l.here l.pc_is l.cause_is l.passed
+    (subst (λ x. WhereTold (AtHarts (ViewedAt view h)) x new.far) l.is viewed.told) d) found.told a)
 step_leads from to old new said (Step.reads {h} {number} {value} next got of) m o lines a =
-    none_said m o to lines new.far (told_case (RegisterReadAt h number value) m h Still o _ lines (λ n. At m h Still o (next value) lines (target_at n)) old.far new.far
-    (λ c d l. at_far m h Still o (next value) lines l.far _ l.is (read_deals m h number value o next lines (site_of c) (site_of l.far) l.hart of l.here l.value_is l.passed d)) got.told a)
+    none_said m o to lines new.far (told_case (RegisterReadAt h number value) m h Still o _ lines
+    (λ n. At m h Still o (next value) lines (target_at n)) old.far new.far
+    (λ c d l. at_far m h Still o (next value) lines l.far _ l.is (read_deals m h number value o next lines (site_of c) (site_of l.far) l.hart of l.here
+    l.value_is l.passed d)) got.told a)
 step_leads from to old new said (Step.reads_next {h} {number} {value} numbers next got of) m o lines a =
-    none_said m o to lines new.far (told_case (RegisterReadAt h number value) m h Still o _ lines (λ n. At m h Still o (say (Line.Register number value) (see (λ b. saying (map (register_line h b) numbers) next))) lines (target_at n)) old.far new.far
-    (λ c d l. at_far m h Still o _ lines l.far _ l.is (read_next_deals m h number value numbers o next lines (site_of c) (site_of l.far) l.hart of l.here l.value_is l.passed d)) got.told a)
+    none_said m o to lines new.far (told_case (RegisterReadAt h number value) m h Still o _ lines
+    (λ n. At m h Still o (say (Line.Register number value) (see (λ b. saying (map (register_line h b) numbers) next))) lines (target_at n)) old.far new.far
+    (λ c d l. at_far m h Still o _ lines l.far _ l.is (read_next_deals m h number value numbers o next lines (site_of c) (site_of l.far) l.hart of l.here
+    l.value_is l.passed d)) got.told a)
 step_leads from to old new said (Step.reads_none {h} {number} next none of) m o lines a =
-    none_said m o to lines new.far (told_case (RegisterRefusedAt false h number) m h Still o _ lines (λ n. At m h Still o (say (Line.RegisterRefused number) next) lines (target_at n)) old.far new.far
+    none_said m o to lines new.far (told_case (RegisterRefusedAt false h number) m h Still o _ lines
+    (λ n. At m h Still o (say (Line.RegisterRefused number) next) lines (target_at n)) old.far new.far
     (λ c d l. absurd (never_refused number l.hart of l.denied)) none.told a)
 step_leads from to old new said (Step.writes {h} {number} {value} refused next gave of other) m o lines a =
-    none_said m o to lines new.far (told_case (RegisterWrittenAt h number value) m h Still o _ lines (λ n. At m h Still o next lines (target_at n)) old.far new.far
-    (λ c d l. at_far m h Still o next lines l.far _ l.is (write_deals m h number value o refused next lines (site_of c) (site_of l.far) l.hart of other l.here l.writable l.passed d)) gave.told a)
+    none_said m o to lines new.far (told_case (RegisterWrittenAt h number value) m h Still o _ lines
+    (λ n. At m h Still o next lines (target_at n)) old.far new.far
+    (λ c d l. at_far m h Still o next lines l.far _ l.is (write_deals m h number value o refused next lines (site_of c) (site_of l.far) l.hart of other l.here
+    l.writable l.passed d)) gave.told a)
 step_leads from to old new said (Step.writes_pc {h} {value} refused next {mid = mid} gave forgot) m o lines a =
-    none_said m o to lines new.far (told_case (RegisterWrittenAt h pc_number value) m h Still o _ lines (λ n. At m h Still o next lines (target_at new.far)) old.far mid.far
-    (λ c d l. hits_gone h value refused next m o lines c l.far new.far l.hart l.here l.writable l.passed (subst (λ x. WhereTold (AtHarts (ForgotAt h)) x new.far) l.is forgot.told) d) gave.told a)
+    none_said m o to lines new.far (told_case (RegisterWrittenAt h pc_number value) m h Still o _ lines
+    (λ n. At m h Still o next lines (target_at new.far)) old.far mid.far
+    (λ c d l. hits_gone h value refused next m o lines c l.far new.far l.hart l.here l.writable l.passed
+    (subst (λ x. WhereTold (AtHarts (ForgotAt h)) x new.far) l.is forgot.told) d) gave.told a)
 step_leads from to old new said (Step.writes_none {h} {number} {value} refused written none of) m o lines a =
-    none_said m o to lines new.far (told_case (RegisterRefusedAt true h number) m h Still o _ lines (λ n. At m h Still o refused lines (target_at n)) old.far new.far
-    (λ c d l. at_far m h Still o refused lines l.far _ l.is (write_refused_deals m h number o refused written lines (site_of c) (site_of l.far) l.hart of l.denied l.passed d)) none.told a)
+    none_said m o to lines new.far (told_case (RegisterRefusedAt true h number) m h Still o _ lines
+    (λ n. At m h Still o refused lines (target_at n)) old.far new.far
+    (λ c d l. at_far m h Still o refused lines l.far _ l.is (write_refused_deals m h number o refused written lines (site_of c) (site_of l.far) l.hart of
+    l.denied l.passed d)) none.told a)
 step_leads from to old new said (Step.sets_ebreakm {h} {word} {on} next {mid = mid} got gave) m o lines a =
-    none_said m o to lines new.far (told_case (RegisterReadAt h dcsr_number word) m h Still o _ lines (λ n. At m h Still o next lines (target_at new.far)) old.far mid.far
-    (λ c d l. ebreak_given h word on next m o lines c l.far new.far l.hart l.here l.value_is l.passed (subst (λ x. WhereTold (RegisterWrittenAt h dcsr_number (with_ebreakm on word)) x new.far) l.is gave.told) d) got.told a)
+    none_said m o to lines new.far (told_case (RegisterReadAt h dcsr_number word) m h Still o _ lines
+    (λ n. At m h Still o next lines (target_at new.far)) old.far mid.far
+    (λ c d l. ebreak_given h word on next m o lines c l.far new.far l.hart l.here l.value_is l.passed
+    (subst (λ x. WhereTold (RegisterWrittenAt h dcsr_number (with_ebreakm on word)) x new.far) l.is gave.told) d) got.told a)
 step_leads from to old new said (Step.shows_slots {h} {view} next viewed) m o lines a =
-    none_said m o to lines new.far (at_harts_so (ViewedAt view h) m h h Still Still o _ (saying (lines_of_view view) next) lines old.far new.far (λ x y l d. slots_deals m h view o next lines x y l d) viewed.told a)
+    none_said m o to lines new.far (at_harts_so (ViewedAt view h) m h h Still Still o _ (saying (lines_of_view view) next) lines old.far new.far
+    (λ x y l d. slots_deals m h view o next lines x y l d) viewed.told a)
 step_leads from to old new said (Step.arms {h} {slot} {meant} what next taken is can) m o lines a =
-    none_said m o to lines new.far (at_harts_so (ArmedAt meant slot h) m h h Still Still o (arming h what next) (say (Line.Slot slot (Armed what) false) next) lines old.far new.far
+    none_said m o to lines new.far (at_harts_so (ArmedAt meant slot h) m h h Still Still o (arming h what next) (say (Line.Slot slot (Armed what) false) next)
+    lines old.far new.far
     (λ x y l d. armed_deals m h slot meant what o next lines x y is can l d) taken.told a)
 step_leads from to old new said (Step.arms_none {h} {meant} what next none) m o lines a =
-    none_said m o to lines new.far (at_harts_so (FullAt h) m h h Still Still o (arming h what next) (say Line.NoFreeSlot next) lines old.far new.far (λ x y l d. full_deals m h what o next lines x y l d) none.told a)
+    none_said m o to lines new.far (at_harts_so (FullAt h) m h h Still Still o (arming h what next) (say Line.NoFreeSlot next) lines old.far new.far
+    (λ x y l d. full_deals m h what o next lines x y l d) none.told a)
 step_leads from to old new said (Step.frees {h} {slot} next freed) m o lines a =
-    none_said m o to lines new.far (at_harts_so (FreedAt slot h) m h h Still Still o (freeing h slot next) (say (Line.Slot slot Unused false) next) lines old.far new.far (λ x y l d. freed_deals m h slot o next lines x y l d) freed.told a)
+    none_said m o to lines new.far (at_harts_so (FreedAt slot h) m h h Still Still o (freeing h slot next) (say (Line.Slot slot Unused false) next) lines
+    old.far new.far (λ x y l d. freed_deals m h slot o next lines x y l d) freed.told a)
 step_leads from to old new said (Step.frees_none {h} {slot} next none) m o lines a =
-    none_said m o to lines new.far (at_harts_so (UnusedAt slot h) m h h Still Still o (freeing h slot next) (say (Line.SlotNotInUse slot) next) lines old.far new.far (λ x y l d. unused_deals m h slot o next lines x y l d) none.told a)
-step_leads from to old new said (Step.loads {way} {h} {address} {value} {size} faulted read l) m o lines a = none_said m o to lines new.far (loaded_at m h way size address value o faulted read lines old new l a)
-step_leads from to old new said (Step.loads_none {way} {h} {address} {size} faulted read l) m o lines a = none_said m o to lines new.far (loaded_none_at m h way size address o faulted read lines old new l a)
-step_leads from to old new said (Step.stores {way} {h} {address} {value} {size} faulted next l) m o lines a = none_said m o to lines new.far (stored_at m h way size address value o faulted next lines old new l a)
-step_leads from to old new said (Step.stores_none {way} {h} {address} {value} {size} faulted stored l) m o lines a = none_said m o to lines new.far (stored_none_at m h way size address value o faulted stored lines old new l a)
+    none_said m o to lines new.far (at_harts_so (UnusedAt slot h) m h h Still Still o (freeing h slot next) (say (Line.SlotNotInUse slot) next) lines old.far
+    new.far (λ x y l d. unused_deals m h slot o next lines x y l d) none.told a)
+step_leads from to old new said (Step.loads {path} {way} {h} {address} {value} {size} faulted read l) m o lines a =
+    none_said m o to lines new.far (loaded_at m h way size address value o faulted read lines old new l
+    (at_access m h way o path _ lines (target_at old.far) a))
+step_leads from to old new said (Step.loads_none {path} {way} {h} {address} {size} faulted read l) m o lines a =
+    none_said m o to lines new.far (loaded_none_at m h way size address o faulted read lines old new l (at_access m h way o path _ lines (target_at old.far) a))
+step_leads from to old new said (Step.stores {path} {way} {h} {address} {value} {size} faulted next l) m o lines a =
+    none_said m o to lines new.far (stored_at m h way size address value o faulted next lines old new l
+    (at_access m h way o path _ lines (target_at old.far) a))
+step_leads from to old new said (Step.stores_none {path} {way} {h} {address} {value} {size} faulted stored l) m o lines a =
+    none_said m o to lines new.far (stored_none_at m h way size address value o faulted stored lines old new l
+    (at_access m h way o path _ lines (target_at old.far) a))
 
 walked : (from : Place) (old : Tells) (said : List Line) (to : Place) (new : Tells) → Goes from old said to new → Leads from old said to new
 walked from old said to new start m o lines a = none_said m o from lines old.far a
 walked from old said to new (step {said = s} {more = more} {mid = mid} {between = between} g st) m o lines a =
-    subst (λ l. DealsAt m o to l new.far) (append_assoc lines s more) (step_leads mid to between new more st m o (lines ++ s) (walked from old s mid between g m o lines a))
+    subst (λ l. DealsAt m o to l new.far) (append_assoc lines s more) (step_leads mid to between new more st m o (lines ++ s)
+    (walked from old s mid between g m o lines a))
 
 pub goes_lead : GoesLead
 goes_lead from to old new said g = walked from old said to new g

@@ -25,25 +25,32 @@ use Rattle.probe_session.proofs.WentLemmas.{falls_at, falls_within, went_none, w
 
 -- ---- a command by what it is
 
-pub went_as : (k j : Command) (s t : State) (r : Result PrintedLine Failure) (u v : Tells) → k ≡ j → IfOk r (λ line. Went (before j s) (at_line (said_by line) t) [] u v) → IfOk r (λ line. Went (before k s) (at_line (said_by line) t) [] u v)
+pub went_as : (k j : Command) (s t : State) (r : Result PrintedLine Failure) (u v : Tells) → k ≡ j
+    → IfOk r (λ line. Went (before j s) (at_line (said_by line) t) [] u v) → IfOk r (λ line. Went (before k s) (at_line (said_by line) t) [] u v)
 went_as k j s t r u v is w = subst (λ x. IfOk r (λ line. Went (before x s) (at_line (said_by line) t) [] u v)) (sym is) w
 
-pub falls_as : (k j : Command) (s : State) (r : Result PrintedLine Failure) (old_count new_count : ℕ) (u v : Tells) → k ≡ j → IfErr r (Falls (before j s) [] old_count new_count u v) → IfErr r (Falls (before k s) [] old_count new_count u v)
+pub falls_as : (k j : Command) (s : State) (r : Result PrintedLine Failure) (old_count new_count : ℕ) (u v : Tells) → k ≡ j
+    → IfErr r (Falls (before j s) [] old_count new_count u v) → IfErr r (Falls (before k s) [] old_count new_count u v)
 falls_as k j s r old_count new_count u v is p = subst (λ x. IfErr r (Falls (before x s) [] old_count new_count u v)) (sym is) p
 
-idcode_within : (s : State) (r : Result PrintedLine Failure) (u v : Tells) → IfOk r (λ line. Went at_idcode (ends_with (said_by line)) [] u v) → IfOk r (λ line. Went (before command.Idcode s) (at_line (said_by line) s) [] u v)
+idcode_within : (s : State) (r : Result PrintedLine Failure) (u v : Tells) → IfOk r (λ line. Went at_idcode (ends_with (said_by line)) [] u v)
+    → IfOk r (λ line. Went (before command.Idcode s) (at_line (said_by line) s) [] u v)
 idcode_within s (Ok line) u v w = within (λ (next : State → Plan). next s) w
 idcode_within s (Err e) u v w = tt
 
-pub idcode_went_as : (s : State) (k : Command) (r : Result PrintedLine Failure) (u v : Tells) → k ≡ command.Idcode → IfOk r (λ line. Went at_idcode (ends_with (said_by line)) [] u v) → IfOk r (λ line. Went (before k s) (at_line (said_by line) s) [] u v)
+pub idcode_went_as : (s : State) (k : Command) (r : Result PrintedLine Failure) (u v : Tells) → k ≡ command.Idcode
+    → IfOk r (λ line. Went at_idcode (ends_with (said_by line)) [] u v) → IfOk r (λ line. Went (before k s) (at_line (said_by line) s) [] u v)
 idcode_went_as s k r u v is w = went_as k command.Idcode s s r u v is (idcode_within s r u v w)
 
-idcode_falls_within : (s : State) (r : Result PrintedLine Failure) (old_count new_count : ℕ) (u v : Tells) → IfErr r (Falls at_idcode [] old_count new_count u v) → IfErr r (Falls (before command.Idcode s) [] old_count new_count u v)
+idcode_falls_within : (s : State) (r : Result PrintedLine Failure) (old_count new_count : ℕ) (u v : Tells)
+    → IfErr r (Falls at_idcode [] old_count new_count u v) → IfErr r (Falls (before command.Idcode s) [] old_count new_count u v)
 idcode_falls_within s (Ok line) old_count new_count u v p = tt
 idcode_falls_within s (Err e) old_count new_count u v p = falls_within (λ (next : State → Plan). next s) p
 
-pub idcode_falls_as : (s : State) (k : Command) (r : Result PrintedLine Failure) (old_count new_count : ℕ) (u v : Tells) → k ≡ command.Idcode → IfErr r (Falls at_idcode [] old_count new_count u v) → IfErr r (Falls (before k s) [] old_count new_count u v)
-idcode_falls_as s k r old_count new_count u v is p = falls_as k command.Idcode s r old_count new_count u v is (idcode_falls_within s r old_count new_count u v p)
+pub idcode_falls_as : (s : State) (k : Command) (r : Result PrintedLine Failure) (old_count new_count : ℕ) (u v : Tells) → k ≡ command.Idcode
+    → IfErr r (Falls at_idcode [] old_count new_count u v) → IfErr r (Falls (before k s) [] old_count new_count u v)
+idcode_falls_as s k r old_count new_count u v is p = falls_as k command.Idcode s r old_count new_count u v is
+    (idcode_falls_within s r old_count new_count u v p)
 
 -- ---- the IDCODE
 
@@ -62,14 +69,16 @@ pub ready_on : (old new : Option Far) → IsReady old → WhereTold NoneOperated
 ready_on None new r n = subst (λ x. IsReady x) (sym n) tt
 ready_on (Some f) new r n =
     subst (λ x. IsReady x) (sym n.is)
-    (ready_along (site_of f) (site_of n.far) r (quiet_deeds (site_of f) (site_of n.far) (record { no_command = r.unit.commands.idle; no_access = r.unit.bus.idle }) n.site))
+    (ready_along (site_of f) (site_of n.far) r (quiet_deeds (site_of f) (site_of n.far)
+    (record { no_command = r.unit.commands.idle; no_access = r.unit.bus.idle }) n.site))
 
 -- ---- a path is chosen
 
 chosen_path : (path : Path) (s : State) {t : Tells} → Went (before (command.Via path) s) (at_line (Line.Via path) (record s { path = path })) [] t t
 chosen_path path s = went_none
 
-pub chosen : (k : Command) (path : Path) (line : Line) (s w : State) {t : Tells} → k ≡ command.Via path → line ≡ Line.Via path → w ≡ record s { path = path } → Went (before k s) (at_line line w) [] t t
+pub chosen : (k : Command) (path : Path) (line : Line) (s w : State) {t : Tells} → k ≡ command.Via path → line ≡ Line.Via path → w ≡ record s { path = path }
+    → Went (before k s) (at_line line w) [] t t
 chosen k path line s w {t} is line_is state_is =
     subst (λ (x : Command). Went (before x s) (at_line line w) [] t t) (sym is)
     (subst (λ (l : Line). Went (before (command.Via path) s) (at_line l w) [] t t) (sym line_is)

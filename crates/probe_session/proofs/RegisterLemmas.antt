@@ -50,7 +50,133 @@ found n (r ∷ rs) all any = found_by n r.1 (r.1 == n) (list_any (λ q. q.1 == n
 
 named : AreOfCores named_registers
 unfolding named_registers csr_value
-named = (λ c. refl, (λ c. refl, (λ c. refl, (λ c. refl, (λ c. refl, (λ c. refl, (λ c. refl, (λ c. refl, (λ c. refl, (λ c. refl, (λ c. refl, (λ c. refl, (λ c. refl, (λ c. refl, (λ c. refl, (λ c. refl, (λ c. refl, (λ c. refl, (λ c. refl, (λ c. refl, (λ c. refl, (λ c. refl, (λ c. refl, (λ c. refl, (λ c. refl, (λ c. refl, (λ c. refl, (λ c. refl, (λ c. refl, (λ c. refl, (λ c. refl, (λ c. refl, (λ c. refl, (λ c. refl, (λ c. refl, (λ c. refl, (λ c. refl, (λ c. refl, (λ c. refl, (λ c. refl, (λ c. refl, (λ c. refl, (λ c. refl, (λ c. refl, (λ c. refl, (λ c. refl, tt))))))))))))))))))))))))))))))))))))))))))))))
+named = (
+  λ c. refl,
+  (
+    λ c. refl,
+    (
+      λ c. refl,
+      (
+        λ c. refl,
+        (
+          λ c. refl,
+          (
+            λ c. refl,
+            (
+              λ c. refl,
+              (
+                λ c. refl,
+                (
+                  λ c. refl,
+                  (
+                    λ c. refl,
+                    (
+                      λ c. refl,
+                      (
+                        λ c. refl,
+                        (
+                          λ c. refl,
+                          (
+                            λ c. refl,
+                            (
+                              λ c. refl,
+                              (
+                                λ c. refl,
+                                (
+                                  λ c. refl,
+                                  (
+                                    λ c. refl,
+                                    (
+                                      λ c. refl,
+                                      (
+                                        λ c. refl,
+                                        (
+                                          λ c. refl,
+                                          (
+                                            λ c. refl,
+                                            (
+                                              λ c. refl,
+                                              (
+                                                λ c. refl,
+                                                (
+                                                  λ c. refl,
+                                                  (
+                                                    λ c. refl,
+                                                    (
+                                                      λ c. refl,
+                                                      (
+                                                        λ c. refl,
+                                                        (
+                                                          λ c. refl,
+                                                          (
+                                                            λ c. refl,
+                                                            (
+                                                              λ c. refl,
+                                                              (
+                                                                λ c. refl,
+                                                                (
+                                                                  λ c. refl,
+                                                                  (
+                                                                    λ c. refl,
+                                                                    (
+                                                                      λ c. refl,
+                                                                      (
+                                                                        λ c. refl,
+                                                                        (
+                                                                          λ c. refl,
+                                                                          (
+                                                                            λ c. refl,
+                                                                            (
+                                                                              λ c. refl,
+                                                                              (
+                                                                                λ c. refl,
+                                                                                (
+                                                                                  λ c. refl,
+                                                                                  (
+                                                                                    λ c. refl,
+                                                                                    (λ c. refl, (λ c. refl, (λ c. refl, (λ c. refl, tt)))),
+                                                                                  ),
+                                                                                ),
+                                                                              ),
+                                                                            ),
+                                                                          ),
+                                                                        ),
+                                                                      ),
+                                                                    ),
+                                                                  ),
+                                                                ),
+                                                              ),
+                                                            ),
+                                                          ),
+                                                        ),
+                                                      ),
+                                                    ),
+                                                  ),
+                                                ),
+                                              ),
+                                            ),
+                                          ),
+                                        ),
+                                      ),
+                                    ),
+                                  ),
+                                ),
+                              ),
+                            ),
+                          ),
+                        ),
+                      ),
+                    ),
+                  ),
+                ),
+              ),
+            ),
+          ),
+        ),
+      ),
+    ),
+  ),
+)
 
 pub of_cores : (n : ℕ) → IsTrue (is_register n) → IsOfCores n
 unfolding is_register

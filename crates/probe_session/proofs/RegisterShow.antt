@@ -38,23 +38,31 @@ x_value true b v rest is_a is_b = absurd (false≢true (sym is_a))
 x_value false false v rest is_a is_b = absurd (false≢true is_b)
 
 pub x_of_cores : (x : ℕ) → x < 32 → IsOfCores (first_x_number + x)
-x_of_cores x below c = x_value (nat_lt (first_x_number + x) first_x_number) (nat_lt (first_x_number + x) (first_x_number + 32)) _ _ (le-ltb (first_x_number + x) first_x_number (omega arith)) (lt-ltb (first_x_number + x) (first_x_number + 32) (omega arith))
+x_of_cores x below c = x_value (nat_lt (first_x_number + x) first_x_number) (nat_lt (first_x_number + x) (first_x_number + 32)) _ _
+    (le-ltb (first_x_number + x) first_x_number (omega arith)) (lt-ltb (first_x_number + x) (first_x_number + 32) (omega arith))
 
 -- ---- one register
 
-pub register_put : (h number value : ℕ) {t u : Tells} {c d : Option (List ℕ)} → IsOfCores number → Got h number value t u → d ≡ grown (text_of (Line.Register number value)) c
+pub register_put : (h number value : ℕ) {t u : Tells} {c d : Option (List ℕ)} → IsOfCores number → Got h number value t u
+    → d ≡ grown (text_of (Line.Register number value)) c
     → Spoke (at_next_register h number) (at_registers h) false t u c d
 register_put h number value {c = c} of got put =
-    spoke_says Still h (Line.Register number value) (λ (r : Registers). some_shown h r.numbers r.next) refl (spoke_first c (went_one (λ r. reads_next r.numbers r.next got of))) put
+    spoke_says Still h (Line.Register number value) (λ (r : Registers). some_shown h r.numbers r.next) refl
+    (spoke_first c (went_one (λ r. reads_next r.numbers r.next got of))) put
 
-pub register_fell : (h number : ℕ) {old_count new_count : ℕ} {t u : Tells} (sink_old sink_new : ℕ) (c : Option (List ℕ)) {f : Failure} → IsOfCores number → ReadFell h number old_count new_count t u f
+pub register_fell : (h number : ℕ) {old_count new_count : ℕ} {t u : Tells} (sink_old sink_new : ℕ) (c : Option (List ℕ)) {f : Failure} → IsOfCores number
+    → ReadFell h number old_count new_count t u f
     → Fell CalmRegisters (at_next_register h number) old_count new_count t u sink_old sink_new c c f
 register_fell h number sink_old sink_new c of fell = fell_first sink_old sink_new c (falls_at (λ r. Fault.reading fell (of_harts number of)))
 
-pub register_cut : (h number value old_count new_count : ℕ) {t u : Tells} {sink_old sink_new : ℕ} {c d : Option (List ℕ)} {f : Failure} → IsOfCores number → f ≡ failure.Sink → Got h number value t u
-    → GrewByPrefix (text_of (Line.Register number value)) c d → Rises sink_old sink_new → Fell CalmRegisters (at_next_register h number) old_count new_count t u sink_old sink_new c d f
+pub register_cut : (h number value old_count new_count : ℕ) {t u : Tells} {sink_old sink_new : ℕ} {c d : Option (List ℕ)} {f : Failure} → IsOfCores number
+    → f ≡ failure.Sink → Got h number value t u
+    → GrewByPrefix (text_of (Line.Register number value)) c d → Rises sink_old sink_new
+    → Fell CalmRegisters (at_next_register h number) old_count new_count t u sink_old sink_new c d f
 register_cut h number value old_count new_count {c = c} of sink got front rises =
-    fell_line Still h (Line.Register number value) (λ (r : Registers). some_shown h r.numbers r.next) refl (λ (r : Registers) calm b. quiet_saying (map (register_line h b) r.numbers) r.next calm) old_count new_count sink (spoke_first c (went_one (λ r. reads_next r.numbers r.next got of))) front rises
+    fell_line Still h (Line.Register number value) (λ (r : Registers). some_shown h r.numbers r.next) refl
+    (λ (r : Registers) calm b. quiet_saying (map (register_line h b) r.numbers) r.next calm) old_count new_count sink
+    (spoke_first c (went_one (λ r. reads_next r.numbers r.next got of))) front rises
 
 -- ---- all of them
 
@@ -70,7 +78,8 @@ pub record RegistersShown (h x : ℕ) (t u : Tells) (c d : Option (List ℕ)) : 
 pub pc_shown : (h : ℕ) {t u : Tells} {c d : Option (List ℕ)} → Spoke (at_next_register h pc_number) (at_registers h) false t u c d → RegistersShown h 1 t u c d
 pc_shown h s = record { left = 31; all = omega arith; spoke = spoke_within (left_from 1 31) s }
 
-pub pc_fell : (h : ℕ) {old_count new_count : ℕ} {t u : Tells} {sink_old sink_new : ℕ} {c d : Option (List ℕ)} {f : Failure} → Fell CalmRegisters (at_next_register h pc_number) old_count new_count t u sink_old sink_new c d f
+pub pc_fell : (h : ℕ) {old_count new_count : ℕ} {t u : Tells} {sink_old sink_new : ℕ} {c d : Option (List ℕ)} {f : Failure}
+    → Fell CalmRegisters (at_next_register h pc_number) old_count new_count t u sink_old sink_new c d f
     → Fell Quiet (at_all_registers h) old_count new_count t u sink_old sink_new c d f
 pc_fell h fell = fell_within (left_from 1 31) (λ next calm. calm) fell
 
@@ -80,31 +89,41 @@ next_address x = omega arith
 abbrev rest_from : (x left : ℕ) → Plan → Registers
 rest_from x left next = record { numbers = range_with_len ((first_x_number + x) + 1) left; next = next }
 
-x_shown_by : (h x left : ℕ) {t u v : Tells} {c d e : Option (List ℕ)} → x < 32 → x + left ≡ 32 → Spoke (at_all_registers h) (λ next. at_registers h (left_from x left next)) false t u c d
+x_shown_by : (h x left : ℕ) {t u v : Tells} {c d e : Option (List ℕ)} → x < 32 → x + left ≡ 32
+    → Spoke (at_all_registers h) (λ next. at_registers h (left_from x left next)) false t u c d
     → Spoke (at_next_register h (first_x_number + x)) (at_registers h) false u v d e → RegistersShown h (x + 1) t v c e
 x_shown_by h x zero below all s one = absurd (omega arith)
 x_shown_by h x (suc n) below all s one = record {
   left = n;
   all = omega arith;
-  spoke = spoke_went (spoke_then s (spoke_within (rest_from x n) one)) (went_one (λ next. same (ap (λ a. some_shown h (range_with_len a n) next) (next_address x))));
+  spoke = spoke_went (spoke_then s (spoke_within (rest_from x n) one)) (went_one
+      (λ next. same (ap (λ a. some_shown h (range_with_len a n) next) (next_address x))));
 }
 
-pub x_shown : (h x : ℕ) {t u v : Tells} {c d e : Option (List ℕ)} → x < 32 → RegistersShown h x t u c d → Spoke (at_next_register h (first_x_number + x)) (at_registers h) false u v d e → RegistersShown h (x + 1) t v c e
+pub x_shown : (h x : ℕ) {t u v : Tells} {c d e : Option (List ℕ)} → x < 32 → RegistersShown h x t u c d
+    → Spoke (at_next_register h (first_x_number + x)) (at_registers h) false u v d e → RegistersShown h (x + 1) t v c e
 x_shown h x below s one = x_shown_by h x s.left below s.all s.spoke one
 
-x_fell_by : (h x left : ℕ) {old_count count new_count : ℕ} {t u v : Tells} {sink_old sink_count sink_new : ℕ} {c d e : Option (List ℕ)} {f : Failure} → x < 32 → x + left ≡ 32
-    → Spoke (at_all_registers h) (λ next. at_registers h (left_from x left next)) false t u c d → old_count ≤ count → sink_old ≤ sink_count → sink_count ≤ sink_new
-    → Fell CalmRegisters (at_next_register h (first_x_number + x)) count new_count u v sink_count sink_new d e f → Fell Quiet (at_all_registers h) old_count new_count t v sink_old sink_new c e f
+x_fell_by : (h x left : ℕ) {old_count count new_count : ℕ} {t u v : Tells} {sink_old sink_count sink_new : ℕ} {c d e : Option (List ℕ)} {f : Failure}
+    → x < 32 → x + left ≡ 32
+    → Spoke (at_all_registers h) (λ next. at_registers h (left_from x left next)) false t u c d → old_count ≤ count → sink_old ≤ sink_count
+    → sink_count ≤ sink_new
+    → Fell CalmRegisters (at_next_register h (first_x_number + x)) count new_count u v sink_count sink_new d e f
+    → Fell Quiet (at_all_registers h) old_count new_count t v sink_old sink_new c e f
 x_fell_by h x zero below all s le later more fell = absurd (omega arith)
 x_fell_by h x (suc n) below all s le later more fell = spoke_fell s le later more (fell_within (rest_from x n) (λ next calm. calm) fell)
 
-pub x_fell : (h x : ℕ) {old_count count new_count : ℕ} {t u v : Tells} {sink_old sink_count sink_new : ℕ} {c d e : Option (List ℕ)} {f : Failure} → x < 32 → RegistersShown h x t u c d → old_count ≤ count
-    → sink_old ≤ sink_count → sink_count ≤ sink_new → Fell CalmRegisters (at_next_register h (first_x_number + x)) count new_count u v sink_count sink_new d e f → Fell Quiet (at_all_registers h) old_count new_count t v sink_old sink_new c e f
+pub x_fell : (h x : ℕ) {old_count count new_count : ℕ} {t u v : Tells} {sink_old sink_count sink_new : ℕ} {c d e : Option (List ℕ)} {f : Failure} → x < 32
+    → RegistersShown h x t u c d → old_count ≤ count
+    → sink_old ≤ sink_count → sink_count ≤ sink_new → Fell CalmRegisters (at_next_register h (first_x_number + x)) count new_count u v sink_count sink_new d e f
+    → Fell Quiet (at_all_registers h) old_count new_count t v sink_old sink_new c e f
 x_fell h x below s le later more fell = x_fell_by h x s.left below s.all s.spoke le later more fell
 
-all_by : (h x left : ℕ) {t u : Tells} {c d : Option (List ℕ)} → left ≡ 0 → Spoke (at_all_registers h) (λ next. at_registers h (left_from x left next)) false t u c d → Spoke (at_all_registers h) idle false t u c d
+all_by : (h x left : ℕ) {t u : Tells} {c d : Option (List ℕ)} → left ≡ 0
+    → Spoke (at_all_registers h) (λ next. at_registers h (left_from x left next)) false t u c d → Spoke (at_all_registers h) idle false t u c d
 all_by h x left {t} {u} {c} {d} is s =
-    spoke_went (subst (λ n. Spoke (at_all_registers h) (λ next. at_registers h (left_from x n next)) false t u c d) is s) (went_then (went_one (λ next. overlooks)) (went_one (λ next. rests)))
+    spoke_went (subst (λ n. Spoke (at_all_registers h) (λ next. at_registers h (left_from x n next)) false t u c d) is s)
+    (went_then (went_one (λ next. overlooks)) (went_one (λ next. rests)))
 
 pub all_registers : (h x : ℕ) {t u : Tells} {c d : Option (List ℕ)} → x ≡ 32 → RegistersShown h x t u c d → Spoke (at_all_registers h) idle false t u c d
 all_registers h x is s = let e : s.left ≡ 0 = omega (arith, s.all) in all_by h x s.left e s.spoke

@@ -41,57 +41,77 @@ or_one true = refl
 or_one false = refl
 
 -- a command that was done
-of_script : (c : Command) (after : List Command) (s t : State) (wrong : Bool) {old new : Tells} {was is : Option (List ℕ)} → Spoke (before c s) (behind t) wrong old new was is → SoFar (c ∷ after) s after t wrong old new was is
+of_script : (c : Command) (after : List Command) (s t : State) (wrong : Bool) {old new : Tells} {was is : Option (List ℕ)}
+    → Spoke (before c s) (behind t) wrong old new was is → SoFar (c ∷ after) s after t wrong old new was is
 of_script c after s t wrong spoke = spoke_within (λ (_ : Unit {0}). commands after) spoke
 
-at_rest : (script : List Command) (s : State) (rest rest' : List Command) (t : State) (wrong : Bool) {old now : Tells} {was is : Option (List ℕ)} → rest ≡ rest' → SoFar script s rest t wrong old now was is → SoFar script s rest' t wrong old now was is
+at_rest : (script : List Command) (s : State) (rest rest' : List Command) (t : State) (wrong : Bool) {old now : Tells} {was is : Option (List ℕ)} → rest ≡ rest'
+    → SoFar script s rest t wrong old now was is → SoFar script s rest' t wrong old now was is
 at_rest script s rest rest' t wrong {old} {now} {was} {is} e so = subst (λ r. SoFar script s r t wrong old now was is) e so
 
-pub done_one : (script : List Command) (s : State) (c : Command) (rest after : List Command) (t u : State) (wrong : Bool) {old now new : Tells} {was mid is : Option (List ℕ)} → rest ≡ c ∷ after
+pub done_one : (script : List Command) (s : State) (c : Command) (rest after : List Command) (t u : State) (wrong : Bool) {old now new : Tells}
+    {was mid is : Option (List ℕ)} → rest ≡ c ∷ after
     → SoFar script s rest t wrong old now was mid → Spoke (before c t) (behind u) false now new mid is → SoFar script s after u wrong old new was is
 done_one script s c rest after t u wrong {old} {now} {new} {was} {mid} {is} e so spoke =
-    subst (λ b. SoFar script s after u b old new was is) (or_none wrong) (spoke_then (at_rest script s rest (c ∷ after) t wrong e so) (of_script c after t u false spoke))
+    subst (λ b. SoFar script s after u b old new was is) (or_none wrong) (spoke_then (at_rest script s rest (c ∷ after) t wrong e so)
+    (of_script c after t u false spoke))
 
-pub wrong_one : (script : List Command) (s : State) (c : Command) (rest after : List Command) (t u : State) (wrong : Bool) {old now new : Tells} {was mid is : Option (List ℕ)} → rest ≡ c ∷ after
+pub wrong_one : (script : List Command) (s : State) (c : Command) (rest after : List Command) (t u : State) (wrong : Bool) {old now new : Tells}
+    {was mid is : Option (List ℕ)} → rest ≡ c ∷ after
     → SoFar script s rest t wrong old now was mid → Spoke (before c t) (behind u) true now new mid is → SoFar script s after u true old new was is
 wrong_one script s c rest after t u wrong {old} {now} {new} {was} {mid} {is} e so spoke =
-    subst (λ b. SoFar script s after u b old new was is) (or_one wrong) (spoke_then (at_rest script s rest (c ∷ after) t wrong e so) (of_script c after t u true spoke))
+    subst (λ b. SoFar script s after u b old new was is) (or_one wrong) (spoke_then (at_rest script s rest (c ∷ after) t wrong e so)
+    (of_script c after t u true spoke))
 
 -- ---- a command that fell, behind others
 
-text_behind : (xs ys : List Line) (line : Line) (c d e : Option (List ℕ)) → d ≡ grown (text_of_all xs) c → GrewByPrefix (text_of line) (grown (text_of_all ys) d) e → GrewByPrefix (text_of line) (grown (text_of_all (xs ++ ys)) c) e
+text_behind : (xs ys : List Line) (line : Line) (c d e : Option (List ℕ)) → d ≡ grown (text_of_all xs) c
+    → GrewByPrefix (text_of line) (grown (text_of_all ys) d) e → GrewByPrefix (text_of line) (grown (text_of_all (xs ++ ys)) c) e
 text_behind xs ys line c d e first front = subst (λ x. GrewByPrefix (text_of line) x e) (grown_lines xs ys c d (grown (text_of_all ys) d) first refl) front
 
-pub fell_then : {K : Type 0} {T : K → Type 0} {a b : K → Place} {wrong : Bool} (old_count count new_count sink_old sink_mid sink_new : ℕ) {t u v : Tells} {c d e : Option (List ℕ)} {f : Failure} → Spoke a b wrong t u c d → old_count ≤ count → sink_old ≤ sink_mid → sink_mid ≤ sink_new
+pub fell_then : {K : Type 0} {T : K → Type 0} {a b : K → Place} {wrong : Bool} (old_count count new_count sink_old sink_mid sink_new : ℕ) {t u v : Tells}
+    {c d e : Option (List ℕ)} {f : Failure} → Spoke a b wrong t u c d → old_count ≤ count → sink_old ≤ sink_mid → sink_mid ≤ sink_new
     → Fell T b count new_count u v sink_mid sink_new d e f → Fell T a old_count new_count t v sink_old sink_new c e f
 fell_then {K} {T} {a} {b} {wrong} old_count count new_count sink_old sink_mid sink_new {t} {u} {v} {c} {d} {e} {f} s le sink_le later (in_call said p put) =
     in_call (s.said ++ said) (falls_then s.went le p) (grown_lines s.said said c d e s.put put)
-fell_then {K} {T} {a} {b} {wrong} old_count count new_count sink_old sink_mid sink_new {t} {u} {v} {c} {d} {e} {f} s le sink_le later (at_line said line heard way h next may quiet w front rises) =
-    at_line (s.said ++ said) line heard way h next may quiet (went_then s.went w) (text_behind s.said said line c d e s.put front) (rises_from sink_old sink_mid sink_new sink_le later rises)
+fell_then {K} {T} {a} {b} {wrong} old_count count new_count sink_old sink_mid sink_new {t} {u} {v} {c} {d} {e} {f} s le sink_le later
+    (at_line said line heard way h next may quiet w front rises) =
+    at_line (s.said ++ said) line heard way h next may quiet (went_then s.went w) (text_behind s.said said line c d e s.put front)
+    (rises_from sink_old sink_mid sink_new sink_le later rises)
 
-pub fell_one : (script : List Command) (s : State) (c : Command) (rest after : List Command) (t : State) (wrong : Bool) (old_count count new_count sink_old sink_mid sink_new : ℕ) {old now new : Tells} {was mid is : Option (List ℕ)} {f : Failure} → rest ≡ c ∷ after
-    → SoFar script s rest t wrong old now was mid → old_count ≤ count → sink_old ≤ sink_mid → sink_mid ≤ sink_new → Fell CalmNext (before c t) count new_count now new sink_mid sink_new mid is f
+pub fell_one : (script : List Command) (s : State) (c : Command) (rest after : List Command) (t : State) (wrong : Bool)
+    (old_count count new_count sink_old sink_mid sink_new : ℕ) {old now new : Tells} {was mid is : Option (List ℕ)} {f : Failure} → rest ≡ c ∷ after
+    → SoFar script s rest t wrong old now was mid → old_count ≤ count → sink_old ≤ sink_mid → sink_mid ≤ sink_new
+    → Fell CalmNext (before c t) count new_count now new sink_mid sink_new mid is f
     → Fell Anyhow (at_commands script s) old_count new_count old new sink_old sink_new was is f
 fell_one script s c rest after t wrong old_count count new_count sink_old sink_mid sink_new e so le sink_le later fell =
-    fell_then old_count count new_count sink_old sink_mid sink_new (at_rest script s rest (c ∷ after) t wrong e so) le sink_le later (fell_within (λ (_ : Unit {0}). commands after) (λ _ calm u. commands_are_quiet after u) fell)
+    fell_then old_count count new_count sink_old sink_mid sink_new (at_rest script s rest (c ∷ after) t wrong e so) le sink_le later
+    (fell_within (λ (_ : Unit {0}). commands after) (λ _ calm u. commands_are_quiet after u) fell)
 
 -- ---- the script's end
 
-follows : (script : List Command) (s : State) (wrong : Bool) (e : Ended) (old_count new_count : ℕ) {old new : Tells} (sink_old sink_new : ℕ) {was is : Option (List ℕ)} → e ≡ graded wrong → Spoke (at_commands script s) at_stop wrong old new was is
+follows : (script : List Command) (s : State) (wrong : Bool) (e : Ended) (old_count new_count : ℕ) {old new : Tells} (sink_old sink_new : ℕ)
+    {was is : Option (List ℕ)} → e ≡ graded wrong → Spoke (at_commands script s) at_stop wrong old new was is
     → FollowedAs script s old_count new_count old new sink_old sink_new was is e
-follows script s wrong e old_count new_count {old} {new} sink_old sink_new {was} {is} e_is spoke = subst (FollowedAs script s old_count new_count old new sink_old sink_new was is) (sym e_is) (by_grade wrong spoke)
+follows script s wrong e old_count new_count {old} {new} sink_old sink_new {was} {is} e_is spoke =
+    subst (FollowedAs script s old_count new_count old new sink_old sink_new was is) (sym e_is) (by_grade wrong spoke)
   where
-    by_grade : (b : Bool) → Spoke (at_commands script s) at_stop b old new was is → FollowedAs script s old_count new_count old new sink_old sink_new was is (graded b)
+    by_grade : (b : Bool) → Spoke (at_commands script s) at_stop b old new was is
+        → FollowedAs script s old_count new_count old new sink_old sink_new was is (graded b)
     by_grade true p = p
     by_grade false p = p
 
-pub all_done : (script : List Command) (s : State) (rest : List Command) (t : State) (wrong : Bool) (e : Ended) (old_count new_count : ℕ) {old new : Tells} (sink_old sink_new : ℕ) {was is : Option (List ℕ)} → rest ≡ [] → e ≡ graded wrong
+pub all_done : (script : List Command) (s : State) (rest : List Command) (t : State) (wrong : Bool) (e : Ended) (old_count new_count : ℕ) {old new : Tells}
+    (sink_old sink_new : ℕ) {was is : Option (List ℕ)} → rest ≡ [] → e ≡ graded wrong
     → SoFar script s rest t wrong old new was is → FollowedAs script s old_count new_count old new sink_old sink_new was is e
-all_done script s rest t wrong e old_count new_count sink_old sink_new none e_is so = follows script s wrong e old_count new_count sink_old sink_new e_is (at_rest script s rest [] t wrong none so)
+all_done script s rest t wrong e old_count new_count sink_old sink_new none e_is so =
+    follows script s wrong e old_count new_count sink_old sink_new e_is (at_rest script s rest [] t wrong none so)
 
 -- an `end` does nothing
-pub ended_here : (script : List Command) (s : State) (c : Command) (rest after : List Command) (t u : State) (wrong : Bool) (e : Ended) (old_count new_count : ℕ) {old now new : Tells} (sink_old sink_new : ℕ) {was mid is : Option (List ℕ)} → rest ≡ c ∷ after
-    → c ≡ command.End → e ≡ graded wrong → SoFar script s rest t wrong old now was mid → Untouched t u now new mid is → FollowedAs script s old_count new_count old new sink_old sink_new was is e
+pub ended_here : (script : List Command) (s : State) (c : Command) (rest after : List Command) (t u : State) (wrong : Bool) (e : Ended)
+    (old_count new_count : ℕ) {old now new : Tells} (sink_old sink_new : ℕ) {was mid is : Option (List ℕ)} → rest ≡ c ∷ after
+    → c ≡ command.End → e ≡ graded wrong → SoFar script s rest t wrong old now was mid → Untouched t u now new mid is
+    → FollowedAs script s old_count new_count old new sink_old sink_new was is e
 ended_here script s c rest after t u wrong e old_count new_count {old} {now} {new} sink_old sink_new {was} {mid} {is} front end e_is so none =
     follows script s wrong e old_count new_count sink_old sink_new e_is
     (subst (λ x. Spoke (at_commands script s) at_stop wrong old new was x) (sym none.written)
@@ -103,12 +123,14 @@ within_after rest c after is all = All-tail IsWithinRanges c after (subst (All I
 
 -- ---- a chip that was not opened
 
-pub not_opened : (script : List Command) (fault : ConnectFault) (e : Ended) (old_count new_count : ℕ) (old new : Tells) (sink_old sink_new : ℕ) (was : Option (List ℕ)) → e ≡ ended_unopened fault → ConnectFails old_count new_count old new fault
+pub not_opened : (script : List Command) (fault : ConnectFault) (e : Ended) (old_count new_count : ℕ) (old new : Tells) (sink_old sink_new : ℕ)
+    (was : Option (List ℕ)) → e ≡ ended_unopened fault → ConnectFails old_count new_count old new fault
     → LosesLoaded old.far new.far fault → EndedAs script old_count new_count old new sink_old sink_new was was e
 not_opened script fault e old_count new_count old new sink_old sink_new was e_is fails told =
     subst (EndedAs script old_count new_count old new sink_old sink_new was was) (sym e_is) (by_fault fault fails told)
   where
-    by_fault : (x : ConnectFault) → ConnectFails old_count new_count old new x → LosesLoaded old.far new.far x → EndedAs script old_count new_count old new sink_old sink_new was was (ended_unopened x)
+    by_fault : (x : ConnectFault) → ConnectFails old_count new_count old new x → LosesLoaded old.far new.far x
+        → EndedAs script old_count new_count old new sink_old sink_new was was (ended_unopened x)
     by_fault (connect.Dtm word) f l = record { unopened = record { fails = f; told = l; written = refl }; register = refl }
     by_fault (connect.Module word control) f l = record { unopened = record { fails = f; told = l; written = refl }; register = refl }
     by_fault (connect.Abstract word) f l = record { unopened = record { fails = f; told = l; written = refl }; register = refl }
@@ -119,15 +141,18 @@ not_opened script fault e old_count new_count old new sink_old sink_new was e_is
 
 -- ---- behind the opening
 
-pub opened_ended : (script : List Command) (s : State) (e : Ended) (old_count count new_count : ℕ) (old mid new : Tells) (sink_old sink_new : ℕ) (was is : Option (List ℕ)) → s ≡ first_state → Opened old mid → OpensLoaded old.far mid.far → old_count ≤ count
+pub opened_ended : (script : List Command) (s : State) (e : Ended) (old_count count new_count : ℕ) (old mid new : Tells) (sink_old sink_new : ℕ)
+    (was is : Option (List ℕ)) → s ≡ first_state → Opened old mid → OpensLoaded old.far mid.far → old_count ≤ count
     → FollowedAs script s count new_count mid new sink_old sink_new was is e → EndedAs script old_count new_count old new sink_old sink_new was is e
 opened_ended script s e old_count count new_count old mid new sink_old sink_new was is first opened told le followed =
     by_end e (subst (λ x. FollowedAs script x count new_count mid new sink_old sink_new was is e) first followed)
   where
-    into : (f : Failure) → Fell Anyhow (at_commands script first_state) count new_count mid new sink_old sink_new was is f → RanInto script old_count new_count old new sink_old sink_new was is f
+    into : (f : Failure) → Fell Anyhow (at_commands script first_state) count new_count mid new sink_old sink_new was is f
+        → RanInto script old_count new_count old new sink_old sink_new was is f
     into f fell = record { mid = mid; count = count; opened = opened; told = told; later = le; fell = fell }
 
-    by_end : (x : Ended) → FollowedAs script first_state count new_count mid new sink_old sink_new was is x → EndedAs script old_count new_count old new sink_old sink_new was is x
+    by_end : (x : Ended) → FollowedAs script first_state count new_count mid new sink_old sink_new was is x
+        → EndedAs script old_count new_count old new sink_old sink_new was is x
     by_end ended.Clean f = record { mid = mid; opened = opened; told = told; spoke = f }
     by_end ended.WithErrors f = record { mid = mid; opened = opened; told = told; spoke = f }
     by_end (ended.Target fault) f = absurd f

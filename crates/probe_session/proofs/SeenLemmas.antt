@@ -1,14 +1,15 @@
 -- What a Look handed out, by its cases.
 use Rattle.std.proofs.Common.{◌≡◌, ℕ, Bool, true, false, Option, Some, None, subst}
 use Rattle.rv_model.specs.declared.size.Size.{Size}
+use Rattle.debug_model.specs.declared.command.Path.{Path}
 use Rattle.probe_run.specs.declared.hart.Seen.{Seen}
 use Rattle.probe_run.specs.Acts.{Tells}
-use Rattle.probe_trig.specs.declared.slot_use.SlotUse.{SlotUse}
+use Rattle.debug_model.specs.declared.slot_use.SlotUse.{SlotUse}
 use Rattle.probe_session.specs.Answers.{FreedAs, LoadedAs, StoredAs, TakenAs, WrittenAs}
-use Rattle.probe_session.specs.Calls.{Gave, GaveNone, Loaded, LoadedNone, NoneFree, NotUsed, Saw, SlotFreed, SlotTaken, Stored, StoredNone}
+use Rattle.probe_session.specs.Calls.{Gave, GaveNone, Loaded, LoadedNone, NoneFree, NotUsed, LookMade, SlotFreed, SlotTaken, Stored, StoredNone}
 
-pub saw_as : {h : ℕ} {old new : Tells} {s t : Seen} → s ≡ t → Saw h old new s → Saw h old new t
-saw_as {h} {old} {new} is saw = subst (Saw h old new) is saw
+pub saw_as : {h : ℕ} {old new : Tells} {s t : Seen} → s ≡ t → LookMade h old new s → LookMade h old new t
+saw_as {h} {old} {new} is saw = subst (LookMade h old new) is saw
 
 -- ---- answers that may be refusals
 
@@ -30,14 +31,18 @@ gave_true {h} {number} {value} {b} {t} {u} is p = subst (WrittenAs h number valu
 pub gave_false : {h number value : ℕ} {b : Bool} {t u : Tells} → b ≡ false → WrittenAs h number value t u b → GaveNone h number value t u
 gave_false {h} {number} {value} {b} {t} {u} is p = subst (WrittenAs h number value t u) is p
 
-pub stored_true : {size : Size} {address value : ℕ} {b : Bool} {t u : Tells} → b ≡ true → StoredAs size address value t u b → Stored size address value t u
-stored_true {size} {address} {value} {b} {t} {u} is p = subst (StoredAs size address value t u) is p
+pub stored_true : {path : Path} {size : Size} {address value : ℕ} {b : Bool} {t u : Tells} → b ≡ true → StoredAs path size address value t u b
+    → Stored path size address value t u
+stored_true {path} {size} {address} {value} {b} {t} {u} is p = subst (StoredAs path size address value t u) is p
 
-pub stored_false : {size : Size} {address value : ℕ} {b : Bool} {t u : Tells} → b ≡ false → StoredAs size address value t u b → StoredNone size address value t u
-stored_false {size} {address} {value} {b} {t} {u} is p = subst (StoredAs size address value t u) is p
+pub stored_false : {path : Path} {size : Size} {address value : ℕ} {b : Bool} {t u : Tells} → b ≡ false → StoredAs path size address value t u b
+    → StoredNone path size address value t u
+stored_false {path} {size} {address} {value} {b} {t} {u} is p = subst (StoredAs path size address value t u) is p
 
-pub loaded_some : {size : Size} {address value : ℕ} {o : Option ℕ} {t u : Tells} → o ≡ Some value → LoadedAs size address t u o → Loaded size address value t u
-loaded_some {size} {address} {value} {o} {t} {u} is p = subst (LoadedAs size address t u) is p
+pub loaded_some : {path : Path} {size : Size} {address value : ℕ} {o : Option ℕ} {t u : Tells} → o ≡ Some value → LoadedAs path size address t u o
+    → Loaded path size address value t u
+loaded_some {path} {size} {address} {value} {o} {t} {u} is p = subst (LoadedAs path size address t u) is p
 
-pub loaded_nothing : {size : Size} {address : ℕ} {o : Option ℕ} {t u : Tells} → o ≡ None → LoadedAs size address t u o → LoadedNone size address t u
-loaded_nothing {size} {address} {o} {t} {u} is p = subst (LoadedAs size address t u) is p
+pub loaded_nothing : {path : Path} {size : Size} {address : ℕ} {o : Option ℕ} {t u : Tells} → o ≡ None → LoadedAs path size address t u o
+    → LoadedNone path size address t u
+loaded_nothing {path} {size} {address} {o} {t} {u} is p = subst (LoadedAs path size address t u) is p

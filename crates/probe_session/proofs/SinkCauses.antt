@@ -2,6 +2,7 @@
 use Rattle.std.proofs.Common.{◌≡◌, ℕ, List, Option, refl, sym, subst}
 use Rattle.jt_base.specs.Faults.{Rises}
 use Rattle.debug_model.specs.declared.command.Command.{Command}
+use Rattle.debug_model.specs.declared.command.Path.{Path}
 use Rattle.debug_model.specs.declared.dmi.DmiFault.{DmiFault}
 use Rattle.debug_model.specs.declared.dmi.DmiFault.TheVariants as dmi_fault
 use Rattle.abstract_debugger.specs.Debugger.{first_state}
@@ -56,11 +57,13 @@ of_access (fault.Odd shown) f is = subst IsNotSink (sym is) tt
 
 -- ---- a call that failed
 
-of_load : (size : Size) (address old_count new_count : ℕ) (old new : Tells) (f : Failure) → LoadFell size address old_count new_count old new f → IsNotSink f
+of_load : {path : Path} (size : Size) (address old_count new_count : ℕ) (old new : Tells) (f : Failure)
+    → LoadFell path size address old_count new_count old new f → IsNotSink f
 of_load size address old_count new_count old new f (LoadFell.by_hart h why at later heard told cut is) = of_access why f is
 of_load size address old_count new_count old new f (LoadFell.by_bus why at later heard told cut is) = of_access why f is
 
-of_store : (size : Size) (address value old_count new_count : ℕ) (old new : Tells) (f : Failure) → StoreFell size address value old_count new_count old new f → IsNotSink f
+of_store : {path : Path} (size : Size) (address value old_count new_count : ℕ) (old new : Tells) (f : Failure)
+    → StoreFell path size address value old_count new_count old new f → IsNotSink f
 of_store size address value old_count new_count old new f (StoreFell.by_hart h why at later heard told cut is) = of_access why f is
 of_store size address value old_count new_count old new f (StoreFell.by_bus why at later heard told cut is) = of_access why f is
 
@@ -82,24 +85,30 @@ of_fault p old_count new_count old new f (Fault.forgetting_behind refused next g
 of_fault p old_count new_count old new f (Fault.behind {count = count} {mid = mid} passed le r) = of_fault _ count new_count mid new f r
 of_fault p old_count new_count old new f (Fault.stopping r) = of_access r.why f r.is
 of_fault p old_count new_count old new f (Fault.loading {address = address} {size = size} faulted read r) = of_load size address old_count new_count old new f r
-of_fault p old_count new_count old new f (Fault.storing {address = address} {value = value} {size = size} faulted next r) = of_store size address value old_count new_count old new f r
+of_fault p old_count new_count old new f (Fault.storing {address = address} {value = value} {size = size} faulted next r) =
+    of_store size address value old_count new_count old new f r
 
 fault_not_sink : (p : Place) (old_count new_count : ℕ) (old new : Tells) → Fault p old_count new_count old new failure.Sink → ⊥
 fault_not_sink p old_count new_count old new r = of_fault p old_count new_count old new failure.Sink r
 
-falls_not_sink : (before : Unit {0} → Place) (said : List Line) (old_count new_count : ℕ) (old new : Tells) → Falls before said old_count new_count old new failure.Sink → ⊥
+falls_not_sink : (before : Unit {0} → Place) (said : List Line) (old_count new_count : ℕ) (old new : Tells)
+    → Falls before said old_count new_count old new failure.Sink → ⊥
 falls_not_sink before said old_count new_count old new r = fault_not_sink (r.at tt) r.count new_count r.mid new (r.fault tt)
 
 -- ---- so it was a line
 
-fell_sink : (f : Failure) → f ≡ failure.Sink → (before : Unit {0} → Place) (old_count new_count : ℕ) (old new : Tells) (sink_old sink_new : ℕ) (was is : Option (List ℕ)) → Fell Anyhow before old_count new_count old new sink_old sink_new was is f → Rises sink_old sink_new
-fell_sink f e before old_count new_count old new sink_old sink_new was is (Fell.in_call said r put) = absurd (falls_not_sink before said old_count new_count old new (subst (Falls before said old_count new_count old new) e r))
+fell_sink : (f : Failure) → f ≡ failure.Sink → (before : Unit {0} → Place) (old_count new_count : ℕ) (old new : Tells) (sink_old sink_new : ℕ)
+    (was is : Option (List ℕ)) → Fell Anyhow before old_count new_count old new sink_old sink_new was is f → Rises sink_old sink_new
+fell_sink f e before old_count new_count old new sink_old sink_new was is (Fell.in_call said r put) =
+    absurd (falls_not_sink before said old_count new_count old new (subst (Falls before said old_count new_count old new) e r))
 fell_sink f e before old_count new_count old new sink_old sink_new was is (Fell.at_line said line heard way h next may quiet went front rises) = rises
 
-pub sink_caused : (e : Ended) (script : List Command) (old_count new_count : ℕ) (old new : Tells) (sink_old sink_new : ℕ) (was is : Option (List ℕ)) → EndedAs script old_count new_count old new sink_old sink_new was is e → SinkCaused sink_old sink_new e
+pub sink_caused : (e : Ended) (script : List Command) (old_count new_count : ℕ) (old new : Tells) (sink_old sink_new : ℕ) (was is : Option (List ℕ))
+    → EndedAs script old_count new_count old new sink_old sink_new was is e → SinkCaused sink_old sink_new e
 sink_caused ended.Clean script old_count new_count old new sink_old sink_new was is r = tt
 sink_caused ended.WithErrors script old_count new_count old new sink_old sink_new was is r = tt
 sink_caused (ended.Target fault) script old_count new_count old new sink_old sink_new was is r = tt
 sink_caused (ended.Wire why) script old_count new_count old new sink_old sink_new was is r = tt
 sink_caused (ended.Lost why) script old_count new_count old new sink_old sink_new was is r = tt
-sink_caused ended.Sink script old_count new_count old new sink_old sink_new was is r = fell_sink failure.Sink refl (at_commands script first_state) r.count new_count r.mid new sink_old sink_new was is r.fell
+sink_caused ended.Sink script old_count new_count old new sink_old sink_new was is r =
+    fell_sink failure.Sink refl (at_commands script first_state) r.count new_count r.mid new sink_old sink_new was is r.fell

@@ -1,5 +1,6 @@
 -- What a session has written, by the transcript of the chip's journal.
-use Rattle.std.proofs.Common.{◌≡◌, ◌∙◌, ◌++◌, ℕ, Bool, List, [], ◌∷◌, Option, Some, None, slice_get, refl, sym, ap, subst, append_assoc, append-nil, if◌then◌else◌}
+use Rattle.std.proofs.Common.{◌≡◌, ◌∙◌, ◌++◌, ℕ, Bool, List, [], ◌∷◌, Option, Some, None, slice_get, refl, sym, ap, subst, append_assoc, append-nil}
+use Rattle.std.proofs.Common.{if◌then◌else◌}
 use Rattle.std.proofs.lemmas.Option.{none-some, same_Some}
 use Rattle.jt_base.specs.Sink.{GrewByPrefix, grown}
 use Rattle.rv_model.specs.Board.{Board, Hart, Machine, machine_of}
@@ -33,17 +34,28 @@ use Rattle.probe_session.proofs.Tolds.{at_far}
 
 -- ---- the text of a front of the lines
 
-pub front_written : (said whole : List Line) (was is : Option (List ℕ)) → IsFront said whole → is ≡ grown (text_of_all said) was → GrewByPrefix (text_of_all whole) was is
+pub front_written : (said whole : List Line) (was is : Option (List ℕ)) → IsFront said whole → is ≡ grown (text_of_all said) was
+    → GrewByPrefix (text_of_all whole) was is
 front_written said whole None is f e = e
-front_written said whole (Some bytes) is f e = record { front = text_of_all said; back = text_of_all f.rest; cut = ap text_of_all f.is ∙ text_of_all-append said f.rest; is = e }
+front_written said whole (Some bytes) is f e = record {
+  front = text_of_all said;
+  back = text_of_all f.rest;
+  cut = ap text_of_all f.is
+      ∙ text_of_all-append said f.rest;
+  is = e;
+}
 
-one_more : (said rest : List Line) (line : Line) (front back : List ℕ) → text_of line ≡ front ++ back → text_of_all ((said ++ line ∷ []) ++ rest) ≡ (text_of_all said ++ front) ++ (back ++ text_of_all rest)
+one_more : (said rest : List Line) (line : Line) (front back : List ℕ) → text_of line ≡ front ++ back
+    → text_of_all ((said ++ line ∷ []) ++ rest) ≡ (text_of_all said ++ front) ++ (back ++ text_of_all rest)
 one_more said rest line front back cut =
     let text : List ℕ = text_of_all rest in
-    text_of_all-append (said ++ line ∷ []) rest ∙ ap (λ (x : List ℕ). x ++ text) (text_of_all-append said (line ∷ []) ∙ ap (λ (x : List ℕ). text_of_all said ++ x) (append-nil (text_of line) ∙ cut) ∙ sym (append_assoc (text_of_all said) front back))
+    text_of_all-append (said ++ line ∷ []) rest ∙ ap (λ (x : List ℕ). x ++ text)
+    (text_of_all-append said (line ∷ []) ∙ ap (λ (x : List ℕ). text_of_all said ++ x) (append-nil (text_of line) ∙ cut)
+    ∙ sym (append_assoc (text_of_all said) front back))
     ∙ append_assoc (text_of_all said ++ front) back text
 
-pub line_written : (said whole : List Line) (line : Line) (was is : Option (List ℕ)) → IsFront (said ++ line ∷ []) whole → GrewByPrefix (text_of line) (grown (text_of_all said) was) is → GrewByPrefix (text_of_all whole) was is
+pub line_written : (said whole : List Line) (line : Line) (was is : Option (List ℕ)) → IsFront (said ++ line ∷ []) whole
+    → GrewByPrefix (text_of line) (grown (text_of_all said) was) is → GrewByPrefix (text_of_all whole) was is
 line_written said whole line None is f g = g
 line_written said whole line (Some bytes) is f g = record {
   front = text_of_all said ++ g.front;
@@ -64,9 +76,11 @@ pub loaded_fresh : (l : Live) → AsLoaded l → IsFresh l.chip.inside.works.sit
 loaded_fresh l a j x is =
     reset_fresh j x (each_reset a.harts a.halted a.right.most j x (sym (ap (λ (k : Live). slice_get k.chip.inside.works.site.board.harts j) a.is) ∙ is))
 
-pub begun_deals : (script : List Command) (first : Far) → AsLoaded first.live → Deals (machine_of (site_of first).board) 0 Idle (origin_of script first) (session script) [] (target_of (site_of first))
+pub begun_deals : (script : List Command) (first : Far) → AsLoaded first.live
+    → Deals (machine_of (site_of first).board) 0 Idle (origin_of script first) (session script) [] (target_of (site_of first))
 begun_deals script first a =
-    subst (λ (j : List Point). Deals (machine_of (site_of first).board) 0 Idle (origin_of script first) (session script) [] (record { board = (site_of first).board; journal = j }))
+    subst (λ (j : List Point). Deals (machine_of (site_of first).board) 0 Idle (origin_of script first) (session script) []
+    (record { board = (site_of first).board; journal = j }))
     (sym (ap (λ (k : Live). k.chip.inside.works.site.journal) a.is)) (deals_starts 0 (session script) (site_of first).board (loaded_fresh first.live a))
 
 pub opened_deals : (script : List Command) (first : Far) (new : Option Far) → AsLoaded first.live → OpenedChip first new
@@ -78,23 +92,28 @@ opened_deals script first new a opened =
     let sees : Seen = seen_at 0 (after_turns opened.happened.before old.board) in
     let looks : Looked 0 sees old (target_of (site_of opened.far)) = record { pointed = opened.happened; shows = refl } in
     at_far m 0 Idle o (commands script first_state) [] opened.far new opened.is
-    (deals_looked m 0 Idle Idle o 0 (λ _. commands script first_state) sees [] old (target_of (site_of opened.far)) (λ w e k. k) (begun_deals script first a) looks)
+    (deals_looked m 0 Idle Idle o 0 (λ _. commands script first_state) sees [] old (target_of (site_of opened.far)) (λ w e k. k)
+    (begun_deals script first a) looks)
 
 -- ---- where a session is at its end
 
 -- a chip that is told still
-pub found_far : (P : Target → Type 0) (Q : Far → Type 0) (new : Option Far) (t : Target) → target_at new ≡ Some t → P t → ((f : Far) → P (target_of (site_of f)) → Q f) → Still Q new
+pub found_far : (P : Target → Type 0) (Q : Far → Type 0) (new : Option Far) (t : Target) → target_at new ≡ Some t → P t
+    → ((f : Far) → P (target_of (site_of f)) → Q f) → Still Q new
 found_far P Q None t is p step = absurd (none-some t is)
 found_far P Q (Some f) t is p step = record { far = f; is = refl; holds = step f (subst P (sym (same_Some (target_of (site_of f)) t is)) p) }
 
 grades : (wrong : Bool) (said : List Line) → any_error said ≡ wrong → graded Done said ≡ (if wrong then End.WithErrors else End.Clean)
 grades wrong said is = ap (λ (b : Bool). if b then End.WithErrors else End.Clean) is
 
-pub ran_transcribed : (script : List Command) (wrong : Bool) (first : Far) (was is : Option (List ℕ)) (new : Option Far) (said : List Line) → DealsAt (machine_of (site_of first).board) (origin_of script first) (at_stop tt) said new
+pub ran_transcribed : (script : List Command) (wrong : Bool) (first : Far) (was is : Option (List ℕ)) (new : Option Far) (said : List Line)
+    → DealsAt (machine_of (site_of first).board) (origin_of script first) (at_stop tt) said new
     → any_error said ≡ wrong → is ≡ grown (text_of_all said) was → Still (IsTranscript script (if wrong then End.WithErrors else End.Clean) was is first) new
 ran_transcribed script wrong first was is new said d wrong_is put =
-    found_far (λ t. Deals (machine_of (site_of first).board) 0 Idle (origin_of script first) (stop Done) said t) (IsTranscript script (if wrong then End.WithErrors else End.Clean) was is first) new d.target d.is d.holds (λ f e.
-    let t : IsTranscribed (origin_of script first) (graded Done said) said (target_of (site_of f)) = transcribed (origin_of script first) Done said (target_of (site_of f)) e.stands in
+    found_far (λ t. Deals (machine_of (site_of first).board) 0 Idle (origin_of script first) (stop Done) said t)
+    (IsTranscript script (if wrong then End.WithErrors else End.Clean) was is first) new d.target d.is d.holds (λ f e.
+    let t : IsTranscribed (origin_of script first) (graded Done said) said (target_of (site_of f)) =
+    transcribed (origin_of script first) Done said (target_of (site_of f)) e.stands in
     record {
       end_is = t.end_is ∙ grades wrong said wrong_is;
       written = put ∙ ap (λ (l : List Line). grown (text_of_all l) was) (sym t.lines_are);

@@ -30,12 +30,15 @@ within f w = record { goes = λ k. w.goes (f k) }
 
 -- ---- a call that failed
 
-pub falls_at : {K : Type 0} {a : K → Place} {old_count new_count : ℕ} {t u : Tells} {f : Failure} → ((next : K) → Fault (a next) old_count new_count t u f) → Falls a [] old_count new_count t u f
+pub falls_at : {K : Type 0} {a : K → Place} {old_count new_count : ℕ} {t u : Tells} {f : Failure} → ((next : K) → Fault (a next) old_count new_count t u f)
+    → Falls a [] old_count new_count t u f
 falls_at {K} {a} {old_count} {new_count} {t} {u} {f} fault = record { at = a; mid = t; count = old_count; went = went_none; later = omega arith; fault = fault }
 
-pub falls_then : {K : Type 0} {a b : K → Place} {old_count count new_count : ℕ} {t u v : Tells} {xs ys : List Line} {f : Failure} → Went a b xs t u → old_count ≤ count → Falls b ys count new_count u v f
+pub falls_then : {K : Type 0} {a b : K → Place} {old_count count new_count : ℕ} {t u v : Tells} {xs ys : List Line} {f : Failure} → Went a b xs t u
+    → old_count ≤ count → Falls b ys count new_count u v f
     → Falls a (xs ++ ys) old_count new_count t v f
 falls_then w le p = record { at = p.at; mid = p.mid; count = p.count; went = went_then w p.went; later = omega (arith, le, p.later); fault = p.fault }
 
-pub falls_within : {K L : Type 0} {a : L → Place} {old_count new_count : ℕ} {t u : Tells} {said : List Line} {f : Failure} (g : K → L) → Falls a said old_count new_count t u f → Falls (λ k. a (g k)) said old_count new_count t u f
+pub falls_within : {K L : Type 0} {a : L → Place} {old_count new_count : ℕ} {t u : Tells} {said : List Line} {f : Failure} (g : K → L)
+    → Falls a said old_count new_count t u f → Falls (λ k. a (g k)) said old_count new_count t u f
 falls_within g p = record { at = λ k. p.at (g k); mid = p.mid; count = p.count; went = within g p.went; later = p.later; fault = λ k. p.fault (g k) }

@@ -20,13 +20,17 @@ pub record Untouched (s t : State) (old new : Tells) (was is : Option (List ℕ)
   pub link : new ≡ old
   pub written : is ≡ was
 
-abbrev pub ActedAs : Command → (s t : State) → (old_count new_count : ℕ) → (old new : Tells) → (sink_old sink_new : ℕ) → (was is : Option (List ℕ)) → Acted → Type 0
+abbrev pub ActedAs : Command → (s t : State) → (old_count new_count : ℕ) → (old new : Tells) → (sink_old sink_new : ℕ)
+    → (was is : Option (List ℕ)) → Acted → Type 0
 ActedAs c s t old_count new_count old new sink_old sink_new was is acted.Done = Spoke (before c s) (behind t) false old new was is
 ActedAs c s t old_count new_count old new sink_old sink_new was is acted.Error = Spoke (before c s) (behind t) true old new was is
 ActedAs c s t old_count new_count old new sink_old sink_new was is acted.End = (c ≡ command.End) × Untouched s t old new was is
-ActedAs c s t old_count new_count old new sink_old sink_new was is (acted.Wire why) = Fell CalmNext (before c s) old_count new_count old new sink_old sink_new was is (failure.Wire why)
-ActedAs c s t old_count new_count old new sink_old sink_new was is (acted.Lost why) = Fell CalmNext (before c s) old_count new_count old new sink_old sink_new was is (failure.Lost why)
-ActedAs c s t old_count new_count old new sink_old sink_new was is acted.Sink = Fell CalmNext (before c s) old_count new_count old new sink_old sink_new was is failure.Sink
+ActedAs c s t old_count new_count old new sink_old sink_new was is (acted.Wire why) =
+    Fell CalmNext (before c s) old_count new_count old new sink_old sink_new was is (failure.Wire why)
+ActedAs c s t old_count new_count old new sink_old sink_new was is (acted.Lost why) =
+    Fell CalmNext (before c s) old_count new_count old new sink_old sink_new was is (failure.Lost why)
+ActedAs c s t old_count new_count old new sink_old sink_new was is acted.Sink =
+    Fell CalmNext (before c s) old_count new_count old new sink_old sink_new was is failure.Sink
 
 -- the session goes on; or the stream can be ended, but behind a fault of the wire
 abbrev pub AttachedAfter : Acted → DmiSeen → Type 0

@@ -1,9 +1,11 @@
 -- One call of the layers below that a session made: what was heard of the link, and what happened at a chip that is told.
 -- It is this project's own.
-use Rattle.std.specs.Prelude.{◌≡◌, ◌≤◌, ℕ, true, false, IfSome, List, Some, None, is_some}
+use Rattle.std.specs.Prelude.{◌≡◌, ◌≤◌, ℕ, true, false, IfSome, List, [], Some, None, is_some}
 use Rattle.rv_model.specs.declared.size.Size.{Size}
 use Rattle.rv_model.specs.Core.{Core}
 use Rattle.rv_model.specs.Registers.{reg_value}
+use Rattle.debug_model.specs.declared.command.Path.{Path}
+use Rattle.debug_model.specs.declared.command.Path.TheVariants.{Progbuf, Bus}
 use Rattle.debug_model.specs.declared.dmi.DmiFault.{DmiFault}
 use Rattle.debug_model.specs.Dmi.{NoneOperated, ScannedCause, Shows}
 use Rattle.debug_model.specs.Scan.{WhereTold}
@@ -13,9 +15,10 @@ use Rattle.probe_access.specs.declared.fault.AccessFault.{AccessFault}
 use Rattle.probe_access.specs.declared.fault.AccessFault.TheVariants as fault
 use Rattle.probe_access.specs.Accesses.{AccessLeft, BusLoadRefused, BusLoadedAt, BusStoreRefused, BusStoredAt, LoadRefused, LoadedAt, StoreRefused, StoredAt}
 use Rattle.probe_access.specs.BusRuns.{BusLoadFailed, BusLoaded, BusStoreFailed, BusStored, cut_to}
-use Rattle.probe_access.specs.Cuts.{AccessLeftOff, BusLeftOff, IfCut, Leaves as LeavesChip, LeftAside, LoadLeaves, MaybeWritten, Scratched, StoreLeaves, Unchanged}
-use Rattle.probe_access.specs.MemoryRuns.{Around, AroundFailed, LoadFailedInside, LoadedAny, LoadedInside, StoreFailedInside, StoredInside}
-use Rattle.probe_access.specs.RegisterRuns.{BehindWords, ReadFailed, RefusedAs, RegisterRead, RegisterWritten, WriteFailed}
+use Rattle.probe_access.specs.Cuts.{AccessLeftOff, BusLeftOff, IfCut, Leaves as LeavesChip, LeftAside, LoadLeaves, MaybeWritten, Scratched}
+use Rattle.probe_access.specs.Cuts.{StoreLeaves, Unchanged}
+use Rattle.probe_access.specs.MemoryRuns.{Around, AroundFailed, LoadRun, LoadRunFailed, StoreFailedInside, StoredInside}
+use Rattle.probe_access.specs.RegisterRuns.{ReadFailed, RefusedAs, RegisterRead, RegisterWritten, WriteFailed, double_written}
 use Rattle.probe_access.specs.Registers.{RegisterRefusedAt, RegisterReadAt, RegisterLeft, RegisterWrittenAt}
 use Rattle.probe_access.specs.Scratches.{ScratchLeft}
 use Rattle.probe_access.specs.Stops.{StopFailed, StopRead, StoppedAt}
@@ -27,10 +30,10 @@ use Rattle.probe_run.specs.Happens.{HaltLeft, HaltsAt, Leaves, LookLeft, ResumeL
 use Rattle.probe_run.specs.Told.{Serving}
 use Rattle.probe_run.specs.Outcomes.{HaltFails, HaltedBy, LookFails, LookedAt, ResumeFails, ResumedBy}
 use Rattle.probe_trig.specs.declared.change.Change.TheVariants.{Forget}
-use Rattle.probe_trig.specs.declared.slot_use.SlotUse.{SlotUse}
-use Rattle.probe_trig.specs.declared.slot_use.SlotView.{SlotView}
+use Rattle.debug_model.specs.declared.slot_use.SlotUse.{SlotUse}
+use Rattle.probe_trig.specs.declared.slot_view.SlotView.{SlotView}
 use Rattle.probe_trig.specs.Runs.{Arms, ChangesAny, Frees}
-use Rattle.probe_trig.specs.Slots.{ArmedAt, AtHarts, DebugAlone, ForgotAt, FreedAt, FullAt, SawAll, UnusedAt, ViewedAt}
+use Rattle.probe_trig.specs.Slots.{ArmedAt, AtHarts, DebugAlone, ForgotAt, FreedAt, FullAt, SlotsRead, UnusedAt, ViewedAt}
 use Rattle.probe_trig.specs.StepCuts.{LeavesAt, OverCut}
 use Rattle.probe_trig.specs.Stepping.{OverAt, OverFailed, OverLeft, SteppedOverAny}
 use Rattle.probe_trig.specs.Transfers.{Did, FailedIn, Transfer}
@@ -42,12 +45,12 @@ use Rattle.probe_session.specs.Failures.{Became, failure_of_dmi, failure_of_run}
 -- ---- calls that were Ok
 
 pub record Identified (number : ℕ) (old new : Tells) : Type 0 where
-  pub heard : Shows number old.script new.script
+  pub heard : Shows number old.coming new.coming
   pub number_is : IfSome old.far (λ _. number ≡ idcode)
   pub told : WhereTold NoneOperated old.far new.far
   pub ready : IsReady old.far
 
-pub record Saw (h : ℕ) (old new : Tells) (seen : Seen) : Type 0 where
+pub record LookMade (h : ℕ) (old new : Tells) (seen : Seen) : Type 0 where
   pub heard : LookedAt h old new seen
   pub told : WhereTold (Leaves (LooksAt h seen) h) old.far new.far
 
@@ -61,7 +64,7 @@ pub record Got (h number value : ℕ) (old new : Tells) : Type 0 where
 
 -- the chip refused to read it
 pub record GotNone (h number : ℕ) (old new : Tells) : Type 0 where
-  pub heard : RefusedAs number number (transfer_word false number) old new
+  pub heard : RefusedAs number number [] (transfer_word false number) old new
   pub told : WhereTold (RegisterRefusedAt false h number) old.far new.far
 
 pub record Gave (h number value : ℕ) (old new : Tells) : Type 0 where
@@ -70,35 +73,43 @@ pub record Gave (h number value : ℕ) (old new : Tells) : Type 0 where
 
 -- the chip refused to write it
 pub record GaveNone (h number value : ℕ) (old new : Tells) : Type 0 where
-  pub heard : BehindWords value old (λ mid. RefusedAs number number (transfer_word true number) mid new)
+  pub heard : RefusedAs number number (double_written value) (transfer_word true number) old new
   pub told : WhereTold (RegisterRefusedAt true h number) old.far new.far
 
 pub record FoundStop (h pc cause : ℕ) (old new : Tells) : Type 0 where
   pub heard : StopRead pc cause old new
   pub told : WhereTold (StoppedAt h pc cause) old.far new.far
 
--- memory was read, by the halted hart or by the bus; what the hart's register holds above the size is left out
-pub data Loaded (size : Size) (address value : ℕ) (old new : Tells) : Type 0 where
-  by_hart : (held : ℕ) → value ≡ cut_to size held → Around (LoadedInside size address held) old new → WhereTold (LoadedAt size address value) old.far new.far → Loaded size address value old new
-  by_bus : BusLoaded size address value old new → WhereTold (BusLoadedAt size address value) old.far new.far → Loaded size address value old new
+-- memory was read: on the path of the program buffer by the halted hart, whose register may hold more above the size, which is left out; or by the system bus
+pub data Loaded : Path → (size : Size) → (address value : ℕ) → (old new : Tells) → Type 0 where
+  by_hart : {size : Size} {address value : ℕ} {old new : Tells} (held : ℕ) → value ≡ cut_to size held → LoadRun size address held old new
+      → WhereTold (LoadedAt size address value) old.far new.far → Loaded Progbuf size address value old new
+  by_bus : {size : Size} {address value : ℕ} {old new : Tells} → BusLoaded size address value old new
+      → WhereTold (BusLoadedAt size address value) old.far new.far → Loaded Bus size address value old new
 
 -- the chip refused the access
-pub data LoadedNone (size : Size) (address : ℕ) (old new : Tells) : Type 0 where
-  by_hart : (old_count new_count : ℕ) → AroundFailed (LoadedAny size address) (LoadFailedInside size address) old_count new_count old new (fault.Memory address)
-      → WhereTold (LoadRefused size address) old.far new.far → LoadedNone size address old new
-  by_bus : (old_count new_count : ℕ) → BusLoadFailed size address old_count new_count old new (fault.Memory address) → WhereTold (BusLoadRefused size address) old.far new.far
-      → LoadedNone size address old new
+pub data LoadedNone : Path → (size : Size) → (address : ℕ) → (old new : Tells) → Type 0 where
+  by_hart : {size : Size} {address : ℕ} {old new : Tells} (old_count new_count : ℕ)
+      → LoadRunFailed size address old_count new_count old new (fault.Memory address)
+      → WhereTold (LoadRefused size address) old.far new.far → LoadedNone Progbuf size address old new
+  by_bus : {size : Size} {address : ℕ} {old new : Tells} (old_count new_count : ℕ)
+      → BusLoadFailed size address old_count new_count old new (fault.Memory address)
+      → WhereTold (BusLoadRefused size address) old.far new.far → LoadedNone Bus size address old new
 
 -- memory was written
-pub data Stored (size : Size) (address value : ℕ) (old new : Tells) : Type 0 where
-  by_hart : Around (StoredInside size address value) old new → WhereTold (StoredAt size address value) old.far new.far → Stored size address value old new
-  by_bus : BusStored size address value old new → WhereTold (BusStoredAt size address value) old.far new.far → Stored size address value old new
+pub data Stored : Path → (size : Size) → (address value : ℕ) → (old new : Tells) → Type 0 where
+  by_hart : {size : Size} {address value : ℕ} {old new : Tells} → Around (StoredInside size address value) old new
+      → WhereTold (StoredAt size address value) old.far new.far → Stored Progbuf size address value old new
+  by_bus : {size : Size} {address value : ℕ} {old new : Tells} → BusStored size address value old new
+      → WhereTold (BusStoredAt size address value) old.far new.far → Stored Bus size address value old new
 
-pub data StoredNone (size : Size) (address value : ℕ) (old new : Tells) : Type 0 where
-  by_hart : (old_count new_count : ℕ) → AroundFailed (StoredInside size address value) (StoreFailedInside size address value) old_count new_count old new (fault.Memory address)
-      → WhereTold (StoreRefused size address) old.far new.far → StoredNone size address value old new
-  by_bus : (old_count new_count : ℕ) → BusStoreFailed size address value old_count new_count old new (fault.Memory address) → WhereTold (BusStoreRefused size address) old.far new.far
-      → StoredNone size address value old new
+pub data StoredNone : Path → (size : Size) → (address value : ℕ) → (old new : Tells) → Type 0 where
+  by_hart : {size : Size} {address value : ℕ} {old new : Tells} (old_count new_count : ℕ)
+      → AroundFailed (StoredInside size address value) (StoreFailedInside size address value) old_count new_count old new (fault.Memory address)
+      → WhereTold (StoreRefused size address) old.far new.far → StoredNone Progbuf size address value old new
+  by_bus : {size : Size} {address value : ℕ} {old new : Tells} (old_count new_count : ℕ)
+      → BusStoreFailed size address value old_count new_count old new (fault.Memory address)
+      → WhereTold (BusStoreRefused size address) old.far new.far → StoredNone Bus size address value old new
 
 -- the hart was let go
 pub record ResumeMade (h : ℕ) (old new : Tells) : Type 0 where
@@ -106,13 +117,13 @@ pub record ResumeMade (h : ℕ) (old new : Tells) : Type 0 where
   pub told : WhereTold (Leaves (ResumesAt h) h) old.far new.far
 
 -- it did one instruction with its slots off that have a hit
-pub record OverMade (h : ℕ) (old new : Tells) : Type 0 where
+pub record StepOverMade (h : ℕ) (old new : Tells) : Type 0 where
   pub heard : SteppedOverAny h old new
   pub told : WhereTold (AtHarts (OverAt h)) old.far new.far
 
 -- the slots were seen
 pub record Viewed (h : ℕ) (view : SlotView) (old new : Tells) : Type 0 where
-  pub heard : SawAll view h old new
+  pub heard : SlotsRead view h old new
   pub told : WhereTold (AtHarts (ViewedAt view h)) old.far new.far
 
 -- the lowest free slot was armed, and was this one
@@ -151,7 +162,7 @@ IsOfCores number = (c : Core) → is_some (reg_value c number) ≡ true
 pub record IdcodeFell (old_count new_count : ℕ) (old new : Tells) (f : Failure) : Type 0 where
   pub why : DmiFault
   pub later : old_count ≤ new_count
-  pub cause : ScannedCause old_count new_count new.far old.script why
+  pub cause : ScannedCause old_count new_count new.far old.coming why
   pub told : WhereTold NoneOperated old.far new.far
   pub ready : IsReady old.far
   pub is : f ≡ failure_of_dmi why
@@ -224,17 +235,29 @@ pub record StopFell (h old_count new_count : ℕ) (old new : Tells) (f : Failure
   pub cut : IfCut (LeavesChip (LeftAside Unchanged h) old.far new.far) why
   pub is : Became why f
 
-pub data LoadFell (size : Size) (address old_count new_count : ℕ) (old new : Tells) (f : Failure) : Type 0 where
-  by_hart : (h : ℕ) (why : AccessFault) → Serving h old.far → old_count ≤ new_count → AroundFailed (LoadedAny size address) (LoadFailedInside size address) old_count new_count old new why
-      → AccessLeft (LoadRefused size address) address old.far new.far why → IfCut (LeavesChip (AccessLeftOff Scratched LoadLeaves h) old.far new.far) why → Became why f → LoadFell size address old_count new_count old new f
-  by_bus : (why : AccessFault) → IsReady old.far → old_count ≤ new_count → BusLoadFailed size address old_count new_count old new why
-      → AccessLeft (BusLoadRefused size address) address old.far new.far why → IfCut (LeavesChip (BusLeftOff LoadLeaves) old.far new.far) why → Became why f → LoadFell size address old_count new_count old new f
+pub data LoadFell : Path → (size : Size) → (address old_count new_count : ℕ) → (old new : Tells) → Failure → Type 0 where
+  by_hart : {size : Size} {address old_count new_count : ℕ} {old new : Tells} {f : Failure} (h : ℕ) (why : AccessFault) → Serving h old.far
+      → old_count ≤ new_count
+      → LoadRunFailed size address old_count new_count old new why
+      → AccessLeft (LoadRefused size address) address old.far new.far why → IfCut (LeavesChip (AccessLeftOff Scratched LoadLeaves h) old.far new.far) why
+      → Became why f → LoadFell Progbuf size address old_count new_count old new f
+  by_bus : {size : Size} {address old_count new_count : ℕ} {old new : Tells} {f : Failure} (why : AccessFault) → IsReady old.far → old_count ≤ new_count
+      → BusLoadFailed size address old_count new_count old new why
+      → AccessLeft (BusLoadRefused size address) address old.far new.far why → IfCut (LeavesChip (BusLeftOff LoadLeaves) old.far new.far) why
+      → Became why f → LoadFell Bus size address old_count new_count old new f
 
-pub data StoreFell (size : Size) (address value old_count new_count : ℕ) (old new : Tells) (f : Failure) : Type 0 where
-  by_hart : (h : ℕ) (why : AccessFault) → Serving h old.far → old_count ≤ new_count → AroundFailed (StoredInside size address value) (StoreFailedInside size address value) old_count new_count old new why
-      → AccessLeft (StoreRefused size address) address old.far new.far why → IfCut (LeavesChip (AccessLeftOff Scratched (StoreLeaves size address value) h) old.far new.far) why → Became why f → StoreFell size address value old_count new_count old new f
-  by_bus : (why : AccessFault) → IsReady old.far → old_count ≤ new_count → BusStoreFailed size address value old_count new_count old new why
-      → AccessLeft (BusStoreRefused size address) address old.far new.far why → IfCut (LeavesChip (BusLeftOff (StoreLeaves size address value)) old.far new.far) why → Became why f → StoreFell size address value old_count new_count old new f
+pub data StoreFell : Path → (size : Size) → (address value old_count new_count : ℕ) → (old new : Tells) → Failure → Type 0 where
+  by_hart : {size : Size} {address value old_count new_count : ℕ} {old new : Tells} {f : Failure} (h : ℕ) (why : AccessFault) → Serving h old.far
+      → old_count ≤ new_count
+      → AroundFailed (StoredInside size address value) (StoreFailedInside size address value) old_count new_count old new why
+      → AccessLeft (StoreRefused size address) address old.far new.far why
+      → IfCut (LeavesChip (AccessLeftOff Scratched (StoreLeaves size address value) h) old.far new.far) why
+      → Became why f → StoreFell Progbuf size address value old_count new_count old new f
+  by_bus : {size : Size} {address value old_count new_count : ℕ} {old new : Tells} {f : Failure} (why : AccessFault) → IsReady old.far → old_count ≤ new_count
+      → BusStoreFailed size address value old_count new_count old new why
+      → AccessLeft (BusStoreRefused size address) address old.far new.far why
+      → IfCut (LeavesChip (BusLeftOff (StoreLeaves size address value)) old.far new.far) why
+      → Became why f → StoreFell Bus size address value old_count new_count old new f
 
 pub record ResumeFell (h old_count new_count : ℕ) (old new : Tells) (f : Failure) : Type 0 where
   pub why : RunFault
@@ -243,7 +266,7 @@ pub record ResumeFell (h old_count new_count : ℕ) (old new : Tells) (f : Failu
   pub told : ResumeLeft h old.far new.far why
   pub is : f ≡ failure_of_run why
 
-pub record OverFell (h old_count new_count : ℕ) (old new : Tells) (f : Failure) : Type 0 where
+pub record StepOverFell (h old_count new_count : ℕ) (old new : Tells) (f : Failure) : Type 0 where
   pub why : AccessFault
   pub later : old_count ≤ new_count
   pub at : Serving h old.far

@@ -3,15 +3,15 @@
 use Rattle.std.specs.Prelude.{ℕ, Option}
 use Rattle.jt_base.specs.Faults.{Rises}
 use Rattle.debug_model.specs.declared.wire.WireFault.{WireFault}
-use Rattle.debug_model.specs.Scan.{ScanCause, Script}
+use Rattle.debug_model.specs.Scan.{Coming, ScanCause}
 use Rattle.debug_model.specs.Told.{Far}
 use Rattle.probe_session.specs.declared.ended.Ended.{Ended}
 use Rattle.probe_session.specs.declared.ended.Ended.TheVariants as ended
 
 -- by the counts of faults before and behind, the far end behind, and what was still to be heard when the scan was made, where that is told
 pub record WireCause (old_count new_count : ℕ) (told : Option Far) (why : WireFault) : Type 0 where
-  pub script : Option Script
-  pub cause : ScanCause old_count new_count told script why
+  pub coming : Option Coming
+  pub cause : ScanCause old_count new_count told coming why
 
 -- every end by the wire has its cause, and no other end needs one
 abbrev pub EndCaused : (old_count new_count : ℕ) → (told : Option Far) → Ended → Type 0

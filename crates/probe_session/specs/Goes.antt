@@ -4,17 +4,17 @@ use Rattle.std.specs.Prelude.{◌≡◌, ◌≤◌, ◌++◌, ℕ, Bool, true, L
 use Rattle.jt_base.specs.Faults.{Rises}
 use Rattle.jt_base.specs.Sink.{GrewByPrefix, grown}
 use Rattle.rv_model.specs.declared.size.Size.{Size}
-use Rattle.debug_model.specs.declared.point.Point.TheVariants.{Access}
-use Rattle.abstract_debugger.specs.Debugger.{Seen, State, by_load, by_store, going, halting, look, one}
+use Rattle.debug_model.specs.declared.command.Path.{Path}
+use Rattle.abstract_debugger.specs.Debugger.{Seen, State, access, by_load, by_store, going, halting, look, one}
 use Rattle.abstract_debugger.specs.Laws.{Quiet}
 use Rattle.abstract_debugger.specs.Lines.{Line, any_error, text_of, text_of_all}
 use Rattle.abstract_debugger.specs.Plan.{Plan}
 use Rattle.abstract_debugger.specs.Plan.Change.{EbreakHalts, WriteMem, WriteReg}
-use Rattle.abstract_debugger.specs.Plan.Plan.{change, say, see, take}
+use Rattle.abstract_debugger.specs.Plan.Plan.{change, say}
 use Rattle.abstract_debugger.specs.Ways.{Way}
 use Rattle.probe_run.specs.Acts.{Tells}
 use Rattle.probe_trig.specs.declared.change.Change.TheVariants.{Forget}
-use Rattle.probe_trig.specs.declared.slot_use.SlotUse.{SlotUse}
+use Rattle.debug_model.specs.declared.slot_use.SlotUse.{SlotUse}
 use Rattle.probe_trig.specs.Runs.{ArmsAny, ChangesAny, FreesAny, ReadsAny}
 use Rattle.rv_model.specs.DebugRegisters.{dcsr_number}
 use Rattle.rv_model.specs.Memory.{loaded, store_answer}
@@ -22,7 +22,8 @@ use Rattle.rv_model.specs.Registers.{csr_read_only, pc_number}
 use Rattle.rv_model.specs.Size.{count_of}
 use Rattle.probe_session.specs.declared.fault.Failure.{Failure}
 use Rattle.probe_session.specs.declared.fault.Failure.TheVariants as failure
-use Rattle.probe_session.specs.Calls.{AskFell, FoundStop, Gave, GiveFell, Got, HaltFell, IdcodeFell, IsOfHarts, LoadFell, LookFell, OverFell, ReadFell, ResumeFell, SlotsFell, StopFell, StoreFell, WriteFell}
+use Rattle.probe_session.specs.Calls.{AskFell, FoundStop, Gave, GiveFell, Got, HaltFell, IdcodeFell, IsOfHarts, LoadFell, LookFell, StepOverFell}
+use Rattle.probe_session.specs.Calls.{ReadFell, ResumeFell, SlotsFell, StopFell, StoreFell, WriteFell}
 use Rattle.probe_session.specs.Places.{Place, idle, may_say, place, ready, spot, still}
 use Rattle.probe_session.specs.Steps.{Step, with_ebreakm}
 
@@ -53,7 +54,7 @@ pub data Fault : Place → ℕ → ℕ → Tells → Tells → Failure → Type 
       → Fault (idle (halting h next)) old_count new_count old new f
   resuming : {h old_count new_count : ℕ} (next : Plan) {old new : Tells} {f : Failure} → ResumeFell h old_count new_count old new f
       → Fault (ready h (going h next)) old_count new_count old new f
-  stepping_over : {h old_count new_count : ℕ} (stepped other : Plan) {old new : Tells} {f : Failure} → OverFell h old_count new_count old new f
+  stepping_over : {h old_count new_count : ℕ} (stepped other : Plan) {old new : Tells} {f : Failure} → StepOverFell h old_count new_count old new f
       → Fault (still h (one h stepped other)) old_count new_count old new f
   asking : {h number old_count new_count : ℕ} {p : Plan} {old new : Tells} {f : Failure} → AskFell h number old_count new_count old new f
       → Fault (still h p) old_count new_count old new f
@@ -83,13 +84,13 @@ pub data Fault : Place → ℕ → ℕ → Tells → Tells → Failure → Type 
       → Fault (still h p) old_count new_count old new f
   stopping : {h old_count new_count : ℕ} {p : Plan} {old new : Tells} {f : Failure} → StopFell h old_count new_count old new f
       → Fault (still h p) old_count new_count old new f
-  loading : {way : Way} {h address old_count new_count : ℕ} {size : Size} (faulted : Plan) (read : ℕ → Plan) {old new : Tells} {f : Failure}
-      → LoadFell size address old_count new_count old new f
-      → Fault (place way h (take Access (see (λ b. by_load (loaded b.memory address size) faulted read)))) old_count new_count old new f
-  storing : {way : Way} {h address value old_count new_count : ℕ} {size : Size} (faulted next : Plan) {old new : Tells} {f : Failure}
-      → StoreFell size address value old_count new_count old new f
-      → Fault (place way h (take Access (see (λ b.
-      by_store (store_answer b.memory address size) faulted (change (WriteMem address (count_of size) value) next))))) old_count new_count old new f
+  loading : {path : Path} {way : Way} {h address old_count new_count : ℕ} {size : Size} (faulted : Plan) (read : ℕ → Plan) {old new : Tells} {f : Failure}
+      → LoadFell path size address old_count new_count old new f
+      → Fault (place way h (access path (λ b. by_load (loaded b.memory address size) faulted read))) old_count new_count old new f
+  storing : {path : Path} {way : Way} {h address value old_count new_count : ℕ} {size : Size} (faulted next : Plan) {old new : Tells} {f : Failure}
+      → StoreFell path size address value old_count new_count old new f
+      → Fault (place way h (access path (λ b.
+      by_store (store_answer b.memory address size) faulted (change (WriteMem address (count_of size) value) next)))) old_count new_count old new f
 
 -- it went so far, and there a call failed
 pub record Falls {K : Type 0} (before : K → Place) (said : List Line) (old_count new_count : ℕ) (old new : Tells) (f : Failure) : Type 0 where

@@ -2,10 +2,10 @@
 -- It is this project's own.
 use Rattle.std.specs.Prelude.{ℕ, Bool, List, [], if◌then◌else◌, ◌==◌}
 use Rattle.abstract_debugger.specs.Lines.{Line}
+use Rattle.abstract_debugger.specs.SlotUses.{hits_in}
 use Rattle.printed_lines.specs.declared.line.Line.{Line as PrintedLine}
 use Rattle.printed_lines.specs.declared.line.Line.TheVariants as printed
 use Rattle.printed_lines.specs.Line.{line_of}
-use Rattle.probe_trig.specs.Slots.{hits_in}
 
 -- the slots with a hit are shown beside the cause trigger alone
 abbrev pub shown_beside : ℕ → List Bool → List Bool

@@ -41,7 +41,8 @@ pub record Ran (script : List Command) (wrong : Bool) (old new : Tells) (was is 
   pub spoke : Spoke (at_commands script first_state) at_stop wrong mid new was is
 
 -- the chip was opened, and the plan followed until it broke off
-pub record RanInto (script : List Command) (old_count new_count : ℕ) (old new : Tells) (sink_old sink_new : ℕ) (was is : Option (List ℕ)) (f : Failure) : Type 0 where
+pub record RanInto (script : List Command) (old_count new_count : ℕ) (old new : Tells) (sink_old sink_new : ℕ) (was is : Option (List ℕ))
+    (f : Failure) : Type 0 where
   pub mid : Tells
   pub count : ℕ
   pub opened : Opened old mid
@@ -55,7 +56,8 @@ pub record Unopened (old_count new_count : ℕ) (old new : Tells) (was is : Opti
   pub told : LosesLoaded old.far new.far fault
   pub written : is ≡ was
 
-pub data BrokeOff (script : List Command) (old_count new_count : ℕ) (old new : Tells) (sink_old sink_new : ℕ) (was is : Option (List ℕ)) (f : Failure) : Type 0 where
+pub data BrokeOff (script : List Command) (old_count new_count : ℕ) (old new : Tells) (sink_old sink_new : ℕ) (was is : Option (List ℕ))
+    (f : Failure) : Type 0 where
   in_opening : (why : DmiFault) → Unopened old_count new_count old new was is (connect.Dmi why) → f ≡ failure_of_dmi why
       → BrokeOff script old_count new_count old new sink_old sink_new was is f
   in_script : RanInto script old_count new_count old new sink_old sink_new was is f → BrokeOff script old_count new_count old new sink_old sink_new was is f
@@ -69,9 +71,12 @@ abbrev pub EndedAs : List Command → (old_count new_count : ℕ) → (old new :
 EndedAs script old_count new_count old new sink_old sink_new was is ended.Clean = Ran script false old new was is
 EndedAs script old_count new_count old new sink_old sink_new was is ended.WithErrors = Ran script true old new was is
 EndedAs script old_count new_count old new sink_old sink_new was is (ended.Target fault) = Unfit old_count new_count old new was is fault
-EndedAs script old_count new_count old new sink_old sink_new was is (ended.Wire why) = BrokeOff script old_count new_count old new sink_old sink_new was is (failure.Wire why)
-EndedAs script old_count new_count old new sink_old sink_new was is (ended.Lost why) = BrokeOff script old_count new_count old new sink_old sink_new was is (failure.Lost why)
-EndedAs script old_count new_count old new sink_old sink_new was is ended.Sink = RanInto script old_count new_count old new sink_old sink_new was is failure.Sink
+EndedAs script old_count new_count old new sink_old sink_new was is (ended.Wire why) =
+    BrokeOff script old_count new_count old new sink_old sink_new was is (failure.Wire why)
+EndedAs script old_count new_count old new sink_old sink_new was is (ended.Lost why) =
+    BrokeOff script old_count new_count old new sink_old sink_new was is (failure.Lost why)
+EndedAs script old_count new_count old new sink_old sink_new was is ended.Sink =
+    RanInto script old_count new_count old new sink_old sink_new was is failure.Sink
 
 -- a fault of the wire is one that the wire gives; behind any other end the stream can be ended
 abbrev pub LeavesLink : Ended → DmiSeen → Type 0
@@ -84,13 +89,17 @@ LeavesLink ended.Sink s = CanQuit s.far
 
 -- ---- the commands alone
 
-abbrev pub FollowedAs : List Command → State → (old_count new_count : ℕ) → (old new : Tells) → (sink_old sink_new : ℕ) → (was is : Option (List ℕ)) → Ended → Type 0
+abbrev pub FollowedAs : List Command → State → (old_count new_count : ℕ) → (old new : Tells) → (sink_old sink_new : ℕ)
+    → (was is : Option (List ℕ)) → Ended → Type 0
 FollowedAs script s old_count new_count old new sink_old sink_new was is ended.Clean = Spoke (at_commands script s) at_stop false old new was is
 FollowedAs script s old_count new_count old new sink_old sink_new was is ended.WithErrors = Spoke (at_commands script s) at_stop true old new was is
 FollowedAs script s old_count new_count old new sink_old sink_new was is (ended.Target fault) = ⊥
-FollowedAs script s old_count new_count old new sink_old sink_new was is (ended.Wire why) = Fell Anyhow (at_commands script s) old_count new_count old new sink_old sink_new was is (failure.Wire why)
-FollowedAs script s old_count new_count old new sink_old sink_new was is (ended.Lost why) = Fell Anyhow (at_commands script s) old_count new_count old new sink_old sink_new was is (failure.Lost why)
-FollowedAs script s old_count new_count old new sink_old sink_new was is ended.Sink = Fell Anyhow (at_commands script s) old_count new_count old new sink_old sink_new was is failure.Sink
+FollowedAs script s old_count new_count old new sink_old sink_new was is (ended.Wire why) =
+    Fell Anyhow (at_commands script s) old_count new_count old new sink_old sink_new was is (failure.Wire why)
+FollowedAs script s old_count new_count old new sink_old sink_new was is (ended.Lost why) =
+    Fell Anyhow (at_commands script s) old_count new_count old new sink_old sink_new was is (failure.Lost why)
+FollowedAs script s old_count new_count old new sink_old sink_new was is ended.Sink =
+    Fell Anyhow (at_commands script s) old_count new_count old new sink_old sink_new was is failure.Sink
 
 -- whose chip was not opened
 abbrev pub ended_unopened : ConnectFault → Ended

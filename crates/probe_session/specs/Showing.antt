@@ -11,7 +11,7 @@ use Rattle.probe_run.specs.Acts.{Tells}
 use Rattle.probe_session.specs.declared.reach.Reach.{Reach}
 use Rattle.probe_session.specs.Goes.{Spoke}
 use Rattle.probe_session.specs.Places.{Place, idle, still}
-use Rattle.probe_session.specs.Reach.{all_shown, dumped, place_by, read, slots_shown, some_shown}
+use Rattle.probe_session.specs.Reach.{all_shown, dumped, path_by, place_by, read, slots_shown, some_shown}
 
 -- ---- of a halted hart
 
@@ -38,10 +38,10 @@ CalmRegisters r = Quiet r.next
 -- ---- of memory
 
 abbrev pub at_read : Reach → Size → (address count : ℕ) → Plan → Place
-at_read r size address count next = place_by r (read size address count next)
+at_read r size address count next = place_by r (read size address count (path_by r) next)
 
 abbrev pub at_dump : Reach → (address count : ℕ) → Plan → Place
-at_dump r address count next = place_by r (dumped address count next)
+at_dump r address count next = place_by r (dumped address count (path_by r) next)
 
 pub record Bytes : Type 0 where
   pub left : ℕ
@@ -52,10 +52,10 @@ CalmBytes k = Quiet k.next
 
 -- behind these bytes of the row that begins at `first`
 abbrev pub at_bytes : Reach → (first : ℕ) → (row : List ℕ) → Bytes → Place
-at_bytes r first row k = place_by r (dumping k.left first row k.next)
+at_bytes r first row k = place_by r (dumping (path_by r) k.left first row k.next)
 
 abbrev pub at_next_byte : Reach → (first : ℕ) → (row : List ℕ) → Bytes → Place
-at_next_byte r first row k = place_by r (dumping (suc k.left) first row k.next)
+at_next_byte r first row k = place_by r (dumping (path_by r) (suc k.left) first row k.next)
 
 abbrev pub behind_bytes : Bytes → Place
 behind_bytes k = idle k.next

@@ -2,8 +2,8 @@
 -- It is this project's own.
 use Rattle.abstract_debugger.specs.Trace.{What}
 use Rattle.abstract_debugger.specs.Trace.What.{Break, Count, Watch}
-use Rattle.probe_trig.specs.declared.slot_use.SlotUse.{SlotUse}
-use Rattle.probe_trig.specs.declared.slot_use.SlotUse.TheVariants as slot_use
+use Rattle.debug_model.specs.declared.slot_use.SlotUse.{SlotUse}
+use Rattle.debug_model.specs.declared.slot_use.SlotUse.TheVariants as slot_use
 
 -- nothing but these three can be armed
 abbrev pub what_of : SlotUse → What

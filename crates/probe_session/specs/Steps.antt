@@ -3,13 +3,16 @@
 -- It is this project's own.
 use Rattle.std.specs.Prelude.{◌≡◌, ◌≢◌, ℕ, suc, Bool, true, false, List, [], ◌∷◌, map, slice_get, if◌then◌else◌}
 use Rattle.std.specs.List.{list_any}
+use Rattle.rv_model.specs.declared.cause.Cause.TheVariants as halted_by
 use Rattle.rv_model.specs.declared.size.Size.{Size}
+use Rattle.rv_model.specs.Cause.{cause_number}
 use Rattle.rv_model.specs.Memory.{loaded, store_answer}
 use Rattle.rv_model.specs.Registers.{csr_read_only, pc_number}
 use Rattle.rv_model.specs.Size.{count_of}
-use Rattle.debug_model.specs.declared.point.Point.TheVariants.{Access}
+use Rattle.debug_model.specs.declared.command.Path.{Path}
 use Rattle.debug_model.specs.Tap.{idcode}
-use Rattle.abstract_debugger.specs.Debugger.{arming, by_load, by_state, by_store, freeing, going, halted_of, halting, look, one, register_line, saying, slot_lines, stop_line, value_here}
+use Rattle.abstract_debugger.specs.Debugger.{access, arming, by_load, by_state, by_store, freeing, going, halted_of, halting, look, one}
+use Rattle.abstract_debugger.specs.Debugger.{register_line, saying, slot_lines, stop_line, value_here}
 use Rattle.abstract_debugger.specs.Lines.{Line}
 use Rattle.abstract_debugger.specs.Plan.{Plan, is_step}
 use Rattle.abstract_debugger.specs.Plan.Change.{EbreakHalts, WriteMem, WriteReg}
@@ -17,18 +20,18 @@ use Rattle.abstract_debugger.specs.Slots.{Use, any_hit, slots_at}
 use Rattle.abstract_debugger.specs.Slots.Use.{Armed, Unused}
 use Rattle.abstract_debugger.specs.Trace.{What}
 use Rattle.abstract_debugger.proofs.SlotLemmas.{CanArm}
-use Rattle.probe_trig.specs.declared.slot_use.SlotUse.{SlotUse}
-use Rattle.probe_trig.specs.declared.slot_use.SlotView.{SlotView}
-use Rattle.probe_trig.specs.Slots.{hits_in}
-use Rattle.probe_trig.specs.SlotRegisters.{use_named}
+use Rattle.debug_model.specs.declared.slot_use.SlotUse.{SlotUse}
+use Rattle.probe_trig.specs.declared.slot_view.SlotView.{SlotView}
 use Rattle.rv_model.specs.Dcsr.{dcsr_of_word, dcsr_word}
 use Rattle.rv_model.specs.DebugRegisters.{dcsr_number}
-use Rattle.abstract_debugger.specs.Plan.Plan.{change, say, see, take}
+use Rattle.abstract_debugger.specs.Plan.Plan.{change, say, see}
 use Rattle.abstract_debugger.specs.Ways.{Way}
+use Rattle.abstract_debugger.specs.SlotUses.{hits_in, use_named}
 use Rattle.probe_run.specs.declared.hart.Seen.{Seen}
 use Rattle.probe_run.specs.declared.hart.Seen.TheVariants as seen
 use Rattle.probe_run.specs.Acts.{Tells}
-use Rattle.probe_session.specs.Calls.{FoundStop, Gave, GaveNone, Got, GotNone, HaltMade, HitsForgotten, Identified, IsOfCores, Loaded, LoadedNone, NoneFree, NotUsed, OverMade, ResumeMade, Saw, SlotFreed, SlotTaken, Stored, StoredNone, Viewed}
+use Rattle.probe_session.specs.Calls.{FoundStop, Gave, GaveNone, Got, GotNone, HaltMade, HitsForgotten, Identified, IsOfCores, Loaded, LoadedNone}
+use Rattle.probe_session.specs.Calls.{NoneFree, NotUsed, StepOverMade, ResumeMade, LookMade, SlotFreed, SlotTaken, Stored, StoredNone, Viewed}
 use Rattle.probe_session.specs.Places.{Place, at_say, idle, may_say, place, ready, spot, still}
 
 -- where a command stands behind its Look
@@ -39,11 +42,11 @@ behind_look (seen.Halted x) h absent running halted = still h halted
 
 -- dcsr's number for a halt by a trigger, beside which the slots with a hit are shown
 abbrev pub trigger_cause : ℕ
-trigger_cause = 2
+trigger_cause = cause_number halted_by.Trigger
 
 -- and for one by a step
 abbrev pub step_cause : ℕ
-step_cause = 4
+step_cause = cause_number halted_by.Step
 
 -- behind a step: was it a whole one?
 abbrev pub behind_step : ℕ → (stepped other : Plan) → Plan
@@ -79,13 +82,15 @@ pub data Step : Place → Tells → List Line → Place → Tells → Type 0 whe
   identifies : {number : ℕ} {next : Plan} {old new : Tells} → Identified number old new
       → Step (idle (say (Line.Idcode idcode) next)) old [] (at_say (Line.Idcode number) next) new
   -- Looks
-  looks : {h : ℕ} {s : Seen} (absent running halted : Plan) {old new : Tells} → Saw h old new s
+  looks : {h : ℕ} {s : Seen} (absent running halted : Plan) {old new : Tells} → LookMade h old new s
       → Step (idle (look h (by_state absent running halted))) old [] (behind_look s h absent running halted) new
   -- run control
   halts : {h : ℕ} (next : Plan) {old new : Tells} → HaltMade h old new → Step (idle (halting h next)) old [] (still h next) new
   resumes : {h : ℕ} (next : Plan) {old new : Tells} → ResumeMade h old new → Step (ready h (going h next)) old [] (idle next) new
-  steps_over : {h : ℕ} (stepped other : Plan) {old new : Tells} → OverMade h old new → Step (still h (one h stepped other)) old [] (still h (behind_step h stepped other)) new
-  finds_step : {h pc : ℕ} (stepped other : Plan) {old new : Tells} → FoundStop h pc step_cause old new → Step (still h (behind_step h stepped other)) old [] (ready h stepped) new
+  steps_over : {h : ℕ} (stepped other : Plan) {old new : Tells} → StepOverMade h old new
+      → Step (still h (one h stepped other)) old [] (still h (behind_step h stepped other)) new
+  finds_step : {h pc : ℕ} (stepped other : Plan) {old new : Tells} → FoundStop h pc step_cause old new
+      → Step (still h (behind_step h stepped other)) old [] (ready h stepped) new
   finds_other : {h pc cause : ℕ} (stepped other : Plan) {old new : Tells} → FoundStop h pc cause old new → cause ≢ step_cause
       → Step (still h (behind_step h stepped other)) old [] (still h other) new
   views_hits : {h : ℕ} {view : SlotView} (held free : Plan) {old new : Tells} → Viewed h view old new → any_in view ≡ true
@@ -110,12 +115,14 @@ pub data Step : Place → Tells → List Line → Place → Tells → Type 0 whe
       → Step (still h (if csr_read_only pc_number then refused else change (WriteReg h pc_number value) next)) old [] (still h next) new
   writes_none : {h number value : ℕ} (refused written : Plan) {old new : Tells} → GaveNone h number value old new → IsOfCores number
       → Step (still h (if csr_read_only number then refused else written)) old [] (still h refused) new
-  sets_ebreakm : {h word : ℕ} {on : Bool} (next : Plan) {old mid new : Tells} → Got h dcsr_number word old mid → Gave h dcsr_number (with_ebreakm on word) mid new
+  sets_ebreakm : {h word : ℕ} {on : Bool} (next : Plan) {old mid new : Tells} → Got h dcsr_number word old mid
+      → Gave h dcsr_number (with_ebreakm on word) mid new
       → Step (still h (change (EbreakHalts h on) next)) old [] (still h next) new
   -- slots
   shows_slots : {h : ℕ} {view : SlotView} (next : Plan) {old new : Tells} → Viewed h view old new
       → Step (still h (see (λ b. saying (slot_lines 0 (slots_at h b)) next))) old [] (still h (saying (lines_of_view view) next)) new
-  arms : {h slot : ℕ} {meant : SlotUse} (what : What) (next : Plan) {old new : Tells} → SlotTaken h meant slot old new → use_named meant ≡ Armed what → CanArm what
+  arms : {h slot : ℕ} {meant : SlotUse} (what : What) (next : Plan) {old new : Tells} → SlotTaken h meant slot old new
+      → use_named meant ≡ Armed what → CanArm what
       → Step (still h (arming h what next)) old [] (still h (say (Line.Slot slot (Armed what) false) next)) new
   arms_none : {h : ℕ} {meant : SlotUse} (what : What) (next : Plan) {old new : Tells} → NoneFree h meant old new
       → Step (still h (arming h what next)) old [] (still h (say Line.NoFreeSlot next)) new
@@ -123,13 +130,17 @@ pub data Step : Place → Tells → List Line → Place → Tells → Type 0 whe
       → Step (still h (freeing h slot next)) old [] (still h (say (Line.Slot slot Unused false) next)) new
   frees_none : {h slot : ℕ} (next : Plan) {old new : Tells} → NotUsed h slot old new
       → Step (still h (freeing h slot next)) old [] (still h (say (Line.SlotNotInUse slot) next)) new
-  -- memory
-  loads : {way : Way} {h address value : ℕ} {size : Size} (faulted : Plan) (read : ℕ → Plan) {old new : Tells} → Loaded size address value old new
-      → Step (place way h (take Access (see (λ b. by_load (loaded b.memory address size) faulted read)))) old [] (place way h (read value)) new
-  loads_none : {way : Way} {h address : ℕ} {size : Size} (faulted : Plan) (read : ℕ → Plan) {old new : Tells} → LoadedNone size address old new
-      → Step (place way h (take Access (see (λ b. by_load (loaded b.memory address size) faulted read)))) old [] (place way h faulted) new
-  stores : {way : Way} {h address value : ℕ} {size : Size} (faulted next : Plan) {old new : Tells} → Stored size address value old new
-      → Step (place way h (take Access (see (λ b. by_store (store_answer b.memory address size) faulted (change (WriteMem address (count_of size) value) next))))) old []
+  -- memory: the call of the path that the plan takes
+  loads : {path : Path} {way : Way} {h address value : ℕ} {size : Size} (faulted : Plan) (read : ℕ → Plan) {old new : Tells}
+      → Loaded path size address value old new
+      → Step (place way h (access path (λ b. by_load (loaded b.memory address size) faulted read))) old [] (place way h (read value)) new
+  loads_none : {path : Path} {way : Way} {h address : ℕ} {size : Size} (faulted : Plan) (read : ℕ → Plan) {old new : Tells}
+      → LoadedNone path size address old new
+      → Step (place way h (access path (λ b. by_load (loaded b.memory address size) faulted read))) old [] (place way h faulted) new
+  stores : {path : Path} {way : Way} {h address value : ℕ} {size : Size} (faulted next : Plan) {old new : Tells} → Stored path size address value old new
+      → Step (place way h (access path (λ b. by_store (store_answer b.memory address size) faulted
+      (change (WriteMem address (count_of size) value) next)))) old []
       (place way h next) new
-  stores_none : {way : Way} {h address value : ℕ} {size : Size} (faulted stored : Plan) {old new : Tells} → StoredNone size address value old new
-      → Step (place way h (take Access (see (λ b. by_store (store_answer b.memory address size) faulted stored)))) old [] (place way h faulted) new
+  stores_none : {path : Path} {way : Way} {h address value : ℕ} {size : Size} (faulted stored : Plan) {old new : Tells}
+      → StoredNone path size address value old new
+      → Step (place way h (access path (λ b. by_store (store_answer b.memory address size) faulted stored))) old [] (place way h faulted) new

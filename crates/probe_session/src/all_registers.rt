@@ -14,16 +14,13 @@ ghost use Rattle.probe_run.specs.Told.{told};
 use crate::fault::Failure;
 use crate::met::{Met, meet};
 use crate::put::put_line;
-use crate::registers::get;
+use crate::registers::reg;
 use crate::session::Session;
 use debug_model::Dmi;
 use jt_base::Sink;
 use printed_lines::Line;
 use probe_run::Halted;
 use rv_model::register_number;
-
-/// The number of x0 (RISC-V Debug Specification 1.0, "Abstract Register Numbers"), and behind it those of x1 to x31.
-const X0: u16 = 0x1000;
 
 /// Puts the line of a register that each hart has.
 fn put_register<D: Dmi, K: Sink>(
@@ -43,7 +40,7 @@ fn put_register<D: Dmi, K: Sink>(
     ensures keeps { Goes (λ _. AttachedHalted halted.now.number) (D.seen link.old) (D.seen link.new) result }
     ensures sink_later { K.fault_count out.old ≤ K.fault_count out.new }
 {
-    let value = get(link, halted, number)?;
+    let value = reg(link, halted, number)?;
     put_line(out, &Line::Register(number, value))?;
     Ok(())
 }
@@ -61,7 +58,7 @@ fn put_registers<D: Dmi, K: Sink>(link: &mut D, halted: &Halted, out: &mut K) ->
 {
     put_register(link, halted, register_number::DPC, out)?;
     'showing: for x in 1..32u16 {
-        put_register(link, halted, X0 + x, out)?;
+        put_register(link, halted, register_number::X0 + x, out)?;
     }
     Ok(())
 }

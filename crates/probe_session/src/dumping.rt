@@ -16,7 +16,7 @@ ghost use Rattle.abstract_debugger.specs.Laws.{Quiet};
 ghost use Rattle.probe_session.specs.Goes.{CalmNext, Fell, Spoke};
 ghost use Rattle.probe_session.specs.Links.{Attached, Goes};
 ghost use Rattle.probe_session.specs.Places.{idle};
-ghost use Rattle.probe_session.specs.Reach.{AttachedBy};
+ghost use Rattle.probe_session.specs.Reach.{AttachedBy, path_by};
 ghost use Rattle.probe_session.specs.Showing.{CalmBytes, DumpedAs, RowCut, at_dump, at_next_byte, row_lines};
 ghost use Rattle.probe_run.specs.Told.{told, Fails};
 
@@ -39,8 +39,8 @@ type Row = ArrayVec<u8, ROW_BYTES>;
 /// Loads a byte: none where it lies outside memory.
 fn load_byte<D: Dmi>(link: &mut D, reach: &Reach, address: u64) -> Result<Option<u8>, Failure>
     requires serving { AttachedBy reach.now (D.seen link.old) }
-    ensures loaded { IfOk result (LoadedAs B1 address (told (D.seen link.old)) (told (D.seen link.new))) }
-    ensures fell { IfErr result (Fails (LoadFell B1 address) (D.seen link.old) (D.seen link.new)) }
+    ensures loaded { IfOk result (LoadedAs (path_by reach.now) B1 address (told (D.seen link.old)) (told (D.seen link.new))) }
+    ensures fell { IfErr result (Fails (LoadFell (path_by reach.now) B1 address) (D.seen link.old) (D.seen link.new)) }
     ensures keeps { Goes (λ _. AttachedBy reach.now) (D.seen link.old) (D.seen link.new) result }
 {
     match load_by(link, reach, Size::B1, address)? {

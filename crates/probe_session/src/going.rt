@@ -15,16 +15,14 @@ ghost use Rattle.probe_run.specs.Told.{told, Fails};
 
 use crate::fault::Failure;
 use crate::hart_lines::stop_line;
-use crate::looks::make_resume;
-use crate::slots::{over, view};
-use crate::stops::find_stop;
+use crate::looks::resume;
+use crate::slots::{slots, step_over};
+use crate::stops::stop;
 use debug_model::Dmi;
 use printed_lines::Line;
 use probe_run::Halted;
 use probe_trig::SlotView;
-
-/// The cause of a halt by a single step in `dcsr` (RISC-V Debug Specification 1.0, "Debug Control and Status").
-const STEP: u8 = 4;
+use rv_model::Cause;
 
 /// Makes up to so many single steps, until one stops for another cause, and says where the hart stands then.
 pub(crate) fn stepped_line<D: Dmi>(
@@ -40,9 +38,9 @@ pub(crate) fn stepped_line<D: Dmi>(
 {
     let mut now = halted;
     'stepping: for _step in 0..count {
-        now = over(link, now)?;
-        let at = find_stop(link, &now)?;
-        if at.cause != STEP {
+        now = step_over(link, now)?;
+        let at = stop(link, &now)?;
+        if at.cause != Cause::Step.number() {
             return stop_line(link, &now);
         }
     }
@@ -65,7 +63,7 @@ fn free_line<D: Dmi>(link: &mut D, halted: Halted) -> Result<Line, Failure>
     ensures falls { IfErr result (Fails (Falls (λ next. ready halted.number (going halted.number (say Resumed next))) []) (D.seen link.old) (D.seen link.new)) }
     ensures keeps { Goes (λ _. Attached) (D.seen link.old) (D.seen link.new) result }
 {
-    make_resume(link, halted)?;
+    resume(link, halted)?;
     Ok(Line::Resumed)
 }
 
@@ -77,13 +75,13 @@ pub(crate) fn let_go_line<D: Dmi>(link: &mut D, halted: Halted) -> Result<Line, 
     ensures falls { IfErr result (Fails (Falls (at_letting_go halted.number) []) (D.seen link.old) (D.seen link.new)) }
     ensures keeps { Goes (λ _. Attached) (D.seen link.old) (D.seen link.new) result }
 {
-    let seen = view(link, &halted)?;
+    let seen = slots(link, &halted)?;
     if !has_any(&seen) {
         return free_line(link, halted);
     }
-    let again = over(link, halted)?;
-    let at = find_stop(link, &again)?;
-    if at.cause == STEP {
+    let again = step_over(link, halted)?;
+    let at = stop(link, &again)?;
+    if at.cause == Cause::Step.number() {
         return free_line(link, again);
     }
     stop_line(link, &again)

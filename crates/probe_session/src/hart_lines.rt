@@ -12,17 +12,13 @@ ghost use Rattle.probe_trig.specs.SlotRegisters.{CanArm};
 ghost use Rattle.probe_run.specs.Told.{told, Fails};
 
 use crate::fault::Failure;
-use crate::registers::{ask, get, give, set};
-use crate::slots::{forget, free_slot, take_slot, view};
-use crate::stops::find_stop;
-use debug_model::Dmi;
+use crate::registers::{reg, reg_or_none, set_reg, set_reg_if_taken};
+use crate::slots::{arm, disarm, forget_hits, slots};
+use crate::stops::stop;
+use debug_model::{Dmi, SlotUse};
 use printed_lines::Line;
 use probe_run::Halted;
-use probe_trig::SlotUse;
-use rv_model::{Dcsr, SlotSet, register_number};
-
-/// The cause of a halt by a trigger in `dcsr` (RISC-V Debug Specification 1.0, "Debug Control and Status").
-const TRIGGER: u8 = 2;
+use rv_model::{Cause, Dcsr, SlotSet, register_number};
 
 /// The line that says where the hart stands, and why; beside a trigger, with the slots that have a hit.
 pub(crate) fn stop_line<D: Dmi>(link: &mut D, halted: &Halted) -> Result<Line, Failure>
@@ -33,9 +29,9 @@ pub(crate) fn stop_line<D: Dmi>(link: &mut D, halted: &Halted) -> Result<Line, F
     ensures falls { IfErr result (Fails (Falls (at_stop_line halted.now.number) []) (D.seen link.old) (D.seen link.new)) }
     ensures keeps { Goes (λ _. Attached) (D.seen link.old) (D.seen link.new) result }
 {
-    let at = find_stop(link, halted)?;
-    if at.cause == TRIGGER {
-        let seen = view(link, halted)?;
+    let at = stop(link, halted)?;
+    if at.cause == Cause::Trigger.number() {
+        let seen = slots(link, halted)?;
         return Ok(Line::Halted {
             pc: at.pc,
             cause: at.cause,
@@ -63,7 +59,7 @@ pub(crate) fn register_line<D: Dmi>(
     ensures falls { IfErr result (Fails (Falls (at_register halted.now.number number) []) (D.seen link.old) (D.seen link.new)) }
     ensures keeps { Goes (λ _. Attached) (D.seen link.old) (D.seen link.new) result }
 {
-    match ask(link, halted, number)? {
+    match reg_or_none(link, halted, number)? {
         Some(value) => Ok(Line::Register(number, value)),
         None => Ok(Line::RegisterRefused(number)),
     }
@@ -83,11 +79,11 @@ pub(crate) fn written_register_line<D: Dmi>(
     ensures falls { IfErr result (Fails (Falls (at_written_register halted.now.number number value) []) (D.seen link.old) (D.seen link.new)) }
     ensures keeps { Goes (λ _. Attached) (D.seen link.old) (D.seen link.new) result }
 {
-    if !give(link, halted, number, value)? {
+    if !set_reg_if_taken(link, halted, number, value)? {
         return Ok(Line::RegisterRefused(number));
     }
     if number == register_number::DPC {
-        forget(link, halted)?;
+        forget_hits(link, halted)?;
         return register_line(link, halted, number);
     }
     register_line(link, halted, number)
@@ -117,8 +113,8 @@ pub(crate) fn ebreak_line<D: Dmi>(
     ensures falls { IfErr result (Fails (Falls (at_ebreak halted.now.number is_on) []) (D.seen link.old) (D.seen link.new)) }
     ensures keeps { Goes (λ _. Attached) (D.seen link.old) (D.seen link.new) result }
 {
-    let word = get(link, halted, register_number::DCSR)?;
-    set(
+    let word = reg(link, halted, register_number::DCSR)?;
+    set_reg(
         link,
         halted,
         register_number::DCSR,
@@ -141,7 +137,7 @@ pub(crate) fn armed_line<D: Dmi>(
     ensures falls { IfErr result (Fails (Falls (at_arming halted.now.number (what_of what)) []) (D.seen link.old) (D.seen link.new)) }
     ensures keeps { Goes (λ _. Attached) (D.seen link.old) (D.seen link.new) result }
 {
-    match take_slot(link, halted, what)? {
+    match arm(link, halted, what)? {
         Some(slot) => Ok(Line::Slot(slot, what, false)),
         None => Ok(Line::NoFreeSlot),
     }
@@ -157,7 +153,7 @@ pub(crate) fn freed_line<D: Dmi>(link: &mut D, halted: &Halted, slot: u8) -> Res
     ensures falls { IfErr result (Fails (Falls (at_freeing halted.now.number slot) []) (D.seen link.old) (D.seen link.new)) }
     ensures keeps { Goes (λ _. Attached) (D.seen link.old) (D.seen link.new) result }
 {
-    if free_slot(link, halted, slot)? {
+    if disarm(link, halted, slot)? {
         Ok(Line::Slot(slot, SlotUse::Free, false))
     } else {
         Ok(Line::SlotNotInUse(slot))

@@ -1,7 +1,7 @@
 ghost use Rattle.std.specs.Prelude.{◌≡◌, ◌<◌, ◌^◌, IfOk, IfErr, OnOk};
 ghost use Rattle.debug_model.specs.Told.{Selects};
 ghost use Rattle.probe_run.specs.Happens.{Exists, IsAsSeen};
-ghost use Rattle.probe_session.specs.Calls.{HaltFell, HaltMade, LookFell, ResumeFell, ResumeMade, Saw};
+ghost use Rattle.probe_session.specs.Calls.{HaltFell, HaltMade, LookFell, ResumeFell, ResumeMade, LookMade};
 ghost use Rattle.probe_session.specs.Links.{Attached, AttachedHalted, Goes};
 ghost use Rattle.probe_session.specs.Seen.{IsOf};
 ghost use Rattle.probe_run.specs.Told.{told, Fails};
@@ -11,10 +11,10 @@ use debug_model::Dmi;
 use probe_run::{Halted, Running, Seen, Target};
 
 /// One Look of a hart.
-pub(crate) fn see<D: Dmi>(link: &mut D, target: &Target, hart: u16) -> Result<Seen, Failure>
+pub(crate) fn look<D: Dmi>(link: &mut D, target: &Target, hart: u16) -> Result<Seen, Failure>
     requires hart { hart < 2 ^ 10 }
     requires serving { Attached (D.seen link.old) }
-    ensures saw { IfOk result (Saw hart (told (D.seen link.old)) (told (D.seen link.new))) }
+    ensures saw { IfOk result (LookMade hart (told (D.seen link.old)) (told (D.seen link.new))) }
     ensures fell { IfErr result (Fails (LookFell hart) (D.seen link.old) (D.seen link.new)) }
     ensures selects { OnOk result (Selects hart (D.seen link.new).far) }
     ensures seen { IfOk result (IsAsSeen (D.seen link.new).far) }
@@ -26,7 +26,7 @@ pub(crate) fn see<D: Dmi>(link: &mut D, target: &Target, hart: u16) -> Result<Se
 }
 
 /// Halts a hart that was seen running.
-pub(crate) fn make_halt<D: Dmi>(link: &mut D, running: Running) -> Result<Halted, Failure>
+pub(crate) fn halt<D: Dmi>(link: &mut D, running: Running) -> Result<Halted, Failure>
     requires serving { Attached (D.seen link.old) }
     requires exists { Exists running.number (D.seen link.old).far }
     ensures halted { OnOk result (HaltMade running.number (told (D.seen link.old)) (told (D.seen link.new))) }
@@ -39,7 +39,7 @@ pub(crate) fn make_halt<D: Dmi>(link: &mut D, running: Running) -> Result<Halted
 }
 
 /// Lets a halted hart go.
-pub(crate) fn make_resume<D: Dmi>(link: &mut D, halted: Halted) -> Result<Running, Failure>
+pub(crate) fn resume<D: Dmi>(link: &mut D, halted: Halted) -> Result<Running, Failure>
     requires serving { AttachedHalted halted.number (D.seen link.old) }
     ensures resumed { OnOk result (ResumeMade halted.number (told (D.seen link.old)) (told (D.seen link.new))) }
     ensures fell { IfErr result (Fails (ResumeFell halted.number) (D.seen link.old) (D.seen link.new)) }

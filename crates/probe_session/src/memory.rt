@@ -1,4 +1,5 @@
 ghost use Rattle.std.specs.Prelude.{◌≡◌, true, IfOk, IfErr};
+ghost use Rattle.debug_model.specs.declared.command.Path.TheVariants.{Progbuf, Bus};
 ghost use Rattle.rv_model.specs.Memory.{is_aligned};
 ghost use Rattle.probe_session.specs.Calls.{LoadFell, StoreFell};
 ghost use Rattle.probe_session.specs.Links.{Attached, AttachedHalted, Goes};
@@ -7,12 +8,12 @@ ghost use Rattle.probe_run.specs.Told.{told, Fails};
 
 use crate::fault::{Failure, lost_by};
 use debug_model::Dmi;
-use probe_access::{AccessFault, bus_load, bus_store, cut_to, load, store};
+use probe_access::{AccessFault, cut_to};
 use probe_run::Halted;
 use rv_model::Size;
 
 /// Loads by the halted hart: none where a byte lies outside memory.
-pub(crate) fn fetch<D: Dmi>(
+pub(crate) fn load<D: Dmi>(
     link: &mut D,
     halted: &Halted,
     size: Size,
@@ -20,11 +21,11 @@ pub(crate) fn fetch<D: Dmi>(
 ) -> Result<Option<u64>, Failure>
     requires serving { AttachedHalted halted.now.number (D.seen link.old) }
     requires aligned { is_aligned address size ≡ true }
-    ensures loaded { IfOk result (LoadedAs size address (told (D.seen link.old)) (told (D.seen link.new))) }
-    ensures fell { IfErr result (Fails (LoadFell size address) (D.seen link.old) (D.seen link.new)) }
+    ensures loaded { IfOk result (LoadedAs Progbuf size address (told (D.seen link.old)) (told (D.seen link.new))) }
+    ensures fell { IfErr result (Fails (LoadFell Progbuf size address) (D.seen link.old) (D.seen link.new)) }
     ensures keeps { Goes (λ _. AttachedHalted halted.now.number) (D.seen link.old) (D.seen link.new) result }
 {
-    match load(link, halted, size, address) {
+    match probe_access::load(link, halted, size, address) {
         Ok(value) => Ok(Some(cut_to(size, value))),
         Err(AccessFault::Memory(_)) => Ok(None),
         Err(fault) => Err(lost_by(fault)),
@@ -32,7 +33,7 @@ pub(crate) fn fetch<D: Dmi>(
 }
 
 /// Stores by the halted hart. It answers whether memory took the value: not where a byte lies outside it.
-pub(crate) fn keep<D: Dmi>(
+pub(crate) fn store<D: Dmi>(
     link: &mut D,
     halted: &Halted,
     size: Size,
@@ -41,11 +42,11 @@ pub(crate) fn keep<D: Dmi>(
 ) -> Result<bool, Failure>
     requires serving { AttachedHalted halted.now.number (D.seen link.old) }
     requires aligned { is_aligned address size ≡ true }
-    ensures stored { IfOk result (StoredAs size address value (told (D.seen link.old)) (told (D.seen link.new))) }
-    ensures fell { IfErr result (Fails (StoreFell size address value) (D.seen link.old) (D.seen link.new)) }
+    ensures stored { IfOk result (StoredAs Progbuf size address value (told (D.seen link.old)) (told (D.seen link.new))) }
+    ensures fell { IfErr result (Fails (StoreFell Progbuf size address value) (D.seen link.old) (D.seen link.new)) }
     ensures keeps { Goes (λ _. AttachedHalted halted.now.number) (D.seen link.old) (D.seen link.new) result }
 {
-    match store(link, halted, size, address, value) {
+    match probe_access::store(link, halted, size, address, value) {
         Ok(()) => Ok(true),
         Err(AccessFault::Memory(_)) => Ok(false),
         Err(fault) => Err(lost_by(fault)),
@@ -53,18 +54,18 @@ pub(crate) fn keep<D: Dmi>(
 }
 
 /// Loads by the system bus: none where a byte lies outside memory.
-pub(crate) fn bus_fetch<D: Dmi>(
+pub(crate) fn bus_load<D: Dmi>(
     link: &mut D,
     size: Size,
     address: u64,
 ) -> Result<Option<u64>, Failure>
     requires serving { Attached (D.seen link.old) }
     requires aligned { is_aligned address size ≡ true }
-    ensures loaded { IfOk result (LoadedAs size address (told (D.seen link.old)) (told (D.seen link.new))) }
-    ensures fell { IfErr result (Fails (LoadFell size address) (D.seen link.old) (D.seen link.new)) }
+    ensures loaded { IfOk result (LoadedAs Bus size address (told (D.seen link.old)) (told (D.seen link.new))) }
+    ensures fell { IfErr result (Fails (LoadFell Bus size address) (D.seen link.old) (D.seen link.new)) }
     ensures keeps { Goes (λ _. Attached) (D.seen link.old) (D.seen link.new) result }
 {
-    match bus_load(link, size, address) {
+    match probe_access::bus_load(link, size, address) {
         Ok(value) => Ok(Some(value)),
         Err(AccessFault::Memory(_)) => Ok(None),
         Err(fault) => Err(lost_by(fault)),
@@ -72,7 +73,7 @@ pub(crate) fn bus_fetch<D: Dmi>(
 }
 
 /// Stores by the system bus. It answers whether memory took the value: not where a byte lies outside it.
-pub(crate) fn bus_keep<D: Dmi>(
+pub(crate) fn bus_store<D: Dmi>(
     link: &mut D,
     size: Size,
     address: u64,
@@ -80,11 +81,11 @@ pub(crate) fn bus_keep<D: Dmi>(
 ) -> Result<bool, Failure>
     requires serving { Attached (D.seen link.old) }
     requires aligned { is_aligned address size ≡ true }
-    ensures stored { IfOk result (StoredAs size address value (told (D.seen link.old)) (told (D.seen link.new))) }
-    ensures fell { IfErr result (Fails (StoreFell size address value) (D.seen link.old) (D.seen link.new)) }
+    ensures stored { IfOk result (StoredAs Bus size address value (told (D.seen link.old)) (told (D.seen link.new))) }
+    ensures fell { IfErr result (Fails (StoreFell Bus size address value) (D.seen link.old) (D.seen link.new)) }
     ensures keeps { Goes (λ _. Attached) (D.seen link.old) (D.seen link.new) result }
 {
-    match bus_store(link, size, address, value) {
+    match probe_access::bus_store(link, size, address, value) {
         Ok(()) => Ok(true),
         Err(AccessFault::Memory(_)) => Ok(false),
         Err(fault) => Err(lost_by(fault)),

@@ -5,7 +5,7 @@ ghost use Rattle.probe_session.specs.Met.{MetAs, AttachedMet, before_look};
 ghost use Rattle.probe_run.specs.Told.{told, Fails};
 
 use crate::fault::Failure;
-use crate::looks::see;
+use crate::looks::look;
 use debug_model::Dmi;
 use printed_lines::Line;
 use probe_run::{Halted, Seen, Target};
@@ -27,7 +27,7 @@ pub(crate) fn meet<D: Dmi>(link: &mut D, target: &Target, hart: u16) -> Result<M
     ensures falls { IfErr result (Fails (Falls (before_look hart) []) (D.seen link.old) (D.seen link.new)) }
     ensures keeps { Goes AttachedMet (D.seen link.old) (D.seen link.new) result }
 {
-    match see(link, target, hart)? {
+    match look(link, target, hart)? {
         Seen::Absent => Ok(Met::Says(Line::NoHart(hart))),
         Seen::Running(_) => Ok(Met::Says(Line::IsRunning(hart))),
         Seen::Halted(halted) => Ok(Met::At(halted)),

@@ -17,15 +17,14 @@ use crate::going::{let_go_line, stepped_line};
 use crate::hart_lines::{
     armed_line, ebreak_line, freed_line, register_line, stop_line, written_register_line,
 };
-use crate::looks::{make_halt, see};
+use crate::looks::{halt, look};
 use crate::met::{Met, meet};
 use crate::reach::Reached;
 use crate::session::Session;
 use crate::write::written_line;
-use debug_model::{Dmi, Path, RegName, WatchKind};
+use debug_model::{Dmi, Path, RegName, SlotUse, WatchKind};
 use printed_lines::Line;
 use probe_run::Seen;
-use probe_trig::SlotUse;
 use rv_model::Size;
 
 impl Session {
@@ -38,7 +37,7 @@ impl Session {
         ensures falls { IfErr result (Fails (Falls (before (command.Hart hart) (state_of self.old)) []) (D.seen link.old) (D.seen link.new)) }
         ensures keeps { Goes (λ _. Attached) (D.seen link.old) (D.seen link.new) result }
     {
-        match see(link, &self.target, hart)? {
+        match look(link, &self.target, hart)? {
             Seen::Absent => Ok(Line::NoHart(hart)),
             Seen::Running(_) => {
                 self.hart = hart;
@@ -59,7 +58,7 @@ impl Session {
         ensures falls { IfErr result (Fails (Falls (before (command.State) (state_of self.now)) []) (D.seen link.old) (D.seen link.new)) }
         ensures keeps { Goes (λ _. Attached) (D.seen link.old) (D.seen link.new) result }
     {
-        match see(link, &self.target, self.hart)? {
+        match look(link, &self.target, self.hart)? {
             Seen::Absent => Ok(Line::NoHart(self.hart)),
             Seen::Running(_) => Ok(Line::Running),
             Seen::Halted(halted) => stop_line(link, &halted),
@@ -74,10 +73,10 @@ impl Session {
         ensures falls { IfErr result (Fails (Falls (before (command.Halt) (state_of self.now)) []) (D.seen link.old) (D.seen link.new)) }
         ensures keeps { Goes (λ _. Attached) (D.seen link.old) (D.seen link.new) result }
     {
-        match see(link, &self.target, self.hart)? {
+        match look(link, &self.target, self.hart)? {
             Seen::Absent => Ok(Line::NoHart(self.hart)),
             Seen::Running(running) => {
-                let halted = make_halt(link, running)?;
+                let halted = halt(link, running)?;
                 stop_line(link, &halted)
             }
             Seen::Halted(halted) => stop_line(link, &halted),
@@ -93,7 +92,7 @@ impl Session {
         ensures keeps { Goes (λ _. Attached) (D.seen link.old) (D.seen link.new) result }
     {
         'looking: for _look in 0..looks {
-            match see(link, &self.target, self.hart)? {
+            match look(link, &self.target, self.hart)? {
                 Seen::Absent => return Ok(Line::NoHart(self.hart)),
                 Seen::Running(_) => {}
                 Seen::Halted(halted) => return stop_line(link, &halted),
@@ -258,7 +257,8 @@ impl Session {
         ensures went { IfOk result
             (λ line. Went (before (command.Write size address value count) (state_of self.now)) (at_line (said_by line) (state_of self.now)) []
             (told (D.seen link.old)) (told (D.seen link.new))) }
-        ensures falls { IfErr result (Fails (Falls (before (command.Write size address value count) (state_of self.now)) []) (D.seen link.old) (D.seen link.new)) }
+        ensures falls { IfErr result (Fails (Falls (before (command.Write size address value count) (state_of self.now)) [])
+            (D.seen link.old) (D.seen link.new)) }
         ensures keeps { Goes (λ _. Attached) (D.seen link.old) (D.seen link.new) result }
     {
         match self.reach(link)? {

@@ -7,11 +7,11 @@ ghost use Rattle.probe_session.specs.Calls.{LoadFell, StoreFell};
 ghost use Rattle.probe_session.specs.Commands.{state_of};
 ghost use Rattle.probe_session.specs.Goes.{Falls};
 ghost use Rattle.probe_session.specs.Links.{Attached, Goes};
-ghost use Rattle.probe_session.specs.Reach.{ReachedAs, AttachedBy, AttachedReached, before_reach};
+ghost use Rattle.probe_session.specs.Reach.{ReachedAs, AttachedBy, AttachedReached, before_reach, path_by};
 ghost use Rattle.probe_run.specs.Told.{told, Fails};
 
 use crate::fault::Failure;
-use crate::memory::{bus_fetch, bus_keep, fetch, keep};
+use crate::memory::{bus_load, bus_store, load, store};
 use crate::met::{Met, meet};
 use crate::session::Session;
 use debug_model::{Dmi, Path};
@@ -65,13 +65,13 @@ pub(crate) fn load_by<D: Dmi>(
 ) -> Result<Option<u64>, Failure>
     requires serving { AttachedBy reach.now (D.seen link.old) }
     requires aligned { is_aligned address size ≡ true }
-    ensures loaded { IfOk result (LoadedAs size address (told (D.seen link.old)) (told (D.seen link.new))) }
-    ensures fell { IfErr result (Fails (LoadFell size address) (D.seen link.old) (D.seen link.new)) }
+    ensures loaded { IfOk result (LoadedAs (path_by reach.now) size address (told (D.seen link.old)) (told (D.seen link.new))) }
+    ensures fell { IfErr result (Fails (LoadFell (path_by reach.now) size address) (D.seen link.old) (D.seen link.new)) }
     ensures keeps { Goes (λ _. AttachedBy reach.now) (D.seen link.old) (D.seen link.new) result }
 {
     match reach {
-        Reach::Hart(halted) => fetch(link, halted, size, address),
-        Reach::Bus => bus_fetch(link, size, address),
+        Reach::Hart(halted) => load(link, halted, size, address),
+        Reach::Bus => bus_load(link, size, address),
     }
 }
 
@@ -85,12 +85,12 @@ pub(crate) fn store_by<D: Dmi>(
 ) -> Result<bool, Failure>
     requires serving { AttachedBy reach.now (D.seen link.old) }
     requires aligned { is_aligned address size ≡ true }
-    ensures stored { IfOk result (StoredAs size address value (told (D.seen link.old)) (told (D.seen link.new))) }
-    ensures fell { IfErr result (Fails (StoreFell size address value) (D.seen link.old) (D.seen link.new)) }
+    ensures stored { IfOk result (StoredAs (path_by reach.now) size address value (told (D.seen link.old)) (told (D.seen link.new))) }
+    ensures fell { IfErr result (Fails (StoreFell (path_by reach.now) size address value) (D.seen link.old) (D.seen link.new)) }
     ensures keeps { Goes (λ _. AttachedBy reach.now) (D.seen link.old) (D.seen link.new) result }
 {
     match reach {
-        Reach::Hart(halted) => keep(link, halted, size, address, value),
-        Reach::Bus => bus_keep(link, size, address, value),
+        Reach::Hart(halted) => store(link, halted, size, address, value),
+        Reach::Bus => bus_store(link, size, address, value),
     }
 }

@@ -6,11 +6,11 @@ ghost use Rattle.probe_run.specs.Told.{told, Fails};
 
 use crate::fault::{Failure, lost_by};
 use debug_model::Dmi;
-use probe_access::{AccessFault, reg, set_reg};
+use probe_access::AccessFault;
 use probe_run::Halted;
 
 /// The value of a register of the halted hart, or none where the chip refuses to read it.
-pub(crate) fn ask<D: Dmi>(
+pub(crate) fn reg_or_none<D: Dmi>(
     link: &mut D,
     halted: &Halted,
     number: u16,
@@ -21,7 +21,7 @@ pub(crate) fn ask<D: Dmi>(
     ensures fell { IfErr result (Fails (AskFell halted.now.number number) (D.seen link.old) (D.seen link.new)) }
     ensures keeps { Goes (λ _. AttachedHalted halted.now.number) (D.seen link.old) (D.seen link.new) result }
 {
-    match reg(link, halted, number) {
+    match probe_access::reg(link, halted, number) {
         Ok(value) => Ok(Some(value)),
         Err(fault) => match fault {
             AccessFault::Register(_) => Ok(None),
@@ -31,21 +31,21 @@ pub(crate) fn ask<D: Dmi>(
 }
 
 /// The value of a register of the halted hart, which each hart has: a chip that refuses to read it loses the session.
-pub(crate) fn get<D: Dmi>(link: &mut D, halted: &Halted, number: u16) -> Result<u64, Failure>
+pub(crate) fn reg<D: Dmi>(link: &mut D, halted: &Halted, number: u16) -> Result<u64, Failure>
     requires serving { AttachedHalted halted.now.number (D.seen link.old) }
     ensures got { IfOk result
         (λ value. Got halted.now.number number value (told (D.seen link.old)) (told (D.seen link.new))) }
     ensures fell { IfErr result (Fails (ReadFell halted.now.number number) (D.seen link.old) (D.seen link.new)) }
     ensures keeps { Goes (λ _. AttachedHalted halted.now.number) (D.seen link.old) (D.seen link.new) result }
 {
-    match reg(link, halted, number) {
+    match probe_access::reg(link, halted, number) {
         Ok(value) => Ok(value),
         Err(fault) => Err(lost_by(fault)),
     }
 }
 
 /// Writes a register of the halted hart. It answers whether the chip took it.
-pub(crate) fn give<D: Dmi>(
+pub(crate) fn set_reg_if_taken<D: Dmi>(
     link: &mut D,
     halted: &Halted,
     number: u16,
@@ -57,7 +57,7 @@ pub(crate) fn give<D: Dmi>(
     ensures fell { IfErr result (Fails (GiveFell halted.now.number number value) (D.seen link.old) (D.seen link.new)) }
     ensures keeps { Goes (λ _. AttachedHalted halted.now.number) (D.seen link.old) (D.seen link.new) result }
 {
-    match set_reg(link, halted, number, value) {
+    match probe_access::set_reg(link, halted, number, value) {
         Ok(()) => Ok(true),
         Err(fault) => match fault {
             AccessFault::Register(_) => Ok(false),
@@ -67,7 +67,7 @@ pub(crate) fn give<D: Dmi>(
 }
 
 /// Writes a register of the halted hart, which each hart has and takes: a chip that refuses to loses the session.
-pub(crate) fn set<D: Dmi>(
+pub(crate) fn set_reg<D: Dmi>(
     link: &mut D,
     halted: &Halted,
     number: u16,
@@ -79,7 +79,7 @@ pub(crate) fn set<D: Dmi>(
     ensures fell { IfErr result (Fails (WriteFell halted.now.number number value) (D.seen link.old) (D.seen link.new)) }
     ensures keeps { Goes (λ _. AttachedHalted halted.now.number) (D.seen link.old) (D.seen link.new) result }
 {
-    match set_reg(link, halted, number, value) {
+    match probe_access::set_reg(link, halted, number, value) {
         Ok(()) => Ok(()),
         Err(fault) => Err(lost_by(fault)),
     }

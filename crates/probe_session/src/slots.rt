@@ -1,6 +1,6 @@
 ghost use Rattle.std.specs.Prelude.{◌≡◌, ◌<◌, true, false, IfOk, IfErr, OnOk};
 ghost use Rattle.probe_session.specs.Answers.{FreedAs, TakenAs};
-ghost use Rattle.probe_session.specs.Calls.{HitsForgotten, OverFell, OverMade, SlotsFell, Viewed};
+ghost use Rattle.probe_session.specs.Calls.{HitsForgotten, StepOverFell, StepOverMade, SlotsFell, Viewed};
 ghost use Rattle.probe_session.specs.Links.{AttachedHalted, Goes};
 ghost use Rattle.probe_trig.specs.declared.change.Change.TheVariants.{Forget};
 ghost use Rattle.probe_trig.specs.Runs.{ArmsAny, ChangesAny, FreesAny, ReadsAny};
@@ -8,19 +8,19 @@ ghost use Rattle.probe_trig.specs.SlotRegisters.{CanArm};
 ghost use Rattle.probe_run.specs.Told.{told, Fails};
 
 use crate::fault::{Failure, lost_by};
-use debug_model::Dmi;
+use debug_model::{Dmi, SlotUse};
 use probe_run::Halted;
-use probe_trig::{SlotUse, SlotView, TrigFault, arm, disarm, forget_hits, slots, step_over};
+use probe_trig::{SlotView, TrigFault};
 
 /// The slots of the halted hart.
-pub(crate) fn view<D: Dmi>(link: &mut D, halted: &Halted) -> Result<SlotView, Failure>
+pub(crate) fn slots<D: Dmi>(link: &mut D, halted: &Halted) -> Result<SlotView, Failure>
     requires serving { AttachedHalted halted.now.number (D.seen link.old) }
     ensures viewed { IfOk result
         (λ view. Viewed halted.now.number view (told (D.seen link.old)) (told (D.seen link.new))) }
     ensures fell { IfErr result (Fails (SlotsFell ReadsAny halted.now.number) (D.seen link.old) (D.seen link.new)) }
     ensures keeps { Goes (λ _. AttachedHalted halted.now.number) (D.seen link.old) (D.seen link.new) result }
 {
-    match slots(link, halted) {
+    match probe_trig::slots(link, halted) {
         Ok(seen) => Ok(seen),
         Err(TrigFault::Access(fault)) => Err(lost_by(fault)),
         Err(TrigFault::NoFreeSlot | TrigFault::NotInUse) => unreachable!(),
@@ -28,7 +28,7 @@ pub(crate) fn view<D: Dmi>(link: &mut D, halted: &Halted) -> Result<SlotView, Fa
 }
 
 /// Arms the lowest free slot of the halted hart, and answers its number; none where all are in use.
-pub(crate) fn take_slot<D: Dmi>(
+pub(crate) fn arm<D: Dmi>(
     link: &mut D,
     halted: &Halted,
     what: SlotUse,
@@ -40,7 +40,7 @@ pub(crate) fn take_slot<D: Dmi>(
     ensures fell { IfErr result (Fails (SlotsFell (ArmsAny what) halted.now.number) (D.seen link.old) (D.seen link.new)) }
     ensures keeps { Goes (λ _. AttachedHalted halted.now.number) (D.seen link.old) (D.seen link.new) result }
 {
-    match arm(link, halted, what) {
+    match probe_trig::arm(link, halted, what) {
         Ok(slot) => Ok(Some(slot)),
         Err(TrigFault::NoFreeSlot) => Ok(None),
         Err(TrigFault::Access(fault)) => Err(lost_by(fault)),
@@ -49,7 +49,7 @@ pub(crate) fn take_slot<D: Dmi>(
 }
 
 /// Frees a slot of the halted hart, and answers whether it was in use.
-pub(crate) fn free_slot<D: Dmi>(link: &mut D, halted: &Halted, slot: u8) -> Result<bool, Failure>
+pub(crate) fn disarm<D: Dmi>(link: &mut D, halted: &Halted, slot: u8) -> Result<bool, Failure>
     requires slot { slot < 4 }
     requires serving { AttachedHalted halted.now.number (D.seen link.old) }
     ensures freed { IfOk result
@@ -57,7 +57,7 @@ pub(crate) fn free_slot<D: Dmi>(link: &mut D, halted: &Halted, slot: u8) -> Resu
     ensures fell { IfErr result (Fails (SlotsFell (FreesAny slot) halted.now.number) (D.seen link.old) (D.seen link.new)) }
     ensures keeps { Goes (λ _. AttachedHalted halted.now.number) (D.seen link.old) (D.seen link.new) result }
 {
-    match disarm(link, halted, slot) {
+    match probe_trig::disarm(link, halted, slot) {
         Ok(()) => Ok(true),
         Err(TrigFault::NotInUse) => Ok(false),
         Err(TrigFault::Access(fault)) => Err(lost_by(fault)),
@@ -66,14 +66,14 @@ pub(crate) fn free_slot<D: Dmi>(link: &mut D, halted: &Halted, slot: u8) -> Resu
 }
 
 /// Forgets the hits of the halted hart's slots.
-pub(crate) fn forget<D: Dmi>(link: &mut D, halted: &Halted) -> Result<(), Failure>
+pub(crate) fn forget_hits<D: Dmi>(link: &mut D, halted: &Halted) -> Result<(), Failure>
     requires serving { AttachedHalted halted.now.number (D.seen link.old) }
     ensures forgot { OnOk result
         (HitsForgotten halted.now.number (told (D.seen link.old)) (told (D.seen link.new))) }
     ensures fell { IfErr result (Fails (SlotsFell (ChangesAny Forget) halted.now.number) (D.seen link.old) (D.seen link.new)) }
     ensures keeps { Goes (λ _. AttachedHalted halted.now.number) (D.seen link.old) (D.seen link.new) result }
 {
-    match forget_hits(link, halted) {
+    match probe_trig::forget_hits(link, halted) {
         Ok(()) => Ok(()),
         Err(TrigFault::Access(fault)) => Err(lost_by(fault)),
         Err(TrigFault::NoFreeSlot | TrigFault::NotInUse) => unreachable!(),
@@ -81,14 +81,14 @@ pub(crate) fn forget<D: Dmi>(link: &mut D, halted: &Halted) -> Result<(), Failur
 }
 
 /// Makes the halted hart do one instruction with its slots off that have a hit.
-pub(crate) fn over<D: Dmi>(link: &mut D, halted: Halted) -> Result<Halted, Failure>
+pub(crate) fn step_over<D: Dmi>(link: &mut D, halted: Halted) -> Result<Halted, Failure>
     requires serving { AttachedHalted halted.number (D.seen link.old) }
-    ensures made { OnOk result (OverMade halted.number (told (D.seen link.old)) (told (D.seen link.new))) }
-    ensures fell { IfErr result (Fails (OverFell halted.number) (D.seen link.old) (D.seen link.new)) }
+    ensures made { OnOk result (StepOverMade halted.number (told (D.seen link.old)) (told (D.seen link.new))) }
+    ensures fell { IfErr result (Fails (StepOverFell halted.number) (D.seen link.old) (D.seen link.new)) }
     ensures hart { IfOk result (λ again. again.number ≡ halted.number) }
     ensures keeps { Goes (λ _. AttachedHalted halted.number) (D.seen link.old) (D.seen link.new) result }
 {
-    match step_over(link, halted) {
+    match probe_trig::step_over(link, halted) {
         Ok(again) => Ok(again),
         Err(TrigFault::Access(fault)) => Err(lost_by(fault)),
         Err(TrigFault::NoFreeSlot | TrigFault::NotInUse) => unreachable!(),

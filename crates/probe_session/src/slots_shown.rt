@@ -14,7 +14,7 @@ use crate::fault::Failure;
 use crate::met::{Met, meet};
 use crate::put::put_line;
 use crate::session::Session;
-use crate::slots::view;
+use crate::slots::slots;
 use debug_model::Dmi;
 use jt_base::Sink;
 use printed_lines::Line;
@@ -31,7 +31,7 @@ fn put_slots<D: Dmi, K: Sink>(link: &mut D, halted: &Halted, out: &mut K) -> Res
     ensures keeps { Goes (λ _. Attached) (D.seen link.old) (D.seen link.new) result }
     ensures sink_later { K.fault_count out.old ≤ K.fault_count out.new }
 {
-    let seen = view(link, halted)?;
+    let seen = slots(link, halted)?;
     'showing: for slot in 0..4u8 {
         let used = seen.used[usize::from(slot)];
         put_line(out, &Line::Slot(slot, used, seen.hits.has(slot)))?;

@@ -5,18 +5,18 @@ ghost use Rattle.probe_run.specs.Told.{told, Fails};
 
 use crate::fault::{Failure, lost_by};
 use debug_model::Dmi;
-use probe_access::{Stop, stop};
+use probe_access::Stop;
 use probe_run::Halted;
 
 /// Where the halted hart stands, and why.
-pub(crate) fn find_stop<D: Dmi>(link: &mut D, halted: &Halted) -> Result<Stop, Failure>
+pub(crate) fn stop<D: Dmi>(link: &mut D, halted: &Halted) -> Result<Stop, Failure>
     requires serving { AttachedHalted halted.now.number (D.seen link.old) }
     ensures found { IfOk result (λ stop. FoundStop halted.now.number stop.pc stop.cause (told (D.seen link.old))
         (told (D.seen link.new))) }
     ensures fell { IfErr result (Fails (StopFell halted.now.number) (D.seen link.old) (D.seen link.new)) }
     ensures keeps { Goes (λ _. AttachedHalted halted.now.number) (D.seen link.old) (D.seen link.new) result }
 {
-    match stop(link, halted) {
+    match probe_access::stop(link, halted) {
         Ok(at) => Ok(at),
         Err(fault) => Err(lost_by(fault)),
     }

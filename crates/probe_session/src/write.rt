@@ -6,7 +6,7 @@ ghost use Rattle.rv_model.specs.Size.{count_of};
 ghost use Rattle.probe_session.specs.Commands.{ends_with};
 ghost use Rattle.probe_session.specs.Goes.{Falls, Went};
 ghost use Rattle.probe_session.specs.Links.{Attached, Goes};
-ghost use Rattle.probe_session.specs.Reach.{AttachedBy, place_by, written};
+ghost use Rattle.probe_session.specs.Reach.{AttachedBy, path_by, place_by, written};
 ghost use Rattle.probe_session.specs.Said.{said_by};
 ghost use Rattle.probe_run.specs.Told.{told, Fails};
 
@@ -28,9 +28,10 @@ pub(crate) fn written_line<D: Dmi>(
 ) -> Result<Line, Failure>
     requires block { IsBlock (count_of size) address count }
     requires serving { AttachedBy reach.now (D.seen link.old) }
-    ensures went { IfOk result (λ line. Went (λ next. place_by reach.now (written size address value count next))
+    ensures went { IfOk result (λ line. Went (λ next. place_by reach.now (written size address value count (path_by reach.now) next))
         (ends_with (said_by line)) [] (told (D.seen link.old)) (told (D.seen link.new))) }
-    ensures falls { IfErr result (Fails (Falls (λ next. place_by reach.now (written size address value count next)) []) (D.seen link.old) (D.seen link.new)) }
+    ensures falls { IfErr result (Fails (Falls (λ next. place_by reach.now (written size address value count (path_by reach.now) next)) [])
+        (D.seen link.old) (D.seen link.new)) }
     ensures keeps { Goes (λ _. Attached) (D.seen link.old) (D.seen link.new) result }
 {
     if !is_aligned(size, address) {

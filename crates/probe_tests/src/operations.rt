@@ -62,6 +62,7 @@ impl<'a> Scan for Recorder<'a> {
     ghost seen = { λ s. record {
       far = None;
       coming = None;
+      asked = None;
       fault_count = s.failed;
       fixed = record { slack = None; ties = no_ties; gives = λ _. true };
     } };
@@ -112,7 +113,7 @@ pub fn scripted(numbers: &[u64]) -> ScriptedScan {
 pub const DTMCS_BUSY: u64 = 0x1c71;
 
 #[test]
-fn reads_by_a_script(rt: HostRuntime) {
+fn reads_what_was_given(rt: HostRuntime) {
     // what comes out of the scans, and what `read(0x04)` answers
     let cases: [(&[u64], Result<u32, DmiFault>); 14] = [
         (&[0x3, DTMCS_BUSY, 0x14, 0x1c], Ok(7)),

@@ -20,7 +20,7 @@ const READ_DATA0: u64 = 0x10_0000_0001;
 const READ_DATA1: u64 = 0x14_0000_0001;
 
 #[test]
-fn reads_by_a_script(rt: HostRuntime) {
+fn reads_what_was_given(rt: HostRuntime) {
     // what comes out of the scans, and what the reads of data0 and data1 answer
     let cases: [(&[u64], Result<[u32; 2], DmiFault>); 12] = [
         (&[0x14, 0x1c, 0x24], Ok([7, 9])),

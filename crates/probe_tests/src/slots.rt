@@ -4,12 +4,10 @@
 ghost use Rattle.std.specs.Prelude.{◌≡◌, true};
 
 use arrayvec::ArrayVec;
-use debug_model::{DmiFault, ScriptedDmi, WireFault};
+use debug_model::{DmiFault, ScriptedDmi, SlotUse, WireFault};
 use probe_access::{AccessFault, OddStatus};
 use probe_run::{Seen, connect};
-use probe_trig::{
-    Gone, SlotUse, SlotView, TrigFault, arm, disarm, forget_hits, let_go, slots, step_over,
-};
+use probe_trig::{Gone, SlotView, TrigFault, arm, disarm, forget_hits, let_go, slots, step_over};
 use rv_model::SlotSet;
 use std::process::Abort;
 
@@ -57,7 +55,7 @@ const PLACE: u32 = 0x8000_0008;
 
 const BEFORE: u32 = 0x4000_0083;
 
-/// The script has ended.
+/// No answer is left.
 const ENDED: AccessFault = AccessFault::Dmi(DmiFault::Wire(WireFault::RecvFailed));
 
 #[derive(Clone, Copy)]
@@ -82,7 +80,7 @@ enum Answer {
 }
 
 /// The opening's answers, so many of these words, and one more.
-fn script(words: &[u32], cut: usize, last: Option<u32>) -> ScriptedDmi
+fn answering(words: &[u32], cut: usize, last: Option<u32>) -> ScriptedDmi
     ensures { result.alive ≡ true }
 {
     let mut answers: ArrayVec<u32, 64> = ArrayVec::new();
@@ -99,7 +97,7 @@ fn script(words: &[u32], cut: usize, last: Option<u32>) -> ScriptedDmi
 }
 
 fn play(call: Call, words: &[u32], cut: usize, last: Option<u32>) -> Result<Answer, TrigFault> {
-    let mut link = script(words, cut, last);
+    let mut link = answering(words, cut, last);
     let Ok(target) = connect(&mut link) else {
         return Ok(Answer::NotOpened);
     };

@@ -1,12 +1,57 @@
 -- Where in the calls that arm and free a slot each of their parts stands.
-use Rattle.std.proofs.Common.{◌≡◌, ◌∙◌, ◌++◌, ◌<◌, ◌+◌, ◌-◌, ℕ, zero, suc, length-append, Bool, true, false, List, [], ◌∷◌, All, length, Option, Some, None, refl, sym, ap, subst, append_assoc, append-nil, arith}
+use Rattle.std.proofs.Common.{
+  ◌≡◌,
+  ◌∙◌,
+  ◌++◌,
+  ◌<◌,
+  ◌+◌,
+  ◌-◌,
+  ℕ,
+  zero,
+  suc,
+  length-append,
+  Bool,
+  true,
+  false,
+  List,
+  [],
+  ◌∷◌,
+  All,
+  length,
+  Option,
+  Some,
+  None,
+  refl,
+  sym,
+  ap,
+  subst,
+  append_assoc,
+  append-nil,
+  arith,
+}
 use Rattle.std.proofs.lemmas.List.Elements.{All-nil, All-push}
 use Rattle.rv_model.specs.TriggerWords.{tdata1_of}
 use Rattle.rv_model.specs.declared.slot.Trigger.TheVariants.{Disabled}
 use Rattle.probe_run.specs.Acts.{Tells}
 use Rattle.probe_trig.specs.declared.register.TriggerRegister.TheVariants.{Tdata1, Tdata2, Tselect}
-use Rattle.probe_trig.specs.declared.slot_use.SlotUse.{SlotUse}
-use Rattle.probe_trig.specs.Runs.{Arms, ArmsAny, Finds, FindsNone, FreesAny, IsInUse, Seeks, SeeksAny, address_set, armed, armed_at, freed, put_back, word_read, words_read}
+use Rattle.debug_model.specs.declared.slot_use.SlotUse.{SlotUse}
+use Rattle.probe_trig.specs.Runs.{
+  Arms,
+  ArmsAny,
+  Finds,
+  FindsNone,
+  FreesAny,
+  IsInUse,
+  Seeks,
+  SeeksAny,
+  address_set,
+  armed,
+  armed_at,
+  freed,
+  put_back,
+  word_read,
+  words_read,
+}
 use Rattle.probe_trig.specs.Single.{AddressSet, Armed, OneGot, OneSet, WordRead}
 use Rattle.probe_trig.specs.Transfers.{Did, Made, Transfer}
 use Rattle.probe_trig.specs.Transfers.Transfer.{Got, Set}
@@ -22,8 +67,12 @@ freeing slot kept w free = Got Tselect kept ∷ (word_read slot w ++ (freed free
 frees_any : (slot kept w : ℕ) (free : Bool) (ts : List Transfer) → shows_free w ≡ free → ts ≡ freeing slot kept w free → FreesAny slot ts
 frees_any slot kept w free ts shows is = (free, record { kept = kept; tdata1 = w; shows = shows; is = is })
 
-frees_by : (slot kept w : ℕ) (ts : List Transfer) (b : Bool) → shows_free w ≡ b → ts ≡ Got Tselect kept ∷ word_read slot w → (rest : List Transfer) × FreesAny slot (ts ++ rest)
-frees_by slot kept w ts b shows is = (freed b ++ put_back kept, frees_any slot kept w b (ts ++ (freed b ++ put_back kept)) shows (ap (λ (zs : List Transfer). zs ++ (freed b ++ put_back kept)) is))
+frees_by : (slot kept w : ℕ) (ts : List Transfer) (b : Bool) → shows_free w ≡ b → ts ≡ Got Tselect kept ∷ word_read slot w
+    → (rest : List Transfer) × FreesAny slot (ts ++ rest)
+frees_by slot kept w ts b shows is = (
+  freed b ++ put_back kept,
+  frees_any slot kept w b (ts ++ (freed b ++ put_back kept)) shows (ap (λ (zs : List Transfer). zs ++ (freed b ++ put_back kept)) is),
+)
 
 pub frees_keep : (slot : ℕ) → Fits (OneGot Tselect) (FreesAny slot) []
 frees_keep slot ts (k, is) =
@@ -34,16 +83,25 @@ pub frees_word : (slot k : ℕ) → Fits (WordRead slot) (FreesAny slot) (Got Ts
 frees_word slot k ts (w, is) = frees_by slot k w (Got Tselect k ∷ ts) (shows_free w) refl (ap (λ (zs : List Transfer). Got Tselect k ∷ zs) is)
 
 pub frees_none : (slot k w : ℕ) → shows_free w ≡ true → Fits (OneSet Tselect k) (FreesAny slot) (Got Tselect k ∷ word_read slot w)
-frees_none slot k w free ts is =
-    ([], frees_any slot k w true (Got Tselect k ∷ (word_read slot w ++ (ts ++ []))) free (ap (λ (zs : List Transfer). Got Tselect k ∷ (word_read slot w ++ (zs ++ []))) is))
+frees_none slot k w free ts is = (
+  [],
+  frees_any slot k w true (Got Tselect k ∷ (word_read slot w ++ (ts ++ []))) free
+      (ap (λ (zs : List Transfer). Got Tselect k ∷ (word_read slot w ++ (zs ++ []))) is),
+)
 
 pub frees_set : (slot k w : ℕ) → shows_free w ≡ false → Fits (OneSet Tdata1 (tdata1_of Disabled)) (FreesAny slot) (Got Tselect k ∷ word_read slot w)
-frees_set slot k w used ts is =
-    (put_back k, frees_any slot k w false (Got Tselect k ∷ (word_read slot w ++ (ts ++ put_back k))) used (ap (λ (zs : List Transfer). Got Tselect k ∷ (word_read slot w ++ (zs ++ put_back k))) is))
+frees_set slot k w used ts is = (
+  put_back k,
+  frees_any slot k w false (Got Tselect k ∷ (word_read slot w ++ (ts ++ put_back k))) used
+      (ap (λ (zs : List Transfer). Got Tselect k ∷ (word_read slot w ++ (zs ++ put_back k))) is),
+)
 
 pub frees_back : (slot k w : ℕ) → shows_free w ≡ false → Fits (OneSet Tselect k) (FreesAny slot) (Got Tselect k ∷ (word_read slot w ++ freed false))
-frees_back slot k w used ts is =
-    ([], frees_any slot k w false (Got Tselect k ∷ ((word_read slot w ++ freed false) ++ (ts ++ []))) used (ap (λ (zs : List Transfer). Got Tselect k ∷ ((word_read slot w ++ freed false) ++ (zs ++ []))) is))
+frees_back slot k w used ts is = (
+  [],
+  frees_any slot k w false (Got Tselect k ∷ ((word_read slot w ++ freed false) ++ (ts ++ []))) used
+      (ap (λ (zs : List Transfer). Got Tselect k ∷ ((word_read slot w ++ freed false) ++ (zs ++ []))) is),
+)
 
 -- ---- a free slot is sought
 
@@ -71,11 +129,13 @@ sought_more h n w old mid new s m used = record {
   words = s.words ++ w ∷ [];
   used = All-push IsInUse s.words w s.used used;
   many = length_snoc s.words w n s.many;
-  made = subst (λ (zs : List Transfer). Made h old zs new) (sym (read_snoc 0 s.words w ∙ ap (λ k. words_read 0 s.words ++ word_read k w) (let e : 0 + length s.words ≡ n = omega (arith, s.many) in e)))
+  made = subst (λ (zs : List Transfer). Made h old zs new)
+      (sym (read_snoc 0 s.words w ∙ ap (λ k. words_read 0 s.words ++ word_read k w) (let e : 0 + length s.words ≡ n = omega (arith, s.many) in e)))
       (made_then h (words_read 0 s.words) (word_read n w) old mid new s.made m);
 }
 
-pub sought_found : (h n w : ℕ) (old mid new : Tells) → Sought h n old mid → n < 4 → Made h mid (word_read n w) new → shows_free w ≡ true → Did (Finds n) h old new
+pub sought_found : (h n w : ℕ) (old mid new : Tells) → Sought h n old mid → n < 4 → Made h mid (word_read n w) new → shows_free w ≡ true
+    → Did (Finds n) h old new
 sought_found h n w old mid new s small m free = record {
   transfers = words_read 0 s.words ++ word_read n w;
   whole = record { vain = s.words; used = record { all = s.used; few = omega (arith, s.many, small) }; here = s.many; tdata1 = w; free = free; is = refl };
@@ -83,32 +143,54 @@ sought_found h n w old mid new s small m free = record {
 }
 
 pub sought_all : (h n : ℕ) (old new : Tells) → Sought h n old new → n ≡ 4 → Did FindsNone h old new
-sought_all h n old new s all = record { transfers = words_read 0 s.words; whole = record { words = s.words; used = s.used; four = s.many ∙ all; is = refl }; made = s.made }
+sought_all h n old new s all = record {
+  transfers = words_read 0 s.words;
+  whole = record { words = s.words; used = s.used; four = s.many ∙ all; is = refl };
+  made = s.made;
+}
 
 abbrev free_word : ℕ
 free_word = tdata1_of Disabled
 
-finds_at : (n w : ℕ) (words : List ℕ) (ts : List Transfer) → All IsInUse words → length words ≡ n → n < 4 → shows_free w ≡ true → ts ≡ words_read 0 words ++ word_read n w → SeeksAny ts
-finds_at n w words ts all many small free is = (Some n, record { vain = words; used = record { all = all; few = omega (arith, many, small) }; here = many; tdata1 = w; free = free; is = is })
+finds_at : (n w : ℕ) (words : List ℕ) (ts : List Transfer) → All IsInUse words → length words ≡ n → n < 4 → shows_free w ≡ true
+    → ts ≡ words_read 0 words ++ word_read n w → SeeksAny ts
+finds_at n w words ts all many small free is = (
+  Some n,
+  record { vain = words; used = record { all = all; few = omega (arith, many, small) }; here = many; tdata1 = w; free = free; is = is },
+)
 
 read_again : (words : List ℕ) (w n : ℕ) → length words ≡ n → words_read 0 words ++ word_read n w ≡ words_read 0 (words ++ w ∷ [])
 read_again words w n many = sym (read_snoc 0 words w ∙ ap (λ k. words_read 0 words ++ word_read k w) (let e : 0 + length words ≡ n = omega (arith, many) in e))
 
 -- whatever the last word shows, the search can go on to its end
-goes_on : (words : List ℕ) (w n left : ℕ) (b : Bool) (ts : List Transfer) → All IsInUse words → shows_free w ≡ b → length words ≡ n → n + left ≡ 3 → ts ≡ words_read 0 words ++ word_read n w
+goes_on : (words : List ℕ) (w n left : ℕ) (b : Bool) (ts : List Transfer) → All IsInUse words → shows_free w ≡ b → length words ≡ n → n + left ≡ 3
+    → ts ≡ words_read 0 words ++ word_read n w
     → (rest : List Transfer) × SeeksAny (ts ++ rest)
 goes_on words w n left true ts all shows many sum is = ([], finds_at n w words (ts ++ []) all many (omega (arith, sum)) shows (append-nil ts ∙ is))
-goes_on words w n zero false ts all shows many sum is =
-    ([], (None, record { words = words ++ w ∷ []; used = All-push IsInUse words w all shows; four = length_snoc words w n many ∙ (let e : n + 1 ≡ 4 = omega (arith, sum) in e); is = append-nil ts ∙ is ∙ read_again words w n many }))
+goes_on words w n zero false ts all shows many sum is = (
+  [],
+  (
+    None,
+    record {
+      words = words ++ w ∷ [];
+      used = All-push IsInUse words w all shows;
+      four = length_snoc words w n many
+          ∙ (let e : n + 1 ≡ 4 = omega (arith, sum) in e);
+      is = append-nil ts ∙ is ∙ read_again words w n many;
+    },
+  ),
+)
 goes_on words w n (suc left) false ts all shows many sum is = (
   word_read (n + 1) free_word,
-  finds_at (n + 1) free_word (words ++ w ∷ []) (ts ++ word_read (n + 1) free_word) (All-push IsInUse words w all shows) (length_snoc words w n many) (omega (arith, sum)) disabled_free
+  finds_at (n + 1) free_word (words ++ w ∷ []) (ts ++ word_read (n + 1) free_word) (All-push IsInUse words w all shows) (length_snoc words w n many)
+      (omega (arith, sum)) disabled_free
       (ap (λ (zs : List Transfer). zs ++ word_read (n + 1) free_word) (is ∙ read_again words w n many)),
 )
 
 pub seeks_word : (h n : ℕ) (old mid : Tells) (s : Sought h n old mid) → n < 4 → Fits (WordRead n) SeeksAny (words_read 0 s.words)
 seeks_word h n old mid s small ts (w, is) =
-    let (rest, whole) = goes_on s.words w n (3 - n) (shows_free w) (words_read 0 s.words ++ ts) s.used refl s.many (omega (arith, small)) (ap (λ (zs : List Transfer). words_read 0 s.words ++ zs) is) in
+    let (rest, whole) = goes_on s.words w n (3 - n) (shows_free w) (words_read 0 s.words ++ ts) s.used refl s.many (omega (arith, small))
+    (ap (λ (zs : List Transfer). words_read 0 s.words ++ zs) is) in
     (rest, subst SeeksAny (append_assoc (words_read 0 s.words) ts rest) whole)
 
 -- ---- the selected slot is armed
@@ -123,7 +205,10 @@ pub sets_address : (what : SlotUse) (a : ℕ) → address_named what ≡ Some a 
 sets_address what a named ts is = ([], append-nil ts ∙ is ∙ address_made (address_named what) a named)
 
 pub arms_address : (what : SlotUse) → Fits (AddressSet what) (Armed what) []
-arms_address what ts is = (Set Tdata1 (tdata1_of (trigger_named what)) ∷ [], ap (λ (zs : List Transfer). zs ++ Set Tdata1 (tdata1_of (trigger_named what)) ∷ []) is)
+arms_address what ts is = (
+  Set Tdata1 (tdata1_of (trigger_named what)) ∷ [],
+  ap (λ (zs : List Transfer). zs ++ Set Tdata1 (tdata1_of (trigger_named what)) ∷ []) is,
+)
 
 pub arms_trigger : (what : SlotUse) → Fits (OneSet Tdata1 (tdata1_of (trigger_named what))) (Armed what) (address_set (address_named what))
 arms_trigger what ts is = ([], ap (λ (zs : List Transfer). address_set (address_named what) ++ (zs ++ [])) is)
@@ -133,7 +218,8 @@ arms_trigger what ts is = ([], ap (λ (zs : List Transfer). address_set (address
 abbrev pub arming : SlotUse → ℕ → List Transfer → Option ℕ → List Transfer
 arming what kept sought found = Got Tselect kept ∷ (sought ++ (armed_at what found ++ put_back kept))
 
-arms_any : (what : SlotUse) (kept : ℕ) (sought : List Transfer) (found : Option ℕ) (ts : List Transfer) → Seeks found sought → ts ≡ arming what kept sought found → ArmsAny what ts
+arms_any : (what : SlotUse) (kept : ℕ) (sought : List Transfer) (found : Option ℕ) (ts : List Transfer) → Seeks found sought
+    → ts ≡ arming what kept sought found → ArmsAny what ts
 arms_any what kept sought found ts seeks is = (found, record { kept = kept; sought = sought; seeks = seeks; is = is })
 
 finds_first : Seeks (Some 0) (word_read 0 free_word)
@@ -145,32 +231,42 @@ arms_keep what ts (k, is) =
     (rest, arms_any what k (word_read 0 free_word) (Some 0) (ts ++ rest) finds_first (ap (λ (zs : List Transfer). zs ++ rest) is))
 
 pub arms_seek : (what : SlotUse) (k : ℕ) → Fits SeeksAny (ArmsAny what) (Got Tselect k ∷ [])
-arms_seek what k ts (found, seeks) = (armed_at what found ++ put_back k, arms_any what k ts found (Got Tselect k ∷ (ts ++ (armed_at what found ++ put_back k))) seeks refl)
+arms_seek what k ts (found, seeks) = (
+  armed_at what found ++ put_back k,
+  arms_any what k ts found (Got Tselect k ∷ (ts ++ (armed_at what found ++ put_back k))) seeks refl,
+)
 
 pub arms_none : (what : SlotUse) (k : ℕ) (sought : List Transfer) → Seeks None sought → Fits (OneSet Tselect k) (ArmsAny what) (Got Tselect k ∷ sought)
 arms_none what k sought seeks ts is =
     ([], arms_any what k sought None (Got Tselect k ∷ (sought ++ (ts ++ []))) seeks (ap (λ (zs : List Transfer). Got Tselect k ∷ (sought ++ (zs ++ []))) is))
 
 pub arms_armed : (what : SlotUse) (k slot : ℕ) (sought : List Transfer) → Seeks (Some slot) sought → Fits (Armed what) (ArmsAny what) (Got Tselect k ∷ sought)
-arms_armed what k slot sought seeks ts is =
-    (put_back k, arms_any what k sought (Some slot) (Got Tselect k ∷ (sought ++ (ts ++ put_back k))) seeks (ap (λ (zs : List Transfer). Got Tselect k ∷ (sought ++ (zs ++ put_back k))) is))
+arms_armed what k slot sought seeks ts is = (
+  put_back k,
+  arms_any what k sought (Some slot) (Got Tselect k ∷ (sought ++ (ts ++ put_back k))) seeks
+      (ap (λ (zs : List Transfer). Got Tselect k ∷ (sought ++ (zs ++ put_back k))) is),
+)
 
-pub arms_back : (what : SlotUse) (k slot : ℕ) (sought : List Transfer) → Seeks (Some slot) sought → Fits (OneSet Tselect k) (ArmsAny what) (Got Tselect k ∷ (sought ++ armed what))
+pub arms_back : (what : SlotUse) (k slot : ℕ) (sought : List Transfer) → Seeks (Some slot) sought
+    → Fits (OneSet Tselect k) (ArmsAny what) (Got Tselect k ∷ (sought ++ armed what))
 arms_back what k slot sought seeks ts is = (
   [],
   arms_any what k sought (Some slot) (Got Tselect k ∷ ((sought ++ armed what) ++ (ts ++ []))) seeks
-      (ap (λ (zs : List Transfer). Got Tselect k ∷ zs) (append_assoc sought (armed what) (ts ++ []) ∙ ap (λ (zs : List Transfer). sought ++ (armed what ++ (zs ++ []))) is)),
+      (ap (λ (zs : List Transfer). Got Tselect k ∷ zs)
+      (append_assoc sought (armed what) (ts ++ []) ∙ ap (λ (zs : List Transfer). sought ++ (armed what ++ (zs ++ []))) is)),
 )
 
 -- ---- what was made
 
-pub address_done : (what : SlotUse) (a h : ℕ) (old new : Tells) → address_named what ≡ Some a → Made h old (Set Tdata2 a ∷ []) new → Made h old (address_set (address_named what)) new
+pub address_done : (what : SlotUse) (a h : ℕ) (old new : Tells) → address_named what ≡ Some a → Made h old (Set Tdata2 a ∷ []) new
+    → Made h old (address_set (address_named what)) new
 address_done what a h old new named m = subst (λ (zs : List Transfer). Made h old zs new) (address_made (address_named what) a named) m
 
 pub no_address_done : (what : SlotUse) (h : ℕ) (old : Tells) → address_named what ≡ None → Made h old (address_set (address_named what)) old
 no_address_done what h old named = subst (λ (zs : List Transfer). Made h old zs old) (no_address (address_named what) named) Made.nothing
 
-pub armed_did : (what : SlotUse) (k slot h : ℕ) (old a b c new : Tells) → Made h old (Got Tselect k ∷ []) a → Did (Seeks (Some slot)) h a b → Made h b (armed what) c → Made h c (put_back k) new → Did (Arms what (Some slot)) h old new
+pub armed_did : (what : SlotUse) (k slot h : ℕ) (old a b c new : Tells) → Made h old (Got Tselect k ∷ []) a → Did (Seeks (Some slot)) h a b
+    → Made h b (armed what) c → Made h c (put_back k) new → Did (Arms what (Some slot)) h old new
 armed_did what k slot h old a b c new saved seeks arms last = record {
   transfers = arming what k seeks.transfers (Some slot);
   whole = record { kept = k; sought = seeks.transfers; seeks = seeks.whole; is = refl };
@@ -178,14 +274,16 @@ armed_did what k slot h old a b c new saved seeks arms last = record {
       (made_then h seeks.transfers (armed what ++ put_back k) a b new seeks.made (made_then h (armed what) (put_back k) b c new arms last));
 }
 
-pub none_did : (what : SlotUse) (k h : ℕ) (old a b new : Tells) → Made h old (Got Tselect k ∷ []) a → Did (Seeks None) h a b → Made h b (put_back k) new → Did (Arms what None) h old new
+pub none_did : (what : SlotUse) (k h : ℕ) (old a b new : Tells) → Made h old (Got Tselect k ∷ []) a → Did (Seeks None) h a b → Made h b (put_back k) new
+    → Did (Arms what None) h old new
 none_did what k h old a b new saved seeks last = record {
   transfers = arming what k seeks.transfers None;
   whole = record { kept = k; sought = seeks.transfers; seeks = seeks.whole; is = refl };
   made = made_then h (Got Tselect k ∷ []) (seeks.transfers ++ put_back k) old a new saved (made_then h seeks.transfers (put_back k) a b new seeks.made last);
 }
 
-pub sought_behind : (k h : ℕ) (old a b : Tells) (found : Option ℕ) → Made h old (Got Tselect k ∷ []) a → (seeks : Did (Seeks found) h a b) → Made h old (Got Tselect k ∷ seeks.transfers) b
+pub sought_behind : (k h : ℕ) (old a b : Tells) (found : Option ℕ) → Made h old (Got Tselect k ∷ []) a → (seeks : Did (Seeks found) h a b)
+    → Made h old (Got Tselect k ∷ seeks.transfers) b
 sought_behind k h old a b found saved seeks = made_then h (Got Tselect k ∷ []) seeks.transfers old a b saved seeks.made
 
 pub seeks_any : (h : ℕ) (a b : Tells) (found : Option ℕ) → Did (Seeks found) h a b → Did SeeksAny h a b

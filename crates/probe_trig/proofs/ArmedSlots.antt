@@ -1,5 +1,32 @@
 -- A slot that is sought, armed or freed, along transfers.
-use Rattle.std.proofs.Common.{◌≡◌, ◌∙◌, ◌<◌, ◌≤◌, ◌+◌, ◌++◌, ℕ, suc, true, false, List, [], ◌∷◌, All, set, length, Some, slice_get, refl, sym, ap, subst, arith, inl, inr, get_or-set_same}
+use Rattle.std.proofs.Common.{
+  ◌≡◌,
+  ◌∙◌,
+  ◌<◌,
+  ◌≤◌,
+  ◌+◌,
+  ◌++◌,
+  ℕ,
+  suc,
+  true,
+  false,
+  List,
+  [],
+  ◌∷◌,
+  All,
+  set,
+  length,
+  Some,
+  slice_get,
+  refl,
+  sym,
+  ap,
+  subst,
+  arith,
+  inl,
+  inr,
+  get_or-set_same,
+}
 use Rattle.std.proofs.Math.Seq.{set-set}
 use Rattle.std.proofs.lemmas.Bool.{cases_eq}
 use Rattle.std.proofs.lemmas.List.Elements.{All-head, All-tail}
@@ -16,13 +43,14 @@ use Rattle.abstract_debugger.specs.Slots.{address_trigger, armed_for, count_trig
 use Rattle.abstract_debugger.specs.Slots.Use.{Armed}
 use Rattle.abstract_debugger.specs.Trace.{What}
 use Rattle.abstract_debugger.specs.Trace.What.{Break, Count, Watch}
+use Rattle.abstract_debugger.specs.SlotUses.{use_named}
 use Rattle.probe_trig.specs.declared.register.TriggerRegister.TheVariants.{Tdata1, Tdata2}
-use Rattle.probe_trig.specs.declared.slot_use.SlotUse.{SlotUse}
-use Rattle.probe_trig.specs.declared.slot_use.SlotUse.TheVariants as slot_use
+use Rattle.debug_model.specs.declared.slot_use.SlotUse.{SlotUse}
+use Rattle.debug_model.specs.declared.slot_use.SlotUse.TheVariants as slot_use
 use Rattle.probe_trig.specs.Runs.{IsInUse, armed, freed, words_read}
 use Rattle.probe_trig.specs.Transfers.{Transfer}
 use Rattle.probe_trig.specs.Transfers.Transfer.{Set}
-use Rattle.probe_trig.specs.SlotRegisters.{CanArm, shows_free, use_named}
+use Rattle.probe_trig.specs.SlotRegisters.{CanArm, shows_free}
 use Rattle.probe_trig.proofs.Parts.{Passed, WordPassed, passed_set, passed_then, posed, slot_at, tdata1_set, tdata2_set, word_passed}
 use Rattle.probe_trig.proofs.Shows.{shows_as_free}
 use Rattle.probe_trig.proofs.Told.{Shown, played}
@@ -37,18 +65,22 @@ pub record WordsPassed (i : ℕ) (words : List ℕ) (ss : List Slot) (k : ℕ) (
   pub last : ℕ
   pub passed : Passed (words_read i words ++ rest) (posed k ss x) rest (posed last ss x)
 
-word_used : (i w : ℕ) (ss : List Slot) → i < length ss → CountsFit ss → w ≡ tdata1_of (slot_at i ss).trigger → shows_free w ≡ false → is_free (slot_at i ss).trigger ≡ false
+word_used : (i w : ℕ) (ss : List Slot) → i < length ss → CountsFit ss → w ≡ tdata1_of (slot_at i ss).trigger → shows_free w ≡ false
+    → is_free (slot_at i ss).trigger ≡ false
 word_used i w ss lt fits e used = sym (shows_as_free w (slot_at i ss).trigger (fits i (slot_at i ss) (there_at i ss lt)) e) ∙ used
 
-pub words_passed : (i : ℕ) (words : List ℕ) (ss : List Slot) (k : ℕ) (x : Hart) (rest : List Transfer) → length ss ≡ 4 → CountsFit ss → i + length words ≤ 4 → All IsInUse words
+pub words_passed : (i : ℕ) (words : List ℕ) (ss : List Slot) (k : ℕ) (x : Hart) (rest : List Transfer) → length ss ≡ 4 → CountsFit ss → i + length words ≤ 4
+    → All IsInUse words
     → Shown (words_read i words ++ rest) (posed k ss x) → WordsPassed i words ss k x rest
-words_passed i [] ss k x rest four fits few used sh = record { used = λ j le lt. absurd (omega (arith, le, lt)); last = k; passed = record { shown = sh; is = refl } }
+words_passed i [] ss k x rest four fits few used sh =
+    record { used = λ j le lt. absurd (omega (arith, le, lt)); last = k; passed = record { shown = sh; is = refl } }
 words_passed i (w ∷ words) ss k x rest four fits few used sh =
     let more : List Transfer = words_read (suc i) words ++ rest in
     let here : i < 4 = omega (arith, few) in
     let inside : i < length ss = omega (arith, four, here) in
     let a : WordPassed i w ss k x more = word_passed i w k ss x more here sh in
-    let b : WordsPassed (suc i) words ss i x rest = words_passed (suc i) words ss i x rest four fits (omega (arith, few)) (All-tail IsInUse w words used) a.passed.shown in
+    let b : WordsPassed (suc i) words ss i x rest =
+    words_passed (suc i) words ss i x rest four fits (omega (arith, few)) (All-tail IsInUse w words used) a.passed.shown in
     record {
       used = λ j le lt. elim (cases_eq j i) [
         | inl e ↦ subst (λ n. is_free (slot_at n ss).trigger ≡ false) (sym e) (word_used i w ss inside fits a.word (All-head IsInUse w words used))
@@ -64,7 +96,8 @@ again_at : (i : ℕ) (s : Slot) (ss : List Slot) → i < length ss → slot_at i
 again_at i s ss lt = get_or-set_same ss i s free_slot lt
 
 -- a trigger is written into the slot that is selected
-pub trigger_set : (i : ℕ) (t : Trigger) (s : Slot) (ss : List Slot) (x : Hart) (rest : List Transfer) → CountFits t → slot_at i ss ≡ s → Shown (Set Tdata1 (tdata1_of t) ∷ rest) (posed i ss x)
+pub trigger_set : (i : ℕ) (t : Trigger) (s : Slot) (ss : List Slot) (x : Hart) (rest : List Transfer) → CountFits t → slot_at i ss ≡ s
+    → Shown (Set Tdata1 (tdata1_of t) ∷ rest) (posed i ss x)
     → Passed (Set Tdata1 (tdata1_of t) ∷ rest) (posed i ss x) rest (posed i (set ss i (record s { trigger = t })) x)
 trigger_set i t s ss x rest fits here sh =
     passed_set Tdata1 (tdata1_of t) rest (posed i ss x) (posed i (set ss i (record s { trigger = t })) x)
@@ -80,11 +113,14 @@ address_armed i a t s ss x rest fits lt here sh =
     let more : List Transfer = Set Tdata1 (tdata1_of t) ∷ rest in
     let u : Slot = record s { tdata2 = a } in
     let p : Passed (Set Tdata2 a ∷ more) (posed i ss x) more (posed i (set ss i u) x) =
-    passed_set Tdata2 a more (posed i ss x) (posed i (set ss i u) x) (tdata2_set i a ss x ∙ ap (λ (z : Slot). posed i (set ss i (record z { tdata2 = a })) x) here) sh in
-    let q : Passed more (posed i (set ss i u) x) rest (posed i (set (set ss i u) i (record u { trigger = t })) x) = trigger_set i t u (set ss i u) x rest fits (again_at i u ss lt) p.shown in
+    passed_set Tdata2 a more (posed i ss x) (posed i (set ss i u) x)
+    (tdata2_set i a ss x ∙ ap (λ (z : Slot). posed i (set ss i (record z { tdata2 = a })) x) here) sh in
+    let q : Passed more (posed i (set ss i u) x) rest (posed i (set (set ss i u) i (record u { trigger = t })) x) =
+    trigger_set i t u (set ss i u) x rest fits (again_at i u ss lt) p.shown in
     let v : Slot = record { trigger = t; tdata2 = a } in
     let e : posed i (set (set ss i u) i v) x ≡ posed i (set ss i v) x = ap (λ zs. posed i zs x) (set-set ss i u v) in
-    let r : Passed more (posed i (set ss i u) x) rest (posed i (set ss i v) x) = record { shown = subst (λ (z : Hart). Shown rest z) e q.shown; is = q.is ∙ ap (played rest) e } in
+    let r : Passed more (posed i (set ss i u) x) rest (posed i (set ss i v) x) =
+    record { shown = subst (λ (z : Hart). Shown rest z) e q.shown; is = q.is ∙ ap (played rest) e } in
     passed_then (Set Tdata2 a ∷ more) more rest (posed i ss x) (posed i (set ss i u) x) (posed i (set ss i v) x) p r
 
 pub record ArmedAs (meant : SlotUse) (i : ℕ) (s : Slot) (ss : List Slot) (x : Hart) (rest : List Transfer) : Type 0 where
@@ -92,12 +128,17 @@ pub record ArmedAs (meant : SlotUse) (i : ℕ) (s : Slot) (ss : List Slot) (x : 
   pub named : use_named meant ≡ Armed what
   pub passed : Passed (armed meant ++ rest) (posed i ss x) rest (posed i (set ss i (armed_for what s)) x)
 
-pub armed_as : (meant : SlotUse) (i : ℕ) (s : Slot) (ss : List Slot) (x : Hart) (rest : List Transfer) → CanArm meant → i < length ss → slot_at i ss ≡ s → Shown (armed meant ++ rest) (posed i ss x) → ArmedAs meant i s ss x rest
+pub armed_as : (meant : SlotUse) (i : ℕ) (s : Slot) (ss : List Slot) (x : Hart) (rest : List Transfer) → CanArm meant → i < length ss → slot_at i ss ≡ s
+    → Shown (armed meant ++ rest) (posed i ss x) → ArmedAs meant i s ss x rest
 armed_as slot_use.Free i s ss x rest can lt here sh = absurd can
-armed_as (slot_use.Break a) i s ss x rest can lt here sh = record { what = Break a; named = refl; passed = address_armed i a (address_trigger true false false) s ss x rest tt lt here sh }
-armed_as (slot_use.Watch Load a) i s ss x rest can lt here sh = record { what = Watch Load a; named = refl; passed = address_armed i a (watch_trigger Load) s ss x rest tt lt here sh }
-armed_as (slot_use.Watch Store a) i s ss x rest can lt here sh = record { what = Watch Store a; named = refl; passed = address_armed i a (watch_trigger Store) s ss x rest tt lt here sh }
-armed_as (slot_use.Watch Access a) i s ss x rest can lt here sh = record { what = Watch Access a; named = refl; passed = address_armed i a (watch_trigger Access) s ss x rest tt lt here sh }
+armed_as (slot_use.Break a) i s ss x rest can lt here sh =
+    record { what = Break a; named = refl; passed = address_armed i a (address_trigger true false false) s ss x rest tt lt here sh }
+armed_as (slot_use.Watch Load a) i s ss x rest can lt here sh =
+    record { what = Watch Load a; named = refl; passed = address_armed i a (watch_trigger Load) s ss x rest tt lt here sh }
+armed_as (slot_use.Watch Store a) i s ss x rest can lt here sh =
+    record { what = Watch Store a; named = refl; passed = address_armed i a (watch_trigger Store) s ss x rest tt lt here sh }
+armed_as (slot_use.Watch Access a) i s ss x rest can lt here sh =
+    record { what = Watch Access a; named = refl; passed = address_armed i a (watch_trigger Access) s ss x rest tt lt here sh }
 armed_as (slot_use.Count n) i s ss x rest can lt here sh =
     let small : n ≤ 16383 = can.1 in
     record { what = Count n; named = refl; passed = trigger_set i (count_trigger n) s ss x rest (omega (arith, small)) here sh }

@@ -7,12 +7,12 @@ use Rattle.abstract_debugger.specs.Slots.{any_hit, hits_of, slots_at, slots_here
 use Rattle.abstract_debugger.specs.Stands.{Rewrote, Target}
 use Rattle.probe_trig.specs.declared.change.Change.{Change}
 use Rattle.probe_trig.specs.declared.change.Change.TheVariants as change
-use Rattle.probe_trig.specs.declared.slot_use.SlotView.{SlotView}
+use Rattle.probe_trig.specs.declared.slot_view.SlotView.{SlotView}
 use Rattle.probe_trig.specs.declared.slot_words.SlotWords.{SlotWords}
 use Rattle.probe_trig.specs.Runs.{Changes, ChangesAny, Reads}
-use Rattle.probe_trig.specs.Slots.{ForgotAt, Shows, ViewedAt, hit_of_words, use_of_words}
+use Rattle.probe_trig.specs.Slots.{ForgotAt, Shows, SlotsRead, ViewedAt, hit_of_words, use_of_words}
 use Rattle.probe_run.specs.Acts.{Tells}
-use Rattle.probe_trig.specs.Single.{ChangedAll}
+use Rattle.probe_trig.specs.Single.{ChangedAll, ReadAll}
 use Rattle.probe_trig.specs.Transfers.{Did, Transfer}
 use Rattle.probe_trig.specs.SlotRegisters.{shows_hit, trigger_changed}
 use Rattle.probe_trig.proofs.Fitting.{four_changed, four_read}
@@ -55,7 +55,8 @@ any_four false false true d = refl
 any_four false false false true = refl
 any_four false false false false = refl
 
-pub makes_changes : (how : Change) (some : Bool) (wa wb wc wd h : ℕ) → some ≡ (shows_hit wa || (shows_hit wb || (shows_hit wc || shows_hit wd))) → Makes (Changes how wa wb wc wd) h (ChangedAt how some h)
+pub makes_changes : (how : Change) (some : Bool) (wa wb wc wd h : ℕ) → some ≡ (shows_hit wa || (shows_hit wb || (shows_hit wc || shows_hit wd)))
+    → Makes (Changes how wa wb wc wd) h (ChangedAt how some h)
 makes_changes how some wa wb wc wd h some_is x ts old new is whole frozen r sh w =
     let v : Whole x = whole_of h x whole in
     let ss : List Slot = v.four.a ∷ v.four.b ∷ v.four.c ∷ v.four.d ∷ [] in
@@ -66,7 +67,8 @@ makes_changes how some wa wb wc wd h some_is x ts old new is whole frozen r sh w
     record {
       some_is =
           some_is
-          ∙ hits_any wa wb wc wd (trigger_has_hit v.four.a.trigger) (trigger_has_hit v.four.b.trigger) (trigger_has_hit v.four.c.trigger) (trigger_has_hit v.four.d.trigger)
+          ∙ hits_any wa wb wc wd (trigger_has_hit v.four.a.trigger) (trigger_has_hit v.four.b.trigger) (trigger_has_hit v.four.c.trigger)
+          (trigger_has_hit v.four.d.trigger)
           (shows_as_hit wa v.four.a.trigger (v.fits 0 v.four.a refl) f.word_a) (shows_as_hit wb v.four.b.trigger (v.fits 1 v.four.b refl) f.word_b)
           (shows_as_hit wc v.four.c.trigger (v.fits 2 v.four.c refl) f.word_c) (shows_as_hit wd v.four.d.trigger (v.fits 3 v.four.d refl) f.word_d)
           ∙ any_four (trigger_has_hit v.four.a.trigger) (trigger_has_hit v.four.b.trigger) (trigger_has_hit v.four.c.trigger) (trigger_has_hit v.four.d.trigger)
@@ -86,15 +88,26 @@ makes_forget h x ts old new is whole frozen (a, b, c, d, r) sh w =
 
 -- ---- the slots are read
 
-pub makes_view : (view : SlotView) (wa wb wc wd : SlotWords) (h : ℕ) → Shows view (map use_of_words (wa ∷ wb ∷ wc ∷ wd ∷ [])) (map hit_of_words (wa ∷ wb ∷ wc ∷ wd ∷ [])) → Makes (Reads wa wb wc wd) h (ViewedAt view h)
+pub slots_read : (view : SlotView) (words : List SlotWords) (h : ℕ) (old new : Tells) → ReadAll words h old new
+    → Shows view (map use_of_words words) (map hit_of_words words) → SlotsRead view h old new
+slots_read view words h old new (a, b, c, d, is, did) shows =
+    record { a = a; b = b; c = c; d = d; did = did; shows = subst (λ ws. Shows view (map use_of_words ws) (map hit_of_words ws)) is shows }
+
+pub makes_view : (view : SlotView) (wa wb wc wd : SlotWords) (h : ℕ)
+    → Shows view (map use_of_words (wa ∷ wb ∷ wc ∷ wd ∷ [])) (map hit_of_words (wa ∷ wb ∷ wc ∷ wd ∷ [])) → Makes (Reads wa wb wc wd) h (ViewedAt view h)
 makes_view view wa wb wc wd h shows x ts old new is whole frozen r sh w =
     let v : Whole x = whole_of h x whole in
     let ss : List Slot = v.four.a ∷ v.four.b ∷ v.four.c ∷ v.four.d ∷ [] in
     let k : ℕ = x.debug.tselect in
     let all : List Transfer = four_read r.kept wa wb wc wd in
-    let f : FourSeen x k r.kept wa wb wc wd ss = seen_four x k r.kept wa wb wc wd v.four.a v.four.b v.four.c v.four.d whole.selected v.fits (shown_from ts all x (posed k ss x) r.is v.is sh) in
+    let f : FourSeen x k r.kept wa wb wc wd ss = seen_four x k r.kept wa wb wc wd v.four.a v.four.b v.four.c v.four.d whole.selected v.fits
+    (shown_from ts all x (posed k ss x) r.is v.is sh) in
     let e : slots_at h old.board ≡ ss = slots_there h x old.board is ∙ v.four.is in
     record {
-      shows = record { uses_are = shows.uses_are ∙ f.uses ∙ ap (map use_of) (sym e); hits_are = shows.hits_are ∙ f.hits ∙ ap hits_of (sym e); small = shows.small };
+      shows = record {
+        uses_are = shows.uses_are ∙ f.uses ∙ ap (map use_of) (sym e);
+        hits_are = shows.hits_are ∙ f.hits ∙ ap hits_of (sym e);
+        small = shows.small;
+      };
       went = went_as h x (played ts x) old new is frozen (played_from ts all x (posed k ss x) r.is v.is ∙ f.is ∙ sym v.is) w;
     }

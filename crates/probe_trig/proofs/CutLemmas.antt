@@ -6,7 +6,7 @@ use Rattle.rv_model.specs.DebugLaws.{WriteKeeps}
 use Rattle.rv_model.specs.DebugRegisters.{debug_written}
 use Rattle.rv_model.specs.Registers.{csr_written}
 use Rattle.rv_model.proofs.DebugLemmas.{writes_keep}
-use Rattle.debug_model.specs.Dmi.{DmiScript}
+use Rattle.debug_model.specs.Dmi.{DmiComing}
 use Rattle.debug_model.specs.Module.{Site}
 use Rattle.debug_model.specs.Told.{Far, IsHalted, IsReady, site_of}
 use Rattle.abstract_debugger.specs.Laws.{IsFrozen}
@@ -60,32 +60,43 @@ alone x = record { core = refl; requests = record { halted = refl; halt_request 
 
 -- ---- the site
 
-left_then : (Y Z : Hart → Hart → Type 0) (h : ℕ) (x y : Hart) (s mid t : Site) → slice_get s.board.harts h ≡ Some x → IsFrozen x.debug → IsFrozen y.debug → Rewrote (becomes y) h (target_of s) (target_of mid) → mid.unit.bus ≡ s.unit.bus
+left_then : (Y Z : Hart → Hart → Type 0) (h : ℕ) (x y : Hart) (s mid t : Site) → slice_get s.board.harts h ≡ Some x → IsFrozen x.debug → IsFrozen y.debug
+    → Rewrote (becomes y) h (target_of s) (target_of mid) → mid.unit.bus ≡ s.unit.bus
     → ((z : Hart) → Y y z → Z x z) → LeftAside Y h mid t → LeftAside Z h s t
 left_then Y Z h x y s mid t is fx fy w bus alone l =
     let at : slice_get mid.board.harts h ≡ Some y = now_there h x y (target_of s) (target_of mid) is fx w in
     let same : l.hart ≡ y = same_Some l.hart y (sym l.here ∙ at) in
-    let v : Rewrote (becomes l.left) h (target_of mid) (target_of t) = but_wrote h y l.left mid t at fy (record { harts = l.harts; board = l.board; journal = l.journal; bus = l.bus }) in
-    let b : Rewrote (becomes l.left) h (target_of s) (target_of t) = rewrote_then (becomes y) (becomes l.left) h (target_of s) (target_of mid) (target_of t) (frozen_at h x s.board is fx) (λ z f. fy) w v in
+    let v : Rewrote (becomes l.left) h (target_of mid) (target_of t) =
+    but_wrote h y l.left mid t at fy (record { harts = l.harts; board = l.board; journal = l.journal; bus = l.bus }) in
+    let b : Rewrote (becomes l.left) h (target_of s) (target_of t) =
+    rewrote_then (becomes y) (becomes l.left) h (target_of s) (target_of mid) (target_of t) (frozen_at h x s.board is fx) (λ z f. fy) w v in
     record {
       hart = x;
       here = is;
       left = l.left;
       one = alone l.left (subst (λ (z : Hart). Y z l.left) same l.one);
       harts = b.harts;
-      board = b.board ∙ ap (board_with (after_turns b.harts s.board)) (sym (over_here h l.left x (after_turns b.harts s.board).harts (still_there h x s b.harts is fx)));
+      board = b.board ∙ ap (board_with (after_turns b.harts s.board))
+          (sym (over_here h l.left x (after_turns b.harts s.board).harts (still_there h x s b.harts is fx)));
       journal = b.journal;
       bus = l.bus ∙ bus;
     }
   where
-    still_there : (h : ℕ) (x : Hart) (s : Site) (harts : List ℕ) → slice_get s.board.harts h ≡ Some x → IsFrozen x.debug → slice_get (after_turns harts s.board).harts h ≡ Some x
+    still_there : (h : ℕ) (x : Hart) (s : Site) (harts : List ℕ) → slice_get s.board.harts h ≡ Some x → IsFrozen x.debug
+        → slice_get (after_turns harts s.board).harts h ≡ Some x
     still_there h x s harts is f = frozen_stays h x s.board harts is f
 
-pub broke_off : (Y Z : Hart → Hart → Type 0) (h : ℕ) (x : Hart) (ts : List Transfer) (f : Far) (mid new : Option Far) → slice_get (site_of f).board.harts h ≡ Some x → IsFrozen x.debug → Led h x ts (site_of f) mid
+pub broke_off : (Y Z : Hart → Hart → Type 0) (h : ℕ) (x : Hart) (ts : List Transfer) (f : Far) (mid new : Option Far)
+    → slice_get (site_of f).board.harts h ≡ Some x → IsFrozen x.debug → Led h x ts (site_of f) mid
     → ((z : Hart) → Y (played ts x) z → Z x z) → Leaves (LeftAside Y h) mid new → Leaves (LeftAside Z h) (Some f) new
 broke_off Y Z h x ts f mid new is frozen l alone cut =
     let k : IsLeft (LeftAside Y h) l.far.live.chip new = subst (λ o. Leaves (LeftAside Y h) o new) l.is cut in
-    record { far = k.far; is = k.is; left = left_then Y Z h x (played ts x) (site_of f) (site_of l.far) (site_of k.far) is frozen (frozen_played ts x frozen) l.wrote l.bus alone k.left }
+    record {
+      far = k.far;
+      is = k.is;
+      left = left_then Y Z h x (played ts x) (site_of f) (site_of l.far) (site_of k.far) is frozen
+          (frozen_played ts x frozen) l.wrote l.bus alone k.left;
+    }
 
 -- what a failed transfer may have made of it
 abbrev pub may : Attempt → Hart → Hart → Type 0
@@ -97,7 +108,8 @@ may_alone (Getting r) x y z d m = subst (λ (u : Hart). DebugAlone x u) (sym m) 
 may_alone (Setting r v) x y z d (inl m) = subst (λ (u : Hart). DebugAlone x u) (sym m) d
 may_alone (Setting r v) x y z d (inr m) = subst (λ (u : Hart). DebugAlone x u) (sym m) (alone_written x y r v d)
 
-pub attempt_cut : (h : ℕ) (a : Attempt) (old_count new_count : ℕ) (old new : Tells) (e : AccessFault) → AttemptFailed h a old_count new_count old new e → IfCut (Leaves (LeftAside (may a) h) old.far new.far) e
+pub attempt_cut : (h : ℕ) (a : Attempt) (old_count new_count : ℕ) (old new : Tells) (e : AccessFault) → AttemptFailed h a old_count new_count old new e
+    → IfCut (Leaves (LeftAside (may a) h) old.far new.far) e
 attempt_cut h (Getting r) old_count new_count old new e f = f.cut
 attempt_cut h (Setting r v) old_count new_count old new e f = f.cut
 
@@ -117,13 +129,15 @@ cut_none P access_fault.StillBusy p = p
 cut_none P (access_fault.Run why) p = tt
 cut_none P (access_fault.Odd word) p = tt
 
-pub failed_cut : (Whole : List Transfer → Type 0) (h old_count new_count : ℕ) (far : Option Far) (script : Option DmiScript) (new : Tells) (e : AccessFault) → IsReady far → IsHalted h far
-    → FailedIn Whole h old_count new_count (tells far script) new e → IfCut (Leaves (LeftAside DebugAlone h) far new.far) e
-failed_cut Whole h old_count new_count None script new e ready halted f = cut_none (Leaves (LeftAside DebugAlone h) None new.far) e tt
-failed_cut Whole h old_count new_count (Some c) script new e ready halted f =
+pub failed_cut : (Whole : List Transfer → Type 0) (h old_count new_count : ℕ) (far : Option Far) (coming : Option DmiComing) (new : Tells) (e : AccessFault)
+    → IsReady far → IsHalted h far
+    → FailedIn Whole h old_count new_count (tells far coming) new e → IfCut (Leaves (LeftAside DebugAlone h) far new.far) e
+failed_cut Whole h old_count new_count None coming new e ready halted f = cut_none (Leaves (LeftAside DebugAlone h) None new.far) e tt
+failed_cut Whole h old_count new_count (Some c) coming new e ready halted f =
     let x : Hart = halted.hart in
     let frozen : IsFrozen x.debug = frozen_halted h c ready halted in
-    let l : Led h x f.done (site_of c) f.mid.far = made_led h c x f.done (tells (Some c) script) f.mid halted.is frozen refl f.made in
+    let l : Led h x f.done (site_of c) f.mid.far = made_led h c x f.done (tells (Some c) coming) f.mid halted.is frozen refl f.made in
     cut_as (Leaves (LeftAside (may f.attempt) h) f.mid.far new.far) (Leaves (LeftAside DebugAlone h) (Some c) new.far) e
-    (broke_off (may f.attempt) DebugAlone h x f.done c f.mid.far new.far halted.is frozen l (λ z m. may_alone f.attempt x (played f.done x) z (alone_played f.done x x (alone x)) m))
+    (broke_off (may f.attempt) DebugAlone h x f.done c f.mid.far new.far halted.is frozen l
+    (λ z m. may_alone f.attempt x (played f.done x) z (alone_played f.done x x (alone x)) m))
     (attempt_cut h f.attempt old_count new_count f.mid new e f.failed)

@@ -1,5 +1,34 @@
 -- What the ending of a step makes of the hart: its slots with a hit are on again, and their hits are forgotten where the step was a whole one.
-use Rattle.std.proofs.Common.{◌≡◌, ◌∙◌, ◌<◌, ◌++◌, ◌||◌, ℕ, zero, suc, Bool, true, false, List, [], ◌∷◌, map, Option, Some, None, option_map, slice_get, refl, sym, ap, subst, arith, append-nil, append_assoc, if◌then◌else◌}
+use Rattle.std.proofs.Common.{
+  ◌≡◌,
+  ◌∙◌,
+  ◌<◌,
+  ◌++◌,
+  ◌||◌,
+  ℕ,
+  zero,
+  suc,
+  Bool,
+  true,
+  false,
+  List,
+  [],
+  ◌∷◌,
+  map,
+  Option,
+  Some,
+  None,
+  option_map,
+  slice_get,
+  refl,
+  sym,
+  ap,
+  subst,
+  arith,
+  append-nil,
+  append_assoc,
+  if◌then◌else◌,
+}
 use Rattle.std.specs.Prelude.{◌==◌}
 use Rattle.std.proofs.lemmas.Option.{same_Some}
 use Rattle.rv_model.specs.declared.cause.Cause.{Cause}
@@ -87,7 +116,8 @@ makes_end executed h x ts old new is whole frozen r sh w =
     let v : Rewrote (becomes (played r.rest x)) h old new = subst (λ (z : Hart). Rewrote (becomes z) h old new) (ap (λ zs. played zs x) r.is) w in
     let (a, b, c, d, changes) = r.changes in
     let m : ChangedAt (ending executed) (shows_hit a || (shows_hit b || (shows_hit c || shows_hit d))) h old new =
-    makes_changes (ending executed) (shows_hit a || (shows_hit b || (shows_hit c || shows_hit d))) a b c d h refl x r.rest old new is whole frozen changes s.1 v in
+    makes_changes (ending executed) (shows_hit a || (shows_hit b || (shows_hit c || shows_hit d))) a b c d h refl x r.rest old new is whole frozen changes s.1
+    v in
     record { hart = x; here = is; frozen = frozen; executed_is = r.executed_is ∙ shows_as_step r.word x s.0; wrote = m.wrote }
 
 -- ---- a change made after turns
@@ -116,13 +146,17 @@ cleared executed h ran mid new clears e =
     let went : WentOn ran t = record { harts = clears.harts; board = refl; journal = clears.journal } in
     let first : Rewrote (with_step false) h t mid = record { harts = []; board = clears.board; journal = sym (append-nil mid.journal) } in
     let frozen : IsFrozenAt h b = λ x here. frozen_of x e.hart (over_back (with_step false) h x e.hart b.harts there here) e.frozen in
-    let both : Rewrote (λ x. changes_all (ending executed) (with_step false x)) h t new = rewrote_then (with_step false) (changes_all (ending executed)) h t mid new frozen (λ x f. record { why = f.why; halted = f.halted; not_asked = f.not_asked }) first e.wrote in
+    let both : Rewrote (λ x. changes_all (ending executed) (with_step false x)) h t new =
+    rewrote_then (with_step false) (changes_all (ending executed)) h t mid new frozen
+    (λ x f. record { why = f.why; halted = f.halted; not_asked = f.not_asked }) first e.wrote in
     let ended : Rewrote (with_debug_part step_ended) h t new = record {
       harts = both.harts;
       board =
           both.board ∙ ap (λ hs. let c : Board = record { harts = hs; memory = (after_turns both.harts b).memory } in c)
           (over_where (λ x. changes_all (ending executed) (with_step false x)) (with_debug_part step_ended) h (after_turns both.harts b).harts
-          (λ x here. ended_as executed x (e.executed_is ∙ ap (λ (z : Hart). is_step z.debug.halted) (sym (over_back (with_step false) h x e.hart b.harts there (sym (stays_same h b both.harts frozen) ∙ here))))));
+          (λ x here. ended_as executed x (e.executed_is
+          ∙ ap (λ (z : Hart). is_step z.debug.halted) (sym (over_back (with_step false) h x e.hart b.harts there
+          (sym (stays_same h b both.harts frozen) ∙ here))))));
       journal = both.journal;
     } in
     record {
@@ -136,7 +170,8 @@ cleared executed h ran mid new clears e =
   where
     frozen_of : (x z : Hart) → with_step false x ≡ z → IsFrozen z.debug → IsFrozen x.debug
     frozen_of x z e f =
-        let k : IsFrozen (with_step false x).debug = subst (λ (u : Hart). IsFrozen u.debug) (sym e) f in record { why = k.why; halted = k.halted; not_asked = k.not_asked }
+        let k : IsFrozen (with_step false x).debug = subst (λ (u : Hart). IsFrozen u.debug) (sym e) f in
+        record { why = k.why; halted = k.halted; not_asked = k.not_asked }
 
     over_where : (f g : Hart → Hart) (h : ℕ) (hs : List Hart) → ((x : Hart) → slice_get hs h ≡ Some x → f x ≡ g x) → over h f hs ≡ over h g hs
     over_where f g h [] same = refl

@@ -42,34 +42,46 @@ reads_any kept a b c d ts is = (a, b, c, d, record { kept = kept; is = is })
 pub reads_keep : Fits (OneGot Tselect) ReadsAny []
 reads_keep ts (k, is) = (
   slot_read 0 no_words ++ (slot_read 1 no_words ++ (slot_read 2 no_words ++ (slot_read 3 no_words ++ put_back k))),
-  reads_any k no_words no_words no_words no_words _ (ap (λ (zs : List Transfer). zs ++ (slot_read 0 no_words ++ (slot_read 1 no_words ++ (slot_read 2 no_words ++ (slot_read 3 no_words ++ put_back k))))) is),
+  reads_any k no_words no_words no_words no_words _
+      (ap (λ (zs : List Transfer). zs ++ (slot_read 0 no_words ++ (slot_read 1 no_words ++ (slot_read 2 no_words ++ (slot_read 3 no_words ++ put_back k)))))
+      is),
 )
 
 pub reads_0 : (k : ℕ) → Fits (SlotRead 0) ReadsAny (Got Tselect k ∷ [])
 reads_0 k ts (a, is) = (
   slot_read 1 no_words ++ (slot_read 2 no_words ++ (slot_read 3 no_words ++ put_back k)),
-  reads_any k a no_words no_words no_words _ (ap (λ (zs : List Transfer). Got Tselect k ∷ (zs ++ (slot_read 1 no_words ++ (slot_read 2 no_words ++ (slot_read 3 no_words ++ put_back k))))) is),
+  reads_any k a no_words no_words no_words _ (ap (λ (zs : List Transfer). Got Tselect k
+      ∷ (zs ++ (slot_read 1 no_words ++ (slot_read 2 no_words ++ (slot_read 3 no_words ++ put_back k))))) is),
 )
 
 pub reads_1 : (k : ℕ) (a : SlotWords) → Fits (SlotRead 1) ReadsAny (Got Tselect k ∷ slot_read 0 a)
 reads_1 k a ts (b, is) = (
   slot_read 2 no_words ++ (slot_read 3 no_words ++ put_back k),
-  reads_any k a b no_words no_words _ (ap (λ (zs : List Transfer). (Got Tselect k ∷ slot_read 0 a) ++ (zs ++ (slot_read 2 no_words ++ (slot_read 3 no_words ++ put_back k)))) is),
+  reads_any k a b no_words no_words _ (ap (λ (zs : List Transfer). (Got Tselect k ∷ slot_read 0 a)
+      ++ (zs ++ (slot_read 2 no_words ++ (slot_read 3 no_words ++ put_back k)))) is),
 )
 
 pub reads_2 : (k : ℕ) (a b : SlotWords) → Fits (SlotRead 2) ReadsAny (Got Tselect k ∷ (slot_read 0 a ++ slot_read 1 b))
 reads_2 k a b ts (c, is) = (
   slot_read 3 no_words ++ put_back k,
-  reads_any k a b c no_words _ (ap (λ (zs : List Transfer). (Got Tselect k ∷ (slot_read 0 a ++ slot_read 1 b)) ++ (zs ++ (slot_read 3 no_words ++ put_back k))) is),
+  reads_any k a b c no_words _ (ap (λ (zs : List Transfer). (Got Tselect k ∷ (slot_read 0 a ++ slot_read 1 b)) ++ (zs ++ (slot_read 3 no_words ++ put_back k)))
+      is),
 )
 
 pub reads_3 : (k : ℕ) (a b c : SlotWords) → Fits (SlotRead 3) ReadsAny (Got Tselect k ∷ (slot_read 0 a ++ (slot_read 1 b ++ slot_read 2 c)))
-reads_3 k a b c ts (d, is) =
-    (put_back k, reads_any k a b c d _ (ap (λ (zs : List Transfer). (Got Tselect k ∷ (slot_read 0 a ++ (slot_read 1 b ++ slot_read 2 c))) ++ (zs ++ put_back k)) is))
+reads_3 k a b c ts (d, is) = (
+  put_back k,
+  reads_any k a b c d _ (ap (λ (zs : List Transfer). (Got Tselect k ∷ (slot_read 0 a ++ (slot_read 1 b ++ slot_read 2 c))) ++ (zs ++ put_back k))
+      is),
+)
 
-pub reads_back : (k : ℕ) (a b c d : SlotWords) → Fits (OneSet Tselect k) ReadsAny (Got Tselect k ∷ (slot_read 0 a ++ (slot_read 1 b ++ (slot_read 2 c ++ slot_read 3 d))))
-reads_back k a b c d ts is =
-    ([], reads_any k a b c d _ (ap (λ (zs : List Transfer). (Got Tselect k ∷ (slot_read 0 a ++ (slot_read 1 b ++ (slot_read 2 c ++ slot_read 3 d)))) ++ (zs ++ [])) is))
+pub reads_back : (k : ℕ) (a b c d : SlotWords) → Fits (OneSet Tselect k) ReadsAny
+    (Got Tselect k ∷ (slot_read 0 a ++ (slot_read 1 b ++ (slot_read 2 c ++ slot_read 3 d))))
+reads_back k a b c d ts is = (
+  [],
+  reads_any k a b c d _ (ap (λ (zs : List Transfer). (Got Tselect k ∷ (slot_read 0 a ++ (slot_read 1 b ++ (slot_read 2 c ++ slot_read 3 d))))
+      ++ (zs ++ [])) is),
+)
 
 -- ---- the slots with a hit are changed
 
@@ -83,10 +95,18 @@ pub no_hit : (how : Change) (w : ℕ) → shows_hit w ≡ false → [] ≡ hit_c
 no_hit how w none = ap (λ b. if b then Set Tdata1 (word_changed how w) ∷ [] else []) (sym none)
 
 pub changed_sets : (how : Change) (slot w : ℕ) → shows_hit w ≡ true → Fits (OneSet Tdata1 (word_changed how w)) (SlotChanged how slot) (word_read slot w)
-changed_sets how slot w hit ts is = ([], (w, ap (λ (zs : List Transfer). word_read slot w ++ (zs ++ [])) is ∙ ap (λ (zs : List Transfer). word_read slot w ++ zs) (hit_is how w hit)))
+changed_sets how slot w hit ts is = (
+  [],
+  (
+    w,
+    ap (λ (zs : List Transfer). word_read slot w ++ (zs ++ [])) is
+        ∙ ap (λ (zs : List Transfer). word_read slot w ++ zs) (hit_is how w hit),
+  ),
+)
 
 abbrev pub four_changed : Change → ℕ → ℕ → ℕ → ℕ → ℕ → List Transfer
-four_changed how kept a b c d = Got Tselect kept ∷ (slot_changed how 0 a ++ (slot_changed how 1 b ++ (slot_changed how 2 c ++ (slot_changed how 3 d ++ put_back kept))))
+four_changed how kept a b c d = Got Tselect kept ∷ (slot_changed how 0 a
+    ++ (slot_changed how 1 b ++ (slot_changed how 2 c ++ (slot_changed how 3 d ++ put_back kept))))
 
 pub changes_any : (how : Change) (kept a b c d : ℕ) (ts : List Transfer) → ts ≡ four_changed how kept a b c d → ChangesAny how ts
 changes_any how kept a b c d ts is = (a, b, c, d, record { kept = kept; is = is })
@@ -113,8 +133,11 @@ changes_0 how k ts (a, is) =
 
 pub changes_1 : (how : Change) (k a : ℕ) → Fits (SlotChanged how 1) (ChangesAny how) (Got Tselect k ∷ slot_changed how 0 a)
 changes_1 how k a ts (b, is) =
-    let rest : List Transfer = slot_changed how 2 0 ++ (slot_changed how 3 0 ++ put_back k) in
-    (rest, changes_any how k a b 0 0 (Got Tselect k ∷ (slot_changed how 0 a ++ (ts ++ rest))) (ap (λ (zs : List Transfer). Got Tselect k ∷ (slot_changed how 0 a ++ (zs ++ rest))) is))
+    let rest : List Transfer = slot_changed how 2 0 ++ (slot_changed how 3 0 ++ put_back k) in (
+      rest,
+      changes_any how k a b 0 0 (Got Tselect k ∷ (slot_changed how 0 a ++ (ts ++ rest)))
+          (ap (λ (zs : List Transfer). Got Tselect k ∷ (slot_changed how 0 a ++ (zs ++ rest))) is),
+    )
 
 pub changes_2 : (how : Change) (k a b : ℕ) → Fits (SlotChanged how 2) (ChangesAny how) (Got Tselect k ∷ (slot_changed how 0 a ++ slot_changed how 1 b))
 changes_2 how k a b ts (c, is) =
@@ -125,7 +148,8 @@ changes_2 how k a b ts (c, is) =
           ∙ ap (λ (zs : List Transfer). slot_changed how 0 a ++ (slot_changed how 1 b ++ (zs ++ rest))) is)),
     )
 
-pub changes_3 : (how : Change) (k a b c : ℕ) → Fits (SlotChanged how 3) (ChangesAny how) (Got Tselect k ∷ (slot_changed how 0 a ++ (slot_changed how 1 b ++ slot_changed how 2 c)))
+pub changes_3 : (how : Change) (k a b c : ℕ) → Fits (SlotChanged how 3) (ChangesAny how)
+    (Got Tselect k ∷ (slot_changed how 0 a ++ (slot_changed how 1 b ++ slot_changed how 2 c)))
 changes_3 how k a b c ts (d, is) = (
   put_back k,
   changes_any how k a b c d (Got Tselect k ∷ ((slot_changed how 0 a ++ (slot_changed how 1 b ++ slot_changed how 2 c)) ++ (ts ++ put_back k)))
@@ -133,18 +157,24 @@ changes_3 how k a b c ts (d, is) = (
       ∙ ap (λ (zs : List Transfer). slot_changed how 0 a ++ (slot_changed how 1 b ++ (slot_changed how 2 c ++ (zs ++ put_back k)))) is)),
 )
 
-pub changes_back : (how : Change) (k a b c d : ℕ) → Fits (OneSet Tselect k) (ChangesAny how) (Got Tselect k ∷ (slot_changed how 0 a ++ (slot_changed how 1 b ++ (slot_changed how 2 c ++ slot_changed how 3 d))))
+pub changes_back : (how : Change) (k a b c d : ℕ)
+    → Fits (OneSet Tselect k) (ChangesAny how) (Got Tselect k
+    ∷ (slot_changed how 0 a ++ (slot_changed how 1 b ++ (slot_changed how 2 c ++ slot_changed how 3 d))))
 changes_back how k a b c d ts is = (
   [],
   changes_any how k a b c d (Got Tselect k ∷ ((slot_changed how 0 a ++ (slot_changed how 1 b ++ (slot_changed how 2 c ++ slot_changed how 3 d))) ++ (ts ++ [])))
-      (ap (λ (zs : List Transfer). Got Tselect k ∷ zs) (after_four (slot_changed how 0 a) (slot_changed how 1 b) (slot_changed how 2 c) (slot_changed how 3 d) (ts ++ [])
+      (ap (λ (zs : List Transfer). Got Tselect k ∷ zs)
+      (after_four (slot_changed how 0 a) (slot_changed how 1 b) (slot_changed how 2 c) (slot_changed how 3 d) (ts ++ [])
       ∙ ap (λ (zs : List Transfer). slot_changed how 0 a ++ (slot_changed how 1 b ++ (slot_changed how 2 c ++ (slot_changed how 3 d ++ (zs ++ []))))) is)),
 )
 
 -- a slot without a hit is not written
-pub unchanged_made : (how : Change) (slot w h : ℕ) (old new : Tells) → shows_hit w ≡ false → Made h old (word_read slot w) new → Made h old (slot_changed how slot w) new
+pub unchanged_made : (how : Change) (slot w h : ℕ) (old new : Tells) → shows_hit w ≡ false → Made h old (word_read slot w) new
+    → Made h old (slot_changed how slot w) new
 unchanged_made how slot w h old new none m = subst (λ (zs : List Transfer). Made h old (word_read slot w ++ zs) new) (no_hit how w none) m
 
-pub changed_made : (how : Change) (slot w h : ℕ) (old mid new : Tells) → shows_hit w ≡ true → Made h old (word_read slot w) mid → Made h mid (Set Tdata1 (word_changed how w) ∷ []) new → Made h old (slot_changed how slot w) new
+pub changed_made : (how : Change) (slot w h : ℕ) (old mid new : Tells) → shows_hit w ≡ true → Made h old (word_read slot w) mid
+    → Made h mid (Set Tdata1 (word_changed how w) ∷ []) new → Made h old (slot_changed how slot w) new
 changed_made how slot w h old mid new hit m n =
-    subst (λ (zs : List Transfer). Made h old (word_read slot w ++ zs) new) (hit_is how w hit) (made_then h (word_read slot w) (Set Tdata1 (word_changed how w) ∷ []) old mid new m n)
+    subst (λ (zs : List Transfer). Made h old (word_read slot w ++ zs) new) (hit_is how w hit)
+    (made_then h (word_read slot w) (Set Tdata1 (word_changed how w) ∷ []) old mid new m n)

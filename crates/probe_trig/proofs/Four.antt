@@ -14,7 +14,20 @@ use Rattle.probe_trig.specs.Transfers.{Transfer}
 use Rattle.probe_trig.specs.Transfers.Transfer.{Got}
 use Rattle.probe_trig.specs.SlotRegisters.{trigger_changed}
 use Rattle.probe_trig.proofs.Fitting.{four_changed, four_read}
-use Rattle.probe_trig.proofs.Parts.{Passed, SlotPassed, WordPassed, kept_is, passed_got, passed_then, posed, put_back_is, slot_at, slot_passed, tdata2_holds, word_passed}
+use Rattle.probe_trig.proofs.Parts.{
+  Passed,
+  SlotPassed,
+  WordPassed,
+  kept_is,
+  passed_got,
+  passed_then,
+  posed,
+  put_back_is,
+  slot_at,
+  slot_passed,
+  tdata2_holds,
+  word_passed,
+}
 use Rattle.probe_trig.proofs.Shows.{shows_as_hit, shows_as_use}
 use Rattle.probe_trig.proofs.Told.{Shown, played}
 use Rattle.std.proofs.lemmas.Option.{same_Some}
@@ -52,9 +65,11 @@ pub record FourChanged (how : Change) (x : Hart) (k kept wa wb wc wd : ℕ) (a b
   pub word_b : wb ≡ tdata1_of b.trigger
   pub word_c : wc ≡ tdata1_of c.trigger
   pub word_d : wd ≡ tdata1_of d.trigger
-  pub is : played (four_changed how kept wa wb wc wd) (posed k (a ∷ b ∷ c ∷ d ∷ []) x) ≡ posed k (map (with_trigger (trigger_changed how)) (a ∷ b ∷ c ∷ d ∷ [])) x
+  pub is : played (four_changed how kept wa wb wc wd) (posed k (a ∷ b ∷ c ∷ d ∷ []) x)
+      ≡ posed k (map (with_trigger (trigger_changed how)) (a ∷ b ∷ c ∷ d ∷ [])) x
 
-pub changed_four : (how : Change) (x : Hart) (k kept wa wb wc wd : ℕ) (a b c d : Slot) → k < 4 → CountsFit (a ∷ b ∷ c ∷ d ∷ []) → Shown (four_changed how kept wa wb wc wd) (posed k (a ∷ b ∷ c ∷ d ∷ []) x)
+pub changed_four : (how : Change) (x : Hart) (k kept wa wb wc wd : ℕ) (a b c d : Slot) → k < 4 → CountsFit (a ∷ b ∷ c ∷ d ∷ [])
+    → Shown (four_changed how kept wa wb wc wd) (posed k (a ∷ b ∷ c ∷ d ∷ []) x)
     → FourChanged how x k kept wa wb wc wd a b c d
 changed_four how x k kept wa wb wc wd a b c d small fits sh =
     let f : Slot → Slot = with_trigger (trigger_changed how) in
@@ -88,14 +103,16 @@ record SlotSeen (i : ℕ) (w : SlotWords) (s : Slot) (ss : List Slot) (k : ℕ) 
   pub tdata2 : w.tdata2 ≡ s.tdata2
   pub passed : Passed (slot_read i w ++ rest) (posed k ss x) rest (posed i ss x)
 
-slot_seen : (i : ℕ) (w : SlotWords) (s : Slot) (ss : List Slot) (k : ℕ) (x : Hart) (rest : List Transfer) → i < 4 → slot_at i ss ≡ s → Shown (slot_read i w ++ rest) (posed k ss x) → SlotSeen i w s ss k x rest
+slot_seen : (i : ℕ) (w : SlotWords) (s : Slot) (ss : List Slot) (k : ℕ) (x : Hart) (rest : List Transfer) → i < 4 → slot_at i ss ≡ s
+    → Shown (slot_read i w ++ rest) (posed k ss x) → SlotSeen i w s ss k x rest
 slot_seen i w s ss k x rest small here sh =
     let more : List Transfer = Got Tdata2 w.tdata2 ∷ rest in
     let a : WordPassed i w.tdata1 ss k x more = word_passed i w.tdata1 k ss x more small sh in
     record {
       tdata1 = a.word ∙ ap (λ (u : Slot). tdata1_of u.trigger) here;
       tdata2 = same_Some w.tdata2 (slot_at i ss).tdata2 (sym a.passed.shown.0 ∙ tdata2_holds i ss x) ∙ ap (λ (u : Slot). u.tdata2) here;
-      passed = passed_then (slot_read i w ++ rest) more rest (posed k ss x) (posed i ss x) (posed i ss x) a.passed (passed_got Tdata2 w.tdata2 rest (posed i ss x) a.passed.shown);
+      passed = passed_then (slot_read i w ++ rest) more rest (posed k ss x) (posed i ss x) (posed i ss x) a.passed
+          (passed_got Tdata2 w.tdata2 rest (posed i ss x) a.passed.shown);
     }
 
 use_seen : (w : SlotWords) (s : Slot) → CountFits s.trigger → w.tdata1 ≡ tdata1_of s.trigger → w.tdata2 ≡ s.tdata2 → use_of_words w ≡ use_of s
@@ -110,7 +127,8 @@ lists : {A : Type 0} (p q r s t u v w : A) → p ≡ t → q ≡ u → r ≡ v �
 lists p q r s t u v w e f g h =
     ap (λ z. z ∷ q ∷ r ∷ s ∷ []) e ∙ ap (λ z. t ∷ z ∷ r ∷ s ∷ []) f ∙ ap (λ z. t ∷ u ∷ z ∷ s ∷ []) g ∙ ap (λ z. t ∷ u ∷ v ∷ z ∷ []) h
 
-pub seen_four : (x : Hart) (k kept : ℕ) (wa wb wc wd : SlotWords) (a b c d : Slot) → k < 4 → CountsFit (a ∷ b ∷ c ∷ d ∷ []) → Shown (four_read kept wa wb wc wd) (posed k (a ∷ b ∷ c ∷ d ∷ []) x)
+pub seen_four : (x : Hart) (k kept : ℕ) (wa wb wc wd : SlotWords) (a b c d : Slot) → k < 4 → CountsFit (a ∷ b ∷ c ∷ d ∷ [])
+    → Shown (four_read kept wa wb wc wd) (posed k (a ∷ b ∷ c ∷ d ∷ []) x)
     → FourSeen x k kept wa wb wc wd (a ∷ b ∷ c ∷ d ∷ [])
 seen_four x k kept wa wb wc wd a b c d small fits sh =
     let ss : List Slot = a ∷ b ∷ c ∷ d ∷ [] in
@@ -128,7 +146,8 @@ seen_four x k kept wa wb wc wd a b c d small fits sh =
       uses = lists (use_of_words wa) (use_of_words wb) (use_of_words wc) (use_of_words wd) (use_of a) (use_of b) (use_of c) (use_of d)
           (use_seen wa a (fits 0 a refl) q0.tdata1 q0.tdata2) (use_seen wb b (fits 1 b refl) q1.tdata1 q1.tdata2)
           (use_seen wc c (fits 2 c refl) q2.tdata1 q2.tdata2) (use_seen wd d (fits 3 d refl) q3.tdata1 q3.tdata2);
-      hits = lists (hit_of_words wa) (hit_of_words wb) (hit_of_words wc) (hit_of_words wd) (trigger_has_hit a.trigger) (trigger_has_hit b.trigger) (trigger_has_hit c.trigger) (trigger_has_hit d.trigger)
+      hits = lists (hit_of_words wa) (hit_of_words wb) (hit_of_words wc) (hit_of_words wd) (trigger_has_hit a.trigger) (trigger_has_hit b.trigger)
+          (trigger_has_hit c.trigger) (trigger_has_hit d.trigger)
           (shows_as_hit wa.tdata1 a.trigger (fits 0 a refl) q0.tdata1) (shows_as_hit wb.tdata1 b.trigger (fits 1 b refl) q1.tdata1)
           (shows_as_hit wc.tdata1 c.trigger (fits 2 c refl) q2.tdata1) (shows_as_hit wd.tdata1 d.trigger (fits 3 d refl) q3.tdata1);
       is = p.is ∙ q0.passed.is ∙ q1.passed.is ∙ q2.passed.is ∙ q3.passed.is ∙ put_back_is kept k 3 ss x (kept_is kept k ss x r0 sh) small;

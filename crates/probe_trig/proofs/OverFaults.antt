@@ -35,12 +35,16 @@ use Rattle.probe_trig.proofs.TransferLemmas.{attempt_counted}
 
 -- ---- since an earlier count of faults
 
-pub step_counted : (h count mid_count new_count : ℕ) (old new : Tells) (e : AccessFault) → count ≤ mid_count → mid_count ≤ new_count → StepFailed h mid_count new_count old new e → StepFailed h count new_count old new e
+pub step_counted : (h count mid_count new_count : ℕ) (old new : Tells) (e : AccessFault) → count ≤ mid_count → mid_count ≤ new_count
+    → StepFailed h mid_count new_count old new e → StepFailed h count new_count old new e
 step_counted h count mid_count new_count old new e le later (in_set f) = in_set (flag_counted true count mid_count new_count old new e le later f)
-step_counted h count mid_count new_count old new e le later (in_run begun w why f is) = in_run begun w why (run_counted h count mid_count new_count begun new why le later f) is
-step_counted h count mid_count new_count old new e le later (in_clear begun ran w r f) = in_clear begun ran w r (flag_counted false count mid_count new_count ran new e le later f)
+step_counted h count mid_count new_count old new e le later (in_run begun w why f is) =
+    in_run begun w why (run_counted h count mid_count new_count begun new why le later f) is
+step_counted h count mid_count new_count old new e le later (in_clear begun ran w r f) =
+    in_clear begun ran w r (flag_counted false count mid_count new_count ran new e le later f)
 
-pub failed_counted : (Whole : List Transfer → Type 0) (h count mid_count new_count : ℕ) (old new : Tells) (e : AccessFault) → count ≤ mid_count → mid_count ≤ new_count
+pub failed_counted : (Whole : List Transfer → Type 0) (h count mid_count new_count : ℕ) (old new : Tells) (e : AccessFault) → count ≤ mid_count
+    → mid_count ≤ new_count
     → FailedIn Whole h mid_count new_count old new e → FailedIn Whole h count new_count old new e
 failed_counted Whole h count mid_count new_count old new e le later f = record {
   done = f.done;
@@ -51,7 +55,8 @@ failed_counted Whole h count mid_count new_count old new e le later f = record {
   failed = attempt_counted h f.attempt count mid_count new_count f.mid new e le later f.failed;
 }
 
-pub back_counted : (h count mid_count new_count : ℕ) (old new : Tells) (e : AccessFault) → count ≤ mid_count → mid_count ≤ new_count → BackFailed h mid_count new_count old new e → BackFailed h count new_count old new e
+pub back_counted : (h count mid_count new_count : ℕ) (old new : Tells) (e : AccessFault) → count ≤ mid_count → mid_count ≤ new_count
+    → BackFailed h mid_count new_count old new e → BackFailed h count new_count old new e
 back_counted h count mid_count new_count old new e le later (in_step f cut) = in_step (step_counted h count mid_count new_count old new e le later f) cut
 back_counted h count mid_count new_count old new e le later (in_end ran s f) = in_end ran s (failed_counted _ h count mid_count new_count ran new e le later f)
 
@@ -63,10 +68,12 @@ broke_resume h count mid_count new_count old told why le later (at_look w) = at_
   vain = w.vain;
   none = w.none;
   few = w.few;
-  broke = broke_then [] old old nothing (asks Resume h ++ map look_act w.vain) (Operation (Read dmstatus_address)) count mid_count new_count told why le later w.broke;
+  broke = broke_then [] old old nothing (asks Resume h ++ map look_act w.vain)
+      (Operation (Read dmstatus_address)) count mid_count new_count told why le later w.broke;
 })
 
-pub resume_counted : (h count mid_count new_count : ℕ) (old new : Tells) (why : RunFault) → count ≤ mid_count → mid_count ≤ new_count → ResumeFails h mid_count new_count old new why → ResumeFails h count new_count old new why
+pub resume_counted : (h count mid_count new_count : ℕ) (old new : Tells) (why : RunFault) → count ≤ mid_count → mid_count ≤ new_count
+    → ResumeFails h mid_count new_count old new why → ResumeFails h count new_count old new why
 resume_counted h count mid_count new_count old new (run_fault.Dmi why) le later f = broke_resume h count mid_count new_count old new.far why le later f
 resume_counted h count mid_count new_count old new (run_fault.NoHalt looks) le later f = f
 resume_counted h count mid_count new_count old new (run_fault.NoAck looks) le later f = f
@@ -81,7 +88,8 @@ scratch_over h old new access_fault.StillBusy f = tt
 scratch_over h old new (access_fault.Run why) f = absurd f
 scratch_over h old new (access_fault.Odd word) f = f
 
-pub step_over_left : (some : Bool) (h : ℕ) (x y z : Option Far) (e : AccessFault) → WhereTold (AtHarts (HeldAt some h)) x y → StepLeft h y z e → OverLeft h x z e
+pub step_over_left : (some : Bool) (h : ℕ) (x y z : Option Far) (e : AccessFault) → WhereTold (AtHarts (HeldAt some h)) x y → StepLeft h y z e
+    → OverLeft h x z e
 step_over_left some h x y z (access_fault.Dmi why) held f = tt
 step_over_left some h x y z (access_fault.Memory at) held f = f
 step_over_left some h x y z (access_fault.Register number) held f = at_back (HeldAt some h) x y held f
@@ -101,7 +109,8 @@ over_go h x z (access_fault.Run (run_fault.NoHalt looks)) f = f
 over_go h x z (access_fault.Run (run_fault.NoAck looks)) f = NoAckLeft.in_step f
 over_go h x z (access_fault.Odd word) f = f
 
-pub resume_go : (h old_count new_count : ℕ) (x y : Option Far) (old new : Tells) (why : RunFault) → WhereTold (AtHarts (IsThroughAt h)) x y → ResumeLeft h y new.far why → ResumeFails h old_count new_count old new why → GoLeft h x new.far (of_run why)
+pub resume_go : (h old_count new_count : ℕ) (x y : Option Far) (old new : Tells) (why : RunFault) → WhereTold (AtHarts (IsThroughAt h)) x y
+    → ResumeLeft h y new.far why → ResumeFails h old_count new_count old new why → GoLeft h x new.far (of_run why)
 resume_go h old_count new_count x y old new (run_fault.Dmi why) t left f = tt
 resume_go h old_count new_count x y old new (run_fault.NoHalt looks) t left f = absurd left
 resume_go h old_count new_count x y old new (run_fault.NoAck looks) t left f = NoAckLeft.in_resume (f.0, (left.0, go_missed h left.0 x y new.far t left.1))

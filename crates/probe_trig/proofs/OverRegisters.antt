@@ -1,5 +1,30 @@
 -- What is left of the hart where a change of its slots with a hit broke off, or the reading of dcsr before it.
-use Rattle.std.proofs.Common.{◌≡◌, ◌∙◌, ◌++◌, ℕ, zero, suc, Bool, true, false, List, [], ◌∷◌, map, set, Option, Some, None, refl, sym, ap, subst, inl, inr, if◌then◌else◌}
+use Rattle.std.proofs.Common.{
+  ◌≡◌,
+  ◌∙◌,
+  ◌++◌,
+  ℕ,
+  zero,
+  suc,
+  Bool,
+  true,
+  false,
+  List,
+  [],
+  ◌∷◌,
+  map,
+  set,
+  Option,
+  Some,
+  None,
+  refl,
+  sym,
+  ap,
+  subst,
+  inl,
+  inr,
+  if◌then◌else◌,
+}
 use Rattle.std.specs.Prelude.{slice_index_or}
 use Rattle.rv_model.specs.declared.slot.Slot.{Slot}
 use Rattle.rv_model.specs.declared.slot.Trigger.{Trigger}
@@ -7,7 +32,7 @@ use Rattle.rv_model.specs.Board.{Hart, free_slot}
 use Rattle.rv_model.specs.DebugRegisters.{debug_written}
 use Rattle.rv_model.specs.Registers.{csr_written}
 use Rattle.rv_model.specs.TriggerWords.{trigger_csr_written, trigger_of}
-use Rattle.debug_model.specs.Dmi.{DmiScript}
+use Rattle.debug_model.specs.Dmi.{DmiComing}
 use Rattle.debug_model.specs.Told.{Far, IsHalted, IsReady, site_of}
 use Rattle.abstract_debugger.specs.Laws.{IsFrozen}
 use Rattle.abstract_debugger.specs.Slots.{with_trigger}
@@ -133,7 +158,12 @@ over_selected x v = record { alone = alone_written x x Tselect v (alone x); step
 
 over_tdata1 : (x : Hart) (v : ℕ) → OverAlone x (debug_written x (number_of Tdata1) v)
 unfolding debug_written csr_written trigger_csr_written
-over_tdata1 x v = record { alone = alone_written x x Tdata1 v (alone x); stepie = refl; ebreakm = refl; addresses = trigger_set x.debug.slots x.debug.tselect (trigger_of v) }
+over_tdata1 x v = record {
+  alone = alone_written x x Tdata1 v (alone x);
+  stepie = refl;
+  ebreakm = refl;
+  addresses = trigger_set x.debug.slots x.debug.tselect (trigger_of v);
+}
 
 over_written : (x y : Hart) (r : TriggerRegister) (v : ℕ) → Mild (Set r v) → OverAlone x y → OverAlone x (debug_written y (number_of r) v)
 over_written x y Tselect v m p = over_then x y (debug_written y (number_of Tselect) v) p (over_selected y v)
@@ -152,11 +182,13 @@ abbrev MildAttempt : Attempt → Type 0
 MildAttempt (Getting r) = Unit {0}
 MildAttempt (Setting r v) = Mild (Set r v)
 
-begun_mild : (Whole : List Transfer → Type 0) (done : List Transfer) (a : Attempt) → ((ts : List Transfer) → Whole ts → AllMild ts) → Begins Whole done a → AllMild done
+begun_mild : (Whole : List Transfer → Type 0) (done : List Transfer) (a : Attempt) → ((ts : List Transfer) → Whole ts → AllMild ts) → Begins Whole done a
+    → AllMild done
 begun_mild Whole done (Getting r) mild b = mild_front done (Got r b.0 ∷ b.1) (mild (done ++ Got r b.0 ∷ b.1) b.2)
 begun_mild Whole done (Setting r v) mild b = mild_front done (Set r v ∷ b.0) (mild (done ++ Set r v ∷ b.0) b.1)
 
-attempt_mild : (Whole : List Transfer → Type 0) (done : List Transfer) (a : Attempt) → ((ts : List Transfer) → Whole ts → AllMild ts) → Begins Whole done a → MildAttempt a
+attempt_mild : (Whole : List Transfer → Type 0) (done : List Transfer) (a : Attempt) → ((ts : List Transfer) → Whole ts → AllMild ts) → Begins Whole done a
+    → MildAttempt a
 attempt_mild Whole done (Getting r) mild b = tt
 attempt_mild Whole done (Setting r v) mild b = (mild_rest done (Set r v ∷ b.0) (mild (done ++ Set r v ∷ b.0) b.1)).0
 
@@ -165,14 +197,16 @@ may_over (Getting r) x y z mild d m = subst (OverAlone x) (sym m) d
 may_over (Setting r v) x y z mild d (inl m) = subst (OverAlone x) (sym m) d
 may_over (Setting r v) x y z mild d (inr m) = subst (OverAlone x) (sym m) (over_written x y r v mild d)
 
-pub mild_cut : (Whole : List Transfer → Type 0) (h old_count new_count : ℕ) (far : Option Far) (script : Option DmiScript) (new : Tells) (e : AccessFault) → ((ts : List Transfer) → Whole ts → AllMild ts) → IsReady far → IsHalted h far
-    → FailedIn Whole h old_count new_count (tells far script) new e → IfCut (Leaves (LeftAside OverAlone h) far new.far) e
-mild_cut Whole h old_count new_count None script new e mild ready halted f = cut_always (Leaves (LeftAside OverAlone h) None new.far) e tt
-mild_cut Whole h old_count new_count (Some c) script new e mild ready halted f =
+pub mild_cut : (Whole : List Transfer → Type 0) (h old_count new_count : ℕ) (far : Option Far) (coming : Option DmiComing) (new : Tells) (e : AccessFault)
+    → ((ts : List Transfer) → Whole ts → AllMild ts) → IsReady far → IsHalted h far
+    → FailedIn Whole h old_count new_count (tells far coming) new e → IfCut (Leaves (LeftAside OverAlone h) far new.far) e
+mild_cut Whole h old_count new_count None coming new e mild ready halted f = cut_always (Leaves (LeftAside OverAlone h) None new.far) e tt
+mild_cut Whole h old_count new_count (Some c) coming new e mild ready halted f =
     let x : Hart = halted.hart in
     let frozen : IsFrozen x.debug = frozen_halted h c ready halted in
-    let l : Led h x f.done (site_of c) f.mid.far = made_led h c x f.done (tells (Some c) script) f.mid halted.is frozen refl f.made in
+    let l : Led h x f.done (site_of c) f.mid.far = made_led h c x f.done (tells (Some c) coming) f.mid halted.is frozen refl f.made in
     if_cut (Leaves (LeftAside (may f.attempt) h) f.mid.far new.far) (Leaves (LeftAside OverAlone h) (Some c) new.far) e
     (broke_off (may f.attempt) OverAlone h x f.done c f.mid.far new.far halted.is frozen l
-    (λ z m. may_over f.attempt x (played f.done x) z (attempt_mild Whole f.done f.attempt mild f.begins) (over_played f.done x x (begun_mild Whole f.done f.attempt mild f.begins) (over_same x)) m))
+    (λ z m. may_over f.attempt x (played f.done x) z (attempt_mild Whole f.done f.attempt mild f.begins)
+    (over_played f.done x x (begun_mild Whole f.done f.attempt mild f.begins) (over_same x)) m))
     (attempt_cut h f.attempt old_count new_count f.mid new e f.failed)

@@ -5,7 +5,7 @@ use Rattle.std.proofs.lemmas.Option.{none-some}
 use Rattle.rv_model.specs.declared.slot.Slot.{Slot}
 use Rattle.rv_model.specs.declared.slot.Trigger.{Trigger}
 use Rattle.rv_model.specs.Board.{Board, Hart}
-use Rattle.debug_model.specs.Dmi.{DmiScript}
+use Rattle.debug_model.specs.Dmi.{DmiComing}
 use Rattle.debug_model.specs.Module.{DebugModule}
 use Rattle.debug_model.specs.Scan.{WhereTold}
 use Rattle.debug_model.specs.Told.{Far, IsHalted, IsReady, site_of}
@@ -37,11 +37,17 @@ use Rattle.probe_trig.proofs.Told.{Makes, did_at, frozen_at}
 
 -- ---- one behind the other
 
-pub at_then : (R S T : Target → Target → Type 0) (x y z : Option Far) → ((a b c : Target) → R a b → S b c → T a c) → WhereTold (AtHarts R) x y → WhereTold (AtHarts S) y z → WhereTold (AtHarts T) x z
+pub at_then : (R S T : Target → Target → Type 0) (x y z : Option Far) → ((a b c : Target) → R a b → S b c → T a c) → WhereTold (AtHarts R) x y
+    → WhereTold (AtHarts S) y z → WhereTold (AtHarts T) x z
 at_then R S T None y z f r s = subst (λ o. WhereTold (AtHarts S) o z) r s
 at_then R S T (Some x) y z f r s =
     let t : AtHarts S r.far.live.chip z = subst (λ o. WhereTold (AtHarts S) o z) r.is s in
-    record { far = t.far; is = t.is; happened = f (target_of (site_of x)) (target_of (site_of r.far)) (target_of (site_of t.far)) r.happened t.happened; bus = t.bus ∙ r.bus }
+    record {
+      far = t.far;
+      is = t.is;
+      happened = f (target_of (site_of x)) (target_of (site_of r.far)) (target_of (site_of t.far)) r.happened t.happened;
+      bus = t.bus ∙ r.bus;
+    }
 
 pub at_as : (R S : Target → Target → Type 0) (x y : Option Far) → ((a b : Target) → R a b → S a b) → WhereTold (AtHarts R) x y → WhereTold (AtHarts S) x y
 at_as R S None y f r = r
@@ -75,21 +81,27 @@ makes_held : (some : Bool) (h : ℕ) (old new : Tells) (c : ChangedAll Hold some
 makes_held some h old new c x ts s t is whole frozen r sh w =
     record { frozen = frozen_at h x s.board is frozen; changed = makes_changes Hold some c.a c.b c.c c.d h c.some_is x ts s t is whole frozen r sh w }
 
-pub held_at : (some : Bool) (h : ℕ) (far : Option Far) (script : Option DmiScript) (new : Tells) → IsReady far → IsHalted h far → ChangedAll Hold some h (tells far script) new → WhereTold (AtHarts (HeldAt some h)) far new.far
-held_at some h far script new ready halted c = did_at (Changes Hold c.a c.b c.c c.d) (HeldAt some h) h far script new ready halted (makes_held some h (tells far script) new c) c.did
+pub held_at : (some : Bool) (h : ℕ) (far : Option Far) (coming : Option DmiComing) (new : Tells) → IsReady far → IsHalted h far
+    → ChangedAll Hold some h (tells far coming) new → WhereTold (AtHarts (HeldAt some h)) far new.far
+held_at some h far coming new ready halted c = did_at (Changes Hold c.a c.b c.c c.d) (HeldAt some h) h far coming new ready halted
+    (makes_held some h (tells far coming) new c) c.did
 
 -- held, and the flag set
-pub begun_by : (some : Bool) (h : ℕ) (old mid new : Target) → HeldAt some h old mid → Rewrote (with_step true) h mid new → Rewrote (with_debug_part step_begun) h old new
+pub begun_by : (some : Bool) (h : ℕ) (old mid new : Target) → HeldAt some h old mid → Rewrote (with_step true) h mid new
+    → Rewrote (with_debug_part step_begun) h old new
 begun_by some h old mid new held sets =
-    rewrote_then (changes_all Hold) (with_step true) h old mid new held.frozen (λ x f. record { why = f.why; halted = f.halted; not_asked = f.not_asked }) held.changed.wrote sets
+    rewrote_then (changes_all Hold) (with_step true) h old mid new held.frozen
+    (λ x f. record { why = f.why; halted = f.halted; not_asked = f.not_asked }) held.changed.wrote sets
 
 -- ---- a step, and its end
 
-pub back_at : (executed : Bool) (h : ℕ) (x y : Option Far) (script : Option DmiScript) (new : Tells) → WhereTold (SteppedAt h) x y → IsReady y → IsHalted h y → Did (Ends executed) h (tells y script) new → WhereTold (AtHarts (BackAt executed h)) x new.far
-back_at executed h x y script new steps ready halted ends =
+pub back_at : (executed : Bool) (h : ℕ) (x y : Option Far) (coming : Option DmiComing) (new : Tells) → WhereTold (SteppedAt h) x y → IsReady y → IsHalted h y
+    → Did (Ends executed) h (tells y coming) new → WhereTold (AtHarts (BackAt executed h)) x new.far
+back_at executed h x y coming new steps ready halted ends =
     at_then (StepsOnce h) (EndedAt executed h) (BackAt executed h) x y new.far
-    (λ a b c s e. let k : Cleared executed h s.ran c = cleared executed h s.ran b c s.clears e in record { begun = s.begun; ran = s.ran; sets = s.sets; steps = s.runs; ends = k.ends; executed_is = k.executed_is })
-    (steps_at h x y steps) (did_at (Ends executed) (EndedAt executed h) h y script new ready halted (makes_end executed h) ends)
+    (λ a b c s e. let k : Cleared executed h s.ran c = cleared executed h s.ran b c s.clears e in
+    record { begun = s.begun; ran = s.ran; sets = s.sets; steps = s.runs; ends = k.ends; executed_is = k.executed_is })
+    (steps_at h x y steps) (did_at (Ends executed) (EndedAt executed h) h y coming new ready halted (makes_end executed h) ends)
 
 -- ---- stepping over
 
@@ -105,10 +117,12 @@ over_by some executed h a b c held back = record {
   executed_is = back.executed_is;
 }
 
-pub over_as : (some executed : Bool) (h : ℕ) (x y z : Option Far) → WhereTold (AtHarts (HeldAt some h)) x y → WhereTold (AtHarts (BackAt executed h)) y z → WhereTold (AtHarts (OverAs some executed h)) x z
+pub over_as : (some executed : Bool) (h : ℕ) (x y z : Option Far) → WhereTold (AtHarts (HeldAt some h)) x y → WhereTold (AtHarts (BackAt executed h)) y z
+    → WhereTold (AtHarts (OverAs some executed h)) x z
 over_as some executed h x y z = at_then (HeldAt some h) (BackAt executed h) (OverAs some executed h) x y z (over_by some executed h)
 
-pub over_missed : (some : Bool) (h : ℕ) (last : Sight) (x y z : Option Far) → WhereTold (AtHarts (HeldAt some h)) x y → WhereTold (StepMissedAt h last) y z → WhereTold (AtHarts (OverMissed h last)) x z
+pub over_missed : (some : Bool) (h : ℕ) (last : Sight) (x y z : Option Far) → WhereTold (AtHarts (HeldAt some h)) x y → WhereTold (StepMissedAt h last) y z
+    → WhereTold (AtHarts (OverMissed h last)) x z
 over_missed some h last x y z held missed =
     at_then (HeldAt some h) (StepMissed h last) (OverMissed h last) x y z
     (λ a b c k m. record { held = m.begun; holds = begun_by some h a b m.begun k m.sets; missed = m.missed }) held (missed_at h last y z missed)
@@ -132,7 +146,8 @@ right_false false b e = e
 all_same : (ss : List Slot) → any_hit ss ≡ false → map (with_trigger (trigger_changed Hold)) ss ≡ ss
 all_same [] none = refl
 all_same (s ∷ ss) none =
-    ap (λ (t : Trigger). record s { trigger = t } ∷ map (with_trigger (trigger_changed Hold)) ss) (unchanged Hold s.trigger (left_false (trigger_has_hit s.trigger) (any_hit ss) none))
+    ap (λ (t : Trigger). record s { trigger = t } ∷ map (with_trigger (trigger_changed Hold)) ss)
+    (unchanged Hold s.trigger (left_false (trigger_has_hit s.trigger) (any_hit ss) none))
     ∙ ap (λ zs. s ∷ zs) (all_same ss (right_false (trigger_has_hit s.trigger) (any_hit ss) none))
 
 none_held : (h : ℕ) (old new : Target) → HeldAt false h old new → WentOn old new
@@ -145,7 +160,8 @@ none_held h old new held =
           w.board ∙ ap (λ hs. let c : Board = record { harts = hs; memory = b.memory } in c)
           (over_same (changes_all Hold) h b.harts (λ x here.
           ap (λ ss. let y : Hart = record { core = x.core; debug = record x.debug { slots = ss } } in y)
-          (all_same x.debug.slots (ap any_hit (sym (slots_there h x old.board (sym (stays_same h old.board w.harts held.frozen) ∙ here))) ∙ sym held.changed.some_is))));
+          (all_same x.debug.slots (ap any_hit (sym (slots_there h x old.board (sym (stays_same h old.board w.harts held.frozen) ∙ here)))
+          ∙ sym held.changed.some_is))));
       journal = w.journal;
     }
 
@@ -155,19 +171,24 @@ through_none h x y = at_as (HeldAt false h) (IsThroughAt h) x y (λ a b held. th
 pub through_over : (h : ℕ) (x y : Option Far) → WhereTold (AtHarts (OverAs true true h)) x y → WhereTold (AtHarts (IsThroughAt h)) x y
 through_over h x y = at_as (OverAs true true h) (IsThroughAt h) x y (λ a b o. through_step (sym o.some_is) o.over (sym o.executed_is))
 
-pub free_at : (h : ℕ) (x y z : Option Far) → WhereTold (AtHarts (IsThroughAt h)) x y → WhereTold (Leaves (ResumesAt h) h) y z → WhereTold (AtHarts (FreeAt h)) x z
-free_at h x y z t r = at_then (IsThroughAt h) (ResumesAt h) (FreeAt h) x y z (λ a b c s m. record { mid = b; through = s; resumes = m }) t (leaves_at (ResumesAt h) h y z r)
+pub free_at : (h : ℕ) (x y z : Option Far) → WhereTold (AtHarts (IsThroughAt h)) x y → WhereTold (Leaves (ResumesAt h) h) y z
+    → WhereTold (AtHarts (FreeAt h)) x z
+free_at h x y z t r = at_then (IsThroughAt h) (ResumesAt h) (FreeAt h) x y z (λ a b c s m. record { mid = b; through = s; resumes = m }) t
+    (leaves_at (ResumesAt h) h y z r)
 
-pub go_missed : (h : ℕ) (last : Sight) (x y z : Option Far) → WhereTold (AtHarts (IsThroughAt h)) x y → WhereTold (Leaves (MissedAt (ResumeReq h) sees_ack h last) h) y z → WhereTold (AtHarts (GoMissed h last)) x z
+pub go_missed : (h : ℕ) (last : Sight) (x y z : Option Far) → WhereTold (AtHarts (IsThroughAt h)) x y
+    → WhereTold (Leaves (MissedAt (ResumeReq h) sees_ack h last) h) y z → WhereTold (AtHarts (GoMissed h last)) x z
 go_missed h last x y z t r =
-    at_then (IsThroughAt h) (MissedAt (ResumeReq h) sees_ack h last) (GoMissed h last) x y z (λ a b c s m. record { mid = b; through = s; missed = m }) t (leaves_at (MissedAt (ResumeReq h) sees_ack h last) h y z r)
+    at_then (IsThroughAt h) (MissedAt (ResumeReq h) sees_ack h last) (GoMissed h last) x y z (λ a b c s m. record { mid = b; through = s; missed = m }) t
+    (leaves_at (MissedAt (ResumeReq h) sees_ack h last) h y z r)
 
 pub stopped_at : (h : ℕ) (x y : Option Far) → WhereTold (AtHarts (OverAs true false h)) x y → WhereTold (AtHarts (StoppedAt h)) x y
 stopped_at h x y = at_as (OverAs true false h) (StoppedAt h) x y (λ a b o. record { some = sym o.some_is; over = o.over; other = sym o.executed_is })
 
 -- ---- by whether the step was a whole one
 
-pub back_is : (executed whole : Bool) (h : ℕ) (x y : Option Far) → executed ≡ whole → WhereTold (AtHarts (BackAt executed h)) x y → WhereTold (AtHarts (BackAt whole h)) x y
+pub back_is : (executed whole : Bool) (h : ℕ) (x y : Option Far) → executed ≡ whole → WhereTold (AtHarts (BackAt executed h)) x y
+    → WhereTold (AtHarts (BackAt whole h)) x y
 back_is executed whole h x y is b = subst (λ e. WhereTold (AtHarts (BackAt e h)) x y) is b
 
 pub stepped_is : (executed whole : Bool) (h : ℕ) (old new : Tells) → executed ≡ whole → SteppedBack executed h old new → SteppedBack whole h old new

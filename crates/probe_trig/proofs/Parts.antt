@@ -1,5 +1,30 @@
 -- A hart's trigger registers along transfers: what was read is what they held, and what was written is what they hold.
-use Rattle.std.proofs.Common.{◌≡◌, ◌∙◌, ◌<◌, ◌%◌, ◌++◌, ◌&&◌, ◌||◌, not, ℕ, Bool, true, false, List, [], ◌∷◌, set, Some, slice_get, refl, sym, ap, subst, arith, if◌then◌else◌}
+use Rattle.std.proofs.Common.{
+  ◌≡◌,
+  ◌∙◌,
+  ◌<◌,
+  ◌%◌,
+  ◌++◌,
+  ◌&&◌,
+  ◌||◌,
+  not,
+  ℕ,
+  Bool,
+  true,
+  false,
+  List,
+  [],
+  ◌∷◌,
+  set,
+  Some,
+  slice_get,
+  refl,
+  sym,
+  ap,
+  subst,
+  arith,
+  if◌then◌else◌,
+}
 use Rattle.std.specs.Prelude.{slice_index_or}
 use Rattle.std.proofs.Math.Bool.{and-true, or-false}
 use Rattle.std.proofs.lemmas.Option.{same_Some}
@@ -49,11 +74,13 @@ select_set : (k v : ℕ) (ss : List Slot) (x : Hart) → debug_written (posed k 
 unfolding debug_written csr_written trigger_csr_written
 select_set k v ss x = refl
 
-pub tdata1_set : (k v : ℕ) (ss : List Slot) (x : Hart) → debug_written (posed k ss x) (number_of Tdata1) v ≡ posed k (set ss k (record (slot_at k ss) { trigger = trigger_of v })) x
+pub tdata1_set : (k v : ℕ) (ss : List Slot) (x : Hart)
+    → debug_written (posed k ss x) (number_of Tdata1) v ≡ posed k (set ss k (record (slot_at k ss) { trigger = trigger_of v })) x
 unfolding debug_written csr_written trigger_csr_written
 tdata1_set k v ss x = refl
 
-pub tdata2_set : (k v : ℕ) (ss : List Slot) (x : Hart) → debug_written (posed k ss x) (number_of Tdata2) v ≡ posed k (set ss k (record (slot_at k ss) { tdata2 = v })) x
+pub tdata2_set : (k v : ℕ) (ss : List Slot) (x : Hart)
+    → debug_written (posed k ss x) (number_of Tdata2) v ≡ posed k (set ss k (record (slot_at k ss) { tdata2 = v })) x
 unfolding debug_written csr_written trigger_csr_written
 tdata2_set k v ss x = refl
 
@@ -63,7 +90,8 @@ pub record Passed (all : List Transfer) (x : Hart) (rest : List Transfer) (y : H
   pub shown : Shown rest y
   pub is : played all x ≡ played rest y
 
-pub passed_set : (r : TriggerRegister) (v : ℕ) (rest : List Transfer) (x y : Hart) → debug_written x (number_of r) v ≡ y → Shown (Set r v ∷ rest) x → Passed (Set r v ∷ rest) x rest y
+pub passed_set : (r : TriggerRegister) (v : ℕ) (rest : List Transfer) (x y : Hart) → debug_written x (number_of r) v ≡ y → Shown (Set r v ∷ rest) x
+    → Passed (Set r v ∷ rest) x rest y
 passed_set r v rest x y e s = record { shown = subst (λ (z : Hart). Shown rest z) e s; is = ap (played rest) e }
 
 pub passed_got : (r : TriggerRegister) (v : ℕ) (rest : List Transfer) (x : Hart) → Shown (Got r v ∷ rest) x → Passed (Got r v ∷ rest) x rest x
@@ -77,7 +105,8 @@ passed_then all some rest x y z p q = record { shown = q.shown; is = p.is ∙ q.
 same_value : (v w : ℕ) → Some v ≡ Some w → w ≡ v
 same_value v w e = sym (same_Some v w e)
 
-selecting : (i k : ℕ) (ss : List Slot) (x : Hart) (rest : List Transfer) → i < 4 → Shown (Set Tselect i ∷ rest) (posed k ss x) → Passed (Set Tselect i ∷ rest) (posed k ss x) rest (posed i ss x)
+selecting : (i k : ℕ) (ss : List Slot) (x : Hart) (rest : List Transfer) → i < 4 → Shown (Set Tselect i ∷ rest) (posed k ss x)
+    → Passed (Set Tselect i ∷ rest) (posed k ss x) rest (posed i ss x)
 selecting i k ss x rest small s =
     let fits : i % 4 ≡ i = omega arith in
     passed_set Tselect i rest (posed k ss x) (posed i ss x) (select_set k i ss x ∙ ap (λ n. posed n ss x) fits) s
@@ -86,12 +115,14 @@ pub record WordPassed (i w : ℕ) (ss : List Slot) (k : ℕ) (x : Hart) (rest : 
   pub word : w ≡ tdata1_of (slot_at i ss).trigger
   pub passed : Passed (word_read i w ++ rest) (posed k ss x) rest (posed i ss x)
 
-pub word_passed : (i w k : ℕ) (ss : List Slot) (x : Hart) (rest : List Transfer) → i < 4 → Shown (word_read i w ++ rest) (posed k ss x) → WordPassed i w ss k x rest
+pub word_passed : (i w k : ℕ) (ss : List Slot) (x : Hart) (rest : List Transfer) → i < 4 → Shown (word_read i w ++ rest) (posed k ss x)
+    → WordPassed i w ss k x rest
 word_passed i w k ss x rest small s =
     let p : Passed (word_read i w ++ rest) (posed k ss x) (Got Tdata1 w ∷ rest) (posed i ss x) = selecting i k ss x (Got Tdata1 w ∷ rest) small s in
     record {
       word = same_value (tdata1_of (slot_at i ss).trigger) w (sym (tdata1_holds i ss x) ∙ p.shown.0);
-      passed = passed_then (word_read i w ++ rest) (Got Tdata1 w ∷ rest) rest (posed k ss x) (posed i ss x) (posed i ss x) p (passed_got Tdata1 w rest (posed i ss x) p.shown);
+      passed = passed_then (word_read i w ++ rest) (Got Tdata1 w ∷ rest) rest (posed k ss x) (posed i ss x) (posed i ss x) p
+          (passed_got Tdata1 w rest (posed i ss x) p.shown);
     }
 
 -- ---- and is selected as it was at first
@@ -164,9 +195,11 @@ changed_as how w s fits word =
     ap (λ t. trigger_of (tdata1_of (trigger_changed how t))) (read_as w s.trigger fits word)
     ∙ trigger_read_back (trigger_changed how s.trigger) (change_fits how s.trigger fits)
 
-hit_passed : (hit : Bool) (how : Change) (i w : ℕ) (s : Slot) (ss : List Slot) (x : Hart) (rest : List Transfer) → shows_hit w ≡ hit → CountFits s.trigger → slot_at i ss ≡ s → slice_get ss i ≡ Some s → w ≡ tdata1_of s.trigger
+hit_passed : (hit : Bool) (how : Change) (i w : ℕ) (s : Slot) (ss : List Slot) (x : Hart) (rest : List Transfer) → shows_hit w ≡ hit → CountFits s.trigger
+    → slot_at i ss ≡ s → slice_get ss i ≡ Some s → w ≡ tdata1_of s.trigger
     → Shown ((if hit then Set Tdata1 (word_changed how w) ∷ [] else []) ++ rest) (posed i ss x)
-    → Passed ((if hit then Set Tdata1 (word_changed how w) ∷ [] else []) ++ rest) (posed i ss x) rest (posed i (set ss i (with_trigger (trigger_changed how) s)) x)
+    → Passed ((if hit then Set Tdata1 (word_changed how w) ∷ [] else []) ++ rest) (posed i ss x) rest
+    (posed i (set ss i (with_trigger (trigger_changed how) s)) x)
 hit_passed true how i w s ss x rest shows fits here at word sh =
     passed_set Tdata1 (word_changed how w) rest (posed i ss x) (posed i (set ss i (with_trigger (trigger_changed how) s)) x)
     (tdata1_set i (word_changed how w) ss x
@@ -175,16 +208,19 @@ hit_passed true how i w s ss x rest shows fits here at word sh =
 hit_passed false how i w s ss x rest shows fits here at word sh =
     let none : trigger_has_hit s.trigger ≡ false = ap trigger_has_hit (sym (read_as w s.trigger fits word)) ∙ shows in
     let same : posed i ss x ≡ posed i (set ss i (with_trigger (trigger_changed how) s)) x =
-    ap (λ zs. posed i zs x) (sym (set_same ss i s at)) ∙ ap (λ (t : Trigger). posed i (set ss i (record s { trigger = t })) x) (sym (unchanged how s.trigger none)) in
+    ap (λ zs. posed i zs x) (sym (set_same ss i s at))
+    ∙ ap (λ (t : Trigger). posed i (set ss i (record s { trigger = t })) x) (sym (unchanged how s.trigger none)) in
     record { shown = subst (λ (z : Hart). Shown rest z) same sh; is = ap (played rest) same }
 
-pub slot_passed : (how : Change) (i w : ℕ) (s : Slot) (ss : List Slot) (k : ℕ) (x : Hart) (rest : List Transfer) → i < 4 → CountFits s.trigger → slot_at i ss ≡ s → slice_get ss i ≡ Some s
+pub slot_passed : (how : Change) (i w : ℕ) (s : Slot) (ss : List Slot) (k : ℕ) (x : Hart) (rest : List Transfer) → i < 4 → CountFits s.trigger
+    → slot_at i ss ≡ s → slice_get ss i ≡ Some s
     → Shown (slot_changed how i w ++ rest) (posed k ss x) → SlotPassed how i w s ss k x rest
 slot_passed how i w s ss k x rest small fits here at sh =
     let a : WordPassed i w ss k x (hit_changed how w ++ rest) = word_passed i w k ss x (hit_changed how w ++ rest) small sh in
     let word : w ≡ tdata1_of s.trigger = a.word ∙ ap (λ (u : Slot). tdata1_of u.trigger) here in
     record {
       word = word;
-      passed = passed_then (slot_changed how i w ++ rest) (hit_changed how w ++ rest) rest (posed k ss x) (posed i ss x) (posed i (set ss i (with_trigger (trigger_changed how) s)) x) a.passed
+      passed = passed_then (slot_changed how i w ++ rest) (hit_changed how w ++ rest) rest (posed k ss x) (posed i ss x)
+          (posed i (set ss i (with_trigger (trigger_changed how) s)) x) a.passed
           (hit_passed (shows_hit w) how i w s ss x rest refl fits here at word a.passed.shown);
     }

@@ -8,7 +8,7 @@ use Rattle.abstract_debugger.specs.Plan.{slot_changed, slot_freed, with_debug_pa
 use Rattle.abstract_debugger.specs.Slots.{armed_for, first_free, freed as slot_free, is_free}
 use Rattle.abstract_debugger.proofs.OverLemmas.{set-over}
 use Rattle.probe_trig.specs.declared.register.TriggerRegister.TheVariants.{Tselect}
-use Rattle.probe_trig.specs.declared.slot_use.SlotUse.{SlotUse}
+use Rattle.debug_model.specs.declared.slot_use.SlotUse.{SlotUse}
 use Rattle.probe_trig.specs.Runs.{Arms, Finds, FindsNone, Frees, armed, freed, put_back, word_read, words_read}
 use Rattle.probe_trig.specs.Slots.{ArmedAt, FreedAt, FullAt, UnusedAt}
 use Rattle.probe_trig.specs.Transfers.{Transfer}
@@ -88,7 +88,8 @@ makes_armed meant slot h can x ts old new is whole frozen r sh w =
     let r1 : List Transfer = word_read slot f.tdata1 ++ r2 in
     let r0 : List Transfer = words_read 0 f.vain ++ r1 in
     let all : ts ≡ Got Tselect r.kept ∷ r0 =
-    r.is ∙ ap (λ (zs : List Transfer). Got Tselect r.kept ∷ (zs ++ r2)) f.is ∙ ap (λ (zs : List Transfer). Got Tselect r.kept ∷ zs) (append_assoc (words_read 0 f.vain) (word_read slot f.tdata1) r2) in
+    r.is ∙ ap (λ (zs : List Transfer). Got Tselect r.kept ∷ (zs ++ r2)) f.is
+    ∙ ap (λ (zs : List Transfer). Got Tselect r.kept ∷ zs) (append_assoc (words_read 0 f.vain) (word_read slot f.tdata1) r2) in
     let sh0 : Shown (Got Tselect r.kept ∷ r0) (posed k ss x) = shown_from ts (Got Tselect r.kept ∷ r0) x (posed k ss x) all refl sh in
     let p : Passed (Got Tselect r.kept ∷ r0) (posed k ss x) r0 (posed k ss x) = passed_got Tselect r.kept r0 (posed k ss x) sh0 in
     let a : WordsPassed 0 f.vain ss k x r1 = words_passed 0 f.vain ss k x r1 whole.slots whole.counts (omega (arith, f.used.few)) f.used.all p.shown in

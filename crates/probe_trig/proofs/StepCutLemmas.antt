@@ -1,8 +1,31 @@
 -- Where stepping over and letting go broke off, stage by stage.
-use Rattle.std.proofs.Common.{◌≡◌, ◌∙◌, ℕ, zero, suc, Bool, true, false, List, [], ◌∷◌, set, Option, Some, None, option_map, slice_get, refl, sym, ap, subst, append-nil}
+use Rattle.std.proofs.Common.{
+  ◌≡◌,
+  ◌∙◌,
+  ℕ,
+  zero,
+  suc,
+  Bool,
+  true,
+  false,
+  List,
+  [],
+  ◌∷◌,
+  set,
+  Option,
+  Some,
+  None,
+  option_map,
+  slice_get,
+  refl,
+  sym,
+  ap,
+  subst,
+  append-nil,
+}
 use Rattle.std.proofs.lemmas.Option.{none-some, same_Some}
 use Rattle.rv_model.specs.Board.{Board, Hart}
-use Rattle.debug_model.specs.Dmi.{DmiScript}
+use Rattle.debug_model.specs.Dmi.{DmiComing}
 use Rattle.debug_model.specs.declared.point.Point.TheVariants.{ResumeReq}
 use Rattle.debug_model.specs.Module.{Site}
 use Rattle.debug_model.specs.Scan.{WhereTold}
@@ -48,11 +71,17 @@ cut_map : (R S : Target → Target → Type 0) (x y : Option Far) → ((a b : Ta
 cut_map R S None y f r = tt
 cut_map R S (Some x) y f r = record { far = r.far; is = r.is; happened = f (target_of (site_of x)) (target_of (site_of r.far)) r.happened; bus = r.bus }
 
-cut_then : (P R S : Target → Target → Type 0) (x y z : Option Far) → ((a b c : Target) → P a b → R b c → S a c) → WhereTold (AtHarts P) x y → LeavesAt R y z → LeavesAt S x z
+cut_then : (P R S : Target → Target → Type 0) (x y z : Option Far) → ((a b c : Target) → P a b → R b c → S a c) → WhereTold (AtHarts P) x y → LeavesAt R y z
+    → LeavesAt S x z
 cut_then P R S None y z f p r = tt
 cut_then P R S (Some x) y z f p r =
     let t : AtHarts R p.far.live.chip z = subst (λ o. LeavesAt R o z) p.is r in
-    record { far = t.far; is = t.is; happened = f (target_of (site_of x)) (target_of (site_of p.far)) (target_of (site_of t.far)) p.happened t.happened; bus = t.bus ∙ p.bus }
+    record {
+      far = t.far;
+      is = t.is;
+      happened = f (target_of (site_of x)) (target_of (site_of p.far)) (target_of (site_of t.far)) p.happened t.happened;
+      bus = t.bus ∙ p.bus;
+    }
 
 -- ---- what is left of it
 
@@ -66,10 +95,23 @@ stood t = record { harts = []; board = refl; journal = sym (append-nil t.journal
 
 aside_wrote : (Y : Hart → Hart → Type 0) (h : ℕ) (s t : Site) (l : LeftAside Y h s t) → Rewrote (becomes l.left) h (target_of s) (target_of t)
 aside_wrote Y h s t l =
-    record { harts = l.harts; board = l.board ∙ ap (board_with (after_turns l.harts s.board)) (put_over h l.left (after_turns l.harts s.board).harts); journal = l.journal }
+    record {
+      harts = l.harts;
+      board = l.board ∙ ap (board_with (after_turns l.harts s.board)) (put_over h l.left (after_turns l.harts s.board).harts);
+      journal = l.journal;
+    }
 
-aside_left : (Y : Hart → Hart → Type 0) (h : ℕ) (s t : Site) → ((x y : Hart) → Y x y → OverAlone x y) → LeftAside Y h s t → OverAside h (target_of s) (target_of t)
-aside_left Y h s t f l = record { mid = target_of s; went = stood (target_of s); hart = l.hart; here = l.here; left = l.left; one = f l.hart l.left l.one; wrote = aside_wrote Y h s t l }
+aside_left : (Y : Hart → Hart → Type 0) (h : ℕ) (s t : Site) → ((x y : Hart) → Y x y → OverAlone x y) → LeftAside Y h s t
+    → OverAside h (target_of s) (target_of t)
+aside_left Y h s t f l = record {
+  mid = target_of s;
+  went = stood (target_of s);
+  hart = l.hart;
+  here = l.here;
+  left = l.left;
+  one = f l.hart l.left l.one;
+  wrote = aside_wrote Y h s t l;
+}
 
 pub leaves_aside : (h : ℕ) (x y : Option Far) → Leaves (LeftAside OverAlone h) x y → LeavesAt (OverAside h) x y
 leaves_aside h None y p = tt
@@ -113,7 +155,8 @@ leaves_frozen h (Some f) y ready halted p = record {
 
 frozen_flag : (on : Bool) (x z : Hart) → with_step on x ≡ z → IsFrozen z.debug → IsFrozen x.debug
 frozen_flag on x z e f =
-    let k : IsFrozen (with_step on x).debug = subst (λ (u : Hart). IsFrozen u.debug) (sym e) f in record { why = k.why; halted = k.halted; not_asked = k.not_asked }
+    let k : IsFrozen (with_step on x).debug = subst (λ (u : Hart). IsFrozen u.debug) (sym e) f in
+    record { why = k.why; halted = k.halted; not_asked = k.not_asked }
 
 -- behind the flag that was cleared
 clear_left : (h : ℕ) (ran mid new : Target) → Rewrote (with_step false) h ran mid → FrozenLeft h mid new → OverAside h ran new
@@ -121,7 +164,8 @@ clear_left h ran mid new clears l =
     let b : Board = after_turns clears.harts ran.board in
     let t : Target = record { board = b; journal = mid.journal } in
     let there : slice_get (over h (with_step false) b.harts) h ≡ Some l.hart = ap (λ (c : Board). slice_get c.harts h) (sym clears.board) ∙ l.here in
-    let came : CameOf (with_step false) l.hart (slice_get b.harts h) = came_of (with_step false) l.hart (slice_get b.harts h) (sym (slice_get-over_same (with_step false) h b.harts) ∙ there) in
+    let came : CameOf (with_step false) l.hart (slice_get b.harts h) =
+    came_of (with_step false) l.hart (slice_get b.harts h) (sym (slice_get-over_same (with_step false) h b.harts) ∙ there) in
     let first : Rewrote (with_step false) h t mid = record { harts = []; board = clears.board; journal = sym (append-nil mid.journal) } in
     let frozen : IsFrozenAt h b = λ x here. frozen_flag false x l.hart (over_back (with_step false) h x l.hart b.harts there here) l.frozen in
     record {
@@ -131,7 +175,8 @@ clear_left h ran mid new clears l =
       here = came.is;
       left = l.left;
       one = over_then came.hart l.hart l.left (subst (OverAlone came.hart) came.made (over_flag false came.hart)) l.one;
-      wrote = rewrote_then (with_step false) (becomes l.left) h t mid new frozen (λ x f. record { why = f.why; halted = f.halted; not_asked = f.not_asked }) first l.wrote;
+      wrote = rewrote_then (with_step false) (becomes l.left) h t mid new frozen
+          (λ x f. record { why = f.why; halted = f.halted; not_asked = f.not_asked }) first l.wrote;
     }
 
 -- behind the slots that were held
@@ -152,7 +197,8 @@ held_left some h old mid new held d =
       here = came.is;
       left = d.left;
       one = over_then came.hart d.hart d.left (subst (OverAlone came.hart) came.made (over_changed Hold came.hart)) d.one;
-      wrote = rewrote_then (changes_all Hold) (becomes d.left) h old mid new held.frozen keeps w (rewrote_behind (becomes d.left) h mid d.mid new d.went d.wrote);
+      wrote = rewrote_then (changes_all Hold) (becomes d.left) h old mid new held.frozen keeps w
+          (rewrote_behind (becomes d.left) h mid d.mid new d.went d.wrote);
     }
   where
     keeps : (x : Hart) → IsFrozen x.debug → IsFrozen (changes_all Hold x).debug
@@ -167,7 +213,13 @@ step_at : (h : ℕ) (s t : Site) → StepCut h s t → BackCut h (target_of s) (
 step_at h s t (setting l) = before_step (aside_left (MaybeFlagged true) h s t (over_flagged true) l)
 step_at h s t (running r) = in_step (record { begun = r.begun; set_so = r.sets; runs = r.runs })
 step_at h s t (clearing c) =
-    behind_step (record { begun = c.begun; set_so = c.sets; ran = target_of c.ran; steps = c.runs; left = aside_left (MaybeFlagged false) h c.ran t (over_flagged false) c.clears })
+    behind_step (record {
+      begun = c.begun;
+      set_so = c.sets;
+      ran = target_of c.ran;
+      steps = c.runs;
+      left = aside_left (MaybeFlagged false) h c.ran t (over_flagged false) c.clears;
+    })
 
 step_bus : (h : ℕ) (s t : Site) → StepCut h s t → t.unit.bus ≡ s.unit.bus
 step_bus h s t (setting l) = l.bus
@@ -176,19 +228,25 @@ step_bus h s t (clearing c) = c.bus
 
 leaves_back : (h : ℕ) (x y : Option Far) → Leaves (StepCut h) x y → LeavesAt (BackCut h) x y
 leaves_back h None y p = tt
-leaves_back h (Some f) y p = record { far = p.far; is = p.is; happened = step_at h (site_of f) (site_of p.far) p.left; bus = step_bus h (site_of f) (site_of p.far) p.left }
+leaves_back h (Some f) y p = record {
+  far = p.far;
+  is = p.is;
+  happened = step_at h (site_of f) (site_of p.far) p.left;
+  bus = step_bus h (site_of f) (site_of p.far) p.left;
+}
 
 pub back_in_step : (h : ℕ) (x y : Option Far) (e : AccessFault) → IfCut (Leaves (StepCut h) x y) e → IfCut (LeavesAt (BackCut h) x y) e
 back_in_step h x y e = if_cut (Leaves (StepCut h) x y) (LeavesAt (BackCut h) x y) e (leaves_back h x y)
 
-pub back_in_end : (h old_count new_count : ℕ) (x y : Option Far) (script : Option DmiScript) (new : Tells) (e : AccessFault) → WhereTold (SteppedAt h) x y → IsReady y → IsHalted h y
-    → FailedIn EndsAny h old_count new_count (tells y script) new e → IfCut (LeavesAt (BackCut h) x new.far) e
-back_in_end h old_count new_count x y script new e steps ready halted f =
+pub back_in_end : (h old_count new_count : ℕ) (x y : Option Far) (coming : Option DmiComing) (new : Tells) (e : AccessFault) → WhereTold (SteppedAt h) x y
+    → IsReady y → IsHalted h y
+    → FailedIn EndsAny h old_count new_count (tells y coming) new e → IfCut (LeavesAt (BackCut h) x new.far) e
+back_in_end h old_count new_count x y coming new e steps ready halted f =
     if_cut (Leaves (LeftAside OverAlone h) y new.far) (LeavesAt (BackCut h) x new.far) e
     (λ p. cut_then (StepsOnce h) (FrozenLeft h) (BackCut h) x y new.far
     (λ a b c s l. behind_step (record { begun = s.begun; set_so = s.sets; ran = s.ran; steps = s.runs; left = clear_left h s.ran b c s.clears l }))
     (steps_at h x y steps) (leaves_frozen h y new.far ready halted p))
-    (mild_cut EndsAny h old_count new_count y script new e mild_ends ready halted f)
+    (mild_cut EndsAny h old_count new_count y coming new e mild_ends ready halted f)
 
 -- ---- stepping over
 
@@ -198,28 +256,35 @@ held_cut some h old mid new held (in_step r) = in_step (record { begun = r.begun
 held_cut some h old mid new held (behind_step r) =
     behind_step (record { begun = r.begun; set_so = begun_by some h old mid r.begun held r.set_so; ran = r.ran; steps = r.steps; left = r.left })
 
-pub over_in_hold : (h old_count new_count : ℕ) (far : Option Far) (script : Option DmiScript) (new : Tells) (e : AccessFault) → IsReady far → IsHalted h far
-    → FailedIn (ChangesAny Hold) h old_count new_count (tells far script) new e → IfCut (LeavesAt (OverCut h) far new.far) e
-over_in_hold h old_count new_count far script new e ready halted f =
+pub over_in_hold : (h old_count new_count : ℕ) (far : Option Far) (coming : Option DmiComing) (new : Tells) (e : AccessFault) → IsReady far → IsHalted h far
+    → FailedIn (ChangesAny Hold) h old_count new_count (tells far coming) new e → IfCut (LeavesAt (OverCut h) far new.far) e
+over_in_hold h old_count new_count far coming new e ready halted f =
     if_cut (Leaves (LeftAside OverAlone h) far new.far) (LeavesAt (OverCut h) far new.far) e
-    (λ p. cut_map (OverAside h) (OverCut h) far new.far (λ a b d. before_step d) (leaves_aside h far new.far p)) (mild_cut (ChangesAny Hold) h old_count new_count far script new e (mild_changes Hold) ready halted f)
+    (λ p. cut_map (OverAside h) (OverCut h) far new.far (λ a b d. before_step d) (leaves_aside h far new.far p))
+    (mild_cut (ChangesAny Hold) h old_count new_count far coming new e (mild_changes Hold) ready halted f)
 
-pub over_in_back : (some : Bool) (h : ℕ) (x y z : Option Far) (e : AccessFault) → WhereTold (AtHarts (HeldAt some h)) x y → IfCut (LeavesAt (BackCut h) y z) e → IfCut (LeavesAt (OverCut h) x z) e
-over_in_back some h x y z e held = if_cut (LeavesAt (BackCut h) y z) (LeavesAt (OverCut h) x z) e (cut_then (HeldAt some h) (BackCut h) (OverCut h) x y z (held_cut some h) held)
+pub over_in_back : (some : Bool) (h : ℕ) (x y z : Option Far) (e : AccessFault) → WhereTold (AtHarts (HeldAt some h)) x y → IfCut (LeavesAt (BackCut h) y z) e
+    → IfCut (LeavesAt (OverCut h) x z) e
+over_in_back some h x y z e held = if_cut (LeavesAt (BackCut h) y z) (LeavesAt (OverCut h) x z) e
+    (cut_then (HeldAt some h) (BackCut h) (OverCut h) x y z (held_cut some h) held)
 
 -- ---- letting go
 
-pub go_in_hold : (h old_count new_count : ℕ) (far : Option Far) (script : Option DmiScript) (new : Tells) (e : AccessFault) → IsReady far → IsHalted h far
-    → FailedIn (ChangesAny Hold) h old_count new_count (tells far script) new e → IfCut (LeavesAt (GoCut h) far new.far) e
-go_in_hold h old_count new_count far script new e ready halted f =
+pub go_in_hold : (h old_count new_count : ℕ) (far : Option Far) (coming : Option DmiComing) (new : Tells) (e : AccessFault) → IsReady far → IsHalted h far
+    → FailedIn (ChangesAny Hold) h old_count new_count (tells far coming) new e → IfCut (LeavesAt (GoCut h) far new.far) e
+go_in_hold h old_count new_count far coming new e ready halted f =
     if_cut (Leaves (LeftAside OverAlone h) far new.far) (LeavesAt (GoCut h) far new.far) e
-    (λ p. cut_map (OverAside h) (GoCut h) far new.far (λ a b d. in_hold d) (leaves_aside h far new.far p)) (mild_cut (ChangesAny Hold) h old_count new_count far script new e (mild_changes Hold) ready halted f)
+    (λ p. cut_map (OverAside h) (GoCut h) far new.far (λ a b d. in_hold d) (leaves_aside h far new.far p))
+    (mild_cut (ChangesAny Hold) h old_count new_count far coming new e (mild_changes Hold) ready halted f)
 
-pub go_in_back : (h : ℕ) (x y z : Option Far) (e : AccessFault) → WhereTold (AtHarts (HeldAt true h)) x y → IfCut (LeavesAt (BackCut h) y z) e → IfCut (LeavesAt (GoCut h) x z) e
+pub go_in_back : (h : ℕ) (x y z : Option Far) (e : AccessFault) → WhereTold (AtHarts (HeldAt true h)) x y → IfCut (LeavesAt (BackCut h) y z) e
+    → IfCut (LeavesAt (GoCut h) x z) e
 go_in_back h x y z e held =
-    if_cut (LeavesAt (BackCut h) y z) (LeavesAt (GoCut h) x z) e (cut_then (HeldAt true h) (BackCut h) (GoCut h) x y z (λ a b c k r. in_over (sym k.changed.some_is) (held_cut true h a b c k r)) held)
+    if_cut (LeavesAt (BackCut h) y z) (LeavesAt (GoCut h) x z) e
+    (cut_then (HeldAt true h) (BackCut h) (GoCut h) x y z (λ a b c k r. in_over (sym k.changed.some_is) (held_cut true h a b c k r)) held)
 
-resume_by : (h : ℕ) (x y z : Option Far) → WhereTold (AtHarts (IsThroughAt h)) x y → WhereTold (LeftBy (RunCut (ResumeReq h) sees_ack h) h) y z → LeavesAt (GoCut h) x z
+resume_by : (h : ℕ) (x y z : Option Far) → WhereTold (AtHarts (IsThroughAt h)) x y → WhereTold (LeftBy (RunCut (ResumeReq h) sees_ack h) h) y z
+    → LeavesAt (GoCut h) x z
 resume_by h None y z t left = tt
 resume_by h (Some x) y z t left =
     let l : LeftBy (RunCut (ResumeReq h) sees_ack h) h t.far.live.chip z = subst (λ o. WhereTold (LeftBy (RunCut (ResumeReq h) sees_ack h) h) o z) t.is left in
@@ -230,7 +295,8 @@ resume_by h (Some x) y z t left =
       bus = left_bus (site_of l.far).unit (site_of t.far).unit h l.unit ∙ t.bus;
     }
 
-pub go_in_resume : (h : ℕ) (x y z : Option Far) (why : RunFault) → WhereTold (AtHarts (IsThroughAt h)) x y → ResumeLeft h y z why → IfCut (LeavesAt (GoCut h) x z) (of_run why)
+pub go_in_resume : (h : ℕ) (x y z : Option Far) (why : RunFault) → WhereTold (AtHarts (IsThroughAt h)) x y → ResumeLeft h y z why
+    → IfCut (LeavesAt (GoCut h) x z) (of_run why)
 go_in_resume h x y z (run_fault.Dmi why) t left = resume_by h x y z t left
 go_in_resume h x y z (run_fault.NoHalt looks) t left = tt
 go_in_resume h x y z (run_fault.NoAck looks) t left = tt

@@ -12,7 +12,8 @@ use Rattle.probe_run.proofs.SessionLemmas.{steps_lead}
 use Rattle.probe_trig.specs.StepLaws.{OtherStepsLead, WholeStepsLead}
 use Rattle.probe_trig.specs.Stepping.{OverAt}
 
-made : (m : Machine) (h : ℕ) (o : Origin) (stepped other : Plan) (lines : List Line) (old new : Target) → OverAt h old new → Deals m h Still o (one h stepped other) lines old
+made : (m : Machine) (h : ℕ) (o : Origin) (stepped other : Plan) (lines : List Line) (old new : Target) → OverAt h old new
+    → Deals m h Still o (one h stepped other) lines old
     → Deals m h Still o (see (λ b. if is_step (halted_of (slice_get b.harts h)) then stepped else other)) lines new
 made m h o stepped other lines old new a d =
     deals_done m h o (see (λ b. if is_step (halted_of (slice_get b.harts h)) then stepped else other)) lines a.ran new

@@ -24,8 +24,10 @@ made_then h xs ys old mid new (first {mid = now} {ts = ts} d rest) m = first d (
 
 pub attempt_counted : (h : ℕ) (a : Attempt) (count mid_count new_count : ℕ) (old new : Tells) (e : AccessFault) → count ≤ mid_count → mid_count ≤ new_count
     → AttemptFailed h a mid_count new_count old new e → AttemptFailed h a count new_count old new e
-attempt_counted h (Getting r) count mid_count new_count old new e le later f = record { read = read_counted (number_of r) count mid_count new_count old new e le later f.read; left = f.left; cut = f.cut }
-attempt_counted h (Setting r v) count mid_count new_count old new e le later f = record { written = write_counted (number_of r) v count mid_count new_count old new e le later f.written; left = f.left; cut = f.cut }
+attempt_counted h (Getting r) count mid_count new_count old new e le later f =
+    record { read = read_counted (number_of r) count mid_count new_count old new e le later f.read; left = f.left; cut = f.cut }
+attempt_counted h (Setting r v) count mid_count new_count old new e le later f =
+    record { written = write_counted (number_of r) v count mid_count new_count old new e le later f.written; left = f.left; cut = f.cut }
 
 -- a part that may stand in a whole behind these transfers
 abbrev pub Fits : (Part Whole : List Transfer → Type 0) → List Transfer → Type 0
@@ -34,13 +36,15 @@ Fits Part Whole xs = (ts : List Transfer) → Part ts → (rest : List Transfer)
 longer : (xs done rest more : List Transfer) (t : Transfer) → xs ++ ((done ++ t ∷ rest) ++ more) ≡ (xs ++ done) ++ t ∷ (rest ++ more)
 longer xs done rest more t = ap (λ (zs : List Transfer). xs ++ zs) (append_assoc done (t ∷ rest) more) ∙ sym (append_assoc xs done (t ∷ (rest ++ more)))
 
-begins_behind : (Part Whole : List Transfer → Type 0) (xs done : List Transfer) (a : Attempt) → Fits Part Whole xs → Begins Part done a → Begins Whole (xs ++ done) a
+begins_behind : (Part Whole : List Transfer → Type 0) (xs done : List Transfer) (a : Attempt) → Fits Part Whole xs → Begins Part done a
+    → Begins Whole (xs ++ done) a
 begins_behind Part Whole xs done (Getting r) fits (value, rest, part) =
     let (more, whole) = fits (done ++ Got r value ∷ rest) part in (value, rest ++ more, subst Whole (longer xs done rest more (Got r value)) whole)
 begins_behind Part Whole xs done (Setting r value) fits (rest, part) =
     let (more, whole) = fits (done ++ Set r value ∷ rest) part in (rest ++ more, subst Whole (longer xs done rest more (Set r value)) whole)
 
-pub failed_behind : (Part Whole : List Transfer → Type 0) (xs : List Transfer) (h count mid_count new_count : ℕ) (old mid new : Tells) (e : AccessFault) → count ≤ mid_count → mid_count ≤ new_count
+pub failed_behind : (Part Whole : List Transfer → Type 0) (xs : List Transfer) (h count mid_count new_count : ℕ) (old mid new : Tells) (e : AccessFault)
+    → count ≤ mid_count → mid_count ≤ new_count
     → Made h old xs mid → Fits Part Whole xs → FailedIn Part h mid_count new_count mid new e → FailedIn Whole h count new_count old new e
 failed_behind Part Whole xs h count mid_count new_count old mid new e le later made fits f = record {
   done = xs ++ f.done;
@@ -51,7 +55,8 @@ failed_behind Part Whole xs h count mid_count new_count old mid new e le later m
   failed = attempt_counted h f.attempt count mid_count new_count f.mid new e le later f.failed;
 }
 
-pub failed_first : (Part Whole : List Transfer → Type 0) (h count new_count : ℕ) (old new : Tells) (e : AccessFault) → Fits Part Whole [] → FailedIn Part h count new_count old new e → FailedIn Whole h count new_count old new e
+pub failed_first : (Part Whole : List Transfer → Type 0) (h count new_count : ℕ) (old new : Tells) (e : AccessFault) → Fits Part Whole []
+    → FailedIn Part h count new_count old new e → FailedIn Whole h count new_count old new e
 failed_first Part Whole h count new_count old new e fits f = record {
   done = f.done;
   attempt = f.attempt;
@@ -61,12 +66,21 @@ failed_first Part Whole h count new_count old new e fits f = record {
   failed = f.failed;
 }
 
-pub get_failed : (r : TriggerRegister) (h old_count new_count : ℕ) (old new : Tells) (e : AccessFault) → ReadFailed (number_of r) old_count new_count old new e → RegisterLeft false h (number_of r) old.far new.far e
+pub get_failed : (r : TriggerRegister) (h old_count new_count : ℕ) (old new : Tells) (e : AccessFault) → ReadFailed (number_of r) old_count new_count old new e
+    → RegisterLeft false h (number_of r) old.far new.far e
     → IfCut (Leaves (LeftAside Unchanged h) old.far new.far) e → FailedIn (OneGot r) h old_count new_count old new e
 get_failed r h old_count new_count old new e read left cut =
     record { done = []; attempt = Getting r; begins = (0, [], (0, refl)); mid = old; made = nothing; failed = record { read = read; left = left; cut = cut } }
 
-pub set_failed : (r : TriggerRegister) (value h old_count new_count : ℕ) (old new : Tells) (e : AccessFault) → WriteFailed (number_of r) value old_count new_count old new e → RegisterLeft true h (number_of r) old.far new.far e
+pub set_failed : (r : TriggerRegister) (value h old_count new_count : ℕ) (old new : Tells) (e : AccessFault)
+    → WriteFailed (number_of r) value old_count new_count old new e → RegisterLeft true h (number_of r) old.far new.far e
     → IfCut (Leaves (LeftAside (MaybeWritten (number_of r) value) h) old.far new.far) e → FailedIn (OneSet r value) h old_count new_count old new e
 set_failed r value h old_count new_count old new e written left cut =
-    record { done = []; attempt = Setting r value; begins = ([], refl); mid = old; made = nothing; failed = record { written = written; left = left; cut = cut } }
+    record {
+      done = [];
+      attempt = Setting r value;
+      begins = ([], refl);
+      mid = old;
+      made = nothing;
+      failed = record { written = written; left = left; cut = cut };
+    }

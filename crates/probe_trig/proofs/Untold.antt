@@ -13,7 +13,7 @@ use Rattle.probe_access.specs.declared.fault.AccessFault.TheVariants as access_f
 use Rattle.probe_access.specs.Registers.{RegisterRefusedAt, RegisterReadAt, RegisterLeft, RegisterWrittenAt, reaches}
 use Rattle.probe_access.specs.Scratches.{ScratchLeft}
 use Rattle.probe_run.specs.Acts.{Tells, tells}
-use Rattle.debug_model.specs.Dmi.{DmiScript}
+use Rattle.debug_model.specs.Dmi.{DmiComing}
 use Rattle.probe_trig.specs.declared.register.TriggerRegister.{TriggerRegister}
 use Rattle.probe_trig.specs.declared.register.TriggerRegister.TheVariants.{Dcsr, Tdata1, Tdata2, Tselect}
 use Rattle.probe_trig.specs.Transfers.{Attempt, AttemptFailed, FailedIn, Made, Transfer, Transferred, number_of}
@@ -72,7 +72,8 @@ not_denied : (write : Bool) (h : ℕ) (r : TriggerRegister) (old new : Option Fa
 not_denied write h r None new d = refl
 not_denied write h r (Some f) new d = absurd (false≢true (sym d.denied ∙ reached write d.hart r))
 
-register_left : (write : Bool) (h : ℕ) (r : TriggerRegister) (old new : Option Far) (e : AccessFault) → RegisterLeft write h (number_of r) old new e → ScratchLeft old e
+register_left : (write : Bool) (h : ℕ) (r : TriggerRegister) (old new : Option Far) (e : AccessFault) → RegisterLeft write h (number_of r) old new e
+    → ScratchLeft old e
 register_left write h r old new (access_fault.Dmi why) f = tt
 register_left write h r old new (access_fault.Memory at) f = f
 register_left write h r old new (access_fault.Register asked) f = not_denied write h r old new f
@@ -80,7 +81,8 @@ register_left write h r old new access_fault.StillBusy f = tt
 register_left write h r old new (access_fault.Run why) f = f
 register_left write h r old new (access_fault.Odd word) f = f
 
-attempt_left : (h : ℕ) (a : Attempt) (old_count new_count : ℕ) (old new : Tells) (e : AccessFault) → AttemptFailed h a old_count new_count old new e → ScratchLeft old.far e
+attempt_left : (h : ℕ) (a : Attempt) (old_count new_count : ℕ) (old new : Tells) (e : AccessFault) → AttemptFailed h a old_count new_count old new e
+    → ScratchLeft old.far e
 attempt_left h (Getting r) old_count new_count old new e f = register_left false h r old.far new.far e f.left
 attempt_left h (Setting r v) old_count new_count old new e f = register_left true h r old.far new.far e f.left
 
@@ -92,7 +94,7 @@ left_back old mid access_fault.StillBusy back f = tt
 left_back old mid (access_fault.Run why) back f = f
 left_back old mid (access_fault.Odd word) back f = back f
 
-pub failed_left : (Whole : List Transfer → Type 0) (h old_count new_count : ℕ) (far : Option Far) (script : Option DmiScript) (new : Tells) (e : AccessFault)
-    → FailedIn Whole h old_count new_count (tells far script) new e → ScratchLeft far e
-failed_left Whole h old_count new_count far script new e f =
-    left_back far f.mid.far e (made_back h f.done (tells far script) f.mid f.made) (attempt_left h f.attempt old_count new_count f.mid new e f.failed)
+pub failed_left : (Whole : List Transfer → Type 0) (h old_count new_count : ℕ) (far : Option Far) (coming : Option DmiComing) (new : Tells) (e : AccessFault)
+    → FailedIn Whole h old_count new_count (tells far coming) new e → ScratchLeft far e
+failed_left Whole h old_count new_count far coming new e f =
+    left_back far f.mid.far e (made_back h f.done (tells far coming) f.mid f.made) (attempt_left h f.attempt old_count new_count f.mid new e f.failed)

@@ -53,7 +53,8 @@ WentBy h (gone.Stopped x) old new = SteppedOver true false h old new
 pub data GoFailed (h old_count new_count : ℕ) (old new : Tells) (e : AccessFault) : Type 0 where
   in_hold : FailedIn (ChangesAny Hold) h old_count new_count old new e → GoFailed h old_count new_count old new e
   in_back : (held : Tells) → ChangedAll Hold true h old held → BackFailed h old_count new_count held new e → GoFailed h old_count new_count old new e
-  in_resume : (mid : Tells) → IsThrough h old mid → (why : RunFault) → ResumeFails h old_count new_count mid new why → ResumeLeft h mid.far new.far why → e ≡ of_run why → GoFailed h old_count new_count old new e
+  in_resume : (mid : Tells) → IsThrough h old mid → (why : RunFault) → ResumeFails h old_count new_count mid new why → ResumeLeft h mid.far new.far why
+      → e ≡ of_run why → GoFailed h old_count new_count old new e
 
 -- ---- at the harts
 

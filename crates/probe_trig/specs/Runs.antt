@@ -7,7 +7,7 @@ use Rattle.rv_model.specs.declared.slot.Trigger.TheVariants.{Disabled}
 use Rattle.rv_model.specs.Board.{slot_count}
 use Rattle.probe_trig.specs.declared.change.Change.{Change}
 use Rattle.probe_trig.specs.declared.register.TriggerRegister.TheVariants.{Tselect, Tdata1, Tdata2}
-use Rattle.probe_trig.specs.declared.slot_use.SlotUse.{SlotUse}
+use Rattle.debug_model.specs.declared.slot_use.SlotUse.{SlotUse}
 use Rattle.probe_trig.specs.declared.slot_words.SlotWords.{SlotWords}
 use Rattle.probe_trig.specs.Transfers.{Transfer}
 use Rattle.probe_trig.specs.Transfers.Transfer.{Got, Set}

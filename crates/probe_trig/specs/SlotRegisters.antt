@@ -6,22 +6,24 @@ use Rattle.rv_model.specs.declared.slot.Trigger.{Trigger}
 use Rattle.rv_model.specs.declared.slot.Trigger.TheVariants.{Disabled}
 use Rattle.rv_model.specs.Fields.{field}
 use Rattle.rv_model.specs.TriggerWords.{tdata1_of, trigger_of}
-use Rattle.abstract_debugger.specs.Slots.{Use, address_trigger, count_trigger, trigger_back, trigger_forgotten, trigger_has_hit, trigger_held, trigger_use, watch_trigger}
+use Rattle.abstract_debugger.specs.Slots.{
+  Use,
+  address_trigger,
+  count_trigger,
+  trigger_back,
+  trigger_forgotten,
+  trigger_has_hit,
+  trigger_held,
+  trigger_use,
+  watch_trigger,
+}
 use Rattle.abstract_debugger.specs.Slots.Use.{Armed, Other, Unused}
-use Rattle.abstract_debugger.specs.Trace.What.{Break, Watch, Count}
 use Rattle.probe_trig.specs.declared.change.Change.{Change}
 use Rattle.probe_trig.specs.declared.change.Change.TheVariants as change
-use Rattle.probe_trig.specs.declared.slot_use.SlotUse.{SlotUse}
-use Rattle.probe_trig.specs.declared.slot_use.SlotUse.TheVariants as slot_use
+use Rattle.debug_model.specs.declared.slot_use.SlotUse.{SlotUse}
+use Rattle.debug_model.specs.declared.slot_use.SlotUse.TheVariants as slot_use
 
 -- ---- what a slot is used for
-
-abbrev pub use_named : SlotUse → Use
-use_named slot_use.Free = Unused
-use_named (slot_use.Break address) = Armed (Break address)
-use_named (slot_use.Watch kind address) = Armed (Watch kind address)
-use_named (slot_use.Count turns) = Armed (Count turns)
-use_named (slot_use.Other tdata1) = Other tdata1
 
 -- type 15: a slot of any other type is in use, whoever programmed it
 abbrev pub shows_free : ℕ → Bool

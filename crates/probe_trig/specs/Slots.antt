@@ -1,8 +1,6 @@
 -- What the calls on a hart's slots do at a told chip: turns of harts, and the change that the abstract debugger makes; and what they answer.
 -- RISC-V Debug Specification 1.0, "Sdtrig (ISA Extension)". The choice of the lowest free slot is this project's own.
 use Rattle.std.specs.Prelude.{◌≡◌, ◌<◌, ℕ, List, [], ◌∷◌, map, Bool, true, false, Option, Some, None, slice_get}
-use Rattle.rv_model.specs.declared.slot_set.SlotSet.{SlotSet}
-use Rattle.rv_model.specs.SlotSet.{has_slot}
 use Rattle.rv_model.specs.Board.{Hart}
 use Rattle.rv_model.specs.DebugLaws.{SameRequests}
 use Rattle.debug_model.specs.Chip.{Chip}
@@ -13,15 +11,16 @@ use Rattle.abstract_debugger.specs.Slots.{Use, first_free, hits_forgotten, hits_
 use Rattle.abstract_debugger.specs.Slots.Use.{Armed}
 use Rattle.abstract_debugger.specs.Stands.{Rewrote, Target, WentOn}
 use Rattle.abstract_debugger.specs.Trace.{What}
+use Rattle.abstract_debugger.specs.SlotUses.{hits_in, use_named}
 use Rattle.probe_access.specs.Registers.{site_before}
 use Rattle.probe_run.specs.Acts.{Tells}
 use Rattle.probe_run.specs.Happens.{target_of}
-use Rattle.probe_trig.specs.declared.slot_use.SlotUse.{SlotUse}
-use Rattle.probe_trig.specs.declared.slot_use.SlotView.{SlotView}
+use Rattle.debug_model.specs.declared.slot_use.SlotUse.{SlotUse}
+use Rattle.probe_trig.specs.declared.slot_view.SlotView.{SlotView}
 use Rattle.probe_trig.specs.declared.slot_words.SlotWords.{SlotWords}
 use Rattle.probe_trig.specs.Runs.{Reads}
 use Rattle.probe_trig.specs.Transfers.{Did}
-use Rattle.probe_trig.specs.SlotRegisters.{shows_hit, use_named, use_shown}
+use Rattle.probe_trig.specs.SlotRegisters.{shows_hit, use_shown}
 
 -- this happened at the harts, and the bus is as it was
 pub record AtHarts (R : Target → Target → Type 0) (c : Chip) (new : Option Far) : Type 0 where
@@ -30,11 +29,7 @@ pub record AtHarts (R : Target → Target → Type 0) (c : Chip) (new : Option F
   pub happened : R (target_of (site_before c)) (target_of (site_of far))
   pub bus : (site_of far).unit.bus ≡ (site_before c).unit.bus
 
--- ---- the slots are seen
-
--- by place
-abbrev pub hits_in : SlotSet → List Bool
-hits_in set = has_slot set 0 ∷ has_slot set 1 ∷ has_slot set 2 ∷ has_slot set 3 ∷ []
+-- ---- the slots are read
 
 pub record Shows (view : SlotView) (uses : List Use) (hits : List Bool) : Type 0 where
   pub uses_are : map use_named view.used ≡ uses
@@ -48,7 +43,7 @@ use_of_words words = use_shown words.tdata1 words.tdata2
 abbrev pub hit_of_words : SlotWords → Bool
 hit_of_words words = shows_hit words.tdata1
 
-pub record SawAll (view : SlotView) (h : ℕ) (old new : Tells) : Type 0 where
+pub record SlotsRead (view : SlotView) (h : ℕ) (old new : Tells) : Type 0 where
   pub a : SlotWords
   pub b : SlotWords
   pub c : SlotWords

@@ -71,7 +71,8 @@ SteppedOverAny h old new = (some : Bool) × (executed : Bool) × SteppedOver som
 
 pub data OverFailed (h old_count new_count : ℕ) (old new : Tells) (e : AccessFault) : Type 0 where
   in_hold : FailedIn (ChangesAny Hold) h old_count new_count old new e → OverFailed h old_count new_count old new e
-  in_back : (some : Bool) (held : Tells) → ChangedAll Hold some h old held → BackFailed h old_count new_count held new e → OverFailed h old_count new_count old new e
+  in_back : (some : Bool) (held : Tells) → ChangedAll Hold some h old held → BackFailed h old_count new_count held new e
+      → OverFailed h old_count new_count old new e
 
 -- ---- at the harts
 
@@ -102,7 +103,8 @@ pub record OverMissed (h : ℕ) (last : Sight) (old new : Target) : Type 0 where
   pub missed : MissedAt (ResumeReq h) sees_both h last held new
 
 abbrev pub MissedOver : ℕ → Bool → ℕ → Option Far → Option Far → Type 0
-MissedOver h acknowledged looks old new = (looks ≡ most_looks) × ((last : Sight) × (sees_ack last ≡ acknowledged) × WhereTold (AtHarts (OverMissed h last)) old new)
+MissedOver h acknowledged looks old new = (looks ≡ most_looks)
+    × ((last : Sight) × (sees_ack last ≡ acknowledged) × WhereTold (AtHarts (OverMissed h last)) old new)
 
 abbrev pub OverRunLeft : ℕ → Option Far → Option Far → RunFault → Type 0
 OverRunLeft h old new (run_fault.Dmi why) = ⊥

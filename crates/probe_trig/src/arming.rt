@@ -14,10 +14,9 @@ ghost use Rattle.probe_trig.specs.Transfers.{Did, FailedIn, Made};
 ghost use Rattle.probe_trig.specs.SlotRegisters.{CanArm, address_named, trigger_named};
 
 use crate::fault::TrigFault;
-use crate::register::{TriggerRegister, get, read_word, set};
-use crate::slot_use::SlotUse;
+use crate::register::{TriggerRegister, read_word, reg, set_reg};
 use crate::words::shows_free;
-use debug_model::{Dmi, WatchKind};
+use debug_model::{Dmi, SlotUse, WatchKind};
 use probe_access::AccessFault;
 use probe_run::Halted;
 use rv_model::{Comparison, Icount, Mcontrol6, Trigger};
@@ -82,7 +81,7 @@ fn set_address<D: Dmi>(link: &mut D, halted: &Halted, what: SlotUse) -> Result<(
 {
     match address_of(what) {
         Some(address) => {
-            set(link, halted, TriggerRegister::Tdata2, address)?;
+            set_reg(link, halted, TriggerRegister::Tdata2, address)?;
             Ok(())
         }
         None => Ok(()),
@@ -100,7 +99,7 @@ fn arm_selected<D: Dmi>(link: &mut D, halted: &Halted, what: SlotUse) -> Result<
     ensures keeps { Keeps access_why (D.seen link.old) (D.seen link.new) result }
 {
     set_address(link, halted, what)?;
-    set(
+    set_reg(
         link,
         halted,
         TriggerRegister::Tdata1,
@@ -141,15 +140,15 @@ fn arm_lowest<D: Dmi>(
     ensures serving { OnOk result (Serving halted.now.number (D.seen link.new).far) }
     ensures keeps { Keeps access_why (D.seen link.old) (D.seen link.new) result }
 {
-    let kept = get(link, halted, TriggerRegister::Tselect)?;
+    let kept = reg(link, halted, TriggerRegister::Tselect)?;
     match seek_free(link, halted)? {
         Some(slot) => {
             arm_selected(link, halted, what)?;
-            set(link, halted, TriggerRegister::Tselect, kept)?;
+            set_reg(link, halted, TriggerRegister::Tselect, kept)?;
             Ok(Some(slot))
         }
         None => {
-            set(link, halted, TriggerRegister::Tselect, kept)?;
+            set_reg(link, halted, TriggerRegister::Tselect, kept)?;
             Ok(None)
         }
     }

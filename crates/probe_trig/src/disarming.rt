@@ -10,7 +10,7 @@ ghost use Rattle.probe_trig.specs.Slots.{AtHarts, DebugAlone, FreedAt, UnusedAt}
 ghost use Rattle.probe_trig.specs.Transfers.{Did, FailedIn};
 
 use crate::fault::TrigFault;
-use crate::register::{TriggerRegister, get, read_word, set};
+use crate::register::{TriggerRegister, read_word, reg, set_reg};
 use crate::words::shows_free;
 use debug_model::Dmi;
 use probe_access::AccessFault;
@@ -26,19 +26,19 @@ fn free<D: Dmi>(link: &mut D, halted: &Halted, slot: u8) -> Result<bool, AccessF
     ensures serving { OnOk result (Serving halted.now.number (D.seen link.new).far) }
     ensures keeps { Keeps access_why (D.seen link.old) (D.seen link.new) result }
 {
-    let kept = get(link, halted, TriggerRegister::Tselect)?;
+    let kept = reg(link, halted, TriggerRegister::Tselect)?;
     let tdata1 = read_word(link, halted, slot)?;
     if shows_free(tdata1) {
-        set(link, halted, TriggerRegister::Tselect, kept)?;
+        set_reg(link, halted, TriggerRegister::Tselect, kept)?;
         return Ok(true);
     }
-    set(
+    set_reg(
         link,
         halted,
         TriggerRegister::Tdata1,
         Trigger::Disabled.tdata1(),
     )?;
-    set(link, halted, TriggerRegister::Tselect, kept)?;
+    set_reg(link, halted, TriggerRegister::Tselect, kept)?;
     Ok(false)
 }
 

@@ -9,7 +9,7 @@ ghost use Rattle.probe_trig.specs.declared.register.TriggerRegister.TheVariants.
 ghost use Rattle.probe_trig.specs.Single.{OneGot, OneSet, WordRead};
 
 use debug_model::Dmi;
-use probe_access::{AccessFault, reg, set_reg};
+use probe_access::AccessFault;
 use probe_run::Halted;
 use rv_model::register_number;
 
@@ -41,7 +41,7 @@ impl TriggerRegister {
 }
 
 /// Reads a register of the halted hart.
-pub fn get<D: Dmi>(
+pub fn reg<D: Dmi>(
     link: &mut D,
     halted: &Halted,
     register: TriggerRegister,
@@ -53,12 +53,12 @@ pub fn get<D: Dmi>(
     ensures serving { OnOk result (Serving halted.now.number (D.seen link.new).far) }
     ensures keeps { Keeps access_why (D.seen link.old) (D.seen link.new) result }
 {
-    let value = reg(link, halted, register.number())?;
+    let value = probe_access::reg(link, halted, register.number())?;
     Ok(value)
 }
 
 /// Writes a register of the halted hart.
-pub fn set<D: Dmi>(
+pub fn set_reg<D: Dmi>(
     link: &mut D,
     halted: &Halted,
     register: TriggerRegister,
@@ -71,7 +71,7 @@ pub fn set<D: Dmi>(
     ensures serving { OnOk result (Serving halted.now.number (D.seen link.new).far) }
     ensures keeps { Keeps access_why (D.seen link.old) (D.seen link.new) result }
 {
-    set_reg(link, halted, register.number(), value)?;
+    probe_access::set_reg(link, halted, register.number(), value)?;
     Ok(())
 }
 
@@ -84,7 +84,7 @@ pub fn read_word<D: Dmi>(link: &mut D, halted: &Halted, slot: u8) -> Result<u64,
     ensures serving { OnOk result (Serving halted.now.number (D.seen link.new).far) }
     ensures keeps { Keeps access_why (D.seen link.old) (D.seen link.new) result }
 {
-    set(link, halted, TriggerRegister::Tselect, u64::from(slot))?;
-    let tdata1 = get(link, halted, TriggerRegister::Tdata1)?;
+    set_reg(link, halted, TriggerRegister::Tselect, u64::from(slot))?;
+    let tdata1 = reg(link, halted, TriggerRegister::Tdata1)?;
     Ok(tdata1)
 }

@@ -8,7 +8,7 @@ ghost use Rattle.probe_trig.specs.SlotRegisters.{shows_hit};
 ghost use Rattle.probe_trig.specs.Transfers.{FailedIn, Made};
 
 use crate::change::Change;
-use crate::register::{TriggerRegister, get, read_word, set};
+use crate::register::{TriggerRegister, read_word, reg, set_reg};
 use crate::words::shows_hit;
 use debug_model::Dmi;
 use probe_access::AccessFault;
@@ -32,7 +32,7 @@ fn change_slot<D: Dmi>(
     if !shows_hit(tdata1) {
         return Ok(tdata1);
     }
-    set(
+    set_reg(
         link,
         halted,
         TriggerRegister::Tdata1,
@@ -61,11 +61,11 @@ pub fn change_hits<D: Dmi>(
     ensures serving { OnOk result (Serving halted.now.number (D.seen link.new).far) }
     ensures keeps { Keeps access_why (D.seen link.old) (D.seen link.new) result }
 {
-    let kept = get(link, halted, TriggerRegister::Tselect)?;
+    let kept = reg(link, halted, TriggerRegister::Tselect)?;
     let a = change_slot(link, halted, 0, change)?;
     let b = change_slot(link, halted, 1, change)?;
     let c = change_slot(link, halted, 2, change)?;
     let d = change_slot(link, halted, 3, change)?;
-    set(link, halted, TriggerRegister::Tselect, kept)?;
+    set_reg(link, halted, TriggerRegister::Tselect, kept)?;
     Ok(some_hit(a, b, c, d))
 }

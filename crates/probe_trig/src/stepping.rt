@@ -17,7 +17,7 @@ ghost use Rattle.probe_trig.specs.Transfers.{Did, FailedIn};
 use crate::change::Change;
 use crate::fault::TrigFault;
 use crate::gone::Gone;
-use crate::register::{TriggerRegister, get};
+use crate::register::{TriggerRegister, reg};
 use crate::rewriting::change_hits;
 use debug_model::Dmi;
 use probe_access::{AccessFault, step};
@@ -59,7 +59,7 @@ fn put_back<D: Dmi>(link: &mut D, halted: &Halted) -> Result<bool, AccessFault>
     ensures serving { OnOk result (Serving halted.now.number (D.seen link.new).far) }
     ensures keeps { Keeps access_why (D.seen link.old) (D.seen link.new) result }
 {
-    let word = get(link, halted, TriggerRegister::Dcsr)?;
+    let word = reg(link, halted, TriggerRegister::Dcsr)?;
     let executed = shows_step(word);
     let _some = change_hits(link, halted, ending(executed))?;
     Ok(executed)

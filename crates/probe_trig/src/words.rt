@@ -1,9 +1,9 @@
 ghost use Rattle.std.specs.Prelude.{◌≡◌};
 ghost use Rattle.abstract_debugger.specs.Slots.{address_use, trigger_has_hit};
-ghost use Rattle.probe_trig.specs.SlotRegisters.{or_other, shows_free, shows_hit, use_named, use_shown};
+ghost use Rattle.abstract_debugger.specs.SlotUses.{use_named};
+ghost use Rattle.probe_trig.specs.SlotRegisters.{or_other, shows_free, shows_hit, use_shown};
 
-use crate::slot_use::SlotUse;
-use debug_model::WatchKind;
+use debug_model::{SlotUse, WatchKind};
 use rv_model::{Comparison, Mcontrol6, Trigger};
 
 /// The place and the number of the type of a disabled trigger (RISC-V Debug Specification 1.0, "Trigger Data 1").

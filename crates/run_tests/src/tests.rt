@@ -7,6 +7,7 @@ mod ended;
 mod generated;
 mod loopback;
 mod probe;
+mod recorded;
 mod refused;
 mod served;
 mod sessions;

@@ -10,7 +10,16 @@ use Rattle.rv_model.specs.DebugLaws.{DebugRegisterNumbers, DebugRegisterExamples
 use Rattle.rv_model.specs.Laws.{KeepsCore}
 use Rattle.rv_model.specs.Registers.{reg_value, reg_written, is_x_number, csr_value, csr_written, csr_read_only}
 use Rattle.rv_model.specs.Triggers.{CountsFit}
-use Rattle.rv_model.specs.TriggerWords.{TriggerPart, triggers_of, tselect_number, tdata1_number, tdata2_number, tdata1_of, trigger_csr_value, trigger_csr_written}
+use Rattle.rv_model.specs.TriggerWords.{
+  TriggerPart,
+  triggers_of,
+  tselect_number,
+  tdata1_number,
+  tdata2_number,
+  tdata1_of,
+  trigger_csr_value,
+  trigger_csr_written,
+}
 use Rattle.rv_model.proofs.KeptLemmas.{with_x_keeps, at_pc, csr_written_keeps}
 use Rattle.rv_model.proofs.SlotLemmas.{set_fits, selected_fits, written_fits}
 
@@ -58,7 +67,8 @@ same_requests : (d : DebugPart) → SameRequests d d
 same_requests d = record { halted = refl; halt_request = refl; resume_request = refl; resume_ack = refl; have_reset = refl }
 
 abbrev TriggersKeep : TriggerPart → TriggerPart → Type 0
-TriggersKeep t after = (length after.slots ≡ length t.slots) × (CountsFit t.slots → CountsFit after.slots) × (t.tselect < slot_count → after.tselect < slot_count)
+TriggersKeep t after = (length after.slots ≡ length t.slots) × (CountsFit t.slots → CountsFit after.slots)
+    × (t.tselect < slot_count → after.tselect < slot_count)
 
 triggers_by : (is_tselect is_tdata1 is_tdata2 : Bool) (t a b c : TriggerPart) → TriggersKeep t a → TriggersKeep t b → TriggersKeep t c
     → TriggersKeep t (cond is_tselect a (cond is_tdata1 b (cond is_tdata2 c t)))
@@ -123,7 +133,8 @@ writes_keep h number v = hart_keeps h _ (reg_written_keeps h.core number v) (deb
 -- ---- written and read back
 
 pub is_x : (r : ℕ) → r < 32 → is_x_number (0x1000 + r) ≡ true
-is_x r inside = ap (λ b. cond b false (ltb (0x1000 + r) (0x1000 + 32))) (le-ltb (0x1000 + r) 0x1000 (omega arith)) ∙ lt-ltb (0x1000 + r) (0x1000 + 32) (omega arith)
+is_x r inside = ap (λ b. cond b false (ltb (0x1000 + r) (0x1000 + 32))) (le-ltb (0x1000 + r) 0x1000 (omega arith))
+    ∙ lt-ltb (0x1000 + r) (0x1000 + 32) (omega arith)
 
 x_read_back : (c : Core) (r v : ℕ) → 0 < r → r < length c.x → x_of (with_x c r v) r ≡ v
 x_read_back c r v some inside =

@@ -10,7 +10,22 @@ use Rattle.rv_model.specs.declared.slot.Trigger.TheVariants as kind
 use Rattle.rv_model.specs.Codes.{comparison_of-comparison_number}
 use Rattle.rv_model.specs.Dcsr.{dcsr_fixed, dcsr_word, dcsr_of_word}
 use Rattle.rv_model.specs.Fields.{field, bit, bit_value}
-use Rattle.rv_model.specs.TriggerWords.{comparison_number, comparison_of, mcontrol6_fixed, icount_fixed, count_limit, mcontrol6_word, mcontrol6_of, icount_word, icount_of, trigger_of_type, tdata1_of, trigger_of, trigger_csr_value, trigger_csr_written}
+use Rattle.rv_model.specs.TriggerWords.{
+  comparison_number,
+  comparison_of,
+  mcontrol6_fixed,
+  icount_fixed,
+  count_limit,
+  mcontrol6_word,
+  mcontrol6_of,
+  icount_word,
+  icount_of,
+  trigger_of_type,
+  tdata1_of,
+  trigger_of,
+  trigger_csr_value,
+  trigger_csr_written,
+}
 use Rattle.rv_model.specs.DebugWordExamples.{DcsrExamples, DcsrReadBack, TriggersDecoded, TriggersKept, TriggerReadBack, TriggerRegisters}
 
 -- ---- one bit
@@ -68,7 +83,8 @@ pub record IcountFields (w h n m p : ℕ) : Type 0 where
   pub m_is : field 9 1 w ≡ m
   pub pending : field 8 1 w ≡ p
 
-icount_fields : (w h n m p : ℕ) → w ≡ icount_fixed + h * 2 ^ 24 + n * 2 ^ 10 + m * 2 ^ 9 + p * 2 ^ 8 → h < 2 → n < count_limit → m < 2 → p < 2 → IcountFields w h n m p
+icount_fields : (w h n m p : ℕ) → w ≡ icount_fixed + h * 2 ^ 24 + n * 2 ^ 10 + m * 2 ^ 9 + p * 2 ^ 8 → h < 2 → n < count_limit → m < 2 → p < 2
+    → IcountFields w h n m p
 icount_fields w h n m p is hh hn hm hp = record { type_is = omega arith; hit = omega arith; count = omega arith; m_is = omega arith; pending = omega arith }
 
 icount_from : (w : ℕ) (t : Icount) → bit 24 w ≡ t.hit → field 10 14 w ≡ t.count → bit 9 w ≡ t.m → bit 8 w ≡ t.pending → icount_of w ≡ t
@@ -112,7 +128,8 @@ comparison_below Equal = omega arith
 comparison_below AtLeast = omega arith
 comparison_below Below = omega arith
 
-mcontrol6_from : (w : ℕ) (t : Mcontrol6) → bit 22 w ≡ t.hit → comparison_of (field 7 4 w) ≡ t.comparison → bit 6 w ≡ t.m → bit 2 w ≡ t.execute → bit 1 w ≡ t.store → bit 0 w ≡ t.load
+mcontrol6_from : (w : ℕ) (t : Mcontrol6) → bit 22 w ≡ t.hit → comparison_of (field 7 4 w) ≡ t.comparison → bit 6 w ≡ t.m → bit 2 w ≡ t.execute
+    → bit 1 w ≡ t.store → bit 0 w ≡ t.load
     → mcontrol6_of w ≡ t
 mcontrol6_from w t h c m e s l = rw (h, c, m, e, s, l) refl
 
@@ -125,8 +142,10 @@ mcontrol6_back t =
     let s = value_of_bit 1 t.store in
     let l = value_of_bit 0 t.load in
     let w : ℕ = mcontrol6_word t in
-    let fields : Mcontrol6Fields w (number_of t.hit) (comparison_number t.comparison) (number_of t.m) (number_of t.execute) (number_of t.store) (number_of t.load) =
-    mcontrol6_fields w _ _ _ _ _ _ (omega arith) (one_or_none t.hit) (comparison_below t.comparison) (one_or_none t.m) (one_or_none t.execute) (one_or_none t.store) (one_or_none t.load) in
+    let fields : Mcontrol6Fields w (number_of t.hit) (comparison_number t.comparison) (number_of t.m) (number_of t.execute) (number_of t.store)
+    (number_of t.load) =
+    mcontrol6_fields w _ _ _ _ _ _ (omega arith) (one_or_none t.hit) (comparison_below t.comparison) (one_or_none t.m) (one_or_none t.execute)
+    (one_or_none t.store) (one_or_none t.load) in
     ap (λ k. trigger_of_type k w) fields.type_is
     ∙ ap kind.Mcontrol6 (mcontrol6_from w t
     (bit_is 22 w t.hit fields.hit) (ap comparison_of fields.comparison ∙ comparison_of-comparison_number t.comparison)

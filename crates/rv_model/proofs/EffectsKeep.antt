@@ -1,11 +1,48 @@
 -- What every instruction keeps, by its line in the table of effects.
 use Rattle.rv_model.specs.declared.insn.Insn.{Insn}
-use Rattle.rv_model.specs.declared.insn.Insn.TheVariants.{Lui, Auipc, Jal, Jalr, Branch, Load, Store, Immediate, Shift, WordShift, Register, LoadReserved, StoreConditional, Amo, Fence, FenceI, Csr, CsrImmediate, Ecall, Ebreak, Mret, Wfi}
+use Rattle.rv_model.specs.declared.insn.Insn.TheVariants.{
+  Lui,
+  Auipc,
+  Jal,
+  Jalr,
+  Branch,
+  Load,
+  Store,
+  Immediate,
+  Shift,
+  WordShift,
+  Register,
+  LoadReserved,
+  StoreConditional,
+  Amo,
+  Fence,
+  FenceI,
+  Csr,
+  CsrImmediate,
+  Ecall,
+  Ebreak,
+  Mret,
+  Wfi,
+}
 use Rattle.rv_model.specs.Memory.{Memory, loaded}
 use Rattle.rv_model.specs.Core.{Core}
 use Rattle.rv_model.specs.Effects.{effect}
 use Rattle.rv_model.specs.Laws.{Keeps}
-use Rattle.rv_model.proofs.KeptLemmas.{quiet, goes_on_keeps, traps_keeps, trap_left_keeps, sets_rd_keeps, jumps_keeps, branches_keeps, swaps_csr_keeps, after_load_keeps, stores_keeps, reserves_keeps, stores_if_reserved_keeps, updates_keeps}
+use Rattle.rv_model.proofs.KeptLemmas.{
+  quiet,
+  goes_on_keeps,
+  traps_keeps,
+  trap_left_keeps,
+  sets_rd_keeps,
+  jumps_keeps,
+  branches_keeps,
+  swaps_csr_keeps,
+  after_load_keeps,
+  stores_keeps,
+  reserves_keeps,
+  stores_if_reserved_keeps,
+  updates_keeps,
+}
 
 pub effect_keeps : (insn : Insn) (c : Core) (m : Memory) → Keeps c m (effect insn c m)
 effect_keeps (Lui p) c m = quiet m (sets_rd_keeps p.rd _ c)

@@ -1,5 +1,33 @@
 -- The worked examples, computed.
-use Rattle.std.proofs.Common.{◌≡◌, ℕ, ◌+◌, ◌*◌, ◌/◌, ◌%◌, ◌<◌, Bool, true, false, cond, List, [], ◌∷◌, length, Option, Some, None, Result, Ok, Err, slice_get, option_map, refl, ap, ◌∙◌, arith}
+use Rattle.std.proofs.Common.{
+  ◌≡◌,
+  ℕ,
+  ◌+◌,
+  ◌*◌,
+  ◌/◌,
+  ◌%◌,
+  ◌<◌,
+  Bool,
+  true,
+  false,
+  cond,
+  List,
+  [],
+  ◌∷◌,
+  length,
+  Option,
+  Some,
+  None,
+  Result,
+  Ok,
+  Err,
+  slice_get,
+  option_map,
+  refl,
+  ap,
+  ◌∙◌,
+  arith,
+}
 use Rattle.std.specs.FinMap.{get}
 use Rattle.std.proofs.lemmas.Bool.{and_from, eqb-true, lt-ltb, le-leb}
 use Rattle.std.proofs.lemmas.Option.{slice_get-map}
@@ -12,14 +40,40 @@ use Rattle.rv_model.specs.Alu.{alu_of}
 use Rattle.rv_model.specs.Fields.{sign_extended}
 use Rattle.rv_model.specs.Laws.{answered}
 use Rattle.rv_model.specs.Rows.{meaning}
-use Rattle.rv_model.specs.Memory.{Memory, with_byte, value_at, or_outside, is_aligned, loaded, store_answer, after_store, touches, kept, reserve, place_covers, covers}
+use Rattle.rv_model.specs.Memory.{
+  Memory,
+  with_byte,
+  value_at,
+  or_outside,
+  is_aligned,
+  loaded,
+  store_answer,
+  after_store,
+  touches,
+  kept,
+  reserve,
+  place_covers,
+  covers,
+}
 use Rattle.rv_model.specs.Core.{Core, reset_core, x_of}
 use Rattle.rv_model.specs.Registers.{csr_value, csr_read_only}
 use Rattle.rv_model.specs.Effects.{Outcome, same_memory, after_load, stored_step, effect_of, sc_step, after_sc}
 use Rattle.rv_model.specs.Execute.{fetched, exec_of}
 use Rattle.rv_model.specs.Board.{with_outcome}
 use Rattle.rv_model.specs.Undebugged.{undebugged, Entry, Exec}
-use Rattle.rv_model.specs.Examples.{ReservedWordsMeanNothing, CounterCounts, WritesKeepTheirBits, one_hart, counter, Divisions, TrapsOutside, TrapExamples, ScFailsAfterStore, ScSucceedsAfterLr, hart_with}
+use Rattle.rv_model.specs.Examples.{
+  ReservedWordsMeanNothing,
+  CounterCounts,
+  WritesKeepTheirBits,
+  one_hart,
+  counter,
+  Divisions,
+  TrapsOutside,
+  TrapExamples,
+  ScFailsAfterStore,
+  ScSucceedsAfterLr,
+  hart_with,
+}
 use Rattle.rv_model.proofs.MapLemmas.{slice_get-set_same}
 use Rattle.rv_model.proofs.MemoryLemmas.{after_store_refused, after_store_taken, store_answer_is}
 
@@ -118,7 +172,10 @@ gone_after_store m h a b size v inside same taken =
     ∙ ap (λ t. Some (cond t None (Some (a / 8 * 8)))) (touched a b (count_of size) (some_byte size) same)
 
 sc_by : (c : Core) (m : Memory) (a v : ℕ) (r : Result ℕ MemFault) (covered : Bool) → loaded m a B8 ≡ r → covers m c.id a B8 ≡ covered
-    → ◌≡◌ {A = Outcome} (record { step = sc_step (loaded m a B8) (covers m c.id a B8) 5 a c; memory = after_sc (loaded m a B8) (covers m c.id a B8) a B8 v c m })
+    → ◌≡◌ {A = Outcome} (record {
+      step = sc_step (loaded m a B8) (covers m c.id a B8) 5 a c;
+      memory = after_sc (loaded m a B8) (covers m c.id a B8) a B8 v c m;
+    })
     (record { step = sc_step r covered 5 a c; memory = after_sc r covered a B8 v c m })
 sc_by c m a v r covered is cover =
     ap (λ q. record { step = sc_step q (covers m c.id a B8) 5 a c; memory = after_sc q (covers m c.id a B8) a B8 v c m }) is

@@ -1,5 +1,42 @@
 -- What each class of instructions keeps: the core's number and x0, what is true of every core, other harts' reservations, and memory at a trap.
-use Rattle.std.proofs.Common.{◌≡◌, ℕ, ◌+◌, ◌*◌, ◌/◌, ◌%◌, ◌^◌, ◌<◌, ◌≤◌, Bool, true, false, cond, ◌&&◌, eqb, List, [], ◌∷◌, length, get_or, set, Option, Some, None, Result, Ok, Err, slice_get, find, bit_and, refl, sym, ap, ◌∙◌, inl, arith}
+use Rattle.std.proofs.Common.{
+  ◌≡◌,
+  ℕ,
+  ◌+◌,
+  ◌*◌,
+  ◌/◌,
+  ◌%◌,
+  ◌^◌,
+  ◌<◌,
+  ◌≤◌,
+  Bool,
+  true,
+  false,
+  cond,
+  ◌&&◌,
+  eqb,
+  List,
+  [],
+  ◌∷◌,
+  length,
+  get_or,
+  set,
+  Option,
+  Some,
+  None,
+  Result,
+  Ok,
+  Err,
+  slice_get,
+  find,
+  bit_and,
+  refl,
+  sym,
+  ap,
+  ◌∙◌,
+  inl,
+  arith,
+}
 use Rattle.std.specs.Prelude.{⊤}
 use Rattle.std.proofs.lemmas.Bool.{eqb-true, eqb-false}
 use Rattle.std.proofs.lemmas.List.{get_or-set_other, length-set}
@@ -14,7 +51,29 @@ use Rattle.rv_model.specs.Memory.{Memory, loaded, store_answer, after_store, cov
 use Rattle.rv_model.specs.Core.{Core, IsCore, with_x, next_pc, offset_by, mie_of, mpie_of, mstatus_with}
 use Rattle.rv_model.specs.Registers.{Register, registers, kept_of, written_at, csr_value, csr_written, csr_read_only, mstatus_bits, address_bits}
 use Rattle.rv_model.specs.Traps.{load_cause, store_cause, trap_entered, trap_left}
-use Rattle.rv_model.specs.Effects.{Step, same_memory, retires, goes_on, traps, sets_rd, jumps, branches, swapped_csr, swaps_csr, after_load, stored_step, stores_at, after_reserve, reserves_at, sc_step, after_sc, stores_if_reserved_at, amo_step, after_amo, updates_at}
+use Rattle.rv_model.specs.Effects.{
+  Step,
+  same_memory,
+  retires,
+  goes_on,
+  traps,
+  sets_rd,
+  jumps,
+  branches,
+  swapped_csr,
+  swaps_csr,
+  after_load,
+  stored_step,
+  stores_at,
+  after_reserve,
+  reserves_at,
+  sc_step,
+  after_sc,
+  stores_if_reserved_at,
+  amo_step,
+  after_amo,
+  updates_at,
+}
 use Rattle.rv_model.specs.Laws.{KeptOrCleared, KeepsCore, IsTrap, Keeps}
 use Rattle.rv_model.proofs.MemoryLemmas.{after_store_refused, after_store_others, after_store_places, others_at}
 
@@ -31,7 +90,13 @@ with_x_by true c r v other = same_core c
 with_x_by false c r v other = record {
   same_id = refl;
   x0 = get_or-set_other c.x r 0 v 0 (λ e. other refl (sym e));
-  is_core = λ h. record { registers = length-set c.x r v ∙ h.registers; pc_aligned = h.pc_aligned; mtvec_aligned = h.mtvec_aligned; mepc_aligned = h.mepc_aligned; mpp_fixed = h.mpp_fixed };
+  is_core = λ h. record {
+    registers = length-set c.x r v ∙ h.registers;
+    pc_aligned = h.pc_aligned;
+    mtvec_aligned = h.mtvec_aligned;
+    mepc_aligned = h.mepc_aligned;
+    mpp_fixed = h.mpp_fixed;
+  };
 }
 
 pub with_x_keeps : (c : Core) (r v : ℕ) → KeepsCore c (with_x c r v)
@@ -41,7 +106,13 @@ pub at_pc : (c : Core) (target : ℕ) → (IsCore c → target % 4 ≡ 0) → Ke
 at_pc c target fits = record {
   same_id = refl;
   x0 = refl;
-  is_core = λ h. record { registers = h.registers; pc_aligned = fits h; mtvec_aligned = h.mtvec_aligned; mepc_aligned = h.mepc_aligned; mpp_fixed = h.mpp_fixed };
+  is_core = λ h. record {
+    registers = h.registers;
+    pc_aligned = fits h;
+    mtvec_aligned = h.mtvec_aligned;
+    mepc_aligned = h.mepc_aligned;
+    mpp_fixed = h.mpp_fixed;
+  };
 }
 
 next_aligned : (pc : ℕ) → pc % 4 ≡ 0 → (pc + 4) % 2 ^ 64 % 4 ≡ 0
@@ -77,7 +148,8 @@ sets_rd_keeps rd v c = sets_rd_from c c rd v (same_core c)
 
 -- ---- mstatus and traps
 
-mstatus_form : (mie mpie : ℕ) → mie < 2 → mpie < 2 → mstatus_with (field 3 1 (mstatus_with mie mpie)) (field 7 1 (mstatus_with mie mpie)) ≡ mstatus_with mie mpie
+mstatus_form : (mie mpie : ℕ) → mie < 2 → mpie < 2
+    → mstatus_with (field 3 1 (mstatus_with mie mpie)) (field 7 1 (mstatus_with mie mpie)) ≡ mstatus_with mie mpie
 mstatus_form mie mpie h k = omega arith
 
 bit_below : (n : ℕ) → n % 2 < 2
@@ -93,7 +165,13 @@ trap_keeps : (cause value : ℕ) (c : Core) → KeepsCore c (trap_entered cause 
 trap_keeps cause value c = record {
   same_id = refl;
   x0 = refl;
-  is_core = λ h. record { registers = h.registers; pc_aligned = h.mtvec_aligned; mtvec_aligned = h.mtvec_aligned; mepc_aligned = h.pc_aligned; mpp_fixed = mstatus_form 0 (mie_of c) (omega arith) (mie_below c) };
+  is_core = λ h. record {
+    registers = h.registers;
+    pc_aligned = h.mtvec_aligned;
+    mtvec_aligned = h.mtvec_aligned;
+    mepc_aligned = h.pc_aligned;
+    mpp_fixed = mstatus_form 0 (mie_of c) (omega arith) (mie_below c);
+  };
 }
 
 pub traps_keeps : (cause value : ℕ) (c : Core) → StepKeeps c (traps cause value c)
@@ -106,7 +184,13 @@ left_keeps : (c : Core) → KeepsCore c (trap_left c)
 left_keeps c = record {
   same_id = refl;
   x0 = refl;
-  is_core = λ h. record { registers = h.registers; pc_aligned = h.mepc_aligned; mtvec_aligned = h.mtvec_aligned; mepc_aligned = h.mepc_aligned; mpp_fixed = mstatus_form (mpie_of c) 1 (mpie_below c) (omega arith) };
+  is_core = λ h. record {
+    registers = h.registers;
+    pc_aligned = h.mepc_aligned;
+    mtvec_aligned = h.mtvec_aligned;
+    mepc_aligned = h.mepc_aligned;
+    mpp_fixed = mstatus_form (mpie_of c) 1 (mpie_below c) (omega arith);
+  };
 }
 
 pub trap_left_keeps : (c : Core) → StepKeeps c (retires (trap_left c))
@@ -116,7 +200,8 @@ trap_left_keeps c = retired c (trap_left c) (left_keeps c)
 
 jumps_by : (b : Bool) (rd target : ℕ) (c : Core) → (b ≡ true → target % 4 ≡ 0)
     → StepKeeps c (cond b (retires (record (with_x c rd (next_pc c)) { pc = target })) (traps 0 target c))
-jumps_by true rd target c fits = retired c _ (kept_twice c (with_x c rd (next_pc c)) _ (with_x_keeps c rd (next_pc c)) (at_pc (with_x c rd (next_pc c)) target (λ _. fits refl)))
+jumps_by true rd target c fits = retired c _ (kept_twice c (with_x c rd (next_pc c)) _ (with_x_keeps c rd (next_pc c))
+    (at_pc (with_x c rd (next_pc c)) target (λ _. fits refl)))
 jumps_by false rd target c fits = traps_keeps 0 target c
 
 pub jumps_keeps : (rd target : ℕ) (c : Core) → StepKeeps c (jumps rd target c)
@@ -150,7 +235,8 @@ aligned_bits v =
 bit_of_eight : (u : ℕ) → bit_and u 8 ≡ u / 8 % 2 * 8
 bit_of_eight u =
     let cut : u ≡ u / 8 * 2 ^ 3 + u % 8 = omega arith in
-    let parts : bit_and (u / 8 * 2 ^ 3 + u % 8) (1 * 2 ^ 3 + 0) ≡ bit_and (u / 8) 1 * 2 ^ 3 + bit_and (u % 8) 0 = and_block 3 (u / 8) 1 (u % 8) 0 (omega arith) (omega arith) in
+    let parts : bit_and (u / 8 * 2 ^ 3 + u % 8) (1 * 2 ^ 3 + 0) ≡ bit_and (u / 8) 1 * 2 ^ 3 + bit_and (u % 8) 0 =
+    and_block 3 (u / 8) 1 (u % 8) 0 (omega arith) (omega arith) in
     let bit : bit_and (u / 8) 1 ≡ u / 8 % 2 = and_mask (u / 8) 1 in
     let none : bit_and (u % 8) 0 ≤ 0 = and_le_r (u % 8) 0 in
     let whole : bit_and u 8 ≡ bit_and (u / 8 * 2 ^ 3 + u % 8) (1 * 2 ^ 3 + 0) = ap (λ n. bit_and n 8) cut in
@@ -159,7 +245,8 @@ bit_of_eight u =
 mstatus_bits_are : (v : ℕ) → bit_and v mstatus_bits ≡ v / 8 % 2 * 8 + v / 128 % 2 * 128
 mstatus_bits_are v =
     let cut : v ≡ v / 128 * 2 ^ 7 + v % 128 = omega arith in
-    let parts : bit_and (v / 128 * 2 ^ 7 + v % 128) (1 * 2 ^ 7 + 8) ≡ bit_and (v / 128) 1 * 2 ^ 7 + bit_and (v % 128) 8 = and_block 7 (v / 128) 1 (v % 128) 8 (omega arith) (omega arith) in
+    let parts : bit_and (v / 128 * 2 ^ 7 + v % 128) (1 * 2 ^ 7 + 8) ≡ bit_and (v / 128) 1 * 2 ^ 7 + bit_and (v % 128) 8 =
+    and_block 7 (v / 128) 1 (v % 128) 8 (omega arith) (omega arith) in
     let bit : bit_and (v / 128) 1 ≡ v / 128 % 2 = and_mask (v / 128) 1 in
     let eight : bit_and (v % 128) 8 ≡ v % 128 / 8 % 2 * 8 = bit_of_eight (v % 128) in
     let whole : bit_and v mstatus_bits ≡ bit_and (v / 128 * 2 ^ 7 + v % 128) (1 * 2 ^ 7 + 8) = ap (λ n. bit_and n mstatus_bits) cut in
@@ -174,21 +261,39 @@ mstatus_keeps : (c : Core) (v : ℕ) → KeepsCore c (record c { mstatus = 0x180
 mstatus_keeps c v = record {
   same_id = refl;
   x0 = refl;
-  is_core = λ h. record { registers = h.registers; pc_aligned = h.pc_aligned; mtvec_aligned = h.mtvec_aligned; mepc_aligned = h.mepc_aligned; mpp_fixed = kept_mstatus v (0x1800 + bit_and v mstatus_bits) refl };
+  is_core = λ h. record {
+    registers = h.registers;
+    pc_aligned = h.pc_aligned;
+    mtvec_aligned = h.mtvec_aligned;
+    mepc_aligned = h.mepc_aligned;
+    mpp_fixed = kept_mstatus v (0x1800 + bit_and v mstatus_bits) refl;
+  };
 }
 
 mtvec_keeps : (c : Core) (v : ℕ) → KeepsCore c (record c { mtvec = 0 + bit_and v address_bits })
 mtvec_keeps c v = record {
   same_id = refl;
   x0 = refl;
-  is_core = λ h. record { registers = h.registers; pc_aligned = h.pc_aligned; mtvec_aligned = aligned_bits v; mepc_aligned = h.mepc_aligned; mpp_fixed = h.mpp_fixed };
+  is_core = λ h. record {
+    registers = h.registers;
+    pc_aligned = h.pc_aligned;
+    mtvec_aligned = aligned_bits v;
+    mepc_aligned = h.mepc_aligned;
+    mpp_fixed = h.mpp_fixed;
+  };
 }
 
 mepc_keeps : (c : Core) (v : ℕ) → KeepsCore c (record c { mepc = 0 + bit_and v address_bits })
 mepc_keeps c v = record {
   same_id = refl;
   x0 = refl;
-  is_core = λ h. record { registers = h.registers; pc_aligned = h.pc_aligned; mtvec_aligned = h.mtvec_aligned; mepc_aligned = aligned_bits v; mpp_fixed = h.mpp_fixed };
+  is_core = λ h. record {
+    registers = h.registers;
+    pc_aligned = h.pc_aligned;
+    mtvec_aligned = h.mtvec_aligned;
+    mepc_aligned = aligned_bits v;
+    mpp_fixed = h.mpp_fixed;
+  };
 }
 
 -- a register of which nothing else is known
@@ -269,7 +374,8 @@ swaps_csr_keeps writes change number v rd c = swapped_keeps (csr_value c number)
 
 -- ---- memory
 
-is_trap : {c : Core} {s : Step} (m n : Memory) → StepKeeps c s → (cause : ℕ) → s.did ≡ Trapped cause → n ≡ m → IsTrap cause c m (record { step = s; memory = n })
+is_trap : {c : Core} {s : Step} (m n : Memory) → StepKeeps c s → (cause : ℕ) → s.did ≡ Trapped cause → n ≡ m
+    → IsTrap cause c m (record { step = s; memory = n })
 is_trap m n h cause e same = record { value = (h.trapped cause e).0; core = (h.trapped cause e).1; memory = same }
 
 pub quiet : {c : Core} {s : Step} (m : Memory) → StepKeeps c s → Keeps c m (same_memory m s)
@@ -296,7 +402,8 @@ stores_keeps a size v c m = record {
   trapped = λ cause e. is_trap m _ (stored_step_keeps (store_answer m a size) a c) cause e (store_trapped (store_answer m a size) a size v c m cause refl e);
 }
 
-reserve_others : (r : Result ℕ MemFault) (a : ℕ) (c : Core) (m : Memory) (j : ℕ) → (j ≡ c.id → ⊥) → KeptOrCleared (slice_get m.reserved j) (slice_get (after_reserve r a c m).reserved j)
+reserve_others : (r : Result ℕ MemFault) (a : ℕ) (c : Core) (m : Memory) (j : ℕ) → (j ≡ c.id → ⊥)
+    → KeptOrCleared (slice_get m.reserved j) (slice_get (after_reserve r a c m).reserved j)
 reserve_others (Ok v) a c m j other = others_at m.reserved m.reserved c.id j (Some (a / 8 * 8)) other (inl refl)
 reserve_others (Err fault) a c m j other = inl refl
 
@@ -304,7 +411,8 @@ reserve_places : (r : Result ℕ MemFault) (a : ℕ) (c : Core) (m : Memory) →
 reserve_places (Ok v) a c m = length-set m.reserved c.id (Some (a / 8 * 8))
 reserve_places (Err fault) a c m = refl
 
-reserve_trapped : (r : Result ℕ MemFault) (extend : ℕ → ℕ) (rd a : ℕ) (c : Core) (m : Memory) (cause : ℕ) → (after_load r extend rd a c).did ≡ Trapped cause → after_reserve r a c m ≡ m
+reserve_trapped : (r : Result ℕ MemFault) (extend : ℕ → ℕ) (rd a : ℕ) (c : Core) (m : Memory) (cause : ℕ) → (after_load r extend rd a c).did ≡ Trapped cause
+    → after_reserve r a c m ≡ m
 reserve_trapped (Ok v) extend rd a c m cause e = absurd (retired_is_not cause e)
 reserve_trapped (Err fault) extend rd a c m cause e = refl
 
@@ -320,20 +428,23 @@ sc_step_keeps : (r : Result ℕ MemFault) (covered : Bool) (rd a : ℕ) (c : Cor
 sc_step_keeps (Ok v) covered rd a c = sets_rd_keeps rd (cond covered 0 1) c
 sc_step_keeps (Err fault) covered rd a c = traps_keeps (store_cause fault) a c
 
-stored_if_others : (covered : Bool) (a : ℕ) (size : Size) (v : ℕ) (m : Memory) (j : ℕ) → KeptOrCleared (slice_get m.reserved j) (slice_get (cond covered (after_store m a size v) m).reserved j)
+stored_if_others : (covered : Bool) (a : ℕ) (size : Size) (v : ℕ) (m : Memory) (j : ℕ)
+    → KeptOrCleared (slice_get m.reserved j) (slice_get (cond covered (after_store m a size v) m).reserved j)
 stored_if_others true a size v m j = after_store_others m a size v j
 stored_if_others false a size v m j = inl refl
 
 sc_others : (r : Result ℕ MemFault) (covered : Bool) (a : ℕ) (size : Size) (v : ℕ) (c : Core) (m : Memory) (j : ℕ) → (j ≡ c.id → ⊥)
     → KeptOrCleared (slice_get m.reserved j) (slice_get (after_sc r covered a size v c m).reserved j)
-sc_others (Ok u) covered a size v c m j other = others_at m.reserved (cond covered (after_store m a size v) m).reserved c.id j None other (stored_if_others covered a size v m j)
+sc_others (Ok u) covered a size v c m j other = others_at m.reserved (cond covered (after_store m a size v) m).reserved c.id j None other
+    (stored_if_others covered a size v m j)
 sc_others (Err fault) covered a size v c m j other = inl refl
 
 stored_if_places : (covered : Bool) (a : ℕ) (size : Size) (v : ℕ) (m : Memory) → length (cond covered (after_store m a size v) m).reserved ≡ length m.reserved
 stored_if_places true a size v m = after_store_places m a size v
 stored_if_places false a size v m = refl
 
-sc_places : (r : Result ℕ MemFault) (covered : Bool) (a : ℕ) (size : Size) (v : ℕ) (c : Core) (m : Memory) → length (after_sc r covered a size v c m).reserved ≡ length m.reserved
+sc_places : (r : Result ℕ MemFault) (covered : Bool) (a : ℕ) (size : Size) (v : ℕ) (c : Core) (m : Memory)
+    → length (after_sc r covered a size v c m).reserved ≡ length m.reserved
 sc_places (Ok u) covered a size v c m = length-set (cond covered (after_store m a size v) m).reserved c.id None ∙ stored_if_places covered a size v m
 sc_places (Err fault) covered a size v c m = refl
 
@@ -347,18 +458,21 @@ stores_if_reserved_keeps a size v rd c m = record {
   core = (sc_step_keeps (loaded m a size) (covers m c.id a size) rd a c).core;
   others = λ j other. sc_others (loaded m a size) (covers m c.id a size) a size v c m j other;
   places = sc_places (loaded m a size) (covers m c.id a size) a size v c m;
-  trapped = λ cause e. is_trap m _ (sc_step_keeps (loaded m a size) (covers m c.id a size) rd a c) cause e (sc_trapped (loaded m a size) (covers m c.id a size) rd a size v c m cause e);
+  trapped = λ cause e. is_trap m _ (sc_step_keeps (loaded m a size) (covers m c.id a size) rd a c) cause e
+      (sc_trapped (loaded m a size) (covers m c.id a size) rd a size v c m cause e);
 }
 
 amo_step_keeps : (r : Result ℕ MemFault) (extend : ℕ → ℕ) (rd a : ℕ) (c : Core) → StepKeeps c (amo_step r extend rd a c)
 amo_step_keeps (Ok v) extend rd a c = sets_rd_keeps rd (extend v) c
 amo_step_keeps (Err fault) extend rd a c = traps_keeps (store_cause fault) a c
 
-amo_others : (r : Result ℕ MemFault) (extend : ℕ → ℕ) (o : AluOp) (a : ℕ) (size : Size) (b : ℕ) (m : Memory) (j : ℕ) → KeptOrCleared (slice_get m.reserved j) (slice_get (after_amo r extend o a size b m).reserved j)
+amo_others : (r : Result ℕ MemFault) (extend : ℕ → ℕ) (o : AluOp) (a : ℕ) (size : Size) (b : ℕ) (m : Memory) (j : ℕ)
+    → KeptOrCleared (slice_get m.reserved j) (slice_get (after_amo r extend o a size b m).reserved j)
 amo_others (Ok v) extend o a size b m j = after_store_others m a size _ j
 amo_others (Err fault) extend o a size b m j = inl refl
 
-amo_places : (r : Result ℕ MemFault) (extend : ℕ → ℕ) (o : AluOp) (a : ℕ) (size : Size) (b : ℕ) (m : Memory) → length (after_amo r extend o a size b m).reserved ≡ length m.reserved
+amo_places : (r : Result ℕ MemFault) (extend : ℕ → ℕ) (o : AluOp) (a : ℕ) (size : Size) (b : ℕ) (m : Memory)
+    → length (after_amo r extend o a size b m).reserved ≡ length m.reserved
 amo_places (Ok v) extend o a size b m = after_store_places m a size _
 amo_places (Err fault) extend o a size b m = refl
 

@@ -1,6 +1,40 @@
 -- Memory as the map of a list of bytes: what a look-up, a write, a value and a store of several bytes are on that list.
 -- Each lemma takes the numbers that a goal has, joined by equations, so that `omega arith` shows each premise.
-use Rattle.std.proofs.Common.{◌≡◌, ℕ, zero, suc, ◌+◌, ◌-◌, ◌*◌, ◌/◌, ◌%◌, ◌^◌, ◌<◌, ◌≤◌, true, false, cond, List, [], ◌∷◌, length, get_or, set, Option, Some, None, is_some, slice_get, refl, sym, ap, ◌∙◌, inl, inr, arith}
+use Rattle.std.proofs.Common.{
+  ◌≡◌,
+  ℕ,
+  zero,
+  suc,
+  ◌+◌,
+  ◌-◌,
+  ◌*◌,
+  ◌/◌,
+  ◌%◌,
+  ◌^◌,
+  ◌<◌,
+  ◌≤◌,
+  true,
+  false,
+  cond,
+  List,
+  [],
+  ◌∷◌,
+  length,
+  get_or,
+  set,
+  Option,
+  Some,
+  None,
+  is_some,
+  slice_get,
+  refl,
+  sym,
+  ap,
+  ◌∙◌,
+  inl,
+  inr,
+  arith,
+}
 use Rattle.std.specs.FinMap as map
 use Rattle.std.specs.FinMap.{same_map, get-insert, get-from_entries, nat_cmp-IsAntisymmetric}
 use Rattle.std.specs.Cmp.{nat_cmp_total, unsigned_tied}
@@ -125,7 +159,8 @@ some_rest b (Some v) h = refl
 pub value_at_inside : (xs : List ℕ) (a n : ℕ) → ram_base ≤ a → a + n ≤ ram_base + length xs → is_some (value_at (map_of xs) a n) ≡ true
 value_at_inside xs a zero low high = refl
 value_at_inside xs a (suc n) low high =
-    let here : map.get (map_of xs) a ≡ Some (get_or xs (a - ram_base) 0) = get-map_of xs (a - ram_base) a (omega arith) ∙ slice_get-get_or xs (a - ram_base) 0 (omega arith) in
+    let here : map.get (map_of xs) a ≡ Some (get_or xs (a - ram_base) 0) = get-map_of xs (a - ram_base) a (omega arith)
+    ∙ slice_get-get_or xs (a - ram_base) 0 (omega arith) in
     ap (λ o. is_some (with_byte o (value_at (map_of xs) (a + 1) n))) here
     ∙ some_rest (get_or xs (a - ram_base) 0) (value_at (map_of xs) (a + 1) n) (value_at_inside xs (a + 1) n (omega arith) (omega arith))
 
@@ -137,10 +172,13 @@ small_with b (Some u) n v h is rest =
     rw pow-suc (omega arith)
 
 -- a value of so many bytes, each of which is below 256
-pub value_small : (xs : List ℕ) (a n v : ℕ) → ((i : ℕ) → get_or xs i 0 < 256) → ram_base ≤ a → a + n ≤ ram_base + length xs → value_at (map_of xs) a n ≡ Some v → v < 256 ^ n
+pub value_small : (xs : List ℕ) (a n v : ℕ) → ((i : ℕ) → get_or xs i 0 < 256) → ram_base ≤ a → a + n ≤ ram_base + length xs → value_at (map_of xs) a n ≡ Some v
+    → v < 256 ^ n
 value_small xs a zero v small low high is = omega (arith, same_Some 0 v is)
 value_small xs a (suc n) v small low high is =
-    let here : map.get (map_of xs) a ≡ Some (get_or xs (a - ram_base) 0) = get-map_of xs (a - ram_base) a (omega arith) ∙ slice_get-get_or xs (a - ram_base) 0 (omega arith) in
+    let here : map.get (map_of xs) a ≡ Some (get_or xs (a - ram_base) 0) = get-map_of xs (a - ram_base) a (omega arith)
+    ∙ slice_get-get_or xs (a - ram_base) 0 (omega arith) in
     let both : with_byte (Some (get_or xs (a - ram_base) 0)) (value_at (map_of xs) (a + 1) n) ≡ Some v =
     ap (λ o. with_byte o (value_at (map_of xs) (a + 1) n)) (sym here) ∙ is in
-    small_with (get_or xs (a - ram_base) 0) (value_at (map_of xs) (a + 1) n) n v (small (a - ram_base)) both (λ u is_u. value_small xs (a + 1) n u small (omega arith) (omega arith) is_u)
+    small_with (get_or xs (a - ram_base) 0) (value_at (map_of xs) (a + 1) n) n v (small (a - ram_base)) both
+    (λ u is_u. value_small xs (a + 1) n u small (omega arith) (omega arith) is_u)

@@ -1,5 +1,32 @@
 -- What a store, a reservation and an sc leave of memory.
-use Rattle.std.proofs.Common.{◌≡◌, ℕ, Bool, true, false, cond, ◌&&◌, List, length, set, Option, Some, None, is_some, Result, Ok, Err, slice_get, option_map, refl, sym, ap, ◌∙◌, subst, inl, inr}
+use Rattle.std.proofs.Common.{
+  ◌≡◌,
+  ℕ,
+  Bool,
+  true,
+  false,
+  cond,
+  ◌&&◌,
+  List,
+  length,
+  set,
+  Option,
+  Some,
+  None,
+  is_some,
+  Result,
+  Ok,
+  Err,
+  slice_get,
+  option_map,
+  refl,
+  sym,
+  ap,
+  ◌∙◌,
+  subst,
+  inl,
+  inr,
+}
 use Rattle.std.specs.Prelude.{⊤}
 use Rattle.std.proofs.lemmas.List.{length-map}
 use Rattle.std.proofs.lemmas.Option.{slice_get-map}
@@ -21,7 +48,8 @@ answered_inside (Some v) = refl
 pub store_answer_is : (m : Memory) (a : ℕ) (size : Size) → store_answer m a size ≡ answered (loaded m a size)
 unfolding store_answer loaded
 store_answer_is m a size =
-    elim (is_aligned a size) as (λ b. cond b (cond (is_inside m a size) (Ok tt) (Err Outside)) (Err Misaligned) ≡ answered (cond b (or_outside (value_at m.bytes a (count_of size))) (Err Misaligned))) [
+    elim (is_aligned a size) as (λ b. cond b (cond (is_inside m a size) (Ok tt) (Err Outside)) (Err Misaligned)
+    ≡ answered (cond b (or_outside (value_at m.bytes a (count_of size))) (Err Misaligned))) [
       | true ↦ answered_inside (value_at m.bytes a (count_of size))
       | false ↦ refl
     ]

@@ -11,11 +11,36 @@ use Rattle.rv_model.specs.Board.{Hart, IsHart}
 use Rattle.rv_model.specs.Core.{Core, with_x}
 use Rattle.rv_model.specs.Dcsr.{dcsr_word, dcsr_of_word}
 use Rattle.rv_model.specs.DebugRegisters.{debug_value, debug_refuses, debug_written}
-use Rattle.rv_model.specs.DebugLaws.{ProgramBufferExamples, WriteKeeps, ChangesNothing, ExceptionsChangeNothing, MemoryNeedsAccess, WordsKeep, is_csr_insn, KeepsDebug, DebugNeedsCsr}
+use Rattle.rv_model.specs.DebugLaws.{
+  ProgramBufferExamples,
+  WriteKeeps,
+  ChangesNothing,
+  ExceptionsChangeNothing,
+  MemoryNeedsAccess,
+  WordsKeep,
+  is_csr_insn,
+  KeepsDebug,
+  DebugNeedsCsr,
+}
 use Rattle.rv_model.specs.Effects.{Outcome, effect, effect_of}
 use Rattle.rv_model.specs.Laws.{KeepsCore}
 use Rattle.rv_model.specs.Memory.{Memory, loaded, store_answer, after_store}
-use Rattle.rv_model.specs.ProgramBuffer.{Debugged, CsrSwap, Sort, Ends, Refused, Swaps, Accesses, Plain, sort_of, swapped, executed_by, ran_sort, ran_meant, ran_word}
+use Rattle.rv_model.specs.ProgramBuffer.{
+  Debugged,
+  CsrSwap,
+  Sort,
+  Ends,
+  Refused,
+  Swaps,
+  Accesses,
+  Plain,
+  sort_of,
+  swapped,
+  executed_by,
+  ran_sort,
+  ran_meant,
+  ran_word,
+}
 use Rattle.rv_model.specs.Registers.{csr_value, csr_written, csr_read_only}
 use Rattle.rv_model.specs.Rows.{meaning}
 use Rattle.rv_model.specs.TriggerWords.{trigger_csr_value, trigger_csr_written}
@@ -26,7 +51,8 @@ use Rattle.rv_model.proofs.DebugRegisterLemmas.{core_alone, writes_keep}
 -- ---- worked examples
 
 pub program_buffer_examples : ProgramBufferExamples
-unfolding ran_word meaning alu_of effect_of loaded store_answer after_store debug_value debug_refuses debug_written csr_value csr_read_only csr_written dcsr_word dcsr_of_word trigger_csr_value trigger_csr_written
+unfolding ran_word meaning alu_of effect_of loaded store_answer after_store debug_value debug_refuses debug_written csr_value csr_read_only csr_written
+    dcsr_word dcsr_of_word trigger_csr_value trigger_csr_written
 program_buffer_examples = record {
   ebreak = λ h m. refl;
   all_zeros = λ h m. refl;
@@ -127,7 +153,8 @@ pc_back c after k = record {
   };
 }
 
-executed_keeps : (d : Did) (o : Outcome) (accessed : Bool) (h : Hart) (m : Memory) → KeepsCore h.core o.step.core → WriteKeeps h (executed_by d o accessed h m).hart
+executed_keeps : (d : Did) (o : Outcome) (accessed : Bool) (h : Hart) (m : Memory) → KeepsCore h.core o.step.core
+    → WriteKeeps h (executed_by d o accessed h m).hart
 executed_keeps Retired o accessed h m k = core_alone h _ (pc_back h.core o.step.core k)
 executed_keeps (Trapped cause) o accessed h m k = same_hart h
 
@@ -211,7 +238,8 @@ swapped_quiet (Some old) s h m = either_memory (s.writes && debug_refuses s.numb
 true_is_not_false : true ≡ false → ⊥
 true_is_not_false e = cc
 
-executed_quiet : (d : Did) (o : Outcome) (accessed : Bool) (h : Hart) (m : Memory) → (accessed ≡ false → o.memory ≡ m) → QuietMemory m (executed_by d o accessed h m)
+executed_quiet : (d : Did) (o : Outcome) (accessed : Bool) (h : Hart) (m : Memory) → (accessed ≡ false → o.memory ≡ m)
+    → QuietMemory m (executed_by d o accessed h m)
 executed_quiet Retired o accessed h m is = is
 executed_quiet (Trapped cause) o accessed h m is = λ quiet. refl
 
@@ -219,7 +247,8 @@ sort_quiet : (s : Sort) (insn : Insn) (h : Hart) (m : Memory) → sort_of insn h
 sort_quiet Ends insn h m is = λ quiet. refl
 sort_quiet Refused insn h m is = λ quiet. refl
 sort_quiet (Swaps s) insn h m is = swapped_quiet (debug_value h s.number) s h m
-sort_quiet Accesses insn h m is = executed_quiet (effect_of insn h.core m).step.did (effect_of insn h.core m) true h m (λ quiet. absurd (true_is_not_false quiet))
+sort_quiet Accesses insn h m is = executed_quiet (effect_of insn h.core m).step.did (effect_of insn h.core m) true h m
+    (λ quiet. absurd (true_is_not_false quiet))
 sort_quiet Plain insn h m is = executed_quiet (effect_of insn h.core m).step.did (effect_of insn h.core m) false h m (λ quiet. plain_of insn h.core m is)
 
 meant_quiet : (o : Option Insn) (h : Hart) (m : Memory) → QuietMemory m (ran_meant o h m)

@@ -1,5 +1,35 @@
 -- Laws of the instruction table. Each is computed over the whole list or goes by induction on a list of rows; none looks at a single row.
-use Rattle.std.proofs.Common.{◌≡◌, ℕ, zero, suc, Bool, true, false, not, cond, ◌&&◌, eqb, List, [], ◌∷◌, ◌++◌, Option, Some, None, slice_get, bit_and, filter, find, option_map, refl, sym, ap, ◌∙◌, inl, inr}
+use Rattle.std.proofs.Common.{
+  ◌≡◌,
+  ℕ,
+  zero,
+  suc,
+  Bool,
+  true,
+  false,
+  not,
+  cond,
+  ◌&&◌,
+  eqb,
+  List,
+  [],
+  ◌∷◌,
+  ◌++◌,
+  Option,
+  Some,
+  None,
+  slice_get,
+  bit_and,
+  filter,
+  find,
+  option_map,
+  refl,
+  sym,
+  ap,
+  ◌∙◌,
+  inl,
+  inr,
+}
 use Rattle.std.specs.List.{list_all}
 use Rattle.std.specs.Option.{option_or}
 use Rattle.std.proofs.lemmas.Bool.{and_parts, cases_Bool, eq-eqb, eqb-true, ne_eqb, not-true, both_ways}
@@ -7,7 +37,27 @@ use Rattle.std.proofs.lemmas.List.Folds.{find-append}
 use Rattle.std.proofs.lemmas.Nat.{and_assoc, and_comm}
 use Rattle.rv_model.specs.declared.insn.Insn.{Insn}
 use Rattle.rv_model.specs.Laws.{RowsAreApart}
-use Rattle.rv_model.specs.Rows.{Row, rows, matches, meaning_in, meaning, lui_rows, auipc_rows, jal_rows, jalr_rows, branch_rows, load_rows, store_rows, immediate_rows, immediate_word_rows, register_rows, register_word_rows, atomic_rows, fence_rows, system_rows}
+use Rattle.rv_model.specs.Rows.{
+  Row,
+  rows,
+  matches,
+  meaning_in,
+  meaning,
+  lui_rows,
+  auipc_rows,
+  jal_rows,
+  jalr_rows,
+  branch_rows,
+  load_rows,
+  store_rows,
+  immediate_rows,
+  immediate_word_rows,
+  register_rows,
+  register_word_rows,
+  atomic_rows,
+  fence_rows,
+  system_rows,
+}
 
 -- no word can match both rows: under both masks together their codes differ
 abbrev pub apart : Row → Row → Bool
@@ -35,7 +85,8 @@ all_at p [] i r h at = cc
 all_at p (s ∷ rs) zero r h at = let e : s ≡ r = cc in ap p (sym e) ∙ (and_parts _ _ h).0
 all_at p (s ∷ rs) (suc i) r h at = all_at p rs i r (and_parts _ _ h).1 at
 
-pub found_row : (w : ℕ) (rs : List Row) → all_apart rs ≡ true → (i : ℕ) (r : Row) → slice_get rs i ≡ Some r → bit_and w r.mask ≡ r.code → find (matches w) rs ≡ Some r
+pub found_row : (w : ℕ) (rs : List Row) → all_apart rs ≡ true → (i : ℕ) (r : Row) → slice_get rs i ≡ Some r → bit_and w r.mask ≡ r.code
+    → find (matches w) rs ≡ Some r
 found_row w [] sep i r at is = cc
 found_row w (s ∷ rs) sep zero r at is =
     let e : s ≡ r = cc in
@@ -71,7 +122,8 @@ other_opcode : (w op : ℕ) (r : Row) → tests_opcode r ≡ true → bit_and w 
 other_opcode w op r t is_op other =
     ne_eqb _ _ (λ is. both_ways _ other (eq-eqb _ _ (opcode_agrees w r t is ∙ is_op)))
 
-find_of_opcode : (w op : ℕ) (rs : List Row) → list_all tests_opcode rs ≡ true → bit_and w 0x7f ≡ op → find (matches w) (filter (of_opcode op) rs) ≡ find (matches w) rs
+find_of_opcode : (w op : ℕ) (rs : List Row) → list_all tests_opcode rs ≡ true → bit_and w 0x7f ≡ op
+    → find (matches w) (filter (of_opcode op) rs) ≡ find (matches w) rs
 find_of_opcode w op [] t is = refl
 find_of_opcode w op (r ∷ rs) t is =
     let parts = and_parts (tests_opcode r) (list_all tests_opcode rs) t in
@@ -107,7 +159,8 @@ option_map_or f (Some x) b = refl
 
 pub meaning_in_both : (w : ℕ) (front back : List Row) → meaning_in (front ++ back) w ≡ option_or (meaning_in front w) (meaning_in back w)
 meaning_in_both w front back =
-    ap (option_map (λ r. r.operands w)) (find-append (matches w) front back) ∙ option_map_or (λ r. r.operands w) (find (matches w) front) (find (matches w) back)
+    ap (option_map (λ r. r.operands w)) (find-append (matches w) front back)
+    ∙ option_map_or (λ r. r.operands w) (find (matches w) front) (find (matches w) back)
 
 -- the first answer of several groups, after one that there may be already
 abbrev pub first_so_far : ℕ → Option Insn → List (List Row) → Option Insn
@@ -125,18 +178,24 @@ first_of_joined w o (g ∷ gs) =
     ∙ ap (option_or o) (sym (meaning_in_both w g (joined gs)))
 
 -- the groups of the table in its order
-pub meaning_of_groups : (w : ℕ) → first_so_far w (meaning_in lui_rows w) (auipc_rows ∷ jal_rows ∷ jalr_rows ∷ branch_rows ∷ load_rows ∷ store_rows ∷ immediate_rows ∷ immediate_word_rows ∷ register_rows ∷ register_word_rows ∷ atomic_rows ∷ fence_rows ∷ system_rows ∷ []) ≡ meaning w
+pub meaning_of_groups : (w : ℕ) → first_so_far w (meaning_in lui_rows w)
+    (auipc_rows ∷ jal_rows ∷ jalr_rows ∷ branch_rows ∷ load_rows ∷ store_rows ∷ immediate_rows ∷ immediate_word_rows ∷ register_rows ∷ register_word_rows
+    ∷ atomic_rows ∷ fence_rows ∷ system_rows ∷ []) ≡ meaning w
 unfolding meaning
 meaning_of_groups w =
-    first_of_joined w (meaning_in lui_rows w) (auipc_rows ∷ jal_rows ∷ jalr_rows ∷ branch_rows ∷ load_rows ∷ store_rows ∷ immediate_rows ∷ immediate_word_rows ∷ register_rows ∷ register_word_rows ∷ atomic_rows ∷ fence_rows ∷ system_rows ∷ [])
-    ∙ sym (meaning_in_both w lui_rows (joined (auipc_rows ∷ jal_rows ∷ jalr_rows ∷ branch_rows ∷ load_rows ∷ store_rows ∷ immediate_rows ∷ immediate_word_rows ∷ register_rows ∷ register_word_rows ∷ atomic_rows ∷ fence_rows ∷ system_rows ∷ [])))
+    first_of_joined w (meaning_in lui_rows w) (auipc_rows ∷ jal_rows ∷ jalr_rows ∷ branch_rows ∷ load_rows ∷ store_rows ∷ immediate_rows ∷ immediate_word_rows
+    ∷ register_rows ∷ register_word_rows ∷ atomic_rows ∷ fence_rows ∷ system_rows ∷ [])
+    ∙ sym (meaning_in_both w lui_rows (joined (auipc_rows ∷ jal_rows ∷ jalr_rows ∷ branch_rows ∷ load_rows ∷ store_rows ∷ immediate_rows ∷ immediate_word_rows
+    ∷ register_rows ∷ register_word_rows ∷ atomic_rows ∷ fence_rows ∷ system_rows ∷ [])))
 
 -- ---- no word matches two rows
 
-apart_places : (w : ℕ) (rs : List Row) (t s : Row) (j : ℕ) → list_all (apart t) rs ≡ true → slice_get rs j ≡ Some s → bit_and w t.mask ≡ t.code → bit_and w s.mask ≡ s.code → ⊥
+apart_places : (w : ℕ) (rs : List Row) (t s : Row) (j : ℕ) → list_all (apart t) rs ≡ true → slice_get rs j ≡ Some s → bit_and w t.mask ≡ t.code
+    → bit_and w s.mask ≡ s.code → ⊥
 apart_places w rs t s j sep at is_t is_s = both_ways (matches w t) (not_both w t s (all_at (apart t) rs j s sep at) is_s) (eq-eqb _ _ is_t)
 
-same_place : (w : ℕ) (rs : List Row) → all_apart rs ≡ true → (i j : ℕ) (r s : Row) → slice_get rs i ≡ Some r → slice_get rs j ≡ Some s → bit_and w r.mask ≡ r.code → bit_and w s.mask ≡ s.code → i ≡ j
+same_place : (w : ℕ) (rs : List Row) → all_apart rs ≡ true → (i j : ℕ) (r s : Row) → slice_get rs i ≡ Some r → slice_get rs j ≡ Some s
+    → bit_and w r.mask ≡ r.code → bit_and w s.mask ≡ s.code → i ≡ j
 same_place w [] sep i j r s at_i at_j is_r is_s = cc
 same_place w (t ∷ ts) sep zero zero r s at_i at_j is_r is_s = refl
 same_place w (t ∷ ts) sep zero (suc j) r s at_i at_j is_r is_s =

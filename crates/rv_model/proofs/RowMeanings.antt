@@ -1,14 +1,66 @@
 -- A word that means an instruction by its own line of the relation means it by the table.
 use Rattle.std.proofs.Common.{◌≡◌, ℕ, Some, refl, ap, ◌∙◌}
 use Rattle.rv_model.specs.declared.insn.Insn.{Insn}
-use Rattle.rv_model.specs.declared.insn.Insn.TheVariants.{Lui, Auipc, Jal, Jalr, Branch, Load, Store, Immediate, Shift, WordShift, Register, LoadReserved, StoreConditional, Amo, Fence, FenceI, Csr, CsrImmediate, Ecall, Ebreak, Mret, Wfi}
+use Rattle.rv_model.specs.declared.insn.Insn.TheVariants.{
+  Lui,
+  Auipc,
+  Jal,
+  Jalr,
+  Branch,
+  Load,
+  Store,
+  Immediate,
+  Shift,
+  WordShift,
+  Register,
+  LoadReserved,
+  StoreConditional,
+  Amo,
+  Fence,
+  FenceI,
+  Csr,
+  CsrImmediate,
+  Ecall,
+  Ebreak,
+  Mret,
+  Wfi,
+}
 use Rattle.rv_model.specs.declared.condition.Condition.TheVariants.{Equal, Different, Below, NotBelow, BelowUnsigned, NotBelowUnsigned}
 use Rattle.rv_model.specs.declared.load_op.LoadOp.TheVariants.{Lb, Lh, Lw, Ld, Lbu, Lhu, Lwu}
 use Rattle.rv_model.specs.declared.size.Size.TheVariants.{B1, B2, B4, B8}
 use Rattle.rv_model.specs.declared.alu_op.ImmediateOp.TheVariants.{Addi, Slti, Sltiu, Xori, Ori, Andi, Addiw}
 use Rattle.rv_model.specs.declared.alu_op.ShiftOp.TheVariants.{Slli, Srli, Srai}
 use Rattle.rv_model.specs.declared.alu_op.WordShiftOp.TheVariants.{Slliw, Srliw, Sraiw}
-use Rattle.rv_model.specs.declared.alu_op.RegisterOp.TheVariants.{Add, Sll, Slt, Sltu, Xor, Srl, Or, And, Sub, Sra, Mul, Mulh, Mulhsu, Mulhu, Div, Divu, Rem, Remu, Addw, Sllw, Srlw, Subw, Sraw, Mulw, Divw, Divuw, Remw, Remuw}
+use Rattle.rv_model.specs.declared.alu_op.RegisterOp.TheVariants.{
+  Add,
+  Sll,
+  Slt,
+  Sltu,
+  Xor,
+  Srl,
+  Or,
+  And,
+  Sub,
+  Sra,
+  Mul,
+  Mulh,
+  Mulhsu,
+  Mulhu,
+  Div,
+  Divu,
+  Rem,
+  Remu,
+  Addw,
+  Sllw,
+  Srlw,
+  Subw,
+  Sraw,
+  Mulw,
+  Divw,
+  Divuw,
+  Remw,
+  Remuw,
+}
 use Rattle.rv_model.specs.declared.alu_op.AmoOp.TheVariants.{Amoswap, Amoadd, Amoxor, Amoand, Amoor, Amomin, Amomax, Amominu, Amomaxu}
 use Rattle.rv_model.specs.declared.width.Width.TheVariants.{Word, DoubleWord}
 use Rattle.rv_model.specs.declared.csr_change.CsrChange.TheVariants.{Replace, Set, Clear}

@@ -25,7 +25,8 @@ marked_if false s fits = fits
 pub marked_fits : (touch : Touch) (s : Slot) → CountFits s.trigger → CountFits (slot_marked touch s).trigger
 marked_fits touch s fits = marked_if (slot_fires touch s) s fits
 
-counted_if : (counts pending : Bool) (t : Icount) → t.count < count_limit → (cond counts (record t { count = t.count - 1; pending = pending }) t).count < count_limit
+counted_if : (counts pending : Bool) (t : Icount) → t.count < count_limit
+    → (cond counts (record t { count = t.count - 1; pending = pending }) t).count < count_limit
 counted_if true pending t fits = omega arith
 counted_if false pending t fits = fits
 

@@ -1,5 +1,34 @@
 -- A board stays a board: what reset leaves is one, and a turn leaves one.
-use Rattle.std.proofs.Common.{◌≡◌, ◌∙◌, ℕ, ◌+◌, ◌<◌, ◌≤◌, List, [], ◌∷◌, length, Bool, true, false, cond, set, zero, suc, Option, Some, None, slice_get, refl, sym, ap, subst, inl, inr, arith}
+use Rattle.std.proofs.Common.{
+  ◌≡◌,
+  ◌∙◌,
+  ℕ,
+  ◌+◌,
+  ◌<◌,
+  ◌≤◌,
+  List,
+  [],
+  ◌∷◌,
+  length,
+  Bool,
+  true,
+  false,
+  cond,
+  set,
+  zero,
+  suc,
+  Option,
+  Some,
+  None,
+  slice_get,
+  refl,
+  sym,
+  ap,
+  subst,
+  inl,
+  inr,
+  arith,
+}
 use Rattle.std.proofs.lemmas.Bool.{cases_eq}
 use Rattle.std.proofs.lemmas.List.{length-map, length-set}
 use Rattle.std.proofs.lemmas.Option.{none-some, same_Some, slice_get_within}
@@ -55,7 +84,8 @@ stepped_if : (step : Bool) (h : ℕ) (core : Core) (a b : DebugPart) → IsHart 
 stepped_if true h core a b p q = p
 stepped_if false h core a b p q = q
 
-executed_hart : (h : ℕ) (hart : Hart) (core : Core) → core.id ≡ hart.core.id → (IsCore hart.core → IsCore core) → IsHart h hart → IsHart h (record { core = core; debug = stepped hart.debug })
+executed_hart : (h : ℕ) (hart : Hart) (core : Core) → core.id ≡ hart.core.id → (IsCore hart.core → IsCore core) → IsHart h hart
+    → IsHart h (record { core = core; debug = stepped hart.debug })
 executed_hart h hart core same whole is =
     let counts = map_fits slot_counted counted_fits hart.debug.slots is.counts in
     let slots : length (counted_down hart.debug.slots) ≡ 4 = length-map hart.debug.slots slot_counted ∙ is.slots in
@@ -64,10 +94,13 @@ executed_hart h hart core same whole is =
     (record { number = same ∙ is.number; core = whole is.core; slots = slots; counts = counts; selected = is.selected })
 
 place_keeps : (halted : Option Cause) (resume request fired at_ebreak : Bool) (touch : Touch) (o : Outcome) (h : ℕ) (hart : Hart)
-    → o.step.core.id ≡ hart.core.id → (IsCore hart.core → IsCore o.step.core) → IsHart h hart → IsHart h (place_by halted resume request fired at_ebreak touch o hart).hart
-place_keeps (Some why) true request fired at_ebreak touch o h hart same whole is = record { number = is.number; core = is.core; slots = is.slots; counts = is.counts; selected = is.selected }
+    → o.step.core.id ≡ hart.core.id → (IsCore hart.core → IsCore o.step.core) → IsHart h hart
+    → IsHart h (place_by halted resume request fired at_ebreak touch o hart).hart
+place_keeps (Some why) true request fired at_ebreak touch o h hart same whole is =
+    record { number = is.number; core = is.core; slots = is.slots; counts = is.counts; selected = is.selected }
 place_keeps (Some why) false request fired at_ebreak touch o h hart same whole is = is
-place_keeps None resume true fired at_ebreak touch o h hart same whole is = record { number = is.number; core = is.core; slots = is.slots; counts = is.counts; selected = is.selected }
+place_keeps None resume true fired at_ebreak touch o h hart same whole is =
+    record { number = is.number; core = is.core; slots = is.slots; counts = is.counts; selected = is.selected }
 place_keeps None resume false true at_ebreak touch o h hart same whole is = record {
   number = is.number;
   core = is.core;
@@ -75,7 +108,8 @@ place_keeps None resume false true at_ebreak touch o h hart same whole is = reco
   counts = map_fits (slot_marked touch) (marked_fits touch) hart.debug.slots is.counts;
   selected = is.selected;
 }
-place_keeps None resume false false true touch o h hart same whole is = record { number = is.number; core = is.core; slots = is.slots; counts = is.counts; selected = is.selected }
+place_keeps None resume false false true touch o h hart same whole is =
+    record { number = is.number; core = is.core; slots = is.slots; counts = is.counts; selected = is.selected }
 place_keeps None resume false false false touch o h hart same whole is = executed_hart h hart o.step.core same whole is
 
 pub turn_keeps_hart : (h : ℕ) (hart : Hart) (m : Memory) → IsHart h hart → IsHart h (place_of hart m).hart

@@ -1,5 +1,41 @@
 -- A core none of whose registers has more than 64 bits, and what each kind of step leaves of it.
-use Rattle.std.proofs.Common.{◌≡◌, ◌+◌, ◌-◌, ◌%◌, ◌^◌, ◌<◌, ◌≤◌, ◌==◌, ◌&&◌, ℕ, zero, suc, Bool, true, false, cond, List, [], ◌∷◌, set, get_or, Option, Some, None, Result, Ok, Err, find, option_map, arith, refl, sym, subst, bit_and, if◌then◌else◌}
+use Rattle.std.proofs.Common.{
+  ◌≡◌,
+  ◌+◌,
+  ◌-◌,
+  ◌%◌,
+  ◌^◌,
+  ◌<◌,
+  ◌≤◌,
+  ◌==◌,
+  ◌&&◌,
+  ℕ,
+  zero,
+  suc,
+  Bool,
+  true,
+  false,
+  cond,
+  List,
+  [],
+  ◌∷◌,
+  set,
+  get_or,
+  Option,
+  Some,
+  None,
+  Result,
+  Ok,
+  Err,
+  find,
+  option_map,
+  arith,
+  refl,
+  sym,
+  subst,
+  bit_and,
+  if◌then◌else◌,
+}
 use Rattle.std.specs.Prelude.{⊤}
 use Rattle.std.proofs.lemmas.Nat.{and_le_r}
 use Rattle.std.proofs.lemmas.Option.{none-some, same_Some}
@@ -65,7 +101,17 @@ pub with_x_wide : (c : Core) (r v : ℕ) → CoreWide c → IsWide v → CoreWid
 with_x_wide c r v w p = with_x_by (r == 0) c r v w p
 
 at_pc : (c : Core) (target : ℕ) → CoreWide c → IsWide target → CoreWide (record c { pc = target })
-at_pc c target w p = record { id = w.id; x = w.x; pc = p; mstatus = w.mstatus; mtvec = w.mtvec; mscratch = w.mscratch; mepc = w.mepc; mcause = w.mcause; mtval = w.mtval }
+at_pc c target w p = record {
+  id = w.id;
+  x = w.x;
+  pc = p;
+  mstatus = w.mstatus;
+  mtvec = w.mtvec;
+  mscratch = w.mscratch;
+  mepc = w.mepc;
+  mcause = w.mcause;
+  mtval = w.mtval;
+}
 
 -- ---- steps
 
@@ -132,21 +178,105 @@ kept_wide v reset writable fits = let e : bit_and v writable ≤ writable = and_
 
 each_row : EachRow registers
 each_row = (
-  record { read = λ c w. w.mstatus; write = λ v c w. record { id = w.id; x = w.x; pc = w.pc; mstatus = kept_wide v 0x1800 0x88 (omega arith); mtvec = w.mtvec; mscratch = w.mscratch; mepc = w.mepc; mcause = w.mcause; mtval = w.mtval } },
+  record {
+    read = λ c w. w.mstatus;
+    write = λ v c
+        w. record {
+          id = w.id;
+          x = w.x;
+          pc = w.pc;
+          mstatus = kept_wide v 0x1800 0x88 (omega arith);
+          mtvec = w.mtvec;
+          mscratch = w.mscratch;
+          mepc = w.mepc;
+          mcause = w.mcause;
+          mtval = w.mtval;
+        };
+  },
   (
     record { read = λ c w. omega arith; write = λ v c w. w },
     (
       record { read = λ c w. omega arith; write = λ v c w. w },
       (
-        record { read = λ c w. w.mtvec; write = λ v c w. record { id = w.id; x = w.x; pc = w.pc; mstatus = w.mstatus; mtvec = kept_wide v 0 (2 ^ 64 - 4) (omega arith); mscratch = w.mscratch; mepc = w.mepc; mcause = w.mcause; mtval = w.mtval } },
+        record {
+          read = λ c w. w.mtvec;
+          write = λ v c
+              w. record {
+                id = w.id;
+                x = w.x;
+                pc = w.pc;
+                mstatus = w.mstatus;
+                mtvec = kept_wide v 0 (2 ^ 64 - 4) (omega arith);
+                mscratch = w.mscratch;
+                mepc = w.mepc;
+                mcause = w.mcause;
+                mtval = w.mtval;
+              };
+        },
         (
-          record { read = λ c w. w.mscratch; write = λ v c w. record { id = w.id; x = w.x; pc = w.pc; mstatus = w.mstatus; mtvec = w.mtvec; mscratch = kept_wide v 0 (2 ^ 64 - 1) (omega arith); mepc = w.mepc; mcause = w.mcause; mtval = w.mtval } },
+          record {
+            read = λ c w. w.mscratch;
+            write =
+                λ v c w. record {
+                  id = w.id;
+                  x = w.x;
+                  pc = w.pc;
+                  mstatus = w.mstatus;
+                  mtvec = w.mtvec;
+                  mscratch = kept_wide v 0 (2 ^ 64 - 1) (omega arith);
+                  mepc = w.mepc;
+                  mcause = w.mcause;
+                  mtval = w.mtval;
+                };
+          },
           (
-            record { read = λ c w. w.mepc; write = λ v c w. record { id = w.id; x = w.x; pc = w.pc; mstatus = w.mstatus; mtvec = w.mtvec; mscratch = w.mscratch; mepc = kept_wide v 0 (2 ^ 64 - 4) (omega arith); mcause = w.mcause; mtval = w.mtval } },
+            record {
+              read = λ c w. w.mepc;
+              write =
+                  λ v c w. record {
+                    id = w.id;
+                    x = w.x;
+                    pc = w.pc;
+                    mstatus = w.mstatus;
+                    mtvec = w.mtvec;
+                    mscratch = w.mscratch;
+                    mepc = kept_wide v 0 (2 ^ 64 - 4) (omega arith);
+                    mcause = w.mcause;
+                    mtval = w.mtval;
+                  };
+            },
             (
-              record { read = λ c w. w.mcause; write = λ v c w. record { id = w.id; x = w.x; pc = w.pc; mstatus = w.mstatus; mtvec = w.mtvec; mscratch = w.mscratch; mepc = w.mepc; mcause = kept_wide v 0 (2 ^ 64 - 1) (omega arith); mtval = w.mtval } },
+              record {
+                read = λ c w. w.mcause;
+                write =
+                    λ v c w. record {
+                      id = w.id;
+                      x = w.x;
+                      pc = w.pc;
+                      mstatus = w.mstatus;
+                      mtvec = w.mtvec;
+                      mscratch = w.mscratch;
+                      mepc = w.mepc;
+                      mcause = kept_wide v 0 (2 ^ 64 - 1) (omega arith);
+                      mtval = w.mtval;
+                    };
+              },
               (
-                record { read = λ c w. w.mtval; write = λ v c w. record { id = w.id; x = w.x; pc = w.pc; mstatus = w.mstatus; mtvec = w.mtvec; mscratch = w.mscratch; mepc = w.mepc; mcause = w.mcause; mtval = kept_wide v 0 (2 ^ 64 - 1) (omega arith) } },
+                record {
+                  read = λ c w. w.mtval;
+                  write =
+                      λ v c w. record {
+                        id = w.id;
+                        x = w.x;
+                        pc = w.pc;
+                        mstatus = w.mstatus;
+                        mtvec = w.mtvec;
+                        mscratch = w.mscratch;
+                        mepc = w.mepc;
+                        mcause = w.mcause;
+                        mtval = kept_wide v 0 (2 ^ 64 - 1) (omega arith);
+                      };
+                },
                 (
                   record { read = λ c w. omega arith; write = λ v c w. w },
                   (
@@ -172,7 +302,8 @@ each_row = (
   ),
 )
 
-row_found_by : (b : Bool) (r : Register) (rs : List Register) (number : ℕ) (s : Register) → RowWide r → (find (λ (q : Register). q.number == number) rs ≡ Some s → RowWide s)
+row_found_by : (b : Bool) (r : Register) (rs : List Register) (number : ℕ) (s : Register) → RowWide r
+    → (find (λ (q : Register). q.number == number) rs ≡ Some s → RowWide s)
     → cond b (Some r) (find (λ (q : Register). q.number == number) rs) ≡ Some s → RowWide s
 row_found_by true r rs number s p later is = subst (λ q. RowWide q) (same_Some r s is) p
 row_found_by false r rs number s p later is = later is
@@ -181,7 +312,8 @@ row_found : (rs : List Register) (number : ℕ) (s : Register) → EachRow rs �
 row_found [] number s all is = absurd (none-some s is)
 row_found (r ∷ rs) number s (p, all) is = row_found_by (r.number == number) r rs number s p (row_found rs number s all) is
 
-value_by : (o : Option Register) (c : Core) (v : ℕ) → ((s : Register) → o ≡ Some s → RowWide s) → CoreWide c → option_map (λ (r : Register). r.read c) o ≡ Some v → IsWide v
+value_by : (o : Option Register) (c : Core) (v : ℕ) → ((s : Register) → o ≡ Some s → RowWide s) → CoreWide c
+    → option_map (λ (r : Register). r.read c) o ≡ Some v → IsWide v
 value_by None c v rows w is = absurd (none-some v is)
 value_by (Some r) c v rows w is = subst (λ n. IsWide n) (same_Some (r.read c) v is) ((rows r refl).read c w)
 
@@ -208,12 +340,14 @@ if_written : (b : Bool) (c d : Core) → CoreWide c → CoreWide d → CoreWide 
 if_written true c d p q = p
 if_written false c d p q = q
 
-swapped_wide : (o : Option ℕ) (writes : Bool) (change : ℕ → ℕ → ℕ) (number v rd : ℕ) (c : Core) → ((old : ℕ) → o ≡ Some old → IsWide old) → CoreWide c → CoreWide (swapped_csr o writes change number v rd c).core
+swapped_wide : (o : Option ℕ) (writes : Bool) (change : ℕ → ℕ → ℕ) (number v rd : ℕ) (c : Core) → ((old : ℕ) → o ≡ Some old → IsWide old) → CoreWide c
+    → CoreWide (swapped_csr o writes change number v rd c).core
 swapped_wide None writes change number v rd c old w = traps_wide 2 0 c w illegal_wide zero_wide
 swapped_wide (Some old) writes change number v rd c wide w =
     if_core (writes && csr_read_only number) (traps 2 0 c) (sets_rd rd old (if writes then csr_written c number (change old v) else c))
     (traps_wide 2 0 c w illegal_wide zero_wide)
-    (sets_rd_wide rd old (if writes then csr_written c number (change old v) else c) (if_written writes (csr_written c number (change old v)) c (csr_written_wide c number (change old v) w) w) (wide old refl))
+    (sets_rd_wide rd old (if writes then csr_written c number (change old v) else c)
+    (if_written writes (csr_written c number (change old v)) c (csr_written_wide c number (change old v) w) w) (wide old refl))
 
 pub swaps_wide : (writes : Bool) (change : ℕ → ℕ → ℕ) (number v rd : ℕ) (c : Core) → CoreWide c → CoreWide (swaps_csr writes change number v rd c).core
 swaps_wide writes change number v rd c w = swapped_wide (csr_value c number) writes change number v rd c (λ old is. csr_value_wide c number old w is) w
@@ -228,7 +362,8 @@ store_cause_wide : (fault : MemFault) → IsWide (store_cause fault)
 store_cause_wide Misaligned = omega arith
 store_cause_wide Outside = omega arith
 
-pub after_load_wide : (r : Result ℕ MemFault) (extend : ℕ → ℕ) (rd a : ℕ) (c : Core) → CoreWide c → IsWide a → ((v : ℕ) → r ≡ Ok v → IsWide (extend v)) → CoreWide (after_load r extend rd a c).core
+pub after_load_wide : (r : Result ℕ MemFault) (extend : ℕ → ℕ) (rd a : ℕ) (c : Core) → CoreWide c → IsWide a → ((v : ℕ) → r ≡ Ok v → IsWide (extend v))
+    → CoreWide (after_load r extend rd a c).core
 after_load_wide (Ok v) extend rd a c w p q = sets_rd_wide rd (extend v) c w (q v refl)
 after_load_wide (Err fault) extend rd a c w p q = traps_wide (load_cause fault) a c w (load_cause_wide fault) p
 
@@ -244,6 +379,7 @@ pub sc_wide : (r : Result ℕ MemFault) (covered : Bool) (rd a : ℕ) (c : Core)
 sc_wide (Ok v) covered rd a c w p = sets_rd_wide rd (if covered then 0 else 1) c w (one_or covered)
 sc_wide (Err fault) covered rd a c w p = traps_wide (store_cause fault) a c w (store_cause_wide fault) p
 
-pub amo_wide : (r : Result ℕ MemFault) (extend : ℕ → ℕ) (rd a : ℕ) (c : Core) → CoreWide c → IsWide a → ((v : ℕ) → r ≡ Ok v → IsWide (extend v)) → CoreWide (amo_step r extend rd a c).core
+pub amo_wide : (r : Result ℕ MemFault) (extend : ℕ → ℕ) (rd a : ℕ) (c : Core) → CoreWide c → IsWide a → ((v : ℕ) → r ≡ Ok v → IsWide (extend v))
+    → CoreWide (amo_step r extend rd a c).core
 amo_wide (Ok v) extend rd a c w p q = sets_rd_wide rd (extend v) c w (q v refl)
 amo_wide (Err fault) extend rd a c w p q = traps_wide (store_cause fault) a c w (store_cause_wide fault) p

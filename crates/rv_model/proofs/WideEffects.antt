@@ -3,7 +3,30 @@ use Rattle.std.proofs.Common.{◌≡◌, ◌*◌, ◌/◌, ◌^◌, ◌<◌, ℕ
 use Rattle.rv_model.specs.declared.alu_op.AluOp.{AluOp}
 use Rattle.rv_model.specs.declared.alu_op.AluOp.TheVariants as op
 use Rattle.rv_model.specs.declared.insn.Insn.{Insn}
-use Rattle.rv_model.specs.declared.insn.Insn.TheVariants.{Lui, Auipc, Jal, Jalr, Branch, Load, Store, Immediate, Shift, WordShift, Register, LoadReserved, StoreConditional, Amo, Fence, FenceI, Csr, CsrImmediate, Ecall, Ebreak, Mret, Wfi}
+use Rattle.rv_model.specs.declared.insn.Insn.TheVariants.{
+  Lui,
+  Auipc,
+  Jal,
+  Jalr,
+  Branch,
+  Load,
+  Store,
+  Immediate,
+  Shift,
+  WordShift,
+  Register,
+  LoadReserved,
+  StoreConditional,
+  Amo,
+  Fence,
+  FenceI,
+  Csr,
+  CsrImmediate,
+  Ecall,
+  Ebreak,
+  Mret,
+  Wfi,
+}
 use Rattle.rv_model.specs.declared.load_op.LoadOp.{LoadOp}
 use Rattle.rv_model.specs.declared.load_op.LoadOp.TheVariants.{Lb, Lh, Lw, Ld, Lbu, Lhu, Lwu}
 use Rattle.rv_model.specs.declared.mem_fault.MemFault.{MemFault}
@@ -20,7 +43,24 @@ use Rattle.rv_model.specs.Memory.{Memory, covers, loaded, store_answer}
 use Rattle.rv_model.specs.Rows.{meaning}
 use Rattle.rv_model.specs.Size.{count_of}
 use Rattle.rv_model.specs.Widths.{MemoryReady}
-use Rattle.rv_model.proofs.WideCore.{CoreWide, after_load_wide, amo_wide, branches_wide, goes_on_wide, illegal_wide, jumps_wide, offset_wide, sc_wide, sets_rd_wide, stored_wide, swaps_wide, trap_left_wide, traps_wide, x_wide, zero_wide}
+use Rattle.rv_model.proofs.WideCore.{
+  CoreWide,
+  after_load_wide,
+  amo_wide,
+  branches_wide,
+  goes_on_wide,
+  illegal_wide,
+  jumps_wide,
+  offset_wide,
+  sc_wide,
+  sets_rd_wide,
+  stored_wide,
+  swaps_wide,
+  trap_left_wide,
+  traps_wide,
+  x_wide,
+  zero_wide,
+}
 use Rattle.rv_model.proofs.WideMemory.{amo_ready, loaded_small, reserve_ready, sc_ready, stored_ready}
 use Rattle.rv_model.proofs.WideOperands.{ImmediateWide, meaning_wide}
 use Rattle.rv_model.proofs.WideWords.{IsWide, alu_wide, extended_wide}
@@ -73,25 +113,32 @@ width_extends DoubleWord = whole_extended_8
 
 -- ---- accesses
 
-loads_wide : (a : ℕ) (size : Size) (extend : ℕ → ℕ) (rd : ℕ) (c : Core) (m : Memory) → CoreWide c → MemoryReady m → IsWide a → Extends size extend → OutcomeWide (loads_at a size extend rd c m)
-loads_wide a size extend rd c m w r p q = record { core = after_load_wide (loaded m a size) extend rd a c w p (λ v is. q v (loaded_small m a size v r is)); memory = r }
+loads_wide : (a : ℕ) (size : Size) (extend : ℕ → ℕ) (rd : ℕ) (c : Core) (m : Memory) → CoreWide c → MemoryReady m → IsWide a → Extends size extend
+    → OutcomeWide (loads_at a size extend rd c m)
+loads_wide a size extend rd c m w r p q = record {
+  core = after_load_wide (loaded m a size) extend rd a c w p (λ v is. q v (loaded_small m a size v r is));
+  memory = r;
+}
 
 stores_wide : (a : ℕ) (size : Size) (v : ℕ) (c : Core) (m : Memory) → CoreWide c → MemoryReady m → IsWide a → OutcomeWide (stores_at a size v c m)
 stores_wide a size v c m w r p = record { core = stored_wide (store_answer m a size) a c w p; memory = stored_ready m a size v r }
 
-reserves_wide : (a : ℕ) (size : Size) (extend : ℕ → ℕ) (rd : ℕ) (c : Core) (m : Memory) → CoreWide c → MemoryReady m → IsWide a → Extends size extend → OutcomeWide (reserves_at a size extend rd c m)
+reserves_wide : (a : ℕ) (size : Size) (extend : ℕ → ℕ) (rd : ℕ) (c : Core) (m : Memory) → CoreWide c → MemoryReady m → IsWide a → Extends size extend
+    → OutcomeWide (reserves_at a size extend rd c m)
 reserves_wide a size extend rd c m w r p q = record {
   core = after_load_wide (loaded m a size) extend rd a c w p (λ v is. q v (loaded_small m a size v r is));
   memory = reserve_ready (loaded m a size) a c m r;
 }
 
-conditional_wide : (a : ℕ) (size : Size) (v rd : ℕ) (c : Core) (m : Memory) → CoreWide c → MemoryReady m → IsWide a → OutcomeWide (stores_if_reserved_at a size v rd c m)
+conditional_wide : (a : ℕ) (size : Size) (v rd : ℕ) (c : Core) (m : Memory) → CoreWide c → MemoryReady m → IsWide a
+    → OutcomeWide (stores_if_reserved_at a size v rd c m)
 conditional_wide a size v rd c m w r p = record {
   core = sc_wide (loaded m a size) (covers m c.id a size) rd a c w p;
   memory = sc_ready (loaded m a size) (covers m c.id a size) a size v c m r;
 }
 
-updates_wide : (a : ℕ) (size : Size) (extend : ℕ → ℕ) (o : AluOp) (b rd : ℕ) (c : Core) (m : Memory) → CoreWide c → MemoryReady m → IsWide a → Extends size extend → OutcomeWide (updates_at a size extend o b rd c m)
+updates_wide : (a : ℕ) (size : Size) (extend : ℕ → ℕ) (o : AluOp) (b rd : ℕ) (c : Core) (m : Memory) → CoreWide c → MemoryReady m → IsWide a
+    → Extends size extend → OutcomeWide (updates_at a size extend o b rd c m)
 updates_wide a size extend o b rd c m w r p q = record {
   core = amo_wide (loaded m a size) extend rd a c w p (λ v is. q v (loaded_small m a size v r is));
   memory = amo_ready (loaded m a size) extend o a size b m r;
@@ -115,17 +162,22 @@ effect_wide : (insn : Insn) (c : Core) (m : Memory) → CoreWide c → MemoryRea
 effect_wide (Lui p) c m w r imm = quiet_wide m (sets_rd_wide p.rd p.imm c w imm) r
 effect_wide (Auipc p) c m w r imm = quiet_wide m (sets_rd_wide p.rd (offset_by c.pc p.imm) c w (offset_wide c.pc p.imm)) r
 effect_wide (Jal p) c m w r imm = quiet_wide m (jumps_wide p.rd (offset_by c.pc p.imm) c w (offset_wide c.pc p.imm)) r
-effect_wide (Jalr p) c m w r imm = quiet_wide m (jumps_wide p.rd (offset_by (x_of c p.rs1) p.imm / 2 * 2) c w (even_wide (offset_by (x_of c p.rs1) p.imm) (offset_wide (x_of c p.rs1) p.imm))) r
+effect_wide (Jalr p) c m w r imm = quiet_wide m (jumps_wide p.rd (offset_by (x_of c p.rs1) p.imm / 2 * 2) c w
+    (even_wide (offset_by (x_of c p.rs1) p.imm) (offset_wide (x_of c p.rs1) p.imm))) r
 effect_wide (Branch condition p) c m w r imm = quiet_wide m (branches_wide _ p c w) r
-effect_wide (Load o p) c m w r imm = loads_wide (offset_by (x_of c p.rs1) p.imm) (load_size o) (load_extension o) p.rd c m w r (offset_wide (x_of c p.rs1) p.imm) (load_extends o)
+effect_wide (Load o p) c m w r imm = loads_wide (offset_by (x_of c p.rs1) p.imm) (load_size o) (load_extension o) p.rd c m w r
+    (offset_wide (x_of c p.rs1) p.imm) (load_extends o)
 effect_wide (Store size p) c m w r imm = stores_wide (offset_by (x_of c p.rs1) p.imm) size (x_of c p.rs2) c m w r (offset_wide (x_of c p.rs1) p.imm)
 effect_wide (Immediate o p) c m w r imm = quiet_wide m (sets_rd_wide p.rd _ c w (alu_wide (op.Immediate o) (x_of c p.rs1) p.imm (x_wide c p.rs1 w) imm)) r
 effect_wide (Shift o p) c m w r imm = quiet_wide m (sets_rd_wide p.rd _ c w (alu_wide (op.Shift o) (x_of c p.rs1) p.amount (x_wide c p.rs1 w) imm)) r
 effect_wide (WordShift o p) c m w r imm = quiet_wide m (sets_rd_wide p.rd _ c w (alu_wide (op.WordShift o) (x_of c p.rs1) p.amount (x_wide c p.rs1 w) imm)) r
-effect_wide (Register o p) c m w r imm = quiet_wide m (sets_rd_wide p.rd _ c w (alu_wide (op.Register o) (x_of c p.rs1) (x_of c p.rs2) (x_wide c p.rs1 w) (x_wide c p.rs2 w))) r
-effect_wide (LoadReserved width p) c m w r imm = reserves_wide (x_of c p.rs1) (width_size width) (width_extension width) p.rd c m w r (x_wide c p.rs1 w) (width_extends width)
+effect_wide (Register o p) c m w r imm = quiet_wide m
+    (sets_rd_wide p.rd _ c w (alu_wide (op.Register o) (x_of c p.rs1) (x_of c p.rs2) (x_wide c p.rs1 w) (x_wide c p.rs2 w))) r
+effect_wide (LoadReserved width p) c m w r imm = reserves_wide (x_of c p.rs1) (width_size width) (width_extension width) p.rd c m w r (x_wide c p.rs1 w)
+    (width_extends width)
 effect_wide (StoreConditional width p) c m w r imm = conditional_wide (x_of c p.rs1) (width_size width) (x_of c p.rs2) p.rd c m w r (x_wide c p.rs1 w)
-effect_wide (Amo o width p) c m w r imm = updates_wide (x_of c p.rs1) (width_size width) (width_extension width) (op.Amo o width) (x_of c p.rs2) p.rd c m w r (x_wide c p.rs1 w) (width_extends width)
+effect_wide (Amo o width p) c m w r imm = updates_wide (x_of c p.rs1) (width_size width) (width_extension width) (op.Amo o width) (x_of c p.rs2) p.rd c m w r
+    (x_wide c p.rs1 w) (width_extends width)
 effect_wide Fence c m w r imm = quiet_wide m (goes_on_wide c w) r
 effect_wide FenceI c m w r imm = quiet_wide m (goes_on_wide c w) r
 effect_wide (Csr change p) c m w r imm = quiet_wide m (swaps_wide _ _ _ _ p.rd c w) r
@@ -137,7 +189,8 @@ effect_wide Wfi c m w r imm = quiet_wide m (goes_on_wide c w) r
 
 -- ---- execution
 
-decoded_wide : (o : Option Insn) (c : Core) (m : Memory) → CoreWide c → MemoryReady m → ((i : Insn) → o ≡ Some i → ImmediateWide i) → OutcomeWide (decoded o c m)
+decoded_wide : (o : Option Insn) (c : Core) (m : Memory) → CoreWide c → MemoryReady m → ((i : Insn) → o ≡ Some i → ImmediateWide i)
+    → OutcomeWide (decoded o c m)
 unfolding effect_of
 decoded_wide (Some insn) c m w r imm = effect_wide insn c m w r (imm insn refl)
 decoded_wide None c m w r imm = quiet_wide m (traps_wide 2 0 c w illegal_wide zero_wide) r

@@ -1,5 +1,30 @@
 -- A hart that is whole, and none of whose numbers has more than 64 bits: by the debugger's numbers of its registers, and by its parts.
-use Rattle.std.proofs.Common.{◌≡◌, ◌+◌, ◌-◌, ◌^◌, ◌<◌, ◌≤◌, ◌==◌, ℕ, Bool, true, false, length, get_or, Option, Some, None, slice_get, refl, ap, subst, arith, inl, inr, if◌then◌else◌}
+use Rattle.std.proofs.Common.{
+  ◌≡◌,
+  ◌+◌,
+  ◌-◌,
+  ◌^◌,
+  ◌<◌,
+  ◌≤◌,
+  ◌==◌,
+  ℕ,
+  Bool,
+  true,
+  false,
+  length,
+  get_or,
+  Option,
+  Some,
+  None,
+  slice_get,
+  refl,
+  ap,
+  subst,
+  arith,
+  inl,
+  inr,
+  if◌then◌else◌,
+}
 use Rattle.std.proofs.lemmas.Bool.{cases_lt}
 use Rattle.std.proofs.lemmas.List.{get_or_past}
 use Rattle.std.proofs.lemmas.Option.{none-some, same_Some, slice_get-get_or}
@@ -116,7 +141,8 @@ tdata1_wide kind.Disabled fits = omega arith
 
 -- the selected slot, where it is there
 selected_is : (h : ℕ) (x : Hart) → IsHart h x → slice_get x.debug.slots x.debug.tselect ≡ Some (selected_slot (triggers_of x.debug))
-selected_is h x whole = slice_get-get_or x.debug.slots x.debug.tselect free_slot (let a : x.debug.tselect < 4 = whole.selected in let b : length x.debug.slots ≡ 4 = whole.slots in omega arith)
+selected_is h x whole = slice_get-get_or x.debug.slots x.debug.tselect free_slot
+    (let a : x.debug.tselect < 4 = whole.selected in let b : length x.debug.slots ≡ 4 = whole.slots in omega arith)
 
 trigger_wide : (h : ℕ) (x : Hart) (number v : ℕ) → IsHart h x → ((slot : ℕ) (s : Slot) → slice_get x.debug.slots slot ≡ Some s → s.tdata2 < 2 ^ 64)
     → trigger_csr_value (triggers_of x.debug) number ≡ Some v → IsWide v
@@ -133,9 +159,11 @@ or_wide : (o p : Option ℕ) (v : ℕ) → ((u : ℕ) → o ≡ Some u → IsWid
 or_wide (Some u) p v first second is = subst (λ n. IsWide n) (same_Some u v is) (first u refl)
 or_wide None p v first second is = second v is
 
-pub registers_wide : (h : ℕ) (x : Hart) → IsHart h x → CoreWide x.core → ((slot : ℕ) (s : Slot) → slice_get x.debug.slots slot ≡ Some s → s.tdata2 < 2 ^ 64) → RegistersWide x
+pub registers_wide : (h : ℕ) (x : Hart) → IsHart h x → CoreWide x.core → ((slot : ℕ) (s : Slot) → slice_get x.debug.slots slot ≡ Some s → s.tdata2 < 2 ^ 64)
+    → RegistersWide x
 unfolding debug_value
 registers_wide h x whole w compared number v is =
     or_wide (reg_value x.core number) (debug_csr_value x.debug number) v (λ u at. reg_wide x.core number u w at)
-    (λ u at. some_if (number == 0x7b0) (dcsr_value x.debug) (trigger_csr_value (triggers_of x.debug) number) u (dcsr_wide (dcsr_of x.debug) (cause_small x.debug.halted))
+    (λ u at. some_if (number == 0x7b0) (dcsr_value x.debug) (trigger_csr_value (triggers_of x.debug) number) u
+    (dcsr_wide (dcsr_of x.debug) (cause_small x.debug.halted))
     (λ t at'. trigger_wide h x number t whole compared at') at) is

@@ -1,5 +1,31 @@
 -- Memory whose bytes are bytes: what a load of it gives, and what a store leaves.
-use Rattle.std.proofs.Common.{◌≡◌, ◌∙◌, ◌+◌, ◌/◌, ◌%◌, ◌^◌, ◌<◌, ◌&&◌, ℕ, zero, suc, Bool, true, false, cond, Option, Some, None, Result, Ok, Err, arith, refl, sym, if◌then◌else◌}
+use Rattle.std.proofs.Common.{
+  ◌≡◌,
+  ◌∙◌,
+  ◌+◌,
+  ◌/◌,
+  ◌%◌,
+  ◌^◌,
+  ◌<◌,
+  ◌&&◌,
+  ℕ,
+  zero,
+  suc,
+  Bool,
+  true,
+  false,
+  cond,
+  Option,
+  Some,
+  None,
+  Result,
+  Ok,
+  Err,
+  arith,
+  refl,
+  sym,
+  if◌then◌else◌,
+}
 use Rattle.std.specs.Cmp.{nat_cmp_total}
 use Rattle.std.specs.FinMap.{get, get-insert, insert}
 use Rattle.std.specs.Ordering.{eq_by_cmp, nat_cmp}
@@ -20,7 +46,8 @@ BytesReady m = (address byte : ℕ) → get m address ≡ Some byte → byte < 2
 
 -- ---- loads
 
-value_by : (o : Option ℕ) (rest : Option ℕ) (n v : ℕ) → ((b : ℕ) → o ≡ Some b → b < 256) → ((u : ℕ) → rest ≡ Some u → u < 256 ^ n) → with_byte o rest ≡ Some v → v < 256 ^ suc n
+value_by : (o : Option ℕ) (rest : Option ℕ) (n v : ℕ) → ((b : ℕ) → o ≡ Some b → b < 256) → ((u : ℕ) → rest ≡ Some u → u < 256 ^ n) → with_byte o rest ≡ Some v
+    → v < 256 ^ suc n
 value_by None rest n v small later is = absurd (none-some v is)
 value_by (Some b) rest n v small later is = small_with b rest n v (small b refl) is later
 
@@ -65,11 +92,13 @@ pub reserve_ready : (r : Result ℕ MemFault) (a : ℕ) (c : Core) (m : Memory) 
 reserve_ready (Ok v) a c m ready = ready
 reserve_ready (Err fault) a c m ready = ready
 
-pub sc_ready : (r : Result ℕ MemFault) (covered : Bool) (a : ℕ) (size : Size) (v : ℕ) (c : Core) (m : Memory) → MemoryReady m → MemoryReady (after_sc r covered a size v c m)
+pub sc_ready : (r : Result ℕ MemFault) (covered : Bool) (a : ℕ) (size : Size) (v : ℕ) (c : Core) (m : Memory) → MemoryReady m
+    → MemoryReady (after_sc r covered a size v c m)
 sc_ready (Ok u) true a size v c m ready = stored_ready m a size v ready
 sc_ready (Ok u) false a size v c m ready = ready
 sc_ready (Err fault) covered a size v c m ready = ready
 
-pub amo_ready : (r : Result ℕ MemFault) (extend : ℕ → ℕ) (o : AluOp) (a : ℕ) (size : Size) (b : ℕ) (m : Memory) → MemoryReady m → MemoryReady (after_amo r extend o a size b m)
+pub amo_ready : (r : Result ℕ MemFault) (extend : ℕ → ℕ) (o : AluOp) (a : ℕ) (size : Size) (b : ℕ) (m : Memory) → MemoryReady m
+    → MemoryReady (after_amo r extend o a size b m)
 amo_ready (Ok v) extend o a size b m ready = stored_ready m a size _ ready
 amo_ready (Err fault) extend o a size b m ready = ready

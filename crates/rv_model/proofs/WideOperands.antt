@@ -14,13 +14,15 @@ imm_s_wide : (w : ℕ) → IsWide (imm_s w)
 imm_s_wide w = extended_wide 12 (field 25 7 w * 2 ^ 5 + field 7 5 w) (omega arith) (omega arith) (omega arith)
 
 imm_b_wide : (w : ℕ) → IsWide (imm_b w)
-imm_b_wide w = extended_wide 13 (field 31 1 w * 2 ^ 12 + field 7 1 w * 2 ^ 11 + field 25 6 w * 2 ^ 5 + field 8 4 w * 2) (omega arith) (omega arith) (omega arith)
+imm_b_wide w = extended_wide 13 (field 31 1 w * 2 ^ 12 + field 7 1 w * 2 ^ 11 + field 25 6 w * 2 ^ 5 + field 8 4 w * 2) (omega arith) (omega arith)
+    (omega arith)
 
 imm_u_wide : (w : ℕ) → IsWide (imm_u w)
 imm_u_wide w = extended_wide 32 (field 12 20 w * 2 ^ 12) (omega arith) (omega arith) (omega arith)
 
 imm_j_wide : (w : ℕ) → IsWide (imm_j w)
-imm_j_wide w = extended_wide 21 (field 31 1 w * 2 ^ 20 + field 12 8 w * 2 ^ 12 + field 20 1 w * 2 ^ 11 + field 21 10 w * 2) (omega arith) (omega arith) (omega arith)
+imm_j_wide w = extended_wide 21 (field 31 1 w * 2 ^ 20 + field 12 8 w * 2 ^ 12 + field 20 1 w * 2 ^ 11 + field 21 10 w * 2) (omega arith) (omega arith)
+    (omega arith)
 
 amount_wide : (w : ℕ) → IsWide (field 20 6 w)
 amount_wide w = omega arith
@@ -48,284 +50,19 @@ abbrev RowsWide : ℕ → List Row → Type 0
 RowsWide w [] = Unit {0}
 RowsWide w (r ∷ rs) = ImmediateWide (r.operands w) × RowsWide w rs
 
+-- one row, and those behind it
+infixr 2 ◌⨾◌
+abbrev ◌⨾◌ : {A B : Type 0} → A → B → A × B
+a ⨾ b = (a, b)
+
 all_rows : (w : ℕ) → RowsWide w rows
-all_rows w = (
-  imm_u_wide w,
-  (
-    imm_u_wide w,
-    (
-      imm_j_wide w,
-      (
-        imm_i_wide w,
-        (
-          imm_b_wide w,
-          (
-            imm_b_wide w,
-            (
-              imm_b_wide w,
-              (
-                imm_b_wide w,
-                (
-                  imm_b_wide w,
-                  (
-                    imm_b_wide
-                        w,
-                    (
-                      tt,
-                      (
-                        tt,
-                        (
-                          tt,
-                          (
-                            tt,
-                            (
-                              tt,
-                              (
-                                tt,
-                                (
-                                  tt,
-                                  (
-                                    tt,
-                                    (
-                                      tt,
-                                      (
-                                        tt,
-                                        (
-                                          tt,
-                                          (
-                                            imm_i_wide w,
-                                            (
-                                              imm_i_wide w,
-                                              (
-                                                imm_i_wide w,
-                                                (
-                                                  imm_i_wide w,
-                                                  (
-                                                    imm_i_wide w,
-                                                    (
-                                                      imm_i_wide
-                                                          w,
-                                                      (
-                                                        amount_wide w,
-                                                        (
-                                                          amount_wide w,
-                                                          (
-                                                            amount_wide w,
-                                                            (
-                                                              imm_i_wide w,
-                                                              (
-                                                                amount_word_wide w,
-                                                                (
-                                                                  amount_word_wide w,
-                                                                  (
-                                                                    amount_word_wide w,
-                                                                    (
-                                                                      tt,
-                                                                      (
-                                                                        tt,
-                                                                        (
-                                                                          tt,
-                                                                          (
-                                                                            tt,
-                                                                            (
-                                                                              tt,
-                                                                              (
-                                                                                tt,
-                                                                                (
-                                                                                  tt,
-                                                                                  (
-                                                                                    tt,
-                                                                                    (
-                                                                                      tt,
-                                                                                      (
-                                                                                        tt,
-                                                                                        (
-                                                                                          tt,
-                                                                                          (
-                                                                                            tt,
-                                                                                            (
-                                                                                              tt,
-                                                                                              (
-                                                                                                tt,
-                                                                                                (
-                                                                                                  tt,
-                                                                                                  (
-                                                                                                    tt,
-                                                                                                    (
-                                                                                                      tt,
-                                                                                                      (
-                                                                                                        tt,
-                                                                                                        (
-                                                                                                          tt,
-                                                                                                          (
-                                                                                                            tt,
-                                                                                                            (
-                                                                                                              tt,
-                                                                                                              (
-                                                                                                                tt,
-                                                                                                                (
-                                                                                                                  tt,
-                                                                                                                  (
-                                                                                                                    tt,
-                                                                                                                    (
-                                                                                                                      tt,
-                                                                                                                      (
-                                                                                                                        tt,
-                                                                                                                        (
-                                                                                                                          tt,
-                                                                                                                          (
-                                                                                                                            tt,
-                                                                                                                            (
-                                                                                                                              tt,
-                                                                                                                              (
-                                                                                                                                tt,
-                                                                                                                                (
-                                                                                                                                  tt,
-                                                                                                                                  (
-                                                                                                                                    tt,
-                                                                                                                                    (
-                                                                                                                                      tt,
-                                                                                                                                      (
-                                                                                                                                        tt,
-                                                                                                                                        (
-                                                                                                                                          tt,
-                                                                                                                                          (
-                                                                                                                                            tt,
-                                                                                                                                            (
-                                                                                                                                              tt,
-                                                                                                                                              (
-                                                                                                                                                tt,
-                                                                                                                                                (
-                                                                                                                                                  tt,
-                                                                                                                                                  (
-                                                                                                                                                    tt,
-                                                                                                                                                    (
-                                                                                                                                                      tt,
-                                                                                                                                                      (
-                                                                                                                                                        tt,
-                                                                                                                                                        (
-                                                                                                                                                          tt,
-                                                                                                                                                          (
-                                                                                                                                                            tt,
-                                                                                                                                                            (
-                                                                                                                                                              tt,
-                                                                                                                                                              (
-                                                                                                                                                                tt,
-                                                                                                                                                                (
-                                                                                                                                                                  tt,
-                                                                                                                                                                  (
-                                                                                                                                                                    tt,
-                                                                                                                                                                    (
-                                                                                                                                                                      tt,
-                                                                                                                                                                      (
-                                                                                                                                                                        tt,
-                                                                                                                                                                        (
-                                                                                                                                                                          tt,
-                                                                                                                                                                          (
-                                                                                                                                                                            tt,
-                                                                                                                                                                            (
-                                                                                                                                                                              tt,
-                                                                                                                                                                              (
-                                                                                                                                                                                tt,
-                                                                                                                                                                                (
-                                                                                                                                                                                  tt,
-                                                                                                                                                                                  (
-                                                                                                                                                                                    csr_imm_wide w,
-                                                                                                                                                                                    (
-                                                                                                                                                                                      csr_imm_wide
-                                                                                                                                                                                          w,
-                                                                                                                                                                                      (csr_imm_wide w, (tt, (tt, (tt, (tt, tt))))),
-                                                                                                                                                                                    ),
-                                                                                                                                                                                  ),
-                                                                                                                                                                                ),
-                                                                                                                                                                              ),
-                                                                                                                                                                            ),
-                                                                                                                                                                          ),
-                                                                                                                                                                        ),
-                                                                                                                                                                      ),
-                                                                                                                                                                    ),
-                                                                                                                                                                  ),
-                                                                                                                                                                ),
-                                                                                                                                                              ),
-                                                                                                                                                            ),
-                                                                                                                                                          ),
-                                                                                                                                                        ),
-                                                                                                                                                      ),
-                                                                                                                                                    ),
-                                                                                                                                                  ),
-                                                                                                                                                ),
-                                                                                                                                              ),
-                                                                                                                                            ),
-                                                                                                                                          ),
-                                                                                                                                        ),
-                                                                                                                                      ),
-                                                                                                                                    ),
-                                                                                                                                  ),
-                                                                                                                                ),
-                                                                                                                              ),
-                                                                                                                            ),
-                                                                                                                          ),
-                                                                                                                        ),
-                                                                                                                      ),
-                                                                                                                    ),
-                                                                                                                  ),
-                                                                                                                ),
-                                                                                                              ),
-                                                                                                            ),
-                                                                                                          ),
-                                                                                                        ),
-                                                                                                      ),
-                                                                                                    ),
-                                                                                                  ),
-                                                                                                ),
-                                                                                              ),
-                                                                                            ),
-                                                                                          ),
-                                                                                        ),
-                                                                                      ),
-                                                                                    ),
-                                                                                  ),
-                                                                                ),
-                                                                              ),
-                                                                            ),
-                                                                          ),
-                                                                        ),
-                                                                      ),
-                                                                    ),
-                                                                  ),
-                                                                ),
-                                                              ),
-                                                            ),
-                                                          ),
-                                                        ),
-                                                      ),
-                                                    ),
-                                                  ),
-                                                ),
-                                              ),
-                                            ),
-                                          ),
-                                        ),
-                                      ),
-                                    ),
-                                  ),
-                                ),
-                              ),
-                            ),
-                          ),
-                        ),
-                      ),
-                    ),
-                  ),
-                ),
-              ),
-            ),
-          ),
-        ),
-      ),
-    ),
-  ),
-)
+all_rows w =
+    imm_u_wide w ⨾ imm_u_wide w ⨾ imm_j_wide w ⨾ imm_i_wide w ⨾ imm_b_wide w ⨾ imm_b_wide w ⨾ imm_b_wide w ⨾ imm_b_wide w ⨾ imm_b_wide w
+    ⨾ imm_b_wide w ⨾ tt ⨾ tt ⨾ tt ⨾ tt ⨾ tt ⨾ tt ⨾ tt ⨾ tt ⨾ tt ⨾ tt ⨾ tt ⨾ imm_i_wide w ⨾ imm_i_wide w ⨾ imm_i_wide w ⨾ imm_i_wide w
+    ⨾ imm_i_wide w ⨾ imm_i_wide w ⨾ amount_wide w ⨾ amount_wide w ⨾ amount_wide w ⨾ imm_i_wide w ⨾ amount_word_wide w ⨾ amount_word_wide w
+    ⨾ amount_word_wide w ⨾ tt ⨾ tt ⨾ tt ⨾ tt ⨾ tt ⨾ tt ⨾ tt ⨾ tt ⨾ tt ⨾ tt ⨾ tt ⨾ tt ⨾ tt ⨾ tt ⨾ tt ⨾ tt ⨾ tt ⨾ tt ⨾ tt ⨾ tt ⨾ tt ⨾ tt ⨾ tt
+    ⨾ tt ⨾ tt ⨾ tt ⨾ tt ⨾ tt ⨾ tt ⨾ tt ⨾ tt ⨾ tt ⨾ tt ⨾ tt ⨾ tt ⨾ tt ⨾ tt ⨾ tt ⨾ tt ⨾ tt ⨾ tt ⨾ tt ⨾ tt ⨾ tt ⨾ tt ⨾ tt ⨾ tt ⨾ tt ⨾ tt ⨾ tt
+    ⨾ tt ⨾ tt ⨾ tt ⨾ tt ⨾ tt ⨾ csr_imm_wide w ⨾ csr_imm_wide w ⨾ csr_imm_wide w ⨾ tt ⨾ tt ⨾ tt ⨾ tt ⨾ tt
 
 by_match : (w : ℕ) (r : Row) (rs : List Row) (insn : Insn) (b : Bool) → ImmediateWide (r.operands w) → (meaning_in rs w ≡ Some insn → ImmediateWide insn)
     → option_map (λ (s : Row). s.operands w) (cond b (Some r) (find (matches w) rs)) ≡ Some insn → ImmediateWide insn

@@ -8,7 +8,36 @@ use Rattle.rv_model.specs.declared.alu_op.AluOp.TheVariants.{Immediate, Shift, W
 use Rattle.rv_model.specs.declared.alu_op.ImmediateOp.TheVariants.{Addi, Slti, Sltiu, Xori, Ori, Andi, Addiw}
 use Rattle.rv_model.specs.declared.alu_op.ShiftOp.TheVariants.{Slli, Srli, Srai}
 use Rattle.rv_model.specs.declared.alu_op.WordShiftOp.TheVariants.{Slliw, Srliw, Sraiw}
-use Rattle.rv_model.specs.declared.alu_op.RegisterOp.TheVariants.{Add, Sll, Slt, Sltu, Xor, Srl, Or, And, Sub, Sra, Mul, Mulh, Mulhsu, Mulhu, Div, Divu, Rem, Remu, Addw, Sllw, Srlw, Subw, Sraw, Mulw, Divw, Divuw, Remw, Remuw}
+use Rattle.rv_model.specs.declared.alu_op.RegisterOp.TheVariants.{
+  Add,
+  Sll,
+  Slt,
+  Sltu,
+  Xor,
+  Srl,
+  Or,
+  And,
+  Sub,
+  Sra,
+  Mul,
+  Mulh,
+  Mulhsu,
+  Mulhu,
+  Div,
+  Divu,
+  Rem,
+  Remu,
+  Addw,
+  Sllw,
+  Srlw,
+  Subw,
+  Sraw,
+  Mulw,
+  Divw,
+  Divuw,
+  Remw,
+  Remuw,
+}
 use Rattle.rv_model.specs.declared.alu_op.AmoOp.TheVariants.{Amoswap, Amoadd, Amoxor, Amoand, Amoor, Amomin, Amomax, Amominu, Amomaxu}
 use Rattle.rv_model.specs.declared.width.Width.TheVariants.{Word, DoubleWord}
 use Rattle.rv_model.specs.Alu.{all_ones, alu_of, digit, low, signed_word, word}

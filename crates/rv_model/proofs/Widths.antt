@@ -1,5 +1,27 @@
 -- A turn keeps every number of a hart within 64 bits, and every byte of memory a byte.
-use Rattle.std.proofs.Common.{◌≡◌, ◌^◌, ◌<◌, ℕ, zero, suc, Bool, true, false, List, [], ◌∷◌, map, Option, Some, None, slice_get, refl, sym, subst, if◌then◌else◌}
+use Rattle.std.proofs.Common.{
+  ◌≡◌,
+  ◌^◌,
+  ◌<◌,
+  ℕ,
+  zero,
+  suc,
+  Bool,
+  true,
+  false,
+  List,
+  [],
+  ◌∷◌,
+  map,
+  Option,
+  Some,
+  None,
+  slice_get,
+  refl,
+  sym,
+  subst,
+  if◌then◌else◌,
+}
 use Rattle.std.proofs.lemmas.Option.{none-some, same_Some}
 use Rattle.rv_model.specs.declared.cause.Cause.{Cause}
 use Rattle.rv_model.specs.declared.slot.Slot.{Slot}
@@ -39,7 +61,8 @@ if_same false s t same = refl
 marked_same : (touch : Touch) (s : Slot) → (slot_marked touch s).tdata2 ≡ s.tdata2
 marked_same touch s = if_same (trigger_fires s.trigger s.tdata2 touch) s _ refl
 
-place_slots : (halted : Option Cause) (resume request fired at_ebreak : Bool) (touch : Touch) (o : Outcome) (x : Hart) → SlotsWide x.debug.slots → SlotsWide (place_by halted resume request fired at_ebreak touch o x).hart.debug.slots
+place_slots : (halted : Option Cause) (resume request fired at_ebreak : Bool) (touch : Touch) (o : Outcome) (x : Hart) → SlotsWide x.debug.slots
+    → SlotsWide (place_by halted resume request fired at_ebreak touch o x).hart.debug.slots
 place_slots (Some why) true request fired at_ebreak touch o x p = p
 place_slots (Some why) false request fired at_ebreak touch o x p = p
 place_slots None resume true fired at_ebreak touch o x p = p
@@ -64,9 +87,11 @@ pub place_wide : (h : ℕ) (x : Hart) (m : Memory) → HartWide h x → MemoryRe
 unfolding place_of
 place_wide h x m w r =
     let y : Hart = (place_of x m).hart in
-    let slots : SlotsWide y.debug.slots = place_slots x.debug.halted x.debug.resume_request x.debug.halt_request (some_fires (touch_of x.core m) x) (stops_at_ebreak x m) (touch_of x.core m) (exec_of x.core m) x w.compared in
+    let slots : SlotsWide y.debug.slots = place_slots x.debug.halted x.debug.resume_request x.debug.halt_request (some_fires (touch_of x.core m) x)
+    (stops_at_ebreak x m) (touch_of x.core m) (exec_of x.core m) x w.compared in
     let core : CoreWide y.core =
-    place_core x.debug.halted x.debug.resume_request x.debug.halt_request (some_fires (touch_of x.core m) x) (stops_at_ebreak x m) (touch_of x.core m) (exec_of x.core m) x
+    place_core x.debug.halted x.debug.resume_request x.debug.halt_request (some_fires (touch_of x.core m) x) (stops_at_ebreak x m) (touch_of x.core m)
+    (exec_of x.core m) x
     (core_wide h x w.whole w.registers) (executed_wide h x m w r).core in
     record { whole = turn_keeps_hart h x m w.whole; registers = registers_wide h y (turn_keeps_hart h x m w.whole) core slots; compared = slots }
 

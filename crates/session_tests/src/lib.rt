@@ -8,4 +8,6 @@ mod chips;
 #[cfg(test)]
 mod ended;
 #[cfg(test)]
+mod paths;
+#[cfg(test)]
 mod scripted;

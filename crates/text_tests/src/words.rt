@@ -29,7 +29,9 @@ probe --at localhost:9000 --script probe|Probe { at: \"localhost:9000\", script:
 chip --at  --image a --halted --harts 4|Chip { at: \"\", image: \"a\", options: \
 ChipOptions { harts: 4, ram: 65536, halted: true, seed: 0, busy: 1, events: 16777200 } }\n\
 chip --at a --image i --events 1000000000|Chip { at: \"a\", image: \"i\", options: \
-ChipOptions { harts: 1, ram: 65536, halted: false, seed: 0, busy: 1, events: 1000000000 } }";
+ChipOptions { harts: 1, ram: 65536, halted: false, seed: 0, busy: 1, events: 1000000000 } }\n\
+sniff --stream s --answers a|Sniff { stream: \"s\", answers: \"a\", waves: false }\n\
+sniff --vcd --answers=s --stream=a|Sniff { stream: \"a\", answers: \"s\", waves: true }";
 
 /// Lines of words that write no job, with a line feed after each but the last: no program or another; an option of another
 /// program, an unknown or a shortened one, or one that asks for help or a version; an option twice, a missing value, a flag with
@@ -94,10 +96,23 @@ both --gen 5 --events\n\
 probe --at a --script s --events 1\n\
 both --gen 5 --events 1 --events 1\n\
 both --gen 5 --piece 0\n\
-both --gen 5 --piece 257";
+both --gen 5 --piece 257\n\
+sniff\n\
+Sniff --stream s --answers a\n\
+sniff --stream s\n\
+sniff --answers a\n\
+sniff --vcd\n\
+sniff --stream s --answers a --vcd=true\n\
+sniff --stream s --answers a --vcd --vcd\n\
+sniff --stream s --answers a --stream s\n\
+sniff --stream s --answers a --script s\n\
+sniff --stream s --answers a --halted\n\
+sniff s a\n\
+both --gen 5 --vcd\n\
+chip --at a --image i --stream s";
 
 /// Lines of words that write no job, and what is said of them, with a bar between them and a line feed after each pair but the last.
-const WHYS: &str = "Both --gen 5|'Both' is no job: both, probe and chip are\n\
+const WHYS: &str = "Both --gen 5|'Both' is no job: both, probe, chip and sniff are\n\
 both --speed 1 --gen 5|unexpected argument '--speed' found\n\
 chip --at a --image i --busy 33|33 of --busy is not from 1 to 32\n\
 chip --at a --image i --busy 0x21|0x21 of --busy is not from 1 to 32\n\
@@ -116,7 +131,9 @@ both --script s|--image is missing\n\
 probe --script s|--at is missing\n\
 probe --at a|--script is missing\n\
 chip --at a|--image is missing\n\
-chip --image i --busy 40|--at is missing";
+chip --image i --busy 40|--at is missing\n\
+sniff --vcd|--stream is missing\n\
+sniff --vcd --stream s|--answers is missing";
 
 /// The words of a line, which single spaces part.
 fn words_of(alloc: Global, line: &str) -> Result<Vec<String>, AllocError> {

@@ -23,10 +23,12 @@ use Rattle.probe_session.specs.Transcribed.{Still, TranscribedAs, WrittenAs, sho
 use Rattle.probe_session.proofs.Transcribing.{loaded_fresh}
 use Rattle.wire_session.specs.Headline.{Headline, IsUndebugged, UndebuggedBehind, board_of, journal_of}
 
-undebugged_by : (script : List Command) (first last : Far) → (shown script first last).world.board ≡ board_of last.live → IsUndebugged script first.live last.live
+undebugged_by : (script : List Command) (first last : Far) → (shown script first last).world.board ≡ board_of last.live
+    → IsUndebugged script first.live last.live
 undebugged_by script first last same = ap machine_of (sym same) ∙ transparent (session script) (board_of first.live) (journal_of last.live)
 
-undebugged_behind : (script : List Command) (was is : Option (List ℕ)) (first last : Far) (e : End) → WrittenAs script was is first last e → UndebuggedBehind e script first.live last.live
+undebugged_behind : (script : List Command) (was is : Option (List ℕ)) (first last : Far) (e : End) → WrittenAs script was is first last e
+    → UndebuggedBehind e script first.live last.live
 undebugged_behind script was is first last ends.Clean w = undebugged_by script first last w.board_is
 undebugged_behind script was is first last ends.WithErrors w = undebugged_by script first last w.board_is
 undebugged_behind script was is first last (ends.Target fault) w = tt
@@ -46,7 +48,8 @@ turns_behind first c a same =
     ap (λ (r : List (List Event)). record { rounds = r; place = 0 }) (ap (λ (t : Timing). t.rounds) same) ∙ at_its_start first a in
     subst (λ (p : RoundPlan). TurnsOffered p c) plan offered
 
-headline_of : (script : List Command) (was is : Option (List ℕ)) (first last : Far) (e : End) → AsLoaded first.live → All IsWithinRanges script → WrittenAs script was is first last e
+headline_of : (script : List Command) (was is : Option (List ℕ)) (first last : Far) (e : End) → AsLoaded first.live → All IsWithinRanges script
+    → WrittenAs script was is first last e
     → timing_of (chip_of last) ≡ timing_of (chip_of first) → Headline script was is first last e
 headline_of script was is first last e a within w same = record {
   written = w;
@@ -56,7 +59,8 @@ headline_of script was is first last e a within w same = record {
 }
 
 -- where the wire tells its chip
-pub headline_told : (script : List Command) (was is : Option (List ℕ)) (old mid : Option Far) (e : End) → IsAsLoaded old → All IsWithinRanges script → TranscribedAs script was is old mid e
+pub headline_told : (script : List Command) (was is : Option (List ℕ)) (old mid : Option Far) (e : End) → IsAsLoaded old → All IsWithinRanges script
+    → TranscribedAs script was is old mid e
     → timing_told mid ≡ timing_told old → IfSome old (λ first. Still (λ last. Headline script was is first last e) mid)
 headline_told script was is None mid e a within told same = tt
 headline_told script was is (Some first) mid e a within told same = record {

@@ -7,7 +7,8 @@ use Rattle.debug_model.specs.Loaded.{live, loaded_board, loaded_chip}
 use Rattle.debug_model.specs.Schedule.{RoundPlan}
 use Rattle.debug_model.specs.Told.{Far, IsAsLoaded, IsRead}
 
-operates_at : (board : Board) (plan : RoundPlan) (most_points : ℕ) (unread : List ℕ) → unread ≡ [] → CanOperate (Some (record { live = live (loaded_chip board plan most_points); unread = unread }))
+operates_at : (board : Board) (plan : RoundPlan) (most_points : ℕ) (unread : List ℕ) → unread ≡ []
+    → CanOperate (Some (record { live = live (loaded_chip board plan most_points); unread = unread }))
 operates_at board plan most_points unread read = record {
   unended = tt;
   read = read;

@@ -61,13 +61,15 @@ closes_timing mid new end closed (quitted sends is done) = ap timing_told done.f
 closes_timing mid new end closed (unquitted why sends is done) = front_timing mid.far new.far done.far
 
 -- what stays of a told chip's schedule is what the ties of the wire keep
-pub timing_kept : (was is : Ties) (old mid new : WireSeen) (end closed : End) → is ≡ was → IsTimed was old.far → IsTimed is new.far → Closes mid new end closed → timing_told mid.far ≡ timing_told old.far
+pub timing_kept : (was is : Ties) (old mid new : WireSeen) (end closed : End) → is ≡ was → IsTimed was old.far → IsTimed is new.far → Closes mid new end closed
+    → timing_told mid.far ≡ timing_told old.far
 timing_kept was is old mid new end closed same before behind closes =
     sym (closes_timing mid new end closed closes) ∙ sym behind ∙ ap (λ (t : Ties). t.timing) same ∙ before
 
 -- ---- a chip that was refused
 
-register_end : (script : List Command) (a b c d : ℕ) (old new : Tells) (was is : Option (List ℕ)) (e : End) → EndedAs script a b old new c d was is e → IsOfRegister e
+register_end : (script : List Command) (a b c d : ℕ) (old new : Tells) (was is : Option (List ℕ)) (e : End)
+    → EndedAs script a b old new c d was is e → IsOfRegister e
 register_end script a b c d old new was is ends.Clean ended = tt
 register_end script a b c d old new was is ends.WithErrors ended = tt
 register_end script a b c d old new was is (ends.Target fault) ended = ended.register
@@ -83,9 +85,12 @@ unclosed_register why (ends.Wire first) = tt
 unclosed_register why (ends.Lost cause) = tt
 unclosed_register why ends.Sink = tt
 
-pub of_register : (script : List Command) (a b c d : ℕ) (old new : Tells) (was is : Option (List ℕ)) (mid last : WireSeen) (e closed : End) → EndedAs script a b old new c d was is e → Closes mid last e closed → IsOfRegister closed
-of_register script a b c d old new was is mid last e closed ended (behind_fault sends same kept) = subst IsOfRegister (sym same) (register_end script a b c d old new was is e ended)
-of_register script a b c d old new was is mid last e closed ended (quitted sends same done) = subst IsOfRegister (sym same) (register_end script a b c d old new was is e ended)
+pub of_register : (script : List Command) (a b c d : ℕ) (old new : Tells) (was is : Option (List ℕ)) (mid last : WireSeen) (e closed : End)
+    → EndedAs script a b old new c d was is e → Closes mid last e closed → IsOfRegister closed
+of_register script a b c d old new was is mid last e closed ended (behind_fault sends same kept) =
+    subst IsOfRegister (sym same) (register_end script a b c d old new was is e ended)
+of_register script a b c d old new was is mid last e closed ended (quitted sends same done) =
+    subst IsOfRegister (sym same) (register_end script a b c d old new was is e ended)
 of_register script a b c d old new was is mid last e closed ended (unquitted why sends same done) = subst IsOfRegister (sym same) (unclosed_register why e)
 
 -- ---- a line that could not be written

@@ -1,16 +1,16 @@
 -- A session over a wire: what the wire tells of it, and what it leaves.
 -- OpenOCD, remote_bitbang, for the stream; the session is this project's own.
 use Rattle.std.specs.Prelude.{ℕ, List, Option, option_map}
-use Rattle.debug_model.specs.Dmi.{CanQuit, DmiScript}
-use Rattle.debug_model.specs.Dmi.DmiScript.{Scans}
-use Rattle.debug_model.specs.Scan.Script.{Answers}
+use Rattle.debug_model.specs.Dmi.{CanQuit, DmiComing}
+use Rattle.debug_model.specs.Dmi.DmiComing.{Scans}
+use Rattle.debug_model.specs.Scan.Coming.{Answers}
 use Rattle.debug_model.specs.Told.{Far}
 use Rattle.probe_run.specs.Acts.{Tells, tells}
 use Rattle.probe_session.specs.declared.ended.Ended.{Ended as End}
 use Rattle.probe_session.specs.declared.ended.Ended.TheVariants as ends
 
 -- the answers that are to come are those of scans
-abbrev pub scans_of : Option (List ℕ) → Option DmiScript
+abbrev pub scans_of : Option (List ℕ) → Option DmiComing
 scans_of coming = option_map Scans (option_map Answers coming)
 
 -- the chip at the far end and the answers that are to come, where they are told

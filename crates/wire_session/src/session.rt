@@ -1,49 +1,25 @@
 //! A session over a wire, and the end of its stream.
 
-ghost use Rattle.std.specs.Prelude.{◌≡◌, ◌≤◌, All, option_map};
+ghost use Rattle.std.specs.Prelude.{◌≡◌, ◌≤◌, All};
 ghost use Rattle.debug_model.specs.Command.{IsWithinRanges};
 ghost use Rattle.debug_model.specs.Dmi.{CanOperate};
-ghost use Rattle.debug_model.specs.Dmi.DmiScript.{Scans};
 ghost use Rattle.debug_model.specs.Told.{IsAsLoaded, IsRead};
 ghost use Rattle.wire_session.specs.Closing.{IsOfRegister};
 ghost use Rattle.wire_session.specs.Session.{LeavesWire, told_by};
 ghost use Rattle.wire_session.specs.WireSession.{IsTimed, WireSession};
-ghost use Rattle.probe_run.specs.Acts.{tells};
 ghost use Rattle.probe_session.specs.Causes.{EndCaused, SinkCaused};
 ghost use Rattle.probe_session.specs.Scripts.{EndedAs};
 ghost use Rattle.probe_session.specs.Transcribed.{TranscribedAs};
 
 use crate::stream_end::end_stream;
-use debug_model::{Scan, Script, Wire};
+use debug_model::{Script, Wire};
 use jt_base::Sink;
 use probe_dmi::Link;
 use probe_scan::Scanner;
 use probe_session::{Ended, run_script};
 
-// The scans and the wire are handed on by value and come back by value: what becomes of a wire that is only lent is known where it is lent, in `session`.
-
-/// Runs a script over these scans, puts its lines, and hands the scans back.
-fn run_over_scans<S: Scan, K: Sink>(scan: S, script: &Script, out: &mut K) -> (Ended, S)
-    requires link { CanOperate (S.seen scan).far }
-    requires loaded { IsAsLoaded (S.seen scan).far }
-    ensures ended { EndedAs script.now (S.seen scan).fault_count (S.seen result.1).fault_count
-        (tells (S.seen scan).far (option_map Scans (S.seen scan).coming)) (tells (S.seen result.1).far (option_map Scans (S.seen result.1).coming))
-        (K.fault_count out.old) (K.fault_count out.new) (K.contents out.old) (K.contents out.new) result.0 }
-    ensures cause { EndCaused (S.seen scan).fault_count (S.seen result.1).fault_count (S.seen result.1).far result.0 }
-    ensures sink_cause { SinkCaused (K.fault_count out.old) (K.fault_count out.new) result.0 }
-    ensures transcribed { TranscribedAs script.now (K.contents out.old) (K.contents out.new) (S.seen scan).far (S.seen result.1).far result.0 }
-    ensures leaves { LeavesWire (S.seen result.1).far result.0 }
-    ensures later { (S.seen scan).fault_count ≤ (S.seen result.1).fault_count }
-    ensures fixed { (S.seen result.1).fixed ≡ (S.seen scan).fixed }
-    ensures sink_later { K.fault_count out.old ≤ K.fault_count out.new }
-{
-    let mut link = Link::paced(scan);
-    let ended = run_script(&mut link, script, out);
-    (ended, link.into_scan())
-}
-
-/// Runs a script over this wire, puts its lines, and hands the wire back.
-fn run_over_wire<W: Wire, K: Sink>(wire: W, script: &Script, out: &mut K) -> (Ended, W)
+/// Runs a script over this wire, puts its lines, and hands the wire back: what becomes of a wire that is only lent is known where it is lent, in `session`.
+fn run_over<W: Wire, K: Sink>(wire: W, script: &Script, out: &mut K) -> (Ended, W)
     requires link { CanOperate (W.far wire) }
     requires loaded { IsAsLoaded (W.far wire) }
     ensures ended { EndedAs script.now (W.fault_count wire) (W.fault_count result.1) (told_by (W.far wire) (W.coming wire))
@@ -57,8 +33,9 @@ fn run_over_wire<W: Wire, K: Sink>(wire: W, script: &Script, out: &mut K) -> (En
     ensures ties { W.ties result.1 ≡ W.ties wire }
     ensures sink_later { K.fault_count out.old ≤ K.fault_count out.new }
 {
-    let (ended, scan) = run_over_scans(Scanner::new(wire), script, out);
-    (ended, scan.into_wire())
+    let mut link = Link::paced(Scanner::new(wire));
+    let ended = run_script(&mut link, script, out);
+    (ended, link.into_scan().into_wire())
 }
 
 /// Runs a script over this wire, and puts its lines.
@@ -76,7 +53,7 @@ fn session<W: Wire, K: Sink>(wire: &mut W, script: &Script, out: &mut K) -> Ende
     ensures ties { W.ties wire.new ≡ W.ties wire.old }
     ensures sink_later { K.fault_count out.old ≤ K.fault_count out.new }
 {
-    let (ended, _wire) = run_over_wire(wire, script, out);
+    let (ended, _wire) = run_over(wire, script, out);
     ended
 }
 

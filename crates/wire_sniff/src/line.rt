@@ -9,7 +9,7 @@ ghost use Rattle.wire_sniff.specs.State.{IsScan, IsSniffer, line_of, lines_shown
 use crate::scan::{SHOWN_MOST, Scan};
 use crate::sniffer::Sniffer;
 use crate::text::{LINE_MOST, LineText, push_decimal, push_number, push_word};
-use debug_model::{DmiOp, DmiScan};
+use debug_model::{DmiOp, DmiScan, instruction_code};
 use jt_base::Bits;
 
 /// The digits of a code of 5 bits and of an address of 7.
@@ -26,9 +26,6 @@ const SPELLED_BITS: usize = 18;
 
 /// The bits of dmi, whose address has 7.
 const DMI_WIDTH: u64 = 41;
-
-/// The instruction that selects dmi.
-const DMI_INSTRUCTION: u8 = 0x11;
 
 /// The status of an operation that is done, as dmi captures it.
 const STATUS_DONE: u64 = 0;
@@ -96,7 +93,7 @@ fn shown(scan: &Scan) -> Option<DmiLine>
 pub(crate) fn shown_by(sniffer: &Sniffer) -> Option<DmiLine>
     ensures { (answers : List ℕ) → (s : Definition) → IsSniffer answers sniffer.now s → lines_shown result ≡ selected_lines s.code s.given s.taken }
 {
-    if sniffer.code == DMI_INSTRUCTION {
+    if sniffer.code == instruction_code::DMI {
         shown(&sniffer.scan)
     } else {
         None

@@ -3,11 +3,8 @@ ghost use Rattle.wire_sniff.specs.Sniffed.{Sniffer as Definition, code_in, first
 ghost use Rattle.wire_sniff.specs.State.{IsSniffer, is_fall};
 
 use crate::scan::Scan;
-use debug_model::{Sign, TapState};
+use debug_model::{Sign, TapState, instruction_code};
 use jtag_dtm::next_state;
-
-/// The instruction that Test-Logic-Reset selects.
-const IDCODE_INSTRUCTION: u8 = 0x01;
 
 /// The answer of a TDO that is 1.
 const ONE: u8 = b'1';
@@ -32,7 +29,7 @@ fn instruction_in(state: TapState, code: u8) -> u8
     ensures { result ≡ code_in state code }
 {
     match state {
-        TapState::TestLogicReset => IDCODE_INSTRUCTION,
+        TapState::TestLogicReset => instruction_code::IDCODE,
         _ => code,
     }
 }
@@ -47,7 +44,7 @@ impl Sniffer {
             tck: false,
             state: TapState::TestLogicReset,
             is_held: false,
-            code: IDCODE_INSTRUCTION,
+            code: instruction_code::IDCODE,
             scan: Scan::captured(),
             answer: None,
             heard: 0,
@@ -104,7 +101,7 @@ impl Sniffer {
         self.is_held = is_held;
         if is_held {
             self.state = TapState::TestLogicReset;
-            self.code = IDCODE_INSTRUCTION;
+            self.code = instruction_code::IDCODE;
         }
     }
 

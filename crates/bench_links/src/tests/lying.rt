@@ -119,7 +119,15 @@ fn give(
 }
 
 impl Net for LyingNet {
-    ghost state = { λ n. untold (record { opening = n.opening; near_open = n.is_open; far_open = n.is_open; near_given = n.near_given; far_given = n.far_given; faults = n.failed; ends = n.ended }) };
+    ghost state = { λ n. untold (record {
+      opening = n.opening;
+      near_open = n.is_open;
+      far_open = n.is_open;
+      near_given = n.near_given;
+      far_given = n.far_given;
+      faults = n.failed;
+      ends = n.ended;
+    }) };
 
     ghost peer = { λ _. nobody };
 

@@ -71,9 +71,9 @@ impl<Q: Schedule> Bench<Q> {
         ensures room { array_vec_len answers.new ≤ array_vec_len answers.old + length bytes.now }
         ensures turns { (first : RoundPlan) → IfSome self.old (λ l. TurnsOffered first l.chip) → IfSome self.new (λ l. TurnsOffered first l.chip) }
     {
-        match &mut self.chip {
-            Some(chip) => chip.feed(bytes, answers),
-            None => unreachable!(),
-        }
+        let Some(chip) = &mut self.chip else {
+            return Fed::All;
+        };
+        chip.feed(bytes, answers)
     }
 }

@@ -2,7 +2,7 @@
 
 ghost use Rattle.std.specs.Prelude.{◌≡◌, ◌≤◌, ◌↔◌, Err, IfOk, IfSome, OnErr, OnOk, Some, length, vec_len};
 ghost use Rattle.rv_model.specs.Memory.{IsRamSize, hart_places};
-ghost use Rattle.debug_model.specs.Loaded.{AsLoaded, Fits, RightHarts, RightLimit, loaded_memory, reset_harts};
+ghost use Rattle.debug_model.specs.Loaded.{AsLoaded, Fits, RightHarts, RightLimit, loaded_harts, loaded_memory};
 ghost use Rattle.hart_debug.specs.Changes.{start_cause};
 ghost use Rattle.chip_core.specs.Loads.{IsFirst, loaded, loaded_with};
 ghost use Rattle.debug_model.specs.Offered.{TurnsOffered};
@@ -22,7 +22,7 @@ const MOST_HARTS: u64 = 4;
 /// So many harts as a reset leaves them, numbered from 0.
 fn make_harts(alloc: Global, count: u8, start: Start) -> Result<Vec<DebugHart>, AllocError>
     requires { count ≤ hart_places }
-    ensures harts { IfOk result (λ harts. harts.items ≡ reset_harts count (start_cause start)) }
+    ensures harts { IfOk result (λ harts. harts.items ≡ loaded_harts count (start_cause start)) }
     ensures few { IfOk result (λ harts. vec_len harts ≤ hart_places) }
 {
     let mut harts = Vec::new(alloc);

@@ -12,7 +12,8 @@ pieces-preserved g c =
     let whole = c.split_at.ensures.by_index.0 in
     record {
       chip = ap (λ b. feed_of b back) c.feed.ensures.chip ∙ feed_of-append old front back ∙ ap (λ xs. feed_of old xs) (sym whole) ∙ c.pieces.invariant.chip;
-      answers = piece_said old c.feed.new.self front back c.pieces.rest.now c.pieces.answers.items c.feed.new.answers.items _ c.feed.ensures.chip c.feed.ensures.answers whole c.pieces.invariant.answers;
+      answers = piece_said old c.feed.new.self front back c.pieces.rest.now c.pieces.answers.items c.feed.new.answers.items _ c.feed.ensures.chip
+          c.feed.ensures.answers whole c.pieces.invariant.answers;
       loaded = c.feed.ensures.loaded;
       room = omega (arith, c.feed.ensures.room, c.split_at.ensures.front_len, c.split_at.ensures.back_len, c.pieces.invariant.room);
     }
@@ -21,4 +22,5 @@ pub returns-clause-chip : goal.returns-clause-chip
 returns-clause-chip g c = sym (nothing_fed c.pieces.bench c.pieces.rest.now (grind (arith, common_steps))) ∙ c.pieces.invariant.chip
 
 pub returns-clause-answers : goal.returns-clause-answers
-returns-clause-answers g c = sym (nothing_said c.pieces.bench c.pieces.rest.now c.pieces.answers.items (grind (arith, common_steps))) ∙ c.pieces.invariant.answers
+returns-clause-answers g c = sym (nothing_said c.pieces.bench c.pieces.rest.now c.pieces.answers.items (grind (arith, common_steps)))
+    ∙ c.pieces.invariant.answers

@@ -1,5 +1,5 @@
 use Rattle.std.proofs.Common.{refl, sym, ◌∙◌, map, string_bytes}
-use Rattle.command_line.proofs.Whys.{named_both, named_chip, named_none, named_probe}
+use Rattle.command_line.proofs.Whys.{named_both, named_chip, named_none, named_probe, named_sniff}
 use Rattle.command_line.specs.declared.why.Refused.TheVariants.{NoJob}
 use Rattle.command_line.proofs.why.why_of.Goals as goal
 
@@ -17,8 +17,14 @@ returns-then-eq-3 c = record {
       (sym c.eq-else-eq-2.ensures ∙ c.if-eq-3.true) c.why_chip.ensures.named;
 }
 
-pub returns-else-eq-3 : goal.returns-else-eq-3
-returns-else-eq-3 c = record {
+pub returns-then-eq-4 : goal.returns-then-eq-4
+returns-then-eq-4 c = record {
+  named = named_sniff c.args.job.now (map string_bytes c.args.words.now) _ (sym c.eq.ensures ∙ c.if-eq.false) (sym c.eq-else-eq.ensures ∙ c.if-eq-2.false)
+      (sym c.eq-else-eq-2.ensures ∙ c.if-eq-3.false) (sym c.eq-else-eq-3.ensures ∙ c.if-eq-4.true) c.why_sniff.ensures.named;
+}
+
+pub returns-else-eq-4 : goal.returns-else-eq-4
+returns-else-eq-4 c = record {
   named = named_none c.args.job.now (map string_bytes c.args.words.now) (NoJob c.args.job) (sym c.eq.ensures ∙ c.if-eq.false) (sym c.eq-else-eq.ensures ∙ c.if-eq-2.false)
-      (sym c.eq-else-eq-2.ensures ∙ c.if-eq-3.false) refl;
+      (sym c.eq-else-eq-2.ensures ∙ c.if-eq-3.false) (sym c.eq-else-eq-3.ensures ∙ c.if-eq-4.false) refl;
 }

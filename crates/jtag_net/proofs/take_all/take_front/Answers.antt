@@ -16,7 +16,9 @@ pieces-preserved g c = record {
 }
 
 pub returns-in-Ok-eq0-clause-some : goal.returns-in-Ok-eq0-clause-some
-returns-in-Ok-eq0-clause-some g c = took_none _ _ _ _ _ (grind (arith, common_steps)) (took_more _ _ _ _ _ _ _ _ c.pieces.invariant.took c.in-Ok-eq0.ensures.gave c.in-Ok-eq0.ensures.took c.pieces.invariant.within c.in-Ok-eq0.ensures.most)
+returns-in-Ok-eq0-clause-some g c = took_none _ _ _ _ _ (grind (arith, common_steps))
+    (took_more _ _ _ _ _ _ _ _ c.pieces.invariant.took c.in-Ok-eq0.ensures.gave c.in-Ok-eq0.ensures.took c.pieces.invariant.within c.in-Ok-eq0.ensures.most)
 
 pub returns-then-not-are_answers-clause-some : goal.returns-then-not-are_answers-clause-some
-returns-then-not-are_answers-clause-some g c = took_more _ _ _ _ _ _ _ _ c.pieces.invariant.took c.in-Ok.ensures.gave c.in-Ok.ensures.took c.pieces.invariant.within c.in-Ok.ensures.most
+returns-then-not-are_answers-clause-some g c = took_more _ _ _ _ _ _ _ _ c.pieces.invariant.took c.in-Ok.ensures.gave c.in-Ok.ensures.took
+    c.pieces.invariant.within c.in-Ok.ensures.most

@@ -9,7 +9,7 @@ returns-in_err-image-clause-cause g c =
     (image_cause (both_value c.args.job.now) _
     (record { held = g.F.Files.held c.load_script.new.files; asked = g.F.Files.asked c.load_script.new.files; faults = g.F.Files.fault_count c.load_script.new.files }) _ _ _
     (rw c.as_str.ensures.value at c.in_ok-script.ensures.commands) c.load_script.ensures.held (rw c.as_str.ensures.value at c.in_ok-script.ensures.asked)
-    c.load_script.ensures.later c.read_image.ensures.later (rw c.as_str-2.ensures.value at c.in_err-image.ensures.cause))
+    c.load_script.ensures.later c.read_bytes.ensures.later (rw c.as_str-2.ensures.value at c.in_err-image.ensures.cause))
 
 pub returns-clause-prepared : goal.returns-clause-prepared
 returns-clause-prepared g c =

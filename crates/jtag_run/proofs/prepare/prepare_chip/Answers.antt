@@ -8,7 +8,11 @@ returns-in_err-bytes-clause-cause g c =
     if_err _ c.in_err-bytes.field-0.0 _ c.from_residual.ensures.1
     (chip_file_cause (chip_value c.args.job.now)
     (record { held = g.F.Files.held c.args.files.now; asked = g.F.Files.asked c.args.files.now; faults = g.F.Files.fault_count c.args.files.now })
-    (record { held = g.F.Files.held c.read_image.new.files; asked = g.F.Files.asked c.read_image.new.files; faults = g.F.Files.fault_count c.read_image.new.files })
+    (record {
+      held = g.F.Files.held c.read_bytes.new.files;
+      asked = g.F.Files.asked c.read_bytes.new.files;
+      faults = g.F.Files.fault_count c.read_bytes.new.files;
+    })
     _ (rw c.as_str.ensures.value at c.in_err-bytes.ensures.cause))
 
 pub returns-clause-prepared : goal.returns-clause-prepared

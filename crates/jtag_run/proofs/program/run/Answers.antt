@@ -1,5 +1,6 @@
 use Rattle.std.proofs.Common.{refl}
-use Rattle.jtag_run.specs.Jobs.{both_value, chip_value, gen_value, probe_value}
+use Rattle.jtag_run.specs.Jobs.{both_value, chip_value, gen_value, probe_value, sniff_value}
+use Rattle.jtag_run.proofs.Recordings.{run_recorded}
 use Rattle.jtag_run.proofs.Runs.{refused_words, run_both, run_gen, run_probe, run_served}
 use Rattle.jtag_run.proofs.program.run.Goals as goal
 
@@ -15,5 +16,12 @@ returns-in-Gen g c = record { ended = run_gen _ _ _ _ _ _ (gen_value c.in-Gen.jo
 pub returns-in-Probe : goal.returns-in-Probe
 returns-in-Probe g c = record { ended = run_probe _ _ _ _ _ (probe_value c.in-Probe.job) (rw c.in-Probe.is at c.in-Ok.ensures.work) c.blank.ensures c.run_probe.ensures.ended }
 
+pub returns-in-Chip : goal.returns-in-Chip
+returns-in-Chip g c = record {
+  ended = run_served _ _ _ _ _ _ (chip_value c.in-Chip.job) (rw c.in-Chip.is at c.in-Ok.ensures.work) c.blank.ensures c.run_chip.ensures.ended;
+}
+
 pub returns : goal.returns
-returns g c = record { ended = run_served _ _ _ _ _ _ (chip_value c.in-Chip.job) (rw c.in-Chip.is at c.in-Ok.ensures.work) c.blank.ensures c.run_chip.ensures.ended }
+returns g c = record {
+  ended = run_recorded _ _ _ _ _ (sniff_value c.in-Sniff.job) (rw c.in-Sniff.is at c.in-Ok.ensures.work) c.blank.ensures refl c.run_sniff.ensures.ended;
+}

@@ -1,7 +1,7 @@
 use Rattle.std.proofs.Common.{◌≡◌, ◌≤◌, ◌+◌, ◌++◌}
 use Rattle.arrayvec.specs.ArrayVec.{array_vec_len}
 use Rattle.abstract_debugger.specs.Lines.{places_from, spelled_places}
-use Rattle.probe_trig.specs.Slots.{hits_in}
+use Rattle.abstract_debugger.specs.SlotUses.{hits_in}
 use Rattle.printed_lines.proofs.HitLemmas.{rest_from}
 use Rattle.printed_lines.proofs.halted.push_hits.Given as goal
 

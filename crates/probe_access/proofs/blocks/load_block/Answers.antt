@@ -8,7 +8,7 @@ use Rattle.probe_access.specs.Blocks.{BlockLoadedAt, element_at}
 use Rattle.probe_run.specs.Acts.{Tells}
 use Rattle.std.proofs.Common.{Option}
 use Rattle.debug_model.specs.Told.{Far}
-use Rattle.probe_access.proofs.BlockCauses.{around_causes, causes_behind, fetched_behind, fetched_made, fetched_more, fetched_none, link_later, load_inside_causes}
+use Rattle.probe_access.proofs.BlockCauses.{causes_behind, fetched_behind, fetched_made, fetched_more, fetched_none, link_later, load_causes}
 use Rattle.probe_access.proofs.BlockTold.{load_further_at, load_left_at, load_nothing}
 use Rattle.probe_access.proofs.RegisterCalls.{err_failed}
 use Rattle.probe_access.proofs.blocks.load_block.Goals as goal
@@ -68,7 +68,7 @@ pub returns-in_err-value-clause-causes : goal.returns-in_err-value-clause-causes
 returns-in_err-value-clause-causes g c =
     err_failed c.from_residual.result c.in_err-value.field-0.0 _ c.from_residual.ensures.1
     (causes_behind _ _ _ (fetched_made c.elements.into.items _ _ c.elements.invariant.fetched) _ _ _ c.in_err-value.field-0.0 c.elements.invariant.later c.load.ensures.keeps.later
-    (around_causes _ _ _ _ _ _ c.in_err-value.field-0.0 (load_inside_causes c.args.size c.element-at.result) (link_later _ _ c.in_err-value.field-0.0 c.load.ensures.keeps.later) c.in_err-value.ensures.failed))
+    (load_causes c.args.size c.element-at.result _ _ _ _ c.in_err-value.field-0.0 (link_later _ _ c.in_err-value.field-0.0 c.load.ensures.keeps.later) c.in_err-value.ensures.failed))
 
 pub returns-in_err-value-clause-cut : goal.returns-in_err-value-clause-cut
 returns-in_err-value-clause-cut g c =
@@ -79,4 +79,4 @@ pub returns-in_err-value-clause-fetched_before : goal.returns-in_err-value-claus
 returns-in_err-value-clause-fetched_before g c =
     err_failed c.from_residual.result c.in_err-value.field-0.0 _ c.from_residual.ensures.1
     (fetched_behind c.elements.into.items _ _ _ _ _ c.in_err-value.field-0.0 c.elements.invariant.fetched
-    (around_causes _ _ _ _ _ _ c.in_err-value.field-0.0 (load_inside_causes c.args.size c.element-at.result) (link_later _ _ c.in_err-value.field-0.0 c.load.ensures.keeps.later) c.in_err-value.ensures.failed))
+    (load_causes c.args.size c.element-at.result _ _ _ _ c.in_err-value.field-0.0 (link_later _ _ c.in_err-value.field-0.0 c.load.ensures.keeps.later) c.in_err-value.ensures.failed))

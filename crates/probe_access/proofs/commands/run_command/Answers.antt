@@ -1,24 +1,27 @@
-use Rattle.debug_model.specs.Addresses.{abstractcs_address}
+use Rattle.std.proofs.Common.{[], List, ℕ, slice_index_or, sym, subst, arith}
+use Rattle.probe_run.specs.Acts.{Did}
 use Rattle.probe_run.specs.Told.{told}
-use Rattle.std.proofs.Common.{refl, ap, ◌∙◌}
-use Rattle.debug_model.specs.declared.abstractcs.Abstractcs.{Abstractcs}
 use Rattle.debug_model.specs.ModuleWords.{command_word}
-use Rattle.probe_access.specs.CommandRuns.{CommandBegun}
-use Rattle.probe_access.specs.CommandRuns.CommandBegun.{clears}
-use Rattle.probe_access.specs.Faults.{Among}
-use Rattle.probe_access.proofs.RegisterCalls.{ended_as, ended_then, err_failed, put_did, some_cleared, word_broke_behind}
+use Rattle.probe_access.proofs.RegisterCalls.{err_failed, failed_behind, ran_behind, sent_acts}
+use Rattle.probe_access.proofs.SentCalls.{command_broke, command_did}
 use Rattle.probe_access.proofs.commands.run_command.Goals as goal
 
-pub returns-in_err-write-clause-failed : goal.returns-in_err-write-clause-failed
-returns-in_err-write-clause-failed g c =
-    let ended = ended_as c.word.result (command_word c.args.command) c.in_ok-last.last _ _ c.word.ensures c.in_ok-last.ensures.ended in
-    err_failed c.from_residual-in_err-write.result _ _ c.from_residual-in_err-write.ensures.1
-    (word_broke_behind (Among (CommandBegun (command_word c.args.command))) _ 22 0x700 0x700 _ _ _ (told (g.D.Dmi.seen c.args.link.now)) (told (g.D.Dmi.seen c.start.new.link)) _ c.in_err-write.field-0.0 refl
-    (clears ended.words c.in_ok-last.last ended.vain ended.idle (λ e. c.if-status-eq0.false (ap (λ (s : Abstractcs). s.cmderr) c.from_word-status.ensures ∙ e)))
-    ended.did c.start.ensures.keeps.later c.write.ensures.keeps.later c.in_err-write.ensures.cut c.in_err-write.ensures.cause)
+pub returns-in_err-many-clause-failed : goal.returns-in_err-many-clause-failed
+returns-in_err-many-clause-failed g c =
+    err_failed c.from_residual.result _ _ c.from_residual.ensures.1
+    (command_broke c.word.result (command_word c.args.command) _ _ (told (g.D.Dmi.seen c.args.link.now)) _ c.in_err-many.field-0.0 c.word.ensures c.in_err-many.ensures.cut c.in_err-many.ensures.cause)
+
+pub returns-in_err-last-clause-failed : goal.returns-in_err-last-clause-failed
+returns-in_err-last-clause-failed g c =
+    err_failed c.from_residual-in_err-last.result c.in_err-last.field-0.0 _ c.from_residual-in_err-last.ensures.1
+    (failed_behind [] (command_word c.args.command) (slice_index_or c.deref.result.now 1 0) c.in_err-last.field-0.0 _ _ _ _ _ _
+    (subst (λ (xs : List ℕ). Did (told (g.D.Dmi.seen c.args.link.now)) (sent_acts [] (command_word c.args.command) (slice_index_or xs 1 0)) (told (g.D.Dmi.seen c.many.new.self))) (sym c.deref.ensures.0)
+    (command_did c.word.result (command_word c.args.command) c.many.new.results.items _ _ c.word.ensures (omega arith) c.in_ok-many.ensures.count c.in_ok-many.ensures.operated c.in_ok-many.ensures.answers))
+    c.many.ensures.keeps.later c.end_command.ensures.keeps.later c.in_err-last.ensures.failed)
 
 pub returns-clause-ran : goal.returns-clause-ran
 returns-clause-ran g c =
-    ended_then (command_word c.args.command) c.in_ok-last.last _ _ (ended_as c.word.result (command_word c.args.command) c.in_ok-last.last _ _ c.word.ensures c.in_ok-last.ensures.ended)
-    _ _ (put_did abstractcs_address 0x700 _ _ c.in_ok-write.ensures.operated c.in_ok-write.ensures.passes)
-    (some_cleared _ (λ e. c.if-status-eq0.false (ap (λ (s : Abstractcs). s.cmderr) c.from_word-status.ensures ∙ e)))
+    ran_behind [] (command_word c.args.command) (slice_index_or c.deref.result.now 1 0) c.in_ok-last.last _ _ _
+    (subst (λ (xs : List ℕ). Did (told (g.D.Dmi.seen c.args.link.now)) (sent_acts [] (command_word c.args.command) (slice_index_or xs 1 0)) (told (g.D.Dmi.seen c.many.new.self))) (sym c.deref.ensures.0)
+    (command_did c.word.result (command_word c.args.command) c.many.new.results.items _ _ c.word.ensures (omega arith) c.in_ok-many.ensures.count c.in_ok-many.ensures.operated c.in_ok-many.ensures.answers))
+    c.in_ok-last.ensures.ended

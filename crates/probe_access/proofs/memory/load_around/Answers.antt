@@ -1,22 +1,49 @@
-use Rattle.std.proofs.Common.{arith}
-use Rattle.probe_access.specs.MemoryRuns.{LoadFailedInside, LoadedAny}
-use Rattle.probe_access.specs.MemoryRuns.AroundFailed.{in_save}
-use Rattle.probe_access.proofs.AroundLemmas.{around_gave_up, around_restore}
-use Rattle.probe_access.proofs.Counted.{load_counted}
+use Rattle.std.proofs.Common.{◌∙◌, arith}
+use Rattle.probe_access.specs.MemoryRuns.LoadRunFailed.{in_save}
+use Rattle.probe_access.proofs.LoadCalls.{load_lost, load_not_restored, load_not_taken, load_refused_at, load_refused_lost, perform_loses}
 use Rattle.probe_access.proofs.RegisterCalls.{err_failed}
 use Rattle.probe_access.proofs.memory.load_around.Goals as goal
 
-pub returns-in_err-scratch-clause-failed : goal.returns-in_err-scratch-clause-failed
-returns-in_err-scratch-clause-failed g c = err_failed _ c.in_err-scratch.field-0.0 _ c.from_residual.ensures.1 (in_save c.in_err-scratch.ensures.failed)
+pub returns-in_err-x8-clause-failed : goal.returns-in_err-x8-clause-failed
+returns-in_err-x8-clause-failed g c = err_failed _ c.in_err-x8.field-0.0 _ c.from_residual.ensures.1 (in_save c.in_err-x8.field-0.0 c.in_err-x8.ensures.failed)
 
-pub returns-in_err-put_back-in-Ok-clause-failed : goal.returns-in_err-put_back-in-Ok-clause-failed
-returns-in_err-put_back-in-Ok-clause-failed g c =
-    err_failed _ c.in_err-put_back-in-Ok.field-0.0 _ c.from_residual-in_err-put_back-in-Ok.ensures.1
-    (around_restore (LoadedAny c.args.size c.args.address) (LoadFailedInside c.args.size c.args.address) c.in_ok-scratch.scratch.x8 c.in_ok-scratch.scratch.x9 _ _ _ _ _ _ _ c.in_err-put_back-in-Ok.field-0.0 c.in_ok-scratch.ensures.saved (c.in-Ok.value, c.in-Ok.ensures.loaded)
-    (omega (arith, c.save_scratch.ensures.keeps.later, c.load_inside.ensures.keeps.later)) c.put_back.ensures.keeps.later c.in_err-put_back-in-Ok.ensures.failed)
+pub returns-in_err-value-in-Ok-clause-failed : goal.returns-in_err-value-in-Ok-clause-failed
+returns-in_err-value-in-Ok-clause-failed g c =
+    err_failed c.from_residual-in_err-value-in-Ok.result c.in_err-value-in-Ok.field-0.0 _ c.from_residual-in_err-value-in-Ok.ensures.1
+    (load_not_taken c.args.size c.args.address c.in_ok-x8.x8 _ _ _ _ _ _ _ c.in_err-value-in-Ok.field-0.0 c.in_ok-x8.ensures.read
+    (rw c.load_of.ensures at c.in-Ok.ensures.performed) (omega (arith, c.read_register.ensures.keeps.later, c.perform.ensures.keeps.later))
+    c.read_register-in-Ok.ensures.keeps.later c.in_err-value-in-Ok.ensures.failed)
 
-pub returns-in-Err-clause-failed : goal.returns-in-Err-clause-failed
-returns-in-Err-clause-failed g c =
-    around_gave_up (LoadedAny c.args.size c.args.address) (LoadFailedInside c.args.size c.args.address) c.in_ok-scratch.scratch.x8 c.in_ok-scratch.scratch.x9 _ _ _ _ _ _ _ _ c.in-Err.fault _ c.in_ok-scratch.ensures.saved c.in-Err.ensures.failed
-    (load_counted c.args.size c.args.address _ _ _ _ _ c.in-Err.fault c.save_scratch.ensures.keeps.later c.load_inside.ensures.keeps.later c.in-Err.ensures.failed)
-    (omega (arith, c.save_scratch.ensures.keeps.later, c.load_inside.ensures.keeps.later)) c.give_up.ensures.later c.give_up.ensures.gave_up
+pub returns-in_err-write_register-in-Ok-clause-failed : goal.returns-in_err-write_register-in-Ok-clause-failed
+returns-in_err-write_register-in-Ok-clause-failed g c =
+    err_failed c.from_residual-in_err-write_register-in-Ok.result c.in_err-write_register-in-Ok.field-0.0 _ c.from_residual-in_err-write_register-in-Ok.ensures.1
+    (load_not_restored c.args.size c.args.address c.in_ok-x8.x8 c.in_ok-value-in-Ok.value _ _ _ _ _ _ _ _ c.in_err-write_register-in-Ok.field-0.0
+    c.in_ok-x8.ensures.read (rw c.load_of.ensures at c.in-Ok.ensures.performed) c.in_ok-value-in-Ok.ensures.read
+    (omega (arith, c.read_register.ensures.keeps.later, c.perform.ensures.keeps.later, c.read_register-in-Ok.ensures.keeps.later))
+    c.write_register.ensures.keeps.later c.in_err-write_register-in-Ok.ensures.failed)
+
+pub returns-in_err-write_register-in-Memory-clause-failed : goal.returns-in_err-write_register-in-Memory-clause-failed
+returns-in_err-write_register-in-Memory-clause-failed g c =
+    err_failed c.from_residual-in_err-write_register-in-Memory.result c.in_err-write_register-in-Memory.field-0.0 _ c.from_residual-in_err-write_register-in-Memory.ensures.1
+    (load_refused_lost c.args.size c.args.address c.in-Memory.field-0 c.in_ok-x8.x8 _ _ _ _ _ _ _ _ c.in-Err.fault c.in_err-write_register-in-Memory.field-0.0
+    c.in_ok-x8.ensures.read c.in-Memory.is (rw c.load_of.ensures at c.in-Err.ensures.failed)
+    (omega (arith, c.read_register.ensures.keeps.later, c.perform.ensures.keeps.later))
+    c.write_register-in-Memory.ensures.keeps.later c.in_err-write_register-in-Memory.ensures.failed)
+
+pub returns-in_ok-write_register-in-Memory-clause-failed : goal.returns-in_ok-write_register-in-Memory-clause-failed
+returns-in_ok-write_register-in-Memory-clause-failed g c =
+    load_refused_at c.args.size c.args.address c.in-Memory.field-0 c.in_ok-x8.x8 _ _ _ _ _ _ _ _ c.in-Err.fault c.in_ok-x8.ensures.read c.in-Memory.is
+    (rw c.load_of.ensures at c.in-Err.ensures.failed) c.in_ok-write_register-in-Memory.ensures.written
+
+pub returns-in_default : goal.returns-in_default
+returns-in_default g c = record {
+  loaded = tt;
+  failed = load_lost c.args.size c.args.address c.in_ok-x8.x8 _ _ _ _ _ _ c.in-Err.fault c.in_ok-x8.ensures.read c.read_register.ensures.keeps.later
+      c.perform.ensures.keeps.later (rw c.load_of.ensures at c.in-Err.ensures.failed)
+      (perform_loses _ c.args.address _ _ _ _ c.in-Err.fault c.in_default.not-Memory c.in-Err.ensures.failed);
+  keeps = record {
+    later = omega (arith, c.read_register.ensures.keeps.later, c.perform.ensures.keeps.later);
+    fixed = c.perform.ensures.keeps.fixed ∙ c.read_register.ensures.keeps.fixed;
+    behind = c.in-Err.ensures.keeps.behind;
+  };
+}

@@ -1,5 +1,5 @@
 use Rattle.probe_run.specs.Told.{told}
-use Rattle.std.proofs.Common.{◌≡◌, ◌≤◌}
+use Rattle.std.proofs.Common.{◌≡◌, ◌≤◌, ◌-◌}
 use Rattle.debug_model.specs.Kept.{Stands}
 use Rattle.probe_run.proofs.OpeningLemmas.{Reads}
 use Rattle.probe_run.proofs.opening.activate.Given as goal
@@ -9,5 +9,9 @@ invariant-reads g l = record {
   stands : Stands (g.D.Dmi.seen l.link);
   later : (g.D.Dmi.seen l.fn.link).fault_count ≤ (g.D.Dmi.seen l.link).fault_count;
   fixed : (g.D.Dmi.seen l.link).fixed ≡ (g.D.Dmi.seen l.fn.link).fixed;
-  reads : Reads (told (g.D.Dmi.seen l.fn.link)) (told (g.D.Dmi.seen l.link)) l._reads l.last;
+  reads : Reads (told (g.D.Dmi.seen l.fn.link)) (told (g.D.Dmi.seen l.link)) l.reads l.last;
+  few : l.reads ≤ 64;
 }
+
+abbrev pub decreases-reads : goal.decreases-reads
+decreases-reads g l = 64 - l.reads

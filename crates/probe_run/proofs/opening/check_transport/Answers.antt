@@ -1,7 +1,6 @@
 use Rattle.probe_run.specs.Told.{told}
 use Rattle.std.proofs.Common.{sym, ◌∙◌}
-use Rattle.probe_run.specs.Acts.Act.{Scanned}
-use Rattle.probe_run.specs.Opening.{TransportFails, transport_fits}
+use Rattle.probe_run.specs.Opening.{TransportFails, transport_acts, transport_fits}
 use Rattle.probe_run.proofs.ActLemmas.{if_err}
 use Rattle.probe_run.proofs.OpeningLemmas.{broke_scan, did_scanned, read_as}
 use Rattle.probe_run.proofs.opening.check_transport.Goals as goal
@@ -13,10 +12,10 @@ returns-in_err-word-clause-fails g c =
 
 pub returns-then-not-has_transport-clause-fails : goal.returns-then-not-has_transport-clause-fails
 returns-then-not-has_transport-clause-fails g c =
-    read_as Scanned transport_fits _ c.in_ok-word.word _ _ (did_scanned c.in_ok-word.word _ _ _ _ c.in_ok-word.ensures.path c.in_ok-word.ensures.value c.in_ok-word.ensures.shows) (sym c.has_transport.ensures ∙ c.if-not-has_transport.true)
+    read_as transport_acts transport_fits _ c.in_ok-word.word _ _ (did_scanned c.in_ok-word.word _ _ _ _ c.in_ok-word.ensures.path c.in_ok-word.ensures.value c.in_ok-word.ensures.shows) (sym c.has_transport.ensures ∙ c.if-not-has_transport.true)
 
 pub returns-clause-did : goal.returns-clause-did
 returns-clause-did g c = (
   c.in_ok-word.word,
-  read_as Scanned transport_fits _ c.in_ok-word.word _ _ (did_scanned c.in_ok-word.word _ _ _ _ c.in_ok-word.ensures.path c.in_ok-word.ensures.value c.in_ok-word.ensures.shows) (sym c.has_transport.ensures ∙ c.if-not-has_transport.false),
+  read_as transport_acts transport_fits _ c.in_ok-word.word _ _ (did_scanned c.in_ok-word.word _ _ _ _ c.in_ok-word.ensures.path c.in_ok-word.ensures.value c.in_ok-word.ensures.shows) (sym c.has_transport.ensures ∙ c.if-not-has_transport.false),
 )

@@ -7,16 +7,27 @@ pub put_register-requires-clause-of : goal.put_register-requires-clause-of
 put_register-requires-clause-of g c = pc_of_cores
 
 pub returns-in_err-put_register-clause-fell : goal.returns-in_err-put_register-clause-fell
-returns-in_err-put_register-clause-fell g c = if_err _ c.in_err-put_register.field-0.0 _ c.from_residual.ensures.1 (pc_fell c.args.halted.now.number c.in_err-put_register.ensures.fell)
+returns-in_err-put_register-clause-fell g c = if_err _ c.in_err-put_register.field-0.0 _ c.from_residual.ensures.1
+    (pc_fell c.args.halted.now.number c.in_err-put_register.ensures.fell)
 
 pub showing-init : goal.showing-init
-showing-init g c = record { serving = c.in_ok-put_register.ensures.keeps.behind; shown = pc_shown c.args.halted.now.number c.in_ok-put_register.ensures.spoke; later = c.put_register.ensures.keeps.later; fixed = c.put_register.ensures.keeps.fixed; sink_later = c.put_register.ensures.sink_later }
+showing-init g c = record {
+  serving = c.in_ok-put_register.ensures.keeps.behind;
+  shown =
+      pc_shown c.args.halted.now.number c.in_ok-put_register.ensures.spoke;
+  later = c.put_register.ensures.keeps.later;
+  fixed =
+      c.put_register.ensures.keeps.fixed;
+  sink_later = c.put_register.ensures.sink_later;
+}
 
 pub put_register-requires-in-showing-clause-of : goal.put_register-requires-in-showing-clause-of
 put_register-requires-in-showing-clause-of g c = x_of_cores c.showing.x c.showing-test.true
 
 pub returns-in_err-put_register-2-clause-fell : goal.returns-in_err-put_register-2-clause-fell
-returns-in_err-put_register-2-clause-fell g c = if_err _ c.in_err-put_register-2.field-0.0 _ c.from_residual-in_err-put_register-2.ensures.1 (x_fell c.args.halted.now.number c.showing.x c.showing-test.true c.showing.invariant.shown c.showing.invariant.later c.showing.invariant.sink_later c.put_register-in-showing.ensures.sink_later c.in_err-put_register-2.ensures.fell)
+returns-in_err-put_register-2-clause-fell g c = if_err _ c.in_err-put_register-2.field-0.0 _ c.from_residual-in_err-put_register-2.ensures.1
+    (x_fell c.args.halted.now.number c.showing.x c.showing-test.true c.showing.invariant.shown c.showing.invariant.later c.showing.invariant.sink_later
+    c.put_register-in-showing.ensures.sink_later c.in_err-put_register-2.ensures.fell)
 
 pub showing-preserved : goal.showing-preserved
 showing-preserved g c = record {
@@ -28,4 +39,5 @@ showing-preserved g c = record {
 }
 
 pub returns-clause-spoke : goal.returns-clause-spoke
-returns-clause-spoke g c = let up = c.showing.auto.x-end (omega arith) in all_registers c.args.halted.now.number c.showing.x (omega (arith, up, c.showing-test.false)) c.showing.invariant.shown
+returns-clause-spoke g c = let up = c.showing.auto.x-end (omega arith) in
+    all_registers c.args.halted.now.number c.showing.x (omega (arith, up, c.showing-test.false)) c.showing.invariant.shown

@@ -2,8 +2,9 @@ use Rattle.probe_session.proofs.GoingLines.{gone, gone_falls}
 use Rattle.probe_session.proofs.LinkLemmas.{if_err}
 use Rattle.probe_session.proofs.going.free_line.Goals as goal
 
-pub returns-in_err-make_resume-clause-falls : goal.returns-in_err-make_resume-clause-falls
-returns-in_err-make_resume-clause-falls g c = if_err _ c.in_err-make_resume.field-0.0 _ c.from_residual.ensures.1 (gone_falls c.args.halted.number c.in_err-make_resume.ensures.fell)
+pub returns-in_err-resume-clause-falls : goal.returns-in_err-resume-clause-falls
+returns-in_err-resume-clause-falls g c = if_err _ c.in_err-resume.field-0.0 _ c.from_residual.ensures.1
+    (gone_falls c.args.halted.number c.in_err-resume.ensures.fell)
 
 pub returns-clause-went : goal.returns-clause-went
-returns-clause-went g c = gone c.args.halted.number c.in_ok-make_resume.ensures.resumed
+returns-clause-went g c = gone c.args.halted.number c.in_ok-resume.ensures.resumed

@@ -4,11 +4,14 @@ use Rattle.probe_session.proofs.RegisterLemmas.{dcsr_of_harts}
 use Rattle.probe_session.proofs.hart_lines.ebreak_line.Goals as goal
 
 pub returns-in_err-word-clause-falls : goal.returns-in_err-word-clause-falls
-returns-in_err-word-clause-falls g c = if_err _ c.in_err-word.field-0.0 _ c.from_residual.ensures.1 (ebreak_falls c.args.halted.now.number c.args.is_on dcsr_of_harts c.in_err-word.ensures.fell)
+returns-in_err-word-clause-falls g c = if_err _ c.in_err-word.field-0.0 _ c.from_residual.ensures.1
+    (ebreak_falls c.args.halted.now.number c.args.is_on dcsr_of_harts c.in_err-word.ensures.fell)
 
-pub returns-in_err-set-clause-falls : goal.returns-in_err-set-clause-falls
-returns-in_err-set-clause-falls g c =
-    if_err _ c.in_err-set.field-0.0 _ c.from_residual-in_err-set.ensures.1 (ebreak_set_falls c.args.halted.now.number c.in_ok-word.word _ c.args.is_on c.with_ebreakm.ensures c.in_ok-word.ensures.got c.get.ensures.keeps.later c.in_err-set.ensures.fell)
+pub returns-in_err-set_reg-clause-falls : goal.returns-in_err-set_reg-clause-falls
+returns-in_err-set_reg-clause-falls g c =
+    if_err _ c.in_err-set_reg.field-0.0 _ c.from_residual-in_err-set_reg.ensures.1 (ebreak_set_falls c.args.halted.now.number c.in_ok-word.word _ c.args.is_on
+    c.with_ebreakm.ensures c.in_ok-word.ensures.got c.reg.ensures.keeps.later c.in_err-set_reg.ensures.fell)
 
 pub returns-clause-went : goal.returns-clause-went
-returns-clause-went g c = ebreak_said c.args.halted.now.number c.in_ok-word.word _ c.args.is_on c.in_ok-word.ensures.got c.with_ebreakm.ensures c.in_ok-set.ensures.gave
+returns-clause-went g c = ebreak_said c.args.halted.now.number c.in_ok-word.word _ c.args.is_on c.in_ok-word.ensures.got c.with_ebreakm.ensures
+    c.in_ok-set_reg.ensures.gave

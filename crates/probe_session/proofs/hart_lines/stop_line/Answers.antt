@@ -1,3 +1,4 @@
+use Rattle.std.proofs.Common.{◌∙◌, sym}
 use Rattle.probe_session.proofs.HartLines.{stop_falls, stop_plain, stop_trigger, stop_view_falls}
 use Rattle.probe_session.proofs.LinkLemmas.{if_err}
 use Rattle.probe_session.proofs.hart_lines.stop_line.Goals as goal
@@ -6,10 +7,12 @@ pub returns-in_err-at-clause-falls : goal.returns-in_err-at-clause-falls
 returns-in_err-at-clause-falls g c = if_err _ c.in_err-at.field-0.0 _ c.from_residual.ensures.1 (stop_falls c.args.halted.now.number c.in_err-at.ensures.fell)
 
 pub returns-in_err-seen-clause-falls : goal.returns-in_err-seen-clause-falls
-returns-in_err-seen-clause-falls g c = if_err _ c.in_err-seen.field-0.0 _ c.from_residual-in_err-seen.ensures.1 (stop_view_falls c.args.halted.now.number _ _ c.in_ok-at.ensures.found c.find_stop.ensures.keeps.later c.in_err-seen.ensures.fell)
+returns-in_err-seen-clause-falls g c = if_err _ c.in_err-seen.field-0.0 _ c.from_residual-in_err-seen.ensures.1
+    (stop_view_falls c.args.halted.now.number _ _ c.in_ok-at.ensures.found c.stop.ensures.keeps.later c.in_err-seen.ensures.fell)
 
-pub returns-then-at-eq-TRIGGER-clause-went : goal.returns-then-at-eq-TRIGGER-clause-went
-returns-then-at-eq-TRIGGER-clause-went g c = stop_trigger c.args.halted.now.number c.in_ok-at.at.pc c.in_ok-at.at.cause c.in_ok-seen.seen c.in_ok-at.ensures.found c.if-at-eq-TRIGGER.true c.in_ok-seen.ensures.viewed
+pub returns-then-at-number-clause-went : goal.returns-then-at-number-clause-went
+returns-then-at-number-clause-went g c = stop_trigger c.args.halted.now.number c.in_ok-at.at.pc c.in_ok-at.at.cause c.in_ok-seen.seen
+    c.in_ok-at.ensures.found (c.if-at-number.true ∙ c.number.ensures) c.in_ok-seen.ensures.viewed
 
 pub returns-clause-went : goal.returns-clause-went
-returns-clause-went g c = stop_plain c.args.halted.now.number _ _ _ c.in_ok-at.ensures.found c.if-at-eq-TRIGGER.false
+returns-clause-went g c = stop_plain c.args.halted.now.number _ _ _ c.in_ok-at.ensures.found (λ e. c.if-at-number.false (e ∙ sym c.number.ensures))

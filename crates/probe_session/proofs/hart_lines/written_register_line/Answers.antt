@@ -7,28 +7,37 @@ use Rattle.probe_session.proofs.OneLine.{err_then, ok_then}
 use Rattle.probe_session.proofs.SeenLemmas.{gave_false, gave_true}
 use Rattle.probe_session.proofs.hart_lines.written_register_line.Goals as goal
 
-pub returns-in_err-give-clause-falls : goal.returns-in_err-give-clause-falls
-returns-in_err-give-clause-falls g c = if_err _ c.in_err-give.field-0.0 _ c.from_residual.ensures.1 (write_falls c.args.halted.now.number c.args.number c.args.value c.in_err-give.ensures.fell)
+pub returns-in_err-set_reg_if_taken-clause-falls : goal.returns-in_err-set_reg_if_taken-clause-falls
+returns-in_err-set_reg_if_taken-clause-falls g c = if_err _ c.in_err-set_reg_if_taken.field-0.0 _ c.from_residual.ensures.1
+    (write_falls c.args.halted.now.number c.args.number c.args.value c.in_err-set_reg_if_taken.ensures.fell)
 
 pub returns-then-not-branch-clause-went : goal.returns-then-not-branch-clause-went
-returns-then-not-branch-clause-went g c = write_refused c.args.halted.now.number c.args.number c.args.value c.requires.of (gave_false c.if-not-branch.true c.in_ok-give.ensures.gave)
+returns-then-not-branch-clause-went g c = write_refused c.args.halted.now.number c.args.number c.args.value c.requires.of
+    (gave_false c.if-not-branch.true c.in_ok-set_reg_if_taken.ensures.gave)
 
-pub returns-in_err-forget-clause-falls : goal.returns-in_err-forget-clause-falls
-returns-in_err-forget-clause-falls g c = if_err _ c.in_err-forget.field-0.0 _ c.from_residual-in_err-forget.ensures.1 (forget_falls c.args.halted.now.number c.args.number c.args.value c.if-number-eq-DPC.true (gave_true c.if-not-branch.false c.in_ok-give.ensures.gave) c.give.ensures.keeps.later c.in_err-forget.ensures.fell)
+pub returns-in_err-forget_hits-clause-falls : goal.returns-in_err-forget_hits-clause-falls
+returns-in_err-forget_hits-clause-falls g c = if_err _ c.in_err-forget_hits.field-0.0 _ c.from_residual-in_err-forget_hits.ensures.1
+    (forget_falls c.args.halted.now.number c.args.number c.args.value c.if-number-eq-DPC.true
+    (gave_true c.if-not-branch.false c.in_ok-set_reg_if_taken.ensures.gave)
+    c.set_reg_if_taken.ensures.keeps.later c.in_err-forget_hits.ensures.fell)
 
 pub returns-then-number-eq-DPC-clause-went : goal.returns-then-number-eq-DPC-clause-went
 returns-then-number-eq-DPC-clause-went g c =
-    ok_then (λ line. ends_with (said_by line)) _ _ (written_pc c.args.halted.now.number c.args.number c.args.value c.if-number-eq-DPC.true (gave_true c.if-not-branch.false c.in_ok-give.ensures.gave) c.in_ok-forget.ensures.forgot) c.register_line.ensures.went
+    ok_then (λ line. ends_with (said_by line)) _ _ (written_pc c.args.halted.now.number c.args.number c.args.value c.if-number-eq-DPC.true
+    (gave_true c.if-not-branch.false c.in_ok-set_reg_if_taken.ensures.gave) c.in_ok-forget_hits.ensures.forgot) c.register_line.ensures.went
 
 pub returns-then-number-eq-DPC-clause-falls : goal.returns-then-number-eq-DPC-clause-falls
 returns-then-number-eq-DPC-clause-falls g c =
-    err_then _ _ _ (written_pc c.args.halted.now.number c.args.number c.args.value c.if-number-eq-DPC.true (gave_true c.if-not-branch.false c.in_ok-give.ensures.gave) c.in_ok-forget.ensures.forgot)
-    (omega (arith, c.give.ensures.keeps.later, c.forget.ensures.keeps.later)) c.register_line.ensures.falls
+    err_then _ _ _ (written_pc c.args.halted.now.number c.args.number c.args.value c.if-number-eq-DPC.true
+    (gave_true c.if-not-branch.false c.in_ok-set_reg_if_taken.ensures.gave) c.in_ok-forget_hits.ensures.forgot)
+    (omega (arith, c.set_reg_if_taken.ensures.keeps.later, c.forget_hits.ensures.keeps.later)) c.register_line.ensures.falls
 
 pub returns-clause-went : goal.returns-clause-went
 returns-clause-went g c =
-    ok_then (λ line. ends_with (said_by line)) _ _ (written c.args.halted.now.number c.args.number c.args.value c.requires.of c.if-number-eq-DPC.false (gave_true c.if-not-branch.false c.in_ok-give.ensures.gave)) c.register_line-2.ensures.went
+    ok_then (λ line. ends_with (said_by line)) _ _ (written c.args.halted.now.number c.args.number c.args.value c.requires.of c.if-number-eq-DPC.false
+    (gave_true c.if-not-branch.false c.in_ok-set_reg_if_taken.ensures.gave)) c.register_line-2.ensures.went
 
 pub returns-clause-falls : goal.returns-clause-falls
 returns-clause-falls g c =
-    err_then _ _ _ (written c.args.halted.now.number c.args.number c.args.value c.requires.of c.if-number-eq-DPC.false (gave_true c.if-not-branch.false c.in_ok-give.ensures.gave)) c.give.ensures.keeps.later c.register_line-2.ensures.falls
+    err_then _ _ _ (written c.args.halted.now.number c.args.number c.args.value c.requires.of c.if-number-eq-DPC.false
+    (gave_true c.if-not-branch.false c.in_ok-set_reg_if_taken.ensures.gave)) c.set_reg_if_taken.ensures.keeps.later c.register_line-2.ensures.falls

@@ -7,11 +7,25 @@ use Rattle.probe_session.proofs.identity.idcode_line.Goals as goal
 pub returns-in_err-number-clause-falls : goal.returns-in_err-number-clause-falls
 returns-in_err-number-clause-falls g c =
     if_err _ (failure_of_dmi c.in_err-number.field-0.0) _ c.from_residual.ensures.1
-    (idcode_falls (record { why = c.in_err-number.field-0.0; later = c.idcode.ensures.keeps.later; cause = c.in_err-number.ensures.cause; told = c.in_err-number.ensures.cut; ready = c.requires.serving.ready; is = refl }))
+    (idcode_falls (record {
+      why = c.in_err-number.field-0.0;
+      later = c.idcode.ensures.keeps.later;
+      cause = c.in_err-number.ensures.cause;
+      told =
+          c.in_err-number.ensures.cut;
+      ready = c.requires.serving.ready;
+      is = refl;
+    }))
 
 pub returns-clause-went : goal.returns-clause-went
 returns-clause-went g c =
-    identified c.in_ok-number.number (record { heard = c.in_ok-number.ensures.shows; number_is = c.in_ok-number.ensures.value; told = c.in_ok-number.ensures.path; ready = c.requires.serving.ready })
+    identified c.in_ok-number.number (record {
+      heard = c.in_ok-number.ensures.shows;
+      number_is = c.in_ok-number.ensures.value;
+      told =
+          c.in_ok-number.ensures.path;
+      ready = c.requires.serving.ready;
+    })
 
 pub returns-clause-keeps : goal.returns-clause-keeps
 returns-clause-keeps g c = record {

@@ -6,7 +6,15 @@ use Rattle.probe_session.proofs.Spoken.{spoke_none}
 use Rattle.probe_session.proofs.script.run_commands.Goals as goal
 
 pub commands-init : goal.commands-init
-commands-init g c = record { within = c.requires.within; serving = c.requires.serving; so_far = spoke_none _; later = omega arith; sink_later = omega arith; fixed = refl }
+commands-init g c = record {
+  within = c.requires.within;
+  serving = c.requires.serving;
+  so_far = spoke_none _;
+  later = omega arith;
+  sink_later =
+      omega arith;
+  fixed = refl;
+}
 
 pub commands-preserved-in-Done : goal.commands-preserved-in-Done
 commands-preserved-in-Done g c =
@@ -14,7 +22,8 @@ commands-preserved-in-Done g c =
     record {
       within = within_after _ c.in-Some.command.now _ front c.commands.invariant.within;
       serving = c.in-Done.ensures.serving;
-      so_far = done_one _ (state_of c.args.begun) c.in-Some.command.now _ _ (state_of c.commands.session) (state_of c.act.new.self) _ front c.commands.invariant.so_far c.in-Done.ensures.acted;
+      so_far = done_one _ (state_of c.args.begun) c.in-Some.command.now _ _ (state_of c.commands.session) (state_of c.act.new.self) _ front
+          c.commands.invariant.so_far c.in-Done.ensures.acted;
       later = omega (arith, c.commands.invariant.later, c.act.ensures.later);
       sink_later = omega (arith, c.commands.invariant.sink_later, c.act.ensures.sink_later);
       fixed = c.act.ensures.fixed ∙ c.commands.invariant.fixed;
@@ -26,7 +35,8 @@ commands-preserved g c =
     record {
       within = within_after _ c.in-Some.command.now _ front c.commands.invariant.within;
       serving = c.in-Error.ensures.serving;
-      so_far = wrong_one _ (state_of c.args.begun) c.in-Some.command.now _ _ (state_of c.commands.session) (state_of c.act.new.self) _ front c.commands.invariant.so_far c.in-Error.ensures.acted;
+      so_far = wrong_one _ (state_of c.args.begun) c.in-Some.command.now _ _ (state_of c.commands.session) (state_of c.act.new.self) _ front
+          c.commands.invariant.so_far c.in-Error.ensures.acted;
       later = omega (arith, c.commands.invariant.later, c.act.ensures.later);
       sink_later = omega (arith, c.commands.invariant.sink_later, c.act.ensures.sink_later);
       fixed = c.act.ensures.fixed ∙ c.commands.invariant.fixed;
@@ -35,22 +45,29 @@ commands-preserved g c =
 pub returns-in-End-clause-followed : goal.returns-in-End-clause-followed
 returns-in-End-clause-followed g c =
     let front : c.commands.rest.now ≡ c.in-Some.command.now ∷ c.in-Some.after.now = grind (arith, common_steps) in
-    ended_here _ (state_of c.args.begun) c.in-Some.command.now _ c.in-Some.after.now (state_of c.commands.session) (state_of c.act.new.self) c.commands.has_errors _ _ _ _ _ front c.in-End.ensures.acted.0 c.finished.ensures c.commands.invariant.so_far c.in-End.ensures.acted.1
+    ended_here _ (state_of c.args.begun) c.in-Some.command.now _ c.in-Some.after.now (state_of c.commands.session) (state_of c.act.new.self)
+    c.commands.has_errors _ _ _ _ _ front c.in-End.ensures.acted.0 c.finished.ensures c.commands.invariant.so_far c.in-End.ensures.acted.1
 
 pub returns-in-Wire-clause-followed : goal.returns-in-Wire-clause-followed
 returns-in-Wire-clause-followed g c =
     let front : c.commands.rest.now ≡ c.in-Some.command.now ∷ c.in-Some.after.now = grind (arith, common_steps) in
-    fell_one _ (state_of c.args.begun) c.in-Some.command.now _ c.in-Some.after.now (state_of c.commands.session) c.commands.has_errors _ (g.D.Dmi.seen c.commands.link).fault_count _ _ (g.K.Sink.fault_count c.commands.out) _ front c.commands.invariant.so_far c.commands.invariant.later c.commands.invariant.sink_later c.act.ensures.sink_later c.in-Wire.ensures.acted
+    fell_one _ (state_of c.args.begun) c.in-Some.command.now _ c.in-Some.after.now (state_of c.commands.session) c.commands.has_errors _
+    (g.D.Dmi.seen c.commands.link).fault_count _ _ (g.K.Sink.fault_count c.commands.out) _ front c.commands.invariant.so_far c.commands.invariant.later
+    c.commands.invariant.sink_later c.act.ensures.sink_later c.in-Wire.ensures.acted
 
 pub returns-in-Lost-clause-followed : goal.returns-in-Lost-clause-followed
 returns-in-Lost-clause-followed g c =
     let front : c.commands.rest.now ≡ c.in-Some.command.now ∷ c.in-Some.after.now = grind (arith, common_steps) in
-    fell_one _ (state_of c.args.begun) c.in-Some.command.now _ c.in-Some.after.now (state_of c.commands.session) c.commands.has_errors _ (g.D.Dmi.seen c.commands.link).fault_count _ _ (g.K.Sink.fault_count c.commands.out) _ front c.commands.invariant.so_far c.commands.invariant.later c.commands.invariant.sink_later c.act.ensures.sink_later c.in-Lost.ensures.acted
+    fell_one _ (state_of c.args.begun) c.in-Some.command.now _ c.in-Some.after.now (state_of c.commands.session) c.commands.has_errors _
+    (g.D.Dmi.seen c.commands.link).fault_count _ _ (g.K.Sink.fault_count c.commands.out) _ front c.commands.invariant.so_far c.commands.invariant.later
+    c.commands.invariant.sink_later c.act.ensures.sink_later c.in-Lost.ensures.acted
 
 pub returns-in-Sink-clause-followed : goal.returns-in-Sink-clause-followed
 returns-in-Sink-clause-followed g c =
     let front : c.commands.rest.now ≡ c.in-Some.command.now ∷ c.in-Some.after.now = grind (arith, common_steps) in
-    fell_one _ (state_of c.args.begun) c.in-Some.command.now _ c.in-Some.after.now (state_of c.commands.session) c.commands.has_errors _ (g.D.Dmi.seen c.commands.link).fault_count _ _ (g.K.Sink.fault_count c.commands.out) _ front c.commands.invariant.so_far c.commands.invariant.later c.commands.invariant.sink_later c.act.ensures.sink_later c.in-Sink.ensures.acted
+    fell_one _ (state_of c.args.begun) c.in-Some.command.now _ c.in-Some.after.now (state_of c.commands.session) c.commands.has_errors _
+    (g.D.Dmi.seen c.commands.link).fault_count _ _ (g.K.Sink.fault_count c.commands.out) _ front c.commands.invariant.so_far c.commands.invariant.later
+    c.commands.invariant.sink_later c.act.ensures.sink_later c.in-Sink.ensures.acted
 
 pub returns-clause-followed : goal.returns-clause-followed
 returns-clause-followed g c =

@@ -10,7 +10,8 @@ abbrev pub invariant-commands : goal.invariant-commands
 invariant-commands g l = record {
   within : All IsWithinRanges l.rest;
   serving : Attached (g.D.Dmi.seen l.link);
-  so_far : SoFar l.fn.commands (state_of l.fn.begun) l.rest (state_of l.session) l.has_errors (told (g.D.Dmi.seen l.fn.link)) (told (g.D.Dmi.seen l.link)) (g.K.Sink.contents l.fn.out) (g.K.Sink.contents l.out);
+  so_far : SoFar l.fn.commands (state_of l.fn.begun) l.rest (state_of l.session) l.has_errors (told (g.D.Dmi.seen l.fn.link)) (told (g.D.Dmi.seen l.link))
+      (g.K.Sink.contents l.fn.out) (g.K.Sink.contents l.out);
   later : (g.D.Dmi.seen l.fn.link).fault_count ≤ (g.D.Dmi.seen l.link).fault_count;
   sink_later : g.K.Sink.fault_count l.fn.out ≤ g.K.Sink.fault_count l.out;
   fixed : (g.D.Dmi.seen l.link).fixed ≡ (g.D.Dmi.seen l.fn.link).fixed;

@@ -15,7 +15,8 @@ pub returns-in-Err-clause-transcribed : goal.returns-in-Err-clause-transcribed
 returns-in-Err-clause-transcribed g c =
     let old : Tells = told (g.D.Dmi.seen c.args.link.now) in
     let new : Tells = told (g.D.Dmi.seen c.begin.new.link) in
-    ended_transcribed _ c.args.script.now (g.D.Dmi.seen c.args.link.now).fault_count (g.D.Dmi.seen c.begin.new.link).fault_count old new (g.K.Sink.fault_count c.args.out.now) (g.K.Sink.fault_count c.args.out.now) _ _
+    ended_transcribed _ c.args.script.now (g.D.Dmi.seen c.args.link.now).fault_count (g.D.Dmi.seen c.begin.new.link).fault_count old new
+    (g.K.Sink.fault_count c.args.out.now) (g.K.Sink.fault_count c.args.out.now) _ _
     (not_opened c.args.script.now c.in-Err.fault _ _ _ old new _ _ _ c.unopened.ensures c.in-Err.ensures.fails c.in-Err.ensures.lost) c.requires.loaded
 
 pub returns-in-Ok-clause-transcribed : goal.returns-in-Ok-clause-transcribed
@@ -24,15 +25,20 @@ returns-in-Ok-clause-transcribed g c =
     let mid : Tells = told (g.D.Dmi.seen c.begin.new.link) in
     let new : Tells = told (g.D.Dmi.seen c.run_commands.new.link) in
     let is : c.commands.result.now ≡ c.args.script.now = c.commands.ensures.list in
-    ended_transcribed _ c.args.script.now (g.D.Dmi.seen c.args.link.now).fault_count (g.D.Dmi.seen c.run_commands.new.link).fault_count old new (g.K.Sink.fault_count c.args.out.now) (g.K.Sink.fault_count c.run_commands.new.out) _ _
-    (opened_ended c.args.script.now (state_of c.in-Ok.session) _ _ (g.D.Dmi.seen c.begin.new.link).fault_count _ old mid new _ _ _ _ c.in-Ok.ensures.first c.in-Ok.ensures.did c.in-Ok.ensures.loaded c.begin.ensures.keeps.later (rw is at c.run_commands.ensures.followed)) c.requires.loaded
+    ended_transcribed _ c.args.script.now (g.D.Dmi.seen c.args.link.now).fault_count (g.D.Dmi.seen c.run_commands.new.link).fault_count old new
+    (g.K.Sink.fault_count c.args.out.now) (g.K.Sink.fault_count c.run_commands.new.out) _ _
+    (opened_ended c.args.script.now (state_of c.in-Ok.session) _ _ (g.D.Dmi.seen c.begin.new.link).fault_count _ old mid new _ _ _ _ c.in-Ok.ensures.first
+    c.in-Ok.ensures.did c.in-Ok.ensures.loaded c.begin.ensures.keeps.later (rw is at c.run_commands.ensures.followed)) c.requires.loaded
 
 pub returns-in-Err-clause-cause : goal.returns-in-Err-clause-cause
 returns-in-Err-clause-cause g c =
     let old : Tells = told (g.D.Dmi.seen c.args.link.now) in
     let new : Tells = told (g.D.Dmi.seen c.begin.new.link) in
-    ended_caused _ c.args.script.now (g.D.Dmi.seen c.args.link.now).fault_count (g.D.Dmi.seen c.begin.new.link).fault_count old new (g.K.Sink.fault_count c.args.out.now) (g.K.Sink.fault_count c.args.out.now) _ _
-    (not_opened c.args.script.now c.in-Err.fault _ (g.D.Dmi.seen c.args.link.now).fault_count (g.D.Dmi.seen c.begin.new.link).fault_count old new (g.K.Sink.fault_count c.args.out.now) (g.K.Sink.fault_count c.args.out.now) (g.K.Sink.contents c.args.out.now) c.unopened.ensures c.in-Err.ensures.fails c.in-Err.ensures.lost)
+    ended_caused _ c.args.script.now (g.D.Dmi.seen c.args.link.now).fault_count (g.D.Dmi.seen c.begin.new.link).fault_count old new
+    (g.K.Sink.fault_count c.args.out.now) (g.K.Sink.fault_count c.args.out.now) _ _
+    (not_opened c.args.script.now c.in-Err.fault _ (g.D.Dmi.seen c.args.link.now).fault_count (g.D.Dmi.seen c.begin.new.link).fault_count old new
+    (g.K.Sink.fault_count c.args.out.now) (g.K.Sink.fault_count c.args.out.now) (g.K.Sink.contents c.args.out.now) c.unopened.ensures c.in-Err.ensures.fails
+    c.in-Err.ensures.lost)
 
 pub returns-in-Ok-clause-cause : goal.returns-in-Ok-clause-cause
 returns-in-Ok-clause-cause g c =
@@ -40,15 +46,21 @@ returns-in-Ok-clause-cause g c =
     let mid : Tells = told (g.D.Dmi.seen c.begin.new.link) in
     let new : Tells = told (g.D.Dmi.seen c.run_commands.new.link) in
     let is : c.commands.result.now ≡ c.args.script.now = c.commands.ensures.list in
-    ended_caused _ c.args.script.now (g.D.Dmi.seen c.args.link.now).fault_count (g.D.Dmi.seen c.run_commands.new.link).fault_count old new (g.K.Sink.fault_count c.args.out.now) (g.K.Sink.fault_count c.run_commands.new.out) (g.K.Sink.contents c.args.out.now) (g.K.Sink.contents c.run_commands.new.out)
-    (opened_ended c.args.script.now (state_of c.in-Ok.session) _ _ (g.D.Dmi.seen c.begin.new.link).fault_count _ old mid new _ _ _ _ c.in-Ok.ensures.first c.in-Ok.ensures.did c.in-Ok.ensures.loaded c.begin.ensures.keeps.later (rw is at c.run_commands.ensures.followed))
+    ended_caused _ c.args.script.now (g.D.Dmi.seen c.args.link.now).fault_count (g.D.Dmi.seen c.run_commands.new.link).fault_count old new
+    (g.K.Sink.fault_count c.args.out.now) (g.K.Sink.fault_count c.run_commands.new.out) (g.K.Sink.contents c.args.out.now)
+    (g.K.Sink.contents c.run_commands.new.out)
+    (opened_ended c.args.script.now (state_of c.in-Ok.session) _ _ (g.D.Dmi.seen c.begin.new.link).fault_count _ old mid new _ _ _ _ c.in-Ok.ensures.first
+    c.in-Ok.ensures.did c.in-Ok.ensures.loaded c.begin.ensures.keeps.later (rw is at c.run_commands.ensures.followed))
 
 pub returns-in-Err-clause-sink_cause : goal.returns-in-Err-clause-sink_cause
 returns-in-Err-clause-sink_cause g c =
     let old : Tells = told (g.D.Dmi.seen c.args.link.now) in
     let new : Tells = told (g.D.Dmi.seen c.begin.new.link) in
-    sink_caused _ c.args.script.now (g.D.Dmi.seen c.args.link.now).fault_count (g.D.Dmi.seen c.begin.new.link).fault_count old new (g.K.Sink.fault_count c.args.out.now) (g.K.Sink.fault_count c.args.out.now) _ _
-    (not_opened c.args.script.now c.in-Err.fault _ (g.D.Dmi.seen c.args.link.now).fault_count (g.D.Dmi.seen c.begin.new.link).fault_count old new (g.K.Sink.fault_count c.args.out.now) (g.K.Sink.fault_count c.args.out.now) (g.K.Sink.contents c.args.out.now) c.unopened.ensures c.in-Err.ensures.fails c.in-Err.ensures.lost)
+    sink_caused _ c.args.script.now (g.D.Dmi.seen c.args.link.now).fault_count (g.D.Dmi.seen c.begin.new.link).fault_count old new
+    (g.K.Sink.fault_count c.args.out.now) (g.K.Sink.fault_count c.args.out.now) _ _
+    (not_opened c.args.script.now c.in-Err.fault _ (g.D.Dmi.seen c.args.link.now).fault_count (g.D.Dmi.seen c.begin.new.link).fault_count old new
+    (g.K.Sink.fault_count c.args.out.now) (g.K.Sink.fault_count c.args.out.now) (g.K.Sink.contents c.args.out.now) c.unopened.ensures c.in-Err.ensures.fails
+    c.in-Err.ensures.lost)
 
 pub returns-in-Ok-clause-sink_cause : goal.returns-in-Ok-clause-sink_cause
 returns-in-Ok-clause-sink_cause g c =
@@ -56,5 +68,8 @@ returns-in-Ok-clause-sink_cause g c =
     let mid : Tells = told (g.D.Dmi.seen c.begin.new.link) in
     let new : Tells = told (g.D.Dmi.seen c.run_commands.new.link) in
     let is : c.commands.result.now ≡ c.args.script.now = c.commands.ensures.list in
-    sink_caused _ c.args.script.now (g.D.Dmi.seen c.args.link.now).fault_count (g.D.Dmi.seen c.run_commands.new.link).fault_count old new (g.K.Sink.fault_count c.args.out.now) (g.K.Sink.fault_count c.run_commands.new.out) (g.K.Sink.contents c.args.out.now) (g.K.Sink.contents c.run_commands.new.out)
-    (opened_ended c.args.script.now (state_of c.in-Ok.session) _ _ (g.D.Dmi.seen c.begin.new.link).fault_count _ old mid new _ _ _ _ c.in-Ok.ensures.first c.in-Ok.ensures.did c.in-Ok.ensures.loaded c.begin.ensures.keeps.later (rw is at c.run_commands.ensures.followed))
+    sink_caused _ c.args.script.now (g.D.Dmi.seen c.args.link.now).fault_count (g.D.Dmi.seen c.run_commands.new.link).fault_count old new
+    (g.K.Sink.fault_count c.args.out.now) (g.K.Sink.fault_count c.run_commands.new.out) (g.K.Sink.contents c.args.out.now)
+    (g.K.Sink.contents c.run_commands.new.out)
+    (opened_ended c.args.script.now (state_of c.in-Ok.session) _ _ (g.D.Dmi.seen c.begin.new.link).fault_count _ old mid new _ _ _ _ c.in-Ok.ensures.first
+    c.in-Ok.ensures.did c.in-Ok.ensures.loaded c.begin.ensures.keeps.later (rw is at c.run_commands.ensures.followed))

@@ -14,34 +14,44 @@ returns-in_err-kept-clause-failed g c =
 pub returns-in_err-slot-clause-failed : goal.returns-in_err-slot-clause-failed
 returns-in_err-slot-clause-failed g c =
     if_err _ c.from_residual-in_err-slot.result _ c.from_residual-in_err-slot.ensures.1
-    (failed_behind _ _ (Got Tselect c.in_ok-kept.kept ∷ []) _ _ _ _ _ _ _ _ c.get.ensures.keeps.later c.seek_free.ensures.keeps.later c.in_ok-kept.ensures.made (arms_seek c.args.what c.in_ok-kept.kept) c.in_err-slot.ensures.failed)
+    (failed_behind _ _ (Got Tselect c.in_ok-kept.kept ∷ []) _ _ _ _ _ _ _ _ c.reg.ensures.keeps.later c.seek_free.ensures.keeps.later c.in_ok-kept.ensures.made
+    (arms_seek c.args.what c.in_ok-kept.kept) c.in_err-slot.ensures.failed)
 
 pub returns-in_err-arm_selected-in-Some-clause-failed : goal.returns-in_err-arm_selected-in-Some-clause-failed
 returns-in_err-arm_selected-in-Some-clause-failed g c =
     let d = rw (c.in-Some.is) at c.in_ok-slot.ensures.did in
     if_err _ c.from_residual-in_err-arm_selected-in-Some.result _ c.from_residual-in_err-arm_selected-in-Some.ensures.1
-    (failed_behind _ _ (Got Tselect c.in_ok-kept.kept ∷ d.transfers) _ _ _ _ _ _ _ _ (omega (arith, c.get.ensures.keeps.later, c.seek_free.ensures.keeps.later)) c.arm_selected.ensures.keeps.later
-    (sought_behind c.in_ok-kept.kept c.args.halted.now.number _ _ _ (Some c.in-Some.slot) c.in_ok-kept.ensures.made d) (arms_armed c.args.what c.in_ok-kept.kept c.in-Some.slot d.transfers d.whole) c.in_err-arm_selected-in-Some.ensures.failed)
+    (failed_behind _ _ (Got Tselect c.in_ok-kept.kept ∷ d.transfers) _ _ _ _ _ _ _ _
+    (omega (arith, c.reg.ensures.keeps.later, c.seek_free.ensures.keeps.later)) c.arm_selected.ensures.keeps.later
+    (sought_behind c.in_ok-kept.kept c.args.halted.now.number _ _ _ (Some c.in-Some.slot) c.in_ok-kept.ensures.made d)
+    (arms_armed c.args.what c.in_ok-kept.kept c.in-Some.slot d.transfers d.whole) c.in_err-arm_selected-in-Some.ensures.failed)
 
-pub returns-in_err-set-in-Some-clause-failed : goal.returns-in_err-set-in-Some-clause-failed
-returns-in_err-set-in-Some-clause-failed g c =
+pub returns-in_err-set_reg-in-Some-clause-failed : goal.returns-in_err-set_reg-in-Some-clause-failed
+returns-in_err-set_reg-in-Some-clause-failed g c =
     let d = rw (c.in-Some.is) at c.in_ok-slot.ensures.did in
-    if_err _ c.from_residual-in_err-set-in-Some.result _ c.from_residual-in_err-set-in-Some.ensures.1
-    (failed_behind _ _ (Got Tselect c.in_ok-kept.kept ∷ (d.transfers ++ armed c.args.what)) _ _ _ _ _ _ _ _ (omega (arith, c.get.ensures.keeps.later, c.seek_free.ensures.keeps.later, c.arm_selected.ensures.keeps.later)) c.set.ensures.keeps.later
-    (made_then c.args.halted.now.number (Got Tselect c.in_ok-kept.kept ∷ d.transfers) (armed c.args.what) _ _ _ (sought_behind c.in_ok-kept.kept c.args.halted.now.number _ _ _ (Some c.in-Some.slot) c.in_ok-kept.ensures.made d) c.in_ok-arm_selected-in-Some.ensures.made)
-    (arms_back c.args.what c.in_ok-kept.kept c.in-Some.slot d.transfers d.whole) c.in_err-set-in-Some.ensures.failed)
+    if_err _ c.from_residual-in_err-set_reg-in-Some.result _ c.from_residual-in_err-set_reg-in-Some.ensures.1
+    (failed_behind _ _ (Got Tselect c.in_ok-kept.kept ∷ (d.transfers ++ armed c.args.what)) _ _ _ _ _ _ _ _
+    (omega (arith, c.reg.ensures.keeps.later, c.seek_free.ensures.keeps.later, c.arm_selected.ensures.keeps.later)) c.set_reg.ensures.keeps.later
+    (made_then c.args.halted.now.number (Got Tselect c.in_ok-kept.kept ∷ d.transfers) (armed c.args.what) _ _ _
+    (sought_behind c.in_ok-kept.kept c.args.halted.now.number _ _ _ (Some c.in-Some.slot) c.in_ok-kept.ensures.made d)
+    c.in_ok-arm_selected-in-Some.ensures.made)
+    (arms_back c.args.what c.in_ok-kept.kept c.in-Some.slot d.transfers d.whole) c.in_err-set_reg-in-Some.ensures.failed)
 
-pub returns-in_err-set-in-None-clause-failed : goal.returns-in_err-set-in-None-clause-failed
-returns-in_err-set-in-None-clause-failed g c =
+pub returns-in_err-set_reg-in-None-clause-failed : goal.returns-in_err-set_reg-in-None-clause-failed
+returns-in_err-set_reg-in-None-clause-failed g c =
     let d = rw (c.in-None.is) at c.in_ok-slot.ensures.did in
-    if_err _ c.from_residual-in_err-set-in-None.result _ c.from_residual-in_err-set-in-None.ensures.1
-    (failed_behind _ _ (Got Tselect c.in_ok-kept.kept ∷ d.transfers) _ _ _ _ _ _ _ _ (omega (arith, c.get.ensures.keeps.later, c.seek_free.ensures.keeps.later)) c.set-in-None.ensures.keeps.later
-    (sought_behind c.in_ok-kept.kept c.args.halted.now.number _ _ _ None c.in_ok-kept.ensures.made d) (arms_none c.args.what c.in_ok-kept.kept d.transfers d.whole) c.in_err-set-in-None.ensures.failed)
+    if_err _ c.from_residual-in_err-set_reg-in-None.result _ c.from_residual-in_err-set_reg-in-None.ensures.1
+    (failed_behind _ _ (Got Tselect c.in_ok-kept.kept ∷ d.transfers) _ _ _ _ _ _ _ _
+    (omega (arith, c.reg.ensures.keeps.later, c.seek_free.ensures.keeps.later)) c.set_reg-in-None.ensures.keeps.later
+    (sought_behind c.in_ok-kept.kept c.args.halted.now.number _ _ _ None c.in_ok-kept.ensures.made d)
+    (arms_none c.args.what c.in_ok-kept.kept d.transfers d.whole) c.in_err-set_reg-in-None.ensures.failed)
 
-pub returns-in_ok-set-in-Some-clause-did : goal.returns-in_ok-set-in-Some-clause-did
-returns-in_ok-set-in-Some-clause-did g c =
-    armed_did c.args.what c.in_ok-kept.kept c.in-Some.slot c.args.halted.now.number _ _ _ _ _ c.in_ok-kept.ensures.made (rw (c.in-Some.is) at c.in_ok-slot.ensures.did) c.in_ok-arm_selected-in-Some.ensures.made c.in_ok-set-in-Some.ensures.made
+pub returns-in_ok-set_reg-in-Some-clause-did : goal.returns-in_ok-set_reg-in-Some-clause-did
+returns-in_ok-set_reg-in-Some-clause-did g c =
+    armed_did c.args.what c.in_ok-kept.kept c.in-Some.slot c.args.halted.now.number _ _ _ _ _ c.in_ok-kept.ensures.made
+    (rw (c.in-Some.is) at c.in_ok-slot.ensures.did) c.in_ok-arm_selected-in-Some.ensures.made c.in_ok-set_reg-in-Some.ensures.made
 
-pub returns-in_ok-set-in-None-clause-did : goal.returns-in_ok-set-in-None-clause-did
-returns-in_ok-set-in-None-clause-did g c =
-    none_did c.args.what c.in_ok-kept.kept c.args.halted.now.number _ _ _ _ c.in_ok-kept.ensures.made (rw (c.in-None.is) at c.in_ok-slot.ensures.did) c.in_ok-set-in-None.ensures.made
+pub returns-in_ok-set_reg-in-None-clause-did : goal.returns-in_ok-set_reg-in-None-clause-did
+returns-in_ok-set_reg-in-None-clause-did g c =
+    none_did c.args.what c.in_ok-kept.kept c.args.halted.now.number _ _ _ _ c.in_ok-kept.ensures.made
+    (rw (c.in-None.is) at c.in_ok-slot.ensures.did) c.in_ok-set_reg-in-None.ensures.made

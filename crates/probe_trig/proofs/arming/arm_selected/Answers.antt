@@ -13,13 +13,15 @@ pub returns-in_err-set_address-clause-failed : goal.returns-in_err-set_address-c
 returns-in_err-set_address-clause-failed g c =
     if_err _ c.from_residual.result _ c.from_residual.ensures.1 (failed_first _ _ _ _ _ _ _ _ (arms_address c.args.what) c.in_err-set_address.ensures.failed)
 
-pub returns-in_err-set-clause-failed : goal.returns-in_err-set-clause-failed
-returns-in_err-set-clause-failed g c =
-    if_err _ c.from_residual-in_err-set.result _ c.from_residual-in_err-set.ensures.1
-    (failed_behind _ _ (address_set (address_named c.args.what)) _ _ _ _ _ _ _ _ c.set_address.ensures.keeps.later c.set.ensures.keeps.later c.in_ok-set_address.ensures.made (arms_trigger c.args.what)
-    (rw (c.tdata1.ensures, c.trigger_for.ensures.is) at c.in_err-set.ensures.failed))
+pub returns-in_err-set_reg-clause-failed : goal.returns-in_err-set_reg-clause-failed
+returns-in_err-set_reg-clause-failed g c =
+    if_err _ c.from_residual-in_err-set_reg.result _ c.from_residual-in_err-set_reg.ensures.1
+    (failed_behind _ _ (address_set (address_named c.args.what)) _ _ _ _ _ _ _ _ c.set_address.ensures.keeps.later c.set_reg.ensures.keeps.later
+    c.in_ok-set_address.ensures.made (arms_trigger c.args.what)
+    (rw (c.tdata1.ensures, c.trigger_for.ensures.is) at c.in_err-set_reg.ensures.failed))
 
 pub returns-clause-made : goal.returns-clause-made
 returns-clause-made g c =
-    made_then c.args.halted.now.number (address_set (address_named c.args.what)) (Set Tdata1 (tdata1_of (trigger_named c.args.what)) ∷ []) _ _ _ c.in_ok-set_address.ensures.made
-    (rw (c.tdata1.ensures, c.trigger_for.ensures.is) at c.in_ok-set.ensures.made)
+    made_then c.args.halted.now.number (address_set (address_named c.args.what))
+    (Set Tdata1 (tdata1_of (trigger_named c.args.what)) ∷ []) _ _ _ c.in_ok-set_address.ensures.made
+    (rw (c.tdata1.ensures, c.trigger_for.ensures.is) at c.in_ok-set_reg.ensures.made)

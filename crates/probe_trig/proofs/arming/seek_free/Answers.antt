@@ -17,7 +17,8 @@ seeking-init g c = record {
 
 pub seeking-preserved : goal.seeking-preserved
 seeking-preserved g c = let b = c.in_ok-tdata1.ensures.keeps.behind in record {
-  sought = sought_more _ c.seeking.slot c.in_ok-tdata1.tdata1 _ _ _ c.seeking.invariant.sought c.in_ok-tdata1.ensures.made (sym c.shows_free.ensures ∙ c.if-shows_free.false);
+  sought = sought_more _ c.seeking.slot c.in_ok-tdata1.tdata1 _ _ _ c.seeking.invariant.sought c.in_ok-tdata1.ensures.made
+      (sym c.shows_free.ensures ∙ c.if-shows_free.false);
   callable = record { alive = b.alive; link = b.link };
   serving = c.in_ok-tdata1.ensures.serving;
   stands = λ h. b;
@@ -28,12 +29,14 @@ seeking-preserved g c = let b = c.in_ok-tdata1.ensures.keeps.behind in record {
 pub returns-in_err-tdata1-clause-failed : goal.returns-in_err-tdata1-clause-failed
 returns-in_err-tdata1-clause-failed g c =
     if_err _ c.from_residual.result _ c.from_residual.ensures.1
-    (failed_behind _ _ (words_read 0 c.seeking.invariant.sought.words) _ _ _ _ _ _ _ _ c.seeking.invariant.later c.read_word.ensures.keeps.later c.seeking.invariant.sought.made
+    (failed_behind _ _ (words_read 0 c.seeking.invariant.sought.words) _ _ _ _ _ _ _ _ c.seeking.invariant.later c.read_word.ensures.keeps.later
+    c.seeking.invariant.sought.made
     (seeks_word _ c.seeking.slot _ _ c.seeking.invariant.sought c.seeking-test.true) c.in_err-tdata1.ensures.failed)
 
 pub returns-then-shows_free-clause-did : goal.returns-then-shows_free-clause-did
 returns-then-shows_free-clause-did g c =
-    sought_found _ c.seeking.slot c.in_ok-tdata1.tdata1 _ _ _ c.seeking.invariant.sought c.seeking-test.true c.in_ok-tdata1.ensures.made (sym c.shows_free.ensures ∙ c.if-shows_free.true)
+    sought_found _ c.seeking.slot c.in_ok-tdata1.tdata1 _ _ _ c.seeking.invariant.sought c.seeking-test.true c.in_ok-tdata1.ensures.made
+    (sym c.shows_free.ensures ∙ c.if-shows_free.true)
 
 pub returns-clause-did : goal.returns-clause-did
 returns-clause-did g c = sought_all _ c.seeking.slot _ _ c.seeking.invariant.sought (omega arith)

@@ -14,43 +14,57 @@ returns-in_err-kept-clause-failed g c =
 pub returns-in_err-tdata1-clause-failed : goal.returns-in_err-tdata1-clause-failed
 returns-in_err-tdata1-clause-failed g c =
     if_err _ c.from_residual-in_err-tdata1.result _ c.from_residual-in_err-tdata1.ensures.1
-    (failed_behind _ _ (Got Tselect c.in_ok-kept.kept ∷ []) _ _ _ _ _ _ _ _ c.get.ensures.keeps.later c.read_word.ensures.keeps.later c.in_ok-kept.ensures.made (frees_word c.args.slot c.in_ok-kept.kept) c.in_err-tdata1.ensures.failed)
+    (failed_behind _ _ (Got Tselect c.in_ok-kept.kept ∷ []) _ _ _ _ _ _ _ _ c.reg.ensures.keeps.later c.read_word.ensures.keeps.later c.in_ok-kept.ensures.made
+    (frees_word c.args.slot c.in_ok-kept.kept) c.in_err-tdata1.ensures.failed)
 
-pub returns-in_err-set-clause-failed : goal.returns-in_err-set-clause-failed
-returns-in_err-set-clause-failed g c =
-    if_err _ c.from_residual-in_err-set.result _ c.from_residual-in_err-set.ensures.1
-    (failed_behind _ _ (Got Tselect c.in_ok-kept.kept ∷ word_read c.args.slot c.in_ok-tdata1.tdata1) _ _ _ _ _ _ _ _ (omega (arith, c.get.ensures.keeps.later, c.read_word.ensures.keeps.later)) c.set.ensures.keeps.later
-    (made_then c.args.halted.now.number (Got Tselect c.in_ok-kept.kept ∷ []) (word_read c.args.slot c.in_ok-tdata1.tdata1) _ _ _ c.in_ok-kept.ensures.made c.in_ok-tdata1.ensures.made)
-    (frees_none c.args.slot c.in_ok-kept.kept c.in_ok-tdata1.tdata1 (sym c.shows_free.ensures ∙ c.if-shows_free.true)) c.in_err-set.ensures.failed)
+pub returns-in_err-set_reg-clause-failed : goal.returns-in_err-set_reg-clause-failed
+returns-in_err-set_reg-clause-failed g c =
+    if_err _ c.from_residual-in_err-set_reg.result _ c.from_residual-in_err-set_reg.ensures.1
+    (failed_behind _ _ (Got Tselect c.in_ok-kept.kept ∷ word_read c.args.slot c.in_ok-tdata1.tdata1) _ _ _ _ _ _ _ _
+    (omega (arith, c.reg.ensures.keeps.later, c.read_word.ensures.keeps.later)) c.set_reg.ensures.keeps.later
+    (made_then c.args.halted.now.number (Got Tselect c.in_ok-kept.kept ∷ [])
+    (word_read c.args.slot c.in_ok-tdata1.tdata1) _ _ _ c.in_ok-kept.ensures.made c.in_ok-tdata1.ensures.made)
+    (frees_none c.args.slot c.in_ok-kept.kept c.in_ok-tdata1.tdata1 (sym c.shows_free.ensures ∙ c.if-shows_free.true)) c.in_err-set_reg.ensures.failed)
 
 pub returns-then-shows_free-clause-did : goal.returns-then-shows_free-clause-did
 returns-then-shows_free-clause-did g c = record {
   transfers = Got Tselect c.in_ok-kept.kept ∷ (word_read c.args.slot c.in_ok-tdata1.tdata1 ++ put_back c.in_ok-kept.kept);
   whole = record { kept = c.in_ok-kept.kept; tdata1 = c.in_ok-tdata1.tdata1; shows = sym c.shows_free.ensures ∙ c.if-shows_free.true; is = refl };
-  made = made_then c.args.halted.now.number (Got Tselect c.in_ok-kept.kept ∷ []) (word_read c.args.slot c.in_ok-tdata1.tdata1 ++ put_back c.in_ok-kept.kept) _ _ _ c.in_ok-kept.ensures.made
-      (made_then c.args.halted.now.number (word_read c.args.slot c.in_ok-tdata1.tdata1) (put_back c.in_ok-kept.kept) _ _ _ c.in_ok-tdata1.ensures.made c.in_ok-set.ensures.made);
+  made = made_then c.args.halted.now.number (Got Tselect c.in_ok-kept.kept ∷ [])
+      (word_read c.args.slot c.in_ok-tdata1.tdata1 ++ put_back c.in_ok-kept.kept) _ _ _ c.in_ok-kept.ensures.made
+      (made_then c.args.halted.now.number (word_read c.args.slot c.in_ok-tdata1.tdata1)
+      (put_back c.in_ok-kept.kept) _ _ _ c.in_ok-tdata1.ensures.made c.in_ok-set_reg.ensures.made);
 }
 
-pub returns-in_err-set-2-clause-failed : goal.returns-in_err-set-2-clause-failed
-returns-in_err-set-2-clause-failed g c =
-    if_err _ c.from_residual-in_err-set-2.result _ c.from_residual-in_err-set-2.ensures.1
-    (failed_behind _ _ (Got Tselect c.in_ok-kept.kept ∷ word_read c.args.slot c.in_ok-tdata1.tdata1) _ _ _ _ _ _ _ _ (omega (arith, c.get.ensures.keeps.later, c.read_word.ensures.keeps.later)) c.set-2.ensures.keeps.later
-    (made_then c.args.halted.now.number (Got Tselect c.in_ok-kept.kept ∷ []) (word_read c.args.slot c.in_ok-tdata1.tdata1) _ _ _ c.in_ok-kept.ensures.made c.in_ok-tdata1.ensures.made)
-    (frees_set c.args.slot c.in_ok-kept.kept c.in_ok-tdata1.tdata1 (sym c.shows_free.ensures ∙ c.if-shows_free.false)) (rw (c.tdata1.ensures) at c.in_err-set-2.ensures.failed))
+pub returns-in_err-set_reg-2-clause-failed : goal.returns-in_err-set_reg-2-clause-failed
+returns-in_err-set_reg-2-clause-failed g c =
+    if_err _ c.from_residual-in_err-set_reg-2.result _ c.from_residual-in_err-set_reg-2.ensures.1
+    (failed_behind _ _ (Got Tselect c.in_ok-kept.kept ∷ word_read c.args.slot c.in_ok-tdata1.tdata1) _ _ _ _ _ _ _ _
+    (omega (arith, c.reg.ensures.keeps.later, c.read_word.ensures.keeps.later)) c.set_reg-2.ensures.keeps.later
+    (made_then c.args.halted.now.number (Got Tselect c.in_ok-kept.kept ∷ [])
+    (word_read c.args.slot c.in_ok-tdata1.tdata1) _ _ _ c.in_ok-kept.ensures.made c.in_ok-tdata1.ensures.made)
+    (frees_set c.args.slot c.in_ok-kept.kept c.in_ok-tdata1.tdata1 (sym c.shows_free.ensures ∙ c.if-shows_free.false))
+    (rw (c.tdata1.ensures) at c.in_err-set_reg-2.ensures.failed))
 
-pub returns-in_err-set-3-clause-failed : goal.returns-in_err-set-3-clause-failed
-returns-in_err-set-3-clause-failed g c =
-    if_err _ c.from_residual-in_err-set-3.result _ c.from_residual-in_err-set-3.ensures.1
-    (failed_behind _ _ (Got Tselect c.in_ok-kept.kept ∷ (word_read c.args.slot c.in_ok-tdata1.tdata1 ++ freed false)) _ _ _ _ _ _ _ _ (omega (arith, c.get.ensures.keeps.later, c.read_word.ensures.keeps.later, c.set-2.ensures.keeps.later)) c.set-3.ensures.keeps.later
-    (made_then c.args.halted.now.number (Got Tselect c.in_ok-kept.kept ∷ []) (word_read c.args.slot c.in_ok-tdata1.tdata1 ++ freed false) _ _ _ c.in_ok-kept.ensures.made
-    (made_then c.args.halted.now.number (word_read c.args.slot c.in_ok-tdata1.tdata1) (freed false) _ _ _ c.in_ok-tdata1.ensures.made (rw (c.tdata1.ensures) at c.in_ok-set-2.ensures.made)))
-    (frees_back c.args.slot c.in_ok-kept.kept c.in_ok-tdata1.tdata1 (sym c.shows_free.ensures ∙ c.if-shows_free.false)) c.in_err-set-3.ensures.failed)
+pub returns-in_err-set_reg-3-clause-failed : goal.returns-in_err-set_reg-3-clause-failed
+returns-in_err-set_reg-3-clause-failed g c =
+    if_err _ c.from_residual-in_err-set_reg-3.result _ c.from_residual-in_err-set_reg-3.ensures.1
+    (failed_behind _ _ (Got Tselect c.in_ok-kept.kept ∷ (word_read c.args.slot c.in_ok-tdata1.tdata1 ++ freed false)) _ _ _ _ _ _ _ _
+    (omega (arith, c.reg.ensures.keeps.later, c.read_word.ensures.keeps.later, c.set_reg-2.ensures.keeps.later)) c.set_reg-3.ensures.keeps.later
+    (made_then c.args.halted.now.number (Got Tselect c.in_ok-kept.kept ∷ [])
+    (word_read c.args.slot c.in_ok-tdata1.tdata1 ++ freed false) _ _ _ c.in_ok-kept.ensures.made
+    (made_then c.args.halted.now.number (word_read c.args.slot c.in_ok-tdata1.tdata1) (freed false) _ _ _ c.in_ok-tdata1.ensures.made
+    (rw (c.tdata1.ensures) at c.in_ok-set_reg-2.ensures.made)))
+    (frees_back c.args.slot c.in_ok-kept.kept c.in_ok-tdata1.tdata1 (sym c.shows_free.ensures ∙ c.if-shows_free.false)) c.in_err-set_reg-3.ensures.failed)
 
 pub returns-clause-did : goal.returns-clause-did
 returns-clause-did g c = record {
   transfers = Got Tselect c.in_ok-kept.kept ∷ (word_read c.args.slot c.in_ok-tdata1.tdata1 ++ (freed false ++ put_back c.in_ok-kept.kept));
   whole = record { kept = c.in_ok-kept.kept; tdata1 = c.in_ok-tdata1.tdata1; shows = sym c.shows_free.ensures ∙ c.if-shows_free.false; is = refl };
-  made = made_then c.args.halted.now.number (Got Tselect c.in_ok-kept.kept ∷ []) (word_read c.args.slot c.in_ok-tdata1.tdata1 ++ (freed false ++ put_back c.in_ok-kept.kept)) _ _ _ c.in_ok-kept.ensures.made
-      (made_then c.args.halted.now.number (word_read c.args.slot c.in_ok-tdata1.tdata1) (freed false ++ put_back c.in_ok-kept.kept) _ _ _ c.in_ok-tdata1.ensures.made
-      (made_then c.args.halted.now.number (freed false) (put_back c.in_ok-kept.kept) _ _ _ (rw (c.tdata1.ensures) at c.in_ok-set-2.ensures.made) c.in_ok-set-3.ensures.made));
+  made = made_then c.args.halted.now.number (Got Tselect c.in_ok-kept.kept ∷ [])
+      (word_read c.args.slot c.in_ok-tdata1.tdata1 ++ (freed false ++ put_back c.in_ok-kept.kept)) _ _ _ c.in_ok-kept.ensures.made
+      (made_then c.args.halted.now.number (word_read c.args.slot c.in_ok-tdata1.tdata1)
+      (freed false ++ put_back c.in_ok-kept.kept) _ _ _ c.in_ok-tdata1.ensures.made
+      (made_then c.args.halted.now.number (freed false) (put_back c.in_ok-kept.kept) _ _ _
+      (rw (c.tdata1.ensures) at c.in_ok-set_reg-2.ensures.made) c.in_ok-set_reg-3.ensures.made));
 }

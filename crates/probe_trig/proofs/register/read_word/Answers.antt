@@ -6,15 +6,18 @@ use Rattle.probe_run.proofs.ActLemmas.{if_err}
 use Rattle.probe_trig.proofs.TransferLemmas.{failed_behind, failed_first, made_then}
 use Rattle.probe_trig.proofs.register.read_word.Goals as goal
 
-pub returns-in_err-set-clause-failed : goal.returns-in_err-set-clause-failed
-returns-in_err-set-clause-failed g c =
-    if_err _ c.from_residual.result _ c.from_residual.ensures.1 (failed_first _ _ _ _ _ _ _ _ (word_selects c.args.slot) (rw (c.from.ensures) at c.in_err-set.ensures.failed))
+pub returns-in_err-set_reg-clause-failed : goal.returns-in_err-set_reg-clause-failed
+returns-in_err-set_reg-clause-failed g c =
+    if_err _ c.from_residual.result _ c.from_residual.ensures.1
+    (failed_first _ _ _ _ _ _ _ _ (word_selects c.args.slot) (rw (c.from.ensures) at c.in_err-set_reg.ensures.failed))
 
 pub returns-in_err-tdata1-clause-failed : goal.returns-in_err-tdata1-clause-failed
 returns-in_err-tdata1-clause-failed g c =
     if_err _ c.from_residual-in_err-tdata1.result _ c.from_residual-in_err-tdata1.ensures.1
-    (failed_behind _ _ (Set Tselect c.args.slot ∷ []) _ _ _ _ _ _ _ _ c.set.ensures.keeps.later c.get.ensures.keeps.later (rw (c.from.ensures) at c.in_ok-set.ensures.made) (word_gets c.args.slot) c.in_err-tdata1.ensures.failed)
+    (failed_behind _ _ (Set Tselect c.args.slot ∷ []) _ _ _ _ _ _ _ _ c.set_reg.ensures.keeps.later c.reg.ensures.keeps.later
+    (rw (c.from.ensures) at c.in_ok-set_reg.ensures.made) (word_gets c.args.slot) c.in_err-tdata1.ensures.failed)
 
 pub returns-clause-made : goal.returns-clause-made
 returns-clause-made g c =
-    made_then c.args.halted.now.number (Set Tselect c.args.slot ∷ []) (Got Tdata1 c.in_ok-tdata1.tdata1 ∷ []) _ _ _ (rw (c.from.ensures) at c.in_ok-set.ensures.made) c.in_ok-tdata1.ensures.made
+    made_then c.args.halted.now.number (Set Tselect c.args.slot ∷ []) (Got Tdata1 c.in_ok-tdata1.tdata1 ∷ []) _ _ _
+    (rw (c.from.ensures) at c.in_ok-set_reg.ensures.made) c.in_ok-tdata1.ensures.made

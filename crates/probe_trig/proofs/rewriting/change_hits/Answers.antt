@@ -14,27 +14,74 @@ returns-in_err-kept-clause-failed g c =
 pub returns-in_err-a-clause-failed : goal.returns-in_err-a-clause-failed
 returns-in_err-a-clause-failed g c =
     if_err _ c.from_residual-in_err-a.result _ c.from_residual-in_err-a.ensures.1
-    (failed_behind _ _ (Got Tselect c.in_ok-kept.kept ∷ []) _ _ _ _ _ _ _ _ (omega (arith, c.get.ensures.keeps.later)) c.change_slot.ensures.keeps.later c.in_ok-kept.ensures.made (changes_0 c.args.change c.in_ok-kept.kept) c.in_err-a.ensures.failed)
+    (failed_behind _ _ (Got Tselect c.in_ok-kept.kept ∷ []) _ _ _ _ _ _ _ _
+    (omega (arith, c.reg.ensures.keeps.later)) c.change_slot.ensures.keeps.later c.in_ok-kept.ensures.made
+    (changes_0 c.args.change c.in_ok-kept.kept) c.in_err-a.ensures.failed)
 
 pub returns-in_err-b-clause-failed : goal.returns-in_err-b-clause-failed
 returns-in_err-b-clause-failed g c =
     if_err _ c.from_residual-in_err-b.result _ c.from_residual-in_err-b.ensures.1
-    (failed_behind _ _ (Got Tselect c.in_ok-kept.kept ∷ (slot_changed c.args.change 0 c.in_ok-a.a)) _ _ _ _ _ _ _ _ (omega (arith, c.get.ensures.keeps.later, c.change_slot.ensures.keeps.later)) c.change_slot-2.ensures.keeps.later (made_then c.args.halted.now.number (Got Tselect c.in_ok-kept.kept ∷ []) (slot_changed c.args.change 0 c.in_ok-a.a) _ _ _ c.in_ok-kept.ensures.made c.in_ok-a.ensures.made) (changes_1 c.args.change c.in_ok-kept.kept c.in_ok-a.a) c.in_err-b.ensures.failed)
+    (failed_behind _ _ (Got Tselect c.in_ok-kept.kept ∷ (slot_changed c.args.change 0 c.in_ok-a.a)) _ _ _ _ _ _ _ _
+    (omega (arith, c.reg.ensures.keeps.later, c.change_slot.ensures.keeps.later)) c.change_slot-2.ensures.keeps.later
+    (made_then c.args.halted.now.number (Got Tselect c.in_ok-kept.kept ∷ [])
+    (slot_changed c.args.change 0 c.in_ok-a.a) _ _ _ c.in_ok-kept.ensures.made c.in_ok-a.ensures.made)
+    (changes_1 c.args.change c.in_ok-kept.kept c.in_ok-a.a) c.in_err-b.ensures.failed)
 
 pub returns-in_err-c-clause-failed : goal.returns-in_err-c-clause-failed
 returns-in_err-c-clause-failed g c =
     if_err _ c.from_residual-in_err-c.result _ c.from_residual-in_err-c.ensures.1
-    (failed_behind _ _ (Got Tselect c.in_ok-kept.kept ∷ ((slot_changed c.args.change 0 c.in_ok-a.a) ++ (slot_changed c.args.change 1 c.in_ok-b.b))) _ _ _ _ _ _ _ _ (omega (arith, c.get.ensures.keeps.later, c.change_slot.ensures.keeps.later, c.change_slot-2.ensures.keeps.later)) c.change_slot-3.ensures.keeps.later (made_then c.args.halted.now.number (Got Tselect c.in_ok-kept.kept ∷ []) ((slot_changed c.args.change 0 c.in_ok-a.a) ++ (slot_changed c.args.change 1 c.in_ok-b.b)) _ _ _ c.in_ok-kept.ensures.made (made_then c.args.halted.now.number (slot_changed c.args.change 0 c.in_ok-a.a) (slot_changed c.args.change 1 c.in_ok-b.b) _ _ _ c.in_ok-a.ensures.made c.in_ok-b.ensures.made)) (changes_2 c.args.change c.in_ok-kept.kept c.in_ok-a.a c.in_ok-b.b) c.in_err-c.ensures.failed)
+    (failed_behind _ _ (Got Tselect c.in_ok-kept.kept ∷ ((slot_changed c.args.change 0 c.in_ok-a.a) ++ (slot_changed c.args.change 1 c.in_ok-b.b))) _ _ _ _ _ _
+    _ _ (omega (arith, c.reg.ensures.keeps.later, c.change_slot.ensures.keeps.later, c.change_slot-2.ensures.keeps.later))
+    c.change_slot-3.ensures.keeps.later (made_then c.args.halted.now.number (Got Tselect c.in_ok-kept.kept ∷ [])
+    ((slot_changed c.args.change 0 c.in_ok-a.a) ++ (slot_changed c.args.change 1 c.in_ok-b.b)) _ _ _ c.in_ok-kept.ensures.made
+    (made_then c.args.halted.now.number (slot_changed c.args.change 0 c.in_ok-a.a)
+    (slot_changed c.args.change 1 c.in_ok-b.b) _ _ _ c.in_ok-a.ensures.made c.in_ok-b.ensures.made))
+    (changes_2 c.args.change c.in_ok-kept.kept c.in_ok-a.a c.in_ok-b.b) c.in_err-c.ensures.failed)
 
 pub returns-in_err-d-clause-failed : goal.returns-in_err-d-clause-failed
 returns-in_err-d-clause-failed g c =
     if_err _ c.from_residual-in_err-d.result _ c.from_residual-in_err-d.ensures.1
-    (failed_behind _ _ (Got Tselect c.in_ok-kept.kept ∷ ((slot_changed c.args.change 0 c.in_ok-a.a) ++ ((slot_changed c.args.change 1 c.in_ok-b.b) ++ (slot_changed c.args.change 2 c.in_ok-c.c)))) _ _ _ _ _ _ _ _ (omega (arith, c.get.ensures.keeps.later, c.change_slot.ensures.keeps.later, c.change_slot-2.ensures.keeps.later, c.change_slot-3.ensures.keeps.later)) c.change_slot-4.ensures.keeps.later (made_then c.args.halted.now.number (Got Tselect c.in_ok-kept.kept ∷ []) ((slot_changed c.args.change 0 c.in_ok-a.a) ++ ((slot_changed c.args.change 1 c.in_ok-b.b) ++ (slot_changed c.args.change 2 c.in_ok-c.c))) _ _ _ c.in_ok-kept.ensures.made (made_then c.args.halted.now.number (slot_changed c.args.change 0 c.in_ok-a.a) ((slot_changed c.args.change 1 c.in_ok-b.b) ++ (slot_changed c.args.change 2 c.in_ok-c.c)) _ _ _ c.in_ok-a.ensures.made (made_then c.args.halted.now.number (slot_changed c.args.change 1 c.in_ok-b.b) (slot_changed c.args.change 2 c.in_ok-c.c) _ _ _ c.in_ok-b.ensures.made c.in_ok-c.ensures.made))) (changes_3 c.args.change c.in_ok-kept.kept c.in_ok-a.a c.in_ok-b.b c.in_ok-c.c) c.in_err-d.ensures.failed)
+    (failed_behind _ _ (Got Tselect c.in_ok-kept.kept
+    ∷ ((slot_changed c.args.change 0 c.in_ok-a.a) ++ ((slot_changed c.args.change 1 c.in_ok-b.b) ++ (slot_changed c.args.change 2 c.in_ok-c.c)))) _ _ _ _ _
+    _ _ _ (omega (
+      arith,
+      c.reg.ensures.keeps.later,
+      c.change_slot.ensures.keeps.later,
+      c.change_slot-2.ensures.keeps.later,
+      c.change_slot-3.ensures.keeps.later,
+    )) c.change_slot-4.ensures.keeps.later
+    (made_then c.args.halted.now.number (Got Tselect c.in_ok-kept.kept ∷ [])
+    ((slot_changed c.args.change 0 c.in_ok-a.a) ++ ((slot_changed c.args.change 1 c.in_ok-b.b) ++ (slot_changed c.args.change 2 c.in_ok-c.c))) _ _ _
+    c.in_ok-kept.ensures.made (made_then c.args.halted.now.number (slot_changed c.args.change 0 c.in_ok-a.a)
+    ((slot_changed c.args.change 1 c.in_ok-b.b) ++ (slot_changed c.args.change 2 c.in_ok-c.c)) _ _ _ c.in_ok-a.ensures.made
+    (made_then c.args.halted.now.number (slot_changed c.args.change 1 c.in_ok-b.b)
+    (slot_changed c.args.change 2 c.in_ok-c.c) _ _ _ c.in_ok-b.ensures.made c.in_ok-c.ensures.made)))
+    (changes_3 c.args.change c.in_ok-kept.kept c.in_ok-a.a c.in_ok-b.b c.in_ok-c.c) c.in_err-d.ensures.failed)
 
-pub returns-in_err-set-clause-failed : goal.returns-in_err-set-clause-failed
-returns-in_err-set-clause-failed g c =
-    if_err _ c.from_residual-in_err-set.result _ c.from_residual-in_err-set.ensures.1
-    (failed_behind _ _ (Got Tselect c.in_ok-kept.kept ∷ ((slot_changed c.args.change 0 c.in_ok-a.a) ++ ((slot_changed c.args.change 1 c.in_ok-b.b) ++ ((slot_changed c.args.change 2 c.in_ok-c.c) ++ (slot_changed c.args.change 3 c.in_ok-d.d))))) _ _ _ _ _ _ _ _ (omega (arith, c.get.ensures.keeps.later, c.change_slot.ensures.keeps.later, c.change_slot-2.ensures.keeps.later, c.change_slot-3.ensures.keeps.later, c.change_slot-4.ensures.keeps.later)) c.set.ensures.keeps.later (made_then c.args.halted.now.number (Got Tselect c.in_ok-kept.kept ∷ []) ((slot_changed c.args.change 0 c.in_ok-a.a) ++ ((slot_changed c.args.change 1 c.in_ok-b.b) ++ ((slot_changed c.args.change 2 c.in_ok-c.c) ++ (slot_changed c.args.change 3 c.in_ok-d.d)))) _ _ _ c.in_ok-kept.ensures.made (made_then c.args.halted.now.number (slot_changed c.args.change 0 c.in_ok-a.a) ((slot_changed c.args.change 1 c.in_ok-b.b) ++ ((slot_changed c.args.change 2 c.in_ok-c.c) ++ (slot_changed c.args.change 3 c.in_ok-d.d))) _ _ _ c.in_ok-a.ensures.made (made_then c.args.halted.now.number (slot_changed c.args.change 1 c.in_ok-b.b) ((slot_changed c.args.change 2 c.in_ok-c.c) ++ (slot_changed c.args.change 3 c.in_ok-d.d)) _ _ _ c.in_ok-b.ensures.made (made_then c.args.halted.now.number (slot_changed c.args.change 2 c.in_ok-c.c) (slot_changed c.args.change 3 c.in_ok-d.d) _ _ _ c.in_ok-c.ensures.made c.in_ok-d.ensures.made)))) (changes_back c.args.change c.in_ok-kept.kept c.in_ok-a.a c.in_ok-b.b c.in_ok-c.c c.in_ok-d.d) c.in_err-set.ensures.failed)
+pub returns-in_err-set_reg-clause-failed : goal.returns-in_err-set_reg-clause-failed
+returns-in_err-set_reg-clause-failed g c =
+    if_err _ c.from_residual-in_err-set_reg.result _ c.from_residual-in_err-set_reg.ensures.1
+    (failed_behind _ _ (Got Tselect c.in_ok-kept.kept
+    ∷ ((slot_changed c.args.change 0 c.in_ok-a.a) ++ ((slot_changed c.args.change 1 c.in_ok-b.b)
+    ++ ((slot_changed c.args.change 2 c.in_ok-c.c) ++ (slot_changed c.args.change 3 c.in_ok-d.d))))) _ _ _ _ _ _ _ _
+    (omega (
+      arith,
+      c.reg.ensures.keeps.later,
+      c.change_slot.ensures.keeps.later,
+      c.change_slot-2.ensures.keeps.later,
+      c.change_slot-3.ensures.keeps.later,
+      c.change_slot-4.ensures.keeps.later,
+    )) c.set_reg.ensures.keeps.later
+    (made_then c.args.halted.now.number (Got Tselect c.in_ok-kept.kept ∷ [])
+    ((slot_changed c.args.change 0 c.in_ok-a.a) ++ ((slot_changed c.args.change 1 c.in_ok-b.b)
+    ++ ((slot_changed c.args.change 2 c.in_ok-c.c) ++ (slot_changed c.args.change 3 c.in_ok-d.d)))) _ _ _ c.in_ok-kept.ensures.made
+    (made_then c.args.halted.now.number (slot_changed c.args.change 0 c.in_ok-a.a)
+    ((slot_changed c.args.change 1 c.in_ok-b.b) ++ ((slot_changed c.args.change 2 c.in_ok-c.c) ++ (slot_changed c.args.change 3 c.in_ok-d.d))) _ _ _
+    c.in_ok-a.ensures.made (made_then c.args.halted.now.number (slot_changed c.args.change 1 c.in_ok-b.b)
+    ((slot_changed c.args.change 2 c.in_ok-c.c) ++ (slot_changed c.args.change 3 c.in_ok-d.d)) _ _ _ c.in_ok-b.ensures.made
+    (made_then c.args.halted.now.number (slot_changed c.args.change 2 c.in_ok-c.c)
+    (slot_changed c.args.change 3 c.in_ok-d.d) _ _ _ c.in_ok-c.ensures.made c.in_ok-d.ensures.made))))
+    (changes_back c.args.change c.in_ok-kept.kept c.in_ok-a.a c.in_ok-b.b c.in_ok-c.c c.in_ok-d.d) c.in_err-set_reg.ensures.failed)
 
 pub returns-clause-did : goal.returns-clause-did
 returns-clause-did g c = record {
@@ -43,5 +90,23 @@ returns-clause-did g c = record {
   c = c.in_ok-c.c;
   d = c.in_ok-d.d;
   some_is = c.some_hit.ensures;
-  did = record { transfers = (Got Tselect c.in_ok-kept.kept ∷ ((slot_changed c.args.change 0 c.in_ok-a.a) ++ ((slot_changed c.args.change 1 c.in_ok-b.b) ++ ((slot_changed c.args.change 2 c.in_ok-c.c) ++ ((slot_changed c.args.change 3 c.in_ok-d.d) ++ (put_back c.in_ok-kept.kept)))))); whole = record { kept = c.in_ok-kept.kept; is = refl }; made = (made_then c.args.halted.now.number (Got Tselect c.in_ok-kept.kept ∷ []) ((slot_changed c.args.change 0 c.in_ok-a.a) ++ ((slot_changed c.args.change 1 c.in_ok-b.b) ++ ((slot_changed c.args.change 2 c.in_ok-c.c) ++ ((slot_changed c.args.change 3 c.in_ok-d.d) ++ (put_back c.in_ok-kept.kept))))) _ _ _ c.in_ok-kept.ensures.made (made_then c.args.halted.now.number (slot_changed c.args.change 0 c.in_ok-a.a) ((slot_changed c.args.change 1 c.in_ok-b.b) ++ ((slot_changed c.args.change 2 c.in_ok-c.c) ++ ((slot_changed c.args.change 3 c.in_ok-d.d) ++ (put_back c.in_ok-kept.kept)))) _ _ _ c.in_ok-a.ensures.made (made_then c.args.halted.now.number (slot_changed c.args.change 1 c.in_ok-b.b) ((slot_changed c.args.change 2 c.in_ok-c.c) ++ ((slot_changed c.args.change 3 c.in_ok-d.d) ++ (put_back c.in_ok-kept.kept))) _ _ _ c.in_ok-b.ensures.made (made_then c.args.halted.now.number (slot_changed c.args.change 2 c.in_ok-c.c) ((slot_changed c.args.change 3 c.in_ok-d.d) ++ (put_back c.in_ok-kept.kept)) _ _ _ c.in_ok-c.ensures.made (made_then c.args.halted.now.number (slot_changed c.args.change 3 c.in_ok-d.d) (put_back c.in_ok-kept.kept) _ _ _ c.in_ok-d.ensures.made c.in_ok-set.ensures.made))))) };
+  did = record {
+    transfers = (Got Tselect c.in_ok-kept.kept
+        ∷ ((slot_changed c.args.change 0 c.in_ok-a.a) ++ ((slot_changed c.args.change 1 c.in_ok-b.b)
+        ++ ((slot_changed c.args.change 2 c.in_ok-c.c) ++ ((slot_changed c.args.change 3 c.in_ok-d.d) ++ (put_back c.in_ok-kept.kept))))));
+    whole = record { kept = c.in_ok-kept.kept; is = refl };
+    made = (made_then c.args.halted.now.number (Got Tselect c.in_ok-kept.kept ∷ [])
+        ((slot_changed c.args.change 0 c.in_ok-a.a) ++ ((slot_changed c.args.change 1 c.in_ok-b.b)
+        ++ ((slot_changed c.args.change 2 c.in_ok-c.c) ++ ((slot_changed c.args.change 3 c.in_ok-d.d) ++ (put_back c.in_ok-kept.kept))))) _ _ _
+        c.in_ok-kept.ensures.made (made_then c.args.halted.now.number (slot_changed c.args.change 0 c.in_ok-a.a)
+        ((slot_changed c.args.change 1 c.in_ok-b.b) ++ ((slot_changed c.args.change 2 c.in_ok-c.c)
+        ++ ((slot_changed c.args.change 3 c.in_ok-d.d) ++ (put_back c.in_ok-kept.kept)))) _ _ _ c.in_ok-a.ensures.made
+        (made_then c.args.halted.now.number (slot_changed c.args.change 1 c.in_ok-b.b)
+        ((slot_changed c.args.change 2 c.in_ok-c.c) ++ ((slot_changed c.args.change 3 c.in_ok-d.d) ++ (put_back c.in_ok-kept.kept)))
+        _ _ _ c.in_ok-b.ensures.made
+        (made_then c.args.halted.now.number (slot_changed c.args.change 2 c.in_ok-c.c)
+        ((slot_changed c.args.change 3 c.in_ok-d.d) ++ (put_back c.in_ok-kept.kept)) _ _ _ c.in_ok-c.ensures.made
+        (made_then c.args.halted.now.number (slot_changed c.args.change 3 c.in_ok-d.d)
+        (put_back c.in_ok-kept.kept) _ _ _ c.in_ok-d.ensures.made c.in_ok-set_reg.ensures.made)))));
+  };
 }

@@ -7,18 +7,23 @@ use Rattle.probe_trig.proofs.rewriting.change_slot.Goals as goal
 
 pub returns-in_err-tdata1-clause-failed : goal.returns-in_err-tdata1-clause-failed
 returns-in_err-tdata1-clause-failed g c =
-    if_err _ c.from_residual.result _ c.from_residual.ensures.1 (failed_first _ _ _ _ _ _ _ _ (changed_words c.args.change c.args.slot) c.in_err-tdata1.ensures.failed)
+    if_err _ c.from_residual.result _ c.from_residual.ensures.1
+    (failed_first _ _ _ _ _ _ _ _ (changed_words c.args.change c.args.slot) c.in_err-tdata1.ensures.failed)
 
-pub returns-in_err-set-clause-failed : goal.returns-in_err-set-clause-failed
-returns-in_err-set-clause-failed g c =
-    if_err _ c.from_residual-in_err-set.result _ c.from_residual-in_err-set.ensures.1
-    (failed_behind _ _ (word_read c.args.slot c.in_ok-tdata1.tdata1) _ _ _ _ _ _ _ _ c.read_word.ensures.keeps.later c.set.ensures.keeps.later c.in_ok-tdata1.ensures.made
-    (changed_sets c.args.change c.args.slot c.in_ok-tdata1.tdata1 (sym c.shows_hit.ensures ∙ c.if-not-shows_hit.false)) (rw (c.of_word.ensures) at c.in_err-set.ensures.failed))
+pub returns-in_err-set_reg-clause-failed : goal.returns-in_err-set_reg-clause-failed
+returns-in_err-set_reg-clause-failed g c =
+    if_err _ c.from_residual-in_err-set_reg.result _ c.from_residual-in_err-set_reg.ensures.1
+    (failed_behind _ _ (word_read c.args.slot c.in_ok-tdata1.tdata1) _ _ _ _ _ _ _ _ c.read_word.ensures.keeps.later c.set_reg.ensures.keeps.later
+    c.in_ok-tdata1.ensures.made
+    (changed_sets c.args.change c.args.slot c.in_ok-tdata1.tdata1 (sym c.shows_hit.ensures ∙ c.if-not-shows_hit.false))
+    (rw (c.of_word.ensures) at c.in_err-set_reg.ensures.failed))
 
 pub returns-then-not-shows_hit-clause-made : goal.returns-then-not-shows_hit-clause-made
 returns-then-not-shows_hit-clause-made g c =
-    unchanged_made c.args.change c.args.slot c.in_ok-tdata1.tdata1 c.args.halted.now.number _ _ (sym c.shows_hit.ensures ∙ c.if-not-shows_hit.true) c.in_ok-tdata1.ensures.made
+    unchanged_made c.args.change c.args.slot c.in_ok-tdata1.tdata1 c.args.halted.now.number _ _
+    (sym c.shows_hit.ensures ∙ c.if-not-shows_hit.true) c.in_ok-tdata1.ensures.made
 
 pub returns-clause-made : goal.returns-clause-made
 returns-clause-made g c =
-    changed_made c.args.change c.args.slot c.in_ok-tdata1.tdata1 c.args.halted.now.number _ _ _ (sym c.shows_hit.ensures ∙ c.if-not-shows_hit.false) c.in_ok-tdata1.ensures.made (rw (c.of_word.ensures) at c.in_ok-set.ensures.made)
+    changed_made c.args.change c.args.slot c.in_ok-tdata1.tdata1 c.args.halted.now.number _ _ _
+    (sym c.shows_hit.ensures ∙ c.if-not-shows_hit.false) c.in_ok-tdata1.ensures.made (rw (c.of_word.ensures) at c.in_ok-set_reg.ensures.made)

@@ -14,7 +14,7 @@ returns-in_err-word-clause-failed g c =
 pub returns-in_err-_some-clause-failed : goal.returns-in_err-_some-clause-failed
 returns-in_err-_some-clause-failed g c =
     if_err _ c.from_residual-in_err-_some.result _ c.from_residual-in_err-_some.ensures.1
-    (failed_behind _ _ (Got Dcsr c.in_ok-word.word ∷ []) _ _ _ _ _ _ _ _ c.get.ensures.keeps.later c.change_hits.ensures.keeps.later c.in_ok-word.ensures.made
+    (failed_behind _ _ (Got Dcsr c.in_ok-word.word ∷ []) _ _ _ _ _ _ _ _ c.reg.ensures.keeps.later c.change_hits.ensures.keeps.later c.in_ok-word.ensures.made
     (ends_changes c.shows_step-executed.result c.in_ok-word.word c.shows_step-executed.ensures) (rw (c.ending.ensures) at c.in_err-_some.ensures.failed))
 
 pub returns-clause-did : goal.returns-clause-did

@@ -8,22 +8,26 @@ use Rattle.probe_trig.proofs.Untold.{failed_left}
 use Rattle.probe_trig.proofs.stepping.step_back.Goals as goal
 
 pub returns-in_err-again-clause-failed : goal.returns-in_err-again-clause-failed
-returns-in_err-again-clause-failed g c = if_err _ c.from_residual.result _ c.from_residual.ensures.1 (in_step c.in_err-again.ensures.failed c.in_err-again.ensures.cut)
+returns-in_err-again-clause-failed g c = if_err _ c.from_residual.result _ c.from_residual.ensures.1
+    (in_step c.in_err-again.ensures.failed c.in_err-again.ensures.cut)
 
 pub returns-in_err-executed-clause-left : goal.returns-in_err-executed-clause-left
 returns-in_err-executed-clause-left g c =
     if_err _ c.from_residual-in_err-executed.result _ c.from_residual-in_err-executed.ensures.1
-    (flag_left c.args.halted.number _ _ _ c.in_err-executed.field-0.0 (at_back _ _ _ (steps_at c.args.halted.number _ _ c.in_ok-again.ensures.stepped_at)) (failed_left _ _ _ _ _ _ _ c.in_err-executed.field-0.0 c.in_err-executed.ensures.failed))
+    (flag_left c.args.halted.number _ _ _ c.in_err-executed.field-0.0 (at_back _ _ _ (steps_at c.args.halted.number _ _ c.in_ok-again.ensures.stepped_at))
+    (failed_left _ _ _ _ _ _ _ c.in_err-executed.field-0.0 c.in_err-executed.ensures.failed))
 
 pub returns-in_err-executed-clause-failed : goal.returns-in_err-executed-clause-failed
 returns-in_err-executed-clause-failed g c =
     if_err _ c.from_residual-in_err-executed.result _ c.from_residual-in_err-executed.ensures.1
     (in_end _ c.in_ok-again.ensures.stepped
-    (failed_counted _ c.args.halted.number _ _ _ _ _ c.in_err-executed.field-0.0 c.step.ensures.keeps.later c.put_back.ensures.keeps.later (rw (c.in_ok-again.ensures.hart) at c.in_err-executed.ensures.failed)))
+    (failed_counted _ c.args.halted.number _ _ _ _ _ c.in_err-executed.field-0.0 c.step.ensures.keeps.later c.put_back.ensures.keeps.later
+    (rw (c.in_ok-again.ensures.hart) at c.in_err-executed.ensures.failed)))
 
 pub returns-clause-back_at : goal.returns-clause-back_at
 returns-clause-back_at g c =
-    back_at c.in_ok-executed.executed c.args.halted.number _ _ _ _ c.in_ok-again.ensures.stepped_at c.in_ok-again.ensures.serving.ready c.in_ok-again.ensures.serving.halted (rw (c.in_ok-again.ensures.hart) at c.in_ok-executed.ensures.did)
+    back_at c.in_ok-executed.executed c.args.halted.number _ _ _ _ c.in_ok-again.ensures.stepped_at c.in_ok-again.ensures.serving.ready
+    c.in_ok-again.ensures.serving.halted (rw (c.in_ok-again.ensures.hart) at c.in_ok-executed.ensures.did)
 
 pub returns-clause-stepped : goal.returns-clause-stepped
 returns-clause-stepped g c = record { ran = _; steps = c.in_ok-again.ensures.stepped; ends = rw (c.in_ok-again.ensures.hart) at c.in_ok-executed.ensures.did }
@@ -35,4 +39,5 @@ returns-in_err-again-clause-cut g c =
 pub returns-in_err-executed-clause-cut : goal.returns-in_err-executed-clause-cut
 returns-in_err-executed-clause-cut g c =
     if_err _ c.from_residual-in_err-executed.result _ c.from_residual-in_err-executed.ensures.1
-    (back_in_end c.args.halted.number _ _ _ _ _ _ c.in_err-executed.field-0.0 c.in_ok-again.ensures.stepped_at c.in_ok-again.ensures.serving.ready c.in_ok-again.ensures.serving.halted (rw (c.in_ok-again.ensures.hart) at c.in_err-executed.ensures.failed))
+    (back_in_end c.args.halted.number _ _ _ _ _ _ c.in_err-executed.field-0.0 c.in_ok-again.ensures.stepped_at c.in_ok-again.ensures.serving.ready
+    c.in_ok-again.ensures.serving.halted (rw (c.in_ok-again.ensures.hart) at c.in_err-executed.ensures.failed))

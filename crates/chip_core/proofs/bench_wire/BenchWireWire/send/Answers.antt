@@ -11,8 +11,12 @@ returns-clause-live g c = λ signs.
 
 pub returns-then-at_limit-clause-ties : goal.returns-then-at_limit-clause-ties
 returns-then-at_limit-clause-ties g c =
-    ap (lent_by c.args.self.now.bench.ghost_name) (fed_ties c.args.self.now.bench.now c.feed_pieces.new.bench c.args.bytes.now c.args.self.now.unread.items c.feed_pieces.new.answers.items c.feed_pieces.ensures.chip)
+    ap (lent_by c.args.self.now.bench.ghost_name)
+    (fed_ties c.args.self.now.bench.now c.feed_pieces.new.bench c.args.bytes.now c.args.self.now.unread.items c.feed_pieces.new.answers.items
+    c.feed_pieces.ensures.chip)
 
 pub returns-clause-ties : goal.returns-clause-ties
 returns-clause-ties g c =
-    ap (lent_by c.args.self.now.bench.ghost_name) (fed_ties c.args.self.now.bench.now c.feed_pieces.new.bench c.args.bytes.now c.args.self.now.unread.items c.feed_pieces.new.answers.items c.feed_pieces.ensures.chip)
+    ap (lent_by c.args.self.now.bench.ghost_name)
+    (fed_ties c.args.self.now.bench.now c.feed_pieces.new.bench c.args.bytes.now c.args.self.now.unread.items c.feed_pieces.new.answers.items
+    c.feed_pieces.ensures.chip)

@@ -22,4 +22,5 @@ returns-in-len1-up-clause-answers g c =
     sym (ap (λ xs. items ++ xs) (said_stays c.args.self.now c.in-Some.end c.args.bytes.now (sym c.ending.ensures ∙ c.in-Some.is)) ∙ append-nil items)
 
 pub returns-in-len1-up-clause-fed : goal.returns-in-len1-up-clause-fed
-returns-in-len1-up-clause-fed g c = c.fed_at.ensures ∙ fed_stays c.args.self.now c.in-Some.end 0 c.args.bytes.now c.in-len1-up.len_at_least (sym c.ending.ensures ∙ c.in-Some.is)
+returns-in-len1-up-clause-fed g c = c.fed_at.ensures
+    ∙ fed_stays c.args.self.now c.in-Some.end 0 c.args.bytes.now c.in-len1-up.len_at_least (sym c.ending.ensures ∙ c.in-Some.is)

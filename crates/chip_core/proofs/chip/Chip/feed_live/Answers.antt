@@ -12,7 +12,8 @@ bytes-preserved g c =
     let live = sym c.ending.ensures ∙ c.in_default-ending.is in
     record {
       chip = ap (λ m. feed m (tail rest)) c.take.ensures.chip ∙ feed_first old rest some ∙ c.bytes.invariant.chip;
-      answers = said_next old new rest c.bytes.answers.items c.take.new.answers.items _ some c.take.ensures.chip c.take.ensures.answers c.bytes.invariant.answers;
+      answers = said_next old new rest c.bytes.answers.items c.take.new.answers.items _ some c.take.ensures.chip c.take.ensures.answers
+          c.bytes.invariant.answers;
       fed = fed_next old new c.bytes.place rest some c.take.ensures.chip live ∙ c.bytes.invariant.fed;
       live = live;
       place = omega (arith, c.bytes.invariant.place, tail_length rest some);
@@ -21,7 +22,8 @@ bytes-preserved g c =
 
 pub returns-in-Some-clause-chip : goal.returns-in-Some-clause-chip
 returns-in-Some-clause-chip g c =
-    feed_met c.bytes.self c.take.new.self c.in-Some.end c.bytes.rest.now c.in-len1-up.len_at_least c.take.ensures.chip (sym c.ending.ensures ∙ c.in-Some.is) ∙ c.bytes.invariant.chip
+    feed_met c.bytes.self c.take.new.self c.in-Some.end c.bytes.rest.now c.in-len1-up.len_at_least c.take.ensures.chip (sym c.ending.ensures ∙ c.in-Some.is)
+    ∙ c.bytes.invariant.chip
 
 pub returns-in-Some-clause-answers : goal.returns-in-Some-clause-answers
 returns-in-Some-clause-answers g c =
@@ -30,7 +32,8 @@ returns-in-Some-clause-answers g c =
 
 pub returns-in-Some-clause-fed : goal.returns-in-Some-clause-fed
 returns-in-Some-clause-fed g c =
-    c.fed_at.ensures ∙ fed_met c.bytes.self c.take.new.self c.in-Some.end c.bytes.place c.bytes.rest.now c.in-len1-up.len_at_least c.take.ensures.chip (sym c.ending.ensures ∙ c.in-Some.is)
+    c.fed_at.ensures ∙ fed_met c.bytes.self c.take.new.self c.in-Some.end c.bytes.place c.bytes.rest.now c.in-len1-up.len_at_least c.take.ensures.chip
+    (sym c.ending.ensures ∙ c.in-Some.is)
     ∙ c.bytes.invariant.fed
 
 pub returns-clause-chip : goal.returns-clause-chip

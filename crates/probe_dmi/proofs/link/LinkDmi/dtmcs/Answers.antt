@@ -1,9 +1,9 @@
 use Rattle.std.proofs.Common.{◌∙◌, ap, rules}
 use Rattle.debug_model.specs.declared.dtmcs.Dtmcs.{Dtmcs as TheDtmcs}
-use Rattle.probe_dmi.specs.Operations.{abits_behind}
+use Rattle.debug_model.specs.Asked.{abits_behind, reset_bits}
 use Rattle.debug_model.specs.declared.data_register.DataRegister.TheVariants.{Dtmcs}
-use Rattle.probe_dmi.specs.Registers.{reset_bits}
 use Rattle.jt_base.proofs.Pieces.{on_err}
+use Rattle.probe_dmi.proofs.Asking.{asks_width}
 use Rattle.probe_dmi.proofs.Stages.{reset_harmless}
 use Rattle.probe_dmi.proofs.Conditions.{can_operate}
 use Rattle.probe_dmi.proofs.Readings.{abits_told, dtmcs_value, none_cut, read_clean, read_none, read_then}
@@ -27,3 +27,7 @@ invariant_of-self-2 g c = record {
   is_pace = c.args.self.now.is_pace;
   width = abits_told c.in_ok-dtmcs.dtmcs c.args.self.now.abits c.abits_behind-self.result (g.S.Scan.seen c.args.self.now.registers.scan).far _ c.requires.callable.link.clean (c.abits_behind-self.ensures.value ∙ ap (λ (r : TheDtmcs). abits_behind r.abits c.args.self.now.abits) c.from_word.ensures) c.in_ok-dtmcs.ensures.scanned;
 }
+
+pub returns-clause-asked : goal.returns-clause-asked
+returns-clause-asked g c = asks_width c.args.self.now.registers.state c.in_ok-dtmcs.dtmcs c.args.self.now.abits c.abits_behind-self.result (g.S.Scan.seen c.args.self.now.registers.scan).asked _
+    (c.abits_behind-self.ensures.value ∙ ap (λ (r : TheDtmcs). abits_behind r.abits c.args.self.now.abits) c.from_word.ensures) c.in_ok-dtmcs.ensures.asked

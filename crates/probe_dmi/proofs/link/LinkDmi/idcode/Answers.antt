@@ -1,6 +1,6 @@
 use Rattle.std.proofs.Common.{rules}
 use Rattle.debug_model.specs.declared.data_register.DataRegister.TheVariants.{Idcode}
-use Rattle.probe_dmi.specs.Registers.{idcode_bits}
+use Rattle.debug_model.specs.Asked.{idcode_bits}
 use Rattle.jt_base.proofs.Pieces.{on_err}
 use Rattle.probe_dmi.proofs.Stages.{idcode_harmless}
 use Rattle.probe_dmi.proofs.Conditions.{can_operate}

@@ -1,6 +1,6 @@
 use Rattle.debug_model.specs.declared.data_register.DataRegister.TheVariants.{Dmi, Dtmcs}
 use Rattle.jt_base.proofs.Pieces.{on_err}
-use Rattle.probe_dmi.specs.Registers.{reset_bits}
+use Rattle.debug_model.specs.Asked.{reset_bits}
 use Rattle.probe_dmi.proofs.Heard.{again_cause, from_err, number_through}
 use Rattle.probe_dmi.proofs.Scans.{word_cut, word_then}
 use Rattle.probe_dmi.proofs.register.Registers.clear_again.Goals as goal

@@ -1,7 +1,8 @@
 use Rattle.debug_model.specs.declared.data_register.DataRegister.TheVariants.{Idcode}
 use Rattle.std.proofs.Common.{refl, subst}
 use Rattle.debug_model.specs.Scan.{WhereTold}
-use Rattle.probe_dmi.specs.Registers.{CutFrom, idcode_bits}
+use Rattle.probe_dmi.specs.Registers.{CutFrom}
+use Rattle.debug_model.specs.Asked.{idcode_bits}
 use Rattle.jt_base.proofs.Pieces.{on_err}
 use Rattle.probe_dmi.proofs.Conditions.{as_long, fits_then}
 use Rattle.probe_dmi.proofs.Scans.{cut_then, scan_then, waited_cut, word_of}

@@ -1,5 +1,6 @@
 use Rattle.std.proofs.Common.{◌∙◌, ◌+◌, true, false, refl, subst, arith, rules}
 use Rattle.debug_model.specs.Scan.{WhereTold}
+use Rattle.probe_dmi.proofs.Asking.{carried_begun, carried_busy, carried_out, carried_took}
 use Rattle.probe_dmi.proofs.Heard.{SoFar, dmi_through, heard_again, heard_busy, heard_carried, heard_failed, heard_result, nothing_heard, scan_cause, so_far_through, wire_cause}
 use Rattle.jt_base.proofs.Pieces.{on_err}
 use Rattle.debug_model.specs.declared.data_register.DataRegister.TheVariants.{Dmi}
@@ -13,6 +14,7 @@ pub scans-init : goal.scans-init
 scans-init g c = record {
   underway = begun c.args.op _ _ c.requires.link.clean c.in_ok-select.ensures.prepared;
   so_far = nothing_heard _ _ c.select.ensures.coming;
+  asked = carried_begun c.args.self.now.state c.args.abits c.args.op (g.S.Scan.seen c.args.self.now.scan).asked _ c.in_ok-select.ensures.asked;
   rests = c.in_ok-select.ensures.keeps.behind;
   chosen = chosen_of Dmi _ _ c.in_ok-select.ensures.prepared;
   idle = c.in_ok-select.ensures.state;
@@ -60,6 +62,8 @@ scans-preserved-then-out-eq-STATUS_DONE g c =
     record {
       underway = u;
       so_far = heard_carried c.scans.busy c.in_ok-out.out _ (g.S.Scan.seen c.scans.self.scan).coming _ c.if-out-eq-STATUS_DONE.true (subst (λ b. SoFar c.scans.busy b (g.S.Scan.seen c.args.self.now.scan).coming (g.S.Scan.seen c.scans.self.scan).coming) c.if-taken.false c.scans.invariant.so_far) c.in_ok-out.ensures.heard;
+      asked = carried_took c.args.self.now.state c.args.abits c.args.op c.scans.busy c.scans.taken c.next_scan.result (g.S.Scan.seen c.args.self.now.scan).asked (g.S.Scan.seen c.scans.self.scan).asked _ c.next_scan.ensures c.if-taken.false
+          c.scans.invariant.asked c.in_ok-out.ensures.asked;
       rests = c.in_ok-out.ensures.keeps.behind;
       chosen = c.in_ok-out.ensures.chosen;
       idle = c.in_ok-out.ensures.state;
@@ -91,6 +95,8 @@ scans-preserved g c =
     record {
       underway = u;
       so_far = heard_again c.scans.busy c.scans.taken c.in_ok-out.out c.in_ok-clear_again.field-0 _ (g.S.Scan.seen c.scans.self.scan).coming (g.S.Scan.seen c.exchange_behind.new.self.scan).coming _ c.if-out-eq-STATUS_DONE.false c.if-out-eq-STATUS_FAILED.false c.scans.invariant.so_far c.in_ok-out.ensures.heard c.in_ok-clear_again.ensures.heard;
+      asked = carried_busy c.args.self.now.state c.exchange_behind.new.self.state c.args.abits c.args.op c.scans.busy c.scans.taken c.next_scan.result (g.S.Scan.seen c.args.self.now.scan).asked (g.S.Scan.seen c.scans.self.scan).asked (g.S.Scan.seen c.exchange_behind.new.self.scan).asked _
+          c.next_scan.ensures c.in_ok-out.ensures.state c.scans.invariant.asked c.in_ok-out.ensures.asked c.in_ok-clear_again.ensures.asked;
       rests = c.in_ok-clear_again.ensures.keeps.behind;
       chosen = c.in_ok-clear_again.ensures.chosen;
       idle = c.in_ok-clear_again.ensures.state;
@@ -110,3 +116,7 @@ returns-clause-cause g c = (
   busy_found c.args.op c.scans.taken c.scans.busy _ _ c.scans-test.false c.scans.invariant.underway,
   heard_busy c.scans.busy c.scans.taken _ (g.S.Scan.seen c.scans.self.scan).coming (omega (arith, c.scans-test.false, c.scans.invariant.few)) c.scans.invariant.so_far,
 )
+
+pub returns-then-taken-clause-asked : goal.returns-then-taken-clause-asked
+returns-then-taken-clause-asked g c = carried_out c.args.self.now.state c.args.abits c.args.op c.scans.busy c.scans.taken c.next_scan.result (g.S.Scan.seen c.args.self.now.scan).asked (g.S.Scan.seen c.scans.self.scan).asked _ c.next_scan.ensures c.if-taken.true
+    c.scans.invariant.asked c.in_ok-out.ensures.asked

@@ -5,6 +5,7 @@ use Rattle.debug_model.specs.Kept.{ScanRests}
 use Rattle.debug_model.specs.declared.data_register.DataRegister.TheVariants.{Dmi}
 use Rattle.probe_dmi.specs.declared.state.State.TheVariants.{Idle}
 use Rattle.probe_dmi.specs.Registers.{IsChosen, IsWidth}
+use Rattle.probe_dmi.proofs.Asking.{CarriedSoFar}
 use Rattle.probe_dmi.proofs.Heard.{SoFar}
 use Rattle.probe_dmi.proofs.Told.{Underway}
 use Rattle.probe_dmi.proofs.register.Registers.operate.Given as goal
@@ -13,6 +14,7 @@ abbrev pub invariant-scans : goal.invariant-scans
 invariant-scans g l = record {
   underway : WhereTold (Underway l.op l.taken l.busy) (g.S.Scan.seen l.fn.self.scan).far (g.S.Scan.seen l.self.scan).far;
   so_far : SoFar l.busy l.taken (g.S.Scan.seen l.fn.self.scan).coming (g.S.Scan.seen l.self.scan).coming;
+  asked : CarriedSoFar l.fn.self.state l.abits l.op l.busy l.taken (g.S.Scan.seen l.fn.self.scan).asked (g.S.Scan.seen l.self.scan).asked;
   rests : ScanRests (g.S.Scan.seen l.self.scan);
   chosen : IsChosen Dmi (g.S.Scan.seen l.self.scan).far;
   idle : l.self.state ≡ Idle;

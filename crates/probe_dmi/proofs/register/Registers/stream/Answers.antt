@@ -7,6 +7,7 @@ use Rattle.debug_model.specs.declared.data_register.DataRegister.TheVariants.{Dm
 use Rattle.debug_model.specs.declared.dmi_op.DmiOp.{DmiOp}
 use Rattle.jt_base.proofs.Pieces.{on_err}
 use Rattle.probe_dmi.specs.Registers.{Prepared}
+use Rattle.probe_dmi.proofs.Asking.{streams_begun, streams_ignored, streams_out, streams_went}
 use Rattle.probe_dmi.proofs.Conditions.{can_operate, width_kept}
 use Rattle.probe_dmi.proofs.Heard.{dmi_through, scan_cause}
 use Rattle.probe_dmi.proofs.ManyHeard.{heard_all, heard_begun, heard_busy_again, heard_many_busy, heard_many_failed, heard_on, many_cause, stream_through}
@@ -22,6 +23,7 @@ pub scans-init : goal.scans-init
 scans-init g c = record {
   streaming = stream_begun c.args.ops.now c.args.results.now.items _ _ c.requires.empty c.requires.link.clean c.in_ok-select.ensures.prepared;
   heard = heard_begun (length c.args.ops.now) c.args.results.now.items _ _ c.requires.empty c.select.ensures.coming;
+  asked = streams_begun c.args.self.now.state c.args.abits c.args.ops.now (g.S.Scan.seen c.args.self.now.scan).asked _ c.in_ok-select.ensures.asked;
   rests = c.in_ok-select.ensures.keeps.behind;
   chosen = chosen_of Dmi _ _ c.in_ok-select.ensures.prepared;
   idle = c.in_ok-select.ensures.state;
@@ -77,6 +79,8 @@ scans-preserved-then-out-ne-STATUS_DONE g c =
     record {
       streaming = u;
       heard = heard_busy_again (length c.args.ops.now) (length c.scans.rest.now) c.scans.busy c.scans.in_flight c.scans.results.items c.in_ok-out.out c.in_ok-clear_again.field-0 _ (g.S.Scan.seen c.scans.self.scan).coming (g.S.Scan.seen c.exchange_behind.new.self.scan).coming _ c.if-out-ne-STATUS_DONE.true c.if-out-eq-STATUS_FAILED.false c.scans.invariant.heard c.in_ok-out.ensures.heard c.in_ok-clear_again.ensures.heard;
+      asked = streams_ignored c.args.self.now.state c.exchange_behind.new.self.state c.args.abits c.args.ops.now c.scans.rest.now c.scans.clocks c.first_scan.result (g.S.Scan.seen c.args.self.now.scan).asked (g.S.Scan.seen c.scans.self.scan).asked (g.S.Scan.seen c.exchange_behind.new.self.scan).asked _
+          (omega (arith, c.scans.invariant.waits)) c.first_scan.ensures c.in_ok-out.ensures.state c.scans.invariant.asked c.in_ok-out.ensures.asked c.in_ok-clear_again.ensures.asked;
       rests = c.in_ok-clear_again.ensures.keeps.behind;
       chosen = c.in_ok-clear_again.ensures.chosen;
       idle = c.in_ok-clear_again.ensures.state;
@@ -104,6 +108,10 @@ pub returns-in_default-clause-answers : goal.returns-in_default-clause-answers
 returns-in_default-clause-answers g c = heard_all c.args.ops.now (length c.scans.rest.now) c.scans.busy c.scans.in_flight c.scans.results.items c.keep.new.results.items c.in_ok-out.out _ (g.S.Scan.seen c.scans.self.scan).coming _ c.scans-test.true c.if-out-ne-STATUS_DONE.false
     (is_flying c.scans.in_flight _ c.scans.invariant.started c.in_default.len_below) c.keep.ensures.kept (omega (arith, c.in_default.len_below)) c.scans.invariant.heard c.in_ok-out.ensures.heard
 
+pub returns-in_default-clause-asked : goal.returns-in_default-clause-asked
+returns-in_default-clause-asked g c = streams_out c.args.self.now.state c.args.abits c.args.ops.now c.scans.rest.now c.scans.clocks c.first_scan.result (g.S.Scan.seen c.args.self.now.scan).asked (g.S.Scan.seen c.scans.self.scan).asked _ c.in_default.len_below
+    (omega (arith, c.scans.invariant.waits)) c.first_scan.ensures c.scans.invariant.asked c.in_ok-out.ensures.asked
+
 pub returns-in_default-clause-keeps : goal.returns-in_default-clause-keeps
 returns-in_default-clause-keeps g c = let o = can_operate _ c.in_ok-out.ensures.keeps.behind (all_clean c.args.ops.now c.keep.new.results.items (g.S.Scan.seen c.args.self.now.scan).far _ (stream_done c.args.ops.now c.scans.results.items c.keep.new.results.items c.scans.rest.now c.scans.in_flight c.scans.busy c.in_ok-out.out (g.S.Scan.seen c.args.self.now.scan).far (g.S.Scan.seen c.scans.self.scan).far _ c.in_default.len_below (is_flying c.scans.in_flight _ c.scans.invariant.started c.in_default.len_below)
     c.if-out-ne-STATUS_DONE.false c.keep.ensures.kept c.scans.invariant.streaming (first_as c.scans.rest.now c.first_scan.result c.in_ok-out.out (g.S.Scan.seen c.scans.self.scan).far _ c.first_scan.ensures c.in_ok-out.ensures.scanned))) in search rules
@@ -115,6 +123,8 @@ scans-preserved g c =
     record {
       streaming = u;
       heard = heard_on (length c.args.ops.now) (length c.scans.rest.now) _ c.scans.busy c.scans.in_flight c.scans.results.items c.keep.new.results.items c.in_ok-out.out _ (g.S.Scan.seen c.scans.self.scan).coming _ c.scans-test.true c.if-out-ne-STATUS_DONE.false c.keep.ensures.kept (rest_length c.scans.rest.now c.in-len1-up.len_at_least) c.scans.invariant.heard c.in_ok-out.ensures.heard;
+      asked = streams_went c.args.self.now.state c.args.abits c.args.ops.now c.scans.rest.now _ c.scans.clocks c.first_scan.result (g.S.Scan.seen c.args.self.now.scan).asked (g.S.Scan.seen c.scans.self.scan).asked _ c.in-len1-up.len_at_least (rest_is c.scans.rest.now)
+          (omega (arith, c.scans.invariant.waits)) c.first_scan.ensures c.scans.invariant.asked c.in_ok-out.ensures.asked;
       rests = c.in_ok-out.ensures.keeps.behind;
       chosen = c.in_ok-out.ensures.chosen;
       idle = c.in_ok-out.ensures.state;

@@ -6,6 +6,7 @@ use Rattle.debug_model.specs.declared.data_register.DataRegister.TheVariants.{Dm
 use Rattle.probe_dmi.specs.declared.state.State.TheVariants.{Idle}
 use Rattle.probe_dmi.specs.Pace.{IsPace}
 use Rattle.probe_dmi.specs.Registers.{IsChosen, IsWidth}
+use Rattle.probe_dmi.proofs.Asking.{StreamsSoFar}
 use Rattle.probe_dmi.proofs.ManyHeard.{HeardSoFar}
 use Rattle.probe_dmi.proofs.Streams.{Streaming}
 use Rattle.probe_dmi.proofs.register.Registers.stream.Given as goal
@@ -14,6 +15,7 @@ abbrev pub invariant-scans : goal.invariant-scans
 invariant-scans g l = record {
   streaming : WhereTold (Streaming l.ops l.results.items l.rest l.in_flight l.busy) (g.S.Scan.seen l.fn.self.scan).far (g.S.Scan.seen l.self.scan).far;
   heard : HeardSoFar (length l.ops) (length l.rest) l.busy l.in_flight l.results.items (g.S.Scan.seen l.fn.self.scan).coming (g.S.Scan.seen l.self.scan).coming;
+  asked : StreamsSoFar l.fn.self.state l.abits l.ops l.rest (g.S.Scan.seen l.fn.self.scan).asked (g.S.Scan.seen l.self.scan).asked;
   rests : ScanRests (g.S.Scan.seen l.self.scan);
   chosen : IsChosen Dmi (g.S.Scan.seen l.self.scan).far;
   idle : l.self.state ≡ Idle;

@@ -2,33 +2,46 @@ use Rattle.std.proofs.Common.{◌∙◌, arith}
 use Rattle.probe_session.specs.Commands.{state_of}
 use Rattle.probe_session.specs.Said.{said_by}
 use Rattle.probe_session.proofs.LinkLemmas.{if_err}
-use Rattle.probe_session.proofs.OneLine.{halt_absent, halt_falls, halt_halted, halt_made, halt_made_falls, if_err_map, if_ok_map, of_halted, of_running, stops, stops_falls}
+use Rattle.probe_session.proofs.OneLine.{halt_absent, halt_falls, halt_halted, halt_made, halt_made_falls, if_err_map, if_ok_map, of_halted}
+use Rattle.probe_session.proofs.OneLine.{of_running, stops, stops_falls}
 use Rattle.probe_session.proofs.SeenLemmas.{saw_as}
 use Rattle.probe_session.proofs.session.Session.halt.Goals as goal
 
-pub returns-in_err-see-clause-falls : goal.returns-in_err-see-clause-falls
-returns-in_err-see-clause-falls g c = if_err _ c.in_err-see.field-0.0 _ c.from_residual.ensures.1 (halt_falls (state_of c.args.self.now) c.in_err-see.ensures.fell)
+pub returns-in_err-look-clause-falls : goal.returns-in_err-look-clause-falls
+returns-in_err-look-clause-falls g c = if_err _ c.in_err-look.field-0.0 _ c.from_residual.ensures.1
+    (halt_falls (state_of c.args.self.now) c.in_err-look.ensures.fell)
 
 pub returns-in-Absent-clause-went : goal.returns-in-Absent-clause-went
-returns-in-Absent-clause-went g c = halt_absent (state_of c.args.self.now) (saw_as c.in-Absent.is c.in_ok-see.ensures.saw)
+returns-in-Absent-clause-went g c = halt_absent (state_of c.args.self.now) (saw_as c.in-Absent.is c.in_ok-look.ensures.saw)
 
 pub returns-in_err-halted-in-Running-clause-falls : goal.returns-in_err-halted-in-Running-clause-falls
 returns-in_err-halted-in-Running-clause-falls g c =
     if_err _ c.in_err-halted-in-Running.field-0.0 _ c.from_residual-in_err-halted-in-Running.ensures.1
-    (halt_made_falls (state_of c.args.self.now) c.in-Running.running (of_running c.in-Running.is c.in_ok-see.ensures.of) (saw_as c.in-Running.is c.in_ok-see.ensures.saw) c.see.ensures.keeps.later c.in_err-halted-in-Running.ensures.fell)
+    (halt_made_falls (state_of c.args.self.now) c.in-Running.running (of_running c.in-Running.is c.in_ok-look.ensures.of)
+    (saw_as c.in-Running.is c.in_ok-look.ensures.saw) c.look.ensures.keeps.later c.in_err-halted-in-Running.ensures.fell)
 
 pub returns-in_ok-halted-in-Running-clause-went : goal.returns-in_ok-halted-in-Running-clause-went
 returns-in_ok-halted-in-Running-clause-went g c =
-    if_ok_map _ _ _ (λ line w. stops (state_of c.args.self.now) (said_by line) c.in_ok-halted-in-Running.halted.number _ (c.in_ok-halted-in-Running.ensures.hart ∙ of_running c.in-Running.is c.in_ok-see.ensures.of) (halt_made (state_of c.args.self.now) c.in-Running.running (of_running c.in-Running.is c.in_ok-see.ensures.of) (saw_as c.in-Running.is c.in_ok-see.ensures.saw) c.in_ok-halted-in-Running.ensures.halted) w) c.stop_line.ensures.went
+    if_ok_map _ _ _ (λ line w. stops (state_of c.args.self.now) (said_by line) c.in_ok-halted-in-Running.halted.number _
+    (c.in_ok-halted-in-Running.ensures.hart ∙ of_running c.in-Running.is c.in_ok-look.ensures.of)
+    (halt_made (state_of c.args.self.now) c.in-Running.running (of_running c.in-Running.is c.in_ok-look.ensures.of)
+    (saw_as c.in-Running.is c.in_ok-look.ensures.saw) c.in_ok-halted-in-Running.ensures.halted) w) c.stop_line.ensures.went
 
 pub returns-in_ok-halted-in-Running-clause-falls : goal.returns-in_ok-halted-in-Running-clause-falls
 returns-in_ok-halted-in-Running-clause-falls g c =
-    if_err_map _ _ _ (λ f p. stops_falls (state_of c.args.self.now) c.in_ok-halted-in-Running.halted.number _ (c.in_ok-halted-in-Running.ensures.hart ∙ of_running c.in-Running.is c.in_ok-see.ensures.of) (halt_made (state_of c.args.self.now) c.in-Running.running (of_running c.in-Running.is c.in_ok-see.ensures.of) (saw_as c.in-Running.is c.in_ok-see.ensures.saw) c.in_ok-halted-in-Running.ensures.halted) (omega (arith, c.see.ensures.keeps.later, c.make_halt.ensures.keeps.later)) p) c.stop_line.ensures.falls
+    if_err_map _ _ _ (λ f p. stops_falls (state_of c.args.self.now) c.in_ok-halted-in-Running.halted.number _
+    (c.in_ok-halted-in-Running.ensures.hart ∙ of_running c.in-Running.is c.in_ok-look.ensures.of)
+    (halt_made (state_of c.args.self.now) c.in-Running.running (of_running c.in-Running.is c.in_ok-look.ensures.of)
+    (saw_as c.in-Running.is c.in_ok-look.ensures.saw) c.in_ok-halted-in-Running.ensures.halted)
+    (omega (arith, c.look.ensures.keeps.later, c.halt.ensures.keeps.later)) p) c.stop_line.ensures.falls
 
 pub returns-in-Halted-clause-went : goal.returns-in-Halted-clause-went
 returns-in-Halted-clause-went g c =
-    if_ok_map _ _ _ (λ line w. stops (state_of c.args.self.now) (said_by line) c.in-Halted.halted.number _ (of_halted c.in-Halted.is c.in_ok-see.ensures.of) (halt_halted (state_of c.args.self.now) _ (saw_as c.in-Halted.is c.in_ok-see.ensures.saw)) w) c.stop_line-in-Halted.ensures.went
+    if_ok_map _ _ _ (λ line w. stops (state_of c.args.self.now) (said_by line) c.in-Halted.halted.number _ (of_halted c.in-Halted.is c.in_ok-look.ensures.of)
+    (halt_halted (state_of c.args.self.now) _ (saw_as c.in-Halted.is c.in_ok-look.ensures.saw)) w) c.stop_line-in-Halted.ensures.went
 
 pub returns-in-Halted-clause-falls : goal.returns-in-Halted-clause-falls
 returns-in-Halted-clause-falls g c =
-    if_err_map _ _ _ (λ f p. stops_falls (state_of c.args.self.now) c.in-Halted.halted.number _ (of_halted c.in-Halted.is c.in_ok-see.ensures.of) (halt_halted (state_of c.args.self.now) _ (saw_as c.in-Halted.is c.in_ok-see.ensures.saw)) c.see.ensures.keeps.later p) c.stop_line-in-Halted.ensures.falls
+    if_err_map _ _ _ (λ f p. stops_falls (state_of c.args.self.now) c.in-Halted.halted.number _ (of_halted c.in-Halted.is c.in_ok-look.ensures.of)
+    (halt_halted (state_of c.args.self.now) _ (saw_as c.in-Halted.is c.in_ok-look.ensures.saw)) c.look.ensures.keeps.later p)
+    c.stop_line-in-Halted.ensures.falls

@@ -94,4 +94,5 @@ pub returns-in-Ebreak-clause-falls : goal.returns-in-Ebreak-clause-falls
 returns-in-Ebreak-clause-falls g c = falls_as _ _ _ _ _ _ _ _ c.in-Ebreak.is c.ebreak.ensures.falls
 
 pub returns-in-Via-clause-went : goal.returns-in-Via-clause-went
-returns-in-Via-clause-went g c = chosen c.args.command c.in-Via.path (said_by c.choose.result) (state_of c.args.self.now) (state_of c.choose.new.self) c.in-Via.is c.choose.ensures.line c.choose.ensures.state
+returns-in-Via-clause-went g c = chosen c.args.command c.in-Via.path (said_by c.choose.result) (state_of c.args.self.now) (state_of c.choose.new.self)
+    c.in-Via.is c.choose.ensures.line c.choose.ensures.state

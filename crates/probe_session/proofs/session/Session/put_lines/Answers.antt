@@ -26,4 +26,5 @@ pub returns-in-Slots-clause-fell : goal.returns-in-Slots-clause-fell
 returns-in-Slots-clause-fell g c = fell_as _ _ _ _ _ _ _ _ _ _ _ _ c.in-Slots.is c.show_slots.ensures.fell
 
 pub put_command-requires-clause-one : goal.put_command-requires-clause-one
-put_command-requires-clause-one g c = one_line_left c.args.command c.requires.more c.in_default.not-Regs c.in_default.not-Read c.in_default.not-Dump c.in_default.not-Slots
+put_command-requires-clause-one g c = one_line_left c.args.command c.requires.more c.in_default.not-Regs c.in_default.not-Read c.in_default.not-Dump
+    c.in_default.not-Slots

@@ -1,5 +1,6 @@
 use Rattle.probe_session.specs.Commands.{state_of}
-use Rattle.probe_session.proofs.MemoryLines.{reached_at, reached_bus, reached_says}
+use Rattle.probe_session.proofs.LinkLemmas.{if_err}
+use Rattle.probe_session.proofs.MemoryLines.{reached_at, reached_bus, reached_falls, reached_says}
 use Rattle.probe_session.proofs.OneLine.{met_as}
 use Rattle.probe_session.proofs.session.Session.reach.Goals as goal
 
@@ -13,3 +14,7 @@ pub returns-in-At-clause-reached : goal.returns-in-At-clause-reached
 returns-in-At-clause-reached g c =
     let m = met_as _ _ _ c.in-At.is c.in_ok-line-in-Progbuf.ensures.met in
     reached_at (state_of c.args.self.now) c.in-At.halted c.in-Progbuf.is m.0 m.1
+
+pub returns-in_err-line-in-Progbuf-clause-falls : goal.returns-in_err-line-in-Progbuf-clause-falls
+returns-in_err-line-in-Progbuf-clause-falls g c = if_err _ c.in_err-line-in-Progbuf.field-0.0 _ c.from_residual.ensures.1
+    (reached_falls (state_of c.args.self.now) c.in-Progbuf.is c.in_err-line-in-Progbuf.ensures.falls)

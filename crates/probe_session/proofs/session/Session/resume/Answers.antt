@@ -5,7 +5,8 @@ use Rattle.probe_session.proofs.OneLine.{if_err_map, if_ok_map, met_as, met_at, 
 use Rattle.probe_session.proofs.session.Session.resume.Goals as goal
 
 pub returns-in_err-line-clause-falls : goal.returns-in_err-line-clause-falls
-returns-in_err-line-clause-falls g c = if_err _ c.in_err-line.field-0.0 _ c.from_residual.ensures.1 (met_falls (state_of c.args.self.now) (let_go c.args.self.now.hart) c.in_err-line.ensures.falls)
+returns-in_err-line-clause-falls g c = if_err _ c.in_err-line.field-0.0 _ c.from_residual.ensures.1
+    (met_falls (state_of c.args.self.now) (let_go c.args.self.now.hart) c.in_err-line.ensures.falls)
 
 pub returns-in-Says-clause-went : goal.returns-in-Says-clause-went
 returns-in-Says-clause-went g c = met_says (state_of c.args.self.now) (let_go c.args.self.now.hart) _ (met_as _ _ _ c.in-Says.is c.in_ok-line.ensures.met)
@@ -18,4 +19,5 @@ returns-in-At-clause-went g c =
 pub returns-in-At-clause-falls : goal.returns-in-At-clause-falls
 returns-in-At-clause-falls g c =
     let m = met_as _ _ _ c.in-At.is c.in_ok-line.ensures.met in
-    if_err_map _ _ _ (λ f p. met_at_falls (state_of c.args.self.now) (let_go) c.in-At.halted.number m.0 m.1 c.meet.ensures.keeps.later p) c.let_go_line.ensures.falls
+    if_err_map _ _ _ (λ f p. met_at_falls (state_of c.args.self.now) (let_go) c.in-At.halted.number m.0 m.1 c.meet.ensures.keeps.later p)
+    c.let_go_line.ensures.falls

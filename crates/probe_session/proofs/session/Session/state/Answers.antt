@@ -5,19 +5,22 @@ use Rattle.probe_session.proofs.OneLine.{if_err_map, if_ok_map, of_halted, state
 use Rattle.probe_session.proofs.SeenLemmas.{saw_as}
 use Rattle.probe_session.proofs.session.Session.state.Goals as goal
 
-pub returns-in_err-see-clause-falls : goal.returns-in_err-see-clause-falls
-returns-in_err-see-clause-falls g c = if_err _ c.in_err-see.field-0.0 _ c.from_residual.ensures.1 (state_falls (state_of c.args.self.now) c.in_err-see.ensures.fell)
+pub returns-in_err-look-clause-falls : goal.returns-in_err-look-clause-falls
+returns-in_err-look-clause-falls g c = if_err _ c.in_err-look.field-0.0 _ c.from_residual.ensures.1
+    (state_falls (state_of c.args.self.now) c.in_err-look.ensures.fell)
 
 pub returns-in-Absent-clause-went : goal.returns-in-Absent-clause-went
-returns-in-Absent-clause-went g c = state_absent (state_of c.args.self.now) (saw_as c.in-Absent.is c.in_ok-see.ensures.saw)
+returns-in-Absent-clause-went g c = state_absent (state_of c.args.self.now) (saw_as c.in-Absent.is c.in_ok-look.ensures.saw)
 
 pub returns-in-Running-clause-went : goal.returns-in-Running-clause-went
-returns-in-Running-clause-went g c = state_running (state_of c.args.self.now) _ (saw_as c.in-Running.is c.in_ok-see.ensures.saw)
+returns-in-Running-clause-went g c = state_running (state_of c.args.self.now) _ (saw_as c.in-Running.is c.in_ok-look.ensures.saw)
 
 pub returns-in-Halted-clause-went : goal.returns-in-Halted-clause-went
 returns-in-Halted-clause-went g c =
-    if_ok_map _ _ _ (λ line w. stops (state_of c.args.self.now) (said_by line) c.in-Halted.halted.number _ (of_halted c.in-Halted.is c.in_ok-see.ensures.of) (state_halted (state_of c.args.self.now) _ (saw_as c.in-Halted.is c.in_ok-see.ensures.saw)) w) c.stop_line.ensures.went
+    if_ok_map _ _ _ (λ line w. stops (state_of c.args.self.now) (said_by line) c.in-Halted.halted.number _ (of_halted c.in-Halted.is c.in_ok-look.ensures.of)
+    (state_halted (state_of c.args.self.now) _ (saw_as c.in-Halted.is c.in_ok-look.ensures.saw)) w) c.stop_line.ensures.went
 
 pub returns-in-Halted-clause-falls : goal.returns-in-Halted-clause-falls
 returns-in-Halted-clause-falls g c =
-    if_err_map _ _ _ (λ f p. stops_falls (state_of c.args.self.now) c.in-Halted.halted.number _ (of_halted c.in-Halted.is c.in_ok-see.ensures.of) (state_halted (state_of c.args.self.now) _ (saw_as c.in-Halted.is c.in_ok-see.ensures.saw)) c.see.ensures.keeps.later p) c.stop_line.ensures.falls
+    if_err_map _ _ _ (λ f p. stops_falls (state_of c.args.self.now) c.in-Halted.halted.number _ (of_halted c.in-Halted.is c.in_ok-look.ensures.of)
+    (state_halted (state_of c.args.self.now) _ (saw_as c.in-Halted.is c.in_ok-look.ensures.saw)) c.look.ensures.keeps.later p) c.stop_line.ensures.falls

@@ -2,34 +2,42 @@ use Rattle.std.proofs.Common.{◌∙◌, refl, arith}
 use Rattle.probe_session.specs.Commands.{state_of}
 use Rattle.probe_session.specs.Said.{said_by}
 use Rattle.probe_session.proofs.LinkLemmas.{if_err}
-use Rattle.probe_session.proofs.OneLine.{if_err_map, if_ok_map, of_halted, stops, stops_falls, waited_absent, waited_again, waited_falls, waited_halted, waited_none, waited_out}
+use Rattle.probe_session.proofs.OneLine.{if_err_map, if_ok_map, of_halted, stops, stops_falls, waited_absent, waited_again, waited_falls}
+use Rattle.probe_session.proofs.OneLine.{waited_halted, waited_none, waited_out}
 use Rattle.probe_session.proofs.SeenLemmas.{saw_as}
 use Rattle.probe_session.proofs.session.Session.wait.Goals as goal
 
 pub looking-init : goal.looking-init
 looking-init g c = record { serving = c.requires.serving; waited = waited_none (state_of c.args.self.now) c.args.looks _; later = omega arith; fixed = refl }
 
-pub returns-in_err-see-clause-falls : goal.returns-in_err-see-clause-falls
-returns-in_err-see-clause-falls g c =
-    if_err _ c.in_err-see.field-0.0 _ c.from_residual.ensures.1 (waited_falls (state_of c.args.self.now) c.args.looks c.looking._look c.looking-test.true c.looking.invariant.waited c.looking.invariant.later c.in_err-see.ensures.fell)
+pub returns-in_err-look-clause-falls : goal.returns-in_err-look-clause-falls
+returns-in_err-look-clause-falls g c =
+    if_err _ c.in_err-look.field-0.0 _ c.from_residual.ensures.1 (waited_falls (state_of c.args.self.now) c.args.looks c.looking._look c.looking-test.true
+    c.looking.invariant.waited c.looking.invariant.later c.in_err-look.ensures.fell)
 
 pub returns-in-Absent-clause-went : goal.returns-in-Absent-clause-went
-returns-in-Absent-clause-went g c = waited_absent (state_of c.args.self.now) c.args.looks c.looking._look c.looking-test.true c.looking.invariant.waited (saw_as c.in-Absent.is c.in_ok-see.ensures.saw)
+returns-in-Absent-clause-went g c = waited_absent (state_of c.args.self.now) c.args.looks c.looking._look c.looking-test.true c.looking.invariant.waited
+    (saw_as c.in-Absent.is c.in_ok-look.ensures.saw)
 
 pub returns-in-Halted-clause-went : goal.returns-in-Halted-clause-went
 returns-in-Halted-clause-went g c =
-    if_ok_map _ _ _ (λ line w. stops (state_of c.args.self.now) (said_by line) c.in-Halted.halted.number _ (of_halted c.in-Halted.is c.in_ok-see.ensures.of) (waited_halted (state_of c.args.self.now) c.args.looks c.looking._look _ c.looking-test.true c.looking.invariant.waited (saw_as c.in-Halted.is c.in_ok-see.ensures.saw)) w) c.stop_line.ensures.went
+    if_ok_map _ _ _ (λ line w. stops (state_of c.args.self.now) (said_by line) c.in-Halted.halted.number _ (of_halted c.in-Halted.is c.in_ok-look.ensures.of)
+    (waited_halted (state_of c.args.self.now) c.args.looks c.looking._look _ c.looking-test.true c.looking.invariant.waited
+    (saw_as c.in-Halted.is c.in_ok-look.ensures.saw)) w) c.stop_line.ensures.went
 
 pub returns-in-Halted-clause-falls : goal.returns-in-Halted-clause-falls
 returns-in-Halted-clause-falls g c =
-    if_err_map _ _ _ (λ f p. stops_falls (state_of c.args.self.now) c.in-Halted.halted.number _ (of_halted c.in-Halted.is c.in_ok-see.ensures.of) (waited_halted (state_of c.args.self.now) c.args.looks c.looking._look _ c.looking-test.true c.looking.invariant.waited (saw_as c.in-Halted.is c.in_ok-see.ensures.saw)) (omega (arith, c.looking.invariant.later, c.see.ensures.keeps.later)) p) c.stop_line.ensures.falls
+    if_err_map _ _ _ (λ f p. stops_falls (state_of c.args.self.now) c.in-Halted.halted.number _ (of_halted c.in-Halted.is c.in_ok-look.ensures.of)
+    (waited_halted (state_of c.args.self.now) c.args.looks c.looking._look _ c.looking-test.true c.looking.invariant.waited
+    (saw_as c.in-Halted.is c.in_ok-look.ensures.saw)) (omega (arith, c.looking.invariant.later, c.look.ensures.keeps.later)) p) c.stop_line.ensures.falls
 
 pub looking-preserved : goal.looking-preserved
 looking-preserved g c = record {
-  serving = c.in_ok-see.ensures.keeps.behind;
-  waited = waited_again (state_of c.args.self.now) c.args.looks c.looking._look _ c.looking-test.true c.looking.invariant.waited (saw_as c.in-Running.is c.in_ok-see.ensures.saw);
-  later = omega (arith, c.looking.invariant.later, c.see.ensures.keeps.later);
-  fixed = c.see.ensures.keeps.fixed ∙ c.looking.invariant.fixed;
+  serving = c.in_ok-look.ensures.keeps.behind;
+  waited = waited_again (state_of c.args.self.now) c.args.looks c.looking._look _ c.looking-test.true c.looking.invariant.waited
+      (saw_as c.in-Running.is c.in_ok-look.ensures.saw);
+  later = omega (arith, c.looking.invariant.later, c.look.ensures.keeps.later);
+  fixed = c.look.ensures.keeps.fixed ∙ c.looking.invariant.fixed;
 }
 
 pub returns-clause-went : goal.returns-clause-went

@@ -7,13 +7,19 @@ use Rattle.probe_session.proofs.OneLine.{if_err_map, if_ok_map}
 use Rattle.probe_session.proofs.session.Session.write.Goals as goal
 
 pub returns-in_err-line-clause-falls : goal.returns-in_err-line-clause-falls
-returns-in_err-line-clause-falls g c = if_err _ c.in_err-line.field-0.0 _ c.from_residual.ensures.1 (reach_falls (state_of c.args.self.now) (written c.args.size c.args.address c.args.value c.args.count) c.in_err-line.ensures.falls)
+returns-in_err-line-clause-falls g c = if_err _ c.in_err-line.field-0.0 _ c.from_residual.ensures.1
+    (reach_falls (state_of c.args.self.now) (written c.args.size c.args.address c.args.value c.args.count) c.in_err-line.ensures.falls)
 
 pub returns-in-Says-clause-went : goal.returns-in-Says-clause-went
-returns-in-Says-clause-went g c = reach_says (state_of c.args.self.now) (written c.args.size c.args.address c.args.value c.args.count) _ (reached_as _ _ _ c.in-Says.is c.in_ok-line.ensures.reached)
+returns-in-Says-clause-went g c = reach_says (state_of c.args.self.now) (written c.args.size c.args.address c.args.value c.args.count) _
+    (reached_as _ _ _ c.in-Says.is c.in_ok-line.ensures.reached)
 
 pub returns-in-By-clause-went : goal.returns-in-By-clause-went
-returns-in-By-clause-went g c = if_ok_map _ _ _ (λ line w. reach_goes (state_of c.args.self.now) c.in-By.reach (written c.args.size c.args.address c.args.value c.args.count) (said_by line) (reached_as _ _ _ c.in-By.is c.in_ok-line.ensures.reached) w) c.written_line.ensures.went
+returns-in-By-clause-went g c = if_ok_map _ _ _ (λ line w. reach_goes (state_of c.args.self.now) c.in-By.reach
+    (written c.args.size c.args.address c.args.value c.args.count) (said_by line) (reached_as _ _ _ c.in-By.is c.in_ok-line.ensures.reached) w)
+    c.written_line.ensures.went
 
 pub returns-in-By-clause-falls : goal.returns-in-By-clause-falls
-returns-in-By-clause-falls g c = if_err_map _ _ _ (λ f p. reach_goes_falls (state_of c.args.self.now) c.in-By.reach (written c.args.size c.args.address c.args.value c.args.count) (reached_as _ _ _ c.in-By.is c.in_ok-line.ensures.reached) c.reach.ensures.keeps.later p) c.written_line.ensures.falls
+returns-in-By-clause-falls g c = if_err_map _ _ _ (λ f p. reach_goes_falls (state_of c.args.self.now) c.in-By.reach
+    (written c.args.size c.args.address c.args.value c.args.count) (reached_as _ _ _ c.in-By.is c.in_ok-line.ensures.reached) c.reach.ensures.keeps.later p)
+    c.written_line.ensures.falls

@@ -1,0 +1,31 @@
+use Rattle.std.proofs.Common.{◌∙◌, refl, sym, ap, arith}
+use Rattle.debug_model.specs.declared.abstractcs.Abstractcs.{Abstractcs}
+use Rattle.probe_access.proofs.Polls.{not_false, read_did, started_always, started_broke, started_first, started_more}
+use Rattle.probe_access.proofs.RegisterCalls.{err_failed}
+use Rattle.probe_access.proofs.commands.await_end.Goals as goal
+
+pub polls-init : goal.polls-init
+polls-init g c = record { started = started_first c.args.first _; stands = c.requires.stands; later = omega arith; fixed = refl }
+
+pub returns-in_err-word-clause-failed : goal.returns-in_err-word-clause-failed
+returns-in_err-word-clause-failed g c =
+    err_failed c.from_residual.result _ _ c.from_residual.ensures.1
+    (started_broke c.polls._polls c.args.first c.polls.word _ _ _ _ _ _ c.in_err-word.field-0.0 c.polls.invariant.started c.polls-test.true
+    (sym (ap (λ (s : Abstractcs). s.busy) c.from_word.ensures) ∙ not_false _ c.if-not-from_word.false)
+    c.polls.invariant.later c.read.ensures.keeps.later c.in_err-word.ensures.cut c.in_err-word.ensures.cause)
+
+pub polls-preserved : goal.polls-preserved
+polls-preserved g c = record {
+  started =
+      started_more c.polls._polls c.args.first c.polls.word c.in_ok-word.word _ _ _ c.polls.invariant.started
+      (sym (ap (λ (s : Abstractcs). s.busy) c.from_word.ensures) ∙ not_false _ c.if-not-from_word.false)
+      (read_did 22 c.in_ok-word.word _ _ c.in_ok-word.ensures.operated c.in_ok-word.ensures.answers);
+  stands = c.in_ok-word.ensures.keeps.behind;
+  later = omega (arith, c.polls.invariant.later, c.read.ensures.keeps.later);
+  fixed = c.read.ensures.keeps.fixed ∙ c.polls.invariant.fixed;
+}
+
+pub returns-then-from_word-clause-failed : goal.returns-then-from_word-clause-failed
+returns-then-from_word-clause-failed g c =
+    started_always c.polls._polls c.args.first c.polls.word _ _ c.polls.invariant.started (omega (arith, c.polls-test.false))
+    (sym (ap (λ (s : Abstractcs). s.busy) c.from_word-2.ensures) ∙ c.if-from_word.true)

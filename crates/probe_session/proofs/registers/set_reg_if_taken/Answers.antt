@@ -1,0 +1,21 @@
+use Rattle.std.proofs.Common.{rules}
+use Rattle.probe_session.proofs.LinkLemmas.{access_left}
+use Rattle.probe_session.proofs.RegisterLemmas.{is_other}
+use Rattle.probe_session.proofs.registers.set_reg_if_taken.Goals as goal
+
+pub returns-in_default-clause-fell : goal.returns-in_default-clause-fell
+returns-in_default-clause-fell g c = record {
+  fell = record {
+    why = c.in-Err.fault;
+    later = c.set_reg.ensures.keeps.later;
+    at = c.requires.serving.serving;
+    heard = c.in-Err.ensures.failed;
+    told = c.in-Err.ensures.left;
+    cut = c.in-Err.ensures.cut;
+    is = c.lost_by.ensures;
+  };
+  other = is_other c.in-Err.fault c.in_default.not-Register;
+}
+
+pub returns-in_default-clause-keeps : goal.returns-in_default-clause-keeps
+returns-in_default-clause-keeps g c = let b = access_left _ c.in-Err.fault _ c.in-Err.ensures.keeps.behind c.lost_by.ensures in search rules

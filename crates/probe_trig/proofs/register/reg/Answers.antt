@@ -1,0 +1,16 @@
+use Rattle.probe_run.proofs.ActLemmas.{if_err}
+use Rattle.probe_trig.proofs.TransferLemmas.{get_failed, made_one}
+use Rattle.probe_trig.specs.Transfers.Transfer.{Got}
+use Rattle.probe_trig.proofs.register.reg.Goals as goal
+
+pub returns-in_err-value-clause-failed : goal.returns-in_err-value-clause-failed
+returns-in_err-value-clause-failed g c =
+    let e = c.number.ensures in
+    if_err _ c.from_residual.result _ c.from_residual.ensures.1
+    (get_failed c.args.register _ _ _ _ _ _ (rw e at c.in_err-value.ensures.failed) (rw e at c.in_err-value.ensures.left) c.in_err-value.ensures.cut)
+
+pub returns-clause-made : goal.returns-clause-made
+returns-clause-made g c =
+    let e = c.number.ensures in
+    made_one c.args.halted.now.number (Got c.args.register c.in_ok-value.value) _ _
+    (record { read = rw e at c.in_ok-value.ensures.read; got = rw e at c.in_ok-value.ensures.got })

@@ -1,0 +1,93 @@
+use Rattle.std.proofs.Common.{[], ◌∷◌, ◌++◌, refl, arith}
+use Rattle.probe_trig.specs.declared.register.TriggerRegister.TheVariants.{Tselect}
+use Rattle.probe_trig.specs.Runs.{put_back, slot_read}
+use Rattle.probe_trig.specs.Transfers.Transfer.{Got}
+use Rattle.probe_trig.proofs.Fitting.{reads_0, reads_1, reads_2, reads_3, reads_back, reads_keep}
+use Rattle.probe_run.proofs.ActLemmas.{if_err}
+use Rattle.probe_trig.proofs.TransferLemmas.{failed_behind, failed_first, made_then}
+use Rattle.probe_trig.proofs.viewing.read_slots.Goals as goal
+
+pub returns-in_err-kept-clause-failed : goal.returns-in_err-kept-clause-failed
+returns-in_err-kept-clause-failed g c =
+    if_err _ c.from_residual.result _ c.from_residual.ensures.1 (failed_first _ _ _ _ _ _ _ _ reads_keep c.in_err-kept.ensures.failed)
+
+pub returns-in_err-a-clause-failed : goal.returns-in_err-a-clause-failed
+returns-in_err-a-clause-failed g c =
+    if_err _ c.from_residual-in_err-a.result _ c.from_residual-in_err-a.ensures.1
+    (failed_behind _ _ (Got Tselect c.in_ok-kept.kept ∷ []) _ _ _ _ _ _ _ _
+    (omega (arith, c.reg.ensures.keeps.later)) c.read_slot.ensures.keeps.later c.in_ok-kept.ensures.made
+    (reads_0 c.in_ok-kept.kept) c.in_err-a.ensures.failed)
+
+pub returns-in_err-b-clause-failed : goal.returns-in_err-b-clause-failed
+returns-in_err-b-clause-failed g c =
+    if_err _ c.from_residual-in_err-b.result _ c.from_residual-in_err-b.ensures.1
+    (failed_behind _ _ (Got Tselect c.in_ok-kept.kept ∷ (slot_read 0 c.in_ok-a.a)) _ _ _ _ _ _ _ _
+    (omega (arith, c.reg.ensures.keeps.later, c.read_slot.ensures.keeps.later)) c.read_slot-2.ensures.keeps.later
+    (made_then c.args.halted.now.number (Got Tselect c.in_ok-kept.kept ∷ [])
+    (slot_read 0 c.in_ok-a.a) _ _ _ c.in_ok-kept.ensures.made c.in_ok-a.ensures.made) (reads_1 c.in_ok-kept.kept c.in_ok-a.a) c.in_err-b.ensures.failed)
+
+pub returns-in_err-c-clause-failed : goal.returns-in_err-c-clause-failed
+returns-in_err-c-clause-failed g c =
+    if_err _ c.from_residual-in_err-c.result _ c.from_residual-in_err-c.ensures.1
+    (failed_behind _ _ (Got Tselect c.in_ok-kept.kept ∷ ((slot_read 0 c.in_ok-a.a) ++ (slot_read 1 c.in_ok-b.b))) _ _ _ _ _ _ _ _
+    (omega (arith, c.reg.ensures.keeps.later, c.read_slot.ensures.keeps.later, c.read_slot-2.ensures.keeps.later)) c.read_slot-3.ensures.keeps.later
+    (made_then c.args.halted.now.number (Got Tselect c.in_ok-kept.kept ∷ [])
+    ((slot_read 0 c.in_ok-a.a) ++ (slot_read 1 c.in_ok-b.b)) _ _ _ c.in_ok-kept.ensures.made
+    (made_then c.args.halted.now.number (slot_read 0 c.in_ok-a.a) (slot_read 1 c.in_ok-b.b) _ _ _ c.in_ok-a.ensures.made c.in_ok-b.ensures.made))
+    (reads_2 c.in_ok-kept.kept c.in_ok-a.a c.in_ok-b.b) c.in_err-c.ensures.failed)
+
+pub returns-in_err-d-clause-failed : goal.returns-in_err-d-clause-failed
+returns-in_err-d-clause-failed g c =
+    if_err _ c.from_residual-in_err-d.result _ c.from_residual-in_err-d.ensures.1
+    (failed_behind _ _ (Got Tselect c.in_ok-kept.kept ∷ ((slot_read 0 c.in_ok-a.a) ++ ((slot_read 1 c.in_ok-b.b) ++ (slot_read 2 c.in_ok-c.c)))) _ _ _ _ _ _ _ _
+    (omega (arith, c.reg.ensures.keeps.later, c.read_slot.ensures.keeps.later, c.read_slot-2.ensures.keeps.later, c.read_slot-3.ensures.keeps.later))
+    c.read_slot-4.ensures.keeps.later (made_then c.args.halted.now.number (Got Tselect c.in_ok-kept.kept ∷ [])
+    ((slot_read 0 c.in_ok-a.a) ++ ((slot_read 1 c.in_ok-b.b) ++ (slot_read 2 c.in_ok-c.c))) _ _ _ c.in_ok-kept.ensures.made
+    (made_then c.args.halted.now.number (slot_read 0 c.in_ok-a.a) ((slot_read 1 c.in_ok-b.b) ++ (slot_read 2 c.in_ok-c.c)) _ _ _ c.in_ok-a.ensures.made
+    (made_then c.args.halted.now.number (slot_read 1 c.in_ok-b.b) (slot_read 2 c.in_ok-c.c) _ _ _ c.in_ok-b.ensures.made c.in_ok-c.ensures.made)))
+    (reads_3 c.in_ok-kept.kept c.in_ok-a.a c.in_ok-b.b c.in_ok-c.c) c.in_err-d.ensures.failed)
+
+pub returns-in_err-set_reg-clause-failed : goal.returns-in_err-set_reg-clause-failed
+returns-in_err-set_reg-clause-failed g c =
+    if_err _ c.from_residual-in_err-set_reg.result _ c.from_residual-in_err-set_reg.ensures.1
+    (failed_behind _ _ (Got Tselect c.in_ok-kept.kept
+    ∷ ((slot_read 0 c.in_ok-a.a) ++ ((slot_read 1 c.in_ok-b.b) ++ ((slot_read 2 c.in_ok-c.c) ++ (slot_read 3 c.in_ok-d.d))))) _ _ _ _ _ _ _ _
+    (omega (
+      arith,
+      c.reg.ensures.keeps.later,
+      c.read_slot.ensures.keeps.later,
+      c.read_slot-2.ensures.keeps.later,
+      c.read_slot-3.ensures.keeps.later,
+      c.read_slot-4.ensures.keeps.later,
+    )) c.set_reg.ensures.keeps.later
+    (made_then c.args.halted.now.number (Got Tselect c.in_ok-kept.kept ∷ [])
+    ((slot_read 0 c.in_ok-a.a) ++ ((slot_read 1 c.in_ok-b.b) ++ ((slot_read 2 c.in_ok-c.c) ++ (slot_read 3 c.in_ok-d.d)))) _ _ _ c.in_ok-kept.ensures.made
+    (made_then c.args.halted.now.number (slot_read 0 c.in_ok-a.a)
+    ((slot_read 1 c.in_ok-b.b) ++ ((slot_read 2 c.in_ok-c.c) ++ (slot_read 3 c.in_ok-d.d))) _ _ _ c.in_ok-a.ensures.made
+    (made_then c.args.halted.now.number (slot_read 1 c.in_ok-b.b) ((slot_read 2 c.in_ok-c.c) ++ (slot_read 3 c.in_ok-d.d)) _ _ _ c.in_ok-b.ensures.made
+    (made_then c.args.halted.now.number (slot_read 2 c.in_ok-c.c) (slot_read 3 c.in_ok-d.d) _ _ _ c.in_ok-c.ensures.made c.in_ok-d.ensures.made))))
+    (reads_back c.in_ok-kept.kept c.in_ok-a.a c.in_ok-b.b c.in_ok-c.c c.in_ok-d.d) c.in_err-set_reg.ensures.failed)
+
+pub returns-clause-did : goal.returns-clause-did
+returns-clause-did g c = (
+  c.in_ok-a.a,
+  c.in_ok-b.b,
+  c.in_ok-c.c,
+  c.in_ok-d.d,
+  refl,
+  record {
+    transfers = (Got Tselect c.in_ok-kept.kept
+        ∷ ((slot_read 0 c.in_ok-a.a) ++ ((slot_read 1 c.in_ok-b.b)
+        ++ ((slot_read 2 c.in_ok-c.c) ++ ((slot_read 3 c.in_ok-d.d) ++ (put_back c.in_ok-kept.kept))))));
+    whole = record { kept = c.in_ok-kept.kept; is = refl };
+    made = (made_then c.args.halted.now.number (Got Tselect c.in_ok-kept.kept ∷ [])
+        ((slot_read 0 c.in_ok-a.a) ++ ((slot_read 1 c.in_ok-b.b) ++ ((slot_read 2 c.in_ok-c.c) ++ ((slot_read 3 c.in_ok-d.d) ++ (put_back c.in_ok-kept.kept)))))
+        _ _ _ c.in_ok-kept.ensures.made (made_then c.args.halted.now.number (slot_read 0 c.in_ok-a.a)
+        ((slot_read 1 c.in_ok-b.b) ++ ((slot_read 2 c.in_ok-c.c) ++ ((slot_read 3 c.in_ok-d.d) ++ (put_back c.in_ok-kept.kept)))) _ _ _ c.in_ok-a.ensures.made
+        (made_then c.args.halted.now.number (slot_read 1 c.in_ok-b.b)
+        ((slot_read 2 c.in_ok-c.c) ++ ((slot_read 3 c.in_ok-d.d) ++ (put_back c.in_ok-kept.kept))) _ _ _ c.in_ok-b.ensures.made
+        (made_then c.args.halted.now.number (slot_read 2 c.in_ok-c.c) ((slot_read 3 c.in_ok-d.d) ++ (put_back c.in_ok-kept.kept)) _ _ _ c.in_ok-c.ensures.made
+        (made_then c.args.halted.now.number (slot_read 3 c.in_ok-d.d)
+        (put_back c.in_ok-kept.kept) _ _ _ c.in_ok-d.ensures.made c.in_ok-set_reg.ensures.made)))));
+  },
+)
