@@ -109,7 +109,8 @@ memory_again image ram fits =
 
 length_harts : (harts : ℕ) (halted : Option Cause) → length (loaded_harts harts halted) ≡ harts
 length_harts zero halted = refl
-length_harts (suc n) halted = let more : _ = length-append (loaded_harts n halted) (reset_hart n halted ∷ []) in omega (arith, ap length (one_hart_more n halted), more, length_harts n halted)
+length_harts (suc n) halted = let more : _ = length-append (loaded_harts n halted) (reset_hart n halted ∷ []) in
+    omega (arith, ap length (one_hart_more n halted), more, length_harts n halted)
 
 starts : (harts : ℕ) (halted : Option Cause) → RightHarts harts → start_of (loaded_harts harts halted) ≡ start_by halted
 starts zero halted right = absurd (omega (arith, right.some))

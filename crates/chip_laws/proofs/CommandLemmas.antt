@@ -16,7 +16,8 @@ use Rattle.debug_model.specs.declared.micro.Micro.{Micro}
 use Rattle.debug_model.specs.declared.micro.Micro.TheVariants.{Transfer, Run}
 use Rattle.debug_model.specs.declared.sberror.Sberror.{Sberror}
 use Rattle.debug_model.specs.declared.sberror.Sberror.TheVariants as sberror
-use Rattle.debug_model.specs.Commands.{CommandUnit, Stepped, busy, failed, is_auto, left_with, micro_step, refusal, settled, size_double, step_by, steps_of, taken_from, transferred, unit_behind, with_word, word_written}
+use Rattle.debug_model.specs.Commands.{CommandUnit, Stepped, busy, failed, is_auto, left_with, micro_step, refusal, settled, size_double, step_by, steps_of,
+    taken_from, transferred, unit_behind, with_word, word_written}
 use Rattle.debug_model.specs.ModuleWords.{cmderr_cleared, cmderr_number, sberror_cleared, sberror_number}
 use Rattle.chip_laws.specs.CommandLaws.{AutoexecStarts, ClearsBits, LostWhileBusy, SameStep, Stored, rewritten}
 
@@ -57,7 +58,8 @@ behind_same k ended.Next (m ∷ ms) u = refl
 behind_same k ended.Ebreak rest u = settled_same k u.late u
 behind_same k ended.Exception rest u = failed_same k u
 
-step_same : (k : Stored) (steps : List Micro) (hart : Hart) (m : Memory) (u : CommandUnit) → SameStep k (step_by steps hart m u) (step_by steps hart m (rewritten k u))
+step_same : (k : Stored) (steps : List Micro) (hart : Hart) (m : Memory) (u : CommandUnit)
+    → SameStep k (step_by steps hart m u) (step_by steps hart m (rewritten k u))
 step_same k [] hart m u = record { hart = refl; memory = refl; accessed = refl; unit = refl }
 step_same k (Transfer t ∷ rest) hart m u = transfer_same k (debug_value hart t.regno) t rest hart m u
 step_same k (Run w ∷ rest) hart m u = record { hart = refl; memory = refl; accessed = refl; unit = behind_same k (ran_word w hart m).did rest u }

@@ -1,5 +1,6 @@
 -- What an event adds to the journal: two points at most, and of turns those that it offers. There are as many harts behind it as before.
-use Rattle.std.proofs.Common.{◌≡◌, ℕ, ◌+◌, ◌≤◌, cond, Bool, true, false, List, [], ◌∷◌, ◌++◌, length, Option, Some, None, slice_get, refl, sym, ap, ◌∙◌, append_assoc, arith, inl, inr}
+use Rattle.std.proofs.Common.{◌≡◌, ℕ, ◌+◌, ◌≤◌, cond, Bool, true, false, List, [], ◌∷◌, ◌++◌, length, Option, Some, None, slice_get, refl, sym, ap, ◌∙◌,
+    append_assoc, arith, inl, inr}
 use Rattle.std.proofs.Common.{length-append, length-set, ltb}
 use Rattle.std.proofs.lemmas.Bool.{le-ltb, lt-ltb}
 use Rattle.std.proofs.lemmas.List.{append-nil}
@@ -13,14 +14,16 @@ use Rattle.debug_model.specs.declared.event.Event.{Event}
 use Rattle.debug_model.specs.declared.event.Event.TheVariants as event
 use Rattle.debug_model.specs.declared.micro.Micro.{Micro}
 use Rattle.debug_model.specs.declared.module_register.ModuleRegister.{ModuleRegister}
-use Rattle.debug_model.specs.declared.module_register.ModuleRegister.TheVariants.{Word, Dmcontrol as dmcontrol, Dmstatus as dmstatus, Abstractcs, Command, Abstractauto, Sbcs, Sbaddress0, Sbaddress1, Sbdata0, Sbdata1, Haltsum0, Nothing}
+use Rattle.debug_model.specs.declared.module_register.ModuleRegister.TheVariants.{Word, Dmcontrol as dmcontrol, Dmstatus as dmstatus, Abstractcs, Command,
+    Abstractauto, Sbcs, Sbaddress0, Sbaddress1, Sbdata0, Sbdata1, Haltsum0, Nothing}
 use Rattle.debug_model.specs.declared.point.Point.{Point}
 use Rattle.debug_model.specs.declared.point.Point.TheVariants.{Turn, Look, HaltReq, HaltClear, ResumeReq, Access}
 use Rattle.debug_model.specs.Chip.{Works, after_event, lost_by, performed_by}
 use Rattle.debug_model.specs.Commands.{busy}
 use Rattle.debug_model.specs.Deeds.{access_points, bus_stepped, stepped_by, turned_by}
 use Rattle.debug_model.specs.Journal.{after_journal, after_point, debug_changed_by, halt_requested, resume_asked}
-use Rattle.debug_model.specs.Module.{Site, acknowledged, asked, control_points, controlled_by, halt_points, operated, read_by, register_at, reset_known, resume_points, selected_hart, write_by, written_by}
+use Rattle.debug_model.specs.Module.{Site, acknowledged, asked, control_points, controlled_by, halt_points, operated, read_by, register_at, reset_known,
+    resume_points, selected_hart, write_by, written_by}
 use Rattle.debug_model.specs.ModuleWords.{dmcontrol_of}
 use Rattle.debug_model.specs.Offered.{offered_by, turn_at, turns_of}
 
@@ -78,7 +81,8 @@ journal_count (p ∷ ps) b = journal_count ps (after_point p b) ∙ point_count 
 
 -- ---- turns
 
-turn_adds_by : (o : Option Hart) (h : ℕ) (s : Site) → slice_get s.board.harts h ≡ o → Adds (offered_by (length s.board.harts) (event.Turn h)) s (turned_by o h s)
+turn_adds_by : (o : Option Hart) (h : ℕ) (s : Site) → slice_get s.board.harts h ≡ o
+    → Adds (offered_by (length s.board.harts) (event.Turn h)) s (turned_by o h s)
 unfolding turns_of
 turn_adds_by (Some hart) h s here =
     let within : ltb h (length s.board.harts) ≡ true = lt-ltb h (length s.board.harts) (slice_get_within s.board.harts h hart here) in
@@ -166,7 +170,8 @@ asked_adds false k s =
     let ps : List Point = control_points k (slice_get s.board.harts k.hartsello) in
     let quiet : Quiet 2 ps = control_quiet k (slice_get s.board.harts k.hartsello) in
     let there : Board = after_journal ps s.board in
-    adds [] ps s _ refl quiet.turns quiet.few (changed_count (slice_get there.harts k.hartsello) (reset_known k.ackhavereset) k.hartsello there ∙ journal_count ps s.board)
+    adds [] ps s _ refl quiet.turns quiet.few (changed_count (slice_get there.harts k.hartsello) (reset_known k.ackhavereset) k.hartsello there
+        ∙ journal_count ps s.board)
 
 controlled_adds : (active : Bool) (k : Dmcontrol) (s : Site) → Adds [] s (controlled_by active k s)
 controlled_adds true k s = asked_adds (busy s.unit.commands) k s

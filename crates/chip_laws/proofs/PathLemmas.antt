@@ -11,7 +11,8 @@ use Rattle.debug_model.specs.TransportWords.{dmi_of}
 use Rattle.debug_model.specs.declared.dmi_op.DmiOp.{DmiOp}
 use Rattle.debug_model.specs.declared.event.Event.{Event}
 use Rattle.debug_model.specs.declared.event.Event.TheVariants.{Turn, DmiDone, DmiFail, CmdStep, BusDone}
-use Rattle.debug_model.specs.Course.{Course, DeedsAlone, Happening, OneOperation, Operation, SitePath, in_event, in_events, in_round, in_update, launches_by, loses, performed, performed_in, performs}
+use Rattle.debug_model.specs.Course.{Course, DeedsAlone, Happening, OneOperation, Operation, SitePath, in_event, in_events, in_round, in_update, launches_by,
+    loses, performed, performed_in, performs}
 use Rattle.debug_model.specs.Course.Course.{nothing, round, captured, updated}
 use Rattle.debug_model.specs.Course.SitePath.{nowhere, did, did_operation}
 use Rattle.debug_model.specs.Deeds.{Deed, after_deed, ran}
@@ -40,7 +41,8 @@ by_loss : (s : Site) (os : List Operation) (w : Works) (flight : Option DmiOp) �
 by_loss s os w (Some op) p = subst (λ xs. SitePath s xs w.site) (sym (append-nil os)) p
 by_loss s os w None p = subst (λ xs. SitePath s xs w.site) (sym (append-nil os)) p
 
-event_path : (s : Site) (os : List Operation) (e : Event) (w : Works) → SitePath s os w.site → SitePath s (os ++ performed (in_event e w)) (after_event e w).site
+event_path : (s : Site) (os : List Operation) (e : Event) (w : Works) → SitePath s os w.site
+    → SitePath s (os ++ performed (in_event e w)) (after_event e w).site
 unfolding after_event after_deed
 event_path s os (Turn h) w p = subst (λ xs. SitePath s xs (after_event (Turn h) w).site) (sym (append-nil os)) (did (Turned h) os w.site p)
 event_path s os DmiDone w p = by_flight s os w w.dtm.flight p
@@ -48,7 +50,8 @@ event_path s os DmiFail w p = by_loss s os w w.dtm.flight p
 event_path s os CmdStep w p = subst (λ xs. SitePath s xs (after_event CmdStep w).site) (sym (append-nil os)) (did CommandStepped os w.site p)
 event_path s os BusDone w p = subst (λ xs. SitePath s xs (after_event BusDone w).site) (sym (append-nil os)) (did BusStepped os w.site p)
 
-events_path : (s : Site) (os : List Operation) (es : List Event) (w : Works) → SitePath s os w.site → SitePath s (os ++ performed (in_events es w)) (after_events es w).site
+events_path : (s : Site) (os : List Operation) (es : List Event) (w : Works) → SitePath s os w.site
+    → SitePath s (os ++ performed (in_events es w)) (after_events es w).site
 unfolding after_events in_events
 events_path s os [] w p = subst (λ xs. SitePath s xs w.site) (sym (append-nil os)) p
 events_path s os (e ∷ es) w p =
@@ -65,7 +68,8 @@ joined s t hs ks p = subst (λ xs. SitePath s xs t) (sym (performed-append hs ks
 none_performed : (i : Inside) (j : Inside) (hs ks : List Happening) → performed ks ≡ [] → SitePath i.works.site (performed hs) j.works.site
     → SitePath i.works.site (performed (hs ++ ks)) j.works.site
 none_performed i j hs ks none p =
-    joined i.works.site j.works.site hs ks (subst (λ xs. SitePath i.works.site xs j.works.site) (sym (append-nil (performed hs)) ∙ ap (λ xs. performed hs ++ xs) (sym none)) p)
+    joined i.works.site j.works.site hs ks (subst (λ xs. SitePath i.works.site xs j.works.site)
+        (sym (append-nil (performed hs)) ∙ ap (λ xs. performed hs ++ xs) (sym none)) p)
 
 launches_perform_nothing : (s : Sticky) (op : Option DmiOp) → performed (launches_by s op) ≡ []
 launches_perform_nothing Clear (Some op) = refl
@@ -133,7 +137,8 @@ one_operation s t os o (did d before u p) is =
       result_is = earlier.result_is;
     }
 one_operation s t os o (did_operation op before u p) is =
-    let split : SnocOne before (record { op = op; result = operation_result op u }) o = snoc_one before (record { op = op; result = operation_result op u }) o is in
+    let split : SnocOne before (record { op = op; result = operation_result op u }) o =
+        snoc_one before (record { op = op; result = operation_result op u }) o is in
     let earlier : DeedsAlone s u = no_operation s u before p split.none in
     subst (λ (x : Operation). OneOperation x.op x.result s (operated op u)) split.same
     (record { before = earlier.deeds; behind = []; is = ap (λ v. operated op v) earlier.is; result_is = ap (λ v. operation_result op v) earlier.is })

@@ -25,7 +25,8 @@ operations_snoc (p ∷ os) o s m t r one = (r.0, r.1, operations_snoc os o r.0 m
 
 data PathEnds (os : List Operation) (s t : Site) : Type 0 where
   only_deeds : os ≡ [] → DeedsAlone s t → PathEnds os s t
-  ends_in : (front : List Operation) (last : Operation) → os ≡ front ++ last ∷ [] → (m : Site) → OperationsAt front s m → OneOperation last.op last.result m t → PathEnds os s t
+  ends_in : (front : List Operation) (last : Operation) → os ≡ front ++ last ∷ [] → (m : Site) → OperationsAt front s m → OneOperation last.op last.result m t
+      → PathEnds os s t
 
 deed_more : (op : DmiOp) (result : ℕ) (d : Deed) (s t : Site) → OneOperation op result s t → OneOperation op result s (after_deed d t)
 unfolding ran
@@ -38,16 +39,20 @@ deed_more op result d s t one = record {
 
 ends_did : (os : List Operation) (d : Deed) (s t : Site) → PathEnds os s t → PathEnds os s (after_deed d t)
 unfolding ran
-ends_did os d s t (only_deeds none e) = only_deeds none (record { deeds = e.deeds ++ d ∷ []; is = ap (λ v. after_deed d v) e.is ∙ sym (ran-append e.deeds (d ∷ []) s) })
+ends_did os d s t (only_deeds none e) = only_deeds none
+    (record { deeds = e.deeds ++ d ∷ []; is = ap (λ v. after_deed d v) e.is ∙ sym (ran-append e.deeds (d ∷ []) s) })
 ends_did os d s t (ends_in front last e m at one) = ends_in front last e m at (deed_more last.op last.result d m t one)
 
-ends_operation : (os : List Operation) (op : DmiOp) (s t : Site) → PathEnds os s t → PathEnds (os ++ record { op = op; result = operation_result op t } ∷ []) s (operated op t)
+ends_operation : (os : List Operation) (op : DmiOp) (s t : Site) → PathEnds os s t
+    → PathEnds (os ++ record { op = op; result = operation_result op t } ∷ []) s (operated op t)
 unfolding ran
 ends_operation os op s t (only_deeds none e) =
     let o : Operation = record { op = op; result = operation_result op t } in
-    ends_in [] o (ap (λ xs. xs ++ o ∷ []) none) s refl (record { before = e.deeds; behind = []; is = ap (operated op) e.is; result_is = ap (operation_result op) e.is })
+    ends_in [] o (ap (λ xs. xs ++ o ∷ []) none) s refl
+        (record { before = e.deeds; behind = []; is = ap (operated op) e.is; result_is = ap (operation_result op) e.is })
 ends_operation os op s t (ends_in front last e m at one) =
-    ends_in os (record { op = op; result = operation_result op t }) refl t (subst (λ xs. OperationsAt xs s t) (sym e) (operations_snoc front last s m t at one)) (record { before = []; behind = []; is = refl; result_is = refl })
+    ends_in os (record { op = op; result = operation_result op t }) refl t
+        (subst (λ xs. OperationsAt xs s t) (sym e) (operations_snoc front last s m t at one)) (record { before = []; behind = []; is = refl; result_is = refl })
 
 path_ends : (s t : Site) (os : List Operation) → SitePath s os t → PathEnds os s t
 unfolding ran
@@ -93,14 +98,18 @@ same_ends (a ∷ xs) (b ∷ ys) x y e =
     record { front = cc; last = s.last }
 
 -- the next was not performed
-unfinished : (ops : List DmiOp) (done : List Operation) (op : DmiOp) (left : List DmiOp) (s t : Site) → map op_of done ++ op ∷ left ≡ ops → PathEnds done s t → StoppedAt ops s t
+unfinished : (ops : List DmiOp) (done : List Operation) (op : DmiOp) (left : List DmiOp) (s t : Site) → map op_of done ++ op ∷ left ≡ ops → PathEnds done s t
+    → StoppedAt ops s t
 unfolding ran
-unfinished ops done op left s t asked (only_deeds none d) = record { done = done; op = op; left = left; asked = asked; mid = s; before = subst (λ xs. OperationsAt xs s s) (sym none) refl; cut = unperformed d }
+unfinished ops done op left s t asked (only_deeds none d) =
+    record { done = done; op = op; left = left; asked = asked; mid = s; before = subst (λ xs. OperationsAt xs s s) (sym none) refl; cut = unperformed d }
 unfinished ops done op left s t asked (ends_in front last e m at one) =
-    record { done = done; op = op; left = left; asked = asked; mid = t; before = subst (λ xs. OperationsAt xs s t) (sym e) (operations_snoc front last s m t at one); cut = unperformed (record { deeds = []; is = refl }) }
+    record { done = done; op = op; left = left; asked = asked; mid = t; before =
+        subst (λ xs. OperationsAt xs s t) (sym e) (operations_snoc front last s m t at one); cut = unperformed (record { deeds = []; is = refl }) }
 
 -- it was
-finished : (ops : List DmiOp) (done : List Operation) (o : Operation) (left : List DmiOp) (s t : Site) → map op_of done ++ o.op ∷ left ≡ ops → PathEnds (done ++ o ∷ []) s t → StoppedAt ops s t
+finished : (ops : List DmiOp) (done : List Operation) (o : Operation) (left : List DmiOp) (s t : Site) → map op_of done ++ o.op ∷ left ≡ ops
+    → PathEnds (done ++ o ∷ []) s t → StoppedAt ops s t
 finished ops [] o left s t asked (only_deeds none d) = absurd (let no : ⊥ = cc in no)
 finished ops (p ∷ done) o left s t asked (only_deeds none d) = absurd (let no : ⊥ = cc in no)
 finished ops done o left s t asked (ends_in front last e m at one) =
@@ -131,14 +140,17 @@ all_finished op ops done s t asked (ends_in front last e m at one) = record {
 none_more : (done : List Operation) (s t : Site) → SitePath s (done ++ []) t → PathEnds done s t
 none_more done s t p = path_ends s t done (subst (λ os. SitePath s os t) (append-nil done) p)
 
-next_stopped : (ops : List DmiOp) (done : List Operation) (next : DmiOp) (left : List DmiOp) (happened : List Happening) (s t : Site) → map op_of done ++ next ∷ left ≡ ops → AtMostOnce next happened → SitePath s (done ++ performed happened) t
+next_stopped : (ops : List DmiOp) (done : List Operation) (next : DmiOp) (left : List DmiOp) (happened : List Happening) (s t : Site)
+    → map op_of done ++ next ∷ left ≡ ops → AtMostOnce next happened → SitePath s (done ++ performed happened) t
     → StoppedAt ops s t
 next_stopped ops done next left happened s t asked not_sent p = unfinished ops done next left s t asked (none_more done s t p)
 next_stopped ops done next left happened s t asked in_flight p = unfinished ops done next left s t asked (none_more done s t p)
-next_stopped ops done next left happened s t asked (performed_once result) p = finished ops done (record { op = next; result = result }) left s t asked (path_ends s t (done ++ record { op = next; result = result } ∷ []) p)
+next_stopped ops done next left happened s t asked (performed_once result) p =
+    finished ops done (record { op = next; result = result }) left s t asked (path_ends s t (done ++ record { op = next; result = result } ∷ []) p)
 next_stopped ops done next left happened s t asked lost_once p = unfinished ops done next left s t asked (none_more done s t p)
 
-pub stopped_at : (op : DmiOp) (ops : List DmiOp) (done : List Operation) (left : List DmiOp) (happened : List Happening) (s t : Site) → map op_of done ++ left ≡ op ∷ ops → NextAtMostOnce left happened → SitePath s (done ++ performed happened) t
+pub stopped_at : (op : DmiOp) (ops : List DmiOp) (done : List Operation) (left : List DmiOp) (happened : List Happening) (s t : Site)
+    → map op_of done ++ left ≡ op ∷ ops → NextAtMostOnce left happened → SitePath s (done ++ performed happened) t
     → StoppedAt (op ∷ ops) s t
 stopped_at op ops done [] happened s t asked once p =
     all_finished op ops done s t (sym (append-nil (map op_of done)) ∙ asked) (none_more done s t (subst (λ hs. SitePath s (done ++ performed hs) t) once p))

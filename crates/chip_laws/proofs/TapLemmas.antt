@@ -1,5 +1,6 @@
 -- The TAP: its state diagram case by case, TDO and TRST by the signs, scans by their two cuts, and the worked scan by computing.
-use Rattle.std.proofs.Common.{◌≡◌, ◌≢◌, ◌∙◌, ◌+◌, ℕ, List, [], ◌∷◌, ◌++◌, length, take, All, Bool, true, false, Option, Some, None, refl, sym, ap, subst, arith, inl, inr}
+use Rattle.std.proofs.Common.{◌≡◌, ◌≢◌, ◌∙◌, ◌+◌, ℕ, List, [], ◌∷◌, ◌++◌, length, take, All, Bool, true, false, Option, Some, None, refl, sym, ap, subst,
+    arith, inl, inr}
 use Rattle.std.proofs.Math.Seq.{take-append_seam}
 use Rattle.std.proofs.lemmas.List.{take-append-drop, length-take-le, length-drop, length-append}
 use Rattle.std.proofs.lemmas.List.Elements.{All-nil, All-cons, All-head, All-tail}
@@ -9,7 +10,8 @@ use Rattle.debug_model.specs.declared.data_register.DataRegister.TheVariants.{Id
 use Rattle.debug_model.specs.declared.sign.Sign.{Sign}
 use Rattle.debug_model.specs.declared.sign.Sign.TheVariants.{Pins, Ask, Light, Reset, Quit}
 use Rattle.debug_model.specs.declared.tap_state.TapState.{TapState}
-use Rattle.debug_model.specs.declared.tap_state.TapState.TheVariants.{TestLogicReset, RunTestIdle, SelectDr, CaptureDr, ShiftDr, Exit1Dr, PauseDr, Exit2Dr, UpdateDr, SelectIr, CaptureIr, ShiftIr, Exit1Ir, PauseIr, Exit2Ir, UpdateIr}
+use Rattle.debug_model.specs.declared.tap_state.TapState.TheVariants.{TestLogicReset, RunTestIdle, SelectDr, CaptureDr, ShiftDr, Exit1Dr, PauseDr, Exit2Dr,
+    UpdateDr, SelectIr, CaptureIr, ShiftIr, Exit1Ir, PauseIr, Exit2Ir, UpdateIr}
 use Rattle.debug_model.proofs.Cuts.{comes_out_all, stays_all}
 use Rattle.debug_model.specs.Chip.{Chip, Inside, Live, after, end_of, feed, pins, run, said, signed, taken_by, told_by}
 use Rattle.debug_model.specs.Port.{Port, port_held, port_risen, selected_in}
@@ -18,7 +20,8 @@ use Rattle.debug_model.specs.Signs.{sign_of}
 use Rattle.debug_model.specs.Tap.{next_state}
 use Rattle.debug_model.specs.Transport.{Dtm, captured_bits}
 use Rattle.jt_base.specs.BitList.{bits_of}
-use Rattle.chip_laws.specs.TapLaws.{BringsNoFall, BypassDelays, Exchanges, FiveOnesReset, InDataColumn, KeepsBits, LeavesTrst, Shifts, ShowsNext, TdoChangesAtFalls, TrstHolds, TrstResets, held, idcode_digits, idcode_scan, instruction_column, state_behind}
+use Rattle.chip_laws.specs.TapLaws.{BringsNoFall, BypassDelays, Exchanges, FiveOnesReset, InDataColumn, KeepsBits, LeavesTrst, Shifts, ShowsNext,
+    TdoChangesAtFalls, TrstHolds, TrstResets, held, idcode_digits, idcode_scan, instruction_column, state_behind}
 use Rattle.chip_laws.specs.TapLaws.InDataColumn.{at_capture, at_shift, at_exit1, at_pause, at_exit2, at_update}
 use Rattle.chip_laws.proofs.StreamLemmas.{unended_runs}
 
@@ -74,7 +77,8 @@ selects_idcode s r is = rw is refl
 abbrev free_chip : Bool → TapState → DataRegister → List Bool → Bool → Inside → Chip
 free_chip tck s r bits tdo i = record { tck = tck; port = record { state = s; selected = r; shift = bits; tdo = tdo; held = false }; inside = i }
 
-clock_from : (tck tms : Bool) (s : TapState) (r : DataRegister) (bits : List Bool) (tdo : Bool) (i : Inside) → Clocked s tms (run (free_chip tck s r bits tdo i) (clock tms false))
+clock_from : (tck tms : Bool) (s : TapState) (r : DataRegister) (bits : List Bool) (tdo : Bool) (i : Inside)
+    → Clocked s tms (run (free_chip tck s r bits tdo i) (clock tms false))
 unfolding run
 clock_from true true s r bits tdo i = record { tck = refl; state = refl; free = refl; selects = selects_idcode (next_state s true) _ }
 clock_from true false s r bits tdo i = record { tck = refl; state = refl; free = refl; selects = selects_idcode (next_state s false) _ }
@@ -99,7 +103,8 @@ unfolding run
 follow_tms c [] free = refl
 follow_tms c (tms ∷ levels) free =
     let one : Clocked c.port.state tms (run c (clock tms false)) = clocked c tms free in
-    ap (λ (d : Chip). d.port.state) (run_clock c tms (path levels)) ∙ follow_tms (run c (clock tms false)) levels one.free ∙ ap (λ s. state_behind s levels) one.state
+    ap (λ (d : Chip). d.port.state) (run_clock c tms (path levels)) ∙ follow_tms (run c (clock tms false)) levels one.free
+        ∙ ap (λ s. state_behind s levels) one.state
 
 -- ---- TDO
 
@@ -148,11 +153,13 @@ held_signed (Some (Reset false)) p c leaves is = elim (leaves refl) [ ]
 held_signed (Some Quit) p c leaves is = is
 held_signed None p c leaves is = is
 
-held_taken : (end : Option ChipEnd) (p : Port) (c next : Chip) → c.port ≡ port_held true p → next.port ≡ port_held true p → (taken_by end next c).chip.port ≡ port_held true p
+held_taken : (end : Option ChipEnd) (p : Port) (c next : Chip) → c.port ≡ port_held true p → next.port ≡ port_held true p
+    → (taken_by end next c).chip.port ≡ port_held true p
 held_taken None p c next is then = then
 held_taken (Some end) p c next is then = is
 
-held_after : (b : ℕ) (p : Port) (c : Chip) (e : Option ChipEnd) → LeavesTrst b → c.port ≡ port_held true p → (after (record { chip = c; ended = e }) b).chip.port ≡ port_held true p
+held_after : (b : ℕ) (p : Port) (c : Chip) (e : Option ChipEnd) → LeavesTrst b → c.port ≡ port_held true p
+    → (after (record { chip = c; ended = e }) b).chip.port ≡ port_held true p
 held_after b p c None leaves is = held_taken (end_of b (sign_of b) c) p c (signed (sign_of b) c) is (held_signed (sign_of b) p c leaves is)
 held_after b p c (Some end) leaves is = is
 
@@ -217,7 +224,8 @@ record Idles (c : Chip) : Type 0 where
 -- from Test-Logic-Reset a clock with TMS 0 leads there, and the instruction stays
 leaves_reset : (c : Chip) → c.tck ≡ true → c.port.state ≡ TestLogicReset → c.port.held ≡ false → c.port.selected ≡ Idcode → Idles (run c (clock false false))
 unfolding run
-leaves_reset c tck state free selected = record { tck = rw tck refl; state = rw (tck, state, free) refl; free = rw (tck, free) refl; selected = rw (tck, state, free, selected) refl }
+leaves_reset c tck state free selected =
+    record { tck = rw tck refl; state = rw (tck, state, free) refl; free = rw (tck, free) refl; selected = rw (tck, state, free, selected) refl }
 
 -- behind clocks that end in Test-Logic-Reset the instruction is IDCODE
 clocks_reset : (tms : Bool) (levels : List Bool) (c : Chip) → c.port.held ≡ false → state_behind c.port.state (tms ∷ levels) ≡ TestLogicReset
@@ -250,4 +258,5 @@ reset_told c rest = refl
 
 pub idcode_out : (l : Live) → l.chip.port.held ≡ false → (feed l idcode_scan).ended ≡ None → said l idcode_scan ≡ idcode_digits
 idcode_out l free unended =
-    (unended_runs l idcode_scan unended).answers ∙ reset_told l.chip (dr_bytes (bits_of 32 0)) ∙ scan_told_idle (run l.chip reset_bytes) (reset_idles l.chip free)
+    (unended_runs l idcode_scan unended).answers ∙ reset_told l.chip (dr_bytes (bits_of 32 0))
+        ∙ scan_told_idle (run l.chip reset_bytes) (reset_idles l.chip free)

@@ -1,5 +1,7 @@
--- What no byte changes of a chip's schedule and of its limit: the list of rounds, whether the harts have had just the turns that these offered, and the most points.
-use Rattle.std.proofs.Common.{◌≡◌, ℕ, zero, suc, ◌+◌, ◌<◌, ◌≤◌, ◌&&◌, Bool, true, false, List, [], ◌∷◌, ◌++◌, length, Option, Some, None, refl, sym, ap, ◌∙◌, add-one, arith, inl, inr}
+-- What no byte changes of a chip's schedule and of its limit: the list of rounds, whether the harts have had just the turns that these offered, and the most
+-- points.
+use Rattle.std.proofs.Common.{◌≡◌, ℕ, zero, suc, ◌+◌, ◌<◌, ◌≤◌, ◌&&◌, Bool, true, false, List, [], ◌∷◌, ◌++◌, length, Option, Some, None, refl, sym, ap, ◌∙◌,
+    add-one, arith, inl, inr}
 use Rattle.std.proofs.lemmas.Bool.{and_parts, cases_lt, le-ltb, lt-ltb}
 use Rattle.std.proofs.lemmas.List.{append_cancel_right}
 use Rattle.std.proofs.lemmas.Slice.Eq.{bytes_eq-Decides}
@@ -11,7 +13,8 @@ use Rattle.debug_model.specs.declared.event.Event.{Event}
 use Rattle.debug_model.specs.declared.event.Event.TheVariants.{Turn, DmiDone, DmiFail, CmdStep, BusDone}
 use Rattle.debug_model.specs.declared.sign.Sign.{Sign}
 use Rattle.debug_model.specs.declared.sign.Sign.TheVariants.{Pins, Ask, Light, Reset, Quit}
-use Rattle.debug_model.specs.Chip.{Chip, Inside, Live, Works, after, after_event, after_events, counted, end_of, feed, lost_by, performed_by, pins, rise, signed, taken_by, tick, unless_ended, works_risen}
+use Rattle.debug_model.specs.Chip.{Chip, Inside, Live, Works, after, after_event, after_events, counted, end_of, feed, lost_by, performed_by, pins, rise,
+    signed, taken_by, tick, unless_ended, works_risen}
 use Rattle.debug_model.specs.Offered.{HasOfferedTurns, first_rounds, has_offered_turns, moved_on, offered, timing_of}
 use Rattle.debug_model.specs.Port.{Port, rise_finds_busy}
 use Rattle.debug_model.specs.Schedule.{RoundPlan, at_start, following, moved, round_of}
@@ -84,7 +87,8 @@ timing_decides c =
       λ is. both_parts _ _ ((unsigned_Decides _ _).1 (ap (λ (p : RoundPlan). p.place) is.plan)) ((bytes_eq-Decides _ _).1 is.turns),
     )
 
-same_timing : (c d : Chip) → d.inside.plan.rounds ≡ c.inside.plan.rounds → d.inside.works.most_points ≡ c.inside.works.most_points → (HasOfferedTurns c → HasOfferedTurns d) → (HasOfferedTurns d → HasOfferedTurns c) → timing_of d ≡ timing_of c
+same_timing : (c d : Chip) → d.inside.plan.rounds ≡ c.inside.plan.rounds → d.inside.works.most_points ≡ c.inside.works.most_points
+    → (HasOfferedTurns c → HasOfferedTurns d) → (HasOfferedTurns d → HasOfferedTurns c) → timing_of d ≡ timing_of c
 same_timing c d rounds limit there back =
     let same : has_offered_turns d ≡ has_offered_turns c =
     one_answer (has_offered_turns d) (has_offered_turns c) (timing_decides d) (λ e. there ((timing_decides c).0 e), λ is. (timing_decides c).1 (back is)) in
@@ -117,7 +121,8 @@ events_limit (e ∷ es) w = events_limit es (after_event e w) ∙ event_limit e 
 
 -- ---- rounds
 
-tick_back : (tck tck' : Bool) (port port' : Port) (i : Inside) → HasOfferedTurns (record { tck = tck'; port = port'; inside = tick i }) → HasOfferedTurns (record { tck = tck; port = port; inside = i })
+tick_back : (tck tck' : Bool) (port port' : Port) (i : Inside) → HasOfferedTurns (record { tck = tck'; port = port'; inside = tick i })
+    → HasOfferedTurns (record { tck = tck; port = port; inside = i })
 unfolding tick
 tick_back tck tck' port port' i is =
     let n : ℕ = length i.works.site.board.harts in
@@ -135,7 +140,8 @@ tick_back tck tck' port port' i is =
     let list : first_rounds (suc k) s ≡ first_rounds k s ++ es = first_rounds-more k s ∙ ap (λ p. first_rounds k s ++ round_of p) (sym plan) in
     record {
       turns = append_cancel_right _ _ (offered n es)
-          (sym added.turns ∙ is.turns ∙ ap (λ m. offered m (first_rounds (after_events es w).counts.rounds s)) added.harts ∙ ap (λ r. offered n (first_rounds r s)) rounds
+          (sym added.turns ∙ is.turns ∙ ap (λ m. offered m (first_rounds (after_events es w).counts.rounds s)) added.harts
+              ∙ ap (λ r. offered n (first_rounds r s)) rounds
           ∙ ap (offered n) list ∙ offered-append n (first_rounds k s) es);
       plan = plan;
     }
@@ -148,7 +154,8 @@ tick_limit : (i : Inside) → (tick i).works.most_points ≡ i.works.most_points
 unfolding tick
 tick_limit i = events_limit (round_of i.plan) (counted i.works)
 
-tick_timing : (tck tck' : Bool) (port port' : Port) (i : Inside) → timing_of (record { tck = tck'; port = port'; inside = tick i }) ≡ timing_of (record { tck = tck; port = port; inside = i })
+tick_timing : (tck tck' : Bool) (port port' : Port) (i : Inside)
+    → timing_of (record { tck = tck'; port = port'; inside = tick i }) ≡ timing_of (record { tck = tck; port = port; inside = i })
 unfolding tick
 tick_timing tck tck' port port' i =
     same_timing (record { tck = tck; port = port; inside = i }) (record { tck = tck'; port = port'; inside = tick i }) (tick_rounds i) (tick_limit i)
@@ -186,7 +193,8 @@ sign_timing (Some (Reset trst)) c = refl
 sign_timing (Some Quit) c = refl
 sign_timing None c = refl
 
-taken_timing : (ended end : Option ChipEnd) (next : Chip) (l : Live) → timing_of next ≡ timing_of l.chip → timing_of (unless_ended ended (taken_by end next l.chip) l).chip ≡ timing_of l.chip
+taken_timing : (ended end : Option ChipEnd) (next : Chip) (l : Live) → timing_of next ≡ timing_of l.chip
+    → timing_of (unless_ended ended (taken_by end next l.chip) l).chip ≡ timing_of l.chip
 taken_timing None None next l same = same
 taken_timing None (Some end) next l same = refl
 taken_timing (Some ended) end next l same = refl

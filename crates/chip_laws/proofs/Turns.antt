@@ -1,11 +1,13 @@
 -- The turns of a chip's harts are those that its schedule offered, behind each byte.
-use Rattle.std.proofs.Common.{◌≡◌, ℕ, zero, suc, Bool, true, false, List, [], ◌∷◌, ◌++◌, length, Option, Some, None, refl, subst, sym, ap, ◌∙◌, append_assoc, add-one}
+use Rattle.std.proofs.Common.{◌≡◌, ℕ, zero, suc, Bool, true, false, List, [], ◌∷◌, ◌++◌, length, Option, Some, None, refl, subst, sym, ap, ◌∙◌, append_assoc,
+    add-one}
 use Rattle.std.proofs.lemmas.List.{append-nil}
 use Rattle.debug_model.specs.declared.chip_end.ChipEnd.{ChipEnd}
 use Rattle.debug_model.specs.declared.event.Event.{Event}
 use Rattle.debug_model.specs.declared.sign.Sign.{Sign}
 use Rattle.debug_model.specs.declared.sign.Sign.TheVariants.{Pins, Ask, Light, Reset, Quit}
-use Rattle.debug_model.specs.Chip.{Chip, Inside, Live, Works, after, after_event, after_events, counted, end_of, feed, pins, rise, signed, taken_by, tick, unless_ended, works_risen}
+use Rattle.debug_model.specs.Chip.{Chip, Inside, Live, Works, after, after_event, after_events, counted, end_of, feed, pins, rise, signed, taken_by, tick,
+    unless_ended, works_risen}
 use Rattle.debug_model.specs.Loaded.{AsLoaded, loaded_chip}
 use Rattle.debug_model.specs.Module.{Site}
 use Rattle.rv_model.specs.Board.{Board}
@@ -66,29 +68,35 @@ tick_offered first tck tck' port port' i is =
     let w : Works = counted i.works in
     let added : Added (offered n es) i.works.site (after_events es w).site = events_added n es w refl in
     let rounds : (after_events es w).counts.rounds ≡ suc k = events_rounds es w ∙ add-one k in
-    let list : first_rounds k first ++ es ≡ first_rounds (suc k) first = ap (λ p. first_rounds k first ++ round_of p) is.plan ∙ sym (first_rounds-more k first) in
+    let list : first_rounds k first ++ es ≡ first_rounds (suc k) first = ap (λ p. first_rounds k first ++ round_of p) is.plan
+        ∙ sym (first_rounds-more k first) in
     record {
       turns = added.turns ∙ ap (λ xs. xs ++ offered n es) is.turns ∙ sym (offered-append n (first_rounds k first) es)
-          ∙ ap (λ xs. offered n xs) list ∙ ap (λ r. offered n (first_rounds r first)) (sym rounds) ∙ ap (λ m. offered m (first_rounds (after_events es w).counts.rounds first)) (sym added.harts);
+          ∙ ap (λ xs. offered n xs) list ∙ ap (λ r. offered n (first_rounds r first)) (sym rounds)
+              ∙ ap (λ m. offered m (first_rounds (after_events es w).counts.rounds first)) (sym added.harts);
       plan = ap moved is.plan ∙ sym (moved_on-more k first) ∙ ap (λ r. moved_on r first) (sym rounds);
     }
 
-ticks_offered : (first : RoundPlan) (n : ℕ) (tck tck' : Bool) (port port' : Port) (i : Inside) → TurnsOffered first (record { tck = tck; port = port; inside = i })
+ticks_offered : (first : RoundPlan) (n : ℕ) (tck tck' : Bool) (port port' : Port) (i : Inside)
+    → TurnsOffered first (record { tck = tck; port = port; inside = i })
     → TurnsOffered first (record { tck = tck'; port = port'; inside = ticks n i })
 unfolding ticks
 ticks_offered first zero tck tck' port port' i is = record { turns = is.turns; plan = is.plan }
 ticks_offered first (suc n) tck tck' port port' i is = ticks_offered first n tck tck' port port' (tick i) (tick_offered first tck tck port port i is)
 
-pub works_offered : (first : RoundPlan) (c : Chip) → TurnsOffered first c → TurnsOffered first (record c { inside = record c.inside { works = works_risen c.port c.inside.works } })
+pub works_offered : (first : RoundPlan) (c : Chip) → TurnsOffered first c
+    → TurnsOffered first (record c { inside = record c.inside { works = works_risen c.port c.inside.works } })
 works_offered first c is =
-    let rounds : (works_risen c.port c.inside.works).counts.rounds ≡ c.inside.works.counts.rounds = busy_rounds (rise_finds_busy c.port c.inside.works.dtm) c.inside.works.counts in
+    let rounds : (works_risen c.port c.inside.works).counts.rounds ≡ c.inside.works.counts.rounds =
+        busy_rounds (rise_finds_busy c.port c.inside.works.dtm) c.inside.works.counts in
     record {
       turns = is.turns ∙ ap (λ r. offered (length c.inside.works.site.board.harts) (first_rounds r first)) (sym rounds);
       plan = is.plan ∙ ap (λ r. moved_on r first) (sym rounds);
     }
 
 rise_offered : (first : RoundPlan) (tms tdi : Bool) (c : Chip) → TurnsOffered first c → TurnsOffered first (rise tms tdi c)
-rise_offered first tms tdi c is = tick_offered first c.tck true c.port _ (record c.inside { works = works_risen c.port c.inside.works }) (works_offered first c is)
+rise_offered first tms tdi c is = tick_offered first c.tck true c.port _ (record c.inside { works = works_risen c.port c.inside.works })
+    (works_offered first c is)
 
 pins_offered : (first : RoundPlan) (old new tms tdi : Bool) (c : Chip) → TurnsOffered first c → TurnsOffered first (pins old new tms tdi c)
 pins_offered first false true tms tdi c is = rise_offered first tms tdi c is
@@ -132,7 +140,8 @@ plan_offers : (l : Live) → AsLoaded l → TurnsOffered l.chip.inside.plan l.ch
 plan_offers l a = subst (λ (m : Live). TurnsOffered m.chip.inside.plan m.chip) (sym a.is) (board_offers _ _ _)
 
 pub at_its_start : (l : Live) → AsLoaded l → at_start l.chip.inside.plan ≡ l.chip.inside.plan
-at_its_start l a = subst (λ (m : Live). at_start m.chip.inside.plan ≡ m.chip.inside.plan) (sym a.is) (ap (λ place. record a.plan { place = place }) (sym a.first))
+at_its_start l a = subst (λ (m : Live). at_start m.chip.inside.plan ≡ m.chip.inside.plan) (sym a.is)
+    (ap (λ place. record a.plan { place = place }) (sym a.first))
 
 pub fresh_offers : LoadedChipsOffer
 fresh_offers l a = rw (at_its_start l a) (plan_offers l a)

@@ -1,5 +1,6 @@
 -- What the serving of one piece does, over plain variables.
-use Rattle.std.proofs.Common.{◌≡◌, ◌≤◌, ◌+◌, ◌∙◌, ◌++◌, ℕ, List, [], ◌∷◌, true, length, take, Option, Some, None, IfSome, option_map, refl, sym, ap, subst, append-nil, arith}
+use Rattle.std.proofs.Common.{◌≡◌, ◌≤◌, ◌+◌, ◌∙◌, ◌++◌, ℕ, List, [], ◌∷◌, true, length, take, Option, Some, None, IfSome, option_map, refl, sym, ap, subst,
+    append-nil, arith}
 use Rattle.std.proofs.lemmas.List.{length-take-le}
 use Rattle.chip_core.specs.Fed.{fed_from, placed}
 use Rattle.chip_core.specs.Feeds.{fed_of, feed_of, said_of}
@@ -45,7 +46,9 @@ bare_is s plain = ap (λ c. record s { chip = c }) plain.chip ∙ ap (λ p. reco
 still : (s : NetState) → IsPlain s → s ≡ after_put ends.Near [] (after_take ends.Near 0 s)
 still s plain =
     let zero : s.near_given ≡ s.near_given + 0 = omega arith in
-    bare_is s plain ∙ ap (λ g. record (bare s) { near_given = g }) zero ∙ ap (λ e. record (bare s) { near_given = s.near_given + 0; script = e }) (script_still s.script) ∙ ap (λ x. after_put ends.Near [] (after_take ends.Near 0 x)) (sym (bare_is s plain))
+    bare_is s plain ∙ ap (λ g. record (bare s) { near_given = g }) zero
+        ∙ ap (λ e. record (bare s) { near_given = s.near_given + 0; script = e }) (script_still s.script)
+        ∙ ap (λ x. after_put ends.Near [] (after_take ends.Near 0 x)) (sym (bare_is s plain))
 
 none_came : (told : Option Exchange) → IfSome told (λ e. take 0 e.coming ≡ [])
 none_came None = tt
@@ -66,7 +69,8 @@ all_came : (told : Option Exchange) → IfSome told (λ e. e.coming ≡ []) → 
 all_came None none = tt
 all_came (Some e) none = none
 
-none_left : (n : ℕ) (into : List ℕ) (told : Option Exchange) → n ≡ 0 → IfSome told (λ e. IsFront n into e.coming × (n ≡ 0 → e.coming ≡ [])) → IfSome told (λ e. e.coming ≡ [])
+none_left : (n : ℕ) (into : List ℕ) (told : Option Exchange) → n ≡ 0 → IfSome told (λ e. IsFront n into e.coming × (n ≡ 0 → e.coming ≡ []))
+    → IfSome told (λ e. e.coming ≡ [])
 none_left n into None none gives = tt
 none_left n into (Some e) none gives = gives.1 none
 
@@ -76,20 +80,23 @@ took_none n old new none took = took ∙ ap (λ m. after_take ends.Near m old) n
 still_taken : (s : NetState) → IsPlain s → after_take ends.Near 0 s ≡ s
 still_taken s plain =
     let zero : s.near_given + 0 ≡ s.near_given = omega arith in
-    ap (after_take ends.Near 0) (bare_is s plain) ∙ ap (λ e. record (bare s) { near_given = s.near_given + 0; script = e }) (same_script s.script) ∙ ap (λ g. record (bare s) { near_given = g }) zero ∙ sym (bare_is s plain)
+    ap (after_take ends.Near 0) (bare_is s plain) ∙ ap (λ e. record (bare s) { near_given = s.near_given + 0; script = e }) (same_script s.script)
+        ∙ ap (λ g. record (bare s) { near_given = g }) zero ∙ sym (bare_is s plain)
   where
     same_script : (told : Option Exchange) → option_map (without 0) told ≡ told
     same_script None = refl
     same_script (Some e) = refl
 
-pub peer_ended : (n : ℕ) (into : List ℕ) (old new : NetState) (b l : Option Live) → n ≡ 0 → IsPlain old → GivesNear n into old → new ≡ after_take ends.Near n old → l ≡ b → WasServed PeerEnded old new b l
+pub peer_ended : (n : ℕ) (into : List ℕ) (old new : NetState) (b l : Option Live) → n ≡ 0 → IsPlain old → GivesNear n into old
+    → new ≡ after_take ends.Near n old → l ≡ b → WasServed PeerEnded old new b l
 peer_ended n into old new b l none plain gives took kept = record {
   taken = [];
   put = [];
   passed = nothing_passed old new b l plain (took_none n old new none took ∙ still_taken old plain) kept;
   end = (
     record { answers = nothing_said b; whole = nothing_ends b },
-    subst (λ x. IfSome x.script (λ e. e.coming ≡ [])) (sym (took_none n old new none took)) (all_came old.script (none_left n into old.script none gives.of_script)),
+    subst (λ x. IfSome x.script (λ e. e.coming ≡ [])) (sym (took_none n old new none took))
+        (all_came old.script (none_left n into old.script none gives.of_script)),
   );
 }
 
@@ -105,7 +112,8 @@ pub record Piece (n : ℕ) (into taken answers : List ℕ) (old mid : NetState) 
   pub chip : l ≡ feed_of b taken
   pub replies : answers ≡ said_of b taken
 
-pub piece_by : (n : ℕ) (into answers begun replies : List ℕ) (old mid : NetState) (b l : Option Live) → n ≤ length into → length into ≡ most_served → GivesNear n into old → mid ≡ after_take ends.Near n old
+pub piece_by : (n : ℕ) (into answers begun replies : List ℕ) (old mid : NetState) (b l : Option Live) → n ≤ length into → length into ≡ most_served
+    → GivesNear n into old → mid ≡ after_take ends.Near n old
     → l ≡ feed_of b (take n into) → begun ≡ [] → replies ≡ begun ++ said_of b (take n into) → answers ≡ replies → Piece n into (take n into) answers old mid b l
 piece_by n into answers begun replies old mid b l within count gives took chip empty said put = record {
   within = within;
@@ -120,18 +128,22 @@ piece_by n into answers begun replies old mid b l within count gives took chip e
 many : (n : ℕ) (into taken answers : List ℕ) (old mid : NetState) (b l : Option Live) → Piece n into taken answers old mid b l → length taken ≡ n
 many n into taken answers old mid b l piece = ap length piece.is ∙ length-take-le n into piece.within
 
-piece_came : (n : ℕ) (into taken : List ℕ) (told : Option Exchange) → length taken ≡ n → taken ≡ take n into → IfSome told (λ e. IsFront n into e.coming × (n ≡ 0 → e.coming ≡ [])) → IfSome told (λ e. take (length taken) e.coming ≡ taken)
+piece_came : (n : ℕ) (into taken : List ℕ) (told : Option Exchange) → length taken ≡ n → taken ≡ take n into
+    → IfSome told (λ e. IsFront n into e.coming × (n ≡ 0 → e.coming ≡ [])) → IfSome told (λ e. take (length taken) e.coming ≡ taken)
 piece_came n into taken None count is gives = tt
 piece_came n into taken (Some e) count is gives = ap (λ m. take m e.coming) count ∙ gives.0 ∙ sym is
 
-piece_passed : (n : ℕ) (into taken answers put : List ℕ) (old mid new : NetState) (b l : Option Live) → Piece n into taken answers old mid b l → new ≡ after_put ends.Near put mid → Passed taken put old new b l
+piece_passed : (n : ℕ) (into taken answers put : List ℕ) (old mid new : NetState) (b l : Option Live) → Piece n into taken answers old mid b l
+    → new ≡ after_put ends.Near put mid → Passed taken put old new b l
 piece_passed n into taken answers put old mid new b l piece is = record {
-  net = is ∙ ap (after_put ends.Near put) piece.took ∙ ap (λ m. after_put ends.Near put (after_take ends.Near m old)) (sym (many n into taken answers old mid b l piece));
+  net = is ∙ ap (after_put ends.Near put) piece.took
+      ∙ ap (λ m. after_put ends.Near put (after_take ends.Near m old)) (sym (many n into taken answers old mid b l piece));
   came = piece_came n into taken old.script (many n into taken answers old mid b l piece) piece.is piece.gives.of_script;
   chip = piece.chip;
 }
 
-pub piece_serving : (n : ℕ) (into taken answers : List ℕ) (old mid new : NetState) (b l : Option Live) → Piece n into taken answers old mid b l → new ≡ after_put ends.Near answers mid → fed_of b taken ≡ fed_as.All → Serving n old new b l
+pub piece_serving : (n : ℕ) (into taken answers : List ℕ) (old mid new : NetState) (b l : Option Live) → Piece n into taken answers old mid b l
+    → new ≡ after_put ends.Near answers mid → fed_of b taken ≡ fed_as.All → Serving n old new b l
 piece_serving n into taken answers old mid new b l piece put whole = record {
   taken = taken;
   many = many n into taken answers old mid b l piece;
@@ -148,10 +160,13 @@ first_piece n into taken answers old mid b l piece = record {
   whole = nothing_ends b;
 }
 
-piece_ends : (n : ℕ) (into taken answers : List ℕ) (old mid : NetState) (b l : Option Live) (end : Fed) → Piece n into taken answers old mid b l → fed_of b taken ≡ end → ChipEnds b taken answers end
-piece_ends n into taken answers old mid b l end piece is = record { answers = piece.replies; is = is; last = first_piece n into taken answers old mid b l piece }
+piece_ends : (n : ℕ) (into taken answers : List ℕ) (old mid : NetState) (b l : Option Live) (end : Fed) → Piece n into taken answers old mid b l
+    → fed_of b taken ≡ end → ChipEnds b taken answers end
+piece_ends n into taken answers old mid b l end piece is =
+    record { answers = piece.replies; is = is; last = first_piece n into taken answers old mid b l piece }
 
-pub piece_quit : (n : ℕ) (into taken answers : List ℕ) (old mid new : NetState) (b l : Option Live) (place : ℕ) → Piece n into taken answers old mid b l → new ≡ after_put ends.Near answers mid → fed_of b taken ≡ fed_as.Quit place
+pub piece_quit : (n : ℕ) (into taken answers : List ℕ) (old mid new : NetState) (b l : Option Live) (place : ℕ) → Piece n into taken answers old mid b l
+    → new ≡ after_put ends.Near answers mid → fed_of b taken ≡ fed_as.Quit place
     → WasServed Quit old new b l
 piece_quit n into taken answers old mid new b l place piece put is = record {
   taken = taken;
@@ -160,7 +175,8 @@ piece_quit n into taken answers old mid new b l place piece put is = record {
   end = (place, piece_ends n into taken answers old mid b l (fed_as.Quit place) piece is);
 }
 
-pub piece_bad : (n : ℕ) (into taken answers : List ℕ) (old mid new : NetState) (b l : Option Live) (place byte : ℕ) → Piece n into taken answers old mid b l → new ≡ after_put ends.Near answers mid → fed_of b taken ≡ fed_as.Bad place byte
+pub piece_bad : (n : ℕ) (into taken answers : List ℕ) (old mid new : NetState) (b l : Option Live) (place byte : ℕ) → Piece n into taken answers old mid b l
+    → new ≡ after_put ends.Near answers mid → fed_of b taken ≡ fed_as.Bad place byte
     → WasServed (Bad place byte) old new b l
 piece_bad n into taken answers old mid new b l place byte piece put is = record {
   taken = taken;
@@ -169,7 +185,8 @@ piece_bad n into taken answers old mid new b l place byte piece put is = record 
   end = piece_ends n into taken answers old mid b l (fed_as.Bad place byte) piece is;
 }
 
-pub piece_limit : (n : ℕ) (into taken answers : List ℕ) (old mid new : NetState) (b l : Option Live) (place : ℕ) → Piece n into taken answers old mid b l → new ≡ after_put ends.Near answers mid → fed_of b taken ≡ fed_as.EventLimit place
+pub piece_limit : (n : ℕ) (into taken answers : List ℕ) (old mid new : NetState) (b l : Option Live) (place : ℕ) → Piece n into taken answers old mid b l
+    → new ≡ after_put ends.Near answers mid → fed_of b taken ≡ fed_as.EventLimit place
     → WasServed Limit old new b l
 piece_limit n into taken answers old mid new b l place piece put is = record {
   taken = taken;
@@ -178,7 +195,8 @@ piece_limit n into taken answers old mid new b l place piece put is = record {
   end = (place, piece_ends n into taken answers old mid b l (fed_as.EventLimit place) piece is);
 }
 
-pub put_failed : (n : ℕ) (into taken answers : List ℕ) (old mid new : NetState) (b l : Option Live) → Piece n into taken answers old mid b l → PutFront ends.Near answers mid new → WasServed (NetFailed SendFailed) old new b l
+pub put_failed : (n : ℕ) (into taken answers : List ℕ) (old mid new : NetState) (b l : Option Live) → Piece n into taken answers old mid b l
+    → PutFront ends.Near answers mid new → WasServed (NetFailed SendFailed) old new b l
 unfolding first_piece
 put_failed n into taken answers old mid new b l piece cut = record {
   taken = taken;
@@ -200,7 +218,8 @@ unfolding fed_from
 bad_from k l [] place byte is = cc
 bad_from k l (b ∷ bytes) place byte is = bad_at (after l b).ended is (bad_from (k + 1) (after l b) bytes place byte)
   where
-    bad_at : (end : Option ChipEnd) → placed end k (fed_from (k + 1) (after l b) bytes) ≡ fed_as.Bad place byte → (fed_from (k + 1) (after l b) bytes ≡ fed_as.Bad place byte → place ≤ (k + 1) + length bytes) → place ≤ k + length (b ∷ bytes)
+    bad_at : (end : Option ChipEnd) → placed end k (fed_from (k + 1) (after l b) bytes) ≡ fed_as.Bad place byte
+        → (fed_from (k + 1) (after l b) bytes ≡ fed_as.Bad place byte → place ≤ (k + 1) + length bytes) → place ≤ k + length (b ∷ bytes)
     bad_at None is later = omega (arith, later is)
     bad_at (Some Quitted) is later = cc
     bad_at (Some (BadByte bad)) is later = let same : k ≡ place = cc in omega (arith, same)
@@ -210,7 +229,8 @@ bad_within : (b : Option Live) (taken : List ℕ) (n place byte : ℕ) → fed_o
 bad_within None taken n place byte is most = cc
 bad_within (Some l) taken n place byte is most = let within : place ≤ 0 + length taken = bad_from 0 l taken place byte is in omega (arith, within, most)
 
-pub bad_in_piece : (b : Option Live) (n : ℕ) (into : List ℕ) (place byte : ℕ) → n ≤ length into → length into ≡ most_served → fed_of b (take n into) ≡ fed_as.Bad place byte → place ≤ most_served
+pub bad_in_piece : (b : Option Live) (n : ℕ) (into : List ℕ) (place byte : ℕ) → n ≤ length into → length into ≡ most_served
+    → fed_of b (take n into) ≡ fed_as.Bad place byte → place ≤ most_served
 bad_in_piece b n into place byte within count is =
     let taken : length (take n into) ≡ n = length-take-le n into within in
     bad_within b (take n into) most_served place byte is (omega (arith, taken, within, count))
@@ -226,7 +246,8 @@ serving_open n old new b l serving opens = ap (λ s. s.near_open) serving.passed
 pub serving_plain : (n : ℕ) (old new : NetState) (b l : Option Live) → Serving n old new b l → IsPlain old → IsPlain new
 serving_plain n old new b l serving plain =
     let put = said_of b serving.taken in
-    let moved : new ≡ after_put ends.Near put (after_take ends.Near (length serving.taken) (bare old)) = serving.passed.net ∙ ap (λ s. after_put ends.Near put (after_take ends.Near (length serving.taken) s)) (bare_is old plain) in
+    let moved : new ≡ after_put ends.Near put (after_take ends.Near (length serving.taken) (bare old)) = serving.passed.net
+        ∙ ap (λ s. after_put ends.Near put (after_take ends.Near (length serving.taken) s)) (bare_is old plain) in
     record { chip = ap (λ s. s.chip) moved; pipe = ap (λ s. s.pipe) moved }
 
 -- before the first piece

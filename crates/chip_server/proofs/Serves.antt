@@ -1,5 +1,6 @@
 -- Pieces of a stream that are served one after another, over plain variables.
-use Rattle.std.proofs.Common.{◌≡◌, ◌+◌, ◌∙◌, ◌++◌, ℕ, List, length, take, drop, Option, Some, None, IfSome, option_map, refl, sym, ap, subst, add_assoc, append_assoc}
+use Rattle.std.proofs.Common.{◌≡◌, ◌+◌, ◌∙◌, ◌++◌, ℕ, List, length, take, drop, Option, Some, None, IfSome, option_map, refl, sym, ap, subst, add_assoc,
+    append_assoc}
 use Rattle.std.proofs.lemmas.List.{drop-drop, length-append}
 use Rattle.std.proofs.Math.Seq.{take-add}
 use Rattle.chip_core.specs.Fed.{fed}
@@ -36,7 +37,9 @@ fed_on law (Some l) xs ys whole = (law l xs ys).place ∙ ap (λ f. joined (leng
 abbrev exchanged : ℕ → List ℕ → NetState → NetState
 exchanged n put s = after_put ends.Near put (after_take ends.Near n s)
 
-script_twice : (n m : ℕ) (p q : List ℕ) (told : Option Exchange) → option_map (more_put q) (option_map (without m) (option_map (more_put p) (option_map (without n) told))) ≡ option_map (more_put (p ++ q)) (option_map (without (n + m)) told)
+script_twice : (n m : ℕ) (p q : List ℕ) (told : Option Exchange)
+    → option_map (more_put q) (option_map (without m) (option_map (more_put p) (option_map (without n) told))) ≡ option_map (more_put (p ++ q))
+    (option_map (without (n + m)) told)
 script_twice n m p q None = refl
 script_twice n m p q (Some e) =
     ap (λ xs. Some (record e { coming = xs; put = (e.put ++ p) ++ q })) (drop-drop m n e.coming)
@@ -44,24 +47,29 @@ script_twice n m p q (Some e) =
 
 bare_twice : (n m : ℕ) (p q : List ℕ) (s : NetState) → exchanged m q (exchanged n p (bare s)) ≡ exchanged (n + m) (p ++ q) (bare s)
 bare_twice n m p q s =
-    ap (λ g. record (bare s) { near_given = g; script = option_map (more_put q) (option_map (without m) (option_map (more_put p) (option_map (without n) s.script))) }) (add_assoc s.near_given n m)
+    ap (λ g. record (bare s) { near_given = g; script =
+        option_map (more_put q) (option_map (without m) (option_map (more_put p) (option_map (without n) s.script))) }) (add_assoc s.near_given n m)
     ∙ ap (λ e. record (bare s) { near_given = s.near_given + (n + m); script = e }) (script_twice n m p q s.script)
 
 exchanged_twice : (n m : ℕ) (p q : List ℕ) (s : NetState) → IsPlain s → exchanged m q (exchanged n p s) ≡ exchanged (n + m) (p ++ q) s
 exchanged_twice n m p q s plain =
     ap (λ x. exchanged m q (exchanged n p x)) (bare_is s plain) ∙ bare_twice n m p q s ∙ ap (exchanged (n + m) (p ++ q)) (sym (bare_is s plain))
 
-came_twice : (t u p : List ℕ) (told : Option Exchange) → IfSome told (λ e. take (length t) e.coming ≡ t) → IfSome (option_map (more_put p) (option_map (without (length t)) told)) (λ e. take (length u) e.coming ≡ u)
+came_twice : (t u p : List ℕ) (told : Option Exchange) → IfSome told (λ e. take (length t) e.coming ≡ t)
+    → IfSome (option_map (more_put p) (option_map (without (length t)) told)) (λ e. take (length u) e.coming ≡ u)
     → IfSome told (λ e. take (length (t ++ u)) e.coming ≡ t ++ u)
 came_twice t u p None first second = tt
 came_twice t u p (Some e) first second =
-    ap (λ n. take n e.coming) (length-append t u) ∙ take-add (length t) (length u) e.coming ∙ ap (λ xs. xs ++ take (length u) (drop (length t) e.coming)) first ∙ ap (λ ys. t ++ ys) second
+    ap (λ n. take n e.coming) (length-append t u) ∙ take-add (length t) (length u) e.coming ∙ ap (λ xs. xs ++ take (length u) (drop (length t) e.coming)) first
+        ∙ ap (λ ys. t ++ ys) second
 
 -- ---- both
 
-passed_on : PiecesJoin → (t u p q : List ℕ) (s mid new : NetState) (b m l : Option Live) → IsPlain s → Passed t p s mid b m → Passed u q mid new m l → Passed (t ++ u) (p ++ q) s new b l
+passed_on : PiecesJoin → (t u p q : List ℕ) (s mid new : NetState) (b m l : Option Live) → IsPlain s → Passed t p s mid b m → Passed u q mid new m l
+    → Passed (t ++ u) (p ++ q) s new b l
 passed_on law t u p q s mid new b m l plain first second = record {
-  net = second.net ∙ ap (exchanged (length u) q) first.net ∙ exchanged_twice (length t) (length u) p q s plain ∙ ap (λ n. exchanged n (p ++ q) s) (sym (length-append t u));
+  net = second.net ∙ ap (exchanged (length u) q) first.net ∙ exchanged_twice (length t) (length u) p q s plain
+      ∙ ap (λ n. exchanged n (p ++ q) s) (sym (length-append t u));
   came = came_twice t u p s.script first.came (subst (λ x. IfSome x.script (λ e. take (length u) e.coming ≡ u)) first.net second.came);
   chip = second.chip ∙ ap (λ x. feed_of x u) first.chip ∙ sym (feeds_on law b t u);
 }
@@ -70,10 +78,12 @@ passed_on law t u p q s mid new b m l plain first second = record {
 says_then : PiecesJoin → (t u : List ℕ) (b m : Option Live) → m ≡ feed_of b t → said_of b t ++ said_of m u ≡ said_of b (t ++ u)
 says_then law t u b m is = ap (λ x. said_of b t ++ said_of x u) is ∙ sym (says_on law b t u)
 
-fed_then : PiecesJoin → (t u : List ℕ) (b m : Option Live) (end : Fed) → m ≡ feed_of b t → fed_of b t ≡ fed_as.All → fed_of m u ≡ end → fed_of b (t ++ u) ≡ moved_by (length t) end
+fed_then : PiecesJoin → (t u : List ℕ) (b m : Option Live) (end : Fed) → m ≡ feed_of b t → fed_of b t ≡ fed_as.All → fed_of m u ≡ end
+    → fed_of b (t ++ u) ≡ moved_by (length t) end
 fed_then law t u b m end is whole ends = fed_on law b t u whole ∙ ap (λ x. moved_by (length t) (fed_of x u)) (sym is) ∙ ap (moved_by (length t)) ends
 
-pub serving_on : PiecesJoin → (n k : ℕ) (s mid new : NetState) (b m l : Option Live) → IsPlain s → Serving n s mid b m → Serving k mid new m l → Serving (n + k) s new b l
+pub serving_on : PiecesJoin → (n k : ℕ) (s mid new : NetState) (b m l : Option Live) → IsPlain s → Serving n s mid b m → Serving k mid new m l
+    → Serving (n + k) s new b l
 serving_on law n k s mid new b m l plain first second = record {
   taken = first.taken ++ second.taken;
   many = length-append first.taken second.taken ∙ ap (λ x. x + length second.taken) first.many ∙ ap (λ x. n + x) second.many;
@@ -84,7 +94,8 @@ serving_on law n k s mid new b m l plain first second = record {
 
 -- ---- ends
 
-all_on : PiecesJoin → (t u q : List ℕ) (b m : Option Live) → m ≡ feed_of b t → fed_of b t ≡ fed_as.All → AllAnswered m u q → AllAnswered b (t ++ u) (said_of b t ++ q)
+all_on : PiecesJoin → (t u q : List ℕ) (b m : Option Live) → m ≡ feed_of b t → fed_of b t ≡ fed_as.All → AllAnswered m u q
+    → AllAnswered b (t ++ u) (said_of b t ++ q)
 all_on law t u q b m is whole end = record {
   answers = ap (λ xs. said_of b t ++ xs) end.answers ∙ says_then law t u b m is;
   whole = fed_then law t u b m fed_as.All is whole end.whole;
@@ -99,28 +110,33 @@ last_on law t u b m is whole last = record {
   whole = fed_then law t last.before b m fed_as.All is whole last.whole;
 }
 
-chip_on : PiecesJoin → (t u q : List ℕ) (b m : Option Live) (end : Fed) → m ≡ feed_of b t → fed_of b t ≡ fed_as.All → ChipEnds m u q end → ChipEnds b (t ++ u) (said_of b t ++ q) (moved_by (length t) end)
+chip_on : PiecesJoin → (t u q : List ℕ) (b m : Option Live) (end : Fed) → m ≡ feed_of b t → fed_of b t ≡ fed_as.All → ChipEnds m u q end
+    → ChipEnds b (t ++ u) (said_of b t ++ q) (moved_by (length t) end)
 chip_on law t u q b m end is whole ends = record {
   answers = ap (λ xs. said_of b t ++ xs) ends.answers ∙ says_then law t u b m is;
   is = fed_then law t u b m end is whole ends.is;
   last = last_on law t u b m is whole ends.last;
 }
 
-front_on : PiecesJoin → (t u q : List ℕ) (b m : Option Live) → m ≡ feed_of b t → fed_of b t ≡ fed_as.All → FrontAnswered m u q → FrontAnswered b (t ++ u) (said_of b t ++ q)
+front_on : PiecesJoin → (t u q : List ℕ) (b m : Option Live) → m ≡ feed_of b t → fed_of b t ≡ fed_as.All → FrontAnswered m u q
+    → FrontAnswered b (t ++ u) (said_of b t ++ q)
 unfolding last_on
 front_on law t u q b m is whole end = record {
   back = end.back;
   answers = sym (says_then law t u b m is) ∙ ap (λ xs. said_of b t ++ xs) end.answers ∙ sym (append_assoc (said_of b t) q end.back);
   last = last_on law t u b m is whole end.last;
   front = end.front;
-  before = ap (λ xs. said_of b t ++ xs) end.before ∙ sym (append_assoc (said_of b t) (said_of m end.last.before) end.front) ∙ ap (λ xs. xs ++ end.front) (says_then law t end.last.before b m is);
+  before = ap (λ xs. said_of b t ++ xs) end.before ∙ sym (append_assoc (said_of b t) (said_of m end.last.before) end.front)
+      ∙ ap (λ xs. xs ++ end.front) (says_then law t end.last.before b m is);
 }
 
-end_on : PiecesJoin → (n : ℕ) (served : Served) (t u q : List ℕ) (new : NetState) (b m : Option Live) → length t ≡ n → m ≡ feed_of b t → fed_of b t ≡ fed_as.All → EndOf served m u q new
+end_on : PiecesJoin → (n : ℕ) (served : Served) (t u q : List ℕ) (new : NetState) (b m : Option Live) → length t ≡ n → m ≡ feed_of b t
+    → fed_of b t ≡ fed_as.All → EndOf served m u q new
     → EndOf (behind n served) b (t ++ u) (said_of b t ++ q) new
 end_on law n Quit t u q new b m many is whole end = (length t + end.0, chip_on law t u q b m (fed_as.Quit end.0) is whole end.1)
 end_on law n PeerEnded t u q new b m many is whole end = (all_on law t u q b m is whole end.0, end.1)
-end_on law n (Bad place byte) t u q new b m many is whole end = subst (λ x. ChipEnds b (t ++ u) (said_of b t ++ q) (fed_as.Bad (x + place) byte)) many (chip_on law t u q b m (fed_as.Bad place byte) is whole end)
+end_on law n (Bad place byte) t u q new b m many is whole end =
+    subst (λ x. ChipEnds b (t ++ u) (said_of b t ++ q) (fed_as.Bad (x + place) byte)) many (chip_on law t u q b m (fed_as.Bad place byte) is whole end)
 end_on law n Limit t u q new b m many is whole end = (length t + end.0, chip_on law t u q b m (fed_as.EventLimit end.0) is whole end.1)
 end_on law n (NetFailed SendFailed) t u q new b m many is whole end = front_on law t u q b m is whole end
 end_on law n (NetFailed RecvFailed) t u q new b m many is whole end = all_on law t u q b m is whole end
@@ -128,7 +144,8 @@ end_on law n (NetFailed Ended) t u q new b m many is whole end = absurd end
 end_on law n (NetFailed (BadAnswer byte)) t u q new b m many is whole end = absurd end
 
 -- what ended a piece has ended the stream, behind the pieces before it
-pub served_on : PiecesJoin → (n : ℕ) (served : Served) (s mid new : NetState) (b m l : Option Live) → IsPlain s → Serving n s mid b m → WasServed served mid new m l → WasServed (behind n served) s new b l
+pub served_on : PiecesJoin → (n : ℕ) (served : Served) (s mid new : NetState) (b m l : Option Live) → IsPlain s → Serving n s mid b m
+    → WasServed served mid new m l → WasServed (behind n served) s new b l
 served_on law n served s mid new b m l plain first last = record {
   taken = first.taken ++ last.taken;
   put = said_of b first.taken ++ last.put;

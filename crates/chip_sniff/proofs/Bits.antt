@@ -1,5 +1,6 @@
 -- The bits of a scan: what is taken agrees with what comes out of the register, and what stays shifts along.
-use Rattle.std.proofs.Common.{◌≡◌, ◌∙◌, ℕ, zero, suc, ◌<◌, List, [], ◌∷◌, ◌++◌, length, take, drop, Bool, Option, Some, None, refl, ap, sym, subst, arith, append_assoc, append-nil, length-append}
+use Rattle.std.proofs.Common.{◌≡◌, ◌∙◌, ℕ, zero, suc, ◌<◌, List, [], ◌∷◌, ◌++◌, length, take, drop, Bool, Option, Some, None, refl, ap, sym, subst, arith,
+    append_assoc, append-nil, length-append}
 use Rattle.jt_base.specs.BitList.{lowest, shift_in}
 use Rattle.debug_model.specs.Scan.{comes_out, stays}
 use Rattle.wire_sniff.specs.Sniffed.{and_seen, seen_bits}
@@ -15,7 +16,8 @@ Agree [] (b ∷ bits) = ⊥
 Agree (t ∷ taken) [] = ⊥
 Agree (t ∷ taken) (b ∷ bits) = AgreesWith t b × Agree taken bits
 
-pub agree_more : (taken : List (Option Bool)) (bits : List Bool) (t : Option Bool) (b : Bool) → Agree taken bits → AgreesWith t b → Agree (taken ++ t ∷ []) (bits ++ b ∷ [])
+pub agree_more : (taken : List (Option Bool)) (bits : List Bool) (t : Option Bool) (b : Bool) → Agree taken bits → AgreesWith t b
+    → Agree (taken ++ t ∷ []) (bits ++ b ∷ [])
 agree_more [] [] t b a h = (h, tt)
 agree_more [] (x ∷ bits) t b a h = absurd a
 agree_more (s ∷ taken) [] t b a h = absurd a
@@ -59,12 +61,14 @@ pub stays-more : (was given : List Bool) (b : Bool) → 0 < length was → stays
 stays-more [] given b some = absurd (omega arith)
 stays-more (x ∷ was) [] b some = ap (shift_in b) (sym (append-nil (x ∷ was)))
 stays-more (x ∷ was) (y ∷ given) b some =
-    drop_bits (length (given ++ b ∷ [])) was y (given ++ b ∷ []) ∙ stays-more (was ++ y ∷ []) given b (some_behind was y) ∙ ap (shift_in b) (sym (drop_bits (length given) was y given))
+    drop_bits (length (given ++ b ∷ [])) was y (given ++ b ∷ []) ∙ stays-more (was ++ y ∷ []) given b (some_behind was y)
+        ∙ ap (shift_in b) (sym (drop_bits (length given) was y given))
   where
     drop_bits : (n : ℕ) (xs : List Bool) (z : Bool) (ys : List Bool) → drop n (xs ++ z ∷ ys) ≡ drop n ((xs ++ z ∷ []) ++ ys)
     drop_bits n xs z ys = ap (drop n) (sym (append_assoc xs (z ∷ []) ys))
 
-pub comes_out-more : (was given : List Bool) (b : Bool) → 0 < length was → comes_out was (given ++ b ∷ []) ≡ comes_out was given ++ lowest (stays was given) ∷ []
+pub comes_out-more : (was given : List Bool) (b : Bool) → 0 < length was
+    → comes_out was (given ++ b ∷ []) ≡ comes_out was given ++ lowest (stays was given) ∷ []
 comes_out-more [] given b some = absurd (omega arith)
 comes_out-more (x ∷ was) [] b some = refl
 comes_out-more (x ∷ was) (y ∷ given) b some =

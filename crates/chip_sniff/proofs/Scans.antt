@@ -1,5 +1,6 @@
 -- What a chip and a sniffer have in common in the midst of a scan, and how edges of TCK keep it.
-use Rattle.std.proofs.Common.{◌≡◌, ◌∙◌, ℕ, suc, ◌<◌, ◌%◌, ◌/◌, List, [], ◌∷◌, ◌++◌, length, take, Bool, true, false, Option, Some, None, refl, ap, sym, subst, arith, lit<, append-nil}
+use Rattle.std.proofs.Common.{◌≡◌, ◌∙◌, ℕ, suc, ◌<◌, ◌%◌, ◌/◌, List, [], ◌∷◌, ◌++◌, length, take, Bool, true, false, Option, Some, None, refl, ap, sym, subst,
+    arith, lit<, append-nil}
 use Rattle.jt_base.specs.BitLaws.{digit-lowest, length-bits_of}
 use Rattle.jt_base.specs.BitList.{bits_of, lowest, number_of, shift_in}
 use Rattle.debug_model.specs.declared.data_register.DataRegister.{DataRegister}
@@ -7,11 +8,13 @@ use Rattle.debug_model.specs.declared.data_register.DataRegister.TheVariants as 
 use Rattle.debug_model.specs.declared.sticky.Sticky.{Sticky}
 use Rattle.debug_model.specs.declared.sticky.Sticky.TheVariants.{Clear, Failed, Busy}
 use Rattle.debug_model.specs.declared.tap_state.TapState.{TapState}
-use Rattle.debug_model.specs.declared.tap_state.TapState.TheVariants.{TestLogicReset, RunTestIdle, SelectDr, CaptureDr, ShiftDr, Exit1Dr, PauseDr, Exit2Dr, UpdateDr, SelectIr, CaptureIr, ShiftIr, Exit1Ir, PauseIr, Exit2Ir, UpdateIr}
+use Rattle.debug_model.specs.declared.tap_state.TapState.TheVariants.{TestLogicReset, RunTestIdle, SelectDr, CaptureDr, ShiftDr, Exit1Dr, PauseDr, Exit2Dr,
+    UpdateDr, SelectIr, CaptureIr, ShiftIr, Exit1Ir, PauseIr, Exit2Ir, UpdateIr}
 use Rattle.debug_model.specs.Port.{captured_code, captured_in, data_register_of, selected_after, selected_in, shift_after, tdo_after, updated_in}
 use Rattle.debug_model.specs.Scan.{comes_out, stays}
 use Rattle.debug_model.specs.Tap.{idcode, next_state}
-use Rattle.debug_model.specs.Transport.{Dtm, captured_bits, captured_dtm, dmi_seen, dmi_width, dtmcs_seen, dtmcs_width, idcode_width, status_number, status_seen}
+use Rattle.debug_model.specs.Transport.{Dtm, captured_bits, captured_dtm, dmi_seen, dmi_width, dtmcs_seen, dtmcs_width, idcode_width, status_number,
+    status_seen}
 use Rattle.debug_model.specs.TransportWords.{dmi_word, dtmcs_word}
 use Rattle.wire_sniff.specs.Sniffed.{code_after, code_in, given_after, status_width, taken_after}
 use Rattle.chip_sniff.proofs.Bits.{Agree, AgreesWith, agree_more, comes_out-more, stays-more}
@@ -99,7 +102,8 @@ captured r d = record {
 
 -- ---- a shift
 
-shifted : (r : DataRegister) (shift : List Bool) (tdo : Bool) (sticky : Sticky) (given : List Bool) (taken : List (Option Bool)) (answer : Option Bool) (tdi : Bool)
+shifted : (r : DataRegister) (shift : List Bool) (tdo : Bool) (sticky : Sticky) (given : List Bool) (taken : List (Option Bool)) (answer : Option Bool)
+    (tdi : Bool)
     → InData r shift sticky given taken × Asked shift tdo answer → InData r (shift_in tdi shift) sticky (given ++ tdi ∷ []) (taken ++ answer ∷ [])
 shifted r shift tdo sticky given taken answer tdi (i, a) = record {
   was = i.was;
@@ -107,7 +111,8 @@ shifted r shift tdo sticky given taken answer tdi (i, a) = record {
   shift_is = ap (shift_in tdi) i.shift_is ∙ sym (stays-more i.was given tdi i.some);
   agree =
       let leaves : AgreesWith answer (lowest (stays i.was given)) = subst (AgreesWith answer) (a.tdo_is ∙ ap lowest i.shift_is) a.answer_is in
-      subst (Agree (taken ++ answer ∷ [])) (sym (comes_out-more i.was given tdi i.some)) (agree_more taken (comes_out i.was given) answer (lowest (stays i.was given)) i.agree leaves);
+      subst (Agree (taken ++ answer ∷ [])) (sym (comes_out-more i.was given tdi i.some))
+          (agree_more taken (comes_out i.was given) answer (lowest (stays i.was given)) i.agree leaves);
   width = i.width;
   status = i.status;
 }
@@ -121,7 +126,8 @@ code_shifted shift given tdi i = ap (shift_in tdi) i ∙ sym (stays-more capture
 
 -- ---- a rise in this state, which leads to the next one
 
-pub rise_keeps : (state : TapState) (tms tdi : Bool) (r : DataRegister) (d : Dtm) (shift : List Bool) (tdo : Bool) (given : List Bool) (taken : List (Option Bool)) (answer : Option Bool)
+pub rise_keeps : (state : TapState) (tms tdi : Bool) (r : DataRegister) (d : Dtm) (shift : List Bool) (tdo : Bool) (given : List Bool)
+    (taken : List (Option Bool)) (answer : Option Bool)
     → InScan state false r shift tdo d.sticky given taken answer
     → InScan (next_state state tms) true (selected_in (next_state state tms) r) (shift_after state r d tdi shift) tdo (captured_in state r d).sticky
     (given_after state tdi given) (taken_after state answer taken) answer
@@ -164,7 +170,8 @@ rise_selects _ r code e = e
 
 -- ---- a fall in this state
 
-pub fall_keeps : (state : TapState) (r : DataRegister) (d : Dtm) (shift : List Bool) (tdo : Bool) (given : List Bool) (taken : List (Option Bool)) (answer : Option Bool)
+pub fall_keeps : (state : TapState) (r : DataRegister) (d : Dtm) (shift : List Bool) (tdo : Bool) (given : List Bool) (taken : List (Option Bool))
+    (answer : Option Bool)
     → InScan state true r shift tdo d.sticky given taken answer
     → InScan state false (selected_after state shift r) shift (tdo_after state shift) (updated_in state r shift d).sticky given taken None
 fall_keeps ShiftDr r d shift tdo given taken answer i = (i, record { tdo_is = refl; answer_is = tt })
@@ -184,14 +191,17 @@ fall_keeps CaptureDr r d shift tdo given taken answer i = tt
 fall_keeps SelectIr r d shift tdo given taken answer i = tt
 fall_keeps CaptureIr r d shift tdo given taken answer i = tt
 
-pub fall_selects : (state : TapState) (r : DataRegister) (shift : List Bool) (tdo : Bool) (sticky : Sticky) (given : List Bool) (taken : List (Option Bool)) (answer : Option Bool) (code : ℕ)
-    → InScan state true r shift tdo sticky given taken answer → r ≡ data_register_of code → selected_after state shift r ≡ data_register_of (code_after state given code)
+pub fall_selects : (state : TapState) (r : DataRegister) (shift : List Bool) (tdo : Bool) (sticky : Sticky) (given : List Bool) (taken : List (Option Bool))
+    (answer : Option Bool) (code : ℕ)
+    → InScan state true r shift tdo sticky given taken answer → r ≡ data_register_of code
+        → selected_after state shift r ≡ data_register_of (code_after state given code)
 fall_selects UpdateIr r shift tdo sticky given taken answer code i e = ap (λ bits. data_register_of (number_of bits)) i
 fall_selects _ r shift tdo sticky given taken answer code i e = e
 
 -- ---- an answer
 
-pub ask_keeps : (state : TapState) (tck : Bool) (r : DataRegister) (shift : List Bool) (tdo : Bool) (sticky : Sticky) (given : List Bool) (taken : List (Option Bool)) (answer : Option Bool)
+pub ask_keeps : (state : TapState) (tck : Bool) (r : DataRegister) (shift : List Bool) (tdo : Bool) (sticky : Sticky) (given : List Bool)
+    (taken : List (Option Bool)) (answer : Option Bool)
     → InScan state tck r shift tdo sticky given taken answer → InScan state tck r shift tdo sticky given taken (Some tdo)
 ask_keeps ShiftDr true r shift tdo sticky given taken answer i = i
 ask_keeps ShiftDr false r shift tdo sticky given taken answer i = (i.0, record { tdo_is = i.1.tdo_is; answer_is = refl })

@@ -7,7 +7,8 @@ use Rattle.debug_model.specs.declared.tap_state.TapState.TheVariants.{TestLogicR
 use Rattle.debug_model.specs.Chip.{Chip, Inside, answer_byte, answered, fall, pins, rise, signed, tick, works_risen}
 use Rattle.debug_model.specs.Port.{Port, captured_in, data_register_of, dtm_risen, port_held, port_risen, risen, selected_in, shift_after}
 use Rattle.debug_model.specs.Tap.{next_state}
-use Rattle.wire_sniff.specs.Sniffed.{Sniffer, code_after, code_in, given_after, sniffed, sniffed_pins, sniffer_asks, sniffer_falls, sniffer_held, sniffer_risen, sniffer_rises, taken_after}
+use Rattle.wire_sniff.specs.Sniffed.{Sniffer, code_after, code_in, given_after, sniffed, sniffed_pins, sniffer_asks, sniffer_falls, sniffer_held,
+    sniffer_risen, sniffer_rises, taken_after}
 use Rattle.chip_sniff.proofs.Rounds.{tick_sticky}
 use Rattle.chip_sniff.proofs.Scans.{InScan, ask_keeps, fall_keeps, fall_selects, rise_keeps, rise_selects}
 
@@ -37,9 +38,11 @@ risen_tied tms tdi c s i t low free sticky =
       held = t.held;
       selected = rise_selects (next_state was tms) c.port.selected s.code t.selected ∙ ap (λ x. data_register_of (code_in x s.code)) next;
       reset = λ e. absurd (cc);
-      scan = subst (λ x. InScan (next_state was tms) true (selected_in (next_state was tms) c.port.selected) (shift_after was c.port.selected d tdi c.port.shift) c.port.tdo x
+      scan = subst (λ x. InScan (next_state was tms) true (selected_in (next_state was tms) c.port.selected)
+          (shift_after was c.port.selected d tdi c.port.shift) c.port.tdo x
           (given_after s.state tdi s.given) (taken_after s.state s.answer s.taken) s.answer) (sym sticky)
-          (subst (λ x. InScan (next_state was tms) true (selected_in (next_state was tms) c.port.selected) (shift_after was c.port.selected d tdi c.port.shift) c.port.tdo
+          (subst (λ x. InScan (next_state was tms) true (selected_in (next_state was tms) c.port.selected) (shift_after was c.port.selected d tdi c.port.shift)
+              c.port.tdo
           (captured_in was c.port.selected d).sticky (given_after x tdi s.given) (taken_after x s.answer s.taken) s.answer) t.state kept);
     }
 
@@ -47,7 +50,8 @@ in_reset : (state : TapState) (tck : Bool) (c : Chip) (s : Sniffer) (i : Inside)
     → InScan state tck c.port.selected c.port.shift c.port.tdo i.works.dtm.sticky s.given s.taken s.answer
 in_reset state tck c s i e = rw e tt
 
-held_tied : (c : Chip) (s : Sniffer) (i : Inside) → Tied c s → c.port.held ≡ true → Tied (record { tck = true; port = c.port; inside = i }) (record s { tck = true })
+held_tied : (c : Chip) (s : Sniffer) (i : Inside) → Tied c s → c.port.held ≡ true
+    → Tied (record { tck = true; port = c.port; inside = i }) (record s { tck = true })
 held_tied c s i t held = record {
   tck = refl;
   state = t.state;
@@ -132,7 +136,8 @@ sign_tied (Pins tck tms tdi) c s coming t e = (
   pins_coming false false = refl
   pins_coming true true = refl
 sign_tied Ask c s coming t e = (
-  subst (λ next. Tied c (sniffer_asks next s)) (sym e) (subst (λ (b : Bool). Tied c (record s { answer = Some b; coming = coming })) (sym (told c.port.tdo)) (ask_tied c s coming t)),
+  subst (λ next. Tied c (sniffer_asks next s)) (sym e)
+      (subst (λ (b : Bool). Tied c (record s { answer = Some b; coming = coming })) (sym (told c.port.tdo)) (ask_tied c s coming t)),
   ap (λ next. (sniffer_asks next s).coming) e,
 )
 sign_tied Light c s coming t e = (t, e)

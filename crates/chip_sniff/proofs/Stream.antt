@@ -1,5 +1,6 @@
 -- A whole stream: what the sniffer shows of it, and what the chip puts in flight, by one induction over the bytes.
-use Rattle.std.proofs.Common.{◌≡◌, ◌≢◌, ◌∙◌, ℕ, suc, ◌+◌, ◌==◌, List, [], ◌∷◌, ◌++◌, Bool, true, false, not, Option, Some, None, is_none, refl, ap, sym, subst, cond, arith, take}
+use Rattle.std.proofs.Common.{◌≡◌, ◌≢◌, ◌∙◌, ℕ, suc, ◌+◌, ◌==◌, List, [], ◌∷◌, ◌++◌, Bool, true, false, not, Option, Some, None, is_none, refl, ap, sym, subst,
+    cond, arith, take}
 use Rattle.std.specs.List.{prefix_len}
 use Rattle.std.proofs.lemmas.Bool.{and_parts}
 use Rattle.std.proofs.lemmas.List.Folds.{list_all-append}
@@ -57,7 +58,8 @@ after_none c b e = ap (λ x. taken_by x (signed (sign_of b) c) c) e
 launched-end : (c : Chip) (b : ℕ) (bytes : List ℕ) (end : ChipEnd) → end_of b (sign_of b) c ≡ Some end → launched (live c) (b ∷ bytes) ≡ []
 unfolding launched
 launched-end c b bytes end e =
-    ap (λ x. unless_ended x (put_in_flight (at_sign (sign_of b) c)) [] ++ launched (after (live c) b) bytes) e ∙ ap (λ l. launched l bytes) (after_end c b end e) ∙ launched_ended c end bytes
+    ap (λ x. unless_ended x (put_in_flight (at_sign (sign_of b) c)) [] ++ launched (after (live c) b) bytes) e
+        ∙ ap (λ l. launched l bytes) (after_end c b end e) ∙ launched_ended c end bytes
 
 launched-more : (c : Chip) (b : ℕ) (bytes : List ℕ) → end_of b (sign_of b) c ≡ None
     → launched (live c) (b ∷ bytes) ≡ put_in_flight (at_sign (sign_of b) c) ++ launched (live (signed (sign_of b) c)) bytes
@@ -74,7 +76,8 @@ feed-more : (c : Chip) (b : ℕ) (bytes : List ℕ) → end_of b (sign_of b) c �
 unfolding feed
 feed-more c b bytes e = ap (λ l. feed l bytes) (after_none c b e)
 
-said-more : (c : Chip) (b : ℕ) (bytes : List ℕ) → end_of b (sign_of b) c ≡ None → said (live c) (b ∷ bytes) ≡ answered (sign_of b) c ++ said (live (signed (sign_of b) c)) bytes
+said-more : (c : Chip) (b : ℕ) (bytes : List ℕ) → end_of b (sign_of b) c ≡ None
+    → said (live c) (b ∷ bytes) ≡ answered (sign_of b) c ++ said (live (signed (sign_of b) c)) bytes
 unfolding said
 said-more c b bytes e = ap (λ l. answered (sign_of b) c ++ said l bytes) (after_none c b e)
 
@@ -152,7 +155,8 @@ other_than_quit : (b : ℕ) (sign : Sign) → sign_of b ≡ Some sign → (b == 
 other_than_quit b sign is_sign other q =
     let yes : (b == quit_byte) ≡ true = quit_is b (is_sign ∙ ap Some q) in absurd (cc)
 
-no_bad_sign : (place b : ℕ) (rest : List ℕ) (o : Option Sign) → sign_of b ≡ o → bad_sign_from place (b ∷ rest) ≡ None → (sign : Sign) × (o ≡ Some sign) × (bad_sign_from (suc place) rest ≡ None)
+no_bad_sign : (place b : ℕ) (rest : List ℕ) (o : Option Sign) → sign_of b ≡ o → bad_sign_from place (b ∷ rest) ≡ None
+    → (sign : Sign) × (o ≡ Some sign) × (bad_sign_from (suc place) rest ≡ None)
 no_bad_sign place b rest None is_sign good = absurd (refused) where
   refused : ⊥
   refused = let h : cond (is_none (sign_of b)) (Some (BadSign place b)) (bad_sign_from (suc place) rest) ≡ None = good in
@@ -170,7 +174,8 @@ one_more_tells : (b : ℕ) (bytes : List ℕ) → Tells bytes → Tells (b ∷ b
 one_more_tells b bytes behind place c s t coming good unlimited clear = by_quit (b == quit_byte) refl where
   by_quit : (q : Bool) → (b == quit_byte) ≡ q → operations_in (lines_from s (counted_signs (b ∷ bytes))) ≡ launched (live c) (b ∷ bytes)
   by_quit true q =
-      ap (λ signs. operations_in (lines_from s signs)) (counted-quit b bytes q) ∙ ap operations_in (lines-nil s) ∙ sym (launched-end c b bytes Quitted (quit_end c b q))
+      ap (λ signs. operations_in (lines_from s signs)) (counted-quit b bytes q) ∙ ap operations_in (lines-nil s)
+          ∙ sym (launched-end c b bytes Quitted (quit_end c b q))
   by_quit false q = by_sign (sign_of b) refl where
     counted : counted_signs (b ∷ bytes) ≡ b ∷ counted_signs bytes
     counted = counted-more b bytes q
@@ -180,7 +185,8 @@ one_more_tells b bytes behind place c s t coming good unlimited clear = by_quit 
         let fine = no_bad_sign place b (counted_signs bytes) o is_sign (subst (λ signs. bad_sign_from place signs ≡ None) counted good) in
         by_end fine.0 (is_sign ∙ fine.1) fine.2 (end_of b (sign_of b) c) refl
       where
-        by_end : (sign : Sign) → sign_of b ≡ Some sign → bad_sign_from (suc place) (counted_signs bytes) ≡ None → (e : Option ChipEnd) → end_of b (sign_of b) c ≡ e
+        by_end : (sign : Sign) → sign_of b ≡ Some sign → bad_sign_from (suc place) (counted_signs bytes) ≡ None → (e : Option ChipEnd)
+            → end_of b (sign_of b) c ≡ e
             → operations_in (lines_from s (counted_signs (b ∷ bytes))) ≡ launched (live c) (b ∷ bytes)
         by_end sign is good_rest (Some end) e =
             let limit : end ≡ AtLimit = limit_alone sign b c end (other_than_quit b sign is q) (sym (ap (λ x. end_of b x c) is) ∙ e) in
@@ -195,7 +201,8 @@ one_more_tells b bytes behind place c s t coming good unlimited clear = by_quit 
             let whole : lines_from s (counted_signs (b ∷ bytes)) ≡ sign_lines (Some sign) s ++ lines_from s' (counted_signs bytes) =
             ap (lines_from s) counted ∙ lines-cons s b (counted_signs bytes) ∙ ap (λ x. sign_lines x s ++ lines_from (sniffed x s) (counted_signs bytes)) is in
             let clears = clear_parts (sign_lines (Some sign) s) (lines_from s' (counted_signs bytes)) (sym (ap are_clear whole) ∙ clear) in
-            let unlimited' = λ (h : (feed (live c') bytes).ended ≡ Some AtLimit). unlimited (ap (λ l. l.ended) (feed-more c b bytes e ∙ ap (λ x. feed (live x) bytes) next) ∙ h) in
+            let unlimited' = λ (h : (feed (live c') bytes).ended ≡ Some AtLimit). unlimited
+                (ap (λ l. l.ended) (feed-more c b bytes e ∙ ap (λ x. feed (live x) bytes) next) ∙ h) in
             ap operations_in whole ∙ operations-append (sign_lines (Some sign) s) (lines_from s' (counted_signs bytes))
             ∙ ap (λ ops. ops ++ operations_in (lines_from s' (counted_signs bytes))) (sign_shows sign c s t clears.0)
             ∙ ap (λ ops. put_in_flight (at_sign (Some sign) c) ++ ops) (behind (suc place) c' s' tied.0 tied.1 good_rest unlimited' clears.1)

@@ -28,7 +28,8 @@ use Rattle.chip_sniff.proofs.Signs.{Tied}
 -- ---- the outcome of a scan of dmi
 
 outcome : (sticky : Sticky) (n : ℕ) (op : Option DmiOp) → n ≡ status_number sticky
-    → operations_in (cond (n == status_done) (requested_line op) (cond (n == status_failed) (DmiFailed ∷ []) (DmiBusy ∷ []))) ≡ put_in_flight (launches_by sticky op)
+    → operations_in (cond (n == status_done) (requested_line op) (cond (n == status_failed) (DmiFailed ∷ []) (DmiBusy ∷ []))) ≡ put_in_flight
+        (launches_by sticky op)
 outcome Clear n None e = rw e refl
 outcome Clear n (Some op) e = rw e refl
 outcome Failed n op e = rw e refl
@@ -37,7 +38,8 @@ outcome Busy n op e = rw e refl
 eq_from : (n m : ℕ) → (n == m) ≡ true → n ≡ m
 eq_from n m e = grind (arith, e)
 
-whole_shows : (given : List Bool) (taken : List (Option Bool)) (shift : List Bool) (d : Dtm) → InData register.Dmi shift d.sticky given taken → length given ≡ dmi_width
+whole_shows : (given : List Bool) (taken : List (Option Bool)) (shift : List Bool) (d : Dtm) → InData register.Dmi shift d.sticky given taken
+    → length given ≡ dmi_width
     → (status : Option (List Bool)) → seen_bits (take status_width taken) ≡ status → are_clear (status_line status given) ≡ true
     → operations_in (status_line status given) ≡ put_in_flight (launches_by d.sticky (operation_of (dmi_of (number_of shift))))
 whole_shows given taken shift d i long None seen clear = absurd (cc)
@@ -77,7 +79,8 @@ data_shows code given taken r shift d i selected true is_dmi clear =
 
 -- ---- a sign
 
-state_shows : (state : TapState) (s : Sniffer) (r : DataRegister) (shift : List Bool) (tdo : Bool) (d : Dtm) → InScan state true r shift tdo d.sticky s.given s.taken s.answer
+state_shows : (state : TapState) (s : Sniffer) (r : DataRegister) (shift : List Bool) (tdo : Bool) (d : Dtm)
+    → InScan state true r shift tdo d.sticky s.given s.taken s.answer
     → r ≡ data_register_of s.code → are_clear (lines_at state s) ≡ true → operations_in (lines_at state s) ≡ put_in_flight (updated_at state r shift d)
 state_shows UpdateDr s r shift tdo d i selected clear = data_shows s.code s.given s.taken r shift d i selected (s.code == dmi_code) refl clear
 state_shows UpdateIr s r shift tdo d i selected clear = refl
@@ -88,7 +91,8 @@ edge_shows : (was now : Bool) (c : Chip) (s : Sniffer) → Tied c s → c.tck �
 edge_shows true false c s t high clear =
     let before = subst (λ k. InScan c.port.state k c.port.selected c.port.shift c.port.tdo c.inside.works.dtm.sticky s.given s.taken s.answer) high t.scan in
     subst (λ x. operations_in (lines_at x s) ≡ put_in_flight (at_edge true false c)) t.state
-    (state_shows c.port.state s c.port.selected c.port.shift c.port.tdo c.inside.works.dtm before t.selected (subst (λ x. are_clear (lines_at x s) ≡ true) (sym t.state) clear))
+    (state_shows c.port.state s c.port.selected c.port.shift c.port.tdo c.inside.works.dtm before t.selected
+        (subst (λ x. are_clear (lines_at x s) ≡ true) (sym t.state) clear))
 edge_shows true true c s t high clear = refl
 edge_shows false now c s t high clear = refl
 

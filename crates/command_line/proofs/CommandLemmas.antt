@@ -39,9 +39,11 @@ flag_more program options xs i x lt = ap (ruled program) (
 pub option_next : (program : Text) (xs : List (Bor Text)) (i : ℕ) (x : Bor Text) (command made : App) → i < length xs
     → made ≡ with_rule command (option_rule (get_or xs i x).now) → command ≡ command_of program (texts (take i xs)) []
     → made ≡ command_of program (texts (take (i + 1) xs)) []
-option_next program xs i x command made lt is before = is ∙ ap (λ (a : App). with_rule a (option_rule (get_or xs i x).now)) before ∙ option_more program xs i x lt
+option_next program xs i x command made lt is before = is ∙ ap (λ (a : App). with_rule a (option_rule (get_or xs i x).now)) before
+    ∙ option_more program xs i x lt
 
 pub flag_next : (program : Text) (options : List Text) (xs : List (Bor Text)) (i : ℕ) (x : Bor Text) (command made : App) → i < length xs
     → made ≡ with_rule command (flag_rule (get_or xs i x).now) → command ≡ command_of program options (texts (take i xs))
     → made ≡ command_of program options (texts (take (i + 1) xs))
-flag_next program options xs i x command made lt is before = is ∙ ap (λ (a : App). with_rule a (flag_rule (get_or xs i x).now)) before ∙ flag_more program options xs i x lt
+flag_next program options xs i x command made lt is before = is ∙ ap (λ (a : App). with_rule a (flag_rule (get_or xs i x).now)) before
+    ∙ flag_more program options xs i x lt

@@ -37,7 +37,8 @@ unfolding job_by chosen
 job_by-none p words a b c d = λ i. chosen p words (a i) (b i) (c i) (d i)
 
 -- the first word decides
-pub job_of-first : (words : List (String Global)) (p : String Global) → Some p ≡ slice_get words 0 → job_by (string_bytes p) (map string_bytes words) ≡ job_of (map string_bytes words)
+pub job_of-first : (words : List (String Global)) (p : String Global) → Some p ≡ slice_get words 0
+    → job_by (string_bytes p) (map string_bytes words) ≡ job_of (map string_bytes words)
 unfolding job_of
 job_of-first [] p e =
     let bad : true ≡ false = ap (λ (o : Option (String Global)). elim o [ Some x ↦ true | None ↦ false ]) e in

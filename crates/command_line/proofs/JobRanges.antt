@@ -1,5 +1,6 @@
 -- The numbers of a job are within their ranges, whatever the words are.
-use Rattle.std.proofs.Common.{◌≡◌, ℕ, ◌&&◌, Bool, true, false, cond, nat_le, List, [], ◌∷◌, Option, Some, None, bytes_eq, codes, refl, ap, subst, arith, Result, Ok, Err, IfOk}
+use Rattle.std.proofs.Common.{◌≡◌, ℕ, ◌&&◌, Bool, true, false, cond, nat_le, List, [], ◌∷◌, Option, Some, None, bytes_eq, codes, refl, ap, subst, arith,
+    Result, Ok, Err, IfOk}
 use Rattle.std.proofs.lemmas.Bool.Decides.{nat_tests}
 use Rattle.std.proofs.lemmas.Option.{none-some, same_Some}
 use Rattle.clap.specs.Words.{Row}
@@ -19,7 +20,8 @@ none : {A : Type 0} {B : Type 0} (x : A) → None ≡ Some x → B
 none x e = absurd (none-some x e)
 
 within_at : (least most m n : ℕ) (a b : Bool) → nat_le least m ≡ a → nat_le m most ≡ b → cond (a && b) (Some m) None ≡ Some n → InRange least most n
-within_at least most m n true true low high e = subst (InRange least most) (same_Some m n e) (record { low = grind (arith, nat_tests); high = grind (arith, nat_tests) })
+within_at least most m n true true low high e =
+    subst (InRange least most) (same_Some m n e) (record { low = grind (arith, nat_tests); high = grind (arith, nat_tests) })
 within_at least most m n true false low high e = none n e
 within_at least most m n false b low high e = none n e
 
@@ -35,9 +37,11 @@ record Said (busy events : Option ℕ) (options : ChipOptions) : Type 0 where
   busy_is : busy ≡ Some options.busy
   events_is : events ≡ Some options.events
 
-said_are : (harts ram seed busy events : Option ℕ) (halted : Bool) (options : ChipOptions) → options_from harts ram seed busy events halted ≡ Some options → Said busy events options
+said_are : (harts ram seed busy events : Option ℕ) (halted : Bool) (options : ChipOptions) → options_from harts ram seed busy events halted ≡ Some options
+    → Said busy events options
 said_are (Some h) (Some r) (Some s) (Some b) (Some n) halted options e =
-    record { busy_is = ap (λ (o : ChipOptions). Some o.busy) (same_Some _ options e); events_is = ap (λ (o : ChipOptions). Some o.events) (same_Some _ options e) }
+    record { busy_is = ap (λ (o : ChipOptions). Some o.busy) (same_Some _ options e); events_is =
+        ap (λ (o : ChipOptions). Some o.events) (same_Some _ options e) }
 said_are (Some h) (Some r) (Some s) (Some b) None halted options e = none options e
 said_are (Some h) (Some r) (Some s) None events halted options e = none options e
 said_are (Some h) (Some r) None busy events halted options e = none options e
@@ -48,7 +52,8 @@ options_range : (rows : List Row) (options : ChipOptions) → options_in rows �
 unfolding options_in
 options_range rows options e =
     let said = said_are (number_in rows (codes "harts") harts_unsaid) (number_in rows (codes "ram") ram_unsaid) (number_in rows (codes "seed") seed_unsaid)
-    (ranged_in rows (codes "busy") busy_unsaid least_busy most_busy) (ranged_in rows (codes "events") events_unsaid least_events most_events) (flag_in rows (codes "halted")) options e in
+    (ranged_in rows (codes "busy") busy_unsaid least_busy most_busy) (ranged_in rows (codes "events") events_unsaid least_events most_events)
+        (flag_in rows (codes "halted")) options e in
     record {
       busy = ranged_is rows (codes "busy") busy_unsaid least_busy most_busy options.busy said.busy_is;
       events = ranged_is rows (codes "events") events_unsaid least_events most_events options.events said.events_is;
@@ -64,7 +69,8 @@ both_ranges_by None options piece loopback v ranges small e = none v e
 
 both_ranges : (rows : List Row) (v : JobValue) → both_in rows ≡ Some v → HasRanges v
 unfolding both_in
-both_ranges rows v e = both_ranges_by (inputs_in rows) (options_in rows) (ranged_in rows (codes "piece") piece_unsaid least_piece piece_most) (flag_in rows (codes "loopback")) v
+both_ranges rows v e = both_ranges_by (inputs_in rows) (options_in rows) (ranged_in rows (codes "piece") piece_unsaid least_piece piece_most)
+    (flag_in rows (codes "loopback")) v
     (λ o is. options_range rows o is) (λ n is. ranged_is rows (codes "piece") piece_unsaid least_piece piece_most n is) e
 
 probe_ranges_by : (at script : Option Text) (v : JobValue) → probe_from at script ≡ Some v → HasRanges v
@@ -76,7 +82,8 @@ probe_ranges : (rows : List Row) (v : JobValue) → probe_in rows ≡ Some v →
 unfolding probe_in
 probe_ranges rows v e = probe_ranges_by (value_in rows (codes "at")) (value_in rows (codes "script")) v e
 
-chip_ranges_by : (at image : Option Text) (options : Option ChipOptions) (v : JobValue) → ((o : ChipOptions) → options ≡ Some o → OptionsInRange o) → chip_from at image options ≡ Some v → HasRanges v
+chip_ranges_by : (at image : Option Text) (options : Option ChipOptions) (v : JobValue) → ((o : ChipOptions) → options ≡ Some o → OptionsInRange o)
+    → chip_from at image options ≡ Some v → HasRanges v
 chip_ranges_by (Some a) (Some i) (Some o) v ranges e = subst HasRanges (same_Some _ v e) (ranges o refl)
 chip_ranges_by (Some a) (Some i) None v ranges e = none v e
 chip_ranges_by (Some a) None options v ranges e = none v e
@@ -96,7 +103,8 @@ unfolding sniff_in
 sniff_ranges rows v e = sniff_ranges_by (value_in rows (codes "stream")) (value_in rows (codes "answers")) (flag_in rows (codes "vcd")) v e
 
 -- rows that are read as a job, where there are rows
-read_ranges : (read : List Row → Option JobValue) → ((rows : List Row) (v : JobValue) → read rows ≡ Some v → HasRanges v) → (rows : Option (List Row)) (v : JobValue) → (rows >>= read) ≡ Some v → HasRanges v
+read_ranges : (read : List Row → Option JobValue) → ((rows : List Row) (v : JobValue) → read rows ≡ Some v → HasRanges v)
+    → (rows : Option (List Row)) (v : JobValue) → (rows >>= read) ≡ Some v → HasRanges v
 read_ranges read ranges None v e = none v e
 read_ranges read ranges (Some rows) v e = ranges rows v e
 

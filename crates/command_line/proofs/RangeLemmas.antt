@@ -4,7 +4,8 @@ use Rattle.std.proofs.lemmas.Bool.Decides.{nat_tests}
 use Rattle.command_line.specs.WrittenJob.{within}
 
 pub within_range : (least most n : ℕ) → least ≤ n → n ≤ most → within least most n ≡ Some n
-within_range least most n low high = ap (λ b. cond b (Some n) None) (both (nat_le least n) (nat_le n most) (grind (arith, nat_tests)) (grind (arith, nat_tests)))
+within_range least most n low high = ap (λ b. cond b (Some n) None)
+    (both (nat_le least n) (nat_le n most) (grind (arith, nat_tests)) (grind (arith, nat_tests)))
   where
     both : (a b : Bool) → a ≡ true → b ≡ true → (a && b) ≡ true
     both true b e f = f

@@ -30,7 +30,8 @@ some_fault [] rows e h other = elim h [
 some_fault (k ∷ ks) rows e h other = refl
 
 -- an error that isn't want of memory has its cause in the words
-pub rows_in-fails : (command : App) (words : List Text) (e : Error) (fault : WordsFault) → HasKind (fault_of command words) e → (fault ≡ Refused → kind_of e ≢ OutOfMemory) → Fails fault (rows_in command words)
+pub rows_in-fails : (command : App) (words : List Text) (e : Error) (fault : WordsFault) → HasKind (fault_of command words) e
+    → (fault ≡ Refused → kind_of e ≢ OutOfMemory) → Fails fault (rows_in command words)
 unfolding rows_in
 rows_in-fails command words e Refused has other = some_fault (fault_of command words) (matches_of command words) e has (other refl)
 rows_in-fails command words e NoMemory has other = tt

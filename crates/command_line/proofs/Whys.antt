@@ -1,5 +1,6 @@
 -- What is named of words, by the command that their first word names.
-use Rattle.std.proofs.Common.{◌≡◌, Bool, true, false, bytes_eq, cond, codes, List, [], ◌∷◌, Option, Some, None, map, refl, sym, ap, subst, ◌∙◌, string_bytes, Result, Ok, Err, Global}
+use Rattle.std.proofs.Common.{◌≡◌, Bool, true, false, bytes_eq, cond, codes, List, [], ◌∷◌, Option, Some, None, map, refl, sym, ap, subst, ◌∙◌, string_bytes,
+    Result, Ok, Err, Global}
 use Rattle.std.specs.Prelude.{String, slice_get, IfErr}
 use Rattle.clap.specs.Words.{App, Row}
 use Rattle.command_line.specs.Job.{Text}
@@ -95,7 +96,8 @@ names_first [] job r e names =
     let bad : true ≡ false = ap (λ (o : Option (String Global)). elim o [ Some x ↦ true | None ↦ false ]) e in
     cc
 names_first (w ∷ rest) job r e names =
-    subst (λ (t : Text). IfErr r (NamesAt (command_at t) t (map string_bytes (w ∷ rest)))) (ap (λ (o : Option (String Global)). elim o [ Some x ↦ string_bytes x | None ↦ [] ]) e) names
+    subst (λ (t : Text). IfErr r (NamesAt (command_at t) t (map string_bytes (w ∷ rest))))
+        (ap (λ (o : Option (String Global)). elim o [ Some x ↦ string_bytes x | None ↦ [] ]) e) names
 
 pub names_no_words : (words : List (String Global)) → None ≡ slice_get words 0 → Names (map string_bytes words) whys.NoWords
 names_no_words [] e = refl

@@ -137,7 +137,8 @@ both_from said_inputs said_options said_piece loopback = do
   Some (both inputs options piece loopback)
 
 unfoldable pub both_in : List Row → Option JobValue
-both_in rows = both_from (inputs_in rows) (options_in rows) (ranged_in rows (codes "piece") piece_unsaid least_piece piece_most) (flag_in rows (codes "loopback"))
+both_in rows = both_from (inputs_in rows) (options_in rows) (ranged_in rows (codes "piece") piece_unsaid least_piece piece_most)
+    (flag_in rows (codes "loopback"))
 
 abbrev pub probe_from : Option Text → Option Text → Option JobValue
 probe_from said_at said_script = do

@@ -23,8 +23,11 @@ use Rattle.debug_model.specs.declared.dmi_op.DmiOp.TheVariants.{Read, Write}
 use Rattle.debug_model.specs.declared.micro.Micro.{Micro}
 use Rattle.debug_model.specs.declared.micro.Micro.TheVariants.{Transfer, Run}
 use Rattle.debug_model.specs.declared.module_register.ModuleRegister.{ModuleRegister}
-use Rattle.debug_model.specs.declared.module_register.ModuleRegister.TheVariants.{Word, Dmcontrol as dmcontrol, Dmstatus as dmstatus, Abstractcs, Command, Abstractauto, Sbcs, Sbaddress0, Sbaddress1, Sbdata0, Sbdata1, Haltsum0, Nothing}
-use Rattle.debug_model.specs.Commands.{CommandUnit, Stepped, auto_started, abstractauto_written, abstractcs_written, busy, can_transfer, command_kept, command_written, is_auto, is_held, is_supported, is_under_way, micro_step, refusal, serves, start, start_unless, started_by, step_by, transferred, with_word, word_read, word_written}
+use Rattle.debug_model.specs.declared.module_register.ModuleRegister.TheVariants.{Word, Dmcontrol as dmcontrol, Dmstatus as dmstatus, Abstractcs, Command,
+    Abstractauto, Sbcs, Sbaddress0, Sbaddress1, Sbdata0, Sbdata1, Haltsum0, Nothing}
+use Rattle.debug_model.specs.Commands.{CommandUnit, Stepped, auto_started, abstractauto_written, abstractcs_written, busy, can_transfer, command_kept,
+    command_written, is_auto, is_held, is_supported, is_under_way, micro_step, refusal, serves, start, start_unless, started_by, step_by, transferred,
+    with_word, word_read, word_written}
 use Rattle.debug_model.specs.Deeds.{command_stepped, stepped_by, turned_by}
 use Rattle.debug_model.specs.Module.{DebugModule, Site, controlled_by, operated, read_by, register_at, write_by, written_by}
 use Rattle.debug_model.specs.ModuleWords.{dmcontrol_of}
@@ -48,7 +51,8 @@ is_not b f t = let e : false ≡ true = sym f ∙ t in cc
 idle_serves : (hart : Option Hart) (u : CommandUnit) → busy u ≡ false → Serves hart u
 idle_serves hart u idle is = absurd (is_not (busy u) idle is)
 
-refusal_by : (supported serving can : Bool) → cond (not supported) NotSupported (cond (not serving) HaltResume (cond (not can) Exception Fine)) ≡ Fine → serving ≡ true
+refusal_by : (supported serving can : Bool) → cond (not supported) NotSupported (cond (not serving) HaltResume (cond (not can) Exception Fine)) ≡ Fine
+    → serving ≡ true
 refusal_by true true can is = refl
 refusal_by true false can is = cc
 refusal_by false serving can is = cc
@@ -191,7 +195,8 @@ held_as x y same h =
 same_requests : (d : DebugPart) → SameRequests d d
 same_requests d = record { halted = refl; halt_request = refl; resume_request = refl; resume_ack = refl; have_reset = refl }
 
-hart_by : (b : Bool) (x : Hart) (s t : Stepped) → SameRequests x.debug s.hart.debug → SameRequests x.debug t.hart.debug → SameRequests x.debug (cond b s t).hart.debug
+hart_by : (b : Bool) (x : Hart) (s t : Stepped) → SameRequests x.debug s.hart.debug → SameRequests x.debug t.hart.debug
+    → SameRequests x.debug (cond b s t).hart.debug
 hart_by true x s t h k = h
 hart_by false x s t h k = k
 
@@ -236,8 +241,10 @@ turn_held : (why : Option Cause) (resume : Bool) (x : Hart) (m : Memory) → x.d
 unfolding place_of
 turn_held (Some why) true x m halted resumes held = cc
 turn_held (Some why) false x m halted resumes held =
-    ap (λ (o : Option Cause). (place_by o x.debug.resume_request x.debug.halt_request (some_fires (touch_of x.core m) x) (stops_at_ebreak x m) (touch_of x.core m) (exec_of x.core m) x).hart) halted
-    ∙ ap (λ (r : Bool). (place_by (Some why) r x.debug.halt_request (some_fires (touch_of x.core m) x) (stops_at_ebreak x m) (touch_of x.core m) (exec_of x.core m) x).hart) resumes
+    ap (λ (o : Option Cause). (place_by o x.debug.resume_request x.debug.halt_request (some_fires (touch_of x.core m) x) (stops_at_ebreak x m)
+        (touch_of x.core m) (exec_of x.core m) x).hart) halted
+    ∙ ap (λ (r : Bool). (place_by (Some why) r x.debug.halt_request (some_fires (touch_of x.core m) x) (stops_at_ebreak x m) (touch_of x.core m)
+        (exec_of x.core m) x).hart) resumes
 turn_held None resume x m halted resumes held = cc
 
 -- the selected hart behind the turn of any hart

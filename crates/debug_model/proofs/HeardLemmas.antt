@@ -7,7 +7,8 @@ pub wrong_behind : (b : ℕ) (out : List Bool) (bytes rest : List ℕ) → bytes
 wrong_behind b out bytes rest is w = record {
   good = out ++ w.good;
   rest = w.rest;
-  is = is ∙ ap (λ xs. map answer_byte out ++ xs) w.is ∙ sym (append_assoc (map answer_byte out) (map answer_byte w.good) (b ∷ w.rest)) ∙ ap (λ xs. xs ++ b ∷ w.rest) (sym (map_two out w.good));
+  is = is ∙ ap (λ xs. map answer_byte out ++ xs) w.is ∙ sym (append_assoc (map answer_byte out) (map answer_byte w.good) (b ∷ w.rest))
+      ∙ ap (λ xs. xs ++ b ∷ w.rest) (sym (map_two out w.good));
 }
   where
     map_two : (xs ys : List Bool) → map answer_byte (xs ++ ys) ≡ map answer_byte xs ++ map answer_byte ys

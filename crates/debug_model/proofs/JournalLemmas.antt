@@ -8,7 +8,8 @@ use Rattle.rv_model.proofs.TurnLemmas.{turn_forgets_debugging}
 use Rattle.debug_model.specs.Journal.{PointsForgetDebugging, debug_changed, debug_changed_by, halt_requested, resume_asked, with_debug}
 use Rattle.debug_model.specs.declared.point.Point.TheVariants.{Turn, Look, HaltReq, HaltClear, ResumeReq, Access}
 
-changed_by : (o : Option Hart) (change : DebugPart → DebugPart) (h : ℕ) (b : Board) → slice_get b.harts h ≡ o → machine_of (debug_changed_by o change h b) ≡ machine_of b
+changed_by : (o : Option Hart) (change : DebugPart → DebugPart) (h : ℕ) (b : Board) → slice_get b.harts h ≡ o
+    → machine_of (debug_changed_by o change h b) ≡ machine_of b
 changed_by None change h b here = refl
 changed_by (Some hart) change h b here =
     let at : slice_get (cores b.harts) h ≡ Some hart.core = slice_get-cores b.harts h ∙ ap (option_map (λ (x : Hart). x.core)) here in

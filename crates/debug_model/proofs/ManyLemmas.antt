@@ -11,12 +11,16 @@ pub record EachSoFar (ops : List DmiOp) (numbers : List ℕ) (left : List DmiOp)
 pub none_so_far : (ops : List DmiOp) (numbers results : List ℕ) → results ≡ [] → EachSoFar ops numbers ops results numbers
 none_so_far ops numbers results none = record { completed = λ more new t. subst (λ xs. TookEach ops (xs ++ more) numbers new) (sym none) t }
 
-pub one_more : (ops : List DmiOp) (numbers : List ℕ) (op : DmiOp) (left : List DmiOp) (value : ℕ) (results now next : List ℕ) → TakesOne op value now next → EachSoFar ops numbers (op ∷ left) results now
+pub one_more : (ops : List DmiOp) (numbers : List ℕ) (op : DmiOp) (left : List DmiOp) (value : ℕ) (results now next : List ℕ) → TakesOne op value now next
+    → EachSoFar ops numbers (op ∷ left) results now
     → EachSoFar ops numbers left (results ++ value ∷ []) next
 one_more ops numbers op left value results now next takes s = record {
-  completed = λ more new t. subst (λ xs. TookEach ops xs numbers new) (sym (append_assoc results (value ∷ []) more)) (s.completed (value ∷ more) new (value, more, next, refl, takes, t));
+  completed = λ more new t. subst (λ xs. TookEach ops xs numbers new) (sym (append_assoc results (value ∷ []) more))
+      (s.completed (value ∷ more) new (value, more, next, refl, takes, t));
 }
 
-pub all_taken : (ops : List DmiOp) (numbers : List ℕ) (left : List DmiOp) (results now : List ℕ) → length left < 1 → EachSoFar ops numbers left results now → TookEach ops results numbers (Some (Results now))
+pub all_taken : (ops : List DmiOp) (numbers : List ℕ) (left : List DmiOp) (results now : List ℕ) → length left < 1 → EachSoFar ops numbers left results now
+    → TookEach ops results numbers (Some (Results now))
 all_taken ops numbers (op ∷ left) results now none s = absurd (omega arith)
-all_taken ops numbers [] results now none s = subst (λ xs. TookEach ops xs numbers (Some (Results now))) (append-nil results) (s.completed [] (Some (Results now)) (refl, refl))
+all_taken ops numbers [] results now none s =
+    subst (λ xs. TookEach ops xs numbers (Some (Results now))) (append-nil results) (s.completed [] (Some (Results now)) (refl, refl))

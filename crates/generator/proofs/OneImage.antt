@@ -1,5 +1,6 @@
 -- The instructions of an image have one word each, so that no two lists of bytes are an image of the same ones.
-use Rattle.std.proofs.Common.{◌≡◌, ◌∙◌, ℕ, ◌^◌, ◌<◌, Bool, true, false, ◌==◌, ◌-◌, ◌/◌, ◌%◌, if◌then◌else◌, List, [], ◌∷◌, length, get_or, All, Some, None, map, ap, sym, arith}
+use Rattle.std.proofs.Common.{◌≡◌, ◌∙◌, ℕ, ◌^◌, ◌<◌, Bool, true, false, ◌==◌, ◌-◌, ◌/◌, ◌%◌, if◌then◌else◌, List, [], ◌∷◌, length, get_or, All, Some, None,
+    map, ap, sym, arith}
 use Rattle.std.specs.Prelude.{flat_map}
 use Rattle.std.specs.Int.{w32, to_le_bytes}
 use Rattle.std.proofs.lemmas.List.{length-map, get_or-map, same_lists}
@@ -21,10 +22,14 @@ HasOneWord insn = (v w : ℕ) → v < 2 ^ 32 → w < 2 ^ 32 → meaning v ≡ So
 
 chosen : (is_addi is_add is_xor : Bool) (p : IType) (q : RType)
     → HasOneWord (if is_addi then Immediate Addi p else (if is_add then Register Add q else (if is_xor then Register Xor q else Register Mul q)))
-chosen true is_add is_xor p q v w v_fits w_fits m n = same_i v w 0x13 p v_fits w_fits (means_from_meaning v (Immediate Addi p) m) (means_from_meaning w (Immediate Addi p) n)
-chosen false true is_xor p q v w v_fits w_fits m n = same_r v w 0x33 q v_fits w_fits (means_from_meaning v (Register Add q) m) (means_from_meaning w (Register Add q) n)
-chosen false false true p q v w v_fits w_fits m n = same_r v w 0x4033 q v_fits w_fits (means_from_meaning v (Register Xor q) m) (means_from_meaning w (Register Xor q) n)
-chosen false false false p q v w v_fits w_fits m n = same_r v w 0x2000033 q v_fits w_fits (means_from_meaning v (Register Mul q) m) (means_from_meaning w (Register Mul q) n)
+chosen true is_add is_xor p q v w v_fits w_fits m n =
+    same_i v w 0x13 p v_fits w_fits (means_from_meaning v (Immediate Addi p) m) (means_from_meaning w (Immediate Addi p) n)
+chosen false true is_xor p q v w v_fits w_fits m n =
+    same_r v w 0x33 q v_fits w_fits (means_from_meaning v (Register Add q) m) (means_from_meaning w (Register Add q) n)
+chosen false false true p q v w v_fits w_fits m n =
+    same_r v w 0x4033 q v_fits w_fits (means_from_meaning v (Register Xor q) m) (means_from_meaning w (Register Xor q) n)
+chosen false false false p q v w v_fits w_fits m n =
+    same_r v w 0x2000033 q v_fits w_fits (means_from_meaning v (Register Mul q) m) (means_from_meaning w (Register Mul q) n)
 
 instruction_has_one : (random : ℕ) → HasOneWord (instruction random)
 instruction_has_one random =

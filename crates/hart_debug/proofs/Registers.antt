@@ -1,5 +1,6 @@
 -- Which registers by the debugger's number belong to the core, and which to the debug part: no number belongs to both.
-use Rattle.std.proofs.Common.{◌≡◌, ℕ, ◌<◌, ◌≤◌, Bool, true, false, not, ◌&&◌, cond, eqb, ltb, ◌-◌, Option, Some, None, is_some, option_map, Result, Ok, Err, refl, ap, sym, ◌∙◌, arith}
+use Rattle.std.proofs.Common.{◌≡◌, ℕ, ◌<◌, ◌≤◌, Bool, true, false, not, ◌&&◌, cond, eqb, ltb, ◌-◌, Option, Some, None, is_some, option_map, Result, Ok, Err,
+    refl, ap, sym, ◌∙◌, arith}
 use Rattle.std.specs.Bool.{⊤}
 use Rattle.std.proofs.lemmas.Bool.{cond-true, lt-ltb, le-ltb, ne_eqb}
 use Rattle.rv_model.specs.Board.{DebugPart, Hart}
@@ -140,9 +141,11 @@ pub refused_accepts : (h : Hart) (r : ℕ) → Err ReadOnly ≡ write_answer (re
 unfolding debug_value debug_refuses
 refused_accepts h r e = and_not (is_some (debug_value h r)) (debug_refuses r) (refused_read_only (reg_value h.core r) r e)
 
-pub refused_leaves : (h : Hart) (r v : ℕ) → Err ReadOnly ≡ write_answer (reg_value h.core r) r → debug_written h r v ≡ record h { core = reg_written h.core r v }
+pub refused_leaves : (h : Hart) (r v : ℕ) → Err ReadOnly ≡ write_answer (reg_value h.core r) r
+    → debug_written h r v ≡ record h { core = reg_written h.core r v }
 unfolding debug_written
-refused_leaves h r v e = ap (λ d. record h { core = reg_written h.core r v; debug = d }) (debug_stays h.core h.debug r v (refused_there (reg_value h.core r) r e))
+refused_leaves h r v e = ap (λ d. record h { core = reg_written h.core r v; debug = d })
+    (debug_stays h.core h.debug r v (refused_there (reg_value h.core r) r e))
 
 pub absent_accepts : (h : Hart) (r : ℕ) → Err Absent ≡ write_answer (reg_value h.core r) r → accepts h r ≡ is_some (debug_csr_value h.debug r)
 unfolding debug_value debug_refuses

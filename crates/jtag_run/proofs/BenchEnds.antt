@@ -49,7 +49,8 @@ met_at (Some l) unread met = ap is_limit met
 -- ---- by the end
 
 -- a fault of the wire, behind which nothing more was sent
-fault_end : (bench : Option Live) (f : Far) (n : ℕ) (e : End) → sends_quit e ≡ false → n ≤ 0 → EndCaused 0 n (Some f) e → (MetLimit (Some f) → limit_met bench ≡ true) → IsBenchEnd e (limit_met bench)
+fault_end : (bench : Option Live) (f : Far) (n : ℕ) (e : End) → sends_quit e ≡ false → n ≤ 0 → EndCaused 0 n (Some f) e
+    → (MetLimit (Some f) → limit_met bench ≡ true) → IsBenchEnd e (limit_met bench)
 fault_end bench f n ends.Clean sends none cause met = tt
 fault_end bench f n ends.WithErrors sends none cause met = tt
 fault_end bench f n (ends.Target fault) sends none cause met = absurd (false≢true (sym sends))
@@ -57,7 +58,8 @@ fault_end bench f n (ends.Wire why) sends none cause met = met (limit_failed f n
 fault_end bench f n (ends.Lost why) sends none cause met = tt
 fault_end bench f n ends.Sink sends none cause met = tt
 
-quit_end : (limit : Bool) (script : List Command) (was is : Option (List ℕ)) (first last : Far) (e : End) → sends_quit e ≡ true → WrittenAs script was is first last e → IsBenchEnd e limit
+quit_end : (limit : Bool) (script : List Command) (was is : Option (List ℕ)) (first last : Far) (e : End) → sends_quit e ≡ true
+    → WrittenAs script was is first last e → IsBenchEnd e limit
 quit_end limit script was is first last ends.Clean sends w = tt
 quit_end limit script was is first last ends.WithErrors sends w = tt
 quit_end limit script was is first last (ends.Target fault) sends w = absurd w
@@ -73,22 +75,27 @@ unclosed_end limit why (ends.Wire first) met = met
 unclosed_end limit why (ends.Lost cause) met = met
 unclosed_end limit why ends.Sink met = tt
 
-possible_end : (bench : Option Live) (unread : List ℕ) (script : List Command) (was is : Option (List ℕ)) (first last : Far) (mid : WireSeen) (e closed : End) → mid.far ≡ Some last → EndCaused 0 mid.faults mid.far e
+possible_end : (bench : Option Live) (unread : List ℕ) (script : List Command) (was is : Option (List ℕ)) (first last : Far) (mid : WireSeen) (e closed : End)
+    → mid.far ≡ Some last → EndCaused 0 mid.faults mid.far e
     → WrittenAs script was is first last e → Closes mid (at_bench bench unread 0) e closed → IsBenchEnd closed (limit_met bench)
 possible_end bench unread script was is first last mid e closed told cause w (behind_fault sends same kept) =
     subst (λ x. IsBenchEnd x (limit_met bench)) (sym same)
-    (fault_end bench last mid.faults e sends (let none : 0 ≡ mid.faults = ap (λ (s : WireSeen). s.faults) kept in omega (arith, none)) (subst (λ far. EndCaused 0 mid.faults far e) told cause)
+    (fault_end bench last mid.faults e sends (let none : 0 ≡ mid.faults = ap (λ (s : WireSeen). s.faults) kept in omega (arith, none))
+        (subst (λ far. EndCaused 0 mid.faults far e) told cause)
     (λ met. met_at bench unread (subst MetLimit (sym (ap (λ (s : WireSeen). s.far) kept ∙ told)) met)))
 possible_end bench unread script was is first last mid e closed told cause w (quitted sends same done) =
     subst (λ x. IsBenchEnd x (limit_met bench)) (sym same) (quit_end (limit_met bench) script was is first last e sends w)
 possible_end bench unread script was is first last mid e closed told cause w (unquitted why sends same done) =
-    subst (λ x. IsBenchEnd x (limit_met bench)) (sym same) (unclosed_end (limit_met bench) why e (met_at bench unread (limit_unsent (far_of bench unread) mid.faults why done.later done.cause)))
+    subst (λ x. IsBenchEnd x (limit_met bench)) (sym same)
+        (unclosed_end (limit_met bench) why e (met_at bench unread (limit_unsent (far_of bench unread) mid.faults why done.later done.cause)))
 
-pub on_bench : (old bench : Option Live) (unread : List ℕ) (script : List Command) (was is : SinkSeen) (closed : End) → WireSession script (at_bench old [] 0) (at_bench bench unread 0) was is closed
+pub on_bench : (old bench : Option Live) (unread : List ℕ) (script : List Command) (was is : SinkSeen) (closed : End)
+    → WireSession script (at_bench old [] 0) (at_bench bench unread 0) was is closed
     → IfSome old (λ first. OnBench first script was is bench (limit_met bench) closed)
 on_bench None bench unread script was is closed s = tt
 on_bench (Some first) bench unread script was is closed s = record {
   unread = unread;
   session = s;
-  possible = possible_end bench unread script was.printed is.printed (read_out first) s.headline.far s.mid s.end closed s.headline.is s.cause s.headline.holds.written s.closes;
+  possible = possible_end bench unread script was.printed is.printed (read_out first) s.headline.far s.mid s.end closed s.headline.is s.cause
+      s.headline.holds.written s.closes;
 }

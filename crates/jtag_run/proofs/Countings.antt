@@ -22,12 +22,14 @@ use Rattle.probe_session.specs.Transcribed.{WrittenAs, shown}
 
 -- ---- counts of the transcript
 
-are_counted : LinesAreCounted → ErrorsAreCounted → (lines : List Line) (taken : List ℕ) → Some taken ≡ grown (text_of_all lines) (Some []) → AreCounted lines taken
+are_counted : LinesAreCounted → ErrorsAreCounted → (lines : List Line) (taken : List ℕ) → Some taken ≡ grown (text_of_all lines) (Some [])
+    → AreCounted lines taken
 are_counted by_line by_error lines taken put =
     let same : taken ≡ text_of_all lines = same_Some taken (text_of_all lines) put in
     record { lines_are = ap lines_in same ∙ by_line lines; errors_are = ap errors_in same ∙ by_error lines }
 
-counted_behind : LinesAreCounted → ErrorsAreCounted → (script : List Command) (taken : List ℕ) (first last : Far) (e : End) → WrittenAs script (Some []) (Some taken) first last e
+counted_behind : LinesAreCounted → ErrorsAreCounted → (script : List Command) (taken : List ℕ) (first last : Far) (e : End)
+    → WrittenAs script (Some []) (Some taken) first last e
     → CountedBehind e (shown script first last).world.lines taken
 counted_behind by_line by_error script taken first last ends.Clean w = are_counted by_line by_error (shown script first last).world.lines taken w.written
 counted_behind by_line by_error script taken first last ends.WithErrors w = are_counted by_line by_error (shown script first last).world.lines taken w.written
@@ -35,8 +37,10 @@ counted_behind by_line by_error script taken first last (ends.Target fault) w = 
 counted_behind by_line by_error script taken first last (ends.Wire why) w = tt
 counted_behind by_line by_error script taken first last (ends.Lost lost.DmiFailed) w = tt
 counted_behind by_line by_error script taken first last (ends.Lost lost.StillBusy) w = tt
-counted_behind by_line by_error script taken first last (ends.Lost (lost.NoHalt looks)) w = are_counted by_line by_error (shown script first last).world.lines taken w.written
-counted_behind by_line by_error script taken first last (ends.Lost (lost.NoAck looks)) w = are_counted by_line by_error (shown script first last).world.lines taken w.written
+counted_behind by_line by_error script taken first last (ends.Lost (lost.NoHalt looks)) w =
+    are_counted by_line by_error (shown script first last).world.lines taken w.written
+counted_behind by_line by_error script taken first last (ends.Lost (lost.NoAck looks)) w =
+    are_counted by_line by_error (shown script first last).world.lines taken w.written
 counted_behind by_line by_error script taken first last (ends.Lost (lost.Odd odd)) w = tt
 counted_behind by_line by_error script taken first last ends.Sink w = tt
 
@@ -52,8 +56,11 @@ takes_all ends.Sink caused = let h : 0 < 0 = caused (omega arith) in absurd (ome
 
 -- ---- by the way of the stream
 
-pub counted_straight : LinesAreCounted → ErrorsAreCounted → (loopback : Bool) (old bench : Option Live) (script : List Command) (net_was net_is : NetSeen) (taken : List ℕ) (closed : End) → loopback ≡ false → net_is ≡ net_was
-    → SinkCaused 0 0 closed → IfSome old (λ first. OnBench first script (taken_seen []) (taken_seen taken) bench (limit_met bench) closed) → IfSome old (λ first. Counted loopback first script net_was net_is taken bench closed)
+pub counted_straight : LinesAreCounted → ErrorsAreCounted
+    → (loopback : Bool) (old bench : Option Live) (script : List Command) (net_was net_is : NetSeen) (taken : List ℕ) (closed : End) → loopback ≡ false
+    → net_is ≡ net_was
+    → SinkCaused 0 0 closed → IfSome old (λ first. OnBench first script (taken_seen []) (taken_seen taken) bench (limit_met bench) closed)
+        → IfSome old (λ first. Counted loopback first script net_was net_is taken bench closed)
 counted_straight by_line by_error loopback None bench script net_was net_is taken closed direct same caused ran = tt
 counted_straight by_line by_error loopback (Some first) bench script net_was net_is taken closed direct same caused ran = record {
   carried = straight direct same ran;
@@ -61,8 +68,11 @@ counted_straight by_line by_error loopback (Some first) bench script net_was net
   all = takes_all closed caused;
 }
 
-pub counted_looped : LinesAreCounted → ErrorsAreCounted → (loopback : Bool) (old bench : Option Live) (script : List Command) (net_was mid net_is : NetSeen) (taken : List ℕ) (closed : End) → loopback ≡ true → Joined net_was mid
-    → SinkCaused 0 0 closed → IfSome old (λ first. OnLoop first script mid net_is (taken_seen []) (taken_seen taken) bench closed) → IfSome old (λ first. Counted loopback first script net_was net_is taken bench closed)
+pub counted_looped : LinesAreCounted → ErrorsAreCounted
+    → (loopback : Bool) (old bench : Option Live) (script : List Command) (net_was mid net_is : NetSeen) (taken : List ℕ) (closed : End) → loopback ≡ true
+    → Joined net_was mid
+    → SinkCaused 0 0 closed → IfSome old (λ first. OnLoop first script mid net_is (taken_seen []) (taken_seen taken) bench closed)
+        → IfSome old (λ first. Counted loopback first script net_was net_is taken bench closed)
 counted_looped by_line by_error loopback None bench script net_was mid net_is taken closed loops joins caused ran = tt
 counted_looped by_line by_error loopback (Some first) bench script net_was mid net_is taken closed loops joins caused ran = record {
   carried = over_net mid loops joins ran;

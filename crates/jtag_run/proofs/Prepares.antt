@@ -23,12 +23,14 @@ long_before name mid old BadSize same long = absurd long
 long_before name mid old BadHarts same long = absurd long
 long_before name mid old NoMemory same long = absurd long
 
-memory_front : (job : Both) (old mid new : FilesSeen) → mid.asked ≡ asked_script job old → (new.asked ≡ mid.asked) ⊎ (new.asked ≡ asked_more job.image mid.asked) → AskedFront job old new
+memory_front : (job : Both) (old mid new : FilesSeen) → mid.asked ≡ asked_script job old
+    → (new.asked ≡ mid.asked) ⊎ (new.asked ≡ asked_more job.image mid.asked) → AskedFront job old new
 memory_front job old mid new asked (inl none) = inr (inl (none ∙ asked))
 memory_front job old mid new asked (inr one) = inr (inr (one ∙ ap (asked_more job.image) asked))
 
 -- a refusal of the image's file, behind the script that was accepted
-pub image_cause : (job : Both) (old mid new : FilesSeen) (commands : List Command) (refusal : Refusal) → HoldsScript old.held job.script commands → mid.held ≡ old.held → mid.asked ≡ asked_script job old
+pub image_cause : (job : Both) (old mid new : FilesSeen) (commands : List Command) (refusal : Refusal) → HoldsScript old.held job.script commands
+    → mid.held ≡ old.held → mid.asked ≡ asked_script job old
     → old.faults ≤ mid.faults → mid.faults ≤ new.faults → ImageFileCause job.image mid new refusal → JobCause job old new refusal
 image_cause job old mid new commands Words script same asked later more cause = absurd cause
 image_cause job old mid new commands (File name) script same asked later more cause =
@@ -46,7 +48,8 @@ image_cause job old mid new commands OutOfMemory script same asked later more ca
 at_first : (bench : Option Live) (first : Live) → bench ≡ Some first → IfSome bench AsLoaded → AsLoaded first
 at_first bench first is loaded = subst (λ b. IfSome b AsLoaded) is loaded
 
-pub prepared_by : (job : Both) (held mid : Option (List NamedFile)) (commands : List Command) (image : List ℕ) (bench : Option Live) → HoldsScript held job.script commands → mid ≡ held → Holds mid job.image image
+pub prepared_by : (job : Both) (held mid : Option (List NamedFile)) (commands : List Command) (image : List ℕ) (bench : Option Live)
+    → HoldsScript held job.script commands → mid ≡ held → Holds mid job.image image
     → CanLoad job.options image → bench ≡ Some (first_chip job.options image) → IfSome bench AsLoaded → Prepared job held commands bench
 prepared_by job held mid commands image bench script same holds loads is loaded = record {
   image = image;
@@ -68,5 +71,6 @@ chip_file_cause job old new (Image fault) cause = (inl cause.0, cause.1)
 chip_file_cause job old new Open cause = absurd cause
 chip_file_cause job old new OutOfMemory cause = cause
 
-pub prepared_chip_by : (job : Chip) (held : Option (List NamedFile)) (image : List ℕ) (bench : Option Live) → Holds held job.image image → CanLoad job.options image → bench ≡ Some (first_chip job.options image) → PreparedChip job held bench
+pub prepared_chip_by : (job : Chip) (held : Option (List NamedFile)) (image : List ℕ) (bench : Option Live) → Holds held job.image image
+    → CanLoad job.options image → bench ≡ Some (first_chip job.options image) → PreparedChip job held bench
 prepared_chip_by job held image bench holds loads is = record { image = image; image_is = holds; loads = loads; is = is }

@@ -23,20 +23,25 @@ first_failed xs zs (Some hs) new g = record {
   is = g.is;
 }
 
-pub second_failed : (xs ys zs : List ℕ) (held between new : Option (List ℕ)) → between ≡ grown xs held → GrewByPrefix ys between new → GrewByPrefix (xs ++ (ys ++ zs)) held new
+pub second_failed : (xs ys zs : List ℕ) (held between new : Option (List ℕ)) → between ≡ grown xs held → GrewByPrefix ys between new
+    → GrewByPrefix (xs ++ (ys ++ zs)) held new
 second_failed xs ys zs held between new is g = grew_behind xs ys zs held new (subst (λ b. GrewByPrefix ys b new) is g)
 
 -- the last of two
-pub last_failed : (xs ys : List ℕ) (held between new : Option (List ℕ)) → between ≡ grown xs held → GrewByPrefix ys between new → GrewByPrefix (xs ++ ys) held new
+pub last_failed : (xs ys : List ℕ) (held between new : Option (List ℕ)) → between ≡ grown xs held → GrewByPrefix ys between new
+    → GrewByPrefix (xs ++ ys) held new
 last_failed xs ys held between new is g = subst (λ part. GrewByPrefix (xs ++ part) held new) (append-nil ys) (second_failed xs ys [] held between new is g)
 
 pub two_put : (xs ys : List ℕ) (held first second : Option (List ℕ)) → first ≡ grown xs held → second ≡ grown ys first → second ≡ grown (xs ++ ys) held
 two_put xs ys held first second a b = b ∙ ap (grown ys) a ∙ grown_twice xs ys held
 
-pub third_failed : (xs ys zs : List ℕ) (held first second new : Option (List ℕ)) → first ≡ grown xs held → second ≡ grown ys first → GrewByPrefix zs second new → GrewByPrefix (xs ++ (ys ++ zs)) held new
+pub third_failed : (xs ys zs : List ℕ) (held first second new : Option (List ℕ)) → first ≡ grown xs held → second ≡ grown ys first → GrewByPrefix zs second new
+    → GrewByPrefix (xs ++ (ys ++ zs)) held new
 third_failed xs ys zs held first second new a b g =
     let whole : (xs ++ ys) ++ (zs ++ []) ≡ xs ++ (ys ++ zs) = append_assoc xs ys (zs ++ []) ∙ ap (λ part. xs ++ (ys ++ part)) (append-nil zs) in
     subst (λ text. GrewByPrefix text held new) whole (second_failed (xs ++ ys) zs [] held second new (two_put xs ys held first second a b) g)
 
-pub three_put : (xs ys zs : List ℕ) (held first second third : Option (List ℕ)) → first ≡ grown xs held → second ≡ grown ys first → third ≡ grown zs second → third ≡ grown (xs ++ (ys ++ zs)) held
-three_put xs ys zs held first second third a b d = two_put (xs ++ ys) zs held second third (two_put xs ys held first second a b) d ∙ ap (λ text. grown text held) (append_assoc xs ys zs)
+pub three_put : (xs ys zs : List ℕ) (held first second third : Option (List ℕ)) → first ≡ grown xs held → second ≡ grown ys first → third ≡ grown zs second
+    → third ≡ grown (xs ++ (ys ++ zs)) held
+three_put xs ys zs held first second third a b d = two_put (xs ++ ys) zs held second third (two_put xs ys held first second a b) d
+    ∙ ap (λ text. grown text held) (append_assoc xs ys zs)

@@ -36,94 +36,124 @@ use Rattle.wire_session.specs.Seen.{SinkSeen}
 
 -- ---- a last line
 
-pub closed_said : (line : List ℕ) (wanted : Status) (s t : SinkSeen) (status : Status) → status ≡ wanted → t.printed ≡ grown line s.printed → Closed line wanted s t status
+pub closed_said : (line : List ℕ) (wanted : Status) (s t : SinkSeen) (status : Status) → status ≡ wanted → t.printed ≡ grown line s.printed
+    → Closed line wanted s t status
 closed_said line wanted s t status is put = subst (Closed line wanted s t) (sym is) (said put)
 
-pub closed_unsaid : (line : List ℕ) (wanted : Status) (s t : SinkSeen) → GrewByPrefix line s.printed t.printed → Rises s.faults t.faults → Closed line wanted s t Sink
+pub closed_unsaid : (line : List ℕ) (wanted : Status) (s t : SinkSeen) → GrewByPrefix line s.printed t.printed → Rises s.faults t.faults
+    → Closed line wanted s t Sink
 closed_unsaid line wanted s t wrote rises = unsaid wrote rises
 
 -- ---- a session of files
 
-pub prepared_fresh : (job : Both) (held : Option (List NamedFile)) (commands : List Command) (bench : Option Live) → Prepared job held commands bench → IsLoadedBench bench
+pub prepared_fresh : (job : Both) (held : Option (List NamedFile)) (commands : List Command) (bench : Option Live) → Prepared job held commands bench
+    → IsLoadedBench bench
 prepared_fresh job held commands bench p = record { first = first_chip job.options p.image; is = p.is; as_loaded = p.as_loaded }
 
-both_end_at : (loopback : Bool) (job : Both) (image : List ℕ) (commands : List Command) (net_was net_is : NetSeen) (s t : SinkSeen) (mid left : Option Live) (status : Status) → mid ≡ Some (first_chip job.options image)
-    → IfSome mid (λ first. BothEnd loopback first commands net_was net_is s t left status) → BothEnd loopback (first_chip job.options image) commands net_was net_is s t left status
-both_end_at loopback job image commands net_was net_is s t mid left status is ended = subst (λ m. IfSome m (λ first. BothEnd loopback first commands net_was net_is s t left status)) is ended
+both_end_at : (loopback : Bool) (job : Both) (image : List ℕ) (commands : List Command) (net_was net_is : NetSeen) (s t : SinkSeen) (mid left : Option Live)
+    (status : Status) → mid ≡ Some (first_chip job.options image)
+    → IfSome mid (λ first. BothEnd loopback first commands net_was net_is s t left status)
+        → BothEnd loopback (first_chip job.options image) commands net_was net_is s t left status
+both_end_at loopback job image commands net_was net_is s t mid left status is ended =
+    subst (λ m. IfSome m (λ first. BothEnd loopback first commands net_was net_is s t left status)) is ended
 
-both_ran : (job : Both) (old new : Outside) (bench mid left : Option Live) (status : Status) (commands : List Command) → Prepared job old.files.held commands mid → new.files.asked ≡ asked_both job old.files
+both_ran : (job : Both) (old new : Outside) (bench mid left : Option Live) (status : Status) (commands : List Command)
+    → Prepared job old.files.held commands mid → new.files.asked ≡ asked_both job old.files
     → IfSome mid (λ first. BothEnd job.loopback first commands old.net new.net old.sink new.sink left status) → RanBoth job old new bench left status
 both_ran job old new bench mid left status commands p asked ended =
-    both_done commands p.image p.script_reads p.image_is p.loads asked (both_end_at job.loopback job p.image commands old.net new.net old.sink new.sink mid left status p.is ended)
+    both_done commands p.image p.script_reads p.image_is p.loads asked
+        (both_end_at job.loopback job p.image commands old.net new.net old.sink new.sink mid left status p.is ended)
 
-straight_end : (loopback : Bool) (commands : List Command) (net_was net_is : NetSeen) (s t : SinkSeen) (mid left : Option Live) (status : Status) → loopback ≡ false → net_is ≡ net_was
+straight_end : (loopback : Bool) (commands : List Command) (net_was net_is : NetSeen) (s t : SinkSeen) (mid left : Option Live) (status : Status)
+    → loopback ≡ false → net_is ≡ net_was
     → IfSome mid (λ first. BenchEnd first commands s t left status) → IfSome mid (λ first. BothEnd loopback first commands net_was net_is s t left status)
 straight_end true commands net_was net_is s t mid left status direct same ended = absurd (let none : ⊥ = cc in none)
 straight_end false commands net_was net_is s t None left status direct same ended = tt
 straight_end false commands net_was net_is s t (Some first) left status direct same ended = (same, ended)
 
 loop_end : (loopback : Bool) (commands : List Command) (net_was net_is : NetSeen) (s t : SinkSeen) (mid left : Option Live) (status : Status) → loopback ≡ true
-    → IfSome mid (λ first. LoopEnd first commands net_was net_is s t left status) → IfSome mid (λ first. BothEnd loopback first commands net_was net_is s t left status)
+    → IfSome mid (λ first. LoopEnd first commands net_was net_is s t left status)
+        → IfSome mid (λ first. BothEnd loopback first commands net_was net_is s t left status)
 loop_end true commands net_was net_is s t mid left status loops ended = ended
 loop_end false commands net_was net_is s t mid left status loops ended = absurd (let none : ⊥ = cc in none)
 
-pub both_straight : (job : Both) (old new : Outside) (bench mid left : Option Live) (status : Status) (commands : List Command) → Prepared job old.files.held commands mid → new.files.asked ≡ asked_both job old.files
-    → job.loopback ≡ false → new.net ≡ old.net → IfSome mid (λ first. BenchEnd first commands old.sink new.sink left status) → RanBoth job old new bench left status
+pub both_straight : (job : Both) (old new : Outside) (bench mid left : Option Live) (status : Status) (commands : List Command)
+    → Prepared job old.files.held commands mid → new.files.asked ≡ asked_both job old.files
+    → job.loopback ≡ false → new.net ≡ old.net → IfSome mid (λ first. BenchEnd first commands old.sink new.sink left status)
+        → RanBoth job old new bench left status
 both_straight job old new bench mid left status commands p asked direct same ended =
-    both_ran job old new bench mid left status commands p asked (straight_end job.loopback commands old.net new.net old.sink new.sink mid left status direct same ended)
+    both_ran job old new bench mid left status commands p asked
+        (straight_end job.loopback commands old.net new.net old.sink new.sink mid left status direct same ended)
 
-pub both_looped : (job : Both) (old new : Outside) (bench mid left : Option Live) (status : Status) (commands : List Command) → Prepared job old.files.held commands mid → new.files.asked ≡ asked_both job old.files
+pub both_looped : (job : Both) (old new : Outside) (bench mid left : Option Live) (status : Status) (commands : List Command)
+    → Prepared job old.files.held commands mid → new.files.asked ≡ asked_both job old.files
     → job.loopback ≡ true → IfSome mid (λ first. LoopEnd first commands old.net new.net old.sink new.sink left status) → RanBoth job old new bench left status
 both_looped job old new bench mid left status commands p asked loops ended =
     both_ran job old new bench mid left status commands p asked (loop_end job.loopback commands old.net new.net old.sink new.sink mid left status loops ended)
 
-pub both_refused : (job : Both) (old new : Outside) (bench left : Option Live) (status : Status) (refusal : Refusal) → JobCause job old.files new.files refusal → Refused refusal old.sink new.sink status
+pub both_refused : (job : Both) (old new : Outside) (bench left : Option Live) (status : Status) (refusal : Refusal) → JobCause job old.files new.files refusal
+    → Refused refusal old.sink new.sink status
     → new.net ≡ old.net → left ≡ bench → RanBoth job old new bench left status
 both_refused job old new bench left status refusal cause was net kept = both_unready refusal cause was net kept
 
 -- ---- a served chip
 
-pub chip_refused : (job : Chip) (old new : Outside) (bench left : Option Live) (status : Status) (refusal : Refusal) → ChipCause job old.files new.files refusal → Refused refusal old.sink new.sink status
+pub chip_refused : (job : Chip) (old new : Outside) (bench left : Option Live) (status : Status) (refusal : Refusal)
+    → ChipCause job old.files new.files refusal → Refused refusal old.sink new.sink status
     → new.net ≡ old.net → left ≡ bench → RanChip job old new bench left status
 chip_refused job old new bench left status refusal cause was net kept = refused_chip refusal cause was net kept
 
-pub chip_served : (job : Chip) (old new : Outside) (bench mid left : Option Live) (status : Status) → PreparedChip job old.files.held mid → new.files.asked ≡ asked_image job old.files
+pub chip_served : (job : Chip) (old new : Outside) (bench mid left : Option Live) (status : Status) → PreparedChip job old.files.held mid
+    → new.files.asked ≡ asked_image job old.files
     → ServedAt job.at old.net new.net old.sink new.sink mid left status → RanChip job old new bench left status
 chip_served job old new bench mid left status p asked ended =
     served_chip p.image p.image_is p.loads asked (subst (λ m. ServedAt job.at old.net new.net old.sink new.sink m left status) p.is ended)
 
 -- ---- a run
 
-pub refused_words : (words : List (List ℕ)) (old new : Outside) (bench : Option Live) (status : Status) (refusal : Refusal) → WordsCause words refusal → Refused refusal old.sink new.sink status
+pub refused_words : (words : List (List ℕ)) (old new : Outside) (bench : Option Live) (status : Status) (refusal : Refusal) → WordsCause words refusal
+    → Refused refusal old.sink new.sink status
     → new.files ≡ old.files → new.net ≡ old.net → bench ≡ None → Ran words old new bench status
 refused_words words old new bench status refusal cause was files net blank = refused refusal (of_words cause files) was net blank
 
-pub run_both : (words : List (List ℕ)) (old new : Outside) (bench left : Option Live) (status : Status) (job : Both) → job_of words ≡ Some (said_both job) → bench ≡ None → RanBoth job old new bench left status → Ran words old new left status
+pub run_both : (words : List (List ℕ)) (old new : Outside) (bench left : Option Live) (status : Status) (job : Both) → job_of words ≡ Some (said_both job)
+    → bench ≡ None → RanBoth job old new bench left status → Ran words old new left status
 run_both words old new bench left status job is blank (both_unready refusal cause was net kept) = refused refusal (of_both job is cause) was net (kept ∙ blank)
 run_both words old new bench left status job is blank (both_done commands image script holds loads asked ended) =
     ran job commands image (record { words_write = is; script_reads = script; image_is = holds; loads = loads }) asked ended
 
-pub run_gen : (words : List (List ℕ)) (old new : Outside) (bench left : Option Live) (status : Status) (job : Gen) → job_of words ≡ Some (said_gen job) → bench ≡ None → new.files ≡ old.files
+pub run_gen : (words : List (List ℕ)) (old new : Outside) (bench left : Option Live) (status : Status) (job : Gen) → job_of words ≡ Some (said_gen job)
+    → bench ≡ None → new.files ≡ old.files
     → RanGen job old.net new.net old.sink new.sink bench left status → Ran words old new left status
-run_gen words old new bench left status job is blank files (gen_unready refusal cause was net kept) = refused refusal (of_gen job is cause files) was net (kept ∙ blank)
-run_gen words old new bench left status job is blank files (gen_done image made loads ended) = generated job image (record { words_write = is; made = made; loads = loads }) files ended
+run_gen words old new bench left status job is blank files (gen_unready refusal cause was net kept) =
+    refused refusal (of_gen job is cause files) was net (kept ∙ blank)
+run_gen words old new bench left status job is blank files (gen_done image made loads ended) =
+    generated job image (record { words_write = is; made = made; loads = loads }) files ended
 
-pub run_probe : (words : List (List ℕ)) (old new : Outside) (bench : Option Live) (status : Status) (job : Probe) → job_of words ≡ Some (said_probe job) → bench ≡ None → RanProbe job old new status → Ran words old new bench status
+pub run_probe : (words : List (List ℕ)) (old new : Outside) (bench : Option Live) (status : Status) (job : Probe) → job_of words ≡ Some (said_probe job)
+    → bench ≡ None → RanProbe job old new status → Ran words old new bench status
 run_probe words old new bench status job is blank (probe_unready refusal cause was net) = refused refusal (of_probe job is cause) was net blank
-run_probe words old new bench status job is blank (probe_done commands script asked ended) = probed job commands (record { words_write = is; script_reads = script }) asked ended blank
+run_probe words old new bench status job is blank (probe_done commands script asked ended) =
+    probed job commands (record { words_write = is; script_reads = script }) asked ended blank
 
-pub run_served : (words : List (List ℕ)) (old new : Outside) (bench left : Option Live) (status : Status) (job : Chip) → job_of words ≡ Some (said_chip job) → bench ≡ None → RanChip job old new bench left status → Ran words old new left status
-run_served words old new bench left status job is blank (refused_chip refusal cause was net kept) = refused refusal (of_chip job is cause) was net (kept ∙ blank)
-run_served words old new bench left status job is blank (served_chip image holds loads asked ended) = served job image (record { words_write = is; image_is = holds; loads = loads }) asked ended
+pub run_served : (words : List (List ℕ)) (old new : Outside) (bench left : Option Live) (status : Status) (job : Chip) → job_of words ≡ Some (said_chip job)
+    → bench ≡ None → RanChip job old new bench left status → Ran words old new left status
+run_served words old new bench left status job is blank (refused_chip refusal cause was net kept) =
+    refused refusal (of_chip job is cause) was net (kept ∙ blank)
+run_served words old new bench left status job is blank (served_chip image holds loads asked ended) =
+    served job image (record { words_write = is; image_is = holds; loads = loads }) asked ended
 
 -- ---- over a connection of the machine to itself
 
-pub loop_joined : (old bench : Option Live) (script : List Command) (net_was mid net_is : NetSeen) (s u t : SinkSeen) (closed : End) (status : Status) → Joined net_was mid
-    → IfSome old (λ first. OnLoop first script mid net_is s u bench closed) → ClosedBy closed (limit_met bench) u t status → IfSome old (λ first. LoopEnd first script net_was net_is s t bench status)
+pub loop_joined : (old bench : Option Live) (script : List Command) (net_was mid net_is : NetSeen) (s u t : SinkSeen) (closed : End) (status : Status)
+    → Joined net_was mid
+    → IfSome old (λ first. OnLoop first script mid net_is s u bench closed) → ClosedBy closed (limit_met bench) u t status
+        → IfSome old (λ first. LoopEnd first script net_was net_is s t bench status)
 loop_joined None bench script net_was mid net_is s u t closed status joins went told = tt
 loop_joined (Some first) bench script net_was mid net_is s u t closed status joins went told = joined mid closed u joins went told
 
-pub loop_unjoined : (old bench : Option Live) (script : List Command) (net_was net_is : NetSeen) (s t : SinkSeen) (fault : NetFault) (status : Status) → OpenFailed calls.Join None fault net_was net_is
+pub loop_unjoined : (old bench : Option Live) (script : List Command) (net_was net_is : NetSeen) (s t : SinkSeen) (fault : NetFault) (status : Status)
+    → OpenFailed calls.Join None fault net_was net_is
     → Refused (refusal_of fault) s t status → bench ≡ old → IfSome old (λ first. LoopEnd first script net_was net_is s t bench status)
 loop_unjoined None bench script net_was net_is s t fault status failed was kept = tt
 loop_unjoined (Some first) bench script net_was net_is s t fault status failed was kept = unjoined fault failed was kept

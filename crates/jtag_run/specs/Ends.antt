@@ -36,8 +36,10 @@ pub record BenchEnd (first : Live) (script : List Command) (old new : SinkSeen) 
 
 -- the same over a connection of the machine to itself, or that could not be opened, and the chip stays as it was loaded
 pub data LoopEnd (first : Live) (script : List Command) (net_was net_is : NetSeen) (old new : SinkSeen) (bench : Option Live) (status : Status) : Type 0 where
-  unjoined : (fault : NetFault) → OpenFailed calls.Join None fault net_was net_is → Refused (refusal_of fault) old new status → bench ≡ Some first → LoopEnd first script net_was net_is old new bench status
-  joined : (mid : NetSeen) (closed : End) (behind : SinkSeen) → Joined net_was mid → OnLoop first script mid net_is old behind bench closed → ClosedBy closed (limit_met bench) behind new status
+  unjoined : (fault : NetFault) → OpenFailed calls.Join None fault net_was net_is → Refused (refusal_of fault) old new status → bench ≡ Some first
+      → LoopEnd first script net_was net_is old new bench status
+  joined : (mid : NetSeen) (closed : End) (behind : SinkSeen) → Joined net_was mid → OnLoop first script mid net_is old behind bench closed
+      → ClosedBy closed (limit_met bench) behind new status
       → LoopEnd first script net_was net_is old new bench status
 
 -- ---- a session that is made from a number
@@ -47,12 +49,14 @@ abbrev pub taken_seen : List ℕ → SinkSeen
 taken_seen taken = record { printed = Some taken; faults = 0 }
 
 -- how the session ended, before its stream, and the chip behind it
-abbrev pub end_of : {loopback : Bool} {first : Live} {script : List Command} {net_was net_is : NetSeen} {was is : SinkSeen} {bench : Option Live} {limit : Bool} {closed : End}
+abbrev pub end_of : {loopback : Bool} {first : Live} {script : List Command} {net_was net_is : NetSeen} {was is : SinkSeen} {bench : Option Live}
+    {limit : Bool} {closed : End}
     → Carried loopback first script net_was net_is was is bench limit closed → End
 end_of (straight direct same ran) = ran.session.end
 end_of (over_net mid loops joins ran) = ran.session.end
 
-abbrev pub last_of : {loopback : Bool} {first : Live} {script : List Command} {net_was net_is : NetSeen} {was is : SinkSeen} {bench : Option Live} {limit : Bool} {closed : End}
+abbrev pub last_of : {loopback : Bool} {first : Live} {script : List Command} {net_was net_is : NetSeen} {was is : SinkSeen} {bench : Option Live}
+    {limit : Bool} {closed : End}
     → Carried loopback first script net_was net_is was is bench limit closed → Far
 last_of (straight direct same ran) = ran.session.headline.far
 last_of (over_net mid loops joins ran) = ran.session.headline.far
@@ -85,7 +89,8 @@ TakesAll (ends.Lost why) = Unit {0}
 TakesAll ends.Sink = ⊥
 
 -- the session ran into a sink that counts, which has taken these bytes
-pub record Counted (loopback : Bool) (first : Live) (script : List Command) (net_was net_is : NetSeen) (taken : List ℕ) (bench : Option Live) (closed : End) : Type 0 where
+pub record Counted (loopback : Bool) (first : Live) (script : List Command) (net_was net_is : NetSeen) (taken : List ℕ) (bench : Option Live)
+    (closed : End) : Type 0 where
   pub carried : Carried loopback first script net_was net_is (taken_seen []) (taken_seen taken) bench (limit_met bench) closed
   pub counted : CountedBehind (end_of carried) (shown script (read_out first) (last_of carried)).world.lines taken
   pub all : TakesAll closed
@@ -95,19 +100,24 @@ pub record Unjoined (loopback : Bool) (fault : NetFault) (net_was net_is : NetSe
   pub loops : loopback ≡ true
   pub failed : OpenFailed calls.Join None fault net_was net_is
 
-pub data GenEnd (loopback : Bool) (first : Live) (script : List Command) (net_was net_is : NetSeen) (old new : SinkSeen) (bench : Option Live) (status : Status) : Type 0 where
+pub data GenEnd (loopback : Bool) (first : Live) (script : List Command) (net_was net_is : NetSeen) (old new : SinkSeen) (bench : Option Live)
+    (status : Status) : Type 0 where
   unjoined : (fault : NetFault) → Unjoined loopback fault net_was net_is → Refused (refusal_of fault) old new status → bench ≡ Some first
       → GenEnd loopback first script net_was net_is old new bench status
   -- the summary was printed, and then the end
-  summed : (taken : List ℕ) (closed : End) (mid : SinkSeen) → Counted loopback first script net_was net_is taken bench closed → mid.printed ≡ grown (summary_of script taken) old.printed
+  summed : (taken : List ℕ) (closed : End) (mid : SinkSeen) → Counted loopback first script net_was net_is taken bench closed
+      → mid.printed ≡ grown (summary_of script taken) old.printed
       → old.faults ≤ mid.faults → ClosedBy closed (limit_met bench) mid new status → GenEnd loopback first script net_was net_is old new bench status
   -- or a front of it
-  unsummed : (taken : List ℕ) (closed : End) → Counted loopback first script net_was net_is taken bench closed → GrewByPrefix (summary_of script taken) old.printed new.printed
+  unsummed : (taken : List ℕ) (closed : End) → Counted loopback first script net_was net_is taken bench closed
+      → GrewByPrefix (summary_of script taken) old.printed new.printed
       → Rises old.faults new.faults → status ≡ status_as.Sink → GenEnd loopback first script net_was net_is old new bench status
 
 -- ---- a script on a chip at the far side of a net
 
 pub data ProbeEnd (at : List ℕ) (script : List Command) (net_was net_is : NetSeen) (old new : SinkSeen) (status : Status) : Type 0 where
-  unopened : (fault : NetFault) → OpenFailed calls.Connect (Some at) fault net_was net_is → Refused (refusal_of fault) old new status → ProbeEnd at script net_was net_is old new status
-  opened : (mid : NetSeen) (closed : End) (behind : SinkSeen) → ConnectedAt at net_was mid → OnNet script mid net_is old behind closed → ClosedBy closed false behind new status
+  unopened : (fault : NetFault) → OpenFailed calls.Connect (Some at) fault net_was net_is → Refused (refusal_of fault) old new status
+      → ProbeEnd at script net_was net_is old new status
+  opened : (mid : NetSeen) (closed : End) (behind : SinkSeen) → ConnectedAt at net_was mid → OnNet script mid net_is old behind closed
+      → ClosedBy closed false behind new status
       → ProbeEnd at script net_was net_is old new status

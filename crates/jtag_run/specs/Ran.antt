@@ -66,31 +66,38 @@ BothEnd true first script net_was net_is old new bench status = LoopEnd first sc
 
 -- the script or the image was refused, and nothing was opened; or just the two were asked for, and the session ran
 pub data RanBoth (job : Both) (old new : Outside) (bench left : Option Live) (status : Status) : Type 0 where
-  refused : (refusal : Refusal) → JobCause job old.files new.files refusal → Refused refusal old.sink new.sink status → new.net ≡ old.net → left ≡ bench → RanBoth job old new bench left status
-  ran : (commands : List Command) (image : List ℕ) → HoldsScript old.files.held job.script commands → Holds old.files.held job.image image → CanLoad job.options image
-      → new.files.asked ≡ asked_both job old.files → BothEnd job.loopback (first_chip job.options image) commands old.net new.net old.sink new.sink left status → RanBoth job old new bench left status
+  refused : (refusal : Refusal) → JobCause job old.files new.files refusal → Refused refusal old.sink new.sink status → new.net ≡ old.net → left ≡ bench
+      → RanBoth job old new bench left status
+  ran : (commands : List Command) (image : List ℕ) → HoldsScript old.files.held job.script commands → Holds old.files.held job.image image
+      → CanLoad job.options image
+      → new.files.asked ≡ asked_both job old.files → BothEnd job.loopback (first_chip job.options image) commands old.net new.net old.sink new.sink left status
+          → RanBoth job old new bench left status
 
 -- the image can't be loaded, and nothing was opened; or the session ran
 pub data RanGen (job : Gen) (net_was net_is : NetSeen) (old new : SinkSeen) (bench left : Option Live) (status : Status) : Type 0 where
-  refused : (refusal : Refusal) → GenCause job refusal → Refused refusal old new status → net_is ≡ net_was → left ≡ bench → RanGen job net_was net_is old new bench left status
+  refused : (refusal : Refusal) → GenCause job refusal → Refused refusal old new status → net_is ≡ net_was → left ≡ bench
+      → RanGen job net_was net_is old new bench left status
   ran : (image : List ℕ) → IsImageOf (program job.number) image → CanLoad job.options image
-      → GenEnd job.loopback (first_chip job.options image) (commands job.number) net_was net_is old new left status → RanGen job net_was net_is old new bench left status
+      → GenEnd job.loopback (first_chip job.options image) (commands job.number) net_was net_is old new left status
+          → RanGen job net_was net_is old new bench left status
 
 -- the script was refused, and nothing was opened; or just the script was asked for, and the net was opened
 pub data RanProbe (job : Probe) (old new : Outside) (status : Status) : Type 0 where
-  refused : (refusal : Refusal) → ScriptFileCause job.script old.files new.files refusal → Refused refusal old.sink new.sink status → new.net ≡ old.net → RanProbe job old new status
+  refused : (refusal : Refusal) → ScriptFileCause job.script old.files new.files refusal → Refused refusal old.sink new.sink status → new.net ≡ old.net
+      → RanProbe job old new status
   ran : (commands : List Command) → HoldsScript old.files.held job.script commands → new.files.asked ≡ asked_more job.script old.files.asked
       → ProbeEnd job.at commands old.net new.net old.sink new.sink status → RanProbe job old new status
 
 -- ---- a run
 
--- a run of these words was refused before a net was opened, and has loaded no chip; or what it asks for was accepted, just its files were asked for, in their order, and: the
--- session of a script ran on a chip on the bench; or that of a number; or a script's over a net, and no chip was loaded; or a chip was served over a net;
--- or a recording was shown, and no net was opened and no chip loaded
+-- a run of these words was refused before a net was opened, and has loaded no chip; or what it asks for was accepted, just its files were asked for, in
+-- their order, and: the session of a script ran on a chip on the bench; or that of a number; or a script's over a net, and no chip was loaded; or a chip was
+-- served over a net; or a recording was shown, and no net was opened and no chip loaded
 pub data Ran (words : List (List ℕ)) (old new : Outside) (bench : Option Live) (status : Status) : Type 0 where
   refused : (refusal : Refusal) → RefusalCause words old.files new.files refusal → Refused refusal old.sink new.sink status → new.net ≡ old.net → bench ≡ None
       → Ran words old new bench status
-  ran : (job : Both) (commands : List Command) (image : List ℕ) → IsAccepted words old.files.held job commands image → new.files.asked ≡ asked_both job old.files
+  ran : (job : Both) (commands : List Command) (image : List ℕ) → IsAccepted words old.files.held job commands image
+      → new.files.asked ≡ asked_both job old.files
       → BothEnd job.loopback (first_chip job.options image) commands old.net new.net old.sink new.sink bench status → Ran words old new bench status
   generated : (job : Gen) (image : List ℕ) → IsAcceptedGen words job image → new.files ≡ old.files
       → GenEnd job.loopback (first_chip job.options image) (commands job.number) old.net new.net old.sink new.sink bench status → Ran words old new bench status

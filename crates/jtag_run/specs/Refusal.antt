@@ -131,7 +131,8 @@ LoadCause image o OutOfMemory = Unit {0}
 -- which file failed: the script, or behind an accepted script the image
 pub data FailedFile (job : Both) (old new : FilesSeen) (name : List ℕ) : Type 0 where
   of_script : name ≡ job.script → new.asked ≡ asked_script job old → FailedFile job old new name
-  of_image : (commands : List Command) → HoldsScript old.held job.script commands → name ≡ job.image → new.asked ≡ asked_both job old → FailedFile job old new name
+  of_image : (commands : List Command) → HoldsScript old.held job.script commands → name ≡ job.image → new.asked ≡ asked_both job old
+      → FailedFile job old new name
 
 -- an image is judged behind a script that is accepted
 pub record BadImage (job : Both) (old new : FilesSeen) (fault : LoadFault) : Type 0 where

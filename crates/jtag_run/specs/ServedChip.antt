@@ -50,18 +50,21 @@ Told (Bad place byte) old new status = Closed (bad_byte place byte) BadByte old 
 Told Limit old new status = Closed event_limit EventLimit old new status
 Told (NetFailed fault) old new status = Closed (wire_failed fault) Wire old new status
 
--- how a net is opened and the chip on the bench served there: the opening fails, and the chip stays as it is; or a client is accepted, the chip takes the bytes that come
--- and nothing else, and the end is told
+-- how a net is opened and the chip on the bench served there: the opening fails, and the chip stays as it is; or a client is accepted, the chip takes the
+-- bytes that come and nothing else, and the end is told
 pub data ServedAt (at : List ℕ) (old new : NetSeen) (sink_old sink_new : SinkSeen) (bench left : Option Live) (status : Status) : Type 0 where
-  unopened : (fault : NetFault) → OpenFailed calls.Accept (Some at) fault old new → Refused (refusal_of fault) sink_old sink_new status → left ≡ bench → ServedAt at old new sink_old sink_new bench left status
-  opened : (mid : NetSeen) (served : Served) → AcceptedAt at old mid → WasServed served mid.state new.state bench left → CountsOnce mid.faults new.faults mid.ends new.ends served
+  unopened : (fault : NetFault) → OpenFailed calls.Accept (Some at) fault old new → Refused (refusal_of fault) sink_old sink_new status → left ≡ bench
+      → ServedAt at old new sink_old sink_new bench left status
+  opened : (mid : NetSeen) (served : Served) → AcceptedAt at old mid → WasServed served mid.state new.state bench left
+      → CountsOnce mid.faults new.faults mid.ends new.ends served
       → Told (limit_first left served) sink_old sink_new status → ServedAt at old new sink_old sink_new bench left status
 
 -- ---- the whole job
 
--- its image was refused: nothing was opened, and the bench is as it was; or it was read and loaded, just that file was asked for, and the net was opened and the chip
--- served
+-- its image was refused: nothing was opened, and the bench is as it was; or it was read and loaded, just that file was asked for, and the net was opened and
+-- the chip served
 pub data RanChip (job : Chip) (old new : Outside) (bench left : Option Live) (status : Status) : Type 0 where
-  refused : (refusal : Refusal) → ChipCause job old.files new.files refusal → Refused refusal old.sink new.sink status → new.net ≡ old.net → left ≡ bench → RanChip job old new bench left status
+  refused : (refusal : Refusal) → ChipCause job old.files new.files refusal → Refused refusal old.sink new.sink status → new.net ≡ old.net → left ≡ bench
+      → RanChip job old new bench left status
   served : (image : List ℕ) → Holds old.files.held job.image image → CanLoad job.options image → new.files.asked ≡ asked_image job old.files
       → ServedAt job.at old.net new.net old.sink new.sink (Some (first_chip job.options image)) left status → RanChip job old new bench left status

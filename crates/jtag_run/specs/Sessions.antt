@@ -48,14 +48,18 @@ pub record OnBench (first : Live) (script : List Command) (was is : SinkSeen) (b
 pub record OnLoop (first : Live) (script : List Command) (net_was net_is : NetSeen) (was is : SinkSeen) (bench : Option Live) (closed : End) : Type 0 where
   pub unread : List ℕ
   pub differences : ℕ
-  pub session : WireSession script (at_bench (Some first) [] (looped 0 net_was.faults net_was.ends)) (at_bench bench unread (looped differences net_is.faults net_is.ends)) was is closed
+  pub session : WireSession script (at_bench (Some first) [] (looped 0 net_was.faults net_was.ends))
+      (at_bench bench unread (looped differences net_is.faults net_is.ends)) was is closed
   pub ties : net_is.state.ties ≡ net_was.state.ties
   pub alike : net_was.state.ties.tells_pipe ≡ true → (Rises net_was.faults net_is.faults → ⊥) → (Rises net_was.ends net_is.ends → ⊥) → differences ≡ 0
 
 -- straight, and the net stays as it is; or over the net, which was joined for it
-pub data Carried (loopback : Bool) (first : Live) (script : List Command) (net_was net_is : NetSeen) (was is : SinkSeen) (bench : Option Live) (limit : Bool) (closed : End) : Type 0 where
-  straight : loopback ≡ false → net_is ≡ net_was → OnBench first script was is bench limit closed → Carried loopback first script net_was net_is was is bench limit closed
-  over_net : (mid : NetSeen) → loopback ≡ true → Joined net_was mid → OnLoop first script mid net_is was is bench closed → Carried loopback first script net_was net_is was is bench limit closed
+pub data Carried (loopback : Bool) (first : Live) (script : List Command) (net_was net_is : NetSeen) (was is : SinkSeen) (bench : Option Live) (limit : Bool)
+    (closed : End) : Type 0 where
+  straight : loopback ≡ false → net_is ≡ net_was → OnBench first script was is bench limit closed
+      → Carried loopback first script net_was net_is was is bench limit closed
+  over_net : (mid : NetSeen) → loopback ≡ true → Joined net_was mid → OnLoop first script mid net_is was is bench closed
+      → Carried loopback first script net_was net_is was is bench limit closed
 
 -- ---- over a net
 

@@ -1,7 +1,7 @@
 //! The whole program as one call: words, files, the chip on its bench, the session, the serving or the sniffing, and the status with its last line.
 //!
-//! `run` says of every run of every list of words what was printed and left, and why it ended so. `both_with` is a session over a chip on a bench with any schedule.
-//! Whatever lies outside, files, net and sink, is a bound: what they tell is what the clauses speak of.
+//! `run` says of every run of every list of words what was printed and left, and why it ended so. `both_with` is a session over a chip on a bench with any
+//! schedule. Whatever lies outside, files, net and sink, is a bound: what they tell is what the clauses speak of.
 #![tactic(auto)]
 
 mod both;

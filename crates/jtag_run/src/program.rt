@@ -19,9 +19,9 @@ use sys_events::SeedSchedule;
 
 /// Runs the program: `words` are those behind its name, and no call has opened the net.
 ///
-/// The words are judged first, then a script is read and judged, then an image is read and loaded, or both are made from a number; then the net is opened, where the job has one.
-/// Of a recording the stream is read, and then its answers.
-/// The first refusal ends the run with its last line. Before the words are accepted nothing else is asked for, and before files and image are, no net is opened.
+/// The words are judged first, then a script is read and judged, then an image is read and loaded, or both are made from a number; then the net is opened,
+/// where the job has one. Of a recording the stream is read, and then its answers. The first refusal ends the run with its last line. Before the words are
+/// accepted nothing else is asked for, and before files and image are, no net is opened.
 pub fn run<F: Files, N: Net, K: Sink>(
     alloc: Global,
     words: &[String],

@@ -1,5 +1,6 @@
 -- What the place in a line says of the line, and the counts and the place of a text that grows by one byte.
-use Rattle.std.proofs.Common.{◌≡◌, ℕ, suc, ◌+◌, ◌-◌, ◌^◌, Bool, true, false, cond, ◌&&◌, ◌==◌, nat_eq, min, List, [], ◌∷◌, ◌++◌, length, take, arith, refl, ap, sym, subst, ◌∙◌, length-append}
+use Rattle.std.proofs.Common.{◌≡◌, ℕ, suc, ◌+◌, ◌-◌, ◌^◌, Bool, true, false, cond, ◌&&◌, ◌==◌, nat_eq, min, List, [], ◌∷◌, ◌++◌, length, take, arith, refl, ap,
+    sym, subst, ◌∙◌, length-append}
 use Rattle.std.specs.List.{count_by}
 use lib.Pointwise.{pointwise}
 use Rattle.std.proofs.lemmas.Bool.{ne_eqb}
@@ -10,7 +11,8 @@ use Rattle.line_counts.specs.Counts.{error_mark, tells_error, whole_lines, lines
 use Rattle.line_counts.specs.Place.{place_along, place_of, unfinished_line, AreCountsOf}
 use Rattle.line_counts.specs.declared.place.Place.{Place}
 use Rattle.line_counts.specs.declared.place.Place.TheVariants.{Matching, Error, Other}
-use Rattle.line_counts.proofs.WholeLineLemmas.{whole_lines-nil, whole_lines-feed, whole_lines-more, unfinished_line-nil, unfinished_line-feed, unfinished_line-more}
+use Rattle.line_counts.proofs.WholeLineLemmas.{whole_lines-nil, whole_lines-feed, whole_lines-more, unfinished_line-nil, unfinished_line-feed,
+    unfinished_line-more}
 
 abbrev pub is_in_error : Place → Bool
 is_in_error Error = true
@@ -20,7 +22,8 @@ starts_along : (mark line : List ℕ) (count : ℕ) → pointwise nat_eq mark (t
 starts_along [] line count = refl
 starts_along (m ∷ mark) [] count = refl
 starts_along (m ∷ mark) (byte ∷ line) count =
-    elim (m == byte) as (λ b. (b && pointwise nat_eq mark (take (length mark) line)) ≡ is_in_error (cond b (place_along mark line (suc count)) Other)) [ true ↦ starts_along mark line (suc count) | false ↦ refl ]
+    elim (m == byte) as (λ b. (b && pointwise nat_eq mark (take (length mark) line)) ≡ is_in_error (cond b (place_along mark line (suc count)) Other))
+        [ true ↦ starts_along mark line (suc count) | false ↦ refl ]
 
 tells_error_in_place : (line : List ℕ) → tells_error line ≡ is_in_error (place_of line)
 tells_error_in_place line = starts_along error_mark line 0
@@ -69,7 +72,8 @@ errors_end place lines line is =
     by_case true count = one_more count
     by_case false count = omega arith
 
-AreCountsOf-feed : (lines errors : ℕ) (place : Place) (text : List ℕ) → AreCountsOf lines errors place text → AreCountsOf (counted lines) (errors_after place errors) (Matching 0) (text ++ line_feed ∷ [])
+AreCountsOf-feed : (lines errors : ℕ) (place : Place) (text : List ℕ) → AreCountsOf lines errors place text
+    → AreCountsOf (counted lines) (errors_after place errors) (Matching 0) (text ++ line_feed ∷ [])
 AreCountsOf-feed lines errors place text are =
     let whole = whole_lines-feed text in
     record {
@@ -78,7 +82,8 @@ AreCountsOf-feed lines errors place text are =
       place_is = rw unfinished_line-feed refl;
     }
 
-pub AreCountsOf-error : (lines errors : ℕ) (place : Place) (text : List ℕ) → AreCountsOf lines errors place text → place ≡ Error → AreCountsOf (counted lines) (counted errors) (Matching 0) (text ++ line_feed ∷ [])
+pub AreCountsOf-error : (lines errors : ℕ) (place : Place) (text : List ℕ) → AreCountsOf lines errors place text → place ≡ Error
+    → AreCountsOf (counted lines) (counted errors) (Matching 0) (text ++ line_feed ∷ [])
 AreCountsOf-error lines errors place text are is =
     let P : Place → Type 0 = λ p. AreCountsOf (counted lines) (errors_after p errors) (Matching 0) (text ++ line_feed ∷ []) in
     subst P is (AreCountsOf-feed lines errors place text are)
@@ -88,7 +93,8 @@ not_error (Matching count) not = refl
 not_error Error not = absurd (not refl)
 not_error Other not = refl
 
-pub AreCountsOf-line : (lines errors : ℕ) (place : Place) (text : List ℕ) → AreCountsOf lines errors place text → (place ≡ Error → ⊥) → AreCountsOf (counted lines) errors (Matching 0) (text ++ line_feed ∷ [])
+pub AreCountsOf-line : (lines errors : ℕ) (place : Place) (text : List ℕ) → AreCountsOf lines errors place text → (place ≡ Error → ⊥)
+    → AreCountsOf (counted lines) errors (Matching 0) (text ++ line_feed ∷ [])
 AreCountsOf-line lines errors place text are not =
     let P : Bool → Type 0 = λ b. AreCountsOf (counted lines) (cond b (counted errors) errors) (Matching 0) (text ++ line_feed ∷ []) in
     subst P (not_error place not) (AreCountsOf-feed lines errors place text are)

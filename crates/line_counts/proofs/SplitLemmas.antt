@@ -28,7 +28,8 @@ begun_by false x parts more some = onto_first-append x parts more some
 pub slice_split-append_yes : {A : Type 0} (p : A → Bool) (xs : List A) (y : A) → p y ≡ true → slice_split p (xs ++ y ∷ []) ≡ slice_split p xs ++ [] ∷ []
 slice_split-append_yes p [] y parts = rw parts refl
 slice_split-append_yes p (x ∷ xs) y parts =
-    ap (λ rest. cond (p x) ([] ∷ rest) (onto_first x rest)) (slice_split-append_yes p xs y parts) ∙ begun_by (p x) x (slice_split p xs) ([] ∷ []) (some_part p xs)
+    ap (λ rest. cond (p x) ([] ∷ rest) (onto_first x rest)) (slice_split-append_yes p xs y parts)
+        ∙ begun_by (p x) x (slice_split p xs) ([] ∷ []) (some_part p xs)
 
 -- ---- a part goes on
 

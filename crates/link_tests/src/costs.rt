@@ -1,4 +1,5 @@
-//! What calls on a loaded chip cost in rises of TCK, where the transport is never found busy: 46 for each scan of `dmi`, and one scan more than operations for each call.
+//! What calls on a loaded chip cost in rises of TCK, where the transport is never found busy: 46 for each scan of `dmi`, and one scan more than operations
+//! for each call.
 
 ghost use Rattle.std.specs.Prelude.{◌<◌, ◌^◌, IfSome, IsSome};
 ghost use Rattle.debug_model.specs.Kept.{CanCall};

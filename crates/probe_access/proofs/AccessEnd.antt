@@ -47,7 +47,8 @@ pub record AccessEnd (n : Memory) (before : List ℕ) (s : Site) (t : Site) : Ty
   pub journal : t.journal ≡ (s.journal ++ turns (passed_turns before s).harts) ++ Access ∷ turns behind
   pub bus : t.unit.bus ≡ s.unit.bus
 
-pub access_end : (h : ℕ) (x : Hart) (n : Memory) (before : List ℕ) (s : Site) (told : Option Far) → (st : StoodTold h s.unit.bus x (accessed n (passed before s)) x told) → AccessEnd n before s (site_of st.far)
+pub access_end : (h : ℕ) (x : Hart) (n : Memory) (before : List ℕ) (s : Site) (told : Option Far)
+    → (st : StoodTold h s.unit.bus x (accessed n (passed before s)) x told) → AccessEnd n before s (site_of st.far)
 access_end h x n before s told st =
     let p : Passed s (passed before s) = passed_turns before s in
     let base : Site = accessed n (passed before s) in
@@ -61,9 +62,11 @@ access_end h x n before s told st =
       bus = ap (λ (u : Site). u.unit.bus) st.stood.at.is;
     }
 
-pub one_access : (n : Memory) (m : Memory → Memory) (before : List ℕ) (s t : Site) → (e : AccessEnd n before s t) → n ≡ m (passed before s).board.memory → OneAccess m (passed_turns before s).harts e.behind s t
+pub one_access : (n : Memory) (m : Memory → Memory) (before : List ℕ) (s t : Site) → (e : AccessEnd n before s t) → n ≡ m (passed before s).board.memory
+    → OneAccess m (passed_turns before s).harts e.behind s t
 one_access n m before s t e is = record {
-  board = e.board ∙ ap (λ (o : Memory). after_turns e.behind (with_memory o (after_turns (passed_turns before s).harts s.board))) (is ∙ ap (λ (b : Board). m b.memory) (passed_turns before s).board);
+  board = e.board ∙ ap (λ (o : Memory). after_turns e.behind (with_memory o (after_turns (passed_turns before s).harts s.board)))
+      (is ∙ ap (λ (b : Board). m b.memory) (passed_turns before s).board);
   journal = e.journal;
   bus = e.bus;
 }
@@ -73,17 +76,20 @@ ready_before before s ready =
     let p : Passed s (passed before s) = passed_turns before s in
     subst (λ (b : Board). BoardReady b) (sym p.board) (board_ready_turns p.harts s.board (record { harts = ready.harts; memory = ready.memory }))
 
-pub access_serving : (h : ℕ) (f : Far) (ready : SiteReady (site_of f)) (halted : HartHalted h (site_of f).board) (n : Memory) (before : List ℕ) (told : Option Far) → MemoryReady n
+pub access_serving : (h : ℕ) (f : Far) (ready : SiteReady (site_of f)) (halted : HartHalted h (site_of f).board) (n : Memory) (before : List ℕ)
+    (told : Option Far) → MemoryReady n
     → StoodTold h (site_of f).unit.bus halted.hart (accessed n (passed before (site_of f))) halted.hart told → Serving h told
 access_serving h f ready halted n before told memory st =
     let s : Site = site_of f in
     let e : AccessEnd n before s (site_of st.far) = access_end h halted.hart n before s told st in
     let p : Passed s (passed before s) = passed_turns before s in
     let b : BoardReady (after_turns p.harts s.board) = board_ready_turns p.harts s.board (record { harts = ready.harts; memory = ready.memory }) in
-    let c : BoardReady (after_turns e.behind (with_memory n (after_turns p.harts s.board))) = board_ready_turns e.behind (with_memory n (after_turns p.harts s.board)) (record { harts = b.harts; memory = memory }) in
+    let c : BoardReady (after_turns e.behind (with_memory n (after_turns p.harts s.board))) =
+        board_ready_turns e.behind (with_memory n (after_turns p.harts s.board)) (record { harts = b.harts; memory = memory }) in
     let d : BoardReady (site_of st.far).board = subst (λ (x : Board). BoardReady x) (sym e.board) c in
     told_serving h st.far
-    (record { unit = stood_unit h s halted.hart halted.hart (accessed n (passed before s)) st.kept (site_of st.far) ready.unit st.stood; harts = d.harts; memory = d.memory })
+    (record { unit = stood_unit h s halted.hart halted.hart (accessed n (passed before s)) st.kept (site_of st.far) ready.unit st.stood; harts = d.harts;
+        memory = d.memory })
     (stood_selects h s.unit.bus halted.hart (accessed n (passed before s)) halted.hart st.kept (site_of st.far) st.stood)
     (record {
       hart = halted.hart;

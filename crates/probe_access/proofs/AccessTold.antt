@@ -33,11 +33,13 @@ pub record SavedTold (x8 x9 h : ℕ) (bus : BusUnit) (y : Hart) (base : Site) (w
   pub x9_is : x_of y.core 9 < 2 ^ 64 → x9 ≡ x_of y.core 9
   pub then : StoodTold h bus y base w told
 
-pub held_as : (y : Hart) (number held value v : ℕ) → debug_value y number ≡ Some v → debug_value y number ≡ Some held → (held < 2 ^ 64 → value ≡ held) → v < 2 ^ 64 → value ≡ v
+pub held_as : (y : Hart) (number held value v : ℕ) → debug_value y number ≡ Some v → debug_value y number ≡ Some held → (held < 2 ^ 64 → value ≡ held)
+    → v < 2 ^ 64 → value ≡ v
 held_as y number held value v is was same small =
     let e : Some v ≡ Some held = sym is ∙ was in let f : v ≡ held = cc in same (subst (λ n. n < 2 ^ 64) f small) ∙ sym f
 
-pub saved_told : (x8 x9 h : ℕ) (bus : BusUnit) (y : Hart) (base : Site) (w : Hart) (old new : Tells) → StoodTold h bus y base w old.far → Saved x8 x9 old new → SavedTold x8 x9 h bus y base w new.far
+pub saved_told : (x8 x9 h : ℕ) (bus : BusUnit) (y : Hart) (base : Site) (w : Hart) (old new : Tells) → StoodTold h bus y base w old.far → Saved x8 x9 old new
+    → SavedTold x8 x9 h bus y base w new.far
 saved_told x8 x9 h bus y base w old new st s =
     let a : ReadTold x8_number x8 h bus y base w s.mid.far = read_told x8_number x8 h bus y base w old s.mid (omega arith) st s.first in
     let b : ReadTold x9_number x9 h bus y base w new.far = read_told x9_number x9 h bus y base w s.mid new (omega arith) a.then s.second in
@@ -49,23 +51,28 @@ saved_told x8 x9 h bus y base w old new st s =
 
 -- ---- and put back
 
-pub back_told : (x8 x9 p q h : ℕ) (bus : BusUnit) (x : Hart) (base : Site) (w : Hart) (old new : Tells) → length x.core.x ≡ 32 → x8 ≡ x_of x.core 8 → x9 ≡ x_of x.core 9
+pub back_told : (x8 x9 p q h : ℕ) (bus : BusUnit) (x : Hart) (base : Site) (w : Hart) (old new : Tells) → length x.core.x ≡ 32 → x8 ≡ x_of x.core 8
+    → x9 ≡ x_of x.core 9
     → StoodTold h bus (scratched p q x) base w old.far → PutBack x8 x9 old new → StoodTold h bus x base w new.far
 back_told x8 x9 p q h bus x base w old new all is8 is9 st s =
     let y : Hart = scratched p q x in
     let a : WrittenTold x8_number x8 h bus y base w st.kept s.mid.far = written_told x8_number x8 h bus y base w old s.mid (omega arith) st s.first in
-    let b : WrittenTold x9_number x9 h bus (debug_written y x8_number x8) base w a.then.kept new.far = written_told x9_number x9 h bus (debug_written y x8_number x8) base w s.mid new (omega arith) a.then s.second in
+    let b : WrittenTold x9_number x9 h bus (debug_written y x8_number x8) base w a.then.kept new.far =
+        written_told x9_number x9 h bus (debug_written y x8_number x8) base w s.mid new (omega arith) a.then s.second in
     subst (λ (z : Hart). StoodTold h bus z base w new.far)
-    (ap (λ n. debug_written (debug_written y x8_number n) x9_number x9) is8 ∙ ap (λ n. debug_written (debug_written y x8_number (x_of x.core 8)) x9_number n) is9 ∙ scratch_back x p q all)
+    (ap (λ n. debug_written (debug_written y x8_number n) x9_number x9) is8
+        ∙ ap (λ n. debug_written (debug_written y x8_number (x_of x.core 8)) x9_number n) is9 ∙ scratch_back x p q all)
     b.then
 
 -- ---- the program
 
 abbrev pub with_program : ℕ → Kept → Kept
-with_program word k = record { data0 = k.data0; data1 = k.data1; progbuf0 = word; progbuf1 = ebreak_word; progbuf2 = k.progbuf2; progbuf3 = k.progbuf3; command = k.command }
+with_program word k = record { data0 = k.data0; data1 = k.data1; progbuf0 = word; progbuf1 = ebreak_word; progbuf2 = k.progbuf2; progbuf3 = k.progbuf3;
+    command = k.command }
 
 abbrev pub with_first : ℕ → Kept → Kept
-with_first word k = record { data0 = k.data0; data1 = k.data1; progbuf0 = word; progbuf1 = k.progbuf1; progbuf2 = k.progbuf2; progbuf3 = k.progbuf3; command = k.command }
+with_first word k = record { data0 = k.data0; data1 = k.data1; progbuf0 = word; progbuf1 = k.progbuf1; progbuf2 = k.progbuf2; progbuf3 = k.progbuf3; command =
+    k.command }
 
 -- the program is there, and the data words hold the address
 abbrev pub set_up : ℕ → ℕ → Kept → Kept
@@ -82,12 +89,14 @@ program_puts word address h bus y k =
 pub set_up_hart : (word address : ℕ) (y : Hart) (k : Kept) → hart_behind true x8_number (set_up word address k) y ≡ debug_written y x8_number address
 set_up_hart word address y k = ap (debug_written y x8_number) (halves_joined address)
 
-pub record PerformedTold (P : Memory → Hart → Memory → Type 0) (Q : Memory → Type 0) (last h : ℕ) (bus : BusUnit) (y : Hart) (base : Site) (w : Hart) (told : Option Far) : Type 0 where
+pub record PerformedTold (P : Memory → Hart → Memory → Type 0) (Q : Memory → Type 0) (last h : ℕ) (bus : BusUnit) (y : Hart) (base : Site) (w : Hart)
+    (told : Option Far) : Type 0 where
   pub far : Far
   pub is : told ≡ Some far
   pub program : ProgramTold P Q last h bus y base w (site_of far)
 
-pub ran_told : (P : Memory → Hart → Memory → Type 0) (Q : Memory → Type 0) (word address last h : ℕ) (bus : BusUnit) (y : Hart) (base : Site) (w : Hart) (old new : Tells) → StoodTold h bus y base w old.far
+pub ran_told : (P : Memory → Hart → Memory → Type 0) (Q : Memory → Type 0) (word address last h : ℕ) (bus : BusUnit) (y : Hart) (base : Site) (w : Hart)
+    (old new : Tells) → StoodTold h bus y base w old.far
     → ((m : Memory) → WordDid P Q word (debug_written y x8_number address) m) → RanCommand (program_set word address) program_word last old new
     → PerformedTold P Q last h bus (debug_written y x8_number address) base w new.far
 ran_told P Q word address last h bus y base w old new st decides ran =
@@ -103,7 +112,8 @@ ran_told P Q word address last h bus y base w old new st decides ran =
       far = at.far;
       is = at.is;
       program = subst (λ (z : Hart). ProgramTold P Q last h bus z base w (site_of at.far)) is
-          (program_told P Q ran.words last k h bus y base w cut.mid (site_of at.far) ready refl (subst (λ (z : Hart). (m : Memory) → WordDid P Q word z m) (sym is) decides) cut.rest ran.idle);
+          (program_told P Q ran.words last k h bus y base w cut.mid (site_of at.far) ready refl
+              (subst (λ (z : Hart). (m : Memory) → WordDid P Q word z m) (sym is) decides) cut.rest ran.idle);
     }
 
 -- ---- by cmderr
@@ -123,16 +133,21 @@ pub record Faulted (Q : Memory → Type 0) (h : ℕ) (bus : BusUnit) (y : Hart) 
 unequal : (n : ℕ) → n ≡ 3 → n ≡ 0 → ⊥
 unequal n a b = omega arith
 
-pub went_told : (P : Memory → Hart → Memory → Type 0) (Q : Memory → Type 0) (last h : ℕ) (bus : BusUnit) (y : Hart) (base : Site) (w : Hart) (told : Option Far) (f : Far) → told ≡ Some f → error_shown last ≡ 0
+pub went_told : (P : Memory → Hart → Memory → Type 0) (Q : Memory → Type 0) (last h : ℕ) (bus : BusUnit) (y : Hart) (base : Site) (w : Hart)
+    (told : Option Far) (f : Far) → told ≡ Some f → error_shown last ≡ 0
     → ProgramTold P Q last h bus y base w (site_of f) → Went P h bus base w told
-went_told P Q last h bus y base w told f is fine (went before z n k p error st) = record { before = before; hart = z; memory = n; did = p; then = record { far = f; is = is; kept = k; stood = st } }
+went_told P Q last h bus y base w told f is fine (went before z n k p error st) =
+    record { before = before; hart = z; memory = n; did = p; then = record { far = f; is = is; kept = k; stood = st } }
 went_told P Q last h bus y base w told f is fine (faulted before k q error st) = absurd (unequal (error_shown last) error fine)
 
-pub faulted_told : (P : Memory → Hart → Memory → Type 0) (Q : Memory → Type 0) (last h : ℕ) (bus : BusUnit) (y : Hart) (base : Site) (w : Hart) (told : Option Far) (f : Far) → told ≡ Some f → error_shown last ≡ 3
+pub faulted_told : (P : Memory → Hart → Memory → Type 0) (Q : Memory → Type 0) (last h : ℕ) (bus : BusUnit) (y : Hart) (base : Site) (w : Hart)
+    (told : Option Far) (f : Far) → told ≡ Some f → error_shown last ≡ 3
     → ProgramTold P Q last h bus y base w (site_of f) → Faulted Q h bus y base w told
 faulted_told P Q last h bus y base w told f is bad (went before z n k p error st) = absurd (unequal (error_shown last) bad error)
-faulted_told P Q last h bus y base w told f is bad (faulted before k q error st) = record { before = before; did = q; then = record { far = f; is = is; kept = k; stood = st } }
+faulted_told P Q last h bus y base w told f is bad (faulted before k q error st) =
+    record { before = before; did = q; then = record { far = f; is = is; kept = k; stood = st } }
 
-pub neither_told : (P : Memory → Hart → Memory → Type 0) (Q : Memory → Type 0) (last h : ℕ) (bus : BusUnit) (y : Hart) (base : Site) (w : Hart) (t : Site) → ProgramTold P Q last h bus y base w t → (error_shown last ≡ 0 → ⊥) → (error_shown last ≡ 3 → ⊥) → ⊥
+pub neither_told : (P : Memory → Hart → Memory → Type 0) (Q : Memory → Type 0) (last h : ℕ) (bus : BusUnit) (y : Hart) (base : Site) (w : Hart) (t : Site)
+    → ProgramTold P Q last h bus y base w t → (error_shown last ≡ 0 → ⊥) → (error_shown last ≡ 3 → ⊥) → ⊥
 neither_told P Q last h bus y base w t (went before z n k p error st) some other = some error
 neither_told P Q last h bus y base w t (faulted before k q error st) some other = other error

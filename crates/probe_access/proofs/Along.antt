@@ -68,34 +68,43 @@ pub record AtSites (acts : List Act) (f : Far) (new : Option Far) : Type 0 where
 
 one_act : (act : Act) (f : Far) (new : Option Far) → chip_did act f.live.chip new → AtSites (act ∷ []) f new
 one_act (Scanned value) f new d = record { far = d.none.far; is = d.none.is; acts_are = (site_of d.none.far, d.none.site, refl) }
-one_act (Got address value) f new d = record { far = d.far; is = d.is; acts_are = (site_of d.far, record { result = d.result; one = d.site; value_is = d.value_is }, refl) }
+one_act (Got address value) f new d = record
+    { far = d.far; is = d.is; acts_are = (site_of d.far, record { result = d.result; one = d.site; value_is = d.value_is }, refl) }
 one_act (Put address value) f new d = record {
   far = d.far;
   is = d.is;
   acts_are = (site_of d.far, record { before = d.site.before; behind = d.site.behind; is = d.site.is; result_is = refl }, refl);
 }
 
-then_act : (acts : List Act) (act : Act) (f : Far) (mid new : Option Far) → AtSites acts f mid → WhereTold (chip_did act) mid new → AtSites (acts ++ act ∷ []) f new
+then_act : (acts : List Act) (act : Act) (f : Far) (mid new : Option Far) → AtSites acts f mid → WhereTold (chip_did act) mid new
+    → AtSites (acts ++ act ∷ []) f new
 then_act acts act f mid new before does =
     let one : AtSites (act ∷ []) before.far new = one_act act before.far new (subst (λ (m : Option Far). WhereTold (chip_did act) m new) before.is does) in
-    record { far = one.far; is = one.is; acts_are = site_acts-append acts (act ∷ []) (site_of f) (site_of before.far) (site_of one.far) before.acts_are one.acts_are }
+    record { far = one.far; is = one.is; acts_are = site_acts-append acts (act ∷ []) (site_of f) (site_of before.far) (site_of one.far) before.acts_are
+        one.acts_are }
 
-all_acts : (op : DmiOp) (ops : List DmiOp) (results : List ℕ) (f : Far) (new : Option Far) → OperatedAll (op ∷ ops) results f.live.chip new → AtSites (acts_of (op ∷ ops) results) f new
+all_acts : (op : DmiOp) (ops : List DmiOp) (results : List ℕ) (f : Far) (new : Option Far) → OperatedAll (op ∷ ops) results f.live.chip new
+    → AtSites (acts_of (op ∷ ops) results) f new
 all_acts op ops results f new d = record {
   far = d.far;
   is = d.is;
-  acts_are = subst (λ xs. SiteActs xs (site_of f) (site_of d.far)) (sym (acts_are (op ∷ ops) results d.done d.asked d.results_are)) (path_acts op ops d.done (site_of f) (site_of d.far) d.asked d.site);
+  acts_are = subst (λ xs. SiteActs xs (site_of f) (site_of d.far)) (sym (acts_are (op ∷ ops) results d.done d.asked d.results_are))
+      (path_acts op ops d.done (site_of f) (site_of d.far) d.asked d.site);
 }
 
-then_all : (acts : List Act) (op : DmiOp) (ops : List DmiOp) (results : List ℕ) (f : Far) (mid new : Option Far) → AtSites acts f mid → WhereTold (OperatedAll (op ∷ ops) results) mid new → AtSites (acts ++ acts_of (op ∷ ops) results) f new
+then_all : (acts : List Act) (op : DmiOp) (ops : List DmiOp) (results : List ℕ) (f : Far) (mid new : Option Far) → AtSites acts f mid
+    → WhereTold (OperatedAll (op ∷ ops) results) mid new → AtSites (acts ++ acts_of (op ∷ ops) results) f new
 then_all acts op ops results f mid new before does =
-    let all : AtSites (acts_of (op ∷ ops) results) before.far new = all_acts op ops results before.far new (subst (λ (m : Option Far). WhereTold (OperatedAll (op ∷ ops) results) m new) before.is does) in
-    record { far = all.far; is = all.is; acts_are = site_acts-append acts (acts_of (op ∷ ops) results) (site_of f) (site_of before.far) (site_of all.far) before.acts_are all.acts_are }
+    let all : AtSites (acts_of (op ∷ ops) results) before.far new =
+        all_acts op ops results before.far new (subst (λ (m : Option Far). WhereTold (OperatedAll (op ∷ ops) results) m new) before.is does) in
+    record { far = all.far; is = all.is; acts_are = site_acts-append acts (acts_of (op ∷ ops) results) (site_of f) (site_of before.far) (site_of all.far)
+        before.acts_are all.acts_are }
 
 pub did_sites : (old : Tells) (acts : List Act) (new : Tells) (f : Far) → Did old acts new → old.far ≡ Some f → AtSites acts f new.far
 did_sites old acts new f nothing is = record { far = f; is = is; acts_are = refl }
 did_sites old acts new f (further before act mid _ did does) is = then_act before act f mid.far new.far (did_sites old before mid f did is) does.told
-did_sites old acts new f (together before op ops results mid _ did does) is = then_all before op ops results f mid.far new.far (did_sites old before mid f did is) does.told
+did_sites old acts new f (together before op ops results mid _ did does) is =
+    then_all before op ops results f mid.far new.far (did_sites old before mid f did is) does.told
 
 none_told : (act : Act) (mid new : Option Far) → mid ≡ None → WhereTold (chip_did act) mid new → new ≡ None
 none_told act None new e p = p
@@ -104,11 +113,13 @@ none_told act (Some f) new e p = absurd (none-some f (sym e))
 pub did_untold : (old : Tells) (acts : List Act) (new : Tells) → Did old acts new → old.far ≡ None → new.far ≡ None
 did_untold old acts new nothing is = is
 did_untold old acts new (further before act mid _ did does) is = none_told act mid.far new.far (did_untold old before mid did is) does.told
-did_untold old acts new (together before op ops results mid _ did does) is = untold (OperatedAll (op ∷ ops) results) mid.far new.far (did_untold old before mid did is) does.told
+did_untold old acts new (together before op ops results mid _ did does) is =
+    untold (OperatedAll (op ∷ ops) results) mid.far new.far (did_untold old before mid did is) does.told
 
 pub did-append : (xs : List Act) (a b : Tells) (ys : List Act) (c : Tells) → Did a xs b → Did b ys c → Did a (xs ++ ys) c
 did-append xs a b ys c p nothing = subst (λ zs. Did a zs b) (sym (append-nil xs)) p
 did-append xs a b ys c p (further before act mid _ did does) =
     subst (λ zs. Did a zs c) (append_assoc xs before (act ∷ [])) (further (xs ++ before) act mid c (did-append xs a b before mid p did) does)
 did-append xs a b ys c p (together before op ops results mid _ did does) =
-    subst (λ zs. Did a zs c) (append_assoc xs before (acts_of (op ∷ ops) results)) (together (xs ++ before) op ops results mid c (did-append xs a b before mid p did) does)
+    subst (λ zs. Did a zs c) (append_assoc xs before (acts_of (op ∷ ops) results))
+        (together (xs ++ before) op ops results mid c (did-append xs a b before mid p did) does)

@@ -7,8 +7,10 @@ use Rattle.probe_access.specs.MemoryRuns.AroundFailed.{behind, in_restore, in_re
 use Rattle.probe_access.specs.MemoryRuns.GaveUp.{lost, put_back, worse}
 use Rattle.probe_access.proofs.Counted.{put_back_counted}
 
-pub around_gave_up : (R : Tells → Tells → Type 0) (F : ℕ → ℕ → Tells → Tells → AccessFault → Type 0) (x8 x9 count mid_count was_count new_count : ℕ) (old first last new : Tells) (was e : AccessFault) → Saved x8 x9 old first
-    → F mid_count was_count first last was → F count was_count first last was → count ≤ was_count → was_count ≤ new_count → GaveUp x8 x9 was_count new_count last new was e → AroundFailed R F count new_count old new e
+pub around_gave_up : (R : Tells → Tells → Type 0) (F : ℕ → ℕ → Tells → Tells → AccessFault → Type 0) (x8 x9 count mid_count was_count new_count : ℕ)
+    (old first last new : Tells) (was e : AccessFault) → Saved x8 x9 old first
+    → F mid_count was_count first last was → F count was_count first last was → count ≤ was_count → was_count ≤ new_count
+        → GaveUp x8 x9 was_count new_count last new was e → AroundFailed R F count new_count old new e
 around_gave_up R F x8 x9 count mid_count was_count new_count old first last new was e saved here f le later (put_back recovers is p) =
     subst (λ x. AroundFailed R F count new_count old new x) (sym is) (behind x8 x9 first last count was_count saved f recovers p)
 around_gave_up R F x8 x9 count mid_count was_count new_count old first last new was e saved here f le later (worse recovers p) =
@@ -17,6 +19,8 @@ around_gave_up R F x8 x9 count mid_count was_count new_count old first last new 
     subst (λ x. AroundFailed R F count new_count old new x) (sym is)
     (inside x8 x9 first saved (subst (λ n. F count n first new was) (sym same_count) (subst (λ t. F count was_count first t was) (sym same) f)) loses)
 
-pub around_restore : (R : Tells → Tells → Type 0) (F : ℕ → ℕ → Tells → Tells → AccessFault → Type 0) (x8 x9 count was_count new_count : ℕ) (old first last new : Tells) (e : AccessFault) → Saved x8 x9 old first → R first last
+pub around_restore : (R : Tells → Tells → Type 0) (F : ℕ → ℕ → Tells → Tells → AccessFault → Type 0) (x8 x9 count was_count new_count : ℕ)
+    (old first last new : Tells) (e : AccessFault) → Saved x8 x9 old first → R first last
     → count ≤ was_count → was_count ≤ new_count → PutBackFailed x8 x9 was_count new_count last new e → AroundFailed R F count new_count old new e
-around_restore R F x8 x9 count was_count new_count old first last new e saved r le later p = in_restore x8 x9 first last saved r (put_back_counted x8 x9 count was_count new_count last new e le later p)
+around_restore R F x8 x9 count was_count new_count old first last new e saved r le later p =
+    in_restore x8 x9 first last saved r (put_back_counted x8 x9 count was_count new_count last new e le later p)

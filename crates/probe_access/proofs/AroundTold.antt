@@ -38,16 +38,20 @@ Clean access_fault.StillBusy = Unit {0}
 Clean (access_fault.Run why) = ⊥
 Clean (access_fault.Odd shown) = ⊥
 
-pub read_clean : (number h : ℕ) (bus : BusUnit) (y : Hart) (base : Site) (w : Hart) (old_count new_count : ℕ) (old new : Tells) (e : AccessFault) → number < 2 ^ 16 → reaches false y number ≡ true → StoodTold h bus y base w old.far
+pub read_clean : (number h : ℕ) (bus : BusUnit) (y : Hart) (base : Site) (w : Hart) (old_count new_count : ℕ) (old new : Tells) (e : AccessFault)
+    → number < 2 ^ 16 → reaches false y number ≡ true → StoodTold h bus y base w old.far
     → ReadFailed number old_count new_count old new e → Clean e
 read_clean number h bus y base w old_count new_count old new (access_fault.Dmi why) small there st f = tt
 read_clean number h bus y base w old_count new_count old new (access_fault.Memory at) small there st f = f
-read_clean number h bus y base w old_count new_count old new (access_fault.Register asked) small there st f = false≢true (sym (read_denied number h bus y base w old new small st f.ran).denied_is ∙ there)
+read_clean number h bus y base w old_count new_count old new (access_fault.Register asked) small there st f =
+    false≢true (sym (read_denied number h bus y base w old new small st f.ran).denied_is ∙ there)
 read_clean number h bus y base w old_count new_count old new access_fault.StillBusy small there st f = tt
 read_clean number h bus y base w old_count new_count old new (access_fault.Run why) small there st f = f
-read_clean number h bus y base w old_count new_count old new (access_fault.Odd shown) small there st f = read_not_odd number shown h bus y base w old new small st f
+read_clean number h bus y base w old_count new_count old new (access_fault.Odd shown) small there st f =
+    read_not_odd number shown h bus y base w old new small st f
 
-pub write_clean : (number value h : ℕ) (bus : BusUnit) (y : Hart) (base : Site) (w : Hart) (old_count new_count : ℕ) (old new : Tells) (e : AccessFault) → number < 2 ^ 16 → reaches true y number ≡ true → StoodTold h bus y base w old.far
+pub write_clean : (number value h : ℕ) (bus : BusUnit) (y : Hart) (base : Site) (w : Hart) (old_count new_count : ℕ) (old new : Tells) (e : AccessFault)
+    → number < 2 ^ 16 → reaches true y number ≡ true → StoodTold h bus y base w old.far
     → WriteFailed number value old_count new_count old new e → Clean e
 write_clean number value h bus y base w old_count new_count old new (access_fault.Dmi why) small there st f = tt
 write_clean number value h bus y base w old_count new_count old new (access_fault.Memory at) small there st f = f
@@ -76,17 +80,22 @@ pub writes_x9 : (y : Hart) → reaches true y x9_number ≡ true
 unfolding debug_value debug_refuses csr_read_only
 writes_x9 y = refl
 
-pub save_clean : (h : ℕ) (bus : BusUnit) (y : Hart) (base : Site) (w : Hart) (old_count new_count : ℕ) (old new : Tells) (e : AccessFault) → StoodTold h bus y base w old.far → SaveFailed old_count new_count old new e → Clean e
-save_clean h bus y base w old_count new_count old new e st (save_x8 f) = read_clean x8_number h bus y base w old_count new_count old new e (omega arith) (reads_x8 y) st f
+pub save_clean : (h : ℕ) (bus : BusUnit) (y : Hart) (base : Site) (w : Hart) (old_count new_count : ℕ) (old new : Tells) (e : AccessFault)
+    → StoodTold h bus y base w old.far → SaveFailed old_count new_count old new e → Clean e
+save_clean h bus y base w old_count new_count old new e st (save_x8 f) =
+    read_clean x8_number h bus y base w old_count new_count old new e (omega arith) (reads_x8 y) st f
 save_clean h bus y base w old_count new_count old new e st (save_x9 x8 mid r f) =
     let a : ReadTold x8_number x8 h bus y base w mid.far = read_told x8_number x8 h bus y base w old mid (omega arith) st r in
     read_clean x9_number h bus y base w old_count new_count mid new e (omega arith) (reads_x9 y) a.then f
 
-pub put_back_clean : (x8 x9 h : ℕ) (bus : BusUnit) (y : Hart) (base : Site) (w : Hart) (old_count new_count : ℕ) (old new : Tells) (e : AccessFault) → StoodTold h bus y base w old.far → PutBackFailed x8 x9 old_count new_count old new e → Clean e
-put_back_clean x8 x9 h bus y base w old_count new_count old new e st (put_x8 f) = write_clean x8_number x8 h bus y base w old_count new_count old new e (omega arith) (writes_x8 y) st f
+pub put_back_clean : (x8 x9 h : ℕ) (bus : BusUnit) (y : Hart) (base : Site) (w : Hart) (old_count new_count : ℕ) (old new : Tells) (e : AccessFault)
+    → StoodTold h bus y base w old.far → PutBackFailed x8 x9 old_count new_count old new e → Clean e
+put_back_clean x8 x9 h bus y base w old_count new_count old new e st (put_x8 f) =
+    write_clean x8_number x8 h bus y base w old_count new_count old new e (omega arith) (writes_x8 y) st f
 put_back_clean x8 x9 h bus y base w old_count new_count old new e st (put_x9 mid r f) =
     let a : WrittenTold x8_number x8 h bus y base w st.kept mid.far = written_told x8_number x8 h bus y base w old mid (omega arith) st r in
-    write_clean x9_number x9 h bus (debug_written y x8_number x8) base w old_count new_count mid new e (omega arith) (writes_x9 (debug_written y x8_number x8)) a.then f
+    write_clean x9_number x9 h bus (debug_written y x8_number x8) base w old_count new_count mid new e (omega arith) (writes_x9 (debug_written y x8_number x8))
+        a.then f
 
 -- ---- what a fault leaves
 
@@ -115,7 +124,8 @@ only_map address G H access_fault.StillBusy f p = tt
 only_map address G H (access_fault.Run why) f p = p
 only_map address G H (access_fault.Odd shown) f p = p
 
-command_clean : (front : List Act) (word old_count new_count : ℕ) (old new : Tells) (e : AccessFault) → CommandFailed front word old_count new_count old new e → Clean e
+command_clean : (front : List Act) (word old_count new_count : ℕ) (old new : Tells) (e : AccessFault) → CommandFailed front word old_count new_count old new e
+    → Clean e
 command_clean front word old_count new_count old new (access_fault.Dmi why) f = tt
 command_clean front word old_count new_count old new (access_fault.Memory at) f = f
 command_clean front word old_count new_count old new (access_fault.Register number) f = f
@@ -123,8 +133,10 @@ command_clean front word old_count new_count old new access_fault.StillBusy f = 
 command_clean front word old_count new_count old new (access_fault.Run why) f = f
 command_clean front word old_count new_count old new (access_fault.Odd shown) f = f
 
-pub perform_only : (P : Memory → Hart → Memory → Type 0) (Q : Memory → Type 0) (word address h : ℕ) (bus : BusUnit) (y : Hart) (base : Site) (w : Hart) (old_count new_count : ℕ) (old new : Tells) (e : AccessFault) → StoodTold h bus y base w old.far
-    → (Frozen (debug_written y x8_number address) → (m : Memory) → WordDid P Q word (debug_written y x8_number address) m) → PerformFailed word address old_count new_count old new e
+pub perform_only : (P : Memory → Hart → Memory → Type 0) (Q : Memory → Type 0) (word address h : ℕ) (bus : BusUnit) (y : Hart) (base : Site) (w : Hart)
+    (old_count new_count : ℕ) (old new : Tells) (e : AccessFault) → StoodTold h bus y base w old.far
+    → (Frozen (debug_written y x8_number address) → (m : Memory) → WordDid P Q word (debug_written y x8_number address) m)
+        → PerformFailed word address old_count new_count old new e
     → OnlyMemory address (Performed word address 3 old new) e
 perform_only P Q word address h bus y base w old_count new_count old new _ st decides (in_run e f) =
     clean_only address (Performed word address 3 old new) e (command_clean (program_set word address) program_word old_count new_count old new e f)
@@ -150,16 +162,20 @@ pub record OkInside (h : ℕ) (bus : BusUnit) (x : Hart) (told : Option Far) : T
   pub then : StoodTold h bus (scratched p q x) base x told
 
 -- what an access is made of
-pub record Inside (R : Tells → Tells → Type 0) (F : ℕ → ℕ → Tells → Tells → AccessFault → Type 0) (Q : Memory → Type 0) (address h : ℕ) (bus : BusUnit) (x : Hart) (base : Site) : Type 0 where
+pub record Inside (R : Tells → Tells → Type 0) (F : ℕ → ℕ → Tells → Tells → AccessFault → Type 0) (Q : Memory → Type 0) (address h : ℕ) (bus : BusUnit)
+    (x : Hart) (base : Site) : Type 0 where
   pub well : (first last : Tells) → StoodTold h bus x base x first.far → R first last → OkInside h bus x last.far
-  pub badly : (old_count new_count : ℕ) (first last : Tells) (e : AccessFault) → StoodTold h bus x base x first.far → F old_count new_count first last e → OnlyMemory address (FaultInside Q h bus x base last.far) e
+  pub badly : (old_count new_count : ℕ) (first last : Tells) (e : AccessFault) → StoodTold h bus x base x first.far → F old_count new_count first last e
+      → OnlyMemory address (FaultInside Q h bus x base last.far) e
 
-fault_back : (Q : Memory → Type 0) (x8 x9 h : ℕ) (bus : BusUnit) (x : Hart) (base : Site) (last new : Tells) → length x.core.x ≡ 32 → x8 ≡ x_of x.core 8 → x9 ≡ x_of x.core 9 → FaultInside Q h bus x base last.far → PutBack x8 x9 last new
+fault_back : (Q : Memory → Type 0) (x8 x9 h : ℕ) (bus : BusUnit) (x : Hart) (base : Site) (last new : Tells) → length x.core.x ≡ 32 → x8 ≡ x_of x.core 8
+    → x9 ≡ x_of x.core 9 → FaultInside Q h bus x base last.far → PutBack x8 x9 last new
     → Faulted Q h bus x base x new.far
 fault_back Q x8 x9 h bus x base last new all is8 is9 f p = record {
   before = f.fault.before;
   did = f.fault.did;
-  then = back_told x8 x9 f.p f.q h bus x (accessed (passed f.fault.before base).board.memory (passed f.fault.before base)) x last new all is8 is9 f.fault.then p;
+  then = back_told x8 x9 f.p f.q h bus x (accessed (passed f.fault.before base).board.memory (passed f.fault.before base)) x last new all is8 is9 f.fault.then
+      p;
 }
 
 pub lost_only : (address : ℕ) (G H : Type 0) (e : AccessFault) → (Recovers e → ⊥) → OnlyMemory address G e → OnlyMemory address H e
@@ -178,8 +194,10 @@ recovered address G access_fault.StillBusy r p = absurd r
 recovered address G (access_fault.Run why) r p = absurd r
 recovered address G (access_fault.Odd shown) r p = absurd r
 
-pub around_only : (R : Tells → Tells → Type 0) (F : ℕ → ℕ → Tells → Tells → AccessFault → Type 0) (Q : Memory → Type 0) (address h : ℕ) (bus : BusUnit) (x : Hart) (base : Site) (old_count new_count : ℕ) (old new : Tells) (e : AccessFault)
-    → length x.core.x ≡ 32 → x_of x.core 8 < 2 ^ 64 → x_of x.core 9 < 2 ^ 64 → Inside R F Q address h bus x base → StoodTold h bus x base x old.far → AroundFailed R F old_count new_count old new e
+pub around_only : (R : Tells → Tells → Type 0) (F : ℕ → ℕ → Tells → Tells → AccessFault → Type 0) (Q : Memory → Type 0) (address h : ℕ) (bus : BusUnit)
+    (x : Hart) (base : Site) (old_count new_count : ℕ) (old new : Tells) (e : AccessFault)
+    → length x.core.x ≡ 32 → x_of x.core 8 < 2 ^ 64 → x_of x.core 9 < 2 ^ 64 → Inside R F Q address h bus x base → StoodTold h bus x base x old.far
+        → AroundFailed R F old_count new_count old new e
     → OnlyMemory address (Faulted Q h bus x base x new.far) e
 around_only R F Q address h bus x base old_count new_count old new e all fits8 fits9 i st (in_save f) =
     clean_only address (Faulted Q h bus x base x new.far) e (save_clean h bus x base x old_count new_count old new e st f)
@@ -188,13 +206,18 @@ around_only R F Q address h bus x base old_count new_count old new e all fits8 f
     lost_only address (FaultInside Q h bus x base new.far) (Faulted Q h bus x base x new.far) e loses (i.badly old_count new_count first new e sv.then f)
 around_only R F Q address h bus x base old_count new_count old new e all fits8 fits9 i st (behind x8 x9 first last was_count is_count saved f recovers back) =
     let sv : SavedTold x8 x9 h bus x base x first.far = saved_told x8 x9 h bus x base x old first st saved in
-    only_map address (FaultInside Q h bus x base last.far) (Faulted Q h bus x base x new.far) e (λ g. fault_back Q x8 x9 h bus x base last new all (sv.x8_is fits8) (sv.x9_is fits9) g back) (i.badly was_count is_count first last e sv.then f)
+    only_map address (FaultInside Q h bus x base last.far) (Faulted Q h bus x base x new.far) e
+        (λ g. fault_back Q x8 x9 h bus x base last new all (sv.x8_is fits8) (sv.x9_is fits9) g back) (i.badly was_count is_count first last e sv.then f)
 around_only R F Q address h bus x base old_count new_count old new e all fits8 fits9 i st (in_restore x8 x9 first last saved r f) =
     let sv : SavedTold x8 x9 h bus x base x first.far = saved_told x8 x9 h bus x base x old first st saved in
     let ok : OkInside h bus x last.far = i.well first last sv.then r in
-    clean_only address (Faulted Q h bus x base x new.far) e (put_back_clean x8 x9 h bus (scratched ok.p ok.q x) ok.base x old_count new_count last new e ok.then f)
-around_only R F Q address h bus x base old_count new_count old new e all fits8 fits9 i st (in_restore_behind x8 x9 first last was_count is_count was saved f recovers back) =
-    let sv : SavedTold x8 x9 h bus x base x first.far = saved_told x8 x9 h bus x base x old first st saved in
-    let g : FaultInside Q h bus x base last.far = recovered address (FaultInside Q h bus x base last.far) was recovers (i.badly was_count is_count first last was sv.then f) in
     clean_only address (Faulted Q h bus x base x new.far) e
-    (put_back_clean x8 x9 h bus (scratched g.p g.q x) (accessed (passed g.fault.before base).board.memory (passed g.fault.before base)) x old_count new_count last new e g.fault.then back)
+        (put_back_clean x8 x9 h bus (scratched ok.p ok.q x) ok.base x old_count new_count last new e ok.then f)
+around_only R F Q address h bus x base old_count new_count old new e all fits8 fits9 i st
+    (in_restore_behind x8 x9 first last was_count is_count was saved f recovers back) =
+    let sv : SavedTold x8 x9 h bus x base x first.far = saved_told x8 x9 h bus x base x old first st saved in
+    let g : FaultInside Q h bus x base last.far =
+        recovered address (FaultInside Q h bus x base last.far) was recovers (i.badly was_count is_count first last was sv.then f) in
+    clean_only address (Faulted Q h bus x base x new.far) e
+    (put_back_clean x8 x9 h bus (scratched g.p g.q x) (accessed (passed g.fault.before base).board.memory (passed g.fault.before base)) x old_count new_count
+        last new e g.fault.then back)

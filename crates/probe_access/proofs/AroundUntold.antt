@@ -21,7 +21,8 @@ PlainMemory address G access_fault.StillBusy = Unit {0}
 PlainMemory address G (access_fault.Run why) = ⊥
 PlainMemory address G (access_fault.Odd shown) = Unit {0}
 
-pub read_plain : (number address : ℕ) (G : Type 0) (old_count new_count : ℕ) (old new : Tells) (e : AccessFault) → ReadFailed number old_count new_count old new e → PlainMemory address G e
+pub read_plain : (number address : ℕ) (G : Type 0) (old_count new_count : ℕ) (old new : Tells) (e : AccessFault)
+    → ReadFailed number old_count new_count old new e → PlainMemory address G e
 read_plain number address G old_count new_count old new (access_fault.Dmi why) f = tt
 read_plain number address G old_count new_count old new (access_fault.Memory at) f = absurd f
 read_plain number address G old_count new_count old new (access_fault.Register asked) f = tt
@@ -29,7 +30,8 @@ read_plain number address G old_count new_count old new access_fault.StillBusy f
 read_plain number address G old_count new_count old new (access_fault.Run why) f = f
 read_plain number address G old_count new_count old new (access_fault.Odd shown) f = tt
 
-pub write_plain : (number value address : ℕ) (G : Type 0) (old_count new_count : ℕ) (old new : Tells) (e : AccessFault) → WriteFailed number value old_count new_count old new e → PlainMemory address G e
+pub write_plain : (number value address : ℕ) (G : Type 0) (old_count new_count : ℕ) (old new : Tells) (e : AccessFault)
+    → WriteFailed number value old_count new_count old new e → PlainMemory address G e
 write_plain number value address G old_count new_count old new (access_fault.Dmi why) f = tt
 write_plain number value address G old_count new_count old new (access_fault.Memory at) f = absurd f
 write_plain number value address G old_count new_count old new (access_fault.Register asked) f = tt
@@ -37,7 +39,8 @@ write_plain number value address G old_count new_count old new access_fault.Stil
 write_plain number value address G old_count new_count old new (access_fault.Run why) f = f
 write_plain number value address G old_count new_count old new (access_fault.Odd shown) f = tt
 
-command_plain : (front : List Act) (word address : ℕ) (G : Type 0) (old_count new_count : ℕ) (old new : Tells) (e : AccessFault) → CommandFailed front word old_count new_count old new e → PlainMemory address G e
+command_plain : (front : List Act) (word address : ℕ) (G : Type 0) (old_count new_count : ℕ) (old new : Tells) (e : AccessFault)
+    → CommandFailed front word old_count new_count old new e → PlainMemory address G e
 command_plain front word address G old_count new_count old new (access_fault.Dmi why) f = tt
 command_plain front word address G old_count new_count old new (access_fault.Memory at) f = absurd f
 command_plain front word address G old_count new_count old new (access_fault.Register asked) f = tt
@@ -45,15 +48,18 @@ command_plain front word address G old_count new_count old new access_fault.Stil
 command_plain front word address G old_count new_count old new (access_fault.Run why) f = f
 command_plain front word address G old_count new_count old new (access_fault.Odd shown) f = tt
 
-pub save_plain : (address : ℕ) (G : Type 0) (old_count new_count : ℕ) (old new : Tells) (e : AccessFault) → SaveFailed old_count new_count old new e → PlainMemory address G e
+pub save_plain : (address : ℕ) (G : Type 0) (old_count new_count : ℕ) (old new : Tells) (e : AccessFault) → SaveFailed old_count new_count old new e
+    → PlainMemory address G e
 save_plain address G old_count new_count old new e (save_x8 f) = read_plain x8_number address G old_count new_count old new e f
 save_plain address G old_count new_count old new e (save_x9 x8 mid r f) = read_plain x9_number address G old_count new_count mid new e f
 
-pub put_back_plain : (x8 x9 address : ℕ) (G : Type 0) (old_count new_count : ℕ) (old new : Tells) (e : AccessFault) → PutBackFailed x8 x9 old_count new_count old new e → PlainMemory address G e
+pub put_back_plain : (x8 x9 address : ℕ) (G : Type 0) (old_count new_count : ℕ) (old new : Tells) (e : AccessFault)
+    → PutBackFailed x8 x9 old_count new_count old new e → PlainMemory address G e
 put_back_plain x8 x9 address G old_count new_count old new e (put_x8 f) = write_plain x8_number x8 address G old_count new_count old new e f
 put_back_plain x8 x9 address G old_count new_count old new e (put_x9 mid r f) = write_plain x9_number x9 address G old_count new_count mid new e f
 
-pub perform_plain : (word address old_count new_count : ℕ) (old new : Tells) (e : AccessFault) → old.far ≡ None → PerformFailed word address old_count new_count old new e → PlainMemory address (new.far ≡ None) e
+pub perform_plain : (word address old_count new_count : ℕ) (old new : Tells) (e : AccessFault) → old.far ≡ None
+    → PerformFailed word address old_count new_count old new e → PlainMemory address (new.far ≡ None) e
 perform_plain word address old_count new_count old new _ none (in_run e f) =
     command_plain (program_set word address) program_word address (new.far ≡ None) old_count new_count old new e f
 perform_plain word address old_count new_count old new _ none (faulted p) = (refl, performed_untold word address 3 old new p none)
@@ -69,13 +75,19 @@ plain_map address G H (access_fault.Odd shown) f p = tt
 
 -- what an access is made of
 pub record InsideUntold (R : Tells → Tells → Type 0) (F : ℕ → ℕ → Tells → Tells → AccessFault → Type 0) (address : ℕ) : Type 0 where
-  pub badly : (old_count new_count : ℕ) (first last : Tells) (e : AccessFault) → first.far ≡ None → F old_count new_count first last e → PlainMemory address (last.far ≡ None) e
+  pub badly : (old_count new_count : ℕ) (first last : Tells) (e : AccessFault) → first.far ≡ None → F old_count new_count first last e
+      → PlainMemory address (last.far ≡ None) e
 
-pub around_plain : (R : Tells → Tells → Type 0) (F : ℕ → ℕ → Tells → Tells → AccessFault → Type 0) (address old_count new_count : ℕ) (old new : Tells) (e : AccessFault) → InsideUntold R F address → old.far ≡ None
+pub around_plain : (R : Tells → Tells → Type 0) (F : ℕ → ℕ → Tells → Tells → AccessFault → Type 0) (address old_count new_count : ℕ) (old new : Tells)
+    (e : AccessFault) → InsideUntold R F address → old.far ≡ None
     → AroundFailed R F old_count new_count old new e → PlainMemory address (new.far ≡ None) e
 around_plain R F address old_count new_count old new e i none (in_save f) = save_plain address (new.far ≡ None) old_count new_count old new e f
-around_plain R F address old_count new_count old new e i none (inside x8 x9 first saved f loses) = i.badly old_count new_count first new e (saved_untold x8 x9 old first saved none) f
+around_plain R F address old_count new_count old new e i none (inside x8 x9 first saved f loses) =
+    i.badly old_count new_count first new e (saved_untold x8 x9 old first saved none) f
 around_plain R F address old_count new_count old new e i none (behind x8 x9 first last was_count is_count saved f recovers back) =
-    plain_map address (last.far ≡ None) (new.far ≡ None) e (λ n. back_untold x8 x9 last new back n) (i.badly was_count is_count first last e (saved_untold x8 x9 old first saved none) f)
-around_plain R F address old_count new_count old new e i none (in_restore x8 x9 first last saved r f) = put_back_plain x8 x9 address (new.far ≡ None) old_count new_count last new e f
-around_plain R F address old_count new_count old new e i none (in_restore_behind x8 x9 first last was_count is_count was saved f recovers back) = put_back_plain x8 x9 address (new.far ≡ None) old_count new_count last new e back
+    plain_map address (last.far ≡ None) (new.far ≡ None) e (λ n. back_untold x8 x9 last new back n)
+        (i.badly was_count is_count first last e (saved_untold x8 x9 old first saved none) f)
+around_plain R F address old_count new_count old new e i none (in_restore x8 x9 first last saved r f) =
+    put_back_plain x8 x9 address (new.far ≡ None) old_count new_count last new e f
+around_plain R F address old_count new_count old new e i none (in_restore_behind x8 x9 first last was_count is_count was saved f recovers back) =
+    put_back_plain x8 x9 address (new.far ≡ None) old_count new_count last new e back

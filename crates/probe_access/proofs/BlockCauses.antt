@@ -77,15 +77,18 @@ performed_calls : (word address error : ℕ) (a b : Tells) → Performed word ad
 performed_calls word address error a b p = calls _ a b p.ran.did
 
 stored_calls : (size : Size) (address value : ℕ) (a b : Tells) → StoredInside size address value a b → Calls a b
-stored_calls size address value a b l = calls_then a l.mid b (written_calls x9_number value a l.mid l.x9) (performed_calls (store_word size) address 0 l.mid b l.performed)
+stored_calls size address value a b l = calls_then a l.mid b (written_calls x9_number value a l.mid l.x9)
+    (performed_calls (store_word size) address 0 l.mid b l.performed)
 
 -- ---- a fault behind more calls
 
 behind_list : (xs front rest : List Act) (y : Act) (a c : Tells) → Did a (xs ++ (front ++ y ∷ rest)) c → Did a ((xs ++ front) ++ y ∷ rest) c
 behind_list xs front rest y a c did = did_list (xs ++ (front ++ y ∷ rest)) ((xs ++ front) ++ y ∷ rest) a c (sym (append_assoc xs front (y ∷ rest))) did
 
-pub causes_behind : (a b c : Tells) → Calls a b → (count mid_count new_count : ℕ) (e : AccessFault) → count ≤ mid_count → mid_count ≤ new_count → Causes mid_count new_count b c e → Causes count new_count a c e
-causes_behind a b c p count mid_count new_count (access_fault.Dmi why) le later f = (p.acts ++ f.0, f.1, broke_then p.acts a b p.did f.0 f.1 count mid_count new_count c.far why le later f.2)
+pub causes_behind : (a b c : Tells) → Calls a b → (count mid_count new_count : ℕ) (e : AccessFault) → count ≤ mid_count → mid_count ≤ new_count
+    → Causes mid_count new_count b c e → Causes count new_count a c e
+causes_behind a b c p count mid_count new_count (access_fault.Dmi why) le later f =
+    (p.acts ++ f.0, f.1, broke_then p.acts a b p.did f.0 f.1 count mid_count new_count c.far why le later f.2)
 causes_behind a b c p count mid_count new_count (access_fault.Memory address) le later f = record {
   front = p.acts ++ f.front;
   last = f.last;
@@ -111,7 +114,8 @@ causes_behind a b c p count mid_count new_count access_fault.StillBusy le later 
     words = f.busy.words;
     busy = f.busy.busy;
     all = f.busy.all;
-    did = did_list (p.acts ++ (f.front ++ map poll_act f.busy.words)) ((p.acts ++ f.front) ++ map poll_act f.busy.words) a c (sym (append_assoc p.acts f.front (map poll_act f.busy.words)))
+    did = did_list (p.acts ++ (f.front ++ map poll_act f.busy.words)) ((p.acts ++ f.front) ++ map poll_act f.busy.words) a c
+        (sym (append_assoc p.acts f.front (map poll_act f.busy.words)))
         (did_then p.acts a b p.did (f.front ++ map poll_act f.busy.words) c f.busy.did);
   };
 }
@@ -128,7 +132,8 @@ causes_behind a b c p count mid_count new_count (access_fault.Odd shown) le late
 }
 
 -- a fault behind which calls went on
-causes_then : (a b c : Tells) (was_count is_count count new_count : ℕ) (e : AccessFault) → Causes was_count is_count a b e → Recovers e → Calls b c → Causes count new_count a c e
+causes_then : (a b c : Tells) (was_count is_count count new_count : ℕ) (e : AccessFault) → Causes was_count is_count a b e → Recovers e → Calls b c
+    → Causes count new_count a c e
 causes_then a b c was_count is_count count new_count (access_fault.Dmi why) f r q = absurd r
 causes_then a b c was_count is_count count new_count (access_fault.Memory address) f r q = record {
   front = f.front;
@@ -136,7 +141,8 @@ causes_then a b c was_count is_count count new_count (access_fault.Memory addres
   rest = f.rest ++ q.acts;
   idle = f.idle;
   error_is = f.error_is;
-  did = did_list ((f.front ++ poll_act f.last ∷ f.rest) ++ q.acts) (f.front ++ poll_act f.last ∷ (f.rest ++ q.acts)) a c (append_assoc f.front (poll_act f.last ∷ f.rest) q.acts)
+  did = did_list ((f.front ++ poll_act f.last ∷ f.rest) ++ q.acts) (f.front ++ poll_act f.last ∷ (f.rest ++ q.acts)) a c
+      (append_assoc f.front (poll_act f.last ∷ f.rest) q.acts)
       (did_then (f.front ++ poll_act f.last ∷ f.rest) a b f.did q.acts c q.did);
 }
 causes_then a b c was_count is_count count new_count (access_fault.Register number) f r q =
@@ -150,8 +156,10 @@ causes_then a b c was_count is_count count new_count (access_fault.Register numb
       rest = f.rest ++ q.acts;
       idle = f.idle;
       error_is = f.error_is;
-      did = did_list ((f.front ++ command ∷ (polls ++ poll_act f.last ∷ f.rest)) ++ q.acts) (f.front ++ command ∷ (polls ++ poll_act f.last ∷ (f.rest ++ q.acts))) a c
-          (append_assoc f.front (command ∷ (polls ++ poll_act f.last ∷ f.rest)) q.acts ∙ ap (λ xs. f.front ++ command ∷ xs) (append_assoc polls (poll_act f.last ∷ f.rest) q.acts))
+      did = did_list ((f.front ++ command ∷ (polls ++ poll_act f.last ∷ f.rest)) ++ q.acts)
+          (f.front ++ command ∷ (polls ++ poll_act f.last ∷ (f.rest ++ q.acts))) a c
+          (append_assoc f.front (command ∷ (polls ++ poll_act f.last ∷ f.rest)) q.acts
+              ∙ ap (λ xs. f.front ++ command ∷ xs) (append_assoc polls (poll_act f.last ∷ f.rest) q.acts))
           (did_then (f.front ++ command ∷ (polls ++ poll_act f.last ∷ f.rest)) a b f.did q.acts c q.did);
     }
 causes_then a b c was_count is_count count new_count access_fault.StillBusy f r q = absurd r
@@ -169,7 +177,8 @@ causes_calls a b was_count is_count (access_fault.Odd shown) f r = absurd r
 
 -- ---- of each part
 
-command_causes : (front : List Act) (word old_count new_count : ℕ) (a b : Tells) (e : AccessFault) → CommandFailed front word old_count new_count a b e → Causes old_count new_count a b e
+command_causes : (front : List Act) (word old_count new_count : ℕ) (a b : Tells) (e : AccessFault) → CommandFailed front word old_count new_count a b e
+    → Causes old_count new_count a b e
 command_causes front word old_count new_count a b (access_fault.Dmi why) f = (f.acts, f.failed, f.broke)
 command_causes front word old_count new_count a b (access_fault.Memory address) f = absurd f
 command_causes front word old_count new_count a b (access_fault.Register number) f = absurd f
@@ -181,7 +190,8 @@ command_causes front word old_count new_count a b (access_fault.Odd shown) f = a
 polled_did : (front : List Act) (word last : ℕ) (a b : Tells) → (r : RanCommand front word last a b)
     → Did a ((front ++ Put command_address word ∷ map poll_act r.words) ++ poll_act last ∷ clearing (error_shown last)) b
 polled_did front word last a b r =
-    did_list (command_acts front word r.words last) ((front ++ Put command_address word ∷ map poll_act r.words) ++ poll_act last ∷ clearing (error_shown last)) a b
+    did_list (command_acts front word r.words last) ((front ++ Put command_address word ∷ map poll_act r.words) ++ poll_act last ∷ clearing (error_shown last))
+        a b
     (sym (append_assoc front (Put command_address word ∷ map poll_act r.words) (poll_act last ∷ clearing (error_shown last)))) r.did
 
 ran_oddly : (front : List Act) (word : ℕ) (shown : OddStatus) (a b : Tells) → RanOddly front word shown a b → ReportedOddly shown a b
@@ -206,7 +216,8 @@ ran_reported front word error a b r = record {
   did = polled_did front word r.last a b r.ran;
 }
 
-ran_denied : (front : List Act) (write : Bool) (number asked : ℕ) (a b : Tells) → asked ≡ number → RanTo front (transfer_word write number) 3 a b → Denied asked a b
+ran_denied : (front : List Act) (write : Bool) (number asked : ℕ) (a b : Tells) → asked ≡ number → RanTo front (transfer_word write number) 3 a b
+    → Denied asked a b
 ran_denied front write number asked a b same r = subst (λ n. Denied n a b) (sym same) (record {
   front = front;
   write = write;
@@ -244,28 +255,38 @@ no_link count new_count (access_fault.Run why) r = tt
 no_link count new_count (access_fault.Odd shown) r = tt
 
 -- behind calls in this same call
-causes_same : (a b c : Tells) → Calls a b → (count new_count : ℕ) (e : AccessFault) → LinkLater count new_count e → Causes count new_count b c e → Causes count new_count a c e
+causes_same : (a b c : Tells) → Calls a b → (count new_count : ℕ) (e : AccessFault) → LinkLater count new_count e → Causes count new_count b c e
+    → Causes count new_count a c e
 causes_same a b c p count new_count (access_fault.Dmi why) later f = causes_behind a b c p count count new_count (access_fault.Dmi why) (omega arith) later f
-causes_same a b c p count new_count (access_fault.Memory address) later f = causes_behind a b c p 0 0 0 (access_fault.Memory address) (omega arith) (omega arith) f
-causes_same a b c p count new_count (access_fault.Register number) later f = causes_behind a b c p 0 0 0 (access_fault.Register number) (omega arith) (omega arith) f
+causes_same a b c p count new_count (access_fault.Memory address) later f =
+    causes_behind a b c p 0 0 0 (access_fault.Memory address) (omega arith) (omega arith) f
+causes_same a b c p count new_count (access_fault.Register number) later f =
+    causes_behind a b c p 0 0 0 (access_fault.Register number) (omega arith) (omega arith) f
 causes_same a b c p count new_count access_fault.StillBusy later f = causes_behind a b c p 0 0 0 access_fault.StillBusy (omega arith) (omega arith) f
 causes_same a b c p count new_count (access_fault.Run why) later f = f
 causes_same a b c p count new_count (access_fault.Odd shown) later f = causes_behind a b c p 0 0 0 (access_fault.Odd shown) (omega arith) (omega arith) f
 
-read_at_causes : (number count new_count : ℕ) (a b : Tells) (why : DmiFault) → count ≤ new_count → ReadFailedAt number count new_count a b (access_fault.Dmi why) → Causes count new_count a b (access_fault.Dmi why)
-read_at_causes number count new_count a b why later (read_in_command _ f) = command_causes [] (transfer_word false number) count new_count a b (access_fault.Dmi why) f
-read_at_causes number count new_count a b why later (read_in_words mid ran _ f) = causes_same a mid b (calls _ a mid ran.ran.did) count new_count (access_fault.Dmi why) later (f.acts, f.failed, f.broke)
+read_at_causes : (number count new_count : ℕ) (a b : Tells) (why : DmiFault) → count ≤ new_count
+    → ReadFailedAt number count new_count a b (access_fault.Dmi why) → Causes count new_count a b (access_fault.Dmi why)
+read_at_causes number count new_count a b why later (read_in_command _ f) =
+    command_causes [] (transfer_word false number) count new_count a b (access_fault.Dmi why) f
+read_at_causes number count new_count a b why later (read_in_words mid ran _ f) =
+    causes_same a mid b (calls _ a mid ran.ran.did) count new_count (access_fault.Dmi why) later (f.acts, f.failed, f.broke)
 
-read_causes : (number count new_count : ℕ) (a b : Tells) (e : AccessFault) → LinkLater count new_count e → ReadFailed number count new_count a b e → Causes count new_count a b e
+read_causes : (number count new_count : ℕ) (a b : Tells) (e : AccessFault) → LinkLater count new_count e → ReadFailed number count new_count a b e
+    → Causes count new_count a b e
 read_causes number count new_count a b (access_fault.Dmi why) later f = read_at_causes number count new_count a b why later f
 read_causes number count new_count a b (access_fault.Memory address) later f = absurd f
 read_causes number count new_count a b (access_fault.Register asked) later f = ran_denied [] false number asked a b f.same f.ran
 read_causes number count new_count a b (access_fault.Run why) later f = f
-read_causes number count new_count a b access_fault.StillBusy later f = command_causes [] (transfer_word false number) count new_count a b access_fault.StillBusy f
+read_causes number count new_count a b access_fault.StillBusy later f =
+    command_causes [] (transfer_word false number) count new_count a b access_fault.StillBusy f
 read_causes number count new_count a b (access_fault.Odd shown) later f = ran_oddly [] (transfer_word false number) shown a b f
 
-write_causes : (number value count new_count : ℕ) (a b : Tells) (e : AccessFault) → LinkLater count new_count e → WriteFailed number value count new_count a b e → Causes count new_count a b e
-write_causes number value count new_count a b (access_fault.Dmi why) later f = command_causes (double_written value) (transfer_word true number) count new_count a b (access_fault.Dmi why) f
+write_causes : (number value count new_count : ℕ) (a b : Tells) (e : AccessFault) → LinkLater count new_count e
+    → WriteFailed number value count new_count a b e → Causes count new_count a b e
+write_causes number value count new_count a b (access_fault.Dmi why) later f =
+    command_causes (double_written value) (transfer_word true number) count new_count a b (access_fault.Dmi why) f
 write_causes number value count new_count a b (access_fault.Memory address) later f = absurd f
 write_causes number value count new_count a b (access_fault.Register asked) later f = ran_denied (double_written value) true number asked a b f.same f.ran
 write_causes number value count new_count a b (access_fault.Run why) later f = f
@@ -273,23 +294,30 @@ write_causes number value count new_count a b access_fault.StillBusy later f =
     command_causes (double_written value) (transfer_word true number) count new_count a b access_fault.StillBusy f
 write_causes number value count new_count a b (access_fault.Odd shown) later f = ran_oddly (double_written value) (transfer_word true number) shown a b f
 
-perform_causes : (word address count new_count : ℕ) (a b : Tells) (e : AccessFault) → LinkLater count new_count e → PerformFailed word address count new_count a b e → Causes count new_count a b e
+perform_causes : (word address count new_count : ℕ) (a b : Tells) (e : AccessFault) → LinkLater count new_count e
+    → PerformFailed word address count new_count a b e → Causes count new_count a b e
 perform_causes word address count new_count a b _ later (in_run e f) = command_causes (program_set word address) program_word count new_count a b e f
 perform_causes word address count new_count a b _ later (faulted p) = ran_reported (program_set word address) program_word 3 a b p
 perform_causes word address count new_count a b _ later (oddly shown ran) = ran_oddly (program_set word address) program_word shown a b ran
 
-pub store_causes : (size : Size) (address value count new_count : ℕ) (a b : Tells) (e : AccessFault) → LinkLater count new_count e → StoreFailedInside size address value count new_count a b e → Causes count new_count a b e
+pub store_causes : (size : Size) (address value count new_count : ℕ) (a b : Tells) (e : AccessFault) → LinkLater count new_count e
+    → StoreFailedInside size address value count new_count a b e → Causes count new_count a b e
 store_causes size address value count new_count a b e later (store_writing f) = write_causes x9_number value count new_count a b e later f
 store_causes size address value count new_count a b e later (store_performing mid w f) =
-    causes_same a mid b (written_calls x9_number value a mid w) count new_count e later (perform_causes (store_word size) address count new_count mid b e later f)
+    causes_same a mid b (written_calls x9_number value a mid w) count new_count e later
+        (perform_causes (store_word size) address count new_count mid b e later f)
 
-save_causes : (count new_count : ℕ) (a b : Tells) (e : AccessFault) → LinkLater count new_count e → SaveFailed count new_count a b e → Causes count new_count a b e
+save_causes : (count new_count : ℕ) (a b : Tells) (e : AccessFault) → LinkLater count new_count e → SaveFailed count new_count a b e
+    → Causes count new_count a b e
 save_causes count new_count a b e later (save_x8 f) = read_causes x8_number count new_count a b e later f
-save_causes count new_count a b e later (save_x9 x8 mid r f) = causes_same a mid b (read_calls x8_number x8 a mid r) count new_count e later (read_causes x9_number count new_count mid b e later f)
+save_causes count new_count a b e later (save_x9 x8 mid r f) =
+    causes_same a mid b (read_calls x8_number x8 a mid r) count new_count e later (read_causes x9_number count new_count mid b e later f)
 
-back_causes : (x8 x9 count new_count : ℕ) (a b : Tells) (e : AccessFault) → LinkLater count new_count e → PutBackFailed x8 x9 count new_count a b e → Causes count new_count a b e
+back_causes : (x8 x9 count new_count : ℕ) (a b : Tells) (e : AccessFault) → LinkLater count new_count e → PutBackFailed x8 x9 count new_count a b e
+    → Causes count new_count a b e
 back_causes x8 x9 count new_count a b e later (put_x8 f) = write_causes x8_number x8 count new_count a b e later f
-back_causes x8 x9 count new_count a b e later (put_x9 mid w f) = causes_same a mid b (written_calls x8_number x8 a mid w) count new_count e later (write_causes x9_number x9 count new_count mid b e later f)
+back_causes x8 x9 count new_count a b e later (put_x9 mid w f) =
+    causes_same a mid b (written_calls x8_number x8 a mid w) count new_count e later (write_causes x9_number x9 count new_count mid b e later f)
 
 -- ---- of a whole access
 
@@ -297,33 +325,44 @@ pub record InsideCauses (R : Tells → Tells → Type 0) (F : ℕ → ℕ → Te
   pub went : (a b : Tells) → R a b → Calls a b
   pub failed : (count new_count : ℕ) (a b : Tells) (e : AccessFault) → LinkLater count new_count e → F count new_count a b e → Causes count new_count a b e
 
-pub around_causes : (R : Tells → Tells → Type 0) (F : ℕ → ℕ → Tells → Tells → AccessFault → Type 0) (count new_count : ℕ) (a b : Tells) (e : AccessFault) → InsideCauses R F → LinkLater count new_count e → AroundFailed R F count new_count a b e
+pub around_causes : (R : Tells → Tells → Type 0) (F : ℕ → ℕ → Tells → Tells → AccessFault → Type 0) (count new_count : ℕ) (a b : Tells) (e : AccessFault)
+    → InsideCauses R F → LinkLater count new_count e → AroundFailed R F count new_count a b e
     → Causes count new_count a b e
 around_causes R F count new_count a b e i later (in_save f) = save_causes count new_count a b e later f
-around_causes R F count new_count a b e i later (inside x8 x9 first saved f lost) = causes_same a first b (saved_calls x8 x9 a first saved) count new_count e later (i.failed count new_count first b e later f)
+around_causes R F count new_count a b e i later (inside x8 x9 first saved f lost) =
+    causes_same a first b (saved_calls x8 x9 a first saved) count new_count e later (i.failed count new_count first b e later f)
 around_causes R F count new_count a b e i later (behind x8 x9 first last was_count is_count saved f recovers back) =
     causes_same a first b (saved_calls x8 x9 a first saved) count new_count e later
-    (causes_then first last b was_count is_count count new_count e (i.failed was_count is_count first last e (no_link was_count is_count e recovers) f) recovers (back_calls x8 x9 last b back))
+    (causes_then first last b was_count is_count count new_count e (i.failed was_count is_count first last e (no_link was_count is_count e recovers) f)
+        recovers (back_calls x8 x9 last b back))
 around_causes R F count new_count a b e i later (in_restore x8 x9 first last saved r f) =
-    causes_same a last b (calls_then a first last (saved_calls x8 x9 a first saved) (i.went first last r)) count new_count e later (back_causes x8 x9 count new_count last b e later f)
+    causes_same a last b (calls_then a first last (saved_calls x8 x9 a first saved) (i.went first last r)) count new_count e later
+        (back_causes x8 x9 count new_count last b e later f)
 around_causes R F count new_count a b e i later (in_restore_behind x8 x9 first last was_count is_count was saved f recovers g) =
     causes_same a last b
-    (calls_then a first last (saved_calls x8 x9 a first saved) (causes_calls first last was_count is_count was (i.failed was_count is_count first last was (no_link was_count is_count was recovers) f) recovers)) count new_count e later
+    (calls_then a first last (saved_calls x8 x9 a first saved)
+        (causes_calls first last was_count is_count was (i.failed was_count is_count first last was (no_link was_count is_count was recovers) f) recovers))
+        count new_count e later
     (back_causes x8 x9 count new_count last b e later g)
 
-pub load_causes : (size : Size) (address count new_count : ℕ) (a b : Tells) (e : AccessFault) → LinkLater count new_count e → LoadRunFailed size address count new_count a b e → Causes count new_count a b e
+pub load_causes : (size : Size) (address count new_count : ℕ) (a b : Tells) (e : AccessFault) → LinkLater count new_count e
+    → LoadRunFailed size address count new_count a b e → Causes count new_count a b e
 load_causes size address count new_count a b _ later (load_saving e f) = read_causes x8_number count new_count a b e later f
 load_causes size address count new_count a b _ later (load_performing e x8 first saved f loses) =
-    causes_same a first b (read_calls x8_number x8 a first saved) count new_count e later (perform_causes (load_word size) address count new_count first b e later f)
+    causes_same a first b (read_calls x8_number x8 a first saved) count new_count e later
+        (perform_causes (load_word size) address count new_count first b e later f)
 load_causes size address count new_count a b _ later (load_refused x8 first last saved p back) =
     causes_same a first b (read_calls x8_number x8 a first saved) count new_count (access_fault.Memory address) later
-    (causes_then first last b count new_count count new_count (access_fault.Memory address) (ran_reported (program_set (load_word size) address) program_word 3 first last p) tt
+    (causes_then first last b count new_count count new_count (access_fault.Memory address)
+        (ran_reported (program_set (load_word size) address) program_word 3 first last p) tt
     (written_calls x8_number x8 last b back))
 load_causes size address count new_count a b _ later (load_restoring_behind e x8 first last saved p back) =
-    causes_same a last b (calls_then a first last (read_calls x8_number x8 a first saved) (performed_calls (load_word size) address 3 first last p)) count new_count e later
+    causes_same a last b (calls_then a first last (read_calls x8_number x8 a first saved) (performed_calls (load_word size) address 3 first last p)) count
+        new_count e later
     (write_causes x8_number x8 count new_count last b e later back)
 load_causes size address count new_count a b _ later (load_taking e x8 first mid saved p f) =
-    causes_same a mid b (calls_then a first mid (read_calls x8_number x8 a first saved) (performed_calls (load_word size) address 0 first mid p)) count new_count e later
+    causes_same a mid b (calls_then a first mid (read_calls x8_number x8 a first saved) (performed_calls (load_word size) address 0 first mid p)) count
+        new_count e later
     (read_causes x8_number count new_count mid b e later f)
 load_causes size address count new_count a b _ later (load_restoring e x8 value first mid last saved p taken f) =
     causes_same a last b
@@ -331,57 +370,74 @@ load_causes size address count new_count a b _ later (load_restoring e x8 value 
     (read_calls x8_number value mid last taken)) count new_count e later (write_causes x8_number x8 count new_count last b e later f)
 
 pub store_inside_causes : (size : Size) (address value : ℕ) → InsideCauses (StoredInside size address value) (StoreFailedInside size address value)
-store_inside_causes size address value = record { went = λ a b r. stored_calls size address value a b r; failed = λ count new_count a b e later f. store_causes size address value count new_count a b e later f }
+store_inside_causes size address value =
+    record { went = λ a b r. stored_calls size address value a b r; failed =
+    λ count new_count a b e later f. store_causes size address value count new_count a b e later f }
 
 pub store_around_calls : (size : Size) (address value : ℕ) (a b : Tells) → Around (StoredInside size address value) a b → Calls a b
 store_around_calls size address value a b r =
-    calls_then a r.first b (saved_calls r.x8 r.x9 a r.first r.saved) (calls_then r.first r.last b (stored_calls size address value r.first r.last r.inside) (back_calls r.x8 r.x9 r.last b r.put_back))
+    calls_then a r.first b (saved_calls r.x8 r.x9 a r.first r.saved)
+        (calls_then r.first r.last b (stored_calls size address value r.first r.last r.inside) (back_calls r.x8 r.x9 r.last b r.put_back))
 
 -- ---- what was read
 
 more_fetched : (values : List ℕ) (acts more : List Act) → Fetches values acts → Fetches values (acts ++ more)
 more_fetched _ _ more (none_fetched acts) = none_fetched (acts ++ more)
 more_fetched _ _ more (fetched_further values front rest words last low high before idle fine read) =
-    subst (λ xs. Fetches (values ++ joined low high ∷ []) xs) (sym (append_assoc front (poll_act last ∷ (words ++ rest)) more ∙ ap (λ xs. front ++ poll_act last ∷ xs) (append_assoc words rest more)))
+    subst (λ xs. Fetches (values ++ joined low high ∷ []) xs)
+        (sym (append_assoc front (poll_act last ∷ (words ++ rest)) more ∙ ap (λ xs. front ++ poll_act last ∷ xs) (append_assoc words rest more)))
     (fetched_further values front (rest ++ more) words last low high before idle fine read)
 
 pub fetched_none : (told : Tells) → Fetched [] told told
 fetched_none told = record { acts = []; did = nothing; fetches = none_fetched [] }
 
 -- the poll in front of the words of a register that was read
-register_fetched : (number value : ℕ) (values : List ℕ) (old mid new : Tells) → Fetched values old mid → RegisterRead number value mid new → Fetched (values ++ value ∷ []) old new
+register_fetched : (number value : ℕ) (values : List ℕ) (old mid new : Tells) → Fetched values old mid → RegisterRead number value mid new
+    → Fetched (values ++ value ∷ []) old new
 register_fetched number value values old mid new f r =
     let last : ℕ = r.ran.last in
     let polls : List Act = Put command_address (transfer_word false number) ∷ map poll_act r.ran.ran.words in
     let words : List Act = Got data0_address r.words.low ∷ Got data1_address r.words.high ∷ [] in
     let none : [] ≡ clearing (error_shown last) = none_cleared (error_shown last) r.ran.error_is in
-    let command : Did mid (polls ++ poll_act last ∷ []) r.mid = did_list (command_acts [] (transfer_word false number) r.ran.ran.words last) (polls ++ poll_act last ∷ []) mid r.mid (ap (λ cs. polls ++ poll_act last ∷ cs) (sym none)) r.ran.ran.did in
+    let command : Did mid (polls ++ poll_act last ∷ []) r.mid =
+        did_list (command_acts [] (transfer_word false number) r.ran.ran.words last) (polls ++ poll_act last ∷ []) mid r.mid
+        (ap (λ cs. polls ++ poll_act last ∷ cs) (sym none)) r.ran.ran.did in
     let both : Did mid ((polls ++ poll_act last ∷ []) ++ words) new = did_then (polls ++ poll_act last ∷ []) mid r.mid command words new r.words.did in
-    let shaped : Did mid (polls ++ poll_act last ∷ (words ++ [])) new = did_list ((polls ++ poll_act last ∷ []) ++ words) (polls ++ poll_act last ∷ (words ++ [])) mid new (append_assoc polls (poll_act last ∷ []) words) both in
-    let all : Did old (f.acts ++ (polls ++ poll_act last ∷ (words ++ []))) new = did_then f.acts old mid f.did (polls ++ poll_act last ∷ (words ++ [])) new shaped in
+    let shaped : Did mid (polls ++ poll_act last ∷ (words ++ [])) new =
+        did_list ((polls ++ poll_act last ∷ []) ++ words) (polls ++ poll_act last ∷ (words ++ [])) mid new (append_assoc polls (poll_act last ∷ []) words) both
+        in
+    let all : Did old (f.acts ++ (polls ++ poll_act last ∷ (words ++ []))) new =
+        did_then f.acts old mid f.did (polls ++ poll_act last ∷ (words ++ [])) new shaped in
     record {
       acts = (f.acts ++ polls) ++ poll_act last ∷ (words ++ []);
-      did = did_list (f.acts ++ (polls ++ poll_act last ∷ (words ++ []))) ((f.acts ++ polls) ++ poll_act last ∷ (words ++ [])) old new (sym (append_assoc f.acts polls (poll_act last ∷ (words ++ [])))) all;
+      did = did_list (f.acts ++ (polls ++ poll_act last ∷ (words ++ []))) ((f.acts ++ polls) ++ poll_act last ∷ (words ++ [])) old new
+          (sym (append_assoc f.acts polls (poll_act last ∷ (words ++ [])))) all;
       fetches = subst (λ v. Fetches (values ++ v ∷ []) ((f.acts ++ polls) ++ poll_act last ∷ (words ++ []))) (sym r.words.is)
-          (fetched_further values (f.acts ++ polls) [] words last r.words.low r.words.high (more_fetched values f.acts polls f.fetches) r.ran.ran.idle r.ran.error_is lower_first);
+          (fetched_further values (f.acts ++ polls) [] words last r.words.low r.words.high (more_fetched values f.acts polls f.fetches) r.ran.ran.idle
+              r.ran.error_is lower_first);
     }
 
 fetched_calls : (values : List ℕ) (old mid new : Tells) → Fetched values old mid → Calls mid new → Fetched values old new
-fetched_calls values old mid new f p = record { acts = f.acts ++ p.acts; did = did_then f.acts old mid f.did p.acts new p.did; fetches = more_fetched values f.acts p.acts f.fetches }
+fetched_calls values old mid new f p = record { acts = f.acts ++ p.acts; did = did_then f.acts old mid f.did p.acts new p.did; fetches =
+    more_fetched values f.acts p.acts f.fetches }
 
-pub fetched_more : (size : Size) (address value : ℕ) (values : List ℕ) (old mid new : Tells) → Fetched values old mid → LoadRun size address value mid new → Fetched (values ++ value ∷ []) old new
+pub fetched_more : (size : Size) (address value : ℕ) (values : List ℕ) (old mid new : Tells) → Fetched values old mid → LoadRun size address value mid new
+    → Fetched (values ++ value ∷ []) old new
 fetched_more size address value values old mid new f r =
     let at : Fetched values old r.mid = fetched_calls values old mid r.mid f
     (calls_then mid r.first r.mid (read_calls x8_number r.x8 mid r.first r.saved) (performed_calls (load_word size) address 0 r.first r.mid r.performed)) in
-    fetched_calls (values ++ value ∷ []) old r.last new (register_fetched x8_number value values old r.mid r.last at r.taken) (written_calls x8_number r.x8 r.last new r.put_back)
+    fetched_calls (values ++ value ∷ []) old r.last new (register_fetched x8_number value values old r.mid r.last at r.taken)
+        (written_calls x8_number r.x8 r.last new r.put_back)
 
 pub fetched_made : (values : List ℕ) (old new : Tells) → Fetched values old new → Calls old new
 fetched_made values old new f = calls f.acts old new f.did
 
 -- behind a fault of memory it is known still
-pub fetched_behind : (values : List ℕ) (old mid new : Tells) (old_count new_count : ℕ) (e : AccessFault) → Fetched values old mid → Causes old_count new_count mid new e → IfMemory (Fetched values old new) e
+pub fetched_behind : (values : List ℕ) (old mid new : Tells) (old_count new_count : ℕ) (e : AccessFault) → Fetched values old mid
+    → Causes old_count new_count mid new e → IfMemory (Fetched values old new) e
 fetched_behind values old mid new old_count new_count (access_fault.Dmi why) f c = tt
-fetched_behind values old mid new old_count new_count (access_fault.Memory address) f c = fetched_calls values old mid new f (calls (c.front ++ poll_act c.last ∷ c.rest) mid new c.did)
+fetched_behind values old mid new old_count new_count (access_fault.Memory address) f c =
+    fetched_calls values old mid new f (calls (c.front ++ poll_act c.last ∷ c.rest) mid new c.did)
 fetched_behind values old mid new old_count new_count (access_fault.Register number) f c = tt
 fetched_behind values old mid new old_count new_count access_fault.StillBusy f c = tt
 fetched_behind values old mid new old_count new_count (access_fault.Run why) f c = tt

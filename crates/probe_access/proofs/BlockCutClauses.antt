@@ -34,30 +34,38 @@ use Rattle.probe_access.proofs.StopClauses.{dcsr_held}
 
 -- ---- blocks
 
-load_left_by : (size : Size) (address h : ℕ) (values : List ℕ) (old mid new : Option Far) → WhereTold (BlockLoadedAt size address values) old mid → Leaves (AccessLeftOff Scratched LoadLeaves h) mid new → Leaves (BlockLoadCut size address values h) old new
+load_left_by : (size : Size) (address h : ℕ) (values : List ℕ) (old mid new : Option Far) → WhereTold (BlockLoadedAt size address values) old mid
+    → Leaves (AccessLeftOff Scratched LoadLeaves h) mid new → Leaves (BlockLoadCut size address values h) old new
 load_left_by size address h values None mid new before left = tt
 load_left_by size address h values (Some f) mid new before left =
-    let l : IsLeft (AccessLeftOff Scratched LoadLeaves h) before.far.live.chip new = subst (λ (m : Option Far). Leaves (AccessLeftOff Scratched LoadLeaves h) m new) before.is left in
+    let l : IsLeft (AccessLeftOff Scratched LoadLeaves h) before.far.live.chip new =
+        subst (λ (m : Option Far). Leaves (AccessLeftOff Scratched LoadLeaves h) m new) before.is left in
     record { far = l.far; is = l.is; left = record { mid = site_of before.far; each = before.each; left = l.left } }
 
-pub load_block_cut : (size : Size) (address h : ℕ) (values : List ℕ) (old mid new : Option Far) (e : AccessFault) → WhereTold (BlockLoadedAt size address values) old mid → IfCut (Leaves (AccessLeftOff Scratched LoadLeaves h) mid new) e
+pub load_block_cut : (size : Size) (address h : ℕ) (values : List ℕ) (old mid new : Option Far) (e : AccessFault)
+    → WhereTold (BlockLoadedAt size address values) old mid → IfCut (Leaves (AccessLeftOff Scratched LoadLeaves h) mid new) e
     → IfCut (Leaves (BlockLoadCut size address values h) old new) e
 load_block_cut size address h values old mid new e before f =
-    if_cut (Leaves (AccessLeftOff Scratched LoadLeaves h) mid new) (Leaves (BlockLoadCut size address values h) old new) e (load_left_by size address h values old mid new before) f
+    if_cut (Leaves (AccessLeftOff Scratched LoadLeaves h) mid new) (Leaves (BlockLoadCut size address values h) old new) e
+        (load_left_by size address h values old mid new before) f
 
-store_left_by : (size : Size) (address value count h at done : ℕ) (old mid new : Option Far) → at ≡ element_at size address done → done < count → WhereTold (BlockStoredAt size address value done) old mid → Leaves (AccessLeftOff Scratched (StoreLeaves size at value) h) mid new
+store_left_by : (size : Size) (address value count h at done : ℕ) (old mid new : Option Far) → at ≡ element_at size address done → done < count
+    → WhereTold (BlockStoredAt size address value done) old mid → Leaves (AccessLeftOff Scratched (StoreLeaves size at value) h) mid new
     → Leaves (BlockStoreCut size address value count h) old new
 store_left_by size address value count h at done None mid new is below before left = tt
 store_left_by size address value count h at done (Some f) mid new is below before left =
-    let there : Leaves (AccessLeftOff Scratched (StoreLeaves size (element_at size address done) value) h) mid new = subst (λ a. Leaves (AccessLeftOff Scratched (StoreLeaves size a value) h) mid new) is left in
+    let there : Leaves (AccessLeftOff Scratched (StoreLeaves size (element_at size address done) value) h) mid new =
+        subst (λ a. Leaves (AccessLeftOff Scratched (StoreLeaves size a value) h) mid new) is left in
     let l : IsLeft (AccessLeftOff Scratched (StoreLeaves size (element_at size address done) value) h) before.far.live.chip new =
     subst (λ (m : Option Far). Leaves (AccessLeftOff Scratched (StoreLeaves size (element_at size address done) value) h) m new) before.is there in
     record { far = l.far; is = l.is; left = record { done = done; below = below; mid = site_of before.far; each = before.each; left = l.left } }
 
-pub store_block_cut : (size : Size) (address value count h at done : ℕ) (old mid new : Option Far) (e : AccessFault) → at ≡ element_at size address done → done < count → WhereTold (BlockStoredAt size address value done) old mid
+pub store_block_cut : (size : Size) (address value count h at done : ℕ) (old mid new : Option Far) (e : AccessFault) → at ≡ element_at size address done
+    → done < count → WhereTold (BlockStoredAt size address value done) old mid
     → IfCut (Leaves (AccessLeftOff Scratched (StoreLeaves size at value) h) mid new) e → IfCut (Leaves (BlockStoreCut size address value count h) old new) e
 store_block_cut size address value count h at done old mid new e is below before f =
-    if_cut (Leaves (AccessLeftOff Scratched (StoreLeaves size at value) h) mid new) (Leaves (BlockStoreCut size address value count h) old new) e (store_left_by size address value count h at done old mid new is below before) f
+    if_cut (Leaves (AccessLeftOff Scratched (StoreLeaves size at value) h) mid new) (Leaves (BlockStoreCut size address value count h) old new) e
+        (store_left_by size address value count h at done old mid new is below before) f
 
 -- ---- the step flag
 
@@ -65,10 +73,12 @@ flag_as : (on : Bool) (x : Hart) (word : ℕ) (z : Hart) → word ≡ dcsr_value
 flag_as on x word z read (inl e) = inl e
 flag_as on x word z read (inr e) = inr (e ∙ ap (λ w. debug_written x dcsr_number (with_flag on w)) read ∙ flag_written on x)
 
-flag_hung : (on : Bool) (h : ℕ) (bus : BusUnit) (x : Hart) (base : Site) (w : Hart) (old_count new_count : ℕ) (old new : Tells) (e : AccessFault) → dcsr_value x.debug < 2 ^ 64 → StoodTold h bus x base w old.far → FlagFailed on old_count new_count old new e
+flag_hung : (on : Bool) (h : ℕ) (bus : BusUnit) (x : Hart) (base : Site) (w : Hart) (old_count new_count : ℕ) (old new : Tells) (e : AccessFault)
+    → dcsr_value x.debug < 2 ^ 64 → StoodTold h bus x base w old.far → FlagFailed on old_count new_count old new e
     → IfCut (Hung (MaybeFlagged on x) h bus base new.far) e
 flag_hung on h bus x base w old_count new_count old new e small st (at_read f) =
-    if_cut (Hung (λ z. z ≡ x) h bus base new.far) (Hung (MaybeFlagged on x) h bus base new.far) e (hung_map (λ z. z ≡ x) (MaybeFlagged on x) h bus base new.far (λ z s. inl s))
+    if_cut (Hung (λ z. z ≡ x) h bus base new.far) (Hung (MaybeFlagged on x) h bus base new.far) e
+        (hung_map (λ z. z ≡ x) (MaybeFlagged on x) h bus base new.far (λ z s. inl s))
     (read_hung dcsr_number h bus x base w old_count new_count old new e (omega arith) st f)
 flag_hung on h bus x base w old_count new_count old new e small st (at_write word mid r f) =
     let a : ReadTold dcsr_number word h bus x base w mid.far = read_told dcsr_number word h bus x base w old mid (omega arith) st r in
@@ -77,12 +87,14 @@ flag_hung on h bus x base w old_count new_count old new e small st (at_write wor
     (hung_map (Written dcsr_number (with_flag on word) x) (MaybeFlagged on x) h bus base new.far (λ z p. flag_as on x word z read p))
     (write_hung dcsr_number (with_flag on word) h bus x base w old_count new_count mid new e (omega arith) a.then f)
 
-pub flag_cut : (on : Bool) (h : ℕ) (far : Option Far) (coming : Option DmiComing) (old_count new_count : ℕ) (new : Tells) (e : AccessFault) → IsReady far → Selects h far → IsHalted h far → FlagFailed on old_count new_count (tells far coming) new e
+pub flag_cut : (on : Bool) (h : ℕ) (far : Option Far) (coming : Option DmiComing) (old_count new_count : ℕ) (new : Tells) (e : AccessFault) → IsReady far
+    → Selects h far → IsHalted h far → FlagFailed on old_count new_count (tells far coming) new e
     → IfCut (Leaves (LeftAside (MaybeFlagged on) h) far new.far) e
 flag_cut on h None coming old_count new_count new e ready selects halted f = cut_always (Leaves (LeftAside (MaybeFlagged on) h) None new.far) e tt
 flag_cut on h (Some c) coming old_count new_count new e ready selects halted f =
     cut_left (MaybeFlagged on) h c halted new.far e
-    (flag_hung on h (site_of c).unit.bus halted.hart (site_of c) halted.hart old_count new_count (tells (Some c) coming) new e ((ready.harts h halted.hart halted.is).registers dcsr_number (dcsr_value halted.hart.debug) (dcsr_held halted.hart))
+    (flag_hung on h (site_of c).unit.bus halted.hart (site_of c) halted.hart old_count new_count (tells (Some c) coming) new e
+        ((ready.harts h halted.hart halted.is).registers dcsr_number (dcsr_value halted.hart.debug) (dcsr_held halted.hart))
     (first_told h c ready halted selects) f)
 
 -- ---- a single step
@@ -91,33 +103,41 @@ leaves_map : (R S : Site → Site → Type 0) (old new : Option Far) → ((s t :
 leaves_map R S None new f p = tt
 leaves_map R S (Some c) new f p = record { far = p.far; is = p.is; left = f (site_of c) (site_of p.far) p.left }
 
-pub setting_cut : (h : ℕ) (old new : Option Far) (e : AccessFault) → IfCut (Leaves (LeftAside (MaybeFlagged true) h) old new) e → IfCut (Leaves (StepCut h) old new) e
-setting_cut h old new e f = if_cut (Leaves (LeftAside (MaybeFlagged true) h) old new) (Leaves (StepCut h) old new) e (leaves_map (LeftAside (MaybeFlagged true) h) (StepCut h) old new (λ s t p. setting p)) f
+pub setting_cut : (h : ℕ) (old new : Option Far) (e : AccessFault) → IfCut (Leaves (LeftAside (MaybeFlagged true) h) old new) e
+    → IfCut (Leaves (StepCut h) old new) e
+setting_cut h old new e f = if_cut (Leaves (LeftAside (MaybeFlagged true) h) old new) (Leaves (StepCut h) old new) e
+    (leaves_map (LeftAside (MaybeFlagged true) h) (StepCut h) old new (λ s t p. setting p)) f
 
 pub left_bus : (m n : DebugModule) (h : ℕ) → (m ≡ n) ⊎ (m ≡ record n { hartsel = h }) → m.bus ≡ n.bus
 left_bus m n h (inl e) = ap (λ (k : DebugModule). k.bus) e
 left_bus m n h (inr e) = ap (λ (k : DebugModule). k.bus) e
 
-running_by : (h : ℕ) (old mid new : Option Far) → WhereTold (FlaggedAt true h) old mid → WhereTold (LeftBy (RunCut (ResumeReq h) sees_both h) h) mid new → Leaves (StepCut h) old new
+running_by : (h : ℕ) (old mid new : Option Far) → WhereTold (FlaggedAt true h) old mid → WhereTold (LeftBy (RunCut (ResumeReq h) sees_both h) h) mid new
+    → Leaves (StepCut h) old new
 running_by h None mid new sets left = tt
 running_by h (Some f) mid new sets left =
-    let l : LeftBy (RunCut (ResumeReq h) sees_both h) h sets.far.live.chip new = subst (λ (m : Option Far). WhereTold (LeftBy (RunCut (ResumeReq h) sees_both h) h) m new) sets.is left in
+    let l : LeftBy (RunCut (ResumeReq h) sees_both h) h sets.far.live.chip new =
+        subst (λ (m : Option Far). WhereTold (LeftBy (RunCut (ResumeReq h) sees_both h) h) m new) sets.is left in
     record {
       far = l.far;
       is = l.is;
-      left = running (record { begun = target_of (site_of sets.far); sets = sets.rewrote; runs = l.happened; bus = left_bus (site_of l.far).unit (site_of sets.far).unit h l.unit ∙ sets.bus });
+      left = running (record { begun = target_of (site_of sets.far); sets = sets.rewrote; runs = l.happened; bus =
+          left_bus (site_of l.far).unit (site_of sets.far).unit h l.unit ∙ sets.bus });
     }
 
-pub running_cut : (h : ℕ) (old mid new : Option Far) (why : RunFault) → WhereTold (FlaggedAt true h) old mid → RunLeft h mid new why → IfCut (Leaves (StepCut h) old new) (of_run why)
+pub running_cut : (h : ℕ) (old mid new : Option Far) (why : RunFault) → WhereTold (FlaggedAt true h) old mid → RunLeft h mid new why
+    → IfCut (Leaves (StepCut h) old new) (of_run why)
 running_cut h old mid new (run_fault.Dmi why) sets left = running_by h old mid new sets left
 running_cut h old mid new (run_fault.NoHalt looks) sets left = tt
 running_cut h old mid new (run_fault.NoAck looks) sets left = tt
 
-clearing_by : (h : ℕ) (a b c d : Option Far) → WhereTold (FlaggedAt true h) a b → WhereTold (RunLeaves (StepsAt h) h) b c → Leaves (LeftAside (MaybeFlagged false) h) c d → Leaves (StepCut h) a d
+clearing_by : (h : ℕ) (a b c d : Option Far) → WhereTold (FlaggedAt true h) a b → WhereTold (RunLeaves (StepsAt h) h) b c
+    → Leaves (LeftAside (MaybeFlagged false) h) c d → Leaves (StepCut h) a d
 clearing_by h None b c d sets runs left = tt
 clearing_by h (Some f) b c d sets runs left =
     let went : RunLeaves (StepsAt h) h sets.far.live.chip c = subst (λ (m : Option Far). WhereTold (RunLeaves (StepsAt h) h) m c) sets.is runs in
-    let l : IsLeft (LeftAside (MaybeFlagged false) h) went.far.live.chip d = subst (λ (m : Option Far). Leaves (LeftAside (MaybeFlagged false) h) m d) went.is left in
+    let l : IsLeft (LeftAside (MaybeFlagged false) h) went.far.live.chip d =
+        subst (λ (m : Option Far). Leaves (LeftAside (MaybeFlagged false) h) m d) went.is left in
     record {
       far = l.far;
       is = l.is;
@@ -131,5 +151,6 @@ clearing_by h (Some f) b c d sets runs left =
       });
     }
 
-pub clearing_cut : (h : ℕ) (a b c d : Option Far) (e : AccessFault) → WhereTold (FlaggedAt true h) a b → WhereTold (RunLeaves (StepsAt h) h) b c → IfCut (Leaves (LeftAside (MaybeFlagged false) h) c d) e → IfCut (Leaves (StepCut h) a d) e
+pub clearing_cut : (h : ℕ) (a b c d : Option Far) (e : AccessFault) → WhereTold (FlaggedAt true h) a b → WhereTold (RunLeaves (StepsAt h) h) b c
+    → IfCut (Leaves (LeftAside (MaybeFlagged false) h) c d) e → IfCut (Leaves (StepCut h) a d) e
 clearing_cut h a b c d e sets runs f = if_cut (Leaves (LeftAside (MaybeFlagged false) h) c d) (Leaves (StepCut h) a d) e (clearing_by h a b c d sets runs) f

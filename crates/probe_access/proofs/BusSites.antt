@@ -15,7 +15,8 @@ use Rattle.probe_access.proofs.Quiet.{quiet_ran}
 use Rattle.probe_access.proofs.Turns.{passed-append, unit_passed}
 
 abbrev pub at_bus : BusUnit → Site → Site
-at_bus u s = record { unit = record { active = s.unit.active; hartsel = s.unit.hartsel; commands = s.unit.commands; bus = u }; board = s.board; journal = s.journal }
+at_bus u s = record { unit = record { active = s.unit.active; hartsel = s.unit.hartsel; commands = s.unit.commands; bus = u }; board = s.board; journal =
+    s.journal }
 
 -- ---- turns
 
@@ -48,7 +49,8 @@ pub record AtBus (u : BusUnit) (base t : Site) : Type 0 where
   pub harts : List ℕ
   pub is : t ≡ at_bus u (passed harts base)
 
-pub bus_ran : (u : BusUnit) (base : Site) (ds : List Deed) (s : Site) (harts : List ℕ) → Works base → u.pending ≡ None → s ≡ at_bus u (passed harts base) → ran ds s ≡ at_bus u (passed (harts ++ harts_of ds) base)
+pub bus_ran : (u : BusUnit) (base : Site) (ds : List Deed) (s : Site) (harts : List ℕ) → Works base → u.pending ≡ None → s ≡ at_bus u (passed harts base)
+    → ran ds s ≡ at_bus u (passed (harts ++ harts_of ds) base)
 bus_ran u base ds s harts w none is =
     ap (ran ds) is
     ∙ quiet_ran ds (at_bus u (passed harts base)) (works_passed harts base w).steps none
@@ -63,7 +65,8 @@ pub record BusOp (op : DmiOp) (value : ℕ) (u : BusUnit) (base t : Site) : Type
   pub is : t ≡ ran behind (operated op (at_bus u (passed harts base)))
   pub value_is : value ≡ operation_result op (at_bus u (passed harts base))
 
-pub bus_op : (op : DmiOp) (value : ℕ) (u : BusUnit) (base s t : Site) → Works base → u.pending ≡ None → AtBus u base s → OneOperation op value s t → BusOp op value u base t
+pub bus_op : (op : DmiOp) (value : ℕ) (u : BusUnit) (base s t : Site) → Works base → u.pending ≡ None → AtBus u base s → OneOperation op value s t
+    → BusOp op value u base t
 bus_op op value u base s t w none a o =
     let at : ran o.before s ≡ at_bus u (passed (a.harts ++ harts_of o.before) base) = bus_ran u base o.before s a.harts w none a.is in
     record {
@@ -76,11 +79,13 @@ bus_op op value u base s t w none a o =
 -- one that leaves the bus so, and nothing under way
 pub bus_op_done : (op : DmiOp) (value : ℕ) (u v : BusUnit) (base t : Site) → Works base → v.pending ≡ None → (o : BusOp op value u base t)
     → operated op (at_bus u (passed o.harts base)) ≡ at_bus v (passed o.harts base) → AtBus v base t
-bus_op_done op value u v base t w none o changes = record { harts = o.harts ++ harts_of o.behind; is = o.is ∙ bus_ran v base o.behind (operated op (at_bus u (passed o.harts base))) o.harts w none changes }
+bus_op_done op value u v base t w none o changes =
+    record { harts = o.harts ++ harts_of o.behind; is = o.is ∙ bus_ran v base o.behind (operated op (at_bus u (passed o.harts base))) o.harts w none changes }
 
 -- ---- writes of its registers
 
-write_of : (f : BusUnit → BusUnit) (u : BusUnit) (z : Site) → z.unit.active ≡ true → (if z.unit.active then with_bus f (at_bus u z) else at_bus u z) ≡ at_bus (f u) z
+write_of : (f : BusUnit → BusUnit) (u : BusUnit) (z : Site) → z.unit.active ≡ true
+    → (if z.unit.active then with_bus f (at_bus u z) else at_bus u z) ≡ at_bus (f u) z
 write_of f u z active = ap (λ b. if b then at_bus (f u) z else at_bus u z) active
 
 -- what a write of this address makes of the bus
@@ -91,7 +96,8 @@ pub data Writes : ℕ → ℕ → (BusUnit → BusUnit) → Type 0 where
   to_sbdata0 : (v : ℕ) → Writes sbdata0_address v (sbdata0_written v)
   to_sbdata1 : (v : ℕ) → Writes sbdata1_address v (sbdata1_written v)
 
-pub written_bus : (a v : ℕ) (f : BusUnit → BusUnit) (u : BusUnit) (z : Site) → Writes a v f → z.unit.active ≡ true → operated (Write a v) (at_bus u z) ≡ at_bus (f u) z
+pub written_bus : (a v : ℕ) (f : BusUnit → BusUnit) (u : BusUnit) (z : Site) → Writes a v f → z.unit.active ≡ true
+    → operated (Write a v) (at_bus u z) ≡ at_bus (f u) z
 unfolding register_at
 written_bus _ _ _ u z (to_sbcs v) active = write_of (sbcs_written v) u z active
 written_bus _ _ _ u z (to_sbaddress0 v) active = write_of (sbaddress0_written v) u z active
@@ -100,8 +106,11 @@ written_bus _ _ _ u z (to_sbdata0 v) active = write_of (sbdata0_written v) u z a
 written_bus _ _ _ u z (to_sbdata1 v) active = write_of (sbdata1_written v) u z active
 
 -- one that starts no access
-pub put_bus : (a v : ℕ) (f : BusUnit → BusUnit) (u w : BusUnit) (base s t : Site) → Writes a v f → Works base → u.pending ≡ None → f u ≡ w → w.pending ≡ None → AtBus u base s → SiteActs (Put a v ∷ []) s t → AtBus w base t
+pub put_bus : (a v : ℕ) (f : BusUnit → BusUnit) (u w : BusUnit) (base s t : Site) → Writes a v f → Works base → u.pending ≡ None → f u ≡ w → w.pending ≡ None
+    → AtBus u base s → SiteActs (Put a v ∷ []) s t → AtBus w base t
 put_bus a v f u w base s t writes works none makes idle at p =
     let o : BusOp (Write a v) v u base p.0 = bus_op (Write a v) v u base s p.0 works none at p.1 in
     subst (λ (x : Site). AtBus w base x) (sym p.2)
-    (bus_op_done (Write a v) v u w base p.0 works idle o (written_bus a v f u (passed o.harts base) writes (works_passed o.harts base works).active ∙ ap (λ (x : BusUnit). at_bus x (passed o.harts base)) makes))
+    (bus_op_done (Write a v) v u w base p.0 works idle o
+        (written_bus a v f u (passed o.harts base) writes (works_passed o.harts base works).active
+        ∙ ap (λ (x : BusUnit). at_bus x (passed o.harts base)) makes))

@@ -38,11 +38,13 @@ pub data BusStage (p : BusUnit) (base t : Site) : Type 0 where
   waits : (harts : List ℕ) → t ≡ at_bus p (passed harts base) → BusStage p base t
   made : (before behind : List ℕ) → t ≡ at_bus (done_behind before p base).unit (passed behind (done_site before p base)) → BusStage p base t
 
-step_made : (p : BusUnit) (base : Site) (harts : List ℕ) → Pends p → bus_stepped (at_bus p (passed harts base)) ≡ at_bus (done_behind harts p base).unit (done_site harts p base)
+step_made : (p : BusUnit) (base : Site) (harts : List ℕ) → Pends p
+    → bus_stepped (at_bus p (passed harts base)) ≡ at_bus (done_behind harts p base).unit (done_site harts p base)
 step_made p base harts pends =
     let z : Site = passed harts base in
     let d : BusDone = done_behind harts p base in
-    ap (λ b. let t : Site = record { unit = record { active = z.unit.active; hartsel = z.unit.hartsel; commands = z.unit.commands; bus = d.unit }; board = record { harts = z.board.harts; memory = d.memory }; journal = z.journal ++ access_points b } in t)
+    ap (λ b. let t : Site = record { unit = record { active = z.unit.active; hartsel = z.unit.hartsel; commands = z.unit.commands; bus = d.unit }; board =
+        record { harts = z.board.harts; memory = d.memory }; journal = z.journal ++ access_points b } in t)
     (pends.accesses z.board.memory)
 
 works_done : (before : List ℕ) (p : BusUnit) (base : Site) → Works base → Works (done_site before p base)
@@ -50,15 +52,20 @@ works_done before p base w = let v : Works (passed before base) = works_passed b
 
 stage_deed : (p : BusUnit) (base s : Site) (d : Deed) → Works base → Pends p → BusStage p base s → BusStage p base (after_deed d s)
 unfolding after_deed passed ran
-stage_deed p base s (Turned g) w pends (waits harts is) = waits (harts ++ g ∷ []) (ap (turned g) is ∙ at_bus_turned p g (passed harts base) ∙ ap (at_bus p) (sym (passed-append harts (g ∷ []) base)))
-stage_deed p base s CommandStepped w pends (waits harts is) = waits harts (ap command_stepped is ∙ command_quiet (at_bus p (passed harts base)) (works_passed harts base w).steps)
+stage_deed p base s (Turned g) w pends (waits harts is) =
+    waits (harts ++ g ∷ []) (ap (turned g) is ∙ at_bus_turned p g (passed harts base) ∙ ap (at_bus p) (sym (passed-append harts (g ∷ []) base)))
+stage_deed p base s CommandStepped w pends (waits harts is) =
+    waits harts (ap command_stepped is ∙ command_quiet (at_bus p (passed harts base)) (works_passed harts base w).steps)
 stage_deed p base s BusStepped w pends (waits harts is) = made harts [] (ap bus_stepped is ∙ step_made p base harts pends)
 stage_deed p base s (Turned g) w pends (made before behind is) =
-    made before (behind ++ g ∷ []) (bus_ran (done_behind before p base).unit (done_site before p base) (Turned g ∷ []) s behind (works_done before p base w) (pends.ends (passed before base).board.memory) is)
+    made before (behind ++ g ∷ []) (bus_ran (done_behind before p base).unit (done_site before p base) (Turned g ∷ []) s behind (works_done before p base w)
+        (pends.ends (passed before base).board.memory) is)
 stage_deed p base s CommandStepped w pends (made before behind is) =
-    made before (behind ++ []) (bus_ran (done_behind before p base).unit (done_site before p base) (CommandStepped ∷ []) s behind (works_done before p base w) (pends.ends (passed before base).board.memory) is)
+    made before (behind ++ []) (bus_ran (done_behind before p base).unit (done_site before p base) (CommandStepped ∷ []) s behind (works_done before p base w)
+        (pends.ends (passed before base).board.memory) is)
 stage_deed p base s BusStepped w pends (made before behind is) =
-    made before (behind ++ []) (bus_ran (done_behind before p base).unit (done_site before p base) (BusStepped ∷ []) s behind (works_done before p base w) (pends.ends (passed before base).board.memory) is)
+    made before (behind ++ []) (bus_ran (done_behind before p base).unit (done_site before p base) (BusStepped ∷ []) s behind (works_done before p base w)
+        (pends.ends (passed before base).board.memory) is)
 
 pub stage_ran : (p : BusUnit) (base : Site) (ds : List Deed) (s : Site) → Works base → Pends p → BusStage p base s → BusStage p base (ran ds s)
 unfolding ran
@@ -67,19 +74,22 @@ stage_ran p base (d ∷ ds) s w pends st = stage_ran p base ds (after_deed d s) 
 
 -- ---- the write that starts it
 
-pub start_bus : (a v : ℕ) (f : BusUnit → BusUnit) (u p : BusUnit) (base s t : Site) → Writes a v f → Works base → u.pending ≡ None → f u ≡ p → Pends p → AtBus u base s → SiteActs (Put a v ∷ []) s t → BusStage p base t
+pub start_bus : (a v : ℕ) (f : BusUnit → BusUnit) (u p : BusUnit) (base s t : Site) → Writes a v f → Works base → u.pending ≡ None → f u ≡ p → Pends p
+    → AtBus u base s → SiteActs (Put a v ∷ []) s t → BusStage p base t
 start_bus a v f u p base s t writes works none makes pends at acts =
     let o : BusOp (Write a v) v u base acts.0 = bus_op (Write a v) v u base s acts.0 works none at acts.1 in
     let begun : operated (Write a v) (at_bus u (passed o.harts base)) ≡ at_bus p (passed o.harts base) =
     written_bus a v f u (passed o.harts base) writes (works_passed o.harts base works).active ∙ ap (λ (x : BusUnit). at_bus x (passed o.harts base)) makes in
     subst (λ (x : Site). BusStage p base x) (sym acts.2)
-    (subst (λ (x : Site). BusStage p base x) (sym o.is) (stage_ran p base o.behind (operated (Write a v) (at_bus u (passed o.harts base))) works pends (waits o.harts begun)))
+    (subst (λ (x : Site). BusStage p base x) (sym o.is)
+        (stage_ran p base o.behind (operated (Write a v) (at_bus u (passed o.harts base))) works pends (waits o.harts begun)))
 
 -- ---- polls
 
 pub works_stage : (p : BusUnit) (base s : Site) → Works base → BusStage p base s → s.unit.active ≡ true
 works_stage p base s w (waits harts is) = ap (λ (z : Site). z.unit.active) is ∙ (works_passed harts base w).active
-works_stage p base s w (made before behind is) = ap (λ (z : Site). z.unit.active) is ∙ (works_passed behind (done_site before p base) (works_done before p base w)).active
+works_stage p base s w (made before behind is) = ap (λ (z : Site). z.unit.active) is
+    ∙ (works_passed behind (done_site before p base) (works_done before p base w)).active
 
 -- a read of sbcs changes nothing
 pub reads_sbcs : (z : Site) → z.unit.active ≡ true → operated (Read sbcs_address) z ≡ z
@@ -101,7 +111,8 @@ pub record PolledAt (p : BusUnit) (last : ℕ) (base t : Site) : Type 0 where
   pub behind : List Deed
   pub is : t ≡ ran behind mid
 
-pub polled_at : (p : BusUnit) (words : List ℕ) (last : ℕ) (base s t : Site) → Works base → Pends p → BusStage p base s → SiteActs (map bus_poll words ++ bus_poll last ∷ []) s t → PolledAt p last base t
+pub polled_at : (p : BusUnit) (words : List ℕ) (last : ℕ) (base s t : Site) → Works base → Pends p → BusStage p base s
+    → SiteActs (map bus_poll words ++ bus_poll last ∷ []) s t → PolledAt p last base t
 polled_at p [] last base s t w pends st acts =
     let one = acts.1.one in
     let z : Site = ran one.before s in
@@ -128,7 +139,8 @@ pub record BusMade (p : BusUnit) (last : ℕ) (base t : Site) : Type 0 where
   pub after : AtBus (done_behind before p base).unit (done_site before p base) t
   pub shows : last ≡ value_of (sbcs_word (sbcs_shown (done_behind before p base).unit))
 
-ended_by : (p : BusUnit) (last : ℕ) (base t mid : Site) (behind : List Deed) → Works base → Pends p → bus_busy (value_of (sbcs_word (sbcs_shown p))) ≡ true → bus_busy last ≡ false → BusStage p base mid → last ≡ sbcs_at mid → t ≡ ran behind mid
+ended_by : (p : BusUnit) (last : ℕ) (base t mid : Site) (behind : List Deed) → Works base → Pends p → bus_busy (value_of (sbcs_word (sbcs_shown p))) ≡ true
+    → bus_busy last ≡ false → BusStage p base mid → last ≡ sbcs_at mid → t ≡ ran behind mid
     → BusMade p last base t
 ended_by p last base t mid behind w pends busy idle (waits harts is) shows after =
     absurd (false≢true (sym idle ∙ ap bus_busy shows ∙ ap (λ (z : Site). bus_busy (sbcs_at z)) is ∙ busy))
@@ -136,12 +148,14 @@ ended_by p last base t mid behind w pends busy idle (made before some is) shows 
   before = before;
   after = record {
     harts = some ++ harts_of behind;
-    is = after ∙ bus_ran (done_behind before p base).unit (done_site before p base) behind mid some (works_done before p base w) (pends.ends (passed before base).board.memory) is;
+    is = after ∙ bus_ran (done_behind before p base).unit (done_site before p base) behind mid some (works_done before p base w)
+        (pends.ends (passed before base).board.memory) is;
   };
   shows = shows ∙ ap sbcs_at is;
 }
 
-pub bus_ended : (p : BusUnit) (last : ℕ) (base t : Site) → Works base → Pends p → bus_busy (value_of (sbcs_word (sbcs_shown p))) ≡ true → bus_busy last ≡ false → PolledAt p last base t → BusMade p last base t
+pub bus_ended : (p : BusUnit) (last : ℕ) (base t : Site) → Works base → Pends p → bus_busy (value_of (sbcs_word (sbcs_shown p))) ≡ true → bus_busy last ≡ false
+    → PolledAt p last base t → BusMade p last base t
 bus_ended p last base t w pends busy idle a = ended_by p last base t a.mid a.behind w pends busy idle a.stage a.shows a.is
 
 pub done_works : (before : List ℕ) (p : BusUnit) (base : Site) → Works base → Works (done_site before p base)

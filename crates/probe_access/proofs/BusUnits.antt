@@ -12,7 +12,8 @@ use Rattle.debug_model.specs.declared.sberror.Sberror.TheVariants.{Fine, Address
 use Rattle.debug_model.specs.Commands.{high_half, joined_halves, low_half}
 use Rattle.debug_model.specs.Dmi.{value_of}
 use Rattle.debug_model.specs.ModuleWords.{sbcs_word}
-use Rattle.debug_model.specs.SystemBus.{BusDone, BusUnit, access_size, bus_done, bus_done_by, bus_made, bus_read_by, bus_started, bus_wrote_by, sbaddress0_written, sbaddress1_written, sbcs_written, sbdata0_written, sbdata1_written, started_at}
+use Rattle.debug_model.specs.SystemBus.{BusDone, BusUnit, access_size, bus_done, bus_done_by, bus_made, bus_read_by, bus_started, bus_wrote_by,
+    sbaddress0_written, sbaddress1_written, sbcs_written, sbdata0_written, sbdata1_written, started_at}
 use Rattle.debug_model.specs.Told.{BusReady}
 use Rattle.probe_run.specs.Opening.{clears_sberror}
 use Rattle.probe_access.specs.BusRuns.{access_number, bus_busy, bus_collided, bus_error, setting}
@@ -51,7 +52,8 @@ error_number outside = if outside then 2 else 0
 
 pub shown_by : (on_address : Bool) (size : Size) (busy outside : Bool)
     → Shown busy (error_number outside)
-    (value_of (sbcs_word (record { sbversion = 1; sbbusyerror = false; sbbusy = busy; sbreadonaddr = on_address; sbaccess = access_number size; sbautoincrement = false; sbreadondata = false; sberror = error_number outside; sbasize = 64; sizes = 0xf })))
+    (value_of (sbcs_word (record { sbversion = 1; sbbusyerror = false; sbbusy = busy; sbreadonaddr = on_address; sbaccess = access_number size;
+        sbautoincrement = false; sbreadondata = false; sberror = error_number outside; sbasize = 64; sizes = 0xf })))
 shown_by true B1 true true = record { busy_is = refl; error_is = refl; alone = refl }
 shown_by true B1 true false = record { busy_is = refl; error_is = refl; alone = refl }
 shown_by true B1 false true = record { busy_is = refl; error_is = refl; alone = refl }
@@ -106,7 +108,8 @@ ready_bus u r =
     ∙ ap (λ e. bus_like u.readonaddr u.access u.autoincrement u.readondata u.address u.value e u.busyerror None) r.fine
     ∙ ap (λ b. bus_like u.readonaddr u.access u.autoincrement u.readondata u.address u.value Fine b None) r.no_busyerror
 
-set_by : (on_address : Bool) (size : Size) (o : Bool) (a : ℕ) (i d : Bool) (x v : ℕ) → sbcs_written (setting on_address size) (bus_like o a i d x v Fine false None) ≡ bus_at on_address size x v Fine None
+set_by : (on_address : Bool) (size : Size) (o : Bool) (a : ℕ) (i d : Bool) (x v : ℕ)
+    → sbcs_written (setting on_address size) (bus_like o a i d x v Fine false None) ≡ bus_at on_address size x v Fine None
 set_by true B1 o a i d x v = refl
 set_by true B2 o a i d x v = refl
 set_by true B4 o a i d x v = refl
@@ -116,8 +119,10 @@ set_by false B2 o a i d x v = refl
 set_by false B4 o a i d x v = refl
 set_by false B8 o a i d x v = refl
 
-pub set_bus : (on_address : Bool) (size : Size) (u : BusUnit) → BusReady u → sbcs_written (setting on_address size) u ≡ bus_at on_address size u.address u.value Fine None
-set_bus on_address size u r = ap (sbcs_written (setting on_address size)) (ready_bus u r) ∙ set_by on_address size u.readonaddr u.access u.autoincrement u.readondata u.address u.value
+pub set_bus : (on_address : Bool) (size : Size) (u : BusUnit) → BusReady u
+    → sbcs_written (setting on_address size) u ≡ bus_at on_address size u.address u.value Fine None
+set_bus on_address size u r = ap (sbcs_written (setting on_address size)) (ready_bus u r)
+    ∙ set_by on_address size u.readonaddr u.access u.autoincrement u.readondata u.address u.value
 
 -- the lower half comes last
 pub halves_put : (old v : ℕ) → joined_halves (low_half v) (high_half (joined_halves (low_half old) (high_half v))) ≡ v
@@ -126,24 +131,28 @@ halves_put old v = omega arith
 abbrev pub upper_put : ℕ → ℕ → ℕ
 upper_put old v = joined_halves (low_half old) (high_half v)
 
-pub high_put : (on_address : Bool) (size : Size) (old value address : ℕ) → sbaddress1_written (high_half address) (bus_at on_address size old value Fine None) ≡ bus_at on_address size (upper_put old address) value Fine None
+pub high_put : (on_address : Bool) (size : Size) (old value address : ℕ)
+    → sbaddress1_written (high_half address) (bus_at on_address size old value Fine None) ≡ bus_at on_address size (upper_put old address) value Fine None
 high_put on_address size old value address = refl
 
 pub started : (on_address : Bool) (size : Size) (address value : ℕ) (what : BusAccess) → is_aligned address size ≡ true
     → bus_started what (bus_at on_address size address value Fine None) ≡ bus_at on_address size address value Fine (Some what)
 started on_address size address value what aligned =
     let u : BusUnit = bus_at on_address size address value Fine None in
-    ap (λ o. started_at o what u) (size_access size) ∙ ap (λ b. if b then (bus_at on_address size address value Fine (Some what)) else (bus_at on_address size address value Alignment None)) aligned
+    ap (λ o. started_at o what u) (size_access size)
+        ∙ ap (λ b. if b then (bus_at on_address size address value Fine (Some what)) else (bus_at on_address size address value Alignment None)) aligned
 
 pub low_put_reads : (size : Size) (old value address : ℕ) → is_aligned address size ≡ true
     → sbaddress0_written (low_half address) (bus_at true size (upper_put old address) value Fine None) ≡ bus_at true size address value Fine (Some Read)
 low_put_reads size old value address aligned =
     ap (λ a. bus_started Read (bus_at true size a value Fine None)) (halves_put old address) ∙ started true size address value Read aligned
 
-pub low_put : (size : Size) (old value address : ℕ) → sbaddress0_written (low_half address) (bus_at false size (upper_put old address) value Fine None) ≡ bus_at false size address value Fine None
+pub low_put : (size : Size) (old value address : ℕ)
+    → sbaddress0_written (low_half address) (bus_at false size (upper_put old address) value Fine None) ≡ bus_at false size address value Fine None
 low_put size old value address = ap (λ a. bus_at false size a value Fine None) (halves_put old address)
 
-pub data_put : (size : Size) (address old value : ℕ) → sbdata1_written (high_half value) (bus_at false size address old Fine None) ≡ bus_at false size address (upper_put old value) Fine None
+pub data_put : (size : Size) (address old value : ℕ)
+    → sbdata1_written (high_half value) (bus_at false size address old Fine None) ≡ bus_at false size address (upper_put old value) Fine None
 data_put size address old value = refl
 
 pub data_put_writes : (size : Size) (address old value : ℕ) → is_aligned address size ≡ true
@@ -151,7 +160,8 @@ pub data_put_writes : (size : Size) (address old value : ℕ) → is_aligned add
 data_put_writes size address old value aligned =
     ap (λ v. bus_started Write (bus_at false size address v Fine None)) (halves_put old value) ∙ started false size address value Write aligned
 
-pub cleared_bus : (on_address : Bool) (size : Size) (address value : ℕ) → sbcs_written clears_sberror (bus_at on_address size address value Address None) ≡ bus_at false B1 address value Fine None
+pub cleared_bus : (on_address : Bool) (size : Size) (address value : ℕ)
+    → sbcs_written clears_sberror (bus_at on_address size address value Address None) ≡ bus_at false B1 address value Fine None
 cleared_bus on_address size address value = refl
 
 -- ---- the access
@@ -161,11 +171,13 @@ pub made_is : (on_address : Bool) (size : Size) (address value : ℕ) (what : Bu
 unfolding bus_done
 made_is on_address size address value what m = ap (λ o. bus_done_by (Some what) o m (bus_at on_address size address value Fine (Some what))) (size_access size)
 
-read_pending : (o : Result ℕ MemFault) (on_address : Bool) (size : Size) (address value : ℕ) (p : Option BusAccess) → (bus_read_by o size (bus_at on_address size address value Fine p)).pending ≡ None
+read_pending : (o : Result ℕ MemFault) (on_address : Bool) (size : Size) (address value : ℕ) (p : Option BusAccess)
+    → (bus_read_by o size (bus_at on_address size address value Fine p)).pending ≡ None
 read_pending (Ok v) on_address size address value p = refl
 read_pending (Err why) on_address size address value p = refl
 
-write_pending : (o : Result ⊤ MemFault) (on_address : Bool) (size : Size) (address value : ℕ) (p : Option BusAccess) → (bus_wrote_by o size (bus_at on_address size address value Fine p)).pending ≡ None
+write_pending : (o : Result ⊤ MemFault) (on_address : Bool) (size : Size) (address value : ℕ) (p : Option BusAccess)
+    → (bus_wrote_by o size (bus_at on_address size address value Fine p)).pending ≡ None
 write_pending (Ok v) on_address size address value p = refl
 write_pending (Err why) on_address size address value p = refl
 
@@ -173,13 +185,15 @@ made_accesses : (what : BusAccess) (size : Size) (m : Memory) (u : BusUnit) → 
 made_accesses Read size m u = refl
 made_accesses Write size m u = refl
 
-made_ends : (what : BusAccess) (on_address : Bool) (size : Size) (address value : ℕ) (m : Memory) → (bus_made what size m (bus_at on_address size address value Fine (Some what))).unit.pending ≡ None
+made_ends : (what : BusAccess) (on_address : Bool) (size : Size) (address value : ℕ) (m : Memory)
+    → (bus_made what size m (bus_at on_address size address value Fine (Some what))).unit.pending ≡ None
 made_ends Read on_address size address value m = read_pending (loaded m address size) on_address size address value (Some Read)
 made_ends Write on_address size address value m = write_pending (store_answer m address size) on_address size address value (Some Write)
 
 pub pends : (on_address : Bool) (size : Size) (address value : ℕ) (what : BusAccess) → Pends (bus_at on_address size address value Fine (Some what))
 pends on_address size address value what = record {
-  accesses = λ m. ap (λ (d : BusDone). d.accessed) (made_is on_address size address value what m) ∙ made_accesses what size m (bus_at on_address size address value Fine (Some what));
+  accesses = λ m. ap (λ (d : BusDone). d.accessed) (made_is on_address size address value what m)
+      ∙ made_accesses what size m (bus_at on_address size address value Fine (Some what));
   ends = λ m. ap (λ (d : BusDone). d.unit.pending) (made_is on_address size address value what m) ∙ made_ends what on_address size address value m;
 }
 
@@ -187,8 +201,10 @@ abbrev pub done_as : BusUnit → Memory → BusDone
 done_as u m = record { unit = u; memory = m; accessed = true }
 
 pub data ReadEnd (size : Size) (address value : ℕ) (m : Memory) : Type 0 where
-  was_read : (v : ℕ) → loaded m address size ≡ Ok v → bus_done m (bus_at true size address value Fine (Some Read)) ≡ done_as (bus_at true size address v Fine None) m → ReadEnd size address value m
-  not_read : (why : MemFault) → loaded m address size ≡ Err why → bus_done m (bus_at true size address value Fine (Some Read)) ≡ done_as (bus_at true size address value Address None) m → ReadEnd size address value m
+  was_read : (v : ℕ) → loaded m address size ≡ Ok v
+      → bus_done m (bus_at true size address value Fine (Some Read)) ≡ done_as (bus_at true size address v Fine None) m → ReadEnd size address value m
+  not_read : (why : MemFault) → loaded m address size ≡ Err why
+      → bus_done m (bus_at true size address value Fine (Some Read)) ≡ done_as (bus_at true size address value Address None) m → ReadEnd size address value m
 
 read_by : (o : Result ℕ MemFault) (size : Size) (address value : ℕ) (m : Memory) → loaded m address size ≡ o → ReadEnd size address value m
 read_by (Ok v) size address value m is =
@@ -200,14 +216,20 @@ pub read_end : (size : Size) (address value : ℕ) (m : Memory) → ReadEnd size
 read_end size address value m = read_by (loaded m address size) size address value m refl
 
 pub data WriteEnd (size : Size) (address value : ℕ) (m : Memory) : Type 0 where
-  was_written : (done : ⊤) → store_answer m address size ≡ Ok done → bus_done m (bus_at false size address value Fine (Some Write)) ≡ done_as (bus_at false size address value Fine None) (after_store m address size value) → WriteEnd size address value m
-  not_written : (why : MemFault) → store_answer m address size ≡ Err why → bus_done m (bus_at false size address value Fine (Some Write)) ≡ done_as (bus_at false size address value Address None) (after_store m address size value) → WriteEnd size address value m
+  was_written : (done : ⊤) → store_answer m address size ≡ Ok done
+      → bus_done m (bus_at false size address value Fine (Some Write)) ≡ done_as (bus_at false size address value Fine None) (after_store m address size value)
+      → WriteEnd size address value m
+  not_written : (why : MemFault) → store_answer m address size ≡ Err why
+      → bus_done m (bus_at false size address value Fine (Some Write)) ≡ done_as (bus_at false size address value Address None)
+      (after_store m address size value) → WriteEnd size address value m
 
 write_by : (o : Result ⊤ MemFault) (size : Size) (address value : ℕ) (m : Memory) → store_answer m address size ≡ o → WriteEnd size address value m
 write_by (Ok done) size address value m is =
-    was_written done is (made_is false size address value Write m ∙ ap (λ o. done_as (bus_wrote_by o size (bus_at false size address value Fine (Some Write))) (after_store m address size value)) is)
+    was_written done is (made_is false size address value Write m
+        ∙ ap (λ o. done_as (bus_wrote_by o size (bus_at false size address value Fine (Some Write))) (after_store m address size value)) is)
 write_by (Err why) size address value m is =
-    not_written why is (made_is false size address value Write m ∙ ap (λ o. done_as (bus_wrote_by o size (bus_at false size address value Fine (Some Write))) (after_store m address size value)) is)
+    not_written why is (made_is false size address value Write m
+        ∙ ap (λ o. done_as (bus_wrote_by o size (bus_at false size address value Fine (Some Write))) (after_store m address size value)) is)
 
 pub write_end : (size : Size) (address value : ℕ) (m : Memory) → WriteEnd size address value m
 write_end size address value m = write_by (store_answer m address size) size address value m refl

@@ -15,44 +15,60 @@ use Rattle.probe_access.specs.RegisterRuns.ReadFailedAt.{in_command as read_in_c
 use Rattle.probe_access.specs.RegisterAccess.{program_word, transfer_word, x8_number, x9_number}
 use Rattle.probe_access.proofs.RegisterCalls.{broke_counted}
 
-pub command_counted : (front : List Act) (word count mid_count new_count : ℕ) (old new : Tells) (e : AccessFault) → count ≤ mid_count → mid_count ≤ new_count → CommandFailed front word mid_count new_count old new e → CommandFailed front word count new_count old new e
-command_counted front word count mid_count new_count old new (access_fault.Dmi why) le later f = broke_counted (Among (CommandBegun front word)) count mid_count new_count old new.far why le later f
+pub command_counted : (front : List Act) (word count mid_count new_count : ℕ) (old new : Tells) (e : AccessFault) → count ≤ mid_count → mid_count ≤ new_count
+    → CommandFailed front word mid_count new_count old new e → CommandFailed front word count new_count old new e
+command_counted front word count mid_count new_count old new (access_fault.Dmi why) le later f =
+    broke_counted (Among (CommandBegun front word)) count mid_count new_count old new.far why le later f
 command_counted front word count mid_count new_count old new (access_fault.Memory address) le later f = f
 command_counted front word count mid_count new_count old new (access_fault.Register asked) le later f = f
 command_counted front word count mid_count new_count old new access_fault.StillBusy le later f = f
 command_counted front word count mid_count new_count old new (access_fault.Run why) le later f = f
 command_counted front word count mid_count new_count old new (access_fault.Odd shown) le later f = f
 
-read_at_counted : (number count mid_count new_count : ℕ) (old new : Tells) (e : AccessFault) → count ≤ mid_count → mid_count ≤ new_count → ReadFailedAt number mid_count new_count old new e → ReadFailedAt number count new_count old new e
-read_at_counted number count mid_count new_count old new e le later (read_in_command _ f) = read_in_command e (command_counted [] (transfer_word false number) count mid_count new_count old new e le later f)
-read_at_counted number count mid_count new_count old new e le later (read_in_words mid ran why b) = read_in_words mid ran why (broke_counted (Among DoubleReads) count mid_count new_count mid new.far why le later b)
+read_at_counted : (number count mid_count new_count : ℕ) (old new : Tells) (e : AccessFault) → count ≤ mid_count → mid_count ≤ new_count
+    → ReadFailedAt number mid_count new_count old new e → ReadFailedAt number count new_count old new e
+read_at_counted number count mid_count new_count old new e le later (read_in_command _ f) =
+    read_in_command e (command_counted [] (transfer_word false number) count mid_count new_count old new e le later f)
+read_at_counted number count mid_count new_count old new e le later (read_in_words mid ran why b) =
+    read_in_words mid ran why (broke_counted (Among DoubleReads) count mid_count new_count mid new.far why le later b)
 
-pub read_counted : (number count mid_count new_count : ℕ) (old new : Tells) (e : AccessFault) → count ≤ mid_count → mid_count ≤ new_count → ReadFailed number mid_count new_count old new e → ReadFailed number count new_count old new e
-read_counted number count mid_count new_count old new (access_fault.Dmi why) le later f = read_at_counted number count mid_count new_count old new (access_fault.Dmi why) le later f
+pub read_counted : (number count mid_count new_count : ℕ) (old new : Tells) (e : AccessFault) → count ≤ mid_count → mid_count ≤ new_count
+    → ReadFailed number mid_count new_count old new e → ReadFailed number count new_count old new e
+read_counted number count mid_count new_count old new (access_fault.Dmi why) le later f =
+    read_at_counted number count mid_count new_count old new (access_fault.Dmi why) le later f
 read_counted number count mid_count new_count old new (access_fault.Memory address) le later f = f
 read_counted number count mid_count new_count old new (access_fault.Register asked) le later f = f
 read_counted number count mid_count new_count old new access_fault.StillBusy le later f = f
 read_counted number count mid_count new_count old new (access_fault.Run why) le later f = f
 read_counted number count mid_count new_count old new (access_fault.Odd shown) le later f = f
 
-pub write_counted : (number value count mid_count new_count : ℕ) (old new : Tells) (e : AccessFault) → count ≤ mid_count → mid_count ≤ new_count → WriteFailed number value mid_count new_count old new e → WriteFailed number value count new_count old new e
-write_counted number value count mid_count new_count old new (access_fault.Dmi why) le later f = command_counted (double_written value) (transfer_word true number) count mid_count new_count old new (access_fault.Dmi why) le later f
+pub write_counted : (number value count mid_count new_count : ℕ) (old new : Tells) (e : AccessFault) → count ≤ mid_count → mid_count ≤ new_count
+    → WriteFailed number value mid_count new_count old new e → WriteFailed number value count new_count old new e
+write_counted number value count mid_count new_count old new (access_fault.Dmi why) le later f =
+    command_counted (double_written value) (transfer_word true number) count mid_count new_count old new (access_fault.Dmi why) le later f
 write_counted number value count mid_count new_count old new (access_fault.Memory address) le later f = f
 write_counted number value count mid_count new_count old new (access_fault.Register asked) le later f = f
 write_counted number value count mid_count new_count old new access_fault.StillBusy le later f = f
 write_counted number value count mid_count new_count old new (access_fault.Run why) le later f = f
 write_counted number value count mid_count new_count old new (access_fault.Odd shown) le later f = f
 
-pub perform_counted : (word address count mid_count new_count : ℕ) (old new : Tells) (e : AccessFault) → count ≤ mid_count → mid_count ≤ new_count → PerformFailed word address mid_count new_count old new e → PerformFailed word address count new_count old new e
+pub perform_counted : (word address count mid_count new_count : ℕ) (old new : Tells) (e : AccessFault) → count ≤ mid_count → mid_count ≤ new_count
+    → PerformFailed word address mid_count new_count old new e → PerformFailed word address count new_count old new e
 perform_counted word address count mid_count new_count old new _ le later (in_run e f) =
     in_run e (command_counted (program_set word address) program_word count mid_count new_count old new e le later f)
 perform_counted word address count mid_count new_count old new _ le later (faulted p) = faulted p
 perform_counted word address count mid_count new_count old new _ le later (oddly shown ran) = oddly shown ran
 
-pub put_back_counted : (x8 x9 count mid_count new_count : ℕ) (old new : Tells) (e : AccessFault) → count ≤ mid_count → mid_count ≤ new_count → PutBackFailed x8 x9 mid_count new_count old new e → PutBackFailed x8 x9 count new_count old new e
-put_back_counted x8 x9 count mid_count new_count old new e le later (put_x8 f) = put_x8 (write_counted x8_number x8 count mid_count new_count old new e le later f)
-put_back_counted x8 x9 count mid_count new_count old new e le later (put_x9 mid w f) = put_x9 mid w (write_counted x9_number x9 count mid_count new_count mid new e le later f)
+pub put_back_counted : (x8 x9 count mid_count new_count : ℕ) (old new : Tells) (e : AccessFault) → count ≤ mid_count → mid_count ≤ new_count
+    → PutBackFailed x8 x9 mid_count new_count old new e → PutBackFailed x8 x9 count new_count old new e
+put_back_counted x8 x9 count mid_count new_count old new e le later (put_x8 f) =
+    put_x8 (write_counted x8_number x8 count mid_count new_count old new e le later f)
+put_back_counted x8 x9 count mid_count new_count old new e le later (put_x9 mid w f) =
+    put_x9 mid w (write_counted x9_number x9 count mid_count new_count mid new e le later f)
 
-pub store_counted : (size : Size) (address value count mid_count new_count : ℕ) (old new : Tells) (e : AccessFault) → count ≤ mid_count → mid_count ≤ new_count → StoreFailedInside size address value mid_count new_count old new e → StoreFailedInside size address value count new_count old new e
-store_counted size address value count mid_count new_count old new e le later (store_writing f) = store_writing (write_counted x9_number value count mid_count new_count old new e le later f)
-store_counted size address value count mid_count new_count old new e le later (store_performing mid w f) = store_performing mid w (perform_counted _ address count mid_count new_count mid new e le later f)
+pub store_counted : (size : Size) (address value count mid_count new_count : ℕ) (old new : Tells) (e : AccessFault) → count ≤ mid_count → mid_count ≤ new_count
+    → StoreFailedInside size address value mid_count new_count old new e → StoreFailedInside size address value count new_count old new e
+store_counted size address value count mid_count new_count old new e le later (store_writing f) =
+    store_writing (write_counted x9_number value count mid_count new_count old new e le later f)
+store_counted size address value count mid_count new_count old new e le later (store_performing mid w f) =
+    store_performing mid w (perform_counted _ address count mid_count new_count mid new e le later f)

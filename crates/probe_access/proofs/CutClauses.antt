@@ -36,7 +36,8 @@ use Rattle.probe_access.proofs.WordAccess.{StoreFaults}
 
 -- ---- hart h aside
 
-left_aside : (Y : Hart → Hart → Type 0) (h : ℕ) (s : Site) (x : Hart) (t : Site) → (halted : HartHalted h s.board) → HungAt (Y halted.hart) h s.unit.bus s t → LeftAside Y h s t
+left_aside : (Y : Hart → Hart → Type 0) (h : ℕ) (s : Site) (x : Hart) (t : Site) → (halted : HartHalted h s.board) → HungAt (Y halted.hart) h s.unit.bus s t
+    → LeftAside Y h s t
 left_aside Y h s x t halted p =
     let q : Passed s (passed p.harts s) = passed_turns p.harts s in
     record {
@@ -50,63 +51,82 @@ left_aside Y h s x t halted p =
       bus = ap (λ (u : Site). u.unit.bus) p.at ∙ p.bus_is;
     }
 
-pub hung_left : (Y : Hart → Hart → Type 0) (h : ℕ) (f : Far) (halted : HartHalted h (site_of f).board) (told : Option Far) → Hung (Y halted.hart) h (site_of f).unit.bus (site_of f) told → IsLeft (LeftAside Y h) f.live.chip told
+pub hung_left : (Y : Hart → Hart → Type 0) (h : ℕ) (f : Far) (halted : HartHalted h (site_of f).board) (told : Option Far)
+    → Hung (Y halted.hart) h (site_of f).unit.bus (site_of f) told → IsLeft (LeftAside Y h) f.live.chip told
 hung_left Y h f halted told p = record { far = p.far; is = p.is; left = left_aside Y h (site_of f) halted.hart (site_of p.far) halted p.hung }
 
-pub cut_left : (Y : Hart → Hart → Type 0) (h : ℕ) (c : Far) (halted : HartHalted h (site_of c).board) (new : Option Far) (e : AccessFault) → IfCut (Hung (Y halted.hart) h (site_of c).unit.bus (site_of c) new) e
+pub cut_left : (Y : Hart → Hart → Type 0) (h : ℕ) (c : Far) (halted : HartHalted h (site_of c).board) (new : Option Far) (e : AccessFault)
+    → IfCut (Hung (Y halted.hart) h (site_of c).unit.bus (site_of c) new) e
     → IfCut (Leaves (LeftAside Y h) (Some c) new) e
-cut_left Y h c halted new e f = if_cut (Hung (Y halted.hart) h (site_of c).unit.bus (site_of c) new) (Leaves (LeftAside Y h) (Some c) new) e (hung_left Y h c halted new) f
+cut_left Y h c halted new e f = if_cut (Hung (Y halted.hart) h (site_of c).unit.bus (site_of c) new) (Leaves (LeftAside Y h) (Some c) new) e
+    (hung_left Y h c halted new) f
 
 -- ---- registers
 
-pub reg_cut : (h number : ℕ) (far : Option Far) (coming : Option DmiComing) (old_count new_count : ℕ) (new : Tells) (e : AccessFault) → number < 2 ^ 16 → IsReady far → Selects h far → IsHalted h far
+pub reg_cut : (h number : ℕ) (far : Option Far) (coming : Option DmiComing) (old_count new_count : ℕ) (new : Tells) (e : AccessFault) → number < 2 ^ 16
+    → IsReady far → Selects h far → IsHalted h far
     → ReadFailed number old_count new_count (tells far coming) new e → IfCut (Leaves (LeftAside Unchanged h) far new.far) e
 reg_cut h number None coming old_count new_count new e small ready selects halted f = cut_always (Leaves (LeftAside Unchanged h) None new.far) e tt
 reg_cut h number (Some c) coming old_count new_count new e small ready selects halted f =
     cut_left Unchanged h c halted new.far e
-    (read_hung number h (site_of c).unit.bus halted.hart (site_of c) halted.hart old_count new_count (tells (Some c) coming) new e small (first_told h c ready halted selects) f)
+    (read_hung number h (site_of c).unit.bus halted.hart (site_of c) halted.hart old_count new_count (tells (Some c) coming) new e small
+        (first_told h c ready halted selects) f)
 
-pub set_reg_cut : (h number value : ℕ) (far : Option Far) (coming : Option DmiComing) (old_count new_count : ℕ) (new : Tells) (e : AccessFault) → number < 2 ^ 16 → IsReady far → Selects h far → IsHalted h far
+pub set_reg_cut : (h number value : ℕ) (far : Option Far) (coming : Option DmiComing) (old_count new_count : ℕ) (new : Tells) (e : AccessFault)
+    → number < 2 ^ 16 → IsReady far → Selects h far → IsHalted h far
     → WriteFailed number value old_count new_count (tells far coming) new e → IfCut (Leaves (LeftAside (MaybeWritten number value) h) far new.far) e
-set_reg_cut h number value None coming old_count new_count new e small ready selects halted f = cut_always (Leaves (LeftAside (MaybeWritten number value) h) None new.far) e tt
+set_reg_cut h number value None coming old_count new_count new e small ready selects halted f =
+    cut_always (Leaves (LeftAside (MaybeWritten number value) h) None new.far) e tt
 set_reg_cut h number value (Some c) coming old_count new_count new e small ready selects halted f =
     cut_left (MaybeWritten number value) h c halted new.far e
-    (write_hung number value h (site_of c).unit.bus halted.hart (site_of c) halted.hart old_count new_count (tells (Some c) coming) new e small (first_told h c ready halted selects) f)
+    (write_hung number value h (site_of c).unit.bus halted.hart (site_of c) halted.hart old_count new_count (tells (Some c) coming) new e small
+        (first_told h c ready halted selects) f)
 
 -- ---- reads of several registers
 
-pub save_cut : (h : ℕ) (far : Option Far) (coming : Option DmiComing) (old_count new_count : ℕ) (new : Tells) (e : AccessFault) → IsReady far → Selects h far → IsHalted h far → SaveFailed old_count new_count (tells far coming) new e
+pub save_cut : (h : ℕ) (far : Option Far) (coming : Option DmiComing) (old_count new_count : ℕ) (new : Tells) (e : AccessFault) → IsReady far → Selects h far
+    → IsHalted h far → SaveFailed old_count new_count (tells far coming) new e
     → IfCut (Leaves (LeftAside Unchanged h) far new.far) e
 save_cut h None coming old_count new_count new e ready selects halted f = cut_always (Leaves (LeftAside Unchanged h) None new.far) e tt
 save_cut h (Some c) coming old_count new_count new e ready selects halted f =
-    cut_left Unchanged h c halted new.far e (save_hung h (site_of c).unit.bus halted.hart (site_of c) halted.hart old_count new_count (tells (Some c) coming) new e (first_told h c ready halted selects) f)
+    cut_left Unchanged h c halted new.far e (save_hung h (site_of c).unit.bus halted.hart (site_of c) halted.hart old_count new_count (tells (Some c) coming)
+        new e (first_told h c ready halted selects) f)
 
-pub restore_cut : (h x8 x9 : ℕ) (far : Option Far) (coming : Option DmiComing) (old_count new_count : ℕ) (new : Tells) (e : AccessFault) → IsReady far → Selects h far → IsHalted h far → PutBackFailed x8 x9 old_count new_count (tells far coming) new e
+pub restore_cut : (h x8 x9 : ℕ) (far : Option Far) (coming : Option DmiComing) (old_count new_count : ℕ) (new : Tells) (e : AccessFault) → IsReady far
+    → Selects h far → IsHalted h far → PutBackFailed x8 x9 old_count new_count (tells far coming) new e
     → IfCut (Leaves (LeftAside (MaybePutBack x8 x9) h) far new.far) e
 restore_cut h x8 x9 None coming old_count new_count new e ready selects halted f = cut_always (Leaves (LeftAside (MaybePutBack x8 x9) h) None new.far) e tt
 restore_cut h x8 x9 (Some c) coming old_count new_count new e ready selects halted f =
-    cut_left (MaybePutBack x8 x9) h c halted new.far e (back_hung x8 x9 h (site_of c).unit.bus halted.hart (site_of c) halted.hart old_count new_count (tells (Some c) coming) new e (first_told h c ready halted selects) f)
+    cut_left (MaybePutBack x8 x9) h c halted new.far e
+        (back_hung x8 x9 h (site_of c).unit.bus halted.hart (site_of c) halted.hart old_count new_count (tells (Some c) coming) new e
+        (first_told h c ready halted selects) f)
 
-stop_hung : (h : ℕ) (bus : BusUnit) (y : Hart) (base : Site) (w : Hart) (old_count new_count : ℕ) (old new : Tells) (e : AccessFault) → StoodTold h bus y base w old.far → StopFailed old_count new_count old new e → IfCut (Hung (λ z. z ≡ y) h bus base new.far) e
+stop_hung : (h : ℕ) (bus : BusUnit) (y : Hart) (base : Site) (w : Hart) (old_count new_count : ℕ) (old new : Tells) (e : AccessFault)
+    → StoodTold h bus y base w old.far → StopFailed old_count new_count old new e → IfCut (Hung (λ z. z ≡ y) h bus base new.far) e
 stop_hung h bus y base w old_count new_count old new e st (at_dpc f) = read_hung dpc_number h bus y base w old_count new_count old new e (omega arith) st f
 stop_hung h bus y base w old_count new_count old new e st (at_dcsr pc mid r f) =
     let a : ReadTold dpc_number pc h bus y base w mid.far = read_told dpc_number pc h bus y base w old mid (omega arith) st r in
     read_hung dcsr_number h bus y base w old_count new_count mid new e (omega arith) a.then f
 
-pub stop_cut : (h : ℕ) (far : Option Far) (coming : Option DmiComing) (old_count new_count : ℕ) (new : Tells) (e : AccessFault) → IsReady far → Selects h far → IsHalted h far → StopFailed old_count new_count (tells far coming) new e
+pub stop_cut : (h : ℕ) (far : Option Far) (coming : Option DmiComing) (old_count new_count : ℕ) (new : Tells) (e : AccessFault) → IsReady far → Selects h far
+    → IsHalted h far → StopFailed old_count new_count (tells far coming) new e
     → IfCut (Leaves (LeftAside Unchanged h) far new.far) e
 stop_cut h None coming old_count new_count new e ready selects halted f = cut_always (Leaves (LeftAside Unchanged h) None new.far) e tt
 stop_cut h (Some c) coming old_count new_count new e ready selects halted f =
-    cut_left Unchanged h c halted new.far e (stop_hung h (site_of c).unit.bus halted.hart (site_of c) halted.hart old_count new_count (tells (Some c) coming) new e (first_told h c ready halted selects) f)
+    cut_left Unchanged h c halted new.far e (stop_hung h (site_of c).unit.bus halted.hart (site_of c) halted.hart old_count new_count (tells (Some c) coming)
+        new e (first_told h c ready halted selects) f)
 
 -- ---- accesses to memory
 
 scratch_as : (x y : Hart) → AnyScratch x y → Scratched x y
-scratch_as x y a = record { x8 = a.p; x9 = a.q; is = a.is ∙ sym (ap (λ (z : Hart). debug_written z x9_number a.q) (x8_written x a.p) ∙ x9_written (with_core_x x 8 a.p) a.q) }
+scratch_as x y a = record { x8 = a.p; x9 = a.q; is =
+    a.is ∙ sym (ap (λ (z : Hart). debug_written z x9_number a.q) (x8_written x a.p) ∙ x9_written (with_core_x x 8 a.p) a.q) }
 
-access_left : (N : Memory → Memory → Type 0) (h : ℕ) (s : Site) (halted : HartHalted h s.board) (t : Site) → InsideAt (AnyScratch halted.hart) N h s.unit.bus s t → AccessLeftOff Scratched N h s t
+access_left : (N : Memory → Memory → Type 0) (h : ℕ) (s : Site) (halted : HartHalted h s.board) (t : Site)
+    → InsideAt (AnyScratch halted.hart) N h s.unit.bus s t → AccessLeftOff Scratched N h s t
 access_left N h s halted t (not_yet p) =
-    before_it (left_aside Scratched h s halted.hart t halted (record { unit = p.unit; bus_is = p.bus_is; hart = p.hart; one = scratch_as halted.hart p.hart p.one; harts = p.harts; at = p.at }))
+    before_it (left_aside Scratched h s halted.hart t halted
+        (record { unit = p.unit; bus_is = p.bus_is; hart = p.hart; one = scratch_as halted.hart p.hart p.one; harts = p.harts; at = p.at }))
 access_left N h s halted t (made before n left p) =
     let b : Site = accessed n (passed before s) in
     let first : Passed s (passed before s) = passed_turns before s in
@@ -127,25 +147,33 @@ access_left N h s halted t (made before n left p) =
       bus = ap (λ (u : Site). u.unit.bus) p.at ∙ p.bus_is;
     })
 
-access_is_left : (N : Memory → Memory → Type 0) (h : ℕ) (c : Far) (halted : HartHalted h (site_of c).board) (new : Option Far) (e : AccessFault) → IfCut (HungInside (AnyScratch halted.hart) N h (site_of c).unit.bus (site_of c) new) e
+access_is_left : (N : Memory → Memory → Type 0) (h : ℕ) (c : Far) (halted : HartHalted h (site_of c).board) (new : Option Far) (e : AccessFault)
+    → IfCut (HungInside (AnyScratch halted.hart) N h (site_of c).unit.bus (site_of c) new) e
     → IfCut (Leaves (AccessLeftOff Scratched N h) (Some c) new) e
 access_is_left N h c halted new e f =
     if_cut (HungInside (AnyScratch halted.hart) N h (site_of c).unit.bus (site_of c) new) (Leaves (AccessLeftOff Scratched N h) (Some c) new) e
     (λ p. record { far = p.far; is = p.is; left = access_left N h (site_of c) halted (site_of p.far) p.inside }) f
 
-pub load_left_off : (size : Size) (address h : ℕ) (far : Option Far) (coming : Option DmiComing) (old_count new_count : ℕ) (new : Tells) (e : AccessFault) → address < 2 ^ 64 → IsReady far → Selects h far → IsHalted h far
+pub load_left_off : (size : Size) (address h : ℕ) (far : Option Far) (coming : Option DmiComing) (old_count new_count : ℕ) (new : Tells) (e : AccessFault)
+    → address < 2 ^ 64 → IsReady far → Selects h far → IsHalted h far
     → LoadRunFailed size address old_count new_count (tells far coming) new e → IfCut (Leaves (AccessLeftOff Scratched LoadLeaves h) far new.far) e
-load_left_off size address h None coming old_count new_count new e small ready selects halted f = cut_always (Leaves (AccessLeftOff Scratched LoadLeaves h) None new.far) e tt
+load_left_off size address h None coming old_count new_count new e small ready selects halted f =
+    cut_always (Leaves (AccessLeftOff Scratched LoadLeaves h) None new.far) e tt
 load_left_off size address h (Some c) coming old_count new_count new e small ready selects halted f =
     let all = (fits_of h (site_of c) ready halted).all in
     access_is_left LoadLeaves h c halted new.far e
-    (load_hung size address h (site_of c).unit.bus halted.hart (site_of c) old_count new_count (tells (Some c) coming) new e all small (first_told h c ready halted selects) f)
+    (load_hung size address h (site_of c).unit.bus halted.hart (site_of c) old_count new_count (tells (Some c) coming) new e all small
+        (first_told h c ready halted selects) f)
 
-pub store_left_off : (size : Size) (address value h : ℕ) (far : Option Far) (coming : Option DmiComing) (old_count new_count : ℕ) (new : Tells) (e : AccessFault) → address < 2 ^ 64 → IsReady far → Selects h far → IsHalted h far
-    → AroundFailed (StoredInside size address value) (StoreFailedInside size address value) old_count new_count (tells far coming) new e → IfCut (Leaves (AccessLeftOff Scratched (StoreLeaves size address value) h) far new.far) e
-store_left_off size address value h None coming old_count new_count new e small ready selects halted f = cut_always (Leaves (AccessLeftOff Scratched (StoreLeaves size address value) h) None new.far) e tt
+pub store_left_off : (size : Size) (address value h : ℕ) (far : Option Far) (coming : Option DmiComing) (old_count new_count : ℕ) (new : Tells)
+    (e : AccessFault) → address < 2 ^ 64 → IsReady far → Selects h far → IsHalted h far
+    → AroundFailed (StoredInside size address value) (StoreFailedInside size address value) old_count new_count (tells far coming) new e
+        → IfCut (Leaves (AccessLeftOff Scratched (StoreLeaves size address value) h) far new.far) e
+store_left_off size address value h None coming old_count new_count new e small ready selects halted f =
+    cut_always (Leaves (AccessLeftOff Scratched (StoreLeaves size address value) h) None new.far) e tt
 store_left_off size address value h (Some c) coming old_count new_count new e small ready selects halted f =
     let all = (fits_of h (site_of c) ready halted).all in
     access_is_left (StoreLeaves size address value) h c halted new.far e
-    (around_hung (StoredInside size address value) (StoreFailedInside size address value) (StoreFaults size address) (StoreLeaves size address value) address h (site_of c).unit.bus halted.hart (site_of c) old_count new_count (tells (Some c) coming) new e all
+    (around_hung (StoredInside size address value) (StoreFailedInside size address value) (StoreFaults size address) (StoreLeaves size address value) address h
+        (site_of c).unit.bus halted.hart (site_of c) old_count new_count (tells (Some c) coming) new e all
     (store_cut size address value h (site_of c).unit.bus halted.hart (site_of c) all small) (first_told h c ready halted selects) f)

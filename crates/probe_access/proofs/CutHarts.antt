@@ -38,7 +38,8 @@ use Rattle.probe_access.proofs.RegisterTold.WordPuts.{no_more}
 use Rattle.probe_access.proofs.RegisterTold.TransferTold.{taken, denied}
 use Rattle.probe_access.proofs.Steps.{Between, Course, DoneAt, between_ran}
 use Rattle.probe_access.proofs.Steps.Between.{still, done}
-use Rattle.probe_access.proofs.TransferLemmas.{TransferEnd, behind_frozen, command_starts, hart_behind, refusing, transfer_does, transfer_ends, transfer_refusal_by, with_command, words_behind}
+use Rattle.probe_access.proofs.TransferLemmas.{TransferEnd, behind_frozen, command_starts, hart_behind, refusing, transfer_does, transfer_ends,
+    transfer_refusal_by, with_command, words_behind}
 use Rattle.probe_access.proofs.TransferLemmas.TransferEnd.{took, refused}
 use Rattle.probe_access.proofs.Turns.{stays_passed}
 use Rattle.probe_access.proofs.WordLemmas.{transfer_back}
@@ -59,25 +60,30 @@ pub record Hung (Y : Hart → Type 0) (h : ℕ) (bus : BusUnit) (base : Site) (t
   pub is : told ≡ Some far
   pub hung : HungAt Y h bus base (site_of far)
 
-pub hung_map : (Y Z : Hart → Type 0) (h : ℕ) (bus : BusUnit) (base : Site) (told : Option Far) → ((z : Hart) → Y z → Z z) → Hung Y h bus base told → Hung Z h bus base told
+pub hung_map : (Y Z : Hart → Type 0) (h : ℕ) (bus : BusUnit) (base : Site) (told : Option Far) → ((z : Hart) → Y z → Z z) → Hung Y h bus base told
+    → Hung Z h bus base told
 hung_map Y Z h bus base told f p = record {
   far = p.far;
   is = p.is;
   hung = record { unit = p.hung.unit; bus_is = p.hung.bus_is; hart = p.hung.hart; one = f p.hung.hart p.hung.one; harts = p.hung.harts; at = p.hung.at };
 }
 
-pub hung_done : (Y : Hart → Type 0) (n : DebugModule) (h : ℕ) (bus : BusUnit) (y : Hart) (base t : Site) → n.bus ≡ bus → Y y → DoneAt n h y base t → HungAt Y h bus base t
+pub hung_done : (Y : Hart → Type 0) (n : DebugModule) (h : ℕ) (bus : BusUnit) (y : Hart) (base t : Site) → n.bus ≡ bus → Y y → DoneAt n h y base t
+    → HungAt Y h bus base t
 hung_done Y n h bus y base t bus_is one d = record { unit = n; bus_is = bus_is; hart = y; one = one; harts = d.harts; at = d.is }
 
-pub hung_stood : (Y : Hart → Type 0) (h : ℕ) (bus : BusUnit) (y : Hart) (base : Site) (w : Hart) (k : Kept) (t : Site) → Y y → Stood h bus y base w k t → HungAt Y h bus base t
+pub hung_stood : (Y : Hart → Type 0) (h : ℕ) (bus : BusUnit) (y : Hart) (base : Site) (w : Hart) (k : Kept) (t : Site) → Y y → Stood h bus y base w k t
+    → HungAt Y h bus base t
 hung_stood Y h bus y base w k t one st = hung_done Y (unit_of k h bus) h bus y base t refl one st.at
 
 -- ---- an error that is cleared, or not yet
 
-pub clear_cut : (Y : Hart → Type 0) (last h : ℕ) (bus : BusUnit) (y : Hart) (base : Site) (w : Hart) (k : Kept) (mid t : Site) → error_shown last ≡ 3 → Held h w base → Frozen y → bus.pending ≡ None → Y y → DoneAt (unit_with k Exception [] h bus) h y base mid
+pub clear_cut : (Y : Hart → Type 0) (last h : ℕ) (bus : BusUnit) (y : Hart) (base : Site) (w : Hart) (k : Kept) (mid t : Site) → error_shown last ≡ 3
+    → Held h w base → Frozen y → bus.pending ≡ None → Y y → DoneAt (unit_with k Exception [] h bus) h y base mid
     → SiteCut (Write abstractcs_address clears_cmderr) mid t → HungAt Y h bus base t
 clear_cut Y last h bus y base w k mid t is held fy idle one d (unperformed a) =
-    hung_done Y (unit_with k Exception [] h bus) h bus y base t refl one (done_ran (unit_with k Exception [] h bus) h y base w a.deeds mid t held fy refl idle a.is d)
+    hung_done Y (unit_with k Exception [] h bus) h bus y base t refl one
+        (done_ran (unit_with k Exception [] h bus) h y base w a.deeds mid t held fy refl idle a.is d)
 clear_cut Y last h bus y base w k mid t is held fy idle one d (was_performed result o) =
     hung_stood Y h bus y base w k t one
     (error_cleared 3 h bus y base w k mid t refl held fy idle d (t, record { before = o.before; behind = o.behind; is = o.is; result_is = refl }, refl))
@@ -87,72 +93,95 @@ clear_cut Y last h bus y base w k mid t is held fy idle one d (was_performed res
 abbrev pub Either : Bool → ℕ → Kept → Hart → Hart → Type 0
 Either write number k y z = (z ≡ y) ⊎ (z ≡ hart_behind write number k y)
 
-between_hung : (Y : Hart → Type 0) (m n : DebugModule) (h : ℕ) (bus : BusUnit) (y z : Hart) (base t : Site) → m.bus ≡ bus → n.bus ≡ bus → Y y → Y z → Between m n h y z base t → HungAt Y h bus base t
+between_hung : (Y : Hart → Type 0) (m n : DebugModule) (h : ℕ) (bus : BusUnit) (y z : Hart) (base t : Site) → m.bus ≡ bus → n.bus ≡ bus → Y y → Y z
+    → Between m n h y z base t → HungAt Y h bus base t
 between_hung Y m n h bus y z base t bm bn first second (still harts is) = record { unit = m; bus_is = bm; hart = y; one = first; harts = harts; at = is }
 between_hung Y m n h bus y z base t bm bn first second (done harts is) = record { unit = n; bus_is = bn; hart = z; one = second; harts = harts; at = is }
 
-sent_by : (write : Bool) (number h : ℕ) (bus : BusUnit) (y : Hart) (base : Site) (w : Hart) (k : Kept) (t : Site) (o : Option ℕ) (r : Bool) → Held h w base → Frozen y → number < 2 ^ 16 → bus.pending ≡ None
-    → debug_value y number ≡ o → refusing write number ≡ r → SentAt (transfer_word write number) (unit_of k h bus) h y base t → HungAt (Either write number k y) h bus base t
+sent_by : (write : Bool) (number h : ℕ) (bus : BusUnit) (y : Hart) (base : Site) (w : Hart) (k : Kept) (t : Site) (o : Option ℕ) (r : Bool) → Held h w base
+    → Frozen y → number < 2 ^ 16 → bus.pending ≡ None
+    → debug_value y number ≡ o → refusing write number ≡ r → SentAt (transfer_word write number) (unit_of k h bus) h y base t
+        → HungAt (Either write number k y) h bus base t
 sent_by write number h bus y base w k t (Some v) false held fy small idle is refuses e =
     let command : AbstractCommand = transfer_command write number in
     let start : Site = after_write command_address (transfer_word write number) (aside (unit_of k h bus) h y (passed e.harts base)) in
-    let starts = command_starts (transfer_word write number) command Fine k h bus y (passed e.harts base) w (stays_passed h e.harts base w held.here held.frozen) (transfer_back write number small) (transfer_refusal_by y write number (Some v) false fy is refuses) in
+    let starts = command_starts (transfer_word write number) command Fine k h bus y (passed e.harts base) w
+        (stays_passed h e.harts base w held.here held.frozen) (transfer_back write number small)
+        (transfer_refusal_by y write number (Some v) false fy is refuses) in
     let m : DebugModule = unit_with (with_command command k) Fine (Transfer command ∷ []) h bus in
     let course : Course m h y base w = record { here = held.here; frozen = held.frozen; frozen_x = fy; selected = refl; bus = idle } in
     let z : Hart = hart_behind write number k y in
     between_hung (Either write number k y) m (unit_of (words_behind write number v k) h bus) h bus y z base t refl refl (inl refl) (inr refl)
     (subst (λ s. Between m (unit_of (words_behind write number v k) h bus) h y z base s) (sym e.is)
-    (between_ran e.during m (commands_of (words_behind write number v k) Fine []) h y z base w (Transfer command) start course (behind_frozen write number k y fy) refl refl (transfer_does write number v k y is) (still e.harts starts)))
+    (between_ran e.during m (commands_of (words_behind write number v k) Fine []) h y z base w (Transfer command) start course
+        (behind_frozen write number k y fy) refl refl (transfer_does write number v k y is) (still e.harts starts)))
 sent_by write number h bus y base w k t (Some v) true held fy small idle is refuses e =
     let command : AbstractCommand = transfer_command write number in
     let n : DebugModule = unit_with (with_command command k) Exception [] h bus in
-    let starts = command_starts (transfer_word write number) command Exception k h bus y (passed e.harts base) w (stays_passed h e.harts base w held.here held.frozen) (transfer_back write number small) (transfer_refusal_by y write number (Some v) true fy is refuses) in
+    let starts = command_starts (transfer_word write number) command Exception k h bus y (passed e.harts base) w
+        (stays_passed h e.harts base w held.here held.frozen) (transfer_back write number small)
+        (transfer_refusal_by y write number (Some v) true fy is refuses) in
     hung_done (Either write number k y) n h bus y base t refl (inl refl)
-    (done_ran n h y base w e.during (after_write command_address (transfer_word write number) (aside (unit_of k h bus) h y (passed e.harts base))) t held fy refl idle e.is (record { harts = e.harts; is = starts }))
+    (done_ran n h y base w e.during (after_write command_address (transfer_word write number) (aside (unit_of k h bus) h y (passed e.harts base))) t held fy
+        refl idle e.is (record { harts = e.harts; is = starts }))
 sent_by write number h bus y base w k t None r held fy small idle is refuses e =
     let command : AbstractCommand = transfer_command write number in
     let n : DebugModule = unit_with (with_command command k) Exception [] h bus in
-    let starts = command_starts (transfer_word write number) command Exception k h bus y (passed e.harts base) w (stays_passed h e.harts base w held.here held.frozen) (transfer_back write number small) (transfer_refusal_by y write number None r fy is refuses) in
+    let starts = command_starts (transfer_word write number) command Exception k h bus y (passed e.harts base) w
+        (stays_passed h e.harts base w held.here held.frozen) (transfer_back write number small) (transfer_refusal_by y write number None r fy is refuses) in
     hung_done (Either write number k y) n h bus y base t refl (inl refl)
-    (done_ran n h y base w e.during (after_write command_address (transfer_word write number) (aside (unit_of k h bus) h y (passed e.harts base))) t held fy refl idle e.is (record { harts = e.harts; is = starts }))
+    (done_ran n h y base w e.during (after_write command_address (transfer_word write number) (aside (unit_of k h bus) h y (passed e.harts base))) t held fy
+        refl idle e.is (record { harts = e.harts; is = starts }))
 
-end_cut : (write : Bool) (number last h : ℕ) (bus : BusUnit) (y : Hart) (base : Site) (w : Hart) (k : Kept) (mid t : Site) → Held h w base → Frozen y → bus.pending ≡ None → (error_shown last ≡ 0 → ⊥) → TransferEnd write number last k h bus y base mid
+end_cut : (write : Bool) (number last h : ℕ) (bus : BusUnit) (y : Hart) (base : Site) (w : Hart) (k : Kept) (mid t : Site) → Held h w base → Frozen y
+    → bus.pending ≡ None → (error_shown last ≡ 0 → ⊥) → TransferEnd write number last k h bus y base mid
     → SiteCut (Write abstractcs_address clears_cmderr) mid t → HungAt (Either write number k y) h bus base t
 end_cut write number last h bus y base w k mid t held fy idle error (took v is free end) cut = absurd (error end.error_is)
 end_cut write number last h bus y base w k mid t held fy idle error (refused none end) cut =
-    clear_cut (Either write number k y) last h bus y base w (with_command (transfer_command write number) k) mid t end.error_is held fy idle (inl refl) end.done_at cut
+    clear_cut (Either write number k y) last h bus y base w (with_command (transfer_command write number) k) mid t end.error_is held fy idle (inl refl)
+        end.done_at cut
 
-transfer_cut : (write : Bool) (number h : ℕ) (bus : BusUnit) (y : Hart) (base : Site) (w : Hart) (k : Kept) (t : Site) → number < 2 ^ 16 → Held h w base → Frozen y → bus.pending ≡ None
+transfer_cut : (write : Bool) (number h : ℕ) (bus : BusUnit) (y : Hart) (base : Site) (w : Hart) (k : Kept) (t : Site) → number < 2 ^ 16 → Held h w base
+    → Frozen y → bus.pending ≡ None
     → CommandCutAt (transfer_word write number) h bus y base w k t
     → HungAt (Either write number k y) h bus base t
 transfer_cut write number h bus y base w k t small held fy idle (unsent u) = hung_stood (Either write number k y) h bus y base w u.kept t (inl refl) u.stood
-transfer_cut write number h bus y base w k t small held fy idle (sent e) = sent_by write number h bus y base w k t (debug_value y number) (refusing write number) held fy small idle refl refl e
+transfer_cut write number h bus y base w k t small held fy idle (sent e) =
+    sent_by write number h bus y base w k t (debug_value y number) (refusing write number) held fy small idle refl refl e
 transfer_cut write number h bus y base w k t small held fy none (ended last mid idle error c cut) =
     end_cut write number last h bus y base w k mid t held fy none error (transfer_ends write number last k h bus y base w mid held fy small none c idle) cut
 
-transfer_hung : (front : List Act) (write : Bool) (number h : ℕ) (bus : BusUnit) (y : Hart) (base : Site) (w : Hart) (l : Kept) (old_count new_count : ℕ) (old new : Tells) (e : AccessFault) → number < 2 ^ 16
-    → (st : StoodTold h bus y base w old.far) → WordPuts h bus y st.kept front l → CommandFailed front (transfer_word write number) old_count new_count old new e
+transfer_hung : (front : List Act) (write : Bool) (number h : ℕ) (bus : BusUnit) (y : Hart) (base : Site) (w : Hart) (l : Kept) (old_count new_count : ℕ)
+    (old new : Tells) (e : AccessFault) → number < 2 ^ 16
+    → (st : StoodTold h bus y base w old.far) → WordPuts h bus y st.kept front l
+        → CommandFailed front (transfer_word write number) old_count new_count old new e
     → IfCut (Hung (Either write number l y) h bus base new.far) e
 transfer_hung front write number h bus y base w l old_count new_count old new e small st puts f =
     if_cut (CommandCutTold (transfer_word write number) h bus y base w l new.far) (Hung (Either write number l y) h bus base new.far) e
-    (λ c. record { far = c.far; is = c.is; hung = transfer_cut write number h bus y base w l (site_of c.far) small st.stood.held st.stood.frozen st.stood.idle c.cut })
+    (λ c. record { far = c.far; is = c.is; hung = transfer_cut write number h bus y base w l (site_of c.far) small st.stood.held st.stood.frozen st.stood.idle
+        c.cut })
     (command_cut_told front (transfer_word write number) h bus y base w l old_count new_count old new e st puts f)
 
 -- ---- the data words
 
-got_hung : (a h : ℕ) (bus : BusUnit) (y : Hart) (base : Site) (w : Hart) (f : Far) (told : Option Far) (k : Kept) (s : Site) (far : Far) → told ≡ Some far → Rests h bus y base w (site_of far) → Hung (λ z. z ≡ y) h bus base told
+got_hung : (a h : ℕ) (bus : BusUnit) (y : Hart) (base : Site) (w : Hart) (f : Far) (told : Option Far) (k : Kept) (s : Site) (far : Far) → told ≡ Some far
+    → Rests h bus y base w (site_of far) → Hung (λ z. z ≡ y) h bus base told
 got_hung a h bus y base w f told k s far is r = record { far = far; is = is; hung = hung_stood (λ z. z ≡ y) h bus y base w r.kept (site_of far) refl r.stood }
 
-words_read_cut : (h : ℕ) (bus : BusUnit) (y : Hart) (base : Site) (w : Hart) (far told : Option Far) (acts : List Act) (op : DmiOp) → (st : StoodTold h bus y base w far) → DoubleReads acts (Operation op)
+words_read_cut : (h : ℕ) (bus : BusUnit) (y : Hart) (base : Site) (w : Hart) (far told : Option Far) (acts : List Act) (op : DmiOp)
+    → (st : StoodTold h bus y base w far) → DoubleReads acts (Operation op)
     → CutAt acts op st.far told → Hung (λ z. z ≡ y) h bus base told
 unfolding register_at
 words_read_cut h bus y base w far told _ _ st low_read c =
     got_hung data0_address h bus y base w st.far told st.kept c.mid c.far c.is
-    (got_cut data0_address h bus y base w st.kept c.mid (site_of c.far) (subst (λ s. Stood h bus y base w st.kept s) (sym c.acts_are) st.stood) (λ z. refl) c.cut)
+    (got_cut data0_address h bus y base w st.kept c.mid (site_of c.far) (subst (λ s. Stood h bus y base w st.kept s) (sym c.acts_are) st.stood) (λ z. refl)
+        c.cut)
 words_read_cut h bus y base w far told _ _ st (high_read low) c =
     let p = c.acts_are in
-    let mid : Stood h bus y base w st.kept c.mid = subst (λ s. Stood h bus y base w st.kept s) (sym p.2) (got_at data0_address low h bus y base w st.kept (site_of st.far) p.0 st.stood p.1 (λ z. refl)) in
-    got_hung data1_address h bus y base w st.far told st.kept c.mid c.far c.is (got_cut data1_address h bus y base w st.kept c.mid (site_of c.far) mid (λ z. refl) c.cut)
+    let mid : Stood h bus y base w st.kept c.mid =
+        subst (λ s. Stood h bus y base w st.kept s) (sym p.2) (got_at data0_address low h bus y base w st.kept (site_of st.far) p.0 st.stood p.1 (λ z. refl)) in
+    got_hung data1_address h bus y base w st.far told st.kept c.mid c.far c.is
+        (got_cut data1_address h bus y base w st.kept c.mid (site_of c.far) mid (λ z. refl) c.cut)
 
 -- ---- a register that is read
 
@@ -164,27 +193,35 @@ same_either number k y z (inr e) = e
 pub record CommandStood (h : ℕ) (bus : BusUnit) (y : Hart) (base : Site) (w : Hart) (told : Option Far) : Type 0 where
   pub then : StoodTold h bus y base w told
 
-taken_stood : (number last h : ℕ) (bus : BusUnit) (y : Hart) (base : Site) (w : Hart) (k : Kept) (told : Option Far) (f : Far) → told ≡ Some f → TransferTold false number last h bus y base w k (site_of f) → StoodTold h bus y base w told
+taken_stood : (number last h : ℕ) (bus : BusUnit) (y : Hart) (base : Site) (w : Hart) (k : Kept) (told : Option Far) (f : Far) → told ≡ Some f
+    → TransferTold false number last h bus y base w k (site_of f) → StoodTold h bus y base w told
 taken_stood number last h bus y base w k told f is (taken v held free error st) = record { far = f; is = is; kept = words_behind false number v k; stood = st }
-taken_stood number last h bus y base w k told f is (denied none error st) = record { far = f; is = is; kept = with_command (transfer_command false number) k; stood = st }
+taken_stood number last h bus y base w k told f is (denied none error st) =
+    record { far = f; is = is; kept = with_command (transfer_command false number) k; stood = st }
 
-read_at_hung : (number h : ℕ) (bus : BusUnit) (y : Hart) (base : Site) (w : Hart) (old_count new_count : ℕ) (old new : Tells) (why : DmiFault) → number < 2 ^ 16 → StoodTold h bus y base w old.far
+read_at_hung : (number h : ℕ) (bus : BusUnit) (y : Hart) (base : Site) (w : Hart) (old_count new_count : ℕ) (old new : Tells) (why : DmiFault)
+    → number < 2 ^ 16 → StoodTold h bus y base w old.far
     → ReadFailedAt number old_count new_count old new (access_fault.Dmi why) → Hung (λ z. z ≡ y) h bus base new.far
 read_at_hung number h bus y base w old_count new_count old new why small st (read_in_command _ f) =
-    hung_map (Either false number st.kept y) (λ z. z ≡ y) h bus base new.far (λ z e. same_either number st.kept y z e) (transfer_hung [] false number h bus y base w st.kept old_count new_count old new (access_fault.Dmi why) small st (no_more st.kept) f)
+    hung_map (Either false number st.kept y) (λ z. z ≡ y) h bus base new.far (λ z e. same_either number st.kept y z e)
+        (transfer_hung [] false number h bus y base w st.kept old_count new_count old new (access_fault.Dmi why) small st (no_more st.kept) f)
 read_at_hung number h bus y base w old_count new_count old new why small st (read_in_words mid ran _ f) =
-    let c : CommandTold false number ran.last h bus y base w st.kept mid.far = command_told [] false number ran.last h bus y base w st.kept old mid small st (no_more st.kept) ran.ran in
+    let c : CommandTold false number ran.last h bus y base w st.kept mid.far =
+        command_told [] false number ran.last h bus y base w st.kept old mid small st (no_more st.kept) ran.ran in
     let stood : StoodTold h bus y base w mid.far = taken_stood number ran.last h bus y base w st.kept mid.far c.far c.is c.transfer in
     let cut : CutWithin DoubleReads stood.far new.far = cut_within DoubleReads old_count new_count mid new.far why stood.far stood.is f in
     words_read_cut h bus y base w mid.far new.far cut.acts cut.op stood cut.begun cut.cut
 
-pub read_hung : (number h : ℕ) (bus : BusUnit) (y : Hart) (base : Site) (w : Hart) (old_count new_count : ℕ) (old new : Tells) (e : AccessFault) → number < 2 ^ 16 → StoodTold h bus y base w old.far → ReadFailed number old_count new_count old new e
+pub read_hung : (number h : ℕ) (bus : BusUnit) (y : Hart) (base : Site) (w : Hart) (old_count new_count : ℕ) (old new : Tells) (e : AccessFault)
+    → number < 2 ^ 16 → StoodTold h bus y base w old.far → ReadFailed number old_count new_count old new e
     → IfCut (Hung (λ z. z ≡ y) h bus base new.far) e
-read_hung number h bus y base w old_count new_count old new (access_fault.Dmi why) small st f = read_at_hung number h bus y base w old_count new_count old new why small st f
+read_hung number h bus y base w old_count new_count old new (access_fault.Dmi why) small st f =
+    read_at_hung number h bus y base w old_count new_count old new why small st f
 read_hung number h bus y base w old_count new_count old new (access_fault.Memory at) small st f = tt
 read_hung number h bus y base w old_count new_count old new (access_fault.Register asked) small st f = tt
 read_hung number h bus y base w old_count new_count old new access_fault.StillBusy small st f =
-    hung_map (Either false number st.kept y) (λ z. z ≡ y) h bus base new.far (λ z e. same_either number st.kept y z e) (transfer_hung [] false number h bus y base w st.kept old_count new_count old new access_fault.StillBusy small st (no_more st.kept) f)
+    hung_map (Either false number st.kept y) (λ z. z ≡ y) h bus base new.far (λ z e. same_either number st.kept y z e)
+        (transfer_hung [] false number h bus y base w st.kept old_count new_count old new access_fault.StillBusy small st (no_more st.kept) f)
 read_hung number h bus y base w old_count new_count old new (access_fault.Run why) small st f = tt
 read_hung number h bus y base w old_count new_count old new (access_fault.Odd shown) small st f = tt
 
@@ -197,26 +234,32 @@ written_either : (number value : ℕ) (k : Kept) (y z : Hart) → Either true nu
 written_either number value k y z (inl e) = inl e
 written_either number value k y z (inr e) = inr (e ∙ ap (debug_written y number) (halves_joined value))
 
-write_command_hung : (number value h : ℕ) (bus : BusUnit) (y : Hart) (base : Site) (w : Hart) (old_count new_count : ℕ) (old new : Tells) (e : AccessFault) → number < 2 ^ 16 → StoodTold h bus y base w old.far
-    → CommandFailed (double_written value) (transfer_word true number) old_count new_count old new e → IfCut (Hung (Written number value y) h bus base new.far) e
+write_command_hung : (number value h : ℕ) (bus : BusUnit) (y : Hart) (base : Site) (w : Hart) (old_count new_count : ℕ) (old new : Tells) (e : AccessFault)
+    → number < 2 ^ 16 → StoodTold h bus y base w old.far
+    → CommandFailed (double_written value) (transfer_word true number) old_count new_count old new e
+        → IfCut (Hung (Written number value y) h bus base new.far) e
 write_command_hung number value h bus y base w old_count new_count old new e small st f =
     let l : Kept = with_double value st.kept in
     if_cut (Hung (Either true number l y) h bus base new.far) (Hung (Written number value y) h bus base new.far) e
     (hung_map (Either true number l y) (Written number value y) h bus base new.far (λ z p. written_either number value st.kept y z p))
     (transfer_hung (double_written value) true number h bus y base w l old_count new_count old new e small st (double_puts value h bus y st.kept) f)
 
-pub write_hung : (number value h : ℕ) (bus : BusUnit) (y : Hart) (base : Site) (w : Hart) (old_count new_count : ℕ) (old new : Tells) (e : AccessFault) → number < 2 ^ 16 → StoodTold h bus y base w old.far → WriteFailed number value old_count new_count old new e
+pub write_hung : (number value h : ℕ) (bus : BusUnit) (y : Hart) (base : Site) (w : Hart) (old_count new_count : ℕ) (old new : Tells) (e : AccessFault)
+    → number < 2 ^ 16 → StoodTold h bus y base w old.far → WriteFailed number value old_count new_count old new e
     → IfCut (Hung (Written number value y) h bus base new.far) e
-write_hung number value h bus y base w old_count new_count old new (access_fault.Dmi why) small st f = write_command_hung number value h bus y base w old_count new_count old new (access_fault.Dmi why) small st f
+write_hung number value h bus y base w old_count new_count old new (access_fault.Dmi why) small st f =
+    write_command_hung number value h bus y base w old_count new_count old new (access_fault.Dmi why) small st f
 write_hung number value h bus y base w old_count new_count old new (access_fault.Memory at) small st f = tt
 write_hung number value h bus y base w old_count new_count old new (access_fault.Register asked) small st f = tt
-write_hung number value h bus y base w old_count new_count old new access_fault.StillBusy small st f = write_command_hung number value h bus y base w old_count new_count old new access_fault.StillBusy small st f
+write_hung number value h bus y base w old_count new_count old new access_fault.StillBusy small st f =
+    write_command_hung number value h bus y base w old_count new_count old new access_fault.StillBusy small st f
 write_hung number value h bus y base w old_count new_count old new (access_fault.Run why) small st f = tt
 write_hung number value h bus y base w old_count new_count old new (access_fault.Odd shown) small st f = tt
 
 -- ---- x8 and x9
 
-pub save_hung : (h : ℕ) (bus : BusUnit) (y : Hart) (base : Site) (w : Hart) (old_count new_count : ℕ) (old new : Tells) (e : AccessFault) → StoodTold h bus y base w old.far → SaveFailed old_count new_count old new e → IfCut (Hung (λ z. z ≡ y) h bus base new.far) e
+pub save_hung : (h : ℕ) (bus : BusUnit) (y : Hart) (base : Site) (w : Hart) (old_count new_count : ℕ) (old new : Tells) (e : AccessFault)
+    → StoodTold h bus y base w old.far → SaveFailed old_count new_count old new e → IfCut (Hung (λ z. z ≡ y) h bus base new.far) e
 save_hung h bus y base w old_count new_count old new e st (save_x8 f) = read_hung x8_number h bus y base w old_count new_count old new e (omega arith) st f
 save_hung h bus y base w old_count new_count old new e st (save_x9 x8 mid r f) =
     let a : ReadTold x8_number x8 h bus y base w mid.far = read_told x8_number x8 h bus y base w old mid (omega arith) st r in
@@ -230,10 +273,12 @@ second_written : (x8 x9 : ℕ) (y z : Hart) → Written x9_number x9 (debug_writ
 second_written x8 x9 y z (inl e) = inl (inr e)
 second_written x8 x9 y z (inr e) = inr e
 
-pub back_hung : (x8 x9 h : ℕ) (bus : BusUnit) (y : Hart) (base : Site) (w : Hart) (old_count new_count : ℕ) (old new : Tells) (e : AccessFault) → StoodTold h bus y base w old.far → PutBackFailed x8 x9 old_count new_count old new e
+pub back_hung : (x8 x9 h : ℕ) (bus : BusUnit) (y : Hart) (base : Site) (w : Hart) (old_count new_count : ℕ) (old new : Tells) (e : AccessFault)
+    → StoodTold h bus y base w old.far → PutBackFailed x8 x9 old_count new_count old new e
     → IfCut (Hung (PutBack x8 x9 y) h bus base new.far) e
 back_hung x8 x9 h bus y base w old_count new_count old new e st (put_x8 f) =
-    if_cut (Hung (Written x8_number x8 y) h bus base new.far) (Hung (PutBack x8 x9 y) h bus base new.far) e (hung_map (Written x8_number x8 y) (PutBack x8 x9 y) h bus base new.far (λ z p. inl p))
+    if_cut (Hung (Written x8_number x8 y) h bus base new.far) (Hung (PutBack x8 x9 y) h bus base new.far) e
+        (hung_map (Written x8_number x8 y) (PutBack x8 x9 y) h bus base new.far (λ z p. inl p))
     (write_hung x8_number x8 h bus y base w old_count new_count old new e (omega arith) st f)
 back_hung x8 x9 h bus y base w old_count new_count old new e st (put_x9 mid r f) =
     let a : WrittenTold x8_number x8 h bus y base w st.kept mid.far = written_told x8_number x8 h bus y base w old mid (omega arith) st r in

@@ -44,7 +44,8 @@ pub record CutAt (acts : List Act) (op : DmiOp) (f : Far) (told : Option Far) : 
   pub is : told ≡ Some far
   pub cut : SiteCut op mid (site_of far)
 
-pub cut_at : (acts : List Act) (op : DmiOp) (old_count new_count : ℕ) (old : Tells) (told : Option Far) (why : DmiFault) (f : Far) → old.far ≡ Some f → Broke acts (Operation op) old_count new_count old told why → CutAt acts op f told
+pub cut_at : (acts : List Act) (op : DmiOp) (old_count new_count : ℕ) (old : Tells) (told : Option Far) (why : DmiFault) (f : Far) → old.far ≡ Some f
+    → Broke acts (Operation op) old_count new_count old told why → CutAt acts op f told
 cut_at acts op old_count new_count old told why f is b =
     let at : AtSites acts f b.mid.far = did_sites old acts b.mid f b.did is in
     let c : OperationCut op at.far.live.chip told = subst (λ (m : Option Far). WhereTold (OperationCut op) m told) at.is b.cut in
@@ -57,26 +58,30 @@ pub record CutWithin (Begun : List Act → Attempt → Type 0) (f : Far) (told :
   pub begun : Begun acts (Operation op)
   pub cut : CutAt acts op f told
 
-several_cut : (Begun : List Act → Attempt → Type 0) (acts : List Act) (op : DmiOp) (ops : List DmiOp) (old_count new_count : ℕ) (old : Tells) (told : Option Far) (why : DmiFault) (f : Far) → old.far ≡ Some f → Among Begun acts (Several op ops)
+several_cut : (Begun : List Act → Attempt → Type 0) (acts : List Act) (op : DmiOp) (ops : List DmiOp) (old_count new_count : ℕ) (old : Tells)
+    (told : Option Far) (why : DmiFault) (f : Far) → old.far ≡ Some f → Among Begun acts (Several op ops)
     → Broke acts (Several op ops) old_count new_count old told why → CutWithin Begun f told
 several_cut Begun acts op ops old_count new_count old told why f is begun b =
     let at : AtSites acts f b.mid.far = did_sites old acts b.mid f b.did is in
     let c : OperationsCut (op ∷ ops) at.far.live.chip told = subst (λ (m : Option Far). WhereTold (OperationsCut (op ∷ ops)) m told) at.is b.cut in
-    let s : StoppedAt (op ∷ ops) (site_of at.far) (site_of c.far) = stopped_at op ops c.done c.rest c.happened (site_of at.far) (site_of c.far) c.asked c.once c.site in
+    let s : StoppedAt (op ∷ ops) (site_of at.far) (site_of c.far) =
+        stopped_at op ops c.done c.rest c.happened (site_of at.far) (site_of c.far) c.asked c.once c.site in
     record {
       acts = acts ++ map act_of s.done;
       op = s.op;
       begun = begun s.done s.op s.left s.asked;
       cut = record {
         mid = s.mid;
-        acts_are = site_acts-append acts (map act_of s.done) (site_of f) (site_of at.far) s.mid at.acts_are (operations_acts s.done (site_of at.far) s.mid s.before);
+        acts_are = site_acts-append acts (map act_of s.done) (site_of f) (site_of at.far) s.mid at.acts_are
+            (operations_acts s.done (site_of at.far) s.mid s.before);
         far = c.far;
         is = c.is;
         cut = s.cut;
       };
     }
 
-pub cut_within : (Begun : List Act → Attempt → Type 0) (old_count new_count : ℕ) (old : Tells) (told : Option Far) (why : DmiFault) (f : Far) → old.far ≡ Some f → BrokeIn (Among Begun) old_count new_count old told why → CutWithin Begun f told
+pub cut_within : (Begun : List Act → Attempt → Type 0) (old_count new_count : ℕ) (old : Tells) (told : Option Far) (why : DmiFault) (f : Far)
+    → old.far ≡ Some f → BrokeIn (Among Begun) old_count new_count old told why → CutWithin Begun f told
 cut_within Begun old_count new_count old told why f is b = by b.failed b.begun b.broke
   where
     by : (failed : Attempt) → Among Begun b.acts failed → Broke b.acts failed old_count new_count old told why → CutWithin Begun f told
@@ -86,7 +91,8 @@ cut_within Begun old_count new_count old told why f is b = by b.failed b.begun b
 
 -- ---- operations that leave the module quiet
 
-stood_ran : (h : ℕ) (bus : BusUnit) (y : Hart) (base : Site) (w : Hart) (k : Kept) (s t : Site) → Stood h bus y base w k s → DeedsAlone s t → Stood h bus y base w k t
+stood_ran : (h : ℕ) (bus : BusUnit) (y : Hart) (base : Site) (w : Hart) (k : Kept) (s t : Site) → Stood h bus y base w k s → DeedsAlone s t
+    → Stood h bus y base w k t
 stood_ran h bus y base w k s t st d = record {
   held = st.held;
   frozen = st.frozen;
@@ -102,16 +108,20 @@ pub record Rests (h : ℕ) (bus : BusUnit) (y : Hart) (base : Site) (w : Hart) (
 pub rests : (h : ℕ) (bus : BusUnit) (y : Hart) (base : Site) (w : Hart) (k : Kept) (t : Site) → Stood h bus y base w k t → Rests h bus y base w t
 rests h bus y base w k t st = record { kept = k; stood = st }
 
-pub got_cut : (a : ℕ) (h : ℕ) (bus : BusUnit) (y : Hart) (base : Site) (w : Hart) (k : Kept) (s t : Site) → Stood h bus y base w k s → ((z : Site) → operated (Read a) (aside (unit_of k h bus) h y z) ≡ aside (unit_of k h bus) h y z)
+pub got_cut : (a : ℕ) (h : ℕ) (bus : BusUnit) (y : Hart) (base : Site) (w : Hart) (k : Kept) (s t : Site) → Stood h bus y base w k s
+    → ((z : Site) → operated (Read a) (aside (unit_of k h bus) h y z) ≡ aside (unit_of k h bus) h y z)
     → SiteCut (Read a) s t → Rests h bus y base w t
 got_cut a h bus y base w k s t st same (unperformed d) = rests h bus y base w k t (stood_ran h bus y base w k s t st d)
-got_cut a h bus y base w k s t st same (was_performed result o) = rests h bus y base w k t (got_at a (value_of result) h bus y base w k s t st (record { result = result; one = o; value_is = refl }) same)
+got_cut a h bus y base w k s t st same (was_performed result o) =
+    rests h bus y base w k t (got_at a (value_of result) h bus y base w k s t st (record { result = result; one = o; value_is = refl }) same)
 
-pub put_cut : (a value : ℕ) (h : ℕ) (bus : BusUnit) (y : Hart) (base : Site) (w : Hart) (k l : Kept) (s t : Site) → Stood h bus y base w k s → ((z : Site) → operated (Write a value) (aside (unit_of k h bus) h y z) ≡ aside (unit_of l h bus) h y z)
+pub put_cut : (a value : ℕ) (h : ℕ) (bus : BusUnit) (y : Hart) (base : Site) (w : Hart) (k l : Kept) (s t : Site) → Stood h bus y base w k s
+    → ((z : Site) → operated (Write a value) (aside (unit_of k h bus) h y z) ≡ aside (unit_of l h bus) h y z)
     → SiteCut (Write a value) s t → Rests h bus y base w t
 put_cut a value h bus y base w k l s t st changes (unperformed d) = rests h bus y base w k t (stood_ran h bus y base w k s t st d)
 put_cut a value h bus y base w k l s t st changes (was_performed result o) =
-    rests h bus y base w l t (put_at a value h bus y base w k l s t st (t, record { before = o.before; behind = o.behind; is = o.is; result_is = refl }, refl) changes)
+    rests h bus y base w l t (put_at a value h bus y base w k l s t st (t, record { before = o.before; behind = o.behind; is = o.is; result_is = refl }, refl)
+        changes)
 
 -- ---- a command that was written, with whatever deeds followed
 
@@ -129,15 +139,19 @@ sent_more word n h y base s t e r = record {
 
 status_cut : (s t : Site) → SiteCut (Read abstractcs_address) s t → RanAlone s t
 status_cut s t (unperformed d) = record { deeds = d.deeds; is = d.is }
-status_cut s t (was_performed result o) = record { deeds = o.before ++ o.behind; is = o.is ∙ ap (ran o.behind) (read_status (ran o.before s)) ∙ sym (ran-append o.before o.behind s) }
+status_cut s t (was_performed result o) =
+    record { deeds = o.before ++ o.behind; is = o.is ∙ ap (ran o.behind) (read_status (ran o.before s)) ∙ sym (ran-append o.before o.behind s) }
 
-sent_first : (word h : ℕ) (bus : BusUnit) (y : Hart) (base : Site) (w : Hart) (k : Kept) (s t : Site) → Stood h bus y base w k s → OneOperation (Write command_address word) word s t → SentAt word (unit_of k h bus) h y base t
+sent_first : (word h : ℕ) (bus : BusUnit) (y : Hart) (base : Site) (w : Hart) (k : Kept) (s t : Site) → Stood h bus y base w k s
+    → OneOperation (Write command_address word) word s t → SentAt word (unit_of k h bus) h y base t
 sent_first word h bus y base w k s t st o =
-    let first : OpAt (Write command_address word) word (unit_of k h bus) h y base t = op_at (Write command_address word) word (unit_of k h bus) h y base w s t st.held st.frozen refl st.idle st.at o in
+    let first : OpAt (Write command_address word) word (unit_of k h bus) h y base t =
+        op_at (Write command_address word) word (unit_of k h bus) h y base w s t st.held st.frozen refl st.idle st.at o in
     record { harts = first.harts; during = first.behind; is = first.is }
 
 -- it was written, and polled for in vain
-pub sent_polls : (word : ℕ) (words : List ℕ) (h : ℕ) (bus : BusUnit) (y : Hart) (base : Site) (w : Hart) (k : Kept) (s t : Site) → Stood h bus y base w k s → SiteActs (Put command_address word ∷ map poll_act words) s t
+pub sent_polls : (word : ℕ) (words : List ℕ) (h : ℕ) (bus : BusUnit) (y : Hart) (base : Site) (w : Hart) (k : Kept) (s t : Site) → Stood h bus y base w k s
+    → SiteActs (Put command_address word ∷ map poll_act words) s t
     → SentAt word (unit_of k h bus) h y base t
 sent_polls word words h bus y base w k s t st p =
     sent_more word (unit_of k h bus) h y base p.0 t (sent_first word h bus y base w k s p.0 st p.1) (polls_ran words p.0 t p.2)
@@ -152,7 +166,8 @@ record SameFront (a v b u : ℕ) (xs ys : List Act) : Type 0 where
 same_front : (a v b u : ℕ) (xs ys : List Act) → Put a v ∷ xs ≡ Put b u ∷ ys → SameFront a v b u xs ys
 same_front a v b u xs ys e = record { address = cc; value = cc; rest = cc }
 
-front_cut : (h : ℕ) (bus : BusUnit) (y : Hart) (base : Site) (w : Hart) (k l : Kept) (front done rest : List Act) (a v : ℕ) (s mid t : Site) → WordPuts h bus y k front l
+front_cut : (h : ℕ) (bus : BusUnit) (y : Hart) (base : Site) (w : Hart) (k l : Kept) (front done rest : List Act) (a v : ℕ) (s mid t : Site)
+    → WordPuts h bus y k front l
     → front ≡ done ++ Put a v ∷ rest → Stood h bus y base w k s → SiteActs done s mid → SiteCut (Write a v) mid t → Rests h bus y base w t
 front_cut h bus y base w k _ _ [] rest a v s mid t (no_more _) is st p cut = absurd (let no : ⊥ = cc in no)
 front_cut h bus y base w k _ _ (x ∷ done) rest a v s mid t (no_more _) is st p cut = absurd (let no : ⊥ = cc in no)
@@ -170,19 +185,23 @@ front_cut h bus y base w k l _ (x ∷ done) rest a v s mid t (and_then b u acts 
 pub data CommandCutAt (word : ℕ) (h : ℕ) (bus : BusUnit) (y : Hart) (base : Site) (w : Hart) (k : Kept) (t : Site) : Type 0 where
   unsent : Rests h bus y base w t → CommandCutAt word h bus y base w k t
   sent : SentAt word (unit_of k h bus) h y base t → CommandCutAt word h bus y base w k t
-  ended : (last : ℕ) (mid : Site) → shows_busy last ≡ false → (error_shown last ≡ 0 → ⊥) → Commanded word last (unit_of k h bus) h y base mid → SiteCut (Write abstractcs_address clears_cmderr) mid t
+  ended : (last : ℕ) (mid : Site) → shows_busy last ≡ false → (error_shown last ≡ 0 → ⊥) → Commanded word last (unit_of k h bus) h y base mid
+      → SiteCut (Write abstractcs_address clears_cmderr) mid t
       → CommandCutAt word h bus y base w k t
 
-written_cut : (word h : ℕ) (bus : BusUnit) (y : Hart) (base : Site) (w : Hart) (k : Kept) (s t : Site) → Stood h bus y base w k s → SiteCut (Write command_address word) s t → CommandCutAt word h bus y base w k t
+written_cut : (word h : ℕ) (bus : BusUnit) (y : Hart) (base : Site) (w : Hart) (k : Kept) (s t : Site) → Stood h bus y base w k s
+    → SiteCut (Write command_address word) s t → CommandCutAt word h bus y base w k t
 written_cut word h bus y base w k s t st (unperformed d) = unsent (rests h bus y base w k t (stood_ran h bus y base w k s t st d))
-written_cut word h bus y base w k s t st (was_performed result o) = sent (sent_first word h bus y base w k s t st (record { before = o.before; behind = o.behind; is = o.is; result_is = refl }))
+written_cut word h bus y base w k s t st (was_performed result o) =
+    sent (sent_first word h bus y base w k s t st (record { before = o.before; behind = o.behind; is = o.is; result_is = refl }))
 
 pub record CommandCutTold (word : ℕ) (h : ℕ) (bus : BusUnit) (y : Hart) (base : Site) (w : Hart) (k : Kept) (told : Option Far) : Type 0 where
   pub far : Far
   pub is : told ≡ Some far
   pub cut : CommandCutAt word h bus y base w k (site_of far)
 
-cut_begun : (front : List Act) (word h : ℕ) (bus : BusUnit) (y : Hart) (base : Site) (w : Hart) (l : Kept) (far : Option Far) (told : Option Far) (acts : List Act) (op : DmiOp) → (st : StoodTold h bus y base w far)
+cut_begun : (front : List Act) (word h : ℕ) (bus : BusUnit) (y : Hart) (base : Site) (w : Hart) (l : Kept) (far : Option Far) (told : Option Far)
+    (acts : List Act) (op : DmiOp) → (st : StoodTold h bus y base w far)
     → WordPuts h bus y st.kept front l → CommandBegun front word acts (Operation op) → CutAt acts op st.far told → CommandCutTold word h bus y base w l told
 cut_begun front word h bus y base w l far told _ _ st puts (ahead done rest a v is) c = record {
   far = c.far;
@@ -190,7 +209,8 @@ cut_begun front word h bus y base w l far told _ _ st puts (ahead done rest a v 
   cut = unsent (front_cut h bus y base w st.kept l front done rest a v (site_of st.far) c.mid (site_of c.far) puts is st.stood c.acts_are c.cut);
 }
 cut_begun front word h bus y base w l far told _ _ st puts writes c =
-    record { far = c.far; is = c.is; cut = written_cut word h bus y base w l c.mid (site_of c.far) (words_put h bus y base w st.kept l front (site_of st.far) c.mid puts st.stood c.acts_are) c.cut }
+    record { far = c.far; is = c.is; cut = written_cut word h bus y base w l c.mid (site_of c.far)
+        (words_put h bus y base w st.kept l front (site_of st.far) c.mid puts st.stood c.acts_are) c.cut }
 cut_begun front word h bus y base w l far told _ _ st puts (polls words vain) c =
     let tail : List Act = Put command_address word ∷ map poll_act words in
     let split : Split front tail (site_of st.far) c.mid = site_acts-split front tail (site_of st.far) c.mid c.acts_are in
@@ -198,7 +218,8 @@ cut_begun front word h bus y base w l far told _ _ st puts (polls words vain) c 
     record {
       far = c.far;
       is = c.is;
-      cut = sent (sent_more word (unit_of l h bus) h y base c.mid (site_of c.far) (sent_polls word words h bus y base w l split.mid c.mid ready split.rest) (status_cut c.mid (site_of c.far) c.cut));
+      cut = sent (sent_more word (unit_of l h bus) h y base c.mid (site_of c.far) (sent_polls word words h bus y base w l split.mid c.mid ready split.rest)
+          (status_cut c.mid (site_of c.far) c.cut));
     }
 cut_begun front word h bus y base w l far told _ _ st puts (clears words last vain idle error) c =
     let tail : List Act = Put command_address word ∷ (map poll_act words ++ poll_act last ∷ []) in
@@ -207,11 +228,13 @@ cut_begun front word h bus y base w l far told _ _ st puts (clears words last va
     record {
       far = c.far;
       is = c.is;
-      cut = ended last c.mid idle error (commanded word words last (unit_of l h bus) h y base w split.mid c.mid ready.held ready.frozen refl ready.idle ready.at split.rest) c.cut;
+      cut = ended last c.mid idle error (commanded word words last (unit_of l h bus) h y base w split.mid c.mid ready.held ready.frozen refl ready.idle
+          ready.at split.rest) c.cut;
     }
 
 -- by the fault
-pub command_cut_told : (front : List Act) (word h : ℕ) (bus : BusUnit) (y : Hart) (base : Site) (w : Hart) (l : Kept) (old_count new_count : ℕ) (old new : Tells) (e : AccessFault) → (st : StoodTold h bus y base w old.far)
+pub command_cut_told : (front : List Act) (word h : ℕ) (bus : BusUnit) (y : Hart) (base : Site) (w : Hart) (l : Kept) (old_count new_count : ℕ)
+    (old new : Tells) (e : AccessFault) → (st : StoodTold h bus y base w old.far)
     → WordPuts h bus y st.kept front l → CommandFailed front word old_count new_count old new e → IfCut (CommandCutTold word h bus y base w l new.far) e
 command_cut_told front word h bus y base w l old_count new_count old new (access_fault.Dmi why) st puts f =
     let c : CutWithin (CommandBegun front word) st.far new.far = cut_within (CommandBegun front word) old_count new_count old new.far why st.far st.is f in

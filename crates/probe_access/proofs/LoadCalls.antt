@@ -18,7 +18,8 @@ perform_refused word address at old_count new_count old new (in_run _ f) = absur
 perform_refused word address _ old_count new_count old new (faulted p) = (refl, p)
 
 -- memory refused it, and x8 was put back
-pub load_refused_at : (size : Size) (address at x8 count was_count is_count new_count : ℕ) (old first last new : Tells) (e : AccessFault) → RegisterRead x8_number x8 old first
+pub load_refused_at : (size : Size) (address at x8 count was_count is_count new_count : ℕ) (old first last new : Tells) (e : AccessFault)
+    → RegisterRead x8_number x8 old first
     → e ≡ access_fault.Memory at → PerformFailed (load_word size) address was_count is_count first last e → RegisterWritten x8_number x8 last new
     → LoadRunFailed size address count new_count old new e
 load_refused_at size address at x8 count was_count is_count new_count old first last new e saved is f back =
@@ -38,7 +39,8 @@ load_refused_lost size address at x8 count was_count is_count new_count old firs
     let p : (at ≡ address) × Performed (load_word size) address 3 first last = perform_refused (load_word size) address at was_count is_count first last g in
     in_restore_behind e x8 first last saved p.1 (write_counted x8_number x8 count is_count new_count last new e le later back)
 
-run_loses : (front : List Act) (word old_count new_count : ℕ) (old new : Tells) (e : AccessFault) → CommandFailed front word old_count new_count old new e → Loses e
+run_loses : (front : List Act) (word old_count new_count : ℕ) (old new : Tells) (e : AccessFault) → CommandFailed front word old_count new_count old new e
+    → Loses e
 run_loses front word old_count new_count old new (access_fault.Dmi why) f = λ r. r
 run_loses front word old_count new_count old new (access_fault.Memory at) f = absurd f
 run_loses front word old_count new_count old new (access_fault.Register number) f = absurd f
@@ -59,13 +61,15 @@ pub load_lost : (size : Size) (address x8 count mid_count new_count : ℕ) (old 
 load_lost size address x8 count mid_count new_count old first new e saved le later f loses =
     performing e x8 first saved (perform_counted (load_word size) address count mid_count new_count first new e le later f) loses
 
-pub load_not_taken : (size : Size) (address x8 count mid_count new_count : ℕ) (old first mid new : Tells) (e : AccessFault) → RegisterRead x8_number x8 old first
+pub load_not_taken : (size : Size) (address x8 count mid_count new_count : ℕ) (old first mid new : Tells) (e : AccessFault)
+    → RegisterRead x8_number x8 old first
     → Performed (load_word size) address 0 first mid → count ≤ mid_count → mid_count ≤ new_count → ReadFailed x8_number mid_count new_count mid new e
     → LoadRunFailed size address count new_count old new e
 load_not_taken size address x8 count mid_count new_count old first mid new e saved p le later f =
     taking e x8 first mid saved p (read_counted x8_number count mid_count new_count mid new e le later f)
 
-pub load_not_restored : (size : Size) (address x8 value count mid_count new_count : ℕ) (old first mid last new : Tells) (e : AccessFault) → RegisterRead x8_number x8 old first
+pub load_not_restored : (size : Size) (address x8 value count mid_count new_count : ℕ) (old first mid last new : Tells) (e : AccessFault)
+    → RegisterRead x8_number x8 old first
     → Performed (load_word size) address 0 first mid → RegisterRead x8_number value mid last → count ≤ mid_count → mid_count ≤ new_count
     → WriteFailed x8_number x8 mid_count new_count last new e → LoadRunFailed size address count new_count old new e
 load_not_restored size address x8 value count mid_count new_count old first mid last new e saved p taken le later f =

@@ -65,20 +65,24 @@ size_small B8 v lt = omega arith
 
 -- ---- x8
 
-pub x8_saved : (x8 h : ℕ) (bus : BusUnit) (y : Hart) (base : Site) (w : Hart) (old new : Tells) → StoodTold h bus y base w old.far → RegisterRead x8_number x8 old new
+pub x8_saved : (x8 h : ℕ) (bus : BusUnit) (y : Hart) (base : Site) (w : Hart) (old new : Tells) → StoodTold h bus y base w old.far
+    → RegisterRead x8_number x8 old new
     → x_of y.core 8 < 2 ^ 64 → x8 ≡ x_of y.core 8
 x8_saved x8 h bus y base w old new st r fits =
     let a : ReadTold x8_number x8 h bus y base w new.far = read_told x8_number x8 h bus y base w old new (omega arith) st r in
     held_as y x8_number a.held x8 (x_of y.core 8) (x8_value y) a.held_is a.value_is fits
 
-pub x8_read : (x8 h : ℕ) (bus : BusUnit) (y : Hart) (base : Site) (w : Hart) (old new : Tells) → StoodTold h bus y base w old.far → RegisterRead x8_number x8 old new
+pub x8_read : (x8 h : ℕ) (bus : BusUnit) (y : Hart) (base : Site) (w : Hart) (old new : Tells) → StoodTold h bus y base w old.far
+    → RegisterRead x8_number x8 old new
     → StoodTold h bus y base w new.far
-x8_read x8 h bus y base w old new st r = let a : ReadTold x8_number x8 h bus y base w new.far = read_told x8_number x8 h bus y base w old new (omega arith) st r in a.then
+x8_read x8 h bus y base w old new st r = let a : ReadTold x8_number x8 h bus y base w new.far =
+    read_told x8_number x8 h bus y base w old new (omega arith) st r in a.then
 
 pub x8_put : (x8 p h : ℕ) (bus : BusUnit) (x : Hart) (base : Site) (w : Hart) (old new : Tells) → length x.core.x ≡ 32 → x8 ≡ x_of x.core 8
     → StoodTold h bus (with_core_x x 8 p) base w old.far → RegisterWritten x8_number x8 old new → StoodTold h bus x base w new.far
 x8_put x8 p h bus x base w old new all is st r =
-    let a : WrittenTold x8_number x8 h bus (with_core_x x 8 p) base w st.kept new.far = written_told x8_number x8 h bus (with_core_x x 8 p) base w old new (omega arith) st r in
+    let a : WrittenTold x8_number x8 h bus (with_core_x x 8 p) base w st.kept new.far =
+        written_told x8_number x8 h bus (with_core_x x 8 p) base w old new (omega arith) st r in
     subst (λ (z : Hart). StoodTold h bus z base w new.far) (ap (debug_written (with_core_x x 8 p) x8_number) is ∙ x8_back x p all) a.then
 
 -- ---- a load
@@ -90,7 +94,8 @@ pub record LoadWent (size : Size) (a h : ℕ) (bus : BusUnit) (x : Hart) (base :
   pub is : loaded (passed before base).board.memory a size ≡ Ok value
   pub then : StoodTold h bus (with_core_x x 8 value) (accessed (passed before base).board.memory (passed before base)) x told
 
-load_went_by : (size : Size) (a h : ℕ) (bus : BusUnit) (x : Hart) (base : Site) (told : Option Far) → Went (Loads size a (debug_written x x8_number a)) h bus base x told → LoadWent size a h bus x base told
+load_went_by : (size : Size) (a h : ℕ) (bus : BusUnit) (x : Hart) (base : Site) (told : Option Far)
+    → Went (Loads size a (debug_written x x8_number a)) h bus base x told → LoadWent size a h bus x base told
 load_went_by size a h bus x base told w = record {
   before = w.before;
   value = w.did.value;
@@ -104,24 +109,30 @@ pub load_decides : (size : Size) (a : ℕ) (x : Hart) (m : Memory) → length x.
     → WordDid (Loads size a (debug_written x x8_number a)) (LoadFaults size a) (load_word size) (debug_written x x8_number a) m
 load_decides size a x m all small frozen = load_did size a (debug_written x x8_number a) m frozen (addressed_in x a all small)
 
-pub load_performed : (size : Size) (a error h : ℕ) (bus : BusUnit) (x : Hart) (base : Site) (old new : Tells) → length x.core.x ≡ 32 → a < 2 ^ 64 → StoodTold h bus x base x old.far → (p : Performed (load_word size) a error old new)
+pub load_performed : (size : Size) (a error h : ℕ) (bus : BusUnit) (x : Hart) (base : Site) (old new : Tells) → length x.core.x ≡ 32 → a < 2 ^ 64
+    → StoodTold h bus x base x old.far → (p : Performed (load_word size) a error old new)
     → PerformedTold (Loads size a (debug_written x x8_number a)) (LoadFaults size a) p.last h bus (debug_written x x8_number a) base x new.far
 load_performed size a error h bus x base old new all small st p =
     ran_told (Loads size a (debug_written x x8_number a)) (LoadFaults size a) (load_word size) a p.last h bus x base x old new st
     (λ m. load_decides size a x m all small (written_frozen x x8_number a st.stood.frozen)) p.ran
 
-pub load_went : (size : Size) (a h : ℕ) (bus : BusUnit) (x : Hart) (base : Site) (old new : Tells) → length x.core.x ≡ 32 → a < 2 ^ 64 → StoodTold h bus x base x old.far → Performed (load_word size) a 0 old new → LoadWent size a h bus x base new.far
+pub load_went : (size : Size) (a h : ℕ) (bus : BusUnit) (x : Hart) (base : Site) (old new : Tells) → length x.core.x ≡ 32 → a < 2 ^ 64
+    → StoodTold h bus x base x old.far → Performed (load_word size) a 0 old new → LoadWent size a h bus x base new.far
 load_went size a h bus x base old new all small st p =
     let r = load_performed size a 0 h bus x base old new all small st p in
-    load_went_by size a h bus x base new.far (went_told (Loads size a (debug_written x x8_number a)) (LoadFaults size a) p.last h bus (debug_written x x8_number a) base x new.far r.far r.is p.error_is r.program)
+    load_went_by size a h bus x base new.far
+        (went_told (Loads size a (debug_written x x8_number a)) (LoadFaults size a) p.last h bus (debug_written x x8_number a) base x new.far r.far r.is
+        p.error_is r.program)
 
 -- memory refused it, with the address in x8
-pub load_faulted : (size : Size) (a h : ℕ) (bus : BusUnit) (x : Hart) (base : Site) (old new : Tells) → length x.core.x ≡ 32 → a < 2 ^ 64 → StoodTold h bus x base x old.far → Performed (load_word size) a 3 old new
+pub load_faulted : (size : Size) (a h : ℕ) (bus : BusUnit) (x : Hart) (base : Site) (old new : Tells) → length x.core.x ≡ 32 → a < 2 ^ 64
+    → StoodTold h bus x base x old.far → Performed (load_word size) a 3 old new
     → Faulted (LoadFaults size a) h bus (with_core_x x 8 a) base x new.far
 load_faulted size a h bus x base old new all small st p =
     let r = load_performed size a 3 h bus x base old new all small st p in
     subst (λ (y : Hart). Faulted (LoadFaults size a) h bus y base x new.far) (x8_written x a)
-    (faulted_told (Loads size a (debug_written x x8_number a)) (LoadFaults size a) p.last h bus (debug_written x x8_number a) base x new.far r.far r.is p.error_is r.program)
+    (faulted_told (Loads size a (debug_written x x8_number a)) (LoadFaults size a) p.last h bus (debug_written x x8_number a) base x new.far r.far r.is
+        p.error_is r.program)
 
 -- x8 holds what was loaded
 x8_loaded : (x : Hart) (v : ℕ) → length x.core.x ≡ 32 → debug_value (with_core_x x 8 v) x8_number ≡ Some v
@@ -131,7 +142,8 @@ pub record LoadOk (size : Size) (address value h : ℕ) (old new : Option Far) :
   pub loaded_at : WhereTold (LoadedAt size address value) old new
   pub serving : Serving h new
 
-pub load_ok : (size : Size) (address value h : ℕ) (far : Option Far) (coming : Option DmiComing) (new : Tells) → address < 2 ^ 64 → IsReady far → Selects h far → IsHalted h far
+pub load_ok : (size : Size) (address value h : ℕ) (far : Option Far) (coming : Option DmiComing) (new : Tells) → address < 2 ^ 64 → IsReady far → Selects h far
+    → IsHalted h far
     → LoadRun size address value (tells far coming) new → LoadOk size address value h far new.far
 load_ok size address value h None coming new small ready selects halted r =
     let a : r.first.far ≡ None = read_untold x8_number r.x8 (tells None coming) r.first r.saved refl in
@@ -150,7 +162,8 @@ load_ok size address value h (Some f) coming new small ready selects halted r =
     let memory : Memory = (passed w.before s).board.memory in
     let base : Site = accessed memory (passed w.before s) in
     let z : Hart = with_core_x x 8 w.value in
-    let rd : ReadTold x8_number value h s.unit.bus z base x r.last.far = read_told x8_number value h s.unit.bus z base x r.mid r.last (omega arith) w.then r.taken in
+    let rd : ReadTold x8_number value h s.unit.bus z base x r.last.far =
+        read_told x8_number value h s.unit.bus z base x r.mid r.last (omega arith) w.then r.taken in
     let was_ready : MemoryReady memory = (ready_before w.before s ready).memory in
     let value_fits : w.value < 2 ^ 64 = size_small size w.value (loaded_small memory address size w.value was_ready w.is) in
     let value_is : value ≡ w.value = held_as z x8_number rd.held value w.value (x8_loaded x w.value fits.all) rd.held_is rd.value_is value_fits in
@@ -171,9 +184,11 @@ load_ok size address value h (Some f) coming new small ready selects halted r =
 -- ---- its faults
 
 load_only : (size : Size) (a h : ℕ) (bus : BusUnit) (x : Hart) (base : Site) (old_count new_count : ℕ) (old new : Tells) (e : AccessFault) → Fits x → a < 2 ^ 64
-    → StoodTold h bus x base x old.far → LoadRunFailed size a old_count new_count old new e → OnlyMemory a (Faulted (LoadFaults size a) h bus x base x new.far) e
+    → StoodTold h bus x base x old.far → LoadRunFailed size a old_count new_count old new e
+        → OnlyMemory a (Faulted (LoadFaults size a) h bus x base x new.far) e
 load_only size a h bus x base old_count new_count old new _ fits small st (in_save e f) =
-    clean_only a (Faulted (LoadFaults size a) h bus x base x new.far) e (read_clean x8_number h bus x base x old_count new_count old new e (omega arith) (reads_x8 x) st f)
+    clean_only a (Faulted (LoadFaults size a) h bus x base x new.far) e
+        (read_clean x8_number h bus x base x old_count new_count old new e (omega arith) (reads_x8 x) st f)
 load_only size a h bus x base old_count new_count old new _ fits small st (performing e x8 first saved f loses) =
     lost_only a (Performed (load_word size) a 3 first new) (Faulted (LoadFaults size a) h bus x base x new.far) e loses
     (perform_only (Loads size a (debug_written x x8_number a)) (LoadFaults size a) (load_word size) a h bus x base x old_count new_count first new e
@@ -199,7 +214,8 @@ load_only size a h bus x base old_count new_count old new _ fits small st (takin
     let w : LoadWent size a h bus x base mid.far = load_went size a h bus x base first mid fits.all small (x8_read x8 h bus x base x old first st saved) p in
     let z : Hart = with_core_x x 8 w.value in
     clean_only a (Faulted (LoadFaults size a) h bus x base x new.far) e
-    (read_clean x8_number h bus z (accessed (passed w.before base).board.memory (passed w.before base)) x old_count new_count mid new e (omega arith) (reads_x8 z) w.then f)
+    (read_clean x8_number h bus z (accessed (passed w.before base).board.memory (passed w.before base)) x old_count new_count mid new e (omega arith)
+        (reads_x8 z) w.then f)
 load_only size a h bus x base old_count new_count old new _ fits small st (in_restore e x8 value first mid last saved p taken f) =
     let w : LoadWent size a h bus x base mid.far = load_went size a h bus x base first mid fits.all small (x8_read x8 h bus x base x old first st saved) p in
     let z : Hart = with_core_x x 8 w.value in
@@ -207,22 +223,27 @@ load_only size a h bus x base old_count new_count old new _ fits small st (in_re
     clean_only a (Faulted (LoadFaults size a) h bus x base x new.far) e
     (write_clean x8_number x8 h bus z b x old_count new_count last new e (omega arith) (writes_x8 z) (x8_read value h bus z b x mid last w.then taken) f)
 
-load_untold : (size : Size) (a old_count new_count : ℕ) (old new : Tells) (e : AccessFault) → old.far ≡ None → LoadRunFailed size a old_count new_count old new e → PlainMemory a (new.far ≡ None) e
+load_untold : (size : Size) (a old_count new_count : ℕ) (old new : Tells) (e : AccessFault) → old.far ≡ None
+    → LoadRunFailed size a old_count new_count old new e → PlainMemory a (new.far ≡ None) e
 load_untold size a old_count new_count old new _ none (in_save e f) = read_plain x8_number a (new.far ≡ None) old_count new_count old new e f
 load_untold size a old_count new_count old new _ none (performing e x8 first saved f loses) =
     perform_plain (load_word size) a old_count new_count first new e (read_untold x8_number x8 old first saved none) f
 load_untold size a old_count new_count old new _ none (refused x8 first last saved p back) =
     (refl, written_untold x8_number x8 last new back (performed_untold (load_word size) a 3 first last p (read_untold x8_number x8 old first saved none)))
-load_untold size a old_count new_count old new _ none (in_restore_behind e x8 first last saved p back) = write_plain x8_number x8 a (new.far ≡ None) old_count new_count last new e back
-load_untold size a old_count new_count old new _ none (taking e x8 first mid saved p f) = read_plain x8_number a (new.far ≡ None) old_count new_count mid new e f
-load_untold size a old_count new_count old new _ none (in_restore e x8 value first mid last saved p taken f) = write_plain x8_number x8 a (new.far ≡ None) old_count new_count last new e f
+load_untold size a old_count new_count old new _ none (in_restore_behind e x8 first last saved p back) =
+    write_plain x8_number x8 a (new.far ≡ None) old_count new_count last new e back
+load_untold size a old_count new_count old new _ none (taking e x8 first mid saved p f) =
+    read_plain x8_number a (new.far ≡ None) old_count new_count mid new e f
+load_untold size a old_count new_count old new _ none (in_restore e x8 value first mid last saved p taken f) =
+    write_plain x8_number x8 a (new.far ≡ None) old_count new_count last new e f
 
 -- by what is known of a fault
 pub record AccessErr (R : Chip → Option Far → Type 0) (address h : ℕ) (old new : Option Far) (e : AccessFault) : Type 0 where
   pub left : AccessLeft R address old new e
   pub serving : IfMemory (Serving h new) e
 
-pub untold_err : (R : Chip → Option Far → Type 0) (address h : ℕ) (new : Option Far) (e : AccessFault) → PlainMemory address (new ≡ None) e → AccessErr R address h None new e
+pub untold_err : (R : Chip → Option Far → Type 0) (address h : ℕ) (new : Option Far) (e : AccessFault) → PlainMemory address (new ≡ None) e
+    → AccessErr R address h None new e
 untold_err R address h new (access_fault.Dmi why) p = record { left = tt; serving = tt }
 untold_err R address h new (access_fault.Memory at) p = record { left = p; serving = untold_serving h new p.1 }
 untold_err R address h new (access_fault.Register number) p = record { left = refl; serving = tt }
@@ -230,7 +251,8 @@ untold_err R address h new access_fault.StillBusy p = record { left = tt; servin
 untold_err R address h new (access_fault.Run why) p = absurd p
 untold_err R address h new (access_fault.Odd shown) p = record { left = refl; serving = tt }
 
-pub told_err : (R : Chip → Option Far → Type 0) (address h : ℕ) (f : Far) (new : Option Far) (e : AccessFault) → OnlyMemory address (R (chip_of f) new × Serving h new) e → AccessErr R address h (Some f) new e
+pub told_err : (R : Chip → Option Far → Type 0) (address h : ℕ) (f : Far) (new : Option Far) (e : AccessFault)
+    → OnlyMemory address (R (chip_of f) new × Serving h new) e → AccessErr R address h (Some f) new e
 told_err R address h f new (access_fault.Dmi why) p = record { left = tt; serving = tt }
 told_err R address h f new (access_fault.Memory at) p = record { left = (p.0, p.1.0); serving = p.1.1 }
 told_err R address h f new (access_fault.Register number) p = absurd p
@@ -238,7 +260,8 @@ told_err R address h f new access_fault.StillBusy p = record { left = tt; servin
 told_err R address h f new (access_fault.Run why) p = absurd p
 told_err R address h f new (access_fault.Odd shown) p = absurd p
 
-load_refused : (size : Size) (address h : ℕ) (f : Far) (ready : SiteReady (site_of f)) (halted : HartHalted h (site_of f).board) (new : Option Far) → Faulted (LoadFaults size address) h (site_of f).unit.bus halted.hart (site_of f) halted.hart new
+load_refused : (size : Size) (address h : ℕ) (f : Far) (ready : SiteReady (site_of f)) (halted : HartHalted h (site_of f).board) (new : Option Far)
+    → Faulted (LoadFaults size address) h (site_of f).unit.bus halted.hart (site_of f) halted.hart new
     → LoadRefused size address (chip_of f) new × Serving h new
 load_refused size address h f ready halted new w =
     let s : Site = site_of f in
@@ -256,7 +279,8 @@ load_refused size address h f ready halted new w =
       access_serving h f ready halted memory w.before new (ready_before w.before s ready).memory w.then,
     )
 
-pub load_err : (size : Size) (address h : ℕ) (far : Option Far) (coming : Option DmiComing) (old_count new_count : ℕ) (new : Tells) (e : AccessFault) → address < 2 ^ 64 → IsReady far → Selects h far → IsHalted h far
+pub load_err : (size : Size) (address h : ℕ) (far : Option Far) (coming : Option DmiComing) (old_count new_count : ℕ) (new : Tells) (e : AccessFault)
+    → address < 2 ^ 64 → IsReady far → Selects h far → IsHalted h far
     → LoadRunFailed size address old_count new_count (tells far coming) new e → AccessErr (LoadRefused size address) address h far new.far e
 load_err size address h None coming old_count new_count new e small ready selects halted f =
     untold_err (LoadRefused size address) address h new.far e (load_untold size address old_count new_count (tells None coming) new e refl f)
@@ -264,5 +288,7 @@ load_err size address h (Some c) coming old_count new_count new e small ready se
     let s : Site = site_of c in
     let x : Hart = halted.hart in
     told_err (LoadRefused size address) address h c new.far e
-    (only_map address (Faulted (LoadFaults size address) h s.unit.bus x s x new.far) (LoadRefused size address (chip_of c) new.far × Serving h new.far) e (λ w. load_refused size address h c ready halted new.far w)
-    (load_only size address h s.unit.bus x s old_count new_count (tells (Some c) coming) new e (fits_of h s ready halted) small (first_told h c ready halted selects) f))
+    (only_map address (Faulted (LoadFaults size address) h s.unit.bus x s x new.far) (LoadRefused size address (chip_of c) new.far × Serving h new.far) e
+        (λ w. load_refused size address h c ready halted new.far w)
+    (load_only size address h s.unit.bus x s old_count new_count (tells (Some c) coming) new e (fits_of h s ready halted) small
+        (first_told h c ready halted selects) f))

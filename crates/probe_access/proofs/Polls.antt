@@ -1,5 +1,6 @@
 -- Polls made one after another, and a call that fails among others.
-use Rattle.std.proofs.Common.{◌≡◌, ◌∙◌, ◌≤◌, ◌<◌, ◌+◌, ◌++◌, ℕ, List, [], ◌∷◌, length, map, All, Option, Result, Ok, Err, IfErr, refl, sym, ap, subst, length-append, append-nil, arith, true, false, Bool, not}
+use Rattle.std.proofs.Common.{◌≡◌, ◌∙◌, ◌≤◌, ◌<◌, ◌+◌, ◌++◌, ℕ, List, [], ◌∷◌, length, map, All, Option, Result, Ok, Err, IfErr, refl, sym, ap, subst,
+    length-append, append-nil, arith, true, false, Bool, not}
 use Rattle.std.proofs.lemmas.List.{map-append}
 use Rattle.std.proofs.lemmas.List.Elements.{All-push}
 use Rattle.std.specs.Result.{IsErrAnd}
@@ -70,7 +71,8 @@ started_always n first last old new s all busy = record {
 
 -- ---- a call that fails
 
-pub read_did : (address value : ℕ) (old new : Tells) → WhereTold (Operated (Read address) value) old.far new.far → Answers value old.coming new.coming → Did old (Got address value ∷ []) new
+pub read_did : (address value : ℕ) (old new : Tells) → WhereTold (Operated (Read address) value) old.far new.far → Answers value old.coming new.coming
+    → Did old (Got address value ∷ []) new
 read_did address value old new told heard = did_one (Got address value) old new told heard
 
 pub started_broke : (n first last count mid_count new_count : ℕ) (old mid : Tells) (told : Option Far) (why : DmiFault) → Started n first last old mid → n < 64
@@ -92,7 +94,8 @@ started_broke n first last count mid_count new_count old mid told why s few busy
 }
 
 -- what a `?` makes of a fault of the link
-pub dmi_failed : {A : Type 0} (r : Result A AccessFault) (why : DmiFault) (P : AccessFault → Type 0) → IsErrAnd r (λ e. e ≡ access_fault.Dmi why) → P (access_fault.Dmi why) → IfErr r P
+pub dmi_failed : {A : Type 0} (r : Result A AccessFault) (why : DmiFault) (P : AccessFault → Type 0) → IsErrAnd r (λ e. e ≡ access_fault.Dmi why)
+    → P (access_fault.Dmi why) → IfErr r P
 dmi_failed (Ok x) why P is p = tt
 dmi_failed (Err e) why P is p = subst P (sym is) p
 

@@ -43,7 +43,8 @@ each_by b r = record {
   memory = r.memory;
 }
 
-unasked_turns : (harts : List ℕ) (b : Board) → ((h : ℕ) (x : Hart) → slice_get b.harts h ≡ Some x → Unasked x.debug) → (h : ℕ) (x : Hart) → slice_get (after_turns harts b).harts h ≡ Some x → Unasked x.debug
+unasked_turns : (harts : List ℕ) (b : Board) → ((h : ℕ) (x : Hart) → slice_get b.harts h ≡ Some x → Unasked x.debug) → (h : ℕ) (x : Hart)
+    → slice_get (after_turns harts b).harts h ≡ Some x → Unasked x.debug
 unasked_turns harts b u = each_turns (λ h x. Unasked x.debug) (λ j x m p. unasked_kept x.debug (place_of x m).hart.debug (hart_turned x m) p) harts b u
 
 pub board_ready_turns : (harts : List ℕ) (b : Board) → BoardReady b → BoardReady (after_turns harts b)

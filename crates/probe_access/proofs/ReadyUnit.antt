@@ -52,7 +52,8 @@ abbrev pub unit_of : Kept → ℕ → BusUnit → DebugModule
 unit_of k h bus = unit_with k Fine [] h bus
 
 abbrev pub kept_of : CommandUnit → Kept
-kept_of u = record { data0 = u.data0; data1 = u.data1; progbuf0 = u.progbuf0; progbuf1 = u.progbuf1; progbuf2 = u.progbuf2; progbuf3 = u.progbuf3; command = u.command }
+kept_of u = record { data0 = u.data0; data1 = u.data1; progbuf0 = u.progbuf0; progbuf1 = u.progbuf1; progbuf2 = u.progbuf2; progbuf3 = u.progbuf3; command =
+    u.command }
 
 abbrev commands_like : CommandUnit → Abstractauto → Cmderr → List Micro → Bool → CommandUnit
 commands_like u auto error steps late = record {
@@ -69,7 +70,8 @@ commands_like u auto error steps late = record {
   late = late;
 }
 
-commands_by : (u : CommandUnit) (auto : Abstractauto) (error : Cmderr) (steps : List Micro) (late : Bool) → u.auto ≡ auto → u.error ≡ error → u.steps ≡ steps → u.late ≡ late
+commands_by : (u : CommandUnit) (auto : Abstractauto) (error : Cmderr) (steps : List Micro) (late : Bool) → u.auto ≡ auto → u.error ≡ error → u.steps ≡ steps
+    → u.late ≡ late
     → u ≡ commands_like u auto error steps late
 commands_by u auto error steps late p q r s =
     ap (λ a. commands_like u a u.error u.steps u.late) p ∙ ap (λ e. commands_like u auto e u.steps u.late) q
@@ -105,7 +107,8 @@ halted_held h s ready halted = record {
   frozen = frozen_by halted.hart halted.hart.debug.halted refl halted.halted (ready.harts h halted.hart halted.is).no_resume_request;
 }
 
-pub at_first : (h : ℕ) (s : Site) (x : Hart) → ModuleReady s.unit → s.unit.hartsel ≡ h → HartAt h s x → DoneAt (unit_of (kept_of s.unit.commands) h s.unit.bus) h x s s
+pub at_first : (h : ℕ) (s : Site) (x : Hart) → ModuleReady s.unit → s.unit.hartsel ≡ h → HartAt h s x
+    → DoneAt (unit_of (kept_of s.unit.commands) h s.unit.bus) h x s s
 unfolding passed
 at_first h s x ready selected here = record {
   harts = [];
@@ -114,7 +117,8 @@ at_first h s x ready selected here = record {
 
 -- ---- turns there
 
-quiet_aside : (n : DebugModule) (h : ℕ) (y : Hart) (base : Site) (w : Hart) (ds : List Deed) (s : Site) (harts : List ℕ) → Held h w base → Frozen y → n.commands.steps ≡ [] → n.bus.pending ≡ None
+quiet_aside : (n : DebugModule) (h : ℕ) (y : Hart) (base : Site) (w : Hart) (ds : List Deed) (s : Site) (harts : List ℕ) → Held h w base → Frozen y
+    → n.commands.steps ≡ [] → n.bus.pending ≡ None
     → s ≡ aside n h y (passed harts base) → ran ds s ≡ aside n h y (passed (harts ++ harts_of ds) base)
 quiet_aside n h y base w ds s harts held fy none idle is =
     ap (ran ds) is
@@ -122,9 +126,11 @@ quiet_aside n h y base w ds s harts held fy none idle is =
     ∙ aside_passed n h y (harts_of ds) (passed harts base) w (stays_passed h harts base w held.here held.frozen) held.frozen fy
     ∙ ap (aside n h y) (sym (passed-append harts (harts_of ds) base))
 
-pub done_ran : (n : DebugModule) (h : ℕ) (y : Hart) (base : Site) (w : Hart) (ds : List Deed) (s t : Site) → Held h w base → Frozen y → n.commands.steps ≡ [] → n.bus.pending ≡ None
+pub done_ran : (n : DebugModule) (h : ℕ) (y : Hart) (base : Site) (w : Hart) (ds : List Deed) (s t : Site) → Held h w base → Frozen y → n.commands.steps ≡ []
+    → n.bus.pending ≡ None
     → t ≡ ran ds s → DoneAt n h y base s → DoneAt n h y base t
-done_ran n h y base w ds s t held fy none idle is d = record { harts = d.harts ++ harts_of ds; is = is ∙ quiet_aside n h y base w ds s d.harts held fy none idle d.is }
+done_ran n h y base w ds s t held fy none idle is d =
+    record { harts = d.harts ++ harts_of ds; is = is ∙ quiet_aside n h y base w ds s d.harts held fy none idle d.is }
 
 -- ---- one operation there
 
@@ -134,7 +140,8 @@ pub record OpAt (op : DmiOp) (value : ℕ) (n : DebugModule) (h : ℕ) (y : Hart
   pub is : t ≡ ran behind (operated op (aside n h y (passed harts base)))
   pub value_is : value ≡ operation_result op (aside n h y (passed harts base))
 
-pub op_at : (op : DmiOp) (value : ℕ) (n : DebugModule) (h : ℕ) (y : Hart) (base : Site) (w : Hart) (s t : Site) → Held h w base → Frozen y → n.commands.steps ≡ [] → n.bus.pending ≡ None
+pub op_at : (op : DmiOp) (value : ℕ) (n : DebugModule) (h : ℕ) (y : Hart) (base : Site) (w : Hart) (s t : Site) → Held h w base → Frozen y
+    → n.commands.steps ≡ [] → n.bus.pending ≡ None
     → DoneAt n h y base s → OneOperation op value s t → OpAt op value n h y base t
 op_at op value n h y base w s t held fy none idle d o =
     let at : ran o.before s ≡ aside n h y (passed (d.harts ++ harts_of o.before) base) = quiet_aside n h y base w o.before s d.harts held fy none idle d.is in
@@ -146,7 +153,8 @@ op_at op value n h y base w s t held fy none idle d o =
     }
 
 -- one that only changes the module, which stays quiet
-pub op_done : (op : DmiOp) (value : ℕ) (n n' : DebugModule) (h : ℕ) (y : Hart) (base : Site) (w : Hart) (t : Site) → Held h w base → Frozen y → n'.commands.steps ≡ [] → n'.bus.pending ≡ None
+pub op_done : (op : DmiOp) (value : ℕ) (n n' : DebugModule) (h : ℕ) (y : Hart) (base : Site) (w : Hart) (t : Site) → Held h w base → Frozen y
+    → n'.commands.steps ≡ [] → n'.bus.pending ≡ None
     → (o : OpAt op value n h y base t) → operated op (aside n h y (passed o.harts base)) ≡ aside n' h y (passed o.harts base) → DoneAt n' h y base t
 op_done op value n n' h y base w t held fy none idle o changes =
     done_ran n' h y base w o.behind (operated op (aside n h y (passed o.harts base))) t held fy none idle o.is (record { harts = o.harts; is = changes })

@@ -27,20 +27,24 @@ use Rattle.rv_model.proofs.MapLemmas.{set_same}
 
 -- ---- from a ready site, and back to one
 
-pub first_stood : (h : ℕ) (s : Site) (ready : SiteReady s) (halted : HartHalted h s.board) → s.unit.hartsel ≡ h → Stood h s.unit.bus halted.hart s halted.hart (kept_of s.unit.commands) s
+pub first_stood : (h : ℕ) (s : Site) (ready : SiteReady s) (halted : HartHalted h s.board) → s.unit.hartsel ≡ h
+    → Stood h s.unit.bus halted.hart s halted.hart (kept_of s.unit.commands) s
 first_stood h s ready halted selected =
     let held : Held h halted.hart s = halted_held h s ready halted in
     record { held = held; frozen = held.frozen; idle = ready.unit.bus.idle; at = at_first h s halted.hart ready.unit selected halted.is }
 
-pub stood_board : (h : ℕ) (bus : BusUnit) (base : Site) (w : Hart) (k : Kept) (t : Site) (st : Stood h bus w base w k t) → t.board ≡ (passed st.at.harts base).board
+pub stood_board : (h : ℕ) (bus : BusUnit) (base : Site) (w : Hart) (k : Kept) (t : Site) (st : Stood h bus w base w k t)
+    → t.board ≡ (passed st.at.harts base).board
 stood_board h bus base w k t st =
     ap (λ (u : Site). u.board) st.at.is
-    ∙ ap (λ hs. let b : Board = record { harts = hs; memory = (passed st.at.harts base).board.memory } in b) (set_same (passed st.at.harts base).board.harts h w (stays_passed h st.at.harts base w st.held.here st.held.frozen))
+    ∙ ap (λ hs. let b : Board = record { harts = hs; memory = (passed st.at.harts base).board.memory } in b)
+        (set_same (passed st.at.harts base).board.harts h w (stays_passed h st.at.harts base w st.held.here st.held.frozen))
 
 pub stood_passed : (h : ℕ) (s : Site) (w : Hart) (k : Kept) (t : Site) → Stood h s.unit.bus w s w k t → TurnsPassed s t
 stood_passed h s w k t st =
     let p : Passed s (passed st.at.harts s) = passed_turns st.at.harts s in
-    record { harts = p.harts; board = stood_board h s.unit.bus s w k t st ∙ p.board; journal = ap (λ (u : Site). u.journal) st.at.is ∙ p.journal; bus = ap (λ (u : Site). u.unit.bus) st.at.is }
+    record { harts = p.harts; board = stood_board h s.unit.bus s w k t st ∙ p.board; journal = ap (λ (u : Site). u.journal) st.at.is ∙ p.journal; bus =
+        ap (λ (u : Site). u.unit.bus) st.at.is }
 
 pub stood_passed_but : (h : ℕ) (s : Site) (y w : Hart) (k : Kept) (t : Site) → Stood h s.unit.bus y s w k t → TurnsPassedBut h y s t
 stood_passed_but h s y w k t st =
@@ -55,10 +59,12 @@ stood_passed_but h s y w k t st =
 module_back : (m : DebugModule) (k : Kept) (h : ℕ) (bus : BusUnit) → m ≡ unit_of k h bus → ModuleReady (unit_of k h bus) → ModuleReady m
 module_back m k h bus is r = subst (λ (n : DebugModule). ModuleReady n) (sym is) r
 
-pub stood_unit : (h : ℕ) (s : Site) (y base_hart : Hart) (base : Site) (k : Kept) (t : Site) → ModuleReady s.unit → Stood h s.unit.bus y base base_hart k t → ModuleReady t.unit
+pub stood_unit : (h : ℕ) (s : Site) (y base_hart : Hart) (base : Site) (k : Kept) (t : Site) → ModuleReady s.unit → Stood h s.unit.bus y base base_hart k t
+    → ModuleReady t.unit
 stood_unit h s y w base k t ready st =
     module_back t.unit k h s.unit.bus (ap (λ (u : Site). u.unit) st.at.is)
-    (record { active = refl; commands = record { idle = refl; fine = refl; no_autoexec = refl; none_late = refl }; bus = record { idle = ready.bus.idle; fine = ready.bus.fine; no_busyerror = ready.bus.no_busyerror } })
+    (record { active = refl; commands = record { idle = refl; fine = refl; no_autoexec = refl; none_late = refl }; bus =
+        record { idle = ready.bus.idle; fine = ready.bus.fine; no_busyerror = ready.bus.no_busyerror } })
 
 board_back : (b c : Board) → b ≡ c → BoardReady c → BoardReady b
 board_back b c is r = subst (λ (x : Board). BoardReady x) (sym is) r
@@ -66,7 +72,8 @@ board_back b c is r = subst (λ (x : Board). BoardReady x) (sym is) r
 pub stood_ready : (h : ℕ) (s : Site) (w : Hart) (k : Kept) (t : Site) → SiteReady s → Stood h s.unit.bus w s w k t → SiteReady t
 stood_ready h s w k t ready st =
     let p : TurnsPassed s t = stood_passed h s w k t st in
-    let b : BoardReady t.board = board_back t.board (after_turns p.harts s.board) p.board (board_ready_turns p.harts s.board (record { harts = ready.harts; memory = ready.memory })) in
+    let b : BoardReady t.board = board_back t.board (after_turns p.harts s.board) p.board
+        (board_ready_turns p.harts s.board (record { harts = ready.harts; memory = ready.memory })) in
     record { unit = stood_unit h s w w s k t ready.unit st; harts = b.harts; memory = b.memory }
 
 pub stood_selects : (h : ℕ) (bus : BusUnit) (y : Hart) (base : Site) (w : Hart) (k : Kept) (t : Site) → Stood h bus y base w k t → t.unit.hartsel ≡ h
@@ -98,7 +105,8 @@ pub front_stood : (front rest : List Act) (h : ℕ) (bus : BusUnit) (y : Hart) (
     → Stood h bus y base w k s → (cut : Split front rest s t) → Stood h bus y base w l cut.mid
 front_stood front rest h bus y base w k l s t puts st cut = words_put h bus y base w k l front s cut.mid puts st cut.first
 
-pub command_told : (front : List Act) (write : Bool) (number last h : ℕ) (bus : BusUnit) (y : Hart) (base : Site) (w : Hart) (l : Kept) (old new : Tells) → number < 2 ^ 16
+pub command_told : (front : List Act) (write : Bool) (number last h : ℕ) (bus : BusUnit) (y : Hart) (base : Site) (w : Hart) (l : Kept) (old new : Tells)
+    → number < 2 ^ 16
     → (st : StoodTold h bus y base w old.far) → WordPuts h bus y st.kept front l → RanCommand front (transfer_word write number) last old new
     → CommandTold write number last h bus y base w l new.far
 command_told front write number last h bus y base w l old new small st puts ran =
@@ -122,7 +130,8 @@ pub record ReadTold (number value h : ℕ) (bus : BusUnit) (y : Hart) (base : Si
 three_not_zero : (n : ℕ) → n ≡ 3 → n ≡ 0 → ⊥
 three_not_zero n a b = omega arith
 
-read_told_by : (number value last h : ℕ) (bus : BusUnit) (y : Hart) (base : Site) (w : Hart) (k : Kept) (mid new : Tells) (f : Far) → mid.far ≡ Some f → error_shown last ≡ 0
+read_told_by : (number value last h : ℕ) (bus : BusUnit) (y : Hart) (base : Site) (w : Hart) (k : Kept) (mid new : Tells) (f : Far) → mid.far ≡ Some f
+    → error_shown last ≡ 0
     → TransferTold false number last h bus y base w k (site_of f) → DoubleRead value mid new → ReadTold number value h bus y base w new.far
 read_told_by number value last h bus y base w k mid new f is fine (taken v held free error st) words =
     let at : AtSites _ f new.far = did_sites mid _ new f words.did is in
@@ -136,7 +145,8 @@ read_told_by number value last h bus y base w k mid new f is fine (taken v held 
     }
 read_told_by number value last h bus y base w k mid new f is fine (denied none error st) words = absurd (three_not_zero (error_shown last) error fine)
 
-pub read_told : (number value h : ℕ) (bus : BusUnit) (y : Hart) (base : Site) (w : Hart) (old new : Tells) → number < 2 ^ 16 → StoodTold h bus y base w old.far → RegisterRead number value old new → ReadTold number value h bus y base w new.far
+pub read_told : (number value h : ℕ) (bus : BusUnit) (y : Hart) (base : Site) (w : Hart) (old new : Tells) → number < 2 ^ 16 → StoodTold h bus y base w old.far
+    → RegisterRead number value old new → ReadTold number value h bus y base w new.far
 read_told number value h bus y base w old new small st r =
     let c : CommandTold false number r.ran.last h bus y base w st.kept r.mid.far =
     command_told [] false number r.ran.last h bus y base w st.kept old r.mid small st (no_more st.kept) r.ran.ran in
@@ -150,7 +160,8 @@ pub record WrittenTold (number value h : ℕ) (bus : BusUnit) (y : Hart) (base :
   pub progbuf0 : then.kept.progbuf0 ≡ k.progbuf0
   pub progbuf1 : then.kept.progbuf1 ≡ k.progbuf1
 
-written_told_by : (number value last h : ℕ) (bus : BusUnit) (y : Hart) (base : Site) (w : Hart) (k : Kept) (new : Tells) (f : Far) → new.far ≡ Some f → error_shown last ≡ 0
+written_told_by : (number value last h : ℕ) (bus : BusUnit) (y : Hart) (base : Site) (w : Hart) (k : Kept) (new : Tells) (f : Far) → new.far ≡ Some f
+    → error_shown last ≡ 0
     → TransferTold true number last h bus y base w (with_double value k) (site_of f) → WrittenTold number value h bus y base w k new.far
 written_told_by number value last h bus y base w k new f is fine (taken v held free error st) = record {
   there = ap is_some held;
@@ -166,10 +177,12 @@ written_told_by number value last h bus y base w k new f is fine (taken v held f
 }
 written_told_by number value last h bus y base w k new f is fine (denied none error st) = absurd (three_not_zero (error_shown last) error fine)
 
-pub written_told : (number value h : ℕ) (bus : BusUnit) (y : Hart) (base : Site) (w : Hart) (old new : Tells) → number < 2 ^ 16 → (st : StoodTold h bus y base w old.far) → RegisterWritten number value old new → WrittenTold number value h bus y base w st.kept new.far
+pub written_told : (number value h : ℕ) (bus : BusUnit) (y : Hart) (base : Site) (w : Hart) (old new : Tells) → number < 2 ^ 16
+    → (st : StoodTold h bus y base w old.far) → RegisterWritten number value old new → WrittenTold number value h bus y base w st.kept new.far
 written_told number value h bus y base w old new small st r =
     let c : CommandTold true number r.last h bus y base w (with_double value st.kept) new.far =
-    command_told (double_written value) true number r.last h bus y base w (with_double value st.kept) old new small st (double_puts value h bus y st.kept) r.ran in
+    command_told (double_written value) true number r.last h bus y base w (with_double value st.kept) old new small st (double_puts value h bus y st.kept)
+        r.ran in
     written_told_by number value r.last h bus y base w st.kept new c.far c.is r.error_is c.transfer
 
 -- a transfer that was refused
@@ -177,12 +190,15 @@ pub record DeniedTold (write : Bool) (number h : ℕ) (bus : BusUnit) (y : Hart)
   pub denied_is : reaches write y number ≡ false
   pub then : StoodTold h bus y base w told
 
-denied_told_by : (write : Bool) (number last h : ℕ) (bus : BusUnit) (y : Hart) (base : Site) (w : Hart) (k : Kept) (new : Tells) (f : Far) → new.far ≡ Some f → error_shown last ≡ 3
+denied_told_by : (write : Bool) (number last h : ℕ) (bus : BusUnit) (y : Hart) (base : Site) (w : Hart) (k : Kept) (new : Tells) (f : Far) → new.far ≡ Some f
+    → error_shown last ≡ 3
     → TransferTold write number last h bus y base w k (site_of f) → DeniedTold write number h bus y base w new.far
 denied_told_by write number last h bus y base w k new f is refused (taken v held free error st) = absurd (three_not_zero (error_shown last) refused error)
-denied_told_by write number last h bus y base w k new f is refused (denied none error st) = record { denied_is = none; then = record { far = f; is = is; kept = _; stood = st } }
+denied_told_by write number last h bus y base w k new f is refused (denied none error st) =
+    record { denied_is = none; then = record { far = f; is = is; kept = _; stood = st } }
 
-pub denied_told : (front : List Act) (write : Bool) (number h : ℕ) (bus : BusUnit) (y : Hart) (base : Site) (w : Hart) (l : Kept) (old new : Tells) → number < 2 ^ 16
+pub denied_told : (front : List Act) (write : Bool) (number h : ℕ) (bus : BusUnit) (y : Hart) (base : Site) (w : Hart) (l : Kept) (old new : Tells)
+    → number < 2 ^ 16
     → (st : StoodTold h bus y base w old.far) → WordPuts h bus y st.kept front l → RanTo front (transfer_word write number) 3 old new
     → DeniedTold write number h bus y base w new.far
 denied_told front write number h bus y base w l old new small st puts r =
@@ -193,17 +209,20 @@ pub read_denied : (number h : ℕ) (bus : BusUnit) (y : Hart) (base : Site) (w :
     → RanTo [] (transfer_word false number) 3 old new → DeniedTold false number h bus y base w new.far
 read_denied number h bus y base w old new small st r = denied_told [] false number h bus y base w st.kept old new small st (no_more st.kept) r
 
-pub write_denied : (number value h : ℕ) (bus : BusUnit) (y : Hart) (base : Site) (w : Hart) (old new : Tells) → number < 2 ^ 16 → StoodTold h bus y base w old.far
+pub write_denied : (number value h : ℕ) (bus : BusUnit) (y : Hart) (base : Site) (w : Hart) (old new : Tells) → number < 2 ^ 16
+    → StoodTold h bus y base w old.far
     → RanTo (double_written value) (transfer_word true number) 3 old new → DeniedTold true number h bus y base w new.far
 write_denied number value h bus y base w old new small st r =
     denied_told (double_written value) true number h bus y base w (with_double value st.kept) old new small st (double_puts value h bus y st.kept) r
 
 -- no other error comes
-odd_told_by : (write : Bool) (number last h : ℕ) (bus : BusUnit) (y : Hart) (base : Site) (w : Hart) (k : Kept) (t : Site) → TransferTold write number last h bus y base w k t → (error_shown last ≡ 0 → ⊥) → (error_shown last ≡ 3 → ⊥) → ⊥
+odd_told_by : (write : Bool) (number last h : ℕ) (bus : BusUnit) (y : Hart) (base : Site) (w : Hart) (k : Kept) (t : Site)
+    → TransferTold write number last h bus y base w k t → (error_shown last ≡ 0 → ⊥) → (error_shown last ≡ 3 → ⊥) → ⊥
 odd_told_by write number last h bus y base w k t (taken v held free error st) some other = some error
 odd_told_by write number last h bus y base w k t (denied none error st) some other = other error
 
-odd_told : (front : List Act) (write : Bool) (number : ℕ) (shown : OddStatus) (h : ℕ) (bus : BusUnit) (y : Hart) (base : Site) (w : Hart) (l : Kept) (old new : Tells) → number < 2 ^ 16
+odd_told : (front : List Act) (write : Bool) (number : ℕ) (shown : OddStatus) (h : ℕ) (bus : BusUnit) (y : Hart) (base : Site) (w : Hart) (l : Kept)
+    (old new : Tells) → number < 2 ^ 16
     → (st : StoodTold h bus y base w old.far) → WordPuts h bus y st.kept front l → RanOddly front (transfer_word write number) shown old new → ⊥
 odd_told front write number shown h bus y base w l old new small st puts r =
     let c : CommandTold write number r.last h bus y base w l new.far = command_told front write number r.last h bus y base w l old new small st puts r.ran in

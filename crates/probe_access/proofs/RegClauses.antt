@@ -13,32 +13,37 @@ use Rattle.probe_access.specs.Registers.{RegisterReadAt, IfRegister, RegisterLef
 use Rattle.probe_access.proofs.Along.{did_untold}
 use Rattle.probe_access.proofs.Aside.{passed}
 use Rattle.probe_access.proofs.ReadyUnit.{kept_of, unit_of}
-use Rattle.probe_access.proofs.RegAnswers.{DeniedTold, ReadTold, StoodTold, first_stood, read_denied, read_not_odd, read_told, stood_passed, stood_ready, stood_selects}
+use Rattle.probe_access.proofs.RegAnswers.{DeniedTold, ReadTold, StoodTold, first_stood, read_denied, read_not_odd, read_told, stood_passed, stood_ready,
+    stood_selects}
 use Rattle.probe_access.proofs.Turns.{stays_passed, hart_aside}
 
 -- ---- the start
 
 pub first_told : (h : ℕ) (f : Far) (ready : SiteReady (site_of f)) (halted : HartHalted h (site_of f).board) → (site_of f).unit.hartsel ≡ h
     → StoodTold h (site_of f).unit.bus halted.hart (site_of f) halted.hart (Some f)
-first_told h f ready halted selected = record { far = f; is = refl; kept = kept_of (site_of f).unit.commands; stood = first_stood h (site_of f) ready halted selected }
+first_told h f ready halted selected = record
+    { far = f; is = refl; kept = kept_of (site_of f).unit.commands; stood = first_stood h (site_of f) ready halted selected }
 
 -- ---- what holds of a chip again
 
 pub untold_serving : (h : ℕ) (told : Option Far) → told ≡ None → Serving h told
 untold_serving h told is = subst (Serving h) (sym is) (record { ready = tt; selects = tt; halted = tt })
 
-pub told_serving : (h : ℕ) (f : Far) → SiteReady (site_of f) → (site_of f).unit.hartsel ≡ h → HartHalted h (site_of f).board → (told : Option Far) → told ≡ Some f → Serving h told
+pub told_serving : (h : ℕ) (f : Far) → SiteReady (site_of f) → (site_of f).unit.hartsel ≡ h → HartHalted h (site_of f).board → (told : Option Far)
+    → told ≡ Some f → Serving h told
 told_serving h f ready selects halted told is = subst (Serving h) (sym is) (record { ready = ready; selects = selects; halted = halted })
 
 pub stood_serving : (h : ℕ) (f : Far) (ready : SiteReady (site_of f)) (halted : HartHalted h (site_of f).board) (told : Option Far)
     → StoodTold h (site_of f).unit.bus halted.hart (site_of f) halted.hart told → Serving h told
 stood_serving h f ready halted told st =
-    told_serving h st.far (stood_ready h (site_of f) halted.hart st.kept (site_of st.far) ready st.stood) (stood_selects h (site_of f).unit.bus halted.hart (site_of f) halted.hart st.kept (site_of st.far) st.stood)
+    told_serving h st.far (stood_ready h (site_of f) halted.hart st.kept (site_of st.far) ready st.stood)
+        (stood_selects h (site_of f).unit.bus halted.hart (site_of f) halted.hart st.kept (site_of st.far) st.stood)
     (record {
       hart = halted.hart;
       is =
           ap (λ (s : Site). slice_get s.board.harts h) st.stood.at.is
-          ∙ hart_aside (unit_of st.kept h (site_of f).unit.bus) h halted.hart (passed st.stood.at.harts (site_of f)) halted.hart (stays_passed h st.stood.at.harts (site_of f) halted.hart st.stood.held.here st.stood.held.frozen);
+          ∙ hart_aside (unit_of st.kept h (site_of f).unit.bus) h halted.hart (passed st.stood.at.harts (site_of f)) halted.hart
+              (stays_passed h st.stood.at.harts (site_of f) halted.hart st.stood.held.here st.stood.held.frozen);
       halted = halted.halted;
     }) told st.is
 
@@ -48,13 +53,16 @@ pub record RegOk (h number value : ℕ) (old new : Option Far) : Type 0 where
   pub got : WhereTold (RegisterReadAt h number value) old new
   pub serving : Serving h new
 
-pub reg_ok : (h number value : ℕ) (far : Option Far) (coming : Option DmiComing) (new : Tells) → number < 2 ^ 16 → IsReady far → Selects h far → IsHalted h far → RegisterRead number value (tells far coming) new → RegOk h number value far new.far
+pub reg_ok : (h number value : ℕ) (far : Option Far) (coming : Option DmiComing) (new : Tells) → number < 2 ^ 16 → IsReady far → Selects h far → IsHalted h far
+    → RegisterRead number value (tells far coming) new → RegOk h number value far new.far
 reg_ok h number value None coming new small ready selects halted r =
     let mid : r.mid.far ≡ None = did_untold (tells None coming) _ r.mid r.ran.ran.did refl in
     let end : new.far ≡ None = did_untold r.mid _ new r.words.did mid in
     record { got = end; serving = untold_serving h new.far end }
 reg_ok h number value (Some f) coming new small ready selects halted r =
-    let t : ReadTold number value h (site_of f).unit.bus halted.hart (site_of f) halted.hart new.far = read_told number value h (site_of f).unit.bus halted.hart (site_of f) halted.hart (tells (Some f) coming) new small (first_told h f ready halted selects) r in
+    let t : ReadTold number value h (site_of f).unit.bus halted.hart (site_of f) halted.hart new.far =
+        read_told number value h (site_of f).unit.bus halted.hart (site_of f) halted.hart (tells (Some f) coming) new small
+        (first_told h f ready halted selects) r in
     let fits : t.held < 2 ^ 64 = (ready.harts h halted.hart halted.is).registers number t.held t.held_is in
     record {
       got = record {
@@ -73,7 +81,8 @@ pub record RegErr (write : Bool) (h number : ℕ) (old new : Option Far) (e : Ac
   pub serving : IfRegister (Serving h new) e
 
 pub reg_denied : (write : Bool) (h number asked : ℕ) (f : Far) (new : Tells) (ready : SiteReady (site_of f)) (halted : HartHalted h (site_of f).board)
-    → DeniedTold write number h (site_of f).unit.bus halted.hart (site_of f) halted.hart new.far → RegErr write h number (Some f) new.far (access_fault.Register asked)
+    → DeniedTold write number h (site_of f).unit.bus halted.hart (site_of f) halted.hart new.far
+        → RegErr write h number (Some f) new.far (access_fault.Register asked)
 reg_denied write h number asked f new ready halted t = record {
   left = record {
     far = t.then.far;
@@ -86,19 +95,23 @@ reg_denied write h number asked f new ready halted t = record {
   serving = stood_serving h f ready halted new.far t.then;
 }
 
-pub reg_err : (h number : ℕ) (far : Option Far) (coming : Option DmiComing) (old_count new_count : ℕ) (new : Tells) (e : AccessFault) → number < 2 ^ 16 → IsReady far → Selects h far → IsHalted h far
+pub reg_err : (h number : ℕ) (far : Option Far) (coming : Option DmiComing) (old_count new_count : ℕ) (new : Tells) (e : AccessFault) → number < 2 ^ 16
+    → IsReady far → Selects h far → IsHalted h far
     → ReadFailed number old_count new_count (tells far coming) new e → RegErr false h number far new.far e
 reg_err h number far coming old_count new_count new (access_fault.Dmi why) small ready selects halted f = record { left = tt; serving = tt }
 reg_err h number far coming old_count new_count new (access_fault.Memory address) small ready selects halted f = absurd f
 reg_err h number None coming old_count new_count new (access_fault.Register asked) small ready selects halted f =
     let end : new.far ≡ None = did_untold (tells None coming) _ new f.ran.ran.did refl in record { left = end; serving = untold_serving h new.far end }
 reg_err h number (Some c) coming old_count new_count new (access_fault.Register asked) small ready selects halted f =
-    reg_denied false h number asked c new ready halted (read_denied number h (site_of c).unit.bus halted.hart (site_of c) halted.hart (tells (Some c) coming) new small (first_told h c ready halted selects) f.ran)
+    reg_denied false h number asked c new ready halted
+        (read_denied number h (site_of c).unit.bus halted.hart (site_of c) halted.hart (tells (Some c) coming) new small (first_told h c ready halted selects)
+        f.ran)
 reg_err h number far coming old_count new_count new access_fault.StillBusy small ready selects halted f = record { left = tt; serving = tt }
 reg_err h number far coming old_count new_count new (access_fault.Run why) small ready selects halted f = absurd f
 reg_err h number None coming old_count new_count new (access_fault.Odd shown) small ready selects halted f = record { left = refl; serving = tt }
 reg_err h number (Some c) coming old_count new_count new (access_fault.Odd shown) small ready selects halted f =
-    absurd (read_not_odd number shown h (site_of c).unit.bus halted.hart (site_of c) halted.hart (tells (Some c) coming) new small (first_told h c ready halted selects) f)
+    absurd (read_not_odd number shown h (site_of c).unit.bus halted.hart (site_of c) halted.hart (tells (Some c) coming) new small
+        (first_told h c ready halted selects) f)
 
 pub if_register : (P Q : Type 0) (e : AccessFault) → (P → Q) → IfRegister P e → IfRegister Q e
 if_register P Q (access_fault.Dmi why) f p = tt

@@ -1,5 +1,6 @@
 -- The calls of a command and of the data words, put together out of single calls.
-use Rattle.std.proofs.Common.{◌≡◌, ◌≢◌, ◌∙◌, ◌≤◌, ◌<◌, ◌^◌, ◌++◌, ℕ, List, [], ◌∷◌, map, length, All, slice_index_or, length-append, arith, Option, Result, Ok, Err, IfErr, refl, sym, ap, subst, append_assoc, append-nil, true, false, cond}
+use Rattle.std.proofs.Common.{◌≡◌, ◌≢◌, ◌∙◌, ◌≤◌, ◌<◌, ◌^◌, ◌++◌, ℕ, List, [], ◌∷◌, map, length, All, slice_index_or, length-append, arith, Option, Result, Ok,
+    Err, IfErr, refl, sym, ap, subst, append_assoc, append-nil, true, false, cond}
 use Rattle.std.specs.Result.{IsErrAnd}
 use Rattle.std.proofs.lemmas.Bool.{ne_eqb}
 use Rattle.debug_model.specs.Addresses.{abstractcs_address, command_address}
@@ -19,7 +20,8 @@ use Rattle.debug_model.specs.Many.{AnswersAll, ManyCause, OperatedAll, Operation
 use Rattle.std.proofs.lemmas.List.Elements.{All-cons}
 use Rattle.probe_run.specs.Acts.Act.{Put}
 use Rattle.probe_run.specs.Acts.Attempt.{Operation, Several}
-use Rattle.probe_access.specs.CommandRuns.{CommandBegun, CommandFailed, EndBegun, EndFailed, EndedFrom, PolledFrom, RanCommand, clearing, command_acts, error_shown, poll_act}
+use Rattle.probe_access.specs.CommandRuns.{CommandBegun, CommandFailed, EndBegun, EndFailed, EndedFrom, PolledFrom, RanCommand, clearing, command_acts,
+    error_shown, poll_act}
 use Rattle.probe_access.specs.CommandRuns.CommandBegun.{clears, polls}
 use Rattle.probe_access.specs.CommandRuns.EndBegun.{clears as end_clears, polls as end_polls}
 use Rattle.probe_access.specs.Faults.{Among, BrokeIn}
@@ -32,52 +34,66 @@ use Rattle.probe_run.specs.Opening.{clears_cmderr}
 
 -- ---- single calls
 
-pub put_did : (address value : ℕ) (old new : Tells) → WhereTold (Operated (Write address value) value) old.far new.far → Passes old.coming new.coming → Did old (Put address value ∷ []) new
+pub put_did : (address value : ℕ) (old new : Tells) → WhereTold (Operated (Write address value) value) old.far new.far → Passes old.coming new.coming
+    → Did old (Put address value ∷ []) new
 put_did address value old new told heard = did_one (Put address value) old new told heard
 
 -- one failed behind these
-pub broke_behind : (B : List Act → Attempt → Type 0) (xs : List Act) (failed : Attempt) (count mid_count new_count : ℕ) (old mid : Tells) (told : Option Far) (why : DmiFault) → B xs failed → Did old xs mid
+pub broke_behind : (B : List Act → Attempt → Type 0) (xs : List Act) (failed : Attempt) (count mid_count new_count : ℕ) (old mid : Tells) (told : Option Far)
+    (why : DmiFault) → B xs failed → Did old xs mid
     → count ≤ mid_count → mid_count ≤ new_count → Broke [] failed mid_count new_count mid told why → BrokeIn B count new_count old told why
 broke_behind B xs failed count mid_count new_count old mid told why begun did le later broke = record {
   acts = xs;
   failed = failed;
   begun = begun;
-  broke = broke_list (xs ++ []) xs failed count new_count old told why (append-nil xs) (broke_then xs old mid did [] failed count mid_count new_count told why le later broke);
+  broke = broke_list (xs ++ []) xs failed count new_count old told why (append-nil xs)
+      (broke_then xs old mid did [] failed count mid_count new_count told why le later broke);
 }
 
 -- of a word that is this one
-pub word_put : (address word value : ℕ) (old new : Tells) → word ≡ value → WhereTold (Operated (Write address word) word) old.far new.far → Passes old.coming new.coming → Did old (Put address value ∷ []) new
+pub word_put : (address word value : ℕ) (old new : Tells) → word ≡ value → WhereTold (Operated (Write address word) word) old.far new.far
+    → Passes old.coming new.coming → Did old (Put address value ∷ []) new
 word_put address word value old new is told heard = subst (λ v. Did old (Put address v ∷ []) new) is (put_did address word old new told heard)
 
-pub word_broke : (B : List Act → Attempt → Type 0) (address word value : ℕ) (old_count new_count : ℕ) (old : Tells) (told : Option Far) (why : DmiFault) → word ≡ value → B [] (Operation (Write address value))
-    → WhereTold (OperationCut (Write address word)) old.far told → DmiCause old_count new_count old.far told old.coming why → BrokeIn B old_count new_count old told why
+pub word_broke : (B : List Act → Attempt → Type 0) (address word value : ℕ) (old_count new_count : ℕ) (old : Tells) (told : Option Far) (why : DmiFault)
+    → word ≡ value → B [] (Operation (Write address value))
+    → WhereTold (OperationCut (Write address word)) old.far told → DmiCause old_count new_count old.far told old.coming why
+        → BrokeIn B old_count new_count old told why
 word_broke B address word value old_count new_count old told why is begun cut cause = record {
   acts = [];
   failed = Operation (Write address value);
   begun = begun;
-  broke = broke_one (Operation (Write address value)) old_count new_count old told why (subst (λ v. WhereTold (OperationCut (Write address v)) old.far told) is cut) cause;
+  broke = broke_one (Operation (Write address value)) old_count new_count old told why
+      (subst (λ v. WhereTold (OperationCut (Write address v)) old.far told) is cut) cause;
 }
 
-pub word_broke_behind : (B : List Act → Attempt → Type 0) (xs : List Act) (address word value : ℕ) (count mid_count new_count : ℕ) (old mid : Tells) (told : Option Far) (why : DmiFault) → word ≡ value
+pub word_broke_behind : (B : List Act → Attempt → Type 0) (xs : List Act) (address word value : ℕ) (count mid_count new_count : ℕ) (old mid : Tells)
+    (told : Option Far) (why : DmiFault) → word ≡ value
     → B xs (Operation (Write address value)) → Did old xs mid → count ≤ mid_count → mid_count ≤ new_count
-    → WhereTold (OperationCut (Write address word)) mid.far told → DmiCause mid_count new_count mid.far told mid.coming why → BrokeIn B count new_count old told why
+    → WhereTold (OperationCut (Write address word)) mid.far told → DmiCause mid_count new_count mid.far told mid.coming why
+        → BrokeIn B count new_count old told why
 word_broke_behind B xs address word value count mid_count new_count old mid told why is begun did le later cut cause =
     broke_behind B xs (Operation (Write address value)) count mid_count new_count old mid told why begun did le later
-    (broke_one (Operation (Write address value)) mid_count new_count mid told why (subst (λ v. WhereTold (OperationCut (Write address v)) mid.far told) is cut) cause)
+    (broke_one (Operation (Write address value)) mid_count new_count mid told why (subst (λ v. WhereTold (OperationCut (Write address v)) mid.far told) is cut)
+        cause)
 
-pub read_broke_behind : (B : List Act → Attempt → Type 0) (xs : List Act) (address : ℕ) (count mid_count new_count : ℕ) (old mid : Tells) (told : Option Far) (why : DmiFault)
+pub read_broke_behind : (B : List Act → Attempt → Type 0) (xs : List Act) (address : ℕ) (count mid_count new_count : ℕ) (old mid : Tells) (told : Option Far)
+    (why : DmiFault)
     → B xs (Operation (Read address)) → Did old xs mid → count ≤ mid_count → mid_count ≤ new_count
     → WhereTold (OperationCut (Read address)) mid.far told → DmiCause mid_count new_count mid.far told mid.coming why → BrokeIn B count new_count old told why
 read_broke_behind B xs address count mid_count new_count old mid told why begun did le later cut cause =
-    broke_behind B xs (Operation (Read address)) count mid_count new_count old mid told why begun did le later (broke_one (Operation (Read address)) mid_count new_count mid told why cut cause)
+    broke_behind B xs (Operation (Read address)) count mid_count new_count old mid told why begun did le later
+        (broke_one (Operation (Read address)) mid_count new_count mid told why cut cause)
 
 -- the first call failed
-pub broke_first : (B : List Act → Attempt → Type 0) (failed : Attempt) (old_count new_count : ℕ) (old : Tells) (told : Option Far) (why : DmiFault) → B [] failed → Broke [] failed old_count new_count old told why
+pub broke_first : (B : List Act → Attempt → Type 0) (failed : Attempt) (old_count new_count : ℕ) (old : Tells) (told : Option Far) (why : DmiFault)
+    → B [] failed → Broke [] failed old_count new_count old told why
     → BrokeIn B old_count new_count old told why
 broke_first B failed old_count new_count old told why begun broke = record { acts = []; failed = failed; begun = begun; broke = broke }
 
 -- the same where more calls were counted
-pub broke_counted : (B : List Act → Attempt → Type 0) (count mid_count new_count : ℕ) (old : Tells) (told : Option Far) (why : DmiFault) → count ≤ mid_count → mid_count ≤ new_count
+pub broke_counted : (B : List Act → Attempt → Type 0) (count mid_count new_count : ℕ) (old : Tells) (told : Option Far) (why : DmiFault) → count ≤ mid_count
+    → mid_count ≤ new_count
     → BrokeIn B mid_count new_count old told why → BrokeIn B count new_count old told why
 broke_counted B count mid_count new_count old told why le later b = record {
   acts = b.acts;
@@ -141,7 +157,8 @@ failed_behind front word first (access_fault.Dmi why) count mid_count new_count 
   acts = front ++ Put command_address word ∷ poll_act first ∷ f.acts;
   failed = f.failed;
   begun = end_begun front word first f.acts f.failed f.begun;
-  broke = broke_list (sent_acts front word first ++ f.acts) (front ++ Put command_address word ∷ poll_act first ∷ f.acts) f.failed count new_count old new.far why
+  broke = broke_list (sent_acts front word first ++ f.acts) (front ++ Put command_address word ∷ poll_act first ∷ f.acts) f.failed count new_count old new.far
+      why
       (append_assoc front (Put command_address word ∷ poll_act first ∷ []) f.acts)
       (broke_then (sent_acts front word first) old mid did f.acts f.failed count mid_count new_count new.far why le later f.broke);
 }
@@ -169,7 +186,8 @@ fault_failed (Err x) e P is p = subst P (sym is) p
 
 -- ---- a register
 
-pub read_command_failed : (number : ℕ) (e : AccessFault) (old_count new_count : ℕ) (old new : Tells) → CommandFailed [] (transfer_word false number) old_count new_count old new e → ReadFailed number old_count new_count old new e
+pub read_command_failed : (number : ℕ) (e : AccessFault) (old_count new_count : ℕ) (old new : Tells)
+    → CommandFailed [] (transfer_word false number) old_count new_count old new e → ReadFailed number old_count new_count old new e
 read_command_failed number (access_fault.Dmi why) old_count new_count old new f = read_in_command (access_fault.Dmi why) f
 read_command_failed number (access_fault.Memory address) old_count new_count old new f = f
 read_command_failed number (access_fault.Register asked) old_count new_count old new f = absurd f
@@ -177,10 +195,12 @@ read_command_failed number (access_fault.Run why) old_count new_count old new f 
 read_command_failed number access_fault.StillBusy old_count new_count old new f = f
 read_command_failed number (access_fault.Odd shown) old_count new_count old new f = absurd f
 
-pub read_words_failed : (number last : ℕ) (why : DmiFault) (count mid_count new_count : ℕ) (old mid new : Tells) → RanCommand [] (transfer_word false number) last old mid → error_shown last ≡ 0 → count ≤ mid_count → mid_count ≤ new_count
+pub read_words_failed : (number last : ℕ) (why : DmiFault) (count mid_count new_count : ℕ) (old mid new : Tells)
+    → RanCommand [] (transfer_word false number) last old mid → error_shown last ≡ 0 → count ≤ mid_count → mid_count ≤ new_count
     → BrokeIn (Among DoubleReads) mid_count new_count mid new.far why → ReadFailed number count new_count old new (access_fault.Dmi why)
 read_words_failed number last why count mid_count new_count old mid new ran fine le later b =
-    read_in_words mid (record { last = last; ran = ran; error_is = fine }) why (broke_counted (Among DoubleReads) count mid_count new_count mid new.far why le later b)
+    read_in_words mid (record { last = last; ran = ran; error_is = fine }) why
+        (broke_counted (Among DoubleReads) count mid_count new_count mid new.far why le later b)
 
 pub write_command_failed : (number value : ℕ) (e : AccessFault) (old_count new_count : ℕ) (old new : Tells)
     → CommandFailed (double_written value) (transfer_word true number) old_count new_count old new e → WriteFailed number value old_count new_count old new e
@@ -194,7 +214,8 @@ write_command_failed number value (access_fault.Odd shown) old_count new_count o
 -- of a command that is this one
 pub same_failed : (front : List Act) (k l : AbstractCommand) (e : AccessFault) (old_count new_count : ℕ) (old new : Tells) → k ≡ l
     → CommandFailed front (command_word k) old_count new_count old new e → CommandFailed front (command_word l) old_count new_count old new e
-same_failed front k l e old_count new_count old new is f = subst (λ (m : AbstractCommand). CommandFailed front (command_word m) old_count new_count old new e) is f
+same_failed front k l e old_count new_count old new is f = subst (λ (m : AbstractCommand). CommandFailed front (command_word m) old_count new_count old new e)
+    is f
 
 pub same_ran : (front : List Act) (k l : AbstractCommand) (last : ℕ) (old new : Tells) → k ≡ l → RanCommand front (command_word k) last old new
     → RanCommand front (command_word l) last old new
@@ -210,7 +231,8 @@ abbrev pub BegunEach : (List Act → Attempt → Type 0) → List Act → List D
 BegunEach B acts [] = Unit {0}
 BegunEach B acts (op ∷ ops) = B acts (Operation op) × ((result : ℕ) → BegunEach B (acts ++ op_act op (value_of result) ∷ []) ops)
 
-begun_at : (B : List Act → Attempt → Type 0) (acts : List Act) (ops : List DmiOp) → BegunEach B acts ops → (done : List ThePerformed) (next : DmiOp) (left : List DmiOp)
+begun_at : (B : List Act → Attempt → Type 0) (acts : List Act) (ops : List DmiOp) → BegunEach B acts ops
+    → (done : List ThePerformed) (next : DmiOp) (left : List DmiOp)
     → map op_of done ++ next ∷ left ≡ ops → B (acts ++ map act_of done) (Operation next)
 begun_at B acts [] b [] next left e = absurd (let no : ⊥ = cc in no)
 begun_at B acts [] b (o ∷ done) next left e = absurd (let no : ⊥ = cc in no)
@@ -224,7 +246,8 @@ begun_at B acts (op ∷ ops) b (o ∷ done) next left e =
     (begun_at B (acts ++ op_act op (value_of o.result) ∷ []) ops (b.1 o.result) done next left others))
 
 pub many_broke : (B : List Act → Attempt → Type 0) (op : DmiOp) (ops : List DmiOp) (old_count new_count : ℕ) (old : Tells) (told : Option Far) (why : DmiFault)
-    → BegunEach B [] (op ∷ ops) → WhereTold (OperationsCut (op ∷ ops)) old.far told → ManyCause (length (op ∷ ops)) old_count new_count old.far told old.coming why
+    → BegunEach B [] (op ∷ ops) → WhereTold (OperationsCut (op ∷ ops)) old.far told
+        → ManyCause (length (op ∷ ops)) old_count new_count old.far told old.coming why
     → BrokeIn (Among B) old_count new_count old told why
 many_broke B op ops old_count new_count old told why each cut cause = record {
   acts = [];
@@ -234,13 +257,16 @@ many_broke B op ops old_count new_count old told why each cut cause = record {
 }
 
 -- two results
-two_acts : (a b : DmiOp) (results : List ℕ) (d e : ℕ) → length results ≡ 2 → acts_of (a ∷ b ∷ []) results ≡ op_act a (slice_index_or results 0 d) ∷ op_act b (slice_index_or results 1 e) ∷ []
+two_acts : (a b : DmiOp) (results : List ℕ) (d e : ℕ) → length results ≡ 2
+    → acts_of (a ∷ b ∷ []) results ≡ op_act a (slice_index_or results 0 d) ∷ op_act b (slice_index_or results 1 e) ∷ []
 two_acts a b [] d e two = absurd (omega arith)
 two_acts a b (x ∷ []) d e two = absurd (omega arith)
 two_acts a b (x ∷ y ∷ []) d e two = refl
 two_acts a b (x ∷ y ∷ z ∷ xs) d e two = absurd (omega arith)
 
-pub two_did : (a b : DmiOp) (results : List ℕ) (d e : ℕ) (old new : Tells) → All IsOperation (a ∷ b ∷ []) → length results ≡ 2 → WhereTold (OperatedAll (a ∷ b ∷ []) results) old.far new.far → AnswersAll (a ∷ b ∷ []) results old.coming new.coming
+pub two_did : (a b : DmiOp) (results : List ℕ) (d e : ℕ) (old new : Tells) → All IsOperation (a ∷ b ∷ []) → length results ≡ 2
+    → WhereTold (OperatedAll (a ∷ b ∷ []) results) old.far new.far → AnswersAll (a ∷ b ∷ []) results old.coming new.coming
     → Did old (op_act a (slice_index_or results 0 d) ∷ op_act b (slice_index_or results 1 e) ∷ []) new
 two_did a b results d e old new small two told heard =
-    did_list (acts_of (a ∷ b ∷ []) results) _ old new (two_acts a b results d e two) (did_together a (b ∷ []) results old new (record { small = small; told = told; heard = heard }))
+    did_list (acts_of (a ∷ b ∷ []) results) _ old new (two_acts a b results d e two)
+        (did_together a (b ∷ []) results old new (record { small = small; told = told; heard = heard }))

@@ -42,14 +42,16 @@ put_ready h x y b here ready r = record {
   memory = r.memory;
 }
 
-pub set_serving : (h : ℕ) (f : Far) (ready : SiteReady (site_of f)) (halted : HartHalted h (site_of f).board) (y : Hart) (told : Option Far) → HartReady h y → is_some y.debug.halted ≡ true
+pub set_serving : (h : ℕ) (f : Far) (ready : SiteReady (site_of f)) (halted : HartHalted h (site_of f).board) (y : Hart) (told : Option Far) → HartReady h y
+    → is_some y.debug.halted ≡ true
     → (st : StoodTold h (site_of f).unit.bus y (site_of f) halted.hart told) → Serving h told
 set_serving h f ready halted y told fits still st =
     let s : Site = site_of f in
     let harts : List ℕ = st.stood.at.harts in
     let here : slice_get (passed harts s).board.harts h ≡ Some halted.hart = stays_passed h harts s halted.hart st.stood.held.here st.stood.held.frozen in
     let b : BoardReady (site_of st.far).board =
-    subst (λ (c : Board). BoardReady c) (sym (ap (λ (u : Site). u.board) st.stood.at.is)) (put_ready h halted.hart y (passed harts s).board here fits (ready_before harts s ready)) in
+    subst (λ (c : Board). BoardReady c) (sym (ap (λ (u : Site). u.board) st.stood.at.is))
+        (put_ready h halted.hart y (passed harts s).board here fits (ready_before harts s ready)) in
     told_serving h st.far
     (record { unit = stood_unit h s y halted.hart s st.kept (site_of st.far) ready.unit st.stood; harts = b.harts; memory = b.memory })
     (stood_selects h s.unit.bus y s halted.hart st.kept (site_of st.far) st.stood)
@@ -57,7 +59,8 @@ set_serving h f ready halted y told fits still st =
       hart = y;
       is =
           ap (λ (u : Site). slice_get u.board.harts h) st.stood.at.is
-          ∙ hart_aside (unit_of st.kept h s.unit.bus) h y (passed st.stood.at.harts s) halted.hart (stays_passed h st.stood.at.harts s halted.hart st.stood.held.here st.stood.held.frozen);
+          ∙ hart_aside (unit_of st.kept h s.unit.bus) h y (passed st.stood.at.harts s) halted.hart
+              (stays_passed h st.stood.at.harts s halted.hart st.stood.held.here st.stood.held.frozen);
       halted = still;
     }) told st.is
 
@@ -70,13 +73,15 @@ pub record SetOk (h number value : ℕ) (old new : Option Far) : Type 0 where
   pub set_to : WhereTold (RegisterWrittenAt h number value) old new
   pub serving : Serving h new
 
-pub set_ok : (h number value : ℕ) (far : Option Far) (coming : Option DmiComing) (new : Tells) → number < 2 ^ 16 → value < 2 ^ 64 → IsReady far → Selects h far → IsHalted h far → RegisterWritten number value (tells far coming) new
+pub set_ok : (h number value : ℕ) (far : Option Far) (coming : Option DmiComing) (new : Tells) → number < 2 ^ 16 → value < 2 ^ 64 → IsReady far → Selects h far
+    → IsHalted h far → RegisterWritten number value (tells far coming) new
     → SetOk h number value far new.far
 set_ok h number value None coming new small fits ready selects halted r =
     let end : new.far ≡ None = written_untold number value (tells None coming) new r refl in record { set_to = end; serving = untold_serving h new.far end }
 set_ok h number value (Some f) coming new small fits ready selects halted r =
     let st : StoodTold h (site_of f).unit.bus halted.hart (site_of f) halted.hart (Some f) = first_told h f ready halted selects in
-    let t : WrittenTold number value h (site_of f).unit.bus halted.hart (site_of f) halted.hart st.kept new.far = written_told number value h (site_of f).unit.bus halted.hart (site_of f) halted.hart (tells (Some f) coming) new small st r in
+    let t : WrittenTold number value h (site_of f).unit.bus halted.hart (site_of f) halted.hart st.kept new.far =
+        written_told number value h (site_of f).unit.bus halted.hart (site_of f) halted.hart (tells (Some f) coming) new small st r in
     record {
       set_to = record {
         far = t.then.far;
@@ -87,10 +92,12 @@ set_ok h number value (Some f) coming new small fits ready selects halted r =
         writable = t.writable;
         passed = stood_passed_but h (site_of f) (debug_written halted.hart number value) halted.hart t.then.kept (site_of t.then.far) t.then.stood;
       };
-      serving = set_serving h f ready halted (debug_written halted.hart number value) new.far (written_ready h halted.hart number value (ready.harts h halted.hart halted.is) fits) (still_halted halted.hart number value halted.halted) t.then;
+      serving = set_serving h f ready halted (debug_written halted.hart number value) new.far
+          (written_ready h halted.hart number value (ready.harts h halted.hart halted.is) fits) (still_halted halted.hart number value halted.halted) t.then;
     }
 
-pub set_err : (h number value : ℕ) (far : Option Far) (coming : Option DmiComing) (old_count new_count : ℕ) (new : Tells) (e : AccessFault) → number < 2 ^ 16 → IsReady far → Selects h far → IsHalted h far
+pub set_err : (h number value : ℕ) (far : Option Far) (coming : Option DmiComing) (old_count new_count : ℕ) (new : Tells) (e : AccessFault) → number < 2 ^ 16
+    → IsReady far → Selects h far → IsHalted h far
     → WriteFailed number value old_count new_count (tells far coming) new e → RegErr true h number far new.far e
 set_err h number value far coming old_count new_count new (access_fault.Dmi why) small ready selects halted f = record { left = tt; serving = tt }
 set_err h number value far coming old_count new_count new (access_fault.Memory address) small ready selects halted f = absurd f
@@ -98,9 +105,11 @@ set_err h number value None coming old_count new_count new (access_fault.Registe
     let end : new.far ≡ None = did_untold (tells None coming) _ new f.ran.ran.did refl in record { left = end; serving = untold_serving h new.far end }
 set_err h number value (Some c) coming old_count new_count new (access_fault.Register asked) small ready selects halted f =
     reg_denied true h number asked c new ready halted
-    (write_denied number value h (site_of c).unit.bus halted.hart (site_of c) halted.hart (tells (Some c) coming) new small (first_told h c ready halted selects) f.ran)
+    (write_denied number value h (site_of c).unit.bus halted.hart (site_of c) halted.hart (tells (Some c) coming) new small
+        (first_told h c ready halted selects) f.ran)
 set_err h number value far coming old_count new_count new access_fault.StillBusy small ready selects halted f = record { left = tt; serving = tt }
 set_err h number value far coming old_count new_count new (access_fault.Run why) small ready selects halted f = absurd f
 set_err h number value None coming old_count new_count new (access_fault.Odd shown) small ready selects halted f = record { left = refl; serving = tt }
 set_err h number value (Some c) coming old_count new_count new (access_fault.Odd shown) small ready selects halted f =
-    absurd (write_not_odd number value shown h (site_of c).unit.bus halted.hart (site_of c) halted.hart (tells (Some c) coming) new small (first_told h c ready halted selects) f)
+    absurd (write_not_odd number value shown h (site_of c).unit.bus halted.hart (site_of c) halted.hart (tells (Some c) coming) new small
+        (first_told h c ready halted selects) f)

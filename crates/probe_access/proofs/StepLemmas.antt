@@ -52,13 +52,15 @@ flag_written on x =
 
 -- ---- a hart that was changed while turns passed it by
 
-pub passed_rewrote : (f : Hart → Hart) (h : ℕ) (x : Hart) (s t : Site) → slice_get s.board.harts h ≡ Some x → Frozen x → TurnsPassedBut h (f x) s t → Rewrote f h (target_of s) (target_of t)
+pub passed_rewrote : (f : Hart → Hart) (h : ℕ) (x : Hart) (s t : Site) → slice_get s.board.harts h ≡ Some x → Frozen x → TurnsPassedBut h (f x) s t
+    → Rewrote f h (target_of s) (target_of t)
 passed_rewrote f h x s t here frozen p = record {
   harts = p.harts;
   board =
       p.board
       ∙ ap (λ (hs : List Hart). let b : Board = record { harts = hs; memory = (after_turns p.harts s.board).memory } in b)
-      (set-over f (after_turns p.harts s.board).harts h x (frozen_stays h x s.board p.harts here (record { why = frozen.why; halted = frozen.halted; not_asked = frozen.not_asked })));
+      (set-over f (after_turns p.harts s.board).harts h x
+          (frozen_stays h x s.board p.harts here (record { why = frozen.why; halted = frozen.halted; not_asked = frozen.not_asked })));
   journal = p.journal;
 }
 
@@ -71,7 +73,8 @@ pub record FlagOk (on : Bool) (h : ℕ) (old new : Option Far) : Type 0 where
 abbrev word_of : Hart → ℕ
 word_of x = dcsr_value x.debug
 
-pub flag_ok : (on : Bool) (h : ℕ) (far : Option Far) (coming : Option DmiComing) (new : Tells) (r : FlagWritten on (tells far coming) new) → with_flag on r.word < 2 ^ 64 → IsReady far → Selects h far → IsHalted h far
+pub flag_ok : (on : Bool) (h : ℕ) (far : Option Far) (coming : Option DmiComing) (new : Tells) (r : FlagWritten on (tells far coming) new)
+    → with_flag on r.word < 2 ^ 64 → IsReady far → Selects h far → IsHalted h far
     → FlagOk on h far new.far
 flag_ok on h None coming new r fits ready selects halted =
     let mid : r.mid.far ≡ None = read_untold dcsr_number r.word (tells None coming) r.mid r.first refl in
@@ -82,7 +85,8 @@ flag_ok on h (Some f) coming new r fits ready selects halted =
     let x : Hart = halted.hart in
     let bus : BusUnit = s.unit.bus in
     let v : ℕ = with_flag on r.word in
-    let a : ReadTold dcsr_number r.word h bus x s x r.mid.far = read_told dcsr_number r.word h bus x s x (tells (Some f) coming) r.mid (omega arith) (first_told h f ready halted selects) r.first in
+    let a : ReadTold dcsr_number r.word h bus x s x r.mid.far =
+        read_told dcsr_number r.word h bus x s x (tells (Some f) coming) r.mid (omega arith) (first_told h f ready halted selects) r.first in
     let b : WrittenTold dcsr_number v h bus x s x a.then.kept new.far = written_told dcsr_number v h bus x s x r.mid new (omega arith) a.then r.second in
     let small : word_of x < 2 ^ 64 = (ready.harts h x halted.is).registers dcsr_number (word_of x) (dcsr_held x) in
     let read : r.word ≡ word_of x = held_as x dcsr_number a.held r.word (word_of x) (dcsr_held x) a.held_is a.value_is small in
@@ -94,8 +98,10 @@ flag_ok on h (Some f) coming new r fits ready selects halted =
         is = b.then.is;
         rewrote =
             passed_rewrote (with_step on) h x s (site_of b.then.far) halted.is held.frozen
-            (subst (λ (y : Hart). TurnsPassedBut h y s (site_of b.then.far)) is (stood_passed_but h s (debug_written x dcsr_number v) x b.then.kept (site_of b.then.far) b.then.stood));
+            (subst (λ (y : Hart). TurnsPassedBut h y s (site_of b.then.far)) is
+                (stood_passed_but h s (debug_written x dcsr_number v) x b.then.kept (site_of b.then.far) b.then.stood));
         bus = (stood_passed_but h s (debug_written x dcsr_number v) x b.then.kept (site_of b.then.far) b.then.stood).bus;
       };
-      serving = set_serving h f ready halted (debug_written x dcsr_number v) new.far (written_ready h x dcsr_number v (ready.harts h x halted.is) fits) (still_halted x dcsr_number v halted.halted) b.then;
+      serving = set_serving h f ready halted (debug_written x dcsr_number v) new.far (written_ready h x dcsr_number v (ready.harts h x halted.is) fits)
+          (still_halted x dcsr_number v halted.halted) b.then;
     }

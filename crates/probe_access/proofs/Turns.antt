@@ -50,14 +50,17 @@ abbrev site_at : DebugModule → Site → Board → Site
 site_at m s b = record { unit = m; board = b; journal = s.journal }
 
 -- the turn of another hart
-aside_other_by : (m : DebugModule) (h g : ℕ) (y : Hart) (s : Site) (o : Option Hart) → (h ≡ g → ⊥) → turned_by o g (aside m h y s) ≡ aside m h y (turned_by o g s)
+aside_other_by : (m : DebugModule) (h g : ℕ) (y : Hart) (s : Site) (o : Option Hart) → (h ≡ g → ⊥)
+    → turned_by o g (aside m h y s) ≡ aside m h y (turned_by o g s)
 aside_other_by m h g y s None other = refl
 aside_other_by m h g y s (Some z) other =
-    ap (λ hs. site_at m (turned_by (Some z) g s) (board_of (memory_after z s.board.memory) hs)) (set-swap s.board.harts h g y (place_of z s.board.memory).hart other)
+    ap (λ hs. site_at m (turned_by (Some z) g s) (board_of (memory_after z s.board.memory) hs))
+        (set-swap s.board.harts h g y (place_of z s.board.memory).hart other)
 
 aside_other : (m : DebugModule) (h g : ℕ) (y : Hart) (s : Site) → (h ≡ g → ⊥) → turned g (aside m h y s) ≡ aside m h y (turned g s)
 aside_other m h g y s other =
-    ap (λ o. turned_by o g (aside m h y s)) (slice_get-set_other s.board.harts h g y (λ e. other (sym e))) ∙ aside_other_by m h g y s (slice_get s.board.harts g) other
+    ap (λ o. turned_by o g (aside m h y s)) (slice_get-set_other s.board.harts h g y (λ e. other (sym e)))
+        ∙ aside_other_by m h g y s (slice_get s.board.harts g) other
 
 -- the turn of a hart that rests leaves the board
 pub rests_turned : (h : ℕ) (s : Site) (x : Hart) → HartAt h s x → Frozen x → (turned h s).board ≡ s.board
@@ -66,13 +69,16 @@ rests_turned h s x is f = ap (λ (t : Site). t.board) (turned_at h s x is) ∙ b
 hart_put : (h : ℕ) (y : Hart) (m : DebugModule) (s : Site) (x : Hart) → HartAt h s x → HartAt h (aside m h y s) y
 hart_put h y m s x is = slice_get-set_same s.board.harts h y (slice_get_within s.board.harts h x is)
 
-aside_same : (m : DebugModule) (h : ℕ) (y : Hart) (s : Site) (x : Hart) → HartAt h s x → Frozen x → Frozen y → turned h (aside m h y s) ≡ aside m h y (turned h s)
+aside_same : (m : DebugModule) (h : ℕ) (y : Hart) (s : Site) (x : Hart) → HartAt h s x → Frozen x → Frozen y
+    → turned h (aside m h y s) ≡ aside m h y (turned h s)
 aside_same m h y s x is fx fy =
     turned_at h (aside m h y s) y (hart_put h y m s x is)
-    ∙ ap (λ b. site_at m (turned_by (Some x) h s) b) (board_rests h (put_hart h y s.board) y (hart_put h y m s x is) fy ∙ ap (put_hart h y) (sym (board_rests h s.board x is fx)))
+    ∙ ap (λ b. site_at m (turned_by (Some x) h s) b)
+        (board_rests h (put_hart h y s.board) y (hart_put h y m s x is) fy ∙ ap (put_hart h y) (sym (board_rests h s.board x is fx)))
     ∙ ap (aside m h y) (sym (turned_at h s x is))
 
-pub aside_turned : (m : DebugModule) (h g : ℕ) (y : Hart) (s : Site) (x : Hart) → HartAt h s x → Frozen x → Frozen y → turned g (aside m h y s) ≡ aside m h y (turned g s)
+pub aside_turned : (m : DebugModule) (h g : ℕ) (y : Hart) (s : Site) (x : Hart) → HartAt h s x → Frozen x → Frozen y
+    → turned g (aside m h y s) ≡ aside m h y (turned g s)
 aside_turned m h g y s x is fx fy = elim (cases_eq h g) [
   | inl e ↦ subst (λ n. turned n (aside m h y s) ≡ aside m h y (turned n s)) e (aside_same m h y s x is fx fy)
   | inr other ↦ aside_other m h g y s other

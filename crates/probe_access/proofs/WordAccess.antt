@@ -32,7 +32,8 @@ load_by : (r : Result ℕ MemFault) (y : Hart) (m : Memory) → executed (same_m
 load_by (Ok v) y m = refl
 load_by (Err fault) y m = refl
 
-load_ran : (size : Size) (y : Hart) (m : Memory) → ran_word (load_word size) y m ≡ executed (same_memory m (after_load (loaded m (address_in y) size) whole 8 (address_in y) y.core)) true y m
+load_ran : (size : Size) (y : Hart) (m : Memory)
+    → ran_word (load_word size) y m ≡ executed (same_memory m (after_load (loaded m (address_in y) size) whole 8 (address_in y) y.core)) true y m
 unfolding ran_word meaning effect_of
 load_ran B1 y m = refl
 load_ran B2 y m = refl
@@ -43,12 +44,15 @@ abbrev pub stored_by : Result ⊤ MemFault → Memory → Hart → Memory → De
 stored_by (Ok _) n y m = debugged ended.Next true y n
 stored_by (Err fault) n y m = debugged ended.Exception true y m
 
-store_by : (r : Result ⊤ MemFault) (n : Memory) (y : Hart) (m : Memory) → executed (record { step = stored_step r (address_in y) y.core; memory = n }) true y m ≡ stored_by r n y m
+store_by : (r : Result ⊤ MemFault) (n : Memory) (y : Hart) (m : Memory)
+    → executed (record { step = stored_step r (address_in y) y.core; memory = n }) true y m ≡ stored_by r n y m
 store_by (Ok _) n y m = refl
 store_by (Err fault) n y m = refl
 
 store_ran : (size : Size) (y : Hart) (m : Memory)
-    → ran_word (store_word size) y m ≡ executed (record { step = stored_step (store_answer m (address_in y) size) (address_in y) y.core; memory = after_store m (address_in y) size (x_of y.core 9) }) true y m
+    → ran_word (store_word size) y m ≡ executed
+        (record { step = stored_step (store_answer m (address_in y) size) (address_in y) y.core; memory = after_store m (address_in y) size (x_of y.core 9) })
+        true y m
 unfolding ran_word meaning effect_of
 store_ran B1 y m = refl
 store_ran B2 y m = refl
@@ -83,27 +87,33 @@ in_x8 y a is small = ap (λ n. (n + 0) % 2 ^ 64) is ∙ fits a small
     fits : (n : ℕ) → n < 2 ^ 64 → (n + 0) % 2 ^ 64 ≡ n
     fits n lt = omega arith
 
-load_did_by : (size : Size) (a : ℕ) (y : Hart) (m : Memory) (r : Result ℕ MemFault) → Frozen y → address_in y ≡ a → loaded m a size ≡ r → WordDid (Loads size a y) (LoadFaults size a) (load_word size) y m
+load_did_by : (size : Size) (a : ℕ) (y : Hart) (m : Memory) (r : Result ℕ MemFault) → Frozen y → address_in y ≡ a → loaded m a size ≡ r
+    → WordDid (Loads size a y) (LoadFaults size a) (load_word size) y m
 load_did_by size a y m (Ok v) f at is =
     went (with_x8 v y) m (record { value = v; is = is; hart = refl; memory = refl }) (record { why = f.why; halted = f.halted; not_asked = f.not_asked })
     (load_ran size y m ∙ load_by (loaded m (address_in y) size) y m ∙ ap (λ b. loaded_by (loaded m b size) y m) at ∙ ap (λ r. loaded_by r y m) is)
 load_did_by size a y m (Err why) f at is =
-    faulted (record { why = why; is = is }) (load_ran size y m ∙ load_by (loaded m (address_in y) size) y m ∙ ap (λ b. loaded_by (loaded m b size) y m) at ∙ ap (λ r. loaded_by r y m) is)
+    faulted (record { why = why; is = is }) (load_ran size y m ∙ load_by (loaded m (address_in y) size) y m ∙ ap (λ b. loaded_by (loaded m b size) y m) at
+        ∙ ap (λ r. loaded_by r y m) is)
 
 pub load_did : (size : Size) (a : ℕ) (y : Hart) (m : Memory) → Frozen y → address_in y ≡ a → WordDid (Loads size a y) (LoadFaults size a) (load_word size) y m
 load_did size a y m f at = load_did_by size a y m (loaded m a size) f at refl
 
-store_did_by : (size : Size) (a v : ℕ) (y : Hart) (m : Memory) (r : Result ⊤ MemFault) → Frozen y → address_in y ≡ a → x_of y.core 9 ≡ v → store_answer m a size ≡ r → WordDid (Stores size a v y) (StoreFaults size a) (store_word size) y m
+store_did_by : (size : Size) (a v : ℕ) (y : Hart) (m : Memory) (r : Result ⊤ MemFault) → Frozen y → address_in y ≡ a → x_of y.core 9 ≡ v
+    → store_answer m a size ≡ r → WordDid (Stores size a v y) (StoreFaults size a) (store_word size) y m
 store_did_by size a v y m (Ok done) f at holds is =
     went y (after_store m a size v) (record { done = done; is = is; hart = refl; memory = refl }) f
     (store_ran size y m ∙ store_by (store_answer m (address_in y) size) (after_store m (address_in y) size (x_of y.core 9)) y m
-    ∙ ap (λ b. stored_by (store_answer m b size) (after_store m b size (x_of y.core 9)) y m) at ∙ ap (λ u. stored_by (store_answer m a size) (after_store m a size u) y m) holds
+    ∙ ap (λ b. stored_by (store_answer m b size) (after_store m b size (x_of y.core 9)) y m) at
+        ∙ ap (λ u. stored_by (store_answer m a size) (after_store m a size u) y m) holds
     ∙ ap (λ r. stored_by r (after_store m a size v) y m) is)
 store_did_by size a v y m (Err why) f at holds is =
     faulted (record { why = why; is = is })
     (store_ran size y m ∙ store_by (store_answer m (address_in y) size) (after_store m (address_in y) size (x_of y.core 9)) y m
-    ∙ ap (λ b. stored_by (store_answer m b size) (after_store m b size (x_of y.core 9)) y m) at ∙ ap (λ u. stored_by (store_answer m a size) (after_store m a size u) y m) holds
+    ∙ ap (λ b. stored_by (store_answer m b size) (after_store m b size (x_of y.core 9)) y m) at
+        ∙ ap (λ u. stored_by (store_answer m a size) (after_store m a size u) y m) holds
     ∙ ap (λ r. stored_by r (after_store m a size v) y m) is)
 
-pub store_did : (size : Size) (a v : ℕ) (y : Hart) (m : Memory) → Frozen y → address_in y ≡ a → x_of y.core 9 ≡ v → WordDid (Stores size a v y) (StoreFaults size a) (store_word size) y m
+pub store_did : (size : Size) (a v : ℕ) (y : Hart) (m : Memory) → Frozen y → address_in y ≡ a → x_of y.core 9 ≡ v
+    → WordDid (Stores size a v y) (StoreFaults size a) (store_word size) y m
 store_did size a v y m f at holds = store_did_by size a v y m (store_answer m a size) f at holds refl

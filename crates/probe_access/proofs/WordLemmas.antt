@@ -24,7 +24,8 @@ busy_back false NotSupported = refl
 busy_back false Exception = refl
 busy_back false HaltResume = refl
 
-cmderr_back : (b : Bool) (e : Cmderr) → (abstractcs_of (abstractcs_word (record { progbufsize = 4; busy = b; cmderr = cmderr_number e; datacount = 2 }))).cmderr ≡ cmderr_number e
+cmderr_back : (b : Bool) (e : Cmderr) → (abstractcs_of
+    (abstractcs_word (record { progbufsize = 4; busy = b; cmderr = cmderr_number e; datacount = 2 }))).cmderr ≡ cmderr_number e
 cmderr_back true Fine = refl
 cmderr_back true Busy = refl
 cmderr_back true NotSupported = refl
@@ -36,7 +37,8 @@ cmderr_back false NotSupported = refl
 cmderr_back false Exception = refl
 cmderr_back false HaltResume = refl
 
-small_by : (b : Bool) (e : Cmderr) → value_of (abstractcs_word (record { progbufsize = 4; busy = b; cmderr = cmderr_number e; datacount = 2 })) ≡ abstractcs_word (record { progbufsize = 4; busy = b; cmderr = cmderr_number e; datacount = 2 })
+small_by : (b : Bool) (e : Cmderr) → value_of (abstractcs_word (record { progbufsize = 4; busy = b; cmderr = cmderr_number e; datacount = 2 }))
+    ≡ abstractcs_word (record { progbufsize = 4; busy = b; cmderr = cmderr_number e; datacount = 2 })
 small_by true Fine = refl
 small_by true Busy = refl
 small_by true NotSupported = refl
@@ -85,10 +87,12 @@ same_fields a b p q r s t u v = same _ _ _ _ _ _ _ _ _ _ _ _ _ _ p q r s t u v
 pub transfer_back : (write : Bool) (number : ℕ) → number < 2 ^ 16 → command_of (transfer_word write number) ≡ transfer_command write number
 transfer_back true n small =
     same_fields (command_of (transfer_word true n)) (transfer_command true n) (omega arith) (omega arith)
-    (bit_clear 19 (transfer_word true n) (omega arith)) (bit_clear 18 (transfer_word true n) (omega arith)) (bit_set 17 (transfer_word true n) (omega arith)) (bit_set 16 (transfer_word true n) (omega arith)) (omega arith)
+    (bit_clear 19 (transfer_word true n) (omega arith)) (bit_clear 18 (transfer_word true n) (omega arith)) (bit_set 17 (transfer_word true n) (omega arith))
+        (bit_set 16 (transfer_word true n) (omega arith)) (omega arith)
 transfer_back false n small =
     same_fields (command_of (transfer_word false n)) (transfer_command false n) (omega arith) (omega arith)
-    (bit_clear 19 (transfer_word false n) (omega arith)) (bit_clear 18 (transfer_word false n) (omega arith)) (bit_set 17 (transfer_word false n) (omega arith)) (bit_clear 16 (transfer_word false n) (omega arith)) (omega arith)
+    (bit_clear 19 (transfer_word false n) (omega arith)) (bit_clear 18 (transfer_word false n) (omega arith))
+        (bit_set 17 (transfer_word false n) (omega arith)) (bit_clear 16 (transfer_word false n) (omega arith)) (omega arith)
 
 pub program_back : command_of program_word ≡ program_command x8_number
 program_back = refl

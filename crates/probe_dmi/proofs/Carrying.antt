@@ -1,5 +1,5 @@
--- A scan of dmi while an operation is awaited, whatever it carries: where the status was found busy or failed its update does nothing, and where the operation was
--- performed the next is launched from there.
+-- A scan of dmi while an operation is awaited, whatever it carries: where the status was found busy or failed its update does nothing, and where the
+-- operation was performed the next is launched from there.
 use Rattle.std.proofs.Common.{◌≡◌, ◌≢◌, ◌∙◌, ◌+◌, ◌%◌, ◌<◌, ◌≤◌, ℕ, List, [], ◌∷◌, Bool, true, false, Option, Some, None, refl, sym, ap, subst, arith}
 use Rattle.jt_base.specs.BitList.{number_of}
 use Rattle.debug_model.specs.declared.data_register.DataRegister.TheVariants.{Dmi}
@@ -21,7 +21,8 @@ use Rattle.probe_dmi.specs.Registers.{dmi_bits}
 use Rattle.probe_dmi.proofs.Counts.{counts_in, course_losses, losses_one, scan_found, scan_losses, ticks_busy}
 use Rattle.probe_dmi.proofs.Flight.{Phase, Settled, Waiting, settle_ticks, ticks_sticky, wait_ticks}
 use Rattle.probe_dmi.proofs.Flight.Phase.{flying, landed, missed}
-use Rattle.probe_dmi.proofs.Stages.{Launching, Sent, finds_is, launch_update, launching, op_seen, seen_is, settle_capture, settle_update, wait_captured, wait_update}
+use Rattle.probe_dmi.proofs.Stages.{Launching, Sent, finds_is, launch_update, launching, op_seen, seen_is, settle_capture, settle_update, wait_captured,
+    wait_update}
 use Rattle.probe_dmi.proofs.Updates.{Keeps, nop_keeps, spares}
 use Rattle.probe_dmi.proofs.WholeScans.{cut_scan, dmi_left}
 
@@ -47,13 +48,16 @@ stuck_keeps bits d stuck =
 abbrev pub to_update : ℕ → ℕ → Inside → Inside
 to_update before between j = ticks between (capture Dmi (ticks before j))
 
-stuck_scan : (bits : List Bool) (op : DmiOp) (before between behind : ℕ) (i j : Inside) → (dtm_of (to_update before between j)).sticky ≢ Clear → Waiting op i j → Waiting op i (dr_inside before between behind bits Dmi j)
+stuck_scan : (bits : List Bool) (op : DmiOp) (before between behind : ℕ) (i j : Inside) → (dtm_of (to_update before between j)).sticky ≢ Clear → Waiting op i j
+    → Waiting op i (dr_inside before between behind bits Dmi j)
 stuck_scan bits op before between behind i j stuck w =
     let n = to_update before between j in
     let left = dr_stays bits Dmi (ticks before j) in
-    wait_ticks behind op i (update Dmi left n) (wait_update Dmi left op i n (spares Dmi left (dtm_of n) (stuck_keeps left (dtm_of n) stuck)) (wait_captured Dmi before between op i j w))
+    wait_ticks behind op i (update Dmi left n)
+        (wait_update Dmi left op i n (spares Dmi left (dtm_of n) (stuck_keeps left (dtm_of n) stuck)) (wait_captured Dmi before between op i j w))
 
-stuck_sticky : (bits : List Bool) (before between behind : ℕ) (j : Inside) (s : Sticky) → (dtm_of (to_update before between j)).sticky ≡ s → s ≢ Clear → (dtm_of (dr_inside before between behind bits Dmi j)).sticky ≡ s
+stuck_sticky : (bits : List Bool) (before between behind : ℕ) (j : Inside) (s : Sticky) → (dtm_of (to_update before between j)).sticky ≡ s → s ≢ Clear
+    → (dtm_of (dr_inside before between behind bits Dmi j)).sticky ≡ s
 stuck_sticky bits before between behind j s is stuck =
     let n = to_update before between j in
     let left = dr_stays bits Dmi (ticks before j) in
@@ -74,7 +78,8 @@ pub data Carried (op : DmiOp) (i j n k : Inside) (out : DmiScan) : Type 0 where
   came_back : (result : ℕ) → out.op ≡ 0 → out.value ≡ result % 4294967296 → Settled (Launched op ∷ Performed op result ∷ []) result i n → Carried op i j n k out
   got_lost : out.op ≡ 2 → Waiting op i k → (counts_in i).dmi_failed < (counts_in k).dmi_failed → Carried op i j n k out
 
-carry_by : (op : DmiOp) (bits : List Bool) (before between behind : ℕ) (i j : Inside) (out : DmiScan) → Waiting op i j → (dtm_of j).sticky ≡ Clear → out ≡ cut_scan (dmi_seen (dtm_of (ticks before j)))
+carry_by : (op : DmiOp) (bits : List Bool) (before between behind : ℕ) (i j : Inside) (out : DmiScan) → Waiting op i j → (dtm_of j).sticky ≡ Clear
+    → out ≡ cut_scan (dmi_seen (dtm_of (ticks before j)))
     → (hs : List Happening) → Course i hs (ticks before j) → Phase op hs (dtm_of (ticks before j))
     → Carried op i j (to_update before between j) (dr_inside before between behind bits Dmi j) out
 carry_by op bits before between behind i j out w clear is hs path (flying h f) =
@@ -101,7 +106,8 @@ carry_by op bits before between behind i j out w clear is hs path (missed h f k)
     got_lost (op_seen (dtm_of m) out Failed is gone) (stuck_scan bits op before between behind i j (λ e. failed_is_stuck (sym at_update ∙ e)) w)
     (omega (arith, course_losses i m hs path, losses_one op hs h, scan_losses before between behind bits Dmi j))
 
-pub carry : (op : DmiOp) (bits : List Bool) (before between behind : ℕ) (i j : Inside) (out : DmiScan) → Waiting op i j → (dtm_of j).sticky ≡ Clear → out ≡ cut_scan (dmi_seen (dtm_of (ticks before j)))
+pub carry : (op : DmiOp) (bits : List Bool) (before between behind : ℕ) (i j : Inside) (out : DmiScan) → Waiting op i j → (dtm_of j).sticky ≡ Clear
+    → out ≡ cut_scan (dmi_seen (dtm_of (ticks before j)))
     → Carried op i j (to_update before between j) (dr_inside before between behind bits Dmi j) out
 carry op bits before between behind i j out w clear is =
     let at = wait_ticks before op i j w in
@@ -113,20 +119,24 @@ pub settled_here : (hs : List Happening) (v : ℕ) (i n : Inside) → Settled hs
 settled_here hs v i n s = record { path = nothing; flight = s.flight; failed = s.failed; clear = s.clear; value_is = s.value_is }
 
 -- the next operation is launched
-pub launch_here : (op : DmiOp) (before between behind : ℕ) (v : ℕ) (j : Inside) → IsOperation op → Settled [] v (to_update before between j) (to_update before between j)
+pub launch_here : (op : DmiOp) (before between behind : ℕ) (v : ℕ) (j : Inside) → IsOperation op
+    → Settled [] v (to_update before between j) (to_update before between j)
     → Sent op (to_update before between j) (dr_inside before between behind (dmi_bits (carrying op)) Dmi j)
 launch_here op before between behind v j small s =
     let n = to_update before between j in
     let bits = dr_stays (dmi_bits (carrying op)) Dmi (ticks before j) in
-    let l : Launching op bits (dtm_of n) = subst (λ x. Launching op x (dtm_of n)) (sym (dmi_left (carrying op) (ticks before j))) (launching op (dtm_of n) small s.clear) in
+    let l : Launching op bits (dtm_of n) = subst (λ x. Launching op x (dtm_of n)) (sym (dmi_left (carrying op) (ticks before j)))
+        (launching op (dtm_of n) small s.clear) in
     record { waiting = wait_ticks behind op n (update Dmi bits n) (launch_update op bits v n n l s); clear = ticks_sticky behind (update Dmi bits n) ∙ l.clear }
 
 -- nothing is
-pub nop_here : (before between behind : ℕ) (hs : List Happening) (v : ℕ) (i j : Inside) → Settled hs v i (to_update before between j) → Settled hs v i (dr_inside before between behind (dmi_bits nop) Dmi j)
+pub nop_here : (before between behind : ℕ) (hs : List Happening) (v : ℕ) (i j : Inside) → Settled hs v i (to_update before between j)
+    → Settled hs v i (dr_inside before between behind (dmi_bits nop) Dmi j)
 nop_here before between behind hs v i j s =
     let n = to_update before between j in
     let left = dr_stays (dmi_bits nop) Dmi (ticks before j) in
-    settle_ticks behind hs v i (update Dmi left n) (settle_update Dmi left hs v i n (subst (λ x. Keeps Dmi x (dtm_of n)) (sym (dmi_left nop (ticks before j))) (nop_keeps (dtm_of n))) s)
+    settle_ticks behind hs v i (update Dmi left n)
+        (settle_update Dmi left hs v i n (subst (λ x. Keeps Dmi x (dtm_of n)) (sym (dmi_left nop (ticks before j))) (nop_keeps (dtm_of n))) s)
 
 -- ---- captures that found it busy are only added
 
@@ -134,9 +144,11 @@ busy_more : (found : Bool) (k : Counts) → k.dmi_busy ≤ (busy_counted found k
 busy_more true k = omega arith
 busy_more false k = omega arith
 
-pub scan_busy : (before between behind : ℕ) (bits : List Bool) (j : Inside) → (counts_in j).dmi_busy ≤ (counts_in (dr_inside before between behind bits Dmi j)).dmi_busy
+pub scan_busy : (before between behind : ℕ) (bits : List Bool) (j : Inside)
+    → (counts_in j).dmi_busy ≤ (counts_in (dr_inside before between behind bits Dmi j)).dmi_busy
 scan_busy before between behind bits j =
     let m = ticks before j in
     let n = to_update before between j in
     let left = dr_stays bits Dmi m in
-    omega (arith, ticks_busy before j, busy_more (sets_busy Dmi (dtm_of m)) (counts_in m), ticks_busy between (capture Dmi m), ticks_busy behind (update Dmi left n))
+    omega (arith, ticks_busy before j, busy_more (sets_busy Dmi (dtm_of m)) (counts_in m), ticks_busy between (capture Dmi m),
+        ticks_busy behind (update Dmi left n))

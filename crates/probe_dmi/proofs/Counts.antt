@@ -62,13 +62,17 @@ busy_unfound true k e = absurd (let no : ⊥ = cc in no)
 busy_unfound false k e = refl
 
 -- a scan
-pub scan_found : (before between behind : ℕ) (bits : List Bool) (r : DataRegister) (i : Inside) → sets_busy r (dtm_of (ticks before i)) ≡ true → (counts_in (dr_inside before between behind bits r i)).dmi_busy ≡ (counts_in i).dmi_busy + 1
+pub scan_found : (before between behind : ℕ) (bits : List Bool) (r : DataRegister) (i : Inside) → sets_busy r (dtm_of (ticks before i)) ≡ true
+    → (counts_in (dr_inside before between behind bits r i)).dmi_busy ≡ (counts_in i).dmi_busy + 1
 scan_found before between behind bits r i found =
-    ticks_busy behind _ ∙ ticks_busy between (capture r (ticks before i)) ∙ busy_found (sets_busy r (dtm_of (ticks before i))) (counts_in (ticks before i)) found ∙ ap (λ n. n + 1) (ticks_busy before i)
+    ticks_busy behind _ ∙ ticks_busy between (capture r (ticks before i))
+        ∙ busy_found (sets_busy r (dtm_of (ticks before i))) (counts_in (ticks before i)) found ∙ ap (λ n. n + 1) (ticks_busy before i)
 
-pub scan_unfound : (before between behind : ℕ) (bits : List Bool) (r : DataRegister) (i : Inside) → sets_busy r (dtm_of (ticks before i)) ≡ false → (counts_in (dr_inside before between behind bits r i)).dmi_busy ≡ (counts_in i).dmi_busy
+pub scan_unfound : (before between behind : ℕ) (bits : List Bool) (r : DataRegister) (i : Inside) → sets_busy r (dtm_of (ticks before i)) ≡ false
+    → (counts_in (dr_inside before between behind bits r i)).dmi_busy ≡ (counts_in i).dmi_busy
 scan_unfound before between behind bits r i found =
-    ticks_busy behind _ ∙ ticks_busy between (capture r (ticks before i)) ∙ busy_unfound (sets_busy r (dtm_of (ticks before i))) (counts_in (ticks before i)) found ∙ ticks_busy before i
+    ticks_busy behind _ ∙ ticks_busy between (capture r (ticks before i))
+        ∙ busy_unfound (sets_busy r (dtm_of (ticks before i))) (counts_in (ticks before i)) found ∙ ticks_busy before i
 
 -- ---- operations that were lost
 
@@ -138,7 +142,8 @@ unfolding losses
 course_losses i j hs nothing = omega arith
 course_losses i j hs (round before k c) = omega (arith, tick_losses k, course_losses i k before c, losses-append before (in_round k))
 course_losses i j hs (captured r before k c) = busy_losses (sets_busy r (dtm_of k)) (counts_in k) ∙ course_losses i k before c
-course_losses i j hs (updated r bits before k c) = omega (arith, course_losses i k before c, losses-append before (in_update r bits (dtm_of k)), update_losses r bits (dtm_of k))
+course_losses i j hs (updated r bits before k c) =
+    omega (arith, course_losses i k before c, losses-append before (in_update r bits (dtm_of k)), update_losses r bits (dtm_of k))
 
 ticks_losses : (n : ℕ) (j : Inside) → (counts_in j).dmi_failed ≤ (counts_in (ticks n j)).dmi_failed
 unfolding ticks
@@ -146,7 +151,8 @@ ticks_losses zero j = omega arith
 ticks_losses (suc n) j = omega (arith, tick_losses j, ticks_losses n (tick j))
 
 -- a scan forgets no operation that was lost before its capture
-pub scan_losses : (before between behind : ℕ) (bits : List Bool) (r : DataRegister) (i : Inside) → (counts_in (ticks before i)).dmi_failed ≤ (counts_in (dr_inside before between behind bits r i)).dmi_failed
+pub scan_losses : (before between behind : ℕ) (bits : List Bool) (r : DataRegister) (i : Inside)
+    → (counts_in (ticks before i)).dmi_failed ≤ (counts_in (dr_inside before between behind bits r i)).dmi_failed
 scan_losses before between behind bits r i =
     let m = ticks before i in
     let n = ticks between (capture r m) in

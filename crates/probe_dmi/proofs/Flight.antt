@@ -1,5 +1,6 @@
 -- What becomes of an operation in flight: rounds perform or lose it once, and leave a transport with nothing in flight as it is.
-use Rattle.std.proofs.Common.{◌≡◌, ◌∙◌, ℕ, zero, suc, List, [], ◌∷◌, ◌++◌, true, false, Option, Some, None, unwrap_or, refl, sym, ap, subst, append_assoc, append-nil}
+use Rattle.std.proofs.Common.{◌≡◌, ◌∙◌, ℕ, zero, suc, List, [], ◌∷◌, ◌++◌, true, false, Option, Some, None, unwrap_or, refl, sym, ap, subst, append_assoc,
+    append-nil}
 use Rattle.debug_model.specs.declared.dmi_op.DmiOp.{DmiOp}
 use Rattle.debug_model.specs.declared.data_register.DataRegister.{DataRegister}
 use Rattle.debug_model.specs.declared.data_register.DataRegister.TheVariants.{Idcode, Dtmcs, Dmi, Bypass}
@@ -87,20 +88,23 @@ dropped_some None op d e = absurd (let no : ⊥ = cc in no)
 same_op : (o op : DmiOp) → Some o ≡ Some op → o ≡ op
 same_op o op e = ap (λ f. unwrap_or f op) e
 
-done_phase : (op : DmiOp) (hs : List Happening) (w : Works) (f : Option DmiOp) → hs ≡ Launched op ∷ [] → w.dtm.flight ≡ Some op → f ≡ Some op → Phase op (hs ++ performs f w.site) (performed_by f w).dtm
+done_phase : (op : DmiOp) (hs : List Happening) (w : Works) (f : Option DmiOp) → hs ≡ Launched op ∷ [] → w.dtm.flight ≡ Some op → f ≡ Some op
+    → Phase op (hs ++ performs f w.site) (performed_by f w).dtm
 done_phase op hs w None h g e = absurd (let no : ⊥ = cc in no)
 done_phase op hs w (Some o) h g e =
     let result = operation_result o w.site in
     let d = finished_some w.dtm.flight op result w.dtm g in
     landed result (ap (λ xs. xs ++ Performed o result ∷ []) h ∙ ap (λ x. Launched op ∷ Performed x result ∷ []) (same_op o op e)) d.flight d.failed d.value
 
-lost_phase : (op : DmiOp) (hs : List Happening) (w : Works) (f : Option DmiOp) → hs ≡ Launched op ∷ [] → w.dtm.flight ≡ Some op → f ≡ Some op → Phase op (hs ++ loses f) (lost_by f w).dtm
+lost_phase : (op : DmiOp) (hs : List Happening) (w : Works) (f : Option DmiOp) → hs ≡ Launched op ∷ [] → w.dtm.flight ≡ Some op → f ≡ Some op
+    → Phase op (hs ++ loses f) (lost_by f w).dtm
 lost_phase op hs w None h g e = absurd (let no : ⊥ = cc in no)
 lost_phase op hs w (Some o) h g e =
     let d = dropped_some w.dtm.flight op w.dtm g in
     missed (ap (λ xs. xs ++ Lost o ∷ []) h ∙ ap (λ x. Launched op ∷ Lost x ∷ []) (same_op o op e)) d.flight d.failed
 
-flight_event : (op : DmiOp) (hs : List Happening) (e : Event) (w : Works) → hs ≡ Launched op ∷ [] → w.dtm.flight ≡ Some op → Phase op (hs ++ in_event e w) (after_event e w).dtm
+flight_event : (op : DmiOp) (hs : List Happening) (e : Event) (w : Works) → hs ≡ Launched op ∷ [] → w.dtm.flight ≡ Some op
+    → Phase op (hs ++ in_event e w) (after_event e w).dtm
 unfolding after_event
 flight_event op hs (Turn h) w is f = still op hs [] w.dtm w.dtm refl refl (flying is f)
 flight_event op hs DmiDone w is f = done_phase op hs w w.dtm.flight is f f
@@ -108,7 +112,8 @@ flight_event op hs DmiFail w is f = lost_phase op hs w w.dtm.flight is f f
 flight_event op hs CmdStep w is f = still op hs [] w.dtm w.dtm refl refl (flying is f)
 flight_event op hs BusDone w is f = still op hs [] w.dtm w.dtm refl refl (flying is f)
 
-quiet_event : (op : DmiOp) (hs : List Happening) (e : Event) (w : Works) → w.dtm.flight ≡ None → Phase op hs w.dtm → Phase op (hs ++ in_event e w) (after_event e w).dtm
+quiet_event : (op : DmiOp) (hs : List Happening) (e : Event) (w : Works) → w.dtm.flight ≡ None → Phase op hs w.dtm
+    → Phase op (hs ++ in_event e w) (after_event e w).dtm
 quiet_event op hs e w none p = let q = event_quiet e w none in still op hs (in_event e w) w.dtm (after_event e w).dtm q.none q.same p
 
 phase_event : (op : DmiOp) (hs : List Happening) (e : Event) (w : Works) → Phase op hs w.dtm → Phase op (hs ++ in_event e w) (after_event e w).dtm

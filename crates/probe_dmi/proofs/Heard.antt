@@ -1,5 +1,6 @@
 -- What was heard of scripted scans: the scans of an operation so far, and where a bad answer stood.
-use Rattle.std.proofs.Common.{◌≡◌, ◌≢◌, ◌∙◌, ◌⊎◌, ◌+◌, ◌<◌, ◌≤◌, ℕ, zero, suc, List, [], ◌∷◌, ◌++◌, Bool, true, false, Option, Some, None, IfSome, option_map, refl, sym, ap, subst, arith, inl, inr, Result, Ok, Err, IfErr, IsErrAnd}
+use Rattle.std.proofs.Common.{◌≡◌, ◌≢◌, ◌∙◌, ◌⊎◌, ◌+◌, ◌<◌, ◌≤◌, ℕ, zero, suc, List, [], ◌∷◌, ◌++◌, Bool, true, false, Option, Some, None, IfSome, option_map,
+    refl, sym, ap, subst, arith, inl, inr, Result, Ok, Err, IfErr, IsErrAnd}
 use Rattle.jt_base.proofs.FaultLemmas.{rises_from}
 use Rattle.debug_model.proofs.HeardLemmas.{wrong_behind}
 use Rattle.debug_model.specs.declared.dmi.DmiFault.{DmiFault}
@@ -8,7 +9,8 @@ use Rattle.debug_model.specs.declared.dmi_scan.DmiScan.{DmiScan}
 use Rattle.debug_model.specs.declared.wire.WireFault.{WireFault}
 use Rattle.debug_model.specs.declared.wire.WireFault.TheVariants.{SendFailed, RecvFailed, Ended, BadAnswer}
 use Rattle.debug_model.specs.Dmi as dmi
-use Rattle.debug_model.specs.Dmi.{Awaited, DmiCause, DmiComing, Fetched, HeardBusy, HeardFailed, IsDmi, IsDtmcs, ScannedCause, Scans, Shows, TookAll, WasBusy, WasDone, WhereScanned, heard, scanned_coming}
+use Rattle.debug_model.specs.Dmi.{Awaited, DmiCause, DmiComing, Fetched, HeardBusy, HeardFailed, IsDmi, IsDtmcs, ScannedCause, Scans, Shows, TookAll, WasBusy,
+    WasDone, WhereScanned, heard, scanned_coming}
 use Rattle.debug_model.specs.Dmi.Awaited.{begun, busy, carried}
 use Rattle.debug_model.specs.Scan.{BadCause, Coming, ScanCause, TookOut, WrongIn, Numbers, Answers}
 use Rattle.debug_model.specs.Told.{Far}
@@ -63,7 +65,8 @@ status_cases (suc (suc (suc zero))) small a b = inl refl
 status_cases (suc (suc (suc (suc n)))) small a b = absurd (omega (arith, small))
 
 pub was_busy : (out : DmiScan) (bits : List Bool) → out ≡ heard bits → out.op ≢ 0 → out.op ≢ 2 → WasBusy bits
-was_busy out bits is undone unfailed = status_cases (heard bits).op (omega arith) (λ e. undone (ap (λ (x : DmiScan). x.op) is ∙ e)) (λ e. unfailed (ap (λ (x : DmiScan). x.op) is ∙ e))
+was_busy out bits is undone unfailed = status_cases (heard bits).op (omega arith) (λ e. undone (ap (λ (x : DmiScan). x.op) is ∙ e))
+    (λ e. unfailed (ap (λ (x : DmiScan). x.op) is ∙ e))
 
 pub heard_carried : (n : ℕ) (out : DmiScan) (old mid new : Option Coming) → out.op ≡ 0 → SoFar n false old mid → HeardDmi out mid new → SoFar n true old new
 heard_carried n out None mid new done s h = subst (λ m. HeardDmi out m new) s h
@@ -78,7 +81,8 @@ heard_carried n out (Some coming) mid new done s h =
       took = took_all_then s.outs (d.bits ∷ []) coming s.next x.next s.took (took_one d.bits s.next new x.next d.took x.is);
     }
 
-pub heard_again : (n : ℕ) (taken : Bool) (out : DmiScan) (value : ℕ) (old mid last new : Option Coming) → out.op ≢ 0 → out.op ≢ 2 → SoFar n taken old mid → HeardDmi out mid last → HeardNumber value last new → SoFar (n + 1) taken old new
+pub heard_again : (n : ℕ) (taken : Bool) (out : DmiScan) (value : ℕ) (old mid last new : Option Coming) → out.op ≢ 0 → out.op ≢ 2 → SoFar n taken old mid
+    → HeardDmi out mid last → HeardNumber value last new → SoFar (n + 1) taken old new
 heard_again n taken out value None mid last new undone unfailed s h k = subst (λ m. HeardNumber value m new) (subst (λ m. HeardDmi out m last) s h) k
 heard_again n taken out value (Some coming) mid last new undone unfailed s h k =
     let d : TookDmi out s.next last = subst (λ m. HeardDmi out m last) s.is h in
@@ -88,14 +92,16 @@ heard_again n taken out value (Some coming) mid last new undone unfailed s h k =
     let more : suc n ≡ n + 1 = omega arith in
     record {
       outs = s.outs ++ (d.bits ∷ w.bits ∷ []);
-      awaited = subst (λ m. Awaited m taken (s.outs ++ (d.bits ∷ w.bits ∷ []))) more (busy n taken s.outs s.awaited d.bits w.bits d.width (was_busy out d.bits d.is undone unfailed) w.width);
+      awaited = subst (λ m. Awaited m taken (s.outs ++ (d.bits ∷ w.bits ∷ []))) more
+          (busy n taken s.outs s.awaited d.bits w.bits d.width (was_busy out d.bits d.is undone unfailed) w.width);
       next = y.next;
       is = y.is;
       took = took_all_then s.outs (d.bits ∷ w.bits ∷ []) coming s.next y.next s.took
           (took_two d.bits w.bits s.next x.next y.next (took_one d.bits s.next last x.next d.took x.is) (took_one w.bits x.next new y.next w.took y.is));
     }
 
-pub heard_result : (n : ℕ) (out : DmiScan) (old mid new : Option Coming) → n < 64 → out.op ≡ 0 → SoFar n true old mid → HeardDmi out mid new → dmi.Answers out.value (option_map Scans old) (option_map Scans new)
+pub heard_result : (n : ℕ) (out : DmiScan) (old mid new : Option Coming) → n < 64 → out.op ≡ 0 → SoFar n true old mid → HeardDmi out mid new
+    → dmi.Answers out.value (option_map Scans old) (option_map Scans new)
 heard_result n out None mid new few done s h = ap (option_map Scans) (subst (λ m. HeardDmi out m new) s h)
 heard_result n out (Some coming) mid new few done s h =
     let d : TookDmi out s.next new = subst (λ m. HeardDmi out m new) s.is h in
@@ -113,7 +119,8 @@ heard_result n out (Some coming) mid new few done s h =
     } in
     (x.next, f, ap (option_map Scans) x.is)
 
-pub heard_failed : (n : ℕ) (taken : Bool) (out : DmiScan) (old mid new : Option Coming) → n < 64 → out.op ≡ 2 → SoFar n taken old mid → HeardDmi out mid new → IfSome (option_map Scans old) (WhereScanned HeardFailed)
+pub heard_failed : (n : ℕ) (taken : Bool) (out : DmiScan) (old mid new : Option Coming) → n < 64 → out.op ≡ 2 → SoFar n taken old mid → HeardDmi out mid new
+    → IfSome (option_map Scans old) (WhereScanned HeardFailed)
 heard_failed n taken out None mid new few gone s h = tt
 heard_failed n taken out (Some coming) mid new few gone s h =
     let d : TookDmi out s.next new = subst (λ m. HeardDmi out m new) s.is h in
@@ -133,7 +140,8 @@ heard_failed n taken out (Some coming) mid new few gone s h =
 
 pub heard_busy : (n : ℕ) (taken : Bool) (old mid : Option Coming) → n ≡ 64 → SoFar n taken old mid → IfSome (option_map Scans old) (WhereScanned HeardBusy)
 heard_busy n taken None mid many s = tt
-heard_busy n taken (Some coming) mid many s = record { taken = taken; outs = s.outs; awaited = subst (λ m. Awaited m taken s.outs) many s.awaited; new = s.next; took = s.took }
+heard_busy n taken (Some coming) mid many s =
+    record { taken = taken; outs = s.outs; awaited = subst (λ m. Awaited m taken s.outs) many s.awaited; new = s.next; took = s.took }
 
 -- ---- where a bad answer stood
 
@@ -166,28 +174,33 @@ pub end_back : (old mid new : ℕ) (told : Option Far) → old ≤ mid → mid �
 end_back old mid new told e f (inl r) = inl (rises_from old mid new e f r)
 end_back old mid new told e f (inr m) = inr m
 
-bad_back : (b : ℕ) (told : Option Far) (old mid : Option Coming) → Through old mid → BadCause b told mid → BadCause b told (scanned_coming (option_map Scans old))
+bad_back : (b : ℕ) (told : Option Far) (old mid : Option Coming) → Through old mid → BadCause b told mid
+    → BadCause b told (scanned_coming (option_map Scans old))
 bad_back b told None mid through c = (c.0, c.1, c.2, tt)
 bad_back b told (Some s) mid through c = (c.0, c.1, c.2, through b c.3)
 
-pub scan_cause : (old mid new : ℕ) (told : Option Far) (before coming : Option Coming) (fault : WireFault) → old ≤ mid → mid ≤ new → Through before coming → ScanCause mid new told coming fault
+pub scan_cause : (old mid new : ℕ) (told : Option Far) (before coming : Option Coming) (fault : WireFault) → old ≤ mid → mid ≤ new → Through before coming
+    → ScanCause mid new told coming fault
     → ScanCause old new told (scanned_coming (option_map Scans before)) fault
 scan_cause old mid new told before coming SendFailed e f through c = rises_from old mid new e f c
 scan_cause old mid new told before coming RecvFailed e f through c = rises_from old mid new e f c
 scan_cause old mid new told before coming Ended e f through c = end_back old mid new told e f c
 scan_cause old mid new told before coming (BadAnswer b) e f through c = bad_back b told before coming through c
 
-pub wire_cause : {T : Type 0} (old new : ℕ) (was told : Option Far) (coming : Option DmiComing) (fault : WireFault) (result : Result T DmiFault) → IsErrAnd result (λ e. e ≡ Wire fault) → ScanCause old new told (scanned_coming coming) fault → IfErr result (DmiCause old new was told coming)
+pub wire_cause : {T : Type 0} (old new : ℕ) (was told : Option Far) (coming : Option DmiComing) (fault : WireFault) (result : Result T DmiFault)
+    → IsErrAnd result (λ e. e ≡ Wire fault) → ScanCause old new told (scanned_coming coming) fault → IfErr result (DmiCause old new was told coming)
 wire_cause old new was told coming fault (Ok x) h cause = tt
 wire_cause old new was told coming fault (Err e) h cause = subst (DmiCause old new was told coming) (sym h) cause
 
 -- why a scan failed, behind others
-pub again_cause : (old mid new : ℕ) (told : Option Far) (before coming : Option Coming) (fault : WireFault) → old ≤ mid → mid ≤ new → Through before coming → ScanCause mid new told coming fault → ScanCause old new told before fault
+pub again_cause : (old mid new : ℕ) (told : Option Far) (before coming : Option Coming) (fault : WireFault) → old ≤ mid → mid ≤ new → Through before coming
+    → ScanCause mid new told coming fault → ScanCause old new told before fault
 again_cause old mid new told before coming SendFailed e f through c = rises_from old mid new e f c
 again_cause old mid new told before coming RecvFailed e f through c = rises_from old mid new e f c
 again_cause old mid new told before coming Ended e f through c = end_back old mid new told e f c
 again_cause old mid new told before coming (BadAnswer b) e f through c = (c.0, c.1, c.2, through b c.3)
 
-pub from_err : {T : Type 0} (P : WireFault → Type 0) (fault : WireFault) (result : Result T WireFault) → IsErrAnd result (λ e. e ≡ fault) → P fault → IfErr result P
+pub from_err : {T : Type 0} (P : WireFault → Type 0) (fault : WireFault) (result : Result T WireFault) → IsErrAnd result (λ e. e ≡ fault) → P fault
+    → IfErr result P
 from_err P fault (Ok x) h holds = tt
 from_err P fault (Err e) h holds = subst P (sym h) holds

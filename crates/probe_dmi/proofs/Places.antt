@@ -44,53 +44,76 @@ none_next : (left : List DmiOp) → NextAtMostOnce left []
 none_next [] = refl
 none_next (op ∷ left) = not_sent
 
-pub reached_none : (ops : List DmiOp) (i base k : Inside) (done : List Operation) (left : List DmiOp) (v : ℕ) → map op_of done ++ left ≡ ops → Course i (each_once done) base → Settled [] v base k → ReachedAll ops i k
-reached_none ops i base k done left v asked c s = record { done = done; left = left; asked = asked; happened = []; path = course_append i base k (each_once done) [] c s.path; once = none_next left }
+pub reached_none : (ops : List DmiOp) (i base k : Inside) (done : List Operation) (left : List DmiOp) (v : ℕ) → map op_of done ++ left ≡ ops
+    → Course i (each_once done) base → Settled [] v base k → ReachedAll ops i k
+reached_none ops i base k done left v asked c s =
+    record { done = done; left = left; asked = asked; happened = []; path = course_append i base k (each_once done) [] c s.path; once = none_next left }
 
-pub reached_one : (ops : List DmiOp) (i base k : Inside) (done : List Operation) (op : DmiOp) (left : List DmiOp) → map op_of done ++ op ∷ left ≡ ops → Course i (each_once done) base → Waiting op base k → ReachedAll ops i k
-reached_one ops i base k done op left asked c w = record { done = done; left = op ∷ left; asked = asked; happened = w.happened; path = course_append i base k (each_once done) w.happened c w.path; once = once_of op w.happened (dtm_of k) w.phase }
+pub reached_one : (ops : List DmiOp) (i base k : Inside) (done : List Operation) (op : DmiOp) (left : List DmiOp) → map op_of done ++ op ∷ left ≡ ops
+    → Course i (each_once done) base → Waiting op base k → ReachedAll ops i k
+reached_one ops i base k done op left asked c w =
+    record { done = done; left = op ∷ left; asked = asked; happened = w.happened; path = course_append i base k (each_once done) w.happened c w.path; once =
+    once_of op w.happened (dtm_of k) w.phase }
 
-pub place_reached : (ops : List DmiOp) (i base k : Inside) (done : List Operation) (left : List DmiOp) (flight : Bool) → Course i (each_once done) base → Place ops done left flight base k → ReachedAll ops i k
+pub place_reached : (ops : List DmiOp) (i base k : Inside) (done : List Operation) (left : List DmiOp) (flight : Bool) → Course i (each_once done) base
+    → Place ops done left flight base k → ReachedAll ops i k
 place_reached ops i base k done left flight c (none_awaited e asked v s) = reached_none ops i base k done left v asked c s
 place_reached ops i base k done left flight c (one_awaited e op asked w) = reached_one ops i base k done op left asked c w
 
 -- ---- a cut scan
 
-taken_part : (ops : List DmiOp) (i base k : Inside) (done : List Operation) (op : DmiOp) (left : List DmiOp) → map op_of done ++ op ∷ left ≡ ops → Course i (each_once done) base → Reached op base k → ReachedAll ops i k
-taken_part ops i base k done op left asked c r = record { done = done; left = op ∷ left; asked = asked; happened = r.happened; path = course_append i base k (each_once done) r.happened c r.path; once = r.once }
+taken_part : (ops : List DmiOp) (i base k : Inside) (done : List Operation) (op : DmiOp) (left : List DmiOp) → map op_of done ++ op ∷ left ≡ ops
+    → Course i (each_once done) base → Reached op base k → ReachedAll ops i k
+taken_part ops i base k done op left asked c r =
+    record { done = done; left = op ∷ left; asked = asked; happened = r.happened; path = course_append i base k (each_once done) r.happened c r.path; once =
+    r.once }
 
-none_part : (ops : List DmiOp) (i base j k : Inside) (done : List Operation) (left : List DmiOp) (v : ℕ) → All IsOperation left → map op_of done ++ left ≡ ops → Course i (each_once done) base → Settled [] v base j → Part Dmi (dmi_bits (first_scan left)) j k → ReachedAll ops i k
-none_part ops i base j k done [] v small asked c s p = reached_none ops i base k done [] v asked c (settle_part Dmi (dmi_bits nop) nop_harmless [] v base j k s p)
-none_part ops i base j k done (next ∷ left) v small asked c s p = taken_part ops i base k done next left asked c (launch_part next v base j k (All-head IsOperation next left small) s p)
+none_part : (ops : List DmiOp) (i base j k : Inside) (done : List Operation) (left : List DmiOp) (v : ℕ) → All IsOperation left → map op_of done ++ left ≡ ops
+    → Course i (each_once done) base → Settled [] v base j → Part Dmi (dmi_bits (first_scan left)) j k → ReachedAll ops i k
+none_part ops i base j k done [] v small asked c s p =
+    reached_none ops i base k done [] v asked c (settle_part Dmi (dmi_bits nop) nop_harmless [] v base j k s p)
+none_part ops i base j k done (next ∷ left) v small asked c s p =
+    taken_part ops i base k done next left asked c (launch_part next v base j k (All-head IsOperation next left small) s p)
 
 -- behind a result that came back
-back_part : (ops : List DmiOp) (i base j : Inside) (done : List Operation) (op : DmiOp) (left : List DmiOp) (before between behind result : ℕ) → All IsOperation left → map op_of done ++ op ∷ left ≡ ops → Course i (each_once done) base
-    → Settled (Launched op ∷ Performed op result ∷ []) result base (to_update before between j) → ReachedAll ops i (dr_inside before between behind (dmi_bits (first_scan left)) Dmi j)
+back_part : (ops : List DmiOp) (i base j : Inside) (done : List Operation) (op : DmiOp) (left : List DmiOp) (before between behind result : ℕ)
+    → All IsOperation left → map op_of done ++ op ∷ left ≡ ops → Course i (each_once done) base
+    → Settled (Launched op ∷ Performed op result ∷ []) result base (to_update before between j)
+        → ReachedAll ops i (dr_inside before between behind (dmi_bits (first_scan left)) Dmi j)
 back_part ops i base j done op [] before between behind result small asked c s =
     let n = to_update before between j in
     let here = settled_here (Launched op ∷ Performed op result ∷ []) result base n s in
-    reached_none ops i n _ (done ++ with_result op result ∷ []) [] result (one_more_asked done op result [] ops asked) (one_more i base n done op result c s.path) (nop_here before between behind [] result n j here)
+    reached_none ops i n _ (done ++ with_result op result ∷ []) [] result (one_more_asked done op result [] ops asked)
+        (one_more i base n done op result c s.path) (nop_here before between behind [] result n j here)
 back_part ops i base j done op (next ∷ left) before between behind result small asked c s =
     let n = to_update before between j in
     let here = settled_here (Launched op ∷ Performed op result ∷ []) result base n s in
-    reached_one ops i n _ (done ++ with_result op result ∷ []) next left (one_more_asked done op result (next ∷ left) ops asked) (one_more i base n done op result c s.path)
+    reached_one ops i n _ (done ++ with_result op result ∷ []) next left (one_more_asked done op result (next ∷ left) ops asked)
+        (one_more i base n done op result c s.path)
     (launch_here next before between behind result j (All-head IsOperation next left small) here).waiting
 
-carried_part : (ops : List DmiOp) (i base j : Inside) (done : List Operation) (op : DmiOp) (left : List DmiOp) (before between behind : ℕ) (out : DmiScan) → All IsOperation left → map op_of done ++ op ∷ left ≡ ops → Course i (each_once done) base
-    → Carried op base j (to_update before between j) (dr_inside before between behind (dmi_bits (first_scan left)) Dmi j) out → ReachedAll ops i (dr_inside before between behind (dmi_bits (first_scan left)) Dmi j)
+carried_part : (ops : List DmiOp) (i base j : Inside) (done : List Operation) (op : DmiOp) (left : List DmiOp) (before between behind : ℕ) (out : DmiScan)
+    → All IsOperation left → map op_of done ++ op ∷ left ≡ ops → Course i (each_once done) base
+    → Carried op base j (to_update before between j) (dr_inside before between behind (dmi_bits (first_scan left)) Dmi j) out
+        → ReachedAll ops i (dr_inside before between behind (dmi_bits (first_scan left)) Dmi j)
 carried_part ops i base j done op left before between behind out small asked c (going_on o w s b) = reached_one ops i base _ done op left asked c w
-carried_part ops i base j done op left before between behind out small asked c (came_back result o v s) = back_part ops i base j done op left before between behind result small asked c s
+carried_part ops i base j done op left before between behind out small asked c (came_back result o v s) =
+    back_part ops i base j done op left before between behind result small asked c s
 carried_part ops i base j done op left before between behind out small asked c (got_lost o w l) = reached_one ops i base _ done op left asked c w
 
-one_part : (ops : List DmiOp) (i base j : Inside) (done : List Operation) (op : DmiOp) (left : List DmiOp) (k : Inside) → All IsOperation left → map op_of done ++ op ∷ left ≡ ops → Course i (each_once done) base → Waiting op base j → (dtm_of j).sticky ≡ Clear
+one_part : (ops : List DmiOp) (i base j : Inside) (done : List Operation) (op : DmiOp) (left : List DmiOp) (k : Inside) → All IsOperation left
+    → map op_of done ++ op ∷ left ≡ ops → Course i (each_once done) base → Waiting op base j → (dtm_of j).sticky ≡ Clear
     → Part Dmi (dmi_bits (first_scan left)) j k → ReachedAll ops i k
-one_part ops i base j done op left k small asked c w clear (before_capture before) = reached_one ops i base _ done op left asked c (wait_ticks before op base j w)
-one_part ops i base j done op left k small asked c w clear (behind_capture before between) = reached_one ops i base _ done op left asked c (wait_captured Dmi before between op base j w)
+one_part ops i base j done op left k small asked c w clear (before_capture before) =
+    reached_one ops i base _ done op left asked c (wait_ticks before op base j w)
+one_part ops i base j done op left k small asked c w clear (behind_capture before between) =
+    reached_one ops i base _ done op left asked c (wait_captured Dmi before between op base j w)
 one_part ops i base j done op left k small asked c w clear (behind_update before between behind) =
     carried_part ops i base j done op left before between behind (cut_scan (dmi_seen (dtm_of (ticks before j)))) small asked c
     (carry op (dmi_bits (first_scan left)) before between behind base j (cut_scan (dmi_seen (dtm_of (ticks before j)))) w clear refl)
 
-pub place_part : (ops : List DmiOp) (i base j k : Inside) (done : List Operation) (left : List DmiOp) (flight : Bool) → All IsOperation left → Course i (each_once done) base → Place ops done left flight base j → (dtm_of j).sticky ≡ Clear
+pub place_part : (ops : List DmiOp) (i base j k : Inside) (done : List Operation) (left : List DmiOp) (flight : Bool) → All IsOperation left
+    → Course i (each_once done) base → Place ops done left flight base j → (dtm_of j).sticky ≡ Clear
     → Part Dmi (dmi_bits (first_scan left)) j k → ReachedAll ops i k
 place_part ops i base j k done left flight small c (none_awaited e asked v s) clear p = none_part ops i base j k done left v small asked c s p
 place_part ops i base j k done left flight small c (one_awaited e op asked w) clear p = one_part ops i base j done op left k small asked c w clear p

@@ -35,12 +35,14 @@ settled_seen : (hs : List Happening) (v : ℕ) (i j : Inside) → Settled hs v i
 settled_seen hs v i j s = seen_is _ Clear _ None _ false s.clear s.flight s.failed
 
 pub settle_capture : (r : DataRegister) (hs : List Happening) (v : ℕ) (i j : Inside) → Settled hs v i j → Settled hs v i (capture r j)
-settle_capture Dmi hs v i j s = record { path = captured Dmi hs j s.path; flight = s.flight; failed = s.failed; clear = settled_seen hs v i j s; value_is = s.value_is }
+settle_capture Dmi hs v i j s = record { path = captured Dmi hs j s.path; flight = s.flight; failed = s.failed; clear = settled_seen hs v i j s; value_is =
+    s.value_is }
 settle_capture Dtmcs hs v i j s = record { path = captured Dtmcs hs j s.path; flight = s.flight; failed = s.failed; clear = s.clear; value_is = s.value_is }
 settle_capture Idcode hs v i j s = record { path = captured Idcode hs j s.path; flight = s.flight; failed = s.failed; clear = s.clear; value_is = s.value_is }
 settle_capture Bypass hs v i j s = record { path = captured Bypass hs j s.path; flight = s.flight; failed = s.failed; clear = s.clear; value_is = s.value_is }
 
-pub settle_update : (r : DataRegister) (bits : List Bool) (hs : List Happening) (v : ℕ) (i j : Inside) → Keeps r bits (dtm_of j) → Settled hs v i j → Settled hs v i (update r bits j)
+pub settle_update : (r : DataRegister) (bits : List Bool) (hs : List Happening) (v : ℕ) (i j : Inside) → Keeps r bits (dtm_of j) → Settled hs v i j
+    → Settled hs v i (update r bits j)
 settle_update r bits hs v i j k s = record {
   path = subst (λ xs. Course i xs (update r bits j)) (ap (λ xs. hs ++ xs) k.none ∙ append-nil hs) (updated r bits hs j s.path);
   flight = ap (λ (d : Dtm). d.flight) k.same ∙ s.flight;
@@ -63,17 +65,22 @@ reset_harmless = record { left = dtmcs_left; keeps = reset_keeps }
 pub idcode_harmless : Harmless Idcode idcode_bits
 idcode_harmless = record { left = idcode_left; keeps = λ d clear. idcode_keeps d }
 
-settle_captured : (r : DataRegister) (before between : ℕ) (hs : List Happening) (v : ℕ) (i j : Inside) → Settled hs v i j → Settled hs v i (ticks between (capture r (ticks before j)))
-settle_captured r before between hs v i j s = settle_ticks between hs v i (capture r (ticks before j)) (settle_capture r hs v i (ticks before j) (settle_ticks before hs v i j s))
+settle_captured : (r : DataRegister) (before between : ℕ) (hs : List Happening) (v : ℕ) (i j : Inside) → Settled hs v i j
+    → Settled hs v i (ticks between (capture r (ticks before j)))
+settle_captured r before between hs v i j s =
+    settle_ticks between hs v i (capture r (ticks before j)) (settle_capture r hs v i (ticks before j) (settle_ticks before hs v i j s))
 
-pub settle_scan : (r : DataRegister) (bits : List Bool) (h : Harmless r bits) (before between behind : ℕ) (hs : List Happening) (v : ℕ) (i j : Inside) → Settled hs v i j → Settled hs v i (dr_inside before between behind bits r j)
+pub settle_scan : (r : DataRegister) (bits : List Bool) (h : Harmless r bits) (before between behind : ℕ) (hs : List Happening) (v : ℕ) (i j : Inside)
+    → Settled hs v i j → Settled hs v i (dr_inside before between behind bits r j)
 settle_scan r bits h before between behind hs v i j s =
     let n = ticks between (capture r (ticks before j)) in
     let t = settle_captured r before between hs v i j s in
     settle_ticks behind hs v i (update r (dr_stays bits r (ticks before j)) n)
-    (settle_update r (dr_stays bits r (ticks before j)) hs v i n (subst (λ x. Keeps r x (dtm_of n)) (sym (h.left (ticks before j))) (h.keeps (dtm_of n) t.clear)) t)
+    (settle_update r (dr_stays bits r (ticks before j)) hs v i n
+        (subst (λ x. Keeps r x (dtm_of n)) (sym (h.left (ticks before j))) (h.keeps (dtm_of n) t.clear)) t)
 
-pub settle_part : (r : DataRegister) (bits : List Bool) (h : Harmless r bits) (hs : List Happening) (v : ℕ) (i j k : Inside) → Settled hs v i j → Part r bits j k → Settled hs v i k
+pub settle_part : (r : DataRegister) (bits : List Bool) (h : Harmless r bits) (hs : List Happening) (v : ℕ) (i j k : Inside) → Settled hs v i j
+    → Part r bits j k → Settled hs v i k
 settle_part r bits h hs v i j k s (before_capture before) = settle_ticks before hs v i j s
 settle_part r bits h hs v i j k s (behind_capture before between) = settle_captured r before between hs v i j s
 settle_part r bits h hs v i j k s (behind_update before between behind) = settle_scan r bits h before between behind hs v i j s
@@ -87,8 +94,10 @@ wait_update r bits op i j k w = record {
   phase = alike op w.happened (dtm_of j) (dtm_of (update r bits j)) k.flight k.failed k.value w.phase;
 }
 
-pub wait_captured : (r : DataRegister) (before between : ℕ) (op : DmiOp) (i j : Inside) → Waiting op i j → Waiting op i (ticks between (capture r (ticks before j)))
-wait_captured r before between op i j w = wait_ticks between op i (capture r (ticks before j)) (wait_capture r op i (ticks before j) (wait_ticks before op i j w))
+pub wait_captured : (r : DataRegister) (before between : ℕ) (op : DmiOp) (i j : Inside) → Waiting op i j
+    → Waiting op i (ticks between (capture r (ticks before j)))
+wait_captured r before between op i j w =
+    wait_ticks between op i (capture r (ticks before j)) (wait_capture r op i (ticks before j) (wait_ticks before op i j w))
 
 -- as long as these bits, with an update that spares what is awaited
 record Sparing (r : DataRegister) (bits : List Bool) (j : Inside) : Type 0 where
@@ -104,12 +113,14 @@ busy_still before between j busy = ticks_sticky between (capture Dtmcs (ticks be
 reset_sparing : (j : Inside) → (dtm_of j).sticky ≡ Busy → Sparing Dtmcs reset_bits j
 reset_sparing j busy = record { left = dtmcs_left; spares = λ before between. reset_spares _ (busy_still before between j busy) }
 
-wait_scan : (r : DataRegister) (bits : List Bool) (op : DmiOp) (i j : Inside) → Sparing r bits j → Waiting op i j → (before between behind : ℕ) → Waiting op i (dr_inside before between behind bits r j)
+wait_scan : (r : DataRegister) (bits : List Bool) (op : DmiOp) (i j : Inside) → Sparing r bits j → Waiting op i j → (before between behind : ℕ)
+    → Waiting op i (dr_inside before between behind bits r j)
 wait_scan r bits op i j h w before between behind =
     let n = ticks between (capture r (ticks before j)) in
     let left = dr_stays bits r (ticks before j) in
     wait_ticks behind op i (update r left n)
-    (wait_update r left op i n (subst (λ x. Spares r x (dtm_of n)) (sym (h.left (ticks before j))) (h.spares before between)) (wait_captured r before between op i j w))
+    (wait_update r left op i n (subst (λ x. Spares r x (dtm_of n)) (sym (h.left (ticks before j))) (h.spares before between))
+        (wait_captured r before between op i j w))
 
 wait_part : (r : DataRegister) (bits : List Bool) (op : DmiOp) (i j k : Inside) → Sparing r bits j → Waiting op i j → Part r bits j k → Waiting op i k
 wait_part r bits op i j k h w (before_capture before) = wait_ticks before op i j w
@@ -123,7 +134,8 @@ pub record Launching (op : DmiOp) (bits : List Bool) (d : Dtm) : Type 0 where
   pub flight : (updated_dtm Dmi bits d).flight ≡ Some op
   pub clear : (updated_dtm Dmi bits d).sticky ≡ Clear
 
-launched_some : (s : Sticky) (o : Option DmiOp) (op : DmiOp) (d : Dtm) → s ≡ Clear → o ≡ Some op → (launches_by s o ≡ Launched op ∷ []) × ((launched s o d).flight ≡ Some op) × ((launched s o d).sticky ≡ d.sticky)
+launched_some : (s : Sticky) (o : Option DmiOp) (op : DmiOp) (d : Dtm) → s ≡ Clear → o ≡ Some op
+    → (launches_by s o ≡ Launched op ∷ []) × ((launched s o d).flight ≡ Some op) × ((launched s o d).sticky ≡ d.sticky)
 launched_some Clear (Some p) op d e f = (ap (λ q. Launched q ∷ []) (let is : p ≡ op = cc in is), f, refl)
 launched_some Clear None op d e f = absurd (let no : ⊥ = cc in no)
 launched_some Failed o op d e f = absurd (let no : ⊥ = cc in no)
@@ -146,12 +158,14 @@ pub record Sent (op : DmiOp) (i k : Inside) : Type 0 where
   pub waiting : Waiting op i k
   pub clear : (dtm_of k).sticky ≡ Clear
 
-pub launch_scan : (op : DmiOp) (before between behind : ℕ) (v : ℕ) (i j : Inside) → IsOperation op → Settled [] v i j → Sent op i (dr_inside before between behind (dmi_bits (carrying op)) Dmi j)
+pub launch_scan : (op : DmiOp) (before between behind : ℕ) (v : ℕ) (i j : Inside) → IsOperation op → Settled [] v i j
+    → Sent op i (dr_inside before between behind (dmi_bits (carrying op)) Dmi j)
 launch_scan op before between behind v i j small s =
     let n = ticks between (capture Dmi (ticks before j)) in
     let t = settle_captured Dmi before between [] v i j s in
     let bits = dr_stays (dmi_bits (carrying op)) Dmi (ticks before j) in
-    let l : Launching op bits (dtm_of n) = subst (λ x. Launching op x (dtm_of n)) (sym (dmi_left (carrying op) (ticks before j))) (launching op (dtm_of n) small t.clear) in
+    let l : Launching op bits (dtm_of n) = subst (λ x. Launching op x (dtm_of n)) (sym (dmi_left (carrying op) (ticks before j)))
+        (launching op (dtm_of n) small t.clear) in
     record { waiting = wait_ticks behind op i (update Dmi bits n) (launch_update op bits v i n l t); clear = ticks_sticky behind (update Dmi bits n) ∙ l.clear }
 
 -- ---- what happened to it in the end
@@ -199,7 +213,8 @@ pub op_seen : (d : Dtm) (out : DmiScan) (s : Sticky) → out ≡ cut_scan (dmi_s
 op_seen d out s is e = ap (λ (x : DmiScan). x.op) is ∙ ap (λ q. status_number q % 4) e
 
 -- the update of a nop leaves the status of the capture
-nop_sticky : (before between behind : ℕ) (j : Inside) → (dtm_of (dr_inside before between behind (dmi_bits nop) Dmi j)).sticky ≡ (dtm_of (capture Dmi (ticks before j))).sticky
+nop_sticky : (before between behind : ℕ) (j : Inside)
+    → (dtm_of (dr_inside before between behind (dmi_bits nop) Dmi j)).sticky ≡ (dtm_of (capture Dmi (ticks before j))).sticky
 nop_sticky before between behind j =
     let n = ticks between (capture Dmi (ticks before j)) in
     let left = dr_stays (dmi_bits nop) Dmi (ticks before j) in
@@ -209,10 +224,12 @@ nop_sticky before between behind j =
 pub finds_is : (s t : Sticky) (f g : Option DmiOp) → s ≡ t → f ≡ g → finds_busy s f ≡ finds_busy t g
 finds_is s t f g d e = cc
 
-settle_from : (between behind : ℕ) (hs : List Happening) (v : ℕ) (i m : Inside) → Settled hs v i m → Settled hs v i (dr_inside 0 between behind (dmi_bits nop) Dmi m)
+settle_from : (between behind : ℕ) (hs : List Happening) (v : ℕ) (i m : Inside) → Settled hs v i m
+    → Settled hs v i (dr_inside 0 between behind (dmi_bits nop) Dmi m)
 settle_from between behind hs v i m s = settle_scan Dmi (dmi_bits nop) nop_harmless 0 between behind hs v i m s
 
-await_by : (op : DmiOp) (before between behind : ℕ) (i j : Inside) (out : DmiScan) → Waiting op i j → (dtm_of j).sticky ≡ Clear → out ≡ cut_scan (dmi_seen (dtm_of (ticks before j)))
+await_by : (op : DmiOp) (before between behind : ℕ) (i j : Inside) (out : DmiScan) → Waiting op i j → (dtm_of j).sticky ≡ Clear
+    → out ≡ cut_scan (dmi_seen (dtm_of (ticks before j)))
     → (hs : List Happening) → Course i hs (ticks before j) → Phase op hs (dtm_of (ticks before j))
     → Outcome op i j (dr_inside before between behind (dmi_bits nop) Dmi j) out
 unfolding ticks
@@ -227,7 +244,8 @@ await_by op before between behind i j out w clear is hs path (landed result h f 
     let m = ticks before j in
     let still = ticks_sticky before j ∙ clear in
     let done : seen (dtm_of m).sticky (dtm_of m).flight (dtm_of m).failed ≡ Clear = seen_is _ Clear _ None _ false still f k in
-    let s : Settled (Launched op ∷ Performed op result ∷ []) result i m = record { path = subst (λ xs. Course i xs m) h path; flight = f; failed = k; clear = still; value_is = v } in
+    let s : Settled (Launched op ∷ Performed op result ∷ []) result i m =
+        record { path = subst (λ xs. Course i xs m) h path; flight = f; failed = k; clear = still; value_is = v } in
     was_done result (op_seen (dtm_of m) out Clear is done) (ap (λ (x : DmiScan). x.value) is ∙ ap (λ n. n % 4294967296) v)
     (settle_from between behind (Launched op ∷ Performed op result ∷ []) result i m s)
 await_by op before between behind i j out w clear is hs path (missed h f k) =
@@ -237,7 +255,8 @@ await_by op before between behind i j out w clear is hs path (missed h f k) =
     was_lost (op_seen (dtm_of m) out Failed is gone) (wait_scan Dmi (dmi_bits nop) op i j (nop_sparing j) w before between behind)
     (omega (arith, course_losses i m hs path, losses_one op hs h, scan_losses before between behind (dmi_bits nop) Dmi j))
 
-pub await : (op : DmiOp) (before between behind : ℕ) (i j : Inside) (out : DmiScan) → Waiting op i j → (dtm_of j).sticky ≡ Clear → out ≡ cut_scan (dmi_seen (dtm_of (ticks before j)))
+pub await : (op : DmiOp) (before between behind : ℕ) (i j : Inside) (out : DmiScan) → Waiting op i j → (dtm_of j).sticky ≡ Clear
+    → out ≡ cut_scan (dmi_seen (dtm_of (ticks before j)))
     → Outcome op i j (dr_inside before between behind (dmi_bits nop) Dmi j) out
 await op before between behind i j out w clear is =
     let at = wait_ticks before op i j w in
@@ -247,19 +266,24 @@ await op before between behind i j out w clear is =
 pub ready_op : (before : ℕ) (v : ℕ) (i j : Inside) (out : DmiScan) → Settled [] v i j → out ≡ cut_scan (dmi_seen (dtm_of (ticks before j))) → out.op ≡ 0
 ready_op before v i j out s is = op_seen (dtm_of (ticks before j)) out Clear is (settled_seen [] v i (ticks before j) (settle_ticks before [] v i j s))
 
-pub launch_busy : (op : DmiOp) (before between behind : ℕ) (v : ℕ) (i j : Inside) → Settled [] v i j → (counts_in (dr_inside before between behind (dmi_bits (carrying op)) Dmi j)).dmi_busy ≡ (counts_in j).dmi_busy
+pub launch_busy : (op : DmiOp) (before between behind : ℕ) (v : ℕ) (i j : Inside) → Settled [] v i j
+    → (counts_in (dr_inside before between behind (dmi_bits (carrying op)) Dmi j)).dmi_busy ≡ (counts_in j).dmi_busy
 launch_busy op before between behind v i j s =
     let m = settle_ticks before [] v i j s in
     scan_unfound before between behind (dmi_bits (carrying op)) Dmi j (finds_is _ Clear _ None m.clear m.flight)
 
 -- ---- dmireset while it is awaited
 
-pub reset_wait : (op : DmiOp) (before between behind : ℕ) (i j : Inside) → (dtm_of j).sticky ≡ Busy → Waiting op i j → Sent op i (dr_inside before between behind reset_bits Dtmcs j)
+pub reset_wait : (op : DmiOp) (before between behind : ℕ) (i j : Inside) → (dtm_of j).sticky ≡ Busy → Waiting op i j
+    → Sent op i (dr_inside before between behind reset_bits Dtmcs j)
 reset_wait op before between behind i j busy w =
     let n = ticks between (capture Dtmcs (ticks before j)) in
     let left = dr_stays reset_bits Dtmcs (ticks before j) in
-    let c : ClearedBusy (dtm_of n) (updated_dtm Dtmcs left (dtm_of n)) = subst (λ x. ClearedBusy (dtm_of n) (updated_dtm Dtmcs x (dtm_of n))) (sym (dtmcs_left (ticks before j))) (reset_busy (dtm_of n) (busy_still before between j busy)) in
-    record { waiting = wait_scan Dtmcs reset_bits op i j (reset_sparing j busy) w before between behind; clear = ticks_sticky behind (update Dtmcs left n) ∙ c.clear }
+    let c : ClearedBusy (dtm_of n) (updated_dtm Dtmcs left (dtm_of n)) =
+        subst (λ x. ClearedBusy (dtm_of n) (updated_dtm Dtmcs x (dtm_of n))) (sym (dtmcs_left (ticks before j)))
+        (reset_busy (dtm_of n) (busy_still before between j busy)) in
+    record { waiting = wait_scan Dtmcs reset_bits op i j (reset_sparing j busy) w before between behind; clear = ticks_sticky behind (update Dtmcs left n)
+        ∙ c.clear }
 
 pub reset_count : (before between behind : ℕ) (j : Inside) → (counts_in (dr_inside before between behind reset_bits Dtmcs j)).dmi_busy ≡ (counts_in j).dmi_busy
 reset_count before between behind j = scan_unfound before between behind reset_bits Dtmcs j refl

@@ -1,5 +1,6 @@
 -- Several operations on a told chip: the last result, and what a fault or too many busy answers leave.
-use Rattle.std.proofs.Common.{◌≡◌, ◌≢◌, ◌∙◌, ◌+◌, ◌≤◌, ◌<◌, ◌-◌, ℕ, List, [], ◌∷◌, ◌++◌, length, drop, take, map, All, if◌then◌else◌, length-append, length-drop, Bool, true, false, Option, Some, None, IfSome, refl, sym, ap, subst, arith, append-nil}
+use Rattle.std.proofs.Common.{◌≡◌, ◌≢◌, ◌∙◌, ◌+◌, ◌≤◌, ◌<◌, ◌-◌, ℕ, List, [], ◌∷◌, ◌++◌, length, drop, take, map, All, if◌then◌else◌, length-append,
+    length-drop, Bool, true, false, Option, Some, None, IfSome, refl, sym, ap, subst, arith, append-nil}
 use Rattle.std.proofs.lemmas.List.{take_all}
 use Rattle.std.proofs.lemmas.List.Elements.{All-head}
 use Rattle.chip_laws.proofs.PathLemmas.{site_path}
@@ -34,9 +35,11 @@ pub record FetchedAllAt (ops : List DmiOp) (results : List ℕ) (c : Chip) (new 
   pub operated : OperatedAll ops results c new
   pub clean : IsClean new
 
-last_by : (ops : List DmiOp) (results results' : List ℕ) (op : DmiOp) (flight : Bool) (busy : ℕ) (out : DmiScan) (f : Far) (mid new : Option Far) (u : Streaming ops results [] flight busy (chip_of f) mid)
+last_by : (ops : List DmiOp) (results results' : List ℕ) (op : DmiOp) (flight : Bool) (busy : ℕ) (out : DmiScan) (f : Far) (mid new : Option Far)
+    (u : Streaming ops results [] flight busy (chip_of f) mid)
     → out.op ≡ 0 → results' ≡ kept flight out.value results → flight ≡ true → map op_of u.done ++ op ∷ [] ≡ ops → (d : DmiScanned nop out (chip_of u.far) new)
-    → Carried op u.base (chip_of u.far).inside (to_update d.scanned.before d.scanned.between (chip_of u.far).inside) (dr_inside d.scanned.before d.scanned.between d.scanned.behind (dmi_bits nop) Dmi (chip_of u.far).inside) out
+    → Carried op u.base (chip_of u.far).inside (to_update d.scanned.before d.scanned.between (chip_of u.far).inside)
+        (dr_inside d.scanned.before d.scanned.between d.scanned.behind (dmi_bits nop) Dmi (chip_of u.far).inside) out
     → FetchedAllAt ops results' (chip_of f) new
 last_by ops results results' op flight busy out f mid new u done kept_is one asked d (going_on o w s b) = other_op out.op 0 3 done o (omega arith)
 last_by ops results results' op flight busy out f mid new u done kept_is one asked d (got_lost o w l) = other_op out.op 0 2 done o (omega arith)
@@ -45,7 +48,8 @@ last_by ops results results' op flight busy out f mid new u done kept_is one ask
     let j = (chip_of u.far).inside in
     let hs = Launched op ∷ Performed op result ∷ [] in
     let k = dr_inside x.before x.between x.behind (dmi_bits nop) Dmi j in
-    let t : Settled hs result u.base (chip_of x.far).inside = at_passed (λ (m : Inside). Settled hs result u.base m) x.far k x.passed (nop_here x.before x.between x.behind hs result u.base j s) in
+    let t : Settled hs result u.base (chip_of x.far).inside =
+        at_passed (λ (m : Inside). Settled hs result u.base m) x.far k x.passed (nop_here x.before x.between x.behind hs result u.base j s) in
     let more = u.done ++ with_result op result ∷ [] in
     let path = one_more (chip_of f).inside u.base (chip_of x.far).inside u.done op result u.so_far t.path in
     record {
@@ -56,23 +60,30 @@ last_by ops results results' op flight busy out f mid new u done kept_is one ask
         asked = sym (append-nil (map op_of more)) ∙ one_more_asked u.done op result [] ops asked;
         results_are = more_results flight out.value results results' u.done op result kept_is one v u.results_are;
         path = path;
-        site = subst (λ os. SitePath (site_of f) os (site_of x.far)) (performed-all more) (site_path (chip_of f).inside (chip_of x.far).inside (each_once more) path);
+        site = subst (λ os. SitePath (site_of f) os (site_of x.far)) (performed-all more)
+            (site_path (chip_of f).inside (chip_of x.far).inside (each_once more) path);
       };
       clean = clean_at new x.far x.is (record { none_in_flight = t.flight; clear = t.clear; not_failed = t.failed });
     }
 
-pub stream_last : (ops : List DmiOp) (results results' : List ℕ) (flight : Bool) (busy : ℕ) (out : DmiScan) (old mid new : Option Far) → flight ≡ true → out.op ≡ 0 → results' ≡ kept flight out.value results
+pub stream_last : (ops : List DmiOp) (results results' : List ℕ) (flight : Bool) (busy : ℕ) (out : DmiScan) (old mid new : Option Far) → flight ≡ true
+    → out.op ≡ 0 → results' ≡ kept flight out.value results
     → WhereTold (Streaming ops results [] flight busy) old mid → WhereTold (DmiScanned nop out) mid new → WhereTold (FetchedAllAt ops results') old new
-stream_last ops results results' flight busy out old mid new one done kept_is u d = stream_then (DmiScanned nop out) (FetchedAllAt ops results') ops results [] flight busy old mid new step u d
+stream_last ops results results' flight busy out old mid new one done kept_is u d =
+    stream_then (DmiScanned nop out) (FetchedAllAt ops results') ops results [] flight busy old mid new step u d
   where
-    by : (f : Far) (u : Streaming ops results [] flight busy (chip_of f) mid) → Place ops u.done [] flight u.base (chip_of u.far).inside → DmiScanned nop out (chip_of u.far) new → FetchedAllAt ops results' (chip_of f) new
+    by : (f : Far) (u : Streaming ops results [] flight busy (chip_of f) mid) → Place ops u.done [] flight u.base (chip_of u.far).inside
+        → DmiScanned nop out (chip_of u.far) new → FetchedAllAt ops results' (chip_of f) new
     by f u (none_awaited e asked v s) d = false_is_true (sym e ∙ one)
-    by f u (one_awaited e op asked w) d = last_by ops results results' op flight busy out f mid new u done kept_is e asked d (carried_at nop op u.base out (chip_of u.far) new w u.clear d)
+    by f u (one_awaited e op asked w) d = last_by ops results results' op flight busy out f mid new u done kept_is e asked d
+        (carried_at nop op u.base out (chip_of u.far) new w u.clear d)
 
-    step : (f : Far) (u : Streaming ops results [] flight busy (chip_of f) mid) → DmiScanned nop out (chip_of u.far) new → FetchedAllAt ops results' (chip_of f) new
+    step : (f : Far) (u : Streaming ops results [] flight busy (chip_of f) mid) → DmiScanned nop out (chip_of u.far) new
+        → FetchedAllAt ops results' (chip_of f) new
     step f u d = by f u u.place d
 
-pub all_operated : (ops : List DmiOp) (results : List ℕ) (old new : Option Far) → WhereTold (FetchedAllAt ops results) old new → WhereTold (OperatedAll ops results) old new
+pub all_operated : (ops : List DmiOp) (results : List ℕ) (old new : Option Far) → WhereTold (FetchedAllAt ops results) old new
+    → WhereTold (OperatedAll ops results) old new
 all_operated ops results None new d = d
 all_operated ops results (Some f) new d = d.operated
 
@@ -82,12 +93,16 @@ all_clean ops results (Some f) new d = d.clean
 
 -- ---- a scan that was cut
 
-pub stream_cut : (ops : List DmiOp) (results : List ℕ) (left : List DmiOp) (flight : Bool) (busy : ℕ) (old mid new : Option Far) → All IsOperation left → WhereTold (Streaming ops results left flight busy) old mid
+pub stream_cut : (ops : List DmiOp) (results : List ℕ) (left : List DmiOp) (flight : Bool) (busy : ℕ) (old mid new : Option Far) → All IsOperation left
+    → WhereTold (Streaming ops results left flight busy) old mid
     → WhereTold (CutFrom Dmi (dmi_bits (first_scan left))) mid new → WhereTold (OperationsCut ops) old new
-stream_cut ops results left flight busy old mid new small u d = stream_then (CutFrom Dmi (dmi_bits (first_scan left))) (OperationsCut ops) ops results left flight busy old mid new step u d
+stream_cut ops results left flight busy old mid new small u d =
+    stream_then (CutFrom Dmi (dmi_bits (first_scan left))) (OperationsCut ops) ops results left flight busy old mid new step u d
   where
-    step : (f : Far) (u : Streaming ops results left flight busy (chip_of f) mid) → CutFrom Dmi (dmi_bits (first_scan left)) (chip_of u.far) new → OperationsCut ops (chip_of f) new
-    step f u d = cut_of ops f new d.far d.is (place_part ops (chip_of f).inside u.base (chip_of u.far).inside (chip_of d.far).inside u.done left flight small u.so_far u.place u.clear d.part)
+    step : (f : Far) (u : Streaming ops results left flight busy (chip_of f) mid) → CutFrom Dmi (dmi_bits (first_scan left)) (chip_of u.far) new
+        → OperationsCut ops (chip_of f) new
+    step f u d = cut_of ops f new d.far d.is
+        (place_part ops (chip_of f).inside u.base (chip_of u.far).inside (chip_of d.far).inside u.done left flight small u.so_far u.place u.clear d.part)
 
 -- ---- op 2
 
@@ -95,9 +110,11 @@ pub record FailedAllAt (ops : List DmiOp) (c : Chip) (new : Option Far) : Type 0
   pub lost : LostOne c new
   pub cut : OperationsCut ops c new
 
-failed_by : (ops : List DmiOp) (results : List ℕ) (left : List DmiOp) (op : DmiOp) (flight : Bool) (busy : ℕ) (out : DmiScan) (f : Far) (mid new : Option Far) (u : Streaming ops results left flight busy (chip_of f) mid)
+failed_by : (ops : List DmiOp) (results : List ℕ) (left : List DmiOp) (op : DmiOp) (flight : Bool) (busy : ℕ) (out : DmiScan) (f : Far) (mid new : Option Far)
+    (u : Streaming ops results left flight busy (chip_of f) mid)
     → out.op ≡ 2 → map op_of u.done ++ op ∷ left ≡ ops → (d : DmiScanned (first_scan left) out (chip_of u.far) new)
-    → Carried op u.base (chip_of u.far).inside (to_update d.scanned.before d.scanned.between (chip_of u.far).inside) (dr_inside d.scanned.before d.scanned.between d.scanned.behind (dmi_bits (first_scan left)) Dmi (chip_of u.far).inside) out
+    → Carried op u.base (chip_of u.far).inside (to_update d.scanned.before d.scanned.between (chip_of u.far).inside)
+        (dr_inside d.scanned.before d.scanned.between d.scanned.behind (dmi_bits (first_scan left)) Dmi (chip_of u.far).inside) out
     → FailedAllAt ops (chip_of f) new
 failed_by ops results left op flight busy out f mid new u gone asked d (going_on o w s b) = other_op out.op 2 3 gone o (omega arith)
 failed_by ops results left op flight busy out f mid new u gone asked d (came_back result o v s) = other_op out.op 2 0 gone o (omega arith)
@@ -109,24 +126,32 @@ failed_by ops results left op flight busy out f mid new u gone asked d (got_lost
       lost = record {
         far = x.far;
         is = x.is;
-        more = at_passed (λ (m : Inside). (counts_in i).dmi_failed < (counts_in m).dmi_failed) x.far k x.passed (omega (arith, course_losses i u.base (each_once u.done) u.so_far, l));
+        more = at_passed (λ (m : Inside). (counts_in i).dmi_failed < (counts_in m).dmi_failed) x.far k x.passed
+            (omega (arith, course_losses i u.base (each_once u.done) u.so_far, l));
       };
-      cut = cut_of ops f new x.far x.is (at_passed (λ (m : Inside). ReachedAll ops i m) x.far k x.passed (reached_one ops i u.base k u.done op left asked u.so_far w));
+      cut = cut_of ops f new x.far x.is (at_passed (λ (m : Inside). ReachedAll ops i m) x.far k x.passed
+          (reached_one ops i u.base k u.done op left asked u.so_far w));
     }
 
 -- with nothing in flight no scan finds it failed or busy
-none_heard : (left : List DmiOp) (v : ℕ) (base : Inside) (out : DmiScan) (c : Chip) (new : Option Far) → Settled [] v base c.inside → DmiScanned (first_scan left) out c new → out.op ≡ 0
+none_heard : (left : List DmiOp) (v : ℕ) (base : Inside) (out : DmiScan) (c : Chip) (new : Option Far) → Settled [] v base c.inside
+    → DmiScanned (first_scan left) out c new → out.op ≡ 0
 none_heard left v base out c new s d = ready_op d.scanned.before v base c.inside out s (heard_is (first_scan left) out c new d)
 
-pub stream_failed : (ops : List DmiOp) (results : List ℕ) (left : List DmiOp) (flight : Bool) (busy : ℕ) (out : DmiScan) (old mid new : Option Far) → out.op ≡ 2 → WhereTold (Streaming ops results left flight busy) old mid
+pub stream_failed : (ops : List DmiOp) (results : List ℕ) (left : List DmiOp) (flight : Bool) (busy : ℕ) (out : DmiScan) (old mid new : Option Far)
+    → out.op ≡ 2 → WhereTold (Streaming ops results left flight busy) old mid
     → WhereTold (DmiScanned (first_scan left) out) mid new → WhereTold (FailedAllAt ops) old new
-stream_failed ops results left flight busy out old mid new gone u d = stream_then (DmiScanned (first_scan left) out) (FailedAllAt ops) ops results left flight busy old mid new step u d
+stream_failed ops results left flight busy out old mid new gone u d =
+    stream_then (DmiScanned (first_scan left) out) (FailedAllAt ops) ops results left flight busy old mid new step u d
   where
-    by : (f : Far) (u : Streaming ops results left flight busy (chip_of f) mid) → Place ops u.done left flight u.base (chip_of u.far).inside → DmiScanned (first_scan left) out (chip_of u.far) new → FailedAllAt ops (chip_of f) new
+    by : (f : Far) (u : Streaming ops results left flight busy (chip_of f) mid) → Place ops u.done left flight u.base (chip_of u.far).inside
+        → DmiScanned (first_scan left) out (chip_of u.far) new → FailedAllAt ops (chip_of f) new
     by f u (none_awaited e asked v s) d = other_op out.op 2 0 gone (none_heard left v u.base out (chip_of u.far) new s d) (omega arith)
-    by f u (one_awaited e op asked w) d = failed_by ops results left op flight busy out f mid new u gone asked d (carried_at (first_scan left) op u.base out (chip_of u.far) new w u.clear d)
+    by f u (one_awaited e op asked w) d = failed_by ops results left op flight busy out f mid new u gone asked d
+        (carried_at (first_scan left) op u.base out (chip_of u.far) new w u.clear d)
 
-    step : (f : Far) (u : Streaming ops results left flight busy (chip_of f) mid) → DmiScanned (first_scan left) out (chip_of u.far) new → FailedAllAt ops (chip_of f) new
+    step : (f : Far) (u : Streaming ops results left flight busy (chip_of f) mid) → DmiScanned (first_scan left) out (chip_of u.far) new
+        → FailedAllAt ops (chip_of f) new
     step f u d = by f u u.place d
 
 pub all_failed_cut : (ops : List DmiOp) (old new : Option Far) → WhereTold (FailedAllAt ops) old new → WhereTold (OperationsCut ops) old new
@@ -139,9 +164,11 @@ all_failed_lost ops (Some f) new d = d.lost
 
 -- ---- op 3
 
-again_by : (ops : List DmiOp) (results : List ℕ) (left : List DmiOp) (op : DmiOp) (flight : Bool) (busy : ℕ) (out : DmiScan) (f : Far) (mid new : Option Far) (u : Streaming ops results left flight busy (chip_of f) mid)
+again_by : (ops : List DmiOp) (results : List ℕ) (left : List DmiOp) (op : DmiOp) (flight : Bool) (busy : ℕ) (out : DmiScan) (f : Far) (mid new : Option Far)
+    (u : Streaming ops results left flight busy (chip_of f) mid)
     → out.op ≢ 0 → out.op ≢ 2 → flight ≡ true → map op_of u.done ++ op ∷ left ≡ ops → (d : DmiScanned (first_scan left) out (chip_of u.far) new)
-    → Carried op u.base (chip_of u.far).inside (to_update d.scanned.before d.scanned.between (chip_of u.far).inside) (dr_inside d.scanned.before d.scanned.between d.scanned.behind (dmi_bits (first_scan left)) Dmi (chip_of u.far).inside) out
+    → Carried op u.base (chip_of u.far).inside (to_update d.scanned.before d.scanned.between (chip_of u.far).inside)
+        (dr_inside d.scanned.before d.scanned.between d.scanned.behind (dmi_bits (first_scan left)) Dmi (chip_of u.far).inside) out
     → StillStreaming ops results left flight busy (chip_of f) new
 again_by ops results left op flight busy out f mid new u undone unfailed one asked d (came_back result o v s) = absurd (undone o)
 again_by ops results left op flight busy out f mid new u undone unfailed one asked d (got_lost o w l) = absurd (unfailed o)
@@ -160,26 +187,35 @@ again_by ops results left op flight busy out f mid new u undone unfailed one ask
       asked = asked;
       waiting = at_passed (λ (m : Inside). Waiting op u.base m) x.far k x.passed w;
       busy_still = at_passed (λ (m : Inside). (dtm_of m).sticky ≡ Busy) x.far k x.passed s;
-      found = at_passed (λ (m : Inside). (counts_in (chip_of f).inside).dmi_busy + (busy + 1) ≤ (counts_in m).dmi_busy) x.far k x.passed (omega (arith, u.found, b));
+      found = at_passed (λ (m : Inside). (counts_in (chip_of f).inside).dmi_busy + (busy + 1) ≤ (counts_in m).dmi_busy) x.far k x.passed
+          (omega (arith, u.found, b));
     }
 
-pub stream_again : (ops : List DmiOp) (results : List ℕ) (left : List DmiOp) (flight : Bool) (busy : ℕ) (out : DmiScan) (old mid new : Option Far) → out.op ≢ 0 → out.op ≢ 2 → WhereTold (Streaming ops results left flight busy) old mid
+pub stream_again : (ops : List DmiOp) (results : List ℕ) (left : List DmiOp) (flight : Bool) (busy : ℕ) (out : DmiScan) (old mid new : Option Far) → out.op ≢ 0
+    → out.op ≢ 2 → WhereTold (Streaming ops results left flight busy) old mid
     → WhereTold (DmiScanned (first_scan left) out) mid new → WhereTold (StillStreaming ops results left flight busy) old new
-stream_again ops results left flight busy out old mid new undone unfailed u d = stream_then (DmiScanned (first_scan left) out) (StillStreaming ops results left flight busy) ops results left flight busy old mid new step u d
+stream_again ops results left flight busy out old mid new undone unfailed u d =
+    stream_then (DmiScanned (first_scan left) out) (StillStreaming ops results left flight busy) ops results left flight busy old mid new step u d
   where
-    by : (f : Far) (u : Streaming ops results left flight busy (chip_of f) mid) → Place ops u.done left flight u.base (chip_of u.far).inside → DmiScanned (first_scan left) out (chip_of u.far) new → StillStreaming ops results left flight busy (chip_of f) new
+    by : (f : Far) (u : Streaming ops results left flight busy (chip_of f) mid) → Place ops u.done left flight u.base (chip_of u.far).inside
+        → DmiScanned (first_scan left) out (chip_of u.far) new → StillStreaming ops results left flight busy (chip_of f) new
     by f u (none_awaited e asked v s) d = absurd (undone (none_heard left v u.base out (chip_of u.far) new s d))
-    by f u (one_awaited e op asked w) d = again_by ops results left op flight busy out f mid new u undone unfailed e asked d (carried_at (first_scan left) op u.base out (chip_of u.far) new w u.clear d)
+    by f u (one_awaited e op asked w) d = again_by ops results left op flight busy out f mid new u undone unfailed e asked d
+        (carried_at (first_scan left) op u.base out (chip_of u.far) new w u.clear d)
 
-    step : (f : Far) (u : Streaming ops results left flight busy (chip_of f) mid) → DmiScanned (first_scan left) out (chip_of u.far) new → StillStreaming ops results left flight busy (chip_of f) new
+    step : (f : Far) (u : Streaming ops results left flight busy (chip_of f) mid) → DmiScanned (first_scan left) out (chip_of u.far) new
+        → StillStreaming ops results left flight busy (chip_of f) new
     step f u d = by f u u.place d
 
 -- its status was cleared
-pub stream_cleared : (ops : List DmiOp) (results : List ℕ) (left : List DmiOp) (flight : Bool) (busy value : ℕ) (old mid new : Option Far) → WhereTold (StillStreaming ops results left flight busy) old mid
+pub stream_cleared : (ops : List DmiOp) (results : List ℕ) (left : List DmiOp) (flight : Bool) (busy value : ℕ) (old mid new : Option Far)
+    → WhereTold (StillStreaming ops results left flight busy) old mid
     → WhereTold (WordScanned Dtmcs reset_bits value) mid new → WhereTold (Streaming ops results left flight (busy + 1)) old new
-stream_cleared ops results left flight busy value old mid new u d = still_then (WordScanned Dtmcs reset_bits value) (Streaming ops results left flight (busy + 1)) ops results left flight busy old mid new step u d
+stream_cleared ops results left flight busy value old mid new u d =
+    still_then (WordScanned Dtmcs reset_bits value) (Streaming ops results left flight (busy + 1)) ops results left flight busy old mid new step u d
   where
-    step : (f : Far) (u : StillStreaming ops results left flight busy (chip_of f) mid) → WordScanned Dtmcs reset_bits value (chip_of u.far) new → Streaming ops results left flight (busy + 1) (chip_of f) new
+    step : (f : Far) (u : StillStreaming ops results left flight busy (chip_of f) mid) → WordScanned Dtmcs reset_bits value (chip_of u.far) new
+        → Streaming ops results left flight (busy + 1) (chip_of f) new
     step f u d =
         let x = d.scanned in
         let j = (chip_of u.far).inside in
@@ -194,45 +230,60 @@ stream_cleared ops results left flight busy value old mid new u d = still_then (
           so_far = u.so_far;
           place = at_passed (λ (m : Inside). Place ops u.done left flight u.base m) x.far k x.passed (one_awaited u.in_flight u.op u.asked l.waiting);
           clear = at_passed (λ (m : Inside). (dtm_of m).sticky ≡ Clear) x.far k x.passed l.clear;
-          found = at_passed (λ (m : Inside). (counts_in (chip_of f).inside).dmi_busy + (busy + 1) ≤ (counts_in m).dmi_busy) x.far k x.passed (omega (arith, u.found, reset_count x.before x.between x.behind j));
+          found = at_passed (λ (m : Inside). (counts_in (chip_of f).inside).dmi_busy + (busy + 1) ≤ (counts_in m).dmi_busy) x.far k x.passed
+              (omega (arith, u.found, reset_count x.before x.between x.behind j));
         }
 
-pub still_cut : (ops : List DmiOp) (results : List ℕ) (left : List DmiOp) (flight : Bool) (busy : ℕ) (old mid new : Option Far) → WhereTold (StillStreaming ops results left flight busy) old mid
+pub still_cut : (ops : List DmiOp) (results : List ℕ) (left : List DmiOp) (flight : Bool) (busy : ℕ) (old mid new : Option Far)
+    → WhereTold (StillStreaming ops results left flight busy) old mid
     → WhereTold (CutFrom Dtmcs reset_bits) mid new → WhereTold (OperationsCut ops) old new
-still_cut ops results left flight busy old mid new u d = still_then (CutFrom Dtmcs reset_bits) (OperationsCut ops) ops results left flight busy old mid new step u d
+still_cut ops results left flight busy old mid new u d = still_then (CutFrom Dtmcs reset_bits) (OperationsCut ops) ops results left flight busy old mid new
+    step u d
   where
-    step : (f : Far) (u : StillStreaming ops results left flight busy (chip_of f) mid) → CutFrom Dtmcs reset_bits (chip_of u.far) new → OperationsCut ops (chip_of f) new
+    step : (f : Far) (u : StillStreaming ops results left flight busy (chip_of f) mid) → CutFrom Dtmcs reset_bits (chip_of u.far) new
+        → OperationsCut ops (chip_of f) new
     step f u d = cut_of ops f new d.far d.is (reached_one ops (chip_of f).inside u.base (chip_of d.far).inside u.done u.op left u.asked u.so_far
         (reset_part u.op u.base (chip_of u.far).inside (chip_of d.far).inside u.busy_still u.waiting d.part))
 
 -- ---- 64 busy answers in a row
 
-pub stream_stopped : (ops : List DmiOp) (results : List ℕ) (left : List DmiOp) (flight : Bool) (busy : ℕ) (old new : Option Far) → WhereTold (Streaming ops results left flight busy) old new → WhereTold (OperationsCut ops) old new
+pub stream_stopped : (ops : List DmiOp) (results : List ℕ) (left : List DmiOp) (flight : Bool) (busy : ℕ) (old new : Option Far)
+    → WhereTold (Streaming ops results left flight busy) old new → WhereTold (OperationsCut ops) old new
 stream_stopped ops results left flight busy None new u = u
-stream_stopped ops results left flight busy (Some f) new u = cut_of ops f new u.far u.is (place_reached ops (chip_of f).inside u.base (chip_of u.far).inside u.done left flight u.so_far u.place)
+stream_stopped ops results left flight busy (Some f) new u =
+    cut_of ops f new u.far u.is (place_reached ops (chip_of f).inside u.base (chip_of u.far).inside u.done left flight u.so_far u.place)
 
-pub stream_found : (ops : List DmiOp) (results : List ℕ) (left : List DmiOp) (flight : Bool) (busy : ℕ) (old new : Option Far) → 64 ≤ busy → WhereTold (Streaming ops results left flight busy) old new → IfSome old (λ f. FoundBusy (chip_of f) new)
+pub stream_found : (ops : List DmiOp) (results : List ℕ) (left : List DmiOp) (flight : Bool) (busy : ℕ) (old new : Option Far) → 64 ≤ busy
+    → WhereTold (Streaming ops results left flight busy) old new → IfSome old (λ f. FoundBusy (chip_of f) new)
 stream_found ops results left flight busy None new many u = tt
 stream_found ops results left flight busy (Some f) new many u = record { far = u.far; is = u.is; more = omega (arith, u.found, many) }
 
 -- ---- what was sent is what the loop meant
 
-pub first_as : (left : List DmiOp) (word out : DmiScan) (mid new : Option Far) → word ≡ first_scan left → WhereTold (DmiScanned word out) mid new → WhereTold (DmiScanned (first_scan left) out) mid new
+pub first_as : (left : List DmiOp) (word out : DmiScan) (mid new : Option Far) → word ≡ first_scan left → WhereTold (DmiScanned word out) mid new
+    → WhereTold (DmiScanned (first_scan left) out) mid new
 first_as left word out mid new e d = subst (λ s. WhereTold (DmiScanned s out) mid new) e d
 
-pub first_cut_as : (left : List DmiOp) (word : DmiScan) (mid new : Option Far) → word ≡ first_scan left → WhereTold (CutFrom Dmi (dmi_bits word)) mid new → WhereTold (CutFrom Dmi (dmi_bits (first_scan left))) mid new
+pub first_cut_as : (left : List DmiOp) (word : DmiScan) (mid new : Option Far) → word ≡ first_scan left → WhereTold (CutFrom Dmi (dmi_bits word)) mid new
+    → WhereTold (CutFrom Dmi (dmi_bits (first_scan left))) mid new
 first_cut_as left word mid new e d = subst (λ s. WhereTold (CutFrom Dmi (dmi_bits s)) mid new) e d
 
-pub stream_taken : (ops : List DmiOp) (results results' : List ℕ) (left left' : List DmiOp) (flight : Bool) (busy : ℕ) (out : DmiScan) (old mid new : Option Far) → All IsOperation left → 1 ≤ length left → left' ≡ drop 1 left → out.op ≡ 0 → results' ≡ kept flight out.value results
-    → WhereTold (Streaming ops results left flight busy) old mid → WhereTold (DmiScanned (first_scan left) out) mid new → WhereTold (Streaming ops results' left' true 0) old new
+pub stream_taken : (ops : List DmiOp) (results results' : List ℕ) (left left' : List DmiOp) (flight : Bool) (busy : ℕ) (out : DmiScan)
+    (old mid new : Option Far) → All IsOperation left → 1 ≤ length left → left' ≡ drop 1 left → out.op ≡ 0 → results' ≡ kept flight out.value results
+    → WhereTold (Streaming ops results left flight busy) old mid → WhereTold (DmiScanned (first_scan left) out) mid new
+        → WhereTold (Streaming ops results' left' true 0) old new
 stream_taken ops results results' [] left' flight busy out old mid new small some rest_is done kept_is u d = absurd (omega arith)
 stream_taken ops results results' (next ∷ left) left' flight busy out old mid new small some rest_is done kept_is u d =
-    subst (λ xs. WhereTold (Streaming ops results' xs true 0) old new) (sym rest_is) (stream_on ops results results' next left flight busy out old mid new (All-head IsOperation next left small) done kept_is u d)
+    subst (λ xs. WhereTold (Streaming ops results' xs true 0) old new) (sym rest_is)
+        (stream_on ops results results' next left flight busy out old mid new (All-head IsOperation next left small) done kept_is u d)
 
-pub stream_done : (ops : List DmiOp) (results results' : List ℕ) (left : List DmiOp) (flight : Bool) (busy : ℕ) (out : DmiScan) (old mid new : Option Far) → length left < 1 → flight ≡ true → out.op ≡ 0 → results' ≡ kept flight out.value results
-    → WhereTold (Streaming ops results left flight busy) old mid → WhereTold (DmiScanned (first_scan left) out) mid new → WhereTold (FetchedAllAt ops results') old new
+pub stream_done : (ops : List DmiOp) (results results' : List ℕ) (left : List DmiOp) (flight : Bool) (busy : ℕ) (out : DmiScan) (old mid new : Option Far)
+    → length left < 1 → flight ≡ true → out.op ≡ 0 → results' ≡ kept flight out.value results
+    → WhereTold (Streaming ops results left flight busy) old mid → WhereTold (DmiScanned (first_scan left) out) mid new
+        → WhereTold (FetchedAllAt ops results') old new
 stream_done ops results results' (next ∷ left) flight busy out old mid new none one done kept_is u d = absurd (omega arith)
-stream_done ops results results' [] flight busy out old mid new none one done kept_is u d = stream_last ops results results' flight busy out old mid new one done kept_is u d
+stream_done ops results results' [] flight busy out old mid new none one done kept_is u d =
+    stream_last ops results results' flight busy out old mid new one done kept_is u d
 
 pub is_flying : (flight : Bool) (n : ℕ) → (flight ≡ false → 0 < n) → n < 1 → flight ≡ true
 is_flying true n started none = refl
@@ -249,9 +300,12 @@ rest_is xs = take_all (length xs - 1) (drop 1 xs) (omega (arith, length-drop 1 x
 pub rest_length : (xs : List DmiOp) → 1 ≤ length xs → length (take (length xs - 1) (drop 1 xs)) + 1 ≡ length xs
 rest_length xs some = omega (arith, ap (length {A = DmiOp}) (rest_is xs), length-drop 1 xs)
 
-pub room_on : (flight : Bool) (value : ℕ) (results results' : List ℕ) (xs : List DmiOp) (total : ℕ) → results' ≡ kept flight value results → 1 ≤ length xs → length results + (if flight then 1 else 0) + length xs ≡ total
+pub room_on : (flight : Bool) (value : ℕ) (results results' : List ℕ) (xs : List DmiOp) (total : ℕ) → results' ≡ kept flight value results → 1 ≤ length xs
+    → length results + (if flight then 1 else 0) + length xs ≡ total
     → length results' + 1 + length (take (length xs - 1) (drop 1 xs)) ≡ total
-room_on flight value results results' xs total kept_is some room = omega (arith, room, rest_length xs some, ap (length {A = ℕ}) kept_is, length-kept flight value results)
+room_on flight value results results' xs total kept_is some room =
+    omega (arith, room, rest_length xs some, ap (length {A = ℕ}) kept_is, length-kept flight value results)
 
-pub room_done : (flight : Bool) (value : ℕ) (results results' : List ℕ) (n total : ℕ) → results' ≡ kept flight value results → flight ≡ true → n < 1 → length results + (if flight then 1 else 0) + n ≡ total → length results' ≡ total
+pub room_done : (flight : Bool) (value : ℕ) (results results' : List ℕ) (n total : ℕ) → results' ≡ kept flight value results → flight ≡ true → n < 1
+    → length results + (if flight then 1 else 0) + n ≡ total → length results' ≡ total
 room_done flight value results results' n total kept_is one none room = omega (arith, room, none, ap (length {A = ℕ}) kept_is, length-kept flight value results)

@@ -20,7 +20,8 @@ use Rattle.debug_model.specs.Asked.{carrying, next_scan, nop, reset_bits}
 use Rattle.probe_dmi.specs.Registers.{CutFrom, DmiScanned, Prepared, Waited, WordScanned, dmi_bits}
 use Rattle.probe_dmi.proofs.Counts.{counts_in, ticks_busy}
 use Rattle.probe_dmi.proofs.Flight.{Settled, Waiting, settle_ticks, ticks_sticky}
-use Rattle.probe_dmi.proofs.Stages.{Outcome, Reached, Sent, Stage, await, launch_busy, launch_part, launch_scan, nop_part, ready_op, reset_count, reset_part, reset_wait, settle_reached, stage_reached, wait_reached}
+use Rattle.probe_dmi.proofs.Stages.{Outcome, Reached, Sent, Stage, await, launch_busy, launch_part, launch_scan, nop_part, ready_op, reset_count, reset_part,
+    reset_wait, settle_reached, stage_reached, wait_reached}
 use Rattle.probe_dmi.proofs.Stages.Outcome.{went_on, was_done, was_lost}
 use Rattle.probe_dmi.proofs.Stages.Stage.{ready, sent}
 use Rattle.probe_dmi.proofs.WholeScans.{cut_scan, heard_of}
@@ -85,11 +86,14 @@ begun op (Some f) new clean p = begun_at op f new clean p
 
 -- ---- what a scan of dmi heard
 
-pub heard_is : (word out : DmiScan) (c : Chip) (new : Option Far) → (d : DmiScanned word out c new) → out ≡ cut_scan (dmi_seen (dtm_of (ticks d.scanned.before c.inside)))
+pub heard_is : (word out : DmiScan) (c : Chip) (new : Option Far) → (d : DmiScanned word out c new)
+    → out ≡ cut_scan (dmi_seen (dtm_of (ticks d.scanned.before c.inside)))
 heard_is word out c new d = d.out_is ∙ heard_of word d.bits (ticks d.scanned.before c.inside) d.scanned.out_is
 
-carried_step : (op : DmiOp) (busy : ℕ) (out : DmiScan) (f : Far) (c : Chip) (new : Option Far) → IsOperation op → (v : ℕ) → Settled [] v (chip_of f).inside c.inside
-    → (counts_in c.inside).dmi_busy ≡ (counts_in (chip_of f).inside).dmi_busy + busy → DmiScanned (carrying op) out c new → Underway op true busy (chip_of f) new
+carried_step : (op : DmiOp) (busy : ℕ) (out : DmiScan) (f : Far) (c : Chip) (new : Option Far) → IsOperation op → (v : ℕ)
+    → Settled [] v (chip_of f).inside c.inside
+    → (counts_in c.inside).dmi_busy ≡ (counts_in (chip_of f).inside).dmi_busy + busy → DmiScanned (carrying op) out c new
+        → Underway op true busy (chip_of f) new
 carried_step op busy out f c new small v s found d =
     let x = d.scanned in
     let i = (chip_of f).inside in
@@ -101,7 +105,8 @@ carried_step op busy out f c new small v s found d =
       is = x.is;
       stage = at_passed (λ (n : Inside). Stage op true i n) x.far k x.passed (sent refl l.waiting);
       clear = at_passed (λ (n : Inside). (dtm_of n).sticky ≡ Clear) x.far k x.passed l.clear;
-      found = at_passed (λ (n : Inside). (counts_in n).dmi_busy ≡ (counts_in i).dmi_busy + busy) x.far k x.passed (launch_busy op x.before x.between x.behind v i j s ∙ found);
+      found = at_passed (λ (n : Inside). (counts_in n).dmi_busy ≡ (counts_in i).dmi_busy + busy) x.far k x.passed
+          (launch_busy op x.before x.between x.behind v i j s ∙ found);
     }
 
 pub false_is_true : {P : Type 0} → false ≡ true → P
@@ -111,11 +116,13 @@ pub other_op : {P : Type 0} (n a b : ℕ) → n ≡ a → n ≡ b → a ≢ b �
 other_op n a b e f differ = absurd (differ (sym e ∙ f))
 
 -- the transport took it
-pub carried : (op : DmiOp) (busy : ℕ) (out : DmiScan) (old mid new : Option Far) → IsOperation op → WhereTold (Underway op false busy) old mid → WhereTold (DmiScanned (next_scan op false) out) mid new
+pub carried : (op : DmiOp) (busy : ℕ) (out : DmiScan) (old mid new : Option Far) → IsOperation op → WhereTold (Underway op false busy) old mid
+    → WhereTold (DmiScanned (next_scan op false) out) mid new
     → WhereTold (Underway op true busy) old new
 carried op busy out old mid new small u d = under_then (DmiScanned (carrying op) out) (Underway op true busy) op false busy old mid new step u d
   where
-    by : (f : Far) (u : Underway op false busy (chip_of f) mid) → Stage op false (chip_of f).inside (chip_of u.far).inside → DmiScanned (carrying op) out (chip_of u.far) new → Underway op true busy (chip_of f) new
+    by : (f : Far) (u : Underway op false busy (chip_of f) mid) → Stage op false (chip_of f).inside (chip_of u.far).inside
+        → DmiScanned (carrying op) out (chip_of u.far) new → Underway op true busy (chip_of f) new
     by f u (ready e v s) d = carried_step op busy out f (chip_of u.far) new small v s u.found d
     by f u (sent e w) d = false_is_true e
 
@@ -125,7 +132,8 @@ carried op busy out old mid new small u d = under_then (DmiScanned (carrying op)
 -- ---- what a nop heard
 
 -- the outcome, where the loop stands behind the operation's taking
-outcome : (op : DmiOp) (out : DmiScan) (f : Far) (c : Chip) (new : Option Far) → Waiting op (chip_of f).inside c.inside → (dtm_of c.inside).sticky ≡ Clear → (d : DmiScanned nop out c new)
+outcome : (op : DmiOp) (out : DmiScan) (f : Far) (c : Chip) (new : Option Far) → Waiting op (chip_of f).inside c.inside → (dtm_of c.inside).sticky ≡ Clear
+    → (d : DmiScanned nop out c new)
     → Outcome op (chip_of f).inside c.inside (chip_of d.scanned.far).inside out
 outcome op out f c new w clear d =
     let x = d.scanned in
@@ -140,7 +148,8 @@ pub record FetchedAt (op : DmiOp) (value : ℕ) (c : Chip) (new : Option Far) : 
 pub clean_at : (new : Option Far) (far : Far) → new ≡ Some far → DtmClean (dtm_of (chip_of far).inside) → IsClean new
 clean_at new far is clean = subst IsClean (sym is) clean
 
-fetched_step : (op : DmiOp) (out : DmiScan) (f : Far) (new : Option Far) (far : Far) (j : Inside) → new ≡ Some far → out.op ≡ 0 → Outcome op (chip_of f).inside j (chip_of far).inside out → FetchedAt op out.value (chip_of f) new
+fetched_step : (op : DmiOp) (out : DmiScan) (f : Far) (new : Option Far) (far : Far) (j : Inside) → new ≡ Some far → out.op ≡ 0
+    → Outcome op (chip_of f).inside j (chip_of far).inside out → FetchedAt op out.value (chip_of f) new
 fetched_step op out f new far j is done (went_on o w s b) = other_op out.op 0 3 done o (omega arith)
 fetched_step op out f new far j is done (was_lost o w l) = other_op out.op 0 2 done o (omega arith)
 fetched_step op out f new far j is done (was_done result o v s) = record {
@@ -149,17 +158,20 @@ fetched_step op out f new far j is done (was_done result o v s) = record {
     is = is;
     result = result;
     path = s.path;
-    site = one_operation_between_deeds (site_of f) (site_of far) (record { op = op; result = result }) (site_path (chip_of f).inside (chip_of far).inside (Launched op ∷ Performed op result ∷ []) s.path);
+    site = one_operation_between_deeds (site_of f) (site_of far) (record { op = op; result = result })
+        (site_path (chip_of f).inside (chip_of far).inside (Launched op ∷ Performed op result ∷ []) s.path);
     value_is = v;
   };
   clean = clean_at new far is (record { none_in_flight = s.flight; clear = s.clear; not_failed = s.failed });
 }
 
-pub fetched : (op : DmiOp) (busy : ℕ) (out : DmiScan) (old mid new : Option Far) → out.op ≡ 0 → WhereTold (Underway op true busy) old mid → WhereTold (DmiScanned (next_scan op true) out) mid new
+pub fetched : (op : DmiOp) (busy : ℕ) (out : DmiScan) (old mid new : Option Far) → out.op ≡ 0 → WhereTold (Underway op true busy) old mid
+    → WhereTold (DmiScanned (next_scan op true) out) mid new
     → WhereTold (FetchedAt op out.value) old new
 fetched op busy out old mid new done u d = under_then (DmiScanned nop out) (FetchedAt op out.value) op true busy old mid new step u d
   where
-    by : (f : Far) (u : Underway op true busy (chip_of f) mid) → Stage op true (chip_of f).inside (chip_of u.far).inside → DmiScanned nop out (chip_of u.far) new → FetchedAt op out.value (chip_of f) new
+    by : (f : Far) (u : Underway op true busy (chip_of f) mid) → Stage op true (chip_of f).inside (chip_of u.far).inside
+        → DmiScanned nop out (chip_of u.far) new → FetchedAt op out.value (chip_of f) new
     by f u (ready e v s) d = false_is_true (sym e)
     by f u (sent e w) d = fetched_step op out f new d.scanned.far (chip_of u.far).inside d.scanned.is done (outcome op out f (chip_of u.far) new w u.clear d)
 
@@ -179,35 +191,44 @@ fetched_clean op value (Some f) new d = d.clean
 cut_site : (op : DmiOp) (i j : Inside) (hs : List Happening) → AtMostOnce op hs → Course i hs j → SiteCut op i.works.site j.works.site
 cut_site op i j hs not_sent p = unperformed (no_operation_is_deeds i.works.site j.works.site (site_path i j [] p))
 cut_site op i j hs in_flight p = unperformed (no_operation_is_deeds i.works.site j.works.site (site_path i j (Launched op ∷ []) p))
-cut_site op i j hs (performed_once result) p = was_performed result (one_operation_between_deeds i.works.site j.works.site (record { op = op; result = result }) (site_path i j (Launched op ∷ Performed op result ∷ []) p))
+cut_site op i j hs (performed_once result) p =
+    was_performed result (one_operation_between_deeds i.works.site j.works.site (record { op = op; result = result })
+    (site_path i j (Launched op ∷ Performed op result ∷ []) p))
 cut_site op i j hs lost_once p = unperformed (no_operation_is_deeds i.works.site j.works.site (site_path i j (Launched op ∷ Lost op ∷ []) p))
 
-cut_of : (op : DmiOp) (f : Far) (new : Option Far) (far : Far) → new ≡ Some far → Reached op (chip_of f).inside (chip_of far).inside → OperationCut op (chip_of f) new
-cut_of op f new far is r = record { far = far; is = is; happened = r.happened; path = r.path; once = r.once; site = cut_site op (chip_of f).inside (chip_of far).inside r.happened r.once r.path }
+cut_of : (op : DmiOp) (f : Far) (new : Option Far) (far : Far) → new ≡ Some far → Reached op (chip_of f).inside (chip_of far).inside
+    → OperationCut op (chip_of f) new
+cut_of op f new far is r = record { far = far; is = is; happened = r.happened; path = r.path; once = r.once; site =
+    cut_site op (chip_of f).inside (chip_of far).inside r.happened r.once r.path }
 
-part_reached : (op : DmiOp) (taken : Bool) (f : Far) (c : Chip) (new : Option Far) → IsOperation op → Stage op taken (chip_of f).inside c.inside → (d : CutFrom Dmi (dmi_bits (next_scan op taken)) c new) → Reached op (chip_of f).inside (chip_of d.far).inside
+part_reached : (op : DmiOp) (taken : Bool) (f : Far) (c : Chip) (new : Option Far) → IsOperation op → Stage op taken (chip_of f).inside c.inside
+    → (d : CutFrom Dmi (dmi_bits (next_scan op taken)) c new) → Reached op (chip_of f).inside (chip_of d.far).inside
 part_reached op false f c new small (ready e v s) d = launch_part op v (chip_of f).inside c.inside (chip_of d.far).inside small s d.part
 part_reached op false f c new small (sent e w) d = false_is_true e
 part_reached op true f c new small (ready e v s) d = false_is_true (sym e)
-part_reached op true f c new small (sent e w) d = wait_reached op (chip_of f).inside (chip_of d.far).inside (nop_part op (chip_of f).inside c.inside (chip_of d.far).inside w d.part)
+part_reached op true f c new small (sent e w) d =
+    wait_reached op (chip_of f).inside (chip_of d.far).inside (nop_part op (chip_of f).inside c.inside (chip_of d.far).inside w d.part)
 
 -- of the instruction's path
 waited_at : (op : DmiOp) (f : Far) (new : Option Far) → IsClean (Some f) → Waited (chip_of f) new → OperationCut op (chip_of f) new
 waited_at op f new clean w =
     let i = (chip_of f).inside in
     let v = (dtm_of i).value in
-    cut_of op f new w.far w.is (at_passed (λ (n : Inside). Reached op i n) w.far (ticks w.rounds i) w.passed (settle_reached op v i (ticks w.rounds i) (settle_ticks w.rounds [] v i i (settled_first (chip_of f) clean))))
+    cut_of op f new w.far w.is (at_passed (λ (n : Inside). Reached op i n) w.far (ticks w.rounds i) w.passed
+        (settle_reached op v i (ticks w.rounds i) (settle_ticks w.rounds [] v i i (settled_first (chip_of f) clean))))
 
 pub untaken : (op : DmiOp) (old new : Option Far) → IsClean old → WhereTold Waited old new → WhereTold (OperationCut op) old new
 untaken op None new clean w = w
 untaken op (Some f) new clean w = waited_at op f new clean w
 
 -- of a scan of dmi
-pub dmi_cut : (op : DmiOp) (taken : Bool) (busy : ℕ) (old mid new : Option Far) → IsOperation op → WhereTold (Underway op taken busy) old mid → WhereTold (CutFrom Dmi (dmi_bits (next_scan op taken))) mid new
+pub dmi_cut : (op : DmiOp) (taken : Bool) (busy : ℕ) (old mid new : Option Far) → IsOperation op → WhereTold (Underway op taken busy) old mid
+    → WhereTold (CutFrom Dmi (dmi_bits (next_scan op taken))) mid new
     → WhereTold (OperationCut op) old new
 dmi_cut op taken busy old mid new small u d = under_then (CutFrom Dmi (dmi_bits (next_scan op taken))) (OperationCut op) op taken busy old mid new step u d
   where
-    step : (f : Far) (u : Underway op taken busy (chip_of f) mid) → CutFrom Dmi (dmi_bits (next_scan op taken)) (chip_of u.far) new → OperationCut op (chip_of f) new
+    step : (f : Far) (u : Underway op taken busy (chip_of f) mid) → CutFrom Dmi (dmi_bits (next_scan op taken)) (chip_of u.far) new
+        → OperationCut op (chip_of f) new
     step f u d = cut_of op f new d.far d.is (part_reached op taken f (chip_of u.far) new small u.stage d)
 
 -- ---- op 2
@@ -216,19 +237,24 @@ pub record FailedAt (op : DmiOp) (c : Chip) (new : Option Far) : Type 0 where
   pub lost : LostOne c new
   pub cut : OperationCut op c new
 
-failed_step : (op : DmiOp) (out : DmiScan) (f : Far) (new : Option Far) (far : Far) (j : Inside) → new ≡ Some far → out.op ≡ 2 → Outcome op (chip_of f).inside j (chip_of far).inside out → FailedAt op (chip_of f) new
+failed_step : (op : DmiOp) (out : DmiScan) (f : Far) (new : Option Far) (far : Far) (j : Inside) → new ≡ Some far → out.op ≡ 2
+    → Outcome op (chip_of f).inside j (chip_of far).inside out → FailedAt op (chip_of f) new
 failed_step op out f new far j is gone (went_on o w s b) = other_op out.op 2 3 gone o (omega arith)
 failed_step op out f new far j is gone (was_done result o v s) = other_op out.op 2 0 gone o (omega arith)
-failed_step op out f new far j is gone (was_lost o w l) = record { lost = record { far = far; is = is; more = l }; cut = cut_of op f new far is (wait_reached op (chip_of f).inside (chip_of far).inside w) }
+failed_step op out f new far j is gone (was_lost o w l) =
+    record { lost = record { far = far; is = is; more = l }; cut = cut_of op f new far is (wait_reached op (chip_of f).inside (chip_of far).inside w) }
 
-failed_by : (op : DmiOp) (taken : Bool) (out : DmiScan) (f : Far) (c : Chip) (new : Option Far) → out.op ≡ 2 → Stage op taken (chip_of f).inside c.inside → (dtm_of c.inside).sticky ≡ Clear
+failed_by : (op : DmiOp) (taken : Bool) (out : DmiScan) (f : Far) (c : Chip) (new : Option Far) → out.op ≡ 2 → Stage op taken (chip_of f).inside c.inside
+    → (dtm_of c.inside).sticky ≡ Clear
     → DmiScanned (next_scan op taken) out c new → FailedAt op (chip_of f) new
-failed_by op false out f c new gone (ready e v s) clear d = other_op out.op 2 0 gone (ready_op d.scanned.before v (chip_of f).inside c.inside out s (heard_is (carrying op) out c new d)) (omega arith)
+failed_by op false out f c new gone (ready e v s) clear d =
+    other_op out.op 2 0 gone (ready_op d.scanned.before v (chip_of f).inside c.inside out s (heard_is (carrying op) out c new d)) (omega arith)
 failed_by op false out f c new gone (sent e w) clear d = false_is_true e
 failed_by op true out f c new gone (ready e v s) clear d = false_is_true (sym e)
 failed_by op true out f c new gone (sent e w) clear d = failed_step op out f new d.scanned.far c.inside d.scanned.is gone (outcome op out f c new w clear d)
 
-pub failed : (op : DmiOp) (taken : Bool) (busy : ℕ) (out : DmiScan) (old mid new : Option Far) → out.op ≡ 2 → WhereTold (Underway op taken busy) old mid → WhereTold (DmiScanned (next_scan op taken) out) mid new
+pub failed : (op : DmiOp) (taken : Bool) (busy : ℕ) (out : DmiScan) (old mid new : Option Far) → out.op ≡ 2 → WhereTold (Underway op taken busy) old mid
+    → WhereTold (DmiScanned (next_scan op taken) out) mid new
     → WhereTold (FailedAt op) old new
 failed op taken busy out old mid new gone u d = under_then (DmiScanned (next_scan op taken) out) (FailedAt op) op taken busy old mid new step u d
   where
@@ -245,29 +271,41 @@ failed_lost op (Some f) new d = d.lost
 
 -- ---- op 3
 
-again_step : (op : DmiOp) (taken : Bool) (busy : ℕ) (out : DmiScan) (f : Far) (new : Option Far) (far : Far) (j : Inside) → new ≡ Some far → taken ≡ true → out.op ≢ 0 → out.op ≢ 2
-    → (counts_in j).dmi_busy ≡ (counts_in (chip_of f).inside).dmi_busy + busy → Outcome op (chip_of f).inside j (chip_of far).inside out → FoundAgain op taken busy (chip_of f) new
+again_step : (op : DmiOp) (taken : Bool) (busy : ℕ) (out : DmiScan) (f : Far) (new : Option Far) (far : Far) (j : Inside) → new ≡ Some far → taken ≡ true
+    → out.op ≢ 0 → out.op ≢ 2
+    → (counts_in j).dmi_busy ≡ (counts_in (chip_of f).inside).dmi_busy + busy → Outcome op (chip_of f).inside j (chip_of far).inside out
+        → FoundAgain op taken busy (chip_of f) new
 again_step op taken busy out f new far j is t undone unfailed found (was_done result o v s) = absurd (undone o)
 again_step op taken busy out f new far j is t undone unfailed found (was_lost o w l) = absurd (unfailed o)
-again_step op taken busy out f new far j is t undone unfailed found (went_on o w s b) = record { far = far; is = is; was_taken = t; waiting = w; busy_still = s; found = omega (arith, b, found) }
+again_step op taken busy out f new far j is t undone unfailed found (went_on o w s b) =
+    record { far = far; is = is; was_taken = t; waiting = w; busy_still = s; found = omega (arith, b, found) }
 
-again_by : (op : DmiOp) (taken : Bool) (busy : ℕ) (out : DmiScan) (f : Far) (c : Chip) (new : Option Far) → out.op ≢ 0 → out.op ≢ 2 → (counts_in c.inside).dmi_busy ≡ (counts_in (chip_of f).inside).dmi_busy + busy
-    → Stage op taken (chip_of f).inside c.inside → (dtm_of c.inside).sticky ≡ Clear → DmiScanned (next_scan op taken) out c new → FoundAgain op taken busy (chip_of f) new
-again_by op false busy out f c new undone unfailed found (ready e v s) clear d = absurd (undone (ready_op d.scanned.before v (chip_of f).inside c.inside out s (heard_is (carrying op) out c new d)))
+again_by : (op : DmiOp) (taken : Bool) (busy : ℕ) (out : DmiScan) (f : Far) (c : Chip) (new : Option Far) → out.op ≢ 0 → out.op ≢ 2
+    → (counts_in c.inside).dmi_busy ≡ (counts_in (chip_of f).inside).dmi_busy + busy
+    → Stage op taken (chip_of f).inside c.inside → (dtm_of c.inside).sticky ≡ Clear → DmiScanned (next_scan op taken) out c new
+        → FoundAgain op taken busy (chip_of f) new
+again_by op false busy out f c new undone unfailed found (ready e v s) clear d =
+    absurd (undone (ready_op d.scanned.before v (chip_of f).inside c.inside out s (heard_is (carrying op) out c new d)))
 again_by op false busy out f c new undone unfailed found (sent e w) clear d = false_is_true e
 again_by op true busy out f c new undone unfailed found (ready e v s) clear d = false_is_true (sym e)
-again_by op true busy out f c new undone unfailed found (sent e w) clear d = again_step op true busy out f new d.scanned.far c.inside d.scanned.is refl undone unfailed found (outcome op out f c new w clear d)
+again_by op true busy out f c new undone unfailed found (sent e w) clear d =
+    again_step op true busy out f new d.scanned.far c.inside d.scanned.is refl undone unfailed found (outcome op out f c new w clear d)
 
-pub found_again : (op : DmiOp) (taken : Bool) (busy : ℕ) (out : DmiScan) (old mid new : Option Far) → out.op ≢ 0 → out.op ≢ 2 → WhereTold (Underway op taken busy) old mid → WhereTold (DmiScanned (next_scan op taken) out) mid new
+pub found_again : (op : DmiOp) (taken : Bool) (busy : ℕ) (out : DmiScan) (old mid new : Option Far) → out.op ≢ 0 → out.op ≢ 2
+    → WhereTold (Underway op taken busy) old mid → WhereTold (DmiScanned (next_scan op taken) out) mid new
     → WhereTold (FoundAgain op taken busy) old new
-found_again op taken busy out old mid new undone unfailed u d = under_then (DmiScanned (next_scan op taken) out) (FoundAgain op taken busy) op taken busy old mid new step u d
+found_again op taken busy out old mid new undone unfailed u d =
+    under_then (DmiScanned (next_scan op taken) out) (FoundAgain op taken busy) op taken busy old mid new step u d
   where
-    step : (f : Far) (u : Underway op taken busy (chip_of f) mid) → DmiScanned (next_scan op taken) out (chip_of u.far) new → FoundAgain op taken busy (chip_of f) new
+    step : (f : Far) (u : Underway op taken busy (chip_of f) mid) → DmiScanned (next_scan op taken) out (chip_of u.far) new
+        → FoundAgain op taken busy (chip_of f) new
     step f u d = again_by op taken busy out f (chip_of u.far) new undone unfailed u.found u.stage u.clear d
 
 -- its status was cleared
-cleared_step : (op : DmiOp) (taken : Bool) (busy value : ℕ) (f : Far) (c : Chip) (new : Option Far) → taken ≡ true → Waiting op (chip_of f).inside c.inside → (dtm_of c.inside).sticky ≡ Busy
-    → (counts_in c.inside).dmi_busy ≡ (counts_in (chip_of f).inside).dmi_busy + (busy + 1) → WordScanned Dtmcs reset_bits value c new → Underway op taken (busy + 1) (chip_of f) new
+cleared_step : (op : DmiOp) (taken : Bool) (busy value : ℕ) (f : Far) (c : Chip) (new : Option Far) → taken ≡ true → Waiting op (chip_of f).inside c.inside
+    → (dtm_of c.inside).sticky ≡ Busy
+    → (counts_in c.inside).dmi_busy ≡ (counts_in (chip_of f).inside).dmi_busy + (busy + 1) → WordScanned Dtmcs reset_bits value c new
+        → Underway op taken (busy + 1) (chip_of f) new
 cleared_step op taken busy value f c new t w s found d =
     let x = d.scanned in
     let i = (chip_of f).inside in
@@ -278,20 +316,25 @@ cleared_step op taken busy value f c new t w s found d =
       is = x.is;
       stage = at_passed (λ (n : Inside). Stage op taken i n) x.far k x.passed (sent t l.waiting);
       clear = at_passed (λ (n : Inside). (dtm_of n).sticky ≡ Clear) x.far k x.passed l.clear;
-      found = at_passed (λ (n : Inside). (counts_in n).dmi_busy ≡ (counts_in i).dmi_busy + (busy + 1)) x.far k x.passed (reset_count x.before x.between x.behind c.inside ∙ found);
+      found = at_passed (λ (n : Inside). (counts_in n).dmi_busy ≡ (counts_in i).dmi_busy + (busy + 1)) x.far k x.passed
+          (reset_count x.before x.between x.behind c.inside ∙ found);
     }
 
-pub cleared : (op : DmiOp) (taken : Bool) (busy value : ℕ) (old mid new : Option Far) → WhereTold (FoundAgain op taken busy) old mid → WhereTold (WordScanned Dtmcs reset_bits value) mid new → WhereTold (Underway op taken (busy + 1)) old new
+pub cleared : (op : DmiOp) (taken : Bool) (busy value : ℕ) (old mid new : Option Far) → WhereTold (FoundAgain op taken busy) old mid
+    → WhereTold (WordScanned Dtmcs reset_bits value) mid new → WhereTold (Underway op taken (busy + 1)) old new
 cleared op taken busy value old mid new u d = again_then (WordScanned Dtmcs reset_bits value) (Underway op taken (busy + 1)) op taken busy old mid new step u d
   where
-    step : (f : Far) (u : FoundAgain op taken busy (chip_of f) mid) → WordScanned Dtmcs reset_bits value (chip_of u.far) new → Underway op taken (busy + 1) (chip_of f) new
+    step : (f : Far) (u : FoundAgain op taken busy (chip_of f) mid) → WordScanned Dtmcs reset_bits value (chip_of u.far) new
+        → Underway op taken (busy + 1) (chip_of f) new
     step f u d = cleared_step op taken busy value f (chip_of u.far) new u.was_taken u.waiting u.busy_still u.found d
 
-pub clear_cut : (op : DmiOp) (taken : Bool) (busy : ℕ) (old mid new : Option Far) → WhereTold (FoundAgain op taken busy) old mid → WhereTold (CutFrom Dtmcs reset_bits) mid new → WhereTold (OperationCut op) old new
+pub clear_cut : (op : DmiOp) (taken : Bool) (busy : ℕ) (old mid new : Option Far) → WhereTold (FoundAgain op taken busy) old mid
+    → WhereTold (CutFrom Dtmcs reset_bits) mid new → WhereTold (OperationCut op) old new
 clear_cut op taken busy old mid new u d = again_then (CutFrom Dtmcs reset_bits) (OperationCut op) op taken busy old mid new step u d
   where
     step : (f : Far) (u : FoundAgain op taken busy (chip_of f) mid) → CutFrom Dtmcs reset_bits (chip_of u.far) new → OperationCut op (chip_of f) new
-    step f u d = cut_of op f new d.far d.is (wait_reached op (chip_of f).inside (chip_of d.far).inside (reset_part op (chip_of f).inside (chip_of u.far).inside (chip_of d.far).inside u.busy_still u.waiting d.part))
+    step f u d = cut_of op f new d.far d.is (wait_reached op (chip_of f).inside (chip_of d.far).inside
+        (reset_part op (chip_of f).inside (chip_of u.far).inside (chip_of d.far).inside u.busy_still u.waiting d.part))
 
 -- ---- 64 busy answers
 
@@ -299,17 +342,21 @@ pub busy_cut : (op : DmiOp) (taken : Bool) (busy : ℕ) (old new : Option Far) �
 busy_cut op taken busy None new u = u
 busy_cut op taken busy (Some f) new u = cut_of op f new u.far u.is (stage_reached op taken (chip_of f).inside (chip_of u.far).inside u.stage)
 
-pub busy_found : (op : DmiOp) (taken : Bool) (busy : ℕ) (old new : Option Far) → 64 ≤ busy → WhereTold (Underway op taken busy) old new → IfSome old (λ f. FoundBusy (chip_of f) new)
+pub busy_found : (op : DmiOp) (taken : Bool) (busy : ℕ) (old new : Option Far) → 64 ≤ busy → WhereTold (Underway op taken busy) old new
+    → IfSome old (λ f. FoundBusy (chip_of f) new)
 busy_found op taken busy None new many u = tt
 busy_found op taken busy (Some f) new many u = record { far = u.far; is = u.is; more = omega (arith, u.found, many) }
 
 -- ---- what was sent is what the loop meant
 
-pub sent_as : (op : DmiOp) (taken b : Bool) (word out : DmiScan) (mid new : Option Far) → word ≡ next_scan op taken → taken ≡ b → WhereTold (DmiScanned word out) mid new → WhereTold (DmiScanned (next_scan op b) out) mid new
+pub sent_as : (op : DmiOp) (taken b : Bool) (word out : DmiScan) (mid new : Option Far) → word ≡ next_scan op taken → taken ≡ b
+    → WhereTold (DmiScanned word out) mid new → WhereTold (DmiScanned (next_scan op b) out) mid new
 sent_as op taken b word out mid new e t d = subst (λ s. WhereTold (DmiScanned s out) mid new) (e ∙ ap (λ x. next_scan op x) t) d
 
-pub cut_as : (op : DmiOp) (taken : Bool) (word : DmiScan) (mid new : Option Far) → word ≡ next_scan op taken → WhereTold (CutFrom Dmi (dmi_bits word)) mid new → WhereTold (CutFrom Dmi (dmi_bits (next_scan op taken))) mid new
+pub cut_as : (op : DmiOp) (taken : Bool) (word : DmiScan) (mid new : Option Far) → word ≡ next_scan op taken → WhereTold (CutFrom Dmi (dmi_bits word)) mid new
+    → WhereTold (CutFrom Dmi (dmi_bits (next_scan op taken))) mid new
 cut_as op taken word mid new e d = subst (λ s. WhereTold (CutFrom Dmi (dmi_bits s)) mid new) e d
 
-pub under_as : (op : DmiOp) (taken b : Bool) (busy : ℕ) (old new : Option Far) → taken ≡ b → WhereTold (Underway op taken busy) old new → WhereTold (Underway op b busy) old new
+pub under_as : (op : DmiOp) (taken b : Bool) (busy : ℕ) (old new : Option Far) → taken ≡ b → WhereTold (Underway op taken busy) old new
+    → WhereTold (Underway op b busy) old new
 under_as op taken b busy old new t u = subst (λ x. WhereTold (Underway op x busy) old new) t u

@@ -53,7 +53,8 @@ scan_of : (a v o b w p : ℕ) → a ≡ b → v ≡ w → o ≡ p → the_scan a
 scan_of a v o b w p e f g = cc
 
 pub read_back : (s : DmiScan) → dmi_of (number_of (bits_of 41 (dmi_word s))) ≡ cut_scan s
-read_back s = ap dmi_of (number_of-bits_of_mod 41 (dmi_word s)) ∙ scan_of _ _ _ _ _ _ (address_back s.address s.value s.op) (value_back s.address s.value s.op) (op_back s.address s.value s.op)
+read_back s = ap dmi_of (number_of-bits_of_mod 41 (dmi_word s)) ∙ scan_of _ _ _ _ _ _ (address_back s.address s.value s.op) (value_back s.address s.value s.op)
+    (op_back s.address s.value s.op)
 
 -- what is heard of a transport
 pub heard_of : (sent : DmiScan) (bits : List Bool) (m : Inside) → bits ≡ dr_out (dmi_bits sent) Dmi m → heard bits ≡ cut_scan (dmi_seen (dtm_of m))
@@ -65,7 +66,8 @@ asks_nothing = ap operation_of (read_back nop)
 
 pub asks_for : (op : DmiOp) → IsOperation op → operation_of (dmi_of (number_of (dmi_bits (carrying op)))) ≡ Some op
 asks_for (Read a) small = ap operation_of (read_back (carrying (Read a))) ∙ ap (λ n. Some (Read n)) (let e : a % 128 ≡ a = omega arith in e)
-asks_for (Write a v) small = ap operation_of (read_back (carrying (Write a v))) ∙ write_is (a % 128) (v % 4294967296) a v (omega (arith, small.0)) (omega (arith, small.1))
+asks_for (Write a v) small = ap operation_of (read_back (carrying (Write a v)))
+    ∙ write_is (a % 128) (v % 4294967296) a v (omega (arith, small.0)) (omega (arith, small.1))
   where
     write_is : (b w a v : ℕ) → b ≡ a → w ≡ v → Some (Write b w) ≡ Some (Write a v)
     write_is b w a v e f = cc
@@ -98,7 +100,8 @@ seen_as d s e = by d.sticky e
     by q e = ap (λ x. dtmcs_word (dtmcs_seen (record d { sticky = x }))) e
 
 pub dtmcs_read : (m : Inside) → (dtm_of m).sticky ≡ Clear → number_of (dr_out reset_bits Dtmcs m) ≡ dtmcs_word (dtmcs_seen fresh_dtm)
-dtmcs_read m clear = ap number_of (dtmcs_out m) ∙ number_of-bits_of_mod 32 (dtmcs_word (dtmcs_seen (dtm_of m))) ∙ ap (λ n. n % 4294967296) (seen_as (dtm_of m) Clear clear)
+dtmcs_read m clear = ap number_of (dtmcs_out m) ∙ number_of-bits_of_mod 32 (dtmcs_word (dtmcs_seen (dtm_of m)))
+    ∙ ap (λ n. n % 4294967296) (seen_as (dtm_of m) Clear clear)
 
 -- dmireset and nothing else
 pub asks_reset : dtmcs_of (number_of reset_bits) ≡ dtmcs_of 65536

@@ -38,9 +38,9 @@ fn keep(in_flight: bool, value: u32, results: &mut ArrayVec<u32, OPERATIONS_MOST
 }
 
 impl<S: Scan> Registers<S> {
-    /// Does from 1 to 128 operations, in order, each once, and appends their results. The clocks of the pace stand before every scan of `dmi`, also the first: a
-    /// chip whose time for an operation divides the time from one scan to the next is met in one phase so, from call to call. Behind a clearing of the status
-    /// none are needed, since its own scans are longer.
+    /// Does from 1 to 128 operations, in order, each once, and appends their results. The clocks of the pace stand before every scan of `dmi`, also the
+    /// first: a chip whose time for an operation divides the time from one scan to the next is met in one phase so, from call to call. Behind a clearing of
+    /// the status none are needed, since its own scans are longer.
     pub fn stream(
         &mut self,
         abits: u8,

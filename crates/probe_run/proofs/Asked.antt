@@ -13,7 +13,8 @@ use Rattle.probe_run.specs.Outcomes.{AskedAs, asks}
 use Rattle.probe_run.specs.Waits.{WaitBroke}
 use Rattle.probe_run.proofs.ActLemmas.{broke_then, did_then}
 
-pub asked_as : (request : Request) (h : ℕ) (what : Wanted) (old mid new : Tells) (w : Waited) → Did old (asks request h) mid → WaitedAs what mid new w → AskedAs request h what old new w
+pub asked_as : (request : Request) (h : ℕ) (what : Wanted) (old mid new : Tells) (w : Waited) → Did old (asks request h) mid → WaitedAs what mid new w
+    → AskedAs request h what old new w
 asked_as request h what old mid new Shown d m = record {
   vain = m.vain;
   last = m.last;
@@ -34,7 +35,8 @@ asked_as request h what old mid new (Unshown acknowledged) d (last, m, is) = (
   is,
 )
 
-pub wait_broke_behind : (test : Seen → Bool) (first : List Act) (old mid : Tells) (count mid_count new_count : ℕ) (told : Option Far) (fault : DmiFault) → Did old first mid → count ≤ mid_count → mid_count ≤ new_count
+pub wait_broke_behind : (test : Seen → Bool) (first : List Act) (old mid : Tells) (count mid_count new_count : ℕ) (told : Option Far) (fault : DmiFault)
+    → Did old first mid → count ≤ mid_count → mid_count ≤ new_count
     → WaitBroke test [] mid_count new_count mid told fault → WaitBroke test first count new_count old told fault
 wait_broke_behind test first old mid count mid_count new_count told fault d le later w = record {
   vain = w.vain;
@@ -44,9 +46,11 @@ wait_broke_behind test first old mid count mid_count new_count told fault d le l
 }
 
 -- by how the wait ended
-pub asked_shown : (request : Request) (h : ℕ) (what : Wanted) (old new : Tells) (w : Waited) → w ≡ Shown → AskedAs request h what old new w → Met (test_of what) (asks request h) old new
+pub asked_shown : (request : Request) (h : ℕ) (what : Wanted) (old new : Tells) (w : Waited) → w ≡ Shown → AskedAs request h what old new w
+    → Met (test_of what) (asks request h) old new
 asked_shown request h what old new w is a = subst (λ x. AskedAs request h what old new x) is a
 
-pub asked_unshown : (request : Request) (h : ℕ) (what : Wanted) (old new : Tells) (w : Waited) (acknowledged : Bool) → w ≡ Unshown acknowledged → AskedAs request h what old new w
+pub asked_unshown : (request : Request) (h : ℕ) (what : Wanted) (old new : Tells) (w : Waited) (acknowledged : Bool) → w ≡ Unshown acknowledged
+    → AskedAs request h what old new w
     → (last : ℕ) × Missed (test_of what) last (asks request h) old new × (acknowledged ≡ sees_ack (seen_in last))
 asked_unshown request h what old new w acknowledged is a = subst (λ x. AskedAs request h what old new x) is a

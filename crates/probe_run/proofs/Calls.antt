@@ -23,7 +23,8 @@ pub record RanBoth (xs ys : List Act) (s t : Site) : Type 0 where
 
 pub ran_split : (xs ys : List Act) (s t : Site) → Ran (xs ++ ys) s t → RanBoth xs ys s t
 ran_split [] ys s t r = record { mid = s; first = refl; second = r }
-ran_split (x ∷ xs) ys s t (m, did, rest) = let b : RanBoth xs ys m t = ran_split xs ys m t rest in record { mid = b.mid; first = (m, did, b.first); second = b.second }
+ran_split (x ∷ xs) ys s t (m, did, rest) = let b : RanBoth xs ys m t = ran_split xs ys m t rest in
+    record { mid = b.mid; first = (m, did, b.first); second = b.second }
 
 -- ---- where a chip is told
 
@@ -43,16 +44,19 @@ pub holds_both : (P Q : Site → Type 0) (told : Option Far) → Holds P told �
 holds_both P Q None p q = tt
 holds_both P Q (Some f) p q = (p, q)
 
-did_by : (acts : List Act) (E : Site → Site → Type 0) (P : Site → Type 0) (old new : Tells) (told : Option Far) → old.far ≡ told → Holds P told → ((s t : Site) → P s → Ran acts s t → E s t)
+did_by : (acts : List Act) (E : Site → Site → Type 0) (P : Site → Type 0) (old new : Tells) (told : Option Far) → old.far ≡ told → Holds P told
+    → ((s t : Site) → P s → Ran acts s t → E s t)
     → Did old acts new → Outcome E told new.far
 did_by acts E P old new None at p leads d = none_ran old at acts new d
 did_by acts E P old new (Some f) at p leads d =
     let r : FarRan acts f new.far = far_ran old f at acts new d in record { far = r.far; is = r.is; holds = leads (site_of f) (site_of r.far) p r.ran }
 
-pub did_outcome : (acts : List Act) (E : Site → Site → Type 0) (P : Site → Type 0) (old new : Tells) → Holds P old.far → ((s t : Site) → P s → Ran acts s t → E s t) → Did old acts new → Outcome E old.far new.far
+pub did_outcome : (acts : List Act) (E : Site → Site → Type 0) (P : Site → Type 0) (old new : Tells) → Holds P old.far
+    → ((s t : Site) → P s → Ran acts s t → E s t) → Did old acts new → Outcome E old.far new.far
 did_outcome acts E P old new p leads d = did_by acts E P old new old.far refl p leads d
 
-broke_by : (acts : List Act) (op : DmiOp) (E : Site → Site → Type 0) (P : Site → Type 0) (old_count new_count : ℕ) (old : Tells) (new : Option Far) (fault : DmiFault) (told : Option Far) → old.far ≡ told → Holds P told
+broke_by : (acts : List Act) (op : DmiOp) (E : Site → Site → Type 0) (P : Site → Type 0) (old_count new_count : ℕ) (old : Tells) (new : Option Far)
+    (fault : DmiFault) (told : Option Far) → old.far ≡ told → Holds P told
     → ((s e t : Site) → P s → Ran acts s e → SiteCut op e t → E s t) → Broke acts (Operation op) old_count new_count old new fault → Outcome E told new
 broke_by acts op E P old_count new_count old new fault None at p leads b = untold (OperationCut op) b.mid.far new (none_ran old at acts b.mid b.did) b.cut
 broke_by acts op E P old_count new_count old new fault (Some f) at p leads b =
@@ -60,7 +64,8 @@ broke_by acts op E P old_count new_count old new fault (Some f) at p leads b =
     let c : OperationCut op r.far.live.chip new = where_told (OperationCut op) b.mid.far new r.far r.is b.cut in
     record { far = c.far; is = c.is; holds = leads (site_of f) (site_of r.far) (site_of c.far) p r.ran c.site }
 
-pub broke_outcome : (acts : List Act) (op : DmiOp) (E : Site → Site → Type 0) (P : Site → Type 0) (old_count new_count : ℕ) (old : Tells) (new : Option Far) (fault : DmiFault) → Holds P old.far
+pub broke_outcome : (acts : List Act) (op : DmiOp) (E : Site → Site → Type 0) (P : Site → Type 0) (old_count new_count : ℕ) (old : Tells) (new : Option Far)
+    (fault : DmiFault) → Holds P old.far
     → ((s e t : Site) → P s → Ran acts s e → SiteCut op e t → E s t) → Broke acts (Operation op) old_count new_count old new fault → Outcome E old.far new
 broke_outcome acts op E P old_count new_count old new fault p leads b = broke_by acts op E P old_count new_count old new fault old.far refl p leads b
 
@@ -70,17 +75,21 @@ pub record Happened (R : Target → Target → Type 0) (h : ℕ) (s t : Site) : 
   pub happened : R (target_of s) (target_of t)
   pub unit : t.unit ≡ selected_in h s.unit
 
-pub outcome_leaves : (R : Target → Target → Type 0) (h : ℕ) (E : Site → Site → Type 0) (old new : Option Far) → ((s t : Site) → E s t → Happened R h s t) → Outcome E old new → WhereTold (Leaves R h) old new
+pub outcome_leaves : (R : Target → Target → Type 0) (h : ℕ) (E : Site → Site → Type 0) (old new : Option Far) → ((s t : Site) → E s t → Happened R h s t)
+    → Outcome E old new → WhereTold (Leaves R h) old new
 outcome_leaves R h E None new to o = o
-outcome_leaves R h E (Some f) new to o = let q : Happened R h (site_of f) (site_of o.far) = to (site_of f) (site_of o.far) o.holds in record { far = o.far; is = o.is; happened = q.happened; unit = q.unit }
+outcome_leaves R h E (Some f) new to o = let q : Happened R h (site_of f) (site_of o.far) = to (site_of f) (site_of o.far) o.holds in
+    record { far = o.far; is = o.is; happened = q.happened; unit = q.unit }
 
 pub record HappenedCut (R : Target → Target → Type 0) (h : ℕ) (s t : Site) : Type 0 where
   pub happened : R (target_of s) (target_of t)
   pub unit : (t.unit ≡ s.unit) ⊎ (t.unit ≡ selected_in h s.unit)
 
-pub outcome_left : (R : Target → Target → Type 0) (h : ℕ) (E : Site → Site → Type 0) (old new : Option Far) → ((s t : Site) → E s t → HappenedCut R h s t) → Outcome E old new → WhereTold (LeftBy R h) old new
+pub outcome_left : (R : Target → Target → Type 0) (h : ℕ) (E : Site → Site → Type 0) (old new : Option Far) → ((s t : Site) → E s t → HappenedCut R h s t)
+    → Outcome E old new → WhereTold (LeftBy R h) old new
 outcome_left R h E None new to o = o
-outcome_left R h E (Some f) new to o = let q : HappenedCut R h (site_of f) (site_of o.far) = to (site_of f) (site_of o.far) o.holds in record { far = o.far; is = o.is; happened = q.happened; unit = q.unit }
+outcome_left R h E (Some f) new to o = let q : HappenedCut R h (site_of f) (site_of o.far) = to (site_of f) (site_of o.far) o.holds in
+    record { far = o.far; is = o.is; happened = q.happened; unit = q.unit }
 
 pub outcome_holds : (Q : Site → Type 0) (E : Site → Site → Type 0) (old new : Option Far) → ((s t : Site) → E s t → Q t) → Outcome E old new → Holds Q new
 outcome_holds Q E None new to o = subst (λ told. Holds Q told) (sym o) tt

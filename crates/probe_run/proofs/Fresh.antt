@@ -29,7 +29,8 @@ fresh_quiet : (u : DebugModule) (s : Site) → QuietUnit u → s.unit ≡ u → 
 fresh_quiet u s q is = record { no_command = ap (λ (m : DebugModule). m.commands.steps) is ∙ q.0; no_access = ap (λ (m : DebugModule). m.bus.pending) is ∙ q.1 }
 
 fresh_spun : (u : DebugModule) (s : Site) (harts : List ℕ) → Fresh u s → Fresh u (spun harts s)
-fresh_spun u s harts f = record { unit = f.unit; wide = wide_turns harts s.board f.wide; harts = each_turns (OnlyAt 0 Unasked) (only_at_kept 0 Unasked unasked_kept) harts s.board f.harts }
+fresh_spun u s harts f = record { unit = f.unit; wide = wide_turns harts s.board f.wide; harts =
+    each_turns (OnlyAt 0 Unasked) (only_at_kept 0 Unasked unasked_kept) harts s.board f.harts }
 
 -- an operation that leaves this unit, and notes these points, which change no board
 abbrev pub Turns : DmiOp → (u v : DebugModule) → List Point → Type 0
@@ -41,7 +42,8 @@ pub record Went (op : DmiOp) (result : ℕ) (v : DebugModule) (ps : List Point) 
   pub amid : AmidOperation op result s t
   pub is : t ≡ spun amid.amid.behind (record { unit = v; board = after_turns amid.amid.before s.board; journal = (s.journal ++ turns amid.amid.before) ++ ps })
 
-pub went : (op : DmiOp) (result : ℕ) (u v : DebugModule) (ps : List Point) (s t : Site) → QuietUnit u → QuietUnit v → Turns op u v ps → Fresh u s → OneOperation op result s t → Went op result v ps s t
+pub went : (op : DmiOp) (result : ℕ) (u v : DebugModule) (ps : List Point) (s t : Site) → QuietUnit u → QuietUnit v → Turns op u v ps → Fresh u s
+    → OneOperation op result s t → Went op result v ps s t
 went op result u v ps s t q q' leads f o =
     let a : AmidOperation op result s t = quiet_operation op result s t (fresh_quiet u s q f.unit)
     (λ harts. fresh_quiet v (operated op (spun harts s)) q' (ap (λ (x : Site). x.unit) (leads (spun harts s) (fresh_spun u s harts f)))) o in
@@ -57,7 +59,8 @@ went_on op result v s t w = record {
   harts = w.amid.amid.before ++ w.amid.amid.behind;
   board = ap (λ (x : Site). x.board) w.is ∙ sym (after_turns-append w.amid.amid.before w.amid.amid.behind s.board);
   journal = ap (λ (x : Site). x.journal) w.is ∙ ap (λ (j : List Point). j ++ turns w.amid.amid.behind) (append-nil (s.journal ++ turns w.amid.amid.before))
-      ∙ append_assoc s.journal (turns w.amid.amid.before) (turns w.amid.amid.behind) ∙ ap (λ (j : List Point). s.journal ++ j) (sym (turns-append w.amid.amid.before w.amid.amid.behind));
+      ∙ append_assoc s.journal (turns w.amid.amid.before) (turns w.amid.amid.behind)
+          ∙ ap (λ (j : List Point). s.journal ++ j) (sym (turns-append w.amid.amid.before w.amid.amid.behind));
 }
 
 -- the Look
@@ -76,10 +79,12 @@ pub fresh_along : (u : DebugModule) (s t : Site) → Fresh u s → TurnsAlone s 
 fresh_along u s t f a = subst (λ x. Fresh u x) (sym a.is) (fresh_spun u s a.harts f)
 
 -- a fault in the course of an operation that notes nothing
-pub cut_went : (op : DmiOp) (u v : DebugModule) (s t : Site) → QuietUnit u → QuietUnit v → Turns op u v [] → Fresh u s → SiteCut op s t → WentOn (target_of s) (target_of t)
+pub cut_went : (op : DmiOp) (u v : DebugModule) (s t : Site) → QuietUnit u → QuietUnit v → Turns op u v [] → Fresh u s → SiteCut op s t
+    → WentOn (target_of s) (target_of t)
 cut_went op u v s t q q' leads f (unperformed d) = went_alone s t (fresh_deeds u s t q f d)
 cut_went op u v s t q q' leads f (was_performed result o) = went_on op result v s t (went op result u v [] s t q q' leads f o)
 
-pub cut_look : (op : DmiOp) (u v : DebugModule) (s t : Site) → QuietUnit u → QuietUnit v → Turns op u v (Look 0 ∷ []) → Fresh u s → SiteCut op s t → Cut (Look 0) (target_of s) (target_of t)
+pub cut_look : (op : DmiOp) (u v : DebugModule) (s t : Site) → QuietUnit u → QuietUnit v → Turns op u v (Look 0 ∷ []) → Fresh u s → SiteCut op s t
+    → Cut (Look 0) (target_of s) (target_of t)
 cut_look op u v s t q q' leads f (unperformed d) = Cut.before (went_alone s t (fresh_deeds u s t q f d))
 cut_look op u v s t q q' leads f (was_performed result o) = Cut.behind (went_look op result v s t (went op result u v (Look 0 ∷ []) s t q q' leads f o))

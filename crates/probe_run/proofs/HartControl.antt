@@ -1,5 +1,6 @@
 -- Each call of run control on a told site: what happened at the harts, and what is known behind it.
-use Rattle.std.proofs.Common.{◌≡◌, ◌∙◌, ◌++◌, ◌+◌, ◌<◌, ◌^◌, ◌&&◌, ℕ, List, [], length, map, All, Bool, true, false, Option, Some, None, is_some, slice_get, refl, sym, ap, subst}
+use Rattle.std.proofs.Common.{◌≡◌, ◌∙◌, ◌++◌, ◌+◌, ◌<◌, ◌^◌, ◌&&◌, ℕ, List, [], length, map, All, Bool, true, false, Option, Some, None, is_some, slice_get,
+    refl, sym, ap, subst}
 use Rattle.std.proofs.lemmas.Bool.{false≢true}
 use Rattle.rv_model.specs.declared.cause.Cause.{Cause}
 use Rattle.rv_model.specs.Board.{Board, Hart}
@@ -52,23 +53,28 @@ no_request false ack waits is = refl
 
 reveals_halt : (h : ℕ) (now : Seen) → sees_halted now ≡ true → Reveals h now HaltAsked HaltSeen
 reveals_halt h now shown x b at is p =
-    record { asked = p.asked; no_resume = p.no_resume; halted = halted_of x.debug.halted x.debug.resume_ack (ap sees_halted (sym (at_hart h now x b at is)) ∙ shown) }
+    record { asked = p.asked; no_resume = p.no_resume; halted =
+        halted_of x.debug.halted x.debug.resume_ack (ap sees_halted (sym (at_hart h now x b at is)) ∙ shown) }
 
 pub reveals_ack : (h : ℕ) (now : Seen) → sees_ack now ≡ true → Reveals h now GoAsked Unasked
 reveals_ack h now shown x b at is p =
-    record { no_halt = p.no_halt; no_resume = no_request x.debug.resume_request x.debug.resume_ack p.waits (ack_of x.debug.halted x.debug.resume_ack (ap sees_ack (sym (at_hart h now x b at is)) ∙ shown)) }
+    record { no_halt = p.no_halt; no_resume =
+        no_request x.debug.resume_request x.debug.resume_ack p.waits
+        (ack_of x.debug.halted x.debug.resume_ack (ap sees_ack (sym (at_hart h now x b at is)) ∙ shown)) }
 
 pub reveals_both : (h : ℕ) (now : Seen) → sees_both now ≡ true → Reveals h now GoAsked Stopped
 reveals_both h now shown x b at is p =
     let u : Unasked x.debug = reveals_ack h now (and_first (sees_ack now) (sees_halted now) shown) x b at is p in
-    record { no_halt = u.no_halt; no_resume = u.no_resume; halted = halted_of x.debug.halted x.debug.resume_ack (ap sees_halted (sym (at_hart h now x b at is)) ∙ and_second (sees_ack now) (sees_halted now) shown) }
+    record { no_halt = u.no_halt; no_resume = u.no_resume; halted =
+        halted_of x.debug.halted x.debug.resume_ack (ap sees_halted (sym (at_hart h now x b at is)) ∙ and_second (sees_ack now) (sees_halted now) shown) }
 
 -- ---- a hart that is there stays there
 
 there_looked : (h : ℕ) (now : Seen) (old new : Target) → Looked h now old new → HartExists h old.board → HartExists h new.board
 there_looked h now old new l is = there_pointed (Look h) h old new l.pointed is
 
-there_vain : (test : Seen → Bool) (h : ℕ) (old : Target) (n : ℕ) (last : Seen) (new : Target) → InVain test h old n last new → HartExists h old.board → HartExists h new.board
+there_vain : (test : Seen → Bool) (h : ℕ) (old : Target) (n : ℕ) (last : Seen) (new : Target) → InVain test h old n last new → HartExists h old.board
+    → HartExists h new.board
 there_vain test h old n last new InVain.none is = is
 there_vain test h old n last new (InVain.again k before now mid end v look shown) is = there_looked h now mid end look (there_vain test h old k before mid v is)
 
@@ -107,7 +113,8 @@ halt_met h small vain last all shown few s t can (m, did, rest) =
 pub halt_ran : (h : ℕ) → h < 2 ^ 10 → (vain : List ℕ) (last : ℕ) → All (ShowsNot sees_halted) vain → Shows sees_halted last → length vain < most_looks
     → (s t : Site) → CanRun h s → Ran ((asks Halt h ++ looks_until vain last) ++ asks Nothing h) s t → HaltRan h s t
 halt_ran h small vain last all shown few s t can ran =
-    let both : RanBoth (asks Halt h ++ looks_until vain last) (asks Nothing h) s t = ran_split (asks Halt h ++ looks_until vain last) (asks Nothing h) s t ran in
+    let both : RanBoth (asks Halt h ++ looks_until vain last) (asks Nothing h) s t =
+        ran_split (asks Halt h ++ looks_until vain last) (asks Nothing h) s t ran in
     let met : MetRan (HaltReq h) sees_halted HaltSeen h s both.mid = halt_met h small vain last all shown few s both.mid can both.first in
     let there : HartExists h both.mid.board = there_met (HaltReq h) sees_halted h (target_of s) (target_of both.mid) met.met can.there in
     let end : Site = both.second.0 in
@@ -120,13 +127,15 @@ halt_ran h small vain last all shown few s t can ran =
     } in
     subst (λ x. HaltRan h s x) (sym both.second.2) r
 
-pub halt_missed : (h : ℕ) → h < 2 ^ 10 → (front : List ℕ) (last : ℕ) → All (ShowsNot sees_halted) front → ShowsNot sees_halted last → length front + 1 ≡ most_looks
+pub halt_missed : (h : ℕ) → h < 2 ^ 10 → (front : List ℕ) (last : ℕ) → All (ShowsNot sees_halted) front → ShowsNot sees_halted last
+    → length front + 1 ≡ most_looks
     → (s t : Site) → CanRun h s → Ran (asks Halt h ++ looks_until front last) s t → MissedRan (HaltReq h) sees_halted HaltAsked h (seen_in last) s t
 halt_missed h small front last all not_shown count s t can (m, did, rest) =
     missed_ran (HaltReq h) sees_halted HaltAsked halt_asked_kept h s m t front last
     (moves_halt h (control_word Halt h) s m small (ready_between h s can.ready) can.there did) all not_shown count rest
 
-pub halt_request_cut : (h : ℕ) → h < 2 ^ 10 → (s e t : Site) → CanRun h s → Ran [] s e → SiteCut (Write dmcontrol_address (control_word Halt h)) e t → RunCutAs (HaltReq h) sees_halted h s t
+pub halt_request_cut : (h : ℕ) → h < 2 ^ 10 → (s e t : Site) → CanRun h s → Ran [] s e → SiteCut (Write dmcontrol_address (control_word Halt h)) e t
+    → RunCutAs (HaltReq h) sees_halted h s t
 halt_request_cut h small s e t can is cut =
     request_cut (HaltReq h) sees_halted h s t (cut_point (Write dmcontrol_address (control_word Halt h)) (HaltReq h) h s t can.ready.unit
     (halt_notes Unasked h s small (ready_between h s can.ready) can.there) (subst (λ x. SiteCut (Write dmcontrol_address (control_word Halt h)) x t) is cut))

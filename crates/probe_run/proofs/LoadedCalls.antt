@@ -21,7 +21,9 @@ use Rattle.probe_run.specs.Acts.Act.{Scanned, Put}
 use Rattle.probe_run.specs.Acts.Attempt.{Scan, Operation, Several}
 use Rattle.probe_run.specs.Happens.{target_of}
 use Rattle.probe_run.specs.Looks.{look_act}
-use Rattle.probe_run.specs.Opening.{ActivateBroke, BusBroke, IsDmiFault, bus_fits, commands_fit, is_active, module_fits, BusFits, CommandsFit, ConnectFails, LosesLoaded, Opened, OpenedChip, OpeningBroke, OpensLoaded, Then, UnopenedChip, UpToBus, UpToCommands, UpToModule, active_act, bus_acts, clears_cmderr, clears_sberror, commands_acts, starts_none, transport_fits}
+use Rattle.probe_run.specs.Opening.{ActivateBroke, BusBroke, IsDmiFault, bus_fits, commands_fit, is_active, module_fits, BusFits, CommandsFit, ConnectFails,
+    LosesLoaded, Opened, OpenedChip, OpeningBroke, OpensLoaded, Then, UnopenedChip, UpToBus, UpToCommands, UpToModule, active_act, bus_acts, clears_cmderr,
+    clears_sberror, commands_acts, starts_none, transport_fits}
 use Rattle.probe_run.specs.Opening.ActivateBroke.{at_first, at_read}
 use Rattle.probe_run.specs.Opening.BusBroke.{at_sbcs, at_sberror}
 use Rattle.probe_run.specs.Opening.OpeningBroke.{in_activation, in_bus, in_commands, in_module, in_transport}
@@ -31,8 +33,10 @@ use Rattle.probe_run.proofs.Between.{between_ready}
 use Rattle.probe_run.proofs.Calls.{CallRan}
 use Rattle.probe_run.proofs.Fresh.{Fresh, QuietUnit, Turns, cut_look, cut_went, fresh_deeds}
 use Rattle.probe_run.proofs.LoadedChip.{fresh_loaded}
-use Rattle.probe_run.proofs.LoadedOpening.{activates, active_quiet, active_unit, clears_auto, clears_bus, clears_commands, looks_at_first, opened_quiet, opened_ready, opened_unit, reads_bus, reads_commands, reads_control, reset_quiet}
-use Rattle.probe_run.proofs.LoadedSteps.{After, On, activated_on, after_on, bus_on, commands_on, module_after, on_after, on_on, opened_on, pointed_turns, transport_on, vain_activated}
+use Rattle.probe_run.proofs.LoadedOpening.{activates, active_quiet, active_unit, clears_auto, clears_bus, clears_commands, looks_at_first, opened_quiet,
+    opened_ready, opened_unit, reads_bus, reads_commands, reads_control, reset_quiet}
+use Rattle.probe_run.proofs.LoadedSteps.{After, On, activated_on, after_on, bus_on, commands_on, module_after, on_after, on_on, opened_on, pointed_turns,
+    transport_on, vain_activated}
 use Rattle.probe_run.proofs.Looking.{turns_pointed, turns_went}
 use Rattle.probe_run.proofs.QuietCuts.{Quietly, stopped_went}
 use Rattle.probe_run.proofs.QuietCuts.Quietly.{done, goes}
@@ -41,17 +45,22 @@ use Rattle.probe_run.proofs.Steps.{went_alone}
 
 -- ---- from far end to far end
 
-pub far_call : (acts : List Act) (E : Site → Site → Type 0) (m : Far) (mid new : Tells) → mid.far ≡ Some m → ((t : Site) → Ran acts (site_of m) t → E (site_of m) t) → Did mid acts new → CallRan E m new.far
-far_call acts E m mid new at leads d = let r : FarRan acts m new.far = far_ran mid m at acts new d in record { far = r.far; is = r.is; holds = leads (site_of r.far) r.ran }
+pub far_call : (acts : List Act) (E : Site → Site → Type 0) (m : Far) (mid new : Tells) → mid.far ≡ Some m
+    → ((t : Site) → Ran acts (site_of m) t → E (site_of m) t) → Did mid acts new → CallRan E m new.far
+far_call acts E m mid new at leads d = let r : FarRan acts m new.far = far_ran mid m at acts new d in
+    record { far = r.far; is = r.is; holds = leads (site_of r.far) r.ran }
 
-at_transport : (f : Far) (old mid : Tells) → old.far ≡ Some f → Fresh reset_module (site_of f) → (word : ℕ) → Did old (Scanned word ∷ []) mid → CallRan (λ s t. On reset_module s t × (transport_fits word ≡ true)) f mid.far
-at_transport f old mid at fresh word d = far_call (Scanned word ∷ []) (λ s t. On reset_module s t × (transport_fits word ≡ true)) f old mid at (λ t ran. transport_on word (site_of f) t fresh ran) d
+at_transport : (f : Far) (old mid : Tells) → old.far ≡ Some f → Fresh reset_module (site_of f) → (word : ℕ) → Did old (Scanned word ∷ []) mid
+    → CallRan (λ s t. On reset_module s t × (transport_fits word ≡ true)) f mid.far
+at_transport f old mid at fresh word d = far_call (Scanned word ∷ []) (λ s t. On reset_module s t × (transport_fits word ≡ true)) f old mid at
+    (λ t ran. transport_on word (site_of f) t fresh ran) d
 
 up_to_module : (f : Far) (old mid : Tells) → old.far ≡ Some f → Fresh reset_module (site_of f) → UpToModule old mid → CallRan (On active_unit) f mid.far
 up_to_module f old mid at fresh u =
     let a = at_transport f old u.mid at fresh u.first.0 u.first.1.did in
     let b : CallRan (On active_unit) a.far mid.far =
-    far_call _ (On active_unit) a.far u.mid mid a.is (λ t ran. (activated_on u.second.vain u.second.last (site_of a.far) t a.holds.0.fresh ran).0) u.second.did in
+    far_call _ (On active_unit) a.far u.mid mid a.is (λ t ran. (activated_on u.second.vain u.second.last (site_of a.far) t a.holds.0.fresh ran).0) u.second.did
+        in
     record { far = b.far; is = b.is; holds = on_on reset_module active_unit (site_of f) (site_of a.far) (site_of b.far) a.holds.0 b.holds }
 
 up_to_commands : (f : Far) (old mid : Tells) → old.far ≡ Some f → Fresh reset_module (site_of f) → UpToCommands old mid → CallRan (After active_unit) f mid.far
@@ -71,7 +80,8 @@ up_to_bus f old mid at fresh u =
 fit_bus : (f : Far) (old mid : Tells) → old.far ≡ Some f → Fresh reset_module (site_of f) → Then UpToBus BusFits old mid → CallRan (After active_unit) f mid.far
 fit_bus f old mid at fresh u =
     let a : CallRan (After active_unit) f u.mid.far = up_to_bus f old u.mid at fresh u.first in
-    let b : CallRan (On active_unit) a.far mid.far = far_call _ (On active_unit) a.far u.mid mid a.is (λ t ran. (bus_on u.second.0 (site_of a.far) t a.holds.fresh ran).0) u.second.1.did in
+    let b : CallRan (On active_unit) a.far mid.far =
+        far_call _ (On active_unit) a.far u.mid mid a.is (λ t ran. (bus_on u.second.0 (site_of a.far) t a.holds.fresh ran).0) u.second.1.did in
     record { far = b.far; is = b.is; holds = after_on active_unit active_unit (site_of f) (site_of a.far) (site_of b.far) a.holds b.holds }
 
 -- ---- Ok
@@ -81,8 +91,10 @@ fresh_ready t f = between_ready 0 t (record { unit = subst (λ m. ModuleReady m)
 
 opens : (f : Far) (old new : Tells) → old.far ≡ Some f → Fresh reset_module (site_of f) → Opened old new → OpenedChip f new.far
 opens f old new at fresh o =
-    let a : CallRan (After active_unit) f o.second.mid.far = fit_bus f old o.second.mid at fresh (record { mid = o.mid; first = o.first; second = o.second.first }) in
-    let b : CallRan (On opened_unit) a.far new.far = far_call _ (On opened_unit) a.far o.second.mid new a.is (λ t ran. opened_on (site_of a.far) t a.holds.fresh ran) o.second.second in
+    let a : CallRan (After active_unit) f o.second.mid.far =
+        fit_bus f old o.second.mid at fresh (record { mid = o.mid; first = o.first; second = o.second.first }) in
+    let b : CallRan (On opened_unit) a.far new.far =
+        far_call _ (On opened_unit) a.far o.second.mid new a.is (λ t ran. opened_on (site_of a.far) t a.holds.fresh ran) o.second.second in
     record {
       far = b.far;
       is = b.is;
@@ -104,7 +116,8 @@ refused : (A : Type 0) (b : Bool) → b ≡ true → b ≡ false → A
 refused A b yes_ no_ = absurd (false≢true (sym no_ ∙ yes_))
 
 -- an operation behind these calls that notes nothing, before the Look and behind it
-cut_before : (acts : List Act) (op : DmiOp) (u v w : DebugModule) (f m : Far) (mid : Tells) (old_count new_count : ℕ) (new : Option Far) (fault : DmiFault) → QuietUnit v → QuietUnit w → Turns op v w [] → On u (site_of f) (site_of m) → mid.far ≡ Some m
+cut_before : (acts : List Act) (op : DmiOp) (u v w : DebugModule) (f m : Far) (mid : Tells) (old_count new_count : ℕ) (new : Option Far) (fault : DmiFault)
+    → QuietUnit v → QuietUnit w → Turns op v w [] → On u (site_of f) (site_of m) → mid.far ≡ Some m
     → ((t : Site) → Ran acts (site_of m) t → On v (site_of m) t) → Broke acts (Operation op) old_count new_count mid new fault → UnopenedChip f new
 cut_before acts op u v w f m mid old_count new_count new fault q q' leads on at behind b =
     let r : FarRan acts m b.mid.far = far_ran mid m at acts b.mid b.did in
@@ -114,10 +127,12 @@ cut_before acts op u v w f m mid old_count new_count new fault q q' leads on at 
     record {
       far = c.far;
       is = c.is;
-      happened = Cut.before (turns_went (target_of (site_of f)) (target_of (site_of m)) (target_of (site_of c.far)) on.went (turns_went (target_of (site_of m)) (target_of (site_of r.far)) (target_of (site_of c.far)) o.went g));
+      happened = Cut.before (turns_went (target_of (site_of f)) (target_of (site_of m)) (target_of (site_of c.far)) on.went
+          (turns_went (target_of (site_of m)) (target_of (site_of r.far)) (target_of (site_of c.far)) o.went g));
     }
 
-cut_after : (acts : List Act) (op : DmiOp) (v w : DebugModule) (f m : Far) (mid : Tells) (old_count new_count : ℕ) (new : Option Far) (fault : DmiFault) → QuietUnit v → QuietUnit w → Turns op v w [] → After v (site_of f) (site_of m) → mid.far ≡ Some m
+cut_after : (acts : List Act) (op : DmiOp) (v w : DebugModule) (f m : Far) (mid : Tells) (old_count new_count : ℕ) (new : Option Far) (fault : DmiFault)
+    → QuietUnit v → QuietUnit w → Turns op v w [] → After v (site_of f) (site_of m) → mid.far ≡ Some m
     → ((t : Site) → Ran acts (site_of m) t → On v (site_of m) t) → Broke acts (Operation op) old_count new_count mid new fault → UnopenedChip f new
 cut_after acts op v w f m mid old_count new_count new fault q q' leads after at behind b =
     let r : FarRan acts m b.mid.far = far_ran mid m at acts b.mid b.did in
@@ -127,7 +142,8 @@ cut_after acts op v w f m mid old_count new_count new fault q q' leads after at 
     record {
       far = c.far;
       is = c.is;
-      happened = Cut.behind (pointed_turns (target_of (site_of f)) (target_of (site_of m)) (target_of (site_of c.far)) after.pointed (turns_went (target_of (site_of m)) (target_of (site_of r.far)) (target_of (site_of c.far)) o.went g));
+      happened = Cut.behind (pointed_turns (target_of (site_of f)) (target_of (site_of m)) (target_of (site_of c.far)) after.pointed
+          (turns_went (target_of (site_of m)) (target_of (site_of r.far)) (target_of (site_of c.far)) o.went g));
     }
 
 -- and several in one call
@@ -136,46 +152,57 @@ pub record SeveralCut (m : Far) (new : Option Far) : Type 0 where
   pub is : new ≡ Some far
   pub went : WentOn (target_of (site_of m)) (target_of (site_of far))
 
-several_cut : (op : DmiOp) (ops : List DmiOp) (u : DebugModule) (m : Far) (mid : Tells) (old_count new_count : ℕ) (new : Option Far) (fault : DmiFault) → Quietly (op ∷ ops) u → Fresh u (site_of m) → mid.far ≡ Some m
+several_cut : (op : DmiOp) (ops : List DmiOp) (u : DebugModule) (m : Far) (mid : Tells) (old_count new_count : ℕ) (new : Option Far) (fault : DmiFault)
+    → Quietly (op ∷ ops) u → Fresh u (site_of m) → mid.far ≡ Some m
     → Broke [] (Several op ops) old_count new_count mid new fault → SeveralCut m new
 several_cut op ops u m mid old_count new_count new fault quiet fresh at b =
     let r : FarRan [] m b.mid.far = far_ran mid m at [] b.mid b.did in
     let c : OperationsCut (op ∷ ops) r.far.live.chip new = where_told (OperationsCut (op ∷ ops)) b.mid.far new r.far r.is b.cut in
-    let path : SitePath (site_of m) (c.done ++ performed c.happened) (site_of c.far) = subst (λ x. SitePath x (c.done ++ performed c.happened) (site_of c.far)) r.ran c.site in
+    let path : SitePath (site_of m) (c.done ++ performed c.happened) (site_of c.far) =
+        subst (λ x. SitePath x (c.done ++ performed c.happened) (site_of c.far)) r.ran c.site in
     let st : StoppedAt (op ∷ ops) (site_of m) (site_of c.far) = stopped_at op ops c.done c.rest c.happened (site_of m) (site_of c.far) c.asked c.once path in
-    record { far = c.far; is = c.is; went = stopped_went st.done st.op st.left (op ∷ ops) u (site_of m) st.mid (site_of c.far) quiet fresh st.asked st.before st.cut }
+    record { far = c.far; is = c.is; went = stopped_went st.done st.op st.left (op ∷ ops) u (site_of m) st.mid (site_of c.far) quiet fresh st.asked st.before
+        st.cut }
 
-several_before : (op : DmiOp) (ops : List DmiOp) (u : DebugModule) (f m : Far) (mid : Tells) (old_count new_count : ℕ) (new : Option Far) (fault : DmiFault) → Quietly (op ∷ ops) u → On u (site_of f) (site_of m) → mid.far ≡ Some m
+several_before : (op : DmiOp) (ops : List DmiOp) (u : DebugModule) (f m : Far) (mid : Tells) (old_count new_count : ℕ) (new : Option Far) (fault : DmiFault)
+    → Quietly (op ∷ ops) u → On u (site_of f) (site_of m) → mid.far ≡ Some m
     → Broke [] (Several op ops) old_count new_count mid new fault → UnopenedChip f new
 several_before op ops u f m mid old_count new_count new fault quiet on at b =
     let c : SeveralCut m new = several_cut op ops u m mid old_count new_count new fault quiet on.fresh at b in
-    record { far = c.far; is = c.is; happened = Cut.before (turns_went (target_of (site_of f)) (target_of (site_of m)) (target_of (site_of c.far)) on.went c.went) }
+    record { far = c.far; is = c.is; happened =
+        Cut.before (turns_went (target_of (site_of f)) (target_of (site_of m)) (target_of (site_of c.far)) on.went c.went) }
 
-several_after : (op : DmiOp) (ops : List DmiOp) (u : DebugModule) (f m : Far) (mid : Tells) (old_count new_count : ℕ) (new : Option Far) (fault : DmiFault) → Quietly (op ∷ ops) u → After u (site_of f) (site_of m) → mid.far ≡ Some m
+several_after : (op : DmiOp) (ops : List DmiOp) (u : DebugModule) (f m : Far) (mid : Tells) (old_count new_count : ℕ) (new : Option Far) (fault : DmiFault)
+    → Quietly (op ∷ ops) u → After u (site_of f) (site_of m) → mid.far ≡ Some m
     → Broke [] (Several op ops) old_count new_count mid new fault → UnopenedChip f new
 several_after op ops u f m mid old_count new_count new fault quiet after at b =
     let c : SeveralCut m new = several_cut op ops u m mid old_count new_count new fault quiet after.fresh at b in
-    record { far = c.far; is = c.is; happened = Cut.behind (pointed_turns (target_of (site_of f)) (target_of (site_of m)) (target_of (site_of c.far)) after.pointed c.went) }
+    record { far = c.far; is = c.is; happened =
+        Cut.behind (pointed_turns (target_of (site_of f)) (target_of (site_of m)) (target_of (site_of c.far)) after.pointed c.went) }
 
 -- dmactive is written, and dmcontrol read
 first_quietly : Quietly (Write dmcontrol_address (control_word Nothing 0) ∷ Read dmcontrol_address ∷ []) reset_module
-first_quietly = goes _ _ reset_module active_unit reset_quiet activates (goes _ _ active_unit active_unit active_quiet (reads_control active_unit) (done active_unit active_quiet))
+first_quietly = goes _ _ reset_module active_unit reset_quiet activates
+    (goes _ _ active_unit active_unit active_quiet (reads_control active_unit) (done active_unit active_quiet))
 
 -- the errors of commands are cleared, and sbcs is read
 bus_quietly : Quietly (Write abstractcs_address clears_cmderr ∷ Write abstractauto_address starts_none ∷ Read sbcs_address ∷ []) active_unit
 bus_quietly =
     goes _ _ active_unit active_unit active_quiet clears_commands
-    (goes _ _ active_unit active_unit active_quiet clears_auto (goes _ _ active_unit active_unit active_quiet (reads_bus active_unit) (done active_unit active_quiet)))
+    (goes _ _ active_unit active_unit active_quiet clears_auto
+        (goes _ _ active_unit active_unit active_quiet (reads_bus active_unit) (done active_unit active_quiet)))
 
 stays_on : (v : DebugModule) (s t : Site) → Fresh v s → Ran [] s t → On v s t
 stays_on v s t f is = subst (λ x. On v s x) (sym is) (record { fresh = f; went = record { harts = []; board = refl; journal = sym (append-nil s.journal) } })
 
-scan_cut : (f : Far) (old : Tells) (old_count new_count : ℕ) (new : Option Far) (fault : DmiFault) → old.far ≡ Some f → Fresh reset_module (site_of f) → Broke [] Scan old_count new_count old new fault → UnopenedChip f new
+scan_cut : (f : Far) (old : Tells) (old_count new_count : ℕ) (new : Option Far) (fault : DmiFault) → old.far ≡ Some f → Fresh reset_module (site_of f)
+    → Broke [] Scan old_count new_count old new fault → UnopenedChip f new
 scan_cut f old old_count new_count new fault at fresh b =
     let r : FarRan [] f b.mid.far = far_ran old f at [] b.mid b.did in
     let c : NoneOperated r.far.live.chip new = where_told NoneOperated b.mid.far new r.far r.is b.cut in
     let same : Fresh reset_module (site_of r.far) = subst (λ x. Fresh reset_module x) (sym r.ran) fresh in
-    let g : WentOn (target_of (site_of r.far)) (target_of (site_of c.far)) = went_alone (site_of r.far) (site_of c.far) (fresh_deeds reset_module (site_of r.far) (site_of c.far) reset_quiet same c.site) in
+    let g : WentOn (target_of (site_of r.far)) (target_of (site_of c.far)) =
+        went_alone (site_of r.far) (site_of c.far) (fresh_deeds reset_module (site_of r.far) (site_of c.far) reset_quiet same c.site) in
     record { far = c.far; is = c.is; happened = Cut.before (subst (λ (x : Site). WentOn (target_of x) (target_of (site_of c.far))) r.ran g) }
 
 look_cut : (f m : Far) (mid : Tells) (old_count new_count : ℕ) (new : Option Far) (fault : DmiFault) → On active_unit (site_of f) (site_of m) → mid.far ≡ Some m
@@ -198,58 +225,70 @@ look_cut f m mid old_count new_count new fault on at b =
 starts_on : (f : Far) → Fresh reset_module (site_of f) → On reset_module (site_of f) (site_of f)
 starts_on f fresh = stays_on reset_module (site_of f) (site_of f) fresh refl
 
-opening_cut : (f : Far) (old new : Tells) (old_count new_count : ℕ) (fault : DmiFault) → old.far ≡ Some f → Fresh reset_module (site_of f) → OpeningBroke old_count new_count old new fault → UnopenedChip f new.far
+opening_cut : (f : Far) (old new : Tells) (old_count new_count : ℕ) (fault : DmiFault) → old.far ≡ Some f → Fresh reset_module (site_of f)
+    → OpeningBroke old_count new_count old new fault → UnopenedChip f new.far
 opening_cut f old new old_count new_count fault at fresh (in_transport b) = scan_cut f old old_count new_count new.far fault at fresh b
 opening_cut f old new old_count new_count fault at fresh (in_activation b) = by_activation b.failed
   where
     by_activation : ActivateBroke old_count new_count b.mid new.far fault → UnopenedChip f new.far
     by_activation (at_first w) =
         let a = at_transport f old b.mid at fresh b.first.0 b.first.1.did in
-        several_before (Write dmcontrol_address (control_word Nothing 0)) (Read dmcontrol_address ∷ []) reset_module f a.far b.mid old_count new_count new.far fault first_quietly a.holds.0 a.is w
+        several_before (Write dmcontrol_address (control_word Nothing 0)) (Read dmcontrol_address ∷ []) reset_module f a.far b.mid old_count new_count new.far
+            fault first_quietly a.holds.0 a.is w
     by_activation (at_read w) =
         let a = at_transport f old b.mid at fresh b.first.0 b.first.1.did in
-        cut_before (asks Nothing 0 ++ map active_act w.vain) (Read dmcontrol_address) reset_module active_unit active_unit f a.far b.mid old_count new_count new.far fault active_quiet active_quiet (reads_control active_unit) a.holds.0 a.is
+        cut_before (asks Nothing 0 ++ map active_act w.vain) (Read dmcontrol_address) reset_module active_unit active_unit f a.far b.mid old_count new_count
+            new.far fault active_quiet active_quiet (reads_control active_unit) a.holds.0 a.is
         (λ t ran. vain_activated w.vain (site_of a.far) t a.holds.0.fresh ran) w.broke
 opening_cut f old new old_count new_count fault at fresh (in_module b) =
     let a : CallRan (On active_unit) f b.mid.far = up_to_module f old b.mid at fresh b.first in
     look_cut f a.far b.mid old_count new_count new.far fault a.holds a.is b.failed
 opening_cut f old new old_count new_count fault at fresh (in_commands b) =
     let a : CallRan (After active_unit) f b.mid.far = up_to_commands f old b.mid at fresh b.first in
-    cut_after [] (Read abstractcs_address) active_unit active_unit f a.far b.mid old_count new_count new.far fault active_quiet active_quiet (reads_commands active_unit) a.holds a.is
+    cut_after [] (Read abstractcs_address) active_unit active_unit f a.far b.mid old_count new_count new.far fault active_quiet active_quiet
+        (reads_commands active_unit) a.holds a.is
     (λ t ran. stays_on active_unit (site_of a.far) t a.holds.fresh ran) b.failed
 opening_cut f old new old_count new_count fault at fresh (in_bus b) = by_bus b.failed
   where
     by_bus : BusBroke old_count new_count b.mid new.far fault → UnopenedChip f new.far
     by_bus (at_sbcs w) =
         let a : CallRan (After active_unit) f b.mid.far = up_to_bus f old b.mid at fresh b.first in
-        several_after (Write abstractcs_address clears_cmderr) (Write abstractauto_address starts_none ∷ Read sbcs_address ∷ []) active_unit f a.far b.mid old_count new_count new.far fault bus_quietly a.holds a.is w
+        several_after (Write abstractcs_address clears_cmderr) (Write abstractauto_address starts_none ∷ Read sbcs_address ∷ []) active_unit f a.far b.mid
+            old_count new_count new.far fault bus_quietly a.holds a.is w
     by_bus (at_sberror w) =
         let a : CallRan (After active_unit) f w.mid.far = fit_bus f old w.mid at fresh (record { mid = b.mid; first = b.first; second = w.first }) in
-        cut_after [] (Write sbcs_address clears_sberror) active_unit opened_unit f a.far w.mid old_count new_count new.far fault active_quiet opened_quiet clears_bus a.holds a.is
+        cut_after [] (Write sbcs_address clears_sberror) active_unit opened_unit f a.far w.mid old_count new_count new.far fault active_quiet opened_quiet
+            clears_bus a.holds a.is
         (λ t ran. stays_on active_unit (site_of a.far) t a.holds.fresh ran) w.broke
 
-loses : (f : Far) (old new : Tells) (old_count new_count : ℕ) (e : ConnectFault) → old.far ≡ Some f → Fresh reset_module (site_of f) → ConnectFails old_count new_count old new e → IsDmiFault e × UnopenedChip f new.far
+loses : (f : Far) (old new : Tells) (old_count new_count : ℕ) (e : ConnectFault) → old.far ≡ Some f → Fresh reset_module (site_of f)
+    → ConnectFails old_count new_count old new e → IsDmiFault e × UnopenedChip f new.far
 loses f old new old_count new_count (Dtm word) at fresh r =
     let a = at_transport f old new at fresh word r.did in refused _ (transport_fits word) a.holds.1 r.tested
 loses f old new old_count new_count (Module word true) at fresh r =
     let a = at_transport f old r.mid at fresh r.first.0 r.first.1.did in
-    let b = far_call (asks Nothing 0 ++ (map active_act r.second.front ++ active_act word ∷ [])) (λ s t. On active_unit s t × (is_active word ≡ true)) a.far r.mid new a.is (λ t ran. activated_on r.second.front word (site_of a.far) t a.holds.0.fresh ran) r.second.did in
+    let b = far_call (asks Nothing 0 ++ (map active_act r.second.front ++ active_act word ∷ [])) (λ s t. On active_unit s t × (is_active word ≡ true)) a.far
+        r.mid new a.is (λ t ran. activated_on r.second.front word (site_of a.far) t a.holds.0.fresh ran) r.second.did in
     refused _ (is_active word) b.holds.1 r.second.inactive
 loses f old new old_count new_count (Module word false) at fresh r =
     let a : CallRan (On active_unit) f r.mid.far = up_to_module f old r.mid at fresh r.first in
-    let b = far_call (look_act word ∷ []) (λ s t. After active_unit s t × (module_fits word ≡ true)) a.far r.mid new a.is (λ t ran. module_after word (site_of a.far) t a.holds.fresh ran) r.second.did in
+    let b = far_call (look_act word ∷ []) (λ s t. After active_unit s t × (module_fits word ≡ true)) a.far r.mid new a.is
+        (λ t ran. module_after word (site_of a.far) t a.holds.fresh ran) r.second.did in
     refused _ (module_fits word) b.holds.1 r.second.tested
 loses f old new old_count new_count (Abstract word) at fresh r =
     let a : CallRan (After active_unit) f r.mid.far = up_to_commands f old r.mid at fresh r.first in
-    let b = far_call (commands_acts word) (λ s t. On active_unit s t × (commands_fit word ≡ true)) a.far r.mid new a.is (λ t ran. commands_on word (site_of a.far) t a.holds.fresh ran) r.second.did in
+    let b = far_call (commands_acts word) (λ s t. On active_unit s t × (commands_fit word ≡ true)) a.far r.mid new a.is
+        (λ t ran. commands_on word (site_of a.far) t a.holds.fresh ran) r.second.did in
     refused _ (commands_fit word) b.holds.1 r.second.tested
 loses f old new old_count new_count (Bus word) at fresh r =
     let a : CallRan (After active_unit) f r.mid.far = up_to_bus f old r.mid at fresh r.first in
-    let b = far_call (bus_acts word) (λ s t. On active_unit s t × (bus_fits word ≡ true)) a.far r.mid new a.is (λ t ran. bus_on word (site_of a.far) t a.holds.fresh ran) r.second.did in
+    let b = far_call (bus_acts word) (λ s t. On active_unit s t × (bus_fits word ≡ true)) a.far r.mid new a.is
+        (λ t ran. bus_on word (site_of a.far) t a.holds.fresh ran) r.second.did in
     refused _ (bus_fits word) b.holds.1 r.second.tested
 loses f old new old_count new_count (Dmi fault) at fresh r = (tt, opening_cut f old new old_count new_count fault at fresh r)
 
-loses_by : (old new : Tells) (told : Option Far) (old_count new_count : ℕ) (e : ConnectFault) → old.far ≡ told → ConnectFails old_count new_count old new e → LosesLoaded told new.far e
+loses_by : (old new : Tells) (told : Option Far) (old_count new_count : ℕ) (e : ConnectFault) → old.far ≡ told → ConnectFails old_count new_count old new e
+    → LosesLoaded told new.far e
 loses_by old new None old_count new_count e at r = tt
 loses_by old new (Some f) old_count new_count e at r = λ loaded. loses f old new old_count new_count e at (fresh_loaded f loaded) r
 

@@ -1,5 +1,6 @@
 -- A chip as it was loaded: its module is reset, nothing is asked of its harts, and all its numbers are within their widths.
-use Rattle.std.proofs.Common.{◌≡◌, ◌∙◌, ◌++◌, ◌+◌, ◌<◌, ◌≤◌, ◌^◌, ◌==◌, ℕ, zero, suc, List, [], ◌∷◌, length, replicate, get_or, All, Bool, true, false, cond, Option, Some, slice_get, refl, sym, ap, subst, arith, append-nil}
+use Rattle.std.proofs.Common.{◌≡◌, ◌∙◌, ◌++◌, ◌+◌, ◌<◌, ◌≤◌, ◌^◌, ◌==◌, ℕ, zero, suc, List, [], ◌∷◌, length, replicate, get_or, All, Bool, true, false, cond,
+    Option, Some, slice_get, refl, sym, ap, subst, arith, append-nil}
 use Rattle.std.specs.Cmp.{nat_cmp_total}
 use Rattle.std.specs.FinMap as map
 use Rattle.std.specs.FinMap.{entries, get, get-entries, get-from_entries}
@@ -78,7 +79,8 @@ at_end P (z ∷ zs) y n each last (suc j) x is =
     let shift : (n + 1) + j ≡ n + suc j = omega arith in
     let over : n + suc (length zs) ≡ (n + 1) + length zs = omega arith in
     subst (λ k. P k x) shift
-    (at_end P zs y (n + 1) (λ i w at. let e : n + suc i ≡ (n + 1) + i = omega arith in subst (λ k. P k w) e (each (suc i) w at)) (subst (λ k. P k y) over last) j x is)
+    (at_end P zs y (n + 1) (λ i w at. let e : n + suc i ≡ (n + 1) + i = omega arith in subst (λ k. P k w) e (each (suc i) w at)) (subst (λ k. P k y) over last)
+        j x is)
 
 length_end : (xs : List Hart) (y : Hart) → length (xs ++ y ∷ []) ≡ suc (length xs)
 length_end [] y = refl
@@ -105,7 +107,8 @@ found_by : (b : Bool) (x : ℕ) (o : Option ℕ) (v : ℕ) → x < 256 → (o �
 found_by true x o v small later is = let e : x ≡ v = same_Some x v is in omega arith
 found_by false x o v small later is = later is
 
-found_small : (xs : List ℕ) (n q v : ℕ) (es : List (ℕ × ℕ)) → All (λ b. b < 256) xs → (map.find nat_cmp q es ≡ Some v → v < 256) → map.find nat_cmp q (enumerate_from n xs ++ es) ≡ Some v → v < 256
+found_small : (xs : List ℕ) (n q v : ℕ) (es : List (ℕ × ℕ)) → All (λ b. b < 256) xs → (map.find nat_cmp q es ≡ Some v → v < 256)
+    → map.find nat_cmp q (enumerate_from n xs ++ es) ≡ Some v → v < 256
 found_small [] n q v es all later is = later is
 found_small (x ∷ xs) n q v es all later is =
     found_by (eq_by_cmp nat_cmp q n) x _ v (All-head (λ b. b < 256) x xs all) (λ e. found_small xs (n + 1) q v es (All-tail (λ b. b < 256) x xs all) later e) is
@@ -118,7 +121,8 @@ zeros_ready : (ram q v : ℕ) → get (map_of (replicate ram 0)) q ≡ Some v �
 unfolding map_of
 zeros_ready ram q v is =
     found_small (replicate ram 0) ram_base q v [] (all_zeros ram) (λ e. absurd (none-some v e))
-    (ap (map.find nat_cmp q) (append-nil (enumerate_from ram_base (replicate ram 0))) ∙ sym (get-from_entries nat_cmp_total (enumerate_from ram_base (replicate ram 0)) q) ∙ is)
+    (ap (map.find nat_cmp q) (append-nil (enumerate_from ram_base (replicate ram 0)))
+        ∙ sym (get-from_entries nat_cmp_total (enumerate_from ram_base (replicate ram 0)) q) ∙ is)
 
 image_ready : (image : List ℕ) (ram : ℕ) → All (λ b. b < 256) image → MemoryReady (loaded_memory image ram)
 unfolding with_image
@@ -129,7 +133,8 @@ image_ready image ram all q v is =
 
 -- ---- the chip
 
-loaded_fresh : (image : List ℕ) (harts ram : ℕ) (halted : Option Cause) → harts ≤ 4 → All (λ b. b < 256) image → Fresh reset_module (record { unit = reset_module; board = loaded_board image harts ram halted; journal = [] })
+loaded_fresh : (image : List ℕ) (harts ram : ℕ) (halted : Option Cause) → harts ≤ 4 → All (λ b. b < 256) image
+    → Fresh reset_module (record { unit = reset_module; board = loaded_board image harts ram halted; journal = [] })
 loaded_fresh image harts ram halted most all = record {
   unit = refl;
   wide = record { harts = λ j x is. reset_hart_wide j x (each_reset harts halted most j x is); memory = image_ready image ram all };

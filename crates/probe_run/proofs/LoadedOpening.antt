@@ -7,7 +7,8 @@ use Rattle.debug_model.specs.declared.point.Point.TheVariants.{Look}
 use Rattle.debug_model.specs.Commands.{abstractauto_written, abstractcs_written}
 use Rattle.debug_model.specs.Dmi.{value_of}
 use Rattle.debug_model.specs.Journal.{after_journal}
-use Rattle.debug_model.specs.Module.{DebugModule, Site, acknowledged, asked, control_points, controlled_by, noted, operated, register_at, reset_module, result_by, result_of}
+use Rattle.debug_model.specs.Module.{DebugModule, Site, acknowledged, asked, control_points, controlled_by, noted, operated, register_at, reset_module,
+    result_by, result_of}
 use Rattle.debug_model.specs.SystemBus.{reset_bus, sbcs_written}
 use Rattle.debug_model.specs.Told.{ModuleReady}
 use Rattle.chip_laws.proofs.ModuleLemmas.{plain_reads}
@@ -86,7 +87,8 @@ looks_at_first x f =
     (ap (λ (m : DebugModule). x.journal ++ Look m.hartsel ∷ []) f.unit)
 
 -- a write that changes the unit alone
-unit_by : (b : Bool) (x : Site) (m : DebugModule) → (let s : Site = if b then record x { unit = m } else x in s) ≡ record { unit = if b then m else x.unit; board = x.board; journal = x.journal }
+unit_by : (b : Bool) (x : Site) (m : DebugModule)
+    → (let s : Site = if b then record x { unit = m } else x in s) ≡ record { unit = if b then m else x.unit; board = x.board; journal = x.journal }
 unit_by true x m = refl
 unit_by false x m = refl
 
@@ -95,14 +97,16 @@ unfolding register_at
 clears_commands x f =
     unit_by x.unit.active x (record x.unit { commands = abstractcs_written clears_cmderr x.unit.commands })
     ∙ same_site _ (record { unit = active_unit; board = x.board; journal = x.journal ++ [] })
-    (ap (λ (m : DebugModule). if m.active then record m { commands = abstractcs_written clears_cmderr m.commands } else m) f.unit) refl (sym (append-nil x.journal))
+    (ap (λ (m : DebugModule). if m.active then record m { commands = abstractcs_written clears_cmderr m.commands } else m) f.unit) refl
+        (sym (append-nil x.journal))
 
 pub clears_auto : Turns (Write abstractauto_address starts_none) active_unit active_unit []
 unfolding register_at
 clears_auto x f =
     unit_by x.unit.active x (record x.unit { commands = abstractauto_written starts_none x.unit.commands })
     ∙ same_site _ (record { unit = active_unit; board = x.board; journal = x.journal ++ [] })
-    (ap (λ (m : DebugModule). if m.active then record m { commands = abstractauto_written starts_none m.commands } else m) f.unit) refl (sym (append-nil x.journal))
+    (ap (λ (m : DebugModule). if m.active then record m { commands = abstractauto_written starts_none m.commands } else m) f.unit) refl
+        (sym (append-nil x.journal))
 
 pub clears_bus : Turns (Write sbcs_address clears_sberror) active_unit opened_unit []
 unfolding register_at

@@ -1,5 +1,6 @@
 -- The steps of an opening at the site of a chip as it was loaded.
-use Rattle.std.proofs.Common.{◌≡◌, ◌∙◌, ◌++◌, ℕ, List, [], ◌∷◌, map, Bool, true, false, Option, Some, None, is_some, slice_get, refl, sym, ap, subst, append_assoc, append-nil, if◌then◌else◌}
+use Rattle.std.proofs.Common.{◌≡◌, ◌∙◌, ◌++◌, ℕ, List, [], ◌∷◌, map, Bool, true, false, Option, Some, None, is_some, slice_get, refl, sym, ap, subst,
+    append_assoc, append-nil, if◌then◌else◌}
 use Rattle.rv_model.specs.declared.cause.Cause.{Cause}
 use Rattle.rv_model.specs.Board.{Hart}
 use Rattle.debug_model.specs.Addresses.{dmcontrol_address, dmstatus_address, abstractcs_address, abstractauto_address, sbcs_address}
@@ -18,12 +19,14 @@ use Rattle.probe_run.specs.declared.control.Request.TheVariants.{Nothing}
 use Rattle.probe_run.specs.Acts.Act.{Scanned, Put}
 use Rattle.probe_run.specs.Happens.{target_of}
 use Rattle.probe_run.specs.Looks.{look_act}
-use Rattle.probe_run.specs.Opening.{active_act, bus_acts, bus_fits, clears_cmderr, clears_sberror, commands_acts, commands_fit, is_active, module_fits, starts_none, transport_fits}
+use Rattle.probe_run.specs.Opening.{active_act, bus_acts, bus_fits, clears_cmderr, clears_sberror, commands_acts, commands_fit, is_active, module_fits,
+    starts_none, transport_fits}
 use Rattle.probe_run.specs.Outcomes.{asks}
 use Rattle.probe_run.specs.Requests.{control_word}
 use Rattle.probe_run.specs.Sites.{TurnsAlone, spun}
 use Rattle.probe_run.proofs.Fresh.{Fresh, QuietUnit, Turns, Went, fresh_along, fresh_deeds, went, went_look, went_on}
-use Rattle.probe_run.proofs.LoadedOpening.{activates, active_quiet, active_unit, clears_auto, clears_bus, clears_commands, looks_at_first, opened_quiet, opened_unit, reads_bus, reads_commands, reads_control, reset_quiet, shows_active, shows_bus, shows_commands}
+use Rattle.probe_run.proofs.LoadedOpening.{activates, active_quiet, active_unit, clears_auto, clears_bus, clears_commands, looks_at_first, opened_quiet,
+    opened_unit, reads_bus, reads_commands, reads_control, reset_quiet, shows_active, shows_bus, shows_commands}
 use Rattle.probe_run.proofs.Looking.{turns_pointed, turns_went}
 use Rattle.probe_run.proofs.RanLemmas.{OperatedAt, Ran}
 use Rattle.probe_run.proofs.Steps.{went_alone}
@@ -49,7 +52,8 @@ pointed_turns old mid new p w = record {
   before = p.before;
   behind = p.behind ++ w.harts;
   board = w.board ∙ ap (after_turns w.harts) p.board ∙ sym (after_turns-append p.behind w.harts (after_turns p.before old.board));
-  journal = w.journal ∙ ap (λ (j : List Point). j ++ turns w.harts) p.journal ∙ append_assoc (old.journal ++ turns p.before) (Look 0 ∷ turns p.behind) (turns w.harts)
+  journal = w.journal ∙ ap (λ (j : List Point). j ++ turns w.harts) p.journal
+      ∙ append_assoc (old.journal ++ turns p.before) (Look 0 ∷ turns p.behind) (turns w.harts)
       ∙ ap (λ (j : List Point). (old.journal ++ turns p.before) ++ Look 0 ∷ j) (sym (turns-append p.behind w.harts));
 }
 
@@ -58,17 +62,22 @@ after_on u v s m t a b = record { fresh = b.fresh; pointed = pointed_turns (targ
 
 -- ---- one operation
 
-pub op_on : (op : DmiOp) (word : ℕ) (u v : DebugModule) (s t : Site) → QuietUnit u → QuietUnit v → Turns op u v [] → Fresh u s → OperatedAt op word s t → On v s t
-op_on op word u v s t q q' leads f o = let w : Went op o.result v [] s t = went op o.result u v [] s t q q' leads f o.one in record { fresh = w.fresh; went = went_on op o.result v s t w }
+pub op_on : (op : DmiOp) (word : ℕ) (u v : DebugModule) (s t : Site) → QuietUnit u → QuietUnit v → Turns op u v [] → Fresh u s → OperatedAt op word s t
+    → On v s t
+op_on op word u v s t q q' leads f o = let w : Went op o.result v [] s t = went op o.result u v [] s t q q' leads f o.one in
+    record { fresh = w.fresh; went = went_on op o.result v s t w }
 
 -- what a read shows
-read_shows : (a word : ℕ) (u : DebugModule) (ps : List Point) (test : ℕ → Bool) (s t : Site) → QuietUnit u → Turns (Read a) u u ps → ((x : Site) → x.unit ≡ u → test (value_of (result_of a x)) ≡ true) → Fresh u s → OperatedAt (Read a) word s t
+read_shows : (a word : ℕ) (u : DebugModule) (ps : List Point) (test : ℕ → Bool) (s t : Site) → QuietUnit u → Turns (Read a) u u ps
+    → ((x : Site) → x.unit ≡ u → test (value_of (result_of a x)) ≡ true) → Fresh u s → OperatedAt (Read a) word s t
     → test word ≡ true
 read_shows a word u ps test s t q leads shows f o =
     let w : Went (Read a) o.result u ps s t = went (Read a) o.result u u ps s t q q leads f o.one in
     ap test (o.word_is ∙ ap value_of w.amid.result_is) ∙ shows (spun w.amid.amid.before s) f.unit
 
-status_fits : (reset ack : Bool) (halted : Option Cause) → module_fits (value_of (dmstatus_word (record { havereset = reset; resumeack = ack; nonexistent = false; running = if is_some halted then false else true; halted = is_some halted; authenticated = true; version = module_version }))) ≡ true
+status_fits : (reset ack : Bool) (halted : Option Cause)
+    → module_fits (value_of (dmstatus_word (record { havereset = reset; resumeack = ack; nonexistent = false; running = if is_some halted then false else true;
+    halted = is_some halted; authenticated = true; version = module_version }))) ≡ true
 status_fits true true (Some why) = refl
 status_fits true true None = refl
 status_fits true false (Some why) = refl
@@ -96,7 +105,8 @@ transport_on word s t f (m, scanned, is) =
     let a : TurnsAlone s m = fresh_deeds reset_module s m reset_quiet f scanned.deeds in
     (on_moved reset_module s m t is (record { fresh = fresh_along reset_module s m f a; went = went_alone s m a }), ap transport_fits scanned.value_is)
 
-reads_on : (vain : List ℕ) (last : ℕ) (s t : Site) → Fresh active_unit s → Ran (map active_act vain ++ active_act last ∷ []) s t → On active_unit s t × (is_active last ≡ true)
+reads_on : (vain : List ℕ) (last : ℕ) (s t : Site) → Fresh active_unit s → Ran (map active_act vain ++ active_act last ∷ []) s t
+    → On active_unit s t × (is_active last ≡ true)
 reads_on [] last s t f (m, did, is) = (
   on_moved active_unit s m t is (op_on (Read dmcontrol_address) last active_unit active_unit s m active_quiet active_quiet (reads_control active_unit) f did),
   read_shows dmcontrol_address last active_unit [] is_active s m active_quiet (reads_control active_unit) shows_active f did,
@@ -109,7 +119,8 @@ reads_on (w ∷ ws) last s t f (m, did, rest) =
 pub written_on : (s t : Site) → Fresh reset_module s → (word : ℕ) → OperatedAt (Write dmcontrol_address (control_word Nothing 0)) word s t → On active_unit s t
 written_on s t f word o = op_on (Write dmcontrol_address (control_word Nothing 0)) word reset_module active_unit s t reset_quiet active_quiet activates f o
 
-pub activated_on : (vain : List ℕ) (last : ℕ) (s t : Site) → Fresh reset_module s → Ran (asks Nothing 0 ++ (map active_act vain ++ active_act last ∷ [])) s t → On active_unit s t × (is_active last ≡ true)
+pub activated_on : (vain : List ℕ) (last : ℕ) (s t : Site) → Fresh reset_module s → Ran (asks Nothing 0 ++ (map active_act vain ++ active_act last ∷ [])) s t
+    → On active_unit s t × (is_active last ≡ true)
 activated_on vain last s t f (m, did, rest) =
     let a : On active_unit s m = written_on s m f (control_word Nothing 0) did in
     let (b, shown) = reads_on vain last m t a.fresh rest in
@@ -122,13 +133,16 @@ vain_on (w ∷ ws) s t f (m, did, rest) =
     on_on active_unit active_unit s m t a (vain_on ws m t a.fresh rest)
 
 pub vain_activated : (vain : List ℕ) (s t : Site) → Fresh reset_module s → Ran (asks Nothing 0 ++ map active_act vain) s t → On active_unit s t
-vain_activated vain s t f (m, did, rest) = let a : On active_unit s m = written_on s m f (control_word Nothing 0) did in on_on active_unit active_unit s m t a (vain_on vain m t a.fresh rest)
+vain_activated vain s t f (m, did, rest) = let a : On active_unit s m = written_on s m f (control_word Nothing 0) did in
+    on_on active_unit active_unit s m t a (vain_on vain m t a.fresh rest)
 
 pub module_after : (word : ℕ) (s t : Site) → Fresh active_unit s → Ran (look_act word ∷ []) s t → After active_unit s t × (module_fits word ≡ true)
 module_after word s t f (m, did, is) =
-    let w : Went (Read dmstatus_address) did.result active_unit (Look 0 ∷ []) s m = went (Read dmstatus_address) did.result active_unit active_unit (Look 0 ∷ []) s m active_quiet active_quiet looks_at_first f did.one in
+    let w : Went (Read dmstatus_address) did.result active_unit (Look 0 ∷ []) s m =
+        went (Read dmstatus_address) did.result active_unit active_unit (Look 0 ∷ []) s m active_quiet active_quiet looks_at_first f did.one in
     let a : After active_unit s m = record { fresh = w.fresh; pointed = went_look (Read dmstatus_address) did.result active_unit s m w } in
-    (subst (λ x. After active_unit s x) (sym is) a, read_shows dmstatus_address word active_unit (Look 0 ∷ []) module_fits s m active_quiet looks_at_first shows_module f did)
+    (subst (λ x. After active_unit s x) (sym is) a, read_shows dmstatus_address word active_unit (Look 0 ∷ []) module_fits s m active_quiet looks_at_first
+        shows_module f did)
 
 pub commands_on : (word : ℕ) (s t : Site) → Fresh active_unit s → Ran (commands_acts word) s t → On active_unit s t × (commands_fit word ≡ true)
 commands_on word s t f (m, did, is) = (
@@ -140,12 +154,16 @@ pub bus_on : (word : ℕ) (s t : Site) → Fresh active_unit s → Ran (bus_acts
 bus_on word s t f (m, errors, rest) =
     let e : Site = rest.0 in
     let n : Site = rest.2.0 in
-    let a : On active_unit s m = op_on (Write abstractcs_address clears_cmderr) clears_cmderr active_unit active_unit s m active_quiet active_quiet clears_commands f errors in
-    let b : On active_unit m e = op_on (Write abstractauto_address starts_none) starts_none active_unit active_unit m e active_quiet active_quiet clears_auto a.fresh rest.1 in
-    let c : On active_unit e n = op_on (Read sbcs_address) word active_unit active_unit e n active_quiet active_quiet (reads_bus active_unit) b.fresh rest.2.1 in (
+    let a : On active_unit s m = op_on (Write abstractcs_address clears_cmderr) clears_cmderr active_unit active_unit s m active_quiet active_quiet
+        clears_commands f errors in
+    let b : On active_unit m e = op_on (Write abstractauto_address starts_none) starts_none active_unit active_unit m e active_quiet active_quiet clears_auto
+        a.fresh rest.1 in
+    let c : On active_unit e n = op_on (Read sbcs_address) word active_unit active_unit e n active_quiet active_quiet (reads_bus active_unit) b.fresh rest.2.1
+        in (
       on_on active_unit active_unit s m t a (on_on active_unit active_unit m e t b (on_moved active_unit e n t rest.2.2 c)),
       read_shows sbcs_address word active_unit [] bus_fits e n active_quiet (reads_bus active_unit) shows_bus b.fresh rest.2.1,
     )
 
 pub opened_on : (s t : Site) → Fresh active_unit s → Ran (Put sbcs_address clears_sberror ∷ []) s t → On opened_unit s t
-opened_on s t f (m, did, is) = on_moved opened_unit s m t is (op_on (Write sbcs_address clears_sberror) clears_sberror active_unit opened_unit s m active_quiet opened_quiet clears_bus f did)
+opened_on s t f (m, did, is) = on_moved opened_unit s m t is
+    (op_on (Write sbcs_address clears_sberror) clears_sberror active_unit opened_unit s m active_quiet opened_quiet clears_bus f did)

@@ -1,5 +1,6 @@
 -- What one Look did at a told chip, and what it hands out.
-use Rattle.std.proofs.Common.{◌≡◌, ◌∙◌, ◌++◌, append_assoc, ◌<◌, ◌≤◌, ◌^◌, ℕ, List, [], ◌∷◌, Bool, true, Option, Some, None, is_some, slice_get, refl, sym, ap, subst, inl, inr}
+use Rattle.std.proofs.Common.{◌≡◌, ◌∙◌, ◌++◌, append_assoc, ◌<◌, ◌≤◌, ◌^◌, ℕ, List, [], ◌∷◌, Bool, true, Option, Some, None, is_some, slice_get, refl, sym, ap,
+    subst, inl, inr}
 use Rattle.rv_model.specs.Board.{Hart}
 use Rattle.debug_model.specs.Addresses.{dmcontrol_address, dmstatus_address}
 use Rattle.debug_model.specs.declared.dmi.DmiFault.{DmiFault}
@@ -41,11 +42,13 @@ use Rattle.probe_run.proofs.Steps.{WentAs, controls, ready_quiet, selecting, wen
 
 -- ---- the hart is selected, and nothing is asked
 
-select_notes : (h : ℕ) (s : Site) → h < 2 ^ 10 → Between Unasked h s → (harts : List ℕ) → operated (Write dmcontrol_address (control_word Nothing h)) (spun harts s) ≡ noted [] (selecting h (spun harts s))
+select_notes : (h : ℕ) (s : Site) → h < 2 ^ 10 → Between Unasked h s → (harts : List ℕ)
+    → operated (Write dmcontrol_address (control_word Nothing h)) (spun harts s) ≡ noted [] (selecting h (spun harts s))
 select_notes h s small b harts =
     let now : Between Unasked h (spun harts s) = between_spun Unasked h s unasked_kept harts b in
     controls Nothing h (spun harts s) small b.unit
-    ∙ ap (λ ps. noted ps (selecting h (spun harts s))) (select_point h (slice_get (after_turns harts s.board).harts h) (λ x at. ((now.harts h x at).here refl).no_halt))
+    ∙ ap (λ ps. noted ps (selecting h (spun harts s)))
+        (select_point h (slice_get (after_turns harts s.board).harts h) (λ x at. ((now.harts h x at).here refl).no_halt))
 
 select_amid : (h result : ℕ) (s t : Site) → h < 2 ^ 10 → Between Unasked h s → OneOperation (Write dmcontrol_address (control_word Nothing h)) result s t
     → AmidOperation (Write dmcontrol_address (control_word Nothing h)) result s t
@@ -57,15 +60,18 @@ pub record Selected (h : ℕ) (s t : Site) : Type 0 where
   pub went : WentAs h s t
   pub between : Between Unasked h t
 
-pub selects : (h word : ℕ) (s t : Site) → h < 2 ^ 10 → Between Unasked h s → OperatedAt (Write dmcontrol_address (control_word Nothing h)) word s t → Selected h s t
+pub selects : (h word : ℕ) (s t : Site) → h < 2 ^ 10 → Between Unasked h s → OperatedAt (Write dmcontrol_address (control_word Nothing h)) word s t
+    → Selected h s t
 selects h word s t small b o =
     let a : AmidOperation (Write dmcontrol_address (control_word Nothing h)) o.result s t = select_amid h o.result s t small b o.one in
     let now : Between Unasked h (spun a.amid.before s) = between_spun Unasked h s unasked_kept a.amid.before b in
     let u : Site = noted [] (selecting h (spun a.amid.before s)) in
-    let at : Between Unasked h u = record { unit = record { active = b.unit.active; commands = b.unit.commands; bus = b.unit.bus }; wide = now.wide; harts = now.harts } in
+    let at : Between Unasked h u = record { unit = record { active = b.unit.active; commands = b.unit.commands; bus = b.unit.bus }; wide = now.wide; harts =
+        now.harts } in
     record {
       went = went_amid (Write dmcontrol_address (control_word Nothing h)) h s t a.amid (select_notes h s small b a.amid.before);
-      between = subst (λ x. Between Unasked h x) (sym (a.amid.is ∙ ap (spun a.amid.behind) (select_notes h s small b a.amid.before))) (between_spun Unasked h u unasked_kept a.amid.behind at);
+      between = subst (λ x. Between Unasked h x) (sym (a.amid.is ∙ ap (spun a.amid.behind) (select_notes h s small b a.amid.before)))
+          (between_spun Unasked h u unasked_kept a.amid.behind at);
     }
 
 -- ---- turns in front of a point
@@ -76,7 +82,8 @@ turns_pointed old mid new h w p = record {
   behind = p.behind;
   board = p.board ∙ ap (λ b. after_turns p.behind b) (ap (after_turns p.before) w.board ∙ sym (after_turns-append w.harts p.before old.board));
   journal = p.journal ∙ ap (λ (j : List Point). j ++ Look h ∷ turns p.behind)
-      (ap (λ (j : List Point). j ++ turns p.before) w.journal ∙ append_assoc old.journal (turns w.harts) (turns p.before) ∙ ap (λ (j : List Point). old.journal ++ j) (sym (turns-append w.harts p.before)));
+      (ap (λ (j : List Point). j ++ turns p.before) w.journal ∙ append_assoc old.journal (turns w.harts) (turns p.before)
+          ∙ ap (λ (j : List Point). old.journal ++ j) (sym (turns-append w.harts p.before)));
 }
 
 abbrev turns_looked : (h : ℕ) (now : Sight) (old mid new : Target) → WentOn old mid → Looked h now mid new → Looked h now old new
@@ -94,7 +101,8 @@ pub turns_went : (old mid new : Target) → WentOn old mid → WentOn mid new �
 turns_went old mid new w q = record {
   harts = w.harts ++ q.harts;
   board = q.board ∙ ap (after_turns q.harts) w.board ∙ sym (after_turns-append w.harts q.harts old.board);
-  journal = q.journal ∙ ap (λ (j : List Point). j ++ turns q.harts) w.journal ∙ append_assoc old.journal (turns w.harts) (turns q.harts) ∙ ap (λ (j : List Point). old.journal ++ j) (sym (turns-append w.harts q.harts));
+  journal = q.journal ∙ ap (λ (j : List Point). j ++ turns q.harts) w.journal ∙ append_assoc old.journal (turns w.harts) (turns q.harts)
+      ∙ ap (λ (j : List Point). old.journal ++ j) (sym (turns-append w.harts q.harts));
 }
 
 turns_cut : (h : ℕ) (old mid new : Target) → WentOn old mid → Cut (Look h) mid new → Cut (Look h) old new
@@ -122,17 +130,20 @@ halted_there : (o : Option Hart) (ack : Bool) → seen_here o ≡ Sight.Halted a
 halted_there (Some x) ack e = refl
 halted_there None ack e = cc
 
-behind_there : (h : ℕ) (now : Sight) (old new : Target) (l : Looked h now old new) → HartExists h (after_turns l.pointed.before old.board) → HartExists h new.board
+behind_there : (h : ℕ) (now : Sight) (old new : Target) (l : Looked h now old new) → HartExists h (after_turns l.pointed.before old.board)
+    → HartExists h new.board
 behind_there h now old new l is = subst (λ b. HartExists h b) (sym l.pointed.board) (there_turns l.pointed.behind h (after_turns l.pointed.before old.board) is)
 
 reveals_stopped : (h : ℕ) (now : Sight) (ack : Bool) → now ≡ Sight.Halted ack → Reveals h now Unasked Stopped
 reveals_stopped h now ack e x b at is p =
-    record { no_halt = p.no_halt; no_resume = p.no_resume; halted = halted_of x.debug.halted x.debug.resume_ack (ap sees_halted (sym (at_hart h now x b at is) ∙ e)) }
+    record { no_halt = p.no_halt; no_resume = p.no_resume; halted =
+        halted_of x.debug.halted x.debug.resume_ack (ap sees_halted (sym (at_hart h now x b at is) ∙ e)) }
 
 reveals_none : (h : ℕ) (now : Sight) → Reveals h now Unasked Unasked
 reveals_none h now x b at is p = p
 
-known_at : (now : Sight) (h word : ℕ) (m t : Site) → seen_in word ≡ now → Between Unasked h m → m.unit.hartsel ≡ h → OperatedAt (Read dmstatus_address) word m t → Known h t now
+known_at : (now : Sight) (h word : ℕ) (m t : Site) → seen_in word ≡ now → Between Unasked h m → m.unit.hartsel ≡ h
+    → OperatedAt (Read dmstatus_address) word m t → Known h t now
 known_at Sight.Absent h word m t e b sel o = absent (saw h word Unasked Unasked m t unasked_kept unasked_kept b sel (reveals_none h (seen_in word)) o).between
 known_at (Sight.Running ack) h word m t e b sel o =
     let l : Saw Unasked h (seen_in word) m t = saw h word Unasked Unasked m t unasked_kept unasked_kept b sel (reveals_none h (seen_in word)) o in
@@ -143,7 +154,8 @@ known_at (Sight.Halted ack) h word m t e b sel o =
     halted ack l.between (behind_there h (seen_in word) (target_of m) (target_of t) l.looked
     (halted_there (slice_get (after_turns l.looked.pointed.before m.board).harts h) ack (sym l.looked.shows ∙ e)))
 
-look_ran : (h word : ℕ) → h < 2 ^ 10 → (s t : Site) → SiteReady s → Ran (Put dmcontrol_address (control_word Nothing h) ∷ look_act word ∷ []) s t → LookRan h word s t
+look_ran : (h word : ℕ) → h < 2 ^ 10 → (s t : Site) → SiteReady s → Ran (Put dmcontrol_address (control_word Nothing h) ∷ look_act word ∷ []) s t
+    → LookRan h word s t
 look_ran h word small s t ready (m, did, (e, looked, is)) =
     let c : Selected h s m = selects h (control_word Nothing h) s m small (ready_between h s ready) did in
     let sel : m.unit.hartsel ≡ h = ap (λ (u : DebugModule). u.hartsel) c.went.unit in
@@ -164,18 +176,23 @@ known_ready h t now (halted ack b is) = between_ready h t (between_weaker Stoppe
 
 look_outcome : (h : ℕ) → h < 2 ^ 10 → (old new : Tells) (s : Seen) → IsReady old.far → (l : LookedAt h old new s) → Outcome (LookRan h l.word) old.far new.far
 look_outcome h small old new s ready l =
-    did_outcome (Put dmcontrol_address (control_word Nothing h) ∷ look_act l.word ∷ []) (LookRan h l.word) SiteReady old new ready (λ x t r ran. look_ran h l.word small x t r ran) l.did
+    did_outcome (Put dmcontrol_address (control_word Nothing h) ∷ look_act l.word ∷ []) (LookRan h l.word) SiteReady old new ready
+        (λ x t r ran. look_ran h l.word small x t r ran) l.did
 
-pub look_happened : (h : ℕ) → h < 2 ^ 10 → (old new : Tells) (s : Seen) → IsReady old.far → LookedAt h old new s → WhereTold (Leaves (LooksAt h s) h) old.far new.far
+pub look_happened : (h : ℕ) → h < 2 ^ 10 → (old new : Tells) (s : Seen) → IsReady old.far → LookedAt h old new s
+    → WhereTold (Leaves (LooksAt h s) h) old.far new.far
 look_happened h small old new s ready l =
-    outcome_leaves (LooksAt h s) h (LookRan h l.word) old.far new.far (λ x t r. record { happened = record { now = seen_in l.word; look = r.looked; is = l.shows }; unit = r.unit }) (look_outcome h small old new s ready l)
+    outcome_leaves (LooksAt h s) h (LookRan h l.word) old.far new.far
+        (λ x t r. record { happened = record { now = seen_in l.word; look = r.looked; is = l.shows }; unit = r.unit }) (look_outcome h small old new s ready l)
 
 pub look_ready : (h : ℕ) → h < 2 ^ 10 → (old new : Tells) (s : Seen) → IsReady old.far → LookedAt h old new s → IsReady new.far
-look_ready h small old new s ready l = outcome_holds SiteReady (LookRan h l.word) old.far new.far (λ x t r. known_ready h t (seen_in l.word) r.known) (look_outcome h small old new s ready l)
+look_ready h small old new s ready l = outcome_holds SiteReady (LookRan h l.word) old.far new.far (λ x t r. known_ready h t (seen_in l.word) r.known)
+    (look_outcome h small old new s ready l)
 
 pub look_selects : (h : ℕ) → h < 2 ^ 10 → (old new : Tells) (s : Seen) → IsReady old.far → LookedAt h old new s → Selects h new.far
 look_selects h small old new s ready l =
-    outcome_holds (λ x. x.unit.hartsel ≡ h) (LookRan h l.word) old.far new.far (λ x t r. ap (λ (u : DebugModule). u.hartsel) r.unit) (look_outcome h small old new s ready l)
+    outcome_holds (λ x. x.unit.hartsel ≡ h) (LookRan h l.word) old.far new.far (λ x t r. ap (λ (u : DebugModule). u.hartsel) r.unit)
+        (look_outcome h small old new s ready l)
 
 as_seen : (h : ℕ) (now : Sight) (s : Seen) (f : Far) → IsSeen h now s → Known h (site_of f) now → IsAsSeen (Some f) s
 as_seen h Sight.Absent seen.Absent f is k = tt
@@ -186,7 +203,8 @@ as_seen h (Sight.Running ack) (seen.Running r) f is (running a b there) = subst 
 as_seen h (Sight.Running ack) (seen.Halted x) f is k = absurd is
 as_seen h (Sight.Halted ack) seen.Absent f is k = tt
 as_seen h (Sight.Halted ack) (seen.Running r) f is k = absurd is
-as_seen h (Sight.Halted ack) (seen.Halted x) f is (halted a b there) = subst (λ n. HartHalted n (site_of f).board) (sym is) (stopped_halted h (site_of f) there b)
+as_seen h (Sight.Halted ack) (seen.Halted x) f is (halted a b there) =
+    subst (λ n. HartHalted n (site_of f).board) (sym is) (stopped_halted h (site_of f) there b)
 
 untold_seen : (s : Seen) → IsAsSeen None s
 untold_seen seen.Absent = tt
@@ -199,11 +217,13 @@ seen_told h now s (Some f) is k = as_seen h now s f is k
 
 pub look_seen : (h : ℕ) → h < 2 ^ 10 → (old new : Tells) (s : Seen) → IsReady old.far → LookedAt h old new s → IsAsSeen new.far s
 look_seen h small old new s ready l =
-    seen_told h (seen_in l.word) s new.far l.shows (outcome_holds (λ t. Known h t (seen_in l.word)) (LookRan h l.word) old.far new.far (λ x t r. r.known) (look_outcome h small old new s ready l))
+    seen_told h (seen_in l.word) s new.far l.shows
+        (outcome_holds (λ t. Known h t (seen_in l.word)) (LookRan h l.word) old.far new.far (λ x t r. r.known) (look_outcome h small old new s ready l))
 
 -- ---- a fault
 
-select_cut : (h : ℕ) → h < 2 ^ 10 → (s e t : Site) → SiteReady s → Ran [] s e → SiteCut (Write dmcontrol_address (control_word Nothing h)) e t → HappenedCut (Cut (Look h)) h s t
+select_cut : (h : ℕ) → h < 2 ^ 10 → (s e t : Site) → SiteReady s → Ran [] s e → SiteCut (Write dmcontrol_address (control_word Nothing h)) e t
+    → HappenedCut (Cut (Look h)) h s t
 select_cut h small s e t ready is cut = by_cut (subst (λ x. SiteCut (Write dmcontrol_address (control_word Nothing h)) x t) is cut)
   where
     by_cut : SiteCut (Write dmcontrol_address (control_word Nothing h)) s t → HappenedCut (Cut (Look h)) h s t
@@ -216,27 +236,36 @@ select_cut h small s e t ready is cut = by_cut (subst (λ x. SiteCut (Write dmco
         let w : WentAs h s t = went_amid (Write dmcontrol_address (control_word Nothing h)) h s t a.amid (select_notes h s small b a.amid.before) in
         record { happened = Cut.before w.went; unit = inr w.unit }
 
-look_cut : (h : ℕ) → h < 2 ^ 10 → (s e t : Site) → SiteReady s → Ran (asks Nothing h) s e → SiteCut (Read dmstatus_address) e t → HappenedCut (Cut (Look h)) h s t
+look_cut : (h : ℕ) → h < 2 ^ 10 → (s e t : Site) → SiteReady s → Ran (asks Nothing h) s e → SiteCut (Read dmstatus_address) e t
+    → HappenedCut (Cut (Look h)) h s t
 look_cut h small s e t ready (m, did, is) cut =
     let c : Selected h s m = selects h (control_word Nothing h) s m small (ready_between h s ready) did in
-    let q : CutAs (Look h) h m t = cut_point (Read dmstatus_address) (Look h) h m t c.between.unit (look_notes h m c.between.unit (ap (λ (u : DebugModule). u.hartsel) c.went.unit))
+    let q : CutAs (Look h) h m t = cut_point (Read dmstatus_address) (Look h) h m t c.between.unit
+        (look_notes h m c.between.unit (ap (λ (u : DebugModule). u.hartsel) c.went.unit))
     (subst (λ x. SiteCut (Read dmstatus_address) x t) is cut) in
     record { happened = turns_cut h (target_of s) (target_of m) (target_of t) c.went.went q.cut; unit = cut_unit h m.unit t.unit s.unit c.went.unit q.unit }
 
-pub look_broke : (h : ℕ) → h < 2 ^ 10 → (old_count new_count : ℕ) (old : Tells) (new : Option Far) (fault : DmiFault) → IsReady old.far → LookFailed h old_count new_count old new fault
+pub look_broke : (h : ℕ) → h < 2 ^ 10 → (old_count new_count : ℕ) (old : Tells) (new : Option Far) (fault : DmiFault) → IsReady old.far
+    → LookFailed h old_count new_count old new fault
     → WhereTold (LeftBy (Cut (Look h)) h) old.far new
 look_broke h small old_count new_count old new fault ready (at_selection b) =
     outcome_left (Cut (Look h)) h (HappenedCut (Cut (Look h)) h) old.far new (λ s t c. c)
-    (broke_outcome [] (Write dmcontrol_address (control_word Nothing h)) (HappenedCut (Cut (Look h)) h) SiteReady old_count new_count old new fault ready (select_cut h small) b)
+    (broke_outcome [] (Write dmcontrol_address (control_word Nothing h)) (HappenedCut (Cut (Look h)) h) SiteReady old_count new_count old new fault ready
+        (select_cut h small) b)
 look_broke h small old_count new_count old new fault ready (at_look b) =
     outcome_left (Cut (Look h)) h (HappenedCut (Cut (Look h)) h) old.far new (λ s t c. c)
-    (broke_outcome (asks Nothing h) (Read dmstatus_address) (HappenedCut (Cut (Look h)) h) SiteReady old_count new_count old new fault ready (look_cut h small) b)
+    (broke_outcome (asks Nothing h) (Read dmstatus_address) (HappenedCut (Cut (Look h)) h) SiteReady old_count new_count old new fault ready (look_cut h small)
+        b)
 
 -- ---- as the contract has them
 
-pub looked_at : (h word : ℕ) (old mid new : Tells) (s : Seen) → Did old (asks Nothing h) mid → Did mid (look_act word ∷ []) new → IsSeen h (seen_in word) s → LookedAt h old new s
-looked_at h word old mid new s first second is = record { word = word; did = did_then (asks Nothing h) old mid first (look_act word ∷ []) new second; shows = is }
+pub looked_at : (h word : ℕ) (old mid new : Tells) (s : Seen) → Did old (asks Nothing h) mid → Did mid (look_act word ∷ []) new → IsSeen h (seen_in word) s
+    → LookedAt h old new s
+looked_at h word old mid new s first second is =
+    record { word = word; did = did_then (asks Nothing h) old mid first (look_act word ∷ []) new second; shows = is }
 
-pub look_failed : (h : ℕ) (old mid : Tells) (count mid_count new_count : ℕ) (told : Option Far) (fault : DmiFault) → Did old (asks Nothing h) mid → count ≤ mid_count → mid_count ≤ new_count
+pub look_failed : (h : ℕ) (old mid : Tells) (count mid_count new_count : ℕ) (told : Option Far) (fault : DmiFault) → Did old (asks Nothing h) mid
+    → count ≤ mid_count → mid_count ≤ new_count
     → LookBroke [] mid_count new_count mid told fault → LookBroke (asks Nothing h) count new_count old told fault
-look_failed h old mid count mid_count new_count told fault d le later b = broke_then (asks Nothing h) old mid d [] _ count mid_count new_count told fault le later b
+look_failed h old mid count mid_count new_count told fault d le later b =
+    broke_then (asks Nothing h) old mid d [] _ count mid_count new_count told fault le later b

@@ -22,7 +22,8 @@ use Rattle.probe_run.specs.Happens.{target_of}
 use Rattle.probe_run.specs.Looks.{seen_in}
 use Rattle.probe_run.specs.Requests.{control_word}
 use Rattle.probe_run.specs.Sites.{IsQuiet, TurnsAlone, spun}
-use Rattle.probe_run.proofs.Asking.{GoAsked, HaltAsked, HaltSeen, KeptByTurns, OnlyAt, Stopped, Unasked, go_asked_kept, halt_asked_kept, halt_seen_kept, stopped_kept, unasked_kept}
+use Rattle.probe_run.proofs.Asking.{GoAsked, HaltAsked, HaltSeen, KeptByTurns, OnlyAt, Stopped, Unasked, go_asked_kept, halt_asked_kept, halt_seen_kept,
+    stopped_kept, unasked_kept}
 use Rattle.probe_run.proofs.Between.{Between, between_spun, changed_there, halt_asks, halt_clears, only_weaker, resume_asks, there_turns}
 use Rattle.probe_run.proofs.RanLemmas.{OperatedAt}
 use Rattle.probe_run.proofs.SiteLemmas.{AmidOperation, quiet_deeds, quiet_operation}
@@ -46,14 +47,17 @@ Notes op p h s = (harts : List ℕ) → operated op (spun harts s) ≡ noted (p 
 notes_quiet : (op : DmiOp) (p : Point) (h : ℕ) (s : Site) → ModuleReady s.unit → Notes op p h s → (harts : List ℕ) → IsQuiet (operated op (spun harts s))
 notes_quiet op p h s r notes harts = subst (λ x. IsQuiet x) (sym (notes harts)) (record { no_command = r.commands.idle; no_access = r.bus.idle })
 
-pub amid_point : (op : DmiOp) (p : Point) (h : ℕ) (result : ℕ) (s t : Site) → ModuleReady s.unit → Notes op p h s → OneOperation op result s t → AmidOperation op result s t
+pub amid_point : (op : DmiOp) (p : Point) (h : ℕ) (result : ℕ) (s t : Site) → ModuleReady s.unit → Notes op p h s → OneOperation op result s t
+    → AmidOperation op result s t
 amid_point op p h result s t r notes o = quiet_operation op result s t (ready_quiet s r) (notes_quiet op p h s r notes) o
 
 -- what is known of hart h behind the point, by what the operation answered
 abbrev pub Leads : DmiOp → Point → ℕ → ℕ → (P R : DebugPart → Type 0) → Site → Type 0
-Leads op p h result P R s = (harts : List ℕ) → result ≡ operation_result op (spun harts s) → EachHart (OnlyAt h P) (after_turns harts s.board) → EachHart (OnlyAt h R) (after_point p (after_turns harts s.board))
+Leads op p h result P R s = (harts : List ℕ) → result ≡ operation_result op (spun harts s) → EachHart (OnlyAt h P) (after_turns harts s.board)
+    → EachHart (OnlyAt h R) (after_point p (after_turns harts s.board))
 
-pub between_point : (op : DmiOp) (p : Point) (h result : ℕ) (P R : DebugPart → Type 0) (s t : Site) → KeptByTurns P → KeptByTurns R → Between P h s → Notes op p h s → Leads op p h result P R s
+pub between_point : (op : DmiOp) (p : Point) (h result : ℕ) (P R : DebugPart → Type 0) (s t : Site) → KeptByTurns P → KeptByTurns R → Between P h s
+    → Notes op p h s → Leads op p h result P R s
     → ((b : Board) → BoardWide b → BoardWide (after_point p b)) → AmidOperation op result s t → Between R h t
 between_point op p h result P R s t keeps keeps' b notes leads wide a =
     let u : Site = noted (p ∷ []) (selecting h (spun a.amid.before s)) in
@@ -70,7 +74,8 @@ pub record Moved (p : Point) (R : DebugPart → Type 0) (h : ℕ) (s t : Site) :
   pub point : PointedAs p h s t
   pub between : Between R h t
 
-pub moved : (op : DmiOp) (p : Point) (h result : ℕ) (P R : DebugPart → Type 0) (s t : Site) → KeptByTurns P → KeptByTurns R → Between P h s → Notes op p h s → Leads op p h result P R s
+pub moved : (op : DmiOp) (p : Point) (h result : ℕ) (P R : DebugPart → Type 0) (s t : Site) → KeptByTurns P → KeptByTurns R → Between P h s → Notes op p h s
+    → Leads op p h result P R s
     → ((b : Board) → BoardWide b → BoardWide (after_point p b)) → OneOperation op result s t → Moved p R h s t
 moved op p h result P R s t keeps keeps' b notes leads wide o =
     let a : AmidOperation op result s t = amid_point op p h result s t b.unit notes o in
@@ -102,17 +107,21 @@ there_point Access h b is = is
 
 pub there_pointed : (p : Point) (h : ℕ) (old new : Target) → Pointed p old new → HartExists h old.board → HartExists h new.board
 there_pointed p h old new at is =
-    subst (λ b. HartExists h b) (sym at.board) (there_turns at.behind h (after_point p (after_turns at.before old.board)) (there_point p h (after_turns at.before old.board) (there_turns at.before h old.board is)))
+    subst (λ b. HartExists h b) (sym at.board)
+        (there_turns at.behind h (after_point p (after_turns at.before old.board))
+        (there_point p h (after_turns at.before old.board) (there_turns at.before h old.board is)))
 
 halt_point : (h : ℕ) (o : Option Hart) → is_some o ≡ true → control_points (control_for Halt h) o ≡ HaltReq h ∷ []
 halt_point h (Some x) is = refl
 halt_point h None is = absurd (false≢true is)
 
-resume_point : (h : ℕ) (o : Option Hart) → is_some o ≡ true → ((x : Hart) → o ≡ Some x → x.debug.halt_request ≡ false) → control_points (control_for Resume h) o ≡ ResumeReq h ∷ []
+resume_point : (h : ℕ) (o : Option Hart) → is_some o ≡ true → ((x : Hart) → o ≡ Some x → x.debug.halt_request ≡ false)
+    → control_points (control_for Resume h) o ≡ ResumeReq h ∷ []
 resume_point h (Some x) is none = ap (λ b. halt_points false b h ++ ResumeReq h ∷ []) (none x refl)
 resume_point h None is none = absurd (false≢true is)
 
-clear_point : (h : ℕ) (o : Option Hart) → is_some o ≡ true → ((x : Hart) → o ≡ Some x → x.debug.halt_request ≡ true) → control_points (control_for Nothing h) o ≡ HaltClear h ∷ []
+clear_point : (h : ℕ) (o : Option Hart) → is_some o ≡ true → ((x : Hart) → o ≡ Some x → x.debug.halt_request ≡ true)
+    → control_points (control_for Nothing h) o ≡ HaltClear h ∷ []
 clear_point h (Some x) is set = ap (λ b. halt_points false b h ++ []) (set x refl)
 clear_point h None is set = absurd (false≢true is)
 
@@ -120,36 +129,47 @@ pub select_point : (h : ℕ) (o : Option Hart) → ((x : Hart) → o ≡ Some x 
 select_point h (Some x) none = ap (λ b. halt_points false b h ++ []) (none x refl)
 select_point h None none = refl
 
-pub halt_notes : (P : DebugPart → Type 0) (h : ℕ) (s : Site) → h < 2 ^ 10 → Between P h s → HartExists h s.board → Notes (Write dmcontrol_address (control_word Halt h)) (HaltReq h) h s
+pub halt_notes : (P : DebugPart → Type 0) (h : ℕ) (s : Site) → h < 2 ^ 10 → Between P h s → HartExists h s.board
+    → Notes (Write dmcontrol_address (control_word Halt h)) (HaltReq h) h s
 halt_notes P h s small b is harts =
     controls Halt h (spun harts s) small b.unit
     ∙ ap (λ ps. noted ps (selecting h (spun harts s))) (halt_point h (slice_get (after_turns harts s.board).harts h) (there_turns harts h s.board is))
 
-pub resume_notes : (h : ℕ) (s : Site) → h < 2 ^ 10 → Between Unasked h s → HartExists h s.board → Notes (Write dmcontrol_address (control_word Resume h)) (ResumeReq h) h s
+pub resume_notes : (h : ℕ) (s : Site) → h < 2 ^ 10 → Between Unasked h s → HartExists h s.board
+    → Notes (Write dmcontrol_address (control_word Resume h)) (ResumeReq h) h s
 resume_notes h s small b is harts =
     let now : Between Unasked h (spun harts s) = between_spun Unasked h s unasked_kept harts b in
     controls Resume h (spun harts s) small b.unit
-    ∙ ap (λ ps. noted ps (selecting h (spun harts s))) (resume_point h (slice_get (after_turns harts s.board).harts h) (there_turns harts h s.board is) (λ x at. ((now.harts h x at).here refl).no_halt))
+    ∙ ap (λ ps. noted ps (selecting h (spun harts s)))
+        (resume_point h (slice_get (after_turns harts s.board).harts h) (there_turns harts h s.board is) (λ x at. ((now.harts h x at).here refl).no_halt))
 
-pub clear_notes : (h : ℕ) (s : Site) → h < 2 ^ 10 → Between HaltSeen h s → HartExists h s.board → Notes (Write dmcontrol_address (control_word Nothing h)) (HaltClear h) h s
+pub clear_notes : (h : ℕ) (s : Site) → h < 2 ^ 10 → Between HaltSeen h s → HartExists h s.board
+    → Notes (Write dmcontrol_address (control_word Nothing h)) (HaltClear h) h s
 clear_notes h s small b is harts =
     let now : Between HaltSeen h (spun harts s) = between_spun HaltSeen h s halt_seen_kept harts b in
     controls Nothing h (spun harts s) small b.unit
-    ∙ ap (λ ps. noted ps (selecting h (spun harts s))) (clear_point h (slice_get (after_turns harts s.board).harts h) (there_turns harts h s.board is) (λ x at. ((now.harts h x at).here refl).asked))
+    ∙ ap (λ ps. noted ps (selecting h (spun harts s)))
+        (clear_point h (slice_get (after_turns harts s.board).harts h) (there_turns harts h s.board is) (λ x at. ((now.harts h x at).here refl).asked))
 
-pub moves_halt : (h word : ℕ) (s t : Site) → h < 2 ^ 10 → Between Unasked h s → HartExists h s.board → OperatedAt (Write dmcontrol_address (control_word Halt h)) word s t → Moved (HaltReq h) HaltAsked h s t
+pub moves_halt : (h word : ℕ) (s t : Site) → h < 2 ^ 10 → Between Unasked h s → HartExists h s.board
+    → OperatedAt (Write dmcontrol_address (control_word Halt h)) word s t → Moved (HaltReq h) HaltAsked h s t
 moves_halt h word s t small b is o =
-    moved (Write dmcontrol_address (control_word Halt h)) (HaltReq h) h o.result Unasked HaltAsked s t unasked_kept halt_asked_kept b (halt_notes Unasked h s small b is)
+    moved (Write dmcontrol_address (control_word Halt h)) (HaltReq h) h o.result Unasked HaltAsked s t unasked_kept halt_asked_kept b
+        (halt_notes Unasked h s small b is)
     (λ harts at each. halt_asks h (after_turns harts s.board) each) (wide_halt_requested true h) o.one
 
-pub moves_resume : (h word : ℕ) (s t : Site) → h < 2 ^ 10 → Between Unasked h s → HartExists h s.board → OperatedAt (Write dmcontrol_address (control_word Resume h)) word s t → Moved (ResumeReq h) GoAsked h s t
+pub moves_resume : (h word : ℕ) (s t : Site) → h < 2 ^ 10 → Between Unasked h s → HartExists h s.board
+    → OperatedAt (Write dmcontrol_address (control_word Resume h)) word s t → Moved (ResumeReq h) GoAsked h s t
 moves_resume h word s t small b is o =
-    moved (Write dmcontrol_address (control_word Resume h)) (ResumeReq h) h o.result Unasked GoAsked s t unasked_kept go_asked_kept b (resume_notes h s small b is)
+    moved (Write dmcontrol_address (control_word Resume h)) (ResumeReq h) h o.result Unasked GoAsked s t unasked_kept go_asked_kept b
+        (resume_notes h s small b is)
     (λ harts at each. resume_asks h (after_turns harts s.board) each) (wide_resume_asked h) o.one
 
-pub moves_clear : (h word : ℕ) (s t : Site) → h < 2 ^ 10 → Between HaltSeen h s → HartExists h s.board → OperatedAt (Write dmcontrol_address (control_word Nothing h)) word s t → Moved (HaltClear h) Stopped h s t
+pub moves_clear : (h word : ℕ) (s t : Site) → h < 2 ^ 10 → Between HaltSeen h s → HartExists h s.board
+    → OperatedAt (Write dmcontrol_address (control_word Nothing h)) word s t → Moved (HaltClear h) Stopped h s t
 moves_clear h word s t small b is o =
-    moved (Write dmcontrol_address (control_word Nothing h)) (HaltClear h) h o.result HaltSeen Stopped s t halt_seen_kept stopped_kept b (clear_notes h s small b is)
+    moved (Write dmcontrol_address (control_word Nothing h)) (HaltClear h) h o.result HaltSeen Stopped s t halt_seen_kept stopped_kept b
+        (clear_notes h s small b is)
     (λ harts at each. halt_clears h (after_turns harts s.board) each) (wide_halt_requested false h) o.one
 
 -- ---- Looks
@@ -167,7 +187,8 @@ pub record Saw (R : DebugPart → Type 0) (h : ℕ) (now : Seen) (s t : Site) : 
 abbrev pub Reveals : ℕ → Seen → (P R : DebugPart → Type 0) → Type 0
 Reveals h now P R = (x : Hart) (b : Board) → slice_get b.harts h ≡ Some x → now ≡ seen_at h b → P x.debug → R x.debug
 
-pub saw : (h word : ℕ) (P R : DebugPart → Type 0) (s t : Site) → KeptByTurns P → KeptByTurns R → Between P h s → s.unit.hartsel ≡ h → Reveals h (seen_in word) P R
+pub saw : (h word : ℕ) (P R : DebugPart → Type 0) (s t : Site) → KeptByTurns P → KeptByTurns R → Between P h s → s.unit.hartsel ≡ h
+    → Reveals h (seen_in word) P R
     → OperatedAt (Read dmstatus_address) word s t → Saw R h (seen_in word) s t
 saw h word P R s t keeps keeps' b sel reveals o =
     let notes : Notes (Read dmstatus_address) (Look h) h s = look_notes h s b.unit sel in
@@ -175,8 +196,10 @@ saw h word P R s t keeps keeps' b sel reveals o =
     let shows : (harts : List ℕ) → o.result ≡ operation_result (Read dmstatus_address) (spun harts s) → seen_in word ≡ seen_at h (after_turns harts s.board) =
     λ harts at. ap seen_in (o.word_is ∙ ap value_of at) ∙ look_shows (spun harts s) b.unit ∙ ap (λ k. seen_at k (after_turns harts s.board)) sel in
     record {
-      looked = record { pointed = (pointed_amid (Read dmstatus_address) (Look h) h s t a.amid (notes a.amid.before)).pointed; shows = shows a.amid.before a.result_is };
+      looked = record { pointed = (pointed_amid (Read dmstatus_address) (Look h) h s t a.amid (notes a.amid.before)).pointed; shows =
+          shows a.amid.before a.result_is };
       between = between_point (Read dmstatus_address) (Look h) h o.result P R s t keeps keeps' b notes
-          (λ harts at each. only_weaker P R h (after_turns harts s.board) (λ x is p. reveals x (after_turns harts s.board) is (shows harts at) p) each) (λ board w. w) a;
+          (λ harts at each. only_weaker P R h (after_turns harts s.board) (λ x is p. reveals x (after_turns harts s.board) is (shows harts at) p) each)
+              (λ board w. w) a;
       unit = (pointed_amid (Read dmstatus_address) (Look h) h s t a.amid (notes a.amid.before)).unit;
     }

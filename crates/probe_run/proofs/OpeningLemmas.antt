@@ -1,5 +1,6 @@
 -- The steps of an opening from the calls that they make.
-use Rattle.std.proofs.Common.{◌≡◌, ◌∙◌, ◌++◌, ◌+◌, ◌<◌, ◌≤◌, slice_index_or, ℕ, List, [], ◌∷◌, length, map, All, Bool, true, false, Option, Some, None, IfSome, refl, sym, ap, subst, arith, length-append, append-nil}
+use Rattle.std.proofs.Common.{◌≡◌, ◌∙◌, ◌++◌, ◌+◌, ◌<◌, ◌≤◌, slice_index_or, ℕ, List, [], ◌∷◌, length, map, All, Bool, true, false, Option, Some, None, IfSome,
+    refl, sym, ap, subst, arith, length-append, append-nil}
 use Rattle.std.proofs.lemmas.List.Elements.{All-cons, All-nil, All-push}
 use Rattle.debug_model.specs.Addresses.{abstractauto_address, abstractcs_address, dmcontrol_address, sbcs_address}
 use Rattle.debug_model.specs.declared.dmi.DmiFault.{DmiFault}
@@ -15,7 +16,8 @@ use Rattle.probe_run.specs.declared.control.Request.TheVariants.{Nothing}
 use Rattle.probe_run.specs.Acts.{Act, Broke, Did, DoesTogether, ScannedAs, Tells, acts_of, tells}
 use Rattle.probe_run.specs.Acts.Act.{Scanned}
 use Rattle.probe_run.specs.Acts.Attempt.{Scan, Operation, Several}
-use Rattle.probe_run.specs.Opening.{ActivateBroke, Activated, ActivationBroke, BusBroke, NotActivated, ReadAs, ThenBroke, active_act, bus_acts, clears_cmderr, is_active, starts_none}
+use Rattle.probe_run.specs.Opening.{ActivateBroke, Activated, ActivationBroke, BusBroke, NotActivated, ReadAs, ThenBroke, active_act, bus_acts, clears_cmderr,
+    is_active, starts_none}
 use Rattle.probe_run.specs.Opening.ActivateBroke.{at_first}
 use Rattle.probe_run.specs.Opening.BusBroke.{at_sbcs}
 use Rattle.probe_run.specs.Outcomes.{asks}
@@ -24,35 +26,43 @@ use Rattle.probe_run.proofs.ActLemmas.{broke_one, broke_op, broke_then, did_list
 
 -- ---- dtmcs
 
-scanned_told : (value : ℕ) (far far' : Option Far) → WhereTold NoneOperated far far' → IfSome far (λ _. value ≡ dtmcs_word (dtmcs_seen fresh_dtm)) → WhereTold (ScannedAs value) far far'
+scanned_told : (value : ℕ) (far far' : Option Far) → WhereTold NoneOperated far far' → IfSome far (λ _. value ≡ dtmcs_word (dtmcs_seen fresh_dtm))
+    → WhereTold (ScannedAs value) far far'
 scanned_told value None far' path is = path
 scanned_told value (Some f) far' path is = record { none = path; value_is = is }
 
-pub did_scanned : (value : ℕ) (far far' : Option Far) (coming coming' : Option DmiComing) → WhereTold NoneOperated far far' → IfSome far (λ _. value ≡ dtmcs_word (dtmcs_seen fresh_dtm)) → Shows value coming coming'
+pub did_scanned : (value : ℕ) (far far' : Option Far) (coming coming' : Option DmiComing) → WhereTold NoneOperated far far'
+    → IfSome far (λ _. value ≡ dtmcs_word (dtmcs_seen fresh_dtm)) → Shows value coming coming'
     → Did (tells far coming) (Scanned value ∷ []) (tells far' coming')
-did_scanned value far far' coming coming' path is shows = did_one (Scanned value) (tells far coming) (tells far' coming') (scanned_told value far far' path is) shows
+did_scanned value far far' coming coming' path is shows = did_one (Scanned value) (tells far coming) (tells far' coming') (scanned_told value far far' path is)
+    shows
 
-pub broke_scan : (old_count new_count : ℕ) (far far' : Option Far) (coming : Option DmiComing) (fault : DmiFault) → WhereTold NoneOperated far far' → ScannedCause old_count new_count far' coming fault
+pub broke_scan : (old_count new_count : ℕ) (far far' : Option Far) (coming : Option DmiComing) (fault : DmiFault) → WhereTold NoneOperated far far'
+    → ScannedCause old_count new_count far' coming fault
     → Broke [] Scan old_count new_count (tells far coming) far' fault
 broke_scan old_count new_count far far' coming fault cut cause =
     record { mid = tells far coming; did = Did.nothing; cut = cut; cause = scanned_cause old_count new_count far far' coming fault cause }
 
 -- ---- registers
 
-pub read_as : (acts : ℕ → List Act) (test : ℕ → Bool) (answer : Bool) (word : ℕ) (old new : Tells) → Did old (acts word) new → test word ≡ answer → ReadAs acts test answer word old new
+pub read_as : (acts : ℕ → List Act) (test : ℕ → Bool) (answer : Bool) (word : ℕ) (old new : Tells) → Did old (acts word) new → test word ≡ answer
+    → ReadAs acts test answer word old new
 read_as acts test answer word old new d is = record { did = d; tested = is }
 
-pub read_behind : (acts : ℕ → List Act) (test : ℕ → Bool) (answer : Bool) (word found : ℕ) (old new : Tells) → word ≡ found → Did old (acts found) new → test word ≡ answer → ReadAs acts test answer word old new
+pub read_behind : (acts : ℕ → List Act) (test : ℕ → Bool) (answer : Bool) (word found : ℕ) (old new : Tells) → word ≡ found → Did old (acts found) new
+    → test word ≡ answer → ReadAs acts test answer word old new
 read_behind acts test answer word found old new e d is = record { did = subst (λ w. Did old (acts w) new) (sym e) d; tested = is }
 
-pub broke_behind : (R : Tells → Tells → Type 0) (acts : List Act) (op op' : DmiOp) (count mid_count new_count : ℕ) (old : Tells) (mid at : Tells) (told : Option Far) (fault : DmiFault) → op ≡ op' → R old mid → Did mid acts at
+pub broke_behind : (R : Tells → Tells → Type 0) (acts : List Act) (op op' : DmiOp) (count mid_count new_count : ℕ) (old : Tells) (mid at : Tells)
+    (told : Option Far) (fault : DmiFault) → op ≡ op' → R old mid → Did mid acts at
     → count ≤ mid_count → mid_count ≤ new_count → WhereTold (OperationCut op) at.far told → DmiCause mid_count new_count at.far told at.coming fault
     → ThenBroke R acts (Operation op') count new_count old told fault
 broke_behind R acts op op' count mid_count new_count old mid at told fault e first d le later cut cause = record {
   mid = mid;
   first = first;
   broke = subst (λ xs. Broke xs (Operation op') count new_count mid told fault) (append-nil acts)
-      (broke_then acts mid at d [] (Operation op') count mid_count new_count told fault le later (broke_op op op' mid_count new_count at.far told at.coming fault e cut cause));
+      (broke_then acts mid at d [] (Operation op') count mid_count new_count told fault le later
+          (broke_op op op' mid_count new_count at.far told at.coming fault e cut cause));
 }
 
 -- ---- dmactive
@@ -71,11 +81,14 @@ map_until : (front : List ℕ) (last : ℕ) → (map active_act front ++ active_
 map_until [] last = refl
 map_until (w ∷ ws) last = ap (λ (acts : List Act). active_act w ∷ acts) (map_until ws last)
 
-vain_did : (old now : Tells) (front : List ℕ) (last : ℕ) → Did old (asks Nothing 0 ++ (map active_act front ++ active_act last ∷ [])) now → Did old (asks Nothing 0 ++ map active_act (front ++ last ∷ [])) now
+vain_did : (old now : Tells) (front : List ℕ) (last : ℕ) → Did old (asks Nothing 0 ++ (map active_act front ++ active_act last ∷ [])) now
+    → Did old (asks Nothing 0 ++ map active_act (front ++ last ∷ [])) now
 vain_did old now front last d =
-    did_list (asks Nothing 0 ++ (map active_act front ++ active_act last ∷ [])) (asks Nothing 0 ++ map active_act (front ++ last ∷ [])) old now (ap (λ (acts : List Act). asks Nothing 0 ++ acts) (map_until front last)) d
+    did_list (asks Nothing 0 ++ (map active_act front ++ active_act last ∷ [])) (asks Nothing 0 ++ map active_act (front ++ last ∷ [])) old now
+        (ap (λ (acts : List Act). asks Nothing 0 ++ acts) (map_until front last)) d
 
-pub reads_again : (old now new : Tells) (reads last word : ℕ) → Reads old now reads last → Did now (active_act word ∷ []) new → is_active last ≡ false → Reads old new (reads + 1) word
+pub reads_again : (old now new : Tells) (reads last word : ℕ) → Reads old now reads last → Did now (active_act word ∷ []) new → is_active last ≡ false
+    → Reads old new (reads + 1) word
 reads_again old now new reads last word r d inactive = record {
   front = r.front ++ last ∷ [];
   did = did_then (asks Nothing 0 ++ map active_act (r.front ++ last ∷ [])) old now (vain_did old now r.front last r.did) (active_act word ∷ []) new d;
@@ -93,8 +106,10 @@ reads_active old now reads last r active few = record {
   few = let e : length r.front + 1 ≡ reads = r.count in omega arith;
 }
 
-pub reads_broke : (old now : Tells) (reads last count mid_count new_count : ℕ) (told : Option Far) (fault : DmiFault) → Reads old now reads last → is_active last ≡ false → reads < 64 → count ≤ mid_count → mid_count ≤ new_count
-    → WhereTold (OperationCut (Read dmcontrol_address)) now.far told → DmiCause mid_count new_count now.far told now.coming fault → ActivationBroke count new_count old told fault
+pub reads_broke : (old now : Tells) (reads last count mid_count new_count : ℕ) (told : Option Far) (fault : DmiFault) → Reads old now reads last
+    → is_active last ≡ false → reads < 64 → count ≤ mid_count → mid_count ≤ new_count
+    → WhereTold (OperationCut (Read dmcontrol_address)) now.far told → DmiCause mid_count new_count now.far told now.coming fault
+        → ActivationBroke count new_count old told fault
 reads_broke old now reads last count mid_count new_count told fault r inactive few le later cut cause =
     let vain = r.front ++ last ∷ [] in
     record {
@@ -152,9 +167,11 @@ reads_start word last results old new w e two told heard =
     }
 
 pub first_broke : (word old_count new_count : ℕ) (old : Tells) (told : Option Far) (fault : DmiFault) → word ≡ control_word Nothing 0
-    → WhereTold (OperationsCut (Write dmcontrol_address word ∷ Read dmcontrol_address ∷ [])) old.far told → ManyCause 2 old_count new_count old.far told old.coming fault
+    → WhereTold (OperationsCut (Write dmcontrol_address word ∷ Read dmcontrol_address ∷ [])) old.far told
+        → ManyCause 2 old_count new_count old.far told old.coming fault
     → ActivateBroke old_count new_count old told fault
-first_broke word old_count new_count old told fault w cut cause = at_first (broke_one (Several (Write dmcontrol_address (control_word Nothing 0)) (Read dmcontrol_address ∷ [])) old_count new_count old told fault
+first_broke word old_count new_count old told fault w cut cause =
+    at_first (broke_one (Several (Write dmcontrol_address (control_word Nothing 0)) (Read dmcontrol_address ∷ [])) old_count new_count old told fault
     (subst (λ n. WhereTold (OperationsCut (Write dmcontrol_address n ∷ Read dmcontrol_address ∷ [])) old.far told) w cut) cause)
 
 abbrev clears_first : ℕ → ℕ → List DmiOp
@@ -172,14 +189,20 @@ pub bus_did : (errors auto : ℕ) (results : List ℕ) (old new : Tells) → err
 bus_did errors auto results old new e a three told heard =
     let does : DoesTogether (clears_first clears_cmderr starts_none) results old new = record {
       small = clears_small;
-      told = subst (λ n. WhereTold (OperatedAll (clears_first n starts_none) results) old.far new.far) e (subst (λ n. WhereTold (OperatedAll (clears_first errors n) results) old.far new.far) a told);
-      heard = subst (λ n. AnswersAll (clears_first n starts_none) results old.coming new.coming) e (subst (λ n. AnswersAll (clears_first errors n) results old.coming new.coming) a heard);
+      told = subst (λ n. WhereTold (OperatedAll (clears_first n starts_none) results) old.far new.far) e
+          (subst (λ n. WhereTold (OperatedAll (clears_first errors n) results) old.far new.far) a told);
+      heard = subst (λ n. AnswersAll (clears_first n starts_none) results old.coming new.coming) e
+          (subst (λ n. AnswersAll (clears_first errors n) results old.coming new.coming) a heard);
     } in
-    did_list (acts_of (clears_first clears_cmderr starts_none) results) (bus_acts (slice_index_or results 2 0)) old new (ap (acts_of (clears_first clears_cmderr starts_none)) (listed_three results three))
+    did_list (acts_of (clears_first clears_cmderr starts_none) results) (bus_acts (slice_index_or results 2 0)) old new
+        (ap (acts_of (clears_first clears_cmderr starts_none)) (listed_three results three))
     (did_together (Write abstractcs_address clears_cmderr) (Write abstractauto_address starts_none ∷ Read sbcs_address ∷ []) results old new does)
 
 pub bus_broke : (errors auto old_count new_count : ℕ) (old : Tells) (told : Option Far) (fault : DmiFault) → errors ≡ clears_cmderr → auto ≡ starts_none
-    → WhereTold (OperationsCut (clears_first errors auto)) old.far told → ManyCause 3 old_count new_count old.far told old.coming fault → BusBroke old_count new_count old told fault
+    → WhereTold (OperationsCut (clears_first errors auto)) old.far told → ManyCause 3 old_count new_count old.far told old.coming fault
+        → BusBroke old_count new_count old told fault
 bus_broke errors auto old_count new_count old told fault e a cut cause =
-    at_sbcs (broke_one (Several (Write abstractcs_address clears_cmderr) (Write abstractauto_address starts_none ∷ Read sbcs_address ∷ [])) old_count new_count old told fault
-    (subst (λ n. WhereTold (OperationsCut (clears_first n starts_none)) old.far told) e (subst (λ n. WhereTold (OperationsCut (clears_first errors n)) old.far told) a cut)) cause)
+    at_sbcs (broke_one (Several (Write abstractcs_address clears_cmderr) (Write abstractauto_address starts_none ∷ Read sbcs_address ∷ [])) old_count new_count
+        old told fault
+    (subst (λ n. WhereTold (OperationsCut (clears_first n starts_none)) old.far told) e
+        (subst (λ n. WhereTold (OperationsCut (clears_first errors n)) old.far told) a cut)) cause)

@@ -19,7 +19,8 @@ quiet_at : (ops : List DmiOp) (u : DebugModule) → Quietly ops u → QuietUnit 
 quiet_at ops u (done w q) = q
 quiet_at ops u (goes op more w v q leads rest) = q
 
-pub stopped_went : (before : List Operation) (op : DmiOp) (left ops : List DmiOp) (u : DebugModule) (s m t : Site) → Quietly ops u → Fresh u s → map op_of before ++ op ∷ left ≡ ops → OperationsAt before s m → SiteCut op m t
+pub stopped_went : (before : List Operation) (op : DmiOp) (left ops : List DmiOp) (u : DebugModule) (s m t : Site) → Quietly ops u → Fresh u s
+    → map op_of before ++ op ∷ left ≡ ops → OperationsAt before s m → SiteCut op m t
     → WentOn (target_of s) (target_of t)
 stopped_went [] op left ops u s m t (done w q) f e at cut = absurd (let no : ⊥ = cc in no)
 stopped_went [] op left ops u s m t (goes first more w v q leads rest) f e at cut =
@@ -30,4 +31,5 @@ stopped_went (o ∷ os) op left ops u s m t (goes first more w v q leads rest) f
     let is : first ≡ o.op = cc in
     let tail : map op_of os ++ op ∷ left ≡ more = cc in
     let one = went o.op o.result w v [] s at.0 q (quiet_at more v rest) (subst (λ x. Turns x w v []) is leads) f at.1 in
-    turns_went (target_of s) (target_of at.0) (target_of t) (went_on o.op o.result v s at.0 one) (stopped_went os op left more v at.0 m t rest one.fresh tail at.2 cut)
+    turns_went (target_of s) (target_of at.0) (target_of t) (went_on o.op o.result v s at.0 one)
+        (stopped_went os op left more v at.0 m t rest one.fresh tail at.2 cut)

@@ -65,14 +65,17 @@ one_did (Write address value) result s t small one = record {
 operations_ran : (os : List Operation) (s t : Site) → All IsOperation (map op_of os) → OperationsAt os s t → Ran (map act_of os) s t
 operations_ran [] s t small e = e
 operations_ran (o ∷ os) s t small p =
-    (p.0, one_did o.op o.result s p.0 (All-head IsOperation o.op (map op_of os) small) p.1, operations_ran os p.0 t (All-tail IsOperation o.op (map op_of os) small) p.2)
+    (p.0, one_did o.op o.result s p.0 (All-head IsOperation o.op (map op_of os) small) p.1,
+        operations_ran os p.0 t (All-tail IsOperation o.op (map op_of os) small) p.2)
 
-path_ran : (op : DmiOp) (ops : List DmiOp) (os : List Operation) (s t : Site) → All IsOperation (op ∷ ops) → map op_of os ≡ op ∷ ops → SitePath s os t → Ran (map act_of os) s t
+path_ran : (op : DmiOp) (ops : List DmiOp) (os : List Operation) (s t : Site) → All IsOperation (op ∷ ops) → map op_of os ≡ op ∷ ops → SitePath s os t
+    → Ran (map act_of os) s t
 path_ran op ops [] s t small asked p = absurd (let no : ⊥ = cc in no)
 path_ran op ops (o ∷ os) s t small asked p = operations_ran (o ∷ os) s t (subst (All IsOperation) (sym asked) small) (operations_between_deeds o os s t p)
 
 -- the acts are those of the operations
-pub acts_are : (ops : List DmiOp) (results : List ℕ) (os : List Operation) → map op_of os ≡ ops → results ≡ map answer_of os → acts_of ops results ≡ map act_of os
+pub acts_are : (ops : List DmiOp) (results : List ℕ) (os : List Operation) → map op_of os ≡ ops → results ≡ map answer_of os
+    → acts_of ops results ≡ map act_of os
 acts_are ops results os asked are = ap (λ xs. acts_of xs results) (sym asked) ∙ ap (λ rs. acts_of (map op_of os) rs) are ∙ acts_done os
 
 -- a far end that is told, and what its site went through
@@ -95,11 +98,13 @@ pub where_told : (R : Chip → Option Far → Type 0) (old new : Option Far) (f 
 where_told R None new f is w = absurd (none-some f is)
 where_told R (Some e) new f is w = subst (λ x. R x.live.chip new) (same_Some e f is) w
 
-far_together : (op : DmiOp) (ops : List DmiOp) (results : List ℕ) (f : Far) (told : Option Far) → All IsOperation (op ∷ ops) → OperatedAll (op ∷ ops) results f.live.chip told → FarRan (acts_of (op ∷ ops) results) f told
+far_together : (op : DmiOp) (ops : List DmiOp) (results : List ℕ) (f : Far) (told : Option Far) → All IsOperation (op ∷ ops)
+    → OperatedAll (op ∷ ops) results f.live.chip told → FarRan (acts_of (op ∷ ops) results) f told
 far_together op ops results f told small d = record {
   far = d.far;
   is = d.is;
-  ran = subst (λ xs. Ran xs (site_of f) (site_of d.far)) (sym (acts_are (op ∷ ops) results d.done d.asked d.results_are)) (path_ran op ops d.done (site_of f) (site_of d.far) small d.asked d.site);
+  ran = subst (λ xs. Ran xs (site_of f) (site_of d.far)) (sym (acts_are (op ∷ ops) results d.done d.asked d.results_are))
+      (path_ran op ops d.done (site_of f) (site_of d.far) small d.asked d.site);
 }
 
 pub far_ran : (old : Tells) (f : Far) → old.far ≡ Some f → (acts : List Act) (new : Tells) → Did old acts new → FarRan acts f new.far
@@ -110,7 +115,8 @@ far_ran old f is acts new (further before act mid last did does) =
     record { far = b.far; is = b.is; ran = ran_snoc before act (site_of f) (site_of a.far) (site_of b.far) a.ran b.did }
 far_ran old f is acts new (together before op ops results mid last did does) =
     let a : FarRan before f mid.far = far_ran old f is before mid did in
-    let b : FarRan (acts_of (op ∷ ops) results) a.far last.far = far_together op ops results a.far last.far does.small (where_told (OperatedAll (op ∷ ops) results) mid.far last.far a.far a.is does.told) in
+    let b : FarRan (acts_of (op ∷ ops) results) a.far last.far =
+        far_together op ops results a.far last.far does.small (where_told (OperatedAll (op ∷ ops) results) mid.far last.far a.far a.is does.told) in
     record { far = b.far; is = b.is; ran = ran_append before (acts_of (op ∷ ops) results) (site_of f) (site_of a.far) (site_of b.far) a.ran b.ran }
 
 -- where no chip is told, none is told behind a call, nor behind any number of them
@@ -121,4 +127,5 @@ untold R (Some x) n e w = absurd (none-some x (sym e))
 pub none_ran : (old : Tells) → old.far ≡ None → (acts : List Act) (new : Tells) → Did old acts new → new.far ≡ None
 none_ran old is acts new nothing = is
 none_ran old is acts new (further before act mid last did does) = untold (chip_did act) mid.far last.far (none_ran old is before mid did) does.told
-none_ran old is acts new (together before op ops results mid last did does) = untold (OperatedAll (op ∷ ops) results) mid.far last.far (none_ran old is before mid did) does.told
+none_ran old is acts new (together before op ops results mid last did does) =
+    untold (OperatedAll (op ∷ ops) results) mid.far last.far (none_ran old is before mid did) does.told

@@ -53,7 +53,8 @@ command_rests : (steps : List Micro) (hart : Option Hart) (s : Site) → steps �
 command_rests [] hart s is = refl
 command_rests (m ∷ ms) hart s is = cc
 
-bus_rests_by : (pending : Option BusAccess) (size : Option Size) (s : Site) → pending ≡ None → with_bus_done (bus_done_by pending size s.board.memory s.unit.bus) s ≡ s
+bus_rests_by : (pending : Option BusAccess) (size : Option Size) (s : Site) → pending ≡ None
+    → with_bus_done (bus_done_by pending size s.board.memory s.unit.bus) s ≡ s
 bus_rests_by None size s is = same_site (with_bus_done (bus_done_by None size s.board.memory s.unit.bus) s) s refl refl (append-nil s.journal)
 bus_rests_by (Some a) size s is = absurd (none-some a (sym is))
 
@@ -109,10 +110,12 @@ pub record AmidOperation (op : DmiOp) (result : ℕ) (s t : Site) : Type 0 where
   pub amid : Amid (operated op) s t
   pub result_is : result ≡ operation_result op (spun amid.before s)
 
-pub quiet_operation : (op : DmiOp) (result : ℕ) (s t : Site) → IsQuiet s → ((harts : List ℕ) → IsQuiet (operated op (spun harts s))) → OneOperation op result s t → AmidOperation op result s t
+pub quiet_operation : (op : DmiOp) (result : ℕ) (s t : Site) → IsQuiet s → ((harts : List ℕ) → IsQuiet (operated op (spun harts s)))
+    → OneOperation op result s t → AmidOperation op result s t
 quiet_operation op result s t q stays o =
     let b : Before op result s t = before_operation op result s t q o in
-    let r : TurnsAlone (operated op (spun b.before s)) (ran b.behind (operated op (spun b.before s))) = quiet_ran b.behind (operated op (spun b.before s)) (stays b.before) in
+    let r : TurnsAlone (operated op (spun b.before s)) (ran b.behind (operated op (spun b.before s))) =
+        quiet_ran b.behind (operated op (spun b.before s)) (stays b.before) in
     record { amid = record { before = b.before; behind = r.harts; is = b.is ∙ r.is }; result_is = b.result_is }
 
 -- ---- a frozen hart
@@ -127,7 +130,8 @@ put_over : (h : ℕ) (x y : Hart) (b : Board) → slice_get b.harts h ≡ Some x
 put_over h x y b is = ap (λ (hs : List Hart). let c : Board = record { harts = hs; memory = b.memory } in c) (set-over (λ _. y) b.harts h x is)
 
 -- turns pass a frozen hart by, and so do they another frozen one in its place
-pub put-turn : (h : ℕ) (x y : Hart) (b : Board) (harts : List ℕ) → IsFrozenAs h x b → IsFrozen y.debug → after_turns harts (put_hart h y b) ≡ put_hart h y (after_turns harts b)
+pub put-turn : (h : ℕ) (x y : Hart) (b : Board) (harts : List ℕ) → IsFrozenAs h x b → IsFrozen y.debug
+    → after_turns harts (put_hart h y b) ≡ put_hart h y (after_turns harts b)
 put-turn h x y b harts f g =
     ap (after_turns harts) (put_over h x y b f.is)
     ∙ frozen_may_wait (λ _. y) h x b harts f.is (frozen_part h x b f) g

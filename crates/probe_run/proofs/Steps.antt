@@ -1,5 +1,6 @@
 -- One operation of run control on a site whose debug module is ready: the hart is selected, and the points of the request or of the Look are noted.
-use Rattle.std.proofs.Common.{◌≡◌, ◌∙◌, ◌++◌, ◌<◌, ◌^◌, ℕ, List, [], ◌∷◌, Bool, true, false, Option, Some, None, slice_get, refl, sym, ap, append_assoc, append-nil, if◌then◌else◌}
+use Rattle.std.proofs.Common.{◌≡◌, ◌∙◌, ◌++◌, ◌<◌, ◌^◌, ℕ, List, [], ◌∷◌, Bool, true, false, Option, Some, None, slice_get, refl, sym, ap, append_assoc,
+    append-nil, if◌then◌else◌}
 use Rattle.std.proofs.lemmas.Bool.{false≢true}
 use Rattle.rv_model.specs.Board.{Board, Hart}
 use Rattle.debug_model.specs.Addresses.{dmcontrol_address, dmstatus_address}
@@ -12,7 +13,8 @@ use Rattle.debug_model.specs.declared.point.Point.TheVariants.{Look}
 use Rattle.debug_model.specs.Commands.{is_under_way}
 use Rattle.debug_model.specs.Dmi.{value_of}
 use Rattle.debug_model.specs.Journal.{after_journal, debug_changed, debug_changed_by}
-use Rattle.debug_model.specs.Module.{DebugModule, Site, acknowledged, asked, control_points, controlled_by, noted, operated, register_at, reset_known, result_by, result_of}
+use Rattle.debug_model.specs.Module.{DebugModule, Site, acknowledged, asked, control_points, controlled_by, noted, operated, register_at, reset_known,
+    result_by, result_of}
 use Rattle.debug_model.specs.Told.{ModuleReady}
 use Rattle.abstract_debugger.specs.Debugger.{seen_at}
 use Rattle.abstract_debugger.specs.Stands.{Pointed, WentOn}
@@ -53,7 +55,8 @@ active_unit m h is = ap (λ b. let u : DebugModule = record m { active = b; hart
 abbrev points_for : Request → ℕ → Site → List Point
 points_for request h s = control_points (control_for request h) (slice_get s.board.harts h)
 
-controls_as : (request : Request) (h : ℕ) (s : Site) → ModuleReady s.unit → controlled_by true (control_for request h) s ≡ noted (points_for request h s) (selecting h s)
+controls_as : (request : Request) (h : ℕ) (s : Site) → ModuleReady s.unit
+    → controlled_by true (control_for request h) s ≡ noted (points_for request h s) (selecting h s)
 controls_as request h s r =
     unless_busy s.unit.commands.steps s (acknowledged (control_for request h) (asked (control_for request h) s)) r.commands.idle
     ∙ same_site (acknowledged (control_for request h) (asked (control_for request h) s)) (noted (points_for request h s) (selecting h s))
@@ -86,7 +89,8 @@ pub record PointedAs (p : Point) (h : ℕ) (s t : Site) : Type 0 where
   pub pointed : Pointed p (target_of s) (target_of t)
   pub unit : t.unit ≡ record s.unit { hartsel = h }
 
-abbrev pub pointed_amid : (op : DmiOp) (p : Point) (h : ℕ) (s t : Site) (a : Amid (operated op) s t) → operated op (spun a.before s) ≡ noted (p ∷ []) (selecting h (spun a.before s)) → PointedAs p h s t
+abbrev pub pointed_amid : (op : DmiOp) (p : Point) (h : ℕ) (s t : Site) (a : Amid (operated op) s t)
+    → operated op (spun a.before s) ≡ noted (p ∷ []) (selecting h (spun a.before s)) → PointedAs p h s t
 pointed_amid op p h s t a e =
     let is : t ≡ spun a.behind (noted (p ∷ []) (selecting h (spun a.before s))) = a.is ∙ ap (spun a.behind) e in
     record {
@@ -104,7 +108,8 @@ pub record WentAs (h : ℕ) (s t : Site) : Type 0 where
   pub went : WentOn (target_of s) (target_of t)
   pub unit : t.unit ≡ record s.unit { hartsel = h }
 
-abbrev pub went_amid : (op : DmiOp) (h : ℕ) (s t : Site) (a : Amid (operated op) s t) → operated op (spun a.before s) ≡ noted [] (selecting h (spun a.before s)) → WentAs h s t
+abbrev pub went_amid : (op : DmiOp) (h : ℕ) (s t : Site) (a : Amid (operated op) s t)
+    → operated op (spun a.before s) ≡ noted [] (selecting h (spun a.before s)) → WentAs h s t
 went_amid op h s t a e =
     let is : t ≡ spun a.behind (noted [] (selecting h (spun a.before s))) = a.is ∙ ap (spun a.behind) e in
     record {

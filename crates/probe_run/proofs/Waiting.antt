@@ -1,5 +1,6 @@
 -- Looks of a wait so far, and what one more of them makes of it.
-use Rattle.std.proofs.Common.{◌≡◌, ◌++◌, ◌+◌, ◌<◌, ◌≤◌, ℕ, List, [], ◌∷◌, length, map, All, Bool, true, false, Option, refl, sym, ap, subst, arith, append-nil, length-append}
+use Rattle.std.proofs.Common.{◌≡◌, ◌++◌, ◌+◌, ◌<◌, ◌≤◌, ℕ, List, [], ◌∷◌, length, map, All, Bool, true, false, Option, refl, sym, ap, subst, arith, append-nil,
+    length-append}
 use Rattle.std.proofs.lemmas.List.Elements.{All-nil, All-push}
 use Rattle.debug_model.specs.declared.dmi.DmiFault.{DmiFault}
 use Rattle.debug_model.specs.Told.{Far}
@@ -39,14 +40,17 @@ vain_of test old now looks acknowledged (in_vain front last did none not_shown) 
 pub looked_start : (test : Seen → Bool) (acknowledged : Bool) (old : Tells) → Looked test old old 0 acknowledged
 looked_start test acknowledged old = not_yet acknowledged Did.nothing
 
-pub looked_again : (test : Seen → Bool) (old now new : Tells) (looks : ℕ) (before after : Bool) (word : ℕ) → Looked test old now looks before → Did now (look_act word ∷ []) new
+pub looked_again : (test : Seen → Bool) (old now new : Tells) (looks : ℕ) (before after : Bool) (word : ℕ) → Looked test old now looks before
+    → Did now (look_act word ∷ []) new
     → test (seen_in word) ≡ false → after ≡ sees_ack (seen_in word) → Looked test old new (looks + 1) after
 looked_again test old now new looks before after word l d unseen is =
     let v : Vain test old now looks = vain_of test old now looks before l in
-    let step : Looked test old new (length v.vain + 1) (sees_ack (seen_in word)) = in_vain v.vain word (did_then (map look_act v.vain) old now v.did (look_act word ∷ []) new d) v.none unseen in
+    let step : Looked test old new (length v.vain + 1) (sees_ack (seen_in word)) =
+        in_vain v.vain word (did_then (map look_act v.vain) old now v.did (look_act word ∷ []) new d) v.none unseen in
     subst (λ n. Looked test old new (n + 1) after) v.count (subst (λ b. Looked test old new (length v.vain + 1) b) (sym is) step)
 
-pub looked_met : (test : Seen → Bool) (old now new : Tells) (looks : ℕ) (before : Bool) (word : ℕ) → Looked test old now looks before → Did now (look_act word ∷ []) new
+pub looked_met : (test : Seen → Bool) (old now new : Tells) (looks : ℕ) (before : Bool) (word : ℕ) → Looked test old now looks before
+    → Did now (look_act word ∷ []) new
     → test (seen_in word) ≡ true → looks < most_looks → Met test [] old new
 looked_met test old now new looks before word l d is few =
     let v : Vain test old now looks = vain_of test old now looks before l in
@@ -59,8 +63,10 @@ looked_met test old now new looks before word l d is few =
       few = subst (λ n. n < most_looks) (sym v.count) few;
     }
 
-pub looked_broke : (test : Seen → Bool) (old now : Tells) (looks : ℕ) (before : Bool) (count mid_count new_count : ℕ) (told : Option Far) (fault : DmiFault) → Looked test old now looks before
-    → looks < most_looks → count ≤ mid_count → mid_count ≤ new_count → LookBroke [] mid_count new_count now told fault → WaitBroke test [] count new_count old told fault
+pub looked_broke : (test : Seen → Bool) (old now : Tells) (looks : ℕ) (before : Bool) (count mid_count new_count : ℕ) (told : Option Far) (fault : DmiFault)
+    → Looked test old now looks before
+    → looks < most_looks → count ≤ mid_count → mid_count ≤ new_count → LookBroke [] mid_count new_count now told fault
+        → WaitBroke test [] count new_count old told fault
 looked_broke test old now looks before count mid_count new_count told fault l few le later b =
     let v : Vain test old now looks = vain_of test old now looks before l in
     record {
@@ -71,7 +77,8 @@ looked_broke test old now looks before count mid_count new_count told fault l fe
           (broke_then (map look_act v.vain) old now v.did [] _ count mid_count new_count told fault le later b);
     }
 
-pub looked_all : (what : Wanted) (old now : Tells) (looks : ℕ) (acknowledged : Bool) → looks ≡ most_looks → Looked (test_of what) old now looks acknowledged → WaitedAs what old now (Unshown acknowledged)
+pub looked_all : (what : Wanted) (old now : Tells) (looks : ℕ) (acknowledged : Bool) → looks ≡ most_looks → Looked (test_of what) old now looks acknowledged
+    → WaitedAs what old now (Unshown acknowledged)
 looked_all what old now looks acknowledged all (not_yet a did) = absurd (let e : 0 ≡ most_looks = all in omega arith)
 looked_all what old now looks acknowledged all (in_vain front last did none not_shown) =
     (last, record { front = front; did = did; none = none; not_shown = not_shown; all = all }, refl)

@@ -20,7 +20,8 @@ abbrev pub EachHart : (ℕ → Hart → Type 0) → Board → Type 0
 EachHart P b = (j : ℕ) (x : Hart) → slice_get b.harts j ≡ Some x → P j x
 
 -- another hart in the place of hart h
-pub each_put : (P : ℕ → Hart → Type 0) (hs : List Hart) (h : ℕ) (was y : Hart) → slice_get hs h ≡ Some was → P h y → ((j : ℕ) (x : Hart) → j ≢ h → slice_get hs j ≡ Some x → P j x)
+pub each_put : (P : ℕ → Hart → Type 0) (hs : List Hart) (h : ℕ) (was y : Hart) → slice_get hs h ≡ Some was → P h y
+    → ((j : ℕ) (x : Hart) → j ≢ h → slice_get hs j ≡ Some x → P j x)
     → (j : ℕ) (x : Hart) → slice_get (set hs h y) j ≡ Some x → P j x
 each_put P hs h was y there here each j x is = elim (cases_eq j h) [
   | inl same ↦
@@ -30,18 +31,23 @@ each_put P hs h was y there here each j x is = elim (cases_eq j h) [
 ]
 
 -- what a hart's own turn keeps, a board's turns keep; `Q` is known of the memory beside
-pub each_turn_by : (P : ℕ → Hart → Type 0) (o : Option Hart) (h : ℕ) (b : Board) → slice_get b.harts h ≡ o → ((x : Hart) → P h x → P h (place_of x b.memory).hart) → EachHart P b → EachHart P (turn_by o h b)
+pub each_turn_by : (P : ℕ → Hart → Type 0) (o : Option Hart) (h : ℕ) (b : Board) → slice_get b.harts h ≡ o
+    → ((x : Hart) → P h x → P h (place_of x b.memory).hart) → EachHart P b → EachHart P (turn_by o h b)
 each_turn_by P None h b at keeps each = each
 each_turn_by P (Some x) h b at keeps each = each_put P b.harts h x (place_of x b.memory).hart at (keeps x (each h x at)) (λ j y other is. each j y is)
 
-pub each_turns : (P : ℕ → Hart → Type 0) → ((j : ℕ) (x : Hart) (m : Memory) → P j x → P j (place_of x m).hart) → (harts : List ℕ) (b : Board) → EachHart P b → EachHart P (after_turns harts b)
+pub each_turns : (P : ℕ → Hart → Type 0) → ((j : ℕ) (x : Hart) (m : Memory) → P j x → P j (place_of x m).hart) → (harts : List ℕ) (b : Board) → EachHart P b
+    → EachHart P (after_turns harts b)
 each_turns P keeps [] b each = each
 each_turns P keeps (h ∷ harts) b each = each_turns P keeps harts (turn h b) (each_turn_by P (slice_get b.harts h) h b refl (λ x p. keeps h x b.memory p) each)
 
 each_changed_by : (P R : ℕ → Hart → Type 0) (change : DebugPart → DebugPart) (o : Option Hart) (h : ℕ) (b : Board) → slice_get b.harts h ≡ o
-    → ((x : Hart) → P h x → R h (with_debug change x)) → ((j : ℕ) (x : Hart) → j ≢ h → P j x → R j x) → EachHart P b → EachHart R (debug_changed_by o change h b)
-each_changed_by P R change None h b at here there each = λ j x is. there j x (λ same. none-some x (sym at ∙ ap (slice_get b.harts) (sym same) ∙ is)) (each j x is)
-each_changed_by P R change (Some y) h b at here there each = each_put R b.harts h y (with_debug change y) at (here y (each h y at)) (λ j x other is. there j x other (each j x is))
+    → ((x : Hart) → P h x → R h (with_debug change x)) → ((j : ℕ) (x : Hart) → j ≢ h → P j x → R j x) → EachHart P b
+        → EachHart R (debug_changed_by o change h b)
+each_changed_by P R change None h b at here there each =
+    λ j x is. there j x (λ same. none-some x (sym at ∙ ap (slice_get b.harts) (sym same) ∙ is)) (each j x is)
+each_changed_by P R change (Some y) h b at here there each =
+    each_put R b.harts h y (with_debug change y) at (here y (each h y at)) (λ j x other is. there j x other (each j x is))
 
 -- a change of hart h leads from what was known of the harts to what is
 pub each_changed : (P R : ℕ → Hart → Type 0) (change : DebugPart → DebugPart) (h : ℕ) (b : Board)
@@ -88,7 +94,8 @@ asked_wide_by None h x w = record {
   compared = w.compared;
 }
 
-memory_changed_by : (o : Option Hart) (change : DebugPart → DebugPart) (h : ℕ) (b : Board) → MemoryReady b.memory → MemoryReady (debug_changed_by o change h b).memory
+memory_changed_by : (o : Option Hart) (change : DebugPart → DebugPart) (h : ℕ) (b : Board) → MemoryReady b.memory
+    → MemoryReady (debug_changed_by o change h b).memory
 memory_changed_by None change h b m = m
 memory_changed_by (Some x) change h b m = m
 

@@ -1,5 +1,6 @@
 -- Numbers in the bytes of a list, and what an access to the list is on its map.
-use Rattle.std.proofs.Common.{◌≡◌, ℕ, zero, suc, ◌+◌, ◌-◌, ◌*◌, ◌/◌, ◌%◌, ◌^◌, ◌<◌, ◌≤◌, true, List, [], ◌∷◌, ◌++◌, length, get_or, set, take, drop, Some, None, is_some, refl, sym, ap, ◌∙◌, arith, append_assoc, append-nil, add-zero, length-set, length-drop}
+use Rattle.std.proofs.Common.{◌≡◌, ℕ, zero, suc, ◌+◌, ◌-◌, ◌*◌, ◌/◌, ◌%◌, ◌^◌, ◌<◌, ◌≤◌, true, List, [], ◌∷◌, ◌++◌, length, get_or, set, take, drop, Some,
+    None, is_some, refl, sym, ap, ◌∙◌, arith, append_assoc, append-nil, add-zero, length-set, length-drop}
 use Rattle.std.specs.Int.{bytes_low_first, byte_at}
 use Rattle.std.proofs.lemmas.List.{get_or-drop, drop-set-lt, take-append-drop, take_all, drop_all}
 use Rattle.std.proofs.Math.Seq.{take-suc-set, drop-drop}
@@ -33,7 +34,8 @@ none_low xs a size h = value_at_low xs a (count_of size) h (count_some size)
 pub none_high : (xs : List ℕ) (a : ℕ) (size : Size) → ram_base + length xs < a + count_of size → value_at (map_of xs) a (count_of size) ≡ None
 none_high xs a size h = value_at_high xs a (count_of size) h (count_some size)
 
-pub some_inside : (xs : List ℕ) (a : ℕ) (size : Size) → ram_base ≤ a → a + count_of size ≤ ram_base + length xs → is_some (value_at (map_of xs) a (count_of size)) ≡ true
+pub some_inside : (xs : List ℕ) (a : ℕ) (size : Size) → ram_base ≤ a → a + count_of size ≤ ram_base + length xs
+    → is_some (value_at (map_of xs) a (count_of size)) ≡ true
 some_inside xs a size low high = value_at_inside xs a (count_of size) low high
 
 -- ---- reading
@@ -57,7 +59,8 @@ value_at_drop xs a i n e h =
     value_at_from xs a i n e h ∙ ap Some (sym (little_from-drop xs i 0 n ∙ ap (λ k. little_from k n xs) (omega arith)))
 
 -- the same where what is left is cut after enough bytes
-pub value_at_mid : (xs : List ℕ) (a i k n v : ℕ) → a ≡ ram_base + i → i + n ≤ length xs → n ≤ k → v ≡ little_from 0 n (take k (drop i xs)) → value_at (map_of xs) a n ≡ Some v
+pub value_at_mid : (xs : List ℕ) (a i k n v : ℕ) → a ≡ ram_base + i → i + n ≤ length xs → n ≤ k → v ≡ little_from 0 n (take k (drop i xs))
+    → value_at (map_of xs) a n ≡ Some v
 value_at_mid xs a i k n v e h long is =
     value_at_drop xs a i n e h ∙ ap Some (sym (is ∙ little_from-take 0 n k (drop i xs) (omega arith)))
 

@@ -14,7 +14,8 @@ pub and_ones_64 : (n count : ℕ) → count < 64 → bit_and n (1 * 2 ^ count % 
 and_ones_64 n count h = and_ones n count 64 h
 
 -- a mask is taken apart at any bit
-and_split : (n low upper lower : ℕ) → lower < 2 ^ low → bit_and n (upper * 2 ^ low + lower) ≡ bit_and (n / 2 ^ low) upper * 2 ^ low + bit_and (n % 2 ^ low) lower
+and_split : (n low upper lower : ℕ) → lower < 2 ^ low
+    → bit_and n (upper * 2 ^ low + lower) ≡ bit_and (n / 2 ^ low) upper * 2 ^ low + bit_and (n % 2 ^ low) lower
 and_split n low upper lower h =
     ap (λ k. bit_and k (upper * 2 ^ low + lower)) (sym (shr_split n low))
     ∙ and_block low (n / 2 ^ low) upper (n % 2 ^ low) lower (mod_below n (2 ^ low) (pow_pos low)) h

@@ -1,5 +1,6 @@
 -- Words without blanks, number signs and line feeds part again where a line joins them, and lines where a text joins them.
-use Rattle.std.proofs.Common.{◌≡◌, ℕ, suc, ◌+◌, ◌*◌, ◌≤◌, Bool, true, false, not, ◌&&◌, ◌==◌, nat_le, cond, List, [], ◌∷◌, ◌++◌, length, take, refl, ap, ◌∙◌, arith, append_assoc}
+use Rattle.std.proofs.Common.{◌≡◌, ℕ, suc, ◌+◌, ◌*◌, ◌≤◌, Bool, true, false, not, ◌&&◌, ◌==◌, nat_le, cond, List, [], ◌∷◌, ◌++◌, length, take, refl, ap, ◌∙◌,
+    arith, append_assoc}
 use Rattle.std.specs.List.{All, filter, list_all, slice_split, position_or_len, join_with_byte}
 use Rattle.std.proofs.lemmas.Bool.{and_parts, leb-true}
 use Rattle.std.proofs.lemmas.Bool.Decides.{nat_tests}
@@ -99,7 +100,8 @@ content_of-plain bytes h = before_all bytes h
 
 pub is_plain-line : (bytes : List ℕ) → All IsLineByte bytes → is_plain bytes ≡ true
 is_plain-line [] h = refl
-is_plain-line (b ∷ bytes) h = ap (λ t. t && list_all is_allowed bytes) (All-head IsLineByte b bytes h).allowed ∙ is_plain-line bytes (All-tail IsLineByte b bytes h)
+is_plain-line (b ∷ bytes) h = ap (λ t. t && list_all is_allowed bytes) (All-head IsLineByte b bytes h).allowed
+    ∙ is_plain-line bytes (All-tail IsLineByte b bytes h)
 
 not_blank : (b : ℕ) → IsWordByte b → is_blank b ≡ false
 not_blank b h = h.no_blank
@@ -113,7 +115,8 @@ split_words w (v ∷ words) h hs =
 keep_words : (words : List (List ℕ)) → All IsWord words → filter is_not_empty words ≡ words
 keep_words [] h = refl
 keep_words (w ∷ words) h =
-    ap (λ b. cond b (w ∷ filter is_not_empty words) (filter is_not_empty words)) (All-head IsWord w words h).some ∙ ap (λ ws. w ∷ ws) (keep_words words (All-tail IsWord w words h))
+    ap (λ b. cond b (w ∷ filter is_not_empty words) (filter is_not_empty words)) (All-head IsWord w words h).some
+        ∙ ap (λ ws. w ∷ ws) (keep_words words (All-tail IsWord w words h))
 
 pub words_of-joined : (w : List ℕ) (words : List (List ℕ)) → IsWord w → All IsWord words → words_of (join_with_byte space (w ∷ words)) ≡ w ∷ words
 unfolding words_of

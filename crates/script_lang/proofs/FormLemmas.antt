@@ -15,9 +15,11 @@ option_map-or f None y = refl
 
 form_in-append : (one two : Forms) (name : List ℕ) → form_in (one ++ two) name ≡ option_or (form_in one name) (form_in two name)
 form_in-append one two name =
-    ap (option_map (λ row. row.1)) (find-append (λ row. bytes_eq row.0 name) one two) ∙ option_map-or (λ row. row.1) (find (λ row. bytes_eq row.0 name) one) (find (λ row. bytes_eq row.0 name) two)
+    ap (option_map (λ row. row.1)) (find-append (λ row. bytes_eq row.0 name) one two)
+        ∙ option_map-or (λ row. row.1) (find (λ row. bytes_eq row.0 name) one) (find (λ row. bytes_eq row.0 name) two)
 
-form_in-forms : (name : List ℕ) → form_in forms name ≡ option_or (form_in plain_forms name) (option_or (form_in hart_forms name) (option_or (form_in memory_forms name) (form_in slot_forms name)))
+form_in-forms : (name : List ℕ) → form_in forms name ≡ option_or (form_in plain_forms name)
+    (option_or (form_in hart_forms name) (option_or (form_in memory_forms name) (form_in slot_forms name)))
 form_in-forms name =
     form_in-append plain_forms (hart_forms ++ (memory_forms ++ slot_forms)) name
     ∙ ap (option_or (form_in plain_forms name)) (form_in-append hart_forms (memory_forms ++ slot_forms) name
@@ -32,13 +34,17 @@ command_read-taken name words = by_cases (form_in forms name)
     by_cases None = refl
 
 -- the parts of the table before the one that has the word
-command_read-is : (name : List ℕ) (words : Words) (o : Option Form) → option_or (form_in plain_forms name) (option_or (form_in hart_forms name) (option_or (form_in memory_forms name) (form_in slot_forms name))) ≡ o → command_read name words ≡ taken_by o words
+command_read-is : (name : List ℕ) (words : Words) (o : Option Form)
+    → option_or (form_in plain_forms name) (option_or (form_in hart_forms name) (option_or (form_in memory_forms name) (form_in slot_forms name))) ≡ o
+    → command_read name words ≡ taken_by o words
 command_read-is name words o e = command_read-taken name words ∙ ap (λ form. taken_by form words) (form_in-forms name ∙ e)
 
-pub command_read-plain : (name : List ℕ) (words : Words) (o : Option Command) (command : Command) → o ≡ Some command → option_map no_arguments o ≡ form_in plain_forms name → command_read name words ≡ Ok (command, words)
+pub command_read-plain : (name : List ℕ) (words : Words) (o : Option Command) (command : Command) → o ≡ Some command
+    → option_map no_arguments o ≡ form_in plain_forms name → command_read name words ≡ Ok (command, words)
 command_read-plain name words o command e f =
     let found : form_in plain_forms name ≡ Some (no_arguments command) = sym f ∙ ap (option_map no_arguments) e in
-    command_read-is name words (Some (no_arguments command)) (ap (λ o. option_or o (option_or (form_in hart_forms name) (option_or (form_in memory_forms name) (form_in slot_forms name)))) found)
+    command_read-is name words (Some (no_arguments command))
+        (ap (λ o. option_or o (option_or (form_in hart_forms name) (option_or (form_in memory_forms name) (form_in slot_forms name)))) found)
 
 pub none_plain : (name : List ℕ) (o : Option Command) → o ≡ None → option_map no_arguments o ≡ form_in plain_forms name → form_in plain_forms name ≡ None
 none_plain name o e f = sym f ∙ ap (option_map no_arguments) e
@@ -47,18 +53,22 @@ or_first : (o p : Option Form) → is_some o ≡ true → option_or o p ≡ o
 or_first (Some form) p e = refl
 or_first None p e = cc
 
-pub command_read-hart : (name : List ℕ) (words : Words) → form_in plain_forms name ≡ None → is_some (form_in hart_forms name) ≡ true → command_read name words ≡ taken_by (form_in hart_forms name) words
+pub command_read-hart : (name : List ℕ) (words : Words) → form_in plain_forms name ≡ None → is_some (form_in hart_forms name) ≡ true
+    → command_read name words ≡ taken_by (form_in hart_forms name) words
 command_read-hart name words p h =
     command_read-is name words (form_in hart_forms name)
-    (ap (λ o. option_or o (option_or (form_in hart_forms name) (option_or (form_in memory_forms name) (form_in slot_forms name)))) p ∙ or_first (form_in hart_forms name) _ h)
+    (ap (λ o. option_or o (option_or (form_in hart_forms name) (option_or (form_in memory_forms name) (form_in slot_forms name)))) p
+        ∙ or_first (form_in hart_forms name) _ h)
 
-pub command_read-memory : (name : List ℕ) (words : Words) → form_in plain_forms name ≡ None → form_in hart_forms name ≡ None → is_some (form_in memory_forms name) ≡ true → command_read name words ≡ taken_by (form_in memory_forms name) words
+pub command_read-memory : (name : List ℕ) (words : Words) → form_in plain_forms name ≡ None → form_in hart_forms name ≡ None
+    → is_some (form_in memory_forms name) ≡ true → command_read name words ≡ taken_by (form_in memory_forms name) words
 command_read-memory name words p q h =
     command_read-is name words (form_in memory_forms name)
     (ap (λ o. option_or o (option_or (form_in hart_forms name) (option_or (form_in memory_forms name) (form_in slot_forms name)))) p
     ∙ ap (λ o. option_or o (option_or (form_in memory_forms name) (form_in slot_forms name))) q ∙ or_first (form_in memory_forms name) _ h)
 
-pub command_read-slot : (name : List ℕ) (words : Words) → form_in plain_forms name ≡ None → form_in hart_forms name ≡ None → form_in memory_forms name ≡ None → command_read name words ≡ taken_by (form_in slot_forms name) words
+pub command_read-slot : (name : List ℕ) (words : Words) → form_in plain_forms name ≡ None → form_in hart_forms name ≡ None → form_in memory_forms name ≡ None
+    → command_read name words ≡ taken_by (form_in slot_forms name) words
 command_read-slot name words p q r =
     command_read-is name words (form_in slot_forms name)
     (ap (λ o. option_or o (option_or (form_in hart_forms name) (option_or (form_in memory_forms name) (form_in slot_forms name)))) p

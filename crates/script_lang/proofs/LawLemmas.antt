@@ -1,5 +1,6 @@
 -- A text is read in one way: the lines before its first fault are those that are read, whatever their number.
-use Rattle.std.proofs.Common.{◌≡◌, ℕ, suc, ◌+◌, ◌≤◌, Bool, true, false, ◌&&◌, cond, nat_le, List, [], ◌∷◌, ◌++◌, length, map, Option, Some, None, Result, Ok, Err, inl, inr, refl, sym, ap, ◌∙◌, subst, arith}
+use Rattle.std.proofs.Common.{◌≡◌, ℕ, suc, ◌+◌, ◌≤◌, Bool, true, false, ◌&&◌, cond, nat_le, List, [], ◌∷◌, ◌++◌, length, map, Option, Some, None, Result, Ok,
+    Err, inl, inr, refl, sym, ap, ◌∙◌, subst, arith}
 use Rattle.std.specs.List.{filter_map, cons_option}
 use Rattle.std.proofs.lemmas.Bool.{and_parts, leb-true}
 use Rattle.debug_model.specs.declared.command.Command.{Command}
@@ -37,7 +38,8 @@ tail_of a b xs ys e = cc
 first : (line : List ℕ) (lines : List (List ℕ)) (commands : List Command) → AreReadAs (line ∷ lines) commands → First line lines commands
 first line lines commands h = by_cases h.readings h.each h.commands_of
   where
-    by_cases : (readings : List (Option Command)) → (line_read line ∷ map line_read lines) ≡ map Ok readings → commands ≡ filter_map (λ r. r) readings → First line lines commands
+    by_cases : (readings : List (Option Command)) → (line_read line ∷ map line_read lines) ≡ map Ok readings → commands ≡ filter_map (λ r. r) readings
+        → First line lines commands
     by_cases [] e f = cc
     by_cases (r ∷ readings) e f = record {
       reading = r;
@@ -62,7 +64,8 @@ one_list [] cs ds h i = none_of cs h ∙ sym (none_of ds i)
 one_list (line ∷ lines) cs ds h i =
     let a = first line lines cs h in
     let b = first line lines ds i in
-    a.whole ∙ ap (λ r. cons_option r a.rest) (same_reading a.reading b.reading (line_read line) a.here b.here) ∙ ap (cons_option b.reading) (one_list lines a.rest b.rest a.later b.later) ∙ sym b.whole
+    a.whole ∙ ap (λ r. cons_option r a.rest) (same_reading a.reading b.reading (line_read line) a.here b.here)
+        ∙ ap (cons_option b.reading) (one_list lines a.rest b.rest a.later b.later) ∙ sym b.whole
 
 pub one_script : (text : List ℕ) (cs ds : List Command) → IsReadAs text cs → IsReadAs text ds → cs ≡ ds
 one_script text cs ds h i = one_list (lines_of text) cs ds h.lines i.lines
@@ -78,19 +81,24 @@ words_give_command (name ∷ words) r some e = by_cases (command_read name words
     last (Ok c) e = (c, cc)
     last (Err f) e = cc
 
-    by_cases : (t : Result (Command × Words) ScriptFault) → (t >>= (λ taken. finished taken >>= (λ command. Ok (Some command)))) ≡ Ok r → (c : Command) × (r ≡ Some c)
+    by_cases : (t : Result (Command × Words) ScriptFault) → (t >>= (λ taken. finished taken >>= (λ command. Ok (Some command)))) ≡ Ok r
+        → (c : Command) × (r ≡ Some c)
     by_cases (Ok taken) e = last (finished taken) e
     by_cases (Err f) e = cc
 
-too_many : (count : ℕ) (line : List ℕ) (r : Option Command) (fault : ScriptFault) → line_read line ≡ Ok r → line_read_after count line ≡ Err fault → (most_commands ≤ count) × ((c : Command) × (r ≡ Some c))
+too_many : (count : ℕ) (line : List ℕ) (r : Option Command) (fault : ScriptFault) → line_read line ≡ Ok r → line_read_after count line ≡ Err fault
+    → (most_commands ≤ count) × ((c : Command) × (r ≡ Some c))
 unfolding line_read_after line_read
 too_many count line r fault e f = by_cases (is_plain (content_of line) && is_not_empty (words_of (content_of line)) && nat_le most_commands count) refl f
   where
-    with_words : (b : Bool) (words : Words) → b ≡ true → is_not_empty words ≡ true → cond b (words_read words) (Err NotAscii) ≡ Ok r → (c : Command) × (r ≡ Some c)
+    with_words : (b : Bool) (words : Words) → b ≡ true → is_not_empty words ≡ true → cond b (words_read words) (Err NotAscii) ≡ Ok r
+        → (c : Command) × (r ≡ Some c)
     with_words true words g some e = words_give_command words r some e
     with_words false words g some e = cc
 
-    by_cases : (b : Bool) → (is_plain (content_of line) && is_not_empty (words_of (content_of line)) && nat_le most_commands count) ≡ b → cond b (Err TooManyLines) (cond (is_plain (content_of line)) (words_read (words_of (content_of line))) (Err NotAscii)) ≡ Err fault → (most_commands ≤ count) × ((c : Command) × (r ≡ Some c))
+    by_cases : (b : Bool) → (is_plain (content_of line) && is_not_empty (words_of (content_of line)) && nat_le most_commands count) ≡ b
+        → cond b (Err TooManyLines) (cond (is_plain (content_of line)) (words_read (words_of (content_of line))) (Err NotAscii)) ≡ Err fault
+        → (most_commands ≤ count) × ((c : Command) × (r ≡ Some c))
     by_cases true g f =
         let ends = and_parts (is_plain (content_of line) && is_not_empty (words_of (content_of line))) (nat_le most_commands count) g in
         let starts = and_parts (is_plain (content_of line)) (is_not_empty (words_of (content_of line))) ends.0 in
@@ -98,7 +106,8 @@ too_many count line r fault e f = by_cases (is_plain (content_of line) && is_not
     by_cases false g f = cc
 
 -- the same at the front of some lines that are read
-stopped : (k : ℕ) (line : List ℕ) (lines : List (List ℕ)) (cs : List Command) (fault : ScriptFault) → AreReadAs (line ∷ lines) cs → line_read_after k line ≡ Err fault → k + length cs ≤ most_commands → ⊥
+stopped : (k : ℕ) (line : List ℕ) (lines : List (List ℕ)) (cs : List Command) (fault : ScriptFault) → AreReadAs (line ∷ lines) cs
+    → line_read_after k line ≡ Err fault → k + length cs ≤ most_commands → ⊥
 stopped k line lines cs fault h f few =
     let a = first line lines cs h in
     let late = too_many k line a.reading fault a.here f in
@@ -108,7 +117,8 @@ stopped k line lines cs fault h f few =
     long : (k : ℕ) (cs : List Command) (c : Command) (ds : List Command) → most_commands ≤ k → cs ≡ c ∷ ds → k + length cs ≤ most_commands → ⊥
     long k cs c ds late e few = let l = ap length e in omega (arith, l)
 
-faulty_at : (before : List (List ℕ)) (faulty : List ℕ) (after : List (List ℕ)) (k : ℕ) (cs ds : List Command) (fault : ScriptFault) → AreReadAs (before ++ (faulty ∷ after)) cs → AreReadAs before ds → line_read_after (k + length ds) faulty ≡ Err fault → k + length cs ≤ most_commands → ⊥
+faulty_at : (before : List (List ℕ)) (faulty : List ℕ) (after : List (List ℕ)) (k : ℕ) (cs ds : List Command) (fault : ScriptFault)
+    → AreReadAs (before ++ (faulty ∷ after)) cs → AreReadAs before ds → line_read_after (k + length ds) faulty ≡ Err fault → k + length cs ≤ most_commands → ⊥
 faulty_at [] faulty after k cs ds fault h i f few =
     stopped k faulty after cs fault h (sym (ap (λ n. line_read_after n faulty) (counted k ds (none_of ds i))) ∙ f) few
   where
@@ -118,9 +128,11 @@ faulty_at (line ∷ before) faulty after k cs ds fault h i f few =
     let a = first line (before ++ (faulty ∷ after)) cs h in
     let b = first line before ds i in
     let same = same_reading b.reading a.reading (line_read line) b.here a.here in
-    by_cases a.reading a.rest b.rest a.whole (b.whole ∙ ap (λ r. cons_option r b.rest) same) (λ k g few. faulty_at before faulty after k a.rest b.rest fault a.later b.later g few)
+    by_cases a.reading a.rest b.rest a.whole (b.whole ∙ ap (λ r. cons_option r b.rest) same)
+        (λ k g few. faulty_at before faulty after k a.rest b.rest fault a.later b.later g few)
   where
-    by_cases : (r : Option Command) (cs' ds' : List Command) → cs ≡ cons_option r cs' → ds ≡ cons_option r ds' → ((k : ℕ) → line_read_after (k + length ds') faulty ≡ Err fault → k + length cs' ≤ most_commands → ⊥) → ⊥
+    by_cases : (r : Option Command) (cs' ds' : List Command) → cs ≡ cons_option r cs' → ds ≡ cons_option r ds'
+        → ((k : ℕ) → line_read_after (k + length ds') faulty ≡ Err fault → k + length cs' ≤ most_commands → ⊥) → ⊥
     by_cases (Some c) cs' ds' e g later =
         let l = ap length e in
         let m = ap length g in
@@ -133,7 +145,8 @@ faulty_at (line ∷ before) faulty after k cs ds fault h i f few =
 
 no_fault : (text : List ℕ) (cs : List Command) (line : ℕ) (fault : ScriptFault) → IsReadAs text cs → HasFirstFault text line fault → ⊥
 no_fault text cs line fault h i =
-    faulty_at i.before i.faulty i.after 0 cs i.commands fault (subst (λ ls. AreReadAs ls cs) i.cut h.lines) i.read (ap (λ n. line_read_after n i.faulty) (from_zero (length i.commands)) ∙ i.fault_is) (omega (arith, h.few))
+    faulty_at i.before i.faulty i.after 0 cs i.commands fault (subst (λ ls. AreReadAs ls cs) i.cut h.lines) i.read
+        (ap (λ n. line_read_after n i.faulty) (from_zero (length i.commands)) ∙ i.fault_is) (omega (arith, h.few))
   where
     from_zero : (n : ℕ) → 0 + n ≡ n
     from_zero n = omega arith
@@ -144,14 +157,17 @@ same_error x f g e h = cc
 counted : (k : ℕ) (ds : List Command) → ds ≡ [] → k ≡ k + length ds
 counted k ds e = let l = ap length e in omega (arith, l)
 
-at_start : (k : ℕ) (line : List ℕ) (ds : List Command) (fault : ScriptFault) → AreReadAs [] ds → line_read_after (k + length ds) line ≡ Err fault → line_read_after k line ≡ Err fault
+at_start : (k : ℕ) (line : List ℕ) (ds : List Command) (fault : ScriptFault) → AreReadAs [] ds → line_read_after (k + length ds) line ≡ Err fault
+    → line_read_after k line ≡ Err fault
 at_start k line ds fault i f = ap (λ n. line_read_after n line) (counted k ds (none_of ds i)) ∙ f
 
 pub record Same (one other : List (List ℕ)) (f g : ScriptFault) : Type 0 where
   pub place : length one ≡ length other
   pub fault : f ≡ g
 
-same_fault : (one other : List (List ℕ)) (x y : List ℕ) (rest more : List (List ℕ)) (k : ℕ) (cs ds : List Command) (f g : ScriptFault) → one ++ (x ∷ rest) ≡ other ++ (y ∷ more) → AreReadAs one cs → AreReadAs other ds → k + length cs ≤ most_commands → k + length ds ≤ most_commands → line_read_after (k + length cs) x ≡ Err f → line_read_after (k + length ds) y ≡ Err g → Same one other f g
+same_fault : (one other : List (List ℕ)) (x y : List ℕ) (rest more : List (List ℕ)) (k : ℕ) (cs ds : List Command) (f g : ScriptFault)
+    → one ++ (x ∷ rest) ≡ other ++ (y ∷ more) → AreReadAs one cs → AreReadAs other ds → k + length cs ≤ most_commands → k + length ds ≤ most_commands
+    → line_read_after (k + length cs) x ≡ Err f → line_read_after (k + length ds) y ≡ Err g → Same one other f g
 same_fault [] [] x y rest more k cs ds f g e h i few fewer a b = record {
   place = refl;
   fault = same_error (line_read_after k x) f g (at_start k x cs f h a) (ap (line_read_after k) (head_of x y rest more e) ∙ at_start k y ds g i b);
@@ -166,7 +182,8 @@ same_fault (line ∷ one) (other_line ∷ other) x y rest more k cs ds f g e h i
     let same_line = head_of line other_line (one ++ (x ∷ rest)) (other ++ (y ∷ more)) e in
     let same = same_reading n.reading m.reading (line_read line) (ap line_read same_line ∙ n.here) m.here in
     by_cases m.reading m.rest n.rest m.whole (n.whole ∙ ap (λ r. cons_option r n.rest) same)
-    (λ k few fewer a b. same_fault one other x y rest more k m.rest n.rest f g (tail_of line other_line (one ++ (x ∷ rest)) (other ++ (y ∷ more)) e) m.later n.later few fewer a b)
+    (λ k few fewer a b. same_fault one other x y rest more k m.rest n.rest f g (tail_of line other_line (one ++ (x ∷ rest)) (other ++ (y ∷ more)) e) m.later
+        n.later few fewer a b)
   where
     grown : (k n m : ℕ) → m ≡ suc n → k + 1 + n ≡ k + m
     grown k n m e = omega arith
@@ -174,17 +191,23 @@ same_fault (line ∷ one) (other_line ∷ other) x y rest more k cs ds f g e h i
     longer : Same one other f g → Same (line ∷ one) (other_line ∷ other) f g
     longer s = record { place = ap suc s.place; fault = s.fault }
 
-    by_cases : (r : Option Command) (cs' ds' : List Command) → cs ≡ cons_option r cs' → ds ≡ cons_option r ds' → ((k : ℕ) → k + length cs' ≤ most_commands → k + length ds' ≤ most_commands → line_read_after (k + length cs') x ≡ Err f → line_read_after (k + length ds') y ≡ Err g → Same one other f g) → Same (line ∷ one) (other_line ∷ other) f g
+    by_cases : (r : Option Command) (cs' ds' : List Command) → cs ≡ cons_option r cs' → ds ≡ cons_option r ds'
+        → ((k : ℕ) → k + length cs' ≤ most_commands → k + length ds' ≤ most_commands → line_read_after (k + length cs') x ≡ Err f
+        → line_read_after (k + length ds') y ≡ Err g → Same one other f g) → Same (line ∷ one) (other_line ∷ other) f g
     by_cases (Some c) cs' ds' p q later =
         let l = ap length p in
         let m = ap length q in
-        longer (later (k + 1) (omega (arith, l)) (omega (arith, m)) (ap (λ n. line_read_after n x) (grown k (length cs') (length cs) l) ∙ a) (ap (λ n. line_read_after n y) (grown k (length ds') (length ds) m) ∙ b))
+        longer (later (k + 1) (omega (arith, l)) (omega (arith, m)) (ap (λ n. line_read_after n x) (grown k (length cs') (length cs) l) ∙ a)
+            (ap (λ n. line_read_after n y) (grown k (length ds') (length ds) m) ∙ b))
     by_cases None cs' ds' p q later =
-        longer (later k (let l = ap length p in omega (arith, l)) (let l = ap length q in omega (arith, l)) (ap (λ xs. line_read_after (k + length xs) x) (sym p) ∙ a) (ap (λ xs. line_read_after (k + length xs) y) (sym q) ∙ b))
+        longer (later k (let l = ap length p in omega (arith, l)) (let l = ap length q in omega (arith, l))
+            (ap (λ xs. line_read_after (k + length xs) x) (sym p) ∙ a) (ap (λ xs. line_read_after (k + length xs) y) (sym q) ∙ b))
 
 one_fault : (text : List ℕ) (m n : ℕ) (f g : ScriptFault) → HasFirstFault text m f → HasFirstFault text n g → (m ≡ n) × (f ≡ g)
 one_fault text m n f g h i =
-    let same = same_fault h.before i.before h.faulty i.faulty h.after i.after 0 h.commands i.commands f g (sym h.cut ∙ i.cut) h.read i.read (omega (arith, h.few)) (omega (arith, i.few)) (ap (λ n. line_read_after n h.faulty) (zero_plus (length h.commands)) ∙ h.fault_is) (ap (λ n. line_read_after n i.faulty) (zero_plus (length i.commands)) ∙ i.fault_is) in
+    let same = same_fault h.before i.before h.faulty i.faulty h.after i.after 0 h.commands i.commands f g (sym h.cut ∙ i.cut) h.read i.read
+        (omega (arith, h.few)) (omega (arith, i.few)) (ap (λ n. line_read_after n h.faulty) (zero_plus (length h.commands)) ∙ h.fault_is)
+        (ap (λ n. line_read_after n i.faulty) (zero_plus (length i.commands)) ∙ i.fault_is) in
     (h.place ∙ ap (λ n. line_number (n + 1)) same.place ∙ sym i.place, same.fault)
   where
     zero_plus : (n : ℕ) → 0 + n ≡ n

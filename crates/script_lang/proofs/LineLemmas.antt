@@ -1,5 +1,6 @@
 -- What a line is read as, by what its content is and what its words are.
-use Rattle.std.proofs.Common.{◌≡◌, ℕ, ◌<◌, ◌≤◌, Bool, true, false, not, ◌&&◌, ◌==◌, cond, nat_le, List, [], ◌∷◌, take, Option, Some, None, Ok, Err, refl, sym, ap, ◌∙◌, arith}
+use Rattle.std.proofs.Common.{◌≡◌, ℕ, ◌<◌, ◌≤◌, Bool, true, false, not, ◌&&◌, ◌==◌, cond, nat_le, List, [], ◌∷◌, take, Option, Some, None, Ok, Err, refl, sym,
+    ap, ◌∙◌, arith}
 use Rattle.std.specs.List.{position}
 use Rattle.std.proofs.Math.Seq.{take-length}
 use Rattle.std.proofs.lemmas.Bool.Decides.{nat_tests}
@@ -54,7 +55,8 @@ pub line_read-empty : (count : ℕ) (line content : List ℕ) → Shows line con
 unfolding after words_read
 line_read-empty count line content s = shown count line content [] s
 
-pub line_read-late : (count : ℕ) (line content name : List ℕ) (words : Words) → Shows line content (name ∷ words) → most_commands ≤ count → line_read_after count line ≡ Err TooManyLines
+pub line_read-late : (count : ℕ) (line content name : List ℕ) (words : Words) → Shows line content (name ∷ words) → most_commands ≤ count
+    → line_read_after count line ≡ Err TooManyLines
 unfolding after
 line_read-late count line content name words s late =
     shown count line content (name ∷ words) s ∙ ap (λ b. cond b (Err TooManyLines) (words_read (name ∷ words))) (le-leb most_commands count late)
@@ -62,7 +64,8 @@ line_read-late count line content name words s late =
     le-leb : (m n : ℕ) → m ≤ n → nat_le m n ≡ true
     le-leb m n h = grind (arith, nat_tests)
 
-named : (count : ℕ) (line content name : List ℕ) (words : Words) → Shows line content (name ∷ words) → count < most_commands → line_read_after count line ≡ words_read (name ∷ words)
+named : (count : ℕ) (line content name : List ℕ) (words : Words) → Shows line content (name ∷ words) → count < most_commands
+    → line_read_after count line ≡ words_read (name ∷ words)
 unfolding after
 named count line content name words s early =
     shown count line content (name ∷ words) s ∙ ap (λ b. cond b (Err TooManyLines) (words_read (name ∷ words))) (leb_not most_commands count early)
@@ -70,18 +73,21 @@ named count line content name words s early =
     leb_not : (m n : ℕ) → n < m → nat_le m n ≡ false
     leb_not m n h = grind (arith, nat_tests)
 
-pub line_read-fault : (count : ℕ) (line content name : List ℕ) (words : Words) (fault : ScriptFault) → Shows line content (name ∷ words) → count < most_commands → command_read name words ≡ Err fault → line_read_after count line ≡ Err fault
+pub line_read-fault : (count : ℕ) (line content name : List ℕ) (words : Words) (fault : ScriptFault) → Shows line content (name ∷ words)
+    → count < most_commands → command_read name words ≡ Err fault → line_read_after count line ≡ Err fault
 unfolding words_read
 line_read-fault count line content name words fault s early e =
     named count line content name words s early ∙ ap (λ t. t >>= (λ taken. finished taken >>= (λ command. Ok (Some command)))) e
 
-pub line_read-command : (count : ℕ) (line content name : List ℕ) (words left : Words) (command : Command) → Shows line content (name ∷ words) → count < most_commands → command_read name words ≡ Ok (command, left) → is_not_empty left ≡ false → line_read_after count line ≡ Ok (Some command)
+pub line_read-command : (count : ℕ) (line content name : List ℕ) (words left : Words) (command : Command) → Shows line content (name ∷ words)
+    → count < most_commands → command_read name words ≡ Ok (command, left) → is_not_empty left ≡ false → line_read_after count line ≡ Ok (Some command)
 unfolding words_read finished
 line_read-command count line content name words [] command s early e f =
     named count line content name words s early ∙ ap (λ t. t >>= (λ taken. finished taken >>= (λ command. Ok (Some command)))) e
 line_read-command count line content name words (word ∷ left) command s early e f = cc
 
-pub line_read-extra : (count : ℕ) (line content name : List ℕ) (words left : Words) (command : Command) → Shows line content (name ∷ words) → count < most_commands → command_read name words ≡ Ok (command, left) → is_not_empty left ≡ true → line_read_after count line ≡ Err Extra
+pub line_read-extra : (count : ℕ) (line content name : List ℕ) (words left : Words) (command : Command) → Shows line content (name ∷ words)
+    → count < most_commands → command_read name words ≡ Ok (command, left) → is_not_empty left ≡ true → line_read_after count line ≡ Err Extra
 unfolding words_read finished
 line_read-extra count line content name words [] command s early e f = cc
 line_read-extra count line content name words (word ∷ left) command s early e f =
@@ -107,9 +113,11 @@ line_read-alone count line reading e = by_cases (is_plain (content_of line) && i
 -- a line that is a command after other lines has room
 pub room_for : (count : ℕ) (line : List ℕ) (command : Command) → line_read_after count line ≡ Ok (Some command) → count < most_commands
 unfolding after words_read
-room_for count line command e = by_cases (is_plain (content_of line)) (words_of (content_of line)) (nat_le most_commands count) refl (sym (line_read_after-is count line) ∙ e)
+room_for count line command e = by_cases (is_plain (content_of line)) (words_of (content_of line)) (nat_le most_commands count) refl
+    (sym (line_read_after-is count line) ∙ e)
   where
-    by_cases : (b : Bool) (words : Words) (late : Bool) → nat_le most_commands count ≡ late → cond (b && is_not_empty words && late) (Err TooManyLines) (cond b (words_read words) (Err NotAscii)) ≡ Ok (Some command) → count < most_commands
+    by_cases : (b : Bool) (words : Words) (late : Bool) → nat_le most_commands count ≡ late
+        → cond (b && is_not_empty words && late) (Err TooManyLines) (cond b (words_read words) (Err NotAscii)) ≡ Ok (Some command) → count < most_commands
     by_cases true [] late f e = cc
     by_cases true (word ∷ words) true f e = cc
     by_cases true (word ∷ words) false f e = early f

@@ -1,5 +1,6 @@
 -- The value of digits, as a loop from the left reads it.
-use Rattle.std.proofs.Common.{◌≡◌, ℕ, ◌+◌, ◌*◌, ◌^◌, ◌<◌, ◌≤◌, Bool, true, false, ◌&&◌, cond, nat_lt, nat_le, bytes_eq, List, [], ◌∷◌, take, drop, length, get_or, Option, Some, None, Ok, Err, SomeIff, refl, sym, ap, ◌∙◌, subst, arith}
+use Rattle.std.proofs.Common.{◌≡◌, ℕ, ◌+◌, ◌*◌, ◌^◌, ◌<◌, ◌≤◌, Bool, true, false, ◌&&◌, cond, nat_lt, nat_le, bytes_eq, List, [], ◌∷◌, take, drop, length,
+    get_or, Option, Some, None, Ok, Err, SomeIff, refl, sym, ap, ◌∙◌, subst, arith}
 use Rattle.std.specs.List.{list_all}
 use Rattle.std.specs.Char.{digit_value, is_digit}
 use Rattle.std.specs.Str.Parse.{digits_value, digits_value_after, AllDigits}
@@ -16,16 +17,19 @@ AllDigits-from_test base (d ∷ ds) e =
     let parts = and_parts (is_digit d base) (list_all (λ d. is_digit d base) ds) e in
     (ltb-true _ _ parts.0, AllDigits-from_test base ds parts.1)
 
-pub digits_value_after-drop : (base n : ℕ) (ds : List ℕ) (i : ℕ) → i < length ds → digits_value_after base n (drop i ds) ≡ digits_value_after base (n * base + digit_value (get_or ds i 0)) (drop (i + 1) ds)
+pub digits_value_after-drop : (base n : ℕ) (ds : List ℕ) (i : ℕ) → i < length ds
+    → digits_value_after base n (drop i ds) ≡ digits_value_after base (n * base + digit_value (get_or ds i 0)) (drop (i + 1) ds)
 digits_value_after-drop base n ds i h = at_drop_more (digits_value_after base n) ds i 0 h
 
-pub AllDigits-drop : (base : ℕ) (ds : List ℕ) (i : ℕ) → i < length ds → AllDigits base (drop i ds) → (digit_value (get_or ds i 0) < base) × AllDigits base (drop (i + 1) ds)
+pub AllDigits-drop : (base : ℕ) (ds : List ℕ) (i : ℕ) → i < length ds → AllDigits base (drop i ds)
+    → (digit_value (get_or ds i 0) < base) × AllDigits base (drop (i + 1) ds)
 AllDigits-drop base ds i h a = subst (AllDigits base) (at_drop_more (λ x. x) ds i 0 h) a
 
 -- the value grows with each digit
 pub digits_value_after-ge : (base n : ℕ) (ds : List ℕ) → 1 ≤ base → n ≤ digits_value_after base n ds
 digits_value_after-ge base n [] h = omega arith
-digits_value_after-ge base n (d ∷ ds) h = grows base n (digit_value d) (digits_value_after base (n * base + digit_value d) ds) h (digits_value_after-ge base (n * base + digit_value d) ds h)
+digits_value_after-ge base n (d ∷ ds) h =
+    grows base n (digit_value d) (digits_value_after base (n * base + digit_value d) ds) h (digits_value_after-ge base (n * base + digit_value d) ds h)
   where
     grows : (b n d whole : ℕ) → 1 ≤ b → n * b + d ≤ whole → n ≤ whole
     grows b n d whole h g = grind arith
@@ -38,14 +42,19 @@ value_grows base n ds i h b =
 -- a word of no digits is no number, and the value of digits is the number where it is below 2^64
 pub numeral_read-bad : (base most : ℕ) (ds : List ℕ) → are_digits base most ds ≡ false → numeral_read base most ds ≡ Err BadNumber
 unfolding numeral_read
-numeral_read-bad base most ds e = ap (λ b. cond b (cond (nat_lt (digits_value base ds) (2 ^ 64)) (Ok (digits_value base ds)) (Err OutOfRange)) (Err BadNumber)) e
+numeral_read-bad base most ds e = ap (λ b. cond b (cond (nat_lt (digits_value base ds) (2 ^ 64)) (Ok (digits_value base ds)) (Err OutOfRange)) (Err BadNumber))
+    e
 
-numeral_read-good : (base most : ℕ) (ds : List ℕ) → are_digits base most ds ≡ true → numeral_read base most ds ≡ cond (nat_lt (digits_value base ds) (2 ^ 64)) (Ok (digits_value base ds)) (Err OutOfRange)
+numeral_read-good : (base most : ℕ) (ds : List ℕ) → are_digits base most ds ≡ true
+    → numeral_read base most ds ≡ cond (nat_lt (digits_value base ds) (2 ^ 64)) (Ok (digits_value base ds)) (Err OutOfRange)
 unfolding numeral_read
-numeral_read-good base most ds e = ap (λ b. cond b (cond (nat_lt (digits_value base ds) (2 ^ 64)) (Ok (digits_value base ds)) (Err OutOfRange)) (Err BadNumber)) e
+numeral_read-good base most ds e = ap (λ b. cond b (cond (nat_lt (digits_value base ds) (2 ^ 64)) (Ok (digits_value base ds)) (Err OutOfRange))
+    (Err BadNumber)) e
 
-pub numeral_read-value : (base most : ℕ) (ds : List ℕ) (o : Option ℕ) → are_digits base most ds ≡ true → SomeIff o (digits_value base ds < 2 ^ 64) (digits_value base ds) → numeral_read base most ds ≡ ok_or o OutOfRange
-numeral_read-value base most ds (Some n) e h = numeral_read-good base most ds e ∙ ap (λ b. cond b (Ok (digits_value base ds)) (Err OutOfRange)) (lt-ltb _ _ h.0) ∙ ap Ok (sym h.1)
+pub numeral_read-value : (base most : ℕ) (ds : List ℕ) (o : Option ℕ) → are_digits base most ds ≡ true
+    → SomeIff o (digits_value base ds < 2 ^ 64) (digits_value base ds) → numeral_read base most ds ≡ ok_or o OutOfRange
+numeral_read-value base most ds (Some n) e h = numeral_read-good base most ds e
+    ∙ ap (λ b. cond b (Ok (digits_value base ds)) (Err OutOfRange)) (lt-ltb _ _ h.0) ∙ ap Ok (sym h.1)
 numeral_read-value base most ds None e h = numeral_read-good base most ds e ∙ ap (λ b. cond b (Ok (digits_value base ds)) (Err OutOfRange)) (ltb_not _ _ h)
   where
     ltb_not : (m n : ℕ) → ¬ (m < n) → nat_lt m n ≡ false
@@ -62,7 +71,8 @@ are_digits-empty base most ds h = ap (λ n. nat_le 1 n && nat_le n most && list_
 
 pub are_digits-long : (base most : ℕ) (ds : List ℕ) → most < length ds → are_digits base most ds ≡ false
 unfolding are_digits
-are_digits-long base most ds h = ap (λ b. nat_le 1 (length ds) && b && list_all (λ d. is_digit d base) ds) (leb_not (length ds) most h) ∙ no_more (nat_le 1 (length ds)) (list_all (λ d. is_digit d base) ds)
+are_digits-long base most ds h = ap (λ b. nat_le 1 (length ds) && b && list_all (λ d. is_digit d base) ds) (leb_not (length ds) most h)
+    ∙ no_more (nat_le 1 (length ds)) (list_all (λ d. is_digit d base) ds)
   where
     leb_not : (m n : ℕ) → n < m → nat_le m n ≡ false
     leb_not m n h = grind (arith, nat_tests)
@@ -73,7 +83,8 @@ are_digits-long base most ds h = ap (λ b. nat_le 1 (length ds) && b && list_all
 
 pub are_digits-each : (base most : ℕ) (ds : List ℕ) → 0 < length ds → length ds ≤ most → are_digits base most ds ≡ list_all (λ d. is_digit d base) ds
 unfolding are_digits
-are_digits-each base most ds some few = ap (λ b. b && nat_le (length ds) most && list_all (λ d. is_digit d base) ds) (lt-ltb 0 (length ds) some) ∙ ap (λ b. b && list_all (λ d. is_digit d base) ds) (le-leb (length ds) most few)
+are_digits-each base most ds some few = ap (λ b. b && nat_le (length ds) most && list_all (λ d. is_digit d base) ds) (lt-ltb 0 (length ds) some)
+    ∙ ap (λ b. b && list_all (λ d. is_digit d base) ds) (le-leb (length ds) most few)
   where
     le-leb : (m n : ℕ) → m ≤ n → nat_le m n ≡ true
     le-leb m n h = grind (arith, nat_tests)

@@ -1,5 +1,6 @@
 -- What a loop over arguments or commands has written so far.
-use Rattle.std.proofs.Common.{◌≡◌, ℕ, zero, suc, ◌+◌, ◌-◌, ◌/◌, ◌%◌, ◌<◌, List, [], ◌∷◌, ◌++◌, length, take, get_or, map, refl, sym, ap, ◌∙◌, arith, append_assoc}
+use Rattle.std.proofs.Common.{◌≡◌, ℕ, zero, suc, ◌+◌, ◌-◌, ◌/◌, ◌%◌, ◌<◌, List, [], ◌∷◌, ◌++◌, length, take, get_or, map, refl, sym, ap, ◌∙◌, arith,
+    append_assoc}
 use Rattle.std.specs.List.{join_with_byte, flat_map}
 use Rattle.std.specs.Char.{digit_char}
 use Rattle.std.proofs.lemmas.List.{take_more, map-append, append-nil}
@@ -26,7 +27,8 @@ hexadecimal-more (suc k) n h = hexadecimal-suc k n ∙ ap (λ j. hexadecimal j (
     before k = omega arith
 
 -- one digit more
-pub digits_step : (count n : ℕ) (old front after : List ℕ) (digit : ℕ) → 0 < count → front ≡ old ++ hexadecimal (count - 1) (n / 16) → digit ≡ digit_char (n % 16) → after ≡ front ++ (digit ∷ []) → after ≡ old ++ hexadecimal count n
+pub digits_step : (count n : ℕ) (old front after : List ℕ) (digit : ℕ) → 0 < count → front ≡ old ++ hexadecimal (count - 1) (n / 16)
+    → digit ≡ digit_char (n % 16) → after ≡ front ++ (digit ∷ []) → after ≡ old ++ hexadecimal count n
 digits_step count n old front after digit h e f g =
     let digits = hexadecimal (count - 1) (n / 16) in
     let last = digit_char (n % 16) ∷ [] in
@@ -36,18 +38,22 @@ digits_step count n old front after digit h e f g =
     ∙ append_assoc old digits last
     ∙ sym (ap (λ ds. old ++ ds) (hexadecimal-more count n h))
 
-join_push : (name : List ℕ) (words : List (List ℕ)) (word : List ℕ) → join_with_byte space (name ∷ (words ++ (word ∷ []))) ≡ join_with_byte space (name ∷ words) ++ (space ∷ word)
+join_push : (name : List ℕ) (words : List (List ℕ)) (word : List ℕ)
+    → join_with_byte space (name ∷ (words ++ (word ∷ []))) ≡ join_with_byte space (name ∷ words) ++ (space ∷ word)
 join_push name [] word = refl
 join_push name (w ∷ words) word =
     ap (λ t. name ++ (space ∷ t)) (join_push w words word) ∙ sym (append_assoc name (space ∷ join_with_byte space (w ∷ words)) (space ∷ word))
 
-pub join_more : (name : List ℕ) (arguments : List Argument) (i : ℕ) (d : Argument) → i < length arguments → join_with_byte space (name ∷ map spelled_argument (take (i + 1) arguments)) ≡ join_with_byte space (name ∷ map spelled_argument (take i arguments)) ++ (space ∷ spelled_argument (get_or arguments i d))
+pub join_more : (name : List ℕ) (arguments : List Argument) (i : ℕ) (d : Argument) → i < length arguments
+    → join_with_byte space (name ∷ map spelled_argument (take (i + 1) arguments)) ≡ join_with_byte space (name ∷ map spelled_argument (take i arguments))
+    ++ (space ∷ spelled_argument (get_or arguments i d))
 join_more name arguments i d h =
     ap (λ xs. join_with_byte space (name ∷ map spelled_argument xs)) (take_more arguments i d h)
     ∙ ap (λ ws. join_with_byte space (name ∷ ws)) (map-append spelled_argument (take i arguments) (get_or arguments i d ∷ []))
     ∙ join_push name (map spelled_argument (take i arguments)) (spelled_argument (get_or arguments i d))
 
-pub spelled_more : (commands : List Command) (i : ℕ) (d : Command) → i < length commands → spelled_script (take (i + 1) commands) ≡ spelled_script (take i commands) ++ (spelling (get_or commands i d) ++ (line_feed ∷ []))
+pub spelled_more : (commands : List Command) (i : ℕ) (d : Command) → i < length commands
+    → spelled_script (take (i + 1) commands) ≡ spelled_script (take i commands) ++ (spelling (get_or commands i d) ++ (line_feed ∷ []))
 unfolding spelled_script
 spelled_more commands i d h =
     ap (flat_map spelled_line) (take_more commands i d h)
@@ -59,14 +65,18 @@ unfolding spelled_script
 spelled_none = refl
 
 -- one command more
-pub spelled_step : (commands : List Command) (i : ℕ) (d : Command) (before written after : List ℕ) → i < length commands → before ≡ spelled_script (take i commands) → written ≡ before ++ spelling (get_or commands i d) → after ≡ written ++ (line_feed ∷ []) → after ≡ spelled_script (take (i + 1) commands)
+pub spelled_step : (commands : List Command) (i : ℕ) (d : Command) (before written after : List ℕ) → i < length commands
+    → before ≡ spelled_script (take i commands) → written ≡ before ++ spelling (get_or commands i d) → after ≡ written ++ (line_feed ∷ [])
+    → after ≡ spelled_script (take (i + 1) commands)
 spelled_step commands i d before written after h e f g =
     g ∙ ap (λ t. t ++ (line_feed ∷ [])) (f ∙ ap (λ t. t ++ spelling (get_or commands i d)) e)
     ∙ append_assoc (spelled_script (take i commands)) (spelling (get_or commands i d)) (line_feed ∷ [])
     ∙ sym (spelled_more commands i d h)
 
 -- one argument more
-pub join_step : (name : List ℕ) (arguments : List Argument) (i : ℕ) (d : Argument) (old before parted after : List ℕ) → i < length arguments → before ≡ old ++ join_with_byte space (name ∷ map spelled_argument (take i arguments)) → parted ≡ before ++ (space ∷ []) → after ≡ parted ++ spelled_argument (get_or arguments i d) → after ≡ old ++ join_with_byte space (name ∷ map spelled_argument (take (i + 1) arguments))
+pub join_step : (name : List ℕ) (arguments : List Argument) (i : ℕ) (d : Argument) (old before parted after : List ℕ) → i < length arguments
+    → before ≡ old ++ join_with_byte space (name ∷ map spelled_argument (take i arguments)) → parted ≡ before ++ (space ∷ [])
+    → after ≡ parted ++ spelled_argument (get_or arguments i d) → after ≡ old ++ join_with_byte space (name ∷ map spelled_argument (take (i + 1) arguments))
 join_step name arguments i d old before parted after h e f g =
     let line = join_with_byte space (name ∷ map spelled_argument (take i arguments)) in
     let word = spelled_argument (get_or arguments i d) in

@@ -1,5 +1,6 @@
 -- Numbers, names and commands are read as what they spell.
-use Rattle.std.proofs.Common.{◌≡◌, ℕ, zero, suc, ◌+◌, ◌*◌, ◌/◌, ◌%◌, ◌^◌, ◌<◌, ◌≤◌, Bool, true, false, ◌&&◌, ◌==◌, List, [], ◌∷◌, length, take, refl, sym, ap, ◌∙◌, arith, decimal, bytes_eq, Some, Ok, lit<}
+use Rattle.std.proofs.Common.{◌≡◌, ℕ, zero, suc, ◌+◌, ◌*◌, ◌/◌, ◌%◌, ◌^◌, ◌<◌, ◌≤◌, Bool, true, false, ◌&&◌, ◌==◌, List, [], ◌∷◌, length, take, refl, sym, ap,
+    ◌∙◌, arith, decimal, bytes_eq, Some, Ok, lit<}
 use Rattle.std.specs.List.{list_all}
 use Rattle.std.specs.Char.{digit_char, digit_value, is_digit}
 use Rattle.std.specs.Str.Parse.{AllDigits, digits_value}
@@ -19,7 +20,8 @@ digits_test : (base : ℕ) (ds : List ℕ) → AllDigits base ds → list_all (�
 digits_test base [] h = refl
 digits_test base (d ∷ ds) h = ap (λ b. b && list_all (λ d. is_digit d base) ds) (lt-ltb (digit_value d) base h.0) ∙ digits_test base ds h.1
 
-numeral_read-digits : (base most n : ℕ) (ds : List ℕ) → 0 < length ds → length ds ≤ most → AllDigits base ds → digits_value base ds ≡ n → n < 2 ^ 64 → numeral_read base most ds ≡ Ok n
+numeral_read-digits : (base most n : ℕ) (ds : List ℕ) → 0 < length ds → length ds ≤ most → AllDigits base ds → digits_value base ds ≡ n → n < 2 ^ 64
+    → numeral_read base most ds ≡ Ok n
 numeral_read-digits base most n ds some few digits value small =
     numeral_read-value base most ds (Some n) (are_digits-each base most ds some few ∙ digits_test base ds digits) (value_fits _ value small, sym value)
   where
@@ -55,7 +57,8 @@ length-hexadecimal (suc k) n = length-append (hexadecimal k (n / 16)) (digit_cha
 pub AllDigits-hexadecimal : (k n : ℕ) → AllDigits 16 (hexadecimal k n)
 unfolding hexadecimal
 AllDigits-hexadecimal zero n = tt
-AllDigits-hexadecimal (suc k) n = digits_push 16 (hexadecimal k (n / 16)) (digit_char (n % 16)) (AllDigits-hexadecimal k (n / 16)) (below (n % 16) (omega arith))
+AllDigits-hexadecimal (suc k) n = digits_push 16 (hexadecimal k (n / 16)) (digit_char (n % 16)) (AllDigits-hexadecimal k (n / 16))
+    (below (n % 16) (omega arith))
   where
     below : (d : ℕ) → d < 16 → digit_value (digit_char d) < 16
     below d h = omega (arith, digit_value-digit_char d (omega arith))
@@ -84,4 +87,5 @@ digits_value-hexadecimal (suc k) n h =
 pub number_read-address : (n : ℕ) → n < 2 ^ 64 → number_read (spelled_address n) ≡ Ok n
 number_read-address n small =
     number_read-hexadecimal (spelled_address n) refl
-    ∙ numeral_read-digits 16 16 n (hexadecimal 16 n) (omega (arith, length-hexadecimal 16 n)) (omega (arith, length-hexadecimal 16 n)) (AllDigits-hexadecimal 16 n) (digits_value-hexadecimal 16 n small) small
+    ∙ numeral_read-digits 16 16 n (hexadecimal 16 n) (omega (arith, length-hexadecimal 16 n)) (omega (arith, length-hexadecimal 16 n))
+        (AllDigits-hexadecimal 16 n) (digits_value-hexadecimal 16 n small) small

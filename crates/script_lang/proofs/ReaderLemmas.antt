@@ -1,5 +1,6 @@
 -- The lines of a text, read one after another.
-use Rattle.std.proofs.Common.{◌≡◌, ℕ, ◌+◌, ◌<◌, ◌≤◌, List, [], ◌∷◌, ◌++◌, map, length, take, drop, get_or, Some, None, Result, Ok, Err, is_err, OnOk, false, refl, sym, ap, ◌∙◌, append-nil}
+use Rattle.std.proofs.Common.{◌≡◌, ℕ, ◌+◌, ◌<◌, ◌≤◌, List, [], ◌∷◌, ◌++◌, map, length, take, drop, get_or, Some, None, Result, Ok, Err, is_err, OnOk, false,
+    refl, sym, ap, ◌∙◌, append-nil}
 use Rattle.std.specs.List.{filter_map}
 use Rattle.std.proofs.lemmas.List.{map-append, take-append-drop, at_drop_more}
 use Rattle.std.proofs.lemmas.List.Elements.{filter_map-append}
@@ -12,17 +13,21 @@ use Rattle.debug_model.specs.Grammar.{line_read, line_read_after, line_number, m
 pub AreReadAs-none : AreReadAs [] []
 AreReadAs-none = record { readings = []; each = refl; commands_of = refl }
 
-pub AreReadAs-push_none : (lines : List (List ℕ)) (commands : List Command) (line : List ℕ) → AreReadAs lines commands → line_read line ≡ Ok None → AreReadAs (lines ++ (line ∷ [])) commands
+pub AreReadAs-push_none : (lines : List (List ℕ)) (commands : List Command) (line : List ℕ) → AreReadAs lines commands → line_read line ≡ Ok None
+    → AreReadAs (lines ++ (line ∷ [])) commands
 AreReadAs-push_none lines commands line h e = record {
   readings = h.readings ++ (None ∷ []);
-  each = map-append line_read lines (line ∷ []) ∙ ap (λ xs. xs ++ (line_read line ∷ [])) h.each ∙ ap (λ r. map Ok h.readings ++ (r ∷ [])) e ∙ sym (map-append Ok h.readings (None ∷ []));
+  each = map-append line_read lines (line ∷ []) ∙ ap (λ xs. xs ++ (line_read line ∷ [])) h.each ∙ ap (λ r. map Ok h.readings ++ (r ∷ [])) e
+      ∙ sym (map-append Ok h.readings (None ∷ []));
   commands_of = h.commands_of ∙ sym (append-nil (filter_map (λ r. r) h.readings)) ∙ sym (filter_map-append (λ r. r) h.readings (None ∷ []));
 }
 
-pub AreReadAs-push_some : (lines : List (List ℕ)) (commands : List Command) (line : List ℕ) (command : Command) → AreReadAs lines commands → line_read line ≡ Ok (Some command) → AreReadAs (lines ++ (line ∷ [])) (commands ++ (command ∷ []))
+pub AreReadAs-push_some : (lines : List (List ℕ)) (commands : List Command) (line : List ℕ) (command : Command) → AreReadAs lines commands
+    → line_read line ≡ Ok (Some command) → AreReadAs (lines ++ (line ∷ [])) (commands ++ (command ∷ []))
 AreReadAs-push_some lines commands line command h e = record {
   readings = h.readings ++ (Some command ∷ []);
-  each = map-append line_read lines (line ∷ []) ∙ ap (λ xs. xs ++ (line_read line ∷ [])) h.each ∙ ap (λ r. map Ok h.readings ++ (r ∷ [])) e ∙ sym (map-append Ok h.readings (Some command ∷ []));
+  each = map-append line_read lines (line ∷ []) ∙ ap (λ xs. xs ++ (line_read line ∷ [])) h.each ∙ ap (λ r. map Ok h.readings ++ (r ∷ [])) e
+      ∙ sym (map-append Ok h.readings (Some command ∷ []));
   commands_of = ap (λ cs. cs ++ (command ∷ [])) h.commands_of ∙ sym (filter_map-append (λ r. r) h.readings (Some command ∷ []));
 }
 
@@ -30,14 +35,18 @@ take_with : (lines : List (List ℕ)) (n : ℕ) (d : List ℕ) → n < length li
 take_with lines n d h = sym (take-append-drop n lines) ∙ ap (λ rest. take n lines ++ rest) (at_drop_more (λ x. x) lines n d h)
 
 -- the line after the first n lines is the first faulty one
-pub HasFirstFault-at : (text : List ℕ) (n : ℕ) (before : List (List ℕ)) (faulty : List ℕ) (commands : List Command) (number : ℕ) (fault : ScriptFault) → length text ≤ most_text → before ≡ take n (lines_of text) → length before ≡ n → n < length (lines_of text) → faulty ≡ get_or (lines_of text) n faulty → AreReadAs before commands → length commands ≤ most_commands → number ≡ line_number (n + 1) → line_read_after (length commands) faulty ≡ Err fault → HasFirstFault text number fault
+pub HasFirstFault-at : (text : List ℕ) (n : ℕ) (before : List (List ℕ)) (faulty : List ℕ) (commands : List Command) (number : ℕ) (fault : ScriptFault)
+    → length text ≤ most_text → before ≡ take n (lines_of text) → length before ≡ n → n < length (lines_of text) → faulty ≡ get_or (lines_of text) n faulty
+    → AreReadAs before commands → length commands ≤ most_commands → number ≡ line_number (n + 1) → line_read_after (length commands) faulty ≡ Err fault
+    → HasFirstFault text number fault
 HasFirstFault-at text n before faulty commands number fault short front count inside here read few place fault_is = record {
   short = short;
   before = before;
   commands = commands;
   faulty = faulty;
   after = drop (n + 1) (lines_of text);
-  cut = take_with (lines_of text) n faulty inside ∙ ap (λ b. b ++ (get_or (lines_of text) n faulty ∷ drop (n + 1) (lines_of text))) (sym front) ∙ ap (λ x. before ++ (x ∷ drop (n + 1) (lines_of text))) (sym here);
+  cut = take_with (lines_of text) n faulty inside ∙ ap (λ b. b ++ (get_or (lines_of text) n faulty ∷ drop (n + 1) (lines_of text))) (sym front)
+      ∙ ap (λ x. before ++ (x ∷ drop (n + 1) (lines_of text))) (sym here);
   few = few;
   read = read;
   fault_is = fault_is;

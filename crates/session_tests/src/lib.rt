@@ -1,4 +1,5 @@
-//! Tests of sessions over a chip on its bench that no session of sessions/ can show: a schedule that a test lists, a sink that fails, and answers given beforehand.
+//! Tests of sessions over a chip on its bench that no session of sessions/ can show: a schedule that a test lists, a sink that fails, and answers given
+//! beforehand.
 //!
 //! They stand in a crate of their own, above the chip and above the probe, which know nothing of one another.
 #![tactic(auto)]

@@ -19,7 +19,8 @@ pub record Follows (answers signs rest : List ℕ) (sniffer : Sniffer) (was now 
   pub cut : whole_text answers signs ≡ front ++ text_of_all (lines_from at rest)
   pub put : now ≡ grown front was
 
-pub follows_none : (answers signs : List ℕ) (sniffer : Sniffer) (was : Option (List ℕ)) → IsSniffer answers sniffer (first_sniffer answers) → Follows answers signs signs sniffer was was
+pub follows_none : (answers signs : List ℕ) (sniffer : Sniffer) (was : Option (List ℕ)) → IsSniffer answers sniffer (first_sniffer answers)
+    → Follows answers signs signs sniffer was was
 follows_none answers signs sniffer was is = record { at = first_sniffer answers; is = is; front = []; cut = refl; put = grown_none was }
 
 lines-cons : (s : Definition) (b : ℕ) (rest : List ℕ) → lines_from s (b ∷ rest) ≡ sign_lines (sign_of b) s ++ lines_from (sniffed (sign_of b) s) rest
@@ -57,9 +58,11 @@ lines-nil : (s : Definition) → lines_from s [] ≡ []
 unfolding lines_from
 lines-nil s = refl
 
-pub follows_all : (answers signs : List ℕ) (sniffer : Sniffer) (was now : Option (List ℕ)) → Follows answers signs [] sniffer was now → now ≡ grown (whole_text answers signs) was
+pub follows_all : (answers signs : List ℕ) (sniffer : Sniffer) (was now : Option (List ℕ)) → Follows answers signs [] sniffer was now
+    → now ≡ grown (whole_text answers signs) was
 follows_all answers signs sniffer was now f =
-    let whole : whole_text answers signs ≡ f.front = f.cut ∙ ap (λ lines. f.front ++ text_of_all lines) (lines-nil f.at) ∙ ap (λ text. f.front ++ text) text-none ∙ append-nil f.front in
+    let whole : whole_text answers signs ≡ f.front = f.cut ∙ ap (λ lines. f.front ++ text_of_all lines) (lines-nil f.at)
+        ∙ ap (λ text. f.front ++ text) text-none ∙ append-nil f.front in
     f.put ∙ ap (λ text. grown text was) (sym whole)
 
 pub drop_past : (n : ℕ) (xs : List ℕ) → length xs ≤ n → drop n xs ≡ []

@@ -1,5 +1,6 @@
 -- Pieces that a sink takes one after another, and where one of them fails.
-use Rattle.std.proofs.Common.{◌≡◌, ◌∙◌, ℕ, List, [], ◌∷◌, ◌++◌, Option, Some, None, ap, subst, refl, append_assoc, append-nil, sym, Result, Ok, Err, OnOk, OnErr}
+use Rattle.std.proofs.Common.{◌≡◌, ◌∙◌, ℕ, List, [], ◌∷◌, ◌++◌, Option, Some, None, ap, subst, refl, append_assoc, append-nil, sym, Result, Ok, Err, OnOk,
+    OnErr}
 use Rattle.jt_base.specs.Sink.{grown, GrewByPrefix}
 use Rattle.debug_model.specs.Signs.{sign_of}
 use Rattle.wire_sniff.specs.Sniffed.{SniffedLine, Sniffer, sign_lines}
@@ -29,7 +30,8 @@ failed_behind xs ys (Some bytes) new g = record {
   is = g.is ∙ ap Some (append_assoc bytes xs g.front);
 }
 
-pub second_failed : (xs ys : List ℕ) (held between new : Option (List ℕ)) → between ≡ grown xs held → GrewByPrefix ys between new → GrewByPrefix (xs ++ ys) held new
+pub second_failed : (xs ys : List ℕ) (held between new : Option (List ℕ)) → between ≡ grown xs held → GrewByPrefix ys between new
+    → GrewByPrefix (xs ++ ys) held new
 second_failed xs ys held between new is g = failed_behind xs ys held new (subst (λ was. GrewByPrefix ys was new) is g)
 
 pub grown_none : (held : Option (List ℕ)) → held ≡ grown [] held

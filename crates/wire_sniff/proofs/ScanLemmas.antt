@@ -1,5 +1,6 @@
 -- What one more bit does to what is kept of a scan.
-use Rattle.std.proofs.Common.{◌≡◌, ◌∙◌, ℕ, zero, suc, ◌+◌, ◌*◌, ◌/◌, ◌<◌, Bool, true, false, nat_lt, cond, List, [], ◌∷◌, ◌++◌, length, take, Option, None, Some, refl, ap, arith, sym, length-append, lit<}
+use Rattle.std.proofs.Common.{◌≡◌, ◌∙◌, ℕ, zero, suc, ◌+◌, ◌*◌, ◌/◌, ◌<◌, Bool, true, false, nat_lt, cond, List, [], ◌∷◌, ◌++◌, length, take, Option, None,
+    Some, refl, ap, arith, sym, length-append, lit<}
 use Rattle.jt_base.specs.BitList.{bits_of, digit, most_bits, number_of}
 use Rattle.debug_model.specs.Port.{captured_code}
 use Rattle.debug_model.specs.Scan.{stays}
@@ -17,7 +18,8 @@ under : (b : Bool) (bit : Bool) (x y : Option (List Bool)) → and_seen (Some bi
 under true bit x y = refl
 under false bit x y = refl
 
-seen_behind : (n : ℕ) (bit answer : Option Bool) (bits : Option (List Bool)) → and_seen bit (seen_more n answer bits) ≡ seen_more (suc n) answer (and_seen bit bits)
+seen_behind : (n : ℕ) (bit answer : Option Bool) (bits : Option (List Bool))
+    → and_seen bit (seen_more n answer bits) ≡ seen_more (suc n) answer (and_seen bit bits)
 seen_behind n None answer bits = refl
 seen_behind n (Some bit) answer None = refl
 seen_behind n (Some bit) None (Some bits) = rw lt_one_more (under (nat_lt (length bits) n) bit None (Some bits))
@@ -35,7 +37,8 @@ take_none : {A : Type 0} (n : ℕ) → take n (let xs : List A = [] in xs) ≡ [
 take_none zero = refl
 take_none (suc n) = refl
 
-pub seen_bits-more : (n : ℕ) (answer : Option Bool) (taken : List (Option Bool)) → seen_bits (take n (taken ++ answer ∷ [])) ≡ seen_more n answer (seen_bits (take n taken))
+pub seen_bits-more : (n : ℕ) (answer : Option Bool) (taken : List (Option Bool))
+    → seen_bits (take n (taken ++ answer ∷ [])) ≡ seen_more n answer (seen_bits (take n taken))
 seen_bits-more zero answer [] = seen_none answer
 seen_bits-more zero answer (t ∷ taken) = seen_none answer
 seen_bits-more (suc n) answer [] = ap (λ rest. and_seen answer (seen_bits rest)) (take_none n) ∙ seen_first n answer

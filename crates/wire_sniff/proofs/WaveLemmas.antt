@@ -22,5 +22,7 @@ pub no_sign_wave : (time byte : ℕ) (m : Definition) → sign_of byte ≡ None 
 no_sign_wave time byte m none =
     ap (λ sign. sign_wave time sign m) none ∙ sign_wave-parts time None m ∙ append-nil (time_line time ++ levels m)
 
-pub no_sign_moment : (answers : List ℕ) (moment : Moment) (byte : ℕ) (m : Definition) → sign_of byte ≡ None → IsMoment answers moment m → IsMoment answers moment (moment_after (sign_of byte) m)
-no_sign_moment answers moment byte m none is = subst (λ sign. IsMoment answers moment (moment_after sign m)) (sym none) (record { tms = is.tms; tdi = is.tdi; sniffer = is.sniffer })
+pub no_sign_moment : (answers : List ℕ) (moment : Moment) (byte : ℕ) (m : Definition) → sign_of byte ≡ None → IsMoment answers moment m
+    → IsMoment answers moment (moment_after (sign_of byte) m)
+no_sign_moment answers moment byte m none is =
+    subst (λ sign. IsMoment answers moment (moment_after sign m)) (sym none) (record { tms = is.tms; tdi = is.tdi; sniffer = is.sniffer })

@@ -10,7 +10,8 @@ loop-byte-preserved g c =
     let rest = drop (c.loop-byte.byte-index + 1) c.args.bytes.now in
     let here : drop c.loop-byte.byte-index c.args.bytes.now ≡ byte ∷ rest = rw add-one (drop-cons c.args.bytes.now c.loop-byte.byte-index 0 (omega arith)) in (
       c.feed.ensures.loaded,
-      ap (λ bench. feed_of bench rest) c.feed.ensures.chip ∙ feed_of-cons c.loop-byte.bench byte rest ∙ ap (feed_of c.loop-byte.bench) (sym here) ∙ c.loop-byte.invariant.1,
+      ap (λ bench. feed_of bench rest) c.feed.ensures.chip ∙ feed_of-cons c.loop-byte.bench byte rest ∙ ap (feed_of c.loop-byte.bench) (sym here)
+          ∙ c.loop-byte.invariant.1,
     )
 
 pub returns : goal.returns

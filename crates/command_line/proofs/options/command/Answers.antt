@@ -10,7 +10,8 @@ loop-option-preserved c = option_next c.args.program.now c.args.options.now c.lo
     c.in_ok-command.ensures c.loop-option.invariant
 
 pub loop-flag-preserved : goal.loop-flag-preserved
-loop-flag-preserved c = flag_next c.args.program.now (texts c.args.options.now) c.args.flags.now c.loop-flag.flag-index _ (app_of c.loop-flag.command) _ (omega arith)
+loop-flag-preserved c = flag_next c.args.program.now (texts c.args.options.now) c.args.flags.now c.loop-flag.flag-index _ (app_of c.loop-flag.command) _
+    (omega arith)
     c.in_ok-command-2.ensures c.loop-flag.invariant
 
 pub returns : goal.returns

@@ -13,7 +13,8 @@ returns-in_err-options c = gives_then _ _ _ _ _ c.in_ok-inputs.ensures (gives_er
 
 pub returns-in_err-piece : goal.returns-in_err-piece
 unfolding both_in
-returns-in_err-piece c = gives_then _ _ _ _ _ c.in_ok-inputs.ensures (gives_then _ _ _ _ _ c.in_ok-options.ensures (gives_err _ _ _ _ _ c.in_err-piece.ensures.read c.from_residual-in_err-piece.ensures.1))
+returns-in_err-piece c = gives_then _ _ _ _ _ c.in_ok-inputs.ensures
+    (gives_then _ _ _ _ _ c.in_ok-options.ensures (gives_err _ _ _ _ _ c.in_err-piece.ensures.read c.from_residual-in_err-piece.ensures.1))
 
 pub returns : goal.returns
 unfolding both_in

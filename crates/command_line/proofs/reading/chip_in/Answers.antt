@@ -12,7 +12,8 @@ returns-in_err-image c = gives_then _ _ _ _ _ c.in_ok-at.ensures (gives_err _ _ 
 
 pub returns-in_err-options : goal.returns-in_err-options
 unfolding chip_in
-returns-in_err-options c = gives_then _ _ _ _ _ c.in_ok-at.ensures (gives_then _ _ _ _ _ c.in_ok-image.ensures (gives_err _ _ _ _ _ c.in_err-options.ensures c.from_residual-in_err-options.ensures.1))
+returns-in_err-options c = gives_then _ _ _ _ _ c.in_ok-at.ensures
+    (gives_then _ _ _ _ _ c.in_ok-image.ensures (gives_err _ _ _ _ _ c.in_err-options.ensures c.from_residual-in_err-options.ensures.1))
 
 pub returns : goal.returns
 unfolding chip_in

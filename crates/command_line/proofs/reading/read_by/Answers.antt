@@ -11,7 +11,8 @@ returns-then-eq c =
 pub returns-then-eq-2 : goal.returns-then-eq-2
 returns-then-eq-2 c =
     let words = map string_bytes c.args.words.now in
-    gives_at _ _ _ _ (sym (job_by-probe c.args.program.now words (sym c.eq.ensures ∙ c.if-eq.false) (sym c.eq-else-eq.ensures ∙ c.if-eq-2.true))) c.read_probe.ensures
+    gives_at _ _ _ _ (sym (job_by-probe c.args.program.now words (sym c.eq.ensures ∙ c.if-eq.false) (sym c.eq-else-eq.ensures ∙ c.if-eq-2.true)))
+        c.read_probe.ensures
 
 pub returns-then-eq-3 : goal.returns-then-eq-3
 returns-then-eq-3 c =
@@ -28,5 +29,6 @@ returns-then-eq-4 c =
 pub returns-else-eq-4 : goal.returns-else-eq-4
 returns-else-eq-4 c =
     let words = map string_bytes c.args.words.now in
-    job_by-none c.args.program.now words (sym c.eq.ensures ∙ c.if-eq.false) (sym c.eq-else-eq.ensures ∙ c.if-eq-2.false) (sym c.eq-else-eq-2.ensures ∙ c.if-eq-3.false)
+    job_by-none c.args.program.now words (sym c.eq.ensures ∙ c.if-eq.false) (sym c.eq-else-eq.ensures ∙ c.if-eq-2.false)
+        (sym c.eq-else-eq-2.ensures ∙ c.if-eq-3.false)
     (sym c.eq-else-eq-3.ensures ∙ c.if-eq-4.false)

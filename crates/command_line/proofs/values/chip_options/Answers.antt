@@ -13,11 +13,14 @@ returns-in_err-ram c = gives_then _ _ _ _ _ c.in_ok-harts.ensures (gives_err _ _
 
 pub returns-in_err-seed : goal.returns-in_err-seed
 unfolding options_in
-returns-in_err-seed c = gives_then _ _ _ _ _ c.in_ok-harts.ensures (gives_then _ _ _ _ _ c.in_ok-ram.ensures (gives_err _ _ _ _ _ c.in_err-seed.ensures c.from_residual-in_err-seed.ensures.1))
+returns-in_err-seed c = gives_then _ _ _ _ _ c.in_ok-harts.ensures
+    (gives_then _ _ _ _ _ c.in_ok-ram.ensures (gives_err _ _ _ _ _ c.in_err-seed.ensures c.from_residual-in_err-seed.ensures.1))
 
 pub returns-in_err-busy : goal.returns-in_err-busy
 unfolding options_in
-returns-in_err-busy c = gives_then _ _ _ _ _ c.in_ok-harts.ensures (gives_then _ _ _ _ _ c.in_ok-ram.ensures (gives_then _ _ _ _ _ c.in_ok-seed.ensures (gives_err _ _ _ _ _ c.in_err-busy.ensures.read c.from_residual-in_err-busy.ensures.1)))
+returns-in_err-busy c = gives_then _ _ _ _ _ c.in_ok-harts.ensures
+    (gives_then _ _ _ _ _ c.in_ok-ram.ensures
+    (gives_then _ _ _ _ _ c.in_ok-seed.ensures (gives_err _ _ _ _ _ c.in_err-busy.ensures.read c.from_residual-in_err-busy.ensures.1)))
 
 pub returns-in_err-events : goal.returns-in_err-events
 unfolding options_in
@@ -26,4 +29,5 @@ returns-in_err-events c = gives_then _ _ _ _ _ c.in_ok-harts.ensures (gives_then
 
 pub returns : goal.returns
 unfolding options_in
-returns c = λ i. options_from (c.in_ok-harts.ensures i) (c.in_ok-ram.ensures i) (c.in_ok-seed.ensures i) (c.in_ok-busy.ensures.read i) (c.in_ok-events.ensures.read i) (sym c.flag.ensures i)
+returns c = λ i. options_from (c.in_ok-harts.ensures i) (c.in_ok-ram.ensures i) (c.in_ok-seed.ensures i) (c.in_ok-busy.ensures.read i)
+    (c.in_ok-events.ensures.read i) (sym c.flag.ensures i)

@@ -4,11 +4,13 @@ use Rattle.command_line.specs.declared.why.Refused.TheVariants.{NoJob}
 use Rattle.command_line.proofs.why.why_of.Goals as goal
 
 pub returns-then-eq : goal.returns-then-eq
-returns-then-eq c = record { named = named_both c.args.job.now (map string_bytes c.args.words.now) _ (sym c.eq.ensures ∙ c.if-eq.true) c.why_both.ensures.named }
+returns-then-eq c = record { named = named_both c.args.job.now (map string_bytes c.args.words.now) _ (sym c.eq.ensures ∙ c.if-eq.true) c.why_both.ensures.named
+    }
 
 pub returns-then-eq-2 : goal.returns-then-eq-2
 returns-then-eq-2 c = record {
-  named = named_probe c.args.job.now (map string_bytes c.args.words.now) _ (sym c.eq.ensures ∙ c.if-eq.false) (sym c.eq-else-eq.ensures ∙ c.if-eq-2.true) c.why_probe.ensures.named;
+  named = named_probe c.args.job.now (map string_bytes c.args.words.now) _ (sym c.eq.ensures ∙ c.if-eq.false) (sym c.eq-else-eq.ensures ∙ c.if-eq-2.true)
+      c.why_probe.ensures.named;
 }
 
 pub returns-then-eq-3 : goal.returns-then-eq-3
@@ -25,6 +27,7 @@ returns-then-eq-4 c = record {
 
 pub returns-else-eq-4 : goal.returns-else-eq-4
 returns-else-eq-4 c = record {
-  named = named_none c.args.job.now (map string_bytes c.args.words.now) (NoJob c.args.job) (sym c.eq.ensures ∙ c.if-eq.false) (sym c.eq-else-eq.ensures ∙ c.if-eq-2.false)
+  named = named_none c.args.job.now (map string_bytes c.args.words.now) (NoJob c.args.job) (sym c.eq.ensures ∙ c.if-eq.false)
+      (sym c.eq-else-eq.ensures ∙ c.if-eq-2.false)
       (sym c.eq-else-eq-2.ensures ∙ c.if-eq-3.false) (sym c.eq-else-eq-3.ensures ∙ c.if-eq-4.false) refl;
 }

@@ -4,7 +4,8 @@ use Rattle.jtag_run.proofs.probe.run_probe.Goals as goal
 
 pub returns-in-Ok : goal.returns-in-Ok
 returns-in-Ok g c = record {
-  ended = ran _ (rw c.as_str.ensures.value at c.in-Ok.ensures.commands) (rw c.as_str.ensures.value at c.in-Ok.ensures.asked) (rw c.as_str-in-Ok.ensures.value at c.probe_at.ensures.ended);
+  ended = ran _ (rw c.as_str.ensures.value at c.in-Ok.ensures.commands) (rw c.as_str.ensures.value at c.in-Ok.ensures.asked)
+      (rw c.as_str-in-Ok.ensures.value at c.probe_at.ensures.ended);
 }
 
 pub returns-in-Err : goal.returns-in-Err

@@ -34,7 +34,8 @@ elements-init g c = record {
   fixed = refl;
 }
 
-at_length : (size : Size) (address number at : ℕ) (values : List ℕ) → at ≡ element_at size address number → length values ≡ number → at ≡ element_at size address (length values)
+at_length : (size : Size) (address number at : ℕ) (values : List ℕ) → at ≡ element_at size address number → length values ≡ number
+    → at ≡ element_at size address (length values)
 at_length size address number at values is all = is ∙ ap (element_at size address) (sym all)
 
 below_count : (number count : ℕ) (values : List ℕ) → length values ≡ number → number < count → length values < count
@@ -44,8 +45,10 @@ pub elements-preserved : goal.elements-preserved
 elements-preserved g c = record {
   all = let e : length c.elements.into.items ≡ c.elements.number = c.elements.invariant.all in omega (arith, e, c.push.ensures.len);
   loaded =
-      subst (λ (xs : List ℕ). WhereTold (BlockLoadedAt c.args.size c.args.address xs) (g.D.Dmi.seen c.args.link.now).far (g.D.Dmi.seen c.load.new.link).far) (sym c.push.ensures.items)
-      (load_further_at c.args.size c.args.address c.element-at.result c.in_ok-value.value c.elements.into.items _ _ _ (at_length c.args.size c.args.address c.elements.number c.element-at.result c.elements.into.items c.element-at.ensures c.elements.invariant.all)
+      subst (λ (xs : List ℕ). WhereTold (BlockLoadedAt c.args.size c.args.address xs) (g.D.Dmi.seen c.args.link.now).far (g.D.Dmi.seen c.load.new.link).far)
+          (sym c.push.ensures.items)
+      (load_further_at c.args.size c.args.address c.element-at.result c.in_ok-value.value c.elements.into.items _ _ _
+          (at_length c.args.size c.args.address c.elements.number c.element-at.result c.elements.into.items c.element-at.ensures c.elements.invariant.all)
       c.elements.invariant.loaded c.in_ok-value.ensures.loaded);
   fetched =
       subst (λ (xs : List ℕ). Fetched xs (told (g.D.Dmi.seen c.args.link.now)) (told (g.D.Dmi.seen c.load.new.link))) (sym c.push.ensures.items)
@@ -61,22 +64,27 @@ pub returns-in_err-value-clause-left : goal.returns-in_err-value-clause-left
 returns-in_err-value-clause-left g c =
     err_failed c.from_residual.result c.in_err-value.field-0.0 _ c.from_residual.ensures.1
     (load_left_at c.args.size c.args.address c.args.count c.element-at.result c.elements.into.items _ _ _ c.in_err-value.field-0.0
-    (at_length c.args.size c.args.address c.elements.number c.element-at.result c.elements.into.items c.element-at.ensures c.elements.invariant.all) c.elements.invariant.loaded
+    (at_length c.args.size c.args.address c.elements.number c.element-at.result c.elements.into.items c.element-at.ensures c.elements.invariant.all)
+        c.elements.invariant.loaded
     (below_count c.elements.number c.args.count c.elements.into.items c.elements.invariant.all c.elements-test.true) c.in_err-value.ensures.left)
 
 pub returns-in_err-value-clause-causes : goal.returns-in_err-value-clause-causes
 returns-in_err-value-clause-causes g c =
     err_failed c.from_residual.result c.in_err-value.field-0.0 _ c.from_residual.ensures.1
-    (causes_behind _ _ _ (fetched_made c.elements.into.items _ _ c.elements.invariant.fetched) _ _ _ c.in_err-value.field-0.0 c.elements.invariant.later c.load.ensures.keeps.later
-    (load_causes c.args.size c.element-at.result _ _ _ _ c.in_err-value.field-0.0 (link_later _ _ c.in_err-value.field-0.0 c.load.ensures.keeps.later) c.in_err-value.ensures.failed))
+    (causes_behind _ _ _ (fetched_made c.elements.into.items _ _ c.elements.invariant.fetched) _ _ _ c.in_err-value.field-0.0 c.elements.invariant.later
+        c.load.ensures.keeps.later
+    (load_causes c.args.size c.element-at.result _ _ _ _ c.in_err-value.field-0.0 (link_later _ _ c.in_err-value.field-0.0 c.load.ensures.keeps.later)
+        c.in_err-value.ensures.failed))
 
 pub returns-in_err-value-clause-cut : goal.returns-in_err-value-clause-cut
 returns-in_err-value-clause-cut g c =
     err_failed c.from_residual.result c.in_err-value.field-0.0 _ c.from_residual.ensures.1
-    (load_block_cut c.args.size c.args.address c.args.halted.now.number c.elements.into.items _ _ _ c.in_err-value.field-0.0 c.elements.invariant.loaded c.in_err-value.ensures.cut)
+    (load_block_cut c.args.size c.args.address c.args.halted.now.number c.elements.into.items _ _ _ c.in_err-value.field-0.0 c.elements.invariant.loaded
+        c.in_err-value.ensures.cut)
 
 pub returns-in_err-value-clause-fetched_before : goal.returns-in_err-value-clause-fetched_before
 returns-in_err-value-clause-fetched_before g c =
     err_failed c.from_residual.result c.in_err-value.field-0.0 _ c.from_residual.ensures.1
     (fetched_behind c.elements.into.items _ _ _ _ _ c.in_err-value.field-0.0 c.elements.invariant.fetched
-    (load_causes c.args.size c.element-at.result _ _ _ _ c.in_err-value.field-0.0 (link_later _ _ c.in_err-value.field-0.0 c.load.ensures.keeps.later) c.in_err-value.ensures.failed))
+    (load_causes c.args.size c.element-at.result _ _ _ _ c.in_err-value.field-0.0 (link_later _ _ c.in_err-value.field-0.0 c.load.ensures.keeps.later)
+        c.in_err-value.ensures.failed))

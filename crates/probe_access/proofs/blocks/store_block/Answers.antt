@@ -19,7 +19,8 @@ elements-init g c = record {
 
 pub elements-preserved : goal.elements-preserved
 elements-preserved g c = record {
-  stored = store_further_at c.args.size c.args.address c.element-at.result c.args.value c.elements.number _ _ _ c.element-at.ensures c.elements.invariant.stored c.in_ok-store.ensures.stored;
+  stored = store_further_at c.args.size c.args.address c.element-at.result c.args.value c.elements.number _ _ _ c.element-at.ensures
+      c.elements.invariant.stored c.in_ok-store.ensures.stored;
   calls = calls_then _ _ _ c.elements.invariant.calls (store_around_calls c.args.size c.element-at.result c.args.value _ _ c.in_ok-store.ensures.around);
   serving = c.in_ok-store.ensures.serving;
   callable = record { alive = c.in_ok-store.ensures.keeps.behind.alive; link = c.in_ok-store.ensures.keeps.behind.link };
@@ -31,15 +32,18 @@ elements-preserved g c = record {
 pub returns-in_err-store-clause-left : goal.returns-in_err-store-clause-left
 returns-in_err-store-clause-left g c =
     err_failed c.from_residual.result c.in_err-store.field-0.0 _ c.from_residual.ensures.1
-    (store_left_at c.args.size c.args.address c.args.count c.element-at.result c.args.value c.elements.number _ _ _ c.in_err-store.field-0.0 c.element-at.ensures c.elements.invariant.stored c.elements-test.true c.in_err-store.ensures.left)
+    (store_left_at c.args.size c.args.address c.args.count c.element-at.result c.args.value c.elements.number _ _ _ c.in_err-store.field-0.0
+        c.element-at.ensures c.elements.invariant.stored c.elements-test.true c.in_err-store.ensures.left)
 
 pub returns-in_err-store-clause-causes : goal.returns-in_err-store-clause-causes
 returns-in_err-store-clause-causes g c =
     err_failed c.from_residual.result c.in_err-store.field-0.0 _ c.from_residual.ensures.1
     (causes_behind _ _ _ c.elements.invariant.calls _ _ _ c.in_err-store.field-0.0 c.elements.invariant.later c.store.ensures.keeps.later
-    (around_causes _ _ _ _ _ _ c.in_err-store.field-0.0 (store_inside_causes c.args.size c.element-at.result c.args.value) (link_later _ _ c.in_err-store.field-0.0 c.store.ensures.keeps.later) c.in_err-store.ensures.failed))
+    (around_causes _ _ _ _ _ _ c.in_err-store.field-0.0 (store_inside_causes c.args.size c.element-at.result c.args.value)
+        (link_later _ _ c.in_err-store.field-0.0 c.store.ensures.keeps.later) c.in_err-store.ensures.failed))
 
 pub returns-in_err-store-clause-cut : goal.returns-in_err-store-clause-cut
 returns-in_err-store-clause-cut g c =
     err_failed c.from_residual.result c.in_err-store.field-0.0 _ c.from_residual.ensures.1
-    (store_block_cut c.args.size c.args.address c.args.value c.args.count c.args.halted.now.number c.element-at.result c.elements.number _ _ _ c.in_err-store.field-0.0 c.element-at.ensures c.elements-test.true c.elements.invariant.stored c.in_err-store.ensures.cut)
+    (store_block_cut c.args.size c.args.address c.args.value c.args.count c.args.halted.now.number c.element-at.result c.elements.number _ _ _
+        c.in_err-store.field-0.0 c.element-at.ensures c.elements-test.true c.elements.invariant.stored c.in_err-store.ensures.cut)

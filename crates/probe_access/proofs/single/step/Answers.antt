@@ -16,24 +16,28 @@ of_same : (h k : ℕ) (old new : Option Far) → h ≡ k → WhereTold (FlaggedA
 of_same h k old new is p = subst (λ n. WhereTold (FlaggedAt false n) old new) is p
 
 pub returns-in_err-set_flag-clause-failed : goal.returns-in_err-set_flag-clause-failed
-returns-in_err-set_flag-clause-failed g c = err_failed c.from_residual.result c.in_err-set_flag.field-0.0 _ c.from_residual.ensures.1 (in_set c.in_err-set_flag.ensures.failed)
+returns-in_err-set_flag-clause-failed g c =
+    err_failed c.from_residual.result c.in_err-set_flag.field-0.0 _ c.from_residual.ensures.1 (in_set c.in_err-set_flag.ensures.failed)
 
 pub returns-in_err-again-clause-left : goal.returns-in_err-again-clause-left
 returns-in_err-again-clause-left g c =
     err_failed c.from_residual-in_err-again.result _ _ c.from_residual-in_err-again.ensures.1
-    (run_left c.args.halted.number _ _ _ _ _ c.in_err-again.field-0.0 c.in_ok-set_flag.ensures.flagged_at c.in_err-again.ensures.fails c.in_err-again.ensures.left)
+    (run_left c.args.halted.number _ _ _ _ _ c.in_err-again.field-0.0 c.in_ok-set_flag.ensures.flagged_at c.in_err-again.ensures.fails
+        c.in_err-again.ensures.left)
 
 pub returns-in_err-again-clause-failed : goal.returns-in_err-again-clause-failed
 returns-in_err-again-clause-failed g c =
     err_failed c.from_residual-in_err-again.result _ _ c.from_residual-in_err-again.ensures.1
     (in_run _ c.in_ok-set_flag.ensures.written c.in_err-again.field-0.0
-    (run_counted c.args.halted.number _ _ _ _ _ c.in_err-again.field-0.0 c.set_flag.ensures.keeps.later c.run_one.ensures.keeps.later c.in_err-again.ensures.fails) refl)
+    (run_counted c.args.halted.number _ _ _ _ _ c.in_err-again.field-0.0 c.set_flag.ensures.keeps.later c.run_one.ensures.keeps.later
+        c.in_err-again.ensures.fails) refl)
 
 pub returns-in_err-set_flag-2-clause-failed : goal.returns-in_err-set_flag-2-clause-failed
 returns-in_err-set_flag-2-clause-failed g c =
     err_failed c.from_residual-in_err-set_flag-2.result c.in_err-set_flag-2.field-0.0 _ c.from_residual-in_err-set_flag-2.ensures.1
     (in_clear _ _ c.in_ok-set_flag.ensures.written c.in_ok-again.ensures.did
-    (flag_counted false _ _ _ _ _ c.in_err-set_flag-2.field-0.0 (omega (arith, c.set_flag.ensures.keeps.later, c.run_one.ensures.keeps.later)) c.set_flag-2.ensures.keeps.later c.in_err-set_flag-2.ensures.failed))
+    (flag_counted false _ _ _ _ _ c.in_err-set_flag-2.field-0.0 (omega (arith, c.set_flag.ensures.keeps.later, c.run_one.ensures.keeps.later))
+        c.set_flag-2.ensures.keeps.later c.in_err-set_flag-2.ensures.failed))
 
 pub returns-clause-stepped_at : goal.returns-clause-stepped_at
 returns-clause-stepped_at g c =
@@ -42,14 +46,16 @@ returns-clause-stepped_at g c =
 
 pub returns-in_err-set_flag-clause-cut : goal.returns-in_err-set_flag-clause-cut
 returns-in_err-set_flag-clause-cut g c =
-    err_failed c.from_residual.result c.in_err-set_flag.field-0.0 _ c.from_residual.ensures.1 (setting_cut c.args.halted.number _ _ c.in_err-set_flag.field-0.0 c.in_err-set_flag.ensures.cut)
+    err_failed c.from_residual.result c.in_err-set_flag.field-0.0 _ c.from_residual.ensures.1
+        (setting_cut c.args.halted.number _ _ c.in_err-set_flag.field-0.0 c.in_err-set_flag.ensures.cut)
 
 pub returns-in_err-again-clause-cut : goal.returns-in_err-again-clause-cut
 returns-in_err-again-clause-cut g c =
     err_failed c.from_residual-in_err-again.result _ _ c.from_residual-in_err-again.ensures.1
     (running_cut c.args.halted.number _ _ _ c.in_err-again.field-0.0 c.in_ok-set_flag.ensures.flagged_at c.in_err-again.ensures.left)
 
-cut_same : (h k : ℕ) (old new : Option Far) (e : AccessFault) → h ≡ k → IfCut (Leaves (LeftAside (MaybeFlagged false) h) old new) e → IfCut (Leaves (LeftAside (MaybeFlagged false) k) old new) e
+cut_same : (h k : ℕ) (old new : Option Far) (e : AccessFault) → h ≡ k → IfCut (Leaves (LeftAside (MaybeFlagged false) h) old new) e
+    → IfCut (Leaves (LeftAside (MaybeFlagged false) k) old new) e
 cut_same h k old new e is p = subst (λ n. IfCut (Leaves (LeftAside (MaybeFlagged false) n) old new) e) is p
 
 pub returns-in_err-set_flag-2-clause-cut : goal.returns-in_err-set_flag-2-clause-cut

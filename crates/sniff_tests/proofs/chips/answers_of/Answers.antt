@@ -10,7 +10,9 @@ loop-byte-preserved c =
     let here : drop c.loop-byte.byte-index c.args.bytes.now ≡ byte ∷ rest = rw add-one (drop-cons c.args.bytes.now c.loop-byte.byte-index 0 (omega arith)) in (
       c.feed.ensures.loaded,
       answered_more c.loop-byte.bench _ c.loop-byte.all.items _ byte _ rest _ c.feed.ensures.chip
-          (c.in_ok-extend_from_slice.ensures.items ∙ ap (λ more. c.loop-byte.all.items ++ more) (c.deref.ensures.0 ∙ rw c.new-answers.ensures at c.feed.ensures.answers)) here c.loop-byte.invariant.1,
+          (c.in_ok-extend_from_slice.ensures.items
+              ∙ ap (λ more. c.loop-byte.all.items ++ more) (c.deref.ensures.0 ∙ rw c.new-answers.ensures at c.feed.ensures.answers)) here
+              c.loop-byte.invariant.1,
     )
 
 pub returns : goal.returns

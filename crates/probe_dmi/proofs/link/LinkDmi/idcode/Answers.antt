@@ -11,10 +11,13 @@ pub returns-in_err-idcode-clause-cut : goal.returns-in_err-idcode-clause-cut
 returns-in_err-idcode-clause-cut g c = on_err _ (none_cut Idcode idcode_bits idcode_harmless _ _ c.requires.callable.link.clean c.in_err-idcode.ensures.cut)
 
 pub returns-clause-path : goal.returns-clause-path
-returns-clause-path g c = read_none _ _ (read_then Idcode idcode_bits c.in_ok-idcode.idcode idcode_harmless _ _ c.requires.callable.link.clean c.in_ok-idcode.ensures.scanned)
+returns-clause-path g c = read_none _ _ (read_then Idcode idcode_bits c.in_ok-idcode.idcode idcode_harmless _ _ c.requires.callable.link.clean
+    c.in_ok-idcode.ensures.scanned)
 
 pub returns-clause-value : goal.returns-clause-value
 returns-clause-value g c = idcode_value c.in_ok-idcode.idcode _ _ c.in_ok-idcode.ensures.scanned
 
 pub returns-clause-keeps : goal.returns-clause-keeps
-returns-clause-keeps g c = let o = can_operate _ c.in_ok-idcode.ensures.keeps.behind (read_clean (g.S.Scan.seen c.args.self.now.registers.scan).far _ (read_then Idcode idcode_bits c.in_ok-idcode.idcode idcode_harmless _ _ c.requires.callable.link.clean c.in_ok-idcode.ensures.scanned)) in search rules
+returns-clause-keeps g c = let o = can_operate _ c.in_ok-idcode.ensures.keeps.behind
+    (read_clean (g.S.Scan.seen c.args.self.now.registers.scan).far _
+    (read_then Idcode idcode_bits c.in_ok-idcode.idcode idcode_harmless _ _ c.requires.callable.link.clean c.in_ok-idcode.ensures.scanned)) in search rules

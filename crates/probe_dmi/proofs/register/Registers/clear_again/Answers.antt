@@ -6,11 +6,15 @@ use Rattle.probe_dmi.proofs.Scans.{word_cut, word_then}
 use Rattle.probe_dmi.proofs.register.Registers.clear_again.Goals as goal
 
 pub returns-in_err-select-clause-cut : goal.returns-in_err-select-clause-cut
-returns-in_err-select-clause-cut g c = on_err _ (word_cut Dtmcs reset_bits c.in_ok-value.value _ (g.S.Scan.seen c.clear.new.self.scan).far _ c.in_ok-value.ensures.scanned c.in_err-select.ensures.cut)
+returns-in_err-select-clause-cut g c = on_err _
+    (word_cut Dtmcs reset_bits c.in_ok-value.value _ (g.S.Scan.seen c.clear.new.self.scan).far _ c.in_ok-value.ensures.scanned c.in_err-select.ensures.cut)
 
 pub returns-in_err-select-clause-cause : goal.returns-in_err-select-clause-cause
-returns-in_err-select-clause-cause g c = from_err _ c.in_err-select.field-0.0 _ c.from_residual-in_err-select.ensures.1 (again_cause _ (g.S.Scan.seen c.clear.new.self.scan).fault_count _ _ _ (g.S.Scan.seen c.clear.new.self.scan).coming c.in_err-select.field-0.0
+returns-in_err-select-clause-cause g c =
+    from_err _ c.in_err-select.field-0.0 _ c.from_residual-in_err-select.ensures.1
+    (again_cause _ (g.S.Scan.seen c.clear.new.self.scan).fault_count _ _ _ (g.S.Scan.seen c.clear.new.self.scan).coming c.in_err-select.field-0.0
     c.clear.ensures.keeps.later c.select.ensures.keeps.later (number_through c.in_ok-value.value _ _ c.in_ok-value.ensures.heard) c.in_err-select.ensures.cause)
 
 pub returns-clause-scanned : goal.returns-clause-scanned
-returns-clause-scanned g c = word_then Dtmcs Dmi reset_bits c.in_ok-value.value _ (g.S.Scan.seen c.clear.new.self.scan).far _ c.in_ok-value.ensures.scanned c.in_ok-select.ensures.prepared
+returns-clause-scanned g c = word_then Dtmcs Dmi reset_bits c.in_ok-value.value _ (g.S.Scan.seen c.clear.new.self.scan).far _ c.in_ok-value.ensures.scanned
+    c.in_ok-select.ensures.prepared

@@ -8,19 +8,24 @@ use Rattle.probe_dmi.proofs.Scans.{chosen_of, chosen_still, cut_then, dmi_cut_of
 use Rattle.probe_dmi.proofs.register.Registers.exchange_behind.Goals as goal
 
 pub shift-requires-clause-fits : goal.shift-requires-clause-fits
-shift-requires-clause-fits g c = fits_then Dmi c.from_u64.result (g.S.Scan.seen c.args.self.now.scan).far _ c.in_ok-pause.ensures.prepared (dmi_long c.args.abits c.from_u64.result _ c.from_u64.ensures.length c.requires.width)
+shift-requires-clause-fits g c = fits_then Dmi c.from_u64.result (g.S.Scan.seen c.args.self.now.scan).far _ c.in_ok-pause.ensures.prepared
+    (dmi_long c.args.abits c.from_u64.result _ c.from_u64.ensures.length c.requires.width)
 
 pub returns-in_err-pause-clause-cut : goal.returns-in_err-pause-clause-cut
 returns-in_err-pause-clause-cut g c = on_err _ (waited_cut _ _ _ _ c.in_err-pause.ensures.cut)
 
 pub returns-in_err-out-clause-cut : goal.returns-in_err-out-clause-cut
-returns-in_err-out-clause-cut g c = on_err _ (dmi_cut_of c.args.abits c.args.sent c.from_u64.result _ _ (c.from_u64.ensures.bits ∙ ap (λ w. bits_of (34 + c.args.abits) w) c.bits.ensures) c.requires.width
+returns-in_err-out-clause-cut g c = on_err _
+    (dmi_cut_of c.args.abits c.args.sent c.from_u64.result _ _ (c.from_u64.ensures.bits ∙ ap (λ w. bits_of (34 + c.args.abits) w) c.bits.ensures)
+    c.requires.width
     (cut_then _ Dmi c.from_u64.result _ (g.S.Scan.seen c.pause.new.self.scan).far _ c.in_ok-pause.ensures.prepared c.in_err-out.ensures.cut))
 
 pub returns-clause-scanned : goal.returns-clause-scanned
 returns-clause-scanned g c =
-    dmi_of_scan c.args.abits c.args.sent c.from_bits.result c.from_u64.result c.in_ok-out.out _ _ (c.from_u64.ensures.bits ∙ ap (λ w. bits_of (34 + c.args.abits) w) c.bits.ensures) (c.from_bits.ensures ∙ ap dmi_of c.value.ensures) c.requires.width
+    dmi_of_scan c.args.abits c.args.sent c.from_bits.result c.from_u64.result c.in_ok-out.out _ _
+        (c.from_u64.ensures.bits ∙ ap (λ w. bits_of (34 + c.args.abits) w) c.bits.ensures) (c.from_bits.ensures ∙ ap dmi_of c.value.ensures) c.requires.width
     (scan_then _ Dmi c.from_u64.result c.in_ok-out.out _ (g.S.Scan.seen c.pause.new.self.scan).far _ c.in_ok-pause.ensures.prepared c.in_ok-out.ensures.scanned)
 
 pub returns-clause-chosen : goal.returns-clause-chosen
-returns-clause-chosen g c = chosen_still _ Dmi c.from_u64.result c.in_ok-out.out (g.S.Scan.seen c.pause.new.self.scan).far _ (chosen_of Dmi _ _ c.in_ok-pause.ensures.prepared) c.in_ok-out.ensures.scanned
+returns-clause-chosen g c = chosen_still _ Dmi c.from_u64.result c.in_ok-out.out (g.S.Scan.seen c.pause.new.self.scan).far _
+    (chosen_of Dmi _ _ c.in_ok-pause.ensures.prepared) c.in_ok-out.ensures.scanned

@@ -12,7 +12,8 @@ use Rattle.probe_dmi.proofs.Conditions.{can_operate, width_kept}
 use Rattle.probe_dmi.proofs.Heard.{dmi_through, scan_cause}
 use Rattle.probe_dmi.proofs.ManyHeard.{heard_all, heard_begun, heard_busy_again, heard_many_busy, heard_many_failed, heard_on, many_cause, stream_through}
 use Rattle.probe_dmi.proofs.Scans.{chosen_of}
-use Rattle.probe_dmi.proofs.StreamEnds.{all_clean, all_failed_cut, all_failed_lost, all_operated, first_as, first_cut_as, is_flying, rest_is, rest_length, room_done, room_on, still_cut, stream_again, stream_cleared, stream_cut, stream_done, stream_failed, stream_found, stream_stopped, stream_taken}
+use Rattle.probe_dmi.proofs.StreamEnds.{all_clean, all_failed_cut, all_failed_lost, all_operated, first_as, first_cut_as, is_flying, rest_is, rest_length,
+    room_done, room_on, still_cut, stream_again, stream_cleared, stream_cut, stream_done, stream_failed, stream_found, stream_stopped, stream_taken}
 use Rattle.probe_dmi.proofs.Streams.{Streaming, stream_begun, unbegun}
 use Rattle.probe_dmi.proofs.register.Registers.stream.Goals as goal
 
@@ -40,51 +41,77 @@ scans-init g c = record {
 }
 
 pub returns-in_err-out-clause-cut : goal.returns-in_err-out-clause-cut
-returns-in_err-out-clause-cut g c = on_err _ (stream_cut c.args.ops.now c.scans.results.items c.scans.rest.now c.scans.in_flight c.scans.busy _ (g.S.Scan.seen c.scans.self.scan).far _ c.scans.invariant.small c.scans.invariant.streaming
+returns-in_err-out-clause-cut g c = on_err _
+    (stream_cut c.args.ops.now c.scans.results.items c.scans.rest.now c.scans.in_flight c.scans.busy _ (g.S.Scan.seen c.scans.self.scan).far _
+    c.scans.invariant.small c.scans.invariant.streaming
     (first_cut_as c.scans.rest.now c.first_scan.result (g.S.Scan.seen c.scans.self.scan).far _ c.first_scan.ensures c.in_err-out.ensures.cut))
 
 pub returns-in_err-out-clause-cause : goal.returns-in_err-out-clause-cause
-returns-in_err-out-clause-cause g c = many_cause (length c.args.ops.now) _ _ _ _ _ c.in_err-out.field-0.0 _ c.from_residual-in_err-out.ensures.1 (scan_cause _ (g.S.Scan.seen c.scans.self.scan).fault_count _ _ _ (g.S.Scan.seen c.scans.self.scan).coming c.in_err-out.field-0.0
-    c.scans.invariant.later c.exchange_behind.ensures.keeps.later (stream_through (length c.args.ops.now) (length c.scans.rest.now) c.scans.busy c.scans.in_flight c.scans.results.items _ _ c.scans.invariant.heard) c.in_err-out.ensures.cause)
+returns-in_err-out-clause-cause g c = many_cause (length c.args.ops.now) _ _ _ _ _ c.in_err-out.field-0.0 _ c.from_residual-in_err-out.ensures.1
+    (scan_cause _ (g.S.Scan.seen c.scans.self.scan).fault_count _ _ _ (g.S.Scan.seen c.scans.self.scan).coming c.in_err-out.field-0.0
+    c.scans.invariant.later c.exchange_behind.ensures.keeps.later
+        (stream_through (length c.args.ops.now) (length c.scans.rest.now) c.scans.busy c.scans.in_flight c.scans.results.items _ _ c.scans.invariant.heard)
+        c.in_err-out.ensures.cause)
 
 pub returns-then-out-eq-STATUS_FAILED-clause-cut : goal.returns-then-out-eq-STATUS_FAILED-clause-cut
-returns-then-out-eq-STATUS_FAILED-clause-cut g c = all_failed_cut c.args.ops.now _ _ (stream_failed c.args.ops.now c.scans.results.items c.scans.rest.now c.scans.in_flight c.scans.busy c.in_ok-out.out _ (g.S.Scan.seen c.scans.self.scan).far _ c.if-out-eq-STATUS_FAILED.true c.scans.invariant.streaming
+returns-then-out-eq-STATUS_FAILED-clause-cut g c =
+    all_failed_cut c.args.ops.now _ _ (stream_failed c.args.ops.now c.scans.results.items c.scans.rest.now c.scans.in_flight c.scans.busy c.in_ok-out.out _
+    (g.S.Scan.seen c.scans.self.scan).far _ c.if-out-eq-STATUS_FAILED.true c.scans.invariant.streaming
     (first_as c.scans.rest.now c.first_scan.result c.in_ok-out.out (g.S.Scan.seen c.scans.self.scan).far _ c.first_scan.ensures c.in_ok-out.ensures.scanned))
 
 pub returns-then-out-eq-STATUS_FAILED-clause-cause : goal.returns-then-out-eq-STATUS_FAILED-clause-cause
 returns-then-out-eq-STATUS_FAILED-clause-cause g c = (
-  all_failed_lost c.args.ops.now _ _ (stream_failed c.args.ops.now c.scans.results.items c.scans.rest.now c.scans.in_flight c.scans.busy c.in_ok-out.out _ (g.S.Scan.seen c.scans.self.scan).far _ c.if-out-eq-STATUS_FAILED.true c.scans.invariant.streaming
+  all_failed_lost c.args.ops.now _ _ (stream_failed c.args.ops.now c.scans.results.items c.scans.rest.now c.scans.in_flight c.scans.busy c.in_ok-out.out _
+      (g.S.Scan.seen c.scans.self.scan).far _ c.if-out-eq-STATUS_FAILED.true c.scans.invariant.streaming
       (first_as c.scans.rest.now c.first_scan.result c.in_ok-out.out (g.S.Scan.seen c.scans.self.scan).far _ c.first_scan.ensures c.in_ok-out.ensures.scanned)),
-  heard_many_failed (length c.args.ops.now) (length c.scans.rest.now) c.scans.busy c.scans.in_flight c.scans.results.items c.in_ok-out.out _ (g.S.Scan.seen c.scans.self.scan).coming (g.S.Scan.seen c.exchange_behind.new.self.scan).coming c.scans-test.true c.if-out-eq-STATUS_FAILED.true c.scans.invariant.heard c.in_ok-out.ensures.heard,
+  heard_many_failed (length c.args.ops.now) (length c.scans.rest.now) c.scans.busy c.scans.in_flight c.scans.results.items c.in_ok-out.out _
+      (g.S.Scan.seen c.scans.self.scan).coming (g.S.Scan.seen c.exchange_behind.new.self.scan).coming c.scans-test.true c.if-out-eq-STATUS_FAILED.true
+      c.scans.invariant.heard c.in_ok-out.ensures.heard,
 )
 
 pub returns-in_err-clear_again-clause-cut : goal.returns-in_err-clear_again-clause-cut
-returns-in_err-clear_again-clause-cut g c = on_err _ (still_cut c.args.ops.now c.scans.results.items c.scans.rest.now c.scans.in_flight c.scans.busy _ (g.S.Scan.seen c.exchange_behind.new.self.scan).far _
-    (stream_again c.args.ops.now c.scans.results.items c.scans.rest.now c.scans.in_flight c.scans.busy c.in_ok-out.out _ (g.S.Scan.seen c.scans.self.scan).far _ c.if-out-ne-STATUS_DONE.true c.if-out-eq-STATUS_FAILED.false c.scans.invariant.streaming
+returns-in_err-clear_again-clause-cut g c =
+    on_err _ (still_cut c.args.ops.now c.scans.results.items c.scans.rest.now c.scans.in_flight c.scans.busy _
+    (g.S.Scan.seen c.exchange_behind.new.self.scan).far _
+    (stream_again c.args.ops.now c.scans.results.items c.scans.rest.now c.scans.in_flight c.scans.busy c.in_ok-out.out _ (g.S.Scan.seen c.scans.self.scan).far
+        _ c.if-out-ne-STATUS_DONE.true c.if-out-eq-STATUS_FAILED.false c.scans.invariant.streaming
     (first_as c.scans.rest.now c.first_scan.result c.in_ok-out.out (g.S.Scan.seen c.scans.self.scan).far _ c.first_scan.ensures c.in_ok-out.ensures.scanned))
     c.in_err-clear_again.ensures.cut)
 
 pub returns-in_err-clear_again-clause-cause : goal.returns-in_err-clear_again-clause-cause
-returns-in_err-clear_again-clause-cause g c = many_cause (length c.args.ops.now) _ _ _ _ _ c.in_err-clear_again.field-0.0 _ c.from_residual-in_err-clear_again.ensures.1 (scan_cause _ (g.S.Scan.seen c.exchange_behind.new.self.scan).fault_count _ _ _ (g.S.Scan.seen c.exchange_behind.new.self.scan).coming c.in_err-clear_again.field-0.0
+returns-in_err-clear_again-clause-cause g c =
+    many_cause (length c.args.ops.now) _ _ _ _ _ c.in_err-clear_again.field-0.0 _ c.from_residual-in_err-clear_again.ensures.1
+    (scan_cause _ (g.S.Scan.seen c.exchange_behind.new.self.scan).fault_count _ _ _ (g.S.Scan.seen c.exchange_behind.new.self.scan).coming
+    c.in_err-clear_again.field-0.0
     (omega (arith, c.scans.invariant.later, c.exchange_behind.ensures.keeps.later)) c.clear_again.ensures.keeps.later
-    (λ b w. stream_through (length c.args.ops.now) (length c.scans.rest.now) c.scans.busy c.scans.in_flight c.scans.results.items _ _ c.scans.invariant.heard b (dmi_through c.in_ok-out.out _ _ c.in_ok-out.ensures.heard b w)) c.in_err-clear_again.ensures.cause)
+    (λ b w. stream_through (length c.args.ops.now) (length c.scans.rest.now) c.scans.busy c.scans.in_flight c.scans.results.items _ _ c.scans.invariant.heard b
+        (dmi_through c.in_ok-out.out _ _ c.in_ok-out.ensures.heard b w)) c.in_err-clear_again.ensures.cause)
 
 pub scans-preserved-then-out-ne-STATUS_DONE : goal.scans-preserved-then-out-ne-STATUS_DONE
 scans-preserved-then-out-ne-STATUS_DONE g c =
-    let u : WhereTold (Streaming c.args.ops.now c.scans.results.items c.scans.rest.now c.scans.in_flight (c.scans.busy + 1)) (g.S.Scan.seen c.args.self.now.scan).far (g.S.Scan.seen c.clear_again.new.self.scan).far =
-    stream_cleared c.args.ops.now c.scans.results.items c.scans.rest.now c.scans.in_flight c.scans.busy c.in_ok-clear_again.field-0 _ (g.S.Scan.seen c.exchange_behind.new.self.scan).far _
-    (stream_again c.args.ops.now c.scans.results.items c.scans.rest.now c.scans.in_flight c.scans.busy c.in_ok-out.out _ (g.S.Scan.seen c.scans.self.scan).far _ c.if-out-ne-STATUS_DONE.true c.if-out-eq-STATUS_FAILED.false c.scans.invariant.streaming
+    let u : WhereTold (Streaming c.args.ops.now c.scans.results.items c.scans.rest.now c.scans.in_flight (c.scans.busy + 1))
+        (g.S.Scan.seen c.args.self.now.scan).far (g.S.Scan.seen c.clear_again.new.self.scan).far =
+    stream_cleared c.args.ops.now c.scans.results.items c.scans.rest.now c.scans.in_flight c.scans.busy c.in_ok-clear_again.field-0 _
+        (g.S.Scan.seen c.exchange_behind.new.self.scan).far _
+    (stream_again c.args.ops.now c.scans.results.items c.scans.rest.now c.scans.in_flight c.scans.busy c.in_ok-out.out _ (g.S.Scan.seen c.scans.self.scan).far
+        _ c.if-out-ne-STATUS_DONE.true c.if-out-eq-STATUS_FAILED.false c.scans.invariant.streaming
     (first_as c.scans.rest.now c.first_scan.result c.in_ok-out.out (g.S.Scan.seen c.scans.self.scan).far _ c.first_scan.ensures c.in_ok-out.ensures.scanned))
     c.in_ok-clear_again.ensures.scanned in
     record {
       streaming = u;
-      heard = heard_busy_again (length c.args.ops.now) (length c.scans.rest.now) c.scans.busy c.scans.in_flight c.scans.results.items c.in_ok-out.out c.in_ok-clear_again.field-0 _ (g.S.Scan.seen c.scans.self.scan).coming (g.S.Scan.seen c.exchange_behind.new.self.scan).coming _ c.if-out-ne-STATUS_DONE.true c.if-out-eq-STATUS_FAILED.false c.scans.invariant.heard c.in_ok-out.ensures.heard c.in_ok-clear_again.ensures.heard;
-      asked = streams_ignored c.args.self.now.state c.exchange_behind.new.self.state c.args.abits c.args.ops.now c.scans.rest.now c.scans.clocks c.first_scan.result (g.S.Scan.seen c.args.self.now.scan).asked (g.S.Scan.seen c.scans.self.scan).asked (g.S.Scan.seen c.exchange_behind.new.self.scan).asked _
-          (omega (arith, c.scans.invariant.waits)) c.first_scan.ensures c.in_ok-out.ensures.state c.scans.invariant.asked c.in_ok-out.ensures.asked c.in_ok-clear_again.ensures.asked;
+      heard = heard_busy_again (length c.args.ops.now) (length c.scans.rest.now) c.scans.busy c.scans.in_flight c.scans.results.items c.in_ok-out.out
+          c.in_ok-clear_again.field-0 _ (g.S.Scan.seen c.scans.self.scan).coming (g.S.Scan.seen c.exchange_behind.new.self.scan).coming _
+          c.if-out-ne-STATUS_DONE.true c.if-out-eq-STATUS_FAILED.false c.scans.invariant.heard c.in_ok-out.ensures.heard c.in_ok-clear_again.ensures.heard;
+      asked = streams_ignored c.args.self.now.state c.exchange_behind.new.self.state c.args.abits c.args.ops.now c.scans.rest.now c.scans.clocks
+          c.first_scan.result (g.S.Scan.seen c.args.self.now.scan).asked (g.S.Scan.seen c.scans.self.scan).asked
+          (g.S.Scan.seen c.exchange_behind.new.self.scan).asked _
+          (omega (arith, c.scans.invariant.waits)) c.first_scan.ensures c.in_ok-out.ensures.state c.scans.invariant.asked c.in_ok-out.ensures.asked
+              c.in_ok-clear_again.ensures.asked;
       rests = c.in_ok-clear_again.ensures.keeps.behind;
       chosen = c.in_ok-clear_again.ensures.chosen;
       idle = c.in_ok-clear_again.ensures.state;
-      width = width_kept (Streaming c.args.ops.now c.scans.results.items c.scans.rest.now c.scans.in_flight (c.scans.busy + 1)) c.args.abits (g.S.Scan.seen c.args.self.now.scan).far _ u c.requires.width;
+      width = width_kept (Streaming c.args.ops.now c.scans.results.items c.scans.rest.now c.scans.in_flight (c.scans.busy + 1)) c.args.abits
+          (g.S.Scan.seen c.args.self.now.scan).far _ u c.requires.width;
       small = c.scans.invariant.small;
       started = c.scans.invariant.started;
       room = c.scans.invariant.room;
@@ -97,41 +124,67 @@ scans-preserved-then-out-ne-STATUS_DONE g c =
     }
 
 pub returns-in_default-clause-count : goal.returns-in_default-clause-count
-returns-in_default-clause-count g c = room_done c.scans.in_flight c.in_ok-out.out.value c.scans.results.items c.keep.new.results.items (length c.scans.rest.now) (length c.args.ops.now) c.keep.ensures.kept
+returns-in_default-clause-count g c = room_done c.scans.in_flight c.in_ok-out.out.value c.scans.results.items c.keep.new.results.items
+    (length c.scans.rest.now) (length c.args.ops.now) c.keep.ensures.kept
     (is_flying c.scans.in_flight _ c.scans.invariant.started c.in_default.len_below) c.in_default.len_below c.scans.invariant.room
 
 pub returns-in_default-clause-operated : goal.returns-in_default-clause-operated
-returns-in_default-clause-operated g c = all_operated c.args.ops.now c.keep.new.results.items _ _ (stream_done c.args.ops.now c.scans.results.items c.keep.new.results.items c.scans.rest.now c.scans.in_flight c.scans.busy c.in_ok-out.out (g.S.Scan.seen c.args.self.now.scan).far (g.S.Scan.seen c.scans.self.scan).far _ c.in_default.len_below (is_flying c.scans.in_flight _ c.scans.invariant.started c.in_default.len_below)
-    c.if-out-ne-STATUS_DONE.false c.keep.ensures.kept c.scans.invariant.streaming (first_as c.scans.rest.now c.first_scan.result c.in_ok-out.out (g.S.Scan.seen c.scans.self.scan).far _ c.first_scan.ensures c.in_ok-out.ensures.scanned))
+returns-in_default-clause-operated g c =
+    all_operated c.args.ops.now c.keep.new.results.items _ _
+    (stream_done c.args.ops.now c.scans.results.items c.keep.new.results.items c.scans.rest.now c.scans.in_flight c.scans.busy c.in_ok-out.out
+    (g.S.Scan.seen c.args.self.now.scan).far (g.S.Scan.seen c.scans.self.scan).far _ c.in_default.len_below
+    (is_flying c.scans.in_flight _ c.scans.invariant.started c.in_default.len_below)
+    c.if-out-ne-STATUS_DONE.false c.keep.ensures.kept c.scans.invariant.streaming
+        (first_as c.scans.rest.now c.first_scan.result c.in_ok-out.out (g.S.Scan.seen c.scans.self.scan).far _ c.first_scan.ensures
+        c.in_ok-out.ensures.scanned))
 
 pub returns-in_default-clause-answers : goal.returns-in_default-clause-answers
-returns-in_default-clause-answers g c = heard_all c.args.ops.now (length c.scans.rest.now) c.scans.busy c.scans.in_flight c.scans.results.items c.keep.new.results.items c.in_ok-out.out _ (g.S.Scan.seen c.scans.self.scan).coming _ c.scans-test.true c.if-out-ne-STATUS_DONE.false
-    (is_flying c.scans.in_flight _ c.scans.invariant.started c.in_default.len_below) c.keep.ensures.kept (omega (arith, c.in_default.len_below)) c.scans.invariant.heard c.in_ok-out.ensures.heard
+returns-in_default-clause-answers g c = heard_all c.args.ops.now (length c.scans.rest.now) c.scans.busy c.scans.in_flight c.scans.results.items
+    c.keep.new.results.items c.in_ok-out.out _ (g.S.Scan.seen c.scans.self.scan).coming _ c.scans-test.true c.if-out-ne-STATUS_DONE.false
+    (is_flying c.scans.in_flight _ c.scans.invariant.started c.in_default.len_below) c.keep.ensures.kept (omega (arith, c.in_default.len_below))
+        c.scans.invariant.heard c.in_ok-out.ensures.heard
 
 pub returns-in_default-clause-asked : goal.returns-in_default-clause-asked
-returns-in_default-clause-asked g c = streams_out c.args.self.now.state c.args.abits c.args.ops.now c.scans.rest.now c.scans.clocks c.first_scan.result (g.S.Scan.seen c.args.self.now.scan).asked (g.S.Scan.seen c.scans.self.scan).asked _ c.in_default.len_below
+returns-in_default-clause-asked g c = streams_out c.args.self.now.state c.args.abits c.args.ops.now c.scans.rest.now c.scans.clocks c.first_scan.result
+    (g.S.Scan.seen c.args.self.now.scan).asked (g.S.Scan.seen c.scans.self.scan).asked _ c.in_default.len_below
     (omega (arith, c.scans.invariant.waits)) c.first_scan.ensures c.scans.invariant.asked c.in_ok-out.ensures.asked
 
 pub returns-in_default-clause-keeps : goal.returns-in_default-clause-keeps
-returns-in_default-clause-keeps g c = let o = can_operate _ c.in_ok-out.ensures.keeps.behind (all_clean c.args.ops.now c.keep.new.results.items (g.S.Scan.seen c.args.self.now.scan).far _ (stream_done c.args.ops.now c.scans.results.items c.keep.new.results.items c.scans.rest.now c.scans.in_flight c.scans.busy c.in_ok-out.out (g.S.Scan.seen c.args.self.now.scan).far (g.S.Scan.seen c.scans.self.scan).far _ c.in_default.len_below (is_flying c.scans.in_flight _ c.scans.invariant.started c.in_default.len_below)
-    c.if-out-ne-STATUS_DONE.false c.keep.ensures.kept c.scans.invariant.streaming (first_as c.scans.rest.now c.first_scan.result c.in_ok-out.out (g.S.Scan.seen c.scans.self.scan).far _ c.first_scan.ensures c.in_ok-out.ensures.scanned))) in search rules
+returns-in_default-clause-keeps g c = let o =
+    can_operate _ c.in_ok-out.ensures.keeps.behind
+    (all_clean c.args.ops.now c.keep.new.results.items (g.S.Scan.seen c.args.self.now.scan).far _
+    (stream_done c.args.ops.now c.scans.results.items c.keep.new.results.items c.scans.rest.now c.scans.in_flight c.scans.busy c.in_ok-out.out
+    (g.S.Scan.seen c.args.self.now.scan).far (g.S.Scan.seen c.scans.self.scan).far _ c.in_default.len_below
+    (is_flying c.scans.in_flight _ c.scans.invariant.started c.in_default.len_below)
+    c.if-out-ne-STATUS_DONE.false c.keep.ensures.kept c.scans.invariant.streaming
+        (first_as c.scans.rest.now c.first_scan.result c.in_ok-out.out (g.S.Scan.seen c.scans.self.scan).far _ c.first_scan.ensures
+        c.in_ok-out.ensures.scanned))) in search rules
 
 pub scans-preserved : goal.scans-preserved
 scans-preserved g c =
-    let u = stream_taken c.args.ops.now c.scans.results.items c.keep.new.results.items c.scans.rest.now _ c.scans.in_flight c.scans.busy c.in_ok-out.out (g.S.Scan.seen c.args.self.now.scan).far (g.S.Scan.seen c.scans.self.scan).far (g.S.Scan.seen c.exchange_behind.new.self.scan).far c.scans.invariant.small c.in-len1-up.len_at_least (rest_is c.scans.rest.now) c.if-out-ne-STATUS_DONE.false
-    c.keep.ensures.kept c.scans.invariant.streaming (first_as c.scans.rest.now c.first_scan.result c.in_ok-out.out (g.S.Scan.seen c.scans.self.scan).far _ c.first_scan.ensures c.in_ok-out.ensures.scanned) in
+    let u = stream_taken c.args.ops.now c.scans.results.items c.keep.new.results.items c.scans.rest.now _ c.scans.in_flight c.scans.busy c.in_ok-out.out
+        (g.S.Scan.seen c.args.self.now.scan).far (g.S.Scan.seen c.scans.self.scan).far (g.S.Scan.seen c.exchange_behind.new.self.scan).far
+        c.scans.invariant.small c.in-len1-up.len_at_least (rest_is c.scans.rest.now) c.if-out-ne-STATUS_DONE.false
+    c.keep.ensures.kept c.scans.invariant.streaming
+        (first_as c.scans.rest.now c.first_scan.result c.in_ok-out.out (g.S.Scan.seen c.scans.self.scan).far _ c.first_scan.ensures
+        c.in_ok-out.ensures.scanned) in
     record {
       streaming = u;
-      heard = heard_on (length c.args.ops.now) (length c.scans.rest.now) _ c.scans.busy c.scans.in_flight c.scans.results.items c.keep.new.results.items c.in_ok-out.out _ (g.S.Scan.seen c.scans.self.scan).coming _ c.scans-test.true c.if-out-ne-STATUS_DONE.false c.keep.ensures.kept (rest_length c.scans.rest.now c.in-len1-up.len_at_least) c.scans.invariant.heard c.in_ok-out.ensures.heard;
-      asked = streams_went c.args.self.now.state c.args.abits c.args.ops.now c.scans.rest.now _ c.scans.clocks c.first_scan.result (g.S.Scan.seen c.args.self.now.scan).asked (g.S.Scan.seen c.scans.self.scan).asked _ c.in-len1-up.len_at_least (rest_is c.scans.rest.now)
+      heard = heard_on (length c.args.ops.now) (length c.scans.rest.now) _ c.scans.busy c.scans.in_flight c.scans.results.items c.keep.new.results.items
+          c.in_ok-out.out _ (g.S.Scan.seen c.scans.self.scan).coming _ c.scans-test.true c.if-out-ne-STATUS_DONE.false c.keep.ensures.kept
+          (rest_length c.scans.rest.now c.in-len1-up.len_at_least) c.scans.invariant.heard c.in_ok-out.ensures.heard;
+      asked = streams_went c.args.self.now.state c.args.abits c.args.ops.now c.scans.rest.now _ c.scans.clocks c.first_scan.result
+          (g.S.Scan.seen c.args.self.now.scan).asked (g.S.Scan.seen c.scans.self.scan).asked _ c.in-len1-up.len_at_least (rest_is c.scans.rest.now)
           (omega (arith, c.scans.invariant.waits)) c.first_scan.ensures c.scans.invariant.asked c.in_ok-out.ensures.asked;
       rests = c.in_ok-out.ensures.keeps.behind;
       chosen = c.in_ok-out.ensures.chosen;
       idle = c.in_ok-out.ensures.state;
       width = width_kept _ c.args.abits (g.S.Scan.seen c.args.self.now.scan).far _ u c.requires.width;
-      small = subst (λ (xs : List DmiOp). All IsOperation xs) (sym (rest_is c.scans.rest.now)) (All-drop IsOperation 1 c.scans.rest.now c.scans.invariant.small);
+      small = subst (λ (xs : List DmiOp). All IsOperation xs) (sym (rest_is c.scans.rest.now))
+          (All-drop IsOperation 1 c.scans.rest.now c.scans.invariant.small);
       started = λ e. absurd (let no : ⊥ = cc in no);
-      room = room_on c.scans.in_flight c.in_ok-out.out.value c.scans.results.items c.keep.new.results.items c.scans.rest.now (length c.args.ops.now) c.keep.ensures.kept c.in-len1-up.len_at_least c.scans.invariant.room;
+      room = room_on c.scans.in_flight c.in_ok-out.out.value c.scans.results.items c.keep.new.results.items c.scans.rest.now (length c.args.ops.now)
+          c.keep.ensures.kept c.in-len1-up.len_at_least c.scans.invariant.room;
       few = omega arith;
       waits = omega (arith, c.scans.invariant.pace.waits, c.scans.invariant.pace.few);
       pace = c.scans.invariant.pace;
@@ -146,5 +199,6 @@ returns-clause-cut g c = stream_stopped c.args.ops.now c.scans.results.items c.s
 pub returns-clause-cause : goal.returns-clause-cause
 returns-clause-cause g c = (
   stream_found c.args.ops.now c.scans.results.items c.scans.rest.now c.scans.in_flight c.scans.busy _ _ c.scans-test.false c.scans.invariant.streaming,
-  heard_many_busy (length c.args.ops.now) (length c.scans.rest.now) c.scans.busy c.scans.in_flight c.scans.results.items _ _ (omega (arith, c.scans-test.false, c.scans.invariant.few)) c.scans.invariant.heard,
+  heard_many_busy (length c.args.ops.now) (length c.scans.rest.now) c.scans.busy c.scans.in_flight c.scans.results.items _ _
+      (omega (arith, c.scans-test.false, c.scans.invariant.few)) c.scans.invariant.heard,
 )
