@@ -11,3 +11,4 @@ pub mod BusLemmas
 pub mod TransportLemmas
 pub mod HaltsumLemmas
 pub mod SeveralOperations
+pub mod StickyRounds

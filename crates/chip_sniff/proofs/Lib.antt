@@ -1,5 +1,4 @@
 pub mod Bits
-pub mod Rounds
 pub mod Scans
 pub mod Signs
 pub mod Stream

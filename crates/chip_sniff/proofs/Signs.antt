@@ -9,7 +9,7 @@ use Rattle.debug_model.specs.Port.{Port, captured_in, data_register_of, dtm_rise
 use Rattle.debug_model.specs.Tap.{next_state}
 use Rattle.wire_sniff.specs.Sniffed.{Sniffer, code_after, code_in, given_after, sniffed, sniffed_pins, sniffer_asks, sniffer_falls, sniffer_held,
     sniffer_risen, sniffer_rises, taken_after}
-use Rattle.chip_sniff.proofs.Rounds.{tick_sticky}
+use Rattle.chip_laws.proofs.StickyRounds.{tick_sticky}
 use Rattle.chip_sniff.proofs.Scans.{InScan, ask_keeps, fall_keeps, fall_selects, rise_keeps, rise_selects}
 
 -- what they have in common between two signs

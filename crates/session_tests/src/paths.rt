@@ -84,6 +84,7 @@ impl Dmi for SteadyDmi {
     ghost seen = { λ _. record {
       far = None;
       coming = None;
+      asked = None;
       is_alive = true;
       fault_count = 0;
       fixed = record { slack = None; ties = no_ties; gives = λ _. false };
