@@ -126,9 +126,9 @@ same_far : (told : Option Far) → told ≡ option_map (read_on 0) told
 same_far None = refl
 same_far (Some f) = refl
 
-same_script : (told : Option Exchange) → told ≡ option_map (without 0) told
-same_script None = refl
-same_script (Some e) = refl
+same_exchange : (told : Option Exchange) → told ≡ option_map (without 0) told
+same_exchange None = refl
+same_exchange (Some e) = refl
 
 same_pipe : (at : End) (told : Option Pipe) → told ≡ option_map (taken_at at 0) told
 same_pipe at None = refl
@@ -139,8 +139,8 @@ pub nothing_taken : (at : End) (s : NetState) → s ≡ after_take at 0 s
 nothing_taken ends.Near s =
     ap (λ g. record s { near_given = g }) (sym (add-zero s.near_given))
     ∙ ap (λ c. record s { near_given = s.near_given + 0; chip = c }) (same_far s.chip)
-    ∙ ap (λ e. record s { near_given = s.near_given + 0; chip = option_map (read_on 0) s.chip; script = e }) (same_script s.script)
-    ∙ ap (λ p. record s { near_given = s.near_given + 0; chip = option_map (read_on 0) s.chip; script = option_map (without 0) s.script; pipe = p })
+    ∙ ap (λ e. record s { near_given = s.near_given + 0; chip = option_map (read_on 0) s.chip; exchange = e }) (same_exchange s.exchange)
+    ∙ ap (λ p. record s { near_given = s.near_given + 0; chip = option_map (read_on 0) s.chip; exchange = option_map (without 0) s.exchange; pipe = p })
     (same_pipe ends.Near s.pipe)
 nothing_taken ends.Far s =
     ap (λ g. record s { far_given = g }) (sym (add-zero s.far_given))

@@ -184,16 +184,16 @@ nothing_crossed : (s : NetState) → s ≡ after_put ends.Near [] s
 unfolding feed said
 nothing_crossed s =
     ap (λ c. record s { chip = c }) (chip_unsent s.chip)
-    ∙ ap (λ e. record s { chip = option_map (sent []) s.chip; script = e }) (script_unsent s.script)
-    ∙ ap (λ p. record s { chip = option_map (sent []) s.chip; script = option_map (more_put []) s.script; pipe = p }) (pipe_unsent s.pipe)
+    ∙ ap (λ e. record s { chip = option_map (sent []) s.chip; exchange = e }) (exchange_unsent s.exchange)
+    ∙ ap (λ p. record s { chip = option_map (sent []) s.chip; exchange = option_map (more_put []) s.exchange; pipe = p }) (pipe_unsent s.pipe)
   where
     chip_unsent : (told : Option Far) → told ≡ option_map (sent []) told
     chip_unsent None = refl
     chip_unsent (Some f) = ap (λ u. Some (record f { unread = u })) (sym (append-nil f.unread))
 
-    script_unsent : (told : Option Exchange) → told ≡ option_map (more_put []) told
-    script_unsent None = refl
-    script_unsent (Some e) = ap (λ l. Some (record e { put = l })) (sym (append-nil e.put))
+    exchange_unsent : (told : Option Exchange) → told ≡ option_map (more_put []) told
+    exchange_unsent None = refl
+    exchange_unsent (Some e) = ap (λ l. Some (record e { put = l })) (sym (append-nil e.put))
 
     pipe_unsent : (told : Option Pipe) → told ≡ option_map (put_near []) told
     pipe_unsent None = refl

@@ -25,9 +25,9 @@ net_state opening near given bench unread = record {
   near_given = given;
   far_given = 0;
   chip = told_behind near (far_of bench unread);
-  script = None;
+  exchange = None;
   pipe = None;
 }
 
 abbrev pub peer_of : Option Live → Peer
-peer_of bench = record { chip = bench; script = None }
+peer_of bench = record { chip = bench; coming = None }

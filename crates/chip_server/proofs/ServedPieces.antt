@@ -32,9 +32,9 @@ unfolding fed_from
 nothing_ends None = refl
 nothing_ends (Some l) = refl
 
-script_still : (told : Option Exchange) → told ≡ option_map (more_put []) (option_map (without 0) told)
-script_still None = refl
-script_still (Some e) = ap (λ p. Some (record e { put = p })) (sym (append-nil e.put))
+exchange_still : (told : Option Exchange) → told ≡ option_map (more_put []) (option_map (without 0) told)
+exchange_still None = refl
+exchange_still (Some e) = ap (λ p. Some (record e { put = p })) (sym (append-nil e.put))
 
 -- a net that tells neither a chip nor a pipe
 abbrev pub bare : NetState → NetState
@@ -47,7 +47,7 @@ still : (s : NetState) → IsPlain s → s ≡ after_put ends.Near [] (after_tak
 still s plain =
     let zero : s.near_given ≡ s.near_given + 0 = omega arith in
     bare_is s plain ∙ ap (λ g. record (bare s) { near_given = g }) zero
-        ∙ ap (λ e. record (bare s) { near_given = s.near_given + 0; script = e }) (script_still s.script)
+        ∙ ap (λ e. record (bare s) { near_given = s.near_given + 0; exchange = e }) (exchange_still s.exchange)
         ∙ ap (λ x. after_put ends.Near [] (after_take ends.Near 0 x)) (sym (bare_is s plain))
 
 none_came : (told : Option Exchange) → IfSome told (λ e. take 0 e.coming ≡ [])
@@ -55,7 +55,7 @@ none_came None = tt
 none_came (Some e) = refl
 
 nothing_passed : (old new : NetState) (b l : Option Live) → IsPlain old → new ≡ old → l ≡ b → Passed [] [] old new b l
-nothing_passed old new b l plain same kept = record { net = same ∙ still old plain; came = none_came old.script; chip = kept ∙ nothing_fed b }
+nothing_passed old new b l plain same kept = record { net = same ∙ still old plain; came = none_came old.exchange; chip = kept ∙ nothing_fed b }
 
 pub take_failed : (old new : NetState) (b l : Option Live) → IsPlain old → new ≡ old → l ≡ b → WasServed (NetFailed RecvFailed) old new b l
 take_failed old new b l plain same kept = record {
@@ -80,12 +80,12 @@ took_none n old new none took = took ∙ ap (λ m. after_take ends.Near m old) n
 still_taken : (s : NetState) → IsPlain s → after_take ends.Near 0 s ≡ s
 still_taken s plain =
     let zero : s.near_given + 0 ≡ s.near_given = omega arith in
-    ap (after_take ends.Near 0) (bare_is s plain) ∙ ap (λ e. record (bare s) { near_given = s.near_given + 0; script = e }) (same_script s.script)
+    ap (after_take ends.Near 0) (bare_is s plain) ∙ ap (λ e. record (bare s) { near_given = s.near_given + 0; exchange = e }) (same_exchange s.exchange)
         ∙ ap (λ g. record (bare s) { near_given = g }) zero ∙ sym (bare_is s plain)
   where
-    same_script : (told : Option Exchange) → option_map (without 0) told ≡ told
-    same_script None = refl
-    same_script (Some e) = refl
+    same_exchange : (told : Option Exchange) → option_map (without 0) told ≡ told
+    same_exchange None = refl
+    same_exchange (Some e) = refl
 
 pub peer_ended : (n : ℕ) (into : List ℕ) (old new : NetState) (b l : Option Live) → n ≡ 0 → IsPlain old → GivesNear n into old
     → new ≡ after_take ends.Near n old → l ≡ b → WasServed PeerEnded old new b l
@@ -95,8 +95,8 @@ peer_ended n into old new b l none plain gives took kept = record {
   passed = nothing_passed old new b l plain (took_none n old new none took ∙ still_taken old plain) kept;
   end = (
     record { answers = nothing_said b; whole = nothing_ends b },
-    subst (λ x. IfSome x.script (λ e. e.coming ≡ [])) (sym (took_none n old new none took))
-        (all_came old.script (none_left n into old.script none gives.of_script)),
+    subst (λ x. IfSome x.exchange (λ e. e.coming ≡ [])) (sym (took_none n old new none took))
+        (all_came old.exchange (none_left n into old.exchange none gives.of_exchange)),
   );
 }
 
@@ -138,7 +138,7 @@ piece_passed : (n : ℕ) (into taken answers put : List ℕ) (old mid new : NetS
 piece_passed n into taken answers put old mid new b l piece is = record {
   net = is ∙ ap (after_put ends.Near put) piece.took
       ∙ ap (λ m. after_put ends.Near put (after_take ends.Near m old)) (sym (many n into taken answers old mid b l piece));
-  came = piece_came n into taken old.script (many n into taken answers old mid b l piece) piece.is piece.gives.of_script;
+  came = piece_came n into taken old.exchange (many n into taken answers old mid b l piece) piece.is piece.gives.of_exchange;
   chip = piece.chip;
 }
 

@@ -37,19 +37,19 @@ fed_on law (Some l) xs ys whole = (law l xs ys).place ∙ ap (λ f. joined (leng
 abbrev exchanged : ℕ → List ℕ → NetState → NetState
 exchanged n put s = after_put ends.Near put (after_take ends.Near n s)
 
-script_twice : (n m : ℕ) (p q : List ℕ) (told : Option Exchange)
+exchange_twice : (n m : ℕ) (p q : List ℕ) (told : Option Exchange)
     → option_map (more_put q) (option_map (without m) (option_map (more_put p) (option_map (without n) told))) ≡ option_map (more_put (p ++ q))
     (option_map (without (n + m)) told)
-script_twice n m p q None = refl
-script_twice n m p q (Some e) =
+exchange_twice n m p q None = refl
+exchange_twice n m p q (Some e) =
     ap (λ xs. Some (record e { coming = xs; put = (e.put ++ p) ++ q })) (drop-drop m n e.coming)
     ∙ ap (λ ys. Some (record e { coming = drop (n + m) e.coming; put = ys })) (append_assoc e.put p q)
 
 bare_twice : (n m : ℕ) (p q : List ℕ) (s : NetState) → exchanged m q (exchanged n p (bare s)) ≡ exchanged (n + m) (p ++ q) (bare s)
 bare_twice n m p q s =
-    ap (λ g. record (bare s) { near_given = g; script =
-        option_map (more_put q) (option_map (without m) (option_map (more_put p) (option_map (without n) s.script))) }) (add_assoc s.near_given n m)
-    ∙ ap (λ e. record (bare s) { near_given = s.near_given + (n + m); script = e }) (script_twice n m p q s.script)
+    ap (λ g. record (bare s) { near_given = g; exchange =
+        option_map (more_put q) (option_map (without m) (option_map (more_put p) (option_map (without n) s.exchange))) }) (add_assoc s.near_given n m)
+    ∙ ap (λ e. record (bare s) { near_given = s.near_given + (n + m); exchange = e }) (exchange_twice n m p q s.exchange)
 
 exchanged_twice : (n m : ℕ) (p q : List ℕ) (s : NetState) → IsPlain s → exchanged m q (exchanged n p s) ≡ exchanged (n + m) (p ++ q) s
 exchanged_twice n m p q s plain =
@@ -70,7 +70,7 @@ passed_on : PiecesJoin → (t u p q : List ℕ) (s mid new : NetState) (b m l : 
 passed_on law t u p q s mid new b m l plain first second = record {
   net = second.net ∙ ap (exchanged (length u) q) first.net ∙ exchanged_twice (length t) (length u) p q s plain
       ∙ ap (λ n. exchanged n (p ++ q) s) (sym (length-append t u));
-  came = came_twice t u p s.script first.came (subst (λ x. IfSome x.script (λ e. take (length u) e.coming ≡ u)) first.net second.came);
+  came = came_twice t u p s.exchange first.came (subst (λ x. IfSome x.exchange (λ e. take (length u) e.coming ≡ u)) first.net second.came);
   chip = second.chip ∙ ap (λ x. feed_of x u) first.chip ∙ sym (feeds_on law b t u);
 }
 

@@ -26,7 +26,7 @@ pub record IsPlain (s : NetState) : Type 0 where
 -- these bytes were taken at the near end, and fed to the bench, and no others; these were put there
 pub record Passed (taken put : List ℕ) (old new : NetState) (bench left : Option Live) : Type 0 where
   pub net : new ≡ after_put ends.Near put (after_take ends.Near (length taken) old)
-  pub came : IfSome old.script (λ e. take (length taken) e.coming ≡ taken)
+  pub came : IfSome old.exchange (λ e. take (length taken) e.coming ≡ taken)
   pub chip : left ≡ feed_of bench taken
 
 -- so many bytes were taken: all are answered, and none has ended the chip
@@ -68,7 +68,7 @@ pub record FrontAnswered (bench : Option Live) (taken put : List ℕ) : Type 0 w
 -- what is so at each end. Over a scripted net the peer ends where no byte is left to come
 abbrev pub EndOf : Served → Option Live → List ℕ → List ℕ → NetState → Type 0
 EndOf Quit bench taken put new = (place : ℕ) × ChipEnds bench taken put (fed.Quit place)
-EndOf PeerEnded bench taken put new = AllAnswered bench taken put × IfSome new.script (λ e. e.coming ≡ [])
+EndOf PeerEnded bench taken put new = AllAnswered bench taken put × IfSome new.exchange (λ e. e.coming ≡ [])
 EndOf (Bad place byte) bench taken put new = ChipEnds bench taken put (fed.Bad place byte)
 EndOf Limit bench taken put new = (place : ℕ) × ChipEnds bench taken put (fed.EventLimit place)
 EndOf (NetFailed SendFailed) bench taken put new = FrontAnswered bench taken put

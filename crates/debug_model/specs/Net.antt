@@ -22,7 +22,7 @@ given_most = 2 ^ 40
 -- `connect` or `accept`
 pub record Peer : Type 0 where
   pub chip : Option Live
-  pub script : Option (List ℕ)
+  pub coming : Option (List ℕ)
 
 -- a scripted near end: the bytes that are to come, and all that were put there
 pub record Exchange : Type 0 where
@@ -41,7 +41,7 @@ pub record NetState : Type 0 where
   pub near_given : ℕ  -- how many bytes came out of each end
   pub far_given : ℕ
   pub chip : Option Far
-  pub script : Option Exchange
+  pub exchange : Option Exchange
   pub pipe : Option Pipe
 
 -- the bytes that are to come at a scripted near end
@@ -49,7 +49,7 @@ abbrev pub coming_in : Exchange → List ℕ
 coming_in e = e.coming
 
 abbrev pub coming_of : NetState → Option (List ℕ)
-coming_of s = option_map coming_in s.script
+coming_of s = option_map coming_in s.exchange
 
 abbrev pub is_open : End → NetState → Bool
 is_open ends.Near s = s.near_open
@@ -81,20 +81,20 @@ pub record Called (call : Call) (at : Option (List ℕ)) (old new : NetTies) : T
 pub record IsConnected (peer : Peer) (s : NetState) : Type 0 where
   pub near_open : s.near_open ≡ true
   pub chip : s.chip ≡ option_map read_out peer.chip
-  pub script : s.script ≡ option_map begun peer.script
+  pub exchange : s.exchange ≡ option_map begun peer.coming
   pub pipe : s.pipe ≡ None
 
 pub record IsAccepted (peer : Peer) (s : NetState) : Type 0 where
   pub near_open : s.near_open ≡ true
   pub chip : s.chip ≡ None
-  pub script : s.script ≡ option_map begun peer.script
+  pub exchange : s.exchange ≡ option_map begun peer.coming
   pub pipe : s.pipe ≡ None
 
 pub record IsJoined (s : NetState) : Type 0 where
   pub near_open : s.near_open ≡ true
   pub far_open : s.far_open ≡ true
   pub chip : s.chip ≡ None
-  pub script : s.script ≡ None
+  pub exchange : s.exchange ≡ None
   pub pipe : s.pipe ≡ told_if s.ties.tells_pipe empty_pipe
 
 -- the count of faults behind a call: one more where the net failed, and the same behind every other answer
@@ -120,11 +120,11 @@ put_far bytes p = record p { near = p.near ++ bytes }
 abbrev pub more_put : List ℕ → Exchange → Exchange
 more_put bytes e = record e { put = e.put ++ bytes }
 
--- the net after these bytes were put. A chip and a script lie at the near end
+-- the net after these bytes were put. A chip and an exchange lie at the near end
 abbrev pub after_put : End → List ℕ → NetState → NetState
 after_put ends.Near bytes s = record s {
   chip = option_map (sent bytes) s.chip;
-  script = option_map (more_put bytes) s.script;
+  exchange = option_map (more_put bytes) s.exchange;
   pipe = option_map (put_near bytes) s.pipe;
 }
 after_put ends.Far bytes s = record s { pipe = option_map (put_far bytes) s.pipe }
@@ -167,10 +167,10 @@ MayTake ends.Far s = IfSome s.pipe (λ p. 0 < length p.far)
 abbrev pub IsFront : ℕ → List ℕ → List ℕ → Type 0
 IsFront n into unread = take n unread ≡ take n into
 
--- `n` bytes came: of a told chip or pipe at least one, and of a script none only at its end
+-- `n` bytes came: of a told chip or pipe at least one, and of an exchange none only at its end
 pub record GivesNear (n : ℕ) (into : List ℕ) (s : NetState) : Type 0 where
   pub of_chip : IfSome s.chip (λ f. IsFront n into f.unread × (0 < n))
-  pub of_script : IfSome s.script (λ e. IsFront n into e.coming × (n ≡ 0 → e.coming ≡ []))
+  pub of_exchange : IfSome s.exchange (λ e. IsFront n into e.coming × (n ≡ 0 → e.coming ≡ []))
   pub of_pipe : IfSome s.pipe (λ p. IsFront n into p.near × (0 < n))
 
 abbrev pub Gives : End → ℕ → List ℕ → NetState → Type 0
@@ -193,7 +193,7 @@ abbrev pub after_take : End → ℕ → NetState → NetState
 after_take ends.Near n s = record s {
   near_given = s.near_given + n;
   chip = option_map (read_on n) s.chip;
-  script = option_map (without n) s.script;
+  exchange = option_map (without n) s.exchange;
   pipe = option_map (take_near n) s.pipe;
 }
 after_take ends.Far n s = record s {

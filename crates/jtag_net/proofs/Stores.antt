@@ -4,19 +4,19 @@ use Rattle.std.proofs.lemmas.List.{take-append-drop}
 use Rattle.debug_model.specs.Net.{PutFront, after_put, is_open, more_put, put_near, put_far}
 use Rattle.debug_model.specs.declared.net.End.{End}
 use Rattle.debug_model.specs.declared.net.End.TheVariants as ends
-use Rattle.jtag_net.specs.Store.{Store, called, failed, kept_at, left_at, pipe_of, script_of, state_of}
+use Rattle.jtag_net.specs.Store.{Store, called, failed, kept_at, left_at, pipe_of, exchange_of, state_of}
 
-script_put : (near far : Bool) (coming put bytes : List ℕ)
-    → script_of near far coming (put ++ bytes) ≡ option_map (more_put bytes) (script_of near far coming put)
-script_put false far coming put bytes = refl
-script_put true false coming put bytes = refl
-script_put true true coming put bytes = refl
+exchange_put : (near far : Bool) (coming put bytes : List ℕ)
+    → exchange_of near far coming (put ++ bytes) ≡ option_map (more_put bytes) (exchange_of near far coming put)
+exchange_put false far coming put bytes = refl
+exchange_put true false coming put bytes = refl
+exchange_put true true coming put bytes = refl
 
--- an open far end leaves no script
-no_script : (near far : Bool) (coming coming' put : List ℕ) → far ≡ true → script_of near far coming' put ≡ script_of near far coming put
-no_script false far coming coming' put opens = refl
-no_script true true coming coming' put opens = refl
-no_script true false coming coming' put opens = cc
+-- an open far end leaves no exchange
+no_exchange : (near far : Bool) (coming coming' put : List ℕ) → far ≡ true → exchange_of near far coming' put ≡ exchange_of near far coming put
+no_exchange false far coming coming' put opens = refl
+no_exchange true true coming coming' put opens = refl
+no_exchange true false coming coming' put opens = cc
 
 pipe_put_near : (far : Bool) (coming put bytes : List ℕ) → pipe_of far coming (put ++ bytes) ≡ option_map (put_near bytes) (pipe_of far coming put)
 pipe_put_near false coming put bytes = refl
@@ -28,12 +28,13 @@ pipe_put_far true coming put bytes = refl
 
 told_put : (at : End) (bytes : List ℕ) (s : Store) → is_open at (state_of s) ≡ true → state_of (kept_at at bytes s) ≡ after_put at bytes (state_of s)
 told_put ends.Near bytes s opens =
-    ap (λ x. record (state_of s) { script = x; pipe = pipe_of s.far_open s.coming (s.put ++ bytes) }) (script_put s.near_open s.far_open s.coming s.put bytes)
-    ∙ ap (λ y. record (state_of s) { script = option_map (more_put bytes) (script_of s.near_open s.far_open s.coming s.put); pipe = y })
+    ap (λ x. record (state_of s) { exchange = x; pipe = pipe_of s.far_open s.coming (s.put ++ bytes) })
+        (exchange_put s.near_open s.far_open s.coming s.put bytes)
+    ∙ ap (λ y. record (state_of s) { exchange = option_map (more_put bytes) (exchange_of s.near_open s.far_open s.coming s.put); pipe = y })
     (pipe_put_near s.far_open s.coming s.put bytes)
 told_put ends.Far bytes s opens =
-    ap (λ x. record (state_of s) { script = x; pipe = pipe_of s.far_open (s.coming ++ bytes) s.put })
-    (no_script s.near_open s.far_open s.coming (s.coming ++ bytes) s.put opens)
+    ap (λ x. record (state_of s) { exchange = x; pipe = pipe_of s.far_open (s.coming ++ bytes) s.put })
+    (no_exchange s.near_open s.far_open s.coming (s.coming ++ bytes) s.put opens)
     ∙ ap (λ y. record (state_of s) { pipe = y }) (pipe_put_far s.far_open s.coming s.put bytes)
 
 -- a put that failed kept what fits, which is a front of the bytes

@@ -55,26 +55,26 @@ after_twice a n s =
     ap (λ g. record s {
       near_given = g;
       chip = option_map (read_on n) (option_map (read_on a) s.chip);
-      script = option_map (without n) (option_map (without a) s.script);
+      exchange = option_map (without n) (option_map (without a) s.exchange);
       pipe = option_map (take_near n) (option_map (take_near a) s.pipe);
     })
     (add_assoc s.near_given a n)
     ∙ ap (λ c. record s {
       near_given = s.near_given + (a + n);
       chip = c;
-      script = option_map (without n) (option_map (without a) s.script);
+      exchange = option_map (without n) (option_map (without a) s.exchange);
       pipe = option_map (take_near n) (option_map (take_near a) s.pipe);
     }) (read_twice a n s.chip)
     ∙ ap (λ e. record s {
       near_given = s.near_given + (a + n);
       chip = option_map (read_on (a + n)) s.chip;
-      script = e;
+      exchange = e;
       pipe = option_map (take_near n) (option_map (take_near a) s.pipe);
-    }) (without_twice a n s.script)
+    }) (without_twice a n s.exchange)
     ∙ ap (λ p. record s {
       near_given = s.near_given + (a + n);
       chip = option_map (read_on (a + n)) s.chip;
-      script = option_map (without (a + n)) s.script;
+      exchange = option_map (without (a + n)) s.exchange;
       pipe = p;
     }) (taken_twice a n s.pipe)
 
@@ -96,11 +96,11 @@ chip_more : (a k n : ℕ) (told : Option Far) (into piece : List ℕ) → IfSome
 chip_more a k n None into piece front next within most = tt
 chip_more a k n (Some f) into piece front next within most = front_more a k n f.unread into piece front next.0 within most
 
-script_more : (a k n : ℕ) (told : Option Exchange) (into piece : List ℕ) → IfSome told (λ e. take a e.coming ≡ take a into)
+exchange_more : (a k n : ℕ) (told : Option Exchange) (into piece : List ℕ) → IfSome told (λ e. take a e.coming ≡ take a into)
     → IfSome (option_map (without a) told) (λ e. IsFront n piece e.coming × (n ≡ 0 → e.coming ≡ []))
     → a ≤ length into → n ≤ length piece → IfSome told (λ e. take (a + n) e.coming ≡ take (a + n) (put_mid a k into piece))
-script_more a k n None into piece front next within most = tt
-script_more a k n (Some e) into piece front next within most = front_more a k n e.coming into piece front next.0 within most
+exchange_more a k n None into piece front next within most = tt
+exchange_more a k n (Some e) into piece front next within most = front_more a k n e.coming into piece front next.0 within most
 
 -- one piece more
 pub took_more : (a k n : ℕ) (into piece : List ℕ) (old mid new : NetState) → Took a into old mid → GivesNear n piece mid → new ≡ after_take ends.Near n mid
@@ -109,12 +109,12 @@ pub took_more : (a k n : ℕ) (into piece : List ℕ) (old mid new : NetState) �
 took_more a k n into piece old mid new took gives is within most =
     let chip : IfSome (option_map (read_on a) old.chip) (λ f. IsFront n piece f.unread × (0 < n)) =
     subst (λ s. IfSome s.chip (λ f. IsFront n piece f.unread × (0 < n))) took.is gives.of_chip in
-    let script : IfSome (option_map (without a) old.script) (λ e. IsFront n piece e.coming × (n ≡ 0 → e.coming ≡ [])) =
-    subst (λ s. IfSome s.script (λ e. IsFront n piece e.coming × (n ≡ 0 → e.coming ≡ []))) took.is gives.of_script in
+    let exchange : IfSome (option_map (without a) old.exchange) (λ e. IsFront n piece e.coming × (n ≡ 0 → e.coming ≡ [])) =
+    subst (λ s. IfSome s.exchange (λ e. IsFront n piece e.coming × (n ≡ 0 → e.coming ≡ []))) took.is gives.of_exchange in
     record {
       is = is ∙ ap (after_take ends.Near n) took.is ∙ after_twice a n old;
       of_chip = chip_more a k n old.chip into piece took.of_chip chip within most;
-      of_script = script_more a k n old.script into piece took.of_script script within most;
+      of_exchange = exchange_more a k n old.exchange into piece took.of_exchange exchange within most;
     }
 
 none_still : (n : ℕ) (told : Option Pipe) → is_none (option_map (take_near n) told) ≡ is_none told
@@ -156,7 +156,7 @@ reads_some_at n missing into (Some f) new front padded is = (drop n f.unread, cu
 pub reads_some : (into : List ℕ) (old new : NetState) → TookSome into old new → ReadsSome into old.chip new.chip
 reads_some into old new some = reads_some_at some.count some.missing into old.chip new.chip some.took.of_chip some.padded (ap (λ s. s.chip) some.took.is)
 
--- what a script's bytes to come are behind the takes
+-- what the bytes to come of an exchange are behind the takes
 comes : (into : List ℕ) (told new : Option Exchange) → IfSome told (λ e. take (length into) e.coming ≡ take (length into) into)
     → new ≡ option_map (without (length into)) told
     → TakesComing into (option_map coming_in told) (option_map coming_in new)
@@ -169,7 +169,7 @@ comes into (Some e) new front is = (
 )
 
 pub takes_coming : (into : List ℕ) (old new : NetState) → Took (length into) into old new → TakesComing into (coming_of old) (coming_of new)
-takes_coming into old new took = comes into old.script new.script took.of_script (ap (λ s. s.script) took.is)
+takes_coming into old new took = comes into old.exchange new.exchange took.of_exchange (ap (λ s. s.exchange) took.is)
 
 takes_some_at : (n missing : ℕ) (into : List ℕ) (told new : Option Exchange) → IfSome told (λ e. take n e.coming ≡ take n into)
     → into ≡ take n into ++ replicate missing no_answer → new ≡ option_map (without n) told
@@ -178,8 +178,8 @@ takes_some_at n missing into None new front padded is = ap (option_map coming_in
 takes_some_at n missing into (Some e) new front padded is = (drop n e.coming, cut_short n missing into e.coming front padded, ap (option_map coming_in) is)
 
 pub takes_some : (into : List ℕ) (old new : NetState) → TookSome into old new → TakesSome into (coming_of old) (coming_of new)
-takes_some into old new some = takes_some_at some.count some.missing into old.script new.script some.took.of_script some.padded
-    (ap (λ s. s.script) some.took.is)
+takes_some into old new some = takes_some_at some.count some.missing into old.exchange new.exchange some.took.of_exchange some.padded
+    (ap (λ s. s.exchange) some.took.is)
 
 -- ---- takes that were cut short
 
@@ -190,7 +190,7 @@ took_front a k into piece old new took within =
     record {
       is = took.is;
       of_chip = front_still old.chip (λ f. f.unread) took.of_chip same;
-      of_script = front_still old.script (λ e. e.coming) took.of_script same;
+      of_exchange = front_still old.exchange (λ e. e.coming) took.of_exchange same;
     }
   where
     front_still : {X : Type 0} (told : Option X) (bytes : X → List ℕ) → IfSome told (λ x. take a (bytes x) ≡ take a into)

@@ -28,9 +28,9 @@ untold c = record {
   near_given = c.near_given;
   far_given = c.far_given;
   chip = None;
-  script = None;
+  exchange = None;
   pipe = None;
 }
 
 abbrev pub nobody : Peer
-nobody = record { chip = None; script = None }
+nobody = record { chip = None; coming = None }

@@ -76,10 +76,10 @@ new_store input piece room fail_at = record {
 
 -- What it tells
 
-abbrev pub script_of : Bool → Bool → List ℕ → List ℕ → Option Exchange
-script_of false far coming put = None
-script_of true false coming put = Some (record { coming = coming; put = put })
-script_of true true coming put = None
+abbrev pub exchange_of : Bool → Bool → List ℕ → List ℕ → Option Exchange
+exchange_of false far coming put = None
+exchange_of true false coming put = Some (record { coming = coming; put = put })
+exchange_of true true coming put = None
 
 abbrev pub pipe_of : Bool → List ℕ → List ℕ → Option Pipe
 pipe_of false coming put = None
@@ -99,12 +99,12 @@ state_of s = record {
   near_given = s.near_given;
   far_given = s.far_given;
   chip = None;
-  script = script_of s.near_open s.far_open s.coming s.put;
+  exchange = exchange_of s.near_open s.far_open s.coming s.put;
   pipe = pipe_of s.far_open s.coming s.put;
 }
 
 abbrev pub peer_of : Store → Peer
-peer_of s = record { chip = None; script = Some s.coming }
+peer_of s = record { chip = None; coming = Some s.coming }
 
 -- What its calls do
 

@@ -63,7 +63,7 @@ Sound s bad = SoundFar bad s.chip
 pub record Took (count : ℕ) (into : List ℕ) (old new : NetState) : Type 0 where
   pub is : new ≡ after_take ends.Near count old
   pub of_chip : IfSome old.chip (λ f. take count f.unread ≡ take count into)
-  pub of_script : IfSome old.script (λ e. take count e.coming ≡ take count into)
+  pub of_exchange : IfSome old.exchange (λ e. take count e.coming ≡ take count into)
 
 -- which count of the net rose: the faults before and after, and the ends
 abbrev pub PutCause : ℕ → ℕ → WireFault → Type 0
