@@ -85,11 +85,14 @@ access_serving h f ready halted n before told memory st =
     let p : Passed s (passed before s) = passed_turns before s in
     let b : BoardReady (after_turns p.harts s.board) = board_ready_turns p.harts s.board (record { harts = ready.harts; memory = ready.memory }) in
     let c : BoardReady (after_turns e.behind (with_memory n (after_turns p.harts s.board))) =
-        board_ready_turns e.behind (with_memory n (after_turns p.harts s.board)) (record { harts = b.harts; memory = memory }) in
+    board_ready_turns e.behind (with_memory n (after_turns p.harts s.board)) (record { harts = b.harts; memory = memory }) in
     let d : BoardReady (site_of st.far).board = subst (λ (x : Board). BoardReady x) (sym e.board) c in
     told_serving h st.far
-    (record { unit = stood_unit h s halted.hart halted.hart (accessed n (passed before s)) st.kept (site_of st.far) ready.unit st.stood; harts = d.harts;
-        memory = d.memory })
+    (record {
+      unit = stood_unit h s halted.hart halted.hart (accessed n (passed before s)) st.kept (site_of st.far) ready.unit st.stood;
+      harts = d.harts;
+      memory = d.memory;
+    })
     (stood_selects h s.unit.bus halted.hart (accessed n (passed before s)) halted.hart st.kept (site_of st.far) st.stood)
     (record {
       hart = halted.hart;

@@ -64,7 +64,7 @@ pub data Stage (P : Memory → Hart → Memory → Type 0) (Q : Memory → Type 
       → s ≡ aside (unit_of k h bus) h z (passed harts (accessed n (passed before base))) → Stage P Q k h bus x y base s
   at_fault : (before harts : List ℕ) → Q (passed before base).board.memory
       → s ≡ aside (unit_with k Exception [] h bus) h y (passed harts (accessed (passed before base).board.memory (passed before base)))
-          → Stage P Q k h bus x y base s
+      → Stage P Q k h bus x y base s
 
 -- what all of it rests on
 pub record Running (P : Memory → Hart → Memory → Type 0) (Q : Memory → Type 0) (k : Kept) (h : ℕ) (bus : BusUnit) (x y : Hart) (base : Site)
@@ -83,7 +83,7 @@ one_more : (m : DebugModule) (h : ℕ) (y : Hart) (base : Site) (w : Hart) (hart
 unfolding passed
 one_more m h y base w harts g s here fw fy is =
     ap (turned g) is ∙ aside_turned m h g y (passed harts base) w (stays_passed h harts base w here fw) fw fy
-        ∙ ap (aside m h y) (sym (passed-append harts (g ∷ []) base))
+    ∙ ap (aside m h y) (sym (passed-append harts (g ∷ []) base))
 
 stage_turn : (P : Memory → Hart → Memory → Type 0) (Q : Memory → Type 0) (k : Kept) (h : ℕ) (bus : BusUnit) (x y : Hart) (base : Site) (w : Hart) (g : ℕ)
     (s : Site) → Running P Q k h bus x y base w
@@ -95,15 +95,15 @@ stage_turn P Q k h bus x y base w g s r (at_start harts is) =
 stage_turn P Q k h bus x y base w g s r (in_middle before harts z n p fz is) =
     in_middle before (harts ++ g ∷ []) z n p fz
     (one_more (running k (rest_of k) h bus) h z (accessed n (passed before base)) w harts g s (stays_passed h before base w r.held.here r.held.frozen)
-        r.held.frozen fz is)
+    r.held.frozen fz is)
 stage_turn P Q k h bus x y base w g s r (at_end before harts z n p fz is) =
     at_end before (harts ++ g ∷ []) z n p fz
-        (one_more (unit_of k h bus) h z (accessed n (passed before base)) w harts g s (stays_passed h before base w r.held.here r.held.frozen) r.held.frozen fz
-        is)
+    (one_more (unit_of k h bus) h z (accessed n (passed before base)) w harts g s (stays_passed h before base w r.held.here r.held.frozen) r.held.frozen fz
+    is)
 stage_turn P Q k h bus x y base w g s r (at_fault before harts q is) =
     at_fault before (harts ++ g ∷ []) q
     (one_more (unit_with k Exception [] h bus) h y (accessed (passed before base).board.memory (passed before base)) w harts g s
-        (stays_passed h before base w r.held.here r.held.frozen) r.held.frozen r.frozen is)
+    (stays_passed h before base w r.held.here r.held.frozen) r.held.frozen r.frozen is)
 
 abbrev after_micro : DebugModule → ℕ → Site → Stepped → Site
 after_micro m h t d = aside (with_unit d.unit m) h d.hart
@@ -112,22 +112,22 @@ after_micro m h t d = aside (with_unit d.unit m) h d.hart
 stage_first : (P : Memory → Hart → Memory → Type 0) (Q : Memory → Type 0) (k : Kept) (h : ℕ) (bus : BusUnit) (x y : Hart) (base : Site) (w : Hart)
     (harts : List ℕ) (s : Site) → Running P Q k h bus x y base w
     → s ≡ aside (running k (program_of k) h bus) h y (passed harts base) → WordDid P Q k.progbuf0 y (passed harts base).board.memory
-        → Stage P Q k h bus x y base (command_stepped s)
+    → Stage P Q k h bus x y base (command_stepped s)
 unfolding passed
 stage_first P Q k h bus x y base w harts s r is (went z n p fz did) =
     in_middle harts [] z n p fz
     (ap command_stepped is
     ∙ stepped_aside (running k (program_of k) h bus) h y (passed harts base) w (Run k.progbuf0) (rest_of k)
-        (stays_passed h harts base w r.held.here r.held.frozen) refl refl
+    (stays_passed h harts base w r.held.here r.held.frozen) refl refl
     ∙ ap (after_micro (running k (program_of k) h bus) h (passed harts base))
-        (micro_of k y (passed harts base).board.memory (debugged ended.Next true z n) did))
+    (micro_of k y (passed harts base).board.memory (debugged ended.Next true z n) did))
 stage_first P Q k h bus x y base w harts s r is (faulted q did) =
     at_fault harts [] q
     (ap command_stepped is
     ∙ stepped_aside (running k (program_of k) h bus) h y (passed harts base) w (Run k.progbuf0) (rest_of k)
-        (stays_passed h harts base w r.held.here r.held.frozen) refl refl
+    (stays_passed h harts base w r.held.here r.held.frozen) refl refl
     ∙ ap (after_micro (running k (program_of k) h bus) h (passed harts base))
-        (micro_of k y (passed harts base).board.memory (debugged ended.Exception true y (passed harts base).board.memory) did))
+    (micro_of k y (passed harts base).board.memory (debugged ended.Exception true y (passed harts base).board.memory) did))
 
 stage_step : (P : Memory → Hart → Memory → Type 0) (Q : Memory → Type 0) (k : Kept) (h : ℕ) (bus : BusUnit) (x y : Hart) (base : Site) (w : Hart) (s : Site)
     → Running P Q k h bus x y base w
@@ -136,21 +136,21 @@ stage_step P Q k h bus x y base w s r (at_transfer harts is) =
     at_start harts
     (ap command_stepped is
     ∙ does_aside (running k (all_of k) h bus) h x (passed harts base) w (Transfer (program_command x8_number)) (program_of k) y
-        (commands_of k Fine (program_of k))
+    (commands_of k Fine (program_of k))
     (stays_passed h harts base w r.held.here r.held.frozen) refl refl r.moves)
 stage_step P Q k h bus x y base w s r (at_start harts is) = stage_first P Q k h bus x y base w harts s r is (r.decides (passed harts base).board.memory)
 stage_step P Q k h bus x y base w s r (in_middle before harts z n p fz is) =
     at_end before harts z n p fz
     (ap command_stepped is
     ∙ does_aside (running k (rest_of k) h bus) h z (passed harts (accessed n (passed before base))) w (Run k.progbuf1) (Run k.progbuf2 ∷ Run k.progbuf3 ∷ []) z
-        (commands_of k Fine [])
+    (commands_of k Fine [])
     (stays_passed h harts (accessed n (passed before base)) w (stays_passed h before base w r.held.here r.held.frozen) r.held.frozen) refl refl
-        (ebreak_does k z r.ebreak))
+    (ebreak_does k z r.ebreak))
 stage_step P Q k h bus x y base w s r (at_end before harts z n p fz is) =
     at_end before harts z n p fz (ap command_stepped is ∙ command_quiet (aside (unit_of k h bus) h z (passed harts (accessed n (passed before base)))) refl)
 stage_step P Q k h bus x y base w s r (at_fault before harts q is) =
     at_fault before harts q (ap command_stepped is
-        ∙ command_quiet (aside (unit_with k Exception [] h bus) h y (passed harts (accessed (passed before base).board.memory (passed before base)))) refl)
+    ∙ command_quiet (aside (unit_with k Exception [] h bus) h y (passed harts (accessed (passed before base).board.memory (passed before base)))) refl)
 
 stage_bus : (P : Memory → Hart → Memory → Type 0) (Q : Memory → Type 0) (k : Kept) (h : ℕ) (bus : BusUnit) (x y : Hart) (base : Site) (s : Site)
     → bus.pending ≡ None
@@ -161,12 +161,12 @@ stage_bus P Q k h bus x y base s idle (at_start harts is) =
     at_start harts (ap bus_stepped is ∙ bus_rests (aside (running k (program_of k) h bus) h y (passed harts base)) idle)
 stage_bus P Q k h bus x y base s idle (in_middle before harts z n p fz is) =
     in_middle before harts z n p fz (ap bus_stepped is ∙ bus_rests (aside (running k (rest_of k) h bus) h z (passed harts (accessed n (passed before base))))
-        idle)
+    idle)
 stage_bus P Q k h bus x y base s idle (at_end before harts z n p fz is) =
     at_end before harts z n p fz (ap bus_stepped is ∙ bus_rests (aside (unit_of k h bus) h z (passed harts (accessed n (passed before base)))) idle)
 stage_bus P Q k h bus x y base s idle (at_fault before harts q is) =
     at_fault before harts q (ap bus_stepped is
-        ∙ bus_rests (aside (unit_with k Exception [] h bus) h y (passed harts (accessed (passed before base).board.memory (passed before base)))) idle)
+    ∙ bus_rests (aside (unit_with k Exception [] h bus) h y (passed harts (accessed (passed before base).board.memory (passed before base)))) idle)
 
 pub stage_ran : (ds : List Deed) (P : Memory → Hart → Memory → Type 0) (Q : Memory → Type 0) (k : Kept) (h : ℕ) (bus : BusUnit) (x y : Hart) (base : Site)
     (w : Hart) (s : Site) → Running P Q k h bus x y base w

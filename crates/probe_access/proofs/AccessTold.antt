@@ -58,21 +58,36 @@ back_told x8 x9 p q h bus x base w old new all is8 is9 st s =
     let y : Hart = scratched p q x in
     let a : WrittenTold x8_number x8 h bus y base w st.kept s.mid.far = written_told x8_number x8 h bus y base w old s.mid (omega arith) st s.first in
     let b : WrittenTold x9_number x9 h bus (debug_written y x8_number x8) base w a.then.kept new.far =
-        written_told x9_number x9 h bus (debug_written y x8_number x8) base w s.mid new (omega arith) a.then s.second in
+    written_told x9_number x9 h bus (debug_written y x8_number x8) base w s.mid new (omega arith) a.then s.second in
     subst (λ (z : Hart). StoodTold h bus z base w new.far)
     (ap (λ n. debug_written (debug_written y x8_number n) x9_number x9) is8
-        ∙ ap (λ n. debug_written (debug_written y x8_number (x_of x.core 8)) x9_number n) is9 ∙ scratch_back x p q all)
+    ∙ ap (λ n. debug_written (debug_written y x8_number (x_of x.core 8)) x9_number n) is9 ∙ scratch_back x p q all)
     b.then
 
 -- ---- the program
 
 abbrev pub with_program : ℕ → Kept → Kept
-with_program word k = record { data0 = k.data0; data1 = k.data1; progbuf0 = word; progbuf1 = ebreak_word; progbuf2 = k.progbuf2; progbuf3 = k.progbuf3;
-    command = k.command }
+with_program word k = record {
+  data0 = k.data0;
+  data1 = k.data1;
+  progbuf0 = word;
+  progbuf1 = ebreak_word;
+  progbuf2 = k.progbuf2;
+  progbuf3 = k.progbuf3;
+  command = k.command;
+}
 
 abbrev pub with_first : ℕ → Kept → Kept
-with_first word k = record { data0 = k.data0; data1 = k.data1; progbuf0 = word; progbuf1 = k.progbuf1; progbuf2 = k.progbuf2; progbuf3 = k.progbuf3; command =
-    k.command }
+with_first word k = record {
+  data0 = k.data0;
+  data1 = k.data1;
+  progbuf0 = word;
+  progbuf1 = k.progbuf1;
+  progbuf2 = k.progbuf2;
+  progbuf3 = k.progbuf3;
+  command =
+      k.command;
+}
 
 -- the program is there, and the data words hold the address
 abbrev pub set_up : ℕ → ℕ → Kept → Kept
@@ -113,7 +128,7 @@ ran_told P Q word address last h bus y base w old new st decides ran =
       is = at.is;
       program = subst (λ (z : Hart). ProgramTold P Q last h bus z base w (site_of at.far)) is
           (program_told P Q ran.words last k h bus y base w cut.mid (site_of at.far) ready refl
-              (subst (λ (z : Hart). (m : Memory) → WordDid P Q word z m) (sym is) decides) cut.rest ran.idle);
+          (subst (λ (z : Hart). (m : Memory) → WordDid P Q word z m) (sym is) decides) cut.rest ran.idle);
     }
 
 -- ---- by cmderr

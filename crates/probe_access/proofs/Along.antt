@@ -80,8 +80,12 @@ then_act : (acts : List Act) (act : Act) (f : Far) (mid new : Option Far) → At
     → AtSites (acts ++ act ∷ []) f new
 then_act acts act f mid new before does =
     let one : AtSites (act ∷ []) before.far new = one_act act before.far new (subst (λ (m : Option Far). WhereTold (chip_did act) m new) before.is does) in
-    record { far = one.far; is = one.is; acts_are = site_acts-append acts (act ∷ []) (site_of f) (site_of before.far) (site_of one.far) before.acts_are
-        one.acts_are }
+    record {
+      far = one.far;
+      is = one.is;
+      acts_are = site_acts-append acts (act ∷ []) (site_of f) (site_of before.far) (site_of one.far) before.acts_are
+          one.acts_are;
+    }
 
 all_acts : (op : DmiOp) (ops : List DmiOp) (results : List ℕ) (f : Far) (new : Option Far) → OperatedAll (op ∷ ops) results f.live.chip new
     → AtSites (acts_of (op ∷ ops) results) f new
@@ -96,9 +100,13 @@ then_all : (acts : List Act) (op : DmiOp) (ops : List DmiOp) (results : List ℕ
     → WhereTold (OperatedAll (op ∷ ops) results) mid new → AtSites (acts ++ acts_of (op ∷ ops) results) f new
 then_all acts op ops results f mid new before does =
     let all : AtSites (acts_of (op ∷ ops) results) before.far new =
-        all_acts op ops results before.far new (subst (λ (m : Option Far). WhereTold (OperatedAll (op ∷ ops) results) m new) before.is does) in
-    record { far = all.far; is = all.is; acts_are = site_acts-append acts (acts_of (op ∷ ops) results) (site_of f) (site_of before.far) (site_of all.far)
-        before.acts_are all.acts_are }
+    all_acts op ops results before.far new (subst (λ (m : Option Far). WhereTold (OperatedAll (op ∷ ops) results) m new) before.is does) in
+    record {
+      far = all.far;
+      is = all.is;
+      acts_are = site_acts-append acts (acts_of (op ∷ ops) results) (site_of f) (site_of before.far) (site_of all.far)
+          before.acts_are all.acts_are;
+    }
 
 pub did_sites : (old : Tells) (acts : List Act) (new : Tells) (f : Far) → Did old acts new → old.far ≡ Some f → AtSites acts f new.far
 did_sites old acts new f nothing is = record { far = f; is = is; acts_are = refl }
@@ -122,4 +130,4 @@ did-append xs a b ys c p (further before act mid _ did does) =
     subst (λ zs. Did a zs c) (append_assoc xs before (act ∷ [])) (further (xs ++ before) act mid c (did-append xs a b before mid p did) does)
 did-append xs a b ys c p (together before op ops results mid _ did does) =
     subst (λ zs. Did a zs c) (append_assoc xs before (acts_of (op ∷ ops) results))
-        (together (xs ++ before) op ops results mid c (did-append xs a b before mid p did) does)
+    (together (xs ++ before) op ops results mid c (did-append xs a b before mid p did) does)

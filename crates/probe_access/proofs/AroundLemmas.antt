@@ -10,7 +10,7 @@ use Rattle.probe_access.proofs.Counted.{put_back_counted}
 pub around_gave_up : (R : Tells → Tells → Type 0) (F : ℕ → ℕ → Tells → Tells → AccessFault → Type 0) (x8 x9 count mid_count was_count new_count : ℕ)
     (old first last new : Tells) (was e : AccessFault) → Saved x8 x9 old first
     → F mid_count was_count first last was → F count was_count first last was → count ≤ was_count → was_count ≤ new_count
-        → GaveUp x8 x9 was_count new_count last new was e → AroundFailed R F count new_count old new e
+    → GaveUp x8 x9 was_count new_count last new was e → AroundFailed R F count new_count old new e
 around_gave_up R F x8 x9 count mid_count was_count new_count old first last new was e saved here f le later (put_back recovers is p) =
     subst (λ x. AroundFailed R F count new_count old new x) (sym is) (behind x8 x9 first last count was_count saved f recovers p)
 around_gave_up R F x8 x9 count mid_count was_count new_count old first last new was e saved here f le later (worse recovers p) =

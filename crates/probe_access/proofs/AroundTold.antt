@@ -95,7 +95,7 @@ put_back_clean x8 x9 h bus y base w old_count new_count old new e st (put_x8 f) 
 put_back_clean x8 x9 h bus y base w old_count new_count old new e st (put_x9 mid r f) =
     let a : WrittenTold x8_number x8 h bus y base w st.kept mid.far = written_told x8_number x8 h bus y base w old mid (omega arith) st r in
     write_clean x9_number x9 h bus (debug_written y x8_number x8) base w old_count new_count mid new e (omega arith) (writes_x9 (debug_written y x8_number x8))
-        a.then f
+    a.then f
 
 -- ---- what a fault leaves
 
@@ -136,7 +136,7 @@ command_clean front word old_count new_count old new (access_fault.Odd shown) f 
 pub perform_only : (P : Memory → Hart → Memory → Type 0) (Q : Memory → Type 0) (word address h : ℕ) (bus : BusUnit) (y : Hart) (base : Site) (w : Hart)
     (old_count new_count : ℕ) (old new : Tells) (e : AccessFault) → StoodTold h bus y base w old.far
     → (Frozen (debug_written y x8_number address) → (m : Memory) → WordDid P Q word (debug_written y x8_number address) m)
-        → PerformFailed word address old_count new_count old new e
+    → PerformFailed word address old_count new_count old new e
     → OnlyMemory address (Performed word address 3 old new) e
 perform_only P Q word address h bus y base w old_count new_count old new _ st decides (in_run e f) =
     clean_only address (Performed word address 3 old new) e (command_clean (program_set word address) program_word old_count new_count old new e f)
@@ -197,7 +197,7 @@ recovered address G (access_fault.Odd shown) r p = absurd r
 pub around_only : (R : Tells → Tells → Type 0) (F : ℕ → ℕ → Tells → Tells → AccessFault → Type 0) (Q : Memory → Type 0) (address h : ℕ) (bus : BusUnit)
     (x : Hart) (base : Site) (old_count new_count : ℕ) (old new : Tells) (e : AccessFault)
     → length x.core.x ≡ 32 → x_of x.core 8 < 2 ^ 64 → x_of x.core 9 < 2 ^ 64 → Inside R F Q address h bus x base → StoodTold h bus x base x old.far
-        → AroundFailed R F old_count new_count old new e
+    → AroundFailed R F old_count new_count old new e
     → OnlyMemory address (Faulted Q h bus x base x new.far) e
 around_only R F Q address h bus x base old_count new_count old new e all fits8 fits9 i st (in_save f) =
     clean_only address (Faulted Q h bus x base x new.far) e (save_clean h bus x base x old_count new_count old new e st f)
@@ -207,17 +207,17 @@ around_only R F Q address h bus x base old_count new_count old new e all fits8 f
 around_only R F Q address h bus x base old_count new_count old new e all fits8 fits9 i st (behind x8 x9 first last was_count is_count saved f recovers back) =
     let sv : SavedTold x8 x9 h bus x base x first.far = saved_told x8 x9 h bus x base x old first st saved in
     only_map address (FaultInside Q h bus x base last.far) (Faulted Q h bus x base x new.far) e
-        (λ g. fault_back Q x8 x9 h bus x base last new all (sv.x8_is fits8) (sv.x9_is fits9) g back) (i.badly was_count is_count first last e sv.then f)
+    (λ g. fault_back Q x8 x9 h bus x base last new all (sv.x8_is fits8) (sv.x9_is fits9) g back) (i.badly was_count is_count first last e sv.then f)
 around_only R F Q address h bus x base old_count new_count old new e all fits8 fits9 i st (in_restore x8 x9 first last saved r f) =
     let sv : SavedTold x8 x9 h bus x base x first.far = saved_told x8 x9 h bus x base x old first st saved in
     let ok : OkInside h bus x last.far = i.well first last sv.then r in
     clean_only address (Faulted Q h bus x base x new.far) e
-        (put_back_clean x8 x9 h bus (scratched ok.p ok.q x) ok.base x old_count new_count last new e ok.then f)
+    (put_back_clean x8 x9 h bus (scratched ok.p ok.q x) ok.base x old_count new_count last new e ok.then f)
 around_only R F Q address h bus x base old_count new_count old new e all fits8 fits9 i st
     (in_restore_behind x8 x9 first last was_count is_count was saved f recovers back) =
     let sv : SavedTold x8 x9 h bus x base x first.far = saved_told x8 x9 h bus x base x old first st saved in
     let g : FaultInside Q h bus x base last.far =
-        recovered address (FaultInside Q h bus x base last.far) was recovers (i.badly was_count is_count first last was sv.then f) in
+    recovered address (FaultInside Q h bus x base last.far) was recovers (i.badly was_count is_count first last was sv.then f) in
     clean_only address (Faulted Q h bus x base x new.far) e
     (put_back_clean x8 x9 h bus (scratched g.p g.q x) (accessed (passed g.fault.before base).board.memory (passed g.fault.before base)) x old_count new_count
-        last new e g.fault.then back)
+    last new e g.fault.then back)

@@ -86,7 +86,7 @@ around_plain R F address old_count new_count old new e i none (inside x8 x9 firs
     i.badly old_count new_count first new e (saved_untold x8 x9 old first saved none) f
 around_plain R F address old_count new_count old new e i none (behind x8 x9 first last was_count is_count saved f recovers back) =
     plain_map address (last.far ≡ None) (new.far ≡ None) e (λ n. back_untold x8 x9 last new back n)
-        (i.badly was_count is_count first last e (saved_untold x8 x9 old first saved none) f)
+    (i.badly was_count is_count first last e (saved_untold x8 x9 old first saved none) f)
 around_plain R F address old_count new_count old new e i none (in_restore x8 x9 first last saved r f) =
     put_back_plain x8 x9 address (new.far ≡ None) old_count new_count last new e f
 around_plain R F address old_count new_count old new e i none (in_restore_behind x8 x9 first last was_count is_count was saved f recovers back) =

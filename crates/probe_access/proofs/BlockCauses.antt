@@ -159,7 +159,7 @@ causes_then a b c was_count is_count count new_count (access_fault.Register numb
       did = did_list ((f.front ++ command ∷ (polls ++ poll_act f.last ∷ f.rest)) ++ q.acts)
           (f.front ++ command ∷ (polls ++ poll_act f.last ∷ (f.rest ++ q.acts))) a c
           (append_assoc f.front (command ∷ (polls ++ poll_act f.last ∷ f.rest)) q.acts
-              ∙ ap (λ xs. f.front ++ command ∷ xs) (append_assoc polls (poll_act f.last ∷ f.rest) q.acts))
+          ∙ ap (λ xs. f.front ++ command ∷ xs) (append_assoc polls (poll_act f.last ∷ f.rest) q.acts))
           (did_then (f.front ++ command ∷ (polls ++ poll_act f.last ∷ f.rest)) a b f.did q.acts c q.did);
     }
 causes_then a b c was_count is_count count new_count access_fault.StillBusy f r q = absurd r
@@ -191,7 +191,7 @@ polled_did : (front : List Act) (word last : ℕ) (a b : Tells) → (r : RanComm
     → Did a ((front ++ Put command_address word ∷ map poll_act r.words) ++ poll_act last ∷ clearing (error_shown last)) b
 polled_did front word last a b r =
     did_list (command_acts front word r.words last) ((front ++ Put command_address word ∷ map poll_act r.words) ++ poll_act last ∷ clearing (error_shown last))
-        a b
+    a b
     (sym (append_assoc front (Put command_address word ∷ map poll_act r.words) (poll_act last ∷ clearing (error_shown last)))) r.did
 
 ran_oddly : (front : List Act) (word : ℕ) (shown : OddStatus) (a b : Tells) → RanOddly front word shown a b → ReportedOddly shown a b
@@ -305,7 +305,7 @@ pub store_causes : (size : Size) (address value count new_count : ℕ) (a b : Te
 store_causes size address value count new_count a b e later (store_writing f) = write_causes x9_number value count new_count a b e later f
 store_causes size address value count new_count a b e later (store_performing mid w f) =
     causes_same a mid b (written_calls x9_number value a mid w) count new_count e later
-        (perform_causes (store_word size) address count new_count mid b e later f)
+    (perform_causes (store_word size) address count new_count mid b e later f)
 
 save_causes : (count new_count : ℕ) (a b : Tells) (e : AccessFault) → LinkLater count new_count e → SaveFailed count new_count a b e
     → Causes count new_count a b e
@@ -334,15 +334,15 @@ around_causes R F count new_count a b e i later (inside x8 x9 first saved f lost
 around_causes R F count new_count a b e i later (behind x8 x9 first last was_count is_count saved f recovers back) =
     causes_same a first b (saved_calls x8 x9 a first saved) count new_count e later
     (causes_then first last b was_count is_count count new_count e (i.failed was_count is_count first last e (no_link was_count is_count e recovers) f)
-        recovers (back_calls x8 x9 last b back))
+    recovers (back_calls x8 x9 last b back))
 around_causes R F count new_count a b e i later (in_restore x8 x9 first last saved r f) =
     causes_same a last b (calls_then a first last (saved_calls x8 x9 a first saved) (i.went first last r)) count new_count e later
-        (back_causes x8 x9 count new_count last b e later f)
+    (back_causes x8 x9 count new_count last b e later f)
 around_causes R F count new_count a b e i later (in_restore_behind x8 x9 first last was_count is_count was saved f recovers g) =
     causes_same a last b
     (calls_then a first last (saved_calls x8 x9 a first saved)
-        (causes_calls first last was_count is_count was (i.failed was_count is_count first last was (no_link was_count is_count was recovers) f) recovers))
-        count new_count e later
+    (causes_calls first last was_count is_count was (i.failed was_count is_count first last was (no_link was_count is_count was recovers) f) recovers))
+    count new_count e later
     (back_causes x8 x9 count new_count last b e later g)
 
 pub load_causes : (size : Size) (address count new_count : ℕ) (a b : Tells) (e : AccessFault) → LinkLater count new_count e
@@ -350,19 +350,19 @@ pub load_causes : (size : Size) (address count new_count : ℕ) (a b : Tells) (e
 load_causes size address count new_count a b _ later (load_saving e f) = read_causes x8_number count new_count a b e later f
 load_causes size address count new_count a b _ later (load_performing e x8 first saved f loses) =
     causes_same a first b (read_calls x8_number x8 a first saved) count new_count e later
-        (perform_causes (load_word size) address count new_count first b e later f)
+    (perform_causes (load_word size) address count new_count first b e later f)
 load_causes size address count new_count a b _ later (load_refused x8 first last saved p back) =
     causes_same a first b (read_calls x8_number x8 a first saved) count new_count (access_fault.Memory address) later
     (causes_then first last b count new_count count new_count (access_fault.Memory address)
-        (ran_reported (program_set (load_word size) address) program_word 3 first last p) tt
+    (ran_reported (program_set (load_word size) address) program_word 3 first last p) tt
     (written_calls x8_number x8 last b back))
 load_causes size address count new_count a b _ later (load_restoring_behind e x8 first last saved p back) =
     causes_same a last b (calls_then a first last (read_calls x8_number x8 a first saved) (performed_calls (load_word size) address 3 first last p)) count
-        new_count e later
+    new_count e later
     (write_causes x8_number x8 count new_count last b e later back)
 load_causes size address count new_count a b _ later (load_taking e x8 first mid saved p f) =
     causes_same a mid b (calls_then a first mid (read_calls x8_number x8 a first saved) (performed_calls (load_word size) address 0 first mid p)) count
-        new_count e later
+    new_count e later
     (read_causes x8_number count new_count mid b e later f)
 load_causes size address count new_count a b _ later (load_restoring e x8 value first mid last saved p taken f) =
     causes_same a last b
@@ -371,13 +371,16 @@ load_causes size address count new_count a b _ later (load_restoring e x8 value 
 
 pub store_inside_causes : (size : Size) (address value : ℕ) → InsideCauses (StoredInside size address value) (StoreFailedInside size address value)
 store_inside_causes size address value =
-    record { went = λ a b r. stored_calls size address value a b r; failed =
-    λ count new_count a b e later f. store_causes size address value count new_count a b e later f }
+    record {
+      went = λ a b r. stored_calls size address value a b r;
+      failed =
+          λ count new_count a b e later f. store_causes size address value count new_count a b e later f;
+    }
 
 pub store_around_calls : (size : Size) (address value : ℕ) (a b : Tells) → Around (StoredInside size address value) a b → Calls a b
 store_around_calls size address value a b r =
     calls_then a r.first b (saved_calls r.x8 r.x9 a r.first r.saved)
-        (calls_then r.first r.last b (stored_calls size address value r.first r.last r.inside) (back_calls r.x8 r.x9 r.last b r.put_back))
+    (calls_then r.first r.last b (stored_calls size address value r.first r.last r.inside) (back_calls r.x8 r.x9 r.last b r.put_back))
 
 -- ---- what was read
 
@@ -385,7 +388,7 @@ more_fetched : (values : List ℕ) (acts more : List Act) → Fetches values act
 more_fetched _ _ more (none_fetched acts) = none_fetched (acts ++ more)
 more_fetched _ _ more (fetched_further values front rest words last low high before idle fine read) =
     subst (λ xs. Fetches (values ++ joined low high ∷ []) xs)
-        (sym (append_assoc front (poll_act last ∷ (words ++ rest)) more ∙ ap (λ xs. front ++ poll_act last ∷ xs) (append_assoc words rest more)))
+    (sym (append_assoc front (poll_act last ∷ (words ++ rest)) more ∙ ap (λ xs. front ++ poll_act last ∷ xs) (append_assoc words rest more)))
     (fetched_further values front (rest ++ more) words last low high before idle fine read)
 
 pub fetched_none : (told : Tells) → Fetched [] told told
@@ -400,26 +403,30 @@ register_fetched number value values old mid new f r =
     let words : List Act = Got data0_address r.words.low ∷ Got data1_address r.words.high ∷ [] in
     let none : [] ≡ clearing (error_shown last) = none_cleared (error_shown last) r.ran.error_is in
     let command : Did mid (polls ++ poll_act last ∷ []) r.mid =
-        did_list (command_acts [] (transfer_word false number) r.ran.ran.words last) (polls ++ poll_act last ∷ []) mid r.mid
-        (ap (λ cs. polls ++ poll_act last ∷ cs) (sym none)) r.ran.ran.did in
+    did_list (command_acts [] (transfer_word false number) r.ran.ran.words last) (polls ++ poll_act last ∷ []) mid r.mid
+    (ap (λ cs. polls ++ poll_act last ∷ cs) (sym none)) r.ran.ran.did in
     let both : Did mid ((polls ++ poll_act last ∷ []) ++ words) new = did_then (polls ++ poll_act last ∷ []) mid r.mid command words new r.words.did in
     let shaped : Did mid (polls ++ poll_act last ∷ (words ++ [])) new =
-        did_list ((polls ++ poll_act last ∷ []) ++ words) (polls ++ poll_act last ∷ (words ++ [])) mid new (append_assoc polls (poll_act last ∷ []) words) both
-        in
+    did_list ((polls ++ poll_act last ∷ []) ++ words) (polls ++ poll_act last ∷ (words ++ [])) mid new (append_assoc polls (poll_act last ∷ []) words) both
+    in
     let all : Did old (f.acts ++ (polls ++ poll_act last ∷ (words ++ []))) new =
-        did_then f.acts old mid f.did (polls ++ poll_act last ∷ (words ++ [])) new shaped in
+    did_then f.acts old mid f.did (polls ++ poll_act last ∷ (words ++ [])) new shaped in
     record {
       acts = (f.acts ++ polls) ++ poll_act last ∷ (words ++ []);
       did = did_list (f.acts ++ (polls ++ poll_act last ∷ (words ++ []))) ((f.acts ++ polls) ++ poll_act last ∷ (words ++ [])) old new
           (sym (append_assoc f.acts polls (poll_act last ∷ (words ++ [])))) all;
       fetches = subst (λ v. Fetches (values ++ v ∷ []) ((f.acts ++ polls) ++ poll_act last ∷ (words ++ []))) (sym r.words.is)
           (fetched_further values (f.acts ++ polls) [] words last r.words.low r.words.high (more_fetched values f.acts polls f.fetches) r.ran.ran.idle
-              r.ran.error_is lower_first);
+          r.ran.error_is lower_first);
     }
 
 fetched_calls : (values : List ℕ) (old mid new : Tells) → Fetched values old mid → Calls mid new → Fetched values old new
-fetched_calls values old mid new f p = record { acts = f.acts ++ p.acts; did = did_then f.acts old mid f.did p.acts new p.did; fetches =
-    more_fetched values f.acts p.acts f.fetches }
+fetched_calls values old mid new f p = record {
+  acts = f.acts ++ p.acts;
+  did = did_then f.acts old mid f.did p.acts new p.did;
+  fetches =
+      more_fetched values f.acts p.acts f.fetches;
+}
 
 pub fetched_more : (size : Size) (address value : ℕ) (values : List ℕ) (old mid new : Tells) → Fetched values old mid → LoadRun size address value mid new
     → Fetched (values ++ value ∷ []) old new
@@ -427,7 +434,7 @@ fetched_more size address value values old mid new f r =
     let at : Fetched values old r.mid = fetched_calls values old mid r.mid f
     (calls_then mid r.first r.mid (read_calls x8_number r.x8 mid r.first r.saved) (performed_calls (load_word size) address 0 r.first r.mid r.performed)) in
     fetched_calls (values ++ value ∷ []) old r.last new (register_fetched x8_number value values old r.mid r.last at r.taken)
-        (written_calls x8_number r.x8 r.last new r.put_back)
+    (written_calls x8_number r.x8 r.last new r.put_back)
 
 pub fetched_made : (values : List ℕ) (old new : Tells) → Fetched values old new → Calls old new
 fetched_made values old new f = calls f.acts old new f.did

@@ -39,7 +39,7 @@ load_left_by : (size : Size) (address h : ℕ) (values : List ℕ) (old mid new 
 load_left_by size address h values None mid new before left = tt
 load_left_by size address h values (Some f) mid new before left =
     let l : IsLeft (AccessLeftOff Scratched LoadLeaves h) before.far.live.chip new =
-        subst (λ (m : Option Far). Leaves (AccessLeftOff Scratched LoadLeaves h) m new) before.is left in
+    subst (λ (m : Option Far). Leaves (AccessLeftOff Scratched LoadLeaves h) m new) before.is left in
     record { far = l.far; is = l.is; left = record { mid = site_of before.far; each = before.each; left = l.left } }
 
 pub load_block_cut : (size : Size) (address h : ℕ) (values : List ℕ) (old mid new : Option Far) (e : AccessFault)
@@ -47,7 +47,7 @@ pub load_block_cut : (size : Size) (address h : ℕ) (values : List ℕ) (old mi
     → IfCut (Leaves (BlockLoadCut size address values h) old new) e
 load_block_cut size address h values old mid new e before f =
     if_cut (Leaves (AccessLeftOff Scratched LoadLeaves h) mid new) (Leaves (BlockLoadCut size address values h) old new) e
-        (load_left_by size address h values old mid new before) f
+    (load_left_by size address h values old mid new before) f
 
 store_left_by : (size : Size) (address value count h at done : ℕ) (old mid new : Option Far) → at ≡ element_at size address done → done < count
     → WhereTold (BlockStoredAt size address value done) old mid → Leaves (AccessLeftOff Scratched (StoreLeaves size at value) h) mid new
@@ -55,7 +55,7 @@ store_left_by : (size : Size) (address value count h at done : ℕ) (old mid new
 store_left_by size address value count h at done None mid new is below before left = tt
 store_left_by size address value count h at done (Some f) mid new is below before left =
     let there : Leaves (AccessLeftOff Scratched (StoreLeaves size (element_at size address done) value) h) mid new =
-        subst (λ a. Leaves (AccessLeftOff Scratched (StoreLeaves size a value) h) mid new) is left in
+    subst (λ a. Leaves (AccessLeftOff Scratched (StoreLeaves size a value) h) mid new) is left in
     let l : IsLeft (AccessLeftOff Scratched (StoreLeaves size (element_at size address done) value) h) before.far.live.chip new =
     subst (λ (m : Option Far). Leaves (AccessLeftOff Scratched (StoreLeaves size (element_at size address done) value) h) m new) before.is there in
     record { far = l.far; is = l.is; left = record { done = done; below = below; mid = site_of before.far; each = before.each; left = l.left } }
@@ -65,7 +65,7 @@ pub store_block_cut : (size : Size) (address value count h at done : ℕ) (old m
     → IfCut (Leaves (AccessLeftOff Scratched (StoreLeaves size at value) h) mid new) e → IfCut (Leaves (BlockStoreCut size address value count h) old new) e
 store_block_cut size address value count h at done old mid new e is below before f =
     if_cut (Leaves (AccessLeftOff Scratched (StoreLeaves size at value) h) mid new) (Leaves (BlockStoreCut size address value count h) old new) e
-        (store_left_by size address value count h at done old mid new is below before) f
+    (store_left_by size address value count h at done old mid new is below before) f
 
 -- ---- the step flag
 
@@ -78,7 +78,7 @@ flag_hung : (on : Bool) (h : ℕ) (bus : BusUnit) (x : Hart) (base : Site) (w : 
     → IfCut (Hung (MaybeFlagged on x) h bus base new.far) e
 flag_hung on h bus x base w old_count new_count old new e small st (at_read f) =
     if_cut (Hung (λ z. z ≡ x) h bus base new.far) (Hung (MaybeFlagged on x) h bus base new.far) e
-        (hung_map (λ z. z ≡ x) (MaybeFlagged on x) h bus base new.far (λ z s. inl s))
+    (hung_map (λ z. z ≡ x) (MaybeFlagged on x) h bus base new.far (λ z s. inl s))
     (read_hung dcsr_number h bus x base w old_count new_count old new e (omega arith) st f)
 flag_hung on h bus x base w old_count new_count old new e small st (at_write word mid r f) =
     let a : ReadTold dcsr_number word h bus x base w mid.far = read_told dcsr_number word h bus x base w old mid (omega arith) st r in
@@ -94,7 +94,7 @@ flag_cut on h None coming old_count new_count new e ready selects halted f = cut
 flag_cut on h (Some c) coming old_count new_count new e ready selects halted f =
     cut_left (MaybeFlagged on) h c halted new.far e
     (flag_hung on h (site_of c).unit.bus halted.hart (site_of c) halted.hart old_count new_count (tells (Some c) coming) new e
-        ((ready.harts h halted.hart halted.is).registers dcsr_number (dcsr_value halted.hart.debug) (dcsr_held halted.hart))
+    ((ready.harts h halted.hart halted.is).registers dcsr_number (dcsr_value halted.hart.debug) (dcsr_held halted.hart))
     (first_told h c ready halted selects) f)
 
 -- ---- a single step
@@ -117,12 +117,17 @@ running_by : (h : ℕ) (old mid new : Option Far) → WhereTold (FlaggedAt true 
 running_by h None mid new sets left = tt
 running_by h (Some f) mid new sets left =
     let l : LeftBy (RunCut (ResumeReq h) sees_both h) h sets.far.live.chip new =
-        subst (λ (m : Option Far). WhereTold (LeftBy (RunCut (ResumeReq h) sees_both h) h) m new) sets.is left in
+    subst (λ (m : Option Far). WhereTold (LeftBy (RunCut (ResumeReq h) sees_both h) h) m new) sets.is left in
     record {
       far = l.far;
       is = l.is;
-      left = running (record { begun = target_of (site_of sets.far); sets = sets.rewrote; runs = l.happened; bus =
-          left_bus (site_of l.far).unit (site_of sets.far).unit h l.unit ∙ sets.bus });
+      left = running (record {
+        begun = target_of (site_of sets.far);
+        sets = sets.rewrote;
+        runs = l.happened;
+        bus =
+            left_bus (site_of l.far).unit (site_of sets.far).unit h l.unit ∙ sets.bus;
+      });
     }
 
 pub running_cut : (h : ℕ) (old mid new : Option Far) (why : RunFault) → WhereTold (FlaggedAt true h) old mid → RunLeft h mid new why
@@ -137,7 +142,7 @@ clearing_by h None b c d sets runs left = tt
 clearing_by h (Some f) b c d sets runs left =
     let went : RunLeaves (StepsAt h) h sets.far.live.chip c = subst (λ (m : Option Far). WhereTold (RunLeaves (StepsAt h) h) m c) sets.is runs in
     let l : IsLeft (LeftAside (MaybeFlagged false) h) went.far.live.chip d =
-        subst (λ (m : Option Far). Leaves (LeftAside (MaybeFlagged false) h) m d) went.is left in
+    subst (λ (m : Option Far). Leaves (LeftAside (MaybeFlagged false) h) m d) went.is left in
     record {
       far = l.far;
       is = l.is;

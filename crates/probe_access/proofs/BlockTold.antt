@@ -7,8 +7,19 @@ use Rattle.debug_model.specs.Told.{Far, site_of}
 use Rattle.probe_access.specs.declared.fault.AccessFault.{AccessFault}
 use Rattle.probe_access.specs.declared.fault.AccessFault.TheVariants as access_fault
 use Rattle.probe_access.specs.Accesses.{AccessLeft, LoadRefused, LoadedAt, StoreRefused, StoredAt}
-use Rattle.probe_access.specs.Blocks.{BlockLoadLeft, BlockLoadRefused, BlockLoadedAt, BlockStoreLeft, BlockStoreRefused, BlockStoredAt, LoadedOne,
-    NotLoadedOne, NotStoredOne, StoredOne, element_at}
+use Rattle.probe_access.specs.Blocks.{
+  BlockLoadLeft,
+  BlockLoadRefused,
+  BlockLoadedAt,
+  BlockStoreLeft,
+  BlockStoreRefused,
+  BlockStoredAt,
+  LoadedOne,
+  NotLoadedOne,
+  NotStoredOne,
+  StoredOne,
+  element_at,
+}
 use Rattle.probe_access.specs.Blocks.LoadedEach.{nothing as none_loaded, further as loaded_further}
 use Rattle.probe_access.specs.Blocks.StoredEach.{nothing as none_stored, further as stored_further}
 
@@ -25,9 +36,9 @@ load_further size address value values None mid new before one =
     subst (λ (m : Option Far). WhereTold (LoadedAt size (element_at size address (length values)) value) m new) before one
 load_further size address value values (Some f) mid new before one =
     let l : LoadedAt size (element_at size address (length values)) value before.far.live.chip new =
-        subst (λ (m : Option Far). WhereTold (LoadedAt size (element_at size address (length values)) value) m new) before.is one in
+    subst (λ (m : Option Far). WhereTold (LoadedAt size (element_at size address (length values)) value) m new) before.is one in
     let e : LoadedOne size (element_at size address (length values)) value (site_of before.far) (site_of l.far) =
-        record { before = l.before; behind = l.behind; value_is = l.value_is; access = l.access } in
+    record { before = l.before; behind = l.behind; value_is = l.value_is; access = l.access } in
     record { far = l.far; is = l.is; each = loaded_further values value (site_of before.far) (site_of l.far) before.each e }
 
 load_stops : (size : Size) (address : ℕ) (values : List ℕ) (old mid new : Option Far) → WhereTold (BlockLoadedAt size address values) old mid
@@ -37,9 +48,9 @@ load_stops size address values None mid new before one =
     subst (λ (m : Option Far). WhereTold (LoadRefused size (element_at size address (length values))) m new) before one
 load_stops size address values (Some f) mid new before one =
     let l : LoadRefused size (element_at size address (length values)) before.far.live.chip new =
-        subst (λ (m : Option Far). WhereTold (LoadRefused size (element_at size address (length values))) m new) before.is one in
+    subst (λ (m : Option Far). WhereTold (LoadRefused size (element_at size address (length values))) m new) before.is one in
     let e : NotLoadedOne size (element_at size address (length values)) (site_of before.far) (site_of l.far) =
-        record { before = l.before; behind = l.behind; why = l.why; refused = l.refused; access = l.access } in
+    record { before = l.before; behind = l.behind; why = l.why; refused = l.refused; access = l.access } in
     record { far = l.far; is = l.is; mid = site_of before.far; each = before.each; refused = e }
 
 loaded_none : (size : Size) (address : ℕ) (values : List ℕ) (old mid : Option Far) → WhereTold (BlockLoadedAt size address values) old mid → mid ≡ None
@@ -50,7 +61,7 @@ loaded_none size address values (Some f) mid before none = absurd (none-some bef
 pub load_left : (size : Size) (address count : ℕ) (values : List ℕ) (old mid new : Option Far) (e : AccessFault)
     → WhereTold (BlockLoadedAt size address values) old mid → length values < count
     → AccessLeft (LoadRefused size (element_at size address (length values))) (element_at size address (length values)) mid new e
-        → BlockLoadLeft size address count values old new e
+    → BlockLoadLeft size address count values old new e
 load_left size address count values old mid new (access_fault.Dmi why) before below f = tt
 load_left size address count values old mid new (access_fault.Memory at) before below f = (below, f.0, load_stops size address values old mid new before f.1)
 load_left size address count values old mid new (access_fault.Register number) before below f = loaded_none size address values old mid before f
@@ -71,9 +82,9 @@ store_further size address value done None mid new before one =
     subst (λ (m : Option Far). WhereTold (StoredAt size (element_at size address done) value) m new) before one
 store_further size address value done (Some f) mid new before one =
     let l : StoredAt size (element_at size address done) value before.far.live.chip new =
-        subst (λ (m : Option Far). WhereTold (StoredAt size (element_at size address done) value) m new) before.is one in
+    subst (λ (m : Option Far). WhereTold (StoredAt size (element_at size address done) value) m new) before.is one in
     let e : StoredOne size (element_at size address done) value (site_of before.far) (site_of l.far) =
-        record { before = l.before; behind = l.behind; done = l.done; taken = l.taken; access = l.access } in
+    record { before = l.before; behind = l.behind; done = l.done; taken = l.taken; access = l.access } in
     record { far = l.far; is = l.is; each = stored_further done (site_of before.far) (site_of l.far) before.each e }
 
 store_stops : (size : Size) (address value done : ℕ) (old mid new : Option Far) → WhereTold (BlockStoredAt size address value done) old mid
@@ -83,9 +94,9 @@ store_stops size address value done None mid new before one =
     subst (λ (m : Option Far). WhereTold (StoreRefused size (element_at size address done)) m new) before one
 store_stops size address value done (Some f) mid new before one =
     let l : StoreRefused size (element_at size address done) before.far.live.chip new =
-        subst (λ (m : Option Far). WhereTold (StoreRefused size (element_at size address done)) m new) before.is one in
+    subst (λ (m : Option Far). WhereTold (StoreRefused size (element_at size address done)) m new) before.is one in
     let e : NotStoredOne size (element_at size address done) (site_of before.far) (site_of l.far) =
-        record { before = l.before; behind = l.behind; why = l.why; refused = l.refused; access = l.access } in
+    record { before = l.before; behind = l.behind; why = l.why; refused = l.refused; access = l.access } in
     record { far = l.far; is = l.is; mid = site_of before.far; each = before.each; refused = e }
 
 stored_none : (size : Size) (address value done : ℕ) (old mid : Option Far) → WhereTold (BlockStoredAt size address value done) old mid → mid ≡ None

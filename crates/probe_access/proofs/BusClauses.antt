@@ -23,8 +23,21 @@ use Rattle.probe_access.specs.declared.fault.AccessFault.TheVariants as access_f
 use Rattle.probe_access.specs.declared.odd.OddStatus.{OddStatus}
 use Rattle.probe_run.specs.Acts.{Tells, tells}
 use Rattle.probe_access.specs.Accesses.{AccessLeft, BusLoadRefused, BusLoadedAt, BusStoreRefused, BusStoredAt, IfMemory, unchanged}
-use Rattle.probe_access.specs.BusRuns.{BusEndFailed, BusFetched, BusLoadFailed, BusLoaded, BusOddly, BusPolled, BusRefused, BusStoreFailed, BusStored,
-    bus_collided, bus_error, read_started, write_started}
+use Rattle.probe_access.specs.BusRuns.{
+  BusEndFailed,
+  BusFetched,
+  BusLoadFailed,
+  BusLoaded,
+  BusOddly,
+  BusPolled,
+  BusRefused,
+  BusStoreFailed,
+  BusStored,
+  bus_collided,
+  bus_error,
+  read_started,
+  write_started,
+}
 use Rattle.probe_access.specs.BusRuns.BusLoadFailed.{in_start as load_start, in_end as load_end, in_fetch as load_fetch}
 use Rattle.probe_access.specs.BusRuns.BusStoreFailed.{in_start as store_start, in_end as store_end}
 use Rattle.probe_run.specs.Acts.{Did}
@@ -36,8 +49,22 @@ use Rattle.probe_access.proofs.Along.{AtSites, did_sites, did_untold}
 use Rattle.probe_access.proofs.Aside.{accessed, passed}
 use Rattle.probe_access.proofs.BusSites.{AtBus}
 use Rattle.probe_access.proofs.BusStages.{BusMade}
-use Rattle.probe_access.proofs.BusTold.{FetchedAt, MadeAs, bus_one_access, bus_serving, fetched_at, made_as, read_begun, read_made, refused_cleared,
-    value_whole, works_accessed, works_ready, write_begun, write_made}
+use Rattle.probe_access.proofs.BusTold.{
+  FetchedAt,
+  MadeAs,
+  bus_one_access,
+  bus_serving,
+  fetched_at,
+  made_as,
+  read_begun,
+  read_made,
+  refused_cleared,
+  value_whole,
+  works_accessed,
+  works_ready,
+  write_begun,
+  write_made,
+}
 use Rattle.probe_access.proofs.BusUnits.{ReadEnd, WriteEnd, bus_at, error_number, read_end, shown_by, write_end}
 use Rattle.probe_access.proofs.BusUnits.ReadEnd.{was_read, not_read}
 use Rattle.probe_access.proofs.BusUnits.WriteEnd.{was_written, not_written}
@@ -79,7 +106,7 @@ pub store_finished : (size : Size) (address value last : ℕ) (f : Far) (coming 
 store_finished size address value last f coming started ended ready aligned did polled =
     let s : Site = site_of f in
     let one : AtSites (write_started size address value) f started.far =
-        did_sites (tells (Some f) coming) (write_started size address value) started f did refl in
+    did_sites (tells (Some f) coming) (write_started size address value) started f did refl in
     let two : AtSites _ one.far ended.far = did_sites started _ ended one.far polled.did one.is in
     record {
       far = two.far;
@@ -111,7 +138,7 @@ load_by size address value last f ended new ready w fine fetched (was_read v is 
     let at : AtSites _ w.far new.far = did_sites ended _ new w.far fetched.did w.is in
     let got : FetchedAt u v fetched.low fetched.high (accessed m (passed w.made.before s)) (site_of at.far) =
     fetched_at true size address v fetched.low fetched.high (accessed m (passed w.made.before s)) (site_of w.far) (site_of at.far)
-        (works_accessed m w.made.before s (works_ready s ready)) a.after at.acts_are in
+    (works_accessed m w.made.before s (works_ready s ready)) a.after at.acts_are in
     let held : MemoryReady m = (ready_before w.made.before s ready).memory in
     let small : v < 256 ^ count_of size = loaded_small m address size v held is in
     let value_is : value ≡ v = fetched.is ∙ value_whole size v fetched.low fetched.high small got.low_is got.high_is in
@@ -138,13 +165,13 @@ pub bus_load_ok : (size : Size) (address value : ℕ) (far : Option Far) (coming
     → BusLoaded size address value (tells far coming) new → BusLoadOk size address value far new.far
 bus_load_ok size address value None coming new ready aligned r =
     let end : new.far ≡ None = did_untold r.ended _ new r.fetched.did
-        (did_untold r.started _ r.ended r.ends.polled.did (did_untold (tells None coming) _ r.started r.starts refl)) in
+    (did_untold r.started _ r.ended r.ends.polled.did (did_untold (tells None coming) _ r.started r.starts refl)) in
     record { loaded_at = end; ready = subst (λ (o : Option Far). IsReady o) (sym end) tt }
 bus_load_ok size address value (Some f) coming new ready aligned r =
     let w : Finished (reading size address (site_of f)) r.ends.last f r.ended.far =
-        load_finished size address r.ends.last f coming r.started r.ended ready aligned r.starts r.ends.polled in
+    load_finished size address r.ends.last f coming r.started r.ended ready aligned r.starts r.ends.polled in
     load_by size address value r.ends.last f r.ended new ready w r.ends.fine r.fetched
-        (read_end size address (site_of f).unit.bus.value (memory_at w.made.before (site_of f)))
+    (read_end size address (site_of f).unit.bus.value (memory_at w.made.before (site_of f)))
 
 -- ---- a store
 
@@ -188,7 +215,7 @@ bus_store_ok size address value None coming new ready aligned r =
     record { stored_at = end; ready = subst (λ (o : Option Far). IsReady o) (sym end) tt }
 bus_store_ok size address value (Some f) coming new ready aligned r =
     let w : Finished (writing size address value) r.ends.last f new.far =
-        store_finished size address value r.ends.last f coming r.started new ready aligned r.starts r.ends.polled in
+    store_finished size address value r.ends.last f coming r.started new ready aligned r.starts r.ends.polled in
     store_by size address value r.ends.last f new ready w r.ends.fine (write_end size address value (memory_at w.made.before (site_of f)))
 
 -- ---- faults
@@ -217,14 +244,14 @@ refused_untold : (R : Chip → Option Far → Type 0) (started new : Tells) → 
     → WhereTold R None new.far × IsReady new.far
 refused_untold R started new none r =
     let end : new.far ≡ None = did_untold r.mid _ new r.cleared (did_untold started _ r.mid r.polled.did none) in
-        (end, subst (λ (o : Option Far). IsReady o) (sym end) tt)
+    (end, subst (λ (o : Option Far). IsReady o) (sym end) tt)
 
 -- ---- a load that failed
 
 load_refused : (size : Size) (address last : ℕ) (f : Far) (mid new : Tells) → SiteReady (site_of f)
     → (w : Finished (reading size address (site_of f)) last f mid.far) → bus_error last ≡ 2 → Did mid (Put sbcs_address clears_sberror ∷ []) new
     → ReadEnd size address (site_of f).unit.bus.value (memory_at w.made.before (site_of f))
-        → WhereTold (BusLoadRefused size address) (Some f) new.far × IsReady new.far
+    → WhereTold (BusLoadRefused size address) (Some f) new.far × IsReady new.far
 load_refused size address last f mid new ready w outside cleared (was_read v is done) =
     let s : Site = site_of f in
     let m : Memory = memory_at w.made.before s in
@@ -240,7 +267,7 @@ load_refused size address last f mid new ready w outside cleared (not_read why i
     let at : AtSites _ w.far new.far = did_sites mid _ new w.far cleared w.is in
     let fine : AtBus v (accessed m (passed w.made.before s)) (site_of at.far) =
     refused_cleared true size address s.unit.bus.value (accessed m (passed w.made.before s)) (site_of w.far) (site_of at.far)
-        (works_accessed m w.made.before s (works_ready s ready)) a.after at.acts_are in (
+    (works_accessed m w.made.before s (works_ready s ready)) a.after at.acts_are in (
       record {
         far = at.far;
         is = at.is;
@@ -267,29 +294,29 @@ load_odd : (size : Size) (address last : ℕ) (f : Far) (told : Option Far) → 
 load_odd size address last f told w other some (was_read v is done) =
     let s : Site = site_of f in
     let a : MadeAs (bus_at true size address v Fine None) (memory_at w.made.before s) w.made.before last s (site_of w.far) =
-        made_as (reading size address s) _ _ last s (site_of w.far) w.made done in
+    made_as (reading size address s) _ _ last s (site_of w.far) w.made done in
     no_other true size address v last false (ap bus_error a.shows ∙ (shown_by true size false false).error_is)
-        (ap bus_collided a.shows ∙ (shown_by true size false false).alone) other some
+    (ap bus_collided a.shows ∙ (shown_by true size false false).alone) other some
 load_odd size address last f told w other some (not_read why is done) =
     let s : Site = site_of f in
     let a : MadeAs (bus_at true size address s.unit.bus.value Address None) (memory_at w.made.before s) w.made.before last s (site_of w.far) =
-        made_as (reading size address s) _ _ last s (site_of w.far) w.made done in
+    made_as (reading size address s) _ _ last s (site_of w.far) w.made done in
     no_other true size address s.unit.bus.value last true (ap bus_error a.shows ∙ (shown_by true size false true).error_is)
-        (ap bus_collided a.shows ∙ (shown_by true size false true).alone) other some
+    (ap bus_collided a.shows ∙ (shown_by true size false true).alone) other some
 
 load_end_err : (size : Size) (address : ℕ) (far : Option Far) (coming : Option DmiComing) (started new : Tells) (old_count new_count : ℕ) (e : AccessFault)
     → IsReady far → is_aligned address size ≡ true → Did (tells far coming) (read_started size address) started
     → BusEndFailed address old_count new_count started new e → BusErr (BusLoadRefused size address) address far new.far e
 load_end_err size address None coming started new old_count new_count e ready aligned did f =
     end_err (BusLoadRefused size address) address None started new old_count new_count e
-        (refused_untold (BusLoadRefused size address) started new (did_untold (tells None coming) _ started did refl)) (λ shown o. refl) f
+    (refused_untold (BusLoadRefused size address) started new (did_untold (tells None coming) _ started did refl)) (λ shown o. refl) f
 load_end_err size address (Some c) coming started new old_count new_count e ready aligned did f =
     end_err (BusLoadRefused size address) address (Some c) started new old_count new_count e
     (λ r.
     let w : Finished (reading size address (site_of c)) r.last c r.mid.far =
-        load_finished size address r.last c coming started r.mid ready aligned did r.polled in
+    load_finished size address r.last c coming started r.mid ready aligned did r.polled in
     load_refused size address r.last c r.mid new ready w r.outside r.cleared
-        (read_end size address (site_of c).unit.bus.value (memory_at w.made.before (site_of c))))
+    (read_end size address (site_of c).unit.bus.value (memory_at w.made.before (site_of c))))
     (λ shown o.
     let w : Finished (reading size address (site_of c)) o.last c new.far = load_finished size address o.last c coming started new ready aligned did o.polled in
     absurd (load_odd size address o.last c new.far w o.other o.some (read_end size address (site_of c).unit.bus.value (memory_at w.made.before (site_of c)))))
@@ -326,7 +353,7 @@ store_refused size address value last f mid new ready w outside cleared (not_wri
     let at : AtSites _ w.far new.far = did_sites mid _ new w.far cleared w.is in
     let fine : AtBus v (accessed n (passed w.made.before s)) (site_of at.far) =
     refused_cleared false size address value (accessed n (passed w.made.before s)) (site_of w.far) (site_of at.far)
-        (works_accessed n w.made.before s (works_ready s ready)) a.after at.acts_are in (
+    (works_accessed n w.made.before s (works_ready s ready)) a.after at.acts_are in (
       record {
         far = at.far;
         is = at.is;
@@ -338,7 +365,7 @@ store_refused size address value last f mid new ready w outside cleared (not_wri
       },
       told_ready new.far at.far at.is
           (bus_serving v n w.made.before s (site_of at.far) ready (stored_ready m address size value (ready_before w.made.before s ready).memory)
-              (record { idle = refl; fine = refl; no_busyerror = refl }) fine),
+          (record { idle = refl; fine = refl; no_busyerror = refl }) fine),
     )
 
 store_odd : (size : Size) (address value last : ℕ) (f : Far) (told : Option Far) → (w : Finished (writing size address value) last f told)
@@ -347,28 +374,28 @@ store_odd : (size : Size) (address value last : ℕ) (f : Far) (told : Option Fa
 store_odd size address value last f told w other some (was_written done is makes) =
     let s : Site = site_of f in
     let a : MadeAs (bus_at false size address value Fine None) (after_store (memory_at w.made.before s) address size value) w.made.before last s
-        (site_of w.far) = made_as (writing size address value) _ _ last s (site_of w.far) w.made makes in
+    (site_of w.far) = made_as (writing size address value) _ _ last s (site_of w.far) w.made makes in
     no_other false size address value last false (ap bus_error a.shows ∙ (shown_by false size false false).error_is)
-        (ap bus_collided a.shows ∙ (shown_by false size false false).alone) other some
+    (ap bus_collided a.shows ∙ (shown_by false size false false).alone) other some
 store_odd size address value last f told w other some (not_written why is makes) =
     let s : Site = site_of f in
     let a : MadeAs (bus_at false size address value Address None) (after_store (memory_at w.made.before s) address size value) w.made.before last s
-        (site_of w.far) = made_as (writing size address value) _ _ last s (site_of w.far) w.made makes in
+    (site_of w.far) = made_as (writing size address value) _ _ last s (site_of w.far) w.made makes in
     no_other false size address value last true (ap bus_error a.shows ∙ (shown_by false size false true).error_is)
-        (ap bus_collided a.shows ∙ (shown_by false size false true).alone) other some
+    (ap bus_collided a.shows ∙ (shown_by false size false true).alone) other some
 
 store_end_err : (size : Size) (address value : ℕ) (far : Option Far) (coming : Option DmiComing) (started new : Tells) (old_count new_count : ℕ)
     (e : AccessFault) → IsReady far → is_aligned address size ≡ true
     → Did (tells far coming) (write_started size address value) started → BusEndFailed address old_count new_count started new e
-        → BusErr (BusStoreRefused size address) address far new.far e
+    → BusErr (BusStoreRefused size address) address far new.far e
 store_end_err size address value None coming started new old_count new_count e ready aligned did f =
     end_err (BusStoreRefused size address) address None started new old_count new_count e
-        (refused_untold (BusStoreRefused size address) started new (did_untold (tells None coming) _ started did refl)) (λ shown o. refl) f
+    (refused_untold (BusStoreRefused size address) started new (did_untold (tells None coming) _ started did refl)) (λ shown o. refl) f
 store_end_err size address value (Some c) coming started new old_count new_count e ready aligned did f =
     end_err (BusStoreRefused size address) address (Some c) started new old_count new_count e
     (λ r.
     let w : Finished (writing size address value) r.last c r.mid.far =
-        store_finished size address value r.last c coming started r.mid ready aligned did r.polled in
+    store_finished size address value r.last c coming started r.mid ready aligned did r.polled in
     store_refused size address value r.last c r.mid new ready w r.outside r.cleared (write_end size address value (memory_at w.made.before (site_of c))))
     (λ shown o.
     let w : Finished (writing size address value) o.last c new.far = store_finished size address value o.last c coming started new ready aligned did o.polled in

@@ -24,8 +24,19 @@ use Rattle.probe_run.specs.Acts.Act.{Got, Put}
 use Rattle.probe_run.specs.Acts.Attempt.{Operation}
 use Rattle.probe_run.specs.Opening.{clears_sberror}
 use Rattle.probe_access.specs.Accesses.{with_memory}
-use Rattle.probe_access.specs.BusRuns.{BusEndFailed, BusEnding, BusFetching, BusLoadFailed, BusPollBegun, BusStoreFailed, Starting, bus_error, bus_poll,
-    read_started, write_started}
+use Rattle.probe_access.specs.BusRuns.{
+  BusEndFailed,
+  BusEnding,
+  BusFetching,
+  BusLoadFailed,
+  BusPollBegun,
+  BusStoreFailed,
+  Starting,
+  bus_error,
+  bus_poll,
+  read_started,
+  write_started,
+}
 use Rattle.probe_access.specs.BusRuns.BusEnding.{at_poll, at_clear}
 use Rattle.probe_access.specs.BusRuns.BusFetching.{lower, upper}
 use Rattle.probe_access.specs.BusRuns.BusLoadFailed.{in_start as load_start, in_end as load_end, in_fetch as load_fetch}
@@ -60,9 +71,13 @@ poll_cut : (N : Memory → Memory → Type 0) (p : BusUnit) (base : Site) (old_c
     → BusStage p base (site_of f) → BusPollBegun acts failed → Broke acts failed old_count new_count started told why → BusCut N base told
 poll_cut N p base old_count new_count started told why _ _ f is w pending l st (polls words vain) b =
     let c : CutAt (map bus_poll words) (Read sbcs_address) f told =
-        cut_at (map bus_poll words) (Read sbcs_address) old_count new_count started told why f is b in
-    record { far = c.far; is = c.is; left = stage_left N p base (site_of c.far) l
-        (stage_cut p base c.mid (site_of c.far) w pending (stage_polls p words base (site_of f) c.mid w pending st c.acts_are) c.cut) }
+    cut_at (map bus_poll words) (Read sbcs_address) old_count new_count started told why f is b in
+    record {
+      far = c.far;
+      is = c.is;
+      left = stage_left N p base (site_of c.far) l
+          (stage_cut p base c.mid (site_of c.far) w pending (stage_polls p words base (site_of f) c.mid w pending st c.acts_are) c.cut);
+    }
 
 -- ---- cut at the clearing
 
@@ -74,18 +89,18 @@ either_made N u x before n base t left (inr a) = made x before n left a
 clear_by : (N : Memory → Memory → Type 0) (on_address : Bool) (size : Size) (address value : ℕ) (before : List ℕ) (n : Memory) (base mid t : Site) → Works base
     → N (passed before base).board.memory n
     → AtBus (bus_at on_address size address value Address None) (accessed n (passed before base)) mid → SiteCut (Write sbcs_address clears_sberror) mid t
-        → BusLeft N base t
+    → BusLeft N base t
 clear_by N on_address size address value before n base mid t w left at cut =
     either_made N (bus_at on_address size address value Address None) (bus_at false B1 address value Fine None) before n base t left
     (write_cut N sbcs_address clears_sberror _ (bus_at on_address size address value Address None) (bus_at false B1 address value Fine None)
-        (accessed n (passed before base)) mid t (to_sbcs clears_sberror) (works_accessed n before base w) refl
+    (accessed n (passed before base)) mid t (to_sbcs clears_sberror) (works_accessed n before base w) refl
     (cleared_bus on_address size address value) refl at cut)
 
 clear_nth : (N : Memory → Memory → Type 0) (on_address : Bool) (size : Size) (address value : ℕ) (before : List ℕ) (n : Memory) (base : Site)
     (old_count new_count : ℕ) (old : Tells) (f : Far) (told : Option Far) (why : DmiFault) (front : List Act) (a v : ℕ) → Works base
     → N (passed before base).board.memory n → old.far ≡ Some f
-        → AtBus (bus_at on_address size address value Address None) (accessed n (passed before base)) (site_of f)
-        → Nth (Put sbcs_address clears_sberror ∷ []) front (Put a v)
+    → AtBus (bus_at on_address size address value Address None) (accessed n (passed before base)) (site_of f)
+    → Nth (Put sbcs_address clears_sberror ∷ []) front (Put a v)
     → Broke front (Operation (Write a v)) old_count new_count old told why → BusCut N base told
 clear_nth N on_address size address value before n base old_count new_count old f told why _ _ _ w left is at (here _ _) b =
     let c : CutAt [] (Write sbcs_address clears_sberror) f told = cut_at [] (Write sbcs_address clears_sberror) old_count new_count old told why f is b in
@@ -101,12 +116,12 @@ clear_nth N on_address size address value before n base old_count new_count old 
 clear_cut : (N : Memory → Memory → Type 0) (on_address : Bool) (size : Size) (address value : ℕ) (before : List ℕ) (n : Memory) (base : Site)
     (old_count new_count : ℕ) (old : Tells) (f : Far) (told : Option Far) (why : DmiFault) (acts : List Act) (failed : Attempt)
     → Works base → N (passed before base).board.memory n → old.far ≡ Some f
-        → AtBus (bus_at on_address size address value Address None) (accessed n (passed before base)) (site_of f)
-        → Starting (Put sbcs_address clears_sberror ∷ []) acts failed
+    → AtBus (bus_at on_address size address value Address None) (accessed n (passed before base)) (site_of f)
+    → Starting (Put sbcs_address clears_sberror ∷ []) acts failed
     → Broke acts failed old_count new_count old told why → BusCut N base told
 clear_cut N on_address size address value before n base old_count new_count old f told why _ _ w left is at (next front rest a v e) b =
     clear_nth N on_address size address value before n base old_count new_count old f told why front a v w left is at
-        (nth_of (Put sbcs_address clears_sberror ∷ []) front rest (Put a v) e) b
+    (nth_of (Put sbcs_address clears_sberror ∷ []) front rest (Put a v) e) b
 
 -- ---- cut at the fetching
 
@@ -115,12 +130,12 @@ got_one : (size : Size) (address v low : ℕ) (base s t : Site) → Works base �
 got_one size address v low base s t w at p =
     let u : BusUnit = bus_at true size address v Fine None in
     subst (λ (x : Site). AtBus u base x) (sym p.2)
-        (read_left LoadLeaves sbdata0_address u base s p.0 w refl (λ z active. got0_at u z true size address v active) at (was_performed p.1.result p.1.one))
+    (read_left LoadLeaves sbdata0_address u base s p.0 w refl (λ z active. got0_at u z true size address v active) at (was_performed p.1.result p.1.one))
 
 fetch_cut : (size : Size) (address v : ℕ) (before : List ℕ) (base : Site) (old_count new_count : ℕ) (old : Tells) (f : Far) (told : Option Far)
     (why : DmiFault) (acts : List Act) (failed : Attempt) → Works base → old.far ≡ Some f
     → AtBus (bus_at true size address v Fine None) (accessed (passed before base).board.memory (passed before base)) (site_of f) → BusFetching acts failed
-        → Broke acts failed old_count new_count old told why → BusCut LoadLeaves base told
+    → Broke acts failed old_count new_count old told why → BusCut LoadLeaves base told
 fetch_cut size address v before base old_count new_count old f told why _ _ w is at lower b =
     let u : BusUnit = bus_at true size address v Fine None in
     let m : Memory = (passed before base).board.memory in
@@ -131,14 +146,14 @@ fetch_cut size address v before base old_count new_count old f told why _ _ w is
       is = c.is;
       left = made u before m refl
           (read_left LoadLeaves sbdata0_address u z c.mid (site_of c.far) (works_accessed m before base w) refl
-              (λ y active. got0_at u y true size address v active) (subst (λ (x : Site). AtBus u z x) (sym c.acts_are) at) c.cut);
+          (λ y active. got0_at u y true size address v active) (subst (λ (x : Site). AtBus u z x) (sym c.acts_are) at) c.cut);
     }
 fetch_cut size address v before base old_count new_count old f told why _ _ w is at (upper low) b =
     let u : BusUnit = bus_at true size address v Fine None in
     let m : Memory = (passed before base).board.memory in
     let z : Site = accessed m (passed before base) in
     let c : CutAt (Got sbdata0_address low ∷ []) (Read sbdata1_address) f told =
-        cut_at (Got sbdata0_address low ∷ []) (Read sbdata1_address) old_count new_count old told why f is b in
+    cut_at (Got sbdata0_address low ∷ []) (Read sbdata1_address) old_count new_count old told why f is b in
     let mid : AtBus u z c.mid = got_one size address v low z (site_of f) c.mid (works_accessed m before base w) at c.acts_are in
     record {
       far = c.far;
@@ -152,19 +167,19 @@ fetch_cut size address v before base old_count new_count old f told why _ _ w is
 load_clear : (size : Size) (address last : ℕ) (f : Far) (mid : Tells) (told : Option Far) (old_count new_count : ℕ) (why : DmiFault) → SiteReady (site_of f)
     → (w : Finished (reading size address (site_of f)) last f mid.far) → bus_error last ≡ 2
     → BrokeIn (Starting (Put sbcs_address clears_sberror ∷ [])) old_count new_count mid told why
-        → ReadEnd size address (site_of f).unit.bus.value (memory_at w.made.before (site_of f)) → BusCut LoadLeaves (site_of f) told
+    → ReadEnd size address (site_of f).unit.bus.value (memory_at w.made.before (site_of f)) → BusCut LoadLeaves (site_of f) told
 load_clear size address last f mid told old_count new_count why ready w outside b (was_read v is done) =
     let s : Site = site_of f in
     let a : MadeAs (bus_at true size address v Fine None) (memory_at w.made.before s) w.made.before last s (site_of w.far) =
-        made_as (reading size address s) _ _ last s (site_of w.far) w.made done in
+    made_as (reading size address s) _ _ last s (site_of w.far) w.made done in
     absurd (two_not_zero (bus_error last) outside (ap bus_error a.shows ∙ (shown_by true size false false).error_is))
 load_clear size address last f mid told old_count new_count why ready w outside b (not_read wrong is done) =
     let s : Site = site_of f in
     let m : Memory = memory_at w.made.before s in
     let a : MadeAs (bus_at true size address s.unit.bus.value Address None) m w.made.before last s (site_of w.far) =
-        made_as (reading size address s) _ _ last s (site_of w.far) w.made done in
+    made_as (reading size address s) _ _ last s (site_of w.far) w.made done in
     clear_cut LoadLeaves true size address s.unit.bus.value w.made.before m s old_count new_count mid w.far told why b.acts b.failed (works_ready s ready) refl
-        w.is a.after b.begun b.broke
+    w.is a.after b.begun b.broke
 
 load_ending : (size : Size) (address : ℕ) (f : Far) (coming : Option DmiComing) (started new : Tells) (old_count new_count : ℕ) (why : DmiFault)
     → SiteReady (site_of f) → is_aligned address size ≡ true → Did (tells (Some f) coming) (read_started size address) started
@@ -173,12 +188,12 @@ load_ending size address f coming started new old_count new_count why ready alig
     let s : Site = site_of f in
     let one : AtSites (read_started size address) f started.far = did_sites (tells (Some f) coming) (read_started size address) started f did refl in
     poll_cut LoadLeaves (reading size address s) s old_count new_count started new.far why b.acts b.failed one.far one.is (works_ready s ready)
-        (pends true size address s.unit.bus.value access.Read) (read_leaves size address s.unit.bus.value)
+    (pends true size address s.unit.bus.value access.Read) (read_leaves size address s.unit.bus.value)
     (read_begun size address s (site_of one.far) ready aligned one.acts_are) b.begun b.broke
 load_ending size address f coming started new old_count new_count why ready aligned did (at_clear last mid polled outside b) =
     let w : Finished (reading size address (site_of f)) last f mid.far = load_finished size address last f coming started mid ready aligned did polled in
     load_clear size address last f mid new.far old_count new_count why ready w outside b
-        (read_end size address (site_of f).unit.bus.value (memory_at w.made.before (site_of f)))
+    (read_end size address (site_of f).unit.bus.value (memory_at w.made.before (site_of f)))
 
 load_end_cut : (size : Size) (address : ℕ) (f : Far) (coming : Option DmiComing) (started new : Tells) (old_count new_count : ℕ) (e : AccessFault)
     → SiteReady (site_of f) → is_aligned address size ≡ true → Did (tells (Some f) coming) (read_started size address) started
@@ -196,7 +211,7 @@ load_end_cut size address f coming started new old_count new_count access_fault.
       is = two.is;
       left = stage_left LoadLeaves (reading size address s) s (site_of two.far) (read_leaves size address s.unit.bus.value)
           (stage_polls (reading size address s) g.words s (site_of one.far) (site_of two.far) (works_ready s ready)
-              (pends true size address s.unit.bus.value access.Read) (read_begun size address s (site_of one.far) ready aligned one.acts_are) two.acts_are);
+          (pends true size address s.unit.bus.value access.Read) (read_begun size address s (site_of one.far) ready aligned one.acts_are) two.acts_are);
     }
 load_end_cut size address f coming started new old_count new_count (access_fault.Run why) ready aligned did g = tt
 load_end_cut size address f coming started new old_count new_count (access_fault.Odd shown) ready aligned did g = tt
@@ -204,16 +219,16 @@ load_end_cut size address f coming started new old_count new_count (access_fault
 load_fetch_by : (size : Size) (address last : ℕ) (f : Far) (ended new : Tells) (old_count new_count : ℕ) (why : DmiFault) → SiteReady (site_of f)
     → (w : Finished (reading size address (site_of f)) last f ended.far) → bus_error last ≡ 0
     → BrokeIn BusFetching old_count new_count ended new.far why → ReadEnd size address (site_of f).unit.bus.value (memory_at w.made.before (site_of f))
-        → BusCut LoadLeaves (site_of f) new.far
+    → BusCut LoadLeaves (site_of f) new.far
 load_fetch_by size address last f ended new old_count new_count why ready w fine b (was_read v is done) =
     let s : Site = site_of f in
     let a : MadeAs (bus_at true size address v Fine None) (memory_at w.made.before s) w.made.before last s (site_of w.far) =
-        made_as (reading size address s) _ _ last s (site_of w.far) w.made done in
+    made_as (reading size address s) _ _ last s (site_of w.far) w.made done in
     fetch_cut size address v w.made.before s old_count new_count ended w.far new.far why b.acts b.failed (works_ready s ready) w.is a.after b.begun b.broke
 load_fetch_by size address last f ended new old_count new_count why ready w fine b (not_read wrong is done) =
     let s : Site = site_of f in
     let a : MadeAs (bus_at true size address s.unit.bus.value Address None) (memory_at w.made.before s) w.made.before last s (site_of w.far) =
-        made_as (reading size address s) _ _ last s (site_of w.far) w.made done in
+    made_as (reading size address s) _ _ last s (site_of w.far) w.made done in
     absurd (two_not_zero (bus_error last) (ap bus_error a.shows ∙ (shown_by true size false true).error_is) fine)
 
 by_fault : (P : Type 0) (e : AccessFault) (why : DmiFault) → e ≡ access_fault.Dmi why → P → IfCut P e
@@ -224,55 +239,55 @@ load_cut : (size : Size) (address : ℕ) (f : Far) (coming : Option DmiComing) (
     → IfCut (BusCut LoadLeaves (site_of f) new.far) e
 load_cut size address f coming new old_count new_count e ready aligned (load_start why is b) =
     by_fault (BusCut LoadLeaves (site_of f) new.far) e why is
-        (read_start_cut size address old_count new_count f coming new.far why b.acts b.failed ready aligned b.begun b.broke)
+    (read_start_cut size address old_count new_count f coming new.far why b.acts b.failed ready aligned b.begun b.broke)
 load_cut size address f coming new old_count new_count e ready aligned (load_end started did g) =
     load_end_cut size address f coming started new old_count new_count e ready aligned did g
 load_cut size address f coming new old_count new_count e ready aligned (load_fetch started ended did ends why is b) =
     let w : Finished (reading size address (site_of f)) ends.last f ended.far =
-        load_finished size address ends.last f coming started ended ready aligned did ends.polled in
+    load_finished size address ends.last f coming started ended ready aligned did ends.polled in
     by_fault (BusCut LoadLeaves (site_of f) new.far) e why is
-        (load_fetch_by size address ends.last f ended new old_count new_count why ready w ends.fine b
-        (read_end size address (site_of f).unit.bus.value (memory_at w.made.before (site_of f))))
+    (load_fetch_by size address ends.last f ended new old_count new_count why ready w ends.fine b
+    (read_end size address (site_of f).unit.bus.value (memory_at w.made.before (site_of f))))
 
 -- ---- the end of a store
 
 store_clear : (size : Size) (address value last : ℕ) (f : Far) (mid : Tells) (told : Option Far) (old_count new_count : ℕ) (why : DmiFault)
     → SiteReady (site_of f) → (w : Finished (writing size address value) last f mid.far) → bus_error last ≡ 2
     → BrokeIn (Starting (Put sbcs_address clears_sberror ∷ [])) old_count new_count mid told why
-        → WriteEnd size address value (memory_at w.made.before (site_of f)) → BusCut (StoreLeaves size address value) (site_of f) told
+    → WriteEnd size address value (memory_at w.made.before (site_of f)) → BusCut (StoreLeaves size address value) (site_of f) told
 store_clear size address value last f mid told old_count new_count why ready w outside b (was_written done is makes) =
     let s : Site = site_of f in
     let a : MadeAs (bus_at false size address value Fine None) (after_store (memory_at w.made.before s) address size value) w.made.before last s
-        (site_of w.far) = made_as (writing size address value) _ _ last s (site_of w.far) w.made makes in
+    (site_of w.far) = made_as (writing size address value) _ _ last s (site_of w.far) w.made makes in
     absurd (two_not_zero (bus_error last) outside (ap bus_error a.shows ∙ (shown_by false size false false).error_is))
 store_clear size address value last f mid told old_count new_count why ready w outside b (not_written wrong is makes) =
     let s : Site = site_of f in
     let n : Memory = after_store (memory_at w.made.before s) address size value in
     let a : MadeAs (bus_at false size address value Address None) n w.made.before last s (site_of w.far) =
-        made_as (writing size address value) _ _ last s (site_of w.far) w.made makes in
+    made_as (writing size address value) _ _ last s (site_of w.far) w.made makes in
     clear_cut (StoreLeaves size address value) false size address value w.made.before n s old_count new_count mid w.far told why b.acts b.failed
-        (works_ready s ready) refl w.is a.after b.begun b.broke
+    (works_ready s ready) refl w.is a.after b.begun b.broke
 
 store_ending : (size : Size) (address value : ℕ) (f : Far) (coming : Option DmiComing) (started new : Tells) (old_count new_count : ℕ) (why : DmiFault)
     → SiteReady (site_of f) → is_aligned address size ≡ true
     → Did (tells (Some f) coming) (write_started size address value) started → BusEnding old_count new_count started new why
-        → BusCut (StoreLeaves size address value) (site_of f) new.far
+    → BusCut (StoreLeaves size address value) (site_of f) new.far
 store_ending size address value f coming started new old_count new_count why ready aligned did (at_poll b) =
     let s : Site = site_of f in
     let one : AtSites (write_started size address value) f started.far =
-        did_sites (tells (Some f) coming) (write_started size address value) started f did refl in
+    did_sites (tells (Some f) coming) (write_started size address value) started f did refl in
     poll_cut (StoreLeaves size address value) (writing size address value) s old_count new_count started new.far why b.acts b.failed one.far one.is
-        (works_ready s ready) (pends false size address value access.Write) (write_leaves size address value)
+    (works_ready s ready) (pends false size address value access.Write) (write_leaves size address value)
     (write_begun size address value s (site_of one.far) ready aligned one.acts_are) b.begun b.broke
 store_ending size address value f coming started new old_count new_count why ready aligned did (at_clear last mid polled outside b) =
     let w : Finished (writing size address value) last f mid.far = store_finished size address value last f coming started mid ready aligned did polled in
     store_clear size address value last f mid new.far old_count new_count why ready w outside b
-        (write_end size address value (memory_at w.made.before (site_of f)))
+    (write_end size address value (memory_at w.made.before (site_of f)))
 
 store_end_cut : (size : Size) (address value : ℕ) (f : Far) (coming : Option DmiComing) (started new : Tells) (old_count new_count : ℕ) (e : AccessFault)
     → SiteReady (site_of f) → is_aligned address size ≡ true
     → Did (tells (Some f) coming) (write_started size address value) started → BusEndFailed address old_count new_count started new e
-        → IfCut (BusCut (StoreLeaves size address value) (site_of f) new.far) e
+    → IfCut (BusCut (StoreLeaves size address value) (site_of f) new.far) e
 store_end_cut size address value f coming started new old_count new_count (access_fault.Dmi why) ready aligned did g =
     store_ending size address value f coming started new old_count new_count why ready aligned did g
 store_end_cut size address value f coming started new old_count new_count (access_fault.Memory at) ready aligned did g = tt
@@ -280,14 +295,14 @@ store_end_cut size address value f coming started new old_count new_count (acces
 store_end_cut size address value f coming started new old_count new_count access_fault.StillBusy ready aligned did g =
     let s : Site = site_of f in
     let one : AtSites (write_started size address value) f started.far =
-        did_sites (tells (Some f) coming) (write_started size address value) started f did refl in
+    did_sites (tells (Some f) coming) (write_started size address value) started f did refl in
     let two : AtSites (map bus_poll g.words) one.far new.far = did_sites started (map bus_poll g.words) new one.far g.did one.is in
     record {
       far = two.far;
       is = two.is;
       left = stage_left (StoreLeaves size address value) (writing size address value) s (site_of two.far) (write_leaves size address value)
           (stage_polls (writing size address value) g.words s (site_of one.far) (site_of two.far) (works_ready s ready)
-              (pends false size address value access.Write) (write_begun size address value s (site_of one.far) ready aligned one.acts_are) two.acts_are);
+          (pends false size address value access.Write) (write_begun size address value s (site_of one.far) ready aligned one.acts_are) two.acts_are);
     }
 store_end_cut size address value f coming started new old_count new_count (access_fault.Run why) ready aligned did g = tt
 store_end_cut size address value f coming started new old_count new_count (access_fault.Odd shown) ready aligned did g = tt
@@ -295,10 +310,10 @@ store_end_cut size address value f coming started new old_count new_count (acces
 store_cut : (size : Size) (address value : ℕ) (f : Far) (coming : Option DmiComing) (new : Tells) (old_count new_count : ℕ) (e : AccessFault)
     → SiteReady (site_of f) → is_aligned address size ≡ true
     → BusStoreFailed size address value old_count new_count (tells (Some f) coming) new e
-        → IfCut (BusCut (StoreLeaves size address value) (site_of f) new.far) e
+    → IfCut (BusCut (StoreLeaves size address value) (site_of f) new.far) e
 store_cut size address value f coming new old_count new_count e ready aligned (store_start why is b) =
     by_fault (BusCut (StoreLeaves size address value) (site_of f) new.far) e why is
-        (write_start_cut size address value old_count new_count f coming new.far why b.acts b.failed ready aligned b.begun b.broke)
+    (write_start_cut size address value old_count new_count f coming new.far why b.acts b.failed ready aligned b.begun b.broke)
 store_cut size address value f coming new old_count new_count e ready aligned (store_end started did g) =
     store_end_cut size address value f coming started new old_count new_count e ready aligned did g
 
@@ -312,13 +327,18 @@ unit_behind : (u : BusUnit) (n : Memory) (before harts : List ℕ) (base t : Sit
     → t.unit ≡ record base.unit { bus = t.unit.bus }
 unit_behind u n before harts base t is =
     ap (λ (x : Site). x.unit) is ∙ ap (λ (k : DebugModule). unit_like k u) (unit_passed harts (accessed n (passed before base)) ∙ unit_passed before base)
-        ∙ ap (unit_like base.unit) (sym (ap (λ (x : Site). x.unit.bus) is))
+    ∙ ap (unit_like base.unit) (sym (ap (λ (x : Site). x.unit.bus) is))
 
 bus_left : (N : Memory → Memory → Type 0) (base t : Site) → BusLeft N base t → BusLeftOff N base t
 bus_left N base t (none u a) =
     let p : Passed base (passed a.harts base) = passed_turns a.harts base in
-    before_it (record { harts = p.harts; board = ap (λ (x : Site). x.board) a.is ∙ p.board; journal = ap (λ (x : Site). x.journal) a.is ∙ p.journal; unit =
-        unit_left u a.harts base t a.is })
+    before_it (record {
+      harts = p.harts;
+      board = ap (λ (x : Site). x.board) a.is ∙ p.board;
+      journal = ap (λ (x : Site). x.journal) a.is ∙ p.journal;
+      unit =
+          unit_left u a.harts base t a.is;
+    })
 bus_left N base t (made u before n left a) =
     let z : Site = accessed n (passed before base) in
     let p : Passed base (passed before base) = passed_turns before base in
@@ -350,7 +370,7 @@ bus_load_cut size address (Some c) coming new old_count new_count e ready aligne
 pub bus_store_cut : (size : Size) (address value : ℕ) (far : Option Far) (coming : Option DmiComing) (new : Tells) (old_count new_count : ℕ) (e : AccessFault)
     → IsReady far → is_aligned address size ≡ true
     → BusStoreFailed size address value old_count new_count (tells far coming) new e
-        → IfCut (Leaves (BusLeftOff (StoreLeaves size address value)) far new.far) e
+    → IfCut (Leaves (BusLeftOff (StoreLeaves size address value)) far new.far) e
 bus_store_cut size address value None coming new old_count new_count e ready aligned f =
     cut_always (Leaves (BusLeftOff (StoreLeaves size address value)) None new.far) e tt
 bus_store_cut size address value (Some c) coming new old_count new_count e ready aligned f =

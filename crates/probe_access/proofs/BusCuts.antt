@@ -29,7 +29,7 @@ nth_of [] (z ∷ front) rest y is = absurd (cc)
 nth_of (x ∷ xs) [] rest y is = subst (λ (w : Act). Nth (x ∷ xs) [] w) (let e : x ≡ y = cc in e) (here x xs)
 nth_of (x ∷ xs) (z ∷ front) rest y is =
     subst (λ (w : Act). Nth (x ∷ xs) (w ∷ front) y) (let e : x ≡ z = cc in e)
-        (there x xs front y (nth_of xs front rest y (let e : xs ≡ front ++ y ∷ rest = cc in e)))
+    (there x xs front y (nth_of xs front rest y (let e : xs ≡ front ++ y ∷ rest = cc in e)))
 
 -- ---- the bus with nothing under way, before an access or behind one
 
@@ -81,7 +81,7 @@ pub start_left : (N : Memory → Memory → Type 0) (a v : ℕ) (f : BusUnit →
 start_left N a v f u p base s t writes w idle makes pends l at (unperformed d) = none u (bus_alone u base s t w idle at d)
 start_left N a v f u p base s t writes w idle makes pends l at (was_performed result o) =
     stage_left N p base t l (start_bus a v f u p base s t writes w idle makes pends at
-        (t, record { before = o.before; behind = o.behind; is = o.is; result_is = refl }, refl))
+    (t, record { before = o.before; behind = o.behind; is = o.is; result_is = refl }, refl))
 
 -- one poll more
 stage_poll : (p : BusUnit) (base s t : Site) (result : ℕ) → Works base → Pends p → BusStage p base s → OneOperation (Read sbcs_address) result s t

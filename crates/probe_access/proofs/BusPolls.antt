@@ -1,6 +1,29 @@
 -- The calls of an access by the system bus, put together out of single calls.
-use Rattle.std.proofs.Common.{◌≡◌, ◌∙◌, ◌≤◌, ◌<◌, ◌+◌, ◌++◌, ℕ, List, [], ◌∷◌, length, map, All, Option, refl, sym, ap, length-append, append-nil,
-    append_assoc, arith, true, false}
+use Rattle.std.proofs.Common.{
+  ◌≡◌,
+  ◌∙◌,
+  ◌≤◌,
+  ◌<◌,
+  ◌+◌,
+  ◌++◌,
+  ℕ,
+  List,
+  [],
+  ◌∷◌,
+  length,
+  map,
+  All,
+  Option,
+  refl,
+  sym,
+  ap,
+  length-append,
+  append-nil,
+  append_assoc,
+  arith,
+  true,
+  false,
+}
 use Rattle.std.proofs.lemmas.List.{map-append}
 use Rattle.std.proofs.lemmas.List.Elements.{All-push}
 use Rattle.debug_model.specs.Addresses.{sbcs_address}
@@ -15,8 +38,20 @@ use Rattle.probe_run.specs.Acts.{Act, Attempt, Did, Tells}
 use Rattle.probe_run.specs.Acts.Act.{Put}
 use Rattle.probe_run.specs.Acts.Attempt.{Operation}
 use Rattle.probe_run.specs.Acts.Did.{nothing}
-use Rattle.probe_access.specs.BusRuns.{BusAlwaysBusy, BusEndFailed, BusEnding, BusPollBegun, BusPollFailed, BusPolled, ShowsAccess, Starting, bus_busy,
-    bus_error, bus_poll, outside_error}
+use Rattle.probe_access.specs.BusRuns.{
+  BusAlwaysBusy,
+  BusEndFailed,
+  BusEnding,
+  BusPollBegun,
+  BusPollFailed,
+  BusPolled,
+  ShowsAccess,
+  Starting,
+  bus_busy,
+  bus_error,
+  bus_poll,
+  outside_error,
+}
 use Rattle.probe_access.specs.BusRuns.BusEnding.{at_poll, at_clear}
 use Rattle.probe_access.specs.BusRuns.BusPollBegun.{polls}
 use Rattle.probe_access.specs.BusRuns.Starting.{next}
@@ -62,7 +97,7 @@ waiting_always n old new w all = record { words = w.words; busy = w.busy; all = 
 pub poll_broke : (n count mid_count new_count : ℕ) (old mid : Tells) (told : Option Far) (why : DmiFault) → BusWaiting n old mid → n < 64 → count ≤ mid_count
     → mid_count ≤ new_count
     → WhereTold (OperationCut (Read sbcs_address)) mid.far told → DmiCause mid_count new_count mid.far told mid.coming why
-        → BrokeIn BusPollBegun count new_count old told why
+    → BrokeIn BusPollBegun count new_count old told why
 poll_broke n count mid_count new_count old mid told why w few le later cut cause = record {
   acts = map bus_poll w.words;
   failed = Operation (Read sbcs_address);
@@ -70,7 +105,7 @@ poll_broke n count mid_count new_count old mid told why w few le later cut cause
   broke = broke_list (map bus_poll w.words ++ []) (map bus_poll w.words) (Operation (Read sbcs_address)) count new_count old told why
       (append-nil (map bus_poll w.words))
       (broke_then (map bus_poll w.words) old mid w.did [] (Operation (Read sbcs_address)) count mid_count new_count told why le later
-          (broke_one (Operation (Read sbcs_address)) mid_count new_count mid told why cut cause));
+      (broke_one (Operation (Read sbcs_address)) mid_count new_count mid told why cut cause));
 }
 
 -- ---- writes
@@ -116,9 +151,9 @@ end_counted address count mid_count new_count old new (access_fault.Odd shown) l
 pub clear_broke : (address last count mid_count new_count : ℕ) (old mid new : Tells) (why : DmiFault) → BusPolled last old mid → bus_error last ≡ outside_error
     → count ≤ mid_count → mid_count ≤ new_count
     → WhereTold (OperationCut (Write sbcs_address clears_sberror)) mid.far new.far → DmiCause mid_count new_count mid.far new.far mid.coming why
-        → BusEndFailed address count new_count old new (access_fault.Dmi why)
+    → BusEndFailed address count new_count old new (access_fault.Dmi why)
 clear_broke address last count mid_count new_count old mid new why polled outside le later cut cause =
     at_clear last mid polled outside
     (broke_counted (Starting (Put sbcs_address clears_sberror ∷ [])) count mid_count new_count mid new.far why le later
     (word_broke (Starting (Put sbcs_address clears_sberror ∷ [])) sbcs_address clears_sberror clears_sberror mid_count new_count mid new.far why refl
-        (next [] [] sbcs_address clears_sberror refl) cut cause))
+    (next [] [] sbcs_address clears_sberror refl) cut cause))

@@ -15,8 +15,12 @@ use Rattle.probe_access.proofs.Quiet.{quiet_ran}
 use Rattle.probe_access.proofs.Turns.{passed-append, unit_passed}
 
 abbrev pub at_bus : BusUnit → Site → Site
-at_bus u s = record { unit = record { active = s.unit.active; hartsel = s.unit.hartsel; commands = s.unit.commands; bus = u }; board = s.board; journal =
-    s.journal }
+at_bus u s = record {
+  unit = record { active = s.unit.active; hartsel = s.unit.hartsel; commands = s.unit.commands; bus = u };
+  board = s.board;
+  journal =
+      s.journal;
+}
 
 -- ---- turns
 
@@ -112,5 +116,5 @@ put_bus a v f u w base s t writes works none makes idle at p =
     let o : BusOp (Write a v) v u base p.0 = bus_op (Write a v) v u base s p.0 works none at p.1 in
     subst (λ (x : Site). AtBus w base x) (sym p.2)
     (bus_op_done (Write a v) v u w base p.0 works idle o
-        (written_bus a v f u (passed o.harts base) writes (works_passed o.harts base works).active
-        ∙ ap (λ (x : BusUnit). at_bus x (passed o.harts base)) makes))
+    (written_bus a v f u (passed o.harts base) writes (works_passed o.harts base works).active
+    ∙ ap (λ (x : BusUnit). at_bus x (passed o.harts base)) makes))

@@ -43,8 +43,12 @@ step_made : (p : BusUnit) (base : Site) (harts : List ℕ) → Pends p
 step_made p base harts pends =
     let z : Site = passed harts base in
     let d : BusDone = done_behind harts p base in
-    ap (λ b. let t : Site = record { unit = record { active = z.unit.active; hartsel = z.unit.hartsel; commands = z.unit.commands; bus = d.unit }; board =
-        record { harts = z.board.harts; memory = d.memory }; journal = z.journal ++ access_points b } in t)
+    ap (λ b. let t : Site = record {
+      unit = record { active = z.unit.active; hartsel = z.unit.hartsel; commands = z.unit.commands; bus = d.unit };
+      board =
+          record { harts = z.board.harts; memory = d.memory };
+      journal = z.journal ++ access_points b;
+    } in t)
     (pends.accesses z.board.memory)
 
 works_done : (before : List ℕ) (p : BusUnit) (base : Site) → Works base → Works (done_site before p base)
@@ -59,13 +63,13 @@ stage_deed p base s CommandStepped w pends (waits harts is) =
 stage_deed p base s BusStepped w pends (waits harts is) = made harts [] (ap bus_stepped is ∙ step_made p base harts pends)
 stage_deed p base s (Turned g) w pends (made before behind is) =
     made before (behind ++ g ∷ []) (bus_ran (done_behind before p base).unit (done_site before p base) (Turned g ∷ []) s behind (works_done before p base w)
-        (pends.ends (passed before base).board.memory) is)
+    (pends.ends (passed before base).board.memory) is)
 stage_deed p base s CommandStepped w pends (made before behind is) =
     made before (behind ++ []) (bus_ran (done_behind before p base).unit (done_site before p base) (CommandStepped ∷ []) s behind (works_done before p base w)
-        (pends.ends (passed before base).board.memory) is)
+    (pends.ends (passed before base).board.memory) is)
 stage_deed p base s BusStepped w pends (made before behind is) =
     made before (behind ++ []) (bus_ran (done_behind before p base).unit (done_site before p base) (BusStepped ∷ []) s behind (works_done before p base w)
-        (pends.ends (passed before base).board.memory) is)
+    (pends.ends (passed before base).board.memory) is)
 
 pub stage_ran : (p : BusUnit) (base : Site) (ds : List Deed) (s : Site) → Works base → Pends p → BusStage p base s → BusStage p base (ran ds s)
 unfolding ran
@@ -82,7 +86,7 @@ start_bus a v f u p base s t writes works none makes pends at acts =
     written_bus a v f u (passed o.harts base) writes (works_passed o.harts base works).active ∙ ap (λ (x : BusUnit). at_bus x (passed o.harts base)) makes in
     subst (λ (x : Site). BusStage p base x) (sym acts.2)
     (subst (λ (x : Site). BusStage p base x) (sym o.is)
-        (stage_ran p base o.behind (operated (Write a v) (at_bus u (passed o.harts base))) works pends (waits o.harts begun)))
+    (stage_ran p base o.behind (operated (Write a v) (at_bus u (passed o.harts base))) works pends (waits o.harts begun)))
 
 -- ---- polls
 

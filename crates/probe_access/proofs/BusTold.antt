@@ -1,6 +1,28 @@
 -- What an access by the system bus did at a told chip: one access among turns, and all but the bus as it was.
-use Rattle.std.proofs.Common.{◌≡◌, ◌∙◌, ◌++◌, ◌<◌, ◌^◌, ℕ, List, [], ◌∷◌, map, Bool, true, false, Some, None, refl, sym, ap, subst, append_assoc, arith,
-    if◌then◌else◌}
+use Rattle.std.proofs.Common.{
+  ◌≡◌,
+  ◌∙◌,
+  ◌++◌,
+  ◌<◌,
+  ◌^◌,
+  ℕ,
+  List,
+  [],
+  ◌∷◌,
+  map,
+  Bool,
+  true,
+  false,
+  Some,
+  None,
+  refl,
+  sym,
+  ap,
+  subst,
+  append_assoc,
+  arith,
+  if◌then◌else◌,
+}
 use Rattle.rv_model.specs.declared.size.Size.{Size}
 use Rattle.rv_model.specs.declared.size.Size.TheVariants.{B1, B2, B4, B8}
 use Rattle.rv_model.specs.Board.{Board}
@@ -32,8 +54,20 @@ use Rattle.probe_access.proofs.Aside.{accessed, passed}
 use Rattle.probe_access.proofs.BusSites.{AtBus, BusOp, Works, at_bus, bus_op, bus_op_done, put_bus, works_passed}
 use Rattle.probe_access.proofs.BusSites.Writes.{to_sbaddress0, to_sbaddress1, to_sbcs, to_sbdata0, to_sbdata1}
 use Rattle.probe_access.proofs.BusStages.{BusMade, BusStage, bus_ended, polled_at, start_bus}
-use Rattle.probe_access.proofs.BusUnits.{bus_at, cleared_bus, data_put, data_put_writes, done_as, high_put, low_put, low_put_reads, pends, set_bus, shown_by,
-    upper_put}
+use Rattle.probe_access.proofs.BusUnits.{
+  bus_at,
+  cleared_bus,
+  data_put,
+  data_put_writes,
+  done_as,
+  high_put,
+  low_put,
+  low_put_reads,
+  pends,
+  set_bus,
+  shown_by,
+  upper_put,
+}
 use Rattle.probe_access.proofs.ReadyTurns.{BoardReady, Passed, board_ready_turns, passed_turns}
 use Rattle.probe_access.proofs.Turns.{unit_passed}
 
@@ -53,21 +87,21 @@ addressed_at on_address size address s t ready p =
     let w : Works s = works_ready s ready in
     let first : AtBus (bus_at on_address size s.unit.bus.address s.unit.bus.value Fine None) s p.0 =
     put_bus sbcs_address (setting on_address size) _ s.unit.bus (bus_at on_address size s.unit.bus.address s.unit.bus.value Fine None) s s p.0
-        (to_sbcs (setting on_address size)) w ready.unit.bus.idle
+    (to_sbcs (setting on_address size)) w ready.unit.bus.idle
     (set_bus on_address size s.unit.bus ready.unit.bus) refl (at_start s) (p.0, p.1, refl) in
     put_bus sbaddress1_address (high_half address) _ (bus_at on_address size s.unit.bus.address s.unit.bus.value Fine None)
-        (bus_at on_address size (upper_put s.unit.bus.address address) s.unit.bus.value Fine None) s p.0 t
+    (bus_at on_address size (upper_put s.unit.bus.address address) s.unit.bus.value Fine None) s p.0 t
     (to_sbaddress1 (high_half address)) w refl (high_put on_address size s.unit.bus.address s.unit.bus.value address) refl first p.2
 
 pub read_begun : (size : Size) (address : ℕ) (s t : Site) → SiteReady s → is_aligned address size ≡ true → SiteActs (read_started size address) s t
     → BusStage (bus_at true size address s.unit.bus.value Fine (Some access.Read)) s t
 read_begun size address s t ready aligned p =
     let at : AtBus (bus_at true size (upper_put s.unit.bus.address address) s.unit.bus.value Fine None) s p.2.0 =
-        addressed_at true size address s p.2.0 ready (p.0, p.1, (p.2.0, p.2.1, refl)) in
+    addressed_at true size address s p.2.0 ready (p.0, p.1, (p.2.0, p.2.1, refl)) in
     start_bus sbaddress0_address (low_half address) _ (bus_at true size (upper_put s.unit.bus.address address) s.unit.bus.value Fine None)
-        (bus_at true size address s.unit.bus.value Fine (Some access.Read)) s p.2.0 t
+    (bus_at true size address s.unit.bus.value Fine (Some access.Read)) s p.2.0 t
     (to_sbaddress0 (low_half address)) (works_ready s ready) refl (low_put_reads size s.unit.bus.address s.unit.bus.value address aligned)
-        (pends true size address s.unit.bus.value access.Read) at p.2.2
+    (pends true size address s.unit.bus.value access.Read) at p.2.2
 
 pub write_begun : (size : Size) (address value : ℕ) (s t : Site) → SiteReady s → is_aligned address size ≡ true
     → SiteActs (write_started size address value) s t → BusStage (bus_at false size address value Fine (Some access.Write)) s t
@@ -75,18 +109,18 @@ write_begun size address value s t ready aligned p =
     let w : Works s = works_ready s ready in
     let u : BusUnit = s.unit.bus in
     let at : AtBus (bus_at false size (upper_put u.address address) u.value Fine None) s p.2.0 =
-        addressed_at false size address s p.2.0 ready (p.0, p.1, (p.2.0, p.2.1, refl)) in
+    addressed_at false size address s p.2.0 ready (p.0, p.1, (p.2.0, p.2.1, refl)) in
     let q = p.2.2 in
     let low : AtBus (bus_at false size address u.value Fine None) s q.0 =
     put_bus sbaddress0_address (low_half address) _ (bus_at false size (upper_put u.address address) u.value Fine None)
-        (bus_at false size address u.value Fine None) s p.2.0 q.0 (to_sbaddress0 (low_half address)) w refl
+    (bus_at false size address u.value Fine None) s p.2.0 q.0 (to_sbaddress0 (low_half address)) w refl
     (low_put size u.address u.value address) refl at (q.0, q.1, refl) in
     let high : AtBus (bus_at false size address (upper_put u.value value) Fine None) s q.2.0 =
     put_bus sbdata1_address (high_half value) _ (bus_at false size address u.value Fine None) (bus_at false size address (upper_put u.value value) Fine None) s
-        q.0 q.2.0 (to_sbdata1 (high_half value)) w refl
+    q.0 q.2.0 (to_sbdata1 (high_half value)) w refl
     (data_put size address u.value value) refl low (q.2.0, q.2.1, refl) in
     start_bus sbdata0_address (low_half value) _ (bus_at false size address (upper_put u.value value) Fine None)
-        (bus_at false size address value Fine (Some access.Write)) s q.2.0 t
+    (bus_at false size address value Fine (Some access.Write)) s q.2.0 t
     (to_sbdata0 (low_half value)) w refl (data_put_writes size address u.value value aligned) (pends false size address value access.Write) high q.2.2
 
 -- ---- the end
@@ -99,7 +133,7 @@ pub read_made : (size : Size) (address value last : ℕ) (words : List ℕ) (bas
     → SiteActs (map bus_poll words ++ bus_poll last ∷ []) s t → BusMade (bus_at true size address value Fine (Some access.Read)) last base t
 read_made size address value last words base s t w st idle acts =
     bus_ended (bus_at true size address value Fine (Some access.Read)) last base t w (pends true size address value access.Read)
-        (shown_by true size true false).busy_is idle
+    (shown_by true size true false).busy_is idle
     (polled_at (bus_at true size address value Fine (Some access.Read)) words last base s t w (pends true size address value access.Read) st acts)
 
 pub write_made : (size : Size) (address value last : ℕ) (words : List ℕ) (base s t : Site) → Works base
@@ -107,7 +141,7 @@ pub write_made : (size : Size) (address value last : ℕ) (words : List ℕ) (ba
     → SiteActs (map bus_poll words ++ bus_poll last ∷ []) s t → BusMade (bus_at false size address value Fine (Some access.Write)) last base t
 write_made size address value last words base s t w st idle acts =
     bus_ended (bus_at false size address value Fine (Some access.Write)) last base t w (pends false size address value access.Write)
-        (shown_by false size true false).busy_is idle
+    (shown_by false size true false).busy_is idle
     (polled_at (bus_at false size address value Fine (Some access.Write)) words last base s t w (pends false size address value access.Write) st acts)
 
 -- with what the access left of the bus and of memory
@@ -130,7 +164,7 @@ pub refused_cleared : (on_address : Bool) (size : Size) (address value : ℕ) (b
     → AtBus (bus_at false B1 address value Fine None) base t
 refused_cleared on_address size address value base s t w at p =
     put_bus sbcs_address clears_sberror _ (bus_at on_address size address value Address None) (bus_at false B1 address value Fine None) base s t
-        (to_sbcs clears_sberror) w refl (cleared_bus on_address size address value) refl at p
+    (to_sbcs clears_sberror) w refl (cleared_bus on_address size address value) refl at p
 
 -- ---- what was read is fetched
 
@@ -168,10 +202,10 @@ fetched_at on_address size address v low high base s t w at p =
     let u : BusUnit = bus_at on_address size address v Fine None in
     let first : BusOp (Read sbdata0_address) p.1.result u base p.0 = bus_op (Read sbdata0_address) p.1.result u base s p.0 w refl at p.1.one in
     let mid : AtBus u base p.0 = bus_op_done (Read sbdata0_address) p.1.result u u base p.0 w refl first
-        (got0_at u (passed first.harts base) on_address size address v (works_passed first.harts base w).active) in
+    (got0_at u (passed first.harts base) on_address size address v (works_passed first.harts base w).active) in
     let second : BusOp (Read sbdata1_address) p.2.1.result u base p.2.0 = bus_op (Read sbdata1_address) p.2.1.result u base p.0 p.2.0 w refl mid p.2.1.one in
     let last : AtBus u base p.2.0 = bus_op_done (Read sbdata1_address) p.2.1.result u u base p.2.0 w refl second
-        (got1_at (passed second.harts base) on_address size address v (works_passed second.harts base w).active) in
+    (got1_at (passed second.harts base) on_address size address v (works_passed second.harts base w).active) in
     record {
       low_is = p.1.value_is ∙ ap value_of (first.value_is
           ∙ low_shown (passed first.harts base) on_address size address v (works_passed first.harts base w).active);

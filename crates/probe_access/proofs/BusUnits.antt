@@ -12,8 +12,23 @@ use Rattle.debug_model.specs.declared.sberror.Sberror.TheVariants.{Fine, Address
 use Rattle.debug_model.specs.Commands.{high_half, joined_halves, low_half}
 use Rattle.debug_model.specs.Dmi.{value_of}
 use Rattle.debug_model.specs.ModuleWords.{sbcs_word}
-use Rattle.debug_model.specs.SystemBus.{BusDone, BusUnit, access_size, bus_done, bus_done_by, bus_made, bus_read_by, bus_started, bus_wrote_by,
-    sbaddress0_written, sbaddress1_written, sbcs_written, sbdata0_written, sbdata1_written, started_at}
+use Rattle.debug_model.specs.SystemBus.{
+  BusDone,
+  BusUnit,
+  access_size,
+  bus_done,
+  bus_done_by,
+  bus_made,
+  bus_read_by,
+  bus_started,
+  bus_wrote_by,
+  sbaddress0_written,
+  sbaddress1_written,
+  sbcs_written,
+  sbdata0_written,
+  sbdata1_written,
+  started_at,
+}
 use Rattle.debug_model.specs.Told.{BusReady}
 use Rattle.probe_run.specs.Opening.{clears_sberror}
 use Rattle.probe_access.specs.BusRuns.{access_number, bus_busy, bus_collided, bus_error, setting}
@@ -52,8 +67,18 @@ error_number outside = if outside then 2 else 0
 
 pub shown_by : (on_address : Bool) (size : Size) (busy outside : Bool)
     → Shown busy (error_number outside)
-    (value_of (sbcs_word (record { sbversion = 1; sbbusyerror = false; sbbusy = busy; sbreadonaddr = on_address; sbaccess = access_number size;
-        sbautoincrement = false; sbreadondata = false; sberror = error_number outside; sbasize = 64; sizes = 0xf })))
+    (value_of (sbcs_word (record {
+      sbversion = 1;
+      sbbusyerror = false;
+      sbbusy = busy;
+      sbreadonaddr = on_address;
+      sbaccess = access_number size;
+      sbautoincrement = false;
+      sbreadondata = false;
+      sberror = error_number outside;
+      sbasize = 64;
+      sizes = 0xf;
+    })))
 shown_by true B1 true true = record { busy_is = refl; error_is = refl; alone = refl }
 shown_by true B1 true false = record { busy_is = refl; error_is = refl; alone = refl }
 shown_by true B1 false true = record { busy_is = refl; error_is = refl; alone = refl }
@@ -140,7 +165,7 @@ pub started : (on_address : Bool) (size : Size) (address value : ℕ) (what : Bu
 started on_address size address value what aligned =
     let u : BusUnit = bus_at on_address size address value Fine None in
     ap (λ o. started_at o what u) (size_access size)
-        ∙ ap (λ b. if b then (bus_at on_address size address value Fine (Some what)) else (bus_at on_address size address value Alignment None)) aligned
+    ∙ ap (λ b. if b then (bus_at on_address size address value Fine (Some what)) else (bus_at on_address size address value Alignment None)) aligned
 
 pub low_put_reads : (size : Size) (old value address : ℕ) → is_aligned address size ≡ true
     → sbaddress0_written (low_half address) (bus_at true size (upper_put old address) value Fine None) ≡ bus_at true size address value Fine (Some Read)
@@ -226,10 +251,10 @@ pub data WriteEnd (size : Size) (address value : ℕ) (m : Memory) : Type 0 wher
 write_by : (o : Result ⊤ MemFault) (size : Size) (address value : ℕ) (m : Memory) → store_answer m address size ≡ o → WriteEnd size address value m
 write_by (Ok done) size address value m is =
     was_written done is (made_is false size address value Write m
-        ∙ ap (λ o. done_as (bus_wrote_by o size (bus_at false size address value Fine (Some Write))) (after_store m address size value)) is)
+    ∙ ap (λ o. done_as (bus_wrote_by o size (bus_at false size address value Fine (Some Write))) (after_store m address size value)) is)
 write_by (Err why) size address value m is =
     not_written why is (made_is false size address value Write m
-        ∙ ap (λ o. done_as (bus_wrote_by o size (bus_at false size address value Fine (Some Write))) (after_store m address size value)) is)
+    ∙ ap (λ o. done_as (bus_wrote_by o size (bus_at false size address value Fine (Some Write))) (after_store m address size value)) is)
 
 pub write_end : (size : Size) (address value : ℕ) (m : Memory) → WriteEnd size address value m
 write_end size address value m = write_by (store_answer m address size) size address value m refl

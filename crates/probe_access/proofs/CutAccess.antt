@@ -74,7 +74,7 @@ behind_access : (X Y : Hart → Type 0) (N : Memory → Memory → Type 0) (h : 
     → Hung X h bus (accessed n (passed before base)) told → HungInside Y N h bus base told
 behind_access X Y N h bus base before n told left f p =
     let q : Hung Y h bus (accessed n (passed before base)) told = hung_map X Y h bus (accessed n (passed before base)) told f p in
-        record { far = q.far; is = q.is; inside = made before n left q.hung }
+    record { far = q.far; is = q.is; inside = made before n left q.hung }
 
 -- ---- the program
 
@@ -93,23 +93,23 @@ stage_hung P Q Y N k h bus x y base t one f (at_start harts is) =
     not_yet (record { unit = running k (program_of k) h bus; bus_is = refl; hart = y; one = f.first; harts = harts; at = is })
 stage_hung P Q Y N k h bus x y base t one f (in_middle before harts z n p fz is) =
     made before n (f.memory (passed before base).board.memory z n p)
-        (record { unit = running k (rest_of k) h bus; bus_is = refl; hart = z; one = f.hart (passed before base).board.memory z n p; harts = harts; at = is })
+    (record { unit = running k (rest_of k) h bus; bus_is = refl; hart = z; one = f.hart (passed before base).board.memory z n p; harts = harts; at = is })
 stage_hung P Q Y N k h bus x y base t one f (at_end before harts z n p fz is) =
     made before n (f.memory (passed before base).board.memory z n p)
-        (record { unit = unit_of k h bus; bus_is = refl; hart = z; one = f.hart (passed before base).board.memory z n p; harts = harts; at = is })
+    (record { unit = unit_of k h bus; bus_is = refl; hart = z; one = f.hart (passed before base).board.memory z n p; harts = harts; at = is })
 stage_hung P Q Y N k h bus x y base t one f (at_fault before harts q is) =
     made before (passed before base).board.memory (f.refused (passed before base).board.memory q)
-        (record { unit = unit_with k Exception [] h bus; bus_is = refl; hart = y; one = f.first; harts = harts; at = is })
+    (record { unit = unit_with k Exception [] h bus; bus_is = refl; hart = y; one = f.first; harts = harts; at = is })
 
 program_end_cut : (P : Memory → Hart → Memory → Type 0) (Q : Memory → Type 0) (Y : Hart → Type 0) (N : Memory → Memory → Type 0) (last : ℕ) (k : Kept) (h : ℕ)
     (bus : BusUnit) (x y : Hart) (base : Site) (w : Hart) (mid t : Site) → Fits P Q Y N y
     → Running P Q k h bus x y base w → (error_shown last ≡ 0 → ⊥) → PerformEnd P Q last k h bus y base mid
-        → SiteCut (Write abstractcs_address clears_cmderr) mid t → InsideAt Y N h bus base t
+    → SiteCut (Write abstractcs_address clears_cmderr) mid t → InsideAt Y N h bus base t
 program_end_cut P Q Y N last k h bus x y base w mid t f r error (ran_well before z n p fz end) cut = absurd (error end.error_is)
 program_end_cut P Q Y N last k h bus x y base w mid t f r error (ran_badly before q end) cut =
     let m : Memory = (passed before base).board.memory in
     made before m (f.refused m q) (clear_cut Y last h bus y (accessed m (passed before base)) w k mid t end.error_is (held_behind h w base before m r.held)
-        r.frozen r.idle f.first end.done_at cut)
+    r.frozen r.idle f.first end.done_at cut)
 
 program_cut : (P : Memory → Hart → Memory → Type 0) (Q : Memory → Type 0) (Y : Hart → Type 0) (N : Memory → Memory → Type 0) (h : ℕ) (bus : BusUnit) (x : Hart)
     (base : Site) (w : Hart) (k : Kept) (t : Site) → Y x
@@ -122,10 +122,10 @@ program_cut P Q Y N h bus x base w k t one f held fx idle ebreak decides (sent e
     let start : Site = after_write command_address program_word (aside (unit_of k h bus) h x (passed e.harts base)) in
     let starts : start ≡ aside (running (programmed k) (all_of (programmed k)) h bus) h x (passed e.harts base) =
     command_starts program_word (program_command x8_number) Fine k h bus x (passed e.harts base) w (stays_passed h e.harts base w held.here held.frozen)
-        program_back (program_starts x fx) in
+    program_back (program_starts x fx) in
     stage_hung P Q Y N (programmed k) h bus x y base t one f
     (subst (λ u. Stage P Q (programmed k) h bus x y base u) (sym e.is)
-        (stage_ran e.during P Q (programmed k) h bus x y base w start r (at_transfer e.harts starts)))
+    (stage_ran e.during P Q (programmed k) h bus x y base w start r (at_transfer e.harts starts)))
 program_cut P Q Y N h bus x base w k t one f held fx idle ebreak decides (ended last mid not_busy error c cut) =
     let y : Hart = hart_behind true x8_number k x in
     let r : Running P Q (programmed k) h bus x y base w = program_runs P Q h bus x base w k held fx idle ebreak decides in
@@ -136,7 +136,7 @@ program_cut P Q Y N h bus x base w k t one f held fx idle ebreak decides (ended 
 perform_hung : (P : Memory → Hart → Memory → Type 0) (Q : Memory → Type 0) (Y : Hart → Type 0) (N : Memory → Memory → Type 0) (word address h : ℕ)
     (bus : BusUnit) (y : Hart) (base : Site) (w : Hart) (old_count new_count : ℕ) (old new : Tells) (e : AccessFault)
     → Y y → Fits P Q Y N (debug_written y x8_number address) → StoodTold h bus y base w old.far
-        → (Frozen (debug_written y x8_number address) → (m : Memory) → WordDid P Q word (debug_written y x8_number address) m)
+    → (Frozen (debug_written y x8_number address) → (m : Memory) → WordDid P Q word (debug_written y x8_number address) m)
     → PerformFailed word address old_count new_count old new e → IfCut (HungInside Y N h bus base new.far) e
 perform_hung P Q Y N word address h bus y base w old_count new_count old new _ one f st decides (in_run e g) =
     let k : Kept = set_up word address st.kept in
@@ -162,8 +162,17 @@ pub record AnyScratch (x z : Hart) : Type 0 where
 
 abbrev hart_with : Hart → List ℕ → Hart
 hart_with x xs = record {
-  core = record { id = x.core.id; x = xs; pc = x.core.pc; mstatus = x.core.mstatus; mtvec = x.core.mtvec; mscratch = x.core.mscratch; mepc = x.core.mepc;
-      mcause = x.core.mcause; mtval = x.core.mtval };
+  core = record {
+    id = x.core.id;
+    x = xs;
+    pc = x.core.pc;
+    mstatus = x.core.mstatus;
+    mtvec = x.core.mtvec;
+    mscratch = x.core.mscratch;
+    mepc = x.core.mepc;
+    mcause = x.core.mcause;
+    mtval = x.core.mtval;
+  };
   debug = x.debug;
 }
 
@@ -171,8 +180,12 @@ eight_itself : (x : Hart) (q : ℕ) → length x.core.x ≡ 32 → scratched (x_
 eight_itself x q all = ap (λ (xs : List ℕ). hart_with x (set xs 9 q)) (set_itself x.core.x 8 (omega arith))
 
 itself : (x : Hart) → length x.core.x ≡ 32 → AnyScratch x x
-itself x all = record { p = x_of x.core 8; q = x_of x.core 9; is =
-    sym (eight_itself x (x_of x.core 9) all ∙ ap (hart_with x) (set_itself x.core.x 9 (omega arith))) }
+itself x all = record {
+  p = x_of x.core 8;
+  q = x_of x.core 9;
+  is =
+      sym (eight_itself x (x_of x.core 9) all ∙ ap (hart_with x) (set_itself x.core.x 9 (omega arith)));
+}
 
 any_same : (x y z : Hart) → z ≡ y → AnyScratch x y → AnyScratch x z
 any_same x y z e a = record { p = a.p; q = a.q; is = e ∙ a.is }
@@ -226,10 +239,10 @@ pub record CutInside (R : Tells → Tells → Type 0) (F : ℕ → ℕ → Tells
 pub around_hung : (R : Tells → Tells → Type 0) (F : ℕ → ℕ → Tells → Tells → AccessFault → Type 0) (Q : Memory → Type 0) (N : Memory → Memory → Type 0)
     (address h : ℕ) (bus : BusUnit) (x : Hart) (base : Site) (old_count new_count : ℕ) (old new : Tells) (e : AccessFault)
     → length x.core.x ≡ 32 → CutInside R F Q N address h bus x base → StoodTold h bus x base x old.far → AroundFailed R F old_count new_count old new e
-        → IfCut (HungInside (AnyScratch x) N h bus base new.far) e
+    → IfCut (HungInside (AnyScratch x) N h bus base new.far) e
 around_hung R F Q N address h bus x base old_count new_count old new e all i st (in_save f) =
     if_cut (Hung (λ z. z ≡ x) h bus base new.far) (HungInside (AnyScratch x) N h bus base new.far) e
-        (outside (λ z. z ≡ x) (AnyScratch x) N h bus base new.far (λ z s. any_same x x z s (itself x all)))
+    (outside (λ z. z ≡ x) (AnyScratch x) N h bus base new.far (λ z s. any_same x x z s (itself x all)))
     (save_hung h bus x base x old_count new_count old new e st f)
 around_hung R F Q N address h bus x base old_count new_count old new e all i st (inside x8 x9 first saved f loses) =
     let sv : SavedTold x8 x9 h bus x base x first.far = saved_told x8 x9 h bus x base x old first st saved in i.cut old_count new_count first new e sv.then f
@@ -246,12 +259,12 @@ around_hung R F Q N address h bus x base old_count new_count old new e all i st
     (in_restore_behind x8 x9 first last was_count is_count was saved f recovers back) =
     let sv : SavedTold x8 x9 h bus x base x first.far = saved_told x8 x9 h bus x base x old first st saved in
     let g : FaultInside Q h bus x base last.far =
-        recovered address (FaultInside Q h bus x base last.far) was recovers (i.badly was_count is_count first last was sv.then f) in
+    recovered address (FaultInside Q h bus x base last.far) was recovers (i.badly was_count is_count first last was sv.then f) in
     let m : Memory = (passed g.fault.before base).board.memory in
     if_cut (Hung (PutBack x8 x9 (scratched g.p g.q x)) h bus (accessed m (passed g.fault.before base)) new.far)
-        (HungInside (AnyScratch x) N h bus base new.far) e
+    (HungInside (AnyScratch x) N h bus base new.far) e
     (behind_access (PutBack x8 x9 (scratched g.p g.q x)) (AnyScratch x) N h bus base g.fault.before m new.far (i.refused m g.fault.did)
-        (λ z p. any_back x (scratched g.p g.q x) x8 x9 z (record { p = g.p; q = g.q; is = refl }) p))
+    (λ z p. any_back x (scratched g.p g.q x) x8 x9 z (record { p = g.p; q = g.q; is = refl }) p))
     (back_hung x8 x9 h bus (scratched g.p g.q x) (accessed m (passed g.fault.before base)) x old_count new_count last new e g.fault.then back)
 
 -- ---- a load
@@ -291,16 +304,16 @@ load_hung size a h bus x base old_count new_count old new _ all small st (load_s
     (read_hung x8_number h bus x base x old_count new_count old new e (omega arith) st f)
 load_hung size a h bus x base old_count new_count old new _ all small st (load_performing e x8 first saved f loses) =
     perform_hung (Loads size a (debug_written x x8_number a)) (LoadFaults size a) (AnyScratch x) LoadLeaves (load_word size) a h bus x base x old_count
-        new_count first new e (itself x all)
+    new_count first new e (itself x all)
     (load_fits size a x all) (x8_read x8 h bus x base x old first st saved) (λ fy m. load_decides size a x m all small fy) f
 load_hung size a h bus x base old_count new_count old new _ all small st (load_refused x8 first last saved p back) = tt
 load_hung size a h bus x base old_count new_count old new _ all small st (load_restoring_behind e x8 first last saved p back) =
     let f : Faulted (LoadFaults size a) h bus (with_core_x x 8 a) base x last.far =
-        load_faulted size a h bus x base first last all small (x8_read x8 h bus x base x old first st saved) p in
+    load_faulted size a h bus x base first last all small (x8_read x8 h bus x base x old first st saved) p in
     let y : Hart = with_core_x x 8 a in
     behind_load (Written x8_number x8 y) a h bus x base f.before new.far e all (λ z p. any_put x y x8 z (any_loaded x a all) p)
     (write_hung x8_number x8 h bus y (accessed (passed f.before base).board.memory (passed f.before base)) x old_count new_count last new e (omega arith)
-        f.then back)
+    f.then back)
 load_hung size a h bus x base old_count new_count old new _ all small st (load_taking e x8 first mid saved p f) =
     let w : LoadWent size a h bus x base mid.far = load_went size a h bus x base first mid all small (x8_read x8 h bus x base x old first st saved) p in
     let y : Hart = with_core_x x 8 w.value in
@@ -341,15 +354,22 @@ store_inside_hung size a v h bus x base old_count new_count first last e all sma
 store_inside_hung size a v h bus x base old_count new_count first last e all small st (store_performing mid x9 f) =
     let wr : WrittenTold x9_number v h bus x base x st.kept mid.far = written_told x9_number v h bus x base x first mid (omega arith) st x9 in
     perform_hung (Stores size a v (aimed x a v)) (StoreFaults size a) (AnyScratch x) (StoreLeaves size a v) (store_word size) a h bus (valued x v) base x
-        old_count new_count mid last e (valued_scratch x v all) (store_fits size a v x all) wr.then
+    old_count new_count mid last e (valued_scratch x v all) (store_fits size a v x all) wr.then
     (λ fy m. store_did size a v (aimed x a v) m fy (aimed_at x a v all small) (aimed_value x a v all)) f
 
 store_made : (size : Size) (a v h : ℕ) (bus : BusUnit) (x : Hart) (base : Site) (first last : Tells) → length x.core.x ≡ 32 → a < 2 ^ 64
     → StoodTold h bus x base x first.far → StoredInside size a v first last → MadeInside (StoreLeaves size a v) h bus x base last.far
 store_made size a v h bus x base first last all small st i =
     let w : StoreWent size a v h bus x base last.far = store_went size a v h bus x base first last all small st i in
-    record { before = w.before; memory = after_store (passed w.before base).board.memory a size v; left = refl; hart = scratched a v x; any =
-        record { p = a; q = v; is = refl }; then = w.then }
+    record {
+      before = w.before;
+      memory = after_store (passed w.before base).board.memory a size v;
+      left = refl;
+      hart = scratched a v x;
+      any =
+          record { p = a; q = v; is = refl };
+      then = w.then;
+    }
 
 pub store_cut : (size : Size) (a v h : ℕ) (bus : BusUnit) (x : Hart) (base : Site) → length x.core.x ≡ 32 → a < 2 ^ 64
     → CutInside (StoredInside size a v) (StoreFailedInside size a v) (StoreFaults size a) (StoreLeaves size a v) a h bus x base

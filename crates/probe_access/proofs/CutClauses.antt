@@ -70,7 +70,7 @@ reg_cut h number None coming old_count new_count new e small ready selects halte
 reg_cut h number (Some c) coming old_count new_count new e small ready selects halted f =
     cut_left Unchanged h c halted new.far e
     (read_hung number h (site_of c).unit.bus halted.hart (site_of c) halted.hart old_count new_count (tells (Some c) coming) new e small
-        (first_told h c ready halted selects) f)
+    (first_told h c ready halted selects) f)
 
 pub set_reg_cut : (h number value : ℕ) (far : Option Far) (coming : Option DmiComing) (old_count new_count : ℕ) (new : Tells) (e : AccessFault)
     → number < 2 ^ 16 → IsReady far → Selects h far → IsHalted h far
@@ -80,7 +80,7 @@ set_reg_cut h number value None coming old_count new_count new e small ready sel
 set_reg_cut h number value (Some c) coming old_count new_count new e small ready selects halted f =
     cut_left (MaybeWritten number value) h c halted new.far e
     (write_hung number value h (site_of c).unit.bus halted.hart (site_of c) halted.hart old_count new_count (tells (Some c) coming) new e small
-        (first_told h c ready halted selects) f)
+    (first_told h c ready halted selects) f)
 
 -- ---- reads of several registers
 
@@ -90,7 +90,7 @@ pub save_cut : (h : ℕ) (far : Option Far) (coming : Option DmiComing) (old_cou
 save_cut h None coming old_count new_count new e ready selects halted f = cut_always (Leaves (LeftAside Unchanged h) None new.far) e tt
 save_cut h (Some c) coming old_count new_count new e ready selects halted f =
     cut_left Unchanged h c halted new.far e (save_hung h (site_of c).unit.bus halted.hart (site_of c) halted.hart old_count new_count (tells (Some c) coming)
-        new e (first_told h c ready halted selects) f)
+    new e (first_told h c ready halted selects) f)
 
 pub restore_cut : (h x8 x9 : ℕ) (far : Option Far) (coming : Option DmiComing) (old_count new_count : ℕ) (new : Tells) (e : AccessFault) → IsReady far
     → Selects h far → IsHalted h far → PutBackFailed x8 x9 old_count new_count (tells far coming) new e
@@ -98,8 +98,8 @@ pub restore_cut : (h x8 x9 : ℕ) (far : Option Far) (coming : Option DmiComing)
 restore_cut h x8 x9 None coming old_count new_count new e ready selects halted f = cut_always (Leaves (LeftAside (MaybePutBack x8 x9) h) None new.far) e tt
 restore_cut h x8 x9 (Some c) coming old_count new_count new e ready selects halted f =
     cut_left (MaybePutBack x8 x9) h c halted new.far e
-        (back_hung x8 x9 h (site_of c).unit.bus halted.hart (site_of c) halted.hart old_count new_count (tells (Some c) coming) new e
-        (first_told h c ready halted selects) f)
+    (back_hung x8 x9 h (site_of c).unit.bus halted.hart (site_of c) halted.hart old_count new_count (tells (Some c) coming) new e
+    (first_told h c ready halted selects) f)
 
 stop_hung : (h : ℕ) (bus : BusUnit) (y : Hart) (base : Site) (w : Hart) (old_count new_count : ℕ) (old new : Tells) (e : AccessFault)
     → StoodTold h bus y base w old.far → StopFailed old_count new_count old new e → IfCut (Hung (λ z. z ≡ y) h bus base new.far) e
@@ -114,19 +114,23 @@ pub stop_cut : (h : ℕ) (far : Option Far) (coming : Option DmiComing) (old_cou
 stop_cut h None coming old_count new_count new e ready selects halted f = cut_always (Leaves (LeftAside Unchanged h) None new.far) e tt
 stop_cut h (Some c) coming old_count new_count new e ready selects halted f =
     cut_left Unchanged h c halted new.far e (stop_hung h (site_of c).unit.bus halted.hart (site_of c) halted.hart old_count new_count (tells (Some c) coming)
-        new e (first_told h c ready halted selects) f)
+    new e (first_told h c ready halted selects) f)
 
 -- ---- accesses to memory
 
 scratch_as : (x y : Hart) → AnyScratch x y → Scratched x y
-scratch_as x y a = record { x8 = a.p; x9 = a.q; is =
-    a.is ∙ sym (ap (λ (z : Hart). debug_written z x9_number a.q) (x8_written x a.p) ∙ x9_written (with_core_x x 8 a.p) a.q) }
+scratch_as x y a = record {
+  x8 = a.p;
+  x9 = a.q;
+  is =
+      a.is ∙ sym (ap (λ (z : Hart). debug_written z x9_number a.q) (x8_written x a.p) ∙ x9_written (with_core_x x 8 a.p) a.q);
+}
 
 access_left : (N : Memory → Memory → Type 0) (h : ℕ) (s : Site) (halted : HartHalted h s.board) (t : Site)
     → InsideAt (AnyScratch halted.hart) N h s.unit.bus s t → AccessLeftOff Scratched N h s t
 access_left N h s halted t (not_yet p) =
     before_it (left_aside Scratched h s halted.hart t halted
-        (record { unit = p.unit; bus_is = p.bus_is; hart = p.hart; one = scratch_as halted.hart p.hart p.one; harts = p.harts; at = p.at }))
+    (record { unit = p.unit; bus_is = p.bus_is; hart = p.hart; one = scratch_as halted.hart p.hart p.one; harts = p.harts; at = p.at }))
 access_left N h s halted t (made before n left p) =
     let b : Site = accessed n (passed before s) in
     let first : Passed s (passed before s) = passed_turns before s in
@@ -163,17 +167,17 @@ load_left_off size address h (Some c) coming old_count new_count new e small rea
     let all = (fits_of h (site_of c) ready halted).all in
     access_is_left LoadLeaves h c halted new.far e
     (load_hung size address h (site_of c).unit.bus halted.hart (site_of c) old_count new_count (tells (Some c) coming) new e all small
-        (first_told h c ready halted selects) f)
+    (first_told h c ready halted selects) f)
 
 pub store_left_off : (size : Size) (address value h : ℕ) (far : Option Far) (coming : Option DmiComing) (old_count new_count : ℕ) (new : Tells)
     (e : AccessFault) → address < 2 ^ 64 → IsReady far → Selects h far → IsHalted h far
     → AroundFailed (StoredInside size address value) (StoreFailedInside size address value) old_count new_count (tells far coming) new e
-        → IfCut (Leaves (AccessLeftOff Scratched (StoreLeaves size address value) h) far new.far) e
+    → IfCut (Leaves (AccessLeftOff Scratched (StoreLeaves size address value) h) far new.far) e
 store_left_off size address value h None coming old_count new_count new e small ready selects halted f =
     cut_always (Leaves (AccessLeftOff Scratched (StoreLeaves size address value) h) None new.far) e tt
 store_left_off size address value h (Some c) coming old_count new_count new e small ready selects halted f =
     let all = (fits_of h (site_of c) ready halted).all in
     access_is_left (StoreLeaves size address value) h c halted new.far e
     (around_hung (StoredInside size address value) (StoreFailedInside size address value) (StoreFaults size address) (StoreLeaves size address value) address h
-        (site_of c).unit.bus halted.hart (site_of c) old_count new_count (tells (Some c) coming) new e all
+    (site_of c).unit.bus halted.hart (site_of c) old_count new_count (tells (Some c) coming) new e all
     (store_cut size address value h (site_of c).unit.bus halted.hart (site_of c) all small) (first_told h c ready halted selects) f)

@@ -38,8 +38,18 @@ use Rattle.probe_access.proofs.RegisterTold.WordPuts.{no_more}
 use Rattle.probe_access.proofs.RegisterTold.TransferTold.{taken, denied}
 use Rattle.probe_access.proofs.Steps.{Between, Course, DoneAt, between_ran}
 use Rattle.probe_access.proofs.Steps.Between.{still, done}
-use Rattle.probe_access.proofs.TransferLemmas.{TransferEnd, behind_frozen, command_starts, hart_behind, refusing, transfer_does, transfer_ends,
-    transfer_refusal_by, with_command, words_behind}
+use Rattle.probe_access.proofs.TransferLemmas.{
+  TransferEnd,
+  behind_frozen,
+  command_starts,
+  hart_behind,
+  refusing,
+  transfer_does,
+  transfer_ends,
+  transfer_refusal_by,
+  with_command,
+  words_behind,
+}
 use Rattle.probe_access.proofs.TransferLemmas.TransferEnd.{took, refused}
 use Rattle.probe_access.proofs.Turns.{stays_passed}
 use Rattle.probe_access.proofs.WordLemmas.{transfer_back}
@@ -83,7 +93,7 @@ pub clear_cut : (Y : Hart → Type 0) (last h : ℕ) (bus : BusUnit) (y : Hart) 
     → SiteCut (Write abstractcs_address clears_cmderr) mid t → HungAt Y h bus base t
 clear_cut Y last h bus y base w k mid t is held fy idle one d (unperformed a) =
     hung_done Y (unit_with k Exception [] h bus) h bus y base t refl one
-        (done_ran (unit_with k Exception [] h bus) h y base w a.deeds mid t held fy refl idle a.is d)
+    (done_ran (unit_with k Exception [] h bus) h y base w a.deeds mid t held fy refl idle a.is d)
 clear_cut Y last h bus y base w k mid t is held fy idle one d (was_performed result o) =
     hung_stood Y h bus y base w k t one
     (error_cleared 3 h bus y base w k mid t refl held fy idle d (t, record { before = o.before; behind = o.behind; is = o.is; result_is = refl }, refl))
@@ -101,37 +111,37 @@ between_hung Y m n h bus y z base t bm bn first second (done harts is) = record 
 sent_by : (write : Bool) (number h : ℕ) (bus : BusUnit) (y : Hart) (base : Site) (w : Hart) (k : Kept) (t : Site) (o : Option ℕ) (r : Bool) → Held h w base
     → Frozen y → number < 2 ^ 16 → bus.pending ≡ None
     → debug_value y number ≡ o → refusing write number ≡ r → SentAt (transfer_word write number) (unit_of k h bus) h y base t
-        → HungAt (Either write number k y) h bus base t
+    → HungAt (Either write number k y) h bus base t
 sent_by write number h bus y base w k t (Some v) false held fy small idle is refuses e =
     let command : AbstractCommand = transfer_command write number in
     let start : Site = after_write command_address (transfer_word write number) (aside (unit_of k h bus) h y (passed e.harts base)) in
     let starts = command_starts (transfer_word write number) command Fine k h bus y (passed e.harts base) w
-        (stays_passed h e.harts base w held.here held.frozen) (transfer_back write number small)
-        (transfer_refusal_by y write number (Some v) false fy is refuses) in
+    (stays_passed h e.harts base w held.here held.frozen) (transfer_back write number small)
+    (transfer_refusal_by y write number (Some v) false fy is refuses) in
     let m : DebugModule = unit_with (with_command command k) Fine (Transfer command ∷ []) h bus in
     let course : Course m h y base w = record { here = held.here; frozen = held.frozen; frozen_x = fy; selected = refl; bus = idle } in
     let z : Hart = hart_behind write number k y in
     between_hung (Either write number k y) m (unit_of (words_behind write number v k) h bus) h bus y z base t refl refl (inl refl) (inr refl)
     (subst (λ s. Between m (unit_of (words_behind write number v k) h bus) h y z base s) (sym e.is)
     (between_ran e.during m (commands_of (words_behind write number v k) Fine []) h y z base w (Transfer command) start course
-        (behind_frozen write number k y fy) refl refl (transfer_does write number v k y is) (still e.harts starts)))
+    (behind_frozen write number k y fy) refl refl (transfer_does write number v k y is) (still e.harts starts)))
 sent_by write number h bus y base w k t (Some v) true held fy small idle is refuses e =
     let command : AbstractCommand = transfer_command write number in
     let n : DebugModule = unit_with (with_command command k) Exception [] h bus in
     let starts = command_starts (transfer_word write number) command Exception k h bus y (passed e.harts base) w
-        (stays_passed h e.harts base w held.here held.frozen) (transfer_back write number small)
-        (transfer_refusal_by y write number (Some v) true fy is refuses) in
+    (stays_passed h e.harts base w held.here held.frozen) (transfer_back write number small)
+    (transfer_refusal_by y write number (Some v) true fy is refuses) in
     hung_done (Either write number k y) n h bus y base t refl (inl refl)
     (done_ran n h y base w e.during (after_write command_address (transfer_word write number) (aside (unit_of k h bus) h y (passed e.harts base))) t held fy
-        refl idle e.is (record { harts = e.harts; is = starts }))
+    refl idle e.is (record { harts = e.harts; is = starts }))
 sent_by write number h bus y base w k t None r held fy small idle is refuses e =
     let command : AbstractCommand = transfer_command write number in
     let n : DebugModule = unit_with (with_command command k) Exception [] h bus in
     let starts = command_starts (transfer_word write number) command Exception k h bus y (passed e.harts base) w
-        (stays_passed h e.harts base w held.here held.frozen) (transfer_back write number small) (transfer_refusal_by y write number None r fy is refuses) in
+    (stays_passed h e.harts base w held.here held.frozen) (transfer_back write number small) (transfer_refusal_by y write number None r fy is refuses) in
     hung_done (Either write number k y) n h bus y base t refl (inl refl)
     (done_ran n h y base w e.during (after_write command_address (transfer_word write number) (aside (unit_of k h bus) h y (passed e.harts base))) t held fy
-        refl idle e.is (record { harts = e.harts; is = starts }))
+    refl idle e.is (record { harts = e.harts; is = starts }))
 
 end_cut : (write : Bool) (number last h : ℕ) (bus : BusUnit) (y : Hart) (base : Site) (w : Hart) (k : Kept) (mid t : Site) → Held h w base → Frozen y
     → bus.pending ≡ None → (error_shown last ≡ 0 → ⊥) → TransferEnd write number last k h bus y base mid
@@ -139,7 +149,7 @@ end_cut : (write : Bool) (number last h : ℕ) (bus : BusUnit) (y : Hart) (base 
 end_cut write number last h bus y base w k mid t held fy idle error (took v is free end) cut = absurd (error end.error_is)
 end_cut write number last h bus y base w k mid t held fy idle error (refused none end) cut =
     clear_cut (Either write number k y) last h bus y base w (with_command (transfer_command write number) k) mid t end.error_is held fy idle (inl refl)
-        end.done_at cut
+    end.done_at cut
 
 transfer_cut : (write : Bool) (number h : ℕ) (bus : BusUnit) (y : Hart) (base : Site) (w : Hart) (k : Kept) (t : Site) → number < 2 ^ 16 → Held h w base
     → Frozen y → bus.pending ≡ None
@@ -154,12 +164,16 @@ transfer_cut write number h bus y base w k t small held fy none (ended last mid 
 transfer_hung : (front : List Act) (write : Bool) (number h : ℕ) (bus : BusUnit) (y : Hart) (base : Site) (w : Hart) (l : Kept) (old_count new_count : ℕ)
     (old new : Tells) (e : AccessFault) → number < 2 ^ 16
     → (st : StoodTold h bus y base w old.far) → WordPuts h bus y st.kept front l
-        → CommandFailed front (transfer_word write number) old_count new_count old new e
+    → CommandFailed front (transfer_word write number) old_count new_count old new e
     → IfCut (Hung (Either write number l y) h bus base new.far) e
 transfer_hung front write number h bus y base w l old_count new_count old new e small st puts f =
     if_cut (CommandCutTold (transfer_word write number) h bus y base w l new.far) (Hung (Either write number l y) h bus base new.far) e
-    (λ c. record { far = c.far; is = c.is; hung = transfer_cut write number h bus y base w l (site_of c.far) small st.stood.held st.stood.frozen st.stood.idle
-        c.cut })
+    (λ c. record {
+      far = c.far;
+      is = c.is;
+      hung = transfer_cut write number h bus y base w l (site_of c.far) small st.stood.held st.stood.frozen st.stood.idle
+          c.cut;
+    })
     (command_cut_told front (transfer_word write number) h bus y base w l old_count new_count old new e st puts f)
 
 -- ---- the data words
@@ -175,13 +189,13 @@ unfolding register_at
 words_read_cut h bus y base w far told _ _ st low_read c =
     got_hung data0_address h bus y base w st.far told st.kept c.mid c.far c.is
     (got_cut data0_address h bus y base w st.kept c.mid (site_of c.far) (subst (λ s. Stood h bus y base w st.kept s) (sym c.acts_are) st.stood) (λ z. refl)
-        c.cut)
+    c.cut)
 words_read_cut h bus y base w far told _ _ st (high_read low) c =
     let p = c.acts_are in
     let mid : Stood h bus y base w st.kept c.mid =
-        subst (λ s. Stood h bus y base w st.kept s) (sym p.2) (got_at data0_address low h bus y base w st.kept (site_of st.far) p.0 st.stood p.1 (λ z. refl)) in
+    subst (λ s. Stood h bus y base w st.kept s) (sym p.2) (got_at data0_address low h bus y base w st.kept (site_of st.far) p.0 st.stood p.1 (λ z. refl)) in
     got_hung data1_address h bus y base w st.far told st.kept c.mid c.far c.is
-        (got_cut data1_address h bus y base w st.kept c.mid (site_of c.far) mid (λ z. refl) c.cut)
+    (got_cut data1_address h bus y base w st.kept c.mid (site_of c.far) mid (λ z. refl) c.cut)
 
 -- ---- a register that is read
 
@@ -204,10 +218,10 @@ read_at_hung : (number h : ℕ) (bus : BusUnit) (y : Hart) (base : Site) (w : Ha
     → ReadFailedAt number old_count new_count old new (access_fault.Dmi why) → Hung (λ z. z ≡ y) h bus base new.far
 read_at_hung number h bus y base w old_count new_count old new why small st (read_in_command _ f) =
     hung_map (Either false number st.kept y) (λ z. z ≡ y) h bus base new.far (λ z e. same_either number st.kept y z e)
-        (transfer_hung [] false number h bus y base w st.kept old_count new_count old new (access_fault.Dmi why) small st (no_more st.kept) f)
+    (transfer_hung [] false number h bus y base w st.kept old_count new_count old new (access_fault.Dmi why) small st (no_more st.kept) f)
 read_at_hung number h bus y base w old_count new_count old new why small st (read_in_words mid ran _ f) =
     let c : CommandTold false number ran.last h bus y base w st.kept mid.far =
-        command_told [] false number ran.last h bus y base w st.kept old mid small st (no_more st.kept) ran.ran in
+    command_told [] false number ran.last h bus y base w st.kept old mid small st (no_more st.kept) ran.ran in
     let stood : StoodTold h bus y base w mid.far = taken_stood number ran.last h bus y base w st.kept mid.far c.far c.is c.transfer in
     let cut : CutWithin DoubleReads stood.far new.far = cut_within DoubleReads old_count new_count mid new.far why stood.far stood.is f in
     words_read_cut h bus y base w mid.far new.far cut.acts cut.op stood cut.begun cut.cut
@@ -221,7 +235,7 @@ read_hung number h bus y base w old_count new_count old new (access_fault.Memory
 read_hung number h bus y base w old_count new_count old new (access_fault.Register asked) small st f = tt
 read_hung number h bus y base w old_count new_count old new access_fault.StillBusy small st f =
     hung_map (Either false number st.kept y) (λ z. z ≡ y) h bus base new.far (λ z e. same_either number st.kept y z e)
-        (transfer_hung [] false number h bus y base w st.kept old_count new_count old new access_fault.StillBusy small st (no_more st.kept) f)
+    (transfer_hung [] false number h bus y base w st.kept old_count new_count old new access_fault.StillBusy small st (no_more st.kept) f)
 read_hung number h bus y base w old_count new_count old new (access_fault.Run why) small st f = tt
 read_hung number h bus y base w old_count new_count old new (access_fault.Odd shown) small st f = tt
 
@@ -237,7 +251,7 @@ written_either number value k y z (inr e) = inr (e ∙ ap (debug_written y numbe
 write_command_hung : (number value h : ℕ) (bus : BusUnit) (y : Hart) (base : Site) (w : Hart) (old_count new_count : ℕ) (old new : Tells) (e : AccessFault)
     → number < 2 ^ 16 → StoodTold h bus y base w old.far
     → CommandFailed (double_written value) (transfer_word true number) old_count new_count old new e
-        → IfCut (Hung (Written number value y) h bus base new.far) e
+    → IfCut (Hung (Written number value y) h bus base new.far) e
 write_command_hung number value h bus y base w old_count new_count old new e small st f =
     let l : Kept = with_double value st.kept in
     if_cut (Hung (Either true number l y) h bus base new.far) (Hung (Written number value y) h bus base new.far) e
@@ -278,7 +292,7 @@ pub back_hung : (x8 x9 h : ℕ) (bus : BusUnit) (y : Hart) (base : Site) (w : Ha
     → IfCut (Hung (PutBack x8 x9 y) h bus base new.far) e
 back_hung x8 x9 h bus y base w old_count new_count old new e st (put_x8 f) =
     if_cut (Hung (Written x8_number x8 y) h bus base new.far) (Hung (PutBack x8 x9 y) h bus base new.far) e
-        (hung_map (Written x8_number x8 y) (PutBack x8 x9 y) h bus base new.far (λ z p. inl p))
+    (hung_map (Written x8_number x8 y) (PutBack x8 x9 y) h bus base new.far (λ z p. inl p))
     (write_hung x8_number x8 h bus y base w old_count new_count old new e (omega arith) st f)
 back_hung x8 x9 h bus y base w old_count new_count old new e st (put_x9 mid r f) =
     let a : WrittenTold x8_number x8 h bus y base w st.kept mid.far = written_told x8_number x8 h bus y base w old mid (omega arith) st r in

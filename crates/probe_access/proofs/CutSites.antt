@@ -65,7 +65,7 @@ several_cut Begun acts op ops old_count new_count old told why f is begun b =
     let at : AtSites acts f b.mid.far = did_sites old acts b.mid f b.did is in
     let c : OperationsCut (op ∷ ops) at.far.live.chip told = subst (λ (m : Option Far). WhereTold (OperationsCut (op ∷ ops)) m told) at.is b.cut in
     let s : StoppedAt (op ∷ ops) (site_of at.far) (site_of c.far) =
-        stopped_at op ops c.done c.rest c.happened (site_of at.far) (site_of c.far) c.asked c.once c.site in
+    stopped_at op ops c.done c.rest c.happened (site_of at.far) (site_of c.far) c.asked c.once c.site in
     record {
       acts = acts ++ map act_of s.done;
       op = s.op;
@@ -121,7 +121,7 @@ pub put_cut : (a value : ℕ) (h : ℕ) (bus : BusUnit) (y : Hart) (base : Site)
 put_cut a value h bus y base w k l s t st changes (unperformed d) = rests h bus y base w k t (stood_ran h bus y base w k s t st d)
 put_cut a value h bus y base w k l s t st changes (was_performed result o) =
     rests h bus y base w l t (put_at a value h bus y base w k l s t st (t, record { before = o.before; behind = o.behind; is = o.is; result_is = refl }, refl)
-        changes)
+    changes)
 
 -- ---- a command that was written, with whatever deeds followed
 
@@ -146,7 +146,7 @@ sent_first : (word h : ℕ) (bus : BusUnit) (y : Hart) (base : Site) (w : Hart) 
     → OneOperation (Write command_address word) word s t → SentAt word (unit_of k h bus) h y base t
 sent_first word h bus y base w k s t st o =
     let first : OpAt (Write command_address word) word (unit_of k h bus) h y base t =
-        op_at (Write command_address word) word (unit_of k h bus) h y base w s t st.held st.frozen refl st.idle st.at o in
+    op_at (Write command_address word) word (unit_of k h bus) h y base w s t st.held st.frozen refl st.idle st.at o in
     record { harts = first.harts; during = first.behind; is = first.is }
 
 -- it was written, and polled for in vain
@@ -209,8 +209,12 @@ cut_begun front word h bus y base w l far told _ _ st puts (ahead done rest a v 
   cut = unsent (front_cut h bus y base w st.kept l front done rest a v (site_of st.far) c.mid (site_of c.far) puts is st.stood c.acts_are c.cut);
 }
 cut_begun front word h bus y base w l far told _ _ st puts writes c =
-    record { far = c.far; is = c.is; cut = written_cut word h bus y base w l c.mid (site_of c.far)
-        (words_put h bus y base w st.kept l front (site_of st.far) c.mid puts st.stood c.acts_are) c.cut }
+    record {
+      far = c.far;
+      is = c.is;
+      cut = written_cut word h bus y base w l c.mid (site_of c.far)
+          (words_put h bus y base w st.kept l front (site_of st.far) c.mid puts st.stood c.acts_are) c.cut;
+    }
 cut_begun front word h bus y base w l far told _ _ st puts (polls words vain) c =
     let tail : List Act = Put command_address word ∷ map poll_act words in
     let split : Split front tail (site_of st.far) c.mid = site_acts-split front tail (site_of st.far) c.mid c.acts_are in

@@ -41,6 +41,7 @@ pub mod BusTold
 pub mod BusClauses
 pub mod BlockTold
 pub mod BlockCauses
+pub mod ElementCalls
 pub mod CutSites
 pub mod CutHarts
 pub mod CutClauses

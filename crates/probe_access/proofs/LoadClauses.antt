@@ -82,7 +82,7 @@ pub x8_put : (x8 p h : ℕ) (bus : BusUnit) (x : Hart) (base : Site) (w : Hart) 
     → StoodTold h bus (with_core_x x 8 p) base w old.far → RegisterWritten x8_number x8 old new → StoodTold h bus x base w new.far
 x8_put x8 p h bus x base w old new all is st r =
     let a : WrittenTold x8_number x8 h bus (with_core_x x 8 p) base w st.kept new.far =
-        written_told x8_number x8 h bus (with_core_x x 8 p) base w old new (omega arith) st r in
+    written_told x8_number x8 h bus (with_core_x x 8 p) base w old new (omega arith) st r in
     subst (λ (z : Hart). StoodTold h bus z base w new.far) (ap (debug_written (with_core_x x 8 p) x8_number) is ∙ x8_back x p all) a.then
 
 -- ---- a load
@@ -121,8 +121,8 @@ pub load_went : (size : Size) (a h : ℕ) (bus : BusUnit) (x : Hart) (base : Sit
 load_went size a h bus x base old new all small st p =
     let r = load_performed size a 0 h bus x base old new all small st p in
     load_went_by size a h bus x base new.far
-        (went_told (Loads size a (debug_written x x8_number a)) (LoadFaults size a) p.last h bus (debug_written x x8_number a) base x new.far r.far r.is
-        p.error_is r.program)
+    (went_told (Loads size a (debug_written x x8_number a)) (LoadFaults size a) p.last h bus (debug_written x x8_number a) base x new.far r.far r.is
+    p.error_is r.program)
 
 -- memory refused it, with the address in x8
 pub load_faulted : (size : Size) (a h : ℕ) (bus : BusUnit) (x : Hart) (base : Site) (old new : Tells) → length x.core.x ≡ 32 → a < 2 ^ 64
@@ -132,7 +132,7 @@ load_faulted size a h bus x base old new all small st p =
     let r = load_performed size a 3 h bus x base old new all small st p in
     subst (λ (y : Hart). Faulted (LoadFaults size a) h bus y base x new.far) (x8_written x a)
     (faulted_told (Loads size a (debug_written x x8_number a)) (LoadFaults size a) p.last h bus (debug_written x x8_number a) base x new.far r.far r.is
-        p.error_is r.program)
+    p.error_is r.program)
 
 -- x8 holds what was loaded
 x8_loaded : (x : Hart) (v : ℕ) → length x.core.x ≡ 32 → debug_value (with_core_x x 8 v) x8_number ≡ Some v
@@ -163,7 +163,7 @@ load_ok size address value h (Some f) coming new small ready selects halted r =
     let base : Site = accessed memory (passed w.before s) in
     let z : Hart = with_core_x x 8 w.value in
     let rd : ReadTold x8_number value h s.unit.bus z base x r.last.far =
-        read_told x8_number value h s.unit.bus z base x r.mid r.last (omega arith) w.then r.taken in
+    read_told x8_number value h s.unit.bus z base x r.mid r.last (omega arith) w.then r.taken in
     let was_ready : MemoryReady memory = (ready_before w.before s ready).memory in
     let value_fits : w.value < 2 ^ 64 = size_small size w.value (loaded_small memory address size w.value was_ready w.is) in
     let value_is : value ≡ w.value = held_as z x8_number rd.held value w.value (x8_loaded x w.value fits.all) rd.held_is rd.value_is value_fits in
@@ -185,10 +185,10 @@ load_ok size address value h (Some f) coming new small ready selects halted r =
 
 load_only : (size : Size) (a h : ℕ) (bus : BusUnit) (x : Hart) (base : Site) (old_count new_count : ℕ) (old new : Tells) (e : AccessFault) → Fits x → a < 2 ^ 64
     → StoodTold h bus x base x old.far → LoadRunFailed size a old_count new_count old new e
-        → OnlyMemory a (Faulted (LoadFaults size a) h bus x base x new.far) e
+    → OnlyMemory a (Faulted (LoadFaults size a) h bus x base x new.far) e
 load_only size a h bus x base old_count new_count old new _ fits small st (in_save e f) =
     clean_only a (Faulted (LoadFaults size a) h bus x base x new.far) e
-        (read_clean x8_number h bus x base x old_count new_count old new e (omega arith) (reads_x8 x) st f)
+    (read_clean x8_number h bus x base x old_count new_count old new e (omega arith) (reads_x8 x) st f)
 load_only size a h bus x base old_count new_count old new _ fits small st (performing e x8 first saved f loses) =
     lost_only a (Performed (load_word size) a 3 first new) (Faulted (LoadFaults size a) h bus x base x new.far) e loses
     (perform_only (Loads size a (debug_written x x8_number a)) (LoadFaults size a) (load_word size) a h bus x base x old_count new_count first new e
@@ -215,7 +215,7 @@ load_only size a h bus x base old_count new_count old new _ fits small st (takin
     let z : Hart = with_core_x x 8 w.value in
     clean_only a (Faulted (LoadFaults size a) h bus x base x new.far) e
     (read_clean x8_number h bus z (accessed (passed w.before base).board.memory (passed w.before base)) x old_count new_count mid new e (omega arith)
-        (reads_x8 z) w.then f)
+    (reads_x8 z) w.then f)
 load_only size a h bus x base old_count new_count old new _ fits small st (in_restore e x8 value first mid last saved p taken f) =
     let w : LoadWent size a h bus x base mid.far = load_went size a h bus x base first mid fits.all small (x8_read x8 h bus x base x old first st saved) p in
     let z : Hart = with_core_x x 8 w.value in
@@ -289,6 +289,6 @@ load_err size address h (Some c) coming old_count new_count new e small ready se
     let x : Hart = halted.hart in
     told_err (LoadRefused size address) address h c new.far e
     (only_map address (Faulted (LoadFaults size address) h s.unit.bus x s x new.far) (LoadRefused size address (chip_of c) new.far × Serving h new.far) e
-        (λ w. load_refused size address h c ready halted new.far w)
+    (λ w. load_refused size address h c ready halted new.far w)
     (load_only size address h s.unit.bus x s old_count new_count (tells (Some c) coming) new e (fits_of h s ready halted) small
-        (first_told h c ready halted selects) f))
+    (first_told h c ready halted selects) f))

@@ -43,7 +43,7 @@ programmed k = with_command (program_command x8_number) k
 -- the address in the data words goes into x8
 pub program_moves : (k : Kept) (x : Hart)
     → Does x (commands_of (programmed k) Fine (all_of (programmed k))) (hart_behind true x8_number k x)
-        (commands_of (programmed k) Fine (program_of (programmed k)))
+    (commands_of (programmed k) Fine (program_of (programmed k)))
 unfolding micro_step
 program_moves k x = record { each = λ m. let is : debug_value x x8_number ≡ Some (x_of x.core 8) = x8_value x in rw is refl }
 
@@ -69,7 +69,7 @@ pub data PerformEnd (P : Memory → Hart → Memory → Type 0) (Q : Memory → 
       → Ended 0 (unit_of k h bus) h z (accessed n (passed before base)) last t → PerformEnd P Q last k h bus y base t
   ran_badly : (before : List ℕ) → Q (passed before base).board.memory
       → Ended 3 (unit_with k Exception [] h bus) h y (accessed (passed before base).board.memory (passed before base)) last t
-          → PerformEnd P Q last k h bus y base t
+      → PerformEnd P Q last k h bus y base t
 
 pub held_behind : (h : ℕ) (w : Hart) (base : Site) (before : List ℕ) (n : Memory) → Held h w base → Held h w (accessed n (passed before base))
 held_behind h w base before n held = record { here = stays_passed h before base w held.here held.frozen; frozen = held.frozen }
@@ -80,7 +80,7 @@ still_some m ms steps some none = let e : m ∷ ms ≡ [] = sym some ∙ none in
 stage_ends : (P : Memory → Hart → Memory → Type 0) (Q : Memory → Type 0) (last : ℕ) (k : Kept) (h : ℕ) (bus : BusUnit) (x y : Hart) (base : Site) (w : Hart)
     (shown t : Site) (behind : List Deed) → Running P Q k h bus x y base w
     → shown.unit.active ≡ true → last ≡ value_of (result_of abstractcs_address shown) → shown.unit.commands.steps ≡ [] → t ≡ ran behind shown
-        → Stage P Q k h bus x y base shown → PerformEnd P Q last k h bus y base t
+    → Stage P Q k h bus x y base shown → PerformEnd P Q last k h bus y base t
 unfolding passed
 stage_ends P Q last k h bus x y base w shown t behind r on last_is none moved (at_transfer harts is) =
     absurd (still_some _ _ shown.unit.commands.steps (ap (λ (s : Site). s.unit.commands.steps) is) none)
@@ -91,11 +91,11 @@ stage_ends P Q last k h bus x y base w shown t behind r on last_is none moved (i
 stage_ends P Q last k h bus x y base w shown t behind r on last_is none moved (at_end before harts z n p fz is) =
     ran_well before z n p fz
     (ended_at (unit_of k h bus) h z (accessed n (passed before base)) w last shown t behind (held_behind h w base before n r.held) fz refl r.idle on last_is
-        moved (record { harts = harts; is = is }))
+    moved (record { harts = harts; is = is }))
 stage_ends P Q last k h bus x y base w shown t behind r on last_is none moved (at_fault before harts q is) =
     ran_badly before q
     (ended_at (unit_with k Exception [] h bus) h y (accessed (passed before base).board.memory (passed before base)) w last shown t behind
-        (held_behind h w base before (passed before base).board.memory r.held) r.frozen refl r.idle on last_is moved
+    (held_behind h w base before (passed before base).board.memory r.held) r.frozen refl r.idle on last_is moved
     (record { harts = harts; is = is }))
 
 pub program_ends : (P : Memory → Hart → Memory → Type 0) (Q : Memory → Type 0) (last : ℕ) (k : Kept) (h : ℕ) (bus : BusUnit) (x y : Hart) (base : Site)
@@ -105,13 +105,13 @@ program_ends P Q last k h bus x y base w t r c not_busy =
     let start : Site = after_write command_address program_word (aside (unit_of k h bus) h x (passed c.harts base)) in
     let starts : start ≡ aside (running (programmed k) (all_of (programmed k)) h bus) h x (passed c.harts base) =
     command_starts program_word (program_command x8_number) Fine k h bus x (passed c.harts base) w (stays_passed h c.harts base w r.held.here r.held.frozen)
-        program_back (program_starts x r.frozen_x) in
+    program_back (program_starts x r.frozen_x) in
     let active : c.shown.unit.active ≡ true = ap (λ (s : Site). s.unit.active) c.shown_is ∙ active_ran c.during start
-        ∙ ap (λ (s : Site). s.unit.active) starts in
+    ∙ ap (λ (s : Site). s.unit.active) starts in
     let stage : Stage P Q (programmed k) h bus x y base (ran c.during start) =
-        stage_ran c.during P Q (programmed k) h bus x y base w start r (at_transfer c.harts starts) in
+    stage_ran c.during P Q (programmed k) h bus x y base w start r (at_transfer c.harts starts) in
     stage_ends P Q last (programmed k) h bus x y base w c.shown t c.behind r active c.last_is (shown_idle c.shown last active c.last_is not_busy) c.is
-        (subst (λ s. Stage P Q (programmed k) h bus x y base s) (sym c.shown_is) stage)
+    (subst (λ s. Stage P Q (programmed k) h bus x y base s) (sym c.shown_is) stage)
 
 -- ---- with its error cleared
 
@@ -137,7 +137,7 @@ program_cleared P Q last k h bus x y base w mid t r (ran_well before z n p fz en
 program_cleared P Q last k h bus x y base w mid t r (ran_badly before q end) acts =
     faulted before k q end.error_is
     (error_cleared (error_shown last) h bus y (accessed (passed before base).board.memory (passed before base)) w k mid t end.error_is
-        (held_behind h w base before (passed before base).board.memory r.held) r.frozen r.idle end.done_at acts)
+    (held_behind h w base before (passed before base).board.memory r.held) r.frozen r.idle end.done_at acts)
 
 -- the hart has the address of the data words in x8
 pub program_told : (P : Memory → Hart → Memory → Type 0) (Q : Memory → Type 0) (words : List ℕ) (last : ℕ) (k : Kept) (h : ℕ) (bus : BusUnit) (x : Hart)
@@ -148,6 +148,6 @@ program_told P Q words last k h bus x base w s t st ebreak decides acts not_busy
     let y : Hart = hart_behind true x8_number k x in
     let cut : CommandCut words program_word last s t = command_cut words program_word last s t acts in
     let c : Commanded program_word last (unit_of k h bus) h x base cut.mid =
-        commanded program_word words last (unit_of k h bus) h x base w s cut.mid st.held st.frozen refl st.idle st.at cut.ran in
+    commanded program_word words last (unit_of k h bus) h x base w s cut.mid st.held st.frozen refl st.idle st.at cut.ran in
     let r : Running P Q (programmed k) h bus x y base w = program_runs P Q h bus x base w k st.held st.frozen st.idle ebreak decides in
     program_cleared P Q last (programmed k) h bus x y base w cut.mid t r (program_ends P Q last k h bus x y base w cut.mid r c not_busy) cut.cleared

@@ -1,6 +1,35 @@
 -- Polls made one after another, and a call that fails among others.
-use Rattle.std.proofs.Common.{◌≡◌, ◌∙◌, ◌≤◌, ◌<◌, ◌+◌, ◌++◌, ℕ, List, [], ◌∷◌, length, map, All, Option, Result, Ok, Err, IfErr, refl, sym, ap, subst,
-    length-append, append-nil, arith, true, false, Bool, not}
+use Rattle.std.proofs.Common.{
+  ◌≡◌,
+  ◌∙◌,
+  ◌≤◌,
+  ◌<◌,
+  ◌+◌,
+  ◌++◌,
+  ℕ,
+  List,
+  [],
+  ◌∷◌,
+  length,
+  map,
+  All,
+  Option,
+  Result,
+  Ok,
+  Err,
+  IfErr,
+  refl,
+  sym,
+  ap,
+  subst,
+  length-append,
+  append-nil,
+  arith,
+  true,
+  false,
+  Bool,
+  not,
+}
 use Rattle.std.proofs.lemmas.List.{map-append}
 use Rattle.std.proofs.lemmas.List.Elements.{All-push}
 use Rattle.std.specs.Result.{IsErrAnd}

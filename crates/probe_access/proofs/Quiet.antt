@@ -17,7 +17,7 @@ unfolding ran after_deed passed
 quiet_ran [] s none idle = refl
 quiet_ran (Turned h ∷ ds) s none idle =
     quiet_ran ds (turned h s) (ap (λ (m : DebugModule). m.commands.steps) (unit_turned h s) ∙ none)
-        (ap (λ (m : DebugModule). m.bus.pending) (unit_turned h s) ∙ idle)
+    (ap (λ (m : DebugModule). m.bus.pending) (unit_turned h s) ∙ idle)
 quiet_ran (CommandStepped ∷ ds) s none idle = ap (ran ds) (command_quiet s none) ∙ quiet_ran ds s none idle
 quiet_ran (BusStepped ∷ ds) s none idle = ap (ran ds) (bus_rests s idle) ∙ quiet_ran ds s none idle
 

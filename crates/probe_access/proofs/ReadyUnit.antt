@@ -52,8 +52,16 @@ abbrev pub unit_of : Kept → ℕ → BusUnit → DebugModule
 unit_of k h bus = unit_with k Fine [] h bus
 
 abbrev pub kept_of : CommandUnit → Kept
-kept_of u = record { data0 = u.data0; data1 = u.data1; progbuf0 = u.progbuf0; progbuf1 = u.progbuf1; progbuf2 = u.progbuf2; progbuf3 = u.progbuf3; command =
-    u.command }
+kept_of u = record {
+  data0 = u.data0;
+  data1 = u.data1;
+  progbuf0 = u.progbuf0;
+  progbuf1 = u.progbuf1;
+  progbuf2 = u.progbuf2;
+  progbuf3 = u.progbuf3;
+  command =
+      u.command;
+}
 
 abbrev commands_like : CommandUnit → Abstractauto → Cmderr → List Micro → Bool → CommandUnit
 commands_like u auto error steps late = record {

@@ -38,13 +38,18 @@ pub stood_board : (h : ℕ) (bus : BusUnit) (base : Site) (w : Hart) (k : Kept) 
 stood_board h bus base w k t st =
     ap (λ (u : Site). u.board) st.at.is
     ∙ ap (λ hs. let b : Board = record { harts = hs; memory = (passed st.at.harts base).board.memory } in b)
-        (set_same (passed st.at.harts base).board.harts h w (stays_passed h st.at.harts base w st.held.here st.held.frozen))
+    (set_same (passed st.at.harts base).board.harts h w (stays_passed h st.at.harts base w st.held.here st.held.frozen))
 
 pub stood_passed : (h : ℕ) (s : Site) (w : Hart) (k : Kept) (t : Site) → Stood h s.unit.bus w s w k t → TurnsPassed s t
 stood_passed h s w k t st =
     let p : Passed s (passed st.at.harts s) = passed_turns st.at.harts s in
-    record { harts = p.harts; board = stood_board h s.unit.bus s w k t st ∙ p.board; journal = ap (λ (u : Site). u.journal) st.at.is ∙ p.journal; bus =
-        ap (λ (u : Site). u.unit.bus) st.at.is }
+    record {
+      harts = p.harts;
+      board = stood_board h s.unit.bus s w k t st ∙ p.board;
+      journal = ap (λ (u : Site). u.journal) st.at.is ∙ p.journal;
+      bus =
+          ap (λ (u : Site). u.unit.bus) st.at.is;
+    }
 
 pub stood_passed_but : (h : ℕ) (s : Site) (y w : Hart) (k : Kept) (t : Site) → Stood h s.unit.bus y s w k t → TurnsPassedBut h y s t
 stood_passed_but h s y w k t st =
@@ -63,8 +68,12 @@ pub stood_unit : (h : ℕ) (s : Site) (y base_hart : Hart) (base : Site) (k : Ke
     → ModuleReady t.unit
 stood_unit h s y w base k t ready st =
     module_back t.unit k h s.unit.bus (ap (λ (u : Site). u.unit) st.at.is)
-    (record { active = refl; commands = record { idle = refl; fine = refl; no_autoexec = refl; none_late = refl }; bus =
-        record { idle = ready.bus.idle; fine = ready.bus.fine; no_busyerror = ready.bus.no_busyerror } })
+    (record {
+      active = refl;
+      commands = record { idle = refl; fine = refl; no_autoexec = refl; none_late = refl };
+      bus =
+          record { idle = ready.bus.idle; fine = ready.bus.fine; no_busyerror = ready.bus.no_busyerror };
+    })
 
 board_back : (b c : Board) → b ≡ c → BoardReady c → BoardReady b
 board_back b c is r = subst (λ (x : Board). BoardReady x) (sym is) r
@@ -73,7 +82,7 @@ pub stood_ready : (h : ℕ) (s : Site) (w : Hart) (k : Kept) (t : Site) → Site
 stood_ready h s w k t ready st =
     let p : TurnsPassed s t = stood_passed h s w k t st in
     let b : BoardReady t.board = board_back t.board (after_turns p.harts s.board) p.board
-        (board_ready_turns p.harts s.board (record { harts = ready.harts; memory = ready.memory })) in
+    (board_ready_turns p.harts s.board (record { harts = ready.harts; memory = ready.memory })) in
     record { unit = stood_unit h s w w s k t ready.unit st; harts = b.harts; memory = b.memory }
 
 pub stood_selects : (h : ℕ) (bus : BusUnit) (y : Hart) (base : Site) (w : Hart) (k : Kept) (t : Site) → Stood h bus y base w k t → t.unit.hartsel ≡ h
@@ -182,7 +191,7 @@ pub written_told : (number value h : ℕ) (bus : BusUnit) (y : Hart) (base : Sit
 written_told number value h bus y base w old new small st r =
     let c : CommandTold true number r.last h bus y base w (with_double value st.kept) new.far =
     command_told (double_written value) true number r.last h bus y base w (with_double value st.kept) old new small st (double_puts value h bus y st.kept)
-        r.ran in
+    r.ran in
     written_told_by number value r.last h bus y base w st.kept new c.far c.is r.error_is c.transfer
 
 -- a transfer that was refused

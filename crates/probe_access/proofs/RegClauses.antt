@@ -13,8 +13,18 @@ use Rattle.probe_access.specs.Registers.{RegisterReadAt, IfRegister, RegisterLef
 use Rattle.probe_access.proofs.Along.{did_untold}
 use Rattle.probe_access.proofs.Aside.{passed}
 use Rattle.probe_access.proofs.ReadyUnit.{kept_of, unit_of}
-use Rattle.probe_access.proofs.RegAnswers.{DeniedTold, ReadTold, StoodTold, first_stood, read_denied, read_not_odd, read_told, stood_passed, stood_ready,
-    stood_selects}
+use Rattle.probe_access.proofs.RegAnswers.{
+  DeniedTold,
+  ReadTold,
+  StoodTold,
+  first_stood,
+  read_denied,
+  read_not_odd,
+  read_told,
+  stood_passed,
+  stood_ready,
+  stood_selects,
+}
 use Rattle.probe_access.proofs.Turns.{stays_passed, hart_aside}
 
 -- ---- the start
@@ -37,13 +47,13 @@ pub stood_serving : (h : ℕ) (f : Far) (ready : SiteReady (site_of f)) (halted 
     → StoodTold h (site_of f).unit.bus halted.hart (site_of f) halted.hart told → Serving h told
 stood_serving h f ready halted told st =
     told_serving h st.far (stood_ready h (site_of f) halted.hart st.kept (site_of st.far) ready st.stood)
-        (stood_selects h (site_of f).unit.bus halted.hart (site_of f) halted.hart st.kept (site_of st.far) st.stood)
+    (stood_selects h (site_of f).unit.bus halted.hart (site_of f) halted.hart st.kept (site_of st.far) st.stood)
     (record {
       hart = halted.hart;
       is =
           ap (λ (s : Site). slice_get s.board.harts h) st.stood.at.is
           ∙ hart_aside (unit_of st.kept h (site_of f).unit.bus) h halted.hart (passed st.stood.at.harts (site_of f)) halted.hart
-              (stays_passed h st.stood.at.harts (site_of f) halted.hart st.stood.held.here st.stood.held.frozen);
+          (stays_passed h st.stood.at.harts (site_of f) halted.hart st.stood.held.here st.stood.held.frozen);
       halted = halted.halted;
     }) told st.is
 
@@ -61,8 +71,8 @@ reg_ok h number value None coming new small ready selects halted r =
     record { got = end; serving = untold_serving h new.far end }
 reg_ok h number value (Some f) coming new small ready selects halted r =
     let t : ReadTold number value h (site_of f).unit.bus halted.hart (site_of f) halted.hart new.far =
-        read_told number value h (site_of f).unit.bus halted.hart (site_of f) halted.hart (tells (Some f) coming) new small
-        (first_told h f ready halted selects) r in
+    read_told number value h (site_of f).unit.bus halted.hart (site_of f) halted.hart (tells (Some f) coming) new small
+    (first_told h f ready halted selects) r in
     let fits : t.held < 2 ^ 64 = (ready.harts h halted.hart halted.is).registers number t.held t.held_is in
     record {
       got = record {
@@ -82,7 +92,7 @@ pub record RegErr (write : Bool) (h number : ℕ) (old new : Option Far) (e : Ac
 
 pub reg_denied : (write : Bool) (h number asked : ℕ) (f : Far) (new : Tells) (ready : SiteReady (site_of f)) (halted : HartHalted h (site_of f).board)
     → DeniedTold write number h (site_of f).unit.bus halted.hart (site_of f) halted.hart new.far
-        → RegErr write h number (Some f) new.far (access_fault.Register asked)
+    → RegErr write h number (Some f) new.far (access_fault.Register asked)
 reg_denied write h number asked f new ready halted t = record {
   left = record {
     far = t.then.far;
@@ -104,14 +114,14 @@ reg_err h number None coming old_count new_count new (access_fault.Register aske
     let end : new.far ≡ None = did_untold (tells None coming) _ new f.ran.ran.did refl in record { left = end; serving = untold_serving h new.far end }
 reg_err h number (Some c) coming old_count new_count new (access_fault.Register asked) small ready selects halted f =
     reg_denied false h number asked c new ready halted
-        (read_denied number h (site_of c).unit.bus halted.hart (site_of c) halted.hart (tells (Some c) coming) new small (first_told h c ready halted selects)
-        f.ran)
+    (read_denied number h (site_of c).unit.bus halted.hart (site_of c) halted.hart (tells (Some c) coming) new small (first_told h c ready halted selects)
+    f.ran)
 reg_err h number far coming old_count new_count new access_fault.StillBusy small ready selects halted f = record { left = tt; serving = tt }
 reg_err h number far coming old_count new_count new (access_fault.Run why) small ready selects halted f = absurd f
 reg_err h number None coming old_count new_count new (access_fault.Odd shown) small ready selects halted f = record { left = refl; serving = tt }
 reg_err h number (Some c) coming old_count new_count new (access_fault.Odd shown) small ready selects halted f =
     absurd (read_not_odd number shown h (site_of c).unit.bus halted.hart (site_of c) halted.hart (tells (Some c) coming) new small
-        (first_told h c ready halted selects) f)
+    (first_told h c ready halted selects) f)
 
 pub if_register : (P Q : Type 0) (e : AccessFault) → (P → Q) → IfRegister P e → IfRegister Q e
 if_register P Q (access_fault.Dmi why) f p = tt

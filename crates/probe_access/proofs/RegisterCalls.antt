@@ -1,6 +1,37 @@
 -- The calls of a command and of the data words, put together out of single calls.
-use Rattle.std.proofs.Common.{◌≡◌, ◌≢◌, ◌∙◌, ◌≤◌, ◌<◌, ◌^◌, ◌++◌, ℕ, List, [], ◌∷◌, map, length, All, slice_index_or, length-append, arith, Option, Result, Ok,
-    Err, IfErr, refl, sym, ap, subst, append_assoc, append-nil, true, false, cond}
+use Rattle.std.proofs.Common.{
+  ◌≡◌,
+  ◌≢◌,
+  ◌∙◌,
+  ◌≤◌,
+  ◌<◌,
+  ◌^◌,
+  ◌++◌,
+  ℕ,
+  List,
+  [],
+  ◌∷◌,
+  map,
+  length,
+  All,
+  slice_index_or,
+  length-append,
+  arith,
+  Option,
+  Result,
+  Ok,
+  Err,
+  IfErr,
+  refl,
+  sym,
+  ap,
+  subst,
+  append_assoc,
+  append-nil,
+  true,
+  false,
+  cond,
+}
 use Rattle.std.specs.Result.{IsErrAnd}
 use Rattle.std.proofs.lemmas.Bool.{ne_eqb}
 use Rattle.debug_model.specs.Addresses.{abstractcs_address, command_address}
@@ -20,8 +51,19 @@ use Rattle.debug_model.specs.Many.{AnswersAll, ManyCause, OperatedAll, Operation
 use Rattle.std.proofs.lemmas.List.Elements.{All-cons}
 use Rattle.probe_run.specs.Acts.Act.{Put}
 use Rattle.probe_run.specs.Acts.Attempt.{Operation, Several}
-use Rattle.probe_access.specs.CommandRuns.{CommandBegun, CommandFailed, EndBegun, EndFailed, EndedFrom, PolledFrom, RanCommand, clearing, command_acts,
-    error_shown, poll_act}
+use Rattle.probe_access.specs.CommandRuns.{
+  CommandBegun,
+  CommandFailed,
+  EndBegun,
+  EndFailed,
+  EndedFrom,
+  PolledFrom,
+  RanCommand,
+  clearing,
+  command_acts,
+  error_shown,
+  poll_act,
+}
 use Rattle.probe_access.specs.CommandRuns.CommandBegun.{clears, polls}
 use Rattle.probe_access.specs.CommandRuns.EndBegun.{clears as end_clears, polls as end_polls}
 use Rattle.probe_access.specs.Faults.{Among, BrokeIn}
@@ -58,7 +100,7 @@ word_put address word value old new is told heard = subst (λ v. Did old (Put ad
 pub word_broke : (B : List Act → Attempt → Type 0) (address word value : ℕ) (old_count new_count : ℕ) (old : Tells) (told : Option Far) (why : DmiFault)
     → word ≡ value → B [] (Operation (Write address value))
     → WhereTold (OperationCut (Write address word)) old.far told → DmiCause old_count new_count old.far told old.coming why
-        → BrokeIn B old_count new_count old told why
+    → BrokeIn B old_count new_count old told why
 word_broke B address word value old_count new_count old told why is begun cut cause = record {
   acts = [];
   failed = Operation (Write address value);
@@ -71,11 +113,11 @@ pub word_broke_behind : (B : List Act → Attempt → Type 0) (xs : List Act) (a
     (told : Option Far) (why : DmiFault) → word ≡ value
     → B xs (Operation (Write address value)) → Did old xs mid → count ≤ mid_count → mid_count ≤ new_count
     → WhereTold (OperationCut (Write address word)) mid.far told → DmiCause mid_count new_count mid.far told mid.coming why
-        → BrokeIn B count new_count old told why
+    → BrokeIn B count new_count old told why
 word_broke_behind B xs address word value count mid_count new_count old mid told why is begun did le later cut cause =
     broke_behind B xs (Operation (Write address value)) count mid_count new_count old mid told why begun did le later
     (broke_one (Operation (Write address value)) mid_count new_count mid told why (subst (λ v. WhereTold (OperationCut (Write address v)) mid.far told) is cut)
-        cause)
+    cause)
 
 pub read_broke_behind : (B : List Act → Attempt → Type 0) (xs : List Act) (address : ℕ) (count mid_count new_count : ℕ) (old mid : Tells) (told : Option Far)
     (why : DmiFault)
@@ -83,7 +125,7 @@ pub read_broke_behind : (B : List Act → Attempt → Type 0) (xs : List Act) (a
     → WhereTold (OperationCut (Read address)) mid.far told → DmiCause mid_count new_count mid.far told mid.coming why → BrokeIn B count new_count old told why
 read_broke_behind B xs address count mid_count new_count old mid told why begun did le later cut cause =
     broke_behind B xs (Operation (Read address)) count mid_count new_count old mid told why begun did le later
-        (broke_one (Operation (Read address)) mid_count new_count mid told why cut cause)
+    (broke_one (Operation (Read address)) mid_count new_count mid told why cut cause)
 
 -- the first call failed
 pub broke_first : (B : List Act → Attempt → Type 0) (failed : Attempt) (old_count new_count : ℕ) (old : Tells) (told : Option Far) (why : DmiFault)
@@ -200,7 +242,7 @@ pub read_words_failed : (number last : ℕ) (why : DmiFault) (count mid_count ne
     → BrokeIn (Among DoubleReads) mid_count new_count mid new.far why → ReadFailed number count new_count old new (access_fault.Dmi why)
 read_words_failed number last why count mid_count new_count old mid new ran fine le later b =
     read_in_words mid (record { last = last; ran = ran; error_is = fine }) why
-        (broke_counted (Among DoubleReads) count mid_count new_count mid new.far why le later b)
+    (broke_counted (Among DoubleReads) count mid_count new_count mid new.far why le later b)
 
 pub write_command_failed : (number value : ℕ) (e : AccessFault) (old_count new_count : ℕ) (old new : Tells)
     → CommandFailed (double_written value) (transfer_word true number) old_count new_count old new e → WriteFailed number value old_count new_count old new e
@@ -247,7 +289,7 @@ begun_at B acts (op ∷ ops) b (o ∷ done) next left e =
 
 pub many_broke : (B : List Act → Attempt → Type 0) (op : DmiOp) (ops : List DmiOp) (old_count new_count : ℕ) (old : Tells) (told : Option Far) (why : DmiFault)
     → BegunEach B [] (op ∷ ops) → WhereTold (OperationsCut (op ∷ ops)) old.far told
-        → ManyCause (length (op ∷ ops)) old_count new_count old.far told old.coming why
+    → ManyCause (length (op ∷ ops)) old_count new_count old.far told old.coming why
     → BrokeIn (Among B) old_count new_count old told why
 many_broke B op ops old_count new_count old told why each cut cause = record {
   acts = [];
@@ -269,4 +311,4 @@ pub two_did : (a b : DmiOp) (results : List ℕ) (d e : ℕ) (old new : Tells) �
     → Did old (op_act a (slice_index_or results 0 d) ∷ op_act b (slice_index_or results 1 e) ∷ []) new
 two_did a b results d e old new small two told heard =
     did_list (acts_of (a ∷ b ∷ []) results) _ old new (two_acts a b results d e two)
-        (did_together a (b ∷ []) results old new (record { small = small; told = told; heard = heard }))
+    (did_together a (b ∷ []) results old new (record { small = small; told = told; heard = heard }))

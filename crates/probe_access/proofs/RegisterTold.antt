@@ -18,8 +18,17 @@ use Rattle.probe_access.specs.RegisterAccess.{transfer_command, transfer_word}
 use Rattle.probe_access.proofs.Along.{ReadAt, SiteActs, Split, site_acts-split}
 use Rattle.probe_access.proofs.ReadyUnit.{Held, Kept, OpAt, op_at, op_done, unit_of, unit_with}
 use Rattle.probe_access.proofs.Steps.{DoneAt}
-use Rattle.probe_access.proofs.TransferLemmas.{Commanded, TransferEnd, behind_frozen, commanded, hart_behind, refusing, transfer_ends, with_command,
-    words_behind}
+use Rattle.probe_access.proofs.TransferLemmas.{
+  Commanded,
+  TransferEnd,
+  behind_frozen,
+  commanded,
+  hart_behind,
+  refusing,
+  transfer_ends,
+  with_command,
+  words_behind,
+}
 use Rattle.probe_access.proofs.TransferLemmas.TransferEnd.{took, refused}
 use Rattle.probe_run.specs.Opening.{clears_cmderr}
 
@@ -38,9 +47,14 @@ pub got_at : (a value : ℕ) (h : ℕ) (bus : BusUnit) (y : Hart) (base : Site) 
     → ((z : Site) → operated (Read a) (aside (unit_of k h bus) h y z) ≡ aside (unit_of k h bus) h y z) → Stood h bus y base w k t
 got_at a value h bus y base w k s t st r same =
     let o : OpAt (Read a) r.result (unit_of k h bus) h y base t =
-        op_at (Read a) r.result (unit_of k h bus) h y base w s t st.held st.frozen refl st.idle st.at r.one in
-    record { held = st.held; frozen = st.frozen; idle = st.idle; at =
-        op_done (Read a) r.result (unit_of k h bus) (unit_of k h bus) h y base w t st.held st.frozen refl st.idle o (same (passed o.harts base)) }
+    op_at (Read a) r.result (unit_of k h bus) h y base w s t st.held st.frozen refl st.idle st.at r.one in
+    record {
+      held = st.held;
+      frozen = st.frozen;
+      idle = st.idle;
+      at =
+          op_done (Read a) r.result (unit_of k h bus) (unit_of k h bus) h y base w t st.held st.frozen refl st.idle o (same (passed o.harts base));
+    }
 
 -- a write that changes the words alone
 pub put_at : (a value : ℕ) (h : ℕ) (bus : BusUnit) (y : Hart) (base : Site) (w : Hart) (k l : Kept) (s t : Site) → Stood h bus y base w k s
@@ -48,7 +62,7 @@ pub put_at : (a value : ℕ) (h : ℕ) (bus : BusUnit) (y : Hart) (base : Site) 
     → ((z : Site) → operated (Write a value) (aside (unit_of k h bus) h y z) ≡ aside (unit_of l h bus) h y z) → Stood h bus y base w l t
 put_at a value h bus y base w k l s t st p changes =
     let o : OpAt (Write a value) value (unit_of k h bus) h y base p.0 =
-        op_at (Write a value) value (unit_of k h bus) h y base w s p.0 st.held st.frozen refl st.idle st.at p.1 in
+    op_at (Write a value) value (unit_of k h bus) h y base w s p.0 st.held st.frozen refl st.idle st.at p.1 in
     record {
       held = st.held;
       frozen = st.frozen;
@@ -70,10 +84,10 @@ pub words_got : (low high h : ℕ) (bus : BusUnit) (y : Hart) (base : Site) (w :
 unfolding register_at
 words_got low high h bus y base w k s t st p =
     let first : OpAt (Read data0_address) p.1.result (unit_of k h bus) h y base p.0 =
-        op_at (Read data0_address) p.1.result (unit_of k h bus) h y base w s p.0 st.held st.frozen refl st.idle st.at p.1.one in
+    op_at (Read data0_address) p.1.result (unit_of k h bus) h y base w s p.0 st.held st.frozen refl st.idle st.at p.1.one in
     let mid : Stood h bus y base w k p.0 = got_at data0_address low h bus y base w k s p.0 st p.1 (λ z. refl) in
     let second : OpAt (Read data1_address) p.2.1.result (unit_of k h bus) h y base p.2.0 =
-        op_at (Read data1_address) p.2.1.result (unit_of k h bus) h y base w p.0 p.2.0 mid.held mid.frozen refl mid.idle mid.at p.2.1.one in
+    op_at (Read data1_address) p.2.1.result (unit_of k h bus) h y base w p.0 p.2.0 mid.held mid.frozen refl mid.idle mid.at p.2.1.one in
     let last : Stood h bus y base w k p.2.0 = got_at data1_address high h bus y base w k p.0 p.2.0 mid p.2.1 (λ z. refl) in
     record {
       low_is = p.1.value_is ∙ ap value_of first.value_is;
@@ -83,12 +97,28 @@ words_got low high h bus y base w k s t st p =
 
 abbrev pub with_double : ℕ → Kept → Kept
 with_double v k =
-    record { data0 = low_half v; data1 = high_half v; progbuf0 = k.progbuf0; progbuf1 = k.progbuf1; progbuf2 = k.progbuf2; progbuf3 = k.progbuf3; command =
-        k.command }
+    record {
+      data0 = low_half v;
+      data1 = high_half v;
+      progbuf0 = k.progbuf0;
+      progbuf1 = k.progbuf1;
+      progbuf2 = k.progbuf2;
+      progbuf3 = k.progbuf3;
+      command =
+          k.command;
+    }
 
 abbrev pub with_data0 : ℕ → Kept → Kept
-with_data0 v k = record { data0 = v; data1 = k.data1; progbuf0 = k.progbuf0; progbuf1 = k.progbuf1; progbuf2 = k.progbuf2; progbuf3 = k.progbuf3; command =
-    k.command }
+with_data0 v k = record {
+  data0 = v;
+  data1 = k.data1;
+  progbuf0 = k.progbuf0;
+  progbuf1 = k.progbuf1;
+  progbuf2 = k.progbuf2;
+  progbuf3 = k.progbuf3;
+  command =
+      k.command;
+}
 
 -- ---- writes that change the words alone, one after another
 
@@ -108,7 +138,7 @@ unfolding register_at
 double_puts value h bus y k =
     and_then data0_address (low_half value) (Put data1_address (high_half value) ∷ []) k (with_data0 (low_half value) k) (with_double value k) (λ z. refl)
     (and_then data1_address (high_half value) [] (with_data0 (low_half value) k) (with_double value k) (with_double value k) (λ z. refl)
-        (no_more (with_double value k)))
+    (no_more (with_double value k)))
 
 -- ---- a command
 
@@ -120,11 +150,11 @@ pub record CommandCut (words : List ℕ) (word last : ℕ) (s t : Site) : Type 0
 pub command_cut : (words : List ℕ) (word last : ℕ) (s t : Site) → SiteActs (command_acts [] word words last) s t → CommandCut words word last s t
 command_cut words word last s t p =
     let joined_acts : (map poll_act words ++ poll_act last ∷ []) ++ clearing (error_shown last) ≡ map poll_act words ++ poll_act last ∷ clearing
-        (error_shown last) = append_assoc (map poll_act words) (poll_act last ∷ []) (clearing (error_shown last)) in
+    (error_shown last) = append_assoc (map poll_act words) (poll_act last ∷ []) (clearing (error_shown last)) in
     let q : SiteActs ((map poll_act words ++ poll_act last ∷ []) ++ clearing (error_shown last)) p.0 t =
-        subst (λ xs. SiteActs xs p.0 t) (sym joined_acts) p.2 in
+    subst (λ xs. SiteActs xs p.0 t) (sym joined_acts) p.2 in
     let cut : Split (map poll_act words ++ poll_act last ∷ []) (clearing (error_shown last)) p.0 t =
-        site_acts-split (map poll_act words ++ poll_act last ∷ []) (clearing (error_shown last)) p.0 t q in
+    site_acts-split (map poll_act words ++ poll_act last ∷ []) (clearing (error_shown last)) p.0 t q in
     record { mid = cut.mid; ran = (p.0, p.1, cut.first); cleared = cut.rest }
 
 -- with no error nothing is cleared
@@ -145,7 +175,7 @@ error_cleared error h bus y base w k s t is held fy idle d p =
       idle = idle;
       at = subst (λ u. DoneAt (unit_of k h bus) h y base u) (sym q.2)
           (op_done (Write abstractcs_address clears_cmderr) clears_cmderr (unit_with k Exception [] h bus) (unit_of k h bus) h y base w q.0 held fy refl idle o
-              refl);
+          refl);
     }
 
 pub data TransferTold (write : Bool) (number last : ℕ) (h : ℕ) (bus : BusUnit) (y : Hart) (base : Site) (w : Hart) (k : Kept) (t : Site) : Type 0 where
@@ -168,7 +198,7 @@ transfer_cleared write number last h bus y base w k mid t held fy idle (took v i
     })
 transfer_cleared write number last h bus y base w k mid t held fy idle (refused is end) p =
     denied is end.error_is (error_cleared (error_shown last) h bus y base w (with_command (transfer_command write number) k) mid t end.error_is held fy idle
-        end.done_at p)
+    end.done_at p)
 
 pub transfer_told : (write : Bool) (number : ℕ) (words : List ℕ) (last : ℕ) (h : ℕ) (bus : BusUnit) (y : Hart) (base : Site) (w : Hart) (k : Kept) (s t : Site)
     → number < 2 ^ 16 → Stood h bus y base w k s
@@ -178,4 +208,4 @@ transfer_told write number words last h bus y base w k s t small st p not_busy =
     let c : Commanded (transfer_word write number) last (unit_of k h bus) h y base cut.mid =
     commanded (transfer_word write number) words last (unit_of k h bus) h y base w s cut.mid st.held st.frozen refl st.idle st.at cut.ran in
     transfer_cleared write number last h bus y base w k cut.mid t st.held st.frozen st.idle
-        (transfer_ends write number last k h bus y base w cut.mid st.held st.frozen small st.idle c not_busy) cut.cleared
+    (transfer_ends write number last k h bus y base w cut.mid st.held st.frozen small st.idle c not_busy) cut.cleared

@@ -37,7 +37,7 @@ save_ok h x8 x9 (Some f) coming new ready selects halted r =
     let s : Site = site_of f in
     let fits : Fits halted.hart = fits_of h s ready halted in
     let t : SavedTold x8 x9 h s.unit.bus halted.hart s halted.hart new.far =
-        saved_told x8 x9 h s.unit.bus halted.hart s halted.hart (tells (Some f) coming) new (first_told h f ready halted selects) r in
+    saved_told x8 x9 h s.unit.bus halted.hart s halted.hart (tells (Some f) coming) new (first_told h f ready halted selects) r in
     record {
       saved_at = record {
         far = t.then.far;
@@ -67,13 +67,19 @@ put_back_ok h x8 x9 (Some f) coming new small8 small9 ready selects halted r =
     let y : Hart = debug_written x x8_number x8 in
     let z : Hart = debug_written y x9_number x9 in
     let a : WrittenTold x8_number x8 h bus x s x st.kept r.mid.far =
-        written_told x8_number x8 h bus x s x (tells (Some f) coming) r.mid (omega arith) st r.first in
+    written_told x8_number x8 h bus x s x (tells (Some f) coming) r.mid (omega arith) st r.first in
     let b : WrittenTold x9_number x9 h bus y s x a.then.kept new.far = written_told x9_number x9 h bus y s x r.mid new (omega arith) a.then r.second in
     let fits : HartReady h z = written_ready h y x9_number x9 (written_ready h x x8_number x8 (ready.harts h x halted.is) small8) small9 in
     let still : is_some z.debug.halted ≡ true = still_halted y x9_number x9 (still_halted x x8_number x8 halted.halted) in
     record {
-      put_back_at = record { far = b.then.far; is = b.then.is; hart = x; here = halted.is; passed =
-          stood_passed_but h s z x b.then.kept (site_of b.then.far) b.then.stood };
+      put_back_at = record {
+        far = b.then.far;
+        is = b.then.is;
+        hart = x;
+        here = halted.is;
+        passed =
+            stood_passed_but h s z x b.then.kept (site_of b.then.far) b.then.stood;
+      };
       serving = set_serving h f ready halted z new.far fits still b.then;
     }
 
@@ -100,7 +106,7 @@ pub save_err : (h : ℕ) (far : Option Far) (coming : Option DmiComing) (old_cou
 save_err h None coming old_count new_count new e ready selects halted f = plain_left e (save_plain 0 ⊥ old_count new_count (tells None coming) new e f)
 save_err h (Some c) coming old_count new_count new e ready selects halted f =
     clean_left c e (save_clean h (site_of c).unit.bus halted.hart (site_of c) halted.hart old_count new_count (tells (Some c) coming) new e
-        (first_told h c ready halted selects) f)
+    (first_told h c ready halted selects) f)
 
 pub put_back_err : (h x8 x9 : ℕ) (far : Option Far) (coming : Option DmiComing) (old_count new_count : ℕ) (new : Tells) (e : AccessFault) → IsReady far
     → Selects h far → IsHalted h far → PutBackFailed x8 x9 old_count new_count (tells far coming) new e → ScratchLeft far e
@@ -108,4 +114,4 @@ put_back_err h x8 x9 None coming old_count new_count new e ready selects halted 
     plain_left e (put_back_plain x8 x9 0 ⊥ old_count new_count (tells None coming) new e f)
 put_back_err h x8 x9 (Some c) coming old_count new_count new e ready selects halted f =
     clean_left c e (put_back_clean x8 x9 h (site_of c).unit.bus halted.hart (site_of c) halted.hart old_count new_count (tells (Some c) coming) new e
-        (first_told h c ready halted selects) f)
+    (first_told h c ready halted selects) f)

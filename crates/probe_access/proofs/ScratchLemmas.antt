@@ -64,8 +64,17 @@ put_back_list xs p q lt =
 
 abbrev hart_with : Hart → List ℕ → Hart
 hart_with x xs = record {
-  core = record { id = x.core.id; x = xs; pc = x.core.pc; mstatus = x.core.mstatus; mtvec = x.core.mtvec; mscratch = x.core.mscratch; mepc = x.core.mepc;
-      mcause = x.core.mcause; mtval = x.core.mtval };
+  core = record {
+    id = x.core.id;
+    x = xs;
+    pc = x.core.pc;
+    mstatus = x.core.mstatus;
+    mtvec = x.core.mtvec;
+    mscratch = x.core.mscratch;
+    mepc = x.core.mepc;
+    mcause = x.core.mcause;
+    mtval = x.core.mtval;
+  };
   debug = x.debug;
 }
 
@@ -82,7 +91,7 @@ pub after_fault_scratched : (x : Hart) (a : ℕ) → length x.core.x ≡ 32 → 
 after_fault_scratched x a all =
     x8_written x a
     ∙ ap (hart_with x) (sym (ap (λ v. set (set x.core.x 8 a) 9 v) (sym (x9_other x a))
-        ∙ set_itself (set x.core.x 8 a) 9 (let n : length (set x.core.x 8 a) ≡ length x.core.x = length-set x.core.x 8 a in omega arith)))
+    ∙ set_itself (set x.core.x 8 a) 9 (let n : length (set x.core.x 8 a) ≡ length x.core.x = length-set x.core.x 8 a in omega arith)))
 
 pub after_store_scratched : (x : Hart) (a v : ℕ) → debug_written (debug_written x 0x1009 v) 0x1008 a ≡ scratched a v x
 after_store_scratched x a v =

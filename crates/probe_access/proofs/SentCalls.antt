@@ -29,7 +29,7 @@ none_vain = record { busy = λ k d h. absurd (omega arith); few = omega arith }
 pub command_did : (wrote word : ℕ) (results : List ℕ) (old new : Tells) → wrote ≡ word → wrote < 2 ^ 32 → length results ≡ 2
     → WhereTold (OperatedAll (Write command_address wrote ∷ Read abstractcs_address ∷ []) results) old.far new.far
     → AnswersAll (Write command_address wrote ∷ Read abstractcs_address ∷ []) results old.coming new.coming
-        → Did old (sent_acts [] word (slice_index_or results 1 0)) new
+    → Did old (sent_acts [] word (slice_index_or results 1 0)) new
 command_did wrote word results old new is small two told heard =
     subst (λ w. Did old (sent_acts [] w (slice_index_or results 1 0)) new) is
     (two_did (Write command_address wrote) (Read abstractcs_address) results 0 0 old new
@@ -37,7 +37,7 @@ command_did wrote word results old new is small two told heard =
 
 pub command_broke : (wrote word old_count new_count : ℕ) (old : Tells) (told : Option Far) (why : DmiFault) → wrote ≡ word
     → WhereTold (OperationsCut (Write command_address wrote ∷ Read abstractcs_address ∷ [])) old.far told
-        → ManyCause 2 old_count new_count old.far told old.coming why
+    → ManyCause 2 old_count new_count old.far told old.coming why
     → BrokeIn (Among (CommandBegun [] word)) old_count new_count old told why
 command_broke wrote word old_count new_count old told why is cut cause =
     subst (λ w. BrokeIn (Among (CommandBegun [] w)) old_count new_count old told why) is
@@ -49,7 +49,7 @@ command_broke wrote word old_count new_count old told why is cut cause =
 four_acts : (a b c d : DmiOp) (results : List ℕ) (z : ℕ) → length results ≡ 4
     → acts_of (a ∷ b ∷ c ∷ d ∷ []) results
     ≡ op_act a (slice_index_or results 0 z) ∷ op_act b (slice_index_or results 1 z) ∷ op_act c (slice_index_or results 2 z) ∷ op_act d
-        (slice_index_or results 3 z) ∷ []
+    (slice_index_or results 3 z) ∷ []
 four_acts a b c d [] z all = absurd (omega arith)
 four_acts a b c d (p ∷ []) z all = absurd (omega arith)
 four_acts a b c d (p ∷ q ∷ []) z all = absurd (omega arith)
@@ -73,7 +73,7 @@ with_did low high value wrote word results old new is_low is_high is small_low s
     ∙ ap (λ n. Put data0_address n ∷ Put data1_address high ∷ Put command_address wrote ∷ poll_act (slice_index_or results 3 0) ∷ []) is_low
     ∙ ap (λ n. Put data0_address (low_half value) ∷ Put data1_address n ∷ Put command_address wrote ∷ poll_act (slice_index_or results 3 0) ∷ []) is_high
     ∙ ap (λ n. Put data0_address (low_half value) ∷ Put data1_address (high_half value) ∷ Put command_address n ∷ poll_act (slice_index_or results 3 0) ∷ [])
-        is)
+    is)
     (did_together (Write data0_address low) (Write data1_address high ∷ Write command_address wrote ∷ Read abstractcs_address ∷ []) results old new
     (record {
       small = four_small (Write data0_address low) (Write data1_address high) (Write command_address wrote) (Read abstractcs_address)
@@ -101,7 +101,7 @@ with_broke low high value wrote word old_count new_count old told why is_low is_
 six_acts : (a b c d e f : DmiOp) (results : List ℕ) (z : ℕ) → length results ≡ 6
     → acts_of (a ∷ b ∷ c ∷ d ∷ e ∷ f ∷ []) results
     ≡ op_act a (slice_index_or results 0 z) ∷ op_act b (slice_index_or results 1 z) ∷ op_act c (slice_index_or results 2 z) ∷ op_act d
-        (slice_index_or results 3 z)
+    (slice_index_or results 3 z)
     ∷ op_act e (slice_index_or results 4 z) ∷ op_act f (slice_index_or results 5 z) ∷ []
 six_acts a b c d e f [] z all = absurd (omega arith)
 six_acts a b c d e f (p ∷ []) z all = absurd (omega arith)
@@ -118,14 +118,14 @@ program_ops word low high wrote = Write progbuf0_address word ∷ Write progbuf1
 pub program_did : (word low high address wrote run : ℕ) (results : List ℕ) (old new : Tells) → low ≡ low_half address → high ≡ high_half address → wrote ≡ run
     → word < 2 ^ 32 → low < 2 ^ 32 → high < 2 ^ 32 → wrote < 2 ^ 32 → length results ≡ 6
     → WhereTold (OperatedAll (program_ops word low high wrote) results) old.far new.far
-        → AnswersAll (program_ops word low high wrote) results old.coming new.coming
+    → AnswersAll (program_ops word low high wrote) results old.coming new.coming
     → Did old (sent_acts (program_set word address) run (slice_index_or results 5 0)) new
 program_did word low high address wrote run results old new is_low is_high is small_word small_low small_high small six told heard =
     let front : List Act = program_written word in
     let last : Act = poll_act (slice_index_or results 5 0) in
     did_list (acts_of (program_ops word low high wrote) results) (sent_acts (program_set word address) run (slice_index_or results 5 0)) old new
     (six_acts (Write progbuf0_address word) (Write progbuf1_address ebreak_word) (Write data0_address low) (Write data1_address high)
-        (Write command_address wrote)
+    (Write command_address wrote)
     (Read abstractcs_address) results 0 six
     ∙ ap (λ n. front ++ Put data0_address n ∷ Put data1_address high ∷ Put command_address wrote ∷ last ∷ []) is_low
     ∙ ap (λ n. front ++ Put data0_address (low_half address) ∷ Put data1_address n ∷ Put command_address wrote ∷ last ∷ []) is_high
@@ -143,7 +143,7 @@ program_did word low high address wrote run results old new is_low is_high is sm
 pub program_broke : (word low high address wrote run old_count new_count : ℕ) (old : Tells) (told : Option Far) (why : DmiFault) → low ≡ low_half address
     → high ≡ high_half address → wrote ≡ run → WhereTold (OperationsCut (program_ops word low high wrote)) old.far told
     → ManyCause 6 old_count new_count old.far told old.coming why
-        → BrokeIn (Among (CommandBegun (program_set word address) run)) old_count new_count old told why
+    → BrokeIn (Among (CommandBegun (program_set word address) run)) old_count new_count old told why
 program_broke word low high address wrote run old_count new_count old told why is_low is_high is cut cause =
     let first = Put progbuf0_address word in
     let second = Put progbuf1_address ebreak_word in

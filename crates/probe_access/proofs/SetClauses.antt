@@ -51,7 +51,7 @@ set_serving h f ready halted y told fits still st =
     let here : slice_get (passed harts s).board.harts h ≡ Some halted.hart = stays_passed h harts s halted.hart st.stood.held.here st.stood.held.frozen in
     let b : BoardReady (site_of st.far).board =
     subst (λ (c : Board). BoardReady c) (sym (ap (λ (u : Site). u.board) st.stood.at.is))
-        (put_ready h halted.hart y (passed harts s).board here fits (ready_before harts s ready)) in
+    (put_ready h halted.hart y (passed harts s).board here fits (ready_before harts s ready)) in
     told_serving h st.far
     (record { unit = stood_unit h s y halted.hart s st.kept (site_of st.far) ready.unit st.stood; harts = b.harts; memory = b.memory })
     (stood_selects h s.unit.bus y s halted.hart st.kept (site_of st.far) st.stood)
@@ -60,7 +60,7 @@ set_serving h f ready halted y told fits still st =
       is =
           ap (λ (u : Site). slice_get u.board.harts h) st.stood.at.is
           ∙ hart_aside (unit_of st.kept h s.unit.bus) h y (passed st.stood.at.harts s) halted.hart
-              (stays_passed h st.stood.at.harts s halted.hart st.stood.held.here st.stood.held.frozen);
+          (stays_passed h st.stood.at.harts s halted.hart st.stood.held.here st.stood.held.frozen);
       halted = still;
     }) told st.is
 
@@ -81,7 +81,7 @@ set_ok h number value None coming new small fits ready selects halted r =
 set_ok h number value (Some f) coming new small fits ready selects halted r =
     let st : StoodTold h (site_of f).unit.bus halted.hart (site_of f) halted.hart (Some f) = first_told h f ready halted selects in
     let t : WrittenTold number value h (site_of f).unit.bus halted.hart (site_of f) halted.hart st.kept new.far =
-        written_told number value h (site_of f).unit.bus halted.hart (site_of f) halted.hart (tells (Some f) coming) new small st r in
+    written_told number value h (site_of f).unit.bus halted.hart (site_of f) halted.hart (tells (Some f) coming) new small st r in
     record {
       set_to = record {
         far = t.then.far;
@@ -106,10 +106,10 @@ set_err h number value None coming old_count new_count new (access_fault.Registe
 set_err h number value (Some c) coming old_count new_count new (access_fault.Register asked) small ready selects halted f =
     reg_denied true h number asked c new ready halted
     (write_denied number value h (site_of c).unit.bus halted.hart (site_of c) halted.hart (tells (Some c) coming) new small
-        (first_told h c ready halted selects) f.ran)
+    (first_told h c ready halted selects) f.ran)
 set_err h number value far coming old_count new_count new access_fault.StillBusy small ready selects halted f = record { left = tt; serving = tt }
 set_err h number value far coming old_count new_count new (access_fault.Run why) small ready selects halted f = absurd f
 set_err h number value None coming old_count new_count new (access_fault.Odd shown) small ready selects halted f = record { left = refl; serving = tt }
 set_err h number value (Some c) coming old_count new_count new (access_fault.Odd shown) small ready selects halted f =
     absurd (write_not_odd number value shown h (site_of c).unit.bus halted.hart (site_of c) halted.hart (tells (Some c) coming) new small
-        (first_told h c ready halted selects) f)
+    (first_told h c ready halted selects) f)

@@ -100,15 +100,21 @@ pub step_told : (h : ℕ) (a b c d : Option Far) → WhereTold (FlaggedAt true h
     → WhereTold (SteppedAt h) a d
 step_told h None b c d sets runs clears =
     let at_c : c ≡ None = subst (λ (m : Option Far). WhereTold (Leaves (StepsAt h) h) m c) sets runs in
-        subst (λ (m : Option Far). WhereTold (FlaggedAt false h) m d) at_c clears
+    subst (λ (m : Option Far). WhereTold (FlaggedAt false h) m d) at_c clears
 step_told h (Some f) b c d sets runs clears =
     let went : Leaves (StepsAt h) h sets.far.live.chip c = subst (λ (m : Option Far). WhereTold (Leaves (StepsAt h) h) m c) sets.is runs in
     let end : FlaggedAt false h went.far.live.chip d = subst (λ (m : Option Far). WhereTold (FlaggedAt false h) m d) went.is clears in
     record {
       far = end.far;
       is = end.is;
-      happened = record { begun = target_of (site_of sets.far); ran = target_of (site_of went.far); sets = sets.rewrote; runs = went.happened; clears =
-          end.rewrote };
+      happened = record {
+        begun = target_of (site_of sets.far);
+        ran = target_of (site_of went.far);
+        sets = sets.rewrote;
+        runs = went.happened;
+        clears =
+            end.rewrote;
+      };
       bus = end.bus ∙ ap (λ (m : DebugModule). m.bus) went.unit ∙ sets.bus;
     }
 
@@ -135,7 +141,7 @@ missed_told : (h : ℕ) (last : Sight) (a b c : Option Far) → WhereTold (Flagg
 missed_told h last None b c sets missed = subst (λ (m : Option Far). WhereTold (Leaves (MissedAt (ResumeReq h) sees_both h last) h) m c) sets missed
 missed_told h last (Some f) b c sets missed =
     let end : Leaves (MissedAt (ResumeReq h) sees_both h last) h sets.far.live.chip c =
-        subst (λ (m : Option Far). WhereTold (Leaves (MissedAt (ResumeReq h) sees_both h last) h) m c) sets.is missed in
+    subst (λ (m : Option Far). WhereTold (Leaves (MissedAt (ResumeReq h) sees_both h last) h) m c) sets.is missed in
     record {
       far = end.far;
       is = end.is;

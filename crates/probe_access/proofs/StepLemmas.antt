@@ -60,7 +60,7 @@ passed_rewrote f h x s t here frozen p = record {
       p.board
       ∙ ap (λ (hs : List Hart). let b : Board = record { harts = hs; memory = (after_turns p.harts s.board).memory } in b)
       (set-over f (after_turns p.harts s.board).harts h x
-          (frozen_stays h x s.board p.harts here (record { why = frozen.why; halted = frozen.halted; not_asked = frozen.not_asked })));
+      (frozen_stays h x s.board p.harts here (record { why = frozen.why; halted = frozen.halted; not_asked = frozen.not_asked })));
   journal = p.journal;
 }
 
@@ -86,7 +86,7 @@ flag_ok on h (Some f) coming new r fits ready selects halted =
     let bus : BusUnit = s.unit.bus in
     let v : ℕ = with_flag on r.word in
     let a : ReadTold dcsr_number r.word h bus x s x r.mid.far =
-        read_told dcsr_number r.word h bus x s x (tells (Some f) coming) r.mid (omega arith) (first_told h f ready halted selects) r.first in
+    read_told dcsr_number r.word h bus x s x (tells (Some f) coming) r.mid (omega arith) (first_told h f ready halted selects) r.first in
     let b : WrittenTold dcsr_number v h bus x s x a.then.kept new.far = written_told dcsr_number v h bus x s x r.mid new (omega arith) a.then r.second in
     let small : word_of x < 2 ^ 64 = (ready.harts h x halted.is).registers dcsr_number (word_of x) (dcsr_held x) in
     let read : r.word ≡ word_of x = held_as x dcsr_number a.held r.word (word_of x) (dcsr_held x) a.held_is a.value_is small in
@@ -99,7 +99,7 @@ flag_ok on h (Some f) coming new r fits ready selects halted =
         rewrote =
             passed_rewrote (with_step on) h x s (site_of b.then.far) halted.is held.frozen
             (subst (λ (y : Hart). TurnsPassedBut h y s (site_of b.then.far)) is
-                (stood_passed_but h s (debug_written x dcsr_number v) x b.then.kept (site_of b.then.far) b.then.stood));
+            (stood_passed_but h s (debug_written x dcsr_number v) x b.then.kept (site_of b.then.far) b.then.stood));
         bus = (stood_passed_but h s (debug_written x dcsr_number v) x b.then.kept (site_of b.then.far) b.then.stood).bus;
       };
       serving = set_serving h f ready halted (debug_written x dcsr_number v) new.far (written_ready h x dcsr_number v (ready.harts h x halted.is) fits)

@@ -27,15 +27,23 @@ some_step steps m ms o s x is here = ap (λ (ns : List Micro). stepped_by ns o s
 pub stepped_aside : (m : DebugModule) (h : ℕ) (x : Hart) (t : Site) (w : Hart) (a : Micro) (rest : List Micro) → HartAt h t w → m.hartsel ≡ h
     → m.commands.steps ≡ a ∷ rest
     → command_stepped (aside m h x t) ≡ aside (with_unit (micro_step x t.board.memory m.commands).unit m) h (micro_step x t.board.memory m.commands).hart
-        (moved (micro_step x t.board.memory m.commands) t)
+    (moved (micro_step x t.board.memory m.commands) t)
 stepped_aside m h x t w a rest here selected under_way =
     let d : Stepped = micro_step x t.board.memory m.commands in
     some_step m.commands.steps a rest (slice_get (set t.board.harts h x) m.hartsel) (aside m h x t) x under_way
-        (ap (λ n. slice_get (set t.board.harts h x) n) selected ∙ hart_aside m h x t w here)
-    ∙ ap (λ n. let s : Site = record { unit = with_unit d.unit m; board = record { harts = set (set t.board.harts h x) n d.hart; memory = d.memory }; journal =
-        t.journal ++ access_points d.accessed } in s) selected
-    ∙ ap (λ hs. let s : Site = record { unit = with_unit d.unit m; board = record { harts = hs; memory = d.memory }; journal =
-        t.journal ++ access_points d.accessed } in s) (set-set t.board.harts h x d.hart)
+    (ap (λ n. slice_get (set t.board.harts h x) n) selected ∙ hart_aside m h x t w here)
+    ∙ ap (λ n. let s : Site = record {
+      unit = with_unit d.unit m;
+      board = record { harts = set (set t.board.harts h x) n d.hart; memory = d.memory };
+      journal =
+          t.journal ++ access_points d.accessed;
+    } in s) selected
+    ∙ ap (λ hs. let s : Site = record {
+      unit = with_unit d.unit m;
+      board = record { harts = hs; memory = d.memory };
+      journal =
+          t.journal ++ access_points d.accessed;
+    } in s) (set-set t.board.harts h x d.hart)
 
 -- one that leaves memory alone
 pub record Does (x : Hart) (u : CommandUnit) (y : Hart) (v : CommandUnit) : Type 0 where
@@ -71,10 +79,10 @@ between_turn : (m n : DebugModule) (h : ℕ) (x y : Hart) (base : Site) (w : Har
 unfolding passed
 between_turn m n h x y base w g s here f fx fy (still harts is) =
     still (harts ++ g ∷ []) (ap (turned g) is ∙ aside_turned m h g x (passed harts base) w (stays_passed h harts base w here f) f fx
-        ∙ ap (aside m h x) (sym (passed-append harts (g ∷ []) base)))
+    ∙ ap (aside m h x) (sym (passed-append harts (g ∷ []) base)))
 between_turn m n h x y base w g s here f fx fy (done harts is) =
     done (harts ++ g ∷ []) (ap (turned g) is ∙ aside_turned n h g y (passed harts base) w (stays_passed h harts base w here f) f fy
-        ∙ ap (aside n h y) (sym (passed-append harts (g ∷ []) base)))
+    ∙ ap (aside n h y) (sym (passed-append harts (g ∷ []) base)))
 
 between_step : (m : DebugModule) (v : CommandUnit) (h : ℕ) (x y : Hart) (base : Site) (w : Hart) (a : Micro) (s : Site) → Course m h x base w
     → m.commands.steps ≡ a ∷ [] → v.steps ≡ [] → Does x m.commands y v

@@ -67,14 +67,14 @@ pub stop_ok : (h pc cause : ℕ) (far : Option Far) (coming : Option DmiComing) 
     → StopRead pc cause (tells far coming) new → StopOk h pc cause far new.far
 stop_ok h pc cause None coming new ready selects halted r =
     let end : new.far ≡ None = read_untold dcsr_number r.word r.mid new r.second (read_untold dpc_number pc (tells None coming) r.mid r.first refl) in
-        record { stopped_at = end; serving = untold_serving h new.far end }
+    record { stopped_at = end; serving = untold_serving h new.far end }
 stop_ok h pc cause (Some f) coming new ready selects halted r =
     let s : Site = site_of f in
     let x : Hart = halted.hart in
     let bus : BusUnit = s.unit.bus in
     let small = (ready.harts h x halted.is).registers in
     let a : ReadTold dpc_number pc h bus x s x r.mid.far =
-        read_told dpc_number pc h bus x s x (tells (Some f) coming) r.mid (omega arith) (first_told h f ready halted selects) r.first in
+    read_told dpc_number pc h bus x s x (tells (Some f) coming) r.mid (omega arith) (first_told h f ready halted selects) r.first in
     let b : ReadTold dcsr_number r.word h bus x s x new.far = read_told dcsr_number r.word h bus x s x r.mid new (omega arith) a.then r.second in
     record {
       stopped_at = record {
@@ -86,7 +86,7 @@ stop_ok h pc cause (Some f) coming new ready selects halted r =
         cause_is =
             r.cause_is
             ∙ ap (λ w. (dcsr_of_word w).cause) (held_as x dcsr_number b.held r.word (dcsr_value x.debug) (dcsr_held x) b.held_is b.value_is
-                (small dcsr_number (dcsr_value x.debug) (dcsr_held x)))
+            (small dcsr_number (dcsr_value x.debug) (dcsr_held x)))
             ∙ shown_back x;
         passed = stood_passed h s x b.then.kept (site_of b.then.far) b.then.stood;
       };

@@ -22,8 +22,17 @@ use Rattle.probe_access.specs.MemoryRuns.StoreFailedInside.{performing, writing}
 use Rattle.probe_access.proofs.AroundTold.{FaultInside, OkInside, OnlyMemory, around_only, clean_only, only_map, perform_only, write_clean, writes_x9}
 use Rattle.probe_access.proofs.AroundUntold.{PlainMemory, around_plain, perform_plain, write_plain}
 use Rattle.probe_access.specs.RegisterAccess.{store_word, x8_number, x9_number}
-use Rattle.probe_access.proofs.AccessEnd.{AccessEnd, access_end, access_serving, back_untold, one_access, performed_untold, ready_before, saved_untold,
-    written_untold}
+use Rattle.probe_access.proofs.AccessEnd.{
+  AccessEnd,
+  access_end,
+  access_serving,
+  back_untold,
+  one_access,
+  performed_untold,
+  ready_before,
+  saved_untold,
+  written_untold,
+}
 use Rattle.probe_access.proofs.AccessTold.{Faulted, PerformedTold, SavedTold, Went, back_told, faulted_told, ran_told, saved_told, went_told}
 use Rattle.probe_access.proofs.LoadClauses.{AccessErr, Fits, fits_of, told_err, untold_err}
 use Rattle.probe_access.proofs.Aside.{accessed, passed}
@@ -53,7 +62,7 @@ aimed_at x a v all small = in_x8 (aimed x a v) a (ap (λ (y : Hart). x_of y.core
 pub aimed_value : (x : Hart) (a v : ℕ) → length x.core.x ≡ 32 → x_of (aimed x a v).core 9 ≡ v
 aimed_value x a v all =
     ap (λ (y : Hart). x_of y.core 9) (x8_written (valued x v) a) ∙ x9_other (valued x v) a ∙ ap (λ (y : Hart). x_of y.core 9) (x9_written x v)
-        ∙ x9_holds x v all
+    ∙ x9_holds x v all
 
 -- ---- a store
 
@@ -87,8 +96,8 @@ store_went size a v h bus x base old new all small st i =
     let wr : WrittenTold x9_number v h bus x base x st.kept i.mid.far = written_told x9_number v h bus x base x old i.mid (omega arith) st i.x9 in
     let r = store_performed size a v 0 h bus x base i.mid new all small wr.then i.performed in
     store_went_by size a v h bus x base new.far
-        (went_told (Stores size a v (aimed x a v)) (StoreFaults size a) i.performed.last h bus (aimed x a v) base x new.far r.far r.is i.performed.error_is
-        r.program)
+    (went_told (Stores size a v (aimed x a v)) (StoreFaults size a) i.performed.last h bus (aimed x a v) base x new.far r.far r.is i.performed.error_is
+    r.program)
 
 pub record StoreOk (size : Size) (address value h : ℕ) (old new : Option Far) : Type 0 where
   pub stored_at : WhereTold (StoredAt size address value) old new
@@ -108,14 +117,14 @@ store_ok size address value h (Some f) coming new small ready selects halted r =
     let x : Hart = halted.hart in
     let fits : Fits x = fits_of h s ready halted in
     let sv : SavedTold r.x8 r.x9 h s.unit.bus x s x r.first.far =
-        saved_told r.x8 r.x9 h s.unit.bus x s x (tells (Some f) coming) r.first (first_told h f ready halted selects) r.saved in
+    saved_told r.x8 r.x9 h s.unit.bus x s x (tells (Some f) coming) r.first (first_told h f ready halted selects) r.saved in
     let w : StoreWent size address value h s.unit.bus x s r.last.far =
-        store_went size address value h s.unit.bus x s r.first r.last fits.all small sv.then r.inside in
+    store_went size address value h s.unit.bus x s r.first r.last fits.all small sv.then r.inside in
     let was : Memory = (passed w.before s).board.memory in
     let memory : Memory = after_store was address size value in
     let back : StoodTold h s.unit.bus x (accessed memory (passed w.before s)) x new.far =
     back_told r.x8 r.x9 address value h s.unit.bus x (accessed memory (passed w.before s)) x r.last new fits.all (sv.x8_is fits.x8) (sv.x9_is fits.x9) w.then
-        r.put_back in
+    r.put_back in
     let e : AccessEnd memory w.before s (site_of back.far) = access_end h x memory w.before s new.far back in
     record {
       stored_at = record {
@@ -155,11 +164,11 @@ pub store_badly : (size : Size) (a v h : ℕ) (bus : BusUnit) (x : Hart) (base :
     → StoreFailedInside size a v old_count new_count first last e → OnlyMemory a (FaultInside (StoreFaults size a) h bus x base last.far) e
 store_badly size a v h bus x base old_count new_count first last e all small st (writing f) =
     clean_only a (FaultInside (StoreFaults size a) h bus x base last.far) e
-        (write_clean x9_number v h bus x base x old_count new_count first last e (omega arith) (writes_x9 x) st f)
+    (write_clean x9_number v h bus x base x old_count new_count first last e (omega arith) (writes_x9 x) st f)
 store_badly size a v h bus x base old_count new_count first last e all small st (performing mid x9 f) =
     let wr : WrittenTold x9_number v h bus x base x st.kept mid.far = written_told x9_number v h bus x base x first mid (omega arith) st x9 in
     only_map a (Performed (store_word size) a 3 mid last) (FaultInside (StoreFaults size a) h bus x base last.far) e
-        (λ p. store_faulted size a v h bus x base mid last all small wr.then p)
+    (λ p. store_faulted size a v h bus x base mid last all small wr.then p)
     (perform_only (Stores size a v (aimed x a v)) (StoreFaults size a) (store_word size) a h bus (valued x v) base x old_count new_count mid last e wr.then
     (λ fy m. store_did size a v (aimed x a v) m fy (aimed_at x a v all small) (aimed_value x a v all)) f)
 
@@ -191,7 +200,7 @@ store_refused size address h f ready halted new w =
 pub store_err : (size : Size) (address value h : ℕ) (far : Option Far) (coming : Option DmiComing) (old_count new_count : ℕ) (new : Tells) (e : AccessFault)
     → address < 2 ^ 64 → IsReady far → Selects h far → IsHalted h far
     → AroundFailed (StoredInside size address value) (StoreFailedInside size address value) old_count new_count (tells far coming) new e
-        → AccessErr (StoreRefused size address) address h far new.far e
+    → AccessErr (StoreRefused size address) address h far new.far e
 store_err size address value h None coming old_count new_count new e small ready selects halted f =
     untold_err (StoreRefused size address) address h new.far e
     (around_plain (StoredInside size address value) (StoreFailedInside size address value) address old_count new_count (tells None coming) new e
@@ -202,9 +211,9 @@ store_err size address value h (Some c) coming old_count new_count new e small r
     let fits : Fits x = fits_of h s ready halted in
     told_err (StoreRefused size address) address h c new.far e
     (only_map address (Faulted (StoreFaults size address) h s.unit.bus x s x new.far) (StoreRefused size address (chip_of c) new.far × Serving h new.far) e
-        (λ w. store_refused size address h c ready halted new.far w)
+    (λ w. store_refused size address h c ready halted new.far w)
     (around_only (StoredInside size address value) (StoreFailedInside size address value) (StoreFaults size address) address h s.unit.bus x s old_count
-        new_count (tells (Some c) coming) new e fits.all fits.x8 fits.x9
+    new_count (tells (Some c) coming) new e fits.all fits.x8 fits.x9
     (record {
       well = λ first last st r. store_inside_well size address value h s.unit.bus x s first last fits.all small st r;
       badly = λ oc nc first last e st g. store_badly size address value h s.unit.bus x s oc nc first last e fits.all small st g;

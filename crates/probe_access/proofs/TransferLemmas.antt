@@ -1,6 +1,32 @@
 -- What a command to transfer a register does: at one moment the register goes into the data words or they into it, or the command is refused.
-use Rattle.std.proofs.Common.{◌≡◌, ◌∙◌, ◌++◌, ℕ, ◌<◌, ◌^◌, ◌/◌, ◌%◌, List, [], ◌∷◌, map, Bool, true, false, not, ◌&&◌, Option, Some, None, is_some, refl, sym,
-    ap, subst, cond}
+use Rattle.std.proofs.Common.{
+  ◌≡◌,
+  ◌∙◌,
+  ◌++◌,
+  ℕ,
+  ◌<◌,
+  ◌^◌,
+  ◌/◌,
+  ◌%◌,
+  List,
+  [],
+  ◌∷◌,
+  map,
+  Bool,
+  true,
+  false,
+  not,
+  ◌&&◌,
+  Option,
+  Some,
+  None,
+  is_some,
+  refl,
+  sym,
+  ap,
+  subst,
+  cond,
+}
 use Rattle.rv_model.specs.declared.cause.Cause.{Cause}
 use Rattle.rv_model.specs.Board.{Hart}
 use Rattle.rv_model.specs.DebugLaws.{WriteKeeps}
@@ -70,11 +96,11 @@ pub record Commanded (word last : ℕ) (n : DebugModule) (h : ℕ) (y : Hart) (b
 pub commanded : (word : ℕ) (values : List ℕ) (last : ℕ) (n : DebugModule) (h : ℕ) (y : Hart) (base : Site) (w : Hart) (s t : Site) → Held h w base → Frozen y
     → n.commands.steps ≡ [] → n.bus.pending ≡ None
     → DoneAt n h y base s → SiteActs (Put command_address word ∷ (map (Got abstractcs_address) values ++ Got abstractcs_address last ∷ [])) s t
-        → Commanded word last n h y base t
+    → Commanded word last n h y base t
 commanded word values last n h y base w s t held fy none idle d p =
     let first : OpAt (Write command_address word) word n h y base p.0 = op_at (Write command_address word) word n h y base w s p.0 held fy none idle d p.1 in
     let cut : Split (map (Got abstractcs_address) values) (Got abstractcs_address last ∷ []) p.0 t =
-        site_acts-split (map (Got abstractcs_address) values) (Got abstractcs_address last ∷ []) p.0 t p.2 in
+    site_acts-split (map (Got abstractcs_address) values) (Got abstractcs_address last ∷ []) p.0 t p.2 in
     let polled : RanAlone p.0 cut.mid = polls_ran values p.0 cut.mid cut.first in
     let look : OneOperation (Read abstractcs_address) cut.rest.1.result cut.mid cut.rest.0 = cut.rest.1.one in
     let written : Site = after_write command_address word (aside n h y (passed first.harts base)) in
@@ -105,21 +131,28 @@ pub shown_idle : (s : Site) (last : ℕ) → s.unit.active ≡ true → last ≡
     → s.unit.commands.steps ≡ []
 shown_idle s last on is idle =
     let e : last ≡ abstractcs_word (abstractcs_shown s.unit.commands) = is ∙ ap value_of (shown_status s s.unit.active refl on)
-        ∙ status_small s.unit.commands in
+    ∙ status_small s.unit.commands in
     idle_by s.unit.commands.steps (sym (busy_shown s.unit.commands) ∙ sym (ap (λ v. (abstractcs_of v).busy) e) ∙ idle)
 
 pub shown_error : (s : Site) (last : ℕ) → s.unit.active ≡ true → last ≡ value_of (result_of abstractcs_address s)
     → (abstractcs_of last).cmderr ≡ cmderr_number s.unit.commands.error
 shown_error s last on is =
     let e : last ≡ abstractcs_word (abstractcs_shown s.unit.commands) = is ∙ ap value_of (shown_status s s.unit.active refl on)
-        ∙ status_small s.unit.commands in
+    ∙ status_small s.unit.commands in
     ap (λ v. (abstractcs_of v).cmderr) e ∙ cmderr_shown s.unit.commands
 
 -- ---- the start of a command
 
 abbrev pub with_command : AbstractCommand → Kept → Kept
-with_command c k = record { data0 = k.data0; data1 = k.data1; progbuf0 = k.progbuf0; progbuf1 = k.progbuf1; progbuf2 = k.progbuf2; progbuf3 = k.progbuf3;
-    command = c }
+with_command c k = record {
+  data0 = k.data0;
+  data1 = k.data1;
+  progbuf0 = k.progbuf0;
+  progbuf1 = k.progbuf1;
+  progbuf2 = k.progbuf2;
+  progbuf3 = k.progbuf3;
+  command = c;
+}
 
 abbrev started_unit : Cmderr → CommandUnit → ℕ → BusUnit → DebugModule
 started_unit e u h bus = record { active = true; hartsel = h; commands = started_by e u; bus = bus }
@@ -131,7 +164,7 @@ pub command_starts : (word : ℕ) (c : AbstractCommand) (why : Cmderr) (k : Kept
 unfolding register_at
 command_starts word c why k h bus y z w here is reason =
     ap (λ o. aside (started_unit (refusal o (command_of word)) (commands_of (with_command (command_of word) k) Fine []) h bus) h y z)
-        (hart_aside (unit_of k h bus) h y z w here)
+    (hart_aside (unit_of k h bus) h y z w here)
     ∙ ap (λ (d : AbstractCommand). aside (started_unit (refusal (Some y) d) (commands_of (with_command d k) Fine []) h bus) h y z) is
     ∙ ap (λ e. aside (started_unit e (commands_of (with_command c k) Fine []) h bus) h y z) reason
 
@@ -145,9 +178,9 @@ pub transfer_refusal_by : (y : Hart) (write : Bool) (number : ℕ) (o : Option �
 unfolding refusal
 transfer_refusal_by y write number o r f is refuses =
     ap (λ (p : Option Cause). cond (not (is_held p y.debug.resume_request)) HaltResume
-        (cond (not (is_some (debug_value y number) && not (refusing write number))) Exception Fine)) f.halted
+    (cond (not (is_some (debug_value y number) && not (refusing write number))) Exception Fine)) f.halted
     ∙ ap (λ q. cond (not (is_held (Some f.why) q)) HaltResume (cond (not (is_some (debug_value y number) && not (refusing write number))) Exception Fine))
-        f.not_asked
+    f.not_asked
     ∙ ap (λ p. cond (not (is_some p && not (refusing write number))) Exception Fine) is
     ∙ ap (λ b. cond (not (is_some o && not b)) Exception Fine) refuses
 
@@ -161,7 +194,7 @@ pub record Ended (error : ℕ) (n : DebugModule) (h : ℕ) (y : Hart) (base : Si
 pub ended_at : (n : DebugModule) (h : ℕ) (y : Hart) (base : Site) (w : Hart) (last : ℕ) (shown t : Site) (behind : List Deed) → Held h w base → Frozen y
     → n.commands.steps ≡ [] → n.bus.pending ≡ None
     → shown.unit.active ≡ true → last ≡ value_of (result_of abstractcs_address shown) → t ≡ ran behind shown → DoneAt n h y base shown
-        → Ended (cmderr_number n.commands.error) n h y base last t
+    → Ended (cmderr_number n.commands.error) n h y base last t
 ended_at n h y base w last shown t behind held fy none idle on is moved d = record {
   error_is = shown_error shown last on is ∙ ap (λ (s : Site). cmderr_number s.unit.commands.error) d.is;
   done_at = done_ran n h y base w behind shown t held fy none idle moved d;
@@ -171,18 +204,18 @@ pub one_step_ends : (word last : ℕ) (n m : DebugModule) (v : CommandUnit) (h :
     → Frozen y → Frozen z
     → m.active ≡ true → m.hartsel ≡ h → m.bus.pending ≡ None → m.commands.steps ≡ a ∷ [] → v.steps ≡ [] → Does y m.commands z v
     → (c : Commanded word last n h y base t) → after_write command_address word (aside n h y (passed c.harts base)) ≡ aside m h y (passed c.harts base)
-        → (abstractcs_of last).busy ≡ false
+    → (abstractcs_of last).busy ≡ false
     → Ended (cmderr_number v.error) (with_unit v m) h z base last t
 one_step_ends word last n m v h y z base w a t held fy fz on selected idle one none does c starts not_busy =
     let start : Site = after_write command_address word (aside n h y (passed c.harts base)) in
     let active : c.shown.unit.active ≡ true = ap (λ (s : Site). s.unit.active) c.shown_is ∙ active_ran c.during start ∙ ap (λ (s : Site). s.unit.active) starts
-        ∙ on in
+    ∙ on in
     let course : Course m h y base w = record { here = held.here; frozen = held.frozen; frozen_x = fy; selected = selected; bus = idle } in
     let stage : Between m (with_unit v m) h y z base (ran c.during start) =
-        between_ran c.during m v h y z base w a start course fz one none does (still c.harts starts) in
+    between_ran c.during m v h y z base w a start course fz one none does (still c.harts starts) in
     let at_end : DoneAt (with_unit v m) h z base c.shown =
     between_done m (with_unit v m) h y z base c.shown a [] one (shown_idle c.shown last active c.last_is not_busy)
-        (subst (λ s. Between m (with_unit v m) h y z base s) (sym c.shown_is) stage) in
+    (subst (λ s. Between m (with_unit v m) h y z base s) (sym c.shown_is) stage) in
     ended_at (with_unit v m) h z base w last c.shown t c.behind held fz none idle active c.last_is c.is at_end
 
 -- ---- a command that is refused
@@ -194,10 +227,10 @@ pub refused_ends : (word last : ℕ) (n m : DebugModule) (h : ℕ) (y : Hart) (b
 refused_ends word last n m h y base w t held fy on idle none c starts =
     let start : Site = after_write command_address word (aside n h y (passed c.harts base)) in
     let active : c.shown.unit.active ≡ true = ap (λ (s : Site). s.unit.active) c.shown_is ∙ active_ran c.during start ∙ ap (λ (s : Site). s.unit.active) starts
-        ∙ on in
+    ∙ on in
     let first : DoneAt m h y base start = record { harts = c.harts; is = starts } in
     ended_at m h y base w last c.shown t c.behind held fy none idle active c.last_is c.is
-        (done_ran m h y base w c.during start c.shown held fy none idle c.shown_is first)
+    (done_ran m h y base w c.during start c.shown held fy none idle c.shown_is first)
 
 -- ---- a transfer
 
@@ -205,8 +238,16 @@ refused_ends word last n m h y base w t held fy on idle none c starts =
 abbrev pub words_behind : Bool → ℕ → ℕ → Kept → Kept
 words_behind true number v k = with_command (transfer_command true number) k
 words_behind false number v k =
-    record { data0 = v % 2 ^ 32; data1 = v / 2 ^ 32; progbuf0 = k.progbuf0; progbuf1 = k.progbuf1; progbuf2 = k.progbuf2; progbuf3 = k.progbuf3; command =
-        transfer_command false number }
+    record {
+      data0 = v % 2 ^ 32;
+      data1 = v / 2 ^ 32;
+      progbuf0 = k.progbuf0;
+      progbuf1 = k.progbuf1;
+      progbuf2 = k.progbuf2;
+      progbuf3 = k.progbuf3;
+      command =
+          transfer_command false number;
+    }
 
 abbrev pub hart_behind : Bool → ℕ → Kept → Hart → Hart
 hart_behind true number k y = debug_written y number (joined_halves k.data0 k.data1)
@@ -214,7 +255,7 @@ hart_behind false number k y = y
 
 pub transfer_does : (write : Bool) (number v : ℕ) (k : Kept) (y : Hart) → debug_value y number ≡ Some v
     → Does y (commands_of (with_command (transfer_command write number) k) Fine (Transfer (transfer_command write number) ∷ [])) (hart_behind write number k y)
-        (commands_of (words_behind write number v k) Fine [])
+    (commands_of (words_behind write number v k) Fine [])
 unfolding micro_step
 transfer_does true number v k y is = record { each = λ m. rw is refl }
 transfer_does false number v k y is = record { each = λ m. rw is refl }
@@ -237,35 +278,35 @@ pub data TransferEnd (write : Bool) (number last : ℕ) (k : Kept) (h : ℕ) (bu
 transfer_by : (write : Bool) (number last : ℕ) (k : Kept) (h : ℕ) (bus : BusUnit) (y : Hart) (base : Site) (w : Hart) (t : Site) (o : Option ℕ) (r : Bool)
     → Held h w base → Frozen y → number < 2 ^ 16 → bus.pending ≡ None
     → debug_value y number ≡ o → refusing write number ≡ r → Commanded (transfer_word write number) last (unit_of k h bus) h y base t
-        → (abstractcs_of last).busy ≡ false
+    → (abstractcs_of last).busy ≡ false
     → TransferEnd write number last k h bus y base t
 transfer_by write number last k h bus y base w t (Some v) false held fy small idle is refuses c not_busy =
     let word : ℕ = transfer_word write number in
     let command : AbstractCommand = transfer_command write number in
     let starts = command_starts word command Fine k h bus y (passed c.harts base) w (stays_passed h c.harts base w held.here held.frozen)
-        (transfer_back write number small) (transfer_refusal_by y write number (Some v) false fy is refuses) in
+    (transfer_back write number small) (transfer_refusal_by y write number (Some v) false fy is refuses) in
     took v is refuses
     (one_step_ends word last (unit_of k h bus) (unit_with (with_command command k) Fine (Transfer command ∷ []) h bus)
-        (commands_of (words_behind write number v k) Fine []) h y (hart_behind write number k y) base w
+    (commands_of (words_behind write number v k) Fine []) h y (hart_behind write number k y) base w
     (Transfer command) t held fy (behind_frozen write number k y fy) refl refl idle refl refl (transfer_does write number v k y is) c starts not_busy)
 transfer_by write number last k h bus y base w t (Some v) true held fy small idle is refuses c not_busy =
     let word : ℕ = transfer_word write number in
     let command : AbstractCommand = transfer_command write number in
     let starts = command_starts word command Exception k h bus y (passed c.harts base) w (stays_passed h c.harts base w held.here held.frozen)
-        (transfer_back write number small) (transfer_refusal_by y write number (Some v) true fy is refuses) in
+    (transfer_back write number small) (transfer_refusal_by y write number (Some v) true fy is refuses) in
     refused (ap (λ p. is_some p && not (refusing write number)) is ∙ ap not refuses)
     (refused_ends word last (unit_of k h bus) (unit_with (with_command command k) Exception [] h bus) h y base w t held fy refl idle refl c starts)
 transfer_by write number last k h bus y base w t None r held fy small idle is refuses c not_busy =
     let word : ℕ = transfer_word write number in
     let command : AbstractCommand = transfer_command write number in
     let starts = command_starts word command Exception k h bus y (passed c.harts base) w (stays_passed h c.harts base w held.here held.frozen)
-        (transfer_back write number small) (transfer_refusal_by y write number None r fy is refuses) in
+    (transfer_back write number small) (transfer_refusal_by y write number None r fy is refuses) in
     refused (ap (λ p. is_some p && not (refusing write number)) is)
     (refused_ends word last (unit_of k h bus) (unit_with (with_command command k) Exception [] h bus) h y base w t held fy refl idle refl c starts)
 
 pub transfer_ends : (write : Bool) (number last : ℕ) (k : Kept) (h : ℕ) (bus : BusUnit) (y : Hart) (base : Site) (w : Hart) (t : Site) → Held h w base
     → Frozen y → number < 2 ^ 16 → bus.pending ≡ None
     → Commanded (transfer_word write number) last (unit_of k h bus) h y base t → (abstractcs_of last).busy ≡ false
-        → TransferEnd write number last k h bus y base t
+    → TransferEnd write number last k h bus y base t
 transfer_ends write number last k h bus y base w t held fy small idle c not_busy =
     transfer_by write number last k h bus y base w t (debug_value y number) (refusing write number) held fy small idle refl refl c not_busy

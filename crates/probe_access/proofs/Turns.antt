@@ -55,12 +55,12 @@ aside_other_by : (m : DebugModule) (h g : ℕ) (y : Hart) (s : Site) (o : Option
 aside_other_by m h g y s None other = refl
 aside_other_by m h g y s (Some z) other =
     ap (λ hs. site_at m (turned_by (Some z) g s) (board_of (memory_after z s.board.memory) hs))
-        (set-swap s.board.harts h g y (place_of z s.board.memory).hart other)
+    (set-swap s.board.harts h g y (place_of z s.board.memory).hart other)
 
 aside_other : (m : DebugModule) (h g : ℕ) (y : Hart) (s : Site) → (h ≡ g → ⊥) → turned g (aside m h y s) ≡ aside m h y (turned g s)
 aside_other m h g y s other =
     ap (λ o. turned_by o g (aside m h y s)) (slice_get-set_other s.board.harts h g y (λ e. other (sym e)))
-        ∙ aside_other_by m h g y s (slice_get s.board.harts g) other
+    ∙ aside_other_by m h g y s (slice_get s.board.harts g) other
 
 -- the turn of a hart that rests leaves the board
 pub rests_turned : (h : ℕ) (s : Site) (x : Hart) → HartAt h s x → Frozen x → (turned h s).board ≡ s.board
@@ -74,7 +74,7 @@ aside_same : (m : DebugModule) (h : ℕ) (y : Hart) (s : Site) (x : Hart) → Ha
 aside_same m h y s x is fx fy =
     turned_at h (aside m h y s) y (hart_put h y m s x is)
     ∙ ap (λ b. site_at m (turned_by (Some x) h s) b)
-        (board_rests h (put_hart h y s.board) y (hart_put h y m s x is) fy ∙ ap (put_hart h y) (sym (board_rests h s.board x is fx)))
+    (board_rests h (put_hart h y s.board) y (hart_put h y m s x is) fy ∙ ap (put_hart h y) (sym (board_rests h s.board x is fx)))
     ∙ ap (aside m h y) (sym (turned_at h s x is))
 
 pub aside_turned : (m : DebugModule) (h g : ℕ) (y : Hart) (s : Site) (x : Hart) → HartAt h s x → Frozen x → Frozen y

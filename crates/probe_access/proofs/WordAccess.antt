@@ -51,8 +51,8 @@ store_by (Err fault) n y m = refl
 
 store_ran : (size : Size) (y : Hart) (m : Memory)
     → ran_word (store_word size) y m ≡ executed
-        (record { step = stored_step (store_answer m (address_in y) size) (address_in y) y.core; memory = after_store m (address_in y) size (x_of y.core 9) })
-        true y m
+    (record { step = stored_step (store_answer m (address_in y) size) (address_in y) y.core; memory = after_store m (address_in y) size (x_of y.core 9) })
+    true y m
 unfolding ran_word meaning effect_of
 store_ran B1 y m = refl
 store_ran B2 y m = refl
@@ -94,7 +94,7 @@ load_did_by size a y m (Ok v) f at is =
     (load_ran size y m ∙ load_by (loaded m (address_in y) size) y m ∙ ap (λ b. loaded_by (loaded m b size) y m) at ∙ ap (λ r. loaded_by r y m) is)
 load_did_by size a y m (Err why) f at is =
     faulted (record { why = why; is = is }) (load_ran size y m ∙ load_by (loaded m (address_in y) size) y m ∙ ap (λ b. loaded_by (loaded m b size) y m) at
-        ∙ ap (λ r. loaded_by r y m) is)
+    ∙ ap (λ r. loaded_by r y m) is)
 
 pub load_did : (size : Size) (a : ℕ) (y : Hart) (m : Memory) → Frozen y → address_in y ≡ a → WordDid (Loads size a y) (LoadFaults size a) (load_word size) y m
 load_did size a y m f at = load_did_by size a y m (loaded m a size) f at refl
@@ -105,13 +105,13 @@ store_did_by size a v y m (Ok done) f at holds is =
     went y (after_store m a size v) (record { done = done; is = is; hart = refl; memory = refl }) f
     (store_ran size y m ∙ store_by (store_answer m (address_in y) size) (after_store m (address_in y) size (x_of y.core 9)) y m
     ∙ ap (λ b. stored_by (store_answer m b size) (after_store m b size (x_of y.core 9)) y m) at
-        ∙ ap (λ u. stored_by (store_answer m a size) (after_store m a size u) y m) holds
+    ∙ ap (λ u. stored_by (store_answer m a size) (after_store m a size u) y m) holds
     ∙ ap (λ r. stored_by r (after_store m a size v) y m) is)
 store_did_by size a v y m (Err why) f at holds is =
     faulted (record { why = why; is = is })
     (store_ran size y m ∙ store_by (store_answer m (address_in y) size) (after_store m (address_in y) size (x_of y.core 9)) y m
     ∙ ap (λ b. stored_by (store_answer m b size) (after_store m b size (x_of y.core 9)) y m) at
-        ∙ ap (λ u. stored_by (store_answer m a size) (after_store m a size u) y m) holds
+    ∙ ap (λ u. stored_by (store_answer m a size) (after_store m a size u) y m) holds
     ∙ ap (λ r. stored_by r (after_store m a size v) y m) is)
 
 pub store_did : (size : Size) (a v : ℕ) (y : Hart) (m : Memory) → Frozen y → address_in y ≡ a → x_of y.core 9 ≡ v

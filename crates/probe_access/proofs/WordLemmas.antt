@@ -88,11 +88,11 @@ pub transfer_back : (write : Bool) (number : ℕ) → number < 2 ^ 16 → comman
 transfer_back true n small =
     same_fields (command_of (transfer_word true n)) (transfer_command true n) (omega arith) (omega arith)
     (bit_clear 19 (transfer_word true n) (omega arith)) (bit_clear 18 (transfer_word true n) (omega arith)) (bit_set 17 (transfer_word true n) (omega arith))
-        (bit_set 16 (transfer_word true n) (omega arith)) (omega arith)
+    (bit_set 16 (transfer_word true n) (omega arith)) (omega arith)
 transfer_back false n small =
     same_fields (command_of (transfer_word false n)) (transfer_command false n) (omega arith) (omega arith)
     (bit_clear 19 (transfer_word false n) (omega arith)) (bit_clear 18 (transfer_word false n) (omega arith))
-        (bit_set 17 (transfer_word false n) (omega arith)) (bit_clear 16 (transfer_word false n) (omega arith)) (omega arith)
+    (bit_set 17 (transfer_word false n) (omega arith)) (bit_clear 16 (transfer_word false n) (omega arith)) (omega arith)
 
 pub program_back : command_of program_word ≡ program_command x8_number
 program_back = refl

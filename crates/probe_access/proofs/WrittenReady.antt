@@ -1,6 +1,29 @@
 -- A hart whose register is written stays ready.
-use Rattle.std.proofs.Common.{◌≡◌, ◌∙◌, ◌<◌, ◌^◌, ◌-◌, ◌==◌, ℕ, zero, suc, List, [], ◌∷◌, Bool, true, false, Some, slice_get, set, refl, subst, arith,
-    if◌then◌else◌, slice_index_or}
+use Rattle.std.proofs.Common.{
+  ◌≡◌,
+  ◌∙◌,
+  ◌<◌,
+  ◌^◌,
+  ◌-◌,
+  ◌==◌,
+  ℕ,
+  zero,
+  suc,
+  List,
+  [],
+  ◌∷◌,
+  Bool,
+  true,
+  false,
+  Some,
+  slice_get,
+  set,
+  refl,
+  subst,
+  arith,
+  if◌then◌else◌,
+  slice_index_or,
+}
 use Rattle.std.proofs.lemmas.Option.{same_Some}
 use Rattle.rv_model.specs.declared.slot.Slot.{Slot}
 use Rattle.rv_model.specs.Board.{DebugPart, Hart, free_slot}
@@ -18,8 +41,17 @@ use Rattle.rv_model.proofs.WideWords.{IsWide}
 -- ---- its core
 
 pc_wide : (c : Core) (v : ℕ) → CoreWide c → IsWide v → CoreWide (record c { pc = aligned v })
-pc_wide c v w p = record { id = w.id; x = w.x; pc = omega arith; mstatus = w.mstatus; mtvec = w.mtvec; mscratch = w.mscratch; mepc = w.mepc; mcause = w.mcause;
-    mtval = w.mtval }
+pc_wide c v w p = record {
+  id = w.id;
+  x = w.x;
+  pc = omega arith;
+  mstatus = w.mstatus;
+  mtvec = w.mtvec;
+  mscratch = w.mscratch;
+  mepc = w.mepc;
+  mcause = w.mcause;
+  mtval = w.mtval;
+}
 
 core_if : (a b : Bool) (c d e : Core) → CoreWide c → CoreWide d → CoreWide e → CoreWide (if a then c else (if b then d else e))
 core_if true b c d e p q r = p

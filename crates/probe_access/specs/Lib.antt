@@ -5,6 +5,7 @@ pub mod Blocks
 pub mod BusRuns
 pub mod CommandRuns
 pub mod Cuts
+pub mod ElementRuns
 pub mod Faults
 pub mod MemoryRuns
 pub mod Registers

@@ -9,6 +9,7 @@ ghost use Rattle.probe_access.specs.BlockCuts.{BlockLoadCut, BlockStoreCut};
 ghost use Rattle.probe_access.specs.BlockRuns.{Causes, Fetched};
 ghost use Rattle.probe_access.specs.Blocks.{BlockLoadLeft, BlockLoadedAt, BlockStoreLeft, BlockStoredAt, element_at};
 ghost use Rattle.probe_access.specs.Cuts.{IfCut, Leaves};
+ghost use Rattle.probe_access.specs.ElementRuns.{LoadRuns, LoadRunsFailed, StoreRuns, StoreRunsFailed};
 ghost use Rattle.debug_model.specs.Kept.{CanCall, Keeps};
 ghost use Rattle.probe_run.specs.Told.{Fails, OnChip, told};
 ghost use Rattle.probe_access.specs.Faults.{access_why};
@@ -52,6 +53,8 @@ pub fn load_block<D: Dmi>(
     requires empty { into.old.items ≡ [] }
     ensures all { OnOk result (length into.new.items ≡ count) }
     ensures loaded { OnOk result (OnChip (BlockLoadedAt size address into.new.items) (D.seen link.old) (D.seen link.new)) }
+    ensures runs { OnOk result (LoadRuns size address (told (D.seen link.old)) into.new.items (told (D.seen link.new))) }
+    ensures failed { IfErr result (Fails (LoadRunsFailed size address count into.new.items) (D.seen link.old) (D.seen link.new)) }
     ensures fetched { OnOk result (Fetched into.new.items (told (D.seen link.old)) (told (D.seen link.new))) }
     ensures fetched_before { IfErr result (IfMemory (Fetched into.new.items (told (D.seen link.old)) (told (D.seen link.new)))) }
     ensures left { IfErr result (BlockLoadLeft size address count into.new.items (D.seen link.old).far (D.seen link.new).far) }
@@ -86,6 +89,8 @@ pub fn store_block<D: Dmi>(
     requires room { count ≤ most_elements }
     requires ends { address + count * count_of size ≤ all_addresses }
     ensures stored { OnOk result (OnChip (BlockStoredAt size address value count) (D.seen link.old) (D.seen link.new)) }
+    ensures runs { OnOk result (StoreRuns size address value (told (D.seen link.old)) count (told (D.seen link.new))) }
+    ensures failed { IfErr result (Fails (StoreRunsFailed size address value count) (D.seen link.old) (D.seen link.new)) }
     ensures left { IfErr result (BlockStoreLeft size address count value (D.seen link.old).far (D.seen link.new).far) }
     ensures causes { IfErr result (Fails Causes (D.seen link.old) (D.seen link.new)) }
     ensures cut { IfErr result (IfCut (Leaves (BlockStoreCut size address value count halted.now.number) (D.seen link.old).far (D.seen link.new).far)) }

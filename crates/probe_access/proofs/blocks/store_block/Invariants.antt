@@ -5,11 +5,13 @@ use Rattle.debug_model.specs.Kept.{CanCall, Stands}
 use Rattle.debug_model.specs.Scan.{WhereTold}
 use Rattle.probe_access.proofs.BlockCauses.{Calls}
 use Rattle.probe_access.specs.Blocks.{BlockStoredAt}
+use Rattle.probe_access.specs.ElementRuns.{StoreRuns}
 use Rattle.probe_access.proofs.blocks.store_block.Given as goal
 
 abbrev pub invariant-elements : goal.invariant-elements
 invariant-elements g l = record {
   stored : WhereTold (BlockStoredAt l.fn.size l.fn.address l.fn.value l.number) (g.D.Dmi.seen l.fn.link).far (g.D.Dmi.seen l.link).far;
+  runs : StoreRuns l.fn.size l.fn.address l.fn.value (told (g.D.Dmi.seen l.fn.link)) l.number (told (g.D.Dmi.seen l.link));
   calls : Calls (told (g.D.Dmi.seen l.fn.link)) (told (g.D.Dmi.seen l.link));
   serving : Serving l.halted.number (g.D.Dmi.seen l.link).far;
   callable : CanCall (g.D.Dmi.seen l.link);

@@ -19,9 +19,9 @@ pub returns-in_err-high-clause-broke : goal.returns-in_err-high-clause-broke
 returns-in_err-high-clause-broke g c =
     fault_failed c.from_residual-in_err-high.result c.in_err-high.field-0.0 _ c.from_residual-in_err-high.ensures.1
     (read_broke_behind BusFetching _ 61 _ _ _ (told (g.D.Dmi.seen c.args.link.now)) (told (g.D.Dmi.seen c.read.new.self)) _ c.in_err-high.field-0.0
-        (upper c.in_ok-low.low)
+    (upper c.in_ok-low.low)
     (read_did 60 c.in_ok-low.low _ _ c.in_ok-low.ensures.operated c.in_ok-low.ensures.answers) c.read.ensures.keeps.later c.read-2.ensures.keeps.later
-        c.in_err-high.ensures.cut c.in_err-high.ensures.cause)
+    c.in_err-high.ensures.cut c.in_err-high.ensures.cause)
 
 pub returns-clause-fetched : goal.returns-clause-fetched
 returns-clause-fetched g c = record {

@@ -10,9 +10,9 @@ pub returns-in_err-write-clause-failed : goal.returns-in_err-write-clause-failed
 returns-in_err-write-clause-failed g c =
     err_failed c.from_residual-in_err-write.result _ _ c.from_residual-in_err-write.ensures.1
     (clear_broke c.args.address c.in_ok-last.last _ _ _ _ (told (g.D.Dmi.seen c.poll_bus.new.link)) (told (g.D.Dmi.seen c.write.new.self))
-        c.in_err-write.field-0.0
+    c.in_err-write.field-0.0
     c.in_ok-last.ensures.polled (sym (ap (λ (s : Sbcs). s.sberror) c.from_word-bus.ensures) ∙ c.if-bus-eq-OUTSIDE.true) c.poll_bus.ensures.keeps.later
-        c.write.ensures.keeps.later c.in_err-write.ensures.cut c.in_err-write.ensures.cause)
+    c.write.ensures.keeps.later c.in_err-write.ensures.cut c.in_err-write.ensures.cause)
 
 pub returns-then-bus-eq-OUTSIDE-clause-failed : goal.returns-then-bus-eq-OUTSIDE-clause-failed
 returns-then-bus-eq-OUTSIDE-clause-failed g c = (

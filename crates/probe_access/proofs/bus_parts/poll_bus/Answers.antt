@@ -17,7 +17,7 @@ pub polls-preserved : goal.polls-preserved
 polls-preserved g c = record {
   waiting =
       waiting_more c.polls._polls c.in_ok-word.word _ _ _ c.polls.invariant.waiting
-          (read_did 56 c.in_ok-word.word _ _ c.in_ok-word.ensures.operated c.in_ok-word.ensures.answers)
+      (read_did 56 c.in_ok-word.word _ _ c.in_ok-word.ensures.operated c.in_ok-word.ensures.answers)
       (sym (ap (λ (s : Sbcs). s.sbbusy) c.from_word-bus.ensures) ∙ not_false _ c.if-not-bus.false);
   callable = record { alive = c.in_ok-word.ensures.keeps.behind.alive; link = c.in_ok-word.ensures.keeps.behind.link };
   stands = λ h. c.in_ok-word.ensures.keeps.behind;
@@ -29,10 +29,10 @@ pub returns-in_err-word-clause-failed : goal.returns-in_err-word-clause-failed
 returns-in_err-word-clause-failed g c =
     dmi_failed c.from_residual.result c.in_err-word.field-0.0 _ c.from_residual.ensures.1
     (poll_broke c.polls._polls _ _ _ _ _ _ c.in_err-word.field-0.0 c.polls.invariant.waiting c.polls-test.true c.polls.invariant.later
-        c.read.ensures.keeps.later c.in_err-word.ensures.cut c.in_err-word.ensures.cause)
+    c.read.ensures.keeps.later c.in_err-word.ensures.cut c.in_err-word.ensures.cause)
 
 pub returns-then-not-bus-clause-polled : goal.returns-then-not-bus-clause-polled
 returns-then-not-bus-clause-polled g c =
     waiting_ends c.polls._polls c.in_ok-word.word _ _ _ c.polls.invariant.waiting c.polls-test.true
-        (read_did 56 c.in_ok-word.word _ _ c.in_ok-word.ensures.operated c.in_ok-word.ensures.answers)
+    (read_did 56 c.in_ok-word.word _ _ c.in_ok-word.ensures.operated c.in_ok-word.ensures.answers)
     (sym (ap (λ (s : Sbcs). s.sbbusy) c.from_word-bus.ensures) ∙ not_true _ c.if-not-bus.true)

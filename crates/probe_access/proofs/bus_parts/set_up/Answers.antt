@@ -13,7 +13,7 @@ pub returns-in_err-write-clause-broke : goal.returns-in_err-write-clause-broke
 returns-in_err-write-clause-broke g c =
     fault_failed c.from_residual.result c.in_err-write.field-0.0 _ c.from_residual.ensures.1
     (word_broke (Starting (addressed c.args.setting c.args.address)) 56 c.args.setting c.args.setting _ _ (told (g.D.Dmi.seen c.args.link.now)) _
-        c.in_err-write.field-0.0 refl
+    c.in_err-write.field-0.0 refl
     (next [] (Put sbaddress1_address (high_half c.args.address) ∷ Put sbaddress0_address (low_half c.args.address) ∷ []) sbcs_address c.args.setting refl)
     c.in_err-write.ensures.cut c.in_err-write.ensures.cause)
 
@@ -21,27 +21,27 @@ pub returns-in_err-write-2-clause-broke : goal.returns-in_err-write-2-clause-bro
 returns-in_err-write-2-clause-broke g c =
     fault_failed c.from_residual-in_err-write-2.result c.in_err-write-2.field-0.0 _ c.from_residual-in_err-write-2.ensures.1
     (word_broke_behind (Starting (addressed c.args.setting c.args.address)) (Put sbcs_address c.args.setting ∷ []) 58 c.high_word.result
-        (high_half c.args.address) _ _ _
+    (high_half c.args.address) _ _ _
     (told (g.D.Dmi.seen c.args.link.now)) (told (g.D.Dmi.seen c.write.new.self)) _ c.in_err-write-2.field-0.0 c.high_word.ensures
     (next (Put sbcs_address c.args.setting ∷ []) (Put sbaddress0_address (low_half c.args.address) ∷ []) sbaddress1_address (high_half c.args.address) refl)
     (put_did sbcs_address c.args.setting _ _ c.in_ok-write.ensures.operated c.in_ok-write.ensures.passes) c.write.ensures.keeps.later
-        c.write-2.ensures.keeps.later c.in_err-write-2.ensures.cut c.in_err-write-2.ensures.cause)
+    c.write-2.ensures.keeps.later c.in_err-write-2.ensures.cut c.in_err-write-2.ensures.cause)
 
 pub returns-in_err-write-3-clause-broke : goal.returns-in_err-write-3-clause-broke
 returns-in_err-write-3-clause-broke g c =
     fault_failed c.from_residual-in_err-write-3.result c.in_err-write-3.field-0.0 _ c.from_residual-in_err-write-3.ensures.1
     (word_broke_behind (Starting (addressed c.args.setting c.args.address))
-        (Put sbcs_address c.args.setting ∷ Put sbaddress1_address (high_half c.args.address) ∷ []) 57 c.low_word.result (low_half c.args.address) _ _ _
+    (Put sbcs_address c.args.setting ∷ Put sbaddress1_address (high_half c.args.address) ∷ []) 57 c.low_word.result (low_half c.args.address) _ _ _
     (told (g.D.Dmi.seen c.args.link.now)) (told (g.D.Dmi.seen c.write-2.new.self)) _ c.in_err-write-3.field-0.0 c.low_word.ensures
     (next (Put sbcs_address c.args.setting ∷ Put sbaddress1_address (high_half c.args.address) ∷ []) [] sbaddress0_address (low_half c.args.address) refl)
     (did_then _ _ _ (put_did sbcs_address c.args.setting _ _ c.in_ok-write.ensures.operated c.in_ok-write.ensures.passes) _ _
     (word_put 58 c.high_word.result (high_half c.args.address) _ _ c.high_word.ensures c.in_ok-write-2.ensures.operated c.in_ok-write-2.ensures.passes))
     (omega (arith, c.write.ensures.keeps.later, c.write-2.ensures.keeps.later)) c.write-3.ensures.keeps.later c.in_err-write-3.ensures.cut
-        c.in_err-write-3.ensures.cause)
+    c.in_err-write-3.ensures.cause)
 
 pub returns-clause-did : goal.returns-clause-did
 returns-clause-did g c =
     did_then _ _ _ (put_did sbcs_address c.args.setting _ _ c.in_ok-write.ensures.operated c.in_ok-write.ensures.passes) _ _
     (did_then _ _ _ (word_put 58 c.high_word.result (high_half c.args.address) _ _ c.high_word.ensures c.in_ok-write-2.ensures.operated
-        c.in_ok-write-2.ensures.passes) _ _
+    c.in_ok-write-2.ensures.passes) _ _
     (word_put 57 c.low_word.result (low_half c.args.address) _ _ c.low_word.ensures c.in_ok-write-3.ensures.operated c.in_ok-write-3.ensures.passes))

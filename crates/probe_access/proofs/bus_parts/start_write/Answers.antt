@@ -20,39 +20,39 @@ pub returns-in_err-set_up-clause-broke : goal.returns-in_err-set_up-clause-broke
 returns-in_err-set_up-clause-broke g c =
     fault_failed c.from_residual.result c.in_err-set_up.field-0.0 _ c.from_residual.ensures.1
     (subst (λ w. BrokeIn (Starting (addressed w c.args.address ++ supplied c.args.value)) (g.D.Dmi.seen c.args.link.now).fault_count
-        (g.D.Dmi.seen c.set_up.new.link).fault_count (told (g.D.Dmi.seen c.args.link.now)) (g.D.Dmi.seen c.set_up.new.link).far c.in_err-set_up.field-0.0)
-        c.setting_of.ensures
+    (g.D.Dmi.seen c.set_up.new.link).fault_count (told (g.D.Dmi.seen c.args.link.now)) (g.D.Dmi.seen c.set_up.new.link).far c.in_err-set_up.field-0.0)
+    c.setting_of.ensures
     (broke_before (addressed c.setting_of.result c.args.address) (supplied c.args.value) _ _ (told (g.D.Dmi.seen c.args.link.now)) _ c.in_err-set_up.field-0.0
-        c.in_err-set_up.ensures.broke))
+    c.in_err-set_up.ensures.broke))
 
 pub returns-in_err-write-clause-broke : goal.returns-in_err-write-clause-broke
 returns-in_err-write-clause-broke g c =
     fault_failed c.from_residual-in_err-write.result c.in_err-write.field-0.0 _ c.from_residual-in_err-write.ensures.1
     (word_broke_behind (Starting (write_started c.args.size c.args.address c.args.value)) (addressed (setting false c.args.size) c.args.address) 61
-        c.high_word.result (high_half c.args.value) _ _ _
+    c.high_word.result (high_half c.args.value) _ _ _
     (told (g.D.Dmi.seen c.args.link.now)) (told (g.D.Dmi.seen c.set_up.new.link)) _ c.in_err-write.field-0.0 c.high_word.ensures
     (next (addressed (setting false c.args.size) c.args.address) (Put sbdata0_address (low_half c.args.value) ∷ []) sbdata1_address (high_half c.args.value)
-        refl)
+    refl)
     (set_did c.setting_of.result (setting false c.args.size) c.args.address _ _ c.setting_of.ensures c.in_ok-set_up.ensures.did) c.set_up.ensures.keeps.later
-        c.write.ensures.keeps.later c.in_err-write.ensures.cut c.in_err-write.ensures.cause)
+    c.write.ensures.keeps.later c.in_err-write.ensures.cut c.in_err-write.ensures.cause)
 
 pub returns-in_err-write-2-clause-broke : goal.returns-in_err-write-2-clause-broke
 returns-in_err-write-2-clause-broke g c =
     fault_failed c.from_residual-in_err-write-2.result c.in_err-write-2.field-0.0 _ c.from_residual-in_err-write-2.ensures.1
     (word_broke_behind (Starting (write_started c.args.size c.args.address c.args.value))
-        (addressed (setting false c.args.size) c.args.address ++ Put sbdata1_address (high_half c.args.value) ∷ []) 60 c.low_word.result
-        (low_half c.args.value) _ _ _
+    (addressed (setting false c.args.size) c.args.address ++ Put sbdata1_address (high_half c.args.value) ∷ []) 60 c.low_word.result
+    (low_half c.args.value) _ _ _
     (told (g.D.Dmi.seen c.args.link.now)) (told (g.D.Dmi.seen c.write.new.self)) _ c.in_err-write-2.field-0.0 c.low_word.ensures
     (next (addressed (setting false c.args.size) c.args.address ++ Put sbdata1_address (high_half c.args.value) ∷ []) [] sbdata0_address
-        (low_half c.args.value) refl)
+    (low_half c.args.value) refl)
     (did_then _ _ _ (set_did c.setting_of.result (setting false c.args.size) c.args.address _ _ c.setting_of.ensures c.in_ok-set_up.ensures.did) _ _
     (word_put 61 c.high_word.result (high_half c.args.value) _ _ c.high_word.ensures c.in_ok-write.ensures.operated c.in_ok-write.ensures.passes))
     (omega (arith, c.set_up.ensures.keeps.later, c.write.ensures.keeps.later)) c.write-2.ensures.keeps.later c.in_err-write-2.ensures.cut
-        c.in_err-write-2.ensures.cause)
+    c.in_err-write-2.ensures.cause)
 
 pub returns-clause-did : goal.returns-clause-did
 returns-clause-did g c =
     did_then _ _ _ (set_did c.setting_of.result (setting false c.args.size) c.args.address _ _ c.setting_of.ensures c.in_ok-set_up.ensures.did) _ _
     (did_then _ _ _ (word_put 61 c.high_word.result (high_half c.args.value) _ _ c.high_word.ensures c.in_ok-write.ensures.operated
-        c.in_ok-write.ensures.passes) _ _
+    c.in_ok-write.ensures.passes) _ _
     (word_put 60 c.low_word.result (low_half c.args.value) _ _ c.low_word.ensures c.in_ok-write-2.ensures.operated c.in_ok-write-2.ensures.passes))

@@ -12,7 +12,7 @@ pub returns-in_err-many-clause-broke : goal.returns-in_err-many-clause-broke
 returns-in_err-many-clause-broke g c =
     fault_failed c.from_residual.result c.in_err-many.field-0.0 _ c.from_residual.ensures.1
     (many_broke DoubleReads (Read 4) (Read 5 ∷ []) _ _ (told (g.D.Dmi.seen c.args.link.now)) _ c.in_err-many.field-0.0
-        (lower, λ a. (upper (value_of a), λ b. tt)) c.in_err-many.ensures.cut c.in_err-many.ensures.cause)
+    (lower, λ a. (upper (value_of a), λ b. tt)) c.in_err-many.ensures.cut c.in_err-many.ensures.cause)
 
 pub returns-clause-read : goal.returns-clause-read
 returns-clause-read g c = record {

@@ -7,5 +7,5 @@ pub returns-in_err-perform-clause-failed : goal.returns-in_err-perform-clause-fa
 returns-in_err-perform-clause-failed g c =
     err_failed c.from_residual-in_err-perform.result c.in_err-perform.field-0.0 _ c.from_residual-in_err-perform.ensures.1
     (performing _ c.in_ok-write_register.ensures.written
-        (perform_counted _ _ _ _ _ _ _ c.in_err-perform.field-0.0 c.write_register.ensures.keeps.later c.perform.ensures.keeps.later
-        (rw c.store_of.ensures at c.in_err-perform.ensures.failed)))
+    (perform_counted _ _ _ _ _ _ _ c.in_err-perform.field-0.0 c.write_register.ensures.keeps.later c.perform.ensures.keeps.later
+    (rw c.store_of.ensures at c.in_err-perform.ensures.failed)))

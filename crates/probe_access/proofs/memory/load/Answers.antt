@@ -21,10 +21,10 @@ pub returns-in_err-value-clause-serving_still : goal.returns-in_err-value-clause
 returns-in_err-value-clause-serving_still g c =
     err_failed c.from_residual.result c.in_err-value.field-0.0 _ c.from_residual.ensures.1
     (load_err c.args.size c.args.address c.args.halted.now.number _ _ _ _ _ c.in_err-value.field-0.0 (omega arith) c.requires.serving.ready
-        c.requires.serving.selects c.requires.serving.halted c.in_err-value.ensures.failed).serving
+    c.requires.serving.selects c.requires.serving.halted c.in_err-value.ensures.failed).serving
 
 pub returns-in_err-value-clause-cut : goal.returns-in_err-value-clause-cut
 returns-in_err-value-clause-cut g c =
     err_failed c.from_residual.result c.in_err-value.field-0.0 _ c.from_residual.ensures.1
     (load_left_off c.args.size c.args.address c.args.halted.now.number _ _ _ _ _ c.in_err-value.field-0.0 (omega arith) c.requires.serving.ready
-        c.requires.serving.selects c.requires.serving.halted c.in_err-value.ensures.failed)
+    c.requires.serving.selects c.requires.serving.halted c.in_err-value.ensures.failed)

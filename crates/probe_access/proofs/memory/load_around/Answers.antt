@@ -17,7 +17,7 @@ returns-in_err-value-in-Ok-clause-failed g c =
 pub returns-in_err-write_register-in-Ok-clause-failed : goal.returns-in_err-write_register-in-Ok-clause-failed
 returns-in_err-write_register-in-Ok-clause-failed g c =
     err_failed c.from_residual-in_err-write_register-in-Ok.result c.in_err-write_register-in-Ok.field-0.0 _
-        c.from_residual-in_err-write_register-in-Ok.ensures.1
+    c.from_residual-in_err-write_register-in-Ok.ensures.1
     (load_not_restored c.args.size c.args.address c.in_ok-x8.x8 c.in_ok-value-in-Ok.value _ _ _ _ _ _ _ _ c.in_err-write_register-in-Ok.field-0.0
     c.in_ok-x8.ensures.read (rw c.load_of.ensures at c.in-Ok.ensures.performed) c.in_ok-value-in-Ok.ensures.read
     (omega (arith, c.read_register.ensures.keeps.later, c.perform.ensures.keeps.later, c.read_register-in-Ok.ensures.keeps.later))
@@ -26,7 +26,7 @@ returns-in_err-write_register-in-Ok-clause-failed g c =
 pub returns-in_err-write_register-in-Memory-clause-failed : goal.returns-in_err-write_register-in-Memory-clause-failed
 returns-in_err-write_register-in-Memory-clause-failed g c =
     err_failed c.from_residual-in_err-write_register-in-Memory.result c.in_err-write_register-in-Memory.field-0.0 _
-        c.from_residual-in_err-write_register-in-Memory.ensures.1
+    c.from_residual-in_err-write_register-in-Memory.ensures.1
     (load_refused_lost c.args.size c.args.address c.in-Memory.field-0 c.in_ok-x8.x8 _ _ _ _ _ _ _ _ c.in-Err.fault c.in_err-write_register-in-Memory.field-0.0
     c.in_ok-x8.ensures.read c.in-Memory.is (rw c.load_of.ensures at c.in-Err.ensures.failed)
     (omega (arith, c.read_register.ensures.keeps.later, c.perform.ensures.keeps.later))

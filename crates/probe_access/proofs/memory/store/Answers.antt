@@ -22,10 +22,10 @@ pub returns-in_err-store_around-clause-serving_still : goal.returns-in_err-store
 returns-in_err-store_around-clause-serving_still g c =
     err_failed c.from_residual.result c.in_err-store_around.field-0.0 _ c.from_residual.ensures.1
     (store_err c.args.size c.args.address c.args.value c.args.halted.now.number _ _ _ _ _ c.in_err-store_around.field-0.0 (omega arith)
-        c.requires.serving.ready c.requires.serving.selects c.requires.serving.halted c.in_err-store_around.ensures.failed).serving
+    c.requires.serving.ready c.requires.serving.selects c.requires.serving.halted c.in_err-store_around.ensures.failed).serving
 
 pub returns-in_err-store_around-clause-cut : goal.returns-in_err-store_around-clause-cut
 returns-in_err-store_around-clause-cut g c =
     err_failed c.from_residual.result c.in_err-store_around.field-0.0 _ c.from_residual.ensures.1
     (store_left_off c.args.size c.args.address c.args.value c.args.halted.now.number _ _ _ _ _ c.in_err-store_around.field-0.0 (omega arith)
-        c.requires.serving.ready c.requires.serving.selects c.requires.serving.halted c.in_err-store_around.ensures.failed)
+    c.requires.serving.ready c.requires.serving.selects c.requires.serving.halted c.in_err-store_around.ensures.failed)

@@ -13,15 +13,15 @@ pub returns-in_err-put_back-in-Ok-clause-failed : goal.returns-in_err-put_back-i
 returns-in_err-put_back-in-Ok-clause-failed g c =
     err_failed _ c.in_err-put_back-in-Ok.field-0.0 _ c.from_residual-in_err-put_back-in-Ok.ensures.1
     (around_restore (StoredInside c.args.size c.args.address c.args.value) (StoreFailedInside c.args.size c.args.address c.args.value)
-        c.in_ok-scratch.scratch.x8 c.in_ok-scratch.scratch.x9 _ _ _ _ _ _ _ c.in_err-put_back-in-Ok.field-0.0 c.in_ok-scratch.ensures.saved
-        c.in-Ok.ensures.stored
+    c.in_ok-scratch.scratch.x8 c.in_ok-scratch.scratch.x9 _ _ _ _ _ _ _ c.in_err-put_back-in-Ok.field-0.0 c.in_ok-scratch.ensures.saved
+    c.in-Ok.ensures.stored
     (omega (arith, c.save_scratch.ensures.keeps.later, c.store_inside.ensures.keeps.later)) c.put_back.ensures.keeps.later
-        c.in_err-put_back-in-Ok.ensures.failed)
+    c.in_err-put_back-in-Ok.ensures.failed)
 
 pub returns-in-Err-clause-failed : goal.returns-in-Err-clause-failed
 returns-in-Err-clause-failed g c =
     around_gave_up (StoredInside c.args.size c.args.address c.args.value) (StoreFailedInside c.args.size c.args.address c.args.value)
-        c.in_ok-scratch.scratch.x8 c.in_ok-scratch.scratch.x9 _ _ _ _ _ _ _ _ c.in-Err.fault _ c.in_ok-scratch.ensures.saved c.in-Err.ensures.failed
+    c.in_ok-scratch.scratch.x8 c.in_ok-scratch.scratch.x9 _ _ _ _ _ _ _ _ c.in-Err.fault _ c.in_ok-scratch.ensures.saved c.in-Err.ensures.failed
     (store_counted c.args.size c.args.address c.args.value _ _ _ _ _ c.in-Err.fault c.save_scratch.ensures.keeps.later c.store_inside.ensures.keeps.later
-        c.in-Err.ensures.failed)
+    c.in-Err.ensures.failed)
     (omega (arith, c.save_scratch.ensures.keeps.later, c.store_inside.ensures.keeps.later)) c.give_up.ensures.later c.give_up.ensures.gave_up

@@ -15,8 +15,12 @@ returns-in-0-clause-performed g c =
 
 pub returns-in-3-clause-failed : goal.returns-in-3-clause-failed
 returns-in-3-clause-failed g c =
-    faulted (record { last = c.in_ok-last.last; ran = c.in_ok-last.ensures.ran; error_is = ap (λ (s : Abstractcs). s.cmderr) (sym c.from_word.ensures)
-        ∙ c.in-3.is })
+    faulted (record {
+      last = c.in_ok-last.last;
+      ran = c.in_ok-last.ensures.ran;
+      error_is = ap (λ (s : Abstractcs). s.cmderr) (sym c.from_word.ensures)
+          ∙ c.in-3.is;
+    })
 
 pub returns-in_default-clause-failed : goal.returns-in_default-clause-failed
 returns-in_default-clause-failed g c =

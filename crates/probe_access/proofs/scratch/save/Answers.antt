@@ -21,4 +21,4 @@ pub returns-in_err-scratch-clause-cut : goal.returns-in_err-scratch-clause-cut
 returns-in_err-scratch-clause-cut g c =
     err_failed c.from_residual.result c.in_err-scratch.field-0.0 _ c.from_residual.ensures.1
     (save_cut c.args.halted.now.number _ _ _ _ _ c.in_err-scratch.field-0.0 c.requires.serving.ready c.requires.serving.selects c.requires.serving.halted
-        c.in_err-scratch.ensures.failed)
+    c.in_err-scratch.ensures.failed)

@@ -7,5 +7,5 @@ pub returns-in_err-x9-clause-failed : goal.returns-in_err-x9-clause-failed
 returns-in_err-x9-clause-failed g c =
     err_failed c.from_residual-in_err-x9.result c.in_err-x9.field-0.0 _ c.from_residual-in_err-x9.ensures.1
     (at_x9 c.in_ok-x8.x8 _ c.in_ok-x8.ensures.read
-        (read_counted 0x1009 _ _ _ _ _ c.in_err-x9.field-0.0 c.read_register.ensures.keeps.later c.read_register-2.ensures.keeps.later
-        c.in_err-x9.ensures.failed))
+    (read_counted 0x1009 _ _ _ _ _ c.in_err-x9.field-0.0 c.read_register.ensures.keeps.later c.read_register-2.ensures.keeps.later
+    c.in_err-x9.ensures.failed))

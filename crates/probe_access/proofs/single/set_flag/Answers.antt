@@ -23,50 +23,50 @@ failed : (on : Bool) (word value count mid_count new_count : ℕ) (old mid new :
     → WriteFailed dcsr_number value mid_count new_count mid new e → FlagFailed on count new_count old new e
 failed on word value count mid_count new_count old mid new e is read le later f =
     at_write word mid read (subst (λ v. WriteFailed dcsr_number v count new_count mid new e) is
-        (write_counted dcsr_number value count mid_count new_count mid new e le later f))
+    (write_counted dcsr_number value count mid_count new_count mid new e le later f))
 
 pub returns-in_err-word-clause-left : goal.returns-in_err-word-clause-left
 returns-in_err-word-clause-left g c =
     err_failed c.from_residual.result c.in_err-word.field-0.0 _ c.from_residual.ensures.1
     (flag_err c.args.on c.args.halted.now.number _ _ _ _ _ c.in_err-word.field-0.0 c.requires.serving.ready c.requires.serving.selects
-        c.requires.serving.halted (at_read c.in_err-word.ensures.failed))
+    c.requires.serving.halted (at_read c.in_err-word.ensures.failed))
 
 pub returns-in_err-write_register-clause-failed : goal.returns-in_err-write_register-clause-failed
 returns-in_err-write_register-clause-failed g c =
     err_failed c.from_residual-in_err-write_register.result c.in_err-write_register.field-0.0 _ c.from_residual-in_err-write_register.ensures.1
     (failed c.args.on c.in_ok-word.word c.flagged.result _ _ _ _ _ _ c.in_err-write_register.field-0.0 c.flagged.ensures c.in_ok-word.ensures.read
-        c.read_register.ensures.keeps.later c.write_register.ensures.keeps.later c.in_err-write_register.ensures.failed)
+    c.read_register.ensures.keeps.later c.write_register.ensures.keeps.later c.in_err-write_register.ensures.failed)
 
 pub returns-in_err-write_register-clause-left : goal.returns-in_err-write_register-clause-left
 returns-in_err-write_register-clause-left g c =
     err_failed c.from_residual-in_err-write_register.result c.in_err-write_register.field-0.0 _ c.from_residual-in_err-write_register.ensures.1
     (flag_err c.args.on c.args.halted.now.number _ _ _ _ _ c.in_err-write_register.field-0.0 c.requires.serving.ready c.requires.serving.selects
-        c.requires.serving.halted
+    c.requires.serving.halted
     (failed c.args.on c.in_ok-word.word c.flagged.result _ _ _ _ _ _ c.in_err-write_register.field-0.0 c.flagged.ensures c.in_ok-word.ensures.read
-        c.read_register.ensures.keeps.later c.write_register.ensures.keeps.later c.in_err-write_register.ensures.failed))
+    c.read_register.ensures.keeps.later c.write_register.ensures.keeps.later c.in_err-write_register.ensures.failed))
 
 pub returns-clause-flagged_at : goal.returns-clause-flagged_at
 returns-clause-flagged_at g c =
     (flag_ok c.args.on c.args.halted.now.number _ _ _
-        (wrote c.args.on c.in_ok-word.word c.flagged.result _ _ _ c.flagged.ensures c.in_ok-word.ensures.read c.in_ok-write_register.ensures.written)
+    (wrote c.args.on c.in_ok-word.word c.flagged.result _ _ _ c.flagged.ensures c.in_ok-word.ensures.read c.in_ok-write_register.ensures.written)
     (subst (λ n. n < 2 ^ 64) c.flagged.ensures (omega arith)) c.requires.serving.ready c.requires.serving.selects c.requires.serving.halted).flagged_at
 
 pub returns-clause-serving : goal.returns-clause-serving
 returns-clause-serving g c =
     (flag_ok c.args.on c.args.halted.now.number _ _ _
-        (wrote c.args.on c.in_ok-word.word c.flagged.result _ _ _ c.flagged.ensures c.in_ok-word.ensures.read c.in_ok-write_register.ensures.written)
+    (wrote c.args.on c.in_ok-word.word c.flagged.result _ _ _ c.flagged.ensures c.in_ok-word.ensures.read c.in_ok-write_register.ensures.written)
     (subst (λ n. n < 2 ^ 64) c.flagged.ensures (omega arith)) c.requires.serving.ready c.requires.serving.selects c.requires.serving.halted).serving
 
 pub returns-in_err-word-clause-cut : goal.returns-in_err-word-clause-cut
 returns-in_err-word-clause-cut g c =
     err_failed c.from_residual.result c.in_err-word.field-0.0 _ c.from_residual.ensures.1
     (flag_cut c.args.on c.args.halted.now.number _ _ _ _ _ c.in_err-word.field-0.0 c.requires.serving.ready c.requires.serving.selects
-        c.requires.serving.halted (at_read c.in_err-word.ensures.failed))
+    c.requires.serving.halted (at_read c.in_err-word.ensures.failed))
 
 pub returns-in_err-write_register-clause-cut : goal.returns-in_err-write_register-clause-cut
 returns-in_err-write_register-clause-cut g c =
     err_failed c.from_residual-in_err-write_register.result c.in_err-write_register.field-0.0 _ c.from_residual-in_err-write_register.ensures.1
     (flag_cut c.args.on c.args.halted.now.number _ _ _ _ _ c.in_err-write_register.field-0.0 c.requires.serving.ready c.requires.serving.selects
-        c.requires.serving.halted
+    c.requires.serving.halted
     (failed c.args.on c.in_ok-word.word c.flagged.result _ _ _ _ _ _ c.in_err-write_register.field-0.0 c.flagged.ensures c.in_ok-word.ensures.read
-        c.read_register.ensures.keeps.later c.write_register.ensures.keeps.later c.in_err-write_register.ensures.failed))
+    c.read_register.ensures.keeps.later c.write_register.ensures.keeps.later c.in_err-write_register.ensures.failed))

@@ -23,21 +23,21 @@ pub returns-in_err-again-clause-left : goal.returns-in_err-again-clause-left
 returns-in_err-again-clause-left g c =
     err_failed c.from_residual-in_err-again.result _ _ c.from_residual-in_err-again.ensures.1
     (run_left c.args.halted.number _ _ _ _ _ c.in_err-again.field-0.0 c.in_ok-set_flag.ensures.flagged_at c.in_err-again.ensures.fails
-        c.in_err-again.ensures.left)
+    c.in_err-again.ensures.left)
 
 pub returns-in_err-again-clause-failed : goal.returns-in_err-again-clause-failed
 returns-in_err-again-clause-failed g c =
     err_failed c.from_residual-in_err-again.result _ _ c.from_residual-in_err-again.ensures.1
     (in_run _ c.in_ok-set_flag.ensures.written c.in_err-again.field-0.0
     (run_counted c.args.halted.number _ _ _ _ _ c.in_err-again.field-0.0 c.set_flag.ensures.keeps.later c.run_one.ensures.keeps.later
-        c.in_err-again.ensures.fails) refl)
+    c.in_err-again.ensures.fails) refl)
 
 pub returns-in_err-set_flag-2-clause-failed : goal.returns-in_err-set_flag-2-clause-failed
 returns-in_err-set_flag-2-clause-failed g c =
     err_failed c.from_residual-in_err-set_flag-2.result c.in_err-set_flag-2.field-0.0 _ c.from_residual-in_err-set_flag-2.ensures.1
     (in_clear _ _ c.in_ok-set_flag.ensures.written c.in_ok-again.ensures.did
     (flag_counted false _ _ _ _ _ c.in_err-set_flag-2.field-0.0 (omega (arith, c.set_flag.ensures.keeps.later, c.run_one.ensures.keeps.later))
-        c.set_flag-2.ensures.keeps.later c.in_err-set_flag-2.ensures.failed))
+    c.set_flag-2.ensures.keeps.later c.in_err-set_flag-2.ensures.failed))
 
 pub returns-clause-stepped_at : goal.returns-clause-stepped_at
 returns-clause-stepped_at g c =
@@ -47,7 +47,7 @@ returns-clause-stepped_at g c =
 pub returns-in_err-set_flag-clause-cut : goal.returns-in_err-set_flag-clause-cut
 returns-in_err-set_flag-clause-cut g c =
     err_failed c.from_residual.result c.in_err-set_flag.field-0.0 _ c.from_residual.ensures.1
-        (setting_cut c.args.halted.number _ _ c.in_err-set_flag.field-0.0 c.in_err-set_flag.ensures.cut)
+    (setting_cut c.args.halted.number _ _ c.in_err-set_flag.field-0.0 c.in_err-set_flag.ensures.cut)
 
 pub returns-in_err-again-clause-cut : goal.returns-in_err-again-clause-cut
 returns-in_err-again-clause-cut g c =

@@ -22,4 +22,4 @@ pub returns-in_err-put_back-clause-cut : goal.returns-in_err-put_back-clause-cut
 returns-in_err-put_back-clause-cut g c =
     err_failed c.from_residual.result c.in_err-put_back.field-0.0 _ c.from_residual.ensures.1
     (restore_cut c.args.halted.now.number c.args.self.x8 c.args.self.x9 _ _ _ _ _ c.in_err-put_back.field-0.0 c.requires.serving.ready
-        c.requires.serving.selects c.requires.serving.halted c.in_err-put_back.ensures.failed)
+    c.requires.serving.selects c.requires.serving.halted c.in_err-put_back.ensures.failed)
