@@ -1,0 +1,18 @@
+//! ELF files: what of an executable is to be stored where, and storing it over a link.
+//!
+//! `read_elf` answers what the fields of a file say, or the first of six faults; `specs/` has both as functions of the file's bytes. It takes no memory.
+#![tactic(auto)]
+
+mod count;
+mod fault;
+mod fields;
+mod file;
+mod header;
+mod reading;
+mod table;
+#[cfg(test)]
+mod tests;
+
+pub use fault::ElfFault;
+pub use file::{Elf, SEGMENTS_MOST, Segment};
+pub use reading::read_elf;
