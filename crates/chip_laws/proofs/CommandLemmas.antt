@@ -16,8 +16,8 @@ use Rattle.debug_model.specs.declared.micro.Micro.{Micro}
 use Rattle.debug_model.specs.declared.micro.Micro.TheVariants.{Transfer, Run}
 use Rattle.debug_model.specs.declared.sberror.Sberror.{Sberror}
 use Rattle.debug_model.specs.declared.sberror.Sberror.TheVariants as sberror
-use Rattle.debug_model.specs.Commands.{CommandUnit, Stepped, busy, failed, is_auto, left_with, micro_step, refusal, settled, size_double, step_by, steps_of,
-    taken_from, transferred, unit_behind, with_word, word_written}
+use Rattle.debug_model.specs.Commands.{CommandUnit, Stepped, busy, failed, is_auto, left_with, micro_step, refusal, settled, size_double, step_by, steps_of}
+use Rattle.debug_model.specs.Commands.{taken_from, transferred, unit_behind, with_word, word_written}
 use Rattle.debug_model.specs.ModuleWords.{cmderr_cleared, cmderr_number, sberror_cleared, sberror_number}
 use Rattle.chip_laws.specs.CommandLaws.{AutoexecStarts, ClearsBits, LostWhileBusy, SameStep, Stored, rewritten}
 

@@ -1,6 +1,6 @@
 -- What an event adds to the journal: two points at most, and of turns those that it offers. There are as many harts behind it as before.
-use Rattle.std.proofs.Common.{◌≡◌, ℕ, ◌+◌, ◌≤◌, cond, Bool, true, false, List, [], ◌∷◌, ◌++◌, length, Option, Some, None, slice_get, refl, sym, ap, ◌∙◌,
-    append_assoc, arith, inl, inr}
+use Rattle.std.proofs.Common.{◌≡◌, ℕ, ◌+◌, ◌≤◌, cond, Bool, true, false, List, [], ◌∷◌, ◌++◌, length, Option, Some, None, slice_get, refl, sym, ap, ◌∙◌}
+use Rattle.std.proofs.Common.{append_assoc, arith, inl, inr}
 use Rattle.std.proofs.Common.{length-append, length-set, ltb}
 use Rattle.std.proofs.lemmas.Bool.{le-ltb, lt-ltb}
 use Rattle.std.proofs.lemmas.List.{append-nil}
@@ -14,16 +14,17 @@ use Rattle.debug_model.specs.declared.event.Event.{Event}
 use Rattle.debug_model.specs.declared.event.Event.TheVariants as event
 use Rattle.debug_model.specs.declared.micro.Micro.{Micro}
 use Rattle.debug_model.specs.declared.module_register.ModuleRegister.{ModuleRegister}
-use Rattle.debug_model.specs.declared.module_register.ModuleRegister.TheVariants.{Word, Dmcontrol as dmcontrol, Dmstatus as dmstatus, Abstractcs, Command,
-    Abstractauto, Sbcs, Sbaddress0, Sbaddress1, Sbdata0, Sbdata1, Haltsum0, Nothing}
+use Rattle.debug_model.specs.declared.module_register.ModuleRegister.TheVariants.{Word, Dmcontrol as dmcontrol, Dmstatus as dmstatus, Abstractcs, Command}
+use Rattle.debug_model.specs.declared.module_register.ModuleRegister.TheVariants.{Abstractauto, Sbcs, Sbaddress0, Sbaddress1, Sbdata0, Sbdata1, Haltsum0}
+use Rattle.debug_model.specs.declared.module_register.ModuleRegister.TheVariants.{Nothing}
 use Rattle.debug_model.specs.declared.point.Point.{Point}
 use Rattle.debug_model.specs.declared.point.Point.TheVariants.{Turn, Look, HaltReq, HaltClear, ResumeReq, Access}
 use Rattle.debug_model.specs.Chip.{Works, after_event, lost_by, performed_by}
 use Rattle.debug_model.specs.Commands.{busy}
 use Rattle.debug_model.specs.Deeds.{access_points, bus_stepped, stepped_by, turned_by}
 use Rattle.debug_model.specs.Journal.{after_journal, after_point, debug_changed_by, halt_requested, resume_asked}
-use Rattle.debug_model.specs.Module.{Site, acknowledged, asked, control_points, controlled_by, halt_points, operated, read_by, register_at, reset_known,
-    resume_points, selected_hart, write_by, written_by}
+use Rattle.debug_model.specs.Module.{Site, acknowledged, asked, control_points, controlled_by, halt_points, operated, read_by, register_at, reset_known}
+use Rattle.debug_model.specs.Module.{resume_points, selected_hart, write_by, written_by}
 use Rattle.debug_model.specs.ModuleWords.{dmcontrol_of}
 use Rattle.debug_model.specs.Offered.{offered_by, turn_at, turns_of}
 
@@ -171,7 +172,7 @@ asked_adds false k s =
     let quiet : Quiet 2 ps = control_quiet k (slice_get s.board.harts k.hartsello) in
     let there : Board = after_journal ps s.board in
     adds [] ps s _ refl quiet.turns quiet.few (changed_count (slice_get there.harts k.hartsello) (reset_known k.ackhavereset) k.hartsello there
-        ∙ journal_count ps s.board)
+    ∙ journal_count ps s.board)
 
 controlled_adds : (active : Bool) (k : Dmcontrol) (s : Site) → Adds [] s (controlled_by active k s)
 controlled_adds true k s = asked_adds (busy s.unit.commands) k s

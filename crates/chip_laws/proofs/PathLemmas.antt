@@ -11,8 +11,8 @@ use Rattle.debug_model.specs.TransportWords.{dmi_of}
 use Rattle.debug_model.specs.declared.dmi_op.DmiOp.{DmiOp}
 use Rattle.debug_model.specs.declared.event.Event.{Event}
 use Rattle.debug_model.specs.declared.event.Event.TheVariants.{Turn, DmiDone, DmiFail, CmdStep, BusDone}
-use Rattle.debug_model.specs.Course.{Course, DeedsAlone, Happening, OneOperation, Operation, SitePath, in_event, in_events, in_round, in_update, launches_by,
-    loses, performed, performed_in, performs}
+use Rattle.debug_model.specs.Course.{Course, DeedsAlone, Happening, OneOperation, Operation, SitePath, in_event, in_events, in_round, in_update}
+use Rattle.debug_model.specs.Course.{launches_by, loses, performed, performed_in, performs}
 use Rattle.debug_model.specs.Course.Course.{nothing, round, captured, updated}
 use Rattle.debug_model.specs.Course.SitePath.{nowhere, did, did_operation}
 use Rattle.debug_model.specs.Deeds.{Deed, after_deed, ran}
@@ -69,7 +69,7 @@ none_performed : (i : Inside) (j : Inside) (hs ks : List Happening) → performe
     → SitePath i.works.site (performed (hs ++ ks)) j.works.site
 none_performed i j hs ks none p =
     joined i.works.site j.works.site hs ks (subst (λ xs. SitePath i.works.site xs j.works.site)
-        (sym (append-nil (performed hs)) ∙ ap (λ xs. performed hs ++ xs) (sym none)) p)
+    (sym (append-nil (performed hs)) ∙ ap (λ xs. performed hs ++ xs) (sym none)) p)
 
 launches_perform_nothing : (s : Sticky) (op : Option DmiOp) → performed (launches_by s op) ≡ []
 launches_perform_nothing Clear (Some op) = refl
@@ -138,7 +138,7 @@ one_operation s t os o (did d before u p) is =
     }
 one_operation s t os o (did_operation op before u p) is =
     let split : SnocOne before (record { op = op; result = operation_result op u }) o =
-        snoc_one before (record { op = op; result = operation_result op u }) o is in
+    snoc_one before (record { op = op; result = operation_result op u }) o is in
     let earlier : DeedsAlone s u = no_operation s u before p split.none in
     subst (λ (x : Operation). OneOperation x.op x.result s (operated op u)) split.same
     (record { before = earlier.deeds; behind = []; is = ap (λ v. operated op v) earlier.is; result_is = ap (λ v. operation_result op v) earlier.is })

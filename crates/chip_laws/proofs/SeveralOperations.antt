@@ -49,10 +49,10 @@ unfolding ran
 ends_operation os op s t (only_deeds none e) =
     let o : Operation = record { op = op; result = operation_result op t } in
     ends_in [] o (ap (λ xs. xs ++ o ∷ []) none) s refl
-        (record { before = e.deeds; behind = []; is = ap (operated op) e.is; result_is = ap (operation_result op) e.is })
+    (record { before = e.deeds; behind = []; is = ap (operated op) e.is; result_is = ap (operation_result op) e.is })
 ends_operation os op s t (ends_in front last e m at one) =
     ends_in os (record { op = op; result = operation_result op t }) refl t
-        (subst (λ xs. OperationsAt xs s t) (sym e) (operations_snoc front last s m t at one)) (record { before = []; behind = []; is = refl; result_is = refl })
+    (subst (λ xs. OperationsAt xs s t) (sym e) (operations_snoc front last s m t at one)) (record { before = []; behind = []; is = refl; result_is = refl })
 
 path_ends : (s t : Site) (os : List Operation) → SitePath s os t → PathEnds os s t
 unfolding ran
@@ -104,8 +104,16 @@ unfolding ran
 unfinished ops done op left s t asked (only_deeds none d) =
     record { done = done; op = op; left = left; asked = asked; mid = s; before = subst (λ xs. OperationsAt xs s s) (sym none) refl; cut = unperformed d }
 unfinished ops done op left s t asked (ends_in front last e m at one) =
-    record { done = done; op = op; left = left; asked = asked; mid = t; before =
-        subst (λ xs. OperationsAt xs s t) (sym e) (operations_snoc front last s m t at one); cut = unperformed (record { deeds = []; is = refl }) }
+    record {
+      done = done;
+      op = op;
+      left = left;
+      asked = asked;
+      mid = t;
+      before =
+          subst (λ xs. OperationsAt xs s t) (sym e) (operations_snoc front last s m t at one);
+      cut = unperformed (record { deeds = []; is = refl });
+    }
 
 -- it was
 finished : (ops : List DmiOp) (done : List Operation) (o : Operation) (left : List DmiOp) (s t : Site) → map op_of done ++ o.op ∷ left ≡ ops

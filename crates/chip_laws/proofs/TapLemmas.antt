@@ -1,6 +1,6 @@
 -- The TAP: its state diagram case by case, TDO and TRST by the signs, scans by their two cuts, and the worked scan by computing.
-use Rattle.std.proofs.Common.{◌≡◌, ◌≢◌, ◌∙◌, ◌+◌, ℕ, List, [], ◌∷◌, ◌++◌, length, take, All, Bool, true, false, Option, Some, None, refl, sym, ap, subst,
-    arith, inl, inr}
+use Rattle.std.proofs.Common.{◌≡◌, ◌≢◌, ◌∙◌, ◌+◌, ℕ, List, [], ◌∷◌, ◌++◌, length, take, All, Bool, true, false, Option, Some, None, refl, sym, ap, subst}
+use Rattle.std.proofs.Common.{arith, inl, inr}
 use Rattle.std.proofs.Math.Seq.{take-append_seam}
 use Rattle.std.proofs.lemmas.List.{take-append-drop, length-take-le, length-drop, length-append}
 use Rattle.std.proofs.lemmas.List.Elements.{All-nil, All-cons, All-head, All-tail}
@@ -10,8 +10,8 @@ use Rattle.debug_model.specs.declared.data_register.DataRegister.TheVariants.{Id
 use Rattle.debug_model.specs.declared.sign.Sign.{Sign}
 use Rattle.debug_model.specs.declared.sign.Sign.TheVariants.{Pins, Ask, Light, Reset, Quit}
 use Rattle.debug_model.specs.declared.tap_state.TapState.{TapState}
-use Rattle.debug_model.specs.declared.tap_state.TapState.TheVariants.{TestLogicReset, RunTestIdle, SelectDr, CaptureDr, ShiftDr, Exit1Dr, PauseDr, Exit2Dr,
-    UpdateDr, SelectIr, CaptureIr, ShiftIr, Exit1Ir, PauseIr, Exit2Ir, UpdateIr}
+use Rattle.debug_model.specs.declared.tap_state.TapState.TheVariants.{TestLogicReset, RunTestIdle, SelectDr, CaptureDr, ShiftDr, Exit1Dr, PauseDr, Exit2Dr}
+use Rattle.debug_model.specs.declared.tap_state.TapState.TheVariants.{UpdateDr, SelectIr, CaptureIr, ShiftIr, Exit1Ir, PauseIr, Exit2Ir, UpdateIr}
 use Rattle.debug_model.proofs.Cuts.{comes_out_all, stays_all}
 use Rattle.debug_model.specs.Chip.{Chip, Inside, Live, after, end_of, feed, pins, run, said, signed, taken_by, told_by}
 use Rattle.debug_model.specs.Port.{Port, port_held, port_risen, selected_in}
@@ -20,8 +20,8 @@ use Rattle.debug_model.specs.Signs.{sign_of}
 use Rattle.debug_model.specs.Tap.{next_state}
 use Rattle.debug_model.specs.Transport.{Dtm, captured_bits}
 use Rattle.jt_base.specs.BitList.{bits_of}
-use Rattle.chip_laws.specs.TapLaws.{BringsNoFall, BypassDelays, Exchanges, FiveOnesReset, InDataColumn, KeepsBits, LeavesTrst, Shifts, ShowsNext,
-    TdoChangesAtFalls, TrstHolds, TrstResets, held, idcode_digits, idcode_scan, instruction_column, state_behind}
+use Rattle.chip_laws.specs.TapLaws.{BringsNoFall, BypassDelays, Exchanges, FiveOnesReset, InDataColumn, KeepsBits, LeavesTrst, Shifts, ShowsNext}
+use Rattle.chip_laws.specs.TapLaws.{TdoChangesAtFalls, TrstHolds, TrstResets, held, idcode_digits, idcode_scan, instruction_column, state_behind}
 use Rattle.chip_laws.specs.TapLaws.InDataColumn.{at_capture, at_shift, at_exit1, at_pause, at_exit2, at_update}
 use Rattle.chip_laws.proofs.StreamLemmas.{unended_runs}
 
@@ -104,7 +104,7 @@ follow_tms c [] free = refl
 follow_tms c (tms ∷ levels) free =
     let one : Clocked c.port.state tms (run c (clock tms false)) = clocked c tms free in
     ap (λ (d : Chip). d.port.state) (run_clock c tms (path levels)) ∙ follow_tms (run c (clock tms false)) levels one.free
-        ∙ ap (λ s. state_behind s levels) one.state
+    ∙ ap (λ s. state_behind s levels) one.state
 
 -- ---- TDO
 
@@ -259,4 +259,4 @@ reset_told c rest = refl
 pub idcode_out : (l : Live) → l.chip.port.held ≡ false → (feed l idcode_scan).ended ≡ None → said l idcode_scan ≡ idcode_digits
 idcode_out l free unended =
     (unended_runs l idcode_scan unended).answers ∙ reset_told l.chip (dr_bytes (bits_of 32 0))
-        ∙ scan_told_idle (run l.chip reset_bytes) (reset_idles l.chip free)
+    ∙ scan_told_idle (run l.chip reset_bytes) (reset_idles l.chip free)

@@ -1,7 +1,7 @@
 -- What no byte changes of a chip's schedule and of its limit: the list of rounds, whether the harts have had just the turns that these offered, and the most
 -- points.
-use Rattle.std.proofs.Common.{◌≡◌, ℕ, zero, suc, ◌+◌, ◌<◌, ◌≤◌, ◌&&◌, Bool, true, false, List, [], ◌∷◌, ◌++◌, length, Option, Some, None, refl, sym, ap, ◌∙◌,
-    add-one, arith, inl, inr}
+use Rattle.std.proofs.Common.{◌≡◌, ℕ, zero, suc, ◌+◌, ◌<◌, ◌≤◌, ◌&&◌, Bool, true, false, List, [], ◌∷◌, ◌++◌, length, Option, Some, None, refl, sym, ap}
+use Rattle.std.proofs.Common.{◌∙◌, add-one, arith, inl, inr}
 use Rattle.std.proofs.lemmas.Bool.{and_parts, cases_lt, le-ltb, lt-ltb}
 use Rattle.std.proofs.lemmas.List.{append_cancel_right}
 use Rattle.std.proofs.lemmas.Slice.Eq.{bytes_eq-Decides}
@@ -13,8 +13,8 @@ use Rattle.debug_model.specs.declared.event.Event.{Event}
 use Rattle.debug_model.specs.declared.event.Event.TheVariants.{Turn, DmiDone, DmiFail, CmdStep, BusDone}
 use Rattle.debug_model.specs.declared.sign.Sign.{Sign}
 use Rattle.debug_model.specs.declared.sign.Sign.TheVariants.{Pins, Ask, Light, Reset, Quit}
-use Rattle.debug_model.specs.Chip.{Chip, Inside, Live, Works, after, after_event, after_events, counted, end_of, feed, lost_by, performed_by, pins, rise,
-    signed, taken_by, tick, unless_ended, works_risen}
+use Rattle.debug_model.specs.Chip.{Chip, Inside, Live, Works, after, after_event, after_events, counted, end_of, feed, lost_by, performed_by, pins, rise}
+use Rattle.debug_model.specs.Chip.{signed, taken_by, tick, unless_ended, works_risen}
 use Rattle.debug_model.specs.Offered.{HasOfferedTurns, first_rounds, has_offered_turns, moved_on, offered, timing_of}
 use Rattle.debug_model.specs.Port.{Port, rise_finds_busy}
 use Rattle.debug_model.specs.Schedule.{RoundPlan, at_start, following, moved, round_of}
@@ -141,7 +141,7 @@ tick_back tck tck' port port' i is =
     record {
       turns = append_cancel_right _ _ (offered n es)
           (sym added.turns ∙ is.turns ∙ ap (λ m. offered m (first_rounds (after_events es w).counts.rounds s)) added.harts
-              ∙ ap (λ r. offered n (first_rounds r s)) rounds
+          ∙ ap (λ r. offered n (first_rounds r s)) rounds
           ∙ ap (offered n) list ∙ offered-append n (first_rounds k s) es);
       plan = plan;
     }

@@ -1,13 +1,13 @@
 -- The turns of a chip's harts are those that its schedule offered, behind each byte.
-use Rattle.std.proofs.Common.{◌≡◌, ℕ, zero, suc, Bool, true, false, List, [], ◌∷◌, ◌++◌, length, Option, Some, None, refl, subst, sym, ap, ◌∙◌, append_assoc,
-    add-one}
+use Rattle.std.proofs.Common.{◌≡◌, ℕ, zero, suc, Bool, true, false, List, [], ◌∷◌, ◌++◌, length, Option, Some, None, refl, subst, sym, ap, ◌∙◌}
+use Rattle.std.proofs.Common.{append_assoc, add-one}
 use Rattle.std.proofs.lemmas.List.{append-nil}
 use Rattle.debug_model.specs.declared.chip_end.ChipEnd.{ChipEnd}
 use Rattle.debug_model.specs.declared.event.Event.{Event}
 use Rattle.debug_model.specs.declared.sign.Sign.{Sign}
 use Rattle.debug_model.specs.declared.sign.Sign.TheVariants.{Pins, Ask, Light, Reset, Quit}
-use Rattle.debug_model.specs.Chip.{Chip, Inside, Live, Works, after, after_event, after_events, counted, end_of, feed, pins, rise, signed, taken_by, tick,
-    unless_ended, works_risen}
+use Rattle.debug_model.specs.Chip.{Chip, Inside, Live, Works, after, after_event, after_events, counted, end_of, feed, pins, rise, signed, taken_by, tick}
+use Rattle.debug_model.specs.Chip.{unless_ended, works_risen}
 use Rattle.debug_model.specs.Loaded.{AsLoaded, loaded_chip}
 use Rattle.debug_model.specs.Module.{Site}
 use Rattle.rv_model.specs.Board.{Board}
@@ -69,11 +69,11 @@ tick_offered first tck tck' port port' i is =
     let added : Added (offered n es) i.works.site (after_events es w).site = events_added n es w refl in
     let rounds : (after_events es w).counts.rounds ≡ suc k = events_rounds es w ∙ add-one k in
     let list : first_rounds k first ++ es ≡ first_rounds (suc k) first = ap (λ p. first_rounds k first ++ round_of p) is.plan
-        ∙ sym (first_rounds-more k first) in
+    ∙ sym (first_rounds-more k first) in
     record {
       turns = added.turns ∙ ap (λ xs. xs ++ offered n es) is.turns ∙ sym (offered-append n (first_rounds k first) es)
           ∙ ap (λ xs. offered n xs) list ∙ ap (λ r. offered n (first_rounds r first)) (sym rounds)
-              ∙ ap (λ m. offered m (first_rounds (after_events es w).counts.rounds first)) (sym added.harts);
+          ∙ ap (λ m. offered m (first_rounds (after_events es w).counts.rounds first)) (sym added.harts);
       plan = ap moved is.plan ∙ sym (moved_on-more k first) ∙ ap (λ r. moved_on r first) (sym rounds);
     }
 
@@ -88,7 +88,7 @@ pub works_offered : (first : RoundPlan) (c : Chip) → TurnsOffered first c
     → TurnsOffered first (record c { inside = record c.inside { works = works_risen c.port c.inside.works } })
 works_offered first c is =
     let rounds : (works_risen c.port c.inside.works).counts.rounds ≡ c.inside.works.counts.rounds =
-        busy_rounds (rise_finds_busy c.port c.inside.works.dtm) c.inside.works.counts in
+    busy_rounds (rise_finds_busy c.port c.inside.works.dtm) c.inside.works.counts in
     record {
       turns = is.turns ∙ ap (λ r. offered (length c.inside.works.site.board.harts) (first_rounds r first)) (sym rounds);
       plan = is.plan ∙ ap (λ r. moved_on r first) (sym rounds);

@@ -1,6 +1,6 @@
 -- What the serving of one piece does, over plain variables.
-use Rattle.std.proofs.Common.{◌≡◌, ◌≤◌, ◌+◌, ◌∙◌, ◌++◌, ℕ, List, [], ◌∷◌, true, length, take, Option, Some, None, IfSome, option_map, refl, sym, ap, subst,
-    append-nil, arith}
+use Rattle.std.proofs.Common.{◌≡◌, ◌≤◌, ◌+◌, ◌∙◌, ◌++◌, ℕ, List, [], ◌∷◌, true, length, take, Option, Some, None, IfSome, option_map, refl, sym, ap, subst}
+use Rattle.std.proofs.Common.{append-nil, arith}
 use Rattle.std.proofs.lemmas.List.{length-take-le}
 use Rattle.chip_core.specs.Fed.{fed_from, placed}
 use Rattle.chip_core.specs.Feeds.{fed_of, feed_of, said_of}
@@ -47,8 +47,8 @@ still : (s : NetState) → IsPlain s → s ≡ after_put ends.Near [] (after_tak
 still s plain =
     let zero : s.near_given ≡ s.near_given + 0 = omega arith in
     bare_is s plain ∙ ap (λ g. record (bare s) { near_given = g }) zero
-        ∙ ap (λ e. record (bare s) { near_given = s.near_given + 0; exchange = e }) (exchange_still s.exchange)
-        ∙ ap (λ x. after_put ends.Near [] (after_take ends.Near 0 x)) (sym (bare_is s plain))
+    ∙ ap (λ e. record (bare s) { near_given = s.near_given + 0; exchange = e }) (exchange_still s.exchange)
+    ∙ ap (λ x. after_put ends.Near [] (after_take ends.Near 0 x)) (sym (bare_is s plain))
 
 none_came : (told : Option Exchange) → IfSome told (λ e. take 0 e.coming ≡ [])
 none_came None = tt
@@ -81,7 +81,7 @@ still_taken : (s : NetState) → IsPlain s → after_take ends.Near 0 s ≡ s
 still_taken s plain =
     let zero : s.near_given + 0 ≡ s.near_given = omega arith in
     ap (after_take ends.Near 0) (bare_is s plain) ∙ ap (λ e. record (bare s) { near_given = s.near_given + 0; exchange = e }) (same_exchange s.exchange)
-        ∙ ap (λ g. record (bare s) { near_given = g }) zero ∙ sym (bare_is s plain)
+    ∙ ap (λ g. record (bare s) { near_given = g }) zero ∙ sym (bare_is s plain)
   where
     same_exchange : (told : Option Exchange) → option_map (without 0) told ≡ told
     same_exchange None = refl
@@ -247,7 +247,7 @@ pub serving_plain : (n : ℕ) (old new : NetState) (b l : Option Live) → Servi
 serving_plain n old new b l serving plain =
     let put = said_of b serving.taken in
     let moved : new ≡ after_put ends.Near put (after_take ends.Near (length serving.taken) (bare old)) = serving.passed.net
-        ∙ ap (λ s. after_put ends.Near put (after_take ends.Near (length serving.taken) s)) (bare_is old plain) in
+    ∙ ap (λ s. after_put ends.Near put (after_take ends.Near (length serving.taken) s)) (bare_is old plain) in
     record { chip = ap (λ s. s.chip) moved; pipe = ap (λ s. s.pipe) moved }
 
 -- before the first piece

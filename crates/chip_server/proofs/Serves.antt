@@ -1,6 +1,6 @@
 -- Pieces of a stream that are served one after another, over plain variables.
-use Rattle.std.proofs.Common.{◌≡◌, ◌+◌, ◌∙◌, ◌++◌, ℕ, List, length, take, drop, Option, Some, None, IfSome, option_map, refl, sym, ap, subst, add_assoc,
-    append_assoc}
+use Rattle.std.proofs.Common.{◌≡◌, ◌+◌, ◌∙◌, ◌++◌, ℕ, List, length, take, drop, Option, Some, None, IfSome, option_map, refl, sym, ap, subst, add_assoc}
+use Rattle.std.proofs.Common.{append_assoc}
 use Rattle.std.proofs.lemmas.List.{drop-drop, length-append}
 use Rattle.std.proofs.Math.Seq.{take-add}
 use Rattle.chip_core.specs.Fed.{fed}
@@ -47,8 +47,11 @@ exchange_twice n m p q (Some e) =
 
 bare_twice : (n m : ℕ) (p q : List ℕ) (s : NetState) → exchanged m q (exchanged n p (bare s)) ≡ exchanged (n + m) (p ++ q) (bare s)
 bare_twice n m p q s =
-    ap (λ g. record (bare s) { near_given = g; exchange =
-        option_map (more_put q) (option_map (without m) (option_map (more_put p) (option_map (without n) s.exchange))) }) (add_assoc s.near_given n m)
+    ap (λ g. record (bare s) {
+      near_given = g;
+      exchange =
+          option_map (more_put q) (option_map (without m) (option_map (more_put p) (option_map (without n) s.exchange)));
+    }) (add_assoc s.near_given n m)
     ∙ ap (λ e. record (bare s) { near_given = s.near_given + (n + m); exchange = e }) (exchange_twice n m p q s.exchange)
 
 exchanged_twice : (n m : ℕ) (p q : List ℕ) (s : NetState) → IsPlain s → exchanged m q (exchanged n p s) ≡ exchanged (n + m) (p ++ q) s
@@ -61,7 +64,7 @@ came_twice : (t u p : List ℕ) (told : Option Exchange) → IfSome told (λ e. 
 came_twice t u p None first second = tt
 came_twice t u p (Some e) first second =
     ap (λ n. take n e.coming) (length-append t u) ∙ take-add (length t) (length u) e.coming ∙ ap (λ xs. xs ++ take (length u) (drop (length t) e.coming)) first
-        ∙ ap (λ ys. t ++ ys) second
+    ∙ ap (λ ys. t ++ ys) second
 
 -- ---- both
 

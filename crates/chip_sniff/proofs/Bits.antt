@@ -1,6 +1,6 @@
 -- The bits of a scan: what is taken agrees with what comes out of the register, and what stays shifts along.
-use Rattle.std.proofs.Common.{◌≡◌, ◌∙◌, ℕ, zero, suc, ◌<◌, List, [], ◌∷◌, ◌++◌, length, take, drop, Bool, Option, Some, None, refl, ap, sym, subst, arith,
-    append_assoc, append-nil, length-append}
+use Rattle.std.proofs.Common.{◌≡◌, ◌∙◌, ℕ, zero, suc, ◌<◌, List, [], ◌∷◌, ◌++◌, length, take, drop, Bool, Option, Some, None, refl, ap, sym, subst, arith}
+use Rattle.std.proofs.Common.{append_assoc, append-nil, length-append}
 use Rattle.jt_base.specs.BitList.{lowest, shift_in}
 use Rattle.debug_model.specs.Scan.{comes_out, stays}
 use Rattle.wire_sniff.specs.Sniffed.{and_seen, seen_bits}
@@ -62,7 +62,7 @@ stays-more [] given b some = absurd (omega arith)
 stays-more (x ∷ was) [] b some = ap (shift_in b) (sym (append-nil (x ∷ was)))
 stays-more (x ∷ was) (y ∷ given) b some =
     drop_bits (length (given ++ b ∷ [])) was y (given ++ b ∷ []) ∙ stays-more (was ++ y ∷ []) given b (some_behind was y)
-        ∙ ap (shift_in b) (sym (drop_bits (length given) was y given))
+    ∙ ap (shift_in b) (sym (drop_bits (length given) was y given))
   where
     drop_bits : (n : ℕ) (xs : List Bool) (z : Bool) (ys : List Bool) → drop n (xs ++ z ∷ ys) ≡ drop n ((xs ++ z ∷ []) ++ ys)
     drop_bits n xs z ys = ap (drop n) (sym (append_assoc xs (z ∷ []) ys))

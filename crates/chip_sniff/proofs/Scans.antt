@@ -1,6 +1,6 @@
 -- What a chip and a sniffer have in common in the midst of a scan, and how edges of TCK keep it.
-use Rattle.std.proofs.Common.{◌≡◌, ◌∙◌, ℕ, suc, ◌<◌, ◌%◌, ◌/◌, List, [], ◌∷◌, ◌++◌, length, take, Bool, true, false, Option, Some, None, refl, ap, sym, subst,
-    arith, lit<, append-nil}
+use Rattle.std.proofs.Common.{◌≡◌, ◌∙◌, ℕ, suc, ◌<◌, ◌%◌, ◌/◌, List, [], ◌∷◌, ◌++◌, length, take, Bool, true, false, Option, Some, None, refl, ap, sym}
+use Rattle.std.proofs.Common.{subst, arith, lit<, append-nil}
 use Rattle.jt_base.specs.BitLaws.{digit-lowest, length-bits_of}
 use Rattle.jt_base.specs.BitList.{bits_of, lowest, number_of, shift_in}
 use Rattle.debug_model.specs.declared.data_register.DataRegister.{DataRegister}
@@ -8,13 +8,13 @@ use Rattle.debug_model.specs.declared.data_register.DataRegister.TheVariants as 
 use Rattle.debug_model.specs.declared.sticky.Sticky.{Sticky}
 use Rattle.debug_model.specs.declared.sticky.Sticky.TheVariants.{Clear, Failed, Busy}
 use Rattle.debug_model.specs.declared.tap_state.TapState.{TapState}
-use Rattle.debug_model.specs.declared.tap_state.TapState.TheVariants.{TestLogicReset, RunTestIdle, SelectDr, CaptureDr, ShiftDr, Exit1Dr, PauseDr, Exit2Dr,
-    UpdateDr, SelectIr, CaptureIr, ShiftIr, Exit1Ir, PauseIr, Exit2Ir, UpdateIr}
+use Rattle.debug_model.specs.declared.tap_state.TapState.TheVariants.{TestLogicReset, RunTestIdle, SelectDr, CaptureDr, ShiftDr, Exit1Dr, PauseDr, Exit2Dr}
+use Rattle.debug_model.specs.declared.tap_state.TapState.TheVariants.{UpdateDr, SelectIr, CaptureIr, ShiftIr, Exit1Ir, PauseIr, Exit2Ir, UpdateIr}
 use Rattle.debug_model.specs.Port.{captured_code, captured_in, data_register_of, selected_after, selected_in, shift_after, tdo_after, updated_in}
 use Rattle.debug_model.specs.Scan.{comes_out, stays}
 use Rattle.debug_model.specs.Tap.{idcode, next_state}
-use Rattle.debug_model.specs.Transport.{Dtm, captured_bits, captured_dtm, dmi_seen, dmi_width, dtmcs_seen, dtmcs_width, idcode_width, status_number,
-    status_seen}
+use Rattle.debug_model.specs.Transport.{Dtm, captured_bits, captured_dtm, dmi_seen, dmi_width, dtmcs_seen, dtmcs_width, idcode_width, status_number}
+use Rattle.debug_model.specs.Transport.{status_seen}
 use Rattle.debug_model.specs.TransportWords.{dmi_word, dtmcs_word}
 use Rattle.wire_sniff.specs.Sniffed.{code_after, code_in, given_after, status_width, taken_after}
 use Rattle.chip_sniff.proofs.Bits.{Agree, AgreesWith, agree_more, comes_out-more, stays-more}
@@ -112,7 +112,7 @@ shifted r shift tdo sticky given taken answer tdi (i, a) = record {
   agree =
       let leaves : AgreesWith answer (lowest (stays i.was given)) = subst (AgreesWith answer) (a.tdo_is ∙ ap lowest i.shift_is) a.answer_is in
       subst (Agree (taken ++ answer ∷ [])) (sym (comes_out-more i.was given tdi i.some))
-          (agree_more taken (comes_out i.was given) answer (lowest (stays i.was given)) i.agree leaves);
+      (agree_more taken (comes_out i.was given) answer (lowest (stays i.was given)) i.agree leaves);
   width = i.width;
   status = i.status;
 }
@@ -194,7 +194,7 @@ fall_keeps CaptureIr r d shift tdo given taken answer i = tt
 pub fall_selects : (state : TapState) (r : DataRegister) (shift : List Bool) (tdo : Bool) (sticky : Sticky) (given : List Bool) (taken : List (Option Bool))
     (answer : Option Bool) (code : ℕ)
     → InScan state true r shift tdo sticky given taken answer → r ≡ data_register_of code
-        → selected_after state shift r ≡ data_register_of (code_after state given code)
+    → selected_after state shift r ≡ data_register_of (code_after state given code)
 fall_selects UpdateIr r shift tdo sticky given taken answer code i e = ap (λ bits. data_register_of (number_of bits)) i
 fall_selects _ r shift tdo sticky given taken answer code i e = e
 

@@ -7,8 +7,8 @@ use Rattle.debug_model.specs.declared.tap_state.TapState.TheVariants.{TestLogicR
 use Rattle.debug_model.specs.Chip.{Chip, Inside, answer_byte, answered, fall, pins, rise, signed, tick, works_risen}
 use Rattle.debug_model.specs.Port.{Port, captured_in, data_register_of, dtm_risen, port_held, port_risen, risen, selected_in, shift_after}
 use Rattle.debug_model.specs.Tap.{next_state}
-use Rattle.wire_sniff.specs.Sniffed.{Sniffer, code_after, code_in, given_after, sniffed, sniffed_pins, sniffer_asks, sniffer_falls, sniffer_held,
-    sniffer_risen, sniffer_rises, taken_after}
+use Rattle.wire_sniff.specs.Sniffed.{Sniffer, code_after, code_in, given_after, sniffed, sniffed_pins, sniffer_asks, sniffer_falls, sniffer_held}
+use Rattle.wire_sniff.specs.Sniffed.{sniffer_risen, sniffer_rises, taken_after}
 use Rattle.chip_laws.proofs.StickyRounds.{tick_sticky}
 use Rattle.chip_sniff.proofs.Scans.{InScan, ask_keeps, fall_keeps, fall_selects, rise_keeps, rise_selects}
 
@@ -42,7 +42,7 @@ risen_tied tms tdi c s i t low free sticky =
           (shift_after was c.port.selected d tdi c.port.shift) c.port.tdo x
           (given_after s.state tdi s.given) (taken_after s.state s.answer s.taken) s.answer) (sym sticky)
           (subst (λ x. InScan (next_state was tms) true (selected_in (next_state was tms) c.port.selected) (shift_after was c.port.selected d tdi c.port.shift)
-              c.port.tdo
+          c.port.tdo
           (captured_in was c.port.selected d).sticky (given_after x tdi s.given) (taken_after x s.answer s.taken) s.answer) t.state kept);
     }
 

@@ -1,6 +1,6 @@
 -- A whole stream: what the sniffer shows of it, and what the chip puts in flight, by one induction over the bytes.
-use Rattle.std.proofs.Common.{◌≡◌, ◌≢◌, ◌∙◌, ℕ, suc, ◌+◌, ◌==◌, List, [], ◌∷◌, ◌++◌, Bool, true, false, not, Option, Some, None, is_none, refl, ap, sym, subst,
-    cond, arith, take}
+use Rattle.std.proofs.Common.{◌≡◌, ◌≢◌, ◌∙◌, ℕ, suc, ◌+◌, ◌==◌, List, [], ◌∷◌, ◌++◌, Bool, true, false, not, Option, Some, None, is_none, refl, ap, sym}
+use Rattle.std.proofs.Common.{subst, cond, arith, take}
 use Rattle.std.specs.List.{prefix_len}
 use Rattle.std.proofs.lemmas.Bool.{and_parts}
 use Rattle.std.proofs.lemmas.List.Folds.{list_all-append}
@@ -59,7 +59,7 @@ launched-end : (c : Chip) (b : ℕ) (bytes : List ℕ) (end : ChipEnd) → end_o
 unfolding launched
 launched-end c b bytes end e =
     ap (λ x. unless_ended x (put_in_flight (at_sign (sign_of b) c)) [] ++ launched (after (live c) b) bytes) e
-        ∙ ap (λ l. launched l bytes) (after_end c b end e) ∙ launched_ended c end bytes
+    ∙ ap (λ l. launched l bytes) (after_end c b end e) ∙ launched_ended c end bytes
 
 launched-more : (c : Chip) (b : ℕ) (bytes : List ℕ) → end_of b (sign_of b) c ≡ None
     → launched (live c) (b ∷ bytes) ≡ put_in_flight (at_sign (sign_of b) c) ++ launched (live (signed (sign_of b) c)) bytes
@@ -175,7 +175,7 @@ one_more_tells b bytes behind place c s t coming good unlimited clear = by_quit 
   by_quit : (q : Bool) → (b == quit_byte) ≡ q → operations_in (lines_from s (counted_signs (b ∷ bytes))) ≡ launched (live c) (b ∷ bytes)
   by_quit true q =
       ap (λ signs. operations_in (lines_from s signs)) (counted-quit b bytes q) ∙ ap operations_in (lines-nil s)
-          ∙ sym (launched-end c b bytes Quitted (quit_end c b q))
+      ∙ sym (launched-end c b bytes Quitted (quit_end c b q))
   by_quit false q = by_sign (sign_of b) refl where
     counted : counted_signs (b ∷ bytes) ≡ b ∷ counted_signs bytes
     counted = counted-more b bytes q
@@ -202,7 +202,7 @@ one_more_tells b bytes behind place c s t coming good unlimited clear = by_quit 
             ap (lines_from s) counted ∙ lines-cons s b (counted_signs bytes) ∙ ap (λ x. sign_lines x s ++ lines_from (sniffed x s) (counted_signs bytes)) is in
             let clears = clear_parts (sign_lines (Some sign) s) (lines_from s' (counted_signs bytes)) (sym (ap are_clear whole) ∙ clear) in
             let unlimited' = λ (h : (feed (live c') bytes).ended ≡ Some AtLimit). unlimited
-                (ap (λ l. l.ended) (feed-more c b bytes e ∙ ap (λ x. feed (live x) bytes) next) ∙ h) in
+            (ap (λ l. l.ended) (feed-more c b bytes e ∙ ap (λ x. feed (live x) bytes) next) ∙ h) in
             ap operations_in whole ∙ operations-append (sign_lines (Some sign) s) (lines_from s' (counted_signs bytes))
             ∙ ap (λ ops. ops ++ operations_in (lines_from s' (counted_signs bytes))) (sign_shows sign c s t clears.0)
             ∙ ap (λ ops. put_in_flight (at_sign (Some sign) c) ++ ops) (behind (suc place) c' s' tied.0 tied.1 good_rest unlimited' clears.1)

@@ -29,7 +29,7 @@ use Rattle.chip_sniff.proofs.Signs.{Tied}
 
 outcome : (sticky : Sticky) (n : ℕ) (op : Option DmiOp) → n ≡ status_number sticky
     → operations_in (cond (n == status_done) (requested_line op) (cond (n == status_failed) (DmiFailed ∷ []) (DmiBusy ∷ []))) ≡ put_in_flight
-        (launches_by sticky op)
+    (launches_by sticky op)
 outcome Clear n None e = rw e refl
 outcome Clear n (Some op) e = rw e refl
 outcome Failed n op e = rw e refl
@@ -92,7 +92,7 @@ edge_shows true false c s t high clear =
     let before = subst (λ k. InScan c.port.state k c.port.selected c.port.shift c.port.tdo c.inside.works.dtm.sticky s.given s.taken s.answer) high t.scan in
     subst (λ x. operations_in (lines_at x s) ≡ put_in_flight (at_edge true false c)) t.state
     (state_shows c.port.state s c.port.selected c.port.shift c.port.tdo c.inside.works.dtm before t.selected
-        (subst (λ x. are_clear (lines_at x s) ≡ true) (sym t.state) clear))
+    (subst (λ x. are_clear (lines_at x s) ≡ true) (sym t.state) clear))
 edge_shows true true c s t high clear = refl
 edge_shows false now c s t high clear = refl
 

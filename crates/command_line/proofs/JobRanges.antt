@@ -1,6 +1,6 @@
 -- The numbers of a job are within their ranges, whatever the words are.
-use Rattle.std.proofs.Common.{◌≡◌, ℕ, ◌&&◌, Bool, true, false, cond, nat_le, List, [], ◌∷◌, Option, Some, None, bytes_eq, codes, refl, ap, subst, arith,
-    Result, Ok, Err, IfOk}
+use Rattle.std.proofs.Common.{◌≡◌, ℕ, ◌&&◌, Bool, true, false, cond, nat_le, List, [], ◌∷◌, Option, Some, None, bytes_eq, codes, refl, ap, subst, arith}
+use Rattle.std.proofs.Common.{Result, Ok, Err, IfOk}
 use Rattle.std.proofs.lemmas.Bool.Decides.{nat_tests}
 use Rattle.std.proofs.lemmas.Option.{none-some, same_Some}
 use Rattle.clap.specs.Words.{Row}
@@ -40,8 +40,11 @@ record Said (busy events : Option ℕ) (options : ChipOptions) : Type 0 where
 said_are : (harts ram seed busy events : Option ℕ) (halted : Bool) (options : ChipOptions) → options_from harts ram seed busy events halted ≡ Some options
     → Said busy events options
 said_are (Some h) (Some r) (Some s) (Some b) (Some n) halted options e =
-    record { busy_is = ap (λ (o : ChipOptions). Some o.busy) (same_Some _ options e); events_is =
-        ap (λ (o : ChipOptions). Some o.events) (same_Some _ options e) }
+    record {
+      busy_is = ap (λ (o : ChipOptions). Some o.busy) (same_Some _ options e);
+      events_is =
+          ap (λ (o : ChipOptions). Some o.events) (same_Some _ options e);
+    }
 said_are (Some h) (Some r) (Some s) (Some b) None halted options e = none options e
 said_are (Some h) (Some r) (Some s) None events halted options e = none options e
 said_are (Some h) (Some r) None busy events halted options e = none options e
@@ -53,7 +56,7 @@ unfolding options_in
 options_range rows options e =
     let said = said_are (number_in rows (codes "harts") harts_unsaid) (number_in rows (codes "ram") ram_unsaid) (number_in rows (codes "seed") seed_unsaid)
     (ranged_in rows (codes "busy") busy_unsaid least_busy most_busy) (ranged_in rows (codes "events") events_unsaid least_events most_events)
-        (flag_in rows (codes "halted")) options e in
+    (flag_in rows (codes "halted")) options e in
     record {
       busy = ranged_is rows (codes "busy") busy_unsaid least_busy most_busy options.busy said.busy_is;
       events = ranged_is rows (codes "events") events_unsaid least_events most_events options.events said.events_is;

@@ -1,6 +1,6 @@
 -- What is named of words, by the command that their first word names.
-use Rattle.std.proofs.Common.{◌≡◌, Bool, true, false, bytes_eq, cond, codes, List, [], ◌∷◌, Option, Some, None, map, refl, sym, ap, subst, ◌∙◌, string_bytes,
-    Result, Ok, Err, Global}
+use Rattle.std.proofs.Common.{◌≡◌, Bool, true, false, bytes_eq, cond, codes, List, [], ◌∷◌, Option, Some, None, map, refl, sym, ap, subst, ◌∙◌}
+use Rattle.std.proofs.Common.{string_bytes, Result, Ok, Err, Global}
 use Rattle.std.specs.Prelude.{String, slice_get, IfErr}
 use Rattle.clap.specs.Words.{App, Row}
 use Rattle.command_line.specs.Job.{Text}
@@ -97,7 +97,7 @@ names_first [] job r e names =
     cc
 names_first (w ∷ rest) job r e names =
     subst (λ (t : Text). IfErr r (NamesAt (command_at t) t (map string_bytes (w ∷ rest))))
-        (ap (λ (o : Option (String Global)). elim o [ Some x ↦ string_bytes x | None ↦ [] ]) e) names
+    (ap (λ (o : Option (String Global)). elim o [ Some x ↦ string_bytes x | None ↦ [] ]) e) names
 
 pub names_no_words : (words : List (String Global)) → None ≡ slice_get words 0 → Names (map string_bytes words) whys.NoWords
 names_no_words [] e = refl

@@ -1,6 +1,6 @@
 -- An operation does the same whatever memory is and whatever the journal had: it changes module and harts, and appends to the journal.
-use Rattle.std.proofs.Common.{◌≡◌, ℕ, ◌<◌, Bool, true, false, List, [], ◌∷◌, ◌++◌, length, set, set-set, Option, Some, None, slice_get, refl, sym, ap, ◌∙◌,
-    append-nil, cond, not}
+use Rattle.std.proofs.Common.{◌≡◌, ℕ, ◌<◌, Bool, true, false, List, [], ◌∷◌, ◌++◌, length, set, set-set, Option, Some, None, slice_get, refl, sym, ap, ◌∙◌}
+use Rattle.std.proofs.Common.{append-nil, cond, not}
 use Rattle.std.proofs.lemmas.Option.{slice_get_within}
 use Rattle.rv_model.specs.Board.{Board, DebugPart, Hart}
 use Rattle.rv_model.specs.Memory.{Memory}
@@ -9,13 +9,14 @@ use Rattle.debug_model.specs.declared.dmcontrol.Dmcontrol.{Dmcontrol}
 use Rattle.debug_model.specs.declared.dmi_op.DmiOp.{DmiOp}
 use Rattle.debug_model.specs.declared.dmi_op.DmiOp.TheVariants.{Read, Write}
 use Rattle.debug_model.specs.declared.module_register.ModuleRegister.{ModuleRegister}
-use Rattle.debug_model.specs.declared.module_register.ModuleRegister.TheVariants.{Word, Dmcontrol as dmcontrol, Dmstatus as dmstatus, Abstractcs, Command,
-    Abstractauto, Sbcs, Sbaddress0, Sbaddress1, Sbdata0, Sbdata1, Haltsum0, Nothing}
+use Rattle.debug_model.specs.declared.module_register.ModuleRegister.TheVariants.{Word, Dmcontrol as dmcontrol, Dmstatus as dmstatus, Abstractcs, Command}
+use Rattle.debug_model.specs.declared.module_register.ModuleRegister.TheVariants.{Abstractauto, Sbcs, Sbaddress0, Sbaddress1, Sbdata0, Sbdata1, Haltsum0}
+use Rattle.debug_model.specs.declared.module_register.ModuleRegister.TheVariants.{Nothing}
 use Rattle.debug_model.specs.declared.point.Point.{Point}
 use Rattle.debug_model.specs.Commands.{busy}
 use Rattle.debug_model.specs.Journal.{after_journal, after_point, debug_changed, debug_changed_by, halt_requested, resume_asked, with_debug}
-use Rattle.debug_model.specs.Module.{DebugModule, Site, register_at, operated, operation_result, read_by, write_by, written_by, result_by, controlled_by,
-    acknowledged, asked, control_points, halt_points, resume_points, reset_known}
+use Rattle.debug_model.specs.Module.{DebugModule, Site, register_at, operated, operation_result, read_by, write_by, written_by, result_by, controlled_by}
+use Rattle.debug_model.specs.Module.{acknowledged, asked, control_points, halt_points, resume_points, reset_known}
 use Rattle.debug_model.specs.ModuleWords.{dmcontrol_of}
 use Rattle.dbg_module.specs.Requests.{halt_asked, resume_asked_unless, harts_requested}
 use Rattle.dbg_module.specs.Sites.{site_of, bare_site}
@@ -121,7 +122,7 @@ selecting k u = record u { active = true; hartsel = k.hartsello }
 
 pub asked_at : (k : Dmcontrol) (u : DebugModule) (hs : List Hart) (m : Memory) (j : List Point)
     → acknowledged k (asked k (site_of u hs m j)) ≡ site_of (selecting k u) (harts_requested k (slice_get hs k.hartsello) hs) m
-        (j ++ control_points k (slice_get hs k.hartsello))
+    (j ++ control_points k (slice_get hs k.hartsello))
 asked_at k u hs m j =
     ap (λ (b : Board). let s : Site = record { unit = selecting k u; board = b; journal = j ++ control_points k (slice_get hs k.hartsello) } in s)
     (harts_asked k hs m (slice_get hs k.hartsello) refl)

@@ -1,6 +1,6 @@
 -- The look-ups in a list of rows are those of the table that the rows show.
-use Rattle.std.proofs.Common.{◌≡◌, ℕ, ◌+◌, ◌<◌, ◌≤◌, Bool, true, false, ◌||◌, cond, ◌==◌, List, [], ◌∷◌, length, get_or, drop, map, Option, Some, None,
-    unwrap_or, option_map, bytes_eq, refl, ap, ◌∙◌, eq-eqb}
+use Rattle.std.proofs.Common.{◌≡◌, ℕ, ◌+◌, ◌<◌, ◌≤◌, Bool, true, false, ◌||◌, cond, ◌==◌, List, [], ◌∷◌, length, get_or, drop, map, Option, Some, None}
+use Rattle.std.proofs.Common.{unwrap_or, option_map, bytes_eq, refl, ap, ◌∙◌, eq-eqb}
 use Rattle.std.specs.List.{find, list_any}
 use Rattle.std.proofs.lemmas.List.{at_drop_more, at_drop_all}
 use denote.Ref.{Bor}
@@ -20,7 +20,7 @@ number_in_table : (name : List ℕ) (rows : List Row) → number_in name rows �
 number_in_table name [] = refl
 number_in_table name (r ∷ rows) =
     elim (bytes_eq r.0.now name) as (λ b. cond b (Some r.1) (number_in name rows) ≡ option_map (λ q. q.1)
-        (cond b (Some (row r)) (find (λ q. bytes_eq q.0 name) (map row rows)))) [ true ↦ refl | false ↦ number_in_table name rows ]
+    (cond b (Some (row r)) (find (λ q. bytes_eq q.0 name) (map row rows)))) [ true ↦ refl | false ↦ number_in_table name rows ]
 
 pub number_in_registers : (name : List ℕ) (rows : List Row) → map row rows ≡ named_registers → number_in name rows ≡ number_of_register name
 unfolding number_of_register
@@ -41,7 +41,7 @@ name_in_table : (number : ℕ) (rows : List Row) → name_in number rows ≡ opt
 name_in_table number [] = refl
 name_in_table number (r ∷ rows) =
     elim (r.1 == number) as (λ b. cond b (Some r.0.now) (name_in number rows) ≡ option_map (λ q. q.0)
-        (cond b (Some (row r)) (find (λ q. q.1 == number) (map row rows)))) [ true ↦ refl | false ↦ name_in_table number rows ]
+    (cond b (Some (row r)) (find (λ q. q.1 == number) (map row rows)))) [ true ↦ refl | false ↦ name_in_table number rows ]
 
 pub name_in_registers : (number : ℕ) (rows : List Row) → map row rows ≡ named_registers → unwrap_or (name_in number rows) [] ≡ name_of_register number
 unfolding name_of_register

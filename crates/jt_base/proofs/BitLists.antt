@@ -1,6 +1,6 @@
 -- Bits and the numbers that they spell: what a cut, a push and a pop do to them, and the way back.
-use Rattle.std.proofs.Common.{◌≡◌, ℕ, zero, suc, ◌+◌, ◌-◌, ◌*◌, ◌/◌, ◌%◌, ◌^◌, ◌<◌, ◌==◌, List, [], ◌∷◌, ◌++◌, length, Bool, true, false, Some, refl, sym, ap,
-    add-one, ◌∙◌, arith}
+use Rattle.std.proofs.Common.{◌≡◌, ℕ, zero, suc, ◌+◌, ◌-◌, ◌*◌, ◌/◌, ◌%◌, ◌^◌, ◌<◌, ◌==◌, List, [], ◌∷◌, ◌++◌, length, Bool, true, false, Some, refl, sym}
+use Rattle.std.proofs.Common.{ap, add-one, ◌∙◌, arith}
 use Rattle.std.specs.List.{slice_get}
 use Rattle.std.proofs.Math.Nat.{pow-suc}
 use Rattle.std.proofs.Math.Pow.{mod-mod-pow}
@@ -69,7 +69,7 @@ slice_get-bits_of zero v at small = absurd (let none : ⊥ = omega arith in none
 slice_get-bits_of (suc n) v zero small = λ i. Some (let e : v % 2 ≡ v / 2 ^ 0 % 2 = omega arith in e i == 1)
 slice_get-bits_of (suc n) v (suc at) small =
     slice_get-bits_of n (v / 2) at (omega arith)
-        ∙ ap (λ x. Some (x % 2 == 1)) (shr-shr v 1 at ∙ ap (λ k. v / 2 ^ k) (let e : 1 + at ≡ suc at = omega arith in e))
+    ∙ ap (λ x. Some (x % 2 == 1)) (shr-shr v 1 at ∙ ap (λ k. v / 2 ^ k) (let e : 1 + at ≡ suc at = omega arith in e))
 
 -- the number that the lowest n bits of a number spell
 pub number_of-bits_of_mod : (n v : ℕ) → number_of (bits_of n v) ≡ v % 2 ^ n
@@ -103,7 +103,7 @@ pub pushed : (n v : ℕ) (bs : List Bool) → bits_of n v ≡ bs → v < 2 ^ n �
     → bits_of (n + 1) (v + 1 * 2 ^ n % 18446744073709551616) ≡ bs ++ true ∷ []
 pushed n v bs is small room =
     (λ i. bits_of (add-one n i) (v + (let e : 1 * 2 ^ n % 2 ^ 64 ≡ 1 * 2 ^ n = omega (arith, one_shl n 64 (omega (arith, room, spelled_length n v bs is))) in
-        e) i)) ∙ bits_of-push n v true small ∙ ap (λ xs. xs ++ true ∷ []) is
+    e) i)) ∙ bits_of-push n v true small ∙ ap (λ xs. xs ++ true ∷ []) is
 
 pub pushed_false : (n v : ℕ) (bs : List Bool) → bits_of n v ≡ bs → v < 2 ^ n → bits_of (n + 1) v ≡ bs ++ false ∷ []
 pushed_false n v bs is small =

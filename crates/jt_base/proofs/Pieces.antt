@@ -1,6 +1,6 @@
 -- What a writer takes part by part, and what a reader gives up to a limit.
-use Rattle.std.proofs.Common.{◌≡◌, ℕ, ◌-◌, List, [], ◌∷◌, ◌++◌, take, drop, length, Option, refl, sym, ap, ◌∙◌, subst, append_assoc, append-nil, arith, Result,
-    Ok, Err, OnOk, OnErr, ◌<◌, ◌≤◌, None, Some, IfSome, option_map, min}
+use Rattle.std.proofs.Common.{◌≡◌, ℕ, ◌-◌, List, [], ◌∷◌, ◌++◌, take, drop, length, Option, refl, sym, ap, ◌∙◌, subst, append_assoc, append-nil, arith}
+use Rattle.std.proofs.Common.{Result, Ok, Err, OnOk, OnErr, ◌<◌, ◌≤◌, None, Some, IfSome, option_map, min}
 use Rattle.std.proofs.lemmas.List.{take-append-drop, take_all, length-take, length-drop}
 use Rattle.std.specs.Io.KnownBytes.{Appends, Keeps}
 use Rattle.std.proofs.KnownBytes.{Appends-nil, Appends-trans, Appends-kept}
@@ -15,7 +15,7 @@ one_more old mid new piece rest n h a = record {
   front = h.front ++ take n rest;
   cut = h.cut
       ∙ ap (λ r. h.front ++ r) (sym (take-append-drop n rest)
-          ∙ ap (λ r. take n rest ++ r) (sym (take_all (length rest - n) (drop n rest) (omega (arith, length-drop n rest)))))
+      ∙ ap (λ r. take n rest ++ r) (sym (take_all (length rest - n) (drop n rest) (omega (arith, length-drop n rest)))))
       ∙ sym (append_assoc h.front (take n rest) (take (length rest - n) (drop n rest)));
   added = Appends-trans old mid new h.front (take n rest) h.added a;
 }

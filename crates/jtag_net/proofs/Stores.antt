@@ -29,7 +29,7 @@ pipe_put_far true coming put bytes = refl
 told_put : (at : End) (bytes : List ℕ) (s : Store) → is_open at (state_of s) ≡ true → state_of (kept_at at bytes s) ≡ after_put at bytes (state_of s)
 told_put ends.Near bytes s opens =
     ap (λ x. record (state_of s) { exchange = x; pipe = pipe_of s.far_open s.coming (s.put ++ bytes) })
-        (exchange_put s.near_open s.far_open s.coming s.put bytes)
+    (exchange_put s.near_open s.far_open s.coming s.put bytes)
     ∙ ap (λ y. record (state_of s) { exchange = option_map (more_put bytes) (exchange_of s.near_open s.far_open s.coming s.put); pipe = y })
     (pipe_put_near s.far_open s.coming s.put bytes)
 told_put ends.Far bytes s opens =

@@ -1,6 +1,6 @@
 -- What printed lines are written with: no byte of it is a line feed, and no register's name begins as an error does.
-use Rattle.std.proofs.Common.{◌≡◌, ℕ, zero, suc, ◌%◌, ◌/◌, Bool, true, false, not, ◌&&◌, ◌==◌, nat_eq, cond, List, [], ◌∷◌, ◌++◌, map, codes, decimal,
-    unwrap_or, option_map, Some, refl, arith}
+use Rattle.std.proofs.Common.{◌≡◌, ℕ, zero, suc, ◌%◌, ◌/◌, Bool, true, false, not, ◌&&◌, ◌==◌, nat_eq, cond, List, [], ◌∷◌, ◌++◌, map, codes, decimal}
+use Rattle.std.proofs.Common.{unwrap_or, option_map, Some, refl, arith}
 use Rattle.std.specs.List.{list_all, find, join_with_byte, flat_map}
 use Rattle.std.specs.Char.{digit_char}
 use Rattle.std.specs.Fmt.{digits, digits_onto, digit_glyph}
@@ -36,7 +36,7 @@ digits_clean (suc k) base upper n behind is =
     let digit = digit_glyph upper (n % base) in
     let here : is_clean (digit ∷ behind) ≡ true = rw glyph_clean is in
     clean_in_case (n / base == 0) (digit ∷ behind) (digits_onto k base upper (n / base) (digit ∷ behind)) here
-        (digits_clean k base upper (n / base) (digit ∷ behind) here)
+    (digits_clean k base upper (n / base) (digit ∷ behind) here)
 
 pub decimal_clean : (n : ℕ) → is_clean (decimal n) ≡ true
 unfolding digits
@@ -84,7 +84,7 @@ found_passes test wanted [] all none = none
 found_passes test wanted (r ∷ rows) all none =
     let parts = and_parts (test r.0) (list_all (λ q. test q.0) rows) all in
     elim (wanted r) as (λ b. test (unwrap_or (option_map (λ q. q.0) (cond b (Some r) (find wanted rows))) []) ≡ true)
-        [ true ↦ parts.0 | false ↦ found_passes test wanted rows parts.1 none ]
+    [ true ↦ parts.0 | false ↦ found_passes test wanted rows parts.1 none ]
 
 name_passes : (number : ℕ) → is_name (name_of_register number) ≡ true
 unfolding name_of_register

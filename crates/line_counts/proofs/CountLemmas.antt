@@ -1,6 +1,6 @@
 -- What the place in a line says of the line, and the counts and the place of a text that grows by one byte.
-use Rattle.std.proofs.Common.{◌≡◌, ℕ, suc, ◌+◌, ◌-◌, ◌^◌, Bool, true, false, cond, ◌&&◌, ◌==◌, nat_eq, min, List, [], ◌∷◌, ◌++◌, length, take, arith, refl, ap,
-    sym, subst, ◌∙◌, length-append}
+use Rattle.std.proofs.Common.{◌≡◌, ℕ, suc, ◌+◌, ◌-◌, ◌^◌, Bool, true, false, cond, ◌&&◌, ◌==◌, nat_eq, min, List, [], ◌∷◌, ◌++◌, length, take, arith, refl}
+use Rattle.std.proofs.Common.{ap, sym, subst, ◌∙◌, length-append}
 use Rattle.std.specs.List.{count_by}
 use lib.Pointwise.{pointwise}
 use Rattle.std.proofs.lemmas.Bool.{ne_eqb}
@@ -11,8 +11,8 @@ use Rattle.line_counts.specs.Counts.{error_mark, tells_error, whole_lines, lines
 use Rattle.line_counts.specs.Place.{place_along, place_of, unfinished_line, AreCountsOf}
 use Rattle.line_counts.specs.declared.place.Place.{Place}
 use Rattle.line_counts.specs.declared.place.Place.TheVariants.{Matching, Error, Other}
-use Rattle.line_counts.proofs.WholeLineLemmas.{whole_lines-nil, whole_lines-feed, whole_lines-more, unfinished_line-nil, unfinished_line-feed,
-    unfinished_line-more}
+use Rattle.line_counts.proofs.WholeLineLemmas.{whole_lines-nil, whole_lines-feed, whole_lines-more, unfinished_line-nil, unfinished_line-feed}
+use Rattle.line_counts.proofs.WholeLineLemmas.{unfinished_line-more}
 
 abbrev pub is_in_error : Place → Bool
 is_in_error Error = true
@@ -23,7 +23,7 @@ starts_along [] line count = refl
 starts_along (m ∷ mark) [] count = refl
 starts_along (m ∷ mark) (byte ∷ line) count =
     elim (m == byte) as (λ b. (b && pointwise nat_eq mark (take (length mark) line)) ≡ is_in_error (cond b (place_along mark line (suc count)) Other))
-        [ true ↦ starts_along mark line (suc count) | false ↦ refl ]
+    [ true ↦ starts_along mark line (suc count) | false ↦ refl ]
 
 tells_error_in_place : (line : List ℕ) → tells_error line ≡ is_in_error (place_of line)
 tells_error_in_place line = starts_along error_mark line 0

@@ -9,18 +9,18 @@ use Rattle.debug_model.specs.declared.command.Path.TheVariants.{Progbuf, Bus}
 use Rattle.debug_model.specs.declared.command.WatchKind.TheVariants.{Load, Store, Access}
 use Rattle.debug_model.specs.Spelling.{spelled_address}
 use Rattle.debug_model.specs.ScriptText.{line_feed, lines_of}
-use Rattle.abstract_debugger.specs.Lines.{Line, is_error, words_of_line, text_of, text_of_all, spelled_places, places_from, spelled_cause, spelled_use,
-    spelled_what, spelled_hit}
-use Rattle.abstract_debugger.specs.Lines.Line.{Idcode, Selected, Halted, Running, Resumed, Register, Element, Wrote, Row, Via, Ebreak, Slot, NoHart, IsRunning,
-    MemoryFault, RegisterRefused, NoFreeSlot, SlotNotInUse}
+use Rattle.abstract_debugger.specs.Lines.{Line, is_error, words_of_line, text_of, text_of_all, spelled_places, places_from, spelled_cause, spelled_use}
+use Rattle.abstract_debugger.specs.Lines.{spelled_what, spelled_hit}
+use Rattle.abstract_debugger.specs.Lines.Line.{Idcode, Selected, Halted, Running, Resumed, Register, Element, Wrote, Row, Via, Ebreak, Slot, NoHart}
+use Rattle.abstract_debugger.specs.Lines.Line.{IsRunning, MemoryFault, RegisterRefused, NoFreeSlot, SlotNotInUse}
 use Rattle.abstract_debugger.specs.Slots.{Use}
 use Rattle.abstract_debugger.specs.Slots.Use.{Armed, Unused, Other}
 use Rattle.abstract_debugger.specs.Trace.{What}
 use Rattle.abstract_debugger.specs.Trace.What.{Break, Watch, Count}
 use Rattle.line_counts.specs.Counts.{whole_lines, tells_error, lines_in, errors_in}
 use Rattle.line_counts.proofs.SplitLemmas.{some_part, all_but_last-cons}
-use Rattle.line_counts.proofs.CleanLemmas.{clean_in_case, is_in_line, is_clean, decimal_clean, hexadecimal_clean, bytes_clean, places_clean, name_clean,
-    name_is_quiet}
+use Rattle.line_counts.proofs.CleanLemmas.{clean_in_case, is_in_line, is_clean, decimal_clean, hexadecimal_clean, bytes_clean, places_clean, name_clean}
+use Rattle.line_counts.proofs.CleanLemmas.{name_is_quiet}
 
 -- ---- no line has a line feed
 

@@ -29,7 +29,7 @@ pub slice_split-append_yes : {A : Type 0} (p : A → Bool) (xs : List A) (y : A)
 slice_split-append_yes p [] y parts = rw parts refl
 slice_split-append_yes p (x ∷ xs) y parts =
     ap (λ rest. cond (p x) ([] ∷ rest) (onto_first x rest)) (slice_split-append_yes p xs y parts)
-        ∙ begun_by (p x) x (slice_split p xs) ([] ∷ []) (some_part p xs)
+    ∙ begun_by (p x) x (slice_split p xs) ([] ∷ []) (some_part p xs)
 
 -- ---- a part goes on
 

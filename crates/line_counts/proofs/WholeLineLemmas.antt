@@ -3,8 +3,8 @@ use Rattle.std.proofs.Common.{◌≡◌, ℕ, ◌<◌, Bool, false, ◌==◌, Li
 use Rattle.debug_model.specs.ScriptText.{line_feed, lines_of}
 use Rattle.line_counts.specs.Counts.{whole_lines}
 use Rattle.line_counts.specs.Place.{unfinished_line}
-use Rattle.line_counts.proofs.SplitLemmas.{some_part, slice_split-append_yes, slice_split-append_no, all_but_last-append, all_but_last-whole,
-    all_but_last-onto_last, last_of-append, last_of-onto_last}
+use Rattle.line_counts.proofs.SplitLemmas.{some_part, slice_split-append_yes, slice_split-append_no, all_but_last-append, all_but_last-whole}
+use Rattle.line_counts.proofs.SplitLemmas.{all_but_last-onto_last, last_of-append, last_of-onto_last}
 
 abbrev is_feed : ℕ → Bool
 is_feed byte = byte == line_feed

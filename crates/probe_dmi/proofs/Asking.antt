@@ -1,6 +1,6 @@
 -- What scans were asked for, where that is told: the calls of an operation so far, and of several.
-use Rattle.std.proofs.Common.{◌≡◌, ◌∙◌, ◌+◌, ◌<◌, ◌≤◌, ℕ, List, [], ◌∷◌, ◌++◌, length, drop, Bool, true, false, Option, Some, None, option_map, refl, sym, ap,
-    subst, arith}
+use Rattle.std.proofs.Common.{◌≡◌, ◌∙◌, ◌+◌, ◌<◌, ◌≤◌, ℕ, List, [], ◌∷◌, ◌++◌, length, drop, Bool, true, false, Option, Some, None, option_map, refl, sym}
+use Rattle.std.proofs.Common.{ap, subst, arith}
 use Rattle.std.proofs.lemmas.List.{append_assoc}
 use Rattle.debug_model.specs.declared.asked.Asked.{Asked}
 use Rattle.debug_model.specs.declared.asked.Asked.TheVariants.{Select, Shift}
@@ -121,7 +121,7 @@ streams_begun s abits ops old new e = record { acts = Select dmi_code ∷ []; st
 pub streams_ignored : (s t : State) (abits : ℕ) (ops rest : List DmiOp) (clocks : ℕ) (sent : DmiScan) (old mid last new : Option (List Asked))
     → clocks ≤ idle_most → sent ≡ first_scan rest → t ≡ Idle
     → StreamsSoFar s abits ops rest old mid → Exchanged clocks abits sent mid last → new ≡ and_asked (reset_first t ++ clearing_again) last
-        → StreamsSoFar s abits ops rest old new
+    → StreamsSoFar s abits ops rest old new
 streams_ignored s t abits ops rest clocks sent old mid last new few e idle x shifted cleared =
     let word = bits_of_dmi abits (first_scan rest) in
     let more = idles clocks ++ (Shift word ∷ clearing_again) in
@@ -130,7 +130,7 @@ streams_ignored s t abits ops rest clocks sent old mid last new few e idle x shi
       streams = ignored rest x.acts clocks few x.streams;
       is = asked_on (reset_first s) x.acts more old mid new x.is
           (asked_then (idles clocks ++ Shift word ∷ []) clearing_again mid last new (exchanged_as clocks abits sent (first_scan rest) mid last e shifted)
-              (still_idle t clearing_again last new idle cleared)
+          (still_idle t clearing_again last new idle cleared)
           ∙ ap (λ xs. and_asked xs mid) (append_assoc (idles clocks) (Shift word ∷ []) clearing_again));
     }
 
@@ -140,11 +140,11 @@ pub streams_went : (s : State) (abits : ℕ) (ops rest after : List DmiOp) (cloc
 streams_went s abits ops [] after clocks sent old mid new some behind few e x shifted = absurd (omega (arith, some))
 streams_went s abits ops (op ∷ rest) after clocks sent old mid new some behind few e x shifted =
     subst (λ xs. StreamsSoFar s abits ops xs old new) (sym behind) (record {
-  acts = x.acts ++ (idles clocks ++ (Shift (bits_of_dmi abits (carrying op)) ∷ []));
-  streams = went op rest x.acts clocks few x.streams;
-  is = asked_on (reset_first s) x.acts (idles clocks ++ (Shift (bits_of_dmi abits (carrying op)) ∷ [])) old mid new x.is
-      (exchanged_as clocks abits sent (carrying op) mid new e shifted);
-})
+      acts = x.acts ++ (idles clocks ++ (Shift (bits_of_dmi abits (carrying op)) ∷ []));
+      streams = went op rest x.acts clocks few x.streams;
+      is = asked_on (reset_first s) x.acts (idles clocks ++ (Shift (bits_of_dmi abits (carrying op)) ∷ [])) old mid new x.is
+          (exchanged_as clocks abits sent (carrying op) mid new e shifted);
+    })
 
 pub streams_out : (s : State) (abits : ℕ) (ops rest : List DmiOp) (clocks : ℕ) (sent : DmiScan) (old mid new : Option (List Asked)) → length rest < 1
     → clocks ≤ idle_most → sent ≡ first_scan rest
@@ -156,7 +156,13 @@ streams_out s abits ops [] clocks sent (Some was) mid new none few e x shifted =
     let last = idles clocks ++ (Shift (bits_of_dmi abits nop) ∷ []) in
     record {
       acts = (reset_first s ++ x.acts) ++ last;
-      fits = record { clocks = clocks; few = few; before = reset_first s ++ x.acts; streams = behind_reset (Streams abits ops []) s x.acts x.streams; is =
-          refl };
+      fits = record {
+        clocks = clocks;
+        few = few;
+        before = reset_first s ++ x.acts;
+        streams = behind_reset (Streams abits ops []) s x.acts x.streams;
+        is =
+            refl;
+      };
       is = ap (asking abits) (asked_then (reset_first s ++ x.acts) last (Some was) mid new x.is (exchanged_as clocks abits sent nop mid new e shifted));
     }

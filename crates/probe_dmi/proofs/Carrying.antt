@@ -21,8 +21,8 @@ use Rattle.probe_dmi.specs.Registers.{dmi_bits}
 use Rattle.probe_dmi.proofs.Counts.{counts_in, course_losses, losses_one, scan_found, scan_losses, ticks_busy}
 use Rattle.probe_dmi.proofs.Flight.{Phase, Settled, Waiting, settle_ticks, ticks_sticky, wait_ticks}
 use Rattle.probe_dmi.proofs.Flight.Phase.{flying, landed, missed}
-use Rattle.probe_dmi.proofs.Stages.{Launching, Sent, finds_is, launch_update, launching, op_seen, seen_is, settle_capture, settle_update, wait_captured,
-    wait_update}
+use Rattle.probe_dmi.proofs.Stages.{Launching, Sent, finds_is, launch_update, launching, op_seen, seen_is, settle_capture, settle_update, wait_captured}
+use Rattle.probe_dmi.proofs.Stages.{wait_update}
 use Rattle.probe_dmi.proofs.Updates.{Keeps, nop_keeps, spares}
 use Rattle.probe_dmi.proofs.WholeScans.{cut_scan, dmi_left}
 
@@ -54,7 +54,7 @@ stuck_scan bits op before between behind i j stuck w =
     let n = to_update before between j in
     let left = dr_stays bits Dmi (ticks before j) in
     wait_ticks behind op i (update Dmi left n)
-        (wait_update Dmi left op i n (spares Dmi left (dtm_of n) (stuck_keeps left (dtm_of n) stuck)) (wait_captured Dmi before between op i j w))
+    (wait_update Dmi left op i n (spares Dmi left (dtm_of n) (stuck_keeps left (dtm_of n) stuck)) (wait_captured Dmi before between op i j w))
 
 stuck_sticky : (bits : List Bool) (before between behind : ℕ) (j : Inside) (s : Sticky) → (dtm_of (to_update before between j)).sticky ≡ s → s ≢ Clear
     → (dtm_of (dr_inside before between behind bits Dmi j)).sticky ≡ s
@@ -126,7 +126,7 @@ launch_here op before between behind v j small s =
     let n = to_update before between j in
     let bits = dr_stays (dmi_bits (carrying op)) Dmi (ticks before j) in
     let l : Launching op bits (dtm_of n) = subst (λ x. Launching op x (dtm_of n)) (sym (dmi_left (carrying op) (ticks before j)))
-        (launching op (dtm_of n) small s.clear) in
+    (launching op (dtm_of n) small s.clear) in
     record { waiting = wait_ticks behind op n (update Dmi bits n) (launch_update op bits v n n l s); clear = ticks_sticky behind (update Dmi bits n) ∙ l.clear }
 
 -- nothing is
@@ -136,7 +136,7 @@ nop_here before between behind hs v i j s =
     let n = to_update before between j in
     let left = dr_stays (dmi_bits nop) Dmi (ticks before j) in
     settle_ticks behind hs v i (update Dmi left n)
-        (settle_update Dmi left hs v i n (subst (λ x. Keeps Dmi x (dtm_of n)) (sym (dmi_left nop (ticks before j))) (nop_keeps (dtm_of n))) s)
+    (settle_update Dmi left hs v i n (subst (λ x. Keeps Dmi x (dtm_of n)) (sym (dmi_left nop (ticks before j))) (nop_keeps (dtm_of n))) s)
 
 -- ---- captures that found it busy are only added
 
@@ -150,5 +150,10 @@ scan_busy before between behind bits j =
     let m = ticks before j in
     let n = to_update before between j in
     let left = dr_stays bits Dmi m in
-    omega (arith, ticks_busy before j, busy_more (sets_busy Dmi (dtm_of m)) (counts_in m), ticks_busy between (capture Dmi m),
-        ticks_busy behind (update Dmi left n))
+    omega (
+      arith,
+      ticks_busy before j,
+      busy_more (sets_busy Dmi (dtm_of m)) (counts_in m),
+      ticks_busy between (capture Dmi m),
+      ticks_busy behind (update Dmi left n),
+    )

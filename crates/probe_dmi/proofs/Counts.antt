@@ -66,13 +66,13 @@ pub scan_found : (before between behind : ℕ) (bits : List Bool) (r : DataRegis
     → (counts_in (dr_inside before between behind bits r i)).dmi_busy ≡ (counts_in i).dmi_busy + 1
 scan_found before between behind bits r i found =
     ticks_busy behind _ ∙ ticks_busy between (capture r (ticks before i))
-        ∙ busy_found (sets_busy r (dtm_of (ticks before i))) (counts_in (ticks before i)) found ∙ ap (λ n. n + 1) (ticks_busy before i)
+    ∙ busy_found (sets_busy r (dtm_of (ticks before i))) (counts_in (ticks before i)) found ∙ ap (λ n. n + 1) (ticks_busy before i)
 
 pub scan_unfound : (before between behind : ℕ) (bits : List Bool) (r : DataRegister) (i : Inside) → sets_busy r (dtm_of (ticks before i)) ≡ false
     → (counts_in (dr_inside before between behind bits r i)).dmi_busy ≡ (counts_in i).dmi_busy
 scan_unfound before between behind bits r i found =
     ticks_busy behind _ ∙ ticks_busy between (capture r (ticks before i))
-        ∙ busy_unfound (sets_busy r (dtm_of (ticks before i))) (counts_in (ticks before i)) found ∙ ticks_busy before i
+    ∙ busy_unfound (sets_busy r (dtm_of (ticks before i))) (counts_in (ticks before i)) found ∙ ticks_busy before i
 
 -- ---- operations that were lost
 

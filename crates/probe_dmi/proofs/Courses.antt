@@ -16,7 +16,7 @@ course_append i j k hs ks c (round before m d) =
 course_append i j k hs ks c (captured r before m d) = captured r (hs ++ before) m (course_append i j m hs before c d)
 course_append i j k hs ks c (updated r bits before m d) =
     subst (λ xs. Course i xs (update r bits m)) (append_assoc hs before (in_update r bits (dtm_of m)))
-        (updated r bits (hs ++ before) m (course_append i j m hs before c d))
+    (updated r bits (hs ++ before) m (course_append i j m hs before c d))
 
 each_once-append : (xs ys : List Operation) → each_once (xs ++ ys) ≡ each_once xs ++ each_once ys
 each_once-append [] ys = refl

@@ -1,6 +1,6 @@
 -- What becomes of an operation in flight: rounds perform or lose it once, and leave a transport with nothing in flight as it is.
-use Rattle.std.proofs.Common.{◌≡◌, ◌∙◌, ℕ, zero, suc, List, [], ◌∷◌, ◌++◌, true, false, Option, Some, None, unwrap_or, refl, sym, ap, subst, append_assoc,
-    append-nil}
+use Rattle.std.proofs.Common.{◌≡◌, ◌∙◌, ℕ, zero, suc, List, [], ◌∷◌, ◌++◌, true, false, Option, Some, None, unwrap_or, refl, sym, ap, subst, append_assoc}
+use Rattle.std.proofs.Common.{append-nil}
 use Rattle.debug_model.specs.declared.dmi_op.DmiOp.{DmiOp}
 use Rattle.debug_model.specs.declared.data_register.DataRegister.{DataRegister}
 use Rattle.debug_model.specs.declared.data_register.DataRegister.TheVariants.{Idcode, Dtmcs, Dmi, Bypass}

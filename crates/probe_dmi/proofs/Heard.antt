@@ -1,6 +1,6 @@
 -- What was heard of scripted scans: the scans of an operation so far, and where a bad answer stood.
-use Rattle.std.proofs.Common.{◌≡◌, ◌≢◌, ◌∙◌, ◌⊎◌, ◌+◌, ◌<◌, ◌≤◌, ℕ, zero, suc, List, [], ◌∷◌, ◌++◌, Bool, true, false, Option, Some, None, IfSome, option_map,
-    refl, sym, ap, subst, arith, inl, inr, Result, Ok, Err, IfErr, IsErrAnd}
+use Rattle.std.proofs.Common.{◌≡◌, ◌≢◌, ◌∙◌, ◌⊎◌, ◌+◌, ◌<◌, ◌≤◌, ℕ, zero, suc, List, [], ◌∷◌, ◌++◌, Bool, true, false, Option, Some, None, IfSome}
+use Rattle.std.proofs.Common.{option_map, refl, sym, ap, subst, arith, inl, inr, Result, Ok, Err, IfErr, IsErrAnd}
 use Rattle.jt_base.proofs.FaultLemmas.{rises_from}
 use Rattle.debug_model.proofs.HeardLemmas.{wrong_behind}
 use Rattle.debug_model.specs.declared.dmi.DmiFault.{DmiFault}
@@ -9,8 +9,8 @@ use Rattle.debug_model.specs.declared.dmi_scan.DmiScan.{DmiScan}
 use Rattle.debug_model.specs.declared.wire.WireFault.{WireFault}
 use Rattle.debug_model.specs.declared.wire.WireFault.TheVariants.{SendFailed, RecvFailed, Ended, BadAnswer}
 use Rattle.debug_model.specs.Dmi as dmi
-use Rattle.debug_model.specs.Dmi.{Awaited, DmiCause, DmiComing, Fetched, HeardBusy, HeardFailed, IsDmi, IsDtmcs, ScannedCause, Scans, Shows, TookAll, WasBusy,
-    WasDone, WhereScanned, heard, scanned_coming}
+use Rattle.debug_model.specs.Dmi.{Awaited, DmiCause, DmiComing, Fetched, HeardBusy, HeardFailed, IsDmi, IsDtmcs, ScannedCause, Scans, Shows, TookAll}
+use Rattle.debug_model.specs.Dmi.{WasBusy, WasDone, WhereScanned, heard, scanned_coming}
 use Rattle.debug_model.specs.Dmi.Awaited.{begun, busy, carried}
 use Rattle.debug_model.specs.Scan.{BadCause, Coming, ScanCause, TookOut, WrongIn, Numbers, Answers}
 use Rattle.debug_model.specs.Told.{Far}

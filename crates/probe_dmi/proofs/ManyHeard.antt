@@ -1,6 +1,6 @@
 -- What was heard of scripted scans of several operations: the scans so far, the last result, and where a bad answer stood.
-use Rattle.std.proofs.Common.{◌≡◌, ◌≢◌, ◌∙◌, ◌+◌, ◌<◌, ℕ, suc, List, [], ◌∷◌, ◌++◌, length, Bool, true, false, Option, Some, None, IfSome, option_map, refl,
-    sym, ap, subst, arith, Result, Ok, Err, IfErr, IsErrAnd}
+use Rattle.std.proofs.Common.{◌≡◌, ◌≢◌, ◌∙◌, ◌+◌, ◌<◌, ℕ, suc, List, [], ◌∷◌, ◌++◌, length, Bool, true, false, Option, Some, None, IfSome, option_map, refl}
+use Rattle.std.proofs.Common.{sym, ap, subst, arith, Result, Ok, Err, IfErr, IsErrAnd}
 use Rattle.debug_model.specs.declared.dmi.DmiFault.{DmiFault}
 use Rattle.debug_model.specs.declared.dmi.DmiFault.TheVariants.{Wire}
 use Rattle.debug_model.specs.declared.dmi_op.DmiOp.{DmiOp}
@@ -34,8 +34,16 @@ HeardSoFar total left busy flight results (Some coming) new = StreamedIn total l
 pub heard_begun : (total : ℕ) (results : List ℕ) (old new : Option Coming) → results ≡ [] → new ≡ old → HeardSoFar total total 0 false results old new
 heard_begun total results None new none same = same
 heard_begun total results (Some s) new none same =
-    record { taken = 0; count = omega arith; outs = []; streamed = subst (λ xs. Streamed 0 0 false xs []) (sym none) none_yet; next = s; is = same; took =
-    refl }
+    record {
+      taken = 0;
+      count = omega arith;
+      outs = [];
+      streamed = subst (λ xs. Streamed 0 0 false xs []) (sym none) none_yet;
+      next = s;
+      is = same;
+      took =
+          refl;
+    }
 
 -- with nothing in flight none was taken, and there is no result
 record IsFirst (taken : ℕ) (results : List ℕ) : Type 0 where
@@ -55,9 +63,9 @@ next_streamed : (taken busy : ℕ) (flight : Bool) (results : List ℕ) (outs : 
 next_streamed taken busy false results outs value bits is few width done s =
     let f = first_of taken busy false results outs s refl in
     let first : Streamed 0 busy false [] outs = subst (λ rs. Streamed 0 busy false rs outs) f.empty (subst (λ n. Streamed n busy false results outs) f.none s)
-        in
+    in
     subst (λ n. Streamed (suc n) 0 true results (outs ++ bits ∷ [])) (sym f.none)
-        (subst (λ rs. Streamed 1 0 true rs (outs ++ bits ∷ [])) (sym f.empty) (took_first busy outs first few bits width done))
+    (subst (λ rs. Streamed 1 0 true rs (outs ++ bits ∷ [])) (sym f.empty) (took_first busy outs first few bits width done))
 next_streamed taken busy true results outs value bits is few width done s =
     subst (λ n. Streamed (suc taken) 0 true (results ++ n ∷ []) (outs ++ bits ∷ [])) (sym is) (took_next taken busy results outs s few bits width done)
 

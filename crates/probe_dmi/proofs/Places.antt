@@ -52,8 +52,15 @@ reached_none ops i base k done left v asked c s =
 pub reached_one : (ops : List DmiOp) (i base k : Inside) (done : List Operation) (op : DmiOp) (left : List DmiOp) → map op_of done ++ op ∷ left ≡ ops
     → Course i (each_once done) base → Waiting op base k → ReachedAll ops i k
 reached_one ops i base k done op left asked c w =
-    record { done = done; left = op ∷ left; asked = asked; happened = w.happened; path = course_append i base k (each_once done) w.happened c w.path; once =
-    once_of op w.happened (dtm_of k) w.phase }
+    record {
+      done = done;
+      left = op ∷ left;
+      asked = asked;
+      happened = w.happened;
+      path = course_append i base k (each_once done) w.happened c w.path;
+      once =
+          once_of op w.happened (dtm_of k) w.phase;
+    }
 
 pub place_reached : (ops : List DmiOp) (i base k : Inside) (done : List Operation) (left : List DmiOp) (flight : Bool) → Course i (each_once done) base
     → Place ops done left flight base k → ReachedAll ops i k
@@ -65,8 +72,15 @@ place_reached ops i base k done left flight c (one_awaited e op asked w) = reach
 taken_part : (ops : List DmiOp) (i base k : Inside) (done : List Operation) (op : DmiOp) (left : List DmiOp) → map op_of done ++ op ∷ left ≡ ops
     → Course i (each_once done) base → Reached op base k → ReachedAll ops i k
 taken_part ops i base k done op left asked c r =
-    record { done = done; left = op ∷ left; asked = asked; happened = r.happened; path = course_append i base k (each_once done) r.happened c r.path; once =
-    r.once }
+    record {
+      done = done;
+      left = op ∷ left;
+      asked = asked;
+      happened = r.happened;
+      path = course_append i base k (each_once done) r.happened c r.path;
+      once =
+          r.once;
+    }
 
 none_part : (ops : List DmiOp) (i base j k : Inside) (done : List Operation) (left : List DmiOp) (v : ℕ) → All IsOperation left → map op_of done ++ left ≡ ops
     → Course i (each_once done) base → Settled [] v base j → Part Dmi (dmi_bits (first_scan left)) j k → ReachedAll ops i k
@@ -79,23 +93,23 @@ none_part ops i base j k done (next ∷ left) v small asked c s p =
 back_part : (ops : List DmiOp) (i base j : Inside) (done : List Operation) (op : DmiOp) (left : List DmiOp) (before between behind result : ℕ)
     → All IsOperation left → map op_of done ++ op ∷ left ≡ ops → Course i (each_once done) base
     → Settled (Launched op ∷ Performed op result ∷ []) result base (to_update before between j)
-        → ReachedAll ops i (dr_inside before between behind (dmi_bits (first_scan left)) Dmi j)
+    → ReachedAll ops i (dr_inside before between behind (dmi_bits (first_scan left)) Dmi j)
 back_part ops i base j done op [] before between behind result small asked c s =
     let n = to_update before between j in
     let here = settled_here (Launched op ∷ Performed op result ∷ []) result base n s in
     reached_none ops i n _ (done ++ with_result op result ∷ []) [] result (one_more_asked done op result [] ops asked)
-        (one_more i base n done op result c s.path) (nop_here before between behind [] result n j here)
+    (one_more i base n done op result c s.path) (nop_here before between behind [] result n j here)
 back_part ops i base j done op (next ∷ left) before between behind result small asked c s =
     let n = to_update before between j in
     let here = settled_here (Launched op ∷ Performed op result ∷ []) result base n s in
     reached_one ops i n _ (done ++ with_result op result ∷ []) next left (one_more_asked done op result (next ∷ left) ops asked)
-        (one_more i base n done op result c s.path)
+    (one_more i base n done op result c s.path)
     (launch_here next before between behind result j (All-head IsOperation next left small) here).waiting
 
 carried_part : (ops : List DmiOp) (i base j : Inside) (done : List Operation) (op : DmiOp) (left : List DmiOp) (before between behind : ℕ) (out : DmiScan)
     → All IsOperation left → map op_of done ++ op ∷ left ≡ ops → Course i (each_once done) base
     → Carried op base j (to_update before between j) (dr_inside before between behind (dmi_bits (first_scan left)) Dmi j) out
-        → ReachedAll ops i (dr_inside before between behind (dmi_bits (first_scan left)) Dmi j)
+    → ReachedAll ops i (dr_inside before between behind (dmi_bits (first_scan left)) Dmi j)
 carried_part ops i base j done op left before between behind out small asked c (going_on o w s b) = reached_one ops i base _ done op left asked c w
 carried_part ops i base j done op left before between behind out small asked c (came_back result o v s) =
     back_part ops i base j done op left before between behind result small asked c s

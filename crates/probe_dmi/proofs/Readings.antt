@@ -20,16 +20,24 @@ use Rattle.probe_dmi.proofs.Told.{at_passed, clean_at, settled_first}
 
 none_of : (f : Far) (new : Option Far) (far : Far) (v : ℕ) → new ≡ Some far → Settled [] v (chip_of f).inside (chip_of far).inside
     → NoneOperated (chip_of f) new
-none_of f new far v is s = record { far = far; is = is; path = s.path; site =
-    no_operation_is_deeds (site_of f) (site_of far) (site_path (chip_of f).inside (chip_of far).inside [] s.path) }
+none_of f new far v is s = record {
+  far = far;
+  is = is;
+  path = s.path;
+  site =
+      no_operation_is_deeds (site_of f) (site_of far) (site_path (chip_of f).inside (chip_of far).inside [] s.path);
+}
 
 pub record ReadAt (c : Chip) (new : Option Far) : Type 0 where
   pub none : NoneOperated c new
   pub clean : IsClean new
 
 read_settled : (f : Far) (new : Option Far) (far : Far) (v : ℕ) → new ≡ Some far → Settled [] v (chip_of f).inside (chip_of far).inside → ReadAt (chip_of f) new
-read_settled f new far v is s = record { none = none_of f new far v is s; clean =
-    clean_at new far is (record { none_in_flight = s.flight; clear = s.clear; not_failed = s.failed }) }
+read_settled f new far v is s = record {
+  none = none_of f new far v is s;
+  clean =
+      clean_at new far is (record { none_in_flight = s.flight; clear = s.clear; not_failed = s.failed });
+}
 
 read_at : (r : DataRegister) (bits : List Bool) (value : ℕ) (h : Harmless r bits) (f : Far) (new : Option Far) → DtmClean (dtm_of (chip_of f).inside)
     → WordScanned r bits value (chip_of f) new → ReadAt (chip_of f) new
@@ -39,7 +47,7 @@ read_at r bits value h f new clean d =
     let v = (dtm_of i).value in
     read_settled f new x.far v x.is
     (at_passed (λ (n : Inside). Settled [] v i n) x.far (dr_inside x.before x.between x.behind bits r i) x.passed
-        (settle_scan r bits h x.before x.between x.behind [] v i i (settled_first (chip_of f) clean)))
+    (settle_scan r bits h x.before x.between x.behind [] v i i (settled_first (chip_of f) clean)))
 
 pub read_then : (r : DataRegister) (bits : List Bool) (value : ℕ) (h : Harmless r bits) (old new : Option Far) → IsClean old
     → WhereTold (WordScanned r bits value) old new → WhereTold ReadAt old new

@@ -8,8 +8,8 @@ use Rattle.debug_model.specs.declared.dmi_scan.DmiScan.{DmiScan}
 use Rattle.debug_model.specs.Chip.{Inside}
 use Rattle.debug_model.specs.Dmi.{IsAtRest, heard}
 use Rattle.debug_model.specs.Port.{data_register_of}
-use Rattle.debug_model.specs.Scan.{ResetCut, RoundsPassed, ScanCut, Scanned, Selected, Stage, StayedIdle, WasReset, WhereTold, capture, dr_inside, dr_out,
-    dr_stays, ticks, update}
+use Rattle.debug_model.specs.Scan.{ResetCut, RoundsPassed, ScanCut, Scanned, Selected, Stage, StayedIdle, WasReset, WhereTold, capture, dr_inside, dr_out}
+use Rattle.debug_model.specs.Scan.{dr_stays, ticks, update}
 use Rattle.debug_model.specs.Scan.Stage.{not_captured, captured, updated}
 use Rattle.debug_model.specs.Told.{Far, chip_of}
 use Rattle.debug_model.specs.TransportWords.{dmi_word}
@@ -110,7 +110,7 @@ cut_at slack r bits f new p n e s cut = record {
   is = cut.is;
   part = part_of r bits n (chip_of f).inside cut.rises (chip_of cut.far).inside
       (subst (λ j. Stage bits r j cut.rises (chip_of cut.far).inside) e
-          (subst (λ q. Stage bits q (chip_of p).inside cut.rises (chip_of cut.far).inside) s cut.stage));
+      (subst (λ q. Stage bits q (chip_of p).inside cut.rises (chip_of cut.far).inside) s cut.stage));
 }
 
 pub cut_then : (slack : Option ℕ) (r : DataRegister) (bits : List Bool) (old mid new : Option Far) → WhereTold (Prepared r) old mid

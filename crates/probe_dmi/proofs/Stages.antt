@@ -35,8 +35,14 @@ settled_seen : (hs : List Happening) (v : ℕ) (i j : Inside) → Settled hs v i
 settled_seen hs v i j s = seen_is _ Clear _ None _ false s.clear s.flight s.failed
 
 pub settle_capture : (r : DataRegister) (hs : List Happening) (v : ℕ) (i j : Inside) → Settled hs v i j → Settled hs v i (capture r j)
-settle_capture Dmi hs v i j s = record { path = captured Dmi hs j s.path; flight = s.flight; failed = s.failed; clear = settled_seen hs v i j s; value_is =
-    s.value_is }
+settle_capture Dmi hs v i j s = record {
+  path = captured Dmi hs j s.path;
+  flight = s.flight;
+  failed = s.failed;
+  clear = settled_seen hs v i j s;
+  value_is =
+      s.value_is;
+}
 settle_capture Dtmcs hs v i j s = record { path = captured Dtmcs hs j s.path; flight = s.flight; failed = s.failed; clear = s.clear; value_is = s.value_is }
 settle_capture Idcode hs v i j s = record { path = captured Idcode hs j s.path; flight = s.flight; failed = s.failed; clear = s.clear; value_is = s.value_is }
 settle_capture Bypass hs v i j s = record { path = captured Bypass hs j s.path; flight = s.flight; failed = s.failed; clear = s.clear; value_is = s.value_is }
@@ -77,7 +83,7 @@ settle_scan r bits h before between behind hs v i j s =
     let t = settle_captured r before between hs v i j s in
     settle_ticks behind hs v i (update r (dr_stays bits r (ticks before j)) n)
     (settle_update r (dr_stays bits r (ticks before j)) hs v i n
-        (subst (λ x. Keeps r x (dtm_of n)) (sym (h.left (ticks before j))) (h.keeps (dtm_of n) t.clear)) t)
+    (subst (λ x. Keeps r x (dtm_of n)) (sym (h.left (ticks before j))) (h.keeps (dtm_of n) t.clear)) t)
 
 pub settle_part : (r : DataRegister) (bits : List Bool) (h : Harmless r bits) (hs : List Happening) (v : ℕ) (i j k : Inside) → Settled hs v i j
     → Part r bits j k → Settled hs v i k
@@ -120,7 +126,7 @@ wait_scan r bits op i j h w before between behind =
     let left = dr_stays bits r (ticks before j) in
     wait_ticks behind op i (update r left n)
     (wait_update r left op i n (subst (λ x. Spares r x (dtm_of n)) (sym (h.left (ticks before j))) (h.spares before between))
-        (wait_captured r before between op i j w))
+    (wait_captured r before between op i j w))
 
 wait_part : (r : DataRegister) (bits : List Bool) (op : DmiOp) (i j k : Inside) → Sparing r bits j → Waiting op i j → Part r bits j k → Waiting op i k
 wait_part r bits op i j k h w (before_capture before) = wait_ticks before op i j w
@@ -165,7 +171,7 @@ launch_scan op before between behind v i j small s =
     let t = settle_captured Dmi before between [] v i j s in
     let bits = dr_stays (dmi_bits (carrying op)) Dmi (ticks before j) in
     let l : Launching op bits (dtm_of n) = subst (λ x. Launching op x (dtm_of n)) (sym (dmi_left (carrying op) (ticks before j)))
-        (launching op (dtm_of n) small t.clear) in
+    (launching op (dtm_of n) small t.clear) in
     record { waiting = wait_ticks behind op i (update Dmi bits n) (launch_update op bits v i n l t); clear = ticks_sticky behind (update Dmi bits n) ∙ l.clear }
 
 -- ---- what happened to it in the end
@@ -245,7 +251,7 @@ await_by op before between behind i j out w clear is hs path (landed result h f 
     let still = ticks_sticky before j ∙ clear in
     let done : seen (dtm_of m).sticky (dtm_of m).flight (dtm_of m).failed ≡ Clear = seen_is _ Clear _ None _ false still f k in
     let s : Settled (Launched op ∷ Performed op result ∷ []) result i m =
-        record { path = subst (λ xs. Course i xs m) h path; flight = f; failed = k; clear = still; value_is = v } in
+    record { path = subst (λ xs. Course i xs m) h path; flight = f; failed = k; clear = still; value_is = v } in
     was_done result (op_seen (dtm_of m) out Clear is done) (ap (λ (x : DmiScan). x.value) is ∙ ap (λ n. n % 4294967296) v)
     (settle_from between behind (Launched op ∷ Performed op result ∷ []) result i m s)
 await_by op before between behind i j out w clear is hs path (missed h f k) =
@@ -280,10 +286,13 @@ reset_wait op before between behind i j busy w =
     let n = ticks between (capture Dtmcs (ticks before j)) in
     let left = dr_stays reset_bits Dtmcs (ticks before j) in
     let c : ClearedBusy (dtm_of n) (updated_dtm Dtmcs left (dtm_of n)) =
-        subst (λ x. ClearedBusy (dtm_of n) (updated_dtm Dtmcs x (dtm_of n))) (sym (dtmcs_left (ticks before j)))
-        (reset_busy (dtm_of n) (busy_still before between j busy)) in
-    record { waiting = wait_scan Dtmcs reset_bits op i j (reset_sparing j busy) w before between behind; clear = ticks_sticky behind (update Dtmcs left n)
-        ∙ c.clear }
+    subst (λ x. ClearedBusy (dtm_of n) (updated_dtm Dtmcs x (dtm_of n))) (sym (dtmcs_left (ticks before j)))
+    (reset_busy (dtm_of n) (busy_still before between j busy)) in
+    record {
+      waiting = wait_scan Dtmcs reset_bits op i j (reset_sparing j busy) w before between behind;
+      clear = ticks_sticky behind (update Dtmcs left n)
+          ∙ c.clear;
+    }
 
 pub reset_count : (before between behind : ℕ) (j : Inside) → (counts_in (dr_inside before between behind reset_bits Dtmcs j)).dmi_busy ≡ (counts_in j).dmi_busy
 reset_count before between behind j = scan_unfound before between behind reset_bits Dtmcs j refl

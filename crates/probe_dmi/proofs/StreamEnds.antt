@@ -1,6 +1,6 @@
 -- Several operations on a told chip: the last result, and what a fault or too many busy answers leave.
-use Rattle.std.proofs.Common.{◌≡◌, ◌≢◌, ◌∙◌, ◌+◌, ◌≤◌, ◌<◌, ◌-◌, ℕ, List, [], ◌∷◌, ◌++◌, length, drop, take, map, All, if◌then◌else◌, length-append,
-    length-drop, Bool, true, false, Option, Some, None, IfSome, refl, sym, ap, subst, arith, append-nil}
+use Rattle.std.proofs.Common.{◌≡◌, ◌≢◌, ◌∙◌, ◌+◌, ◌≤◌, ◌<◌, ◌-◌, ℕ, List, [], ◌∷◌, ◌++◌, length, drop, take, map, All, if◌then◌else◌, length-append}
+use Rattle.std.proofs.Common.{length-drop, Bool, true, false, Option, Some, None, IfSome, refl, sym, ap, subst, arith, append-nil}
 use Rattle.std.proofs.lemmas.List.{take_all}
 use Rattle.std.proofs.lemmas.List.Elements.{All-head}
 use Rattle.chip_laws.proofs.PathLemmas.{site_path}
@@ -39,7 +39,7 @@ last_by : (ops : List DmiOp) (results results' : List ℕ) (op : DmiOp) (flight 
     (u : Streaming ops results [] flight busy (chip_of f) mid)
     → out.op ≡ 0 → results' ≡ kept flight out.value results → flight ≡ true → map op_of u.done ++ op ∷ [] ≡ ops → (d : DmiScanned nop out (chip_of u.far) new)
     → Carried op u.base (chip_of u.far).inside (to_update d.scanned.before d.scanned.between (chip_of u.far).inside)
-        (dr_inside d.scanned.before d.scanned.between d.scanned.behind (dmi_bits nop) Dmi (chip_of u.far).inside) out
+    (dr_inside d.scanned.before d.scanned.between d.scanned.behind (dmi_bits nop) Dmi (chip_of u.far).inside) out
     → FetchedAllAt ops results' (chip_of f) new
 last_by ops results results' op flight busy out f mid new u done kept_is one asked d (going_on o w s b) = other_op out.op 0 3 done o (omega arith)
 last_by ops results results' op flight busy out f mid new u done kept_is one asked d (got_lost o w l) = other_op out.op 0 2 done o (omega arith)
@@ -49,7 +49,7 @@ last_by ops results results' op flight busy out f mid new u done kept_is one ask
     let hs = Launched op ∷ Performed op result ∷ [] in
     let k = dr_inside x.before x.between x.behind (dmi_bits nop) Dmi j in
     let t : Settled hs result u.base (chip_of x.far).inside =
-        at_passed (λ (m : Inside). Settled hs result u.base m) x.far k x.passed (nop_here x.before x.between x.behind hs result u.base j s) in
+    at_passed (λ (m : Inside). Settled hs result u.base m) x.far k x.passed (nop_here x.before x.between x.behind hs result u.base j s) in
     let more = u.done ++ with_result op result ∷ [] in
     let path = one_more (chip_of f).inside u.base (chip_of x.far).inside u.done op result u.so_far t.path in
     record {
@@ -114,7 +114,7 @@ failed_by : (ops : List DmiOp) (results : List ℕ) (left : List DmiOp) (op : Dm
     (u : Streaming ops results left flight busy (chip_of f) mid)
     → out.op ≡ 2 → map op_of u.done ++ op ∷ left ≡ ops → (d : DmiScanned (first_scan left) out (chip_of u.far) new)
     → Carried op u.base (chip_of u.far).inside (to_update d.scanned.before d.scanned.between (chip_of u.far).inside)
-        (dr_inside d.scanned.before d.scanned.between d.scanned.behind (dmi_bits (first_scan left)) Dmi (chip_of u.far).inside) out
+    (dr_inside d.scanned.before d.scanned.between d.scanned.behind (dmi_bits (first_scan left)) Dmi (chip_of u.far).inside) out
     → FailedAllAt ops (chip_of f) new
 failed_by ops results left op flight busy out f mid new u gone asked d (going_on o w s b) = other_op out.op 2 3 gone o (omega arith)
 failed_by ops results left op flight busy out f mid new u gone asked d (came_back result o v s) = other_op out.op 2 0 gone o (omega arith)
@@ -168,7 +168,7 @@ again_by : (ops : List DmiOp) (results : List ℕ) (left : List DmiOp) (op : Dmi
     (u : Streaming ops results left flight busy (chip_of f) mid)
     → out.op ≢ 0 → out.op ≢ 2 → flight ≡ true → map op_of u.done ++ op ∷ left ≡ ops → (d : DmiScanned (first_scan left) out (chip_of u.far) new)
     → Carried op u.base (chip_of u.far).inside (to_update d.scanned.before d.scanned.between (chip_of u.far).inside)
-        (dr_inside d.scanned.before d.scanned.between d.scanned.behind (dmi_bits (first_scan left)) Dmi (chip_of u.far).inside) out
+    (dr_inside d.scanned.before d.scanned.between d.scanned.behind (dmi_bits (first_scan left)) Dmi (chip_of u.far).inside) out
     → StillStreaming ops results left flight busy (chip_of f) new
 again_by ops results left op flight busy out f mid new u undone unfailed one asked d (came_back result o v s) = absurd (undone o)
 again_by ops results left op flight busy out f mid new u undone unfailed one asked d (got_lost o w l) = absurd (unfailed o)
@@ -271,16 +271,16 @@ first_cut_as left word mid new e d = subst (λ s. WhereTold (CutFrom Dmi (dmi_bi
 pub stream_taken : (ops : List DmiOp) (results results' : List ℕ) (left left' : List DmiOp) (flight : Bool) (busy : ℕ) (out : DmiScan)
     (old mid new : Option Far) → All IsOperation left → 1 ≤ length left → left' ≡ drop 1 left → out.op ≡ 0 → results' ≡ kept flight out.value results
     → WhereTold (Streaming ops results left flight busy) old mid → WhereTold (DmiScanned (first_scan left) out) mid new
-        → WhereTold (Streaming ops results' left' true 0) old new
+    → WhereTold (Streaming ops results' left' true 0) old new
 stream_taken ops results results' [] left' flight busy out old mid new small some rest_is done kept_is u d = absurd (omega arith)
 stream_taken ops results results' (next ∷ left) left' flight busy out old mid new small some rest_is done kept_is u d =
     subst (λ xs. WhereTold (Streaming ops results' xs true 0) old new) (sym rest_is)
-        (stream_on ops results results' next left flight busy out old mid new (All-head IsOperation next left small) done kept_is u d)
+    (stream_on ops results results' next left flight busy out old mid new (All-head IsOperation next left small) done kept_is u d)
 
 pub stream_done : (ops : List DmiOp) (results results' : List ℕ) (left : List DmiOp) (flight : Bool) (busy : ℕ) (out : DmiScan) (old mid new : Option Far)
     → length left < 1 → flight ≡ true → out.op ≡ 0 → results' ≡ kept flight out.value results
     → WhereTold (Streaming ops results left flight busy) old mid → WhereTold (DmiScanned (first_scan left) out) mid new
-        → WhereTold (FetchedAllAt ops results') old new
+    → WhereTold (FetchedAllAt ops results') old new
 stream_done ops results results' (next ∷ left) flight busy out old mid new none one done kept_is u d = absurd (omega arith)
 stream_done ops results results' [] flight busy out old mid new none one done kept_is u d =
     stream_last ops results results' flight busy out old mid new one done kept_is u d

@@ -94,7 +94,7 @@ waited_cut ops f new clean w =
     let i = (chip_of f).inside in
     let v = (dtm_of i).value in
     cut_of ops f new w.far w.is (reached_none ops i i (chip_of w.far).inside [] ops v refl nothing
-        (at_passed (λ (n : Inside). Settled [] v i n) w.far (ticks w.rounds i) w.passed (settle_ticks w.rounds [] v i i (settled_first (chip_of f) clean))))
+    (at_passed (λ (n : Inside). Settled [] v i n) w.far (ticks w.rounds i) w.passed (settle_ticks w.rounds [] v i i (settled_first (chip_of f) clean))))
 
 pub unbegun : (ops : List DmiOp) (old new : Option Far) → IsClean old → WhereTold Waited old new → WhereTold (OperationsCut ops) old new
 unbegun ops None new clean w = w
@@ -130,7 +130,7 @@ stream_begun ops results (Some f) new none clean p = begun_at ops results f new 
 pub carried_at : (word : DmiScan) (op : DmiOp) (base : Inside) (out : DmiScan) (c : Chip) (new : Option Far) → Waiting op base c.inside
     → (dtm_of c.inside).sticky ≡ Clear → (d : DmiScanned word out c new)
     → Carried op base c.inside (to_update d.scanned.before d.scanned.between c.inside)
-        (dr_inside d.scanned.before d.scanned.between d.scanned.behind (dmi_bits word) Dmi c.inside) out
+    (dr_inside d.scanned.before d.scanned.between d.scanned.behind (dmi_bits word) Dmi c.inside) out
 carried_at word op base out c new w clear d =
     let x = d.scanned in
     carry op (dmi_bits word) x.before x.between x.behind base c.inside out w clear (heard_is word out c new d)
@@ -139,7 +139,7 @@ carried_at word op base out c new w clear d =
 taken_first : (ops : List DmiOp) (results results' : List ℕ) (next : DmiOp) (left : List DmiOp) (flight : Bool) (busy v : ℕ) (out : DmiScan) (f : Far)
     (mid new : Option Far) (u : Streaming ops results (next ∷ left) flight busy (chip_of f) mid)
     → IsOperation next → results' ≡ kept flight out.value results → flight ≡ false → map op_of u.done ++ next ∷ left ≡ ops
-        → Settled [] v u.base (chip_of u.far).inside → DmiScanned (carrying next) out (chip_of u.far) new
+    → Settled [] v u.base (chip_of u.far).inside → DmiScanned (carrying next) out (chip_of u.far) new
     → Streaming ops results' left true 0 (chip_of f) new
 taken_first ops results results' next left flight busy v out f mid new u small kept_is none asked s d =
     let x = d.scanned in
@@ -165,15 +165,15 @@ pub more_results : (flight : Bool) (value : ℕ) (results results' : List ℕ) (
     → results' ≡ map answer_of (done ++ with_result op result ∷ [])
 more_results flight value results results' done op result kept_is one value_is are =
     kept_is ∙ ap (λ b. kept b value results) one ∙ ap (λ xs. xs ++ value ∷ []) are ∙ ap (λ n. map answer_of done ++ n ∷ []) value_is
-        ∙ sym (map-append answer_of done (with_result op result ∷ []))
+    ∙ sym (map-append answer_of done (with_result op result ∷ []))
 
 -- and with one in flight, whose result came
 taken_next : (ops : List DmiOp) (results results' : List ℕ) (op next : DmiOp) (left : List DmiOp) (flight : Bool) (busy : ℕ) (out : DmiScan) (f : Far)
     (mid new : Option Far) (u : Streaming ops results (next ∷ left) flight busy (chip_of f) mid)
     → IsOperation next → out.op ≡ 0 → results' ≡ kept flight out.value results → flight ≡ true → map op_of u.done ++ op ∷ next ∷ left ≡ ops
-        → (d : DmiScanned (carrying next) out (chip_of u.far) new)
+    → (d : DmiScanned (carrying next) out (chip_of u.far) new)
     → Carried op u.base (chip_of u.far).inside (to_update d.scanned.before d.scanned.between (chip_of u.far).inside)
-        (dr_inside d.scanned.before d.scanned.between d.scanned.behind (dmi_bits (carrying next)) Dmi (chip_of u.far).inside) out
+    (dr_inside d.scanned.before d.scanned.between d.scanned.behind (dmi_bits (carrying next)) Dmi (chip_of u.far).inside) out
     → Streaming ops results' left true 0 (chip_of f) new
 taken_next ops results results' op next left flight busy out f mid new u small done kept_is one asked d (going_on o w s b) =
     other_op out.op 0 3 done o (omega arith)
@@ -185,7 +185,7 @@ taken_next ops results results' op next left flight busy out f mid new u small d
     let n = to_update x.before x.between j in
     let k = dr_inside x.before x.between x.behind (dmi_bits (carrying next)) Dmi j in
     let l : Sent next n k = launch_here next x.before x.between x.behind result j small
-        (settled_here (Launched op ∷ Performed op result ∷ []) result u.base n s) in
+    (settled_here (Launched op ∷ Performed op result ∷ []) result u.base n s) in
     let more = u.done ++ with_result op result ∷ [] in
     record {
       far = x.far;
@@ -204,7 +204,7 @@ taken_next ops results results' op next left flight busy out f mid new u small d
 pub stream_on : (ops : List DmiOp) (results results' : List ℕ) (next : DmiOp) (left : List DmiOp) (flight : Bool) (busy : ℕ) (out : DmiScan)
     (old mid new : Option Far) → IsOperation next → out.op ≡ 0 → results' ≡ kept flight out.value results
     → WhereTold (Streaming ops results (next ∷ left) flight busy) old mid → WhereTold (DmiScanned (carrying next) out) mid new
-        → WhereTold (Streaming ops results' left true 0) old new
+    → WhereTold (Streaming ops results' left true 0) old new
 stream_on ops results results' next left flight busy out old mid new small done kept_is u d =
     stream_then (DmiScanned (carrying next) out) (Streaming ops results' left true 0) ops results (next ∷ left) flight busy old mid new step u d
   where

@@ -20,8 +20,8 @@ use Rattle.debug_model.specs.Asked.{carrying, next_scan, nop, reset_bits}
 use Rattle.probe_dmi.specs.Registers.{CutFrom, DmiScanned, Prepared, Waited, WordScanned, dmi_bits}
 use Rattle.probe_dmi.proofs.Counts.{counts_in, ticks_busy}
 use Rattle.probe_dmi.proofs.Flight.{Settled, Waiting, settle_ticks, ticks_sticky}
-use Rattle.probe_dmi.proofs.Stages.{Outcome, Reached, Sent, Stage, await, launch_busy, launch_part, launch_scan, nop_part, ready_op, reset_count, reset_part,
-    reset_wait, settle_reached, stage_reached, wait_reached}
+use Rattle.probe_dmi.proofs.Stages.{Outcome, Reached, Sent, Stage, await, launch_busy, launch_part, launch_scan, nop_part, ready_op, reset_count}
+use Rattle.probe_dmi.proofs.Stages.{reset_part, reset_wait, settle_reached, stage_reached, wait_reached}
 use Rattle.probe_dmi.proofs.Stages.Outcome.{went_on, was_done, was_lost}
 use Rattle.probe_dmi.proofs.Stages.Stage.{ready, sent}
 use Rattle.probe_dmi.proofs.WholeScans.{cut_scan, heard_of}
@@ -93,7 +93,7 @@ heard_is word out c new d = d.out_is ∙ heard_of word d.bits (ticks d.scanned.b
 carried_step : (op : DmiOp) (busy : ℕ) (out : DmiScan) (f : Far) (c : Chip) (new : Option Far) → IsOperation op → (v : ℕ)
     → Settled [] v (chip_of f).inside c.inside
     → (counts_in c.inside).dmi_busy ≡ (counts_in (chip_of f).inside).dmi_busy + busy → DmiScanned (carrying op) out c new
-        → Underway op true busy (chip_of f) new
+    → Underway op true busy (chip_of f) new
 carried_step op busy out f c new small v s found d =
     let x = d.scanned in
     let i = (chip_of f).inside in
@@ -198,8 +198,15 @@ cut_site op i j hs lost_once p = unperformed (no_operation_is_deeds i.works.site
 
 cut_of : (op : DmiOp) (f : Far) (new : Option Far) (far : Far) → new ≡ Some far → Reached op (chip_of f).inside (chip_of far).inside
     → OperationCut op (chip_of f) new
-cut_of op f new far is r = record { far = far; is = is; happened = r.happened; path = r.path; once = r.once; site =
-    cut_site op (chip_of f).inside (chip_of far).inside r.happened r.once r.path }
+cut_of op f new far is r = record {
+  far = far;
+  is = is;
+  happened = r.happened;
+  path = r.path;
+  once = r.once;
+  site =
+      cut_site op (chip_of f).inside (chip_of far).inside r.happened r.once r.path;
+}
 
 part_reached : (op : DmiOp) (taken : Bool) (f : Far) (c : Chip) (new : Option Far) → IsOperation op → Stage op taken (chip_of f).inside c.inside
     → (d : CutFrom Dmi (dmi_bits (next_scan op taken)) c new) → Reached op (chip_of f).inside (chip_of d.far).inside
@@ -215,7 +222,7 @@ waited_at op f new clean w =
     let i = (chip_of f).inside in
     let v = (dtm_of i).value in
     cut_of op f new w.far w.is (at_passed (λ (n : Inside). Reached op i n) w.far (ticks w.rounds i) w.passed
-        (settle_reached op v i (ticks w.rounds i) (settle_ticks w.rounds [] v i i (settled_first (chip_of f) clean))))
+    (settle_reached op v i (ticks w.rounds i) (settle_ticks w.rounds [] v i i (settled_first (chip_of f) clean))))
 
 pub untaken : (op : DmiOp) (old new : Option Far) → IsClean old → WhereTold Waited old new → WhereTold (OperationCut op) old new
 untaken op None new clean w = w
@@ -274,7 +281,7 @@ failed_lost op (Some f) new d = d.lost
 again_step : (op : DmiOp) (taken : Bool) (busy : ℕ) (out : DmiScan) (f : Far) (new : Option Far) (far : Far) (j : Inside) → new ≡ Some far → taken ≡ true
     → out.op ≢ 0 → out.op ≢ 2
     → (counts_in j).dmi_busy ≡ (counts_in (chip_of f).inside).dmi_busy + busy → Outcome op (chip_of f).inside j (chip_of far).inside out
-        → FoundAgain op taken busy (chip_of f) new
+    → FoundAgain op taken busy (chip_of f) new
 again_step op taken busy out f new far j is t undone unfailed found (was_done result o v s) = absurd (undone o)
 again_step op taken busy out f new far j is t undone unfailed found (was_lost o w l) = absurd (unfailed o)
 again_step op taken busy out f new far j is t undone unfailed found (went_on o w s b) =
@@ -283,7 +290,7 @@ again_step op taken busy out f new far j is t undone unfailed found (went_on o w
 again_by : (op : DmiOp) (taken : Bool) (busy : ℕ) (out : DmiScan) (f : Far) (c : Chip) (new : Option Far) → out.op ≢ 0 → out.op ≢ 2
     → (counts_in c.inside).dmi_busy ≡ (counts_in (chip_of f).inside).dmi_busy + busy
     → Stage op taken (chip_of f).inside c.inside → (dtm_of c.inside).sticky ≡ Clear → DmiScanned (next_scan op taken) out c new
-        → FoundAgain op taken busy (chip_of f) new
+    → FoundAgain op taken busy (chip_of f) new
 again_by op false busy out f c new undone unfailed found (ready e v s) clear d =
     absurd (undone (ready_op d.scanned.before v (chip_of f).inside c.inside out s (heard_is (carrying op) out c new d)))
 again_by op false busy out f c new undone unfailed found (sent e w) clear d = false_is_true e
@@ -305,7 +312,7 @@ found_again op taken busy out old mid new undone unfailed u d =
 cleared_step : (op : DmiOp) (taken : Bool) (busy value : ℕ) (f : Far) (c : Chip) (new : Option Far) → taken ≡ true → Waiting op (chip_of f).inside c.inside
     → (dtm_of c.inside).sticky ≡ Busy
     → (counts_in c.inside).dmi_busy ≡ (counts_in (chip_of f).inside).dmi_busy + (busy + 1) → WordScanned Dtmcs reset_bits value c new
-        → Underway op taken (busy + 1) (chip_of f) new
+    → Underway op taken (busy + 1) (chip_of f) new
 cleared_step op taken busy value f c new t w s found d =
     let x = d.scanned in
     let i = (chip_of f).inside in

@@ -21,8 +21,13 @@ pub record Spares (r : DataRegister) (bits : List Bool) (d : Dtm) : Type 0 where
   pub value : (updated_dtm r bits d).value ≡ d.value
 
 pub spares : (r : DataRegister) (bits : List Bool) (d : Dtm) → Keeps r bits d → Spares r bits d
-spares r bits d k = record { none = k.none; flight = ap (λ (e : Dtm). e.flight) k.same; failed = ap (λ (e : Dtm). e.failed) k.same; value =
-    ap (λ (e : Dtm). e.value) k.same }
+spares r bits d k = record {
+  none = k.none;
+  flight = ap (λ (e : Dtm). e.flight) k.same;
+  failed = ap (λ (e : Dtm). e.failed) k.same;
+  value =
+      ap (λ (e : Dtm). e.value) k.same;
+}
 
 launches_none : (s : Sticky) → launches_by s None ≡ []
 launches_none Clear = refl
@@ -36,8 +41,11 @@ launched_none Busy d = refl
 
 pub nop_keeps : (d : Dtm) → Keeps Dmi (dmi_bits nop) d
 unfolding updated_dtm
-nop_keeps d = record { none = ap (launches_by d.sticky) asks_nothing ∙ launches_none d.sticky; same = ap (λ o. launched d.sticky o d) asks_nothing
-    ∙ launched_none d.sticky d }
+nop_keeps d = record {
+  none = ap (launches_by d.sticky) asks_nothing ∙ launches_none d.sticky;
+  same = ap (λ o. launched d.sticky o d) asks_nothing
+      ∙ launched_none d.sticky d;
+}
 
 cleared_clear : (s : Sticky) (d : Dtm) → s ≡ Clear → cleared_by s d ≡ d
 cleared_clear Clear d e = refl

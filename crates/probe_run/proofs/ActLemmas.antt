@@ -1,6 +1,6 @@
 -- Calls made one after another: two stretches are one, and a failed call behind more of them.
-use Rattle.std.proofs.Common.{◌≡◌, ◌≤◌, ◌++◌, ℕ, List, [], ◌∷◌, length, Option, Result, Ok, Err, IfErr, IsErrAnd, sym, subst, append_assoc, append-nil, inl,
-    inr}
+use Rattle.std.proofs.Common.{◌≡◌, ◌≤◌, ◌++◌, ℕ, List, [], ◌∷◌, length, Option, Result, Ok, Err, IfErr, IsErrAnd, sym, subst, append_assoc, append-nil, inl}
+use Rattle.std.proofs.Common.{inr}
 use Rattle.jt_base.proofs.FaultLemmas.{rises_from}
 use Rattle.debug_model.specs.declared.dmi.DmiFault.{DmiFault}
 use Rattle.debug_model.specs.declared.dmi.DmiFault.TheVariants.{Wire, Failed, StillBusy}
@@ -103,7 +103,7 @@ pub did_put : (address value value' : ℕ) (far far' : Option Far) (coming comin
     → WhereTold (Operated (Write address value) value) far far' → Passes coming coming' → Did (tells far coming) (Put address value' ∷ []) (tells far' coming')
 did_put address value value' far far' coming coming' e told heard =
     subst (λ v. Did (tells far coming) (Put address v ∷ []) (tells far' coming')) e
-        (did_one (Put address value) (tells far coming) (tells far' coming') told heard)
+    (did_one (Put address value) (tells far coming) (tells far' coming') told heard)
 
 pub did_got : (address value : ℕ) (far far' : Option Far) (coming coming' : Option DmiComing)
     → WhereTold (Operated (Read address) value) far far' → Answers value coming coming' → Did (tells far coming) (Got address value ∷ []) (tells far' coming')
@@ -111,10 +111,10 @@ did_got address value far far' coming coming' told heard = did_one (Got address 
 
 pub broke_op : (op op' : DmiOp) (old_count new_count : ℕ) (far far' : Option Far) (coming : Option DmiComing) (fault : DmiFault) → op ≡ op'
     → WhereTold (OperationCut op) far far' → DmiCause old_count new_count far far' coming fault
-        → Broke [] (Operation op') old_count new_count (tells far coming) far' fault
+    → Broke [] (Operation op') old_count new_count (tells far coming) far' fault
 broke_op op op' old_count new_count far far' coming fault e cut cause =
     subst (λ o. Broke [] (Operation o) old_count new_count (tells far coming) far' fault) e
-        (broke_one (Operation op) old_count new_count (tells far coming) far' fault cut cause)
+    (broke_one (Operation op) old_count new_count (tells far coming) far' fault cut cause)
 
 -- an error that is handed on
 pub if_err : {T E : Type 0} (P : E → Type 0) (result : Result T E) (fault : E) → IsErrAnd result (λ e. e ≡ fault) → P fault → IfErr result P

@@ -50,13 +50,13 @@ place_turned None resume false true at_ebreak touch o x at asked = turned_same _
 place_turned None resume false false true touch o x at asked = turned_same _ _ refl refl refl (λ _ _. refl)
 place_turned None resume false false false touch o x at asked =
     stepped_turned x.debug.step x.debug _ _ (turned_same _ _ refl refl refl (λ is _. runs_not x.debug.halted _ at is))
-        (turned_same _ _ refl refl refl (λ is _. runs_not x.debug.halted _ at is))
+    (turned_same _ _ refl refl refl (λ is _. runs_not x.debug.halted _ at is))
 
 pub hart_turned : (x : Hart) (m : Memory) → Turned x.debug (place_of x m).hart.debug
 unfolding place_of
 hart_turned x m =
     place_turned x.debug.halted x.debug.resume_request x.debug.halt_request (some_fires (touch_of x.core m) x) (stops_at_ebreak x m) (touch_of x.core m)
-        (exec_of x.core m) x refl refl
+    (exec_of x.core m) x refl refl
 
 -- ---- what is known of the harts' requests
 

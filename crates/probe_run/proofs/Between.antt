@@ -22,8 +22,11 @@ pub record Between (P : DebugPart → Type 0) (h : ℕ) (s : Site) : Type 0 wher
 -- ---- a ready site
 
 ready_at : (h j : ℕ) (x : Hart) → HartReady j x → OnlyAt h Unasked j x
-ready_at h j x r = record { here = λ same. record { no_halt = r.no_halt_request; no_resume = r.no_resume_request }; others =
-    λ other. record { no_halt = r.no_halt_request; no_resume = r.no_resume_request } }
+ready_at h j x r = record {
+  here = λ same. record { no_halt = r.no_halt_request; no_resume = r.no_resume_request };
+  others =
+      λ other. record { no_halt = r.no_halt_request; no_resume = r.no_resume_request };
+}
 
 pub ready_between : (h : ℕ) (s : Site) → SiteReady s → Between Unasked h s
 ready_between h s r = record {
@@ -112,7 +115,10 @@ resume_asks h b each = each_changed (OnlyAt h Unasked) (OnlyAt h GoAsked) resume
 
 pub halt_clears : (h : ℕ) (b : Board) → EachHart (OnlyAt h HaltSeen) b → EachHart (OnlyAt h Stopped) (after_point (HaltClear h) b)
 halt_clears h b each = each_changed (OnlyAt h HaltSeen) (OnlyAt h Stopped) (halt_requested false) h b
-    (λ x o. record { here = λ same. record { no_halt = refl; no_resume = (o.here refl).no_resume; halted = (o.here refl).halted }; others =
-        λ other. absurd (other refl) })
+    (λ x o. record {
+      here = λ same. record { no_halt = refl; no_resume = (o.here refl).no_resume; halted = (o.here refl).halted };
+      others =
+          λ other. absurd (other refl);
+    })
     (λ j x other o. record { here = λ same. absurd (other same); others = o.others })
     each

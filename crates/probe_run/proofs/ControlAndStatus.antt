@@ -28,9 +28,9 @@ control_fields : (r : Dmcontrol) (halt resume known active : Bool) (h : ℕ) →
     → r ≡ record { haltreq = halt; resumereq = resume; ackhavereset = known; hartsello = h; dmactive = active }
 control_fields r halt resume known active h a b c d e =
     ap (λ x. let q : Dmcontrol = record { haltreq = x; resumereq = r.resumereq; ackhavereset = r.ackhavereset; hartsello = r.hartsello; dmactive = r.dmactive }
-        in q) a
+    in q) a
     ∙ ap (λ x. let q : Dmcontrol = record { haltreq = halt; resumereq = x; ackhavereset = r.ackhavereset; hartsello = r.hartsello; dmactive = r.dmactive } in
-        q) b
+    q) b
     ∙ ap (λ x. let q : Dmcontrol = record { haltreq = halt; resumereq = resume; ackhavereset = x; hartsello = r.hartsello; dmactive = r.dmactive } in q) c
     ∙ ap (λ x. let q : Dmcontrol = record { haltreq = halt; resumereq = resume; ackhavereset = known; hartsello = x; dmactive = r.dmactive } in q) d
     ∙ ap (λ x. let q : Dmcontrol = record { haltreq = halt; resumereq = resume; ackhavereset = known; hartsello = h; dmactive = x } in q) e
@@ -38,19 +38,26 @@ control_fields r halt resume known active h a b c d e =
 pub control_read : (request : Request) (h : ℕ) → h < 2 ^ 10 → dmcontrol_of (control_word request h) ≡ control_for request h
 control_read Nothing h small =
     control_fields (dmcontrol_of (control_word Nothing h)) false false false true h (is_none _ (omega arith)) (is_none _ (omega arith))
-        (is_none _ (omega arith)) (omega arith) (is_one _ (omega arith))
+    (is_none _ (omega arith)) (omega arith) (is_one _ (omega arith))
 control_read Halt h small =
     control_fields (dmcontrol_of (control_word Halt h)) true false false true h (is_one _ (omega arith)) (is_none _ (omega arith)) (is_none _ (omega arith))
-        (omega arith) (is_one _ (omega arith))
+    (omega arith) (is_one _ (omega arith))
 control_read Resume h small =
     control_fields (dmcontrol_of (control_word Resume h)) false true false true h (is_none _ (omega arith)) (is_one _ (omega arith)) (is_none _ (omega arith))
-        (omega arith) (is_one _ (omega arith))
+    (omega arith) (is_one _ (omega arith))
 
 -- ---- dmstatus
 
 status_read : (reset ack : Bool) (halted : Option Cause)
-    → seen_in (value_of (dmstatus_word (record { havereset = reset; resumeack = ack; nonexistent = false; running = if is_some halted then false else true;
-    halted = is_some halted; authenticated = true; version = module_version }))) ≡ seen_by halted ack
+    → seen_in (value_of (dmstatus_word (record {
+      havereset = reset;
+      resumeack = ack;
+      nonexistent = false;
+      running = if is_some halted then false else true;
+      halted = is_some halted;
+      authenticated = true;
+      version = module_version;
+    }))) ≡ seen_by halted ack
 status_read true true (Some why) = refl
 status_read true true None = refl
 status_read true false (Some why) = refl

@@ -29,8 +29,12 @@ fresh_quiet : (u : DebugModule) (s : Site) → QuietUnit u → s.unit ≡ u → 
 fresh_quiet u s q is = record { no_command = ap (λ (m : DebugModule). m.commands.steps) is ∙ q.0; no_access = ap (λ (m : DebugModule). m.bus.pending) is ∙ q.1 }
 
 fresh_spun : (u : DebugModule) (s : Site) (harts : List ℕ) → Fresh u s → Fresh u (spun harts s)
-fresh_spun u s harts f = record { unit = f.unit; wide = wide_turns harts s.board f.wide; harts =
-    each_turns (OnlyAt 0 Unasked) (only_at_kept 0 Unasked unasked_kept) harts s.board f.harts }
+fresh_spun u s harts f = record {
+  unit = f.unit;
+  wide = wide_turns harts s.board f.wide;
+  harts =
+      each_turns (OnlyAt 0 Unasked) (only_at_kept 0 Unasked unasked_kept) harts s.board f.harts;
+}
 
 -- an operation that leaves this unit, and notes these points, which change no board
 abbrev pub Turns : DmiOp → (u v : DebugModule) → List Point → Type 0
@@ -60,7 +64,7 @@ went_on op result v s t w = record {
   board = ap (λ (x : Site). x.board) w.is ∙ sym (after_turns-append w.amid.amid.before w.amid.amid.behind s.board);
   journal = ap (λ (x : Site). x.journal) w.is ∙ ap (λ (j : List Point). j ++ turns w.amid.amid.behind) (append-nil (s.journal ++ turns w.amid.amid.before))
       ∙ append_assoc s.journal (turns w.amid.amid.before) (turns w.amid.amid.behind)
-          ∙ ap (λ (j : List Point). s.journal ++ j) (sym (turns-append w.amid.amid.before w.amid.amid.behind));
+      ∙ ap (λ (j : List Point). s.journal ++ j) (sym (turns-append w.amid.amid.before w.amid.amid.behind));
 }
 
 -- the Look

@@ -50,7 +50,7 @@ halt_ready h small old new can d = outcome_holds SiteReady (HaltRan h) old.far n
 pub halt_selects : (h : ℕ) → h < 2 ^ 10 → (old new : Tells) → Holds (CanRun h) old.far → HaltedBy h old new → Selects h new.far
 halt_selects h small old new can d =
     outcome_holds (λ s. s.unit.hartsel ≡ h) (HaltRan h) old.far new.far (λ s t r. ap (λ (m : DebugModule). m.hartsel) r.unit)
-        (halt_outcome h small old new can d)
+    (halt_outcome h small old new can d)
 
 pub halt_halted : (h : ℕ) → h < 2 ^ 10 → (old new : Tells) → Holds (CanRun h) old.far → HaltedBy h old new → IsHalted h new.far
 halt_halted h small old new can d = outcome_holds (λ s. HartHalted h s.board) (HaltRan h) old.far new.far (λ s t r. r.halted)
@@ -76,11 +76,11 @@ pub halt_broke : (h : ℕ) → h < 2 ^ 10 → (old_count new_count : ℕ) (old :
 halt_broke h small old_count new_count old new fault can (at_request b) =
     outcome_left (HaltCut h) h (RunCutAs (HaltReq h) sees_halted h) old.far new (before_halt h)
     (broke_outcome [] (Write dmcontrol_address (control_word Halt h)) (RunCutAs (HaltReq h) sees_halted h) (CanRun h) old_count new_count old new fault can
-        (halt_request_cut h small) b)
+    (halt_request_cut h small) b)
 halt_broke h small old_count new_count old new fault can (at_look w) =
     outcome_left (HaltCut h) h (RunCutAs (HaltReq h) sees_halted h) old.far new (before_halt h)
     (broke_outcome (asks Halt h ++ map look_act w.vain) (Read dmstatus_address) (RunCutAs (HaltReq h) sees_halted h) (CanRun h) old_count new_count old new
-        fault can
+    fault can
     (λ s e t c ran cut. halt_look_cut h small w.vain w.none w.few s e t c ran cut) w.broke)
 
 clear_cut : (h : ℕ) → h < 2 ^ 10 → (s e t : Site) → CanRun h s → MetRan (HaltReq h) sees_halted HaltSeen h s e
@@ -96,12 +96,12 @@ pub clear_broke : (h : ℕ) → h < 2 ^ 10 → (old_count new_count : ℕ) (old 
 clear_broke h small old_count new_count old new fault later can b =
     outcome_left (HaltCut h) h (HappenedCut (HaltCut h) h) old.far new (λ s t c. c)
     (broke_outcome (asks Halt h ++ looks_until b.met.vain b.met.last) (Write dmcontrol_address (control_word Nothing h)) (HappenedCut (HaltCut h) h) (CanRun h)
-        old_count new_count old new fault can
+    old_count new_count old new fault can
     (λ s e t c ran cut. clear_cut h small s e t c (halt_met h small b.met.vain b.met.last b.met.none b.met.shown b.met.few s e c ran) cut)
     (broke_list ((asks Halt h ++ looks_until b.met.vain b.met.last) ++ []) (asks Halt h ++ looks_until b.met.vain b.met.last) _ old_count new_count old new
-        fault (append-nil (asks Halt h ++ looks_until b.met.vain b.met.last))
+    fault (append-nil (asks Halt h ++ looks_until b.met.vain b.met.last))
     (broke_then (asks Halt h ++ looks_until b.met.vain b.met.last) old b.mid b.met.did [] _ old_count old_count new_count new fault (omega arith) later
-        b.broke)))
+    b.broke)))
 
 -- the faults of the clear as the contract has them
 pub clear_fails : (h count mid_count new_count : ℕ) (old mid : Tells) (new : Option Far) (fault : DmiFault) → count ≤ mid_count → mid_count ≤ new_count

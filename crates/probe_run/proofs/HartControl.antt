@@ -1,6 +1,6 @@
 -- Each call of run control on a told site: what happened at the harts, and what is known behind it.
-use Rattle.std.proofs.Common.{◌≡◌, ◌∙◌, ◌++◌, ◌+◌, ◌<◌, ◌^◌, ◌&&◌, ℕ, List, [], length, map, All, Bool, true, false, Option, Some, None, is_some, slice_get,
-    refl, sym, ap, subst}
+use Rattle.std.proofs.Common.{◌≡◌, ◌∙◌, ◌++◌, ◌+◌, ◌<◌, ◌^◌, ◌&&◌, ℕ, List, [], length, map, All, Bool, true, false, Option, Some, None, is_some, slice_get}
+use Rattle.std.proofs.Common.{refl, sym, ap, subst}
 use Rattle.std.proofs.lemmas.Bool.{false≢true}
 use Rattle.rv_model.specs.declared.cause.Cause.{Cause}
 use Rattle.rv_model.specs.Board.{Board, Hart}
@@ -53,20 +53,31 @@ no_request false ack waits is = refl
 
 reveals_halt : (h : ℕ) (now : Seen) → sees_halted now ≡ true → Reveals h now HaltAsked HaltSeen
 reveals_halt h now shown x b at is p =
-    record { asked = p.asked; no_resume = p.no_resume; halted =
-        halted_of x.debug.halted x.debug.resume_ack (ap sees_halted (sym (at_hart h now x b at is)) ∙ shown) }
+    record {
+      asked = p.asked;
+      no_resume = p.no_resume;
+      halted =
+          halted_of x.debug.halted x.debug.resume_ack (ap sees_halted (sym (at_hart h now x b at is)) ∙ shown);
+    }
 
 pub reveals_ack : (h : ℕ) (now : Seen) → sees_ack now ≡ true → Reveals h now GoAsked Unasked
 reveals_ack h now shown x b at is p =
-    record { no_halt = p.no_halt; no_resume =
-        no_request x.debug.resume_request x.debug.resume_ack p.waits
-        (ack_of x.debug.halted x.debug.resume_ack (ap sees_ack (sym (at_hart h now x b at is)) ∙ shown)) }
+    record {
+      no_halt = p.no_halt;
+      no_resume =
+          no_request x.debug.resume_request x.debug.resume_ack p.waits
+          (ack_of x.debug.halted x.debug.resume_ack (ap sees_ack (sym (at_hart h now x b at is)) ∙ shown));
+    }
 
 pub reveals_both : (h : ℕ) (now : Seen) → sees_both now ≡ true → Reveals h now GoAsked Stopped
 reveals_both h now shown x b at is p =
     let u : Unasked x.debug = reveals_ack h now (and_first (sees_ack now) (sees_halted now) shown) x b at is p in
-    record { no_halt = u.no_halt; no_resume = u.no_resume; halted =
-        halted_of x.debug.halted x.debug.resume_ack (ap sees_halted (sym (at_hart h now x b at is)) ∙ and_second (sees_ack now) (sees_halted now) shown) }
+    record {
+      no_halt = u.no_halt;
+      no_resume = u.no_resume;
+      halted =
+          halted_of x.debug.halted x.debug.resume_ack (ap sees_halted (sym (at_hart h now x b at is)) ∙ and_second (sees_ack now) (sees_halted now) shown);
+    }
 
 -- ---- a hart that is there stays there
 
@@ -114,7 +125,7 @@ pub halt_ran : (h : ℕ) → h < 2 ^ 10 → (vain : List ℕ) (last : ℕ) → A
     → (s t : Site) → CanRun h s → Ran ((asks Halt h ++ looks_until vain last) ++ asks Nothing h) s t → HaltRan h s t
 halt_ran h small vain last all shown few s t can ran =
     let both : RanBoth (asks Halt h ++ looks_until vain last) (asks Nothing h) s t =
-        ran_split (asks Halt h ++ looks_until vain last) (asks Nothing h) s t ran in
+    ran_split (asks Halt h ++ looks_until vain last) (asks Nothing h) s t ran in
     let met : MetRan (HaltReq h) sees_halted HaltSeen h s both.mid = halt_met h small vain last all shown few s both.mid can both.first in
     let there : HartExists h both.mid.board = there_met (HaltReq h) sees_halted h (target_of s) (target_of both.mid) met.met can.there in
     let end : Site = both.second.0 in

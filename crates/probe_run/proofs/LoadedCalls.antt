@@ -21,9 +21,9 @@ use Rattle.probe_run.specs.Acts.Act.{Scanned, Put}
 use Rattle.probe_run.specs.Acts.Attempt.{Scan, Operation, Several}
 use Rattle.probe_run.specs.Happens.{target_of}
 use Rattle.probe_run.specs.Looks.{look_act}
-use Rattle.probe_run.specs.Opening.{ActivateBroke, BusBroke, IsDmiFault, bus_fits, commands_fit, is_active, module_fits, BusFits, CommandsFit, ConnectFails,
-    LosesLoaded, Opened, OpenedChip, OpeningBroke, OpensLoaded, Then, UnopenedChip, UpToBus, UpToCommands, UpToModule, active_act, bus_acts, clears_cmderr,
-    clears_sberror, commands_acts, starts_none, transport_fits}
+use Rattle.probe_run.specs.Opening.{ActivateBroke, BusBroke, IsDmiFault, bus_fits, commands_fit, is_active, module_fits, BusFits, CommandsFit, ConnectFails}
+use Rattle.probe_run.specs.Opening.{LosesLoaded, Opened, OpenedChip, OpeningBroke, OpensLoaded, Then, UnopenedChip, UpToBus, UpToCommands, UpToModule}
+use Rattle.probe_run.specs.Opening.{active_act, bus_acts, clears_cmderr, clears_sberror, commands_acts, starts_none, transport_fits}
 use Rattle.probe_run.specs.Opening.ActivateBroke.{at_first, at_read}
 use Rattle.probe_run.specs.Opening.BusBroke.{at_sbcs, at_sberror}
 use Rattle.probe_run.specs.Opening.OpeningBroke.{in_activation, in_bus, in_commands, in_module, in_transport}
@@ -33,10 +33,10 @@ use Rattle.probe_run.proofs.Between.{between_ready}
 use Rattle.probe_run.proofs.Calls.{CallRan}
 use Rattle.probe_run.proofs.Fresh.{Fresh, QuietUnit, Turns, cut_look, cut_went, fresh_deeds}
 use Rattle.probe_run.proofs.LoadedChip.{fresh_loaded}
-use Rattle.probe_run.proofs.LoadedOpening.{activates, active_quiet, active_unit, clears_auto, clears_bus, clears_commands, looks_at_first, opened_quiet,
-    opened_ready, opened_unit, reads_bus, reads_commands, reads_control, reset_quiet}
-use Rattle.probe_run.proofs.LoadedSteps.{After, On, activated_on, after_on, bus_on, commands_on, module_after, on_after, on_on, opened_on, pointed_turns,
-    transport_on, vain_activated}
+use Rattle.probe_run.proofs.LoadedOpening.{activates, active_quiet, active_unit, clears_auto, clears_bus, clears_commands, looks_at_first, opened_quiet}
+use Rattle.probe_run.proofs.LoadedOpening.{opened_ready, opened_unit, reads_bus, reads_commands, reads_control, reset_quiet}
+use Rattle.probe_run.proofs.LoadedSteps.{After, On, activated_on, after_on, bus_on, commands_on, module_after, on_after, on_on, opened_on, pointed_turns}
+use Rattle.probe_run.proofs.LoadedSteps.{transport_on, vain_activated}
 use Rattle.probe_run.proofs.Looking.{turns_pointed, turns_went}
 use Rattle.probe_run.proofs.QuietCuts.{Quietly, stopped_went}
 use Rattle.probe_run.proofs.QuietCuts.Quietly.{done, goes}
@@ -60,7 +60,7 @@ up_to_module f old mid at fresh u =
     let a = at_transport f old u.mid at fresh u.first.0 u.first.1.did in
     let b : CallRan (On active_unit) a.far mid.far =
     far_call _ (On active_unit) a.far u.mid mid a.is (λ t ran. (activated_on u.second.vain u.second.last (site_of a.far) t a.holds.0.fresh ran).0) u.second.did
-        in
+    in
     record { far = b.far; is = b.is; holds = on_on reset_module active_unit (site_of f) (site_of a.far) (site_of b.far) a.holds.0 b.holds }
 
 up_to_commands : (f : Far) (old mid : Tells) → old.far ≡ Some f → Fresh reset_module (site_of f) → UpToCommands old mid → CallRan (After active_unit) f mid.far
@@ -81,7 +81,7 @@ fit_bus : (f : Far) (old mid : Tells) → old.far ≡ Some f → Fresh reset_mod
 fit_bus f old mid at fresh u =
     let a : CallRan (After active_unit) f u.mid.far = up_to_bus f old u.mid at fresh u.first in
     let b : CallRan (On active_unit) a.far mid.far =
-        far_call _ (On active_unit) a.far u.mid mid a.is (λ t ran. (bus_on u.second.0 (site_of a.far) t a.holds.fresh ran).0) u.second.1.did in
+    far_call _ (On active_unit) a.far u.mid mid a.is (λ t ran. (bus_on u.second.0 (site_of a.far) t a.holds.fresh ran).0) u.second.1.did in
     record { far = b.far; is = b.is; holds = after_on active_unit active_unit (site_of f) (site_of a.far) (site_of b.far) a.holds b.holds }
 
 -- ---- Ok
@@ -92,9 +92,9 @@ fresh_ready t f = between_ready 0 t (record { unit = subst (λ m. ModuleReady m)
 opens : (f : Far) (old new : Tells) → old.far ≡ Some f → Fresh reset_module (site_of f) → Opened old new → OpenedChip f new.far
 opens f old new at fresh o =
     let a : CallRan (After active_unit) f o.second.mid.far =
-        fit_bus f old o.second.mid at fresh (record { mid = o.mid; first = o.first; second = o.second.first }) in
+    fit_bus f old o.second.mid at fresh (record { mid = o.mid; first = o.first; second = o.second.first }) in
     let b : CallRan (On opened_unit) a.far new.far =
-        far_call _ (On opened_unit) a.far o.second.mid new a.is (λ t ran. opened_on (site_of a.far) t a.holds.fresh ran) o.second.second in
+    far_call _ (On opened_unit) a.far o.second.mid new a.is (λ t ran. opened_on (site_of a.far) t a.holds.fresh ran) o.second.second in
     record {
       far = b.far;
       is = b.is;
@@ -159,26 +159,38 @@ several_cut op ops u m mid old_count new_count new fault quiet fresh at b =
     let r : FarRan [] m b.mid.far = far_ran mid m at [] b.mid b.did in
     let c : OperationsCut (op ∷ ops) r.far.live.chip new = where_told (OperationsCut (op ∷ ops)) b.mid.far new r.far r.is b.cut in
     let path : SitePath (site_of m) (c.done ++ performed c.happened) (site_of c.far) =
-        subst (λ x. SitePath x (c.done ++ performed c.happened) (site_of c.far)) r.ran c.site in
+    subst (λ x. SitePath x (c.done ++ performed c.happened) (site_of c.far)) r.ran c.site in
     let st : StoppedAt (op ∷ ops) (site_of m) (site_of c.far) = stopped_at op ops c.done c.rest c.happened (site_of m) (site_of c.far) c.asked c.once path in
-    record { far = c.far; is = c.is; went = stopped_went st.done st.op st.left (op ∷ ops) u (site_of m) st.mid (site_of c.far) quiet fresh st.asked st.before
-        st.cut }
+    record {
+      far = c.far;
+      is = c.is;
+      went = stopped_went st.done st.op st.left (op ∷ ops) u (site_of m) st.mid (site_of c.far) quiet fresh st.asked st.before
+          st.cut;
+    }
 
 several_before : (op : DmiOp) (ops : List DmiOp) (u : DebugModule) (f m : Far) (mid : Tells) (old_count new_count : ℕ) (new : Option Far) (fault : DmiFault)
     → Quietly (op ∷ ops) u → On u (site_of f) (site_of m) → mid.far ≡ Some m
     → Broke [] (Several op ops) old_count new_count mid new fault → UnopenedChip f new
 several_before op ops u f m mid old_count new_count new fault quiet on at b =
     let c : SeveralCut m new = several_cut op ops u m mid old_count new_count new fault quiet on.fresh at b in
-    record { far = c.far; is = c.is; happened =
-        Cut.before (turns_went (target_of (site_of f)) (target_of (site_of m)) (target_of (site_of c.far)) on.went c.went) }
+    record {
+      far = c.far;
+      is = c.is;
+      happened =
+          Cut.before (turns_went (target_of (site_of f)) (target_of (site_of m)) (target_of (site_of c.far)) on.went c.went);
+    }
 
 several_after : (op : DmiOp) (ops : List DmiOp) (u : DebugModule) (f m : Far) (mid : Tells) (old_count new_count : ℕ) (new : Option Far) (fault : DmiFault)
     → Quietly (op ∷ ops) u → After u (site_of f) (site_of m) → mid.far ≡ Some m
     → Broke [] (Several op ops) old_count new_count mid new fault → UnopenedChip f new
 several_after op ops u f m mid old_count new_count new fault quiet after at b =
     let c : SeveralCut m new = several_cut op ops u m mid old_count new_count new fault quiet after.fresh at b in
-    record { far = c.far; is = c.is; happened =
-        Cut.behind (pointed_turns (target_of (site_of f)) (target_of (site_of m)) (target_of (site_of c.far)) after.pointed c.went) }
+    record {
+      far = c.far;
+      is = c.is;
+      happened =
+          Cut.behind (pointed_turns (target_of (site_of f)) (target_of (site_of m)) (target_of (site_of c.far)) after.pointed c.went);
+    }
 
 -- dmactive is written, and dmcontrol read
 first_quietly : Quietly (Write dmcontrol_address (control_word Nothing 0) ∷ Read dmcontrol_address ∷ []) reset_module
@@ -190,7 +202,7 @@ bus_quietly : Quietly (Write abstractcs_address clears_cmderr ∷ Write abstract
 bus_quietly =
     goes _ _ active_unit active_unit active_quiet clears_commands
     (goes _ _ active_unit active_unit active_quiet clears_auto
-        (goes _ _ active_unit active_unit active_quiet (reads_bus active_unit) (done active_unit active_quiet)))
+    (goes _ _ active_unit active_unit active_quiet (reads_bus active_unit) (done active_unit active_quiet)))
 
 stays_on : (v : DebugModule) (s t : Site) → Fresh v s → Ran [] s t → On v s t
 stays_on v s t f is = subst (λ x. On v s x) (sym is) (record { fresh = f; went = record { harts = []; board = refl; journal = sym (append-nil s.journal) } })
@@ -202,7 +214,7 @@ scan_cut f old old_count new_count new fault at fresh b =
     let c : NoneOperated r.far.live.chip new = where_told NoneOperated b.mid.far new r.far r.is b.cut in
     let same : Fresh reset_module (site_of r.far) = subst (λ x. Fresh reset_module x) (sym r.ran) fresh in
     let g : WentOn (target_of (site_of r.far)) (target_of (site_of c.far)) =
-        went_alone (site_of r.far) (site_of c.far) (fresh_deeds reset_module (site_of r.far) (site_of c.far) reset_quiet same c.site) in
+    went_alone (site_of r.far) (site_of c.far) (fresh_deeds reset_module (site_of r.far) (site_of c.far) reset_quiet same c.site) in
     record { far = c.far; is = c.is; happened = Cut.before (subst (λ (x : Site). WentOn (target_of x) (target_of (site_of c.far))) r.ran g) }
 
 look_cut : (f m : Far) (mid : Tells) (old_count new_count : ℕ) (new : Option Far) (fault : DmiFault) → On active_unit (site_of f) (site_of m) → mid.far ≡ Some m
@@ -234,11 +246,11 @@ opening_cut f old new old_count new_count fault at fresh (in_activation b) = by_
     by_activation (at_first w) =
         let a = at_transport f old b.mid at fresh b.first.0 b.first.1.did in
         several_before (Write dmcontrol_address (control_word Nothing 0)) (Read dmcontrol_address ∷ []) reset_module f a.far b.mid old_count new_count new.far
-            fault first_quietly a.holds.0 a.is w
+        fault first_quietly a.holds.0 a.is w
     by_activation (at_read w) =
         let a = at_transport f old b.mid at fresh b.first.0 b.first.1.did in
         cut_before (asks Nothing 0 ++ map active_act w.vain) (Read dmcontrol_address) reset_module active_unit active_unit f a.far b.mid old_count new_count
-            new.far fault active_quiet active_quiet (reads_control active_unit) a.holds.0 a.is
+        new.far fault active_quiet active_quiet (reads_control active_unit) a.holds.0 a.is
         (λ t ran. vain_activated w.vain (site_of a.far) t a.holds.0.fresh ran) w.broke
 opening_cut f old new old_count new_count fault at fresh (in_module b) =
     let a : CallRan (On active_unit) f b.mid.far = up_to_module f old b.mid at fresh b.first in
@@ -246,7 +258,7 @@ opening_cut f old new old_count new_count fault at fresh (in_module b) =
 opening_cut f old new old_count new_count fault at fresh (in_commands b) =
     let a : CallRan (After active_unit) f b.mid.far = up_to_commands f old b.mid at fresh b.first in
     cut_after [] (Read abstractcs_address) active_unit active_unit f a.far b.mid old_count new_count new.far fault active_quiet active_quiet
-        (reads_commands active_unit) a.holds a.is
+    (reads_commands active_unit) a.holds a.is
     (λ t ran. stays_on active_unit (site_of a.far) t a.holds.fresh ran) b.failed
 opening_cut f old new old_count new_count fault at fresh (in_bus b) = by_bus b.failed
   where
@@ -254,11 +266,11 @@ opening_cut f old new old_count new_count fault at fresh (in_bus b) = by_bus b.f
     by_bus (at_sbcs w) =
         let a : CallRan (After active_unit) f b.mid.far = up_to_bus f old b.mid at fresh b.first in
         several_after (Write abstractcs_address clears_cmderr) (Write abstractauto_address starts_none ∷ Read sbcs_address ∷ []) active_unit f a.far b.mid
-            old_count new_count new.far fault bus_quietly a.holds a.is w
+        old_count new_count new.far fault bus_quietly a.holds a.is w
     by_bus (at_sberror w) =
         let a : CallRan (After active_unit) f w.mid.far = fit_bus f old w.mid at fresh (record { mid = b.mid; first = b.first; second = w.first }) in
         cut_after [] (Write sbcs_address clears_sberror) active_unit opened_unit f a.far w.mid old_count new_count new.far fault active_quiet opened_quiet
-            clears_bus a.holds a.is
+        clears_bus a.holds a.is
         (λ t ran. stays_on active_unit (site_of a.far) t a.holds.fresh ran) w.broke
 
 loses : (f : Far) (old new : Tells) (old_count new_count : ℕ) (e : ConnectFault) → old.far ≡ Some f → Fresh reset_module (site_of f)
@@ -268,22 +280,22 @@ loses f old new old_count new_count (Dtm word) at fresh r =
 loses f old new old_count new_count (Module word true) at fresh r =
     let a = at_transport f old r.mid at fresh r.first.0 r.first.1.did in
     let b = far_call (asks Nothing 0 ++ (map active_act r.second.front ++ active_act word ∷ [])) (λ s t. On active_unit s t × (is_active word ≡ true)) a.far
-        r.mid new a.is (λ t ran. activated_on r.second.front word (site_of a.far) t a.holds.0.fresh ran) r.second.did in
+    r.mid new a.is (λ t ran. activated_on r.second.front word (site_of a.far) t a.holds.0.fresh ran) r.second.did in
     refused _ (is_active word) b.holds.1 r.second.inactive
 loses f old new old_count new_count (Module word false) at fresh r =
     let a : CallRan (On active_unit) f r.mid.far = up_to_module f old r.mid at fresh r.first in
     let b = far_call (look_act word ∷ []) (λ s t. After active_unit s t × (module_fits word ≡ true)) a.far r.mid new a.is
-        (λ t ran. module_after word (site_of a.far) t a.holds.fresh ran) r.second.did in
+    (λ t ran. module_after word (site_of a.far) t a.holds.fresh ran) r.second.did in
     refused _ (module_fits word) b.holds.1 r.second.tested
 loses f old new old_count new_count (Abstract word) at fresh r =
     let a : CallRan (After active_unit) f r.mid.far = up_to_commands f old r.mid at fresh r.first in
     let b = far_call (commands_acts word) (λ s t. On active_unit s t × (commands_fit word ≡ true)) a.far r.mid new a.is
-        (λ t ran. commands_on word (site_of a.far) t a.holds.fresh ran) r.second.did in
+    (λ t ran. commands_on word (site_of a.far) t a.holds.fresh ran) r.second.did in
     refused _ (commands_fit word) b.holds.1 r.second.tested
 loses f old new old_count new_count (Bus word) at fresh r =
     let a : CallRan (After active_unit) f r.mid.far = up_to_bus f old r.mid at fresh r.first in
     let b = far_call (bus_acts word) (λ s t. On active_unit s t × (bus_fits word ≡ true)) a.far r.mid new a.is
-        (λ t ran. bus_on word (site_of a.far) t a.holds.fresh ran) r.second.did in
+    (λ t ran. bus_on word (site_of a.far) t a.holds.fresh ran) r.second.did in
     refused _ (bus_fits word) b.holds.1 r.second.tested
 loses f old new old_count new_count (Dmi fault) at fresh r = (tt, opening_cut f old new old_count new_count fault at fresh r)
 

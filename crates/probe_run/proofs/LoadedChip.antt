@@ -1,6 +1,6 @@
 -- A chip as it was loaded: its module is reset, nothing is asked of its harts, and all its numbers are within their widths.
-use Rattle.std.proofs.Common.{◌≡◌, ◌∙◌, ◌++◌, ◌+◌, ◌<◌, ◌≤◌, ◌^◌, ◌==◌, ℕ, zero, suc, List, [], ◌∷◌, length, replicate, get_or, All, Bool, true, false, cond,
-    Option, Some, slice_get, refl, sym, ap, subst, arith, append-nil}
+use Rattle.std.proofs.Common.{◌≡◌, ◌∙◌, ◌++◌, ◌+◌, ◌<◌, ◌≤◌, ◌^◌, ◌==◌, ℕ, zero, suc, List, [], ◌∷◌, length, replicate, get_or, All, Bool, true, false}
+use Rattle.std.proofs.Common.{cond, Option, Some, slice_get, refl, sym, ap, subst, arith, append-nil}
 use Rattle.std.specs.Cmp.{nat_cmp_total}
 use Rattle.std.specs.FinMap as map
 use Rattle.std.specs.FinMap.{entries, get, get-entries, get-from_entries}
@@ -80,7 +80,7 @@ at_end P (z ∷ zs) y n each last (suc j) x is =
     let over : n + suc (length zs) ≡ (n + 1) + length zs = omega arith in
     subst (λ k. P k x) shift
     (at_end P zs y (n + 1) (λ i w at. let e : n + suc i ≡ (n + 1) + i = omega arith in subst (λ k. P k w) e (each (suc i) w at)) (subst (λ k. P k y) over last)
-        j x is)
+    j x is)
 
 length_end : (xs : List Hart) (y : Hart) → length (xs ++ y ∷ []) ≡ suc (length xs)
 length_end [] y = refl
@@ -122,7 +122,7 @@ unfolding map_of
 zeros_ready ram q v is =
     found_small (replicate ram 0) ram_base q v [] (all_zeros ram) (λ e. absurd (none-some v e))
     (ap (map.find nat_cmp q) (append-nil (enumerate_from ram_base (replicate ram 0)))
-        ∙ sym (get-from_entries nat_cmp_total (enumerate_from ram_base (replicate ram 0)) q) ∙ is)
+    ∙ sym (get-from_entries nat_cmp_total (enumerate_from ram_base (replicate ram 0)) q) ∙ is)
 
 image_ready : (image : List ℕ) (ram : ℕ) → All (λ b. b < 256) image → MemoryReady (loaded_memory image ram)
 unfolding with_image

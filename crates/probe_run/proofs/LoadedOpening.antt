@@ -7,8 +7,8 @@ use Rattle.debug_model.specs.declared.point.Point.TheVariants.{Look}
 use Rattle.debug_model.specs.Commands.{abstractauto_written, abstractcs_written}
 use Rattle.debug_model.specs.Dmi.{value_of}
 use Rattle.debug_model.specs.Journal.{after_journal}
-use Rattle.debug_model.specs.Module.{DebugModule, Site, acknowledged, asked, control_points, controlled_by, noted, operated, register_at, reset_module,
-    result_by, result_of}
+use Rattle.debug_model.specs.Module.{DebugModule, Site, acknowledged, asked, control_points, controlled_by, noted, operated, register_at, reset_module}
+use Rattle.debug_model.specs.Module.{result_by, result_of}
 use Rattle.debug_model.specs.SystemBus.{reset_bus, sbcs_written}
 use Rattle.debug_model.specs.Told.{ModuleReady}
 use Rattle.chip_laws.proofs.ModuleLemmas.{plain_reads}
@@ -98,7 +98,7 @@ clears_commands x f =
     unit_by x.unit.active x (record x.unit { commands = abstractcs_written clears_cmderr x.unit.commands })
     ∙ same_site _ (record { unit = active_unit; board = x.board; journal = x.journal ++ [] })
     (ap (λ (m : DebugModule). if m.active then record m { commands = abstractcs_written clears_cmderr m.commands } else m) f.unit) refl
-        (sym (append-nil x.journal))
+    (sym (append-nil x.journal))
 
 pub clears_auto : Turns (Write abstractauto_address starts_none) active_unit active_unit []
 unfolding register_at
@@ -106,7 +106,7 @@ clears_auto x f =
     unit_by x.unit.active x (record x.unit { commands = abstractauto_written starts_none x.unit.commands })
     ∙ same_site _ (record { unit = active_unit; board = x.board; journal = x.journal ++ [] })
     (ap (λ (m : DebugModule). if m.active then record m { commands = abstractauto_written starts_none m.commands } else m) f.unit) refl
-        (sym (append-nil x.journal))
+    (sym (append-nil x.journal))
 
 pub clears_bus : Turns (Write sbcs_address clears_sberror) active_unit opened_unit []
 unfolding register_at

@@ -1,6 +1,6 @@
 -- The steps of an opening at the site of a chip as it was loaded.
-use Rattle.std.proofs.Common.{◌≡◌, ◌∙◌, ◌++◌, ℕ, List, [], ◌∷◌, map, Bool, true, false, Option, Some, None, is_some, slice_get, refl, sym, ap, subst,
-    append_assoc, append-nil, if◌then◌else◌}
+use Rattle.std.proofs.Common.{◌≡◌, ◌∙◌, ◌++◌, ℕ, List, [], ◌∷◌, map, Bool, true, false, Option, Some, None, is_some, slice_get, refl, sym, ap, subst}
+use Rattle.std.proofs.Common.{append_assoc, append-nil, if◌then◌else◌}
 use Rattle.rv_model.specs.declared.cause.Cause.{Cause}
 use Rattle.rv_model.specs.Board.{Hart}
 use Rattle.debug_model.specs.Addresses.{dmcontrol_address, dmstatus_address, abstractcs_address, abstractauto_address, sbcs_address}
@@ -19,14 +19,14 @@ use Rattle.probe_run.specs.declared.control.Request.TheVariants.{Nothing}
 use Rattle.probe_run.specs.Acts.Act.{Scanned, Put}
 use Rattle.probe_run.specs.Happens.{target_of}
 use Rattle.probe_run.specs.Looks.{look_act}
-use Rattle.probe_run.specs.Opening.{active_act, bus_acts, bus_fits, clears_cmderr, clears_sberror, commands_acts, commands_fit, is_active, module_fits,
-    starts_none, transport_fits}
+use Rattle.probe_run.specs.Opening.{active_act, bus_acts, bus_fits, clears_cmderr, clears_sberror, commands_acts, commands_fit, is_active, module_fits}
+use Rattle.probe_run.specs.Opening.{starts_none, transport_fits}
 use Rattle.probe_run.specs.Outcomes.{asks}
 use Rattle.probe_run.specs.Requests.{control_word}
 use Rattle.probe_run.specs.Sites.{TurnsAlone, spun}
 use Rattle.probe_run.proofs.Fresh.{Fresh, QuietUnit, Turns, Went, fresh_along, fresh_deeds, went, went_look, went_on}
-use Rattle.probe_run.proofs.LoadedOpening.{activates, active_quiet, active_unit, clears_auto, clears_bus, clears_commands, looks_at_first, opened_quiet,
-    opened_unit, reads_bus, reads_commands, reads_control, reset_quiet, shows_active, shows_bus, shows_commands}
+use Rattle.probe_run.proofs.LoadedOpening.{activates, active_quiet, active_unit, clears_auto, clears_bus, clears_commands, looks_at_first, opened_quiet}
+use Rattle.probe_run.proofs.LoadedOpening.{opened_unit, reads_bus, reads_commands, reads_control, reset_quiet, shows_active, shows_bus, shows_commands}
 use Rattle.probe_run.proofs.Looking.{turns_pointed, turns_went}
 use Rattle.probe_run.proofs.RanLemmas.{OperatedAt, Ran}
 use Rattle.probe_run.proofs.Steps.{went_alone}
@@ -76,8 +76,15 @@ read_shows a word u ps test s t q leads shows f o =
     ap test (o.word_is ∙ ap value_of w.amid.result_is) ∙ shows (spun w.amid.amid.before s) f.unit
 
 status_fits : (reset ack : Bool) (halted : Option Cause)
-    → module_fits (value_of (dmstatus_word (record { havereset = reset; resumeack = ack; nonexistent = false; running = if is_some halted then false else true;
-    halted = is_some halted; authenticated = true; version = module_version }))) ≡ true
+    → module_fits (value_of (dmstatus_word (record {
+      havereset = reset;
+      resumeack = ack;
+      nonexistent = false;
+      running = if is_some halted then false else true;
+      halted = is_some halted;
+      authenticated = true;
+      version = module_version;
+    }))) ≡ true
 status_fits true true (Some why) = refl
 status_fits true true None = refl
 status_fits true false (Some why) = refl
@@ -139,10 +146,12 @@ vain_activated vain s t f (m, did, rest) = let a : On active_unit s m = written_
 pub module_after : (word : ℕ) (s t : Site) → Fresh active_unit s → Ran (look_act word ∷ []) s t → After active_unit s t × (module_fits word ≡ true)
 module_after word s t f (m, did, is) =
     let w : Went (Read dmstatus_address) did.result active_unit (Look 0 ∷ []) s m =
-        went (Read dmstatus_address) did.result active_unit active_unit (Look 0 ∷ []) s m active_quiet active_quiet looks_at_first f did.one in
-    let a : After active_unit s m = record { fresh = w.fresh; pointed = went_look (Read dmstatus_address) did.result active_unit s m w } in
-    (subst (λ x. After active_unit s x) (sym is) a, read_shows dmstatus_address word active_unit (Look 0 ∷ []) module_fits s m active_quiet looks_at_first
-        shows_module f did)
+    went (Read dmstatus_address) did.result active_unit active_unit (Look 0 ∷ []) s m active_quiet active_quiet looks_at_first f did.one in
+    let a : After active_unit s m = record { fresh = w.fresh; pointed = went_look (Read dmstatus_address) did.result active_unit s m w } in (
+      subst (λ x. After active_unit s x) (sym is) a,
+      read_shows dmstatus_address word active_unit (Look 0 ∷ []) module_fits s m active_quiet looks_at_first
+          shows_module f did,
+    )
 
 pub commands_on : (word : ℕ) (s t : Site) → Fresh active_unit s → Ran (commands_acts word) s t → On active_unit s t × (commands_fit word ≡ true)
 commands_on word s t f (m, did, is) = (
@@ -155,11 +164,11 @@ bus_on word s t f (m, errors, rest) =
     let e : Site = rest.0 in
     let n : Site = rest.2.0 in
     let a : On active_unit s m = op_on (Write abstractcs_address clears_cmderr) clears_cmderr active_unit active_unit s m active_quiet active_quiet
-        clears_commands f errors in
+    clears_commands f errors in
     let b : On active_unit m e = op_on (Write abstractauto_address starts_none) starts_none active_unit active_unit m e active_quiet active_quiet clears_auto
-        a.fresh rest.1 in
+    a.fresh rest.1 in
     let c : On active_unit e n = op_on (Read sbcs_address) word active_unit active_unit e n active_quiet active_quiet (reads_bus active_unit) b.fresh rest.2.1
-        in (
+    in (
       on_on active_unit active_unit s m t a (on_on active_unit active_unit m e t b (on_moved active_unit e n t rest.2.2 c)),
       read_shows sbcs_address word active_unit [] bus_fits e n active_quiet (reads_bus active_unit) shows_bus b.fresh rest.2.1,
     )

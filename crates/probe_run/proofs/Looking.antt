@@ -1,6 +1,6 @@
 -- What one Look did at a told chip, and what it hands out.
-use Rattle.std.proofs.Common.{◌≡◌, ◌∙◌, ◌++◌, append_assoc, ◌<◌, ◌≤◌, ◌^◌, ℕ, List, [], ◌∷◌, Bool, true, Option, Some, None, is_some, slice_get, refl, sym, ap,
-    subst, inl, inr}
+use Rattle.std.proofs.Common.{◌≡◌, ◌∙◌, ◌++◌, append_assoc, ◌<◌, ◌≤◌, ◌^◌, ℕ, List, [], ◌∷◌, Bool, true, Option, Some, None, is_some, slice_get, refl, sym}
+use Rattle.std.proofs.Common.{ap, subst, inl, inr}
 use Rattle.rv_model.specs.Board.{Hart}
 use Rattle.debug_model.specs.Addresses.{dmcontrol_address, dmstatus_address}
 use Rattle.debug_model.specs.declared.dmi.DmiFault.{DmiFault}
@@ -48,7 +48,7 @@ select_notes h s small b harts =
     let now : Between Unasked h (spun harts s) = between_spun Unasked h s unasked_kept harts b in
     controls Nothing h (spun harts s) small b.unit
     ∙ ap (λ ps. noted ps (selecting h (spun harts s)))
-        (select_point h (slice_get (after_turns harts s.board).harts h) (λ x at. ((now.harts h x at).here refl).no_halt))
+    (select_point h (slice_get (after_turns harts s.board).harts h) (λ x at. ((now.harts h x at).here refl).no_halt))
 
 select_amid : (h result : ℕ) (s t : Site) → h < 2 ^ 10 → Between Unasked h s → OneOperation (Write dmcontrol_address (control_word Nothing h)) result s t
     → AmidOperation (Write dmcontrol_address (control_word Nothing h)) result s t
@@ -66,8 +66,12 @@ selects h word s t small b o =
     let a : AmidOperation (Write dmcontrol_address (control_word Nothing h)) o.result s t = select_amid h o.result s t small b o.one in
     let now : Between Unasked h (spun a.amid.before s) = between_spun Unasked h s unasked_kept a.amid.before b in
     let u : Site = noted [] (selecting h (spun a.amid.before s)) in
-    let at : Between Unasked h u = record { unit = record { active = b.unit.active; commands = b.unit.commands; bus = b.unit.bus }; wide = now.wide; harts =
-        now.harts } in
+    let at : Between Unasked h u = record {
+      unit = record { active = b.unit.active; commands = b.unit.commands; bus = b.unit.bus };
+      wide = now.wide;
+      harts =
+          now.harts;
+    } in
     record {
       went = went_amid (Write dmcontrol_address (control_word Nothing h)) h s t a.amid (select_notes h s small b a.amid.before);
       between = subst (λ x. Between Unasked h x) (sym (a.amid.is ∙ ap (spun a.amid.behind) (select_notes h s small b a.amid.before)))
@@ -83,7 +87,7 @@ turns_pointed old mid new h w p = record {
   board = p.board ∙ ap (λ b. after_turns p.behind b) (ap (after_turns p.before) w.board ∙ sym (after_turns-append w.harts p.before old.board));
   journal = p.journal ∙ ap (λ (j : List Point). j ++ Look h ∷ turns p.behind)
       (ap (λ (j : List Point). j ++ turns p.before) w.journal ∙ append_assoc old.journal (turns w.harts) (turns p.before)
-          ∙ ap (λ (j : List Point). old.journal ++ j) (sym (turns-append w.harts p.before)));
+      ∙ ap (λ (j : List Point). old.journal ++ j) (sym (turns-append w.harts p.before)));
 }
 
 abbrev turns_looked : (h : ℕ) (now : Sight) (old mid new : Target) → WentOn old mid → Looked h now mid new → Looked h now old new
@@ -136,8 +140,12 @@ behind_there h now old new l is = subst (λ b. HartExists h b) (sym l.pointed.bo
 
 reveals_stopped : (h : ℕ) (now : Sight) (ack : Bool) → now ≡ Sight.Halted ack → Reveals h now Unasked Stopped
 reveals_stopped h now ack e x b at is p =
-    record { no_halt = p.no_halt; no_resume = p.no_resume; halted =
-        halted_of x.debug.halted x.debug.resume_ack (ap sees_halted (sym (at_hart h now x b at is) ∙ e)) }
+    record {
+      no_halt = p.no_halt;
+      no_resume = p.no_resume;
+      halted =
+          halted_of x.debug.halted x.debug.resume_ack (ap sees_halted (sym (at_hart h now x b at is) ∙ e));
+    }
 
 reveals_none : (h : ℕ) (now : Sight) → Reveals h now Unasked Unasked
 reveals_none h now x b at is p = p
@@ -177,13 +185,13 @@ known_ready h t now (halted ack b is) = between_ready h t (between_weaker Stoppe
 look_outcome : (h : ℕ) → h < 2 ^ 10 → (old new : Tells) (s : Seen) → IsReady old.far → (l : LookedAt h old new s) → Outcome (LookRan h l.word) old.far new.far
 look_outcome h small old new s ready l =
     did_outcome (Put dmcontrol_address (control_word Nothing h) ∷ look_act l.word ∷ []) (LookRan h l.word) SiteReady old new ready
-        (λ x t r ran. look_ran h l.word small x t r ran) l.did
+    (λ x t r ran. look_ran h l.word small x t r ran) l.did
 
 pub look_happened : (h : ℕ) → h < 2 ^ 10 → (old new : Tells) (s : Seen) → IsReady old.far → LookedAt h old new s
     → WhereTold (Leaves (LooksAt h s) h) old.far new.far
 look_happened h small old new s ready l =
     outcome_leaves (LooksAt h s) h (LookRan h l.word) old.far new.far
-        (λ x t r. record { happened = record { now = seen_in l.word; look = r.looked; is = l.shows }; unit = r.unit }) (look_outcome h small old new s ready l)
+    (λ x t r. record { happened = record { now = seen_in l.word; look = r.looked; is = l.shows }; unit = r.unit }) (look_outcome h small old new s ready l)
 
 pub look_ready : (h : ℕ) → h < 2 ^ 10 → (old new : Tells) (s : Seen) → IsReady old.far → LookedAt h old new s → IsReady new.far
 look_ready h small old new s ready l = outcome_holds SiteReady (LookRan h l.word) old.far new.far (λ x t r. known_ready h t (seen_in l.word) r.known)
@@ -192,7 +200,7 @@ look_ready h small old new s ready l = outcome_holds SiteReady (LookRan h l.word
 pub look_selects : (h : ℕ) → h < 2 ^ 10 → (old new : Tells) (s : Seen) → IsReady old.far → LookedAt h old new s → Selects h new.far
 look_selects h small old new s ready l =
     outcome_holds (λ x. x.unit.hartsel ≡ h) (LookRan h l.word) old.far new.far (λ x t r. ap (λ (u : DebugModule). u.hartsel) r.unit)
-        (look_outcome h small old new s ready l)
+    (look_outcome h small old new s ready l)
 
 as_seen : (h : ℕ) (now : Sight) (s : Seen) (f : Far) → IsSeen h now s → Known h (site_of f) now → IsAsSeen (Some f) s
 as_seen h Sight.Absent seen.Absent f is k = tt
@@ -218,7 +226,7 @@ seen_told h now s (Some f) is k = as_seen h now s f is k
 pub look_seen : (h : ℕ) → h < 2 ^ 10 → (old new : Tells) (s : Seen) → IsReady old.far → LookedAt h old new s → IsAsSeen new.far s
 look_seen h small old new s ready l =
     seen_told h (seen_in l.word) s new.far l.shows
-        (outcome_holds (λ t. Known h t (seen_in l.word)) (LookRan h l.word) old.far new.far (λ x t r. r.known) (look_outcome h small old new s ready l))
+    (outcome_holds (λ t. Known h t (seen_in l.word)) (LookRan h l.word) old.far new.far (λ x t r. r.known) (look_outcome h small old new s ready l))
 
 -- ---- a fault
 
@@ -241,7 +249,7 @@ look_cut : (h : ℕ) → h < 2 ^ 10 → (s e t : Site) → SiteReady s → Ran (
 look_cut h small s e t ready (m, did, is) cut =
     let c : Selected h s m = selects h (control_word Nothing h) s m small (ready_between h s ready) did in
     let q : CutAs (Look h) h m t = cut_point (Read dmstatus_address) (Look h) h m t c.between.unit
-        (look_notes h m c.between.unit (ap (λ (u : DebugModule). u.hartsel) c.went.unit))
+    (look_notes h m c.between.unit (ap (λ (u : DebugModule). u.hartsel) c.went.unit))
     (subst (λ x. SiteCut (Read dmstatus_address) x t) is cut) in
     record { happened = turns_cut h (target_of s) (target_of m) (target_of t) c.went.went q.cut; unit = cut_unit h m.unit t.unit s.unit c.went.unit q.unit }
 
@@ -251,11 +259,11 @@ pub look_broke : (h : ℕ) → h < 2 ^ 10 → (old_count new_count : ℕ) (old :
 look_broke h small old_count new_count old new fault ready (at_selection b) =
     outcome_left (Cut (Look h)) h (HappenedCut (Cut (Look h)) h) old.far new (λ s t c. c)
     (broke_outcome [] (Write dmcontrol_address (control_word Nothing h)) (HappenedCut (Cut (Look h)) h) SiteReady old_count new_count old new fault ready
-        (select_cut h small) b)
+    (select_cut h small) b)
 look_broke h small old_count new_count old new fault ready (at_look b) =
     outcome_left (Cut (Look h)) h (HappenedCut (Cut (Look h)) h) old.far new (λ s t c. c)
     (broke_outcome (asks Nothing h) (Read dmstatus_address) (HappenedCut (Cut (Look h)) h) SiteReady old_count new_count old new fault ready (look_cut h small)
-        b)
+    b)
 
 -- ---- as the contract has them
 

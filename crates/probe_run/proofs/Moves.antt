@@ -22,8 +22,8 @@ use Rattle.probe_run.specs.Happens.{target_of}
 use Rattle.probe_run.specs.Looks.{seen_in}
 use Rattle.probe_run.specs.Requests.{control_word}
 use Rattle.probe_run.specs.Sites.{IsQuiet, TurnsAlone, spun}
-use Rattle.probe_run.proofs.Asking.{GoAsked, HaltAsked, HaltSeen, KeptByTurns, OnlyAt, Stopped, Unasked, go_asked_kept, halt_asked_kept, halt_seen_kept,
-    stopped_kept, unasked_kept}
+use Rattle.probe_run.proofs.Asking.{GoAsked, HaltAsked, HaltSeen, KeptByTurns, OnlyAt, Stopped, Unasked, go_asked_kept, halt_asked_kept, halt_seen_kept}
+use Rattle.probe_run.proofs.Asking.{stopped_kept, unasked_kept}
 use Rattle.probe_run.proofs.Between.{Between, between_spun, changed_there, halt_asks, halt_clears, only_weaker, resume_asks, there_turns}
 use Rattle.probe_run.proofs.RanLemmas.{OperatedAt}
 use Rattle.probe_run.proofs.SiteLemmas.{AmidOperation, quiet_deeds, quiet_operation}
@@ -108,8 +108,8 @@ there_point Access h b is = is
 pub there_pointed : (p : Point) (h : ℕ) (old new : Target) → Pointed p old new → HartExists h old.board → HartExists h new.board
 there_pointed p h old new at is =
     subst (λ b. HartExists h b) (sym at.board)
-        (there_turns at.behind h (after_point p (after_turns at.before old.board))
-        (there_point p h (after_turns at.before old.board) (there_turns at.before h old.board is)))
+    (there_turns at.behind h (after_point p (after_turns at.before old.board))
+    (there_point p h (after_turns at.before old.board) (there_turns at.before h old.board is)))
 
 halt_point : (h : ℕ) (o : Option Hart) → is_some o ≡ true → control_points (control_for Halt h) o ≡ HaltReq h ∷ []
 halt_point h (Some x) is = refl
@@ -141,7 +141,7 @@ resume_notes h s small b is harts =
     let now : Between Unasked h (spun harts s) = between_spun Unasked h s unasked_kept harts b in
     controls Resume h (spun harts s) small b.unit
     ∙ ap (λ ps. noted ps (selecting h (spun harts s)))
-        (resume_point h (slice_get (after_turns harts s.board).harts h) (there_turns harts h s.board is) (λ x at. ((now.harts h x at).here refl).no_halt))
+    (resume_point h (slice_get (after_turns harts s.board).harts h) (there_turns harts h s.board is) (λ x at. ((now.harts h x at).here refl).no_halt))
 
 pub clear_notes : (h : ℕ) (s : Site) → h < 2 ^ 10 → Between HaltSeen h s → HartExists h s.board
     → Notes (Write dmcontrol_address (control_word Nothing h)) (HaltClear h) h s
@@ -149,27 +149,27 @@ clear_notes h s small b is harts =
     let now : Between HaltSeen h (spun harts s) = between_spun HaltSeen h s halt_seen_kept harts b in
     controls Nothing h (spun harts s) small b.unit
     ∙ ap (λ ps. noted ps (selecting h (spun harts s)))
-        (clear_point h (slice_get (after_turns harts s.board).harts h) (there_turns harts h s.board is) (λ x at. ((now.harts h x at).here refl).asked))
+    (clear_point h (slice_get (after_turns harts s.board).harts h) (there_turns harts h s.board is) (λ x at. ((now.harts h x at).here refl).asked))
 
 pub moves_halt : (h word : ℕ) (s t : Site) → h < 2 ^ 10 → Between Unasked h s → HartExists h s.board
     → OperatedAt (Write dmcontrol_address (control_word Halt h)) word s t → Moved (HaltReq h) HaltAsked h s t
 moves_halt h word s t small b is o =
     moved (Write dmcontrol_address (control_word Halt h)) (HaltReq h) h o.result Unasked HaltAsked s t unasked_kept halt_asked_kept b
-        (halt_notes Unasked h s small b is)
+    (halt_notes Unasked h s small b is)
     (λ harts at each. halt_asks h (after_turns harts s.board) each) (wide_halt_requested true h) o.one
 
 pub moves_resume : (h word : ℕ) (s t : Site) → h < 2 ^ 10 → Between Unasked h s → HartExists h s.board
     → OperatedAt (Write dmcontrol_address (control_word Resume h)) word s t → Moved (ResumeReq h) GoAsked h s t
 moves_resume h word s t small b is o =
     moved (Write dmcontrol_address (control_word Resume h)) (ResumeReq h) h o.result Unasked GoAsked s t unasked_kept go_asked_kept b
-        (resume_notes h s small b is)
+    (resume_notes h s small b is)
     (λ harts at each. resume_asks h (after_turns harts s.board) each) (wide_resume_asked h) o.one
 
 pub moves_clear : (h word : ℕ) (s t : Site) → h < 2 ^ 10 → Between HaltSeen h s → HartExists h s.board
     → OperatedAt (Write dmcontrol_address (control_word Nothing h)) word s t → Moved (HaltClear h) Stopped h s t
 moves_clear h word s t small b is o =
     moved (Write dmcontrol_address (control_word Nothing h)) (HaltClear h) h o.result HaltSeen Stopped s t halt_seen_kept stopped_kept b
-        (clear_notes h s small b is)
+    (clear_notes h s small b is)
     (λ harts at each. halt_clears h (after_turns harts s.board) each) (wide_halt_requested false h) o.one
 
 -- ---- Looks
@@ -196,10 +196,13 @@ saw h word P R s t keeps keeps' b sel reveals o =
     let shows : (harts : List ℕ) → o.result ≡ operation_result (Read dmstatus_address) (spun harts s) → seen_in word ≡ seen_at h (after_turns harts s.board) =
     λ harts at. ap seen_in (o.word_is ∙ ap value_of at) ∙ look_shows (spun harts s) b.unit ∙ ap (λ k. seen_at k (after_turns harts s.board)) sel in
     record {
-      looked = record { pointed = (pointed_amid (Read dmstatus_address) (Look h) h s t a.amid (notes a.amid.before)).pointed; shows =
-          shows a.amid.before a.result_is };
+      looked = record {
+        pointed = (pointed_amid (Read dmstatus_address) (Look h) h s t a.amid (notes a.amid.before)).pointed;
+        shows =
+            shows a.amid.before a.result_is;
+      };
       between = between_point (Read dmstatus_address) (Look h) h o.result P R s t keeps keeps' b notes
           (λ harts at each. only_weaker P R h (after_turns harts s.board) (λ x is p. reveals x (after_turns harts s.board) is (shows harts at) p) each)
-              (λ board w. w) a;
+          (λ board w. w) a;
       unit = (pointed_amid (Read dmstatus_address) (Look h) h s t a.amid (notes a.amid.before)).unit;
     }

@@ -5,8 +5,8 @@ use Rattle.debug_model.specs.Told.{Far}
 use Rattle.probe_run.specs.declared.fault.ConnectFault.{ConnectFault}
 use Rattle.probe_run.specs.declared.fault.ConnectFault.TheVariants.{Dtm, Module, Abstract, Bus, Dmi}
 use Rattle.probe_run.specs.Acts.{Act, Attempt, Broke, Tells}
-use Rattle.probe_run.specs.Opening.{ActivateBroke, ActivationFails, BusBroke, BusFails, CommandsFail, ConnectFails, ModuleFails, ThenBroke, TransportFails,
-    TransportFits, UpToBus, UpToCommands, UpToModule}
+use Rattle.probe_run.specs.Opening.{ActivateBroke, ActivationFails, BusBroke, BusFails, CommandsFail, ConnectFails, ModuleFails, ThenBroke, TransportFails}
+use Rattle.probe_run.specs.Opening.{TransportFits, UpToBus, UpToCommands, UpToModule}
 use Rattle.probe_run.specs.Opening.ActivateBroke.{at_first, at_read}
 use Rattle.probe_run.specs.Opening.BusBroke.{at_sbcs, at_sberror}
 use Rattle.probe_run.specs.Opening.OpeningBroke.{in_activation, in_bus, in_commands, in_module, in_transport}
@@ -17,8 +17,13 @@ broke_from : (acts : List Act) (failed : Attempt) (count mid_count new_count : �
     → mid_count ≤ new_count → Broke acts failed mid_count new_count old told fault
     → Broke acts failed count new_count old told fault
 broke_from acts failed count mid_count new_count old told fault le later b =
-    record { mid = b.mid; did = b.did; cut = b.cut; cause =
-    attempt_cause_from failed count mid_count new_count b.mid.far told b.mid.coming fault le later b.cause }
+    record {
+      mid = b.mid;
+      did = b.did;
+      cut = b.cut;
+      cause =
+          attempt_cause_from failed count mid_count new_count b.mid.far told b.mid.coming fault le later b.cause;
+    }
 
 then_from : (R : Tells → Tells → Type 0) (acts : List Act) (failed : Attempt) (count mid_count new_count : ℕ) (old : Tells) (told : Option Far)
     (fault : DmiFault) → count ≤ mid_count → mid_count ≤ new_count

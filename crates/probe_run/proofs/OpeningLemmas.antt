@@ -1,6 +1,6 @@
 -- The steps of an opening from the calls that they make.
-use Rattle.std.proofs.Common.{◌≡◌, ◌∙◌, ◌++◌, ◌+◌, ◌<◌, ◌≤◌, slice_index_or, ℕ, List, [], ◌∷◌, length, map, All, Bool, true, false, Option, Some, None, IfSome,
-    refl, sym, ap, subst, arith, length-append, append-nil}
+use Rattle.std.proofs.Common.{◌≡◌, ◌∙◌, ◌++◌, ◌+◌, ◌<◌, ◌≤◌, slice_index_or, ℕ, List, [], ◌∷◌, length, map, All, Bool, true, false, Option, Some, None}
+use Rattle.std.proofs.Common.{IfSome, refl, sym, ap, subst, arith, length-append, append-nil}
 use Rattle.std.proofs.lemmas.List.Elements.{All-cons, All-nil, All-push}
 use Rattle.debug_model.specs.Addresses.{abstractauto_address, abstractcs_address, dmcontrol_address, sbcs_address}
 use Rattle.debug_model.specs.declared.dmi.DmiFault.{DmiFault}
@@ -16,8 +16,8 @@ use Rattle.probe_run.specs.declared.control.Request.TheVariants.{Nothing}
 use Rattle.probe_run.specs.Acts.{Act, Broke, Did, DoesTogether, ScannedAs, Tells, acts_of, tells}
 use Rattle.probe_run.specs.Acts.Act.{Scanned}
 use Rattle.probe_run.specs.Acts.Attempt.{Scan, Operation, Several}
-use Rattle.probe_run.specs.Opening.{ActivateBroke, Activated, ActivationBroke, BusBroke, NotActivated, ReadAs, ThenBroke, active_act, bus_acts, clears_cmderr,
-    is_active, starts_none}
+use Rattle.probe_run.specs.Opening.{ActivateBroke, Activated, ActivationBroke, BusBroke, NotActivated, ReadAs, ThenBroke, active_act, bus_acts}
+use Rattle.probe_run.specs.Opening.{clears_cmderr, is_active, starts_none}
 use Rattle.probe_run.specs.Opening.ActivateBroke.{at_first}
 use Rattle.probe_run.specs.Opening.BusBroke.{at_sbcs}
 use Rattle.probe_run.specs.Outcomes.{asks}
@@ -62,7 +62,7 @@ broke_behind R acts op op' count mid_count new_count old mid at told fault e fir
   first = first;
   broke = subst (λ xs. Broke xs (Operation op') count new_count mid told fault) (append-nil acts)
       (broke_then acts mid at d [] (Operation op') count mid_count new_count told fault le later
-          (broke_op op op' mid_count new_count at.far told at.coming fault e cut cause));
+      (broke_op op op' mid_count new_count at.far told at.coming fault e cut cause));
 }
 
 -- ---- dmactive
@@ -85,7 +85,7 @@ vain_did : (old now : Tells) (front : List ℕ) (last : ℕ) → Did old (asks N
     → Did old (asks Nothing 0 ++ map active_act (front ++ last ∷ [])) now
 vain_did old now front last d =
     did_list (asks Nothing 0 ++ (map active_act front ++ active_act last ∷ [])) (asks Nothing 0 ++ map active_act (front ++ last ∷ [])) old now
-        (ap (λ (acts : List Act). asks Nothing 0 ++ acts) (map_until front last)) d
+    (ap (λ (acts : List Act). asks Nothing 0 ++ acts) (map_until front last)) d
 
 pub reads_again : (old now new : Tells) (reads last word : ℕ) → Reads old now reads last → Did now (active_act word ∷ []) new → is_active last ≡ false
     → Reads old new (reads + 1) word
@@ -109,7 +109,7 @@ reads_active old now reads last r active few = record {
 pub reads_broke : (old now : Tells) (reads last count mid_count new_count : ℕ) (told : Option Far) (fault : DmiFault) → Reads old now reads last
     → is_active last ≡ false → reads < 64 → count ≤ mid_count → mid_count ≤ new_count
     → WhereTold (OperationCut (Read dmcontrol_address)) now.far told → DmiCause mid_count new_count now.far told now.coming fault
-        → ActivationBroke count new_count old told fault
+    → ActivationBroke count new_count old told fault
 reads_broke old now reads last count mid_count new_count told fault r inactive few le later cut cause =
     let vain = r.front ++ last ∷ [] in
     record {
@@ -168,7 +168,7 @@ reads_start word last results old new w e two told heard =
 
 pub first_broke : (word old_count new_count : ℕ) (old : Tells) (told : Option Far) (fault : DmiFault) → word ≡ control_word Nothing 0
     → WhereTold (OperationsCut (Write dmcontrol_address word ∷ Read dmcontrol_address ∷ [])) old.far told
-        → ManyCause 2 old_count new_count old.far told old.coming fault
+    → ManyCause 2 old_count new_count old.far told old.coming fault
     → ActivateBroke old_count new_count old told fault
 first_broke word old_count new_count old told fault w cut cause =
     at_first (broke_one (Several (Write dmcontrol_address (control_word Nothing 0)) (Read dmcontrol_address ∷ [])) old_count new_count old told fault
@@ -195,14 +195,14 @@ bus_did errors auto results old new e a three told heard =
           (subst (λ n. AnswersAll (clears_first errors n) results old.coming new.coming) a heard);
     } in
     did_list (acts_of (clears_first clears_cmderr starts_none) results) (bus_acts (slice_index_or results 2 0)) old new
-        (ap (acts_of (clears_first clears_cmderr starts_none)) (listed_three results three))
+    (ap (acts_of (clears_first clears_cmderr starts_none)) (listed_three results three))
     (did_together (Write abstractcs_address clears_cmderr) (Write abstractauto_address starts_none ∷ Read sbcs_address ∷ []) results old new does)
 
 pub bus_broke : (errors auto old_count new_count : ℕ) (old : Tells) (told : Option Far) (fault : DmiFault) → errors ≡ clears_cmderr → auto ≡ starts_none
     → WhereTold (OperationsCut (clears_first errors auto)) old.far told → ManyCause 3 old_count new_count old.far told old.coming fault
-        → BusBroke old_count new_count old told fault
+    → BusBroke old_count new_count old told fault
 bus_broke errors auto old_count new_count old told fault e a cut cause =
     at_sbcs (broke_one (Several (Write abstractcs_address clears_cmderr) (Write abstractauto_address starts_none ∷ Read sbcs_address ∷ [])) old_count new_count
-        old told fault
+    old told fault
     (subst (λ n. WhereTold (OperationsCut (clears_first n starts_none)) old.far told) e
-        (subst (λ n. WhereTold (OperationsCut (clears_first errors n)) old.far told) a cut)) cause)
+    (subst (λ n. WhereTold (OperationsCut (clears_first errors n)) old.far told) a cut)) cause)

@@ -32,4 +32,4 @@ stopped_went (o ∷ os) op left ops u s m t (goes first more w v q leads rest) f
     let tail : map op_of os ++ op ∷ left ≡ more = cc in
     let one = went o.op o.result w v [] s at.0 q (quiet_at more v rest) (subst (λ x. Turns x w v []) is leads) f at.1 in
     turns_went (target_of s) (target_of at.0) (target_of t) (went_on o.op o.result v s at.0 one)
-        (stopped_went os op left more v at.0 m t rest one.fresh tail at.2 cut)
+    (stopped_went os op left more v at.0 m t rest one.fresh tail at.2 cut)

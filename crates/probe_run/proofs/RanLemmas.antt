@@ -64,9 +64,11 @@ one_did (Write address value) result s t small one = record {
 
 operations_ran : (os : List Operation) (s t : Site) → All IsOperation (map op_of os) → OperationsAt os s t → Ran (map act_of os) s t
 operations_ran [] s t small e = e
-operations_ran (o ∷ os) s t small p =
-    (p.0, one_did o.op o.result s p.0 (All-head IsOperation o.op (map op_of os) small) p.1,
-        operations_ran os p.0 t (All-tail IsOperation o.op (map op_of os) small) p.2)
+operations_ran (o ∷ os) s t small p = (
+  p.0,
+  one_did o.op o.result s p.0 (All-head IsOperation o.op (map op_of os) small) p.1,
+  operations_ran os p.0 t (All-tail IsOperation o.op (map op_of os) small) p.2,
+)
 
 path_ran : (op : DmiOp) (ops : List DmiOp) (os : List Operation) (s t : Site) → All IsOperation (op ∷ ops) → map op_of os ≡ op ∷ ops → SitePath s os t
     → Ran (map act_of os) s t
@@ -116,7 +118,7 @@ far_ran old f is acts new (further before act mid last did does) =
 far_ran old f is acts new (together before op ops results mid last did does) =
     let a : FarRan before f mid.far = far_ran old f is before mid did in
     let b : FarRan (acts_of (op ∷ ops) results) a.far last.far =
-        far_together op ops results a.far last.far does.small (where_told (OperatedAll (op ∷ ops) results) mid.far last.far a.far a.is does.told) in
+    far_together op ops results a.far last.far does.small (where_told (OperatedAll (op ∷ ops) results) mid.far last.far a.far a.is does.told) in
     record { far = b.far; is = b.is; ran = ran_append before (acts_of (op ∷ ops) results) (site_of f) (site_of a.far) (site_of b.far) a.ran b.ran }
 
 -- where no chip is told, none is told behind a call, nor behind any number of them

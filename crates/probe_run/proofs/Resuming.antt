@@ -58,7 +58,7 @@ pub resume_happened : (h : ℕ) → h < 2 ^ 10 → (old new : Tells) → Holds (
     → WhereTold (Leaves (MetAt (ResumeReq h) sees_ack h) h) old.far new.far
 resume_happened h small old new can m =
     outcome_leaves (MetAt (ResumeReq h) sees_ack h) h (GoRan sees_ack Unasked h) old.far new.far (λ s t r. record { happened = r.met.met; unit = r.met.unit })
-        (resume_outcome h small old new can m)
+    (resume_outcome h small old new can m)
 
 pub resume_ready : (h : ℕ) → h < 2 ^ 10 → (old new : Tells) → Holds (CanRun h) old.far → Met sees_ack (asks Resume h) old new → IsReady new.far
 resume_ready h small old new can m = outcome_holds SiteReady (GoRan sees_ack Unasked h) old.far new.far (λ s t r. between_ready h t r.met.between)
@@ -67,7 +67,7 @@ resume_ready h small old new can m = outcome_holds SiteReady (GoRan sees_ack Una
 pub resume_selects : (h : ℕ) → h < 2 ^ 10 → (old new : Tells) → Holds (CanRun h) old.far → Met sees_ack (asks Resume h) old new → Selects h new.far
 resume_selects h small old new can m =
     outcome_holds (λ s. s.unit.hartsel ≡ h) (GoRan sees_ack Unasked h) old.far new.far (λ s t r. ap (λ (u : DebugModule). u.hartsel) r.met.unit)
-        (resume_outcome h small old new can m)
+    (resume_outcome h small old new can m)
 
 pub resume_exists : (h : ℕ) → h < 2 ^ 10 → (old new : Tells) → Holds (CanRun h) old.far → Met sees_ack (asks Resume h) old new → Exists h new.far
 resume_exists h small old new can m = outcome_holds (λ s. HartExists h s.board) (GoRan sees_ack Unasked h) old.far new.far (λ s t r. r.there)
@@ -77,22 +77,22 @@ pub step_happened : (h : ℕ) → h < 2 ^ 10 → (old new : Tells) → Holds (Ca
     → WhereTold (Leaves (MetAt (ResumeReq h) sees_both h) h) old.far new.far
 step_happened h small old new can m =
     outcome_leaves (MetAt (ResumeReq h) sees_both h) h (GoRan sees_both Stopped h) old.far new.far
-        (λ s t r. record { happened = r.met.met; unit = r.met.unit }) (step_outcome h small old new can m)
+    (λ s t r. record { happened = r.met.met; unit = r.met.unit }) (step_outcome h small old new can m)
 
 pub step_ready : (h : ℕ) → h < 2 ^ 10 → (old new : Tells) → Holds (CanRun h) old.far → Met sees_both (asks Resume h) old new → IsReady new.far
 step_ready h small old new can m =
     outcome_holds SiteReady (GoRan sees_both Stopped h) old.far new.far
-        (λ s t r. between_ready h t (between_weaker Stopped Unasked h t stopped_unasked r.met.between)) (step_outcome h small old new can m)
+    (λ s t r. between_ready h t (between_weaker Stopped Unasked h t stopped_unasked r.met.between)) (step_outcome h small old new can m)
 
 pub step_selects : (h : ℕ) → h < 2 ^ 10 → (old new : Tells) → Holds (CanRun h) old.far → Met sees_both (asks Resume h) old new → Selects h new.far
 step_selects h small old new can m =
     outcome_holds (λ s. s.unit.hartsel ≡ h) (GoRan sees_both Stopped h) old.far new.far (λ s t r. ap (λ (u : DebugModule). u.hartsel) r.met.unit)
-        (step_outcome h small old new can m)
+    (step_outcome h small old new can m)
 
 pub step_halted : (h : ℕ) → h < 2 ^ 10 → (old new : Tells) → Holds (CanRun h) old.far → Met sees_both (asks Resume h) old new → IsHalted h new.far
 step_halted h small old new can m =
     outcome_holds (λ s. HartHalted h s.board) (GoRan sees_both Stopped h) old.far new.far (λ s t r. stopped_halted h t r.there r.met.between)
-        (step_outcome h small old new can m)
+    (step_outcome h small old new can m)
 
 -- ---- Looks in vain
 
@@ -101,14 +101,14 @@ go_missed : (test : Seen → Bool) (h : ℕ) → h < 2 ^ 10 → (front : List �
     → (s t : Site) → CanRun h s → Ran (asks Resume h ++ looks_until front last) s t → MissedRan (ResumeReq h) test GoAsked h (seen_in last) s t
 go_missed test h small front last all not_shown count s t can (m, did, rest) =
     missed_ran (ResumeReq h) test GoAsked go_asked_kept h s m t front last
-        (moves_resume h (control_word Resume h) s m small (ready_between h s can.ready) can.there did) all not_shown count rest
+    (moves_resume h (control_word Resume h) s m small (ready_between h s can.ready) can.there did) all not_shown count rest
 
 pub go_missed_at : (test : Seen → Bool) (h : ℕ) → h < 2 ^ 10 → (last : ℕ) (old new : Tells) → Holds (CanRun h) old.far
     → Missed test last (asks Resume h) old new
     → WhereTold (Leaves (MissedAt (ResumeReq h) test h (seen_in last)) h) old.far new.far
 go_missed_at test h small last old new can m =
     outcome_leaves (MissedAt (ResumeReq h) test h (seen_in last)) h (MissedRan (ResumeReq h) test GoAsked h (seen_in last)) old.far new.far
-        (λ s t r. record { happened = r.missed; unit = r.unit })
+    (λ s t r. record { happened = r.missed; unit = r.unit })
     (did_outcome (asks Resume h ++ looks_until m.front last) (MissedRan (ResumeReq h) test GoAsked h (seen_in last)) (CanRun h) old new can
     (λ s t c ran. go_missed test h small m.front last m.none m.not_shown m.all s t c ran) m.did)
 
@@ -124,7 +124,7 @@ go_look_cut : (test : Seen → Bool) (h : ℕ) → h < 2 ^ 10 → (vain : List �
     → (s e t : Site) → CanRun h s → Ran (asks Resume h ++ map look_act vain) s e → SiteCut (Read dmstatus_address) e t → RunCutAs (ResumeReq h) test h s t
 go_look_cut test h small vain all few s e t can (m, did, rest) cut =
     look_cut_ran (ResumeReq h) test GoAsked go_asked_kept h s m e t vain
-        (moves_resume h (control_word Resume h) s m small (ready_between h s can.ready) can.there did) all few rest cut
+    (moves_resume h (control_word Resume h) s m small (ready_between h s can.ready) can.there did) all few rest cut
 
 run_cut : (test : Seen → Bool) (h : ℕ) (s t : Site) → RunCutAs (ResumeReq h) test h s t → HappenedCut (RunCut (ResumeReq h) test h) h s t
 run_cut test h s t c = record { happened = c.cut; unit = c.unit }
@@ -135,9 +135,9 @@ pub go_broke : (test : Seen → Bool) (h : ℕ) → h < 2 ^ 10 → (old_count ne
 go_broke test h small old_count new_count old new fault can (at_request b) =
     outcome_left (RunCut (ResumeReq h) test h) h (RunCutAs (ResumeReq h) test h) old.far new (run_cut test h)
     (broke_outcome [] (Write dmcontrol_address (control_word Resume h)) (RunCutAs (ResumeReq h) test h) (CanRun h) old_count new_count old new fault can
-        (go_request_cut test h small) b)
+    (go_request_cut test h small) b)
 go_broke test h small old_count new_count old new fault can (at_look w) =
     outcome_left (RunCut (ResumeReq h) test h) h (RunCutAs (ResumeReq h) test h) old.far new (run_cut test h)
     (broke_outcome (asks Resume h ++ map look_act w.vain) (Read dmstatus_address) (RunCutAs (ResumeReq h) test h) (CanRun h) old_count new_count old new fault
-        can
+    can
     (λ s e t c ran cut. go_look_cut test h small w.vain w.none w.few s e t c ran cut) w.broke)

@@ -63,7 +63,7 @@ pub record MetRan (request : Point) (test : Seen → Bool) (R : DebugPart → Ty
 pub met_ran : (p : Point) (test : Seen → Bool) (P R : DebugPart → Type 0) → KeptByTurns P → KeptByTurns R → (h : ℕ) (s m t : Site) (vain : List ℕ) (last : ℕ)
     → Moved p P h s m
     → All (ShowsNot test) vain → Shows test last → length vain < most_looks → Reveals h (seen_in last) P R → Ran (looks_until vain last) m t
-        → MetRan p test R h s t
+    → MetRan p test R h s t
 met_ran p test P R keeps keeps' h s m t vain last first all shown few reveals ran =
     let v : VainRan test P h (target_of m) (0 + length vain) s.unit (look_act last ∷ []) t =
     vain_ran test P keeps h (target_of m) s.unit (look_act last ∷ []) t vain 0 unseen m all first.between first.point.unit none ran in
@@ -97,14 +97,14 @@ pub record MissedRan (request : Point) (test : Seen → Bool) (P : DebugPart →
 pub missed_ran : (p : Point) (test : Seen → Bool) (P : DebugPart → Type 0) → KeptByTurns P → (h : ℕ) (s m t : Site) (front : List ℕ) (last : ℕ)
     → Moved p P h s m
     → All (ShowsNot test) front → ShowsNot test last → length front + 1 ≡ most_looks → Ran (looks_until front last) m t
-        → MissedRan p test P h (seen_in last) s t
+    → MissedRan p test P h (seen_in last) s t
 missed_ran p test P keeps h s m t front last first all not_shown count ran =
     let v : VainRan test P h (target_of m) (0 + length front) s.unit (look_act last ∷ []) t =
     vain_ran test P keeps h (target_of m) s.unit (look_act last ∷ []) t front 0 unseen m all first.between first.point.unit none ran in
     let end : Site = v.ran.0 in
     let e : t ≡ end = v.ran.2 in
     let one : Saw P h (seen_in last) v.mid end =
-        saw h last P P v.mid end keeps keeps v.between (ap (λ (x : DebugModule). x.hartsel) v.unit) (same_part h (seen_in last) P) v.ran.1 in
+    saw h last P P v.mid end keeps keeps v.between (ap (λ (x : DebugModule). x.hartsel) v.unit) (same_part h (seen_in last) P) v.ran.1 in
     let looks : InVain test h (target_of m) ((0 + length front) + 1) (seen_in last) (target_of end) =
     again (0 + length front) v.last (seen_in last) (target_of v.mid) (target_of end) v.in_vain one.looked not_shown in
     let same : (0 + length front) + 1 ≡ most_looks = let k : length front + 1 ≡ 64 = count in omega arith in
@@ -135,11 +135,11 @@ pub look_cut_ran : (p : Point) (test : Seen → Bool) (P : DebugPart → Type 0)
     → All (ShowsNot test) vain → length vain < most_looks → Ran (map look_act vain) m e → SiteCut (Read dmstatus_address) e t → RunCutAs p test h s t
 look_cut_ran p test P keeps h s m e t vain first all few ran cut =
     let v : VainRan test P h (target_of m) (0 + length vain) s.unit [] e =
-        vain_ran test P keeps h (target_of m) s.unit [] e vain 0 unseen m all first.between first.point.unit none
-        (subst (λ acts. Ran acts m e) (sym (append-nil (map look_act vain))) ran) in
+    vain_ran test P keeps h (target_of m) s.unit [] e vain 0 unseen m all first.between first.point.unit none
+    (subst (λ acts. Ran acts m e) (sym (append-nil (map look_act vain))) ran) in
     let cut' : SiteCut (Read dmstatus_address) v.mid t = subst (λ x. SiteCut (Read dmstatus_address) x t) v.ran cut in
     let c : CutAs (Look h) h v.mid t = cut_point (Read dmstatus_address) (Look h) h v.mid t v.between.unit
-        (look_notes h v.mid v.between.unit (ap (λ (x : DebugModule). x.hartsel) v.unit)) cut' in
+    (look_notes h v.mid v.between.unit (ap (λ (x : DebugModule). x.hartsel) v.unit)) cut' in
     record {
       cut = RunCut.at_look (record {
         asked = target_of m;

@@ -22,7 +22,7 @@ use Rattle.abstract_debugger.proofs.KnownPoints.{known-still, known-gone, known-
 pub vain : (m : Machine) (sel : ℕ) (way : Way) (o : Origin) (test : Seen → Bool) (failed : Seen → Plan) (found : Plan) (lines : List Line) (old : Target)
     (k : ℕ) (last : Seen) (mid : Target) → InVain test sel old k last mid
     → (n all : ℕ) → k + n ≡ all → Deals m sel way o (until all sel test failed found unseen) lines old
-        → Deals m sel way o (until n sel test failed found last) lines mid
+    → Deals m sel way o (until n sel test failed found last) lines mid
 vain m sel way o test failed found lines old k last mid none n all is d =
     let e : all ≡ n = omega arith in
     deals_at_plan m sel way o _ _ lines old (ap (λ j. until j sel test failed found unseen) e) d
@@ -33,7 +33,7 @@ vain m sel way o test failed found lines old k last mid (again j before now betw
 pub met : (m : Machine) (sel : ℕ) (way way' : Way) (o : Origin) (p : Point) (test : Seen → Bool) (failed : Seen → Plan) (found : Plan) (lines : List Line)
     (old new : Target) (a : MetAt p test sel old new)
     → ((w : World) → test (seen_at sel w.board) ≡ true → IsKnown m sel way w → IsKnown m sel way' w)
-        → Deals m sel way o (until most_looks sel test failed found unseen) lines a.asked → Deals m sel way' o found lines new
+    → Deals m sel way o (until most_looks sel test failed found unseen) lines a.asked → Deals m sel way' o found lines new
 met m sel way way' o p test failed found lines old new a sees d =
     let n : ℕ = 64 - (a.looks + 1) in
     let few : a.looks < 64 = a.few in
@@ -50,7 +50,7 @@ halts_lead m h o next lines old new a d =
 pub resumes_lead : ResumesLead
 resumes_lead m h o next lines old new a d =
     met m h Going Idle o (ResumeReq h) sees_ack (λ s. stop (NoAck most_looks)) next lines old new a (known-gone m h)
-        (deals_go m h o _ lines old a.asked d a.asks)
+    (deals_go m h o _ lines old a.asked d a.asks)
 
 pub steps_lead : StepsLead
 steps_lead m h o next lines old new a d =

@@ -115,7 +115,7 @@ pub quiet_operation : (op : DmiOp) (result : ℕ) (s t : Site) → IsQuiet s →
 quiet_operation op result s t q stays o =
     let b : Before op result s t = before_operation op result s t q o in
     let r : TurnsAlone (operated op (spun b.before s)) (ran b.behind (operated op (spun b.before s))) =
-        quiet_ran b.behind (operated op (spun b.before s)) (stays b.before) in
+    quiet_ran b.behind (operated op (spun b.before s)) (stays b.before) in
     record { amid = record { before = b.before; behind = r.harts; is = b.is ∙ r.is }; result_is = b.result_is }
 
 -- ---- a frozen hart

@@ -1,6 +1,6 @@
 -- One operation of run control on a site whose debug module is ready: the hart is selected, and the points of the request or of the Look are noted.
-use Rattle.std.proofs.Common.{◌≡◌, ◌∙◌, ◌++◌, ◌<◌, ◌^◌, ℕ, List, [], ◌∷◌, Bool, true, false, Option, Some, None, slice_get, refl, sym, ap, append_assoc,
-    append-nil, if◌then◌else◌}
+use Rattle.std.proofs.Common.{◌≡◌, ◌∙◌, ◌++◌, ◌<◌, ◌^◌, ℕ, List, [], ◌∷◌, Bool, true, false, Option, Some, None, slice_get, refl, sym, ap, append_assoc}
+use Rattle.std.proofs.Common.{append-nil, if◌then◌else◌}
 use Rattle.std.proofs.lemmas.Bool.{false≢true}
 use Rattle.rv_model.specs.Board.{Board, Hart}
 use Rattle.debug_model.specs.Addresses.{dmcontrol_address, dmstatus_address}
@@ -13,8 +13,8 @@ use Rattle.debug_model.specs.declared.point.Point.TheVariants.{Look}
 use Rattle.debug_model.specs.Commands.{is_under_way}
 use Rattle.debug_model.specs.Dmi.{value_of}
 use Rattle.debug_model.specs.Journal.{after_journal, debug_changed, debug_changed_by}
-use Rattle.debug_model.specs.Module.{DebugModule, Site, acknowledged, asked, control_points, controlled_by, noted, operated, register_at, reset_known,
-    result_by, result_of}
+use Rattle.debug_model.specs.Module.{DebugModule, Site, acknowledged, asked, control_points, controlled_by, noted, operated, register_at, reset_known}
+use Rattle.debug_model.specs.Module.{result_by, result_of}
 use Rattle.debug_model.specs.Told.{ModuleReady}
 use Rattle.abstract_debugger.specs.Debugger.{seen_at}
 use Rattle.abstract_debugger.specs.Stands.{Pointed, WentOn}

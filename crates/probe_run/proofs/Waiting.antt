@@ -1,6 +1,6 @@
 -- Looks of a wait so far, and what one more of them makes of it.
-use Rattle.std.proofs.Common.{◌≡◌, ◌++◌, ◌+◌, ◌<◌, ◌≤◌, ℕ, List, [], ◌∷◌, length, map, All, Bool, true, false, Option, refl, sym, ap, subst, arith, append-nil,
-    length-append}
+use Rattle.std.proofs.Common.{◌≡◌, ◌++◌, ◌+◌, ◌<◌, ◌≤◌, ℕ, List, [], ◌∷◌, length, map, All, Bool, true, false, Option, refl, sym, ap, subst, arith}
+use Rattle.std.proofs.Common.{append-nil, length-append}
 use Rattle.std.proofs.lemmas.List.Elements.{All-nil, All-push}
 use Rattle.debug_model.specs.declared.dmi.DmiFault.{DmiFault}
 use Rattle.debug_model.specs.Told.{Far}
@@ -46,7 +46,7 @@ pub looked_again : (test : Seen → Bool) (old now new : Tells) (looks : ℕ) (b
 looked_again test old now new looks before after word l d unseen is =
     let v : Vain test old now looks = vain_of test old now looks before l in
     let step : Looked test old new (length v.vain + 1) (sees_ack (seen_in word)) =
-        in_vain v.vain word (did_then (map look_act v.vain) old now v.did (look_act word ∷ []) new d) v.none unseen in
+    in_vain v.vain word (did_then (map look_act v.vain) old now v.did (look_act word ∷ []) new d) v.none unseen in
     subst (λ n. Looked test old new (n + 1) after) v.count (subst (λ b. Looked test old new (length v.vain + 1) b) (sym is) step)
 
 pub looked_met : (test : Seen → Bool) (old now new : Tells) (looks : ℕ) (before : Bool) (word : ℕ) → Looked test old now looks before
@@ -66,7 +66,7 @@ looked_met test old now new looks before word l d is few =
 pub looked_broke : (test : Seen → Bool) (old now : Tells) (looks : ℕ) (before : Bool) (count mid_count new_count : ℕ) (told : Option Far) (fault : DmiFault)
     → Looked test old now looks before
     → looks < most_looks → count ≤ mid_count → mid_count ≤ new_count → LookBroke [] mid_count new_count now told fault
-        → WaitBroke test [] count new_count old told fault
+    → WaitBroke test [] count new_count old told fault
 looked_broke test old now looks before count mid_count new_count told fault l few le later b =
     let v : Vain test old now looks = vain_of test old now looks before l in
     record {

@@ -43,7 +43,7 @@ each_turns P keeps (h ∷ harts) b each = each_turns P keeps harts (turn h b) (e
 
 each_changed_by : (P R : ℕ → Hart → Type 0) (change : DebugPart → DebugPart) (o : Option Hart) (h : ℕ) (b : Board) → slice_get b.harts h ≡ o
     → ((x : Hart) → P h x → R h (with_debug change x)) → ((j : ℕ) (x : Hart) → j ≢ h → P j x → R j x) → EachHart P b
-        → EachHart R (debug_changed_by o change h b)
+    → EachHart R (debug_changed_by o change h b)
 each_changed_by P R change None h b at here there each =
     λ j x is. there j x (λ same. none-some x (sym at ∙ ap (slice_get b.harts) (sym same) ∙ is)) (each j x is)
 each_changed_by P R change (Some y) h b at here there each =

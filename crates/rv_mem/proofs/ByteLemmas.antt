@@ -1,6 +1,6 @@
 -- Numbers in the bytes of a list, and what an access to the list is on its map.
-use Rattle.std.proofs.Common.{◌≡◌, ℕ, zero, suc, ◌+◌, ◌-◌, ◌*◌, ◌/◌, ◌%◌, ◌^◌, ◌<◌, ◌≤◌, true, List, [], ◌∷◌, ◌++◌, length, get_or, set, take, drop, Some,
-    None, is_some, refl, sym, ap, ◌∙◌, arith, append_assoc, append-nil, add-zero, length-set, length-drop}
+use Rattle.std.proofs.Common.{◌≡◌, ℕ, zero, suc, ◌+◌, ◌-◌, ◌*◌, ◌/◌, ◌%◌, ◌^◌, ◌<◌, ◌≤◌, true, List, [], ◌∷◌, ◌++◌, length, get_or, set, take, drop, Some}
+use Rattle.std.proofs.Common.{None, is_some, refl, sym, ap, ◌∙◌, arith, append_assoc, append-nil, add-zero, length-set, length-drop}
 use Rattle.std.specs.Int.{bytes_low_first, byte_at}
 use Rattle.std.proofs.lemmas.List.{get_or-drop, drop-set-lt, take-append-drop, take_all, drop_all}
 use Rattle.std.proofs.Math.Seq.{take-suc-set, drop-drop}

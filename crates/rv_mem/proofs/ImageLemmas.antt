@@ -1,6 +1,6 @@
 -- How many bytes RAM has and where they stand, and what stands in RAM with an image.
-use Rattle.std.proofs.Common.{◌≡◌, ℕ, zero, suc, ◌+◌, ◌-◌, ◌<◌, ◌≤◌, ◌↔◌, Bool, true, false, cond, List, [], ◌∷◌, ◌++◌, length, take, drop, length-append,
-    length-drop, Option, Some, None, is_some, IsSome, slice_get, refl, sym, ap, ◌∙◌, inl, inr, arith, add-one}
+use Rattle.std.proofs.Common.{◌≡◌, ℕ, zero, suc, ◌+◌, ◌-◌, ◌<◌, ◌≤◌, ◌↔◌, Bool, true, false, cond, List, [], ◌∷◌, ◌++◌, length, take, drop, length-append}
+use Rattle.std.proofs.Common.{length-drop, Option, Some, None, is_some, IsSome, slice_get, refl, sym, ap, ◌∙◌, inl, inr, arith, add-one}
 use Rattle.std.specs.FinMap as map
 use Rattle.std.specs.FinMap.{same_map, get-from_entries, get-entries, len-empty, len-insert, nat_cmp-IsAntisymmetric}
 use Rattle.std.specs.Cmp.{nat_cmp_total}

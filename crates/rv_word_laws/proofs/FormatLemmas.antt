@@ -53,7 +53,7 @@ pub same_b : (v w code : ℕ) (p : BType) → v < 2 ^ 32 → w < 2 ^ 32 → Matc
 same_b v w code p v_fits w_fits m n =
     let same : b_type v ≡ b_type w = m.operands_are ∙ sym n.operands_are in
     let imm : field 31 1 v * 2 ^ 12 + field 7 1 v * 2 ^ 11 + field 25 6 v * 2 ^ 5 + field 8 4 v * 2 ≡ field 31 1 w * 2 ^ 12 + field 7 1 w * 2 ^ 11 + field 25 6
-        w * 2 ^ 5 + field 8 4 w * 2 =
+    w * 2 ^ 5 + field 8 4 w * 2 =
     extended_once 4096 _ _ (omega arith) (omega arith) (omega arith) (ap (λ (q : BType). q.imm) same) in
     let rs2 = ap (λ (q : BType). q.rs2) same in
     same_fields v w v_fits w_fits (m.code_is ∙ sym n.code_is) (omega arith) (ap (λ (q : BType). q.rs1) same) (omega arith)
@@ -62,7 +62,7 @@ pub same_u : (v w code : ℕ) (p : UType) → v < 2 ^ 32 → w < 2 ^ 32 → Matc
 same_u v w code p v_fits w_fits m n =
     let same : u_type v ≡ u_type w = m.operands_are ∙ sym n.operands_are in
     let imm : field 12 20 v * 2 ^ 12 ≡ field 12 20 w * 2 ^ 12 =
-        extended_once (2 ^ 31) _ _ (omega arith) (omega arith) (omega arith) (ap (λ (q : UType). q.imm) same) in
+    extended_once (2 ^ 31) _ _ (omega arith) (omega arith) (omega arith) (ap (λ (q : UType). q.imm) same) in
     let rd = ap (λ (q : UType). q.rd) same in
     let code_is = sym (and_mask v 7) ∙ m.code_is ∙ sym n.code_is ∙ and_mask w 7 in
     omega arith
@@ -71,7 +71,7 @@ pub same_j : (v w code : ℕ) (p : JType) → v < 2 ^ 32 → w < 2 ^ 32 → Matc
 same_j v w code p v_fits w_fits m n =
     let same : j_type v ≡ j_type w = m.operands_are ∙ sym n.operands_are in
     let imm : field 31 1 v * 2 ^ 20 + field 12 8 v * 2 ^ 12 + field 20 1 v * 2 ^ 11 + field 21 10 v * 2 ≡ field 31 1 w * 2 ^ 20 + field 12 8 w * 2
-        ^ 12 + field 20 1 w * 2 ^ 11 + field 21 10 w * 2 =
+    ^ 12 + field 20 1 w * 2 ^ 11 + field 21 10 w * 2 =
     extended_once (2 ^ 20) _ _ (omega arith) (omega arith) (omega arith) (ap (λ (q : JType). q.imm) same) in
     let rd = ap (λ (q : JType). q.rd) same in
     let code_is = sym (and_mask v 7) ∙ m.code_is ∙ sym n.code_is ∙ and_mask w 7 in
@@ -123,7 +123,7 @@ same_atomic v w code p v_fits w_fits m n =
     let code_is = m.code_is ∙ sym n.code_is in
     let funct3 : bit_and v 0x707f ≡ bit_and w 0x707f = omega (arith, and_funct5 v, and_funct5 w, and_funct3 v, and_funct3 w) in
     same_but_ordering v w funct3 (ap (λ (q : RType). q.rd) same) (ap (λ (q : RType). q.rs1) same) (ap (λ (q : RType). q.rs2) same)
-        (omega (arith, and_funct5 v, and_funct5 w))
+    (omega (arith, and_funct5 v, and_funct5 w))
 
 pub same_load_reserved : (v w code : ℕ) (p : LoadReservedType) → v < 2 ^ 32 → w < 2 ^ 32 → Matches v 0xf9f0707f code (load_reserved_type v ≡ p)
     → Matches w 0xf9f0707f code (load_reserved_type w ≡ p) → bit_and v 0xf9ffffff ≡ bit_and w 0xf9ffffff
@@ -133,4 +133,4 @@ same_load_reserved v w code p v_fits w_fits m n =
     let funct3 : bit_and v 0x707f ≡ bit_and w 0x707f = omega (arith, and_funct5_rs2 v, and_funct5_rs2 w, and_funct3 v, and_funct3 w) in
     let rs2 : field 20 5 v ≡ field 20 5 w = omega (arith, and_funct5_rs2 v, and_funct5_rs2 w) in
     same_but_ordering v w funct3 (ap (λ (q : LoadReservedType). q.rd) same) (ap (λ (q : LoadReservedType). q.rs1) same) rs2
-        (omega (arith, and_funct5_rs2 v, and_funct5_rs2 w))
+    (omega (arith, and_funct5_rs2 v, and_funct5_rs2 w))

@@ -1,12 +1,12 @@
 -- Words that mean the same instruction agree in the bits that tell it.
 use Rattle.std.proofs.Common.{◌≡◌, ℕ, ◌<◌, ◌^◌, bit_and, ap, sym, ◌∙◌}
 use Rattle.rv_model.specs.declared.insn.Insn.{Insn}
-use Rattle.rv_model.specs.declared.insn.Insn.TheVariants.{Lui, Auipc, Jal, Jalr, Branch, Load, Store, Immediate, Shift, WordShift, Register, LoadReserved,
-    StoreConditional, Amo, Fence, FenceI, Csr, CsrImmediate, Ecall, Ebreak, Mret, Wfi}
+use Rattle.rv_model.specs.declared.insn.Insn.TheVariants.{Lui, Auipc, Jal, Jalr, Branch, Load, Store, Immediate, Shift, WordShift, Register, LoadReserved}
+use Rattle.rv_model.specs.declared.insn.Insn.TheVariants.{StoreConditional, Amo, Fence, FenceI, Csr, CsrImmediate, Ecall, Ebreak, Mret, Wfi}
 use Rattle.rv_model.specs.Means.{Means}
 use Rattle.rv_words.specs.KeptBits.{kept_bits}
-use Rattle.rv_word_laws.proofs.FormatLemmas.{same_atomic, same_b, same_csr, same_csr_imm, same_i, same_j, same_load_reserved, same_r, same_s, same_shift,
-    same_shift_word, same_u}
+use Rattle.rv_word_laws.proofs.FormatLemmas.{same_atomic, same_b, same_csr, same_csr_imm, same_i, same_j, same_load_reserved, same_r, same_s, same_shift}
+use Rattle.rv_word_laws.proofs.FormatLemmas.{same_shift_word, same_u}
 
 pub kept_bits_agree : (v w : ℕ) → v < 2 ^ 32 → w < 2 ^ 32 → (insn : Insn) → Means v insn → Means w insn
     → bit_and v (kept_bits insn) ≡ bit_and w (kept_bits insn)

@@ -1,6 +1,6 @@
 -- Words without blanks, number signs and line feeds part again where a line joins them, and lines where a text joins them.
-use Rattle.std.proofs.Common.{◌≡◌, ℕ, suc, ◌+◌, ◌*◌, ◌≤◌, Bool, true, false, not, ◌&&◌, ◌==◌, nat_le, cond, List, [], ◌∷◌, ◌++◌, length, take, refl, ap, ◌∙◌,
-    arith, append_assoc}
+use Rattle.std.proofs.Common.{◌≡◌, ℕ, suc, ◌+◌, ◌*◌, ◌≤◌, Bool, true, false, not, ◌&&◌, ◌==◌, nat_le, cond, List, [], ◌∷◌, ◌++◌, length, take, refl, ap}
+use Rattle.std.proofs.Common.{◌∙◌, arith, append_assoc}
 use Rattle.std.specs.List.{All, filter, list_all, slice_split, position_or_len, join_with_byte}
 use Rattle.std.proofs.lemmas.Bool.{and_parts, leb-true}
 use Rattle.std.proofs.lemmas.Bool.Decides.{nat_tests}
@@ -116,7 +116,7 @@ keep_words : (words : List (List ℕ)) → All IsWord words → filter is_not_em
 keep_words [] h = refl
 keep_words (w ∷ words) h =
     ap (λ b. cond b (w ∷ filter is_not_empty words) (filter is_not_empty words)) (All-head IsWord w words h).some
-        ∙ ap (λ ws. w ∷ ws) (keep_words words (All-tail IsWord w words h))
+    ∙ ap (λ ws. w ∷ ws) (keep_words words (All-tail IsWord w words h))
 
 pub words_of-joined : (w : List ℕ) (words : List (List ℕ)) → IsWord w → All IsWord words → words_of (join_with_byte space (w ∷ words)) ≡ w ∷ words
 unfolding words_of

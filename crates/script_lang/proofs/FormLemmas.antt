@@ -16,7 +16,7 @@ option_map-or f None y = refl
 form_in-append : (one two : Forms) (name : List ℕ) → form_in (one ++ two) name ≡ option_or (form_in one name) (form_in two name)
 form_in-append one two name =
     ap (option_map (λ row. row.1)) (find-append (λ row. bytes_eq row.0 name) one two)
-        ∙ option_map-or (λ row. row.1) (find (λ row. bytes_eq row.0 name) one) (find (λ row. bytes_eq row.0 name) two)
+    ∙ option_map-or (λ row. row.1) (find (λ row. bytes_eq row.0 name) one) (find (λ row. bytes_eq row.0 name) two)
 
 form_in-forms : (name : List ℕ) → form_in forms name ≡ option_or (form_in plain_forms name)
     (option_or (form_in hart_forms name) (option_or (form_in memory_forms name) (form_in slot_forms name)))
@@ -44,7 +44,7 @@ pub command_read-plain : (name : List ℕ) (words : Words) (o : Option Command) 
 command_read-plain name words o command e f =
     let found : form_in plain_forms name ≡ Some (no_arguments command) = sym f ∙ ap (option_map no_arguments) e in
     command_read-is name words (Some (no_arguments command))
-        (ap (λ o. option_or o (option_or (form_in hart_forms name) (option_or (form_in memory_forms name) (form_in slot_forms name)))) found)
+    (ap (λ o. option_or o (option_or (form_in hart_forms name) (option_or (form_in memory_forms name) (form_in slot_forms name)))) found)
 
 pub none_plain : (name : List ℕ) (o : Option Command) → o ≡ None → option_map no_arguments o ≡ form_in plain_forms name → form_in plain_forms name ≡ None
 none_plain name o e f = sym f ∙ ap (option_map no_arguments) e
@@ -58,7 +58,7 @@ pub command_read-hart : (name : List ℕ) (words : Words) → form_in plain_form
 command_read-hart name words p h =
     command_read-is name words (form_in hart_forms name)
     (ap (λ o. option_or o (option_or (form_in hart_forms name) (option_or (form_in memory_forms name) (form_in slot_forms name)))) p
-        ∙ or_first (form_in hart_forms name) _ h)
+    ∙ or_first (form_in hart_forms name) _ h)
 
 pub command_read-memory : (name : List ℕ) (words : Words) → form_in plain_forms name ≡ None → form_in hart_forms name ≡ None
     → is_some (form_in memory_forms name) ≡ true → command_read name words ≡ taken_by (form_in memory_forms name) words

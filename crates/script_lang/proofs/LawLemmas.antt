@@ -1,6 +1,6 @@
 -- A text is read in one way: the lines before its first fault are those that are read, whatever their number.
-use Rattle.std.proofs.Common.{◌≡◌, ℕ, suc, ◌+◌, ◌≤◌, Bool, true, false, ◌&&◌, cond, nat_le, List, [], ◌∷◌, ◌++◌, length, map, Option, Some, None, Result, Ok,
-    Err, inl, inr, refl, sym, ap, ◌∙◌, subst, arith}
+use Rattle.std.proofs.Common.{◌≡◌, ℕ, suc, ◌+◌, ◌≤◌, Bool, true, false, ◌&&◌, cond, nat_le, List, [], ◌∷◌, ◌++◌, length, map, Option, Some, None, Result}
+use Rattle.std.proofs.Common.{Ok, Err, inl, inr, refl, sym, ap, ◌∙◌, subst, arith}
 use Rattle.std.specs.List.{filter_map, cons_option}
 use Rattle.std.proofs.lemmas.Bool.{and_parts, leb-true}
 use Rattle.debug_model.specs.declared.command.Command.{Command}
@@ -65,7 +65,7 @@ one_list (line ∷ lines) cs ds h i =
     let a = first line lines cs h in
     let b = first line lines ds i in
     a.whole ∙ ap (λ r. cons_option r a.rest) (same_reading a.reading b.reading (line_read line) a.here b.here)
-        ∙ ap (cons_option b.reading) (one_list lines a.rest b.rest a.later b.later) ∙ sym b.whole
+    ∙ ap (cons_option b.reading) (one_list lines a.rest b.rest a.later b.later) ∙ sym b.whole
 
 pub one_script : (text : List ℕ) (cs ds : List Command) → IsReadAs text cs → IsReadAs text ds → cs ≡ ds
 one_script text cs ds h i = one_list (lines_of text) cs ds h.lines i.lines
@@ -129,7 +129,7 @@ faulty_at (line ∷ before) faulty after k cs ds fault h i f few =
     let b = first line before ds i in
     let same = same_reading b.reading a.reading (line_read line) b.here a.here in
     by_cases a.reading a.rest b.rest a.whole (b.whole ∙ ap (λ r. cons_option r b.rest) same)
-        (λ k g few. faulty_at before faulty after k a.rest b.rest fault a.later b.later g few)
+    (λ k g few. faulty_at before faulty after k a.rest b.rest fault a.later b.later g few)
   where
     by_cases : (r : Option Command) (cs' ds' : List Command) → cs ≡ cons_option r cs' → ds ≡ cons_option r ds'
         → ((k : ℕ) → line_read_after (k + length ds') faulty ≡ Err fault → k + length cs' ≤ most_commands → ⊥) → ⊥
@@ -146,7 +146,7 @@ faulty_at (line ∷ before) faulty after k cs ds fault h i f few =
 no_fault : (text : List ℕ) (cs : List Command) (line : ℕ) (fault : ScriptFault) → IsReadAs text cs → HasFirstFault text line fault → ⊥
 no_fault text cs line fault h i =
     faulty_at i.before i.faulty i.after 0 cs i.commands fault (subst (λ ls. AreReadAs ls cs) i.cut h.lines) i.read
-        (ap (λ n. line_read_after n i.faulty) (from_zero (length i.commands)) ∙ i.fault_is) (omega (arith, h.few))
+    (ap (λ n. line_read_after n i.faulty) (from_zero (length i.commands)) ∙ i.fault_is) (omega (arith, h.few))
   where
     from_zero : (n : ℕ) → 0 + n ≡ n
     from_zero n = omega arith
@@ -183,7 +183,7 @@ same_fault (line ∷ one) (other_line ∷ other) x y rest more k cs ds f g e h i
     let same = same_reading n.reading m.reading (line_read line) (ap line_read same_line ∙ n.here) m.here in
     by_cases m.reading m.rest n.rest m.whole (n.whole ∙ ap (λ r. cons_option r n.rest) same)
     (λ k few fewer a b. same_fault one other x y rest more k m.rest n.rest f g (tail_of line other_line (one ++ (x ∷ rest)) (other ++ (y ∷ more)) e) m.later
-        n.later few fewer a b)
+    n.later few fewer a b)
   where
     grown : (k n m : ℕ) → m ≡ suc n → k + 1 + n ≡ k + m
     grown k n m e = omega arith
@@ -198,16 +198,16 @@ same_fault (line ∷ one) (other_line ∷ other) x y rest more k cs ds f g e h i
         let l = ap length p in
         let m = ap length q in
         longer (later (k + 1) (omega (arith, l)) (omega (arith, m)) (ap (λ n. line_read_after n x) (grown k (length cs') (length cs) l) ∙ a)
-            (ap (λ n. line_read_after n y) (grown k (length ds') (length ds) m) ∙ b))
+        (ap (λ n. line_read_after n y) (grown k (length ds') (length ds) m) ∙ b))
     by_cases None cs' ds' p q later =
         longer (later k (let l = ap length p in omega (arith, l)) (let l = ap length q in omega (arith, l))
-            (ap (λ xs. line_read_after (k + length xs) x) (sym p) ∙ a) (ap (λ xs. line_read_after (k + length xs) y) (sym q) ∙ b))
+        (ap (λ xs. line_read_after (k + length xs) x) (sym p) ∙ a) (ap (λ xs. line_read_after (k + length xs) y) (sym q) ∙ b))
 
 one_fault : (text : List ℕ) (m n : ℕ) (f g : ScriptFault) → HasFirstFault text m f → HasFirstFault text n g → (m ≡ n) × (f ≡ g)
 one_fault text m n f g h i =
     let same = same_fault h.before i.before h.faulty i.faulty h.after i.after 0 h.commands i.commands f g (sym h.cut ∙ i.cut) h.read i.read
-        (omega (arith, h.few)) (omega (arith, i.few)) (ap (λ n. line_read_after n h.faulty) (zero_plus (length h.commands)) ∙ h.fault_is)
-        (ap (λ n. line_read_after n i.faulty) (zero_plus (length i.commands)) ∙ i.fault_is) in
+    (omega (arith, h.few)) (omega (arith, i.few)) (ap (λ n. line_read_after n h.faulty) (zero_plus (length h.commands)) ∙ h.fault_is)
+    (ap (λ n. line_read_after n i.faulty) (zero_plus (length i.commands)) ∙ i.fault_is) in
     (h.place ∙ ap (λ n. line_number (n + 1)) same.place ∙ sym i.place, same.fault)
   where
     zero_plus : (n : ℕ) → 0 + n ≡ n

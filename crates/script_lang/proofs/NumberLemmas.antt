@@ -1,6 +1,6 @@
 -- The value of digits, as a loop from the left reads it.
-use Rattle.std.proofs.Common.{◌≡◌, ℕ, ◌+◌, ◌*◌, ◌^◌, ◌<◌, ◌≤◌, Bool, true, false, ◌&&◌, cond, nat_lt, nat_le, bytes_eq, List, [], ◌∷◌, take, drop, length,
-    get_or, Option, Some, None, Ok, Err, SomeIff, refl, sym, ap, ◌∙◌, subst, arith}
+use Rattle.std.proofs.Common.{◌≡◌, ℕ, ◌+◌, ◌*◌, ◌^◌, ◌<◌, ◌≤◌, Bool, true, false, ◌&&◌, cond, nat_lt, nat_le, bytes_eq, List, [], ◌∷◌, take, drop, length}
+use Rattle.std.proofs.Common.{get_or, Option, Some, None, Ok, Err, SomeIff, refl, sym, ap, ◌∙◌, subst, arith}
 use Rattle.std.specs.List.{list_all}
 use Rattle.std.specs.Char.{digit_value, is_digit}
 use Rattle.std.specs.Str.Parse.{digits_value, digits_value_after, AllDigits}

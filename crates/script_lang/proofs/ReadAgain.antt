@@ -1,6 +1,6 @@
 -- Numbers, names and commands are read as what they spell.
-use Rattle.std.proofs.Common.{◌≡◌, ℕ, zero, suc, ◌+◌, ◌*◌, ◌/◌, ◌%◌, ◌^◌, ◌<◌, ◌≤◌, Bool, true, false, ◌&&◌, ◌==◌, List, [], ◌∷◌, length, take, refl, sym, ap,
-    ◌∙◌, arith, decimal, bytes_eq, Some, Ok, lit<}
+use Rattle.std.proofs.Common.{◌≡◌, ℕ, zero, suc, ◌+◌, ◌*◌, ◌/◌, ◌%◌, ◌^◌, ◌<◌, ◌≤◌, Bool, true, false, ◌&&◌, ◌==◌, List, [], ◌∷◌, length, take, refl, sym}
+use Rattle.std.proofs.Common.{ap, ◌∙◌, arith, decimal, bytes_eq, Some, Ok, lit<}
 use Rattle.std.specs.List.{list_all}
 use Rattle.std.specs.Char.{digit_char, digit_value, is_digit}
 use Rattle.std.specs.Str.Parse.{AllDigits, digits_value}
@@ -88,4 +88,4 @@ pub number_read-address : (n : ℕ) → n < 2 ^ 64 → number_read (spelled_addr
 number_read-address n small =
     number_read-hexadecimal (spelled_address n) refl
     ∙ numeral_read-digits 16 16 n (hexadecimal 16 n) (omega (arith, length-hexadecimal 16 n)) (omega (arith, length-hexadecimal 16 n))
-        (AllDigits-hexadecimal 16 n) (digits_value-hexadecimal 16 n small) small
+    (AllDigits-hexadecimal 16 n) (digits_value-hexadecimal 16 n small) small

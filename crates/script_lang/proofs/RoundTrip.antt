@@ -1,6 +1,6 @@
 -- The words of each command are read as this command.
-use Rattle.std.proofs.Common.{◌≡◌, ℕ, ◌+◌, ◌*◌, ◌-◌, ◌^◌, ◌<◌, ◌≤◌, Bool, true, false, ◌&&◌, ◌||◌, ◌==◌, nat_le, cond, List, [], ◌∷◌, refl, ap, ◌∙◌, arith,
-    codes, decimal, Option, Some, None, unwrap_or, option_map, Result, Ok, Err}
+use Rattle.std.proofs.Common.{◌≡◌, ℕ, ◌+◌, ◌*◌, ◌-◌, ◌^◌, ◌<◌, ◌≤◌, Bool, true, false, ◌&&◌, ◌||◌, ◌==◌, nat_le, cond, List, [], ◌∷◌, refl, ap, ◌∙◌, arith}
+use Rattle.std.proofs.Common.{codes, decimal, Option, Some, None, unwrap_or, option_map, Result, Ok, Err}
 use Rattle.std.specs.Option.{ok_or}
 use Rattle.std.specs.List.{list_all, list_any, find}
 use Rattle.std.specs.Fmt.{digits}
@@ -15,17 +15,17 @@ use Rattle.debug_model.specs.declared.command.WatchKind.{WatchKind}
 use Rattle.debug_model.specs.declared.command.WatchKind.TheVariants.{Load, Store, Access}
 use Rattle.debug_model.specs.declared.register_name.RegName.{RegName}
 use Rattle.debug_model.specs.declared.command.Command.{Command}
-use Rattle.debug_model.specs.declared.command.Command.TheVariants.{Idcode, Hart, State, Halt, Resume, Step, Wait, Regs, Reg, SetReg, Read, Write, Dump, Via,
-    Break, Watch, Count, Clear, Slots, Ebreak, End}
+use Rattle.debug_model.specs.declared.command.Command.TheVariants.{Idcode, Hart, State, Halt, Resume, Step, Wait, Regs, Reg, SetReg, Read, Write, Dump, Via}
+use Rattle.debug_model.specs.declared.command.Command.TheVariants.{Break, Watch, Count, Clear, Slots, Ebreak, End}
 use Rattle.debug_model.specs.declared.script_error.ScriptFault.{ScriptFault}
 use Rattle.debug_model.specs.declared.script_error.ScriptFault.TheVariants.{UnknownWord, OutOfRange}
 use Rattle.debug_model.specs.Command.{IsWithinRanges, IsBlock, all_addresses}
 use Rattle.debug_model.specs.Registers.{NamedRegister, named_registers, is_register, number_of_register, name_of_register}
 use Rattle.debug_model.specs.ScriptNumber.{number_read, numeral_read, are_digits}
-use Rattle.debug_model.specs.ScriptArguments.{Words, ◌>>=◌, one_word, number_within, ranged, ranged_or, ending, count_from, length_from, size_named,
-    path_named, watch_kind_named, switch_named, register_named}
-use Rattle.debug_model.specs.ScriptForms.{hart_form, step_form, wait_form, reg_value_form, reg_form, read_form, write_form, dump_form, via_form, break_form,
-    watch_form, count_form, clear_form, ebreak_form, plain_forms, hart_forms, memory_forms, slot_forms, command_read}
+use Rattle.debug_model.specs.ScriptArguments.{Words, ◌>>=◌, one_word, number_within, ranged, ranged_or, ending, count_from, length_from, size_named}
+use Rattle.debug_model.specs.ScriptArguments.{path_named, watch_kind_named, switch_named, register_named}
+use Rattle.debug_model.specs.ScriptForms.{hart_form, step_form, wait_form, reg_value_form, reg_form, read_form, write_form, dump_form, via_form, break_form}
+use Rattle.debug_model.specs.ScriptForms.{watch_form, count_form, clear_form, ebreak_form, plain_forms, hart_forms, memory_forms, slot_forms, command_read}
 use Rattle.debug_model.specs.Spelling.{spelled_address, spelled_path, spelled_watch_kind, spelled_switch, spelled_words}
 use Rattle.debug_model.specs.Grammar.{finished, words_read}
 use Rattle.script_lang.proofs.CleanLemmas.{IsWord, is_name, IsWord-from_name}
@@ -95,7 +95,7 @@ unfolding is_row name_of_register register_named
 register_again n h =
     let found = register_row n h in
     let number = same_number (number_of_register found.row.0) found.row.1 n
-        (and_parts (is_name found.row.0) (is_number (number_of_register found.row.0) found.row.1) found.passes).1 found.number in
+    (and_parts (is_name found.row.0) (is_number (number_of_register found.row.0) found.row.1) found.passes).1 found.number in
     ap register_named found.name ∙ ap (λ o. ok_or o UnknownWord >>= (λ number. Ok (record { 0 = number }))) number
 
 -- arguments
@@ -104,7 +104,7 @@ within : (least most n : ℕ) (word : List ℕ) → number_read word ≡ Ok n �
 unfolding number_within
 within least most n word e low high =
     ap (λ t. t >>= (λ number. cond (nat_le least number && nat_le number most) (Ok number) (Err OutOfRange))) e
-        ∙ ap (λ b. cond b (Ok n) (Err OutOfRange)) (tests_hold least most n low high)
+    ∙ ap (λ b. cond b (Ok n) (Err OutOfRange)) (tests_hold least most n low high)
   where
     tests_hold : (a b n : ℕ) → a ≤ n → n ≤ b → (nat_le a n && nat_le n b) ≡ true
     tests_hold a b n low high = grind (arith, nat_tests)
@@ -240,7 +240,7 @@ unfolding read_form
 read_again size address count h =
     then _ _ _ _ (size_again size (spelled_address address ∷ decimal count ∷ []))
     (then _ _ _ _ (spelled_again (all_addresses - count_of size) address (decimal count ∷ []) (address_fits size address count h)
-        (block_small size address count h))
+    (block_small size address count h))
     (then _ _ _ _ (count_again (count_of size) address count [] h) refl))
 
 below : (n p : ℕ) → n < p → n ≤ p - 1
@@ -252,7 +252,7 @@ unfolding write_form
 write_again size address value count h v =
     then _ _ _ _ (size_again size (spelled_address address ∷ spelled_address value ∷ decimal count ∷ []))
     (then _ _ _ _ (spelled_again (all_addresses - count_of size) address (spelled_address value ∷ decimal count ∷ []) (address_fits size address count h)
-        (block_small size address count h))
+    (block_small size address count h))
     (then _ _ _ _ (spelled_again (256 ^ count_of size - 1) value (decimal count ∷ []) (below value (256 ^ count_of size) v) (value_small size value v))
     (then _ _ _ _ (count_again (count_of size) address count [] h) refl)))
 
@@ -261,7 +261,7 @@ unfolding dump_form
 dump_again address count h =
     let small = length_small address count h in
     then _ _ _ _ (spelled_again (all_addresses - 1) address (decimal count ∷ []) (below address (2 ^ 64) small) small)
-        (then _ _ _ _ (length_again address count [] h) refl)
+    (then _ _ _ _ (length_again address count [] h) refl)
 
 via_again : (path : Path) → via_form (spelled_path path ∷ []) ≡ Ok (Via path, [])
 unfolding via_form
@@ -276,7 +276,7 @@ watch_again : (kind : WatchKind) (address : ℕ) → address < 2 ^ 64
 unfolding watch_form
 watch_again kind address small =
     then _ _ _ _ (watch_kind_again kind (spelled_address address ∷ []))
-        (then _ _ _ _ (spelled_again (all_addresses - 1) address [] (below address (2 ^ 64) small) small) refl)
+    (then _ _ _ _ (spelled_again (all_addresses - 1) address [] (below address (2 ^ 64) small) small) refl)
 
 turns_again : (n : ℕ) → 1 ≤ n → n ≤ 16383 → count_form (decimal n ∷ []) ≡ Ok (Count n, [])
 unfolding count_form
@@ -305,10 +305,10 @@ words_read-spelled (SetReg register value) h =
     words_again (codes "reg") (name_of_register register.0 ∷ spelled_address value ∷ []) (SetReg register value) (set_reg_again register value h.0 h.1)
 words_read-spelled (Read size address count) h =
     words_again (codes "read") (decimal (count_of size) ∷ spelled_address address ∷ decimal count ∷ []) (Read size address count)
-        (read_again size address count h)
+    (read_again size address count h)
 words_read-spelled (Write size address value count) h =
     words_again (codes "write") (decimal (count_of size) ∷ spelled_address address ∷ spelled_address value ∷ decimal count ∷ [])
-        (Write size address value count) (write_again size address value count h.0 h.1)
+    (Write size address value count) (write_again size address value count h.0 h.1)
 words_read-spelled (Dump address count) h =
     words_again (codes "dump") (spelled_address address ∷ decimal count ∷ []) (Dump address count) (dump_again address count h)
 words_read-spelled (Via path) h = words_again (codes "via") (spelled_path path ∷ []) (Via path) (via_again path)

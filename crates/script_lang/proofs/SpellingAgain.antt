@@ -1,6 +1,6 @@
 -- A spelled line is read as its command, and a spelled text as its commands.
-use Rattle.std.proofs.Common.{◌≡◌, ℕ, ◌+◌, ◌*◌, ◌<◌, ◌≤◌, ◌^◌, Bool, true, false, cond, List, [], ◌∷◌, length, map, refl, sym, ap, ◌∙◌, subst, arith, codes,
-    decimal, Some, None, Ok, Err, lit<, lit≤}
+use Rattle.std.proofs.Common.{◌≡◌, ℕ, ◌+◌, ◌*◌, ◌<◌, ◌≤◌, ◌^◌, Bool, true, false, cond, List, [], ◌∷◌, length, map, refl, sym, ap, ◌∙◌, subst, arith, codes}
+use Rattle.std.proofs.Common.{decimal, Some, None, Ok, Err, lit<, lit≤}
 use Rattle.std.specs.List.{All, join_with_byte, flat_map}
 use Rattle.std.specs.Char.{digit_value}
 use Rattle.std.specs.Str.Parse.{AllDigits}
@@ -16,17 +16,17 @@ use Rattle.debug_model.specs.declared.command.Path.TheVariants.{Progbuf, Bus}
 use Rattle.debug_model.specs.declared.command.WatchKind.{WatchKind}
 use Rattle.debug_model.specs.declared.command.WatchKind.TheVariants.{Load, Store, Access}
 use Rattle.debug_model.specs.declared.command.Command.{Command}
-use Rattle.debug_model.specs.declared.command.Command.TheVariants.{Idcode, Hart, State, Halt, Resume, Step, Wait, Regs, Reg, SetReg, Read, Write, Dump, Via,
-    Break, Watch, Count, Clear, Slots, Ebreak, End}
+use Rattle.debug_model.specs.declared.command.Command.TheVariants.{Idcode, Hart, State, Halt, Resume, Step, Wait, Regs, Reg, SetReg, Read, Write, Dump, Via}
+use Rattle.debug_model.specs.declared.command.Command.TheVariants.{Break, Watch, Count, Clear, Slots, Ebreak, End}
 use Rattle.debug_model.specs.declared.script_error.ScriptFault.TheVariants.{NotAscii}
 use Rattle.debug_model.specs.Command.{IsWithinRanges, most_commands}
 use Rattle.debug_model.specs.Registers.{name_of_register}
 use Rattle.debug_model.specs.ScriptText.{is_plain, is_not_empty, words_of, content_of, lines_of, line_feed, space}
 use Rattle.debug_model.specs.Grammar.{words_read, line_read, most_text, AreReadAs, IsReadAs}
-use Rattle.debug_model.specs.Spelling.{hexadecimal, spelled_address, spelled_path, spelled_watch_kind, spelled_switch, spelled_words, spelling, spelled_line,
-    spelled_script}
-use Rattle.script_lang.proofs.CleanLemmas.{IsWord, IsWordByte, IsLineByte, IsWordByte-from_range, IsWord-from_name, longest_word, line_of_words,
-    length-line_of_words, content_of-plain, is_plain-line, words_of-joined, lines_of-line}
+use Rattle.debug_model.specs.Spelling.{hexadecimal, spelled_address, spelled_path, spelled_watch_kind, spelled_switch, spelled_words, spelling}
+use Rattle.debug_model.specs.Spelling.{spelled_line, spelled_script}
+use Rattle.script_lang.proofs.CleanLemmas.{IsWord, IsWordByte, IsLineByte, IsWordByte-from_range, IsWord-from_name, longest_word, line_of_words}
+use Rattle.script_lang.proofs.CleanLemmas.{length-line_of_words, content_of-plain, is_plain-line, words_of-joined, lines_of-line}
 use Rattle.script_lang.proofs.ReadAgain.{length-hexadecimal, AllDigits-hexadecimal}
 use Rattle.script_lang.proofs.RoundTrip.{IsWord-register, words_read-spelled}
 
@@ -56,8 +56,12 @@ not_empty (d ∷ ds) h = refl
 decimal_word : (n : ℕ) → n < 2 ^ 64 → IsWord (decimal n)
 decimal_word n small =
     let numeral = (decimal_is_IsNumeral n small).0 in
-    record { some = not_empty (decimal n) numeral.0; few = length-decimal-le longest_word n (lit< tt) (omega arith) small; bytes =
-        digits_are_word_bytes 10 (decimal n) (omega arith) numeral.1 }
+    record {
+      some = not_empty (decimal n) numeral.0;
+      few = length-decimal-le longest_word n (lit< tt) (omega arith) small;
+      bytes =
+          digits_are_word_bytes 10 (decimal n) (omega arith) numeral.1;
+    }
 
 address_word : (n : ℕ) → IsWord (spelled_address n)
 address_word n = record {
@@ -65,7 +69,7 @@ address_word n = record {
   few = omega (arith, length-hexadecimal 16 n);
   bytes = All-cons IsWordByte 48 (120 ∷ hexadecimal 16 n) (IsWordByte-from_range 48 (omega arith) (omega arith))
       (All-cons IsWordByte 120 (hexadecimal 16 n) (IsWordByte-from_range 120 (omega arith) (omega arith))
-          (digits_are_word_bytes 16 (hexadecimal 16 n) (omega arith) (AllDigits-hexadecimal 16 n)));
+      (digits_are_word_bytes 16 (hexadecimal 16 n) (omega arith) (AllDigits-hexadecimal 16 n)));
 }
 
 size_word : (size : Size) → IsWord (decimal (count_of size))
@@ -111,18 +115,18 @@ are_words Regs h = one (codes "regs") (IsWord-from_name (codes "regs") refl)
 are_words (Reg register) h = two (codes "reg") (name_of_register register.0) (IsWord-from_name (codes "reg") refl) (IsWord-register register.0 h)
 are_words (SetReg register value) h =
     three (codes "reg") (name_of_register register.0) (spelled_address value) (IsWord-from_name (codes "reg") refl) (IsWord-register register.0 h.0)
-        (address_word value)
+    (address_word value)
 are_words (Read size address count) h =
     name (codes "read") (IsWord-from_name (codes "read") refl) (decimal (count_of size) ∷ spelled_address address ∷ decimal count ∷ [])
     (three (decimal (count_of size)) (spelled_address address) (decimal count) (size_word size) (address_word address) (decimal_word count (omega arith)))
 are_words (Write size address value count) h =
     name (codes "write") (IsWord-from_name (codes "write") refl)
-        (decimal (count_of size) ∷ spelled_address address ∷ spelled_address value ∷ decimal count ∷ [])
+    (decimal (count_of size) ∷ spelled_address address ∷ spelled_address value ∷ decimal count ∷ [])
     (name (decimal (count_of size)) (size_word size) (spelled_address address ∷ spelled_address value ∷ decimal count ∷ [])
     (three (spelled_address address) (spelled_address value) (decimal count) (address_word address) (address_word value) (decimal_word count (omega arith))))
 are_words (Dump address count) h =
     three (codes "dump") (spelled_address address) (decimal count) (IsWord-from_name (codes "dump") refl) (address_word address)
-        (decimal_word count (omega arith))
+    (decimal_word count (omega arith))
 are_words (Via path) h = two (codes "via") (spelled_path path) (IsWord-from_name (codes "via") refl) (path_word path)
 are_words (Break address) h = two (codes "break") (spelled_address address) (IsWord-from_name (codes "break") refl) (address_word address)
 are_words (Watch kind address) h =

@@ -1,6 +1,6 @@
 -- The words of a line, from its front: a blank there is passed over, and a word there is the first.
-use Rattle.std.proofs.Common.{◌≡◌, ℕ, suc, ◌+◌, ◌<◌, ◌≤◌, Bool, true, false, not, cond, List, [], ◌∷◌, take, drop, length, get_or, refl, sym, ap, ◌∙◌, subst,
-    arith}
+use Rattle.std.proofs.Common.{◌≡◌, ℕ, suc, ◌+◌, ◌<◌, ◌≤◌, Bool, true, false, not, cond, List, [], ◌∷◌, take, drop, length, get_or, refl, sym, ap, ◌∙◌}
+use Rattle.std.proofs.Common.{subst, arith}
 use Rattle.std.specs.List.{filter, slice_split, onto_first, position_or_len}
 use Rattle.debug_model.specs.ScriptText.{is_blank, is_not_empty, words_of}
 use Rattle.script_lang.specs.Cursor.{StartsWithWord}
@@ -60,9 +60,9 @@ words_of-first [] n h s e = absurd (omega arith)
 words_of-first (byte ∷ bytes) n h s e =
     let whole : Cut (byte ∷ bytes) n = subst (Cut (byte ∷ bytes)) (sym e) (cut (byte ∷ bytes)) in
     let counted : n ≡ cond (not (is_blank byte)) (suc (position_or_len is_blank bytes)) 0 =
-        e ∙ ap (λ k. cond (not (is_blank byte)) k 0) (one_more (position_or_len is_blank bytes)) in
+    e ∙ ap (λ k. cond (not (is_blank byte)) k 0) (one_more (position_or_len is_blank bytes)) in
     ap (filter is_not_empty) whole.parts ∙ with_first (take n (byte ∷ bytes)) whole.tail (first_of_cut byte bytes n counted s)
-        ∙ ap (λ ws. take n (byte ∷ bytes) ∷ ws) whole.rest
+    ∙ ap (λ ws. take n (byte ∷ bytes) ∷ ws) whole.rest
   where
     one_more : (n : ℕ) → 1 + n ≡ suc n
     one_more n = omega arith

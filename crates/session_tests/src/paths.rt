@@ -2,7 +2,10 @@
 //! Registers and their fields are those of RISC-V Debug Specification 1.0, "Debug Module Registers".
 
 use arrayvec::ArrayVec;
-use debug_model::{Dmi, DmiFault, DmiOp, OPERATIONS_MOST};
+use debug_model::{
+    AbstractCommand, Abstractcs, Data0, Data1, Dmcontrol, Dmi, DmiFault, DmiOp, Dmstatus,
+    OPERATIONS_MOST, Progbuf0, Progbuf1, Sbaddress0, Sbaddress1, Sbcs, Sbdata0, Sbdata1,
+};
 use jt_base::MemorySink;
 use probe_session::{Ended, run_script};
 use script_lang::parse;
@@ -10,37 +13,23 @@ use std::alloc::Global;
 use std::process::Abort;
 use std::test::Fail;
 
-const DATA0: u8 = 0x04;
-
-const DATA1: u8 = 0x05;
-
-const DMCONTROL: u8 = 0x10;
-
-const DMSTATUS: u8 = 0x11;
-
-const ABSTRACTCS: u8 = 0x16;
-
-const COMMAND: u8 = 0x17;
-
-const PROGBUF0: u8 = 0x20;
-
-const PROGBUF1: u8 = 0x21;
-
-const SBCS: u8 = 0x38;
-
-const SBADDRESS0: u8 = 0x39;
-
-const SBADDRESS1: u8 = 0x3a;
-
-const SBDATA0: u8 = 0x3c;
-
-const SBDATA1: u8 = 0x3d;
-
 /// What an access by the hart moves memory through.
-const BY_HART: [u8; 5] = [DATA0, DATA1, COMMAND, PROGBUF0, PROGBUF1];
+const BY_HART: [u8; 5] = [
+    Data0::ADDRESS,
+    Data1::ADDRESS,
+    AbstractCommand::ADDRESS,
+    Progbuf0::ADDRESS,
+    Progbuf1::ADDRESS,
+];
 
 /// What an access by the system bus moves it through.
-const BY_BUS: [u8; 5] = [SBCS, SBADDRESS0, SBADDRESS1, SBDATA0, SBDATA1];
+const BY_BUS: [u8; 5] = [
+    Sbcs::ADDRESS,
+    Sbaddress0::ADDRESS,
+    Sbaddress1::ADDRESS,
+    Sbdata0::ADDRESS,
+    Sbdata1::ADDRESS,
+];
 
 /// Room for everything that a session here prints.
 const AMPLE: usize = 4_096;
@@ -54,14 +43,14 @@ struct SteadyDmi {
 /// What a register answers, at all times.
 fn steady(address: u8) -> u32 {
     match address {
-        DATA0 => 0x1111_1111,
-        DATA1 => 0x0111_1111,
-        DMCONTROL => 1,
-        DMSTATUS => 0x000c_0383,
-        ABSTRACTCS => 0x0400_0002,
-        SBCS => 0x2004_080f,
-        SBDATA0 => 0x2222_2222,
-        SBDATA1 => 0x0222_2222,
+        Data0::ADDRESS => 0x1111_1111,
+        Data1::ADDRESS => 0x0111_1111,
+        Dmcontrol::ADDRESS => 1,
+        Dmstatus::ADDRESS => 0x000c_0383,
+        Abstractcs::ADDRESS => 0x0400_0002,
+        Sbcs::ADDRESS => 0x2004_080f,
+        Sbdata0::ADDRESS => 0x2222_2222,
+        Sbdata1::ADDRESS => 0x0222_2222,
         _ => 0,
     }
 }

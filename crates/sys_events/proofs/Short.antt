@@ -29,6 +29,6 @@ short_more xs i x d inside is few before k below = elim (cases_lt k i) [
   | inr last ↦
       let here : k ≡ i = omega arith in
       let same : array_vec_len (get_or xs k d) ≡ array_vec_len x = ap (λ n. array_vec_len (get_or xs n d)) here
-          ∙ ap array_vec_len (sym (get_or_read xs i x inside is d)) in
+      ∙ ap array_vec_len (sym (get_or_read xs i x inside is d)) in
       omega arith
 ]

@@ -20,7 +20,7 @@ pub no_address : (test : ℕ → Bool) (a n : ℕ) → ((i : ℕ) → i < n → 
 no_address test a zero e = refl
 no_address test a (suc n) e =
     let rest : list_any test (addresses (a + 1) n) ≡ false =
-        no_address test (a + 1) n (λ i h. ap test (ap (λ k. k % 2 ^ 64) (omega arith)) ∙ e (suc i) (omega arith)) in
+    no_address test (a + 1) n (λ i h. ap test (ap (λ k. k % 2 ^ 64) (omega arith)) ∙ e (suc i) (omega arith)) in
     let at : a % 2 ^ 64 ≡ (a + 0) % 2 ^ 64 = ap (λ k. k % 2 ^ 64) (omega arith) in
     rw rest (ap (λ b. b || false) (ap test at ∙ e 0 (omega arith)))
 

@@ -42,7 +42,7 @@ pub unarmed_quiet : (touch : Touch) (slots : List Slot) → some_armed slots ≡
 unarmed_quiet touch [] h = refl
 unarmed_quiet touch (s ∷ slots) h =
     rw (quiet_trigger touch s.trigger s.tdata2 (first_false (slot_armed s) (some_armed slots) h))
-        (unarmed_quiet touch slots (second_false (slot_armed s) (some_armed slots) h))
+    (unarmed_quiet touch slots (second_false (slot_armed s) (some_armed slots) h))
 
 pub unarmed_still : (slots : List Slot) → some_armed slots ≡ false → counted_down slots ≡ slots
 unarmed_still [] h = refl

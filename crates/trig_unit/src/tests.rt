@@ -1,13 +1,6 @@
 use crate::Slots;
+use rv_model::register_number::{TDATA1, TDATA2, TINFO, TSELECT};
 use rv_model::{SlotSet, Touch};
-
-const TSELECT: u16 = 0x7a0;
-
-const TDATA1: u16 = 0x7a1;
-
-const TDATA2: u16 = 0x7a2;
-
-const TINFO: u16 = 0x7a4;
 
 /// `tdata1` of a free slot.
 const FREE: u64 = 0xf800_0000_0000_0000;

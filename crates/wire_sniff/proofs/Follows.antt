@@ -62,7 +62,7 @@ pub follows_all : (answers signs : List ℕ) (sniffer : Sniffer) (was now : Opti
     → now ≡ grown (whole_text answers signs) was
 follows_all answers signs sniffer was now f =
     let whole : whole_text answers signs ≡ f.front = f.cut ∙ ap (λ lines. f.front ++ text_of_all lines) (lines-nil f.at)
-        ∙ ap (λ text. f.front ++ text) text-none ∙ append-nil f.front in
+    ∙ ap (λ text. f.front ++ text) text-none ∙ append-nil f.front in
     f.put ∙ ap (λ text. grown text was) (sym whole)
 
 pub drop_past : (n : ℕ) (xs : List ℕ) → length xs ≤ n → drop n xs ≡ []

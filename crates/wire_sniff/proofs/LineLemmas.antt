@@ -41,7 +41,7 @@ whole_given scan given taken is width = is.given_is ∙ take_all most_bits given
 pub done_lines : (scan : Scan) (given status : List Bool) (taken : List (Option Bool)) (asked : Option DmiOp) (shown : Option DmiLine)
     → IsScan scan given taken → scan.count ≡ dmi_width
     → scan.status ≡ Some status → number_of status ≡ status_done → asked ≡ operation_of (dmi_of (number_of scan.given))
-        → lines_shown shown ≡ requested_line asked
+    → lines_shown shown ≡ requested_line asked
     → lines_shown shown ≡ dmi_lines given taken
 done_lines scan given status taken asked shown is width seen done asked_is shown_is =
     shown_is
@@ -50,5 +50,5 @@ done_lines scan given status taken asked shown is width seen done asked_is shown
   where
     by_status : (n : ℕ) → n ≡ status_done
         → cond (n == status_done) (requested_line (operation_of (dmi_of (number_of given)))) (cond (n == status_failed) (DmiFailed ∷ []) (DmiBusy ∷ []))
-            ≡ requested_line (operation_of (dmi_of (number_of given)))
+        ≡ requested_line (operation_of (dmi_of (number_of given)))
     by_status n e = rw e refl

@@ -1,6 +1,6 @@
 -- What a scan of the whole of dmi shows, by the captured and the given bits.
-use Rattle.std.proofs.Common.{◌≡◌, ◌∙◌, ℕ, zero, suc, ◌<◌, ◌==◌, List, [], ◌∷◌, ◌++◌, length, map, take, drop, Bool, true, false, Option, Some, cond, refl, ap,
-    sym, arith, lit<}
+use Rattle.std.proofs.Common.{◌≡◌, ◌∙◌, ℕ, zero, suc, ◌<◌, ◌==◌, List, [], ◌∷◌, ◌++◌, length, map, take, drop, Bool, true, false, Option, Some, cond, refl}
+use Rattle.std.proofs.Common.{ap, sym, arith, lit<}
 use Rattle.std.proofs.Math.Seq.{take-append_seam}
 use Rattle.jt_base.specs.BitList.{digit, number_of}
 use Rattle.debug_model.specs.Dmi.{heard}
@@ -40,7 +40,7 @@ status_of (a ∷ b ∷ was) some = omega (arith, digit-small a, digit-small b)
 
 by_status : (was given : List Bool) (status : ℕ) → status ≡ (heard was).op
     → cond (status == status_done) (requested_line (operation_of (dmi_of (number_of given)))) (cond (status == status_failed) (DmiFailed ∷ []) (DmiBusy ∷ []))
-        ≡ outcome_lines (heard was).op given
+    ≡ outcome_lines (heard was).op given
 by_status was given status is = ap (λ n. outcome_lines n given) is
 
 at_width : (given : List Bool) (taken : List (Option Bool)) → length given ≡ dmi_width

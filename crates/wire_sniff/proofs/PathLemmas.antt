@@ -1,6 +1,6 @@
 -- What a sniffer shows of clocks, of bits that are shifted, and of the paths of a debugger.
-use Rattle.std.proofs.Common.{◌≡◌, ◌∙◌, ℕ, ◌<◌, ◌^◌, List, [], ◌∷◌, ◌++◌, length, map, Bool, true, false, Option, None, Some, refl, ap, sym, subst, arith,
-    append_assoc, append-nil}
+use Rattle.std.proofs.Common.{◌≡◌, ◌∙◌, ℕ, ◌<◌, ◌^◌, List, [], ◌∷◌, ◌++◌, length, map, Bool, true, false, Option, None, Some, refl, ap, sym, subst, arith}
+use Rattle.std.proofs.Common.{append_assoc, append-nil}
 use Rattle.jt_base.specs.BitList.{bits_of}
 use Rattle.jt_base.specs.BitLaws.{number_of-bits_of}
 use Rattle.debug_model.specs.declared.tap_state.TapState.{TapState}
@@ -10,8 +10,8 @@ use Rattle.debug_model.specs.Port.{captured_code, idcode_code, instruction_width
 use Rattle.debug_model.specs.Scan.{asked_bits, asked_clock, clock, dr_bytes, ir_bytes, reset_bytes, sent_bits, to_idle, to_shift_dr, to_shift_ir}
 use Rattle.debug_model.specs.Signs.{sign_of}
 use Rattle.debug_model.specs.Tap.{next_state}
-use Rattle.wire_sniff.specs.Sniffed.{Sniffer, SniffedLine, code_after, code_in, data_lines, given_after, lines_at, lines_from, scanned_code, sign_lines,
-    sniffed, sniffer_after, taken_after}
+use Rattle.wire_sniff.specs.Sniffed.{Sniffer, SniffedLine, code_after, code_in, data_lines, given_after, lines_at, lines_from, scanned_code, sign_lines}
+use Rattle.wire_sniff.specs.Sniffed.{sniffed, sniffer_after, taken_after}
 use Rattle.wire_sniff.specs.Sniffed.SniffedLine.{Instruction}
 use Rattle.wire_sniff.specs.Laws.{Shows, standing, answers_of, unseen}
 
@@ -44,11 +44,11 @@ shows_nothing s = record { shown = refl; leads = refl }
 abbrev clocked : TapState → Bool → Bool → ℕ → List Bool → List (Option Bool) → Option Bool → List ℕ → Sniffer
 clocked state tms tdi code given taken answer coming =
     standing (next_state state tms) (code_in (next_state state tms) (code_after state given code)) (given_after state tdi given)
-        (taken_after state answer taken) answer coming
+    (taken_after state answer taken) answer coming
 
 clock_shows : (tms tdi : Bool) (state : TapState) (code : ℕ) (given : List Bool) (taken : List (Option Bool)) (answer : Option Bool) (coming : List ℕ)
     → Shows (standing state code given taken answer coming) (clock tms tdi) (lines_at state (standing state code given taken answer coming))
-        (clocked state tms tdi code given taken None coming)
+    (clocked state tms tdi code given taken None coming)
 unfolding lines_from sniffer_after
 clock_shows false false state code given taken answer coming = record { shown = append-nil _; leads = refl }
 clock_shows false true state code given taken answer coming = record { shown = append-nil _; leads = refl }
@@ -57,7 +57,7 @@ clock_shows true true state code given taken answer coming = record { shown = ap
 
 asked_shows : (tms tdi level : Bool) (state : TapState) (code : ℕ) (given : List Bool) (taken : List (Option Bool)) (answer : Option Bool) (coming : List ℕ)
     → Shows (standing state code given taken answer (answer_byte level ∷ coming)) (asked_clock tms tdi)
-        (lines_at state (standing state code given taken answer (answer_byte level ∷ coming)))
+    (lines_at state (standing state code given taken answer (answer_byte level ∷ coming)))
     (clocked state tms tdi code given taken (Some level) coming)
 unfolding lines_from sniffer_after
 asked_shows false false false state code given taken answer coming = record { shown = append-nil _; leads = refl }
@@ -95,12 +95,12 @@ asked_bits_show code (b ∷ c ∷ given) (l ∷ levels) was taken answer rest so
       last = more.last;
       shows =
           let there = shows_both _ _ _ (asked_clock false b) (asked_bits (c ∷ given)) [] []
-              (asked_shows false b l ShiftDr code was taken answer (answers_of levels ++ rest)) more.shows in
+          (asked_shows false b l ShiftDr code was taken answer (answers_of levels ++ rest)) more.shows in
           subst (λ bits. Shows (standing ShiftDr code was taken answer (answers_of (l ∷ levels) ++ rest)) (asked_bits (b ∷ c ∷ given)) []
-              (standing Exit1Dr code bits (taken ++ map Some (l ∷ levels)) more.last rest))
+          (standing Exit1Dr code bits (taken ++ map Some (l ∷ levels)) more.last rest))
           (behind_one was b (c ∷ given))
           (subst (λ bits. Shows (standing ShiftDr code was taken answer (answers_of (l ∷ levels) ++ rest)) (asked_bits (b ∷ c ∷ given)) []
-              (standing Exit1Dr code ((was ++ b ∷ []) ++ c ∷ given) bits more.last rest))
+          (standing Exit1Dr code ((was ++ b ∷ []) ++ c ∷ given) bits more.last rest))
           (behind_one taken (Some l) (map Some levels)) there);
     }
 
@@ -122,10 +122,10 @@ sent_bits_show code (b ∷ c ∷ given) was taken answer coming some =
       shows =
           let there = shows_both _ _ _ (clock false b) (sent_bits (c ∷ given)) [] [] (clock_shows false b ShiftIr code was taken answer coming) more.shows in
           subst (λ bits. Shows (standing ShiftIr code was taken answer coming) (sent_bits (b ∷ c ∷ given)) []
-              (standing Exit1Ir code bits (taken ++ unseen (b ∷ c ∷ given)) more.last coming))
+          (standing Exit1Ir code bits (taken ++ unseen (b ∷ c ∷ given)) more.last coming))
           (behind_one was b (c ∷ given))
           (subst (λ bits. Shows (standing ShiftIr code was taken answer coming) (sent_bits (b ∷ c ∷ given)) []
-              (standing Exit1Ir code ((was ++ b ∷ []) ++ c ∷ given) bits more.last coming))
+          (standing Exit1Ir code ((was ++ b ∷ []) ++ c ∷ given) bits more.last coming))
           (behind_one taken None (unseen (c ∷ given))) there);
     }
 
@@ -148,7 +148,7 @@ data_to_idle_shows code given taken answer coming = record { shown = append-nil 
 
 code_to_idle_shows : (code : ℕ) (given : List Bool) (taken : List (Option Bool)) (answer : Option Bool) (coming : List ℕ)
     → Shows (standing Exit1Ir code given taken answer coming) to_idle (Instruction (scanned_code given) ∷ [])
-        (standing RunTestIdle (scanned_code given) given taken None coming)
+    (standing RunTestIdle (scanned_code given) given taken None coming)
 unfolding lines_from sniffer_after
 code_to_idle_shows code given taken answer coming = record { shown = refl; leads = refl }
 
@@ -159,9 +159,9 @@ pub data_scan_shows : (code : ℕ) (given levels was : List Bool) (taken : List 
 data_scan_shows code given levels was taken answer rest some same =
     let bits = asked_bits_show code given levels [] [] None rest some same in
     shows_both _ _ _ to_shift_dr (asked_bits given ++ to_idle) [] (data_lines code given (map Some levels))
-        (to_shift_dr_shows code was taken answer (answers_of levels ++ rest))
+    (to_shift_dr_shows code was taken answer (answers_of levels ++ rest))
     (shows_both _ _ _ (asked_bits given) to_idle [] (data_lines code given (map Some levels)) bits.shows
-        (data_to_idle_shows code given (map Some levels) bits.last rest))
+    (data_to_idle_shows code given (map Some levels) bits.last rest))
 
 -- five bits of an instruction are all that stays
 scanned : (next : ℕ) → next < 2 ^ instruction_width → scanned_code (bits_of instruction_width next) ≡ next
@@ -179,10 +179,10 @@ code_scan_shows code next was taken answer coming small =
     let given = bits_of instruction_width next in
     let bits = sent_bits_show code given [] [] None coming (code_width next) in
     subst (λ n. Shows (standing RunTestIdle code was taken answer coming) (ir_bytes next) (Instruction n ∷ [])
-        (standing RunTestIdle n given (unseen given) None coming)) (scanned next small)
+    (standing RunTestIdle n given (unseen given) None coming)) (scanned next small)
     (shows_both _ _ _ to_shift_ir (sent_bits given ++ to_idle) [] (Instruction (scanned_code given) ∷ []) (to_shift_ir_shows code was taken answer coming)
     (shows_both _ _ _ (sent_bits given) to_idle [] (Instruction (scanned_code given) ∷ []) bits.shows
-        (code_to_idle_shows code given (unseen given) bits.last coming)))
+    (code_to_idle_shows code given (unseen given) bits.last coming)))
 
 pub reset_shows : (code : ℕ) (was : List Bool) (taken : List (Option Bool)) (answer : Option Bool) (coming : List ℕ)
     → Shows (standing RunTestIdle code was taken answer coming) reset_bytes [] (standing RunTestIdle idcode_code was taken None coming)

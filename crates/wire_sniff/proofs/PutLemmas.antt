@@ -1,6 +1,6 @@
 -- Pieces that a sink takes one after another, and where one of them fails.
-use Rattle.std.proofs.Common.{◌≡◌, ◌∙◌, ℕ, List, [], ◌∷◌, ◌++◌, Option, Some, None, ap, subst, refl, append_assoc, append-nil, sym, Result, Ok, Err, OnOk,
-    OnErr}
+use Rattle.std.proofs.Common.{◌≡◌, ◌∙◌, ℕ, List, [], ◌∷◌, ◌++◌, Option, Some, None, ap, subst, refl, append_assoc, append-nil, sym, Result, Ok, Err, OnOk}
+use Rattle.std.proofs.Common.{OnErr}
 use Rattle.jt_base.specs.Sink.{grown, GrewByPrefix}
 use Rattle.debug_model.specs.Signs.{sign_of}
 use Rattle.wire_sniff.specs.Sniffed.{SniffedLine, Sniffer, sign_lines}

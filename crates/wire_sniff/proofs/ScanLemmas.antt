@@ -1,6 +1,6 @@
 -- What one more bit does to what is kept of a scan.
-use Rattle.std.proofs.Common.{◌≡◌, ◌∙◌, ℕ, zero, suc, ◌+◌, ◌*◌, ◌/◌, ◌<◌, Bool, true, false, nat_lt, cond, List, [], ◌∷◌, ◌++◌, length, take, Option, None,
-    Some, refl, ap, arith, sym, length-append, lit<}
+use Rattle.std.proofs.Common.{◌≡◌, ◌∙◌, ℕ, zero, suc, ◌+◌, ◌*◌, ◌/◌, ◌<◌, Bool, true, false, nat_lt, cond, List, [], ◌∷◌, ◌++◌, length, take, Option, None}
+use Rattle.std.proofs.Common.{Some, refl, ap, arith, sym, length-append, lit<}
 use Rattle.jt_base.specs.BitList.{bits_of, digit, most_bits, number_of}
 use Rattle.debug_model.specs.Port.{captured_code}
 use Rattle.debug_model.specs.Scan.{stays}

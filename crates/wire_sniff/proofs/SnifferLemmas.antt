@@ -5,8 +5,8 @@ use Rattle.debug_model.specs.declared.sign.Sign.TheVariants.{Pins, Ask, Light, R
 use Rattle.debug_model.specs.declared.tap_state.TapState.{TapState}
 use Rattle.debug_model.specs.declared.tap_state.TapState.TheVariants.{UpdateDr, UpdateIr}
 use Rattle.debug_model.specs.Tap.{next_state}
-use Rattle.wire_sniff.specs.Sniffed.{Sniffer as Definition, code_in, given_after, lines_at, sign_lines, sniffed, sniffer_falls, sniffer_held, sniffer_risen,
-    sniffer_rises, taken_after}
+use Rattle.wire_sniff.specs.Sniffed.{Sniffer as Definition, code_in, given_after, lines_at, sign_lines, sniffed, sniffer_falls, sniffer_held, sniffer_risen}
+use Rattle.wire_sniff.specs.Sniffed.{sniffer_rises, taken_after}
 use Rattle.wire_sniff.specs.State.{IsScan, IsSniffer, is_fall}
 use Rattle.wire_sniff.specs.declared.sniffer.Sniffer.{Sniffer}
 
@@ -15,7 +15,7 @@ use Rattle.wire_sniff.specs.declared.sniffer.Sniffer.{Sniffer}
 pub risen : (tms tdi : Bool) (answers : List ℕ) (old new : Sniffer) (s : Definition) → IsSniffer answers old s
     → new.tck ≡ true → new.state ≡ next_state old.state tms → new.is_held ≡ old.is_held → new.code ≡ code_in new.state old.code
     → ((given : List Bool) (taken : List (Option Bool)) → IsScan old.scan given taken
-        → IsScan new.scan (given_after old.state tdi given) (taken_after old.state old.answer taken))
+    → IsScan new.scan (given_after old.state tdi given) (taken_after old.state old.answer taken))
     → new.answer ≡ old.answer → new.heard ≡ old.heard → IsSniffer answers new (sniffer_risen tms tdi s)
 risen tms tdi answers old new s is tck state held code scan answer heard =
     let behind : new.state ≡ next_state s.state tms = state ∙ ap (λ t. next_state t tms) is.state in

@@ -4,34 +4,37 @@ ghost use Rattle.std.specs.Prelude.{IfOk};
 ghost use Rattle.dbg_module.specs.Served.{IsServedBy};
 
 use crate::{Module, Performed};
-use debug_model::DmiOp;
+use debug_model::{
+    AbstractCommand, Abstractauto, Abstractcs, Data0, Data1, Dmcontrol, DmiOp, Dmstatus, Haltsum0,
+    Progbuf0, Sbaddress0, Sbcs, Sbdata0,
+};
 use hart_debug::{DebugHart, Start};
 use rv_mem::{Ram, RamFault};
 use std::alloc::Global;
 
-pub const DATA0: u8 = 0x04;
+pub const DATA0: u8 = Data0::ADDRESS;
 
-pub const DATA1: u8 = 0x05;
+pub const DATA1: u8 = Data1::ADDRESS;
 
-pub const DMCONTROL: u8 = 0x10;
+pub const DMCONTROL: u8 = Dmcontrol::ADDRESS;
 
-pub const DMSTATUS: u8 = 0x11;
+pub const DMSTATUS: u8 = Dmstatus::ADDRESS;
 
-pub const ABSTRACTCS: u8 = 0x16;
+pub const ABSTRACTCS: u8 = Abstractcs::ADDRESS;
 
-pub const COMMAND: u8 = 0x17;
+pub const COMMAND: u8 = AbstractCommand::ADDRESS;
 
-pub const ABSTRACTAUTO: u8 = 0x18;
+pub const ABSTRACTAUTO: u8 = Abstractauto::ADDRESS;
 
-pub const PROGBUF0: u8 = 0x20;
+pub const PROGBUF0: u8 = Progbuf0::ADDRESS;
 
-pub const SBCS: u8 = 0x38;
+pub const SBCS: u8 = Sbcs::ADDRESS;
 
-pub const SBADDRESS0: u8 = 0x39;
+pub const SBADDRESS0: u8 = Sbaddress0::ADDRESS;
 
-pub const SBDATA0: u8 = 0x3c;
+pub const SBDATA0: u8 = Sbdata0::ADDRESS;
 
-pub const HALTSUM0: u8 = 0x40;
+pub const HALTSUM0: u8 = Haltsum0::ADDRESS;
 
 /// `ebreak`
 pub const EBREAK: u32 = 0x0010_0073;

@@ -14,24 +14,24 @@ pub returns-then-is_err-clause-served : goal.returns-then-is_err-clause-served
 returns-then-is_err-clause-served g c =
     put_failed _ _ _ _ _ _ _ _ _
     (piece_by c.in-Ok.count c.take.new.into _ _ _ _ (g.N.Net.state c.take.new.self) c.args.bench.now c.feed-fed.new.self c.in-Ok.ensures.most
-        (grind (arith, common_steps)) c.in-Ok.ensures.gave c.in-Ok.ensures.took c.feed-fed.ensures.chip c.new-answers.ensures c.feed-fed.ensures.answers
-        c.deref.ensures.0)
+    (grind (arith, common_steps)) c.in-Ok.ensures.gave c.in-Ok.ensures.took c.feed-fed.ensures.chip c.new-answers.ensures c.feed-fed.ensures.answers
+    c.deref.ensures.0)
     (grind (arith, common_steps))
 
 pub returns-in-Quit-clause-served : goal.returns-in-Quit-clause-served
 returns-in-Quit-clause-served g c =
     piece_quit _ _ _ _ _ _ _ _ _ c.in-Quit.field-0
     (piece_by c.in-Ok.count c.take.new.into _ _ _ _ (g.N.Net.state c.take.new.self) c.args.bench.now c.feed-fed.new.self c.in-Ok.ensures.most
-        (grind (arith, common_steps)) c.in-Ok.ensures.gave c.in-Ok.ensures.took c.feed-fed.ensures.chip c.new-answers.ensures c.feed-fed.ensures.answers
-        c.deref.ensures.0)
+    (grind (arith, common_steps)) c.in-Ok.ensures.gave c.in-Ok.ensures.took c.feed-fed.ensures.chip c.new-answers.ensures c.feed-fed.ensures.answers
+    c.deref.ensures.0)
     (grind (arith, common_steps)) (grind (arith, common_steps))
 
 pub returns-in-Bad-clause-served : goal.returns-in-Bad-clause-served
 returns-in-Bad-clause-served g c =
     piece_bad _ _ _ _ _ _ _ _ _ _ _
     (piece_by c.in-Ok.count c.take.new.into _ _ _ _ (g.N.Net.state c.take.new.self) c.args.bench.now c.feed-fed.new.self c.in-Ok.ensures.most
-        (grind (arith, common_steps)) c.in-Ok.ensures.gave c.in-Ok.ensures.took c.feed-fed.ensures.chip c.new-answers.ensures c.feed-fed.ensures.answers
-        c.deref.ensures.0)
+    (grind (arith, common_steps)) c.in-Ok.ensures.gave c.in-Ok.ensures.took c.feed-fed.ensures.chip c.new-answers.ensures c.feed-fed.ensures.answers
+    c.deref.ensures.0)
     (grind (arith, common_steps)) (grind (arith, common_steps))
 
 pub returns-in-Bad-clause-place : goal.returns-in-Bad-clause-place
@@ -42,6 +42,6 @@ pub returns-in-EventLimit-clause-served : goal.returns-in-EventLimit-clause-serv
 returns-in-EventLimit-clause-served g c =
     piece_limit _ _ _ _ _ _ _ _ _ c.in-EventLimit.field-0
     (piece_by c.in-Ok.count c.take.new.into _ _ _ _ (g.N.Net.state c.take.new.self) c.args.bench.now c.feed-fed.new.self c.in-Ok.ensures.most
-        (grind (arith, common_steps)) c.in-Ok.ensures.gave c.in-Ok.ensures.took c.feed-fed.ensures.chip c.new-answers.ensures c.feed-fed.ensures.answers
-        c.deref.ensures.0)
+    (grind (arith, common_steps)) c.in-Ok.ensures.gave c.in-Ok.ensures.took c.feed-fed.ensures.chip c.new-answers.ensures c.feed-fed.ensures.answers
+    c.deref.ensures.0)
     (grind (arith, common_steps)) (grind (arith, common_steps))

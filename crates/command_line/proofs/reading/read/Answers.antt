@@ -8,7 +8,7 @@ pub returns-in-Some : goal.returns-in-Some
 returns-in-Some c =
     let words = map string_bytes c.args.words.now in
     gives_at _ _ _ _ (ap (λ p. job_by p words) c.as_str.ensures.value ∙ job_of-first c.args.words.now c.in-Some.program.now c.in-Some.ensures.value)
-        c.read_by.ensures
+    c.read_by.ensures
 
 pub returns-in-None : goal.returns-in-None
 returns-in-None c = job_of-empty c.args.words.now c.in-None.ensures.value

@@ -12,7 +12,7 @@ pub returns-then-eq-2 : goal.returns-then-eq-2
 returns-then-eq-2 c =
     let words = map string_bytes c.args.words.now in
     gives_at _ _ _ _ (sym (job_by-probe c.args.program.now words (sym c.eq.ensures ∙ c.if-eq.false) (sym c.eq-else-eq.ensures ∙ c.if-eq-2.true)))
-        c.read_probe.ensures
+    c.read_probe.ensures
 
 pub returns-then-eq-3 : goal.returns-then-eq-3
 returns-then-eq-3 c =
@@ -30,5 +30,5 @@ pub returns-else-eq-4 : goal.returns-else-eq-4
 returns-else-eq-4 c =
     let words = map string_bytes c.args.words.now in
     job_by-none c.args.program.now words (sym c.eq.ensures ∙ c.if-eq.false) (sym c.eq-else-eq.ensures ∙ c.if-eq-2.false)
-        (sym c.eq-else-eq-2.ensures ∙ c.if-eq-3.false)
+    (sym c.eq-else-eq-2.ensures ∙ c.if-eq-3.false)
     (sym c.eq-else-eq-3.ensures ∙ c.if-eq-4.false)

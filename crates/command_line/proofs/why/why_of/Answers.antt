@@ -4,8 +4,9 @@ use Rattle.command_line.specs.declared.why.Refused.TheVariants.{NoJob}
 use Rattle.command_line.proofs.why.why_of.Goals as goal
 
 pub returns-then-eq : goal.returns-then-eq
-returns-then-eq c = record { named = named_both c.args.job.now (map string_bytes c.args.words.now) _ (sym c.eq.ensures ∙ c.if-eq.true) c.why_both.ensures.named
-    }
+returns-then-eq c = record {
+  named = named_both c.args.job.now (map string_bytes c.args.words.now) _ (sym c.eq.ensures ∙ c.if-eq.true) c.why_both.ensures.named;
+}
 
 pub returns-then-eq-2 : goal.returns-then-eq-2
 returns-then-eq-2 c = record {

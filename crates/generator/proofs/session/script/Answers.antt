@@ -7,8 +7,13 @@ pub loop-number-preserved : goal.loop-number-preserved
 loop-number-preserved c = record {
   made = one_more_block c.args.words.now c.loop-number.number c.loop-number.script c.append.new.script c.block.result
       c.loop-number.invariant.made c.in_ok-append.ensures c.block.ensures.value;
-  count = omega (arith, ap length c.in_ok-append.ensures, length-append c.loop-number.script c.block.result, ap length c.block.ensures.value,
-      c.loop-number.invariant.count);
+  count = omega (
+    arith,
+    ap length c.in_ok-append.ensures,
+    length-append c.loop-number.script c.block.result,
+    ap length c.block.ensures.value,
+    c.loop-number.invariant.count,
+  );
 }
 
 pub returns : goal.returns

@@ -21,7 +21,7 @@ returns-then-is_empty-clause-front g c = on_err c.flush.result (c.pieces.rest.no
 pub returns-in_err-count-clause-front : goal.returns-in_err-count-clause-front
 returns-in_err-count-clause-front g c =
     on_err {P = AppendsFront (g.W.Write.contents c.args.out.now) (g.W.Write.contents c.write.new.self) c.args.bytes.now} _
-        (c.pieces.rest.now, kept _ _ _ _ _ c.pieces.invariant c.in_err-count.ensures.bytes)
+    (c.pieces.rest.now, kept _ _ _ _ _ c.pieces.invariant c.in_err-count.ensures.bytes)
 
 pub returns-then-count-eq0-clause-front : goal.returns-then-count-eq0-clause-front
 returns-then-count-eq0-clause-front g c = (_, one_more _ _ _ _ _ _ c.pieces.invariant c.in_ok-count.ensures.bytes)

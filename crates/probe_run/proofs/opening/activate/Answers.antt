@@ -10,7 +10,7 @@ use Rattle.probe_run.proofs.opening.activate.Goals as goal
 pub returns-in_err-many-clause-fails : goal.returns-in_err-many-clause-fails
 returns-in_err-many-clause-fails g c =
     if_err (ActivationFails (g.D.Dmi.seen c.args.link.now).fault_count (g.D.Dmi.seen c.many.new.self).fault_count (told (g.D.Dmi.seen c.args.link.now))
-        (told (g.D.Dmi.seen c.many.new.self)))
+    (told (g.D.Dmi.seen c.many.new.self)))
     c.from_residual.result _ c.from_residual.ensures.1
     (first_broke c.word_for.result _ _ (told (g.D.Dmi.seen c.args.link.now)) _ _ c.word_for.ensures c.in_err-many.ensures.cut c.in_err-many.ensures.cause)
 
@@ -28,12 +28,12 @@ reads-init g c = record {
 pub returns-in_err-last-clause-fails : goal.returns-in_err-last-clause-fails
 returns-in_err-last-clause-fails g c =
     if_err (ActivationFails (g.D.Dmi.seen c.args.link.now).fault_count (g.D.Dmi.seen c.read.new.self).fault_count (told (g.D.Dmi.seen c.args.link.now))
-        (told (g.D.Dmi.seen c.read.new.self)))
+    (told (g.D.Dmi.seen c.read.new.self)))
     c.from_residual-in_err-last.result _ c.from_residual-in_err-last.ensures.1
     (at_read (reads_broke (told (g.D.Dmi.seen c.args.link.now)) (told (g.D.Dmi.seen c.reads.link)) c.reads.reads c.reads.last
-        (g.D.Dmi.seen c.args.link.now).fault_count (g.D.Dmi.seen c.reads.link).fault_count
+    (g.D.Dmi.seen c.args.link.now).fault_count (g.D.Dmi.seen c.reads.link).fault_count
     (g.D.Dmi.seen c.read.new.self).fault_count _ _ c.reads.invariant.reads (sym c.is_active.ensures ∙ c.reads-test.true)
-        (omega (arith, c.reads.invariant.few, c.if-reads-eq-READS_MOST.false))
+    (omega (arith, c.reads.invariant.few, c.if-reads-eq-READS_MOST.false))
     c.reads.invariant.later c.read.ensures.keeps.later c.in_err-last.ensures.cut c.in_err-last.ensures.cause))
 
 pub reads-preserved : goal.reads-preserved
@@ -45,6 +45,6 @@ reads-preserved g c = record {
   reads = reads_again (told (g.D.Dmi.seen c.args.link.now)) (told (g.D.Dmi.seen c.reads.link)) (told (g.D.Dmi.seen c.read.new.self)) c.reads.reads c.reads.last
       c.in_ok-last.last c.reads.invariant.reads
       (did_got dmcontrol_address c.in_ok-last.last _ _ _ _ c.in_ok-last.ensures.operated c.in_ok-last.ensures.answers)
-          (sym c.is_active.ensures ∙ c.reads-test.true);
+      (sym c.is_active.ensures ∙ c.reads-test.true);
   few = omega (arith, c.reads.invariant.few, c.if-reads-eq-READS_MOST.false);
 }

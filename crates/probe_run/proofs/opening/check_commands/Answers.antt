@@ -10,7 +10,7 @@ use Rattle.probe_run.proofs.opening.check_commands.Goals as goal
 pub returns-in_err-word-clause-fails : goal.returns-in_err-word-clause-fails
 returns-in_err-word-clause-fails g c =
     if_err (CommandsFail (g.D.Dmi.seen c.args.link.now).fault_count (g.D.Dmi.seen c.read.new.self).fault_count (told (g.D.Dmi.seen c.args.link.now))
-        (told (g.D.Dmi.seen c.read.new.self))) c.from_residual.result _ c.from_residual.ensures.1
+    (told (g.D.Dmi.seen c.read.new.self))) c.from_residual.result _ c.from_residual.ensures.1
     (broke_op (Read abstractcs_address) _ _ _ _ _ _ _ refl c.in_err-word.ensures.cut c.in_err-word.ensures.cause)
 
 pub returns-then-not-has_commands-clause-fails : goal.returns-then-not-has_commands-clause-fails

@@ -10,163 +10,267 @@ use Rattle.probe_run.proofs.opening.connect.Goals as goal
 pub returns-in_err-check_transport-clause-fails : goal.returns-in_err-check_transport-clause-fails
 returns-in_err-check_transport-clause-fails g c =
     if_err (ConnectFails (g.D.Dmi.seen c.args.link.now).fault_count (g.D.Dmi.seen c.check_transport.new.link).fault_count (told (g.D.Dmi.seen c.args.link.now))
-        (told (g.D.Dmi.seen c.check_transport.new.link))) c.from_residual.result _ c.from_residual.ensures.1
+    (told (g.D.Dmi.seen c.check_transport.new.link))) c.from_residual.result _ c.from_residual.ensures.1
     (transport_fails (g.D.Dmi.seen c.args.link.now).fault_count (g.D.Dmi.seen c.check_transport.new.link).fault_count (told (g.D.Dmi.seen c.args.link.now))
-        (told (g.D.Dmi.seen c.check_transport.new.link)) _ c.in_err-check_transport.ensures.fails)
+    (told (g.D.Dmi.seen c.check_transport.new.link)) _ c.in_err-check_transport.ensures.fails)
 
 pub returns-in_err-check_transport-clause-lost : goal.returns-in_err-check_transport-clause-lost
 returns-in_err-check_transport-clause-lost g c =
     if_err (LosesLoaded (g.D.Dmi.seen c.args.link.now).far (g.D.Dmi.seen c.check_transport.new.link).far) c.from_residual.result _ c.from_residual.ensures.1
     (loses_loaded (told (g.D.Dmi.seen c.args.link.now)) (told (g.D.Dmi.seen c.check_transport.new.link)) (g.D.Dmi.seen c.args.link.now).fault_count
-        (g.D.Dmi.seen c.check_transport.new.link).fault_count _
-        (transport_fails (g.D.Dmi.seen c.args.link.now).fault_count (g.D.Dmi.seen c.check_transport.new.link).fault_count (told (g.D.Dmi.seen c.args.link.now))
-        (told (g.D.Dmi.seen c.check_transport.new.link)) _ c.in_err-check_transport.ensures.fails))
+    (g.D.Dmi.seen c.check_transport.new.link).fault_count _
+    (transport_fails (g.D.Dmi.seen c.args.link.now).fault_count (g.D.Dmi.seen c.check_transport.new.link).fault_count (told (g.D.Dmi.seen c.args.link.now))
+    (told (g.D.Dmi.seen c.check_transport.new.link)) _ c.in_err-check_transport.ensures.fails))
 
 pub returns-in_err-activate-clause-fails : goal.returns-in_err-activate-clause-fails
 returns-in_err-activate-clause-fails g c =
     if_err (ConnectFails (g.D.Dmi.seen c.args.link.now).fault_count (g.D.Dmi.seen c.activate.new.link).fault_count (told (g.D.Dmi.seen c.args.link.now))
-        (told (g.D.Dmi.seen c.activate.new.link))) c.from_residual-in_err-activate.result _ c.from_residual-in_err-activate.ensures.1
+    (told (g.D.Dmi.seen c.activate.new.link))) c.from_residual-in_err-activate.result _ c.from_residual-in_err-activate.ensures.1
     (activation_fails (g.D.Dmi.seen c.args.link.now).fault_count (g.D.Dmi.seen c.check_transport.new.link).fault_count
-        (g.D.Dmi.seen c.activate.new.link).fault_count (told (g.D.Dmi.seen c.args.link.now)) (told (g.D.Dmi.seen c.check_transport.new.link))
-        (told (g.D.Dmi.seen c.activate.new.link)) _
-        (let a0 : (g.D.Dmi.seen c.args.link.now).fault_count ≤ (g.D.Dmi.seen c.check_transport.new.link).fault_count = c.check_transport.ensures.keeps.later in
-        omega arith) c.activate.ensures.keeps.later c.in_ok-check_transport.ensures.did c.in_err-activate.ensures.fails)
+    (g.D.Dmi.seen c.activate.new.link).fault_count (told (g.D.Dmi.seen c.args.link.now)) (told (g.D.Dmi.seen c.check_transport.new.link))
+    (told (g.D.Dmi.seen c.activate.new.link)) _
+    (let a0 : (g.D.Dmi.seen c.args.link.now).fault_count ≤ (g.D.Dmi.seen c.check_transport.new.link).fault_count = c.check_transport.ensures.keeps.later in
+    omega arith) c.activate.ensures.keeps.later c.in_ok-check_transport.ensures.did c.in_err-activate.ensures.fails)
 
 pub returns-in_err-activate-clause-lost : goal.returns-in_err-activate-clause-lost
 returns-in_err-activate-clause-lost g c =
     if_err (LosesLoaded (g.D.Dmi.seen c.args.link.now).far (g.D.Dmi.seen c.activate.new.link).far) c.from_residual-in_err-activate.result _
-        c.from_residual-in_err-activate.ensures.1
+    c.from_residual-in_err-activate.ensures.1
     (loses_loaded (told (g.D.Dmi.seen c.args.link.now)) (told (g.D.Dmi.seen c.activate.new.link)) (g.D.Dmi.seen c.args.link.now).fault_count
-        (g.D.Dmi.seen c.activate.new.link).fault_count _
-        (activation_fails (g.D.Dmi.seen c.args.link.now).fault_count (g.D.Dmi.seen c.check_transport.new.link).fault_count
-        (g.D.Dmi.seen c.activate.new.link).fault_count (told (g.D.Dmi.seen c.args.link.now)) (told (g.D.Dmi.seen c.check_transport.new.link))
-        (told (g.D.Dmi.seen c.activate.new.link)) _
-        (let a0 : (g.D.Dmi.seen c.args.link.now).fault_count ≤ (g.D.Dmi.seen c.check_transport.new.link).fault_count = c.check_transport.ensures.keeps.later in
-        omega arith) c.activate.ensures.keeps.later c.in_ok-check_transport.ensures.did c.in_err-activate.ensures.fails))
+    (g.D.Dmi.seen c.activate.new.link).fault_count _
+    (activation_fails (g.D.Dmi.seen c.args.link.now).fault_count (g.D.Dmi.seen c.check_transport.new.link).fault_count
+    (g.D.Dmi.seen c.activate.new.link).fault_count (told (g.D.Dmi.seen c.args.link.now)) (told (g.D.Dmi.seen c.check_transport.new.link))
+    (told (g.D.Dmi.seen c.activate.new.link)) _
+    (let a0 : (g.D.Dmi.seen c.args.link.now).fault_count ≤ (g.D.Dmi.seen c.check_transport.new.link).fault_count = c.check_transport.ensures.keeps.later in
+    omega arith) c.activate.ensures.keeps.later c.in_ok-check_transport.ensures.did c.in_err-activate.ensures.fails))
 
 pub returns-in_err-check_module-clause-fails : goal.returns-in_err-check_module-clause-fails
 returns-in_err-check_module-clause-fails g c =
     if_err (ConnectFails (g.D.Dmi.seen c.args.link.now).fault_count (g.D.Dmi.seen c.check_module.new.link).fault_count (told (g.D.Dmi.seen c.args.link.now))
-        (told (g.D.Dmi.seen c.check_module.new.link))) c.from_residual-in_err-check_module.result _ c.from_residual-in_err-check_module.ensures.1
+    (told (g.D.Dmi.seen c.check_module.new.link))) c.from_residual-in_err-check_module.result _ c.from_residual-in_err-check_module.ensures.1
     (module_fails (g.D.Dmi.seen c.args.link.now).fault_count (g.D.Dmi.seen c.activate.new.link).fault_count (g.D.Dmi.seen c.check_module.new.link).fault_count
-        (told (g.D.Dmi.seen c.args.link.now)) (told (g.D.Dmi.seen c.activate.new.link)) (told (g.D.Dmi.seen c.check_module.new.link)) _
-        (let a0 : (g.D.Dmi.seen c.args.link.now).fault_count ≤ (g.D.Dmi.seen c.check_transport.new.link).fault_count = c.check_transport.ensures.keeps.later in
-        let a1 : (g.D.Dmi.seen c.check_transport.new.link).fault_count ≤ (g.D.Dmi.seen c.activate.new.link).fault_count = c.activate.ensures.keeps.later in
-        omega arith) c.check_module.ensures.keeps.later
-        (record { mid = (told (g.D.Dmi.seen c.check_transport.new.link)); first = c.in_ok-check_transport.ensures.did; second = c.in_ok-activate.ensures.did })
-        c.in_err-check_module.ensures.fails)
+    (told (g.D.Dmi.seen c.args.link.now)) (told (g.D.Dmi.seen c.activate.new.link)) (told (g.D.Dmi.seen c.check_module.new.link)) _
+    (let a0 : (g.D.Dmi.seen c.args.link.now).fault_count ≤ (g.D.Dmi.seen c.check_transport.new.link).fault_count = c.check_transport.ensures.keeps.later in
+    let a1 : (g.D.Dmi.seen c.check_transport.new.link).fault_count ≤ (g.D.Dmi.seen c.activate.new.link).fault_count = c.activate.ensures.keeps.later in
+    omega arith) c.check_module.ensures.keeps.later
+    (record { mid = (told (g.D.Dmi.seen c.check_transport.new.link)); first = c.in_ok-check_transport.ensures.did; second = c.in_ok-activate.ensures.did })
+    c.in_err-check_module.ensures.fails)
 
 pub returns-in_err-check_module-clause-lost : goal.returns-in_err-check_module-clause-lost
 returns-in_err-check_module-clause-lost g c =
     if_err (LosesLoaded (g.D.Dmi.seen c.args.link.now).far (g.D.Dmi.seen c.check_module.new.link).far) c.from_residual-in_err-check_module.result _
-        c.from_residual-in_err-check_module.ensures.1
+    c.from_residual-in_err-check_module.ensures.1
     (loses_loaded (told (g.D.Dmi.seen c.args.link.now)) (told (g.D.Dmi.seen c.check_module.new.link)) (g.D.Dmi.seen c.args.link.now).fault_count
-        (g.D.Dmi.seen c.check_module.new.link).fault_count _
-        (module_fails (g.D.Dmi.seen c.args.link.now).fault_count (g.D.Dmi.seen c.activate.new.link).fault_count
-        (g.D.Dmi.seen c.check_module.new.link).fault_count (told (g.D.Dmi.seen c.args.link.now)) (told (g.D.Dmi.seen c.activate.new.link))
-        (told (g.D.Dmi.seen c.check_module.new.link)) _
-        (let a0 : (g.D.Dmi.seen c.args.link.now).fault_count ≤ (g.D.Dmi.seen c.check_transport.new.link).fault_count = c.check_transport.ensures.keeps.later in
-        let a1 : (g.D.Dmi.seen c.check_transport.new.link).fault_count ≤ (g.D.Dmi.seen c.activate.new.link).fault_count = c.activate.ensures.keeps.later in
-        omega arith) c.check_module.ensures.keeps.later
-        (record { mid = (told (g.D.Dmi.seen c.check_transport.new.link)); first = c.in_ok-check_transport.ensures.did; second = c.in_ok-activate.ensures.did })
-        c.in_err-check_module.ensures.fails))
+    (g.D.Dmi.seen c.check_module.new.link).fault_count _
+    (module_fails (g.D.Dmi.seen c.args.link.now).fault_count (g.D.Dmi.seen c.activate.new.link).fault_count
+    (g.D.Dmi.seen c.check_module.new.link).fault_count (told (g.D.Dmi.seen c.args.link.now)) (told (g.D.Dmi.seen c.activate.new.link))
+    (told (g.D.Dmi.seen c.check_module.new.link)) _
+    (let a0 : (g.D.Dmi.seen c.args.link.now).fault_count ≤ (g.D.Dmi.seen c.check_transport.new.link).fault_count = c.check_transport.ensures.keeps.later in
+    let a1 : (g.D.Dmi.seen c.check_transport.new.link).fault_count ≤ (g.D.Dmi.seen c.activate.new.link).fault_count = c.activate.ensures.keeps.later in
+    omega arith) c.check_module.ensures.keeps.later
+    (record { mid = (told (g.D.Dmi.seen c.check_transport.new.link)); first = c.in_ok-check_transport.ensures.did; second = c.in_ok-activate.ensures.did })
+    c.in_err-check_module.ensures.fails))
 
 pub returns-in_err-check_commands-clause-fails : goal.returns-in_err-check_commands-clause-fails
 returns-in_err-check_commands-clause-fails g c =
     if_err (ConnectFails (g.D.Dmi.seen c.args.link.now).fault_count (g.D.Dmi.seen c.check_commands.new.link).fault_count (told (g.D.Dmi.seen c.args.link.now))
-        (told (g.D.Dmi.seen c.check_commands.new.link))) c.from_residual-in_err-check_commands.result _ c.from_residual-in_err-check_commands.ensures.1
+    (told (g.D.Dmi.seen c.check_commands.new.link))) c.from_residual-in_err-check_commands.result _ c.from_residual-in_err-check_commands.ensures.1
     (commands_fail (g.D.Dmi.seen c.args.link.now).fault_count (g.D.Dmi.seen c.check_module.new.link).fault_count
-        (g.D.Dmi.seen c.check_commands.new.link).fault_count (told (g.D.Dmi.seen c.args.link.now)) (told (g.D.Dmi.seen c.check_module.new.link))
-        (told (g.D.Dmi.seen c.check_commands.new.link)) _
-        (let a0 : (g.D.Dmi.seen c.args.link.now).fault_count ≤ (g.D.Dmi.seen c.check_transport.new.link).fault_count = c.check_transport.ensures.keeps.later in
-        let a1 : (g.D.Dmi.seen c.check_transport.new.link).fault_count ≤ (g.D.Dmi.seen c.activate.new.link).fault_count = c.activate.ensures.keeps.later in
-        let a2 : (g.D.Dmi.seen c.activate.new.link).fault_count ≤ (g.D.Dmi.seen c.check_module.new.link).fault_count = c.check_module.ensures.keeps.later in
-        omega arith) c.check_commands.ensures.keeps.later
-        (record { mid = (told (g.D.Dmi.seen c.activate.new.link)); first =
-        (record { mid = (told (g.D.Dmi.seen c.check_transport.new.link)); first = c.in_ok-check_transport.ensures.did; second =
-        c.in_ok-activate.ensures.did }); second = c.in_ok-check_module.ensures.did }) c.in_err-check_commands.ensures.fails)
+    (g.D.Dmi.seen c.check_commands.new.link).fault_count (told (g.D.Dmi.seen c.args.link.now)) (told (g.D.Dmi.seen c.check_module.new.link))
+    (told (g.D.Dmi.seen c.check_commands.new.link)) _
+    (let a0 : (g.D.Dmi.seen c.args.link.now).fault_count ≤ (g.D.Dmi.seen c.check_transport.new.link).fault_count = c.check_transport.ensures.keeps.later in
+    let a1 : (g.D.Dmi.seen c.check_transport.new.link).fault_count ≤ (g.D.Dmi.seen c.activate.new.link).fault_count = c.activate.ensures.keeps.later in
+    let a2 : (g.D.Dmi.seen c.activate.new.link).fault_count ≤ (g.D.Dmi.seen c.check_module.new.link).fault_count = c.check_module.ensures.keeps.later in
+    omega arith) c.check_commands.ensures.keeps.later
+    (record {
+      mid = (told (g.D.Dmi.seen c.activate.new.link));
+      first =
+          (record {
+            mid = (told (g.D.Dmi.seen c.check_transport.new.link));
+            first = c.in_ok-check_transport.ensures.did;
+            second =
+                c.in_ok-activate.ensures.did;
+          });
+      second = c.in_ok-check_module.ensures.did;
+    }) c.in_err-check_commands.ensures.fails)
 
 pub returns-in_err-check_commands-clause-lost : goal.returns-in_err-check_commands-clause-lost
 returns-in_err-check_commands-clause-lost g c =
     if_err (LosesLoaded (g.D.Dmi.seen c.args.link.now).far (g.D.Dmi.seen c.check_commands.new.link).far) c.from_residual-in_err-check_commands.result _
-        c.from_residual-in_err-check_commands.ensures.1
+    c.from_residual-in_err-check_commands.ensures.1
     (loses_loaded (told (g.D.Dmi.seen c.args.link.now)) (told (g.D.Dmi.seen c.check_commands.new.link)) (g.D.Dmi.seen c.args.link.now).fault_count
-        (g.D.Dmi.seen c.check_commands.new.link).fault_count _
-        (commands_fail (g.D.Dmi.seen c.args.link.now).fault_count (g.D.Dmi.seen c.check_module.new.link).fault_count
-        (g.D.Dmi.seen c.check_commands.new.link).fault_count (told (g.D.Dmi.seen c.args.link.now)) (told (g.D.Dmi.seen c.check_module.new.link))
-        (told (g.D.Dmi.seen c.check_commands.new.link)) _
-        (let a0 : (g.D.Dmi.seen c.args.link.now).fault_count ≤ (g.D.Dmi.seen c.check_transport.new.link).fault_count = c.check_transport.ensures.keeps.later in
-        let a1 : (g.D.Dmi.seen c.check_transport.new.link).fault_count ≤ (g.D.Dmi.seen c.activate.new.link).fault_count = c.activate.ensures.keeps.later in
-        let a2 : (g.D.Dmi.seen c.activate.new.link).fault_count ≤ (g.D.Dmi.seen c.check_module.new.link).fault_count = c.check_module.ensures.keeps.later in
-        omega arith) c.check_commands.ensures.keeps.later
-        (record { mid = (told (g.D.Dmi.seen c.activate.new.link)); first =
-        (record { mid = (told (g.D.Dmi.seen c.check_transport.new.link)); first = c.in_ok-check_transport.ensures.did; second =
-        c.in_ok-activate.ensures.did }); second = c.in_ok-check_module.ensures.did }) c.in_err-check_commands.ensures.fails))
+    (g.D.Dmi.seen c.check_commands.new.link).fault_count _
+    (commands_fail (g.D.Dmi.seen c.args.link.now).fault_count (g.D.Dmi.seen c.check_module.new.link).fault_count
+    (g.D.Dmi.seen c.check_commands.new.link).fault_count (told (g.D.Dmi.seen c.args.link.now)) (told (g.D.Dmi.seen c.check_module.new.link))
+    (told (g.D.Dmi.seen c.check_commands.new.link)) _
+    (let a0 : (g.D.Dmi.seen c.args.link.now).fault_count ≤ (g.D.Dmi.seen c.check_transport.new.link).fault_count = c.check_transport.ensures.keeps.later in
+    let a1 : (g.D.Dmi.seen c.check_transport.new.link).fault_count ≤ (g.D.Dmi.seen c.activate.new.link).fault_count = c.activate.ensures.keeps.later in
+    let a2 : (g.D.Dmi.seen c.activate.new.link).fault_count ≤ (g.D.Dmi.seen c.check_module.new.link).fault_count = c.check_module.ensures.keeps.later in
+    omega arith) c.check_commands.ensures.keeps.later
+    (record {
+      mid = (told (g.D.Dmi.seen c.activate.new.link));
+      first =
+          (record {
+            mid = (told (g.D.Dmi.seen c.check_transport.new.link));
+            first = c.in_ok-check_transport.ensures.did;
+            second =
+                c.in_ok-activate.ensures.did;
+          });
+      second = c.in_ok-check_module.ensures.did;
+    }) c.in_err-check_commands.ensures.fails))
 
 pub returns-in_err-check_bus-clause-fails : goal.returns-in_err-check_bus-clause-fails
 returns-in_err-check_bus-clause-fails g c =
     if_err (ConnectFails (g.D.Dmi.seen c.args.link.now).fault_count (g.D.Dmi.seen c.check_bus.new.link).fault_count (told (g.D.Dmi.seen c.args.link.now))
-        (told (g.D.Dmi.seen c.check_bus.new.link))) c.from_residual-in_err-check_bus.result _ c.from_residual-in_err-check_bus.ensures.1
+    (told (g.D.Dmi.seen c.check_bus.new.link))) c.from_residual-in_err-check_bus.result _ c.from_residual-in_err-check_bus.ensures.1
     (bus_fails (g.D.Dmi.seen c.args.link.now).fault_count (g.D.Dmi.seen c.check_commands.new.link).fault_count (g.D.Dmi.seen c.check_bus.new.link).fault_count
-        (told (g.D.Dmi.seen c.args.link.now)) (told (g.D.Dmi.seen c.check_commands.new.link)) (told (g.D.Dmi.seen c.check_bus.new.link)) _
-        (let a0 : (g.D.Dmi.seen c.args.link.now).fault_count ≤ (g.D.Dmi.seen c.check_transport.new.link).fault_count = c.check_transport.ensures.keeps.later in
-        let a1 : (g.D.Dmi.seen c.check_transport.new.link).fault_count ≤ (g.D.Dmi.seen c.activate.new.link).fault_count = c.activate.ensures.keeps.later in
-        let a2 : (g.D.Dmi.seen c.activate.new.link).fault_count ≤ (g.D.Dmi.seen c.check_module.new.link).fault_count = c.check_module.ensures.keeps.later in
-        let a3 : (g.D.Dmi.seen c.check_module.new.link).fault_count ≤ (g.D.Dmi.seen c.check_commands.new.link).fault_count =
-        c.check_commands.ensures.keeps.later in omega arith) c.check_bus.ensures.keeps.later
-        (record { mid = (told (g.D.Dmi.seen c.check_module.new.link)); first =
-        (record { mid = (told (g.D.Dmi.seen c.activate.new.link)); first =
-        (record { mid = (told (g.D.Dmi.seen c.check_transport.new.link)); first = c.in_ok-check_transport.ensures.did; second =
-        c.in_ok-activate.ensures.did }); second = c.in_ok-check_module.ensures.did }); second = c.in_ok-check_commands.ensures.did })
-        c.in_err-check_bus.ensures.fails)
+    (told (g.D.Dmi.seen c.args.link.now)) (told (g.D.Dmi.seen c.check_commands.new.link)) (told (g.D.Dmi.seen c.check_bus.new.link)) _
+    (let a0 : (g.D.Dmi.seen c.args.link.now).fault_count ≤ (g.D.Dmi.seen c.check_transport.new.link).fault_count = c.check_transport.ensures.keeps.later in
+    let a1 : (g.D.Dmi.seen c.check_transport.new.link).fault_count ≤ (g.D.Dmi.seen c.activate.new.link).fault_count = c.activate.ensures.keeps.later in
+    let a2 : (g.D.Dmi.seen c.activate.new.link).fault_count ≤ (g.D.Dmi.seen c.check_module.new.link).fault_count = c.check_module.ensures.keeps.later in
+    let a3 : (g.D.Dmi.seen c.check_module.new.link).fault_count ≤ (g.D.Dmi.seen c.check_commands.new.link).fault_count =
+    c.check_commands.ensures.keeps.later in omega arith) c.check_bus.ensures.keeps.later
+    (record {
+      mid = (told (g.D.Dmi.seen c.check_module.new.link));
+      first =
+          (record {
+            mid = (told (g.D.Dmi.seen c.activate.new.link));
+            first =
+                (record {
+                  mid = (told (g.D.Dmi.seen c.check_transport.new.link));
+                  first = c.in_ok-check_transport.ensures.did;
+                  second =
+                      c.in_ok-activate.ensures.did;
+                });
+            second = c.in_ok-check_module.ensures.did;
+          });
+      second = c.in_ok-check_commands.ensures.did;
+    })
+    c.in_err-check_bus.ensures.fails)
 
 pub returns-in_err-check_bus-clause-lost : goal.returns-in_err-check_bus-clause-lost
 returns-in_err-check_bus-clause-lost g c =
     if_err (LosesLoaded (g.D.Dmi.seen c.args.link.now).far (g.D.Dmi.seen c.check_bus.new.link).far) c.from_residual-in_err-check_bus.result _
-        c.from_residual-in_err-check_bus.ensures.1
+    c.from_residual-in_err-check_bus.ensures.1
     (loses_loaded (told (g.D.Dmi.seen c.args.link.now)) (told (g.D.Dmi.seen c.check_bus.new.link)) (g.D.Dmi.seen c.args.link.now).fault_count
-        (g.D.Dmi.seen c.check_bus.new.link).fault_count _
-        (bus_fails (g.D.Dmi.seen c.args.link.now).fault_count (g.D.Dmi.seen c.check_commands.new.link).fault_count
-        (g.D.Dmi.seen c.check_bus.new.link).fault_count (told (g.D.Dmi.seen c.args.link.now)) (told (g.D.Dmi.seen c.check_commands.new.link))
-        (told (g.D.Dmi.seen c.check_bus.new.link)) _
-        (let a0 : (g.D.Dmi.seen c.args.link.now).fault_count ≤ (g.D.Dmi.seen c.check_transport.new.link).fault_count = c.check_transport.ensures.keeps.later in
-        let a1 : (g.D.Dmi.seen c.check_transport.new.link).fault_count ≤ (g.D.Dmi.seen c.activate.new.link).fault_count = c.activate.ensures.keeps.later in
-        let a2 : (g.D.Dmi.seen c.activate.new.link).fault_count ≤ (g.D.Dmi.seen c.check_module.new.link).fault_count = c.check_module.ensures.keeps.later in
-        let a3 : (g.D.Dmi.seen c.check_module.new.link).fault_count ≤ (g.D.Dmi.seen c.check_commands.new.link).fault_count =
-        c.check_commands.ensures.keeps.later in omega arith) c.check_bus.ensures.keeps.later
-        (record { mid = (told (g.D.Dmi.seen c.check_module.new.link)); first =
-        (record { mid = (told (g.D.Dmi.seen c.activate.new.link)); first =
-        (record { mid = (told (g.D.Dmi.seen c.check_transport.new.link)); first = c.in_ok-check_transport.ensures.did; second =
-        c.in_ok-activate.ensures.did }); second = c.in_ok-check_module.ensures.did }); second = c.in_ok-check_commands.ensures.did })
-        c.in_err-check_bus.ensures.fails))
+    (g.D.Dmi.seen c.check_bus.new.link).fault_count _
+    (bus_fails (g.D.Dmi.seen c.args.link.now).fault_count (g.D.Dmi.seen c.check_commands.new.link).fault_count
+    (g.D.Dmi.seen c.check_bus.new.link).fault_count (told (g.D.Dmi.seen c.args.link.now)) (told (g.D.Dmi.seen c.check_commands.new.link))
+    (told (g.D.Dmi.seen c.check_bus.new.link)) _
+    (let a0 : (g.D.Dmi.seen c.args.link.now).fault_count ≤ (g.D.Dmi.seen c.check_transport.new.link).fault_count = c.check_transport.ensures.keeps.later in
+    let a1 : (g.D.Dmi.seen c.check_transport.new.link).fault_count ≤ (g.D.Dmi.seen c.activate.new.link).fault_count = c.activate.ensures.keeps.later in
+    let a2 : (g.D.Dmi.seen c.activate.new.link).fault_count ≤ (g.D.Dmi.seen c.check_module.new.link).fault_count = c.check_module.ensures.keeps.later in
+    let a3 : (g.D.Dmi.seen c.check_module.new.link).fault_count ≤ (g.D.Dmi.seen c.check_commands.new.link).fault_count =
+    c.check_commands.ensures.keeps.later in omega arith) c.check_bus.ensures.keeps.later
+    (record {
+      mid = (told (g.D.Dmi.seen c.check_module.new.link));
+      first =
+          (record {
+            mid = (told (g.D.Dmi.seen c.activate.new.link));
+            first =
+                (record {
+                  mid = (told (g.D.Dmi.seen c.check_transport.new.link));
+                  first = c.in_ok-check_transport.ensures.did;
+                  second =
+                      c.in_ok-activate.ensures.did;
+                });
+            second = c.in_ok-check_module.ensures.did;
+          });
+      second = c.in_ok-check_commands.ensures.did;
+    })
+    c.in_err-check_bus.ensures.fails))
 
 pub returns-clause-did : goal.returns-clause-did
-returns-clause-did g c = (record { mid = (told (g.D.Dmi.seen c.check_commands.new.link)); first =
-    (record { mid = (told (g.D.Dmi.seen c.check_module.new.link)); first =
-    (record { mid = (told (g.D.Dmi.seen c.activate.new.link)); first =
-    (record { mid = (told (g.D.Dmi.seen c.check_transport.new.link)); first = c.in_ok-check_transport.ensures.did; second = c.in_ok-activate.ensures.did });
-    second = c.in_ok-check_module.ensures.did }); second = c.in_ok-check_commands.ensures.did }); second = c.in_ok-check_bus.ensures.did })
+returns-clause-did g c = (record {
+  mid = (told (g.D.Dmi.seen c.check_commands.new.link));
+  first =
+      (record {
+        mid = (told (g.D.Dmi.seen c.check_module.new.link));
+        first =
+            (record {
+              mid = (told (g.D.Dmi.seen c.activate.new.link));
+              first =
+                  (record {
+                    mid = (told (g.D.Dmi.seen c.check_transport.new.link));
+                    first = c.in_ok-check_transport.ensures.did;
+                    second =
+                        c.in_ok-activate.ensures.did;
+                  });
+              second = c.in_ok-check_module.ensures.did;
+            });
+        second = c.in_ok-check_commands.ensures.did;
+      });
+  second = c.in_ok-check_bus.ensures.did;
+})
 
 pub returns-clause-loaded : goal.returns-clause-loaded
 returns-clause-loaded g c = opens_loaded (told (g.D.Dmi.seen c.args.link.now)) (told (g.D.Dmi.seen c.check_bus.new.link))
-    (record { mid = (told (g.D.Dmi.seen c.check_commands.new.link)); first =
-    (record { mid = (told (g.D.Dmi.seen c.check_module.new.link)); first =
-    (record { mid = (told (g.D.Dmi.seen c.activate.new.link)); first =
-    (record { mid = (told (g.D.Dmi.seen c.check_transport.new.link)); first = c.in_ok-check_transport.ensures.did; second = c.in_ok-activate.ensures.did });
-    second = c.in_ok-check_module.ensures.did }); second = c.in_ok-check_commands.ensures.did }); second = c.in_ok-check_bus.ensures.did })
+    (record {
+      mid = (told (g.D.Dmi.seen c.check_commands.new.link));
+      first =
+          (record {
+            mid = (told (g.D.Dmi.seen c.check_module.new.link));
+            first =
+                (record {
+                  mid = (told (g.D.Dmi.seen c.activate.new.link));
+                  first =
+                      (record {
+                        mid = (told (g.D.Dmi.seen c.check_transport.new.link));
+                        first = c.in_ok-check_transport.ensures.did;
+                        second =
+                            c.in_ok-activate.ensures.did;
+                      });
+                  second = c.in_ok-check_module.ensures.did;
+                });
+            second = c.in_ok-check_commands.ensures.did;
+          });
+      second = c.in_ok-check_bus.ensures.did;
+    })
 
 pub returns-clause-ready : goal.returns-clause-ready
 returns-clause-ready g c = opened_ready (told (g.D.Dmi.seen c.args.link.now)) (told (g.D.Dmi.seen c.check_bus.new.link))
-    (record { mid = (told (g.D.Dmi.seen c.check_commands.new.link)); first =
-    (record { mid = (told (g.D.Dmi.seen c.check_module.new.link)); first =
-    (record { mid = (told (g.D.Dmi.seen c.activate.new.link)); first =
-    (record { mid = (told (g.D.Dmi.seen c.check_transport.new.link)); first = c.in_ok-check_transport.ensures.did; second = c.in_ok-activate.ensures.did });
-    second = c.in_ok-check_module.ensures.did }); second = c.in_ok-check_commands.ensures.did }); second = c.in_ok-check_bus.ensures.did })
+    (record {
+      mid = (told (g.D.Dmi.seen c.check_commands.new.link));
+      first =
+          (record {
+            mid = (told (g.D.Dmi.seen c.check_module.new.link));
+            first =
+                (record {
+                  mid = (told (g.D.Dmi.seen c.activate.new.link));
+                  first =
+                      (record {
+                        mid = (told (g.D.Dmi.seen c.check_transport.new.link));
+                        first = c.in_ok-check_transport.ensures.did;
+                        second =
+                            c.in_ok-activate.ensures.did;
+                      });
+                  second = c.in_ok-check_module.ensures.did;
+                });
+            second = c.in_ok-check_commands.ensures.did;
+          });
+      second = c.in_ok-check_bus.ensures.did;
+    })
 
 pub returns-clause-selects : goal.returns-clause-selects
 returns-clause-selects g c = opened_selects (told (g.D.Dmi.seen c.args.link.now)) (told (g.D.Dmi.seen c.check_bus.new.link))
-    (record { mid = (told (g.D.Dmi.seen c.check_commands.new.link)); first =
-    (record { mid = (told (g.D.Dmi.seen c.check_module.new.link)); first =
-    (record { mid = (told (g.D.Dmi.seen c.activate.new.link)); first =
-    (record { mid = (told (g.D.Dmi.seen c.check_transport.new.link)); first = c.in_ok-check_transport.ensures.did; second = c.in_ok-activate.ensures.did });
-    second = c.in_ok-check_module.ensures.did }); second = c.in_ok-check_commands.ensures.did }); second = c.in_ok-check_bus.ensures.did })
+    (record {
+      mid = (told (g.D.Dmi.seen c.check_commands.new.link));
+      first =
+          (record {
+            mid = (told (g.D.Dmi.seen c.check_module.new.link));
+            first =
+                (record {
+                  mid = (told (g.D.Dmi.seen c.activate.new.link));
+                  first =
+                      (record {
+                        mid = (told (g.D.Dmi.seen c.check_transport.new.link));
+                        first = c.in_ok-check_transport.ensures.did;
+                        second =
+                            c.in_ok-activate.ensures.did;
+                      });
+                  second = c.in_ok-check_module.ensures.did;
+                });
+            second = c.in_ok-check_commands.ensures.did;
+          });
+      second = c.in_ok-check_bus.ensures.did;
+    })

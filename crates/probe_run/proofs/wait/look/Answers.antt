@@ -9,7 +9,7 @@ use Rattle.probe_run.proofs.wait.look.Goals as goal
 pub returns-in_err-word-clause-broke : goal.returns-in_err-word-clause-broke
 returns-in_err-word-clause-broke g c =
     if_err (LookBroke [] (g.D.Dmi.seen c.args.link.now).fault_count (g.D.Dmi.seen c.read.new.self).fault_count (told (g.D.Dmi.seen c.args.link.now))
-        (g.D.Dmi.seen c.read.new.self).far)
+    (g.D.Dmi.seen c.read.new.self).far)
     c.from_residual.result _ c.from_residual.ensures.1
     (broke_op (Read dmstatus_address) _ _ _ _ _ _ _ refl c.in_err-word.ensures.cut c.in_err-word.ensures.cause)
 

@@ -19,16 +19,16 @@ looks-init g c = record {
 pub returns-in_err-word-clause-broke : goal.returns-in_err-word-clause-broke
 returns-in_err-word-clause-broke g c =
     if_err (WaitBroke (test_of c.args.wanted) [] (g.D.Dmi.seen c.args.link.now).fault_count (g.D.Dmi.seen c.look.new.link).fault_count
-        (told (g.D.Dmi.seen c.args.link.now)) (g.D.Dmi.seen c.look.new.link).far)
+    (told (g.D.Dmi.seen c.args.link.now)) (g.D.Dmi.seen c.look.new.link).far)
     c.from_residual.result _ c.from_residual.ensures.1
     (looked_broke (test_of c.args.wanted) _ (told (g.D.Dmi.seen c.looks.link)) c.looks._looks c.looks.acknowledged (g.D.Dmi.seen c.args.link.now).fault_count
-        (g.D.Dmi.seen c.looks.link).fault_count (g.D.Dmi.seen c.look.new.link).fault_count _ _ c.looks.invariant.looked (omega arith) c.looks.invariant.later
-        c.look.ensures.keeps.later c.in_err-word.ensures.broke)
+    (g.D.Dmi.seen c.looks.link).fault_count (g.D.Dmi.seen c.look.new.link).fault_count _ _ c.looks.invariant.looked (omega arith) c.looks.invariant.later
+    c.look.ensures.keeps.later c.in_err-word.ensures.broke)
 
 pub returns-then-is_shown-clause-waited : goal.returns-then-is_shown-clause-waited
 returns-then-is_shown-clause-waited g c =
     looked_met (test_of c.args.wanted) _ (told (g.D.Dmi.seen c.looks.link)) _ c.looks._looks c.looks.acknowledged c.in_ok-word.word c.looks.invariant.looked
-        c.in_ok-word.ensures.did
+    c.in_ok-word.ensures.did
     (ap (λ s. test_of c.args.wanted (seen_in_status s)) (sym c.from_word-status.ensures) ∙ sym c.is_shown.ensures ∙ c.if-is_shown.true) (omega arith)
 
 pub looks-preserved : goal.looks-preserved

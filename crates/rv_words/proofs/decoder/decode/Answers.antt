@@ -2,8 +2,8 @@
 use Rattle.std.proofs.Common.{ap, sym, ◌∙◌, refl, Some, ◌≡◌, arith, bit_and, eqb, false}
 use Rattle.std.proofs.lemmas.Bool.{ne_eqb}
 use Rattle.rv_model.specs.declared.insn.Insn.TheVariants.{Lui, Auipc, Jal}
-use Rattle.rv_model.specs.Rows.{load_rows, fence_rows, immediate_rows, immediate_word_rows, store_rows, atomic_rows, register_rows, register_word_rows,
-    branch_rows, jalr_rows, system_rows}
+use Rattle.rv_model.specs.Rows.{load_rows, fence_rows, immediate_rows, immediate_word_rows, store_rows, atomic_rows, register_rows, register_word_rows}
+use Rattle.rv_model.specs.Rows.{branch_rows, jalr_rows, system_rows}
 use Rattle.rv_model.proofs.RowLemmas.{meaning_of_opcode, meaning_of_row}
 use Rattle.rv_words.proofs.decoder.decode.Goals as goal
 

@@ -11,7 +11,7 @@ loop-command-init c = cc spelled_none
 pub loop-command-preserved : goal.loop-command-preserved
 loop-command-preserved c =
     spelled_step c.commands-command-items.result.now c.loop-command.command-index _ c.loop-command.text.items c.write_command.new.text.items
-        c.push.new.self.items (omega arith) c.loop-command.invariant c.in_ok-write_command.ensures c.in_ok-push.ensures.items
+    c.push.new.self.items (omega arith) c.loop-command.invariant c.in_ok-write_command.ensures c.in_ok-push.ensures.items
 
 pub returns-clause-read_again : goal.returns-clause-read_again
 returns-clause-read_again c =

@@ -10,4 +10,4 @@ returns-then-count-eq0 t c =
 pub returns : goal.returns
 returns t c =
     digits_step c.args.count c.args.number c.args.text.now.items c.write_digits.new.text.items _ _ (omega arith) c.in_ok-write_digits.ensures
-        c.hex_digit.ensures c.in_ok-push.ensures.items
+    c.hex_digit.ensures c.in_ok-push.ensures.items

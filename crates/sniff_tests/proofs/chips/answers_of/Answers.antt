@@ -11,8 +11,8 @@ loop-byte-preserved c =
       c.feed.ensures.loaded,
       answered_more c.loop-byte.bench _ c.loop-byte.all.items _ byte _ rest _ c.feed.ensures.chip
           (c.in_ok-extend_from_slice.ensures.items
-              ∙ ap (λ more. c.loop-byte.all.items ++ more) (c.deref.ensures.0 ∙ rw c.new-answers.ensures at c.feed.ensures.answers)) here
-              c.loop-byte.invariant.1,
+          ∙ ap (λ more. c.loop-byte.all.items ++ more) (c.deref.ensures.0 ∙ rw c.new-answers.ensures at c.feed.ensures.answers)) here
+          c.loop-byte.invariant.1,
     )
 
 pub returns : goal.returns

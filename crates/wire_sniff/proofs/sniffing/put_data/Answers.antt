@@ -16,7 +16,7 @@ returns-in_err-put-clause-front g c = λ answers s is.
     text-more (Data s.code s.given s.taken) more ∙ ap (λ text. text ++ text_of_all more) first in
     let failed : GrewByPrefix (text_of_all (data_lines s.code s.given s.taken)) (g.K.Sink.contents c.args.out.now) (g.K.Sink.contents c.put.new.self) =
     rw whole (first_failed c.deref.result.now (text_of_all more) (g.K.Sink.contents c.args.out.now) (g.K.Sink.contents c.put.new.self)
-        c.in_err-put.ensures.front) in
+    c.in_err-put.ensures.front) in
     err_anyway c.from_residual.result _ failed
 
 pub returns-clause-put : goal.returns-clause-put

@@ -24,7 +24,7 @@ pub returns-in_default : goal.returns-in_default
 returns-in_default g c = record {
   put = λ answers s is.
       let none : lines_at s.state s ≡ [] = lines_other s.state s (λ e. c.in_default.not-UpdateIr (is.state ∙ e))
-          (λ e. c.in_default.not-UpdateDr (is.state ∙ e)) in
+      (λ e. c.in_default.not-UpdateDr (is.state ∙ e)) in
       rw (none, text-none) (grown_none (g.K.Sink.contents c.args.out.now));
   front = λ answers s is. tt;
   cause = record { later = omega arith; cause = tt };

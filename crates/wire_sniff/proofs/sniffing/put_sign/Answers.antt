@@ -14,4 +14,4 @@ returns-then-falls_at-clause-front g c = λ answers s is.
 pub returns-else-falls_at-clause-put : goal.returns-else-falls_at-clause-put
 returns-else-falls_at-clause-put g c = λ answers s is.
     rw (others_hide c.args.sniffer.now.tck c.args.sign s is.tck (sym c.falls_at.ensures ∙ c.if-falls_at.false), text-none)
-        (grown_none (g.K.Sink.contents c.args.out.now))
+    (grown_none (g.K.Sink.contents c.args.out.now))

@@ -13,7 +13,7 @@ returns-in-Ok g c =
     let taken = c.counted-signs.ensures in
     said (ap (λ signs. refusal_of signs c.args.answers.now) (sym taken) ∙ sym c.in_default.ensures)
     (subst (λ signs. g.K.Sink.contents c.put_lines.new.out ≡ grown (whole_text c.args.answers.now signs) (g.K.Sink.contents c.args.out.now)) taken
-        c.in-Ok.ensures.put)
+    c.in-Ok.ensures.put)
     c.in-Ok.ensures.count
 
 pub returns-in-Err-Failed : goal.returns-in-Err-Failed
@@ -21,5 +21,5 @@ returns-in-Err-Failed g c =
     let taken = c.counted-signs.ensures in
     unsaid (ap (λ signs. refusal_of signs c.args.answers.now) (sym taken) ∙ sym c.in_default.ensures)
     (subst (λ signs. GrewByPrefix (whole_text c.args.answers.now signs) (g.K.Sink.contents c.args.out.now) (g.K.Sink.contents c.put_lines.new.out)) taken
-        c.in-Err-Failed.ensures.front)
+    c.in-Err-Failed.ensures.front)
     c.in-Err-Failed.ensures.cause.cause

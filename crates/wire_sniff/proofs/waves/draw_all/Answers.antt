@@ -11,7 +11,7 @@ returns-in_err-put-clause-front g c =
     let first = c.deref.ensures.0 ∙ c.levels.ensures c.args.answers.now (first_moment c.args.answers.now) (c.new-moment.ensures.state c.args.answers.now) in
     err_anyway c.from_residual.result _
     (first_failed (levels (first_moment c.args.answers.now)) (waves_from 1 (first_moment c.args.answers.now) c.args.signs.now)
-        (g.K.Sink.contents c.args.out.now) (g.K.Sink.contents c.put.new.self)
+    (g.K.Sink.contents c.args.out.now) (g.K.Sink.contents c.put.new.self)
     (subst (λ text. GrewByPrefix text (g.K.Sink.contents c.args.out.now) (g.K.Sink.contents c.put.new.self)) first c.in_err-put.ensures.front))
 
 pub loop-place-init : goal.loop-place-init
@@ -29,10 +29,10 @@ returns-in_err-draw-clause-front g c =
     let here : drop c.loop-place.place c.args.signs.now ≡ get_or c.args.signs.now c.loop-place.place 0 ∷ drop (c.loop-place.place + 1) c.args.signs.now =
     rw add-one (drop-cons c.args.signs.now c.loop-place.place 0 (omega arith)) in
     let so_far = subst (λ rest. Drawn c.args.answers.now c.args.signs.now c.loop-place.place rest c.loop-place.moment (g.K.Sink.contents c.args.out.now)
-        (g.K.Sink.contents c.loop-place.out)) here c.loop-place.invariant.0 in
+    (g.K.Sink.contents c.loop-place.out)) here c.loop-place.invariant.0 in
     err_anyway c.from_residual-in_err-draw.result _
     (drawn_failed c.args.answers.now c.args.signs.now _ c.loop-place.place (get_or c.args.signs.now c.loop-place.place 0) c.loop-place.moment
-        (g.K.Sink.contents c.args.out.now) (g.K.Sink.contents c.loop-place.out) (g.K.Sink.contents c.draw.new.out)
+    (g.K.Sink.contents c.args.out.now) (g.K.Sink.contents c.loop-place.out) (g.K.Sink.contents c.draw.new.out)
     so_far c.in_err-draw.ensures.front)
 
 pub loop-place-preserved : goal.loop-place-preserved
@@ -40,7 +40,7 @@ loop-place-preserved g c =
     let here : drop c.loop-place.place c.args.signs.now ≡ get_or c.args.signs.now c.loop-place.place 0 ∷ drop (c.loop-place.place + 1) c.args.signs.now =
     rw add-one (drop-cons c.args.signs.now c.loop-place.place 0 (omega arith)) in
     let so_far = subst (λ rest. Drawn c.args.answers.now c.args.signs.now c.loop-place.place rest c.loop-place.moment (g.K.Sink.contents c.args.out.now)
-        (g.K.Sink.contents c.loop-place.out)) here c.loop-place.invariant.0 in (
+    (g.K.Sink.contents c.loop-place.out)) here c.loop-place.invariant.0 in (
       drawn_more c.args.answers.now c.args.signs.now _ c.loop-place.place (get_or c.args.signs.now c.loop-place.place 0) c.loop-place.moment c.draw.new.moment
           (g.K.Sink.contents c.args.out.now) (g.K.Sink.contents c.loop-place.out) (g.K.Sink.contents c.draw.new.out)
           so_far c.in_ok-draw.ensures.state c.in_ok-draw.ensures.put,
@@ -53,4 +53,4 @@ returns-clause-put g c =
     let none : drop c.loop-place.place c.args.signs.now ≡ [] = drop_past c.loop-place.place c.args.signs.now c.loop-place-test.false in
     drawn_all c.args.answers.now c.args.signs.now c.loop-place.place c.loop-place.moment (g.K.Sink.contents c.args.out.now) (g.K.Sink.contents c.loop-place.out)
     (subst (λ rest. Drawn c.args.answers.now c.args.signs.now c.loop-place.place rest c.loop-place.moment (g.K.Sink.contents c.args.out.now)
-        (g.K.Sink.contents c.loop-place.out)) none c.loop-place.invariant.0)
+    (g.K.Sink.contents c.loop-place.out)) none c.loop-place.invariant.0)

@@ -14,7 +14,7 @@ returns-in_err-put-clause-front g c = λ m is.
     let whole : sign_wave c.args.time (Some c.args.sign) m ≡ c.deref.result.now ++ behind =
     sign_wave-parts c.args.time (Some c.args.sign) m
     ∙ ap (λ text. text ++ flat_map line_change (sign_lines (Some c.args.sign) m.sniffer))
-        (sym (c.deref.ensures.0 ∙ c.levels_at.ensures c.args.answers.now (moment_after (Some c.args.sign) m) (c.take.ensures.state m is)))
+    (sym (c.deref.ensures.0 ∙ c.levels_at.ensures c.args.answers.now (moment_after (Some c.args.sign) m) (c.take.ensures.state m is)))
     ∙ ap (λ text. c.deref.result.now ++ text) (c.shows-shown.ensures c.args.answers.now m is) in
     let failed : GrewByPrefix (sign_wave c.args.time (Some c.args.sign) m) (g.K.Sink.contents c.args.out.now) (g.K.Sink.contents c.put.new.self) =
     rw whole (first_failed c.deref.result.now behind (g.K.Sink.contents c.args.out.now) (g.K.Sink.contents c.put.new.self) c.in_err-put.ensures.front) in
@@ -26,7 +26,7 @@ returns-clause-put g c = λ m is.
     let whole : sign_wave c.args.time (Some c.args.sign) m ≡ c.deref.result.now ++ behind =
     sign_wave-parts c.args.time (Some c.args.sign) m
     ∙ ap (λ text. text ++ flat_map line_change (sign_lines (Some c.args.sign) m.sniffer))
-        (sym (c.deref.ensures.0 ∙ c.levels_at.ensures c.args.answers.now (moment_after (Some c.args.sign) m) (c.take.ensures.state m is)))
+    (sym (c.deref.ensures.0 ∙ c.levels_at.ensures c.args.answers.now (moment_after (Some c.args.sign) m) (c.take.ensures.state m is)))
     ∙ ap (λ text. c.deref.result.now ++ text) (c.shows-shown.ensures c.args.answers.now m is) in
     rw whole (ok_maps c.put_change.result _ _ (λ done. grown_twice _ _ _ _ _ c.in_ok-put.ensures.put done) c.put_change.ensures.put)
 
@@ -36,6 +36,6 @@ returns-clause-front g c = λ m is.
     let whole : sign_wave c.args.time (Some c.args.sign) m ≡ c.deref.result.now ++ behind =
     sign_wave-parts c.args.time (Some c.args.sign) m
     ∙ ap (λ text. text ++ flat_map line_change (sign_lines (Some c.args.sign) m.sniffer))
-        (sym (c.deref.ensures.0 ∙ c.levels_at.ensures c.args.answers.now (moment_after (Some c.args.sign) m) (c.take.ensures.state m is)))
+    (sym (c.deref.ensures.0 ∙ c.levels_at.ensures c.args.answers.now (moment_after (Some c.args.sign) m) (c.take.ensures.state m is)))
     ∙ ap (λ text. c.deref.result.now ++ text) (c.shows-shown.ensures c.args.answers.now m is) in
     rw whole (err_maps c.put_change.result _ _ (λ failed. second_failed _ _ _ _ _ c.in_ok-put.ensures.put failed) c.put_change.ensures.front)

@@ -14,7 +14,7 @@ returns-in-Ok g c =
     let taken = c.counted-signs.ensures in
     said (ap (λ signs. refusal_of signs c.args.answers.now) (sym taken) ∙ sym c.in_default.ensures)
     (subst (λ signs. g.K.Sink.contents c.draw_whole.new.out ≡ grown (header ++ wave_of signs c.args.answers.now) (g.K.Sink.contents c.args.out.now)) taken
-        c.in-Ok.ensures.put)
+    c.in-Ok.ensures.put)
     c.in-Ok.ensures.count
 
 pub returns-in-Err-Failed : goal.returns-in-Err-Failed
@@ -22,5 +22,5 @@ returns-in-Err-Failed g c =
     let taken = c.counted-signs.ensures in
     unsaid (ap (λ signs. refusal_of signs c.args.answers.now) (sym taken) ∙ sym c.in_default.ensures)
     (subst (λ signs. GrewByPrefix (header ++ wave_of signs c.args.answers.now) (g.K.Sink.contents c.args.out.now) (g.K.Sink.contents c.draw_whole.new.out))
-        taken c.in-Err-Failed.ensures.front)
+    taken c.in-Err-Failed.ensures.front)
     c.in-Err-Failed.ensures.cause.cause

@@ -23,7 +23,7 @@ returns-in_err-out-clause-cut g c = on_err _
 pub returns-clause-scanned : goal.returns-clause-scanned
 returns-clause-scanned g c =
     dmi_of_scan c.args.abits c.args.sent c.from_bits.result c.from_u64.result c.in_ok-out.out _ _
-        (c.from_u64.ensures.bits ∙ ap (λ w. bits_of (34 + c.args.abits) w) c.bits.ensures) (c.from_bits.ensures ∙ ap dmi_of c.value.ensures) c.requires.width
+    (c.from_u64.ensures.bits ∙ ap (λ w. bits_of (34 + c.args.abits) w) c.bits.ensures) (c.from_bits.ensures ∙ ap dmi_of c.value.ensures) c.requires.width
     (scan_then _ Dmi c.from_u64.result c.in_ok-out.out _ (g.S.Scan.seen c.pause.new.self.scan).far _ c.in_ok-pause.ensures.prepared c.in_ok-out.ensures.scanned)
 
 pub returns-clause-chosen : goal.returns-clause-chosen

@@ -1,15 +1,15 @@
 use Rattle.std.proofs.Common.{◌∙◌, ◌+◌, true, false, refl, subst, arith, rules}
 use Rattle.debug_model.specs.Scan.{WhereTold}
 use Rattle.probe_dmi.proofs.Asking.{carried_begun, carried_busy, carried_out, carried_took}
-use Rattle.probe_dmi.proofs.Heard.{SoFar, dmi_through, heard_again, heard_busy, heard_carried, heard_failed, heard_result, nothing_heard, scan_cause,
-    so_far_through, wire_cause}
+use Rattle.probe_dmi.proofs.Heard.{SoFar, dmi_through, heard_again, heard_busy, heard_carried, heard_failed, heard_result, nothing_heard, scan_cause}
+use Rattle.probe_dmi.proofs.Heard.{so_far_through, wire_cause}
 use Rattle.jt_base.proofs.Pieces.{on_err}
 use Rattle.debug_model.specs.declared.data_register.DataRegister.TheVariants.{Dmi}
 use Rattle.probe_dmi.specs.Registers.{Prepared}
 use Rattle.probe_dmi.proofs.Conditions.{can_operate, width_kept}
 use Rattle.probe_dmi.proofs.Scans.{chosen_of}
-use Rattle.probe_dmi.proofs.Told.{Underway, begun, busy_cut, busy_found, carried, clear_cut, cleared, cut_as, dmi_cut, failed, failed_cut, failed_lost,
-    fetched, fetched_clean, fetched_operated, found_again, sent_as, under_as, untaken}
+use Rattle.probe_dmi.proofs.Told.{Underway, begun, busy_cut, busy_found, carried, clear_cut, cleared, cut_as, dmi_cut, failed, failed_cut, failed_lost}
+use Rattle.probe_dmi.proofs.Told.{fetched, fetched_clean, fetched_operated, found_again, sent_as, under_as, untaken}
 use Rattle.probe_dmi.proofs.register.Registers.operate.Goals as goal
 
 pub scans-init : goal.scans-init
@@ -86,7 +86,7 @@ scans-preserved-then-out-eq-STATUS_DONE g c =
     carried c.args.op c.scans.busy c.in_ok-out.out _ (g.S.Scan.seen c.scans.self.scan).far _ c.requires.operation
     (under_as c.args.op c.scans.taken false c.scans.busy _ _ c.if-taken.false c.scans.invariant.underway)
     (sent_as c.args.op c.scans.taken false c.next_scan.result c.in_ok-out.out (g.S.Scan.seen c.scans.self.scan).far _ c.next_scan.ensures c.if-taken.false
-        c.in_ok-out.ensures.scanned) in
+    c.in_ok-out.ensures.scanned) in
     record {
       underway = u;
       so_far = heard_carried c.scans.busy c.in_ok-out.out _ (g.S.Scan.seen c.scans.self.scan).coming _ c.if-out-eq-STATUS_DONE.true
@@ -109,9 +109,9 @@ scans-preserved-then-out-eq-STATUS_DONE g c =
 pub returns-in_err-clear_again-clause-cut : goal.returns-in_err-clear_again-clause-cut
 returns-in_err-clear_again-clause-cut g c = on_err _ (clear_cut c.args.op c.scans.taken c.scans.busy _ (g.S.Scan.seen c.exchange_behind.new.self.scan).far _
     (found_again c.args.op c.scans.taken c.scans.busy c.in_ok-out.out _ (g.S.Scan.seen c.scans.self.scan).far _ c.if-out-eq-STATUS_DONE.false
-        c.if-out-eq-STATUS_FAILED.false c.scans.invariant.underway
+    c.if-out-eq-STATUS_FAILED.false c.scans.invariant.underway
     (sent_as c.args.op c.scans.taken c.scans.taken c.next_scan.result c.in_ok-out.out (g.S.Scan.seen c.scans.self.scan).far _ c.next_scan.ensures refl
-        c.in_ok-out.ensures.scanned))
+    c.in_ok-out.ensures.scanned))
     c.in_err-clear_again.ensures.cut)
 
 pub returns-in_err-clear_again-clause-cause : goal.returns-in_err-clear_again-clause-cause
@@ -119,17 +119,17 @@ returns-in_err-clear_again-clause-cause g c = wire_cause _ _ _ _ _ c.in_err-clea
     (scan_cause _ (g.S.Scan.seen c.exchange_behind.new.self.scan).fault_count _ _ _ (g.S.Scan.seen c.exchange_behind.new.self.scan).coming
     c.in_err-clear_again.field-0.0 (omega (arith, c.scans.invariant.later, c.exchange_behind.ensures.keeps.later)) c.clear_again.ensures.keeps.later
     (λ b w. so_far_through c.scans.busy c.scans.taken _ _ c.scans.invariant.so_far b (dmi_through c.in_ok-out.out _ _ c.in_ok-out.ensures.heard b w))
-        c.in_err-clear_again.ensures.cause)
+    c.in_err-clear_again.ensures.cause)
 
 pub scans-preserved : goal.scans-preserved
 scans-preserved g c =
     let u : WhereTold (Underway c.args.op c.scans.taken (c.scans.busy + 1)) (g.S.Scan.seen c.args.self.now.scan).far
-        (g.S.Scan.seen c.clear_again.new.self.scan).far =
+    (g.S.Scan.seen c.clear_again.new.self.scan).far =
     cleared c.args.op c.scans.taken c.scans.busy c.in_ok-clear_again.field-0 _ (g.S.Scan.seen c.exchange_behind.new.self.scan).far _
     (found_again c.args.op c.scans.taken c.scans.busy c.in_ok-out.out _ (g.S.Scan.seen c.scans.self.scan).far _ c.if-out-eq-STATUS_DONE.false
-        c.if-out-eq-STATUS_FAILED.false c.scans.invariant.underway
+    c.if-out-eq-STATUS_FAILED.false c.scans.invariant.underway
     (sent_as c.args.op c.scans.taken c.scans.taken c.next_scan.result c.in_ok-out.out (g.S.Scan.seen c.scans.self.scan).far _ c.next_scan.ensures refl
-        c.in_ok-out.ensures.scanned))
+    c.in_ok-out.ensures.scanned))
     c.in_ok-clear_again.ensures.scanned in
     record {
       underway = u;

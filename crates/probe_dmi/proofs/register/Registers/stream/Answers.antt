@@ -12,8 +12,9 @@ use Rattle.probe_dmi.proofs.Conditions.{can_operate, width_kept}
 use Rattle.probe_dmi.proofs.Heard.{dmi_through, scan_cause}
 use Rattle.probe_dmi.proofs.ManyHeard.{heard_all, heard_begun, heard_busy_again, heard_many_busy, heard_many_failed, heard_on, many_cause, stream_through}
 use Rattle.probe_dmi.proofs.Scans.{chosen_of}
-use Rattle.probe_dmi.proofs.StreamEnds.{all_clean, all_failed_cut, all_failed_lost, all_operated, first_as, first_cut_as, is_flying, rest_is, rest_length,
-    room_done, room_on, still_cut, stream_again, stream_cleared, stream_cut, stream_done, stream_failed, stream_found, stream_stopped, stream_taken}
+use Rattle.probe_dmi.proofs.StreamEnds.{all_clean, all_failed_cut, all_failed_lost, all_operated, first_as, first_cut_as, is_flying, rest_is, rest_length}
+use Rattle.probe_dmi.proofs.StreamEnds.{room_done, room_on, still_cut, stream_again, stream_cleared, stream_cut, stream_done, stream_failed, stream_found}
+use Rattle.probe_dmi.proofs.StreamEnds.{stream_stopped, stream_taken}
 use Rattle.probe_dmi.proofs.Streams.{Streaming, stream_begun, unbegun}
 use Rattle.probe_dmi.proofs.register.Registers.stream.Goals as goal
 
@@ -50,8 +51,8 @@ pub returns-in_err-out-clause-cause : goal.returns-in_err-out-clause-cause
 returns-in_err-out-clause-cause g c = many_cause (length c.args.ops.now) _ _ _ _ _ c.in_err-out.field-0.0 _ c.from_residual-in_err-out.ensures.1
     (scan_cause _ (g.S.Scan.seen c.scans.self.scan).fault_count _ _ _ (g.S.Scan.seen c.scans.self.scan).coming c.in_err-out.field-0.0
     c.scans.invariant.later c.exchange_behind.ensures.keeps.later
-        (stream_through (length c.args.ops.now) (length c.scans.rest.now) c.scans.busy c.scans.in_flight c.scans.results.items _ _ c.scans.invariant.heard)
-        c.in_err-out.ensures.cause)
+    (stream_through (length c.args.ops.now) (length c.scans.rest.now) c.scans.busy c.scans.in_flight c.scans.results.items _ _ c.scans.invariant.heard)
+    c.in_err-out.ensures.cause)
 
 pub returns-then-out-eq-STATUS_FAILED-clause-cut : goal.returns-then-out-eq-STATUS_FAILED-clause-cut
 returns-then-out-eq-STATUS_FAILED-clause-cut g c =
@@ -74,7 +75,7 @@ returns-in_err-clear_again-clause-cut g c =
     on_err _ (still_cut c.args.ops.now c.scans.results.items c.scans.rest.now c.scans.in_flight c.scans.busy _
     (g.S.Scan.seen c.exchange_behind.new.self.scan).far _
     (stream_again c.args.ops.now c.scans.results.items c.scans.rest.now c.scans.in_flight c.scans.busy c.in_ok-out.out _ (g.S.Scan.seen c.scans.self.scan).far
-        _ c.if-out-ne-STATUS_DONE.true c.if-out-eq-STATUS_FAILED.false c.scans.invariant.streaming
+    _ c.if-out-ne-STATUS_DONE.true c.if-out-eq-STATUS_FAILED.false c.scans.invariant.streaming
     (first_as c.scans.rest.now c.first_scan.result c.in_ok-out.out (g.S.Scan.seen c.scans.self.scan).far _ c.first_scan.ensures c.in_ok-out.ensures.scanned))
     c.in_err-clear_again.ensures.cut)
 
@@ -85,16 +86,16 @@ returns-in_err-clear_again-clause-cause g c =
     c.in_err-clear_again.field-0.0
     (omega (arith, c.scans.invariant.later, c.exchange_behind.ensures.keeps.later)) c.clear_again.ensures.keeps.later
     (λ b w. stream_through (length c.args.ops.now) (length c.scans.rest.now) c.scans.busy c.scans.in_flight c.scans.results.items _ _ c.scans.invariant.heard b
-        (dmi_through c.in_ok-out.out _ _ c.in_ok-out.ensures.heard b w)) c.in_err-clear_again.ensures.cause)
+    (dmi_through c.in_ok-out.out _ _ c.in_ok-out.ensures.heard b w)) c.in_err-clear_again.ensures.cause)
 
 pub scans-preserved-then-out-ne-STATUS_DONE : goal.scans-preserved-then-out-ne-STATUS_DONE
 scans-preserved-then-out-ne-STATUS_DONE g c =
     let u : WhereTold (Streaming c.args.ops.now c.scans.results.items c.scans.rest.now c.scans.in_flight (c.scans.busy + 1))
-        (g.S.Scan.seen c.args.self.now.scan).far (g.S.Scan.seen c.clear_again.new.self.scan).far =
+    (g.S.Scan.seen c.args.self.now.scan).far (g.S.Scan.seen c.clear_again.new.self.scan).far =
     stream_cleared c.args.ops.now c.scans.results.items c.scans.rest.now c.scans.in_flight c.scans.busy c.in_ok-clear_again.field-0 _
-        (g.S.Scan.seen c.exchange_behind.new.self.scan).far _
+    (g.S.Scan.seen c.exchange_behind.new.self.scan).far _
     (stream_again c.args.ops.now c.scans.results.items c.scans.rest.now c.scans.in_flight c.scans.busy c.in_ok-out.out _ (g.S.Scan.seen c.scans.self.scan).far
-        _ c.if-out-ne-STATUS_DONE.true c.if-out-eq-STATUS_FAILED.false c.scans.invariant.streaming
+    _ c.if-out-ne-STATUS_DONE.true c.if-out-eq-STATUS_FAILED.false c.scans.invariant.streaming
     (first_as c.scans.rest.now c.first_scan.result c.in_ok-out.out (g.S.Scan.seen c.scans.self.scan).far _ c.first_scan.ensures c.in_ok-out.ensures.scanned))
     c.in_ok-clear_again.ensures.scanned in
     record {
@@ -106,7 +107,7 @@ scans-preserved-then-out-ne-STATUS_DONE g c =
           c.first_scan.result (g.S.Scan.seen c.args.self.now.scan).asked (g.S.Scan.seen c.scans.self.scan).asked
           (g.S.Scan.seen c.exchange_behind.new.self.scan).asked _
           (omega (arith, c.scans.invariant.waits)) c.first_scan.ensures c.in_ok-out.ensures.state c.scans.invariant.asked c.in_ok-out.ensures.asked
-              c.in_ok-clear_again.ensures.asked;
+          c.in_ok-clear_again.ensures.asked;
       rests = c.in_ok-clear_again.ensures.keeps.behind;
       chosen = c.in_ok-clear_again.ensures.chosen;
       idle = c.in_ok-clear_again.ensures.state;
@@ -135,14 +136,14 @@ returns-in_default-clause-operated g c =
     (g.S.Scan.seen c.args.self.now.scan).far (g.S.Scan.seen c.scans.self.scan).far _ c.in_default.len_below
     (is_flying c.scans.in_flight _ c.scans.invariant.started c.in_default.len_below)
     c.if-out-ne-STATUS_DONE.false c.keep.ensures.kept c.scans.invariant.streaming
-        (first_as c.scans.rest.now c.first_scan.result c.in_ok-out.out (g.S.Scan.seen c.scans.self.scan).far _ c.first_scan.ensures
-        c.in_ok-out.ensures.scanned))
+    (first_as c.scans.rest.now c.first_scan.result c.in_ok-out.out (g.S.Scan.seen c.scans.self.scan).far _ c.first_scan.ensures
+    c.in_ok-out.ensures.scanned))
 
 pub returns-in_default-clause-answers : goal.returns-in_default-clause-answers
 returns-in_default-clause-answers g c = heard_all c.args.ops.now (length c.scans.rest.now) c.scans.busy c.scans.in_flight c.scans.results.items
     c.keep.new.results.items c.in_ok-out.out _ (g.S.Scan.seen c.scans.self.scan).coming _ c.scans-test.true c.if-out-ne-STATUS_DONE.false
     (is_flying c.scans.in_flight _ c.scans.invariant.started c.in_default.len_below) c.keep.ensures.kept (omega (arith, c.in_default.len_below))
-        c.scans.invariant.heard c.in_ok-out.ensures.heard
+    c.scans.invariant.heard c.in_ok-out.ensures.heard
 
 pub returns-in_default-clause-asked : goal.returns-in_default-clause-asked
 returns-in_default-clause-asked g c = streams_out c.args.self.now.state c.args.abits c.args.ops.now c.scans.rest.now c.scans.clocks c.first_scan.result
@@ -157,17 +158,17 @@ returns-in_default-clause-keeps g c = let o =
     (g.S.Scan.seen c.args.self.now.scan).far (g.S.Scan.seen c.scans.self.scan).far _ c.in_default.len_below
     (is_flying c.scans.in_flight _ c.scans.invariant.started c.in_default.len_below)
     c.if-out-ne-STATUS_DONE.false c.keep.ensures.kept c.scans.invariant.streaming
-        (first_as c.scans.rest.now c.first_scan.result c.in_ok-out.out (g.S.Scan.seen c.scans.self.scan).far _ c.first_scan.ensures
-        c.in_ok-out.ensures.scanned))) in search rules
+    (first_as c.scans.rest.now c.first_scan.result c.in_ok-out.out (g.S.Scan.seen c.scans.self.scan).far _ c.first_scan.ensures
+    c.in_ok-out.ensures.scanned))) in search rules
 
 pub scans-preserved : goal.scans-preserved
 scans-preserved g c =
     let u = stream_taken c.args.ops.now c.scans.results.items c.keep.new.results.items c.scans.rest.now _ c.scans.in_flight c.scans.busy c.in_ok-out.out
-        (g.S.Scan.seen c.args.self.now.scan).far (g.S.Scan.seen c.scans.self.scan).far (g.S.Scan.seen c.exchange_behind.new.self.scan).far
-        c.scans.invariant.small c.in-len1-up.len_at_least (rest_is c.scans.rest.now) c.if-out-ne-STATUS_DONE.false
+    (g.S.Scan.seen c.args.self.now.scan).far (g.S.Scan.seen c.scans.self.scan).far (g.S.Scan.seen c.exchange_behind.new.self.scan).far
+    c.scans.invariant.small c.in-len1-up.len_at_least (rest_is c.scans.rest.now) c.if-out-ne-STATUS_DONE.false
     c.keep.ensures.kept c.scans.invariant.streaming
-        (first_as c.scans.rest.now c.first_scan.result c.in_ok-out.out (g.S.Scan.seen c.scans.self.scan).far _ c.first_scan.ensures
-        c.in_ok-out.ensures.scanned) in
+    (first_as c.scans.rest.now c.first_scan.result c.in_ok-out.out (g.S.Scan.seen c.scans.self.scan).far _ c.first_scan.ensures
+    c.in_ok-out.ensures.scanned) in
     record {
       streaming = u;
       heard = heard_on (length c.args.ops.now) (length c.scans.rest.now) _ c.scans.busy c.scans.in_flight c.scans.results.items c.keep.new.results.items

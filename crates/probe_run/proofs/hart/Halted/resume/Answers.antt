@@ -13,37 +13,39 @@ use Rattle.probe_run.proofs.hart.Halted.resume.Goals as goal
 pub returns-in_err-ask-clause-left : goal.returns-in_err-ask-clause-left
 returns-in_err-ask-clause-left g c =
     if_err (ResumeLeft c.args.self.number (g.D.Dmi.seen c.args.link.now).far (g.D.Dmi.seen c.ask.new.link).far) c.from_residual.result _
-        c.from_residual.ensures.1
+    c.from_residual.ensures.1
     (go_broke sees_ack c.args.self.number c.args.self.within _ _ (told (g.D.Dmi.seen c.args.link.now)) _ _
-        (can_run_halted c.args.self.number _ c.requires.ready c.requires.halted) c.in_err-ask.ensures.broke)
+    (can_run_halted c.args.self.number _ c.requires.ready c.requires.halted) c.in_err-ask.ensures.broke)
 
 pub returns-in-Shown-clause-happened : goal.returns-in-Shown-clause-happened
 returns-in-Shown-clause-happened g c =
     resume_happened c.args.self.number c.args.self.within (told (g.D.Dmi.seen c.args.link.now)) (told (g.D.Dmi.seen c.ask.new.link))
-        (can_run_halted c.args.self.number _ c.requires.ready c.requires.halted)
+    (can_run_halted c.args.self.number _ c.requires.ready c.requires.halted)
     (asked_shown Resume c.args.self.number Wanted.Acknowledged _ _ c.in_ok-ask.field-0 c.in-Shown.is c.in_ok-ask.ensures.asked)
 
 pub returns-in-Shown-clause-ready : goal.returns-in-Shown-clause-ready
 returns-in-Shown-clause-ready g c =
     resume_ready c.args.self.number c.args.self.within (told (g.D.Dmi.seen c.args.link.now)) (told (g.D.Dmi.seen c.ask.new.link))
-        (can_run_halted c.args.self.number _ c.requires.ready c.requires.halted)
+    (can_run_halted c.args.self.number _ c.requires.ready c.requires.halted)
     (asked_shown Resume c.args.self.number Wanted.Acknowledged _ _ c.in_ok-ask.field-0 c.in-Shown.is c.in_ok-ask.ensures.asked)
 
 pub returns-in-Shown-clause-selects : goal.returns-in-Shown-clause-selects
 returns-in-Shown-clause-selects g c =
     resume_selects c.args.self.number c.args.self.within (told (g.D.Dmi.seen c.args.link.now)) (told (g.D.Dmi.seen c.ask.new.link))
-        (can_run_halted c.args.self.number _ c.requires.ready c.requires.halted)
+    (can_run_halted c.args.self.number _ c.requires.ready c.requires.halted)
     (asked_shown Resume c.args.self.number Wanted.Acknowledged _ _ c.in_ok-ask.field-0 c.in-Shown.is c.in_ok-ask.ensures.asked)
 
 pub returns-in-Shown-clause-exists : goal.returns-in-Shown-clause-exists
 returns-in-Shown-clause-exists g c =
     resume_exists c.args.self.number c.args.self.within (told (g.D.Dmi.seen c.args.link.now)) (told (g.D.Dmi.seen c.ask.new.link))
-        (can_run_halted c.args.self.number _ c.requires.ready c.requires.halted)
+    (can_run_halted c.args.self.number _ c.requires.ready c.requires.halted)
     (asked_shown Resume c.args.self.number Wanted.Acknowledged _ _ c.in_ok-ask.field-0 c.in-Shown.is c.in_ok-ask.ensures.asked)
 
 pub returns-in-Unshown-clause-left : goal.returns-in-Unshown-clause-left
 returns-in-Unshown-clause-left g c =
     let m = asked_unshown Resume c.args.self.number Wanted.Acknowledged (told (g.D.Dmi.seen c.args.link.now)) (told (g.D.Dmi.seen c.ask.new.link))
-        c.in_ok-ask.field-0 c.in-Unshown.acknowledged c.in-Unshown.is c.in_ok-ask.ensures.asked in
-    (seen_in m.0, go_missed_at sees_ack c.args.self.number c.args.self.within m.0 (told (g.D.Dmi.seen c.args.link.now)) (told (g.D.Dmi.seen c.ask.new.link))
-        (can_run_halted c.args.self.number _ c.requires.ready c.requires.halted) m.1)
+    c.in_ok-ask.field-0 c.in-Unshown.acknowledged c.in-Unshown.is c.in_ok-ask.ensures.asked in (
+      seen_in m.0,
+      go_missed_at sees_ack c.args.self.number c.args.self.within m.0 (told (g.D.Dmi.seen c.args.link.now)) (told (g.D.Dmi.seen c.ask.new.link))
+          (can_run_halted c.args.self.number _ c.requires.ready c.requires.halted) m.1,
+    )

@@ -15,42 +15,50 @@ pub returns-in_err-ask-clause-left : goal.returns-in_err-ask-clause-left
 returns-in_err-ask-clause-left g c =
     if_err (StepLeft c.args.self.number (g.D.Dmi.seen c.args.link.now).far (g.D.Dmi.seen c.ask.new.link).far) c.from_residual.result _ c.from_residual.ensures.1
     (go_broke sees_both c.args.self.number c.args.self.within _ _ (told (g.D.Dmi.seen c.args.link.now)) _ _
-        (can_run_halted c.args.self.number _ c.requires.ready c.requires.halted) c.in_err-ask.ensures.broke)
+    (can_run_halted c.args.self.number _ c.requires.ready c.requires.halted) c.in_err-ask.ensures.broke)
 
 pub returns-in-Shown-clause-happened : goal.returns-in-Shown-clause-happened
 returns-in-Shown-clause-happened g c =
     step_happened c.args.self.number c.args.self.within (told (g.D.Dmi.seen c.args.link.now)) (told (g.D.Dmi.seen c.ask.new.link))
-        (can_run_halted c.args.self.number _ c.requires.ready c.requires.halted)
+    (can_run_halted c.args.self.number _ c.requires.ready c.requires.halted)
     (asked_shown Resume c.args.self.number Wanted.Both _ _ c.in_ok-ask.field-0 c.in-Shown.is c.in_ok-ask.ensures.asked)
 
 pub returns-in-Shown-clause-ready : goal.returns-in-Shown-clause-ready
 returns-in-Shown-clause-ready g c =
     step_ready c.args.self.number c.args.self.within (told (g.D.Dmi.seen c.args.link.now)) (told (g.D.Dmi.seen c.ask.new.link))
-        (can_run_halted c.args.self.number _ c.requires.ready c.requires.halted)
+    (can_run_halted c.args.self.number _ c.requires.ready c.requires.halted)
     (asked_shown Resume c.args.self.number Wanted.Both _ _ c.in_ok-ask.field-0 c.in-Shown.is c.in_ok-ask.ensures.asked)
 
 pub returns-in-Shown-clause-selects : goal.returns-in-Shown-clause-selects
 returns-in-Shown-clause-selects g c =
     step_selects c.args.self.number c.args.self.within (told (g.D.Dmi.seen c.args.link.now)) (told (g.D.Dmi.seen c.ask.new.link))
-        (can_run_halted c.args.self.number _ c.requires.ready c.requires.halted)
+    (can_run_halted c.args.self.number _ c.requires.ready c.requires.halted)
     (asked_shown Resume c.args.self.number Wanted.Both _ _ c.in_ok-ask.field-0 c.in-Shown.is c.in_ok-ask.ensures.asked)
 
 pub returns-in-Shown-clause-halted : goal.returns-in-Shown-clause-halted
 returns-in-Shown-clause-halted g c =
     step_halted c.args.self.number c.args.self.within (told (g.D.Dmi.seen c.args.link.now)) (told (g.D.Dmi.seen c.ask.new.link))
-        (can_run_halted c.args.self.number _ c.requires.ready c.requires.halted)
+    (can_run_halted c.args.self.number _ c.requires.ready c.requires.halted)
     (asked_shown Resume c.args.self.number Wanted.Both _ _ c.in_ok-ask.field-0 c.in-Shown.is c.in_ok-ask.ensures.asked)
 
 pub returns-in-Unshown-true-clause-left : goal.returns-in-Unshown-true-clause-left
 returns-in-Unshown-true-clause-left g c =
     let m = asked_unshown Resume c.args.self.number Wanted.Both (told (g.D.Dmi.seen c.args.link.now)) (told (g.D.Dmi.seen c.ask.new.link)) c.in_ok-ask.field-0
-        _ c.in-Unshown-true.is c.in_ok-ask.ensures.asked in
-    (seen_in m.0, sym m.2 ∙ c.in-Unshown-true.acknowledged-test, go_missed_at sees_both c.args.self.number c.args.self.within m.0
-        (told (g.D.Dmi.seen c.args.link.now)) (told (g.D.Dmi.seen c.ask.new.link)) (can_run_halted c.args.self.number _ c.requires.ready c.requires.halted) m.1)
+    _ c.in-Unshown-true.is c.in_ok-ask.ensures.asked in (
+      seen_in m.0,
+      sym m.2 ∙ c.in-Unshown-true.acknowledged-test,
+      go_missed_at sees_both c.args.self.number c.args.self.within m.0
+          (told (g.D.Dmi.seen c.args.link.now)) (told (g.D.Dmi.seen c.ask.new.link)) (can_run_halted c.args.self.number _ c.requires.ready c.requires.halted)
+          m.1,
+    )
 
 pub returns-in-Unshown-false-clause-left : goal.returns-in-Unshown-false-clause-left
 returns-in-Unshown-false-clause-left g c =
     let m = asked_unshown Resume c.args.self.number Wanted.Both (told (g.D.Dmi.seen c.args.link.now)) (told (g.D.Dmi.seen c.ask.new.link)) c.in_ok-ask.field-0
-        _ c.in-Unshown-false.is c.in_ok-ask.ensures.asked in
-    (seen_in m.0, sym m.2 ∙ c.in-Unshown-false.acknowledged-test, go_missed_at sees_both c.args.self.number c.args.self.within m.0
-        (told (g.D.Dmi.seen c.args.link.now)) (told (g.D.Dmi.seen c.ask.new.link)) (can_run_halted c.args.self.number _ c.requires.ready c.requires.halted) m.1)
+    _ c.in-Unshown-false.is c.in_ok-ask.ensures.asked in (
+      seen_in m.0,
+      sym m.2 ∙ c.in-Unshown-false.acknowledged-test,
+      go_missed_at sees_both c.args.self.number c.args.self.within m.0
+          (told (g.D.Dmi.seen c.args.link.now)) (told (g.D.Dmi.seen c.ask.new.link)) (can_run_halted c.args.self.number _ c.requires.ready c.requires.halted)
+          m.1,
+    )

@@ -14,20 +14,20 @@ returns-in_err-control-clause-left g c =
 pub returns-in_err-word-clause-fails : goal.returns-in_err-word-clause-fails
 returns-in_err-word-clause-fails g c =
     if_err (LookFails c.args.hart (g.D.Dmi.seen c.args.link.now).fault_count (g.D.Dmi.seen c.look.new.link).fault_count (told (g.D.Dmi.seen c.args.link.now))
-        (told (g.D.Dmi.seen c.look.new.link))) c.from_residual-in_err-word.result _ c.from_residual-in_err-word.ensures.1
+    (told (g.D.Dmi.seen c.look.new.link))) c.from_residual-in_err-word.result _ c.from_residual-in_err-word.ensures.1
     (at_look (look_failed c.args.hart (told (g.D.Dmi.seen c.args.link.now)) _ (g.D.Dmi.seen c.args.link.now).fault_count
-        (g.D.Dmi.seen c.control.new.link).fault_count (g.D.Dmi.seen c.look.new.link).fault_count _ _ c.in_ok-control.ensures.did c.control.ensures.keeps.later
-        c.look.ensures.keeps.later c.in_err-word.ensures.broke))
+    (g.D.Dmi.seen c.control.new.link).fault_count (g.D.Dmi.seen c.look.new.link).fault_count _ _ c.in_ok-control.ensures.did c.control.ensures.keeps.later
+    c.look.ensures.keeps.later c.in_err-word.ensures.broke))
 
 pub returns-in_err-word-clause-left : goal.returns-in_err-word-clause-left
 returns-in_err-word-clause-left g c =
     if_err (LookLeft c.args.hart (g.D.Dmi.seen c.args.link.now).far (g.D.Dmi.seen c.look.new.link).far) c.from_residual-in_err-word.result _
-        c.from_residual-in_err-word.ensures.1
+    c.from_residual-in_err-word.ensures.1
     (look_broke c.args.hart c.requires.hart (g.D.Dmi.seen c.args.link.now).fault_count (g.D.Dmi.seen c.look.new.link).fault_count
-        (told (g.D.Dmi.seen c.args.link.now)) _ _ c.requires.ready
+    (told (g.D.Dmi.seen c.args.link.now)) _ _ c.requires.ready
     (at_look (look_failed c.args.hart (told (g.D.Dmi.seen c.args.link.now)) _ (g.D.Dmi.seen c.args.link.now).fault_count
-        (g.D.Dmi.seen c.control.new.link).fault_count (g.D.Dmi.seen c.look.new.link).fault_count _ _ c.in_ok-control.ensures.did c.control.ensures.keeps.later
-        c.look.ensures.keeps.later c.in_err-word.ensures.broke)))
+    (g.D.Dmi.seen c.control.new.link).fault_count (g.D.Dmi.seen c.look.new.link).fault_count _ _ c.in_ok-control.ensures.did c.control.ensures.keeps.later
+    c.look.ensures.keeps.later c.in_err-word.ensures.broke)))
 
 pub returns-clause-did : goal.returns-clause-did
 returns-clause-did g c = (looked_at c.args.hart _ _ _ _ _ c.in_ok-control.ensures.did c.in_ok-word.ensures.did c.seen_of.ensures)
