@@ -1,0 +1,4 @@
+pub mod SideTap
+pub mod Chain
+pub mod ChainLaws
+pub mod ChainPlan

@@ -1,0 +1,12 @@
+//! Several TAPs in one chain: the devices beside the chip, which of them there are, and what a chain is as a whole.
+#![tactic(auto)]
+
+mod chain_plan;
+mod laws;
+mod side_tap;
+#[cfg(test)]
+mod tests;
+
+pub use chain_plan::{ChainPlan, SIDES_MOST};
+pub use laws::{registers_shift_as_one, taps_stay_in_one_state};
+pub use side_tap::{SideTap, WIDTH_LEAST, WIDTH_MOST};
