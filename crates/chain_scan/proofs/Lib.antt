@@ -1,2 +1,3 @@
 pub mod OneState
 pub mod OneRegister
+pub mod Passing

@@ -52,11 +52,11 @@ chip_shows : (p : Port) → Shifting p.state → tdo_after p.state p.shift ≡ l
 chip_shows p (inl is) = ap (λ s. tdo_after s p.shift) is
 chip_shows p (inr is) = ap (λ s. tdo_after s p.shift) is
 
-chip_shifts : (p : Port) (d : Dtm) (tdi : Bool) → Shifting p.state → (bits : List Bool) → shift_after p.state p.selected d tdi bits ≡ shift_in tdi bits
+pub chip_shifts : (p : Port) (d : Dtm) (tdi : Bool) → Shifting p.state → (bits : List Bool) → shift_after p.state p.selected d tdi bits ≡ shift_in tdi bits
 chip_shifts p d tdi (inl is) bits = ap (λ s. shift_after s p.selected d tdi bits) is
 chip_shifts p d tdi (inr is) bits = ap (λ s. shift_after s p.selected d tdi bits) is
 
-same_state : (p : Port) (t : SideTap) → StandsAs p t → Shifting p.state → Shifting t.state
+pub same_state : (p : Port) (t : SideTap) → StandsAs p t → Shifting p.state → Shifting t.state
 same_state p t s (inl is) = inl (s.state ∙ is)
 same_state p t s (inr is) = inr (s.state ∙ is)
 
@@ -66,18 +66,18 @@ shift_by true tms tdi t free shifting = absurd (let no : ⊥ = cc in no)
 shift_by false tms tdi t free shifting = side_shifts t.state (side_falls t) tdi shifting
 
 -- a rise behind a fall
-risen_shift : (tms tdi : Bool) (t : SideTap) → t.held ≡ false → Shifting t.state → (side_rises tms tdi (side_falls t)).shift ≡ shift_in tdi t.shift
+pub risen_shift : (tms tdi : Bool) (t : SideTap) → t.held ≡ false → Shifting t.state → (side_rises tms tdi (side_falls t)).shift ≡ shift_in tdi t.shift
 risen_shift tms tdi t free shifting = shift_by t.held tms tdi t free shifting
 
 -- ---- several
 
-outgoing_fed : (tdi : Bool) (p : Port) (ts : List SideTap) → Shifting p.state → Each (StandsAs p) ts → Each HasBits ts
+pub outgoing_fed : (tdi : Bool) (p : Port) (ts : List SideTap) → Shifting p.state → Each (StandsAs p) ts → Each HasBits ts
     → outgoing tdi (map side_falls ts) ≡ fed tdi (joined_shifts ts)
 outgoing_fed tdi p [] shifting one bits = refl
 outgoing_fed tdi p (t ∷ ts) shifting one bits =
     side_shows t.state t.shift (same_state p t one.0 shifting) ∙ sym (fed_front tdi t.shift (joined_shifts ts) bits.0)
 
-sides_shift : (tms tdi : Bool) (p : Port) (ts : List SideTap) → Shifting p.state → p.held ≡ false → Each (StandsAs p) ts → Each HasBits ts
+pub sides_shift : (tms tdi : Bool) (p : Port) (ts : List SideTap) → Shifting p.state → p.held ≡ false → Each (StandsAs p) ts → Each HasBits ts
     → joined_shifts (sides_rise tms tdi (map side_falls ts)) ≡ shift_in tdi (joined_shifts ts)
 sides_shift tms tdi p [] shifting free one bits = refl
 sides_shift tms tdi p (t ∷ ts) shifting free one bits =
@@ -91,7 +91,7 @@ sides_shift tms tdi p (t ∷ ts) shifting free one bits =
 
 -- ---- the whole
 
-port_shift : (held tms tdi : Bool) (d : Dtm) (p : Port) → held ≡ false
+pub port_shift : (held tms tdi : Bool) (d : Dtm) (p : Port) → held ≡ false
     → (if held then p else risen tms tdi d p).shift ≡ shift_after p.state p.selected d tdi p.shift
 port_shift true tms tdi d p is = absurd (let no : ⊥ = cc in no)
 port_shift false tms tdi d p is = refl

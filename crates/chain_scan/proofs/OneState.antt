@@ -42,7 +42,7 @@ each_held on p (t ∷ ts) all = (stands_held on p t all.0, each_held on p ts all
 
 -- ---- one byte
 
-rises_together : (tms tdi : Bool) (c : Chain) → InOneState c → InOneState (chain_rises tms tdi c)
+pub rises_together : (tms tdi : Bool) (c : Chain) → InOneState c → InOneState (chain_rises tms tdi c)
 rises_together tms tdi c one =
     let into : Bool = outgoing tdi c.far in
     let d : Dtm = c.chip.inside.works.dtm in

@@ -2,3 +2,4 @@ pub mod SideTap
 pub mod Chain
 pub mod ChainLaws
 pub mod ChainPlan
+pub mod Passing

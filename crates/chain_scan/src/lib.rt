@@ -8,5 +8,5 @@ mod side_tap;
 mod tests;
 
 pub use chain_plan::{ChainPlan, SIDES_MOST};
-pub use laws::{registers_shift_as_one, taps_stay_in_one_state};
+pub use laws::{pads_go_around, registers_shift_as_one, scans_exchange, taps_stay_in_one_state};
 pub use side_tap::{SideTap, WIDTH_LEAST, WIDTH_MOST};
