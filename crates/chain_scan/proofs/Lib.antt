@@ -1,3 +1,4 @@
 pub mod OneState
 pub mod OneRegister
 pub mod Passing
+pub mod ChipInChain

@@ -3,3 +3,4 @@ pub mod Chain
 pub mod ChainLaws
 pub mod ChainPlan
 pub mod Passing
+pub mod ChipInChain

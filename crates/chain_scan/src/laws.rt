@@ -1,6 +1,7 @@
 //! Laws of chains. Each is the contract of a function that does nothing.
 
 ghost use Rattle.chain_scan.specs.ChainLaws.{RegistersShiftAsOne, TapsStayInOneState};
+ghost use Rattle.chain_scan.specs.ChipInChain.{ChipSeesAnotherTdi};
 ghost use Rattle.chain_scan.specs.Passing.{PadsGoAround, ScansExchange};
 
 /// All TAPs of a chain stand in one state, whatever bytes come.
@@ -21,4 +22,9 @@ pub fn scans_exchange()
 /// Around devices in BYPASS the chip's register gets just the bits between the pads, and what it held comes out between zeros.
 pub fn pads_go_around()
     ensures { PadsGoAround }
+{}
+
+/// The chip of a chain is the chip alone under the same bytes with another TDI, that of its neighbour.
+pub fn chip_sees_another_tdi()
+    ensures { ChipSeesAnotherTdi }
 {}

@@ -8,5 +8,8 @@ mod side_tap;
 mod tests;
 
 pub use chain_plan::{ChainPlan, SIDES_MOST};
-pub use laws::{pads_go_around, registers_shift_as_one, scans_exchange, taps_stay_in_one_state};
+pub use laws::{
+    chip_sees_another_tdi, pads_go_around, registers_shift_as_one, scans_exchange,
+    taps_stay_in_one_state,
+};
 pub use side_tap::{SideTap, WIDTH_LEAST, WIDTH_MOST};
