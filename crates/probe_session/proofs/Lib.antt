@@ -9,6 +9,7 @@ pub mod RegisterLemmas
 pub mod QuietTails
 pub mod Spoken
 pub mod SeveralLines
+pub mod ShownLines
 pub mod SlotLines
 pub mod RegisterShow
 pub mod ReadLines

@@ -90,7 +90,7 @@ met_as h t u is p = subst (MetAs h t u) is p
 
 -- ---- a command whose body a halted hart does
 
-abbrev rest : State → (Plan → Plan) → (State → Plan) → Rest
+abbrev pub rest : State → (Plan → Plan) → (State → Plan) → Rest
 rest s body next = record { body = body (next s); next = next s }
 
 abbrev pub for_halted : State → (Plan → Plan) → (State → Plan) → Place

@@ -1,9 +1,8 @@
 -- Where a command begins, and where it ends.
 -- It is this project's own.
-use Rattle.std.specs.Prelude.{ℕ, Bool, true, false, if◌then◌else◌}
+use Rattle.std.specs.Prelude.{ℕ, Bool, if◌then◌else◌}
 use Rattle.rv_model.specs.Registers.{csr_read_only}
 use Rattle.debug_model.specs.declared.command.Command.{Command}
-use Rattle.debug_model.specs.declared.command.Command.TheVariants as command
 use Rattle.debug_model.specs.Tap.{idcode}
 use Rattle.abstract_debugger.specs.Debugger.{State, act, arming, freeing, going, one, register_line, stop_line}
 use Rattle.abstract_debugger.specs.Lines.{Line}
@@ -80,17 +79,3 @@ at_letting_go h next = still h (let_go h next)
 
 abbrev pub at_idcode : Plan → Place
 at_idcode next = idle (say (Line.Idcode idcode) next)
-
--- a command that says one line
-abbrev pub is_one_line : Command → Bool
-is_one_line command.Regs = false
-is_one_line (command.Read size address count) = false
-is_one_line (command.Dump address count) = false
-is_one_line command.Slots = false
-is_one_line command.End = false
-is_one_line _ = true
-
--- the one that ends a session
-abbrev pub is_end : Command → Bool
-is_end command.End = true
-is_end _ = false

@@ -12,6 +12,7 @@ pub mod Slots
 pub mod Commands
 pub mod Reach
 pub mod Showing
+pub mod Shown
 pub mod Led
 pub mod Acts
 pub mod Scripts

@@ -1,21 +1,23 @@
 //! `regs`: the registers of the hart, a line each.
 
-ghost use Rattle.std.specs.Prelude.{◌≤◌, false, IfOk, IfErr, OnOk};
+ghost use Rattle.std.specs.Prelude.{◌≤◌, [], false, IfOk, IfErr, OnOk};
 ghost use Rattle.debug_model.specs.declared.command.Command.TheVariants as command;
 ghost use Rattle.probe_session.specs.Calls.{IsOfCores};
-ghost use Rattle.probe_session.specs.Commands.{before, behind, state_of};
+ghost use Rattle.probe_session.specs.Commands.{before, state_of};
 ghost use Rattle.abstract_debugger.specs.Laws.{Quiet};
-ghost use Rattle.probe_session.specs.Goes.{CalmNext, Fell, Spoke};
+ghost use Rattle.probe_session.specs.Goes.{Falls, Fell, Spoke, Went};
 ghost use Rattle.probe_session.specs.Links.{Attached, AttachedHalted, Goes};
 ghost use Rattle.probe_session.specs.Places.{idle};
 ghost use Rattle.probe_session.specs.Showing.{CalmRegisters, at_all_registers, at_next_register, at_registers};
-ghost use Rattle.probe_run.specs.Told.{told};
+ghost use Rattle.probe_session.specs.Shown.{AttachedShown, IsOfBlock, at_shown};
+ghost use Rattle.probe_run.specs.Told.{told, Fails};
 
 use crate::fault::Failure;
 use crate::met::{Met, meet};
 use crate::put::put_line;
 use crate::registers::reg;
 use crate::session::Session;
+use crate::shown::Shown;
 use debug_model::Dmi;
 use jt_base::Sink;
 use printed_lines::Line;
@@ -46,7 +48,11 @@ fn put_register<D: Dmi, K: Sink>(
 }
 
 /// Puts the lines of pc and of x1 to x31.
-fn put_registers<D: Dmi, K: Sink>(link: &mut D, halted: &Halted, out: &mut K) -> Result<(), Failure>
+pub(crate) fn put_registers<D: Dmi, K: Sink>(
+    link: &mut D,
+    halted: &Halted,
+    out: &mut K,
+) -> Result<(), Failure>
     requires serving { AttachedHalted halted.now.number (D.seen link.old) }
     ensures spoke { OnOk result (Spoke (at_all_registers halted.now.number) idle false (told (D.seen link.old))
         (told (D.seen link.new)) (K.contents out.old) (K.contents out.new)) }
@@ -64,31 +70,18 @@ fn put_registers<D: Dmi, K: Sink>(link: &mut D, halted: &Halted, out: &mut K) ->
 }
 
 impl Session {
-    /// Shows pc and x1 to x31 of the hart.
-    pub(crate) fn show_registers<D: Dmi, K: Sink>(
-        &self,
-        link: &mut D,
-        out: &mut K,
-    ) -> Result<bool, Failure>
+    /// The Look of `regs`, and what it shows: pc and x1 to x31 of the hart.
+    pub(crate) fn regs<D: Dmi>(&self, link: &mut D) -> Result<Shown, Failure>
         requires serving { Attached (D.seen link.old) }
-        ensures spoke { IfOk result (λ wrong. Spoke (before command.Regs (state_of self.now)) (behind (state_of self.now)) wrong
-            (told (D.seen link.old)) (told (D.seen link.new)) (K.contents out.old)
-            (K.contents out.new)) }
-        ensures fell { IfErr result (Fell CalmNext (before command.Regs (state_of self.now)) (D.seen link.old).fault_count (D.seen link.new).fault_count
-            (told (D.seen link.old)) (told (D.seen link.new)) (K.fault_count out.old)
-            (K.fault_count out.new) (K.contents out.old) (K.contents out.new)) }
-        ensures keeps { Goes (λ _. Attached) (D.seen link.old) (D.seen link.new) result }
-        ensures sink_later { K.fault_count out.old ≤ K.fault_count out.new }
+        ensures went { IfOk result (λ shown. Went (before command.Regs (state_of self.now)) (at_shown shown (state_of self.now)) []
+            (told (D.seen link.old)) (told (D.seen link.new))) }
+        ensures falls { IfErr result (Fails (Falls (before command.Regs (state_of self.now)) []) (D.seen link.old) (D.seen link.new)) }
+        ensures keeps { Goes AttachedShown (D.seen link.old) (D.seen link.new) result }
+        ensures block { IfOk result IsOfBlock }
     {
         match meet(link, &self.target, self.hart)? {
-            Met::Says(line) => {
-                put_line(out, &line)?;
-                Ok(line.is_error())
-            }
-            Met::At(halted) => {
-                put_registers(link, &halted, out)?;
-                Ok(false)
-            }
+            Met::Says(line) => Ok(Shown::Line(line)),
+            Met::At(halted) => Ok(Shown::Registers(halted)),
         }
     }
 }

@@ -1,6 +1,6 @@
 //! `dump`: bytes of memory, sixteen to a row.
 
-ghost use Rattle.std.specs.Prelude.{◌≡◌, ◌≤◌, ◌<◌, ◌+◌, ◌^◌, true, false, IfOk, IfErr, OnErr, OnOk};
+ghost use Rattle.std.specs.Prelude.{◌≡◌, ◌≤◌, ◌<◌, ◌+◌, ◌^◌, [], true, false, IfOk, IfErr, OnErr, OnOk};
 ghost use Rattle.arrayvec.specs.ArrayVec.{array_vec_len};
 ghost use Rattle.debug_model.specs.Command.{IsBlock};
 ghost use Rattle.debug_model.specs.declared.command.Command.TheVariants as command;
@@ -11,19 +11,21 @@ ghost use Rattle.rv_model.specs.declared.size.Size.TheVariants.{B1};
 ghost use Rattle.probe_session.specs.declared.fault.Failure.TheVariants as failure;
 ghost use Rattle.probe_session.specs.Answers.{LoadedAs};
 ghost use Rattle.probe_session.specs.Calls.{LoadFell};
-ghost use Rattle.probe_session.specs.Commands.{before, behind, state_of};
+ghost use Rattle.probe_session.specs.Commands.{before, state_of};
 ghost use Rattle.abstract_debugger.specs.Laws.{Quiet};
-ghost use Rattle.probe_session.specs.Goes.{CalmNext, Fell, Spoke};
+ghost use Rattle.probe_session.specs.Goes.{Falls, Fell, Spoke, Went};
 ghost use Rattle.probe_session.specs.Links.{Attached, Goes};
 ghost use Rattle.probe_session.specs.Places.{idle};
 ghost use Rattle.probe_session.specs.Reach.{AttachedBy, path_by};
 ghost use Rattle.probe_session.specs.Showing.{CalmBytes, DumpedAs, RowCut, at_dump, at_next_byte, row_lines};
+ghost use Rattle.probe_session.specs.Shown.{AttachedShown, IsOfBlock, at_shown};
 ghost use Rattle.probe_run.specs.Told.{told, Fails};
 
 use crate::fault::Failure;
 use crate::put::put_line;
 use crate::reach::{Reach, Reached, load_by};
 use crate::session::Session;
+use crate::shown::Shown;
 use arrayvec::ArrayVec;
 use debug_model::Dmi;
 use jt_base::Sink;
@@ -104,7 +106,7 @@ fn put_byte<D: Dmi, K: Sink>(
 }
 
 /// Puts the rows of so many bytes, until memory refuses one. It answers whether it did.
-fn put_rows<D: Dmi, K: Sink>(
+pub(crate) fn put_rows<D: Dmi, K: Sink>(
     link: &mut D,
     reach: &Reach,
     address: u64,
@@ -137,32 +139,24 @@ fn put_rows<D: Dmi, K: Sink>(
 }
 
 impl Session {
-    /// Shows so many bytes of memory from an address upwards.
-    pub(crate) fn dump<D: Dmi, K: Sink>(
+    /// What `dump` does in front of its accesses, and what it shows: so many bytes of memory from an address upwards.
+    pub(crate) fn bytes<D: Dmi>(
         &self,
         link: &mut D,
         address: u64,
         count: u16,
-        out: &mut K,
-    ) -> Result<bool, Failure>
+    ) -> Result<Shown, Failure>
         requires block { IsBlock 1 address count }
         requires serving { Attached (D.seen link.old) }
-        ensures spoke { IfOk result (λ wrong. Spoke (before (command.Dump address count) (state_of self.now)) (behind (state_of self.now)) wrong
-            (told (D.seen link.old)) (told (D.seen link.new)) (K.contents out.old)
-            (K.contents out.new)) }
-        ensures fell { IfErr result
-            (Fell CalmNext (before (command.Dump address count) (state_of self.now)) (D.seen link.old).fault_count (D.seen link.new).fault_count
-            (told (D.seen link.old)) (told (D.seen link.new)) (K.fault_count out.old)
-            (K.fault_count out.new) (K.contents out.old) (K.contents out.new)) }
-        ensures keeps { Goes (λ _. Attached) (D.seen link.old) (D.seen link.new) result }
-        ensures sink_later { K.fault_count out.old ≤ K.fault_count out.new }
+        ensures went { IfOk result (λ shown. Went (before (command.Dump address count) (state_of self.now)) (at_shown shown (state_of self.now)) []
+            (told (D.seen link.old)) (told (D.seen link.new))) }
+        ensures falls { IfErr result (Fails (Falls (before (command.Dump address count) (state_of self.now)) []) (D.seen link.old) (D.seen link.new)) }
+        ensures keeps { Goes AttachedShown (D.seen link.old) (D.seen link.new) result }
+        ensures block { IfOk result IsOfBlock }
     {
         match self.reach(link)? {
-            Reached::Says(line) => {
-                put_line(out, &line)?;
-                Ok(line.is_error())
-            }
-            Reached::By(reach) => put_rows(link, &reach, address, count, out),
+            Reached::Says(line) => Ok(Shown::Line(line)),
+            Reached::By(reach) => Ok(Shown::Bytes(reach, address, count)),
         }
     }
 }

@@ -1,22 +1,24 @@
 //! `read`: elements of memory from an address upwards, a line each.
 
-ghost use Rattle.std.specs.Prelude.{◌≤◌, true, false, IfOk, IfErr};
+ghost use Rattle.std.specs.Prelude.{◌≤◌, [], true, false, IfOk, IfErr};
 ghost use Rattle.debug_model.specs.Command.{IsBlock};
 ghost use Rattle.debug_model.specs.declared.command.Command.TheVariants as command;
 ghost use Rattle.rv_model.specs.Size.{count_of};
-ghost use Rattle.probe_session.specs.Commands.{before, behind, state_of};
+ghost use Rattle.probe_session.specs.Commands.{before, state_of};
 ghost use Rattle.abstract_debugger.specs.Laws.{Quiet};
-ghost use Rattle.probe_session.specs.Goes.{CalmNext, Fell, Spoke};
+ghost use Rattle.probe_session.specs.Goes.{Falls, Fell, Spoke, Went};
 ghost use Rattle.probe_session.specs.Links.{Attached, Goes};
 ghost use Rattle.probe_session.specs.Places.{idle};
 ghost use Rattle.probe_session.specs.Reach.{AttachedBy};
 ghost use Rattle.probe_session.specs.Showing.{at_read};
-ghost use Rattle.probe_run.specs.Told.{told};
+ghost use Rattle.probe_session.specs.Shown.{AttachedShown, IsOfBlock, at_shown};
+ghost use Rattle.probe_run.specs.Told.{told, Fails};
 
 use crate::fault::Failure;
 use crate::put::put_line;
 use crate::reach::{Reach, Reached, load_by};
 use crate::session::Session;
+use crate::shown::Shown;
 use debug_model::Dmi;
 use jt_base::Sink;
 use printed_lines::Line;
@@ -24,7 +26,7 @@ use probe_access::is_aligned;
 use rv_model::Size;
 
 /// Puts the line of each element, until memory refuses one. It answers whether it did.
-fn put_elements<D: Dmi, K: Sink>(
+pub(crate) fn put_elements<D: Dmi, K: Sink>(
     link: &mut D,
     reach: &Reach,
     size: Size,
@@ -60,32 +62,26 @@ fn put_elements<D: Dmi, K: Sink>(
 }
 
 impl Session {
-    /// Shows so many elements of memory from an address upwards.
-    pub(crate) fn read<D: Dmi, K: Sink>(
+    /// What `read` does in front of its accesses, and what it shows: so many elements of memory from an address upwards.
+    pub(crate) fn elements<D: Dmi>(
         &self,
         link: &mut D,
         size: Size,
         address: u64,
         count: u16,
-        out: &mut K,
-    ) -> Result<bool, Failure>
+    ) -> Result<Shown, Failure>
         requires block { IsBlock (count_of size) address count }
         requires serving { Attached (D.seen link.old) }
-        ensures spoke { IfOk result (λ wrong. Spoke (before (command.Read size address count) (state_of self.now)) (behind (state_of self.now)) wrong
-            (told (D.seen link.old)) (told (D.seen link.new)) (K.contents out.old)
-            (K.contents out.new)) }
-        ensures fell { IfErr result (Fell CalmNext (before (command.Read size address count) (state_of self.now)) (D.seen link.old).fault_count
-            (D.seen link.new).fault_count (told (D.seen link.old)) (told (D.seen link.new))
-            (K.fault_count out.old) (K.fault_count out.new) (K.contents out.old) (K.contents out.new)) }
-        ensures keeps { Goes (λ _. Attached) (D.seen link.old) (D.seen link.new) result }
-        ensures sink_later { K.fault_count out.old ≤ K.fault_count out.new }
+        ensures went { IfOk result (λ shown. Went (before (command.Read size address count) (state_of self.now)) (at_shown shown (state_of self.now)) []
+            (told (D.seen link.old)) (told (D.seen link.new))) }
+        ensures falls { IfErr result (Fails (Falls (before (command.Read size address count) (state_of self.now)) [])
+            (D.seen link.old) (D.seen link.new)) }
+        ensures keeps { Goes AttachedShown (D.seen link.old) (D.seen link.new) result }
+        ensures block { IfOk result IsOfBlock }
     {
         match self.reach(link)? {
-            Reached::Says(line) => {
-                put_line(out, &line)?;
-                Ok(line.is_error())
-            }
-            Reached::By(reach) => put_elements(link, &reach, size, address, count, out),
+            Reached::Says(line) => Ok(Shown::Line(line)),
+            Reached::By(reach) => Ok(Shown::Elements(reach, size, address, count)),
         }
     }
 }

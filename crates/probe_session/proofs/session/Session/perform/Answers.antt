@@ -1,0 +1,106 @@
+use Rattle.std.proofs.Common.{ap}
+use Rattle.probe_run.specs.Told.{told}
+use Rattle.probe_session.specs.Commands.{state_of}
+use Rattle.probe_session.proofs.LinkLemmas.{if_err}
+use Rattle.probe_session.proofs.Lines.{chosen, idcode_command, idcode_command_falls}
+use Rattle.probe_session.proofs.ShownLines.{chosen_keeps, did_as, line_keeps, shown_keeps}
+use Rattle.probe_session.proofs.session.Session.perform.Goals as goal
+use Rattle.probe_session.proofs.session.Session.perform.Goals.{in-Idcode+in_ok-idcode_line-in-Idcode, in-Hart+in_ok-select-in-Hart}
+use Rattle.probe_session.proofs.session.Session.perform.Goals.{in-State+in_ok-state-in-State, in-Halt+in_ok-halt-in-Halt, in-Resume+in_ok-resume-in-Resume}
+use Rattle.probe_session.proofs.session.Session.perform.Goals.{in-Step+in_ok-step-in-Step, in-Wait+in_ok-wait-in-Wait, in-Regs+in_ok-shown-in-Regs}
+use Rattle.probe_session.proofs.session.Session.perform.Goals.{in-Reg+in_ok-reg-in-Reg, in-SetReg+in_ok-set_reg-in-SetReg, in-Read+in_ok-shown-in-Read}
+use Rattle.probe_session.proofs.session.Session.perform.Goals.{in-Write+in_ok-write-in-Write, in-Dump+in_ok-shown-in-Dump, in-Via}
+use Rattle.probe_session.proofs.session.Session.perform.Goals.{in-Break+in_ok-break_at-in-Break, in-Watch+in_ok-watch-in-Watch, in-Count+in_ok-count-in-Count}
+use Rattle.probe_session.proofs.session.Session.perform.Goals.{in-Clear+in_ok-clear-in-Clear, in-Slots+in_ok-shown-in-Slots, in-Ebreak+in_ok-ebreak-in-Ebreak}
+
+pub returns-in_err-idcode_line-in-Idcode-clause-falls : goal.returns-in_err-idcode_line-in-Idcode-clause-falls
+returns-in_err-idcode_line-in-Idcode-clause-falls g c = if_err _ c.in_err-idcode_line-in-Idcode.field-0.0 _ c.from_residual.ensures.1
+    (idcode_command_falls (state_of c.args.self.now) c.in-Idcode.is c.in_err-idcode_line-in-Idcode.ensures.falls)
+
+pub returns-clause-did : goal.returns-clause-did
+returns-clause-did g c = elim c.match-command.branch [
+  | in-Idcode+in_ok-idcode_line-in-Idcode w ↦
+      did_as (state_of c.args.self.now) _ w.in-Idcode.is (ap state_of w.self-is) (ap (λ l. told (g.D.Dmi.seen l)) w.link-is) w.shown-is
+      (idcode_command (state_of c.args.self.now) w.in_ok-idcode_line-in-Idcode.ensures.went)
+  | in-Hart+in_ok-select-in-Hart w ↦
+      did_as (state_of c.args.self.now) _ w.in-Hart.is (ap state_of w.self-is) (ap (λ l. told (g.D.Dmi.seen l)) w.link-is) w.shown-is
+      w.in_ok-select-in-Hart.ensures.went
+  | in-State+in_ok-state-in-State w ↦
+      did_as (state_of c.args.self.now) _ w.in-State.is (ap state_of w.self-is) (ap (λ l. told (g.D.Dmi.seen l)) w.link-is) w.shown-is
+      w.in_ok-state-in-State.ensures.went
+  | in-Halt+in_ok-halt-in-Halt w ↦
+      did_as (state_of c.args.self.now) _ w.in-Halt.is (ap state_of w.self-is) (ap (λ l. told (g.D.Dmi.seen l)) w.link-is) w.shown-is
+      w.in_ok-halt-in-Halt.ensures.went
+  | in-Resume+in_ok-resume-in-Resume w ↦
+      did_as (state_of c.args.self.now) _ w.in-Resume.is (ap state_of w.self-is) (ap (λ l. told (g.D.Dmi.seen l)) w.link-is) w.shown-is
+      w.in_ok-resume-in-Resume.ensures.went
+  | in-Step+in_ok-step-in-Step w ↦
+      did_as (state_of c.args.self.now) _ w.in-Step.is (ap state_of w.self-is) (ap (λ l. told (g.D.Dmi.seen l)) w.link-is) w.shown-is
+      w.in_ok-step-in-Step.ensures.went
+  | in-Wait+in_ok-wait-in-Wait w ↦
+      did_as (state_of c.args.self.now) _ w.in-Wait.is (ap state_of w.self-is) (ap (λ l. told (g.D.Dmi.seen l)) w.link-is) w.shown-is
+      w.in_ok-wait-in-Wait.ensures.went
+  | in-Regs+in_ok-shown-in-Regs w ↦
+      did_as (state_of c.args.self.now) _ w.in-Regs.is (ap state_of w.self-is) (ap (λ l. told (g.D.Dmi.seen l)) w.link-is) w.shown-is
+      w.in_ok-shown-in-Regs.ensures.went
+  | in-Reg+in_ok-reg-in-Reg w ↦
+      did_as (state_of c.args.self.now) _ w.in-Reg.is (ap state_of w.self-is) (ap (λ l. told (g.D.Dmi.seen l)) w.link-is) w.shown-is
+      w.in_ok-reg-in-Reg.ensures.went
+  | in-SetReg+in_ok-set_reg-in-SetReg w ↦
+      did_as (state_of c.args.self.now) _ w.in-SetReg.is (ap state_of w.self-is) (ap (λ l. told (g.D.Dmi.seen l)) w.link-is) w.shown-is
+      w.in_ok-set_reg-in-SetReg.ensures.went
+  | in-Read+in_ok-shown-in-Read w ↦
+      did_as (state_of c.args.self.now) _ w.in-Read.is (ap state_of w.self-is) (ap (λ l. told (g.D.Dmi.seen l)) w.link-is) w.shown-is
+      w.in_ok-shown-in-Read.ensures.went
+  | in-Write+in_ok-write-in-Write w ↦
+      did_as (state_of c.args.self.now) _ w.in-Write.is (ap state_of w.self-is) (ap (λ l. told (g.D.Dmi.seen l)) w.link-is) w.shown-is
+      w.in_ok-write-in-Write.ensures.went
+  | in-Dump+in_ok-shown-in-Dump w ↦
+      did_as (state_of c.args.self.now) _ w.in-Dump.is (ap state_of w.self-is) (ap (λ l. told (g.D.Dmi.seen l)) w.link-is) w.shown-is
+      w.in_ok-shown-in-Dump.ensures.went
+  | in-Via w ↦
+      did_as (state_of c.args.self.now) _ w.in-Via.is (ap state_of w.self-is) (ap (λ l. told (g.D.Dmi.seen l)) w.link-is) w.shown-is
+      (chosen w.in-Via.path (state_of c.args.self.now) w.choose.ensures.line w.choose.ensures.state)
+  | in-Break+in_ok-break_at-in-Break w ↦
+      did_as (state_of c.args.self.now) _ w.in-Break.is (ap state_of w.self-is) (ap (λ l. told (g.D.Dmi.seen l)) w.link-is) w.shown-is
+      w.in_ok-break_at-in-Break.ensures.went
+  | in-Watch+in_ok-watch-in-Watch w ↦
+      did_as (state_of c.args.self.now) _ w.in-Watch.is (ap state_of w.self-is) (ap (λ l. told (g.D.Dmi.seen l)) w.link-is) w.shown-is
+      w.in_ok-watch-in-Watch.ensures.went
+  | in-Count+in_ok-count-in-Count w ↦
+      did_as (state_of c.args.self.now) _ w.in-Count.is (ap state_of w.self-is) (ap (λ l. told (g.D.Dmi.seen l)) w.link-is) w.shown-is
+      w.in_ok-count-in-Count.ensures.went
+  | in-Clear+in_ok-clear-in-Clear w ↦
+      did_as (state_of c.args.self.now) _ w.in-Clear.is (ap state_of w.self-is) (ap (λ l. told (g.D.Dmi.seen l)) w.link-is) w.shown-is
+      w.in_ok-clear-in-Clear.ensures.went
+  | in-Slots+in_ok-shown-in-Slots w ↦
+      did_as (state_of c.args.self.now) _ w.in-Slots.is (ap state_of w.self-is) (ap (λ l. told (g.D.Dmi.seen l)) w.link-is) w.shown-is
+      w.in_ok-shown-in-Slots.ensures.went
+  | in-Ebreak+in_ok-ebreak-in-Ebreak w ↦
+      did_as (state_of c.args.self.now) _ w.in-Ebreak.is (ap state_of w.self-is) (ap (λ l. told (g.D.Dmi.seen l)) w.link-is) w.shown-is
+      w.in_ok-ebreak-in-Ebreak.ensures.went
+]
+
+pub returns-clause-keeps : goal.returns-clause-keeps
+returns-clause-keeps g c = elim c.match-command.branch [
+  | in-Idcode+in_ok-idcode_line-in-Idcode w ↦ line_keeps (ap g.D.Dmi.seen w.link-is) w.shown-is w.in_ok-idcode_line-in-Idcode.ensures.keeps
+  | in-Hart+in_ok-select-in-Hart w ↦ line_keeps (ap g.D.Dmi.seen w.link-is) w.shown-is w.in_ok-select-in-Hart.ensures.keeps
+  | in-State+in_ok-state-in-State w ↦ line_keeps (ap g.D.Dmi.seen w.link-is) w.shown-is w.in_ok-state-in-State.ensures.keeps
+  | in-Halt+in_ok-halt-in-Halt w ↦ line_keeps (ap g.D.Dmi.seen w.link-is) w.shown-is w.in_ok-halt-in-Halt.ensures.keeps
+  | in-Resume+in_ok-resume-in-Resume w ↦ line_keeps (ap g.D.Dmi.seen w.link-is) w.shown-is w.in_ok-resume-in-Resume.ensures.keeps
+  | in-Step+in_ok-step-in-Step w ↦ line_keeps (ap g.D.Dmi.seen w.link-is) w.shown-is w.in_ok-step-in-Step.ensures.keeps
+  | in-Wait+in_ok-wait-in-Wait w ↦ line_keeps (ap g.D.Dmi.seen w.link-is) w.shown-is w.in_ok-wait-in-Wait.ensures.keeps
+  | in-Regs+in_ok-shown-in-Regs w ↦ shown_keeps (ap g.D.Dmi.seen w.link-is) w.shown-is w.in_ok-shown-in-Regs.ensures.keeps
+  | in-Reg+in_ok-reg-in-Reg w ↦ line_keeps (ap g.D.Dmi.seen w.link-is) w.shown-is w.in_ok-reg-in-Reg.ensures.keeps
+  | in-SetReg+in_ok-set_reg-in-SetReg w ↦ line_keeps (ap g.D.Dmi.seen w.link-is) w.shown-is w.in_ok-set_reg-in-SetReg.ensures.keeps
+  | in-Read+in_ok-shown-in-Read w ↦ shown_keeps (ap g.D.Dmi.seen w.link-is) w.shown-is w.in_ok-shown-in-Read.ensures.keeps
+  | in-Write+in_ok-write-in-Write w ↦ line_keeps (ap g.D.Dmi.seen w.link-is) w.shown-is w.in_ok-write-in-Write.ensures.keeps
+  | in-Dump+in_ok-shown-in-Dump w ↦ shown_keeps (ap g.D.Dmi.seen w.link-is) w.shown-is w.in_ok-shown-in-Dump.ensures.keeps
+  | in-Via w ↦ chosen_keeps (ap g.D.Dmi.seen w.link-is) w.shown-is c.requires.serving
+  | in-Break+in_ok-break_at-in-Break w ↦ line_keeps (ap g.D.Dmi.seen w.link-is) w.shown-is w.in_ok-break_at-in-Break.ensures.keeps
+  | in-Watch+in_ok-watch-in-Watch w ↦ line_keeps (ap g.D.Dmi.seen w.link-is) w.shown-is w.in_ok-watch-in-Watch.ensures.keeps
+  | in-Count+in_ok-count-in-Count w ↦ line_keeps (ap g.D.Dmi.seen w.link-is) w.shown-is w.in_ok-count-in-Count.ensures.keeps
+  | in-Clear+in_ok-clear-in-Clear w ↦ line_keeps (ap g.D.Dmi.seen w.link-is) w.shown-is w.in_ok-clear-in-Clear.ensures.keeps
+  | in-Slots+in_ok-shown-in-Slots w ↦ shown_keeps (ap g.D.Dmi.seen w.link-is) w.shown-is w.in_ok-shown-in-Slots.ensures.keeps
+  | in-Ebreak+in_ok-ebreak-in-Ebreak w ↦ line_keeps (ap g.D.Dmi.seen w.link-is) w.shown-is w.in_ok-ebreak-in-Ebreak.ensures.keeps
+]

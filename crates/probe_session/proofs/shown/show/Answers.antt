@@ -1,0 +1,32 @@
+use Rattle.abstract_debugger.specs.Plan.{Plan}
+use Rattle.probe_session.specs.Said.{said_by}
+use Rattle.probe_session.proofs.LinkLemmas.{if_err}
+use Rattle.probe_session.proofs.OneLine.{if_err_map}
+use Rattle.probe_session.proofs.ShownLines.{fell_of, spoke_of}
+use Rattle.probe_session.proofs.Spoken.{fell_said, one_line, spoke_none}
+use Rattle.probe_session.proofs.WentLemmas.{went_none}
+use Rattle.probe_session.proofs.shown.show.Goals as goal
+
+pub returns-in_err-put_line-in-Line-clause-fell : goal.returns-in_err-put_line-in-Line-clause-fell
+returns-in_err-put_line-in-Line-clause-fell g c = if_err _ c.in_err-put_line-in-Line.field-0.0 _ c.from_residual.ensures.1
+    (fell_of c.in-Line.is (fell_said (said_by c.in-Line.line) (λ (next : Plan). next) (λ next quiet. quiet) _ _ c.in_err-put_line-in-Line.ensures.sink
+    (spoke_none _) c.in_err-put_line-in-Line.ensures.front c.in_err-put_line-in-Line.ensures.cause))
+
+pub returns-in_ok-put_line-in-Line-clause-spoke : goal.returns-in_ok-put_line-in-Line-clause-spoke
+returns-in_ok-put_line-in-Line-clause-spoke g c = spoke_of _ c.in-Line.is (one_line c.in-Line.line (λ (next : Plan). next) _ c.is_error.ensures went_none
+    c.in_ok-put_line-in-Line.ensures.put)
+
+pub returns-in_err-put_registers-in-Registers-clause-fell : goal.returns-in_err-put_registers-in-Registers-clause-fell
+returns-in_err-put_registers-in-Registers-clause-fell g c =
+    if_err _ c.in_err-put_registers-in-Registers.field-0.0 _ c.from_residual-in_err-put_registers-in-Registers.ensures.1
+    (fell_of c.in-Registers.is c.in_err-put_registers-in-Registers.ensures.fell)
+
+pub returns-in_err-put_slots-in-Slots-clause-fell : goal.returns-in_err-put_slots-in-Slots-clause-fell
+returns-in_err-put_slots-in-Slots-clause-fell g c = if_err _ c.in_err-put_slots-in-Slots.field-0.0 _ c.from_residual-in_err-put_slots-in-Slots.ensures.1
+    (fell_of c.in-Slots.is c.in_err-put_slots-in-Slots.ensures.fell)
+
+pub returns-in-Elements-clause-fell : goal.returns-in-Elements-clause-fell
+returns-in-Elements-clause-fell g c = if_err_map _ _ _ (λ f p. fell_of c.in-Elements.is p) c.put_elements.ensures.fell
+
+pub returns-in-Bytes-clause-fell : goal.returns-in-Bytes-clause-fell
+returns-in-Bytes-clause-fell g c = if_err_map _ _ _ (λ f p. fell_of c.in-Bytes.is p) c.put_rows.ensures.fell
