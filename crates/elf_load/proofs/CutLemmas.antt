@@ -26,7 +26,8 @@ use Rattle.std.proofs.Common.{
   length-drop,
 }
 use Rattle.std.proofs.lemmas.List.{length-take}
-use Rattle.elf_load.specs.Elements.{Element, cut, cut_at, singles, to_multiple, words}
+use Rattle.elf_load.specs.declared.element.Element.{Element}
+use Rattle.elf_load.specs.Elements.{cut, cut_at, singles, to_multiple, words}
 
 pub length-singles : (address : ℕ) (bytes : List ℕ) → length (singles address bytes) ≡ length bytes
 length-singles address [] = refl

@@ -1,20 +1,14 @@
 -- The elements of a segment: what is stored at once, eight bytes where the address is a multiple of 8, and else one.
 -- System V ABI, "Program Header"; how a segment is cut is this project's own choice.
 use Rattle.std.specs.Prelude.{◌+◌, ◌-◌, ◌*◌, ◌/◌, ◌%◌, ℕ, zero, suc, List, [], ◌∷◌, ◌++◌, drop, length, min, replicate, take}
-use Rattle.rv_model.specs.declared.size.Size.{Size}
 use Rattle.rv_model.specs.declared.size.Size.TheVariants.{B1, B8}
+use Rattle.elf_load.specs.declared.element.Element.{Element}
 use Rattle.elf_load.specs.declared.file.Segment.{Segment}
 use Rattle.elf_load.specs.Fields.{number_of}
 
 -- the bytes of a segment: those of the file, and zeros behind them
 unfoldable pub bytes_of : List ℕ → Segment → List ℕ
 bytes_of file s = take s.in_file (drop s.offset file) ++ replicate (s.in_memory - s.in_file) 0
-
--- what is stored at once
-pub record Element : Type 0 where
-  pub address : ℕ
-  pub size : Size
-  pub value : ℕ
 
 -- bytes from an address on, each an element
 abbrev pub singles : ℕ → List ℕ → List Element

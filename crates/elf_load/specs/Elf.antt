@@ -1,12 +1,13 @@
 -- When an ELF file is refused, each fault by what it says of the file's bytes, and what is read of one that isn't.
 -- System V ABI, "ELF Header" and "Program Header"; the limits of 64 segments and 16,384 elements are this project's own choice.
-use Rattle.std.specs.Prelude.{◌≡◌, ◌==◌, ◌||◌, ◌+◌, ◌*◌, ◌^◌, ℕ, Bool, not, if◌then◌else◌, List, Option, Some, None, flat_map, length, nat_lt}
+use Rattle.std.specs.Prelude.{◌≡◌, ◌==◌, ◌||◌, ◌+◌, ◌*◌, ◌^◌, ℕ, Bool, not, if◌then◌else◌, List, Option, Some, None, flat_map, length, nat_lt, sum_by}
 use Rattle.std.specs.List.{list_any}
 use Rattle.elf_load.specs.declared.fault.ElfFault.{ElfFault}
 use Rattle.elf_load.specs.declared.fault.ElfFault.TheVariants.{Short, NotElf, Kind, Headers, Segment as BadSegment, TooLarge}
+use Rattle.elf_load.specs.declared.element.Element.{Element}
 use Rattle.elf_load.specs.declared.file.Elf.{Elf}
 use Rattle.elf_load.specs.declared.file.Segment.{Segment}
-use Rattle.elf_load.specs.Elements.{Element, elements_of}
+use Rattle.elf_load.specs.Elements.{elements_of}
 use Rattle.elf_load.specs.Fields.{
   begins_as_elf,
   entry_of,
@@ -26,6 +27,10 @@ elements file = flat_map (elements_of file) (segments_of file)
 
 abbrev pub elements_most : ℕ
 elements_most = 16384
+
+-- how many bytes segments have in memory together
+abbrev pub memory_size : List Segment → ℕ
+memory_size segments = sum_by (λ s. s.in_memory) segments
 
 -- ---- the faults
 

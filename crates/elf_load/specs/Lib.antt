@@ -1,3 +1,4 @@
 pub mod Elements
 pub mod Elf
 pub mod Fields
+pub mod Stores

@@ -4,10 +4,12 @@
 #![tactic(auto)]
 
 mod count;
+mod element;
 mod fault;
 mod fields;
 mod file;
 mod header;
+mod loading;
 mod reading;
 mod table;
 #[cfg(test)]
@@ -15,4 +17,5 @@ mod tests;
 
 pub use fault::ElfFault;
 pub use file::{Elf, SEGMENTS_MOST, Segment};
+pub use loading::load_elf;
 pub use reading::read_elf;

@@ -1,6 +1,7 @@
-//! Files that are read, and each fault.
+//! Files that are read and loaded, and each fault.
 
 mod accepted;
 mod files;
 mod linked;
+mod loaded;
 mod refused;
