@@ -1,4 +1,5 @@
 pub mod Elements
 pub mod Elf
 pub mod Fields
+pub mod Laws
 pub mod Stores

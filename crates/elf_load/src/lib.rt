@@ -9,6 +9,7 @@ mod fault;
 mod fields;
 mod file;
 mod header;
+mod laws;
 mod loading;
 mod reading;
 mod table;
@@ -17,5 +18,6 @@ mod tests;
 
 pub use fault::ElfFault;
 pub use file::{Elf, SEGMENTS_MOST, Segment};
+pub use laws::elements_lay_their_segments;
 pub use loading::load_elf;
 pub use reading::read_elf;
