@@ -1,3 +1,4 @@
 pub mod Headlines
 mod StreamEnds
 mod Loads
+mod SessionRuns

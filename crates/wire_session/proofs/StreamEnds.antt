@@ -1,7 +1,6 @@
 -- The end of a stream, over plain variables: `Q` ends the chip and changes nothing else of it.
 use Rattle.std.proofs.Common.{◌≡◌, ◌∙◌, ◌++◌, ℕ, true, List, [], ◌∷◌, Option, Some, None, option_map, refl, sym, ap, subst}
 use Rattle.debug_model.specs.declared.chip_end.ChipEnd.{ChipEnd}
-use Rattle.debug_model.specs.declared.command.Command.{Command}
 use Rattle.debug_model.specs.declared.wire.WireFault.{WireFault}
 use Rattle.debug_model.specs.Chip.{Chip, feed}
 use Rattle.debug_model.specs.Dmi.{CanQuit}
@@ -11,10 +10,8 @@ use Rattle.debug_model.specs.Told.{Far, chip_of}
 use Rattle.debug_model.specs.Wire.{SentFront, sent}
 use Rattle.probe_session.specs.declared.ended.Ended.{Ended as End}
 use Rattle.probe_session.specs.declared.ended.Ended.TheVariants as ends
-use Rattle.probe_run.specs.Acts.{Tells}
 use Rattle.probe_session.specs.Causes.{SinkCaused}
-use Rattle.probe_session.specs.Scripts.{EndedAs}
-use Rattle.wire_session.specs.Closing.{Closes, IsOfRegister, quit, sends_quit, unclosed}
+use Rattle.wire_session.specs.Closing.{Closes, quit, sends_quit, unclosed}
 use Rattle.wire_session.specs.Closing.Closes.{behind_fault, quitted, unquitted}
 use Rattle.wire_session.specs.Seen.{WireSeen}
 use Rattle.wire_session.specs.Session.{LeavesWire}
@@ -65,33 +62,6 @@ pub timing_kept : (was is : Ties) (old mid new : WireSeen) (end closed : End) �
     → timing_told mid.far ≡ timing_told old.far
 timing_kept was is old mid new end closed same before behind closes =
     sym (closes_timing mid new end closed closes) ∙ sym behind ∙ ap (λ (t : Ties). t.timing) same ∙ before
-
--- ---- a chip that was refused
-
-register_end : (script : List Command) (a b c d : ℕ) (old new : Tells) (was is : Option (List ℕ)) (e : End)
-    → EndedAs script a b old new c d was is e → IsOfRegister e
-register_end script a b c d old new was is ends.Clean ended = tt
-register_end script a b c d old new was is ends.WithErrors ended = tt
-register_end script a b c d old new was is (ends.Target fault) ended = ended.register
-register_end script a b c d old new was is (ends.Wire why) ended = tt
-register_end script a b c d old new was is (ends.Lost why) ended = tt
-register_end script a b c d old new was is ends.Sink ended = tt
-
-unclosed_register : (why : WireFault) (e : End) → IsOfRegister (unclosed why e)
-unclosed_register why ends.Clean = tt
-unclosed_register why ends.WithErrors = tt
-unclosed_register why (ends.Target fault) = tt
-unclosed_register why (ends.Wire first) = tt
-unclosed_register why (ends.Lost cause) = tt
-unclosed_register why ends.Sink = tt
-
-pub of_register : (script : List Command) (a b c d : ℕ) (old new : Tells) (was is : Option (List ℕ)) (mid last : WireSeen) (e closed : End)
-    → EndedAs script a b old new c d was is e → Closes mid last e closed → IsOfRegister closed
-of_register script a b c d old new was is mid last e closed ended (behind_fault sends same kept) =
-    subst IsOfRegister (sym same) (register_end script a b c d old new was is e ended)
-of_register script a b c d old new was is mid last e closed ended (quitted sends same done) =
-    subst IsOfRegister (sym same) (register_end script a b c d old new was is e ended)
-of_register script a b c d old new was is mid last e closed ended (unquitted why sends same done) = subst IsOfRegister (sym same) (unclosed_register why e)
 
 -- ---- a line that could not be written
 

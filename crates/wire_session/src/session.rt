@@ -18,7 +18,7 @@ use probe_dmi::Link;
 use probe_scan::Scanner;
 use probe_session::{Ended, run_script};
 
-/// Runs a script over this wire, puts its lines, and hands the wire back: what becomes of a wire that is only lent is known where it is lent, in `session`.
+/// Runs a script over this wire, puts its lines, and hands the wire back: what becomes of a wire that is only lent is known where it is lent.
 fn run_over<W: Wire, K: Sink>(wire: W, script: &Script, out: &mut K) -> (Ended, W)
     requires link { CanOperate (W.far wire) }
     requires loaded { IsAsLoaded (W.far wire) }
@@ -36,25 +36,6 @@ fn run_over<W: Wire, K: Sink>(wire: W, script: &Script, out: &mut K) -> (Ended, 
     let mut link = Link::paced(Scanner::new(wire));
     let ended = run_script(&mut link, script, out);
     (ended, link.into_scan().into_wire())
-}
-
-/// Runs a script over this wire, and puts its lines.
-fn session<W: Wire, K: Sink>(wire: &mut W, script: &Script, out: &mut K) -> Ended
-    requires link { CanOperate (W.far wire.old) }
-    requires loaded { IsAsLoaded (W.far wire.old) }
-    ensures ended { EndedAs script.now (W.fault_count wire.old) (W.fault_count wire.new) (told_by (W.far wire.old) (W.coming wire.old))
-        (told_by (W.far wire.new) (W.coming wire.new)) (K.fault_count out.old) (K.fault_count out.new) (K.contents out.old)
-        (K.contents out.new) result }
-    ensures cause { EndCaused (W.fault_count wire.old) (W.fault_count wire.new) (W.far wire.new) result }
-    ensures sink_cause { SinkCaused (K.fault_count out.old) (K.fault_count out.new) result }
-    ensures transcribed { TranscribedAs script.now (K.contents out.old) (K.contents out.new) (W.far wire.old) (W.far wire.new) result }
-    ensures leaves { LeavesWire (W.far wire.new) result }
-    ensures later { W.fault_count wire.old ≤ W.fault_count wire.new }
-    ensures ties { W.ties wire.new ≡ W.ties wire.old }
-    ensures sink_later { K.fault_count out.old ≤ K.fault_count out.new }
-{
-    let (ended, _wire) = run_over(wire, script, out);
-    ended
 }
 
 /// That a script's commands are within their ranges is the promise of its type, which a contract knows of a script only once it is asked.
@@ -84,6 +65,6 @@ pub fn run_session<W: Wire, K: Sink>(wire: &mut W, script: &Script, out: &mut K)
     ensures sink_later { K.fault_count out.old ≤ K.fault_count out.new }
 {
     know_ranges(script);
-    let ended = session(wire, script, out);
+    let (ended, _lent) = run_over(&mut *wire, script, out);
     end_stream(wire, ended)
 }
