@@ -1,4 +1,5 @@
 pub mod LinkLemmas
+pub mod Conversions
 pub mod WentLemmas
 pub mod CallLemmas
 pub mod CutLemmas

@@ -14,7 +14,7 @@ use Rattle.probe_session.specs.declared.fault.Failure.{Failure}
 use Rattle.probe_session.specs.declared.fault.Failure.TheVariants as failure
 use Rattle.probe_session.specs.declared.odd.Odd.TheVariants as odd
 use Rattle.probe_session.specs.declared.fault.LostCause.TheVariants as lost
-use Rattle.probe_session.specs.Failures.{Became, failure_of_dmi, failure_of_run}
+use Rattle.probe_session.specs.Failures.{failure_of_access, failure_of_dmi, failure_of_run}
 use Rattle.probe_session.specs.Links.{LeftBy}
 
 -- what a `?` hands on
@@ -22,7 +22,7 @@ pub if_err : {A : Type 0} (P : Failure → Type 0) (f : Failure) (result : Resul
 if_err P f (Ok x) is p = tt
 if_err P f (Err e) is p = subst P (sym is) p
 
-can_quit : (s : DmiSeen) → Stands s → CanQuit s.far
+pub can_quit : (s : DmiSeen) → Stands s → CanQuit s.far
 can_quit s b = record { unended = b.link.unended; read = b.link.read; free = b.link.free }
 
 dmi_left : (s : DmiSeen) (why : DmiFault) → Fallen s why → LeftBy s (failure_of_dmi why)
@@ -38,9 +38,9 @@ run_left s (run_fault.Dmi why) b = dmi_left s why b
 run_left s (run_fault.NoHalt looks) b = can_quit s b
 run_left s (run_fault.NoAck looks) b = can_quit s b
 
-pub access_left : (s : DmiSeen) (why : AccessFault) (f : Failure) → StandsUnless s (access_why why) → Became why f → LeftBy s f
+pub access_left : (s : DmiSeen) (why : AccessFault) (f : Failure) → StandsUnless s (access_why why) → f ≡ failure_of_access why → LeftBy s f
 access_left s (access_fault.Dmi why) f b is = to s f (failure_of_dmi why) is (dmi_left s why b)
-access_left s (access_fault.Memory address) f b is = absurd is
+access_left s (access_fault.Memory address) f b is = to s f (failure.Lost (lost.Odd odd.Refusal)) is (can_quit s b)
 access_left s (access_fault.Register number) f b is = to s f (failure.Lost (lost.Odd (odd.Register number))) is (can_quit s b)
 access_left s access_fault.StillBusy f b is = to s f (failure.Lost lost.StillBusy) is (can_quit s b)
 access_left s (access_fault.Run why) f b is = to s f (failure_of_run why) is (run_left s why b)

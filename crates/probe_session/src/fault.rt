@@ -1,5 +1,5 @@
 ghost use Rattle.std.specs.Prelude.{◌≡◌};
-ghost use Rattle.probe_session.specs.Failures.{Became, IsNotMemory, failure_of_dmi, failure_of_run};
+ghost use Rattle.probe_session.specs.Failures.{failure_of_access, failure_of_dmi, failure_of_run, failure_of_trig};
 ghost use Rattle.probe_session.specs.declared.fault.Failure.TheVariants as failure;
 
 use crate::odd::Odd;
@@ -7,6 +7,7 @@ use debug_model::{DmiFault, WireFault};
 use jt_base::SinkFault;
 use probe_access::AccessFault;
 use probe_run::RunFault;
+use probe_trig::TrigFault;
 
 /// Why a session was lost: the chip may have been left in the middle of a command.
 #[derive(Clone, Copy, Debug, PartialEq, Eq)]
@@ -66,17 +67,29 @@ impl From<SinkFault> for Failure {
     }
 }
 
-/// What a fault of an access other than one of memory makes of the session.
-pub(crate) fn lost_by(fault: AccessFault) -> Failure
-    requires { IsNotMemory fault }
-    ensures { Became fault result }
-{
-    match fault {
-        AccessFault::Dmi(why) => Failure::from(why),
-        AccessFault::Memory(_) => unreachable!(),
-        AccessFault::Register(number) => Failure::Lost(LostCause::Odd(Odd::Register(number))),
-        AccessFault::StillBusy => Failure::Lost(LostCause::StillBusy),
-        AccessFault::Run(why) => Failure::from(why),
-        AccessFault::Odd(shown) => Failure::Lost(LostCause::Odd(Odd::Status(shown))),
+impl From<AccessFault> for Failure {
+    ghost from_gives = { λ fault e. e ≡ failure_of_access fault };
+
+    fn from(fault: AccessFault) -> Failure {
+        match fault {
+            AccessFault::Dmi(why) => Failure::from(why),
+            AccessFault::Memory(_) => Failure::Lost(LostCause::Odd(Odd::Refusal)),
+            AccessFault::Register(number) => Failure::Lost(LostCause::Odd(Odd::Register(number))),
+            AccessFault::StillBusy => Failure::Lost(LostCause::StillBusy),
+            AccessFault::Run(why) => Failure::from(why),
+            AccessFault::Odd(shown) => Failure::Lost(LostCause::Odd(Odd::Status(shown))),
+        }
+    }
+}
+
+impl From<TrigFault> for Failure {
+    ghost from_gives = { λ fault e. e ≡ failure_of_trig fault };
+
+    fn from(fault: TrigFault) -> Failure {
+        match fault {
+            TrigFault::Access(why) => Failure::from(why),
+            TrigFault::NoFreeSlot => Failure::Lost(LostCause::Odd(Odd::Refusal)),
+            TrigFault::NotInUse => Failure::Lost(LostCause::Odd(Odd::Refusal)),
+        }
     }
 }

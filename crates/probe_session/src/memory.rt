@@ -6,7 +6,7 @@ ghost use Rattle.probe_session.specs.Links.{Attached, AttachedHalted, Goes};
 ghost use Rattle.probe_session.specs.Answers.{LoadedAs, StoredAs};
 ghost use Rattle.probe_run.specs.Told.{told, Fails};
 
-use crate::fault::{Failure, lost_by};
+use crate::fault::Failure;
 use debug_model::Dmi;
 use probe_access::{AccessFault, cut_to};
 use probe_run::Halted;
@@ -27,8 +27,10 @@ pub(crate) fn load<D: Dmi>(
 {
     match probe_access::load(link, halted, size, address) {
         Ok(value) => Ok(Some(cut_to(size, value))),
-        Err(AccessFault::Memory(_)) => Ok(None),
-        Err(fault) => Err(lost_by(fault)),
+        Err(fault) => match fault {
+            AccessFault::Memory(_) => Ok(None),
+            other => Err(Failure::from(other)),
+        },
     }
 }
 
@@ -48,8 +50,10 @@ pub(crate) fn store<D: Dmi>(
 {
     match probe_access::store(link, halted, size, address, value) {
         Ok(()) => Ok(true),
-        Err(AccessFault::Memory(_)) => Ok(false),
-        Err(fault) => Err(lost_by(fault)),
+        Err(fault) => match fault {
+            AccessFault::Memory(_) => Ok(false),
+            other => Err(Failure::from(other)),
+        },
     }
 }
 
@@ -67,8 +71,10 @@ pub(crate) fn bus_load<D: Dmi>(
 {
     match probe_access::bus_load(link, size, address) {
         Ok(value) => Ok(Some(value)),
-        Err(AccessFault::Memory(_)) => Ok(None),
-        Err(fault) => Err(lost_by(fault)),
+        Err(fault) => match fault {
+            AccessFault::Memory(_) => Ok(None),
+            other => Err(Failure::from(other)),
+        },
     }
 }
 
@@ -87,7 +93,9 @@ pub(crate) fn bus_store<D: Dmi>(
 {
     match probe_access::bus_store(link, size, address, value) {
         Ok(()) => Ok(true),
-        Err(AccessFault::Memory(_)) => Ok(false),
-        Err(fault) => Err(lost_by(fault)),
+        Err(fault) => match fault {
+            AccessFault::Memory(_) => Ok(false),
+            other => Err(Failure::from(other)),
+        },
     }
 }

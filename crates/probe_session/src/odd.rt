@@ -10,10 +10,12 @@ pub enum Odd {
     Status(OddStatus),
     /// The number of a register that each hart has, and that was refused.
     Register(u16),
+    /// A refusal where a command asks for nothing that can be refused: of memory, or of a slot.
+    Refusal,
 }
 
 impl Odd {
-    /// The register as it was read, or the number.
+    /// The register as it was read, or the number; 0 for a refusal.
     pub fn word(self) -> u32
         ensures { result ≡ odd_word self }
     {
@@ -21,6 +23,7 @@ impl Odd {
             Odd::Status(OddStatus::Abstractcs(word)) => word,
             Odd::Status(OddStatus::Sbcs(word)) => word,
             Odd::Register(number) => u32::from(number),
+            Odd::Refusal => 0,
         }
     }
 }

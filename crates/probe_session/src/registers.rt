@@ -4,7 +4,7 @@ ghost use Rattle.probe_session.specs.Links.{AttachedHalted, Goes};
 ghost use Rattle.probe_session.specs.Answers.{ReadAs, WrittenAs};
 ghost use Rattle.probe_run.specs.Told.{told, Fails};
 
-use crate::fault::{Failure, lost_by};
+use crate::fault::Failure;
 use debug_model::Dmi;
 use probe_access::AccessFault;
 use probe_run::Halted;
@@ -25,7 +25,7 @@ pub(crate) fn reg_or_none<D: Dmi>(
         Ok(value) => Ok(Some(value)),
         Err(fault) => match fault {
             AccessFault::Register(_) => Ok(None),
-            other => Err(lost_by(other)),
+            other => Err(Failure::from(other)),
         },
     }
 }
@@ -38,10 +38,8 @@ pub(crate) fn reg<D: Dmi>(link: &mut D, halted: &Halted, number: u16) -> Result<
     ensures fell { IfErr result (Fails (ReadFell halted.now.number number) (D.seen link.old) (D.seen link.new)) }
     ensures keeps { Goes (λ _. AttachedHalted halted.now.number) (D.seen link.old) (D.seen link.new) result }
 {
-    match probe_access::reg(link, halted, number) {
-        Ok(value) => Ok(value),
-        Err(fault) => Err(lost_by(fault)),
-    }
+    let value = probe_access::reg(link, halted, number)?;
+    Ok(value)
 }
 
 /// Writes a register of the halted hart. It answers whether the chip took it.
@@ -61,7 +59,7 @@ pub(crate) fn set_reg_if_taken<D: Dmi>(
         Ok(()) => Ok(true),
         Err(fault) => match fault {
             AccessFault::Register(_) => Ok(false),
-            other => Err(lost_by(other)),
+            other => Err(Failure::from(other)),
         },
     }
 }
@@ -79,8 +77,6 @@ pub(crate) fn set_reg<D: Dmi>(
     ensures fell { IfErr result (Fails (WriteFell halted.now.number number value) (D.seen link.old) (D.seen link.new)) }
     ensures keeps { Goes (λ _. AttachedHalted halted.now.number) (D.seen link.old) (D.seen link.new) result }
 {
-    match probe_access::set_reg(link, halted, number, value) {
-        Ok(()) => Ok(()),
-        Err(fault) => Err(lost_by(fault)),
-    }
+    probe_access::set_reg(link, halted, number, value)?;
+    Ok(())
 }

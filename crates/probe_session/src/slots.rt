@@ -7,7 +7,7 @@ ghost use Rattle.probe_trig.specs.Runs.{ArmsAny, ChangesAny, FreesAny, ReadsAny}
 ghost use Rattle.probe_trig.specs.SlotRegisters.{CanArm};
 ghost use Rattle.probe_run.specs.Told.{told, Fails};
 
-use crate::fault::{Failure, lost_by};
+use crate::fault::Failure;
 use debug_model::{Dmi, SlotUse};
 use probe_run::Halted;
 use probe_trig::{SlotView, TrigFault};
@@ -20,11 +20,8 @@ pub(crate) fn slots<D: Dmi>(link: &mut D, halted: &Halted) -> Result<SlotView, F
     ensures fell { IfErr result (Fails (SlotsFell ReadsAny halted.now.number) (D.seen link.old) (D.seen link.new)) }
     ensures keeps { Goes (λ _. AttachedHalted halted.now.number) (D.seen link.old) (D.seen link.new) result }
 {
-    match probe_trig::slots(link, halted) {
-        Ok(seen) => Ok(seen),
-        Err(TrigFault::Access(fault)) => Err(lost_by(fault)),
-        Err(TrigFault::NoFreeSlot | TrigFault::NotInUse) => unreachable!(),
-    }
+    let seen = probe_trig::slots(link, halted)?;
+    Ok(seen)
 }
 
 /// Arms the lowest free slot of the halted hart, and answers its number; none where all are in use.
@@ -42,9 +39,10 @@ pub(crate) fn arm<D: Dmi>(
 {
     match probe_trig::arm(link, halted, what) {
         Ok(slot) => Ok(Some(slot)),
-        Err(TrigFault::NoFreeSlot) => Ok(None),
-        Err(TrigFault::Access(fault)) => Err(lost_by(fault)),
-        Err(TrigFault::NotInUse) => unreachable!(),
+        Err(fault) => match fault {
+            TrigFault::NoFreeSlot => Ok(None),
+            other => Err(Failure::from(other)),
+        },
     }
 }
 
@@ -59,9 +57,10 @@ pub(crate) fn disarm<D: Dmi>(link: &mut D, halted: &Halted, slot: u8) -> Result<
 {
     match probe_trig::disarm(link, halted, slot) {
         Ok(()) => Ok(true),
-        Err(TrigFault::NotInUse) => Ok(false),
-        Err(TrigFault::Access(fault)) => Err(lost_by(fault)),
-        Err(TrigFault::NoFreeSlot) => unreachable!(),
+        Err(fault) => match fault {
+            TrigFault::NotInUse => Ok(false),
+            other => Err(Failure::from(other)),
+        },
     }
 }
 
@@ -73,11 +72,8 @@ pub(crate) fn forget_hits<D: Dmi>(link: &mut D, halted: &Halted) -> Result<(), F
     ensures fell { IfErr result (Fails (SlotsFell (ChangesAny Forget) halted.now.number) (D.seen link.old) (D.seen link.new)) }
     ensures keeps { Goes (λ _. AttachedHalted halted.now.number) (D.seen link.old) (D.seen link.new) result }
 {
-    match probe_trig::forget_hits(link, halted) {
-        Ok(()) => Ok(()),
-        Err(TrigFault::Access(fault)) => Err(lost_by(fault)),
-        Err(TrigFault::NoFreeSlot | TrigFault::NotInUse) => unreachable!(),
-    }
+    probe_trig::forget_hits(link, halted)?;
+    Ok(())
 }
 
 /// Makes the halted hart do one instruction with its slots off that have a hit.
@@ -88,9 +84,6 @@ pub(crate) fn step_over<D: Dmi>(link: &mut D, halted: Halted) -> Result<Halted, 
     ensures hart { IfOk result (λ again. again.number ≡ halted.number) }
     ensures keeps { Goes (λ _. AttachedHalted halted.number) (D.seen link.old) (D.seen link.new) result }
 {
-    match probe_trig::step_over(link, halted) {
-        Ok(again) => Ok(again),
-        Err(TrigFault::Access(fault)) => Err(lost_by(fault)),
-        Err(TrigFault::NoFreeSlot | TrigFault::NotInUse) => unreachable!(),
-    }
+    let again = probe_trig::step_over(link, halted)?;
+    Ok(again)
 }

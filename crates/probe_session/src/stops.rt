@@ -3,7 +3,7 @@ ghost use Rattle.probe_session.specs.Calls.{FoundStop, StopFell};
 ghost use Rattle.probe_session.specs.Links.{AttachedHalted, Goes};
 ghost use Rattle.probe_run.specs.Told.{told, Fails};
 
-use crate::fault::{Failure, lost_by};
+use crate::fault::Failure;
 use debug_model::Dmi;
 use probe_access::Stop;
 use probe_run::Halted;
@@ -16,8 +16,6 @@ pub(crate) fn stop<D: Dmi>(link: &mut D, halted: &Halted) -> Result<Stop, Failur
     ensures fell { IfErr result (Fails (StopFell halted.now.number) (D.seen link.old) (D.seen link.new)) }
     ensures keeps { Goes (λ _. AttachedHalted halted.now.number) (D.seen link.old) (D.seen link.new) result }
 {
-    match probe_access::stop(link, halted) {
-        Ok(at) => Ok(at),
-        Err(fault) => Err(lost_by(fault)),
-    }
+    let at = probe_access::stop(link, halted)?;
+    Ok(at)
 }

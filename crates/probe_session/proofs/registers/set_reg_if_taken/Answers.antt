@@ -1,4 +1,5 @@
-use Rattle.std.proofs.Common.{rules}
+use Rattle.std.proofs.Common.{true, rules}
+use Rattle.probe_session.proofs.Conversions.{became, of_register}
 use Rattle.probe_session.proofs.LinkLemmas.{access_left}
 use Rattle.probe_session.proofs.RegisterLemmas.{is_other}
 use Rattle.probe_session.proofs.registers.set_reg_if_taken.Goals as goal
@@ -12,10 +13,10 @@ returns-in_default-clause-fell g c = record {
     heard = c.in-Err.ensures.failed;
     told = c.in-Err.ensures.left;
     cut = c.in-Err.ensures.cut;
-    is = c.lost_by.ensures;
+    is = became c.in-Err.fault (of_register true _ _ _ _ c.in-Err.fault c.in-Err.ensures.left) c.from.ensures;
   };
   other = is_other c.in-Err.fault c.in_default.not-Register;
 }
 
 pub returns-in_default-clause-keeps : goal.returns-in_default-clause-keeps
-returns-in_default-clause-keeps g c = let b = access_left _ c.in-Err.fault _ c.in-Err.ensures.keeps.behind c.lost_by.ensures in search rules
+returns-in_default-clause-keeps g c = let b = access_left _ c.in-Err.fault _ c.in-Err.ensures.keeps.behind c.from.ensures in search rules
