@@ -15,7 +15,6 @@ ghost use Rattle.probe_run.specs.Told.{told, Fails};
 
 use crate::fault::Failure;
 use crate::hart_lines::stop_line;
-use crate::looks::resume;
 use crate::slots::{slots, step_over};
 use crate::stops::stop;
 use debug_model::Dmi;
@@ -63,7 +62,7 @@ fn free_line<D: Dmi>(link: &mut D, halted: Halted) -> Result<Line, Failure>
     ensures falls { IfErr result (Fails (Falls (λ next. ready halted.number (going halted.number (say Resumed next))) []) (D.seen link.old) (D.seen link.new)) }
     ensures keeps { Goes (λ _. Attached) (D.seen link.old) (D.seen link.new) result }
 {
-    resume(link, halted)?;
+    halted.resume(link)?;
     Ok(Line::Resumed)
 }
 

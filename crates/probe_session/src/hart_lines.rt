@@ -12,8 +12,8 @@ ghost use Rattle.probe_trig.specs.SlotRegisters.{CanArm};
 ghost use Rattle.probe_run.specs.Told.{told, Fails};
 
 use crate::fault::Failure;
-use crate::registers::{reg, reg_or_none, set_reg, set_reg_if_taken};
-use crate::slots::{arm, disarm, forget_hits, slots};
+use crate::registers::{reg, reg_or_none, set_reg_if_taken};
+use crate::slots::{arm, disarm, slots};
 use crate::stops::stop;
 use debug_model::{Dmi, SlotUse};
 use printed_lines::Line;
@@ -83,7 +83,7 @@ pub(crate) fn written_register_line<D: Dmi>(
         return Ok(Line::RegisterRefused(number));
     }
     if number == register_number::DPC {
-        forget_hits(link, halted)?;
+        probe_trig::forget_hits(link, halted)?;
         return register_line(link, halted, number);
     }
     register_line(link, halted, number)
@@ -114,7 +114,7 @@ pub(crate) fn ebreak_line<D: Dmi>(
     ensures keeps { Goes (λ _. Attached) (D.seen link.old) (D.seen link.new) result }
 {
     let word = reg(link, halted, register_number::DCSR)?;
-    set_reg(
+    probe_access::set_reg(
         link,
         halted,
         register_number::DCSR,

@@ -1,14 +1,14 @@
-ghost use Rattle.std.specs.Prelude.{◌≡◌, ◌<◌, ◌^◌, IfOk, IfErr, OnOk};
+ghost use Rattle.std.specs.Prelude.{◌<◌, ◌^◌, IfOk, IfErr, OnOk};
 ghost use Rattle.debug_model.specs.Told.{Selects};
-ghost use Rattle.probe_run.specs.Happens.{Exists, IsAsSeen};
-ghost use Rattle.probe_session.specs.Calls.{HaltFell, HaltMade, LookFell, ResumeFell, ResumeMade, LookMade};
-ghost use Rattle.probe_session.specs.Links.{Attached, AttachedHalted, Goes};
+ghost use Rattle.probe_run.specs.Happens.{IsAsSeen};
+ghost use Rattle.probe_session.specs.Calls.{LookFell, LookMade};
+ghost use Rattle.probe_session.specs.Links.{Attached, Goes};
 ghost use Rattle.probe_session.specs.Seen.{IsOf};
 ghost use Rattle.probe_run.specs.Told.{told, Fails};
 
 use crate::fault::Failure;
 use debug_model::Dmi;
-use probe_run::{Halted, Running, Seen, Target};
+use probe_run::{Seen, Target};
 
 /// One Look of a hart.
 pub(crate) fn look<D: Dmi>(link: &mut D, target: &Target, hart: u16) -> Result<Seen, Failure>
@@ -23,28 +23,4 @@ pub(crate) fn look<D: Dmi>(link: &mut D, target: &Target, hart: u16) -> Result<S
 {
     let seen = target.look(link, hart)?;
     Ok(seen)
-}
-
-/// Halts a hart that was seen running.
-pub(crate) fn halt<D: Dmi>(link: &mut D, running: Running) -> Result<Halted, Failure>
-    requires serving { Attached (D.seen link.old) }
-    requires exists { Exists running.number (D.seen link.old).far }
-    ensures halted { OnOk result (HaltMade running.number (told (D.seen link.old)) (told (D.seen link.new))) }
-    ensures fell { IfErr result (Fails (HaltFell running.number) (D.seen link.old) (D.seen link.new)) }
-    ensures hart { IfOk result (λ halted. halted.number ≡ running.number) }
-    ensures keeps { Goes (λ _. AttachedHalted running.number) (D.seen link.old) (D.seen link.new) result }
-{
-    let halted = running.halt(link)?;
-    Ok(halted)
-}
-
-/// Lets a halted hart go.
-pub(crate) fn resume<D: Dmi>(link: &mut D, halted: Halted) -> Result<Running, Failure>
-    requires serving { AttachedHalted halted.number (D.seen link.old) }
-    ensures resumed { OnOk result (ResumeMade halted.number (told (D.seen link.old)) (told (D.seen link.new))) }
-    ensures fell { IfErr result (Fails (ResumeFell halted.number) (D.seen link.old) (D.seen link.new)) }
-    ensures keeps { Goes (λ _. Attached) (D.seen link.old) (D.seen link.new) result }
-{
-    let running = halted.resume(link)?;
-    Ok(running)
 }

@@ -17,7 +17,7 @@ use crate::going::{let_go_line, stepped_line};
 use crate::hart_lines::{
     armed_line, ebreak_line, freed_line, register_line, stop_line, written_register_line,
 };
-use crate::looks::{halt, look};
+use crate::looks::look;
 use crate::met::{Met, meet};
 use crate::reach::Reached;
 use crate::session::Session;
@@ -76,7 +76,7 @@ impl Session {
         match look(link, &self.target, self.hart)? {
             Seen::Absent => Ok(Line::NoHart(self.hart)),
             Seen::Running(running) => {
-                let halted = halt(link, running)?;
+                let halted = running.halt(link)?;
                 stop_line(link, &halted)
             }
             Seen::Halted(halted) => stop_line(link, &halted),

@@ -1,5 +1,5 @@
-ghost use Rattle.std.specs.Prelude.{true, IfOk, IfErr, OnOk};
-ghost use Rattle.probe_session.specs.Calls.{AskFell, Gave, GiveFell, Got, ReadFell, WriteFell};
+ghost use Rattle.std.specs.Prelude.{true, IfOk, IfErr};
+ghost use Rattle.probe_session.specs.Calls.{AskFell, GiveFell, Got, ReadFell};
 ghost use Rattle.probe_session.specs.Links.{AttachedHalted, Goes};
 ghost use Rattle.probe_session.specs.Answers.{ReadAs, WrittenAs};
 ghost use Rattle.probe_run.specs.Told.{told, Fails};
@@ -62,21 +62,4 @@ pub(crate) fn set_reg_if_taken<D: Dmi>(
             other => Err(Failure::from(other)),
         },
     }
-}
-
-/// Writes a register of the halted hart, which each hart has and takes: a chip that refuses to loses the session.
-pub(crate) fn set_reg<D: Dmi>(
-    link: &mut D,
-    halted: &Halted,
-    number: u16,
-    value: u64,
-) -> Result<(), Failure>
-    requires serving { AttachedHalted halted.now.number (D.seen link.old) }
-    ensures gave { OnOk result
-        (Gave halted.now.number number value (told (D.seen link.old)) (told (D.seen link.new))) }
-    ensures fell { IfErr result (Fails (WriteFell halted.now.number number value) (D.seen link.old) (D.seen link.new)) }
-    ensures keeps { Goes (λ _. AttachedHalted halted.now.number) (D.seen link.old) (D.seen link.new) result }
-{
-    probe_access::set_reg(link, halted, number, value)?;
-    Ok(())
 }

@@ -1,9 +1,8 @@
 ghost use Rattle.std.specs.Prelude.{◌≡◌, ◌<◌, true, false, IfOk, IfErr, OnOk};
 ghost use Rattle.probe_session.specs.Answers.{FreedAs, TakenAs};
-ghost use Rattle.probe_session.specs.Calls.{HitsForgotten, StepOverFell, StepOverMade, SlotsFell, Viewed};
+ghost use Rattle.probe_session.specs.Calls.{StepOverFell, StepOverMade, SlotsFell, Viewed};
 ghost use Rattle.probe_session.specs.Links.{AttachedHalted, Goes};
-ghost use Rattle.probe_trig.specs.declared.change.Change.TheVariants.{Forget};
-ghost use Rattle.probe_trig.specs.Runs.{ArmsAny, ChangesAny, FreesAny, ReadsAny};
+ghost use Rattle.probe_trig.specs.Runs.{ArmsAny, FreesAny, ReadsAny};
 ghost use Rattle.probe_trig.specs.SlotRegisters.{CanArm};
 ghost use Rattle.probe_run.specs.Told.{told, Fails};
 
@@ -62,18 +61,6 @@ pub(crate) fn disarm<D: Dmi>(link: &mut D, halted: &Halted, slot: u8) -> Result<
             other => Err(Failure::from(other)),
         },
     }
-}
-
-/// Forgets the hits of the halted hart's slots.
-pub(crate) fn forget_hits<D: Dmi>(link: &mut D, halted: &Halted) -> Result<(), Failure>
-    requires serving { AttachedHalted halted.now.number (D.seen link.old) }
-    ensures forgot { OnOk result
-        (HitsForgotten halted.now.number (told (D.seen link.old)) (told (D.seen link.new))) }
-    ensures fell { IfErr result (Fails (SlotsFell (ChangesAny Forget) halted.now.number) (D.seen link.old) (D.seen link.new)) }
-    ensures keeps { Goes (λ _. AttachedHalted halted.now.number) (D.seen link.old) (D.seen link.new) result }
-{
-    probe_trig::forget_hits(link, halted)?;
-    Ok(())
 }
 
 /// Makes the halted hart do one instruction with its slots off that have a hit.

@@ -1,3 +1,6 @@
+use Rattle.std.proofs.Common.{refl, true}
+use Rattle.probe_session.specs.Failures.{failure_of_access}
+use Rattle.probe_session.proofs.Conversions.{became, of_register}
 use Rattle.probe_session.proofs.HartLines.{ebreak_falls, ebreak_said, ebreak_set_falls}
 use Rattle.probe_session.proofs.LinkLemmas.{if_err}
 use Rattle.probe_session.proofs.RegisterLemmas.{dcsr_of_harts}
@@ -9,9 +12,18 @@ returns-in_err-word-clause-falls g c = if_err _ c.in_err-word.field-0.0 _ c.from
 
 pub returns-in_err-set_reg-clause-falls : goal.returns-in_err-set_reg-clause-falls
 returns-in_err-set_reg-clause-falls g c =
-    if_err _ c.in_err-set_reg.field-0.0 _ c.from_residual-in_err-set_reg.ensures.1 (ebreak_set_falls c.args.halted.now.number c.in_ok-word.word _ c.args.is_on
-    c.with_ebreakm.ensures c.in_ok-word.ensures.got c.reg.ensures.keeps.later c.in_err-set_reg.ensures.fell)
+    if_err _ (failure_of_access c.in_err-set_reg.field-0.0) _ c.from_residual-in_err-set_reg.ensures.1
+    (ebreak_set_falls c.args.halted.now.number c.in_ok-word.word _ c.args.is_on c.with_ebreakm.ensures
+    c.in_ok-word.ensures.got c.reg.ensures.keeps.later (record {
+      why = c.in_err-set_reg.field-0.0;
+      later = c.set_reg.ensures.keeps.later;
+      at = c.in_ok-word.ensures.keeps.behind.serving;
+      heard = c.in_err-set_reg.ensures.failed;
+      told = c.in_err-set_reg.ensures.left;
+      cut = c.in_err-set_reg.ensures.cut;
+      is = became c.in_err-set_reg.field-0.0 (of_register true _ _ _ _ c.in_err-set_reg.field-0.0 c.in_err-set_reg.ensures.left) refl;
+    }))
 
 pub returns-clause-went : goal.returns-clause-went
 returns-clause-went g c = ebreak_said c.args.halted.now.number c.in_ok-word.word _ c.args.is_on c.in_ok-word.ensures.got c.with_ebreakm.ensures
-    c.in_ok-set_reg.ensures.gave
+    (record { heard = c.in_ok-set_reg.ensures.written; told = c.in_ok-set_reg.ensures.set_to })

@@ -1,6 +1,10 @@
-use Rattle.std.proofs.Common.{arith}
+use Rattle.std.proofs.Common.{arith, refl}
+use Rattle.probe_trig.specs.declared.change.Change.TheVariants.{Forget}
+use Rattle.probe_trig.specs.Runs.{ChangesAny}
 use Rattle.probe_session.specs.Commands.{ends_with}
+use Rattle.probe_session.specs.Failures.{failure_of_trig}
 use Rattle.probe_session.specs.Said.{said_by}
+use Rattle.probe_session.proofs.Conversions.{slots_failed}
 use Rattle.probe_session.proofs.HartLines.{forget_falls, write_falls, write_refused, written, written_pc}
 use Rattle.probe_session.proofs.LinkLemmas.{if_err}
 use Rattle.probe_session.proofs.OneLine.{err_then, ok_then}
@@ -16,20 +20,29 @@ returns-then-not-branch-clause-went g c = write_refused c.args.halted.now.number
     (gave_false c.if-not-branch.true c.in_ok-set_reg_if_taken.ensures.gave)
 
 pub returns-in_err-forget_hits-clause-falls : goal.returns-in_err-forget_hits-clause-falls
-returns-in_err-forget_hits-clause-falls g c = if_err _ c.in_err-forget_hits.field-0.0 _ c.from_residual-in_err-forget_hits.ensures.1
+returns-in_err-forget_hits-clause-falls g c = if_err _ (failure_of_trig c.in_err-forget_hits.field-0.0) _ c.from_residual-in_err-forget_hits.ensures.1
     (forget_falls c.args.halted.now.number c.args.number c.args.value c.if-number-eq-DPC.true
     (gave_true c.if-not-branch.false c.in_ok-set_reg_if_taken.ensures.gave)
-    c.set_reg_if_taken.ensures.keeps.later c.in_err-forget_hits.ensures.fell)
+    c.set_reg_if_taken.ensures.keeps.later
+    (slots_failed (ChangesAny Forget) c.args.halted.now.number c.in_err-forget_hits.field-0.0 refl c.forget_hits.ensures.keeps.later
+    c.in_ok-set_reg_if_taken.ensures.keeps.behind.serving c.in_err-forget_hits.ensures.failed c.in_err-forget_hits.ensures.left
+    c.in_err-forget_hits.ensures.cut))
 
 pub returns-then-number-eq-DPC-clause-went : goal.returns-then-number-eq-DPC-clause-went
 returns-then-number-eq-DPC-clause-went g c =
     ok_then (λ line. ends_with (said_by line)) _ _ (written_pc c.args.halted.now.number c.args.number c.args.value c.if-number-eq-DPC.true
-    (gave_true c.if-not-branch.false c.in_ok-set_reg_if_taken.ensures.gave) c.in_ok-forget_hits.ensures.forgot) c.register_line.ensures.went
+    (gave_true c.if-not-branch.false c.in_ok-set_reg_if_taken.ensures.gave) (record {
+      heard = c.in_ok-forget_hits.ensures.did;
+      told = c.in_ok-forget_hits.ensures.forgot;
+    })) c.register_line.ensures.went
 
 pub returns-then-number-eq-DPC-clause-falls : goal.returns-then-number-eq-DPC-clause-falls
 returns-then-number-eq-DPC-clause-falls g c =
     err_then _ _ _ (written_pc c.args.halted.now.number c.args.number c.args.value c.if-number-eq-DPC.true
-    (gave_true c.if-not-branch.false c.in_ok-set_reg_if_taken.ensures.gave) c.in_ok-forget_hits.ensures.forgot)
+    (gave_true c.if-not-branch.false c.in_ok-set_reg_if_taken.ensures.gave) (record {
+      heard = c.in_ok-forget_hits.ensures.did;
+      told = c.in_ok-forget_hits.ensures.forgot;
+    }))
     (omega (arith, c.set_reg_if_taken.ensures.keeps.later, c.forget_hits.ensures.keeps.later)) c.register_line.ensures.falls
 
 pub returns-clause-went : goal.returns-clause-went

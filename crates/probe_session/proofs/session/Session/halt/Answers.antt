@@ -1,5 +1,6 @@
-use Rattle.std.proofs.Common.{◌∙◌, arith}
+use Rattle.std.proofs.Common.{◌∙◌, arith, refl}
 use Rattle.probe_session.specs.Commands.{state_of}
+use Rattle.probe_session.specs.Failures.{failure_of_run}
 use Rattle.probe_session.specs.Said.{said_by}
 use Rattle.probe_session.proofs.LinkLemmas.{if_err}
 use Rattle.probe_session.proofs.OneLine.{halt_absent, halt_falls, halt_halted, halt_made, halt_made_falls, if_err_map, if_ok_map, of_halted}
@@ -16,23 +17,35 @@ returns-in-Absent-clause-went g c = halt_absent (state_of c.args.self.now) (saw_
 
 pub returns-in_err-halted-in-Running-clause-falls : goal.returns-in_err-halted-in-Running-clause-falls
 returns-in_err-halted-in-Running-clause-falls g c =
-    if_err _ c.in_err-halted-in-Running.field-0.0 _ c.from_residual-in_err-halted-in-Running.ensures.1
+    if_err _ (failure_of_run c.in_err-halted-in-Running.field-0.0) _ c.from_residual-in_err-halted-in-Running.ensures.1
     (halt_made_falls (state_of c.args.self.now) c.in-Running.running (of_running c.in-Running.is c.in_ok-look.ensures.of)
-    (saw_as c.in-Running.is c.in_ok-look.ensures.saw) c.look.ensures.keeps.later c.in_err-halted-in-Running.ensures.fell)
+    (saw_as c.in-Running.is c.in_ok-look.ensures.saw) c.look.ensures.keeps.later (record {
+      why = c.in_err-halted-in-Running.field-0.0;
+      later = c.halt.ensures.keeps.later;
+      heard = c.in_err-halted-in-Running.ensures.fails;
+      told = c.in_err-halted-in-Running.ensures.left;
+      is = refl;
+    }))
 
 pub returns-in_ok-halted-in-Running-clause-went : goal.returns-in_ok-halted-in-Running-clause-went
 returns-in_ok-halted-in-Running-clause-went g c =
     if_ok_map _ _ _ (λ line w. stops (state_of c.args.self.now) (said_by line) c.in_ok-halted-in-Running.halted.number _
     (c.in_ok-halted-in-Running.ensures.hart ∙ of_running c.in-Running.is c.in_ok-look.ensures.of)
     (halt_made (state_of c.args.self.now) c.in-Running.running (of_running c.in-Running.is c.in_ok-look.ensures.of)
-    (saw_as c.in-Running.is c.in_ok-look.ensures.saw) c.in_ok-halted-in-Running.ensures.halted) w) c.stop_line.ensures.went
+    (saw_as c.in-Running.is c.in_ok-look.ensures.saw) (record {
+      heard = c.in_ok-halted-in-Running.ensures.did;
+      told = c.in_ok-halted-in-Running.ensures.happened;
+    })) w) c.stop_line.ensures.went
 
 pub returns-in_ok-halted-in-Running-clause-falls : goal.returns-in_ok-halted-in-Running-clause-falls
 returns-in_ok-halted-in-Running-clause-falls g c =
     if_err_map _ _ _ (λ f p. stops_falls (state_of c.args.self.now) c.in_ok-halted-in-Running.halted.number _
     (c.in_ok-halted-in-Running.ensures.hart ∙ of_running c.in-Running.is c.in_ok-look.ensures.of)
     (halt_made (state_of c.args.self.now) c.in-Running.running (of_running c.in-Running.is c.in_ok-look.ensures.of)
-    (saw_as c.in-Running.is c.in_ok-look.ensures.saw) c.in_ok-halted-in-Running.ensures.halted)
+    (saw_as c.in-Running.is c.in_ok-look.ensures.saw) (record {
+      heard = c.in_ok-halted-in-Running.ensures.did;
+      told = c.in_ok-halted-in-Running.ensures.happened;
+    }))
     (omega (arith, c.look.ensures.keeps.later, c.halt.ensures.keeps.later)) p) c.stop_line.ensures.falls
 
 pub returns-in-Halted-clause-went : goal.returns-in-Halted-clause-went
