@@ -34,6 +34,28 @@ const SMALL: [u8; 132] = [
     0x6f, 0xf0, 0xdf, 0xff,
 ];
 
+/// An executable with three program headers behind one another: 8 bytes of 0x55 at 0x80000000, 4 zeros at 0x80000002, and 2 bytes of 0x66 at 0x80000003.
+#[rattlefmt::skip]
+const OVERLAPPING: [u8; 242] = [
+    0x7f, b'E', b'L', b'F', 2, 1, 1, 0, 0, 0, 0, 0, 0, 0, 0, 0,
+    2, 0, 243, 0, 1, 0, 0, 0, 0, 0, 0, 0x80, 0, 0, 0, 0,
+    64, 0, 0, 0, 0, 0, 0, 0, 0, 0, 0, 0, 0, 0, 0, 0,
+    0, 0, 0, 0, 64, 0, 56, 0, 3, 0, 0, 0, 0, 0, 0, 0,
+    1, 0, 0, 0, 5, 0, 0, 0, 232, 0, 0, 0, 0, 0, 0, 0,
+    0, 0, 0, 0, 0, 0, 0, 0, 0, 0, 0, 0x80, 0, 0, 0, 0,
+    8, 0, 0, 0, 0, 0, 0, 0, 8, 0, 0, 0, 0, 0, 0, 0,
+    0, 0, 0, 0, 0, 0, 0, 0,
+    1, 0, 0, 0, 5, 0, 0, 0, 232, 0, 0, 0, 0, 0, 0, 0,
+    0, 0, 0, 0, 0, 0, 0, 0, 2, 0, 0, 0x80, 0, 0, 0, 0,
+    0, 0, 0, 0, 0, 0, 0, 0, 4, 0, 0, 0, 0, 0, 0, 0,
+    0, 0, 0, 0, 0, 0, 0, 0,
+    1, 0, 0, 0, 5, 0, 0, 0, 240, 0, 0, 0, 0, 0, 0, 0,
+    0, 0, 0, 0, 0, 0, 0, 0, 3, 0, 0, 0x80, 0, 0, 0, 0,
+    2, 0, 0, 0, 0, 0, 0, 0, 2, 0, 0, 0, 0, 0, 0, 0,
+    0, 0, 0, 0, 0, 0, 0, 0,
+    0x55, 0x55, 0x55, 0x55, 0x55, 0x55, 0x55, 0x55, 0x66, 0x66,
+];
+
 /// What the chip holds before.
 const IMAGE: [u8; 32] = [0xaa; 32];
 
@@ -224,5 +246,19 @@ fn the_elements_in_front_of_a_refused_one_are_stored(rt: HostRuntime) -> Result<
         (0x8000_fff8, 0x0012_8293_0050_0293),
     ];
     check(&rt, &mut bench, &file, Loaded::UpTo(0x8001_0000), words);
+    Ok(())
+}
+
+#[test]
+fn of_segments_that_overlap_the_later_one_stands(rt: HostRuntime) -> Result<(), Fail> {
+    let mut bench = Bench::blank();
+    let schedule = SeedSchedule::new(1, 1, 1);
+    bench.load(rt.alloc(), &IMAGE, 1, RAM_LEAST, Start::Halted, schedule)?;
+    let words = [
+        (0x8000_0000, 0x5555_0066_6600_5555),
+        (0x8000_0008, 0xaaaa_aaaa_aaaa_aaaa),
+        (0x8000_0010, 0xaaaa_aaaa_aaaa_aaaa),
+    ];
+    check(&rt, &mut bench, &OVERLAPPING, Loaded::All(14), words);
     Ok(())
 }
