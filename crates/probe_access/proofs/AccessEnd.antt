@@ -12,20 +12,17 @@ use Rattle.abstract_debugger.specs.Turns.{after_turns, turns}
 use Rattle.probe_access.specs.Accesses.{OneAccess, with_memory}
 use Rattle.probe_access.specs.MemoryRuns.{Performed, PutBack, Saved}
 use Rattle.probe_access.specs.RegisterAccess.{x8_number, x9_number}
-use Rattle.probe_access.specs.RegisterRuns.{RegisterRead, RegisterWritten}
+use Rattle.probe_access.specs.RegisterRuns.{RegisterWritten}
 use Rattle.probe_run.specs.Acts.{Tells}
 use Rattle.probe_access.proofs.Along.{did_untold}
 use Rattle.probe_access.proofs.Aside.{accessed, passed}
 use Rattle.probe_access.proofs.ReadyTurns.{BoardReady, Passed, board_ready_turns, passed_turns}
 use Rattle.probe_access.proofs.ReadyUnit.{unit_of}
-use Rattle.probe_access.proofs.RegAnswers.{StoodTold, stood_board, stood_selects, stood_unit}
+use Rattle.probe_access.proofs.RegAnswers.{StoodTold, read_untold, stood_board, stood_selects, stood_unit}
 use Rattle.probe_access.proofs.RegClauses.{told_serving}
 use Rattle.probe_access.proofs.Turns.{hart_aside, stays_passed}
 
 -- ---- of an untold chip
-
-pub read_untold : (number value : ℕ) (old new : Tells) → RegisterRead number value old new → old.far ≡ None → new.far ≡ None
-read_untold number value old new r is = did_untold r.mid _ new r.words.did (did_untold old _ r.mid r.ran.ran.did is)
 
 pub written_untold : (number value : ℕ) (old new : Tells) → RegisterWritten number value old new → old.far ≡ None → new.far ≡ None
 written_untold number value old new r is = did_untold old _ new r.ran.did is

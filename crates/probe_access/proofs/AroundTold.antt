@@ -18,13 +18,13 @@ use Rattle.probe_access.specs.MemoryRuns.AroundFailed.{behind, in_restore, in_re
 use Rattle.probe_access.specs.MemoryRuns.PerformFailed.{in_run, faulted, oddly}
 use Rattle.probe_access.specs.MemoryRuns.PutBackFailed.{at_x8 as put_x8, at_x9 as put_x9}
 use Rattle.probe_access.specs.MemoryRuns.SaveFailed.{at_x8 as save_x8, at_x9 as save_x9}
-use Rattle.probe_access.specs.RegisterRuns.{ReadFailed, WriteFailed}
+use Rattle.probe_access.specs.RegisterRuns.{ReadFailed, WriteFailed, AskFailed, ReadApartFailed}
 use Rattle.probe_access.specs.Registers.{reaches}
 use Rattle.probe_access.specs.RegisterAccess.{program_word, x8_number, x9_number}
 use Rattle.probe_access.proofs.AccessSteps.{WordDid}
 use Rattle.probe_access.proofs.AccessTold.{Faulted, PerformedTold, SavedTold, back_told, neither_told, ran_told, saved_told}
 use Rattle.probe_access.proofs.Aside.{Frozen, accessed, passed}
-use Rattle.probe_access.proofs.RegAnswers.{ReadTold, StoodTold, WrittenTold, read_denied, read_not_odd, read_told, write_denied, write_not_odd, written_told}
+use Rattle.probe_access.proofs.RegAnswers.{ReadTold, StoodTold, WrittenTold, read_denied, read_not_odd, read_told, write_denied, write_not_odd, written_told, too_early_told}
 use Rattle.probe_access.proofs.ScratchLemmas.{scratched}
 use Rattle.probe_access.proofs.TransferLemmas.{written_frozen}
 
@@ -38,17 +38,33 @@ Clean access_fault.StillBusy = Unit {0}
 Clean (access_fault.Run why) = ⊥
 Clean (access_fault.Odd shown) = ⊥
 
+apart_clean : (number h : ℕ) (bus : BusUnit) (y : Hart) (base : Site) (w : Hart) (old_count new_count : ℕ) (old new : Tells) (e : AccessFault)
+    → number < 2 ^ 16 → reaches false y number ≡ true → StoodTold h bus y base w old.far
+    → ReadApartFailed number old_count new_count old new e → Clean e
+apart_clean number h bus y base w old_count new_count old new (access_fault.Dmi why) small there st f = tt
+apart_clean number h bus y base w old_count new_count old new (access_fault.Memory at) small there st f = f
+apart_clean number h bus y base w old_count new_count old new (access_fault.Register asked) small there st f =
+    false≢true (sym (read_denied number h bus y base w old new small st f.ran).denied_is ∙ there)
+apart_clean number h bus y base w old_count new_count old new access_fault.StillBusy small there st f = tt
+apart_clean number h bus y base w old_count new_count old new (access_fault.Run why) small there st f = f
+apart_clean number h bus y base w old_count new_count old new (access_fault.Odd shown) small there st f =
+    read_not_odd number shown h bus y base w old new small st f
+
+asking_clean : (number old_count new_count : ℕ) (old new : Tells) (e : AccessFault) → AskFailed number old_count new_count old new e → Clean e
+asking_clean number old_count new_count old new (access_fault.Dmi why) f = tt
+asking_clean number old_count new_count old new (access_fault.Memory at) f = f
+asking_clean number old_count new_count old new (access_fault.Register asked) f = f
+asking_clean number old_count new_count old new access_fault.StillBusy f = tt
+asking_clean number old_count new_count old new (access_fault.Run why) f = f
+asking_clean number old_count new_count old new (access_fault.Odd shown) f = f
+
 pub read_clean : (number h : ℕ) (bus : BusUnit) (y : Hart) (base : Site) (w : Hart) (old_count new_count : ℕ) (old new : Tells) (e : AccessFault)
     → number < 2 ^ 16 → reaches false y number ≡ true → StoodTold h bus y base w old.far
     → ReadFailed number old_count new_count old new e → Clean e
-read_clean number h bus y base w old_count new_count old new (access_fault.Dmi why) small there st f = tt
-read_clean number h bus y base w old_count new_count old new (access_fault.Memory at) small there st f = f
-read_clean number h bus y base w old_count new_count old new (access_fault.Register asked) small there st f =
-    false≢true (sym (read_denied number h bus y base w old new small st f.ran).denied_is ∙ there)
-read_clean number h bus y base w old_count new_count old new access_fault.StillBusy small there st f = tt
-read_clean number h bus y base w old_count new_count old new (access_fault.Run why) small there st f = f
-read_clean number h bus y base w old_count new_count old new (access_fault.Odd shown) small there st f =
-    read_not_odd number shown h bus y base w old new small st f
+read_clean number h bus y base w old_count new_count old new e small there st (ReadFailed.asking f) =
+    asking_clean number old_count new_count old new e f
+read_clean number h bus y base w old_count new_count old new e small there st (ReadFailed.late mid early f) =
+    apart_clean number h bus y base w old_count new_count mid new e small there (too_early_told number h bus y base w old mid small st early) f
 
 pub write_clean : (number value h : ℕ) (bus : BusUnit) (y : Hart) (base : Site) (w : Hart) (old_count new_count : ℕ) (old new : Tells) (e : AccessFault)
     → number < 2 ^ 16 → reaches true y number ≡ true → StoodTold h bus y base w old.far

@@ -9,7 +9,7 @@ use Rattle.probe_access.specs.MemoryRuns.AroundFailed.{behind, in_restore, in_re
 use Rattle.probe_access.specs.MemoryRuns.PerformFailed.{in_run, faulted, oddly}
 use Rattle.probe_access.specs.MemoryRuns.PutBackFailed.{at_x8 as put_x8, at_x9 as put_x9}
 use Rattle.probe_access.specs.MemoryRuns.SaveFailed.{at_x8 as save_x8, at_x9 as save_x9}
-use Rattle.probe_access.specs.RegisterRuns.{ReadFailed, WriteFailed}
+use Rattle.probe_access.specs.RegisterRuns.{ReadFailed, WriteFailed, AskFailed, ReadApartFailed}
 use Rattle.probe_access.specs.RegisterAccess.{program_word, x8_number, x9_number}
 use Rattle.probe_access.proofs.AccessEnd.{back_untold, performed_untold, saved_untold}
 
@@ -21,14 +21,29 @@ PlainMemory address G access_fault.StillBusy = Unit {0}
 PlainMemory address G (access_fault.Run why) = ⊥
 PlainMemory address G (access_fault.Odd shown) = Unit {0}
 
+apart_plain : (number address : ℕ) (G : Type 0) (old_count new_count : ℕ) (old new : Tells) (e : AccessFault)
+    → ReadApartFailed number old_count new_count old new e → PlainMemory address G e
+apart_plain number address G old_count new_count old new (access_fault.Dmi why) f = tt
+apart_plain number address G old_count new_count old new (access_fault.Memory at) f = absurd f
+apart_plain number address G old_count new_count old new (access_fault.Register asked) f = tt
+apart_plain number address G old_count new_count old new access_fault.StillBusy f = tt
+apart_plain number address G old_count new_count old new (access_fault.Run why) f = f
+apart_plain number address G old_count new_count old new (access_fault.Odd shown) f = tt
+
+asking_plain : (number address : ℕ) (G : Type 0) (old_count new_count : ℕ) (old new : Tells) (e : AccessFault)
+    → AskFailed number old_count new_count old new e → PlainMemory address G e
+asking_plain number address G old_count new_count old new (access_fault.Dmi why) f = tt
+asking_plain number address G old_count new_count old new (access_fault.Memory at) f = absurd f
+asking_plain number address G old_count new_count old new (access_fault.Register asked) f = tt
+asking_plain number address G old_count new_count old new access_fault.StillBusy f = tt
+asking_plain number address G old_count new_count old new (access_fault.Run why) f = f
+asking_plain number address G old_count new_count old new (access_fault.Odd shown) f = tt
+
 pub read_plain : (number address : ℕ) (G : Type 0) (old_count new_count : ℕ) (old new : Tells) (e : AccessFault)
     → ReadFailed number old_count new_count old new e → PlainMemory address G e
-read_plain number address G old_count new_count old new (access_fault.Dmi why) f = tt
-read_plain number address G old_count new_count old new (access_fault.Memory at) f = absurd f
-read_plain number address G old_count new_count old new (access_fault.Register asked) f = tt
-read_plain number address G old_count new_count old new access_fault.StillBusy f = tt
-read_plain number address G old_count new_count old new (access_fault.Run why) f = f
-read_plain number address G old_count new_count old new (access_fault.Odd shown) f = tt
+read_plain number address G old_count new_count old new e (ReadFailed.asking f) = asking_plain number address G old_count new_count old new e f
+read_plain number address G old_count new_count old new e (ReadFailed.late mid early f) =
+    apart_plain number address G old_count new_count mid new e f
 
 pub write_plain : (number value address : ℕ) (G : Type 0) (old_count new_count : ℕ) (old new : Tells) (e : AccessFault)
     → WriteFailed number value old_count new_count old new e → PlainMemory address G e

@@ -1,5 +1,5 @@
 -- What a fault of an access follows, however far its calls came, and where a value was read.
-use Rattle.std.proofs.Common.{◌≡◌, ◌∙◌, ◌≤◌, ◌++◌, ℕ, List, [], ◌∷◌, map, Bool, true, false, sym, ap, subst, append_assoc, arith}
+use Rattle.std.proofs.Common.{◌≡◌, ◌∙◌, ◌≤◌, ◌++◌, ℕ, List, [], ◌∷◌, map, Bool, true, false, sym, ap, subst, append_assoc, arith, All}
 use Rattle.rv_model.specs.declared.size.Size.{Size}
 use Rattle.debug_model.specs.Addresses.{data0_address, data1_address, command_address}
 use Rattle.debug_model.specs.declared.dmi.DmiFault.{DmiFault}
@@ -10,10 +10,10 @@ use Rattle.probe_run.specs.Acts.{Act, Did, Tells}
 use Rattle.probe_run.specs.Acts.Act.{Got, Put}
 use Rattle.probe_run.specs.Acts.Did.{nothing}
 use Rattle.probe_access.specs.Accesses.{IfMemory}
-use Rattle.probe_access.specs.BlockRuns.{Causes, Denied, Fetched, Fetches, Reported, ReportedOddly}
-use Rattle.probe_access.specs.BlockRuns.Fetches.{nothing as none_fetched, further as fetched_further}
-use Rattle.probe_access.specs.BlockRuns.WordsRead.{lower_first}
-use Rattle.probe_access.specs.CommandRuns.{CommandFailed, RanCommand, clearing, command_acts, error_shown, poll_act}
+use Rattle.probe_access.specs.BlockRuns.{Causes, Denied, Fetched, Fetches, Reported, ReportedOddly, LeavesError}
+use Rattle.probe_access.specs.BlockRuns.Fetches.{nothing as none_fetched, polled_behind, polled_first}
+use Rattle.probe_access.specs.BlockRuns.WordsRead.{lower_first, upper_first}
+use Rattle.probe_access.specs.CommandRuns.{CommandFailed, RanCommand, clearing, command_acts, error_shown, poll_act, EndBehindFailed}
 use Rattle.probe_access.specs.MemoryRuns.{
   Around,
   AroundFailed,
@@ -43,11 +43,13 @@ use Rattle.probe_access.specs.MemoryRuns.PerformFailed.{in_run, faulted, oddly}
 use Rattle.probe_access.specs.MemoryRuns.PutBackFailed.{at_x8 as put_x8, at_x9 as put_x9}
 use Rattle.probe_access.specs.MemoryRuns.SaveFailed.{at_x8 as save_x8, at_x9 as save_x9}
 use Rattle.probe_access.specs.MemoryRuns.StoreFailedInside.{performing as store_performing, writing as store_writing}
-use Rattle.probe_access.specs.RegisterRuns.{RanOddly, RanTo, ReadFailed, ReadFailedAt, RegisterRead, RegisterWritten, WriteFailed, double_written}
-use Rattle.probe_access.specs.RegisterRuns.ReadFailedAt.{in_command as read_in_command, in_words as read_in_words}
+use Rattle.probe_access.specs.RegisterRuns.{RanOddly, RanTo, ReadFailed, RegisterRead, RegisterWritten, WriteFailed, double_written, Asks, ReadApart, ReadApartFailed, ReadApartFailedAt, ReadAtOnce, ReadTooEarly}
+use Rattle.probe_access.specs.RegisterRuns.ReadApartFailedAt.{in_command as read_in_command, in_words as read_in_words}
 use Rattle.probe_access.specs.RegisterAccess.{joined, load_word, program_word, store_word, transfer_word, x8_number, x9_number}
 use Rattle.probe_access.proofs.RegisterCalls.{none_cleared}
 use Rattle.probe_run.proofs.ActLemmas.{broke_then, did_list, did_then}
+use Rattle.std.proofs.lemmas.List.Elements.{All-cons}
+use Rattle.debug_model.specs.declared.dmi_op.DmiOp.{DmiOp}
 
 -- ---- some calls
 
@@ -61,8 +63,15 @@ calls acts old new did = record { acts = acts; did = did }
 pub calls_then : (a b c : Tells) → Calls a b → Calls b c → Calls a c
 calls_then a b c p q = record { acts = p.acts ++ q.acts; did = did_then p.acts a b p.did q.acts c q.did }
 
+apart_calls : (number value : ℕ) (a b : Tells) → ReadApart number value a b → Calls a b
+apart_calls number value a b r = calls_then a r.mid b (calls _ a r.mid r.ran.ran.did) (calls _ r.mid b r.words.did)
+
+early_calls : (number : ℕ) (a b : Tells) → ReadTooEarly number a b → Calls a b
+early_calls number a b r = calls _ a b r.ended.did
+
 read_calls : (number value : ℕ) (a b : Tells) → RegisterRead number value a b → Calls a b
-read_calls number value a b r = calls_then a r.mid b (calls _ a r.mid r.ran.ran.did) (calls _ r.mid b r.words.did)
+read_calls number value a b (RegisterRead.at_once r) = calls _ a b r.ended.did
+read_calls number value a b (RegisterRead.late mid early r) = calls_then a mid b (early_calls number a mid early) (apart_calls number value mid b r)
 
 written_calls : (number value : ℕ) (a b : Tells) → RegisterWritten number value a b → Calls a b
 written_calls number value a b r = calls _ a b r.ran.did
@@ -266,22 +275,37 @@ causes_same a b c p count new_count access_fault.StillBusy later f = causes_behi
 causes_same a b c p count new_count (access_fault.Run why) later f = f
 causes_same a b c p count new_count (access_fault.Odd shown) later f = causes_behind a b c p 0 0 0 (access_fault.Odd shown) (omega arith) (omega arith) f
 
-read_at_causes : (number count new_count : ℕ) (a b : Tells) (why : DmiFault) → count ≤ new_count
-    → ReadFailedAt number count new_count a b (access_fault.Dmi why) → Causes count new_count a b (access_fault.Dmi why)
-read_at_causes number count new_count a b why later (read_in_command _ f) =
+apart_at_causes : (number count new_count : ℕ) (a b : Tells) (why : DmiFault) → count ≤ new_count
+    → ReadApartFailedAt number count new_count a b (access_fault.Dmi why) → Causes count new_count a b (access_fault.Dmi why)
+apart_at_causes number count new_count a b why later (read_in_command _ f) =
     command_causes [] (transfer_word false number) count new_count a b (access_fault.Dmi why) f
-read_at_causes number count new_count a b why later (read_in_words mid ran _ f) =
+apart_at_causes number count new_count a b why later (read_in_words mid ran _ f) =
     causes_same a mid b (calls _ a mid ran.ran.did) count new_count (access_fault.Dmi why) later (f.acts, f.failed, f.broke)
+
+apart_causes : (number count new_count : ℕ) (a b : Tells) (e : AccessFault) → LinkLater count new_count e → ReadApartFailed number count new_count a b e
+    → Causes count new_count a b e
+apart_causes number count new_count a b (access_fault.Dmi why) later f = apart_at_causes number count new_count a b why later f
+apart_causes number count new_count a b (access_fault.Memory address) later f = absurd f
+apart_causes number count new_count a b (access_fault.Register asked) later f = ran_denied [] false number asked a b f.same f.ran
+apart_causes number count new_count a b (access_fault.Run why) later f = f
+apart_causes number count new_count a b access_fault.StillBusy later f =
+    command_causes [] (transfer_word false number) count new_count a b access_fault.StillBusy f
+apart_causes number count new_count a b (access_fault.Odd shown) later f = ran_oddly [] (transfer_word false number) shown a b f
+
+behind_causes : (Front : List Act → Type 0) (op : DmiOp) (ops : List DmiOp) (count new_count : ℕ) (a b : Tells) (e : AccessFault)
+    → EndBehindFailed Front op ops count new_count a b e → Causes count new_count a b e
+behind_causes Front op ops count new_count a b (access_fault.Dmi why) f = (f.acts, f.failed, f.broke)
+behind_causes Front op ops count new_count a b (access_fault.Memory address) f = absurd f
+behind_causes Front op ops count new_count a b (access_fault.Register asked) f = absurd f
+behind_causes Front op ops count new_count a b access_fault.StillBusy f = record { front = f.front; busy = f.busy }
+behind_causes Front op ops count new_count a b (access_fault.Run why) f = f
+behind_causes Front op ops count new_count a b (access_fault.Odd shown) f = absurd f
 
 read_causes : (number count new_count : ℕ) (a b : Tells) (e : AccessFault) → LinkLater count new_count e → ReadFailed number count new_count a b e
     → Causes count new_count a b e
-read_causes number count new_count a b (access_fault.Dmi why) later f = read_at_causes number count new_count a b why later f
-read_causes number count new_count a b (access_fault.Memory address) later f = absurd f
-read_causes number count new_count a b (access_fault.Register asked) later f = ran_denied [] false number asked a b f.same f.ran
-read_causes number count new_count a b (access_fault.Run why) later f = f
-read_causes number count new_count a b access_fault.StillBusy later f =
-    command_causes [] (transfer_word false number) count new_count a b access_fault.StillBusy f
-read_causes number count new_count a b (access_fault.Odd shown) later f = ran_oddly [] (transfer_word false number) shown a b f
+read_causes number count new_count a b e later (ReadFailed.asking f) = behind_causes (Asks number) _ _ count new_count a b e f
+read_causes number count new_count a b e later (ReadFailed.late mid early f) =
+    causes_same a mid b (early_calls number a mid early) count new_count e later (apart_causes number count new_count mid b e later f)
 
 write_causes : (number value count new_count : ℕ) (a b : Tells) (e : AccessFault) → LinkLater count new_count e
     → WriteFailed number value count new_count a b e → Causes count new_count a b e
@@ -386,18 +410,32 @@ store_around_calls size address value a b r =
 
 more_fetched : (values : List ℕ) (acts more : List Act) → Fetches values acts → Fetches values (acts ++ more)
 more_fetched _ _ more (none_fetched acts) = none_fetched (acts ++ more)
-more_fetched _ _ more (fetched_further values front rest words last low high before idle fine read) =
+more_fetched _ _ more (polled_first values front rest words last low high before idle fine read) =
     subst (λ xs. Fetches (values ++ joined low high ∷ []) xs)
     (sym (append_assoc front (poll_act last ∷ (words ++ rest)) more ∙ ap (λ xs. front ++ poll_act last ∷ xs) (append_assoc words rest more)))
-    (fetched_further values front (rest ++ more) words last low high before idle fine read)
+    (polled_first values front (rest ++ more) words last low high before idle fine read)
+more_fetched _ _ more (polled_behind values front words between rest last low high before read leaves idle fine) =
+    subst (λ xs. Fetches (values ++ joined low high ∷ []) xs)
+    (sym (append_assoc front (words ++ (between ++ poll_act last ∷ rest)) more
+    ∙ ap (λ xs. front ++ xs) (append_assoc words (between ++ poll_act last ∷ rest) more)
+    ∙ ap (λ xs. front ++ (words ++ xs)) (append_assoc between (poll_act last ∷ rest) more)))
+    (polled_behind values front words between (rest ++ more) last low high before read leaves idle fine)
 
 pub fetched_none : (told : Tells) → Fetched [] told told
 fetched_none told = record { acts = []; did = nothing; fetches = none_fetched [] }
 
+fetched_calls : (values : List ℕ) (old mid new : Tells) → Fetched values old mid → Calls mid new → Fetched values old new
+fetched_calls values old mid new f p = record {
+  acts = f.acts ++ p.acts;
+  did = did_then f.acts old mid f.did p.acts new p.did;
+  fetches =
+      more_fetched values f.acts p.acts f.fetches;
+}
+
 -- the poll in front of the words of a register that was read
-register_fetched : (number value : ℕ) (values : List ℕ) (old mid new : Tells) → Fetched values old mid → RegisterRead number value mid new
+apart_fetched : (number value : ℕ) (values : List ℕ) (old mid new : Tells) → Fetched values old mid → ReadApart number value mid new
     → Fetched (values ++ value ∷ []) old new
-register_fetched number value values old mid new f r =
+apart_fetched number value values old mid new f r =
     let last : ℕ = r.ran.last in
     let polls : List Act = Put command_address (transfer_word false number) ∷ map poll_act r.ran.ran.words in
     let words : List Act = Got data0_address r.words.low ∷ Got data1_address r.words.high ∷ [] in
@@ -416,17 +454,35 @@ register_fetched number value values old mid new f r =
       did = did_list (f.acts ++ (polls ++ poll_act last ∷ (words ++ []))) ((f.acts ++ polls) ++ poll_act last ∷ (words ++ [])) old new
           (sym (append_assoc f.acts polls (poll_act last ∷ (words ++ [])))) all;
       fetches = subst (λ v. Fetches (values ++ v ∷ []) ((f.acts ++ polls) ++ poll_act last ∷ (words ++ []))) (sym r.words.is)
-          (fetched_further values (f.acts ++ polls) [] words last r.words.low r.words.high (more_fetched values f.acts polls f.fetches) r.ran.ran.idle
+          (polled_first values (f.acts ++ polls) [] words last r.words.low r.words.high (more_fetched values f.acts polls f.fetches) r.ran.ran.idle
           r.ran.error_is lower_first);
     }
 
-fetched_calls : (values : List ℕ) (old mid new : Tells) → Fetched values old mid → Calls mid new → Fetched values old new
-fetched_calls values old mid new f p = record {
-  acts = f.acts ++ p.acts;
-  did = did_then f.acts old mid f.did p.acts new p.did;
-  fetches =
-      more_fetched values f.acts p.acts f.fetches;
-}
+-- or behind them
+polls_leave : (words : List ℕ) → All LeavesError (map poll_act words)
+polls_leave [] = λ k d h. absurd (omega arith)
+polls_leave (w ∷ words) = All-cons LeavesError (poll_act w) (map poll_act words) tt (polls_leave words)
+
+at_once_fetched : (number value : ℕ) (values : List ℕ) (old mid new : Tells) → Fetched values old mid → ReadAtOnce number value mid new
+    → Fetched (values ++ value ∷ []) old new
+at_once_fetched number value values old mid new f r =
+    let command : List Act = Put command_address (transfer_word false number) ∷ [] in
+    let words : List Act = Got data1_address r.high ∷ Got data0_address r.low ∷ [] in
+    let tail : List Act = words ++ (map poll_act r.ended.words ++ poll_act r.last ∷ clearing (error_shown r.last)) in
+    record {
+      acts = (f.acts ++ command) ++ tail;
+      did = did_list (f.acts ++ (command ++ tail)) ((f.acts ++ command) ++ tail) old new (sym (append_assoc f.acts command tail))
+          (did_then f.acts old mid f.did (command ++ tail) new r.ended.did);
+      fetches = subst (λ v. Fetches (values ++ v ∷ []) ((f.acts ++ command) ++ tail)) (sym r.is)
+          (polled_behind values (f.acts ++ command) words (map poll_act r.ended.words) (clearing (error_shown r.last)) r.last r.low r.high
+          (more_fetched values f.acts command f.fetches) upper_first (polls_leave r.ended.words) r.ended.idle r.error_is);
+    }
+
+register_fetched : (number value : ℕ) (values : List ℕ) (old mid new : Tells) → Fetched values old mid → RegisterRead number value mid new
+    → Fetched (values ++ value ∷ []) old new
+register_fetched number value values old mid new f (RegisterRead.at_once r) = at_once_fetched number value values old mid new f r
+register_fetched number value values old mid new f (RegisterRead.late m early r) =
+    apart_fetched number value values old m new (fetched_calls values old mid m f (early_calls number mid m early)) r
 
 pub fetched_more : (size : Size) (address value : ℕ) (values : List ℕ) (old mid new : Tells) → Fetched values old mid → LoadRun size address value mid new
     → Fetched (values ++ value ∷ []) old new

@@ -25,12 +25,13 @@ use Rattle.probe_access.specs.StepRuns.{FlagFailed, of_run, with_flag}
 use Rattle.probe_access.specs.StepRuns.FlagFailed.{at_read, at_write}
 use Rattle.probe_access.proofs.AccessTold.{held_as}
 use Rattle.probe_access.proofs.CutClauses.{cut_left}
-use Rattle.probe_access.proofs.CutHarts.{Hung, Written, hung_map, read_hung, write_hung}
+use Rattle.probe_access.proofs.CutHarts.{Written, read_hung, write_hung}
 use Rattle.probe_access.proofs.CutSites.{cut_always, if_cut}
 use Rattle.probe_access.proofs.RegAnswers.{ReadTold, StoodTold, read_told}
 use Rattle.probe_access.proofs.RegClauses.{first_told}
 use Rattle.probe_access.proofs.StepLemmas.{flag_written}
 use Rattle.probe_access.proofs.StopClauses.{dcsr_held}
+use Rattle.probe_access.proofs.CutHung.{Hung, hung_map}
 
 -- ---- blocks
 

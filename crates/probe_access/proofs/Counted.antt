@@ -1,5 +1,5 @@
 -- A fault is as well a fault since an earlier count of faults.
-use Rattle.std.proofs.Common.{◌≤◌, ℕ, List, [], true, false}
+use Rattle.std.proofs.Common.{◌≤◌, ℕ, List, [], true, false, ◌≡◌, Option, None, subst}
 use Rattle.rv_model.specs.declared.size.Size.{Size}
 use Rattle.probe_access.specs.declared.fault.AccessFault.{AccessFault}
 use Rattle.probe_access.specs.declared.fault.AccessFault.TheVariants as access_fault
@@ -29,9 +29,10 @@ use Rattle.probe_access.specs.MemoryRuns.PerformFailed.{in_run, faulted, oddly}
 use Rattle.probe_access.specs.MemoryRuns.PutBackFailed.{at_x8 as put_x8, at_x9 as put_x9}
 use Rattle.probe_access.specs.MemoryRuns.SaveFailed.{at_x8 as save_x8, at_x9 as save_x9}
 use Rattle.probe_access.specs.MemoryRuns.StoreFailedInside.{performing as store_performing, writing as store_writing}
-use Rattle.probe_access.specs.RegisterRuns.{DoubleReads, ReadFailed, ReadFailedAt, WriteFailed, double_written}
-use Rattle.probe_access.specs.RegisterRuns.ReadFailedAt.{in_command as read_in_command, in_words as read_in_words}
+use Rattle.probe_access.specs.RegisterRuns.{Asks, DoubleReads, ReadApartFailed, ReadApartFailedAt, ReadFailed, WriteFailed, double_written, AskedAtOnce, ReadTooEarly}
+use Rattle.probe_access.specs.RegisterRuns.ReadApartFailedAt.{in_command as read_in_command, in_words as read_in_words}
 use Rattle.probe_access.specs.RegisterAccess.{load_word, program_word, transfer_word, x8_number, x9_number}
+use Rattle.probe_access.proofs.AskCalls.{behind_counted}
 use Rattle.probe_access.proofs.RegisterCalls.{broke_counted}
 
 pub command_counted : (front : List Act) (word count mid_count new_count : ℕ) (old new : Tells) (e : AccessFault) → count ≤ mid_count → mid_count ≤ new_count
@@ -44,22 +45,38 @@ command_counted front word count mid_count new_count old new access_fault.StillB
 command_counted front word count mid_count new_count old new (access_fault.Run why) le later f = f
 command_counted front word count mid_count new_count old new (access_fault.Odd shown) le later f = f
 
-read_at_counted : (number count mid_count new_count : ℕ) (old new : Tells) (e : AccessFault) → count ≤ mid_count → mid_count ≤ new_count
-    → ReadFailedAt number mid_count new_count old new e → ReadFailedAt number count new_count old new e
-read_at_counted number count mid_count new_count old new e le later (read_in_command _ f) =
+apart_at_counted : (number count mid_count new_count : ℕ) (old new : Tells) (e : AccessFault) → count ≤ mid_count → mid_count ≤ new_count
+    → ReadApartFailedAt number mid_count new_count old new e → ReadApartFailedAt number count new_count old new e
+apart_at_counted number count mid_count new_count old new e le later (read_in_command _ f) =
     read_in_command e (command_counted [] (transfer_word false number) count mid_count new_count old new e le later f)
-read_at_counted number count mid_count new_count old new e le later (read_in_words mid ran why b) =
+apart_at_counted number count mid_count new_count old new e le later (read_in_words mid ran why b) =
     read_in_words mid ran why (broke_counted (Among DoubleReads) count mid_count new_count mid new.far why le later b)
+
+apart_counted : (number count mid_count new_count : ℕ) (old new : Tells) (e : AccessFault) → count ≤ mid_count → mid_count ≤ new_count
+    → ReadApartFailed number mid_count new_count old new e → ReadApartFailed number count new_count old new e
+apart_counted number count mid_count new_count old new (access_fault.Dmi why) le later f =
+    apart_at_counted number count mid_count new_count old new (access_fault.Dmi why) le later f
+apart_counted number count mid_count new_count old new (access_fault.Memory address) le later f = f
+apart_counted number count mid_count new_count old new (access_fault.Register asked) le later f = f
+apart_counted number count mid_count new_count old new access_fault.StillBusy le later f = f
+apart_counted number count mid_count new_count old new (access_fault.Run why) le later f = f
+apart_counted number count mid_count new_count old new (access_fault.Odd shown) le later f = f
 
 pub read_counted : (number count mid_count new_count : ℕ) (old new : Tells) (e : AccessFault) → count ≤ mid_count → mid_count ≤ new_count
     → ReadFailed number mid_count new_count old new e → ReadFailed number count new_count old new e
-read_counted number count mid_count new_count old new (access_fault.Dmi why) le later f =
-    read_at_counted number count mid_count new_count old new (access_fault.Dmi why) le later f
-read_counted number count mid_count new_count old new (access_fault.Memory address) le later f = f
-read_counted number count mid_count new_count old new (access_fault.Register asked) le later f = f
-read_counted number count mid_count new_count old new access_fault.StillBusy le later f = f
-read_counted number count mid_count new_count old new (access_fault.Run why) le later f = f
-read_counted number count mid_count new_count old new (access_fault.Odd shown) le later f = f
+read_counted number count mid_count new_count old new e le later (ReadFailed.asking f) =
+    ReadFailed.asking (behind_counted (Asks number) _ _ count mid_count new_count old new e le later f)
+read_counted number count mid_count new_count old new e le later (ReadFailed.late mid early f) =
+    ReadFailed.late mid early (apart_counted number count mid_count new_count mid new e le later f)
+
+-- it was asked for too early, and then the calls of their own failed
+pub asked_early : (number : ℕ) (answer : Option ℕ) (old new : Tells) → answer ≡ None → AskedAtOnce number answer old new → ReadTooEarly number old new
+asked_early number answer old new is r = subst (λ (o : Option ℕ). AskedAtOnce number o old new) is r
+
+pub late_failed : (number count mid_count new_count : ℕ) (old mid new : Tells) (e : AccessFault) → ReadTooEarly number old mid → count ≤ mid_count
+    → mid_count ≤ new_count → ReadApartFailed number mid_count new_count mid new e → ReadFailed number count new_count old new e
+late_failed number count mid_count new_count old mid new e early le later f =
+    ReadFailed.late mid early (apart_counted number count mid_count new_count mid new e le later f)
 
 pub write_counted : (number value count mid_count new_count : ℕ) (old new : Tells) (e : AccessFault) → count ≤ mid_count → mid_count ≤ new_count
     → WriteFailed number value mid_count new_count old new e → WriteFailed number value count new_count old new e

@@ -37,7 +37,7 @@ use Rattle.probe_access.proofs.AccessSteps.Stage.{at_transfer, at_start, in_midd
 use Rattle.probe_access.proofs.AccessTold.{Faulted, SavedTold, program_puts, saved_told, set_up, set_up_hart}
 use Rattle.probe_access.proofs.AroundTold.{FaultInside, OnlyMemory, recovered}
 use Rattle.probe_access.proofs.Aside.{Frozen, accessed, aside, passed}
-use Rattle.probe_access.proofs.CutHarts.{Hung, HungAt, PutBack, Written, back_hung, clear_cut, hung_map, hung_stood, read_hung, save_hung, write_hung}
+use Rattle.probe_access.proofs.CutHarts.{PutBack, Written, back_hung, clear_cut, read_hung, save_hung, write_hung}
 use Rattle.probe_access.proofs.CutSites.{CommandCutAt, CommandCutTold, command_cut_told, if_cut, recovers_uncut}
 use Rattle.probe_access.proofs.CutSites.CommandCutAt.{unsent, sent, ended}
 use Rattle.probe_access.proofs.LoadClauses.{LoadWent, load_decides, load_faulted, load_went, x8_read}
@@ -52,6 +52,7 @@ use Rattle.probe_access.proofs.Turns.{set-swap, stays_passed}
 use Rattle.probe_access.proofs.WordAccess.{LoadFaults, Loads, StoreFaults, Stores, store_did}
 use Rattle.probe_access.proofs.WordLemmas.{program_back}
 use Rattle.probe_run.specs.Opening.{clears_cmderr}
+use Rattle.probe_access.proofs.CutHung.{Hung, HungAt, hung_map, hung_stood}
 
 -- ---- before or behind the access
 

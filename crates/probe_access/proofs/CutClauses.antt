@@ -25,7 +25,7 @@ use Rattle.probe_access.specs.RegisterAccess.{x9_number}
 use Rattle.probe_access.proofs.Aside.{accessed, passed}
 use Rattle.probe_access.proofs.CutAccess.{AnyScratch, HungInside, InsideAt, around_hung, load_hung, store_cut}
 use Rattle.probe_access.proofs.CutAccess.InsideAt.{not_yet, made}
-use Rattle.probe_access.proofs.CutHarts.{Hung, HungAt, back_hung, read_hung, save_hung, write_hung}
+use Rattle.probe_access.proofs.CutHarts.{back_hung, read_hung, save_hung, write_hung}
 use Rattle.probe_access.proofs.CutSites.{cut_always, if_cut}
 use Rattle.probe_access.proofs.LoadClauses.{fits_of}
 use Rattle.probe_access.proofs.ReadyTurns.{Passed, passed_turns}
@@ -33,6 +33,7 @@ use Rattle.probe_access.proofs.RegAnswers.{ReadTold, StoodTold, read_told}
 use Rattle.probe_access.proofs.RegClauses.{first_told}
 use Rattle.probe_access.proofs.ScratchLemmas.{with_core_x, x8_written, x9_written}
 use Rattle.probe_access.proofs.WordAccess.{StoreFaults}
+use Rattle.probe_access.proofs.CutHung.{Hung, HungAt}
 
 -- ---- hart h aside
 

@@ -22,18 +22,18 @@ use Rattle.probe_access.specs.Cuts.{IfCut}
 use Rattle.probe_access.specs.MemoryRuns.{PutBackFailed, SaveFailed}
 use Rattle.probe_access.specs.MemoryRuns.PutBackFailed.{at_x8 as put_x8, at_x9 as put_x9}
 use Rattle.probe_access.specs.MemoryRuns.SaveFailed.{at_x8 as save_x8, at_x9 as save_x9}
-use Rattle.probe_access.specs.RegisterRuns.{DoubleReads, ReadFailed, ReadFailedAt, WriteFailed, double_written}
+use Rattle.probe_access.specs.RegisterRuns.{DoubleReads, ReadFailed, ReadApartFailedAt, WriteFailed, double_written, ReadApartFailed}
 use Rattle.probe_access.specs.RegisterRuns.DoubleReads.{lower as low_read, upper as high_read}
-use Rattle.probe_access.specs.RegisterRuns.ReadFailedAt.{in_command as read_in_command, in_words as read_in_words}
+use Rattle.probe_access.specs.RegisterRuns.ReadApartFailedAt.{in_command as read_in_command, in_words as read_in_words}
 use Rattle.probe_access.specs.RegisterAccess.{transfer_command, transfer_word, x8_number, x9_number}
 use Rattle.probe_access.proofs.Aside.{Frozen, aside, passed}
 use Rattle.debug_model.specs.declared.dmi_op.DmiOp.{DmiOp}
 use Rattle.probe_run.specs.Acts.Attempt.{Operation}
-use Rattle.probe_access.proofs.CutSites.{CommandCutAt, CommandCutTold, CutAt, CutWithin, Rests, SentAt, command_cut_told, cut_within, got_cut, if_cut}
+use Rattle.probe_access.proofs.CutSites.{CommandCutAt, CommandCutTold, CutAt, CutWithin, SentAt, command_cut_told, cut_within, got_cut, if_cut}
 use Rattle.probe_access.proofs.CutSites.CommandCutAt.{unsent, sent, ended}
 use Rattle.probe_access.proofs.ReadyUnit.{Held, Kept, commands_of, done_ran, unit_of, unit_with}
-use Rattle.probe_access.proofs.RegAnswers.{CommandTold, ReadTold, StoodTold, WrittenTold, command_told, halves_joined, read_told, written_told}
-use Rattle.probe_access.proofs.RegisterTold.{Stood, TransferTold, WordPuts, double_puts, error_cleared, got_at, with_double}
+use Rattle.probe_access.proofs.RegAnswers.{CommandTold, ReadTold, StoodTold, WrittenTold, command_told, halves_joined, read_told, written_told, too_early_told}
+use Rattle.probe_access.proofs.RegisterTold.{Stood, TransferTold, WordPuts, double_puts, error_cleared, got_at, with_double, Rests}
 use Rattle.probe_access.proofs.RegisterTold.WordPuts.{no_more}
 use Rattle.probe_access.proofs.RegisterTold.TransferTold.{taken, denied}
 use Rattle.probe_access.proofs.Steps.{Between, Course, DoneAt, between_ran}
@@ -54,37 +54,8 @@ use Rattle.probe_access.proofs.TransferLemmas.TransferEnd.{took, refused}
 use Rattle.probe_access.proofs.Turns.{stays_passed}
 use Rattle.probe_access.proofs.WordLemmas.{transfer_back}
 use Rattle.probe_run.specs.Opening.{clears_cmderr}
-
--- ---- a site with hart h aside, whatever its commands are about
-
-pub record HungAt (Y : Hart → Type 0) (h : ℕ) (bus : BusUnit) (base t : Site) : Type 0 where
-  pub unit : DebugModule
-  pub bus_is : unit.bus ≡ bus
-  pub hart : Hart
-  pub one : Y hart
-  pub harts : List ℕ
-  pub at : t ≡ aside unit h hart (passed harts base)
-
-pub record Hung (Y : Hart → Type 0) (h : ℕ) (bus : BusUnit) (base : Site) (told : Option Far) : Type 0 where
-  pub far : Far
-  pub is : told ≡ Some far
-  pub hung : HungAt Y h bus base (site_of far)
-
-pub hung_map : (Y Z : Hart → Type 0) (h : ℕ) (bus : BusUnit) (base : Site) (told : Option Far) → ((z : Hart) → Y z → Z z) → Hung Y h bus base told
-    → Hung Z h bus base told
-hung_map Y Z h bus base told f p = record {
-  far = p.far;
-  is = p.is;
-  hung = record { unit = p.hung.unit; bus_is = p.hung.bus_is; hart = p.hung.hart; one = f p.hung.hart p.hung.one; harts = p.hung.harts; at = p.hung.at };
-}
-
-pub hung_done : (Y : Hart → Type 0) (n : DebugModule) (h : ℕ) (bus : BusUnit) (y : Hart) (base t : Site) → n.bus ≡ bus → Y y → DoneAt n h y base t
-    → HungAt Y h bus base t
-hung_done Y n h bus y base t bus_is one d = record { unit = n; bus_is = bus_is; hart = y; one = one; harts = d.harts; at = d.is }
-
-pub hung_stood : (Y : Hart → Type 0) (h : ℕ) (bus : BusUnit) (y : Hart) (base : Site) (w : Hart) (k : Kept) (t : Site) → Y y → Stood h bus y base w k t
-    → HungAt Y h bus base t
-hung_stood Y h bus y base w k t one st = hung_done Y (unit_of k h bus) h bus y base t refl one st.at
+use Rattle.probe_access.proofs.CutHung.{Hung, HungAt, between_hung, hung_done, hung_map, hung_stood}
+use Rattle.probe_access.proofs.CutAtOnce.{asking_hung}
 
 -- ---- an error that is cleared, or not yet
 
@@ -102,11 +73,6 @@ clear_cut Y last h bus y base w k mid t is held fy idle one d (was_performed res
 
 abbrev pub Either : Bool → ℕ → Kept → Hart → Hart → Type 0
 Either write number k y z = (z ≡ y) ⊎ (z ≡ hart_behind write number k y)
-
-between_hung : (Y : Hart → Type 0) (m n : DebugModule) (h : ℕ) (bus : BusUnit) (y z : Hart) (base t : Site) → m.bus ≡ bus → n.bus ≡ bus → Y y → Y z
-    → Between m n h y z base t → HungAt Y h bus base t
-between_hung Y m n h bus y z base t bm bn first second (still harts is) = record { unit = m; bus_is = bm; hart = y; one = first; harts = harts; at = is }
-between_hung Y m n h bus y z base t bm bn first second (done harts is) = record { unit = n; bus_is = bn; hart = z; one = second; harts = harts; at = is }
 
 sent_by : (write : Bool) (number h : ℕ) (bus : BusUnit) (y : Hart) (base : Site) (w : Hart) (k : Kept) (t : Site) (o : Option ℕ) (r : Bool) → Held h w base
     → Frozen y → number < 2 ^ 16 → bus.pending ≡ None
@@ -215,7 +181,7 @@ taken_stood number last h bus y base w k told f is (denied none error st) =
 
 read_at_hung : (number h : ℕ) (bus : BusUnit) (y : Hart) (base : Site) (w : Hart) (old_count new_count : ℕ) (old new : Tells) (why : DmiFault)
     → number < 2 ^ 16 → StoodTold h bus y base w old.far
-    → ReadFailedAt number old_count new_count old new (access_fault.Dmi why) → Hung (λ z. z ≡ y) h bus base new.far
+    → ReadApartFailedAt number old_count new_count old new (access_fault.Dmi why) → Hung (λ z. z ≡ y) h bus base new.far
 read_at_hung number h bus y base w old_count new_count old new why small st (read_in_command _ f) =
     hung_map (Either false number st.kept y) (λ z. z ≡ y) h bus base new.far (λ z e. same_either number st.kept y z e)
     (transfer_hung [] false number h bus y base w st.kept old_count new_count old new (access_fault.Dmi why) small st (no_more st.kept) f)
@@ -226,18 +192,26 @@ read_at_hung number h bus y base w old_count new_count old new why small st (rea
     let cut : CutWithin DoubleReads stood.far new.far = cut_within DoubleReads old_count new_count mid new.far why stood.far stood.is f in
     words_read_cut h bus y base w mid.far new.far cut.acts cut.op stood cut.begun cut.cut
 
+apart_hung : (number h : ℕ) (bus : BusUnit) (y : Hart) (base : Site) (w : Hart) (old_count new_count : ℕ) (old new : Tells) (e : AccessFault)
+    → number < 2 ^ 16 → StoodTold h bus y base w old.far → ReadApartFailed number old_count new_count old new e
+    → IfCut (Hung (λ z. z ≡ y) h bus base new.far) e
+apart_hung number h bus y base w old_count new_count old new (access_fault.Dmi why) small st f =
+    read_at_hung number h bus y base w old_count new_count old new why small st f
+apart_hung number h bus y base w old_count new_count old new (access_fault.Memory at) small st f = tt
+apart_hung number h bus y base w old_count new_count old new (access_fault.Register asked) small st f = tt
+apart_hung number h bus y base w old_count new_count old new access_fault.StillBusy small st f =
+    hung_map (Either false number st.kept y) (λ z. z ≡ y) h bus base new.far (λ z e. same_either number st.kept y z e)
+    (transfer_hung [] false number h bus y base w st.kept old_count new_count old new access_fault.StillBusy small st (no_more st.kept) f)
+apart_hung number h bus y base w old_count new_count old new (access_fault.Run why) small st f = tt
+apart_hung number h bus y base w old_count new_count old new (access_fault.Odd shown) small st f = tt
+
 pub read_hung : (number h : ℕ) (bus : BusUnit) (y : Hart) (base : Site) (w : Hart) (old_count new_count : ℕ) (old new : Tells) (e : AccessFault)
     → number < 2 ^ 16 → StoodTold h bus y base w old.far → ReadFailed number old_count new_count old new e
     → IfCut (Hung (λ z. z ≡ y) h bus base new.far) e
-read_hung number h bus y base w old_count new_count old new (access_fault.Dmi why) small st f =
-    read_at_hung number h bus y base w old_count new_count old new why small st f
-read_hung number h bus y base w old_count new_count old new (access_fault.Memory at) small st f = tt
-read_hung number h bus y base w old_count new_count old new (access_fault.Register asked) small st f = tt
-read_hung number h bus y base w old_count new_count old new access_fault.StillBusy small st f =
-    hung_map (Either false number st.kept y) (λ z. z ≡ y) h bus base new.far (λ z e. same_either number st.kept y z e)
-    (transfer_hung [] false number h bus y base w st.kept old_count new_count old new access_fault.StillBusy small st (no_more st.kept) f)
-read_hung number h bus y base w old_count new_count old new (access_fault.Run why) small st f = tt
-read_hung number h bus y base w old_count new_count old new (access_fault.Odd shown) small st f = tt
+read_hung number h bus y base w old_count new_count old new e small st (ReadFailed.asking f) =
+    asking_hung number h bus y base w old_count new_count old new e small st f
+read_hung number h bus y base w old_count new_count old new e small st (ReadFailed.late mid early f) =
+    apart_hung number h bus y base w old_count new_count mid new e small (too_early_told number h bus y base w old mid small st early) f
 
 -- ---- a register that is written
 

@@ -30,7 +30,7 @@ use Rattle.probe_access.proofs.Aside.{aside, passed}
 use Rattle.chip_laws.proofs.PathLemmas.{ran-append}
 use Rattle.probe_access.proofs.ReadyUnit.{Kept, OpAt, done_ran, op_at, unit_of}
 use Rattle.probe_access.proofs.RegAnswers.{StoodTold, front_stood}
-use Rattle.probe_access.proofs.RegisterTold.{Stood, WordPuts, got_at, put_at, words_put}
+use Rattle.probe_access.proofs.RegisterTold.{Rests, Stood, WordPuts, got_at, put_at, rests, words_put}
 use Rattle.probe_access.proofs.RegisterTold.WordPuts.{and_then, no_more}
 use Rattle.probe_access.proofs.TransferLemmas.{Commanded, RanAlone, commanded, polls_ran, read_status}
 use Rattle.probe_run.specs.Opening.{clears_cmderr}
@@ -91,7 +91,7 @@ cut_within Begun old_count new_count old told why f is b = by b.failed b.begun b
 
 -- ---- operations that leave the module quiet
 
-stood_ran : (h : ℕ) (bus : BusUnit) (y : Hart) (base : Site) (w : Hart) (k : Kept) (s t : Site) → Stood h bus y base w k s → DeedsAlone s t
+pub stood_ran : (h : ℕ) (bus : BusUnit) (y : Hart) (base : Site) (w : Hart) (k : Kept) (s t : Site) → Stood h bus y base w k s → DeedsAlone s t
     → Stood h bus y base w k t
 stood_ran h bus y base w k s t st d = record {
   held = st.held;
@@ -99,14 +99,6 @@ stood_ran h bus y base w k s t st d = record {
   idle = st.idle;
   at = done_ran (unit_of k h bus) h y base w d.deeds s t st.held st.frozen refl st.idle d.is st.at;
 }
-
--- it is quiet, with some words
-pub record Rests (h : ℕ) (bus : BusUnit) (y : Hart) (base : Site) (w : Hart) (t : Site) : Type 0 where
-  pub kept : Kept
-  pub stood : Stood h bus y base w kept t
-
-pub rests : (h : ℕ) (bus : BusUnit) (y : Hart) (base : Site) (w : Hart) (k : Kept) (t : Site) → Stood h bus y base w k t → Rests h bus y base w t
-rests h bus y base w k t st = record { kept = k; stood = st }
 
 pub got_cut : (a : ℕ) (h : ℕ) (bus : BusUnit) (y : Hart) (base : Site) (w : Hart) (k : Kept) (s t : Site) → Stood h bus y base w k s
     → ((z : Site) → operated (Read a) (aside (unit_of k h bus) h y z) ≡ aside (unit_of k h bus) h y z)
@@ -137,7 +129,7 @@ sent_more word n h y base s t e r = record {
   is = r.is ∙ ap (ran r.deeds) e.is ∙ sym (ran-append e.during r.deeds (after_write command_address word (aside n h y (passed e.harts base))));
 }
 
-status_cut : (s t : Site) → SiteCut (Read abstractcs_address) s t → RanAlone s t
+pub status_cut : (s t : Site) → SiteCut (Read abstractcs_address) s t → RanAlone s t
 status_cut s t (unperformed d) = record { deeds = d.deeds; is = d.is }
 status_cut s t (was_performed result o) =
     record { deeds = o.before ++ o.behind; is = o.is ∙ ap (ran o.behind) (read_status (ran o.before s)) ∙ sym (ran-append o.before o.behind s) }

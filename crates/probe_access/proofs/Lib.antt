@@ -10,6 +10,9 @@ pub mod Polls
 pub mod RegisterCalls
 pub mod SentCalls
 pub mod RegisterTold
+pub mod Errors
+pub mod AtOnceTold
+pub mod AskCalls
 pub mod ReadyTurns
 pub mod RegAnswers
 pub mod RegClauses
@@ -43,6 +46,8 @@ pub mod BlockTold
 pub mod BlockCauses
 pub mod ElementCalls
 pub mod CutSites
+pub mod CutHung
+pub mod CutAtOnce
 pub mod CutHarts
 pub mod CutClauses
 pub mod CutAccess

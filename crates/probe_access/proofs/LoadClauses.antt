@@ -27,11 +27,11 @@ use Rattle.probe_access.proofs.AroundTold.{OnlyMemory, clean_only, lost_only, on
 use Rattle.probe_access.proofs.AroundUntold.{PlainMemory, perform_plain, read_plain, write_plain}
 use Rattle.debug_model.specs.Chip.{Chip}
 use Rattle.probe_access.specs.RegisterAccess.{load_word, x8_number}
-use Rattle.probe_access.proofs.AccessEnd.{AccessEnd, access_end, access_serving, one_access, performed_untold, read_untold, ready_before, written_untold}
+use Rattle.probe_access.proofs.AccessEnd.{AccessEnd, access_end, access_serving, one_access, performed_untold, ready_before, written_untold}
 use Rattle.probe_access.proofs.AccessTold.{Faulted, PerformedTold, Went, faulted_told, held_as, ran_told, went_told}
 use Rattle.probe_access.proofs.Aside.{Frozen, accessed, passed}
 use Rattle.probe_access.proofs.ReadyTurns.{passed_turns}
-use Rattle.probe_access.proofs.RegAnswers.{ReadTold, StoodTold, WrittenTold, read_told, written_told}
+use Rattle.probe_access.proofs.RegAnswers.{ReadTold, StoodTold, WrittenTold, read_told, written_told, read_untold}
 use Rattle.probe_access.proofs.RegClauses.{first_told, untold_serving}
 use Rattle.probe_access.proofs.ScratchLemmas.{after_load, with_core_x, x8_back, x8_holds, x8_value, x8_written, x9_value}
 use Rattle.probe_access.proofs.TransferLemmas.{written_frozen}

@@ -1,5 +1,5 @@
 -- What a register that was read or written says of a told chip.
-use Rattle.std.proofs.Common.{◌≡◌, ◌∙◌, ◌<◌, ◌^◌, ◌/◌, ◌%◌, ℕ, List, [], Bool, true, false, Option, Some, is_some, refl, sym, ap, subst, arith}
+use Rattle.std.proofs.Common.{◌≡◌, ◌≢◌, ◌∙◌, ◌<◌, ◌^◌, ◌/◌, ◌%◌, ℕ, List, [], Bool, true, false, Option, Some, None, is_some, refl, sym, ap, subst, arith}
 use Rattle.rv_model.specs.Board.{Board, Hart}
 use Rattle.rv_model.specs.DebugRegisters.{debug_refuses, debug_value, debug_written}
 use Rattle.debug_model.specs.Dmi.{value_of}
@@ -10,12 +10,13 @@ use Rattle.abstract_debugger.specs.Turns.{after_turns}
 use Rattle.probe_access.specs.declared.odd.OddStatus.{OddStatus}
 use Rattle.probe_run.specs.Acts.{Act, Tells}
 use Rattle.probe_run.specs.Sites.{put_hart}
-use Rattle.probe_access.specs.CommandRuns.{RanCommand, command_acts, error_shown}
-use Rattle.probe_access.specs.RegisterRuns.{DoubleRead, RanOddly, RanTo, RegisterRead, RegisterWritten, double_written}
+use Rattle.probe_access.specs.CommandRuns.{EndedBehind, RanCommand, command_acts, error_shown}
+use Rattle.probe_access.specs.RegisterRuns.{DoubleRead, RanOddly, RanTo, ReadApart, ReadTooEarly, RegisterRead, RegisterWritten, asked_acts, double_written}
 use Rattle.probe_access.specs.Registers.{TurnsPassed, TurnsPassedBut, reaches}
 use Rattle.probe_access.specs.RegisterAccess.{joined, transfer_word}
-use Rattle.probe_access.proofs.Along.{AtSites, Split, did_sites, site_acts-split}
+use Rattle.probe_access.proofs.Along.{AtSites, Split, did_sites, did_untold, site_acts-split}
 use Rattle.probe_access.proofs.Aside.{passed}
+use Rattle.probe_access.proofs.AtOnceTold.{TouchEnd, touch_ends}
 use Rattle.probe_access.proofs.ReadyTurns.{BoardReady, Passed, board_ready_turns, passed_turns}
 use Rattle.probe_access.proofs.ReadyUnit.{Held, Kept, at_first, halted_held, kept_of, unit_of}
 use Rattle.probe_access.proofs.RegisterTold.{Stood, TransferTold, WordPuts, WordsGot, double_puts, transfer_told, words_got, words_put, with_double}
@@ -154,12 +155,61 @@ read_told_by number value last h bus y base w k mid new f is fine (taken v held 
     }
 read_told_by number value last h bus y base w k mid new f is fine (denied none error st) words = absurd (three_not_zero (error_shown last) error fine)
 
-pub read_told : (number value h : ℕ) (bus : BusUnit) (y : Hart) (base : Site) (w : Hart) (old new : Tells) → number < 2 ^ 16 → StoodTold h bus y base w old.far
-    → RegisterRead number value old new → ReadTold number value h bus y base w new.far
-read_told number value h bus y base w old new small st r =
+apart_told : (number value h : ℕ) (bus : BusUnit) (y : Hart) (base : Site) (w : Hart) (old new : Tells) → number < 2 ^ 16 → StoodTold h bus y base w old.far
+    → ReadApart number value old new → ReadTold number value h bus y base w new.far
+apart_told number value h bus y base w old new small st r =
     let c : CommandTold false number r.ran.last h bus y base w st.kept r.mid.far =
     command_told [] false number r.ran.last h bus y base w st.kept old r.mid small st (no_more st.kept) r.ran.ran in
     read_told_by number value r.ran.last h bus y base w st.kept r.mid new c.far c.is r.ran.error_is c.transfer r.words
+
+-- in one call
+pub record TouchTold (number low high last h : ℕ) (bus : BusUnit) (y : Hart) (base : Site) (w : Hart) (k : Kept) (told : Option Far) : Type 0 where
+  pub far : Far
+  pub is : told ≡ Some far
+  pub end : TouchEnd number low high last h bus y base w k (site_of far)
+
+touch_told : (number low high last h : ℕ) (bus : BusUnit) (y : Hart) (base : Site) (w : Hart) (old new : Tells) → number < 2 ^ 16
+    → (st : StoodTold h bus y base w old.far) → EndedBehind (asked_acts number low high) last old new
+    → TouchTold number low high last h bus y base w st.kept new.far
+touch_told number low high last h bus y base w old new small st e =
+    let at : AtSites _ st.far new.far = did_sites old _ new st.far e.did st.is in
+    record {
+      far = at.far;
+      is = at.is;
+      end = touch_ends number low high last h bus y base w st.kept e.words (site_of st.far) (site_of at.far) small st.stood at.acts_are e.idle;
+    }
+
+at_once_by : (number value low high last h : ℕ) (bus : BusUnit) (y : Hart) (base : Site) (w : Hart) (k : Kept) (told : Option Far) (f : Far) → told ≡ Some f
+    → TouchEnd number low high last h bus y base w k (site_of f) → error_shown last ≡ 0 → value ≡ joined low high → ReadTold number value h bus y base w told
+at_once_by number value low high last h bus y base w k told f is (TouchEnd.right v held low_is high_is error st) fine value_is = record {
+  held = v;
+  held_is = held;
+  value_is = λ small. value_is ∙ words_joined v low high small low_is high_is;
+  then = record { far = f; is = is; kept = words_behind false number v k; stood = st };
+}
+at_once_by number value low high last h bus y base w k told f is (TouchEnd.wrong error r) fine value_is = absurd (error fine)
+
+too_early_by : (number low high last h : ℕ) (bus : BusUnit) (y : Hart) (base : Site) (w : Hart) (k : Kept) (told : Option Far) (f : Far) → told ≡ Some f
+    → TouchEnd number low high last h bus y base w k (site_of f) → error_shown last ≢ 0 → StoodTold h bus y base w told
+too_early_by number low high last h bus y base w k told f is (TouchEnd.right v held low_is high_is error st) some = absurd (some error)
+too_early_by number low high last h bus y base w k told f is (TouchEnd.wrong error r) some =
+    record { far = f; is = is; kept = r.kept; stood = r.stood }
+
+pub too_early_told : (number h : ℕ) (bus : BusUnit) (y : Hart) (base : Site) (w : Hart) (old new : Tells) → number < 2 ^ 16 → StoodTold h bus y base w old.far
+    → ReadTooEarly number old new → StoodTold h bus y base w new.far
+too_early_told number h bus y base w old new small st r =
+    let t : TouchTold number r.low r.high r.last h bus y base w st.kept new.far =
+    touch_told number r.low r.high r.last h bus y base w old new small st r.ended in
+    too_early_by number r.low r.high r.last h bus y base w st.kept new.far t.far t.is t.end r.some
+
+pub read_told : (number value h : ℕ) (bus : BusUnit) (y : Hart) (base : Site) (w : Hart) (old new : Tells) → number < 2 ^ 16 → StoodTold h bus y base w old.far
+    → RegisterRead number value old new → ReadTold number value h bus y base w new.far
+read_told number value h bus y base w old new small st (RegisterRead.at_once r) =
+    let t : TouchTold number r.low r.high r.last h bus y base w st.kept new.far =
+    touch_told number r.low r.high r.last h bus y base w old new small st r.ended in
+    at_once_by number value r.low r.high r.last h bus y base w st.kept new.far t.far t.is t.end r.error_is r.is
+read_told number value h bus y base w old new small st (RegisterRead.late mid early r) =
+    apart_told number value h bus y base w mid new small (too_early_told number h bus y base w old mid small st early) r
 
 -- one that is written
 pub record WrittenTold (number value h : ℕ) (bus : BusUnit) (y : Hart) (base : Site) (w : Hart) (k : Kept) (told : Option Far) : Type 0 where
@@ -245,3 +295,10 @@ pub write_not_odd : (number value : ℕ) (shown : OddStatus) (h : ℕ) (bus : Bu
     → StoodTold h bus y base w old.far → RanOddly (double_written value) (transfer_word true number) shown old new → ⊥
 write_not_odd number value shown h bus y base w old new small st r =
     odd_told (double_written value) true number shown h bus y base w (with_double value st.kept) old new small st (double_puts value h bus y st.kept) r
+
+-- ---- of an untold chip
+
+pub read_untold : (number value : ℕ) (old new : Tells) → RegisterRead number value old new → old.far ≡ None → new.far ≡ None
+read_untold number value old new (RegisterRead.at_once r) is = did_untold old _ new r.ended.did is
+read_untold number value old new (RegisterRead.late mid early r) is =
+    did_untold r.mid _ new r.words.did (did_untold mid _ r.mid r.ran.ran.did (did_untold old _ mid early.ended.did is))

@@ -8,23 +8,12 @@ use Rattle.debug_model.specs.Told.{Far, HartHalted, IsHalted, IsReady, Selects, 
 use Rattle.probe_access.specs.declared.fault.AccessFault.{AccessFault}
 use Rattle.probe_access.specs.declared.fault.AccessFault.TheVariants as access_fault
 use Rattle.probe_run.specs.Acts.{Tells, tells}
-use Rattle.probe_access.specs.RegisterRuns.{ReadFailed, RegisterRead}
+use Rattle.probe_access.specs.RegisterRuns.{AskFailed, ReadApartFailed, ReadFailed, RegisterRead}
 use Rattle.probe_access.specs.Registers.{RegisterReadAt, IfRegister, RegisterLeft}
 use Rattle.probe_access.proofs.Along.{did_untold}
 use Rattle.probe_access.proofs.Aside.{passed}
 use Rattle.probe_access.proofs.ReadyUnit.{kept_of, unit_of}
-use Rattle.probe_access.proofs.RegAnswers.{
-  DeniedTold,
-  ReadTold,
-  StoodTold,
-  first_stood,
-  read_denied,
-  read_not_odd,
-  read_told,
-  stood_passed,
-  stood_ready,
-  stood_selects,
-}
+use Rattle.probe_access.proofs.RegAnswers.{DeniedTold, ReadTold, StoodTold, first_stood, read_denied, read_not_odd, read_told, stood_passed, stood_ready, stood_selects, read_untold, too_early_told}
 use Rattle.probe_access.proofs.Turns.{stays_passed, hart_aside}
 
 -- ---- the start
@@ -66,8 +55,7 @@ pub record RegOk (h number value : ℕ) (old new : Option Far) : Type 0 where
 pub reg_ok : (h number value : ℕ) (far : Option Far) (coming : Option DmiComing) (new : Tells) → number < 2 ^ 16 → IsReady far → Selects h far → IsHalted h far
     → RegisterRead number value (tells far coming) new → RegOk h number value far new.far
 reg_ok h number value None coming new small ready selects halted r =
-    let mid : r.mid.far ≡ None = did_untold (tells None coming) _ r.mid r.ran.ran.did refl in
-    let end : new.far ≡ None = did_untold r.mid _ new r.words.did mid in
+    let end : new.far ≡ None = read_untold number value (tells None coming) new r refl in
     record { got = end; serving = untold_serving h new.far end }
 reg_ok h number value (Some f) coming new small ready selects halted r =
     let t : ReadTold number value h (site_of f).unit.bus halted.hart (site_of f) halted.hart new.far =
@@ -105,23 +93,49 @@ reg_denied write h number asked f new ready halted t = record {
   serving = stood_serving h f ready halted new.far t.then;
 }
 
+apart_err : (h number : ℕ) (f : Far) (old_count new_count : ℕ) (mid new : Tells) (e : AccessFault) → number < 2 ^ 16 → (ready : SiteReady (site_of f))
+    → (halted : HartHalted h (site_of f).board) → StoodTold h (site_of f).unit.bus halted.hart (site_of f) halted.hart mid.far
+    → ReadApartFailed number old_count new_count mid new e → RegErr false h number (Some f) new.far e
+apart_err h number c old_count new_count mid new (access_fault.Dmi why) small ready halted st f = record { left = tt; serving = tt }
+apart_err h number c old_count new_count mid new (access_fault.Memory address) small ready halted st f = absurd f
+apart_err h number c old_count new_count mid new (access_fault.Register asked) small ready halted st f =
+    reg_denied false h number asked c new ready halted
+    (read_denied number h (site_of c).unit.bus halted.hart (site_of c) halted.hart mid new small st f.ran)
+apart_err h number c old_count new_count mid new access_fault.StillBusy small ready halted st f = record { left = tt; serving = tt }
+apart_err h number c old_count new_count mid new (access_fault.Run why) small ready halted st f = absurd f
+apart_err h number c old_count new_count mid new (access_fault.Odd shown) small ready halted st f =
+    absurd (read_not_odd number shown h (site_of c).unit.bus halted.hart (site_of c) halted.hart mid new small st f)
+
+asking_err : (h number old_count new_count : ℕ) (far : Option Far) (old new : Tells) (e : AccessFault) → AskFailed number old_count new_count old new e
+    → RegErr false h number far new.far e
+asking_err h number old_count new_count far old new (access_fault.Dmi why) f = record { left = tt; serving = tt }
+asking_err h number old_count new_count far old new (access_fault.Memory address) f = absurd f
+asking_err h number old_count new_count far old new (access_fault.Register asked) f = absurd f
+asking_err h number old_count new_count far old new access_fault.StillBusy f = record { left = tt; serving = tt }
+asking_err h number old_count new_count far old new (access_fault.Run why) f = absurd f
+asking_err h number old_count new_count far old new (access_fault.Odd shown) f = absurd f
+
+untold_err : (h number old_count new_count : ℕ) (mid new : Tells) (e : AccessFault) → mid.far ≡ None → ReadApartFailed number old_count new_count mid new e
+    → RegErr false h number None new.far e
+untold_err h number old_count new_count mid new (access_fault.Dmi why) none f = record { left = tt; serving = tt }
+untold_err h number old_count new_count mid new (access_fault.Memory address) none f = absurd f
+untold_err h number old_count new_count mid new (access_fault.Register asked) none f =
+    let end : new.far ≡ None = did_untold mid _ new f.ran.ran.did none in record { left = end; serving = untold_serving h new.far end }
+untold_err h number old_count new_count mid new access_fault.StillBusy none f = record { left = tt; serving = tt }
+untold_err h number old_count new_count mid new (access_fault.Run why) none f = absurd f
+untold_err h number old_count new_count mid new (access_fault.Odd shown) none f = record { left = refl; serving = tt }
+
 pub reg_err : (h number : ℕ) (far : Option Far) (coming : Option DmiComing) (old_count new_count : ℕ) (new : Tells) (e : AccessFault) → number < 2 ^ 16
     → IsReady far → Selects h far → IsHalted h far
     → ReadFailed number old_count new_count (tells far coming) new e → RegErr false h number far new.far e
-reg_err h number far coming old_count new_count new (access_fault.Dmi why) small ready selects halted f = record { left = tt; serving = tt }
-reg_err h number far coming old_count new_count new (access_fault.Memory address) small ready selects halted f = absurd f
-reg_err h number None coming old_count new_count new (access_fault.Register asked) small ready selects halted f =
-    let end : new.far ≡ None = did_untold (tells None coming) _ new f.ran.ran.did refl in record { left = end; serving = untold_serving h new.far end }
-reg_err h number (Some c) coming old_count new_count new (access_fault.Register asked) small ready selects halted f =
-    reg_denied false h number asked c new ready halted
-    (read_denied number h (site_of c).unit.bus halted.hart (site_of c) halted.hart (tells (Some c) coming) new small (first_told h c ready halted selects)
-    f.ran)
-reg_err h number far coming old_count new_count new access_fault.StillBusy small ready selects halted f = record { left = tt; serving = tt }
-reg_err h number far coming old_count new_count new (access_fault.Run why) small ready selects halted f = absurd f
-reg_err h number None coming old_count new_count new (access_fault.Odd shown) small ready selects halted f = record { left = refl; serving = tt }
-reg_err h number (Some c) coming old_count new_count new (access_fault.Odd shown) small ready selects halted f =
-    absurd (read_not_odd number shown h (site_of c).unit.bus halted.hart (site_of c) halted.hart (tells (Some c) coming) new small
-    (first_told h c ready halted selects) f)
+reg_err h number far coming old_count new_count new e small ready selects halted (ReadFailed.asking f) =
+    asking_err h number old_count new_count far (tells far coming) new e f
+reg_err h number None coming old_count new_count new e small ready selects halted (ReadFailed.late mid early f) =
+    untold_err h number old_count new_count mid new e (did_untold (tells None coming) _ mid early.ended.did refl) f
+reg_err h number (Some c) coming old_count new_count new e small ready selects halted (ReadFailed.late mid early f) =
+    apart_err h number c old_count new_count mid new e small ready halted
+    (too_early_told number h (site_of c).unit.bus halted.hart (site_of c) halted.hart (tells (Some c) coming) mid small (first_told h c ready halted selects)
+    early) f
 
 pub if_register : (P Q : Type 0) (e : AccessFault) → (P → Q) → IfRegister P e → IfRegister Q e
 if_register P Q (access_fault.Dmi why) f p = tt

@@ -67,8 +67,8 @@ use Rattle.probe_access.specs.CommandRuns.{
 use Rattle.probe_access.specs.CommandRuns.CommandBegun.{clears, polls}
 use Rattle.probe_access.specs.CommandRuns.EndBegun.{clears as end_clears, polls as end_polls}
 use Rattle.probe_access.specs.Faults.{Among, BrokeIn}
-use Rattle.probe_access.specs.RegisterRuns.{DoubleReads, ReadFailed, WriteFailed, double_written}
-use Rattle.probe_access.specs.RegisterRuns.ReadFailedAt.{in_command as read_in_command, in_words as read_in_words}
+use Rattle.probe_access.specs.RegisterRuns.{DoubleReads, ReadApartFailed, WriteFailed, double_written}
+use Rattle.probe_access.specs.RegisterRuns.ReadApartFailedAt.{in_command as read_in_command, in_words as read_in_words}
 use Rattle.probe_run.specs.Acts.Did.{nothing}
 use Rattle.probe_access.specs.RegisterAccess.{transfer_word}
 use Rattle.probe_run.proofs.ActLemmas.{broke_list, broke_one, broke_then, did_list, did_one, did_then, did_together}
@@ -229,7 +229,7 @@ fault_failed (Err x) e P is p = subst P (sym is) p
 -- ---- a register
 
 pub read_command_failed : (number : ℕ) (e : AccessFault) (old_count new_count : ℕ) (old new : Tells)
-    → CommandFailed [] (transfer_word false number) old_count new_count old new e → ReadFailed number old_count new_count old new e
+    → CommandFailed [] (transfer_word false number) old_count new_count old new e → ReadApartFailed number old_count new_count old new e
 read_command_failed number (access_fault.Dmi why) old_count new_count old new f = read_in_command (access_fault.Dmi why) f
 read_command_failed number (access_fault.Memory address) old_count new_count old new f = f
 read_command_failed number (access_fault.Register asked) old_count new_count old new f = absurd f
@@ -239,7 +239,7 @@ read_command_failed number (access_fault.Odd shown) old_count new_count old new 
 
 pub read_words_failed : (number last : ℕ) (why : DmiFault) (count mid_count new_count : ℕ) (old mid new : Tells)
     → RanCommand [] (transfer_word false number) last old mid → error_shown last ≡ 0 → count ≤ mid_count → mid_count ≤ new_count
-    → BrokeIn (Among DoubleReads) mid_count new_count mid new.far why → ReadFailed number count new_count old new (access_fault.Dmi why)
+    → BrokeIn (Among DoubleReads) mid_count new_count mid new.far why → ReadApartFailed number count new_count old new (access_fault.Dmi why)
 read_words_failed number last why count mid_count new_count old mid new ran fine le later b =
     read_in_words mid (record { last = last; ran = ran; error_is = fine }) why
     (broke_counted (Among DoubleReads) count mid_count new_count mid new.far why le later b)

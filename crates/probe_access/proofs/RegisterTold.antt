@@ -40,6 +40,14 @@ pub record Stood (h : ℕ) (bus : BusUnit) (y : Hart) (base : Site) (w : Hart) (
   pub idle : bus.pending ≡ None
   pub at : DoneAt (unit_of k h bus) h y base s
 
+-- it is quiet, with some words
+pub record Rests (h : ℕ) (bus : BusUnit) (y : Hart) (base : Site) (w : Hart) (t : Site) : Type 0 where
+  pub kept : Kept
+  pub stood : Stood h bus y base w kept t
+
+pub rests : (h : ℕ) (bus : BusUnit) (y : Hart) (base : Site) (w : Hart) (k : Kept) (t : Site) → Stood h bus y base w k t → Rests h bus y base w t
+rests h bus y base w k t st = record { kept = k; stood = st }
+
 -- ---- one operation
 
 -- a read that changes nothing

@@ -46,7 +46,7 @@ command_broke wrote word old_count new_count old told why is cut cause =
 
 -- ---- behind the words of a value
 
-four_acts : (a b c d : DmiOp) (results : List ℕ) (z : ℕ) → length results ≡ 4
+pub four_acts : (a b c d : DmiOp) (results : List ℕ) (z : ℕ) → length results ≡ 4
     → acts_of (a ∷ b ∷ c ∷ d ∷ []) results
     ≡ op_act a (slice_index_or results 0 z) ∷ op_act b (slice_index_or results 1 z) ∷ op_act c (slice_index_or results 2 z) ∷ op_act d
     (slice_index_or results 3 z) ∷ []
@@ -60,7 +60,7 @@ four_acts a b c d (p ∷ q ∷ r ∷ s ∷ t ∷ xs) z all = absurd (omega arith
 abbrev with_ops : ℕ → ℕ → ℕ → List DmiOp
 with_ops low high wrote = Write data0_address low ∷ Write data1_address high ∷ Write command_address wrote ∷ Read abstractcs_address ∷ []
 
-four_small : (a b c d : DmiOp) → IsOperation a → IsOperation b → IsOperation c → IsOperation d → All IsOperation (a ∷ b ∷ c ∷ d ∷ [])
+pub four_small : (a b c d : DmiOp) → IsOperation a → IsOperation b → IsOperation c → IsOperation d → All IsOperation (a ∷ b ∷ c ∷ d ∷ [])
 four_small a b c d p q r s = All-cons IsOperation a (b ∷ c ∷ d ∷ []) p (All-cons IsOperation b (c ∷ d ∷ []) q (two_small c d r s))
 
 pub with_did : (low high value wrote word : ℕ) (results : List ℕ) (old new : Tells) → low ≡ low_half value → high ≡ high_half value → wrote ≡ word

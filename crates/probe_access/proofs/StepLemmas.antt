@@ -21,11 +21,11 @@ use Rattle.probe_run.specs.Happens.{target_of}
 use Rattle.probe_access.specs.Registers.{TurnsPassedBut}
 use Rattle.probe_access.specs.SingleSteps.{FlaggedAt, with_step}
 use Rattle.probe_access.specs.StepRuns.{FlagWritten, with_flag}
-use Rattle.probe_access.proofs.AccessEnd.{read_untold, written_untold}
+use Rattle.probe_access.proofs.AccessEnd.{written_untold}
 use Rattle.probe_access.proofs.AccessTold.{held_as}
 use Rattle.probe_access.proofs.Aside.{Frozen}
 use Rattle.probe_access.proofs.ReadyUnit.{Held, halted_held}
-use Rattle.probe_access.proofs.RegAnswers.{ReadTold, WrittenTold, read_told, stood_passed_but, written_told}
+use Rattle.probe_access.proofs.RegAnswers.{ReadTold, WrittenTold, read_told, stood_passed_but, written_told, read_untold}
 use Rattle.probe_access.proofs.RegClauses.{first_told, untold_serving}
 use Rattle.probe_access.proofs.SetClauses.{set_serving, still_halted}
 use Rattle.probe_access.proofs.StopClauses.{dcsr_held, small_shown}

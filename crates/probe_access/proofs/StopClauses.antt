@@ -21,11 +21,10 @@ use Rattle.probe_access.specs.Registers.{reaches}
 use Rattle.probe_access.specs.Scratches.{ScratchLeft}
 use Rattle.probe_access.specs.Stops.{StopFailed, StopRead, StoppedAt, dpc_number}
 use Rattle.probe_access.specs.Stops.StopFailed.{at_dcsr, at_dpc}
-use Rattle.probe_access.proofs.AccessEnd.{read_untold}
 use Rattle.probe_access.proofs.AccessTold.{held_as}
 use Rattle.probe_access.proofs.AroundTold.{read_clean}
 use Rattle.probe_access.proofs.AroundUntold.{read_plain}
-use Rattle.probe_access.proofs.RegAnswers.{ReadTold, StoodTold, read_told, stood_passed}
+use Rattle.probe_access.proofs.RegAnswers.{ReadTold, StoodTold, read_told, stood_passed, read_untold}
 use Rattle.probe_access.proofs.RegClauses.{first_told, stood_serving, untold_serving}
 use Rattle.probe_access.proofs.ScratchClauses.{clean_left, plain_left}
 

@@ -1,13 +1,13 @@
 -- The calls of a block of accesses, as far as they don't depend on how the accesses are made: where its values were read, and what a fault follows.
 -- RISC-V Debug Specification 1.0, "Abstract Control and Status" and "Abstract Data 0".
-use Rattle.debug_model.specs.Addresses.{data0_address, data1_address, command_address}
-use Rattle.std.specs.Prelude.{◌≡◌, ◌≢◌, ◌++◌, ◌∷◌, ℕ, List, [], map, Bool, false}
+use Rattle.debug_model.specs.Addresses.{abstractcs_address, data0_address, data1_address, command_address}
+use Rattle.std.specs.Prelude.{◌≡◌, ◌≢◌, ◌++◌, ◌∷◌, ℕ, List, [], map, All, Bool, false}
 use Rattle.probe_access.specs.declared.fault.AccessFault.{AccessFault}
 use Rattle.probe_access.specs.declared.fault.AccessFault.TheVariants as fault
 use Rattle.probe_access.specs.declared.odd.OddStatus.{OddStatus}
 use Rattle.probe_access.specs.declared.odd.OddStatus.TheVariants.{Abstractcs}
 use Rattle.probe_run.specs.Acts.{Act, Attempt, Broke, Did, Tells}
-use Rattle.probe_run.specs.Acts.Act.{Got, Put}
+use Rattle.probe_run.specs.Acts.Act.{Got, Put, Scanned}
 use Rattle.probe_access.specs.CommandRuns.{AlwaysBusy, error_shown, poll_act, shows_busy}
 use Rattle.probe_access.specs.RegisterRuns.{exception_error, no_error}
 use Rattle.probe_access.specs.RegisterAccess.{joined, transfer_word}
@@ -19,12 +19,22 @@ pub data WordsRead (low high : ℕ) : List Act → Type 0 where
   lower_first : WordsRead low high (Got data0_address low ∷ Got data1_address high ∷ [])
   upper_first : WordsRead low high (Got data1_address high ∷ Got data0_address low ∷ [])
 
--- each value was read from the data words, behind a poll that showed neither a command under way nor an error
+-- it clears no error: abstractcs alone is written for that
+abbrev pub LeavesError : Act → Type 0
+LeavesError (Scanned value) = Unit {0}
+LeavesError (Got address value) = Unit {0}
+LeavesError (Put address value) = address ≢ abstractcs_address
+
+-- each value was read from the data words, and a poll in front of them showed neither a command under way nor an error; or a poll behind them did, between
+-- which nothing cleared an error that a word read too early has set
 pub data Fetches : List ℕ → List Act → Type 0 where
   nothing : (acts : List Act) → Fetches [] acts
-  further : (values : List ℕ) (front rest words : List Act) (last low high : ℕ) → Fetches values front → shows_busy last ≡ false
+  polled_first : (values : List ℕ) (front rest words : List Act) (last low high : ℕ) → Fetches values front → shows_busy last ≡ false
       → error_shown last ≡ no_error → WordsRead low high words
       → Fetches (values ++ joined low high ∷ []) (front ++ poll_act last ∷ (words ++ rest))
+  polled_behind : (values : List ℕ) (front words between rest : List Act) (last low high : ℕ) → Fetches values front → WordsRead low high words
+      → All LeavesError between → shows_busy last ≡ false → error_shown last ≡ no_error
+      → Fetches (values ++ joined low high ∷ []) (front ++ (words ++ (between ++ poll_act last ∷ rest)))
 
 pub record Fetched (values : List ℕ) (old new : Tells) : Type 0 where
   pub acts : List Act

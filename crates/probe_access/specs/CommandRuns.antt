@@ -2,13 +2,14 @@
 -- RISC-V Debug Specification 1.0, "Abstract Commands" and "Abstract Control and Status". That 64 polls are too many is this project's own choice.
 use Rattle.std.specs.Prelude.{◌≡◌, ◌≢◌, ◌<◌, ◌++◌, ◌==◌, ℕ, List, [], ◌∷◌, length, map, All, Bool, true, false, if◌then◌else◌}
 use Rattle.debug_model.specs.Addresses.{abstractcs_address, command_address}
+use Rattle.debug_model.specs.declared.dmi_op.DmiOp.{DmiOp}
 use Rattle.debug_model.specs.declared.dmi_op.DmiOp.TheVariants.{Read, Write}
 use Rattle.debug_model.specs.ModuleWords.{abstractcs_of}
 use Rattle.probe_access.specs.declared.fault.AccessFault.{AccessFault}
 use Rattle.probe_access.specs.declared.fault.AccessFault.TheVariants as fault
 use Rattle.probe_run.specs.Acts.{Act, Attempt, Did, Tells}
 use Rattle.probe_run.specs.Acts.Act.{Got, Put}
-use Rattle.probe_run.specs.Acts.Attempt.{Operation}
+use Rattle.probe_run.specs.Acts.Attempt.{Operation, Several}
 use Rattle.probe_access.specs.Faults.{Among, BrokeIn}
 use Rattle.probe_run.specs.Opening.{clears_cmderr}
 
@@ -117,3 +118,34 @@ EndFailed first old_count new_count old new (fault.Register number) = ⊥
 EndFailed first old_count new_count old new (fault.Run why) = ⊥
 EndFailed first old_count new_count old new fault.StillBusy = BusyFrom first old new
 EndFailed first old_count new_count old new (fault.Odd shown) = ⊥
+
+-- ---- the end of a command whose first poll was made in one call with what came in front of it
+
+-- behind these calls polls showed a command under way, one showed the end, and an error was cleared
+pub record EndedBehind (front : List Act) (last : ℕ) (old new : Tells) : Type 0 where
+  pub words : List ℕ
+  pub vain : InVain words
+  pub idle : shows_busy last ≡ false
+  pub did : Did old (front ++ (map poll_act words ++ poll_act last ∷ clearing (error_shown last))) new
+
+-- the one call of these operations, or behind such calls a poll or the clearing
+pub data BehindBegun (Front : List Act → Type 0) (op : DmiOp) (ops : List DmiOp) : List Act → Attempt → Type 0 where
+  together : BehindBegun Front op ops [] (Several op ops)
+  polls : (front : List Act) (first : ℕ) (words : List ℕ) → Front front → InVain (first ∷ words)
+      → BehindBegun Front op ops (front ++ map poll_act (first ∷ words)) (Operation (Read abstractcs_address))
+  clears : (front : List Act) (words : List ℕ) (last : ℕ) → Front front → InVain words → shows_busy last ≡ false → error_shown last ≢ 0
+      → BehindBegun Front op ops (front ++ (map poll_act words ++ poll_act last ∷ [])) (Operation (Write abstractcs_address clears_cmderr))
+
+-- all 64 polls showed a command under way
+pub record BusyBehind (Front : List Act → Type 0) (old new : Tells) : Type 0 where
+  pub front : List Act
+  pub made : Front front
+  pub busy : AlwaysBusy front old new
+
+abbrev pub EndBehindFailed : (List Act → Type 0) → DmiOp → List DmiOp → ℕ → ℕ → Tells → Tells → AccessFault → Type 0
+EndBehindFailed Front op ops old_count new_count old new (fault.Dmi why) = BrokeIn (BehindBegun Front op ops) old_count new_count old new.far why
+EndBehindFailed Front op ops old_count new_count old new (fault.Memory address) = ⊥
+EndBehindFailed Front op ops old_count new_count old new (fault.Register number) = ⊥
+EndBehindFailed Front op ops old_count new_count old new (fault.Run why) = ⊥
+EndBehindFailed Front op ops old_count new_count old new fault.StillBusy = BusyBehind Front old new
+EndBehindFailed Front op ops old_count new_count old new (fault.Odd shown) = ⊥

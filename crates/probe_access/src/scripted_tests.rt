@@ -23,6 +23,11 @@ const EXCEPTION: u32 = 0x0400_0302;
 /// `cmderr` 2.
 const UNSUPPORTED: u32 = 0x0400_0202;
 
+/// `cmderr` 1, while a command is under way and behind its end.
+const EARLY_BUSY: u32 = 0x0400_1102;
+
+const EARLY: u32 = 0x0400_0102;
+
 /// No answer is left.
 pub(crate) const ENDED: AccessFault = AccessFault::Dmi(DmiFault::Wire(WireFault::RecvFailed));
 
@@ -87,28 +92,46 @@ const ODDLY: Fault = Fault::Access(AccessFault::Odd(OddStatus::Abstractcs(UNSUPP
 
 /// A step whose first Look sees the hart halted again, and one whose third does.
 const AT_ONCE: [u32; 9] = [
-    IDLE,
-    0x4000_0143,
     0,
+    0x4000_0143,
+    IDLE,
     IDLE,
     STEPPED,
-    IDLE,
-    0x4000_0107,
     0,
+    0x4000_0107,
+    IDLE,
     IDLE,
 ];
 
 const LATER: [u32; 11] = [
-    IDLE,
-    0x4000_0143,
     0,
+    0x4000_0143,
+    IDLE,
     IDLE,
     0x000c_0c83,
     0x000f_0c83,
     STEPPED,
-    IDLE,
-    7,
     0,
+    7,
+    IDLE,
+    IDLE,
+];
+
+/// The first words of `dcsr` come too early: a command is under way and `cmderr` is 1, and then the end. Behind the clearing they come again.
+const TOO_EARLY: [u32; 14] = [
+    0xffff_ffff,
+    0xffff_ffff,
+    EARLY_BUSY,
+    EARLY_BUSY,
+    EARLY,
+    IDLE,
+    0x4000_0143,
+    0,
+    IDLE,
+    STEPPED,
+    0,
+    0x4000_0107,
+    IDLE,
     IDLE,
 ];
 
@@ -127,13 +150,18 @@ fn step_once<D: Dmi>(link: &mut D) -> Result<u16, Fault>
 
 #[test]
 fn steps(rt: HostRuntime) {
-    let cases: [(&[u32], Result<u16, Fault>); 6] = [
+    let cases: [(&[u32], Result<u16, Fault>); 8] = [
         (&AT_ONCE, Ok(1)),
         (&LATER, Ok(1)),
-        (&[EXCEPTION], Err(NO_DCSR)),
-        (&[IDLE, 7, 0, EXCEPTION], Err(NO_DCSR)),
-        (&[IDLE, 7, 0, IDLE], Err(Fault::Access(ENDED))),
-        (&[IDLE, 7, 0, IDLE, STEPPED, UNSUPPORTED], Err(ODDLY)),
+        (&TOO_EARLY, Ok(1)),
+        (&[0, 0, EXCEPTION, EXCEPTION], Err(NO_DCSR)),
+        (&[0, 7, IDLE, EXCEPTION], Err(NO_DCSR)),
+        (&[0, 7, IDLE, IDLE], Err(Fault::Access(ENDED))),
+        (
+            &[0, 7, IDLE, IDLE, STEPPED, 0, 0, UNSUPPORTED, UNSUPPORTED],
+            Err(ODDLY),
+        ),
+        (&[0, 7, UNSUPPORTED], Err(Fault::Access(ENDED))),
     ];
     for (words, wanted) in cases {
         let mut link = opened(words);
@@ -172,27 +200,27 @@ fn loads_blocks(rt: HostRuntime) {
     let cases: [(&[u32], Result<(), AccessFault>, usize, Option<u64>); 4] = [
         (
             &[
-                IDLE, 8, 0, IDLE, IDLE, 0x1000, 0, IDLE, IDLE, 8, 0, IDLE, IDLE, 0x0234, 0, IDLE,
+                0, 8, IDLE, IDLE, 0, 0x1000, IDLE, IDLE, 0, 8, IDLE, IDLE, 0, 0x0234, IDLE, IDLE,
             ],
             Ok(()),
             2,
             Some(0x0234),
         ),
         (
-            &[IDLE, 8, 0, EXCEPTION, IDLE],
+            &[0, 8, IDLE, EXCEPTION, IDLE],
             Err(AccessFault::Memory(0x8000_0000)),
             0,
             None,
         ),
         (
             &[
-                IDLE, 8, 0, IDLE, IDLE, 0x1000, 0, IDLE, IDLE, 8, 0, EXCEPTION, IDLE,
+                0, 8, IDLE, IDLE, 0, 0x1000, IDLE, IDLE, 0, 8, IDLE, EXCEPTION, IDLE,
             ],
             Err(AccessFault::Memory(0x8000_0004)),
             1,
             Some(0x1000),
         ),
-        (&[IDLE, 8, 0, IDLE, IDLE, 0x1000, 0], Err(ENDED), 0, None),
+        (&[0, 8, IDLE, IDLE, 0, 0x1000, IDLE], Err(ENDED), 0, None),
     ];
     for (words, end, count, last) in cases {
         let mut link = opened(words);
@@ -219,20 +247,20 @@ fn stores_blocks(rt: HostRuntime) {
     let cases: [(&[u32], Result<(), Fault>); 3] = [
         (
             &[
-                IDLE, 8, 0, IDLE, 9, 0, IDLE, IDLE, IDLE, IDLE, IDLE, 8, 0, IDLE, 9, 0, IDLE, IDLE,
+                0, 8, IDLE, 0, 9, IDLE, IDLE, IDLE, IDLE, IDLE, 0, 8, IDLE, 0, 9, IDLE, IDLE, IDLE,
                 IDLE, IDLE,
             ],
             Ok(()),
         ),
         (
             &[
-                IDLE, 8, 0, IDLE, 9, 0, IDLE, IDLE, IDLE, IDLE, IDLE, 8, 0, IDLE, 9, 0, IDLE,
+                0, 8, IDLE, 0, 9, IDLE, IDLE, IDLE, IDLE, IDLE, 0, 8, IDLE, 0, 9, IDLE, IDLE,
                 EXCEPTION, IDLE, IDLE,
             ],
             Err(Fault::Access(AccessFault::Memory(0x8000_0001))),
         ),
         (
-            &[IDLE, 8, 0, IDLE, 9, 0, IDLE, 0x0400_0402],
+            &[0, 8, IDLE, 0, 9, IDLE, IDLE, 0x0400_0402],
             Err(Fault::Access(AccessFault::Odd(OddStatus::Abstractcs(0x0400_0402)))),
         ),
     ];

@@ -20,14 +20,20 @@ const BUSY: u32 = 0x0400_1002;
 /// `cmderr` 3.
 const EXCEPTION: u32 = 0x0400_0302;
 
+/// `cmderr` 1: a data word was accessed while a command was under way.
+const EARLY: u32 = 0x0400_0102;
+
 /// No answer is left.
 const ENDED: AccessFault = AccessFault::Dmi(DmiFault::Wire(WireFault::RecvFailed));
 
-/// Operations that answer so many busy polls first, and then these words.
-fn behind_busy(busy: usize, words: &[u32]) -> ScriptedDmi
+/// Operations that answer these words first, then so many busy polls, and then these words.
+fn around_busy(first: &[u32], busy: usize, words: &[u32]) -> ScriptedDmi
     ensures { result.alive ≡ true }
 {
     let mut answers: ArrayVec<u32, 64> = ArrayVec::new();
+    for word in first {
+        let _room = answers.try_push(*word);
+    }
     for _poll in 0..busy {
         let _room = answers.try_push(BUSY);
     }
@@ -37,42 +43,56 @@ fn behind_busy(busy: usize, words: &[u32]) -> ScriptedDmi
     ScriptedDmi::new(answers)
 }
 
+/// Words, busy polls and words, and how the read of a register ends.
+type Read<'w> = (&'w [u32], usize, &'w [u32], Result<u64, AccessFault>);
+
+/// The fault of an `abstractcs` that no other names.
+fn odd(word: u32) -> Result<u64, AccessFault> {
+    Err(AccessFault::Odd(OddStatus::Abstractcs(word)))
+}
+
 #[test]
 fn reads_a_register(rt: HostRuntime) {
-    let cases: [(usize, &[u32], Result<u64, AccessFault>); 10] = [
+    let refused = Err(AccessFault::Register(0x7b1));
+    let cases: [Read; 9] = [
         (
+            &[0x0123_4567, 0x89ab_cdef],
             0,
-            &[IDLE, 0x89ab_cdef, 0x0123_4567],
+            &[IDLE],
             Ok(0x0123_4567_89ab_cdef),
         ),
-        (1, &[IDLE, 7, 0], Ok(7)),
-        (61, &[IDLE, 0, 1], Ok(0x1_0000_0000)),
-        (63, &[EXCEPTION], Err(AccessFault::Register(0x7b1))),
-        (63, &[BUSY], Err(AccessFault::StillBusy)),
-        (
-            5,
-            &[0x0400_0102],
-            Err(AccessFault::Odd(OddStatus::Abstractcs(0x0400_0102))),
-        ),
-        (
-            0,
-            &[0x0400_0202],
-            Err(AccessFault::Odd(OddStatus::Abstractcs(0x0400_0202))),
-        ),
-        (
-            0,
-            &[0x0400_0402],
-            Err(AccessFault::Odd(OddStatus::Abstractcs(0x0400_0402))),
-        ),
-        (
-            0,
-            &[0x0400_0702],
-            Err(AccessFault::Odd(OddStatus::Abstractcs(0x0400_0702))),
-        ),
-        (2, &[IDLE, 7], Err(ENDED)),
+        (&[0, 7], 1, &[IDLE], Ok(7)),
+        (&[1, 0], 61, &[IDLE], Ok(0x1_0000_0000)),
+        (&[0, 0], 60, &[EXCEPTION, EXCEPTION], refused),
+        (&[0, 0], 0, &[0x0400_0202, 0x0400_0202], odd(0x0400_0202)),
+        (&[0, 0], 0, &[EXCEPTION, 0x0400_0402], odd(0x0400_0402)),
+        (&[0, 0], 0, &[0x0400_0702, 0x0400_0702], odd(0x0400_0702)),
+        (&[0], 0, &[], Err(ENDED)),
+        (&[0, 7], 2, &[], Err(ENDED)),
     ];
-    for (busy, words, wanted) in cases {
-        let mut link = behind_busy(busy, words);
+    for (first, busy, words, wanted) in cases {
+        let mut link = around_busy(first, busy, words);
+        assert_eq!(rt; read_register(&mut link, 0x7b1), wanted);
+    }
+}
+
+#[test]
+fn reads_a_register_again_that_was_touched_too_early(rt: HostRuntime) {
+    let cases: [Read; 6] = [
+        (&[5, 5], 0, &[EARLY, IDLE, 7, 0], Ok(7)),
+        (&[5, 5], 3, &[EARLY, BUSY, IDLE, 7, 1], Ok(0x1_0000_0007)),
+        (&[5, 5], 0, &[EARLY, EARLY], odd(EARLY)),
+        (
+            &[5, 5],
+            0,
+            &[EARLY, EXCEPTION],
+            Err(AccessFault::Register(0x7b1)),
+        ),
+        (&[5, 5], 0, &[EARLY], Err(ENDED)),
+        (&[5, 5], 0, &[EARLY, IDLE, 7], Err(ENDED)),
+    ];
+    for (first, busy, words, wanted) in cases {
+        let mut link = around_busy(first, busy, words);
         assert_eq!(rt; read_register(&mut link, 0x7b1), wanted);
     }
 }
@@ -87,7 +107,7 @@ fn writes_a_register(rt: HostRuntime) {
         (3, &[], Err(ENDED)),
     ];
     for (busy, words, wanted) in cases {
-        let mut link = behind_busy(busy, words);
+        let mut link = around_busy(&[], busy, words);
         assert_eq!(rt; write_register(&mut link, 0xf14, 1), wanted);
     }
 }
@@ -97,26 +117,29 @@ fn loads(rt: HostRuntime) {
     let address = 0x8000_0010;
     let cases: [(&[u32], Result<u64, AccessFault>); 6] = [
         (
-            &[IDLE, 8, 0, IDLE, IDLE, 0x55, 0x66, IDLE],
+            &[0, 8, IDLE, IDLE, 0x66, 0x55, IDLE, IDLE],
             Ok(0x66_0000_0055),
         ),
         (
-            &[IDLE, 8, 0, EXCEPTION, IDLE],
+            &[0, 8, IDLE, EXCEPTION, IDLE],
             Err(AccessFault::Memory(address)),
         ),
         (
-            &[IDLE, 8, 0, 0x0400_0102],
+            &[0, 8, IDLE, 0x0400_0102],
             Err(AccessFault::Odd(OddStatus::Abstractcs(0x0400_0102))),
         ),
         (
-            &[IDLE, 8, 0, EXCEPTION, 0x0400_0402],
+            &[0, 8, IDLE, EXCEPTION, 0x0400_0402],
             Err(AccessFault::Odd(OddStatus::Abstractcs(0x0400_0402))),
         ),
-        (&[IDLE, 8, 0, IDLE, IDLE, 0x55, 0x66], Err(ENDED)),
-        (&[EXCEPTION], Err(AccessFault::Register(0x1008))),
+        (&[0, 8, IDLE, IDLE, 0x66, 0x55, IDLE], Err(ENDED)),
+        (
+            &[0, 0, EXCEPTION, EXCEPTION],
+            Err(AccessFault::Register(0x1008)),
+        ),
     ];
     for (words, wanted) in cases {
-        let mut link = behind_busy(0, words);
+        let mut link = around_busy(&[], 0, words);
         assert_eq!(rt; load_around(&mut link, Size::B8, address), wanted);
     }
 }
@@ -125,15 +148,15 @@ fn loads(rt: HostRuntime) {
 fn stores(rt: HostRuntime) {
     let address = 0x8000_0010;
     let cases: [(&[u32], Result<(), AccessFault>); 3] = [
-        (&[IDLE, 8, 0, IDLE, 9, 0, IDLE, IDLE, IDLE, IDLE], Ok(())),
+        (&[0, 8, IDLE, 0, 9, IDLE, IDLE, IDLE, IDLE, IDLE], Ok(())),
         (
-            &[IDLE, 8, 0, IDLE, 9, 0, IDLE, EXCEPTION, IDLE, IDLE],
+            &[0, 8, IDLE, 0, 9, IDLE, IDLE, EXCEPTION, IDLE, IDLE],
             Err(AccessFault::Memory(address)),
         ),
-        (&[IDLE, 8, 0, IDLE, 9, 0, IDLE, EXCEPTION, IDLE], Err(ENDED)),
+        (&[0, 8, IDLE, 0, 9, IDLE, IDLE, EXCEPTION, IDLE], Err(ENDED)),
     ];
     for (words, wanted) in cases {
-        let mut link = behind_busy(0, words);
+        let mut link = around_busy(&[], 0, words);
         assert_eq!(rt; store_around(&mut link, Size::B1, address, 0xff), wanted);
     }
 }

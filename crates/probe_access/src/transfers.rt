@@ -1,23 +1,51 @@
 ghost use Rattle.std.specs.Prelude.{◌≡◌, ◌≤◌, ◌<◌, ◌^◌, ◌∷◌, [], true, false, IfOk, IfErr, OnOk};
-ghost use Rattle.probe_access.specs.RegisterRuns.{ReadFailed, RegisterRead, RegisterWritten, WriteFailed};
+ghost use Rattle.probe_access.specs.RegisterRuns.{AskFailed, AskedAtOnce, ReadApart, ReadApartFailed, ReadFailed, RegisterRead, RegisterWritten, WriteFailed};
 ghost use Rattle.debug_model.specs.Kept.{CanCall, Keeps};
 ghost use Rattle.probe_run.specs.Told.{Fails, told};
 ghost use Rattle.probe_access.specs.Faults.{access_why};
 
-use crate::commands::{run_command, run_with, transfer_of};
-use crate::doubles::read_double;
+use crate::commands::{end_command, run_command, run_with, transfer_of};
+use crate::doubles::{join, read_double};
 use crate::fault::AccessFault;
 use crate::odd::OddStatus;
-use debug_model::{Abstractcs, Dmi};
+use arrayvec::ArrayVec;
+use debug_model::{AbstractCommand, Abstractcs, Data0, Data1, Dmi, DmiOp};
 
 /// `cmderr` of a register that is not there or not writable, and of an exception in the program buffer.
 pub const EXCEPTION: u8 = 3;
 
-/// Reads a register of the selected hart.
-pub fn read_register<D: Dmi>(link: &mut D, register: u16) -> Result<u64, AccessFault>
+/// Asks for a register of the selected hart and reads the data words, in one call with the first poll: its value where the end of the transfer shows no
+/// error. A word that is read while a command is under way sets an error, which stays until it is cleared (RISC-V Debug Specification 1.0, "Abstract Control
+/// and Status", cmderr). An error is cleared.
+fn read_at_once<D: Dmi>(link: &mut D, register: u16) -> Result<Option<u64>, AccessFault>
     requires callable { CanCall (D.seen link.old) }
-    ensures read { IfOk result (λ value. RegisterRead register value (told (D.seen link.old)) (told (D.seen link.new))) }
-    ensures failed { IfErr result (Fails (ReadFailed register) (D.seen link.old) (D.seen link.new)) }
+    ensures asked { IfOk result (λ answer. AskedAtOnce register answer (told (D.seen link.old)) (told (D.seen link.new))) }
+    ensures failed { IfErr result (Fails (AskFailed register) (D.seen link.old) (D.seen link.new)) }
+    ensures keeps { Keeps access_why (D.seen link.old) (D.seen link.new) result }
+{
+    let operations = [
+        DmiOp::Write(
+            AbstractCommand::ADDRESS,
+            transfer_of(register, false).word(),
+        ),
+        DmiOp::Read(Data1::ADDRESS),
+        DmiOp::Read(Data0::ADDRESS),
+        DmiOp::Read(Abstractcs::ADDRESS),
+    ];
+    let mut words = ArrayVec::new();
+    link.many(&operations, &mut words)?;
+    let last = end_command(link, words[3])?;
+    if Abstractcs::from_word(last).cmderr != 0 {
+        return Ok(None);
+    }
+    Ok(Some(join(words[2], words[1])))
+}
+
+/// Reads a register of the selected hart by calls of their own: the data words are read behind the end of the transfer.
+fn read_apart<D: Dmi>(link: &mut D, register: u16) -> Result<u64, AccessFault>
+    requires callable { CanCall (D.seen link.old) }
+    ensures read { IfOk result (λ value. ReadApart register value (told (D.seen link.old)) (told (D.seen link.new))) }
+    ensures failed { IfErr result (Fails (ReadApartFailed register) (D.seen link.old) (D.seen link.new)) }
     ensures keeps { Keeps access_why (D.seen link.old) (D.seen link.new) result }
 {
     let last = run_command(link, transfer_of(register, false))?;
@@ -28,6 +56,22 @@ pub fn read_register<D: Dmi>(link: &mut D, register: u16) -> Result<u64, AccessF
         }
         EXCEPTION => Err(AccessFault::Register(register)),
         _ => Err(AccessFault::Odd(OddStatus::Abstractcs(last))),
+    }
+}
+
+/// Reads a register of the selected hart: in one call, and again by calls of their own where that shows an error.
+pub fn read_register<D: Dmi>(link: &mut D, register: u16) -> Result<u64, AccessFault>
+    requires callable { CanCall (D.seen link.old) }
+    ensures read { IfOk result (λ value. RegisterRead register value (told (D.seen link.old)) (told (D.seen link.new))) }
+    ensures failed { IfErr result (Fails (ReadFailed register) (D.seen link.old) (D.seen link.new)) }
+    ensures keeps { Keeps access_why (D.seen link.old) (D.seen link.new) result }
+{
+    match read_at_once(link, register)? {
+        Some(value) => Ok(value),
+        None => {
+            let value = read_apart(link, register)?;
+            Ok(value)
+        }
     }
 }
 

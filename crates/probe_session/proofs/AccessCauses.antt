@@ -10,7 +10,7 @@ use Rattle.probe_access.specs.BusRuns.{BusEndFailed, BusEnding, BusLoadFailed, B
 use Rattle.probe_access.specs.CommandRuns.{CommandFailed}
 use Rattle.probe_access.specs.Faults.{BrokeIn}
 use Rattle.probe_access.specs.MemoryRuns.{AroundFailed, LoadRunFailed, StoreFailedInside, StoredInside}
-use Rattle.probe_access.specs.RegisterRuns.{ReadFailed, ReadFailedAt, WriteFailed}
+use Rattle.probe_access.specs.RegisterRuns.{ReadFailed, WriteFailed, AskFailed, ReadApartFailed, ReadApartFailedAt}
 use Rattle.probe_access.specs.StepRuns.{FlagFailed, StepFailed, of_run, with_flag}
 use Rattle.probe_access.specs.Stops.{StopFailed, dpc_number}
 use Rattle.probe_access.specs.RegisterAccess.{transfer_word}
@@ -47,19 +47,33 @@ command_wire fault.StillBusy front word old_count new_count old new f = tt
 command_wire (fault.Run why) front word old_count new_count old new f = absurd f
 command_wire (fault.Odd shown) front word old_count new_count old new f = tt
 
-read_at : (e : AccessFault) (number old_count new_count : ℕ) (old new : Tells) → ReadFailedAt number old_count new_count old new e
+read_at : (e : AccessFault) (number old_count new_count : ℕ) (old new : Tells) → ReadApartFailedAt number old_count new_count old new e
     → AccessWire old_count new_count new.far e
-read_at _ number old_count new_count old new (ReadFailedAt.in_command e f) = command_wire e [] (transfer_word false number) old_count new_count old new f
-read_at _ number old_count new_count old new (ReadFailedAt.in_words mid ran why b) = broke_in why b
+read_at _ number old_count new_count old new (ReadApartFailedAt.in_command e f) = command_wire e [] (transfer_word false number) old_count new_count old new f
+read_at _ number old_count new_count old new (ReadApartFailedAt.in_words mid ran why b) = broke_in why b
+
+apart_wire : (e : AccessFault) (number old_count new_count : ℕ) (old new : Tells) → ReadApartFailed number old_count new_count old new e
+    → AccessWire old_count new_count new.far e
+apart_wire (fault.Dmi why) number old_count new_count old new f = read_at (fault.Dmi why) number old_count new_count old new f
+apart_wire (fault.Memory address) number old_count new_count old new f = tt
+apart_wire (fault.Register asked) number old_count new_count old new f = tt
+apart_wire fault.StillBusy number old_count new_count old new f = tt
+apart_wire (fault.Run why) number old_count new_count old new f = absurd f
+apart_wire (fault.Odd shown) number old_count new_count old new f = tt
+
+asking_wire : (e : AccessFault) (number old_count new_count : ℕ) (old new : Tells) → AskFailed number old_count new_count old new e
+    → AccessWire old_count new_count new.far e
+asking_wire (fault.Dmi why) number old_count new_count old new f = broke_in why f
+asking_wire (fault.Memory address) number old_count new_count old new f = tt
+asking_wire (fault.Register asked) number old_count new_count old new f = tt
+asking_wire fault.StillBusy number old_count new_count old new f = tt
+asking_wire (fault.Run why) number old_count new_count old new f = absurd f
+asking_wire (fault.Odd shown) number old_count new_count old new f = tt
 
 pub read_wire : (e : AccessFault) (number old_count new_count : ℕ) (old new : Tells) → ReadFailed number old_count new_count old new e
     → AccessWire old_count new_count new.far e
-read_wire (fault.Dmi why) number old_count new_count old new f = read_at (fault.Dmi why) number old_count new_count old new f
-read_wire (fault.Memory address) number old_count new_count old new f = tt
-read_wire (fault.Register asked) number old_count new_count old new f = tt
-read_wire fault.StillBusy number old_count new_count old new f = tt
-read_wire (fault.Run why) number old_count new_count old new f = absurd f
-read_wire (fault.Odd shown) number old_count new_count old new f = tt
+read_wire e number old_count new_count old new (ReadFailed.asking f) = asking_wire e number old_count new_count old new f
+read_wire e number old_count new_count old new (ReadFailed.late mid early f) = apart_wire e number old_count new_count mid new f
 
 pub write_wire : (e : AccessFault) (number value old_count new_count : ℕ) (old new : Tells) → WriteFailed number value old_count new_count old new e
     → AccessWire old_count new_count new.far e

@@ -8,7 +8,10 @@ use Rattle.rv_model.specs.Registers.{csr_read_only, csr_value, reg_value}
 use Rattle.debug_model.specs.Registers.{NamedRegister, is_register, named_registers}
 use Rattle.probe_access.specs.declared.fault.AccessFault.{AccessFault}
 use Rattle.probe_access.specs.declared.fault.AccessFault.TheVariants as fault
-use Rattle.probe_session.specs.Calls.{IsNotRegister, IsOfCores, IsOfHarts}
+use Rattle.probe_session.specs.Calls.{IsNotRegister, IsOfCores, IsOfHarts, GotNone}
+use Rattle.probe_access.specs.RegisterRuns.{ReadFailed}
+use Rattle.probe_access.specs.Registers.{RegisterLeft}
+use Rattle.probe_run.specs.Acts.{Tells}
 
 value_first : (a b : Option ℕ) → is_some a ≡ true → is_some (value_or a b) ≡ true
 value_first (Some v) b is = refl
@@ -33,6 +36,20 @@ is_other (fault.Register number) other = absurd (other number refl)
 is_other fault.StillBusy other = tt
 is_other (fault.Run why) other = tt
 is_other (fault.Odd shown) other = tt
+
+-- ---- one that was refused
+
+pub got_none : (h number asked old_count new_count : ℕ) (old new : Tells) (e : AccessFault) → e ≡ fault.Register asked
+    → ReadFailed number old_count new_count old new e → RegisterLeft false h number old.far new.far e → GotNone h number old new
+got_none h number asked old_count new_count old new e is f left =
+    refused_by (subst (λ (x : AccessFault). ReadFailed number old_count new_count old new x) is f)
+        (subst (λ (x : AccessFault). RegisterLeft false h number old.far new.far x) is left)
+  where
+    refused_by : ReadFailed number old_count new_count old new (fault.Register asked)
+        → RegisterLeft false h number old.far new.far (fault.Register asked) → GotNone h number old new
+    refused_by (ReadFailed.asking g) refused = absurd g
+    refused_by (ReadFailed.late mid early g) refused =
+        record { mid = mid; early = early; heard = record { same = refl; ran = g.ran }; told = refused }
 
 -- ---- those with a name
 

@@ -18,7 +18,7 @@ use Rattle.probe_access.specs.BusRuns.{BusLoadFailed, BusLoaded, BusStoreFailed,
 use Rattle.probe_access.specs.Cuts.{AccessLeftOff, BusLeftOff, IfCut, Leaves as LeavesChip, LeftAside, LoadLeaves, MaybeWritten, Scratched}
 use Rattle.probe_access.specs.Cuts.{StoreLeaves, Unchanged}
 use Rattle.probe_access.specs.MemoryRuns.{Around, AroundFailed, LoadRun, LoadRunFailed, StoreFailedInside, StoredInside}
-use Rattle.probe_access.specs.RegisterRuns.{ReadFailed, RefusedAs, RegisterRead, RegisterWritten, WriteFailed, double_written}
+use Rattle.probe_access.specs.RegisterRuns.{ReadFailed, RefusedAs, RegisterRead, RegisterWritten, WriteFailed, double_written, ReadTooEarly}
 use Rattle.probe_access.specs.Registers.{RegisterRefusedAt, RegisterReadAt, RegisterLeft, RegisterWrittenAt}
 use Rattle.probe_access.specs.Scratches.{ScratchLeft}
 use Rattle.probe_access.specs.Stops.{StopFailed, StopRead, StoppedAt}
@@ -62,9 +62,11 @@ pub record Got (h number value : ℕ) (old new : Tells) : Type 0 where
   pub heard : RegisterRead number value old new
   pub told : WhereTold (RegisterReadAt h number value) old.far new.far
 
--- the chip refused to read it
+-- the chip refused to read it: where it was asked for in one call, and behind that by a command alone
 pub record GotNone (h number : ℕ) (old new : Tells) : Type 0 where
-  pub heard : RefusedAs number number [] (transfer_word false number) old new
+  pub mid : Tells
+  pub early : ReadTooEarly number old mid
+  pub heard : RefusedAs number number [] (transfer_word false number) mid new
   pub told : WhereTold (RegisterRefusedAt false h number) old.far new.far
 
 pub record Gave (h number value : ℕ) (old new : Tells) : Type 0 where

@@ -70,3 +70,7 @@ returns-in_err-write_register-clause-cut g c =
     c.requires.serving.halted
     (failed c.args.on c.in_ok-word.word c.flagged.result _ _ _ _ _ _ c.in_err-write_register.field-0.0 c.flagged.ensures c.in_ok-word.ensures.read
     c.read_register.ensures.keeps.later c.write_register.ensures.keeps.later c.in_err-write_register.ensures.failed))
+
+pub returns-in_err-word-clause-failed : goal.returns-in_err-word-clause-failed
+returns-in_err-word-clause-failed g c =
+    err_failed c.from_residual.result c.in_err-word.field-0.0 _ c.from_residual.ensures.1 (at_read c.in_err-word.ensures.failed)
