@@ -12,13 +12,13 @@ use Rattle.debug_model.specs.Told.{Far, site_of}
 use Rattle.probe_access.specs.declared.fault.AccessFault.{AccessFault}
 use Rattle.probe_access.specs.declared.fault.AccessFault.TheVariants as access_fault
 use Rattle.probe_run.specs.Acts.{Act, Tells}
-use Rattle.probe_access.specs.CommandRuns.{CommandFailed}
+use Rattle.probe_access.specs.CommandRuns.{CommandFailed, EndBehindFailed}
 use Rattle.probe_access.specs.MemoryRuns.{AroundFailed, PerformFailed, Performed, PutBack, PutBackFailed, Recovers, SaveFailed, program_set}
 use Rattle.probe_access.specs.MemoryRuns.AroundFailed.{behind, in_restore, in_restore_behind, in_save, inside}
 use Rattle.probe_access.specs.MemoryRuns.PerformFailed.{in_run, faulted, oddly}
 use Rattle.probe_access.specs.MemoryRuns.PutBackFailed.{at_x8 as put_x8, at_x9 as put_x9}
 use Rattle.probe_access.specs.MemoryRuns.SaveFailed.{at_x8 as save_x8, at_x9 as save_x9}
-use Rattle.probe_access.specs.RegisterRuns.{ReadFailed, WriteFailed, AskFailed, ReadApartFailed}
+use Rattle.probe_access.specs.RegisterRuns.{ReadFailed, WriteFailed, ReadApartFailed, Asks}
 use Rattle.probe_access.specs.Registers.{reaches}
 use Rattle.probe_access.specs.RegisterAccess.{program_word, x8_number, x9_number}
 use Rattle.probe_access.proofs.AccessSteps.{WordDid}
@@ -27,6 +27,7 @@ use Rattle.probe_access.proofs.Aside.{Frozen, accessed, passed}
 use Rattle.probe_access.proofs.RegAnswers.{ReadTold, StoodTold, WrittenTold, read_denied, read_not_odd, read_told, write_denied, write_not_odd, written_told, too_early_told}
 use Rattle.probe_access.proofs.ScratchLemmas.{scratched}
 use Rattle.probe_access.proofs.TransferLemmas.{written_frozen}
+use Rattle.debug_model.specs.declared.dmi_op.DmiOp.{DmiOp}
 
 -- ---- a fault of the link, or too many polls
 
@@ -50,19 +51,20 @@ apart_clean number h bus y base w old_count new_count old new (access_fault.Run 
 apart_clean number h bus y base w old_count new_count old new (access_fault.Odd shown) small there st f =
     read_not_odd number shown h bus y base w old new small st f
 
-asking_clean : (number old_count new_count : ℕ) (old new : Tells) (e : AccessFault) → AskFailed number old_count new_count old new e → Clean e
-asking_clean number old_count new_count old new (access_fault.Dmi why) f = tt
-asking_clean number old_count new_count old new (access_fault.Memory at) f = f
-asking_clean number old_count new_count old new (access_fault.Register asked) f = f
-asking_clean number old_count new_count old new access_fault.StillBusy f = tt
-asking_clean number old_count new_count old new (access_fault.Run why) f = f
-asking_clean number old_count new_count old new (access_fault.Odd shown) f = f
+pub behind_clean : (Front : List Act → Type 0) (op : DmiOp) (ops : List DmiOp) (old_count new_count : ℕ) (old new : Tells) (e : AccessFault)
+    → EndBehindFailed Front op ops old_count new_count old new e → Clean e
+behind_clean Front op ops old_count new_count old new (access_fault.Dmi why) f = tt
+behind_clean Front op ops old_count new_count old new (access_fault.Memory at) f = f
+behind_clean Front op ops old_count new_count old new (access_fault.Register asked) f = f
+behind_clean Front op ops old_count new_count old new access_fault.StillBusy f = tt
+behind_clean Front op ops old_count new_count old new (access_fault.Run why) f = f
+behind_clean Front op ops old_count new_count old new (access_fault.Odd shown) f = f
 
 pub read_clean : (number h : ℕ) (bus : BusUnit) (y : Hart) (base : Site) (w : Hart) (old_count new_count : ℕ) (old new : Tells) (e : AccessFault)
     → number < 2 ^ 16 → reaches false y number ≡ true → StoodTold h bus y base w old.far
     → ReadFailed number old_count new_count old new e → Clean e
 read_clean number h bus y base w old_count new_count old new e small there st (ReadFailed.asking f) =
-    asking_clean number old_count new_count old new e f
+    behind_clean (Asks number) _ _ old_count new_count old new e f
 read_clean number h bus y base w old_count new_count old new e small there st (ReadFailed.late mid early f) =
     apart_clean number h bus y base w old_count new_count mid new e small there (too_early_told number h bus y base w old mid small st early) f
 

@@ -3,15 +3,16 @@ use Rattle.std.proofs.Common.{◌≡◌, ℕ, List, None, refl}
 use Rattle.probe_access.specs.declared.fault.AccessFault.{AccessFault}
 use Rattle.probe_access.specs.declared.fault.AccessFault.TheVariants as access_fault
 use Rattle.probe_run.specs.Acts.{Act, Tells}
-use Rattle.probe_access.specs.CommandRuns.{CommandFailed}
-use Rattle.probe_access.specs.MemoryRuns.{AroundFailed, PerformFailed, PutBackFailed, SaveFailed, program_set}
+use Rattle.probe_access.specs.CommandRuns.{CommandFailed, EndBehindFailed}
+use Rattle.probe_access.specs.MemoryRuns.{AroundFailed, PerformFailed, PutBackFailed, SaveFailed, program_set, TakeFailed}
 use Rattle.probe_access.specs.MemoryRuns.AroundFailed.{behind, in_restore, in_restore_behind, in_save, inside}
 use Rattle.probe_access.specs.MemoryRuns.PerformFailed.{in_run, faulted, oddly}
 use Rattle.probe_access.specs.MemoryRuns.PutBackFailed.{at_x8 as put_x8, at_x9 as put_x9}
 use Rattle.probe_access.specs.MemoryRuns.SaveFailed.{at_x8 as save_x8, at_x9 as save_x9}
-use Rattle.probe_access.specs.RegisterRuns.{ReadFailed, WriteFailed, AskFailed, ReadApartFailed}
+use Rattle.probe_access.specs.RegisterRuns.{ReadFailed, WriteFailed, ReadApartFailed, Asks, Swaps}
 use Rattle.probe_access.specs.RegisterAccess.{program_word, x8_number, x9_number}
 use Rattle.probe_access.proofs.AccessEnd.{back_untold, performed_untold, saved_untold}
+use Rattle.debug_model.specs.declared.dmi_op.DmiOp.{DmiOp}
 
 abbrev pub PlainMemory : ℕ → Type 0 → AccessFault → Type 0
 PlainMemory address G (access_fault.Dmi why) = Unit {0}
@@ -30,18 +31,18 @@ apart_plain number address G old_count new_count old new access_fault.StillBusy 
 apart_plain number address G old_count new_count old new (access_fault.Run why) f = f
 apart_plain number address G old_count new_count old new (access_fault.Odd shown) f = tt
 
-asking_plain : (number address : ℕ) (G : Type 0) (old_count new_count : ℕ) (old new : Tells) (e : AccessFault)
-    → AskFailed number old_count new_count old new e → PlainMemory address G e
-asking_plain number address G old_count new_count old new (access_fault.Dmi why) f = tt
-asking_plain number address G old_count new_count old new (access_fault.Memory at) f = absurd f
-asking_plain number address G old_count new_count old new (access_fault.Register asked) f = tt
-asking_plain number address G old_count new_count old new access_fault.StillBusy f = tt
-asking_plain number address G old_count new_count old new (access_fault.Run why) f = f
-asking_plain number address G old_count new_count old new (access_fault.Odd shown) f = tt
+behind_plain : (Front : List Act → Type 0) (op : DmiOp) (ops : List DmiOp) (address : ℕ) (G : Type 0) (old_count new_count : ℕ) (old new : Tells)
+    (e : AccessFault) → EndBehindFailed Front op ops old_count new_count old new e → PlainMemory address G e
+behind_plain Front op ops address G old_count new_count old new (access_fault.Dmi why) f = tt
+behind_plain Front op ops address G old_count new_count old new (access_fault.Memory at) f = absurd f
+behind_plain Front op ops address G old_count new_count old new (access_fault.Register asked) f = tt
+behind_plain Front op ops address G old_count new_count old new access_fault.StillBusy f = tt
+behind_plain Front op ops address G old_count new_count old new (access_fault.Run why) f = f
+behind_plain Front op ops address G old_count new_count old new (access_fault.Odd shown) f = tt
 
 pub read_plain : (number address : ℕ) (G : Type 0) (old_count new_count : ℕ) (old new : Tells) (e : AccessFault)
     → ReadFailed number old_count new_count old new e → PlainMemory address G e
-read_plain number address G old_count new_count old new e (ReadFailed.asking f) = asking_plain number address G old_count new_count old new e f
+read_plain number address G old_count new_count old new e (ReadFailed.asking f) = behind_plain (Asks number) _ _ address G old_count new_count old new e f
 read_plain number address G old_count new_count old new e (ReadFailed.late mid early f) =
     apart_plain number address G old_count new_count mid new e f
 
@@ -53,6 +54,14 @@ write_plain number value address G old_count new_count old new (access_fault.Reg
 write_plain number value address G old_count new_count old new access_fault.StillBusy f = tt
 write_plain number value address G old_count new_count old new (access_fault.Run why) f = f
 write_plain number value address G old_count new_count old new (access_fault.Odd shown) f = tt
+
+pub take_plain : (x8 address : ℕ) (G : Type 0) (old_count new_count : ℕ) (old new : Tells) (e : AccessFault) → TakeFailed x8 old_count new_count old new e
+    → PlainMemory address G e
+take_plain x8 address G old_count new_count old new e (TakeFailed.swapping f) =
+    behind_plain (Swaps x8_number x8) _ _ address G old_count new_count old new e f
+take_plain x8 address G old_count new_count old new e (TakeFailed.reading mid early f) = read_plain x8_number address G old_count new_count mid new e f
+take_plain x8 address G old_count new_count old new e (TakeFailed.writing value mid last early read f) =
+    write_plain x8_number x8 address G old_count new_count last new e f
 
 command_plain : (front : List Act) (word address : ℕ) (G : Type 0) (old_count new_count : ℕ) (old new : Tells) (e : AccessFault)
     → CommandFailed front word old_count new_count old new e → PlainMemory address G e

@@ -1,28 +1,5 @@
 -- The calls of a command whose first poll is made in one call with what came in front of it, put together.
-use Rattle.std.proofs.Common.{
-  ◌≡◌,
-  ◌≢◌,
-  ◌∙◌,
-  ◌≤◌,
-  ◌<◌,
-  ◌^◌,
-  ◌++◌,
-  ℕ,
-  List,
-  [],
-  ◌∷◌,
-  map,
-  length,
-  slice_index_or,
-  arith,
-  Option,
-  refl,
-  sym,
-  ap,
-  subst,
-  append_assoc,
-  false,
-}
+use Rattle.std.proofs.Common.{◌≡◌, ◌≢◌, ◌∙◌, ◌≤◌, ◌<◌, ◌^◌, ◌++◌, ℕ, List, [], ◌∷◌, map, length, slice_index_or, arith, Option, refl, sym, ap, subst, append_assoc, false, All, true}
 use Rattle.debug_model.specs.Addresses.{abstractcs_address, command_address, data0_address, data1_address}
 use Rattle.debug_model.specs.declared.dmi.DmiFault.{DmiFault}
 use Rattle.debug_model.specs.declared.dmi_op.DmiOp.{DmiOp}
@@ -32,7 +9,7 @@ use Rattle.debug_model.specs.Scan.{WhereTold}
 use Rattle.debug_model.specs.Told.{Far}
 use Rattle.probe_access.specs.declared.fault.AccessFault.{AccessFault}
 use Rattle.probe_access.specs.declared.fault.AccessFault.TheVariants as access_fault
-use Rattle.probe_run.specs.Acts.{Act, Attempt, Did, Tells, acts_of}
+use Rattle.probe_run.specs.Acts.{Act, Attempt, Did, Tells, acts_of, op_act}
 use Rattle.probe_run.specs.Acts.Attempt.{Operation, Several}
 use Rattle.probe_run.specs.Opening.{clears_cmderr}
 use Rattle.probe_access.specs.CommandRuns.{
@@ -52,11 +29,14 @@ use Rattle.probe_access.specs.CommandRuns.BehindBegun.{clears, polls, together}
 use Rattle.probe_access.specs.CommandRuns.EndBegun.{clears as end_clears, polls as end_polls}
 use Rattle.probe_access.specs.Faults.{BrokeIn}
 use Rattle.probe_access.specs.RegisterAccess.{joined, transfer_word}
-use Rattle.probe_access.specs.RegisterRuns.{AskFailed, Asks, ReadApartFailed, ReadAtOnce, ReadFailed, ReadTooEarly, asked_acts}
+use Rattle.probe_access.specs.RegisterRuns.{AskFailed, Asks, ReadApartFailed, ReadAtOnce, ReadFailed, ReadTooEarly, asked_acts, SwapFailed, Swaps, swapped_acts}
 use Rattle.probe_access.specs.RegisterRuns.ReadFailed.{late}
 use Rattle.probe_access.proofs.RegisterCalls.{broke_counted}
 use Rattle.probe_access.proofs.SentCalls.{four_acts, four_small}
 use Rattle.probe_run.proofs.ActLemmas.{broke_list, broke_one, broke_then, did_list, did_then, did_together}
+use Rattle.std.proofs.lemmas.List.Elements.{All-cons}
+use Rattle.debug_model.specs.Dmi.{IsOperation}
+use Rattle.debug_model.specs.Commands.{high_half, low_half}
 
 -- ---- behind any calls, with the first poll
 
@@ -172,3 +152,80 @@ asking_failed number low high first e count mid_count new_count old mid new did 
     failed_behind (Asks number) (Write command_address (transfer_word false number))
     (Read data1_address ∷ Read data0_address ∷ Read abstractcs_address ∷ []) (asked_acts number low high) first e count mid_count new_count old mid new
     (Asks.asks low high) did le later f
+
+-- ---- a register that is read and written
+
+seven_acts : (a b c d e f g : DmiOp) (results : List ℕ) (z : ℕ) → length results ≡ 7
+    → acts_of (a ∷ b ∷ c ∷ d ∷ e ∷ f ∷ g ∷ []) results
+    ≡ op_act a (slice_index_or results 0 z) ∷ op_act b (slice_index_or results 1 z) ∷ op_act c (slice_index_or results 2 z) ∷ op_act d
+    (slice_index_or results 3 z)
+    ∷ op_act e (slice_index_or results 4 z) ∷ op_act f (slice_index_or results 5 z) ∷ op_act g (slice_index_or results 6 z) ∷ []
+seven_acts a b c d e f g [] z all = absurd (omega arith)
+seven_acts a b c d e f g (p ∷ []) z all = absurd (omega arith)
+seven_acts a b c d e f g (p ∷ q ∷ []) z all = absurd (omega arith)
+seven_acts a b c d e f g (p ∷ q ∷ r ∷ []) z all = absurd (omega arith)
+seven_acts a b c d e f g (p ∷ q ∷ r ∷ s ∷ []) z all = absurd (omega arith)
+seven_acts a b c d e f g (p ∷ q ∷ r ∷ s ∷ t ∷ []) z all = absurd (omega arith)
+seven_acts a b c d e f g (p ∷ q ∷ r ∷ s ∷ t ∷ u ∷ []) z all = absurd (omega arith)
+seven_acts a b c d e f g (p ∷ q ∷ r ∷ s ∷ t ∷ u ∷ v ∷ []) z all = refl
+seven_acts a b c d e f g (p ∷ q ∷ r ∷ s ∷ t ∷ u ∷ v ∷ w ∷ xs) z all = absurd (omega arith)
+
+abbrev pub swap_ops : ℕ → ℕ → ℕ → ℕ → List DmiOp
+swap_ops reads low high writes = Write command_address reads ∷ Read data1_address ∷ Read data0_address ∷ Write data0_address low ∷ Write data1_address high
+    ∷ Write command_address writes ∷ Read abstractcs_address ∷ []
+
+-- what is written is what is meant
+pub record Meant (number value reads low high writes : ℕ) : Type 0 where
+  pub reads_are : reads ≡ transfer_word false number
+  pub low_is : low ≡ low_half value
+  pub high_is : high ≡ high_half value
+  pub writes_are : writes ≡ transfer_word true number
+
+meant_ops : (number value reads low high writes : ℕ) → Meant number value reads low high writes
+    → swap_ops reads low high writes ≡ swap_ops (transfer_word false number) (low_half value) (high_half value) (transfer_word true number)
+meant_ops number value reads low high writes m =
+    ap (λ n. swap_ops n low high writes) m.reads_are
+    ∙ ap (λ n. swap_ops (transfer_word false number) n high writes) m.low_is
+    ∙ ap (λ n. swap_ops (transfer_word false number) (low_half value) n writes) m.high_is
+    ∙ ap (λ n. swap_ops (transfer_word false number) (low_half value) (high_half value) n) m.writes_are
+
+swap_small : (reads low high writes : ℕ) → reads < 2 ^ 32 → low < 2 ^ 32 → high < 2 ^ 32 → writes < 2 ^ 32 → All IsOperation (swap_ops reads low high writes)
+swap_small reads low high writes small_reads small_low small_high small_writes =
+    let giving : List DmiOp = Write data0_address low ∷ Write data1_address high ∷ Write command_address writes ∷ Read abstractcs_address ∷ [] in
+    All-cons IsOperation (Write command_address reads) (Read data1_address ∷ Read data0_address ∷ giving) (omega arith, small_reads)
+    (All-cons IsOperation (Read data1_address) (Read data0_address ∷ giving) (omega arith)
+    (All-cons IsOperation (Read data0_address) giving (omega arith)
+    (four_small (Write data0_address low) (Write data1_address high) (Write command_address writes) (Read abstractcs_address) (omega arith, small_low)
+    (omega arith, small_high) (omega arith, small_writes) (omega arith))))
+
+pub swap_did : (number value reads low high writes : ℕ) (results : List ℕ) (old new : Tells) → Meant number value reads low high writes → reads < 2 ^ 32
+    → low < 2 ^ 32 → high < 2 ^ 32 → writes < 2 ^ 32 → length results ≡ 7 → WhereTold (OperatedAll (swap_ops reads low high writes) results) old.far new.far
+    → AnswersAll (swap_ops reads low high writes) results old.coming new.coming
+    → Did old (swapped_acts number (slice_index_or results 2 0) (slice_index_or results 1 0) value ++ poll_act (slice_index_or results 6 0) ∷ []) new
+swap_did number value reads low high writes results old new m small_reads small_low small_high small_writes seven told heard =
+    did_list (acts_of (swap_ops reads low high writes) results)
+    (swapped_acts number (slice_index_or results 2 0) (slice_index_or results 1 0) value ++ poll_act (slice_index_or results 6 0) ∷ []) old new
+    (ap (λ ops. acts_of ops results) (meant_ops number value reads low high writes m)
+    ∙ seven_acts (Write command_address (transfer_word false number)) (Read data1_address) (Read data0_address) (Write data0_address (low_half value))
+    (Write data1_address (high_half value)) (Write command_address (transfer_word true number)) (Read abstractcs_address) results 0 seven)
+    (did_together (Write command_address reads) (Read data1_address ∷ Read data0_address ∷ Write data0_address low ∷ Write data1_address high
+    ∷ Write command_address writes ∷ Read abstractcs_address ∷ []) results old new
+    (record { small = swap_small reads low high writes small_reads small_low small_high small_writes; told = told; heard = heard }))
+
+pub swap_broke : (number value reads low high writes old_count new_count : ℕ) (old new : Tells) (why : DmiFault) → Meant number value reads low high writes
+    → WhereTold (OperationsCut (swap_ops reads low high writes)) old.far new.far → ManyCause 7 old_count new_count old.far new.far old.coming why
+    → SwapFailed number value old_count new_count old new (access_fault.Dmi why)
+swap_broke number value reads low high writes old_count new_count old new why m cut cause =
+    together_broke (Swaps number value) (Write command_address (transfer_word false number))
+    (Read data1_address ∷ Read data0_address ∷ Write data0_address (low_half value) ∷ Write data1_address (high_half value)
+    ∷ Write command_address (transfer_word true number) ∷ Read abstractcs_address ∷ []) old_count new_count old new.far why
+    (subst (λ ops. WhereTold (OperationsCut ops) old.far new.far) (meant_ops number value reads low high writes m) cut) cause
+
+pub swap_failed : (number value low high first : ℕ) (e : AccessFault) (count mid_count new_count : ℕ) (old mid new : Tells)
+    → Did old (swapped_acts number low high value ++ poll_act first ∷ []) mid → count ≤ mid_count → mid_count ≤ new_count
+    → EndFailed first mid_count new_count mid new e → SwapFailed number value count new_count old new e
+swap_failed number value low high first e count mid_count new_count old mid new did le later f =
+    failed_behind (Swaps number value) (Write command_address (transfer_word false number))
+    (Read data1_address ∷ Read data0_address ∷ Write data0_address (low_half value) ∷ Write data1_address (high_half value)
+    ∷ Write command_address (transfer_word true number) ∷ Read abstractcs_address ∷ []) (swapped_acts number low high value) first e count mid_count
+    new_count old mid new (Swaps.swaps low high) did le later f

@@ -14,25 +14,9 @@ use Rattle.probe_access.specs.BlockRuns.{Causes, Denied, Fetched, Fetches, Repor
 use Rattle.probe_access.specs.BlockRuns.Fetches.{nothing as none_fetched, polled_behind, polled_first}
 use Rattle.probe_access.specs.BlockRuns.WordsRead.{lower_first, upper_first}
 use Rattle.probe_access.specs.CommandRuns.{CommandFailed, RanCommand, clearing, command_acts, error_shown, poll_act, EndBehindFailed}
-use Rattle.probe_access.specs.MemoryRuns.{
-  Around,
-  AroundFailed,
-  LoadRun,
-  LoadRunFailed,
-  PerformFailed,
-  Performed,
-  PutBack,
-  PutBackFailed,
-  Recovers,
-  SaveFailed,
-  Saved,
-  StoreFailedInside,
-  StoredInside,
-  program_set,
-}
+use Rattle.probe_access.specs.MemoryRuns.{Around, AroundFailed, LoadRun, LoadRunFailed, PerformFailed, Performed, PutBack, PutBackFailed, Recovers, SaveFailed, Saved, StoreFailedInside, StoredInside, program_set, TakeFailed, Taken}
 use Rattle.probe_access.specs.MemoryRuns.AroundFailed.{behind, in_restore, in_restore_behind, in_save, inside}
 use Rattle.probe_access.specs.MemoryRuns.LoadRunFailed.{
-  in_restore as load_restoring,
   in_restore_behind as load_restoring_behind,
   in_save as load_saving,
   performing as load_performing,
@@ -43,13 +27,14 @@ use Rattle.probe_access.specs.MemoryRuns.PerformFailed.{in_run, faulted, oddly}
 use Rattle.probe_access.specs.MemoryRuns.PutBackFailed.{at_x8 as put_x8, at_x9 as put_x9}
 use Rattle.probe_access.specs.MemoryRuns.SaveFailed.{at_x8 as save_x8, at_x9 as save_x9}
 use Rattle.probe_access.specs.MemoryRuns.StoreFailedInside.{performing as store_performing, writing as store_writing}
-use Rattle.probe_access.specs.RegisterRuns.{RanOddly, RanTo, ReadFailed, RegisterRead, RegisterWritten, WriteFailed, double_written, Asks, ReadApart, ReadApartFailed, ReadApartFailedAt, ReadAtOnce, ReadTooEarly}
+use Rattle.probe_access.specs.RegisterRuns.{RanOddly, RanTo, ReadFailed, RegisterRead, RegisterWritten, WriteFailed, double_written, Asks, ReadApart, ReadApartFailed, ReadApartFailedAt, ReadAtOnce, ReadTooEarly, SwappedAtOnce, Swaps}
 use Rattle.probe_access.specs.RegisterRuns.ReadApartFailedAt.{in_command as read_in_command, in_words as read_in_words}
 use Rattle.probe_access.specs.RegisterAccess.{joined, load_word, program_word, store_word, transfer_word, x8_number, x9_number}
 use Rattle.probe_access.proofs.RegisterCalls.{none_cleared}
 use Rattle.probe_run.proofs.ActLemmas.{broke_then, did_list, did_then}
 use Rattle.std.proofs.lemmas.List.Elements.{All-cons}
 use Rattle.debug_model.specs.declared.dmi_op.DmiOp.{DmiOp}
+use Rattle.debug_model.specs.Commands.{high_half, low_half}
 
 -- ---- some calls
 
@@ -318,6 +303,15 @@ write_causes number value count new_count a b access_fault.StillBusy later f =
     command_causes (double_written value) (transfer_word true number) count new_count a b access_fault.StillBusy f
 write_causes number value count new_count a b (access_fault.Odd shown) later f = ran_oddly (double_written value) (transfer_word true number) shown a b f
 
+take_causes : (x8 count new_count : ℕ) (a b : Tells) (e : AccessFault) → LinkLater count new_count e → TakeFailed x8 count new_count a b e
+    → Causes count new_count a b e
+take_causes x8 count new_count a b e later (TakeFailed.swapping f) = behind_causes (Swaps x8_number x8) _ _ count new_count a b e f
+take_causes x8 count new_count a b e later (TakeFailed.reading mid early f) =
+    causes_same a mid b (calls _ a mid early.ended.did) count new_count e later (read_causes x8_number count new_count mid b e later f)
+take_causes x8 count new_count a b e later (TakeFailed.writing value mid last early read f) =
+    causes_same a last b (calls_then a mid last (calls _ a mid early.ended.did) (read_calls x8_number value mid last read)) count new_count e later
+    (write_causes x8_number x8 count new_count last b e later f)
+
 perform_causes : (word address count new_count : ℕ) (a b : Tells) (e : AccessFault) → LinkLater count new_count e
     → PerformFailed word address count new_count a b e → Causes count new_count a b e
 perform_causes word address count new_count a b _ later (in_run e f) = command_causes (program_set word address) program_word count new_count a b e f
@@ -387,11 +381,7 @@ load_causes size address count new_count a b _ later (load_restoring_behind e x8
 load_causes size address count new_count a b _ later (load_taking e x8 first mid saved p f) =
     causes_same a mid b (calls_then a first mid (read_calls x8_number x8 a first saved) (performed_calls (load_word size) address 0 first mid p)) count
     new_count e later
-    (read_causes x8_number count new_count mid b e later f)
-load_causes size address count new_count a b _ later (load_restoring e x8 value first mid last saved p taken f) =
-    causes_same a last b
-    (calls_then a mid last (calls_then a first mid (read_calls x8_number x8 a first saved) (performed_calls (load_word size) address 0 first mid p))
-    (read_calls x8_number value mid last taken)) count new_count e later (write_causes x8_number x8 count new_count last b e later f)
+    (take_causes x8 count new_count mid b e later f)
 
 pub store_inside_causes : (size : Size) (address value : ℕ) → InsideCauses (StoredInside size address value) (StoreFailedInside size address value)
 store_inside_causes size address value =
@@ -484,13 +474,47 @@ register_fetched number value values old mid new f (RegisterRead.at_once r) = at
 register_fetched number value values old mid new f (RegisterRead.late m early r) =
     apart_fetched number value values old m new (fetched_calls values old mid m f (early_calls number mid m early)) r
 
+-- or behind what puts the register back
+giving_leaves : (number value : ℕ) (words : List ℕ)
+    → All LeavesError ((double_written value ++ Put command_address (transfer_word true number) ∷ []) ++ map poll_act words)
+giving_leaves number value words =
+    let polls : List Act = map poll_act words in
+    let asks : List Act = Put command_address (transfer_word true number) ∷ polls in
+    All-cons LeavesError (Put data0_address (low_half value)) (Put data1_address (high_half value) ∷ asks) (omega arith)
+    (All-cons LeavesError (Put data1_address (high_half value)) asks (omega arith)
+    (All-cons LeavesError (Put command_address (transfer_word true number)) polls (omega arith) (polls_leave words)))
+
+swapped_fetched : (number value given : ℕ) (values : List ℕ) (old mid new : Tells) → Fetched values old mid → SwappedAtOnce number value given mid new
+    → Fetched (values ++ value ∷ []) old new
+swapped_fetched number value given values old mid new f r =
+    let command : List Act = Put command_address (transfer_word false number) ∷ [] in
+    let words : List Act = Got data1_address r.high ∷ Got data0_address r.low ∷ [] in
+    let between : List Act = (double_written given ++ Put command_address (transfer_word true number) ∷ []) ++ map poll_act r.ended.words in
+    let end : List Act = poll_act r.last ∷ clearing (error_shown r.last) in
+    record {
+      acts = (f.acts ++ command) ++ (words ++ (between ++ end));
+      did = did_list (f.acts ++ (command ++ (words ++ (between ++ end)))) ((f.acts ++ command) ++ (words ++ (between ++ end))) old new
+          (sym (append_assoc f.acts command (words ++ (between ++ end))))
+          (did_then f.acts old mid f.did (command ++ (words ++ (between ++ end))) new r.ended.did);
+      fetches = subst (λ v. Fetches (values ++ v ∷ []) ((f.acts ++ command) ++ (words ++ (between ++ end)))) (sym r.is)
+          (polled_behind values (f.acts ++ command) words between (clearing (error_shown r.last)) r.last r.low r.high
+          (more_fetched values f.acts command f.fetches) upper_first (giving_leaves number given r.ended.words) r.ended.idle r.error_is);
+    }
+
+taken_fetched : (x8 value : ℕ) (values : List ℕ) (old mid new : Tells) → Fetched values old mid → Taken x8 value mid new
+    → Fetched (values ++ value ∷ []) old new
+taken_fetched x8 value values old mid new f (Taken.at_once r) = swapped_fetched x8_number value x8 values old mid new f r
+taken_fetched x8 value values old mid new f (Taken.late m last early read wrote) =
+    fetched_calls (values ++ value ∷ []) old last new
+    (register_fetched x8_number value values old m last (fetched_calls values old mid m f (calls _ mid m early.ended.did)) read)
+    (written_calls x8_number x8 last new wrote)
+
 pub fetched_more : (size : Size) (address value : ℕ) (values : List ℕ) (old mid new : Tells) → Fetched values old mid → LoadRun size address value mid new
     → Fetched (values ++ value ∷ []) old new
 fetched_more size address value values old mid new f r =
     let at : Fetched values old r.mid = fetched_calls values old mid r.mid f
     (calls_then mid r.first r.mid (read_calls x8_number r.x8 mid r.first r.saved) (performed_calls (load_word size) address 0 r.first r.mid r.performed)) in
-    fetched_calls (values ++ value ∷ []) old r.last new (register_fetched x8_number value values old r.mid r.last at r.taken)
-    (written_calls x8_number r.x8 r.last new r.put_back)
+    taken_fetched r.x8 value values old r.mid new at r.taken
 
 pub fetched_made : (values : List ℕ) (old new : Tells) → Fetched values old new → Calls old new
 fetched_made values old new f = calls f.acts old new f.did

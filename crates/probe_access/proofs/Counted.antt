@@ -1,24 +1,14 @@
 -- A fault is as well a fault since an earlier count of faults.
-use Rattle.std.proofs.Common.{◌≤◌, ℕ, List, [], true, false, ◌≡◌, Option, None, subst}
+use Rattle.std.proofs.Common.{◌≤◌, ℕ, List, [], true, false, ◌≡◌, Option, None, subst, Some}
 use Rattle.rv_model.specs.declared.size.Size.{Size}
 use Rattle.probe_access.specs.declared.fault.AccessFault.{AccessFault}
 use Rattle.probe_access.specs.declared.fault.AccessFault.TheVariants as access_fault
 use Rattle.probe_run.specs.Acts.{Act, Tells}
 use Rattle.probe_access.specs.Faults.{Among}
 use Rattle.probe_access.specs.CommandRuns.{CommandBegun, CommandFailed}
-use Rattle.probe_access.specs.MemoryRuns.{
-  AroundFailed,
-  LoadRunFailed,
-  PerformFailed,
-  PutBackFailed,
-  SaveFailed,
-  StoreFailedInside,
-  StoredInside,
-  program_set,
-}
+use Rattle.probe_access.specs.MemoryRuns.{AroundFailed, LoadRunFailed, PerformFailed, PutBackFailed, SaveFailed, StoreFailedInside, StoredInside, program_set, TakeFailed}
 use Rattle.probe_access.specs.MemoryRuns.AroundFailed.{behind, in_restore, in_restore_behind, in_save, inside}
 use Rattle.probe_access.specs.MemoryRuns.LoadRunFailed.{
-  in_restore as load_restoring,
   in_restore_behind as load_restoring_behind,
   in_save as load_saving,
   performing as load_performing,
@@ -29,7 +19,7 @@ use Rattle.probe_access.specs.MemoryRuns.PerformFailed.{in_run, faulted, oddly}
 use Rattle.probe_access.specs.MemoryRuns.PutBackFailed.{at_x8 as put_x8, at_x9 as put_x9}
 use Rattle.probe_access.specs.MemoryRuns.SaveFailed.{at_x8 as save_x8, at_x9 as save_x9}
 use Rattle.probe_access.specs.MemoryRuns.StoreFailedInside.{performing as store_performing, writing as store_writing}
-use Rattle.probe_access.specs.RegisterRuns.{Asks, DoubleReads, ReadApartFailed, ReadApartFailedAt, ReadFailed, WriteFailed, double_written, AskedAtOnce, ReadTooEarly}
+use Rattle.probe_access.specs.RegisterRuns.{Asks, DoubleReads, ReadApartFailed, ReadApartFailedAt, ReadFailed, WriteFailed, double_written, AskedAtOnce, ReadTooEarly, Swapped, SwappedAtOnce, SwappedTooEarly, Swaps}
 use Rattle.probe_access.specs.RegisterRuns.ReadApartFailedAt.{in_command as read_in_command, in_words as read_in_words}
 use Rattle.probe_access.specs.RegisterAccess.{load_word, program_word, transfer_word, x8_number, x9_number}
 use Rattle.probe_access.proofs.AskCalls.{behind_counted}
@@ -109,6 +99,20 @@ store_counted size address value count mid_count new_count old new e le later (s
 store_counted size address value count mid_count new_count old new e le later (store_performing mid w f) =
     store_performing mid w (perform_counted _ address count mid_count new_count mid new e le later f)
 
+pub take_counted : (x8 count mid_count new_count : ℕ) (old new : Tells) (e : AccessFault) → count ≤ mid_count → mid_count ≤ new_count
+    → TakeFailed x8 mid_count new_count old new e → TakeFailed x8 count new_count old new e
+take_counted x8 count mid_count new_count old new e le later (TakeFailed.swapping f) =
+    TakeFailed.swapping (behind_counted (Swaps x8_number x8) _ _ count mid_count new_count old new e le later f)
+take_counted x8 count mid_count new_count old new e le later (TakeFailed.reading mid early f) =
+    TakeFailed.reading mid early (read_counted x8_number count mid_count new_count mid new e le later f)
+take_counted x8 count mid_count new_count old new e le later (TakeFailed.writing value mid last early read f) =
+    TakeFailed.writing value mid last early read (write_counted x8_number x8 count mid_count new_count last new e le later f)
+
+-- it came too early, and then a call of their own failed
+pub swapped_early : (number value : ℕ) (answer : Option ℕ) (old new : Tells) → answer ≡ None → Swapped number value answer old new
+    → SwappedTooEarly number value old new
+swapped_early number value answer old new is r = subst (λ (o : Option ℕ). Swapped number value o old new) is r
+
 -- ---- of a whole access
 
 pub load_run_counted : (size : Size) (address count mid_count new_count : ℕ) (old new : Tells) (e : AccessFault) → count ≤ mid_count → mid_count ≤ new_count
@@ -121,9 +125,7 @@ load_run_counted size address count mid_count new_count old new _ le later (load
 load_run_counted size address count mid_count new_count old new _ le later (load_restoring_behind e x8 first last saved p f) =
     load_restoring_behind e x8 first last saved p (write_counted x8_number x8 count mid_count new_count last new e le later f)
 load_run_counted size address count mid_count new_count old new _ le later (load_taking e x8 first mid saved p f) =
-    load_taking e x8 first mid saved p (read_counted x8_number count mid_count new_count mid new e le later f)
-load_run_counted size address count mid_count new_count old new _ le later (load_restoring e x8 value first mid last saved p taken f) =
-    load_restoring e x8 value first mid last saved p taken (write_counted x8_number x8 count mid_count new_count last new e le later f)
+    load_taking e x8 first mid saved p (take_counted x8 count mid_count new_count mid new e le later f)
 
 save_counted : (count mid_count new_count : ℕ) (old new : Tells) (e : AccessFault) → count ≤ mid_count → mid_count ≤ new_count
     → SaveFailed mid_count new_count old new e → SaveFailed count new_count old new e

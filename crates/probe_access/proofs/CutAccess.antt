@@ -19,10 +19,9 @@ use Rattle.probe_access.specs.declared.fault.AccessFault.{AccessFault}
 use Rattle.probe_run.specs.Acts.{Tells}
 use Rattle.probe_access.specs.CommandRuns.{error_shown}
 use Rattle.probe_access.specs.Cuts.{IfCut, LoadLeaves, StoreLeaves}
-use Rattle.probe_access.specs.MemoryRuns.{AroundFailed, LoadRunFailed, PerformFailed, StoreFailedInside, StoredInside, program_set}
+use Rattle.probe_access.specs.MemoryRuns.{AroundFailed, LoadRunFailed, PerformFailed, StoreFailedInside, StoredInside, program_set, TakeFailed}
 use Rattle.probe_access.specs.MemoryRuns.AroundFailed.{behind, in_restore, in_restore_behind, in_save, inside}
 use Rattle.probe_access.specs.MemoryRuns.LoadRunFailed.{
-  in_restore as load_restoring,
   in_restore_behind as load_restoring_behind,
   in_save as load_saving,
   performing as load_performing,
@@ -53,6 +52,8 @@ use Rattle.probe_access.proofs.WordAccess.{LoadFaults, Loads, StoreFaults, Store
 use Rattle.probe_access.proofs.WordLemmas.{program_back}
 use Rattle.probe_run.specs.Opening.{clears_cmderr}
 use Rattle.probe_access.proofs.CutHung.{Hung, HungAt, hung_map, hung_stood}
+use Rattle.probe_access.proofs.CutSwap.{swap_hung}
+use Rattle.probe_access.proofs.SwapTold.{unswapped_told}
 
 -- ---- before or behind the access
 
@@ -296,6 +297,19 @@ any_put : (x y : Hart) (v : ℕ) (z : Hart) → AnyScratch x y → Written x8_nu
 any_put x y v z a (inl e) = any_same x y z e a
 any_put x y v z a (inr e) = any_same x (debug_written y x8_number v) z e (any_written8 x y v a)
 
+take_hung : (x8 h : ℕ) (bus : BusUnit) (y : Hart) (base : Site) (w : Hart) (old_count new_count : ℕ) (old new : Tells) (e : AccessFault)
+    → StoodTold h bus y base w old.far → TakeFailed x8 old_count new_count old new e → IfCut (Hung (Written x8_number x8 y) h bus base new.far) e
+take_hung x8 h bus y base w old_count new_count old new e st (TakeFailed.swapping f) =
+    swap_hung x8_number x8 h bus y base w old_count new_count old new e (omega arith) st f
+take_hung x8 h bus y base w old_count new_count old new e st (TakeFailed.reading mid early f) =
+    if_cut (Hung (λ z. z ≡ y) h bus base new.far) (Hung (Written x8_number x8 y) h bus base new.far) e
+    (hung_map (λ z. z ≡ y) (Written x8_number x8 y) h bus base new.far (λ z is. inl is))
+    (read_hung x8_number h bus y base w old_count new_count mid new e (omega arith)
+    (unswapped_told x8_number x8 h bus y base w old mid (omega arith) st early) f)
+take_hung x8 h bus y base w old_count new_count old new e st (TakeFailed.writing value mid last early read f) =
+    write_hung x8_number x8 h bus y base w old_count new_count last new e (omega arith)
+    (x8_read value h bus y base w mid last (unswapped_told x8_number x8 h bus y base w old mid (omega arith) st early) read) f
+
 pub load_hung : (size : Size) (a h : ℕ) (bus : BusUnit) (x : Hart) (base : Site) (old_count new_count : ℕ) (old new : Tells) (e : AccessFault)
     → length x.core.x ≡ 32 → a < 2 ^ 64
     → StoodTold h bus x base x old.far → LoadRunFailed size a old_count new_count old new e → IfCut (HungInside (AnyScratch x) LoadLeaves h bus base new.far) e
@@ -318,14 +332,8 @@ load_hung size a h bus x base old_count new_count old new _ all small st (load_r
 load_hung size a h bus x base old_count new_count old new _ all small st (load_taking e x8 first mid saved p f) =
     let w : LoadWent size a h bus x base mid.far = load_went size a h bus x base first mid all small (x8_read x8 h bus x base x old first st saved) p in
     let y : Hart = with_core_x x 8 w.value in
-    behind_load (λ z. z ≡ y) w.value h bus x base w.before new.far e all (λ z s. any_same x y z s (any_loaded x w.value all))
-    (read_hung x8_number h bus y (accessed (passed w.before base).board.memory (passed w.before base)) x old_count new_count mid new e (omega arith) w.then f)
-load_hung size a h bus x base old_count new_count old new _ all small st (load_restoring e x8 value first mid last saved p taken f) =
-    let w : LoadWent size a h bus x base mid.far = load_went size a h bus x base first mid all small (x8_read x8 h bus x base x old first st saved) p in
-    let y : Hart = with_core_x x 8 w.value in
-    let b : Site = accessed (passed w.before base).board.memory (passed w.before base) in
     behind_load (Written x8_number x8 y) w.value h bus x base w.before new.far e all (λ z p. any_put x y x8 z (any_loaded x w.value all) p)
-    (write_hung x8_number x8 h bus y b x old_count new_count last new e (omega arith) (x8_read value h bus y b x mid last w.then taken) f)
+    (take_hung x8 h bus y (accessed (passed w.before base).board.memory (passed w.before base)) x old_count new_count mid new e w.then f)
 
 -- ---- a store
 

@@ -77,13 +77,13 @@ both_ran number low high h bus y base w k ds s t c is (BothTouched.wrong e) = er
 
 -- ---- by the operation that was cut
 
-read_one : (a result : ℕ) (s t : Site) → OneOperation (Read a) result s t → ReadAt a (value_of result) s t
+pub read_one : (a result : ℕ) (s t : Site) → OneOperation (Read a) result s t → ReadAt a (value_of result) s t
 read_one a result s t o = record { result = result; one = o; value_is = refl }
 
-write_one : (a v result : ℕ) (s t : Site) → OneOperation (Write a v) result s t → OneOperation (Write a v) v s t
+pub write_one : (a v result : ℕ) (s t : Site) → OneOperation (Write a v) result s t → OneOperation (Write a v) v s t
 write_one a v result s t o = record { before = o.before; behind = o.behind; is = o.is; result_is = refl }
 
-command_cut : (number h : ℕ) (bus : BusUnit) (y : Hart) (base : Site) (w : Hart) (k : Kept) (s t : Site) → number < 2 ^ 16 → Stood h bus y base w k s
+pub command_cut : (number h : ℕ) (bus : BusUnit) (y : Hart) (base : Site) (w : Hart) (k : Kept) (s t : Site) → number < 2 ^ 16 → Stood h bus y base w k s
     → SiteCut (Write command_address (transfer_word false number)) s t → HungAt (λ z. z ≡ y) h bus base t
 command_cut number h bus y base w k s t small st (unperformed d) =
     hung_stood (λ z. z ≡ y) h bus y base w k t refl (stood_ran h bus y base w k s t st d)
@@ -94,7 +94,7 @@ nothing_ran : (z : Site) → z ≡ ran [] z
 unfolding ran
 nothing_ran z = refl
 
-upper_cut : (number h : ℕ) (bus : BusUnit) (y : Hart) (base : Site) (w : Hart) (k : Kept) (s t : Site) → Calm h bus y base w → Asked number h bus y base k s
+pub upper_cut : (number h : ℕ) (bus : BusUnit) (y : Hart) (base : Site) (w : Hart) (k : Kept) (s t : Site) → Calm h bus y base w → Asked number h bus y base k s
     → SiteCut (Read data1_address) s t → HungAt (λ z. z ≡ y) h bus base t
 upper_cut number h bus y base w k s t c a (unperformed d) =
     asked_hung number h bus y base k t (asked_ran number h bus y base w k d.deeds s t c d.is a)
@@ -102,7 +102,7 @@ upper_cut number h bus y base w k s t c a (was_performed result o) =
     touched_ran number (value_of result) upper h bus y base w k t t c (record { deeds = []; is = nothing_ran t })
     (upper_touched number (value_of result) h bus y base w k s t c a (read_one data1_address result s t o))
 
-lower_cut : (number high h : ℕ) (bus : BusUnit) (y : Hart) (base : Site) (w : Hart) (k : Kept) (s t : Site) → Calm h bus y base w
+pub lower_cut : (number high h : ℕ) (bus : BusUnit) (y : Hart) (base : Site) (w : Hart) (k : Kept) (s t : Site) → Calm h bus y base w
     → Touched number high upper h bus y base w k s → SiteCut (Read data0_address) s t → HungAt (λ z. z ≡ y) h bus base t
 lower_cut number high h bus y base w k s t c a (unperformed d) = touched_ran number high upper h bus y base w k s t c d a
 lower_cut number high h bus y base w k s t c a (was_performed result o) =
@@ -176,7 +176,7 @@ polls_hung number low high h bus y base w k words s mid t small st p more =
     rests_or (BothTouched.wrong e) c polled =
         erred_hung h bus y base t (erred_ran h bus y base w more.deeds mid t c more.is (erred_ran h bus y base w polled.deeds _ mid c polled.is e))
 
-over_cut : (last h : ℕ) (bus : BusUnit) (y : Hart) (base : Site) (w : Hart) (mid t : Site) → Calm h bus y base w → ErredEnd last h bus y base mid
+pub over_cut : (last h : ℕ) (bus : BusUnit) (y : Hart) (base : Site) (w : Hart) (mid t : Site) → Calm h bus y base w → ErredEnd last h bus y base mid
     → SiteCut (Write abstractcs_address clears_cmderr) mid t → HungAt (λ z. z ≡ y) h bus base t
 over_cut last h bus y base w mid t c e (unperformed d) =
     hung_done (λ z. z ≡ y) (unit_with e.over.kept e.over.error [] h bus) h bus y base t refl refl

@@ -117,7 +117,7 @@ end_cut write number last h bus y base w k mid t held fy idle error (refused non
     clear_cut (Either write number k y) last h bus y base w (with_command (transfer_command write number) k) mid t end.error_is held fy idle (inl refl)
     end.done_at cut
 
-transfer_cut : (write : Bool) (number h : ℕ) (bus : BusUnit) (y : Hart) (base : Site) (w : Hart) (k : Kept) (t : Site) → number < 2 ^ 16 → Held h w base
+pub transfer_cut : (write : Bool) (number h : ℕ) (bus : BusUnit) (y : Hart) (base : Site) (w : Hart) (k : Kept) (t : Site) → number < 2 ^ 16 → Held h w base
     → Frozen y → bus.pending ≡ None
     → CommandCutAt (transfer_word write number) h bus y base w k t
     → HungAt (Either write number k y) h bus base t
@@ -218,7 +218,7 @@ read_hung number h bus y base w old_count new_count old new e small st (ReadFail
 abbrev pub Written : ℕ → ℕ → Hart → Hart → Type 0
 Written number value y z = (z ≡ y) ⊎ (z ≡ debug_written y number value)
 
-written_either : (number value : ℕ) (k : Kept) (y z : Hart) → Either true number (with_double value k) y z → Written number value y z
+pub written_either : (number value : ℕ) (k : Kept) (y z : Hart) → Either true number (with_double value k) y z → Written number value y z
 written_either number value k y z (inl e) = inl e
 written_either number value k y z (inr e) = inr (e ∙ ap (debug_written y number) (halves_joined value))
 

@@ -192,41 +192,34 @@ pub record CommandCutTold (word : ℕ) (h : ℕ) (bus : BusUnit) (y : Hart) (bas
   pub is : told ≡ Some far
   pub cut : CommandCutAt word h bus y base w k (site_of far)
 
+pub begun_cut : (front : List Act) (word h : ℕ) (bus : BusUnit) (y : Hart) (base : Site) (w : Hart) (k l : Kept) (s mid t : Site) (acts : List Act)
+    (op : DmiOp) → Stood h bus y base w k s → WordPuts h bus y k front l → CommandBegun front word acts (Operation op) → SiteActs acts s mid
+    → SiteCut op mid t → CommandCutAt word h bus y base w l t
+begun_cut front word h bus y base w k l s mid t _ _ st puts (ahead done rest a v is) p cut =
+    unsent (front_cut h bus y base w k l front done rest a v s mid t puts is st p cut)
+begun_cut front word h bus y base w k l s mid t _ _ st puts writes p cut =
+    written_cut word h bus y base w l mid t (words_put h bus y base w k l front s mid puts st p) cut
+begun_cut front word h bus y base w k l s mid t _ _ st puts (polls words vain) p cut =
+    let tail : List Act = Put command_address word ∷ map poll_act words in
+    let split : Split front tail s mid = site_acts-split front tail s mid p in
+    let ready : Stood h bus y base w l split.mid = front_stood front tail h bus y base w k l s mid puts st split in
+    sent
+    (sent_more word (unit_of l h bus) h y base mid t (sent_polls word words h bus y base w l split.mid mid ready split.rest) (status_cut mid t cut))
+begun_cut front word h bus y base w k l s mid t _ _ st puts (clears words last vain idle error) p cut =
+    let tail : List Act = Put command_address word ∷ (map poll_act words ++ poll_act last ∷ []) in
+    let split : Split front tail s mid = site_acts-split front tail s mid p in
+    let ready : Stood h bus y base w l split.mid = front_stood front tail h bus y base w k l s mid puts st split in
+    ended last mid idle error
+    (commanded word words last (unit_of l h bus) h y base w split.mid mid ready.held ready.frozen refl ready.idle ready.at split.rest) cut
+
 cut_begun : (front : List Act) (word h : ℕ) (bus : BusUnit) (y : Hart) (base : Site) (w : Hart) (l : Kept) (far : Option Far) (told : Option Far)
     (acts : List Act) (op : DmiOp) → (st : StoodTold h bus y base w far)
     → WordPuts h bus y st.kept front l → CommandBegun front word acts (Operation op) → CutAt acts op st.far told → CommandCutTold word h bus y base w l told
-cut_begun front word h bus y base w l far told _ _ st puts (ahead done rest a v is) c = record {
+cut_begun front word h bus y base w l far told acts op st puts begun c = record {
   far = c.far;
   is = c.is;
-  cut = unsent (front_cut h bus y base w st.kept l front done rest a v (site_of st.far) c.mid (site_of c.far) puts is st.stood c.acts_are c.cut);
+  cut = begun_cut front word h bus y base w st.kept l (site_of st.far) c.mid (site_of c.far) acts op st.stood puts begun c.acts_are c.cut;
 }
-cut_begun front word h bus y base w l far told _ _ st puts writes c =
-    record {
-      far = c.far;
-      is = c.is;
-      cut = written_cut word h bus y base w l c.mid (site_of c.far)
-          (words_put h bus y base w st.kept l front (site_of st.far) c.mid puts st.stood c.acts_are) c.cut;
-    }
-cut_begun front word h bus y base w l far told _ _ st puts (polls words vain) c =
-    let tail : List Act = Put command_address word ∷ map poll_act words in
-    let split : Split front tail (site_of st.far) c.mid = site_acts-split front tail (site_of st.far) c.mid c.acts_are in
-    let ready : Stood h bus y base w l split.mid = front_stood front tail h bus y base w st.kept l (site_of st.far) c.mid puts st.stood split in
-    record {
-      far = c.far;
-      is = c.is;
-      cut = sent (sent_more word (unit_of l h bus) h y base c.mid (site_of c.far) (sent_polls word words h bus y base w l split.mid c.mid ready split.rest)
-          (status_cut c.mid (site_of c.far) c.cut));
-    }
-cut_begun front word h bus y base w l far told _ _ st puts (clears words last vain idle error) c =
-    let tail : List Act = Put command_address word ∷ (map poll_act words ++ poll_act last ∷ []) in
-    let split : Split front tail (site_of st.far) c.mid = site_acts-split front tail (site_of st.far) c.mid c.acts_are in
-    let ready : Stood h bus y base w l split.mid = front_stood front tail h bus y base w st.kept l (site_of st.far) c.mid puts st.stood split in
-    record {
-      far = c.far;
-      is = c.is;
-      cut = ended last c.mid idle error (commanded word words last (unit_of l h bus) h y base w split.mid c.mid ready.held ready.frozen refl ready.idle
-          ready.at split.rest) c.cut;
-    }
 
 -- by the fault
 pub command_cut_told : (front : List Act) (word h : ℕ) (bus : BusUnit) (y : Hart) (base : Site) (w : Hart) (l : Kept) (old_count new_count : ℕ)

@@ -124,6 +124,50 @@ data1_read_keeps h bus y base z (early k number v late held (done harts is)) =
     early k number v late held (done harts (ap (operated (Read data1_address)) is))
 data1_read_keeps h bus y base z (over k e set d) = over k e set (record { harts = d.harts; is = ap (operated (Read data1_address)) d.is })
 
+abbrev pub with_data1 : ℕ → Kept → Kept
+with_data1 v k = record {
+  data0 = k.data0;
+  data1 = v;
+  progbuf0 = k.progbuf0;
+  progbuf1 = k.progbuf1;
+  progbuf2 = k.progbuf2;
+  progbuf3 = k.progbuf3;
+  command =
+      k.command;
+}
+
+pub data0_write_keeps : (v h : ℕ) (bus : BusUnit) (y : Hart) (base : Site) → KeepsErred h bus y base (Write data0_address v)
+unfolding register_at
+data0_write_keeps v h bus y base z (early k number w late held (still harts is)) =
+    early k number w late held (still harts (ap (operated (Write data0_address v)) is))
+data0_write_keeps v h bus y base z (early k number w late held (done harts is)) =
+    over (with_data0 v (words_behind false number w k)) Busy refl (record { harts = harts; is = ap (operated (Write data0_address v)) is })
+data0_write_keeps v h bus y base z (over k e set d) = over (with_data0 v k) e set (record { harts = d.harts; is = ap (operated (Write data0_address v)) d.is })
+
+pub data1_write_keeps : (v h : ℕ) (bus : BusUnit) (y : Hart) (base : Site) → KeepsErred h bus y base (Write data1_address v)
+unfolding register_at
+data1_write_keeps v h bus y base z (early k number w late held (still harts is)) =
+    early k number w late held (still harts (ap (operated (Write data1_address v)) is))
+data1_write_keeps v h bus y base z (early k number w late held (done harts is)) =
+    over (with_data1 v (words_behind false number w k)) Busy refl (record { harts = harts; is = ap (operated (Write data1_address v)) is })
+data1_write_keeps v h bus y base z (over k e set d) = over (with_data1 v k) e set (record { harts = d.harts; is = ap (operated (Write data1_address v)) d.is })
+
+-- a command that is written is ignored, or counts as a late write
+pub command_keeps : (word h : ℕ) (bus : BusUnit) (y : Hart) (base : Site) → KeepsErred h bus y base (Write command_address word)
+unfolding register_at
+command_keeps word h bus y base z (early k number w late held (still harts is)) =
+    early k number w true held (still harts (ap (operated (Write command_address word)) is))
+command_keeps word h bus y base z (early k number w late held (done harts is)) =
+    early k number w late held (done harts (ap (operated (Write command_address word)) is))
+command_keeps word h bus y base z (over k Fine set d) = let none : ⊥ = cc in absurd none
+command_keeps word h bus y base z (over k Busy set d) = over k Busy set (record { harts = d.harts; is = ap (operated (Write command_address word)) d.is })
+command_keeps word h bus y base z (over k NotSupported set d) =
+    over k NotSupported set (record { harts = d.harts; is = ap (operated (Write command_address word)) d.is })
+command_keeps word h bus y base z (over k Exception set d) =
+    over k Exception set (record { harts = d.harts; is = ap (operated (Write command_address word)) d.is })
+command_keeps word h bus y base z (over k HaltResume set d) =
+    over k HaltResume set (record { harts = d.harts; is = ap (operated (Write command_address word)) d.is })
+
 -- ---- the end shows it
 
 pub record OverAt (h : ℕ) (bus : BusUnit) (y : Hart) (base s : Site) : Type 0 where

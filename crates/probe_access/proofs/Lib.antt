@@ -15,6 +15,7 @@ pub mod AtOnceTold
 pub mod AskCalls
 pub mod ReadyTurns
 pub mod RegAnswers
+pub mod SwapTold
 pub mod RegClauses
 pub mod Counted
 pub mod AroundLemmas
@@ -48,6 +49,7 @@ pub mod ElementCalls
 pub mod CutSites
 pub mod CutHung
 pub mod CutAtOnce
+pub mod CutSwap
 pub mod CutHarts
 pub mod CutClauses
 pub mod CutAccess

@@ -5,12 +5,12 @@ use Rattle.probe_run.specs.Acts.{Act, Tells}
 use Rattle.probe_access.specs.CommandRuns.{CommandFailed}
 use Rattle.probe_access.specs.declared.fault.AccessFault.{AccessFault}
 use Rattle.probe_access.specs.declared.fault.AccessFault.TheVariants as access_fault
-use Rattle.probe_access.specs.MemoryRuns.{LoadRunFailed, Loses, PerformFailed, Performed, program_set}
-use Rattle.probe_access.specs.MemoryRuns.LoadRunFailed.{in_restore, in_restore_behind, performing, refused, taking}
+use Rattle.probe_access.specs.MemoryRuns.{LoadRunFailed, Loses, PerformFailed, Performed, program_set, TakeFailed}
+use Rattle.probe_access.specs.MemoryRuns.LoadRunFailed.{in_restore_behind, performing, refused, taking}
 use Rattle.probe_access.specs.MemoryRuns.PerformFailed.{faulted, in_run, oddly}
 use Rattle.probe_access.specs.RegisterAccess.{load_word, program_word, x8_number}
-use Rattle.probe_access.specs.RegisterRuns.{ReadFailed, RegisterRead, RegisterWritten, WriteFailed}
-use Rattle.probe_access.proofs.Counted.{perform_counted, read_counted, write_counted}
+use Rattle.probe_access.specs.RegisterRuns.{RegisterRead, RegisterWritten, WriteFailed}
+use Rattle.probe_access.proofs.Counted.{perform_counted, write_counted, take_counted}
 
 perform_refused : (word address at old_count new_count : ℕ) (old new : Tells) → PerformFailed word address old_count new_count old new (access_fault.Memory at)
     → (at ≡ address) × Performed word address 3 old new
@@ -63,14 +63,7 @@ load_lost size address x8 count mid_count new_count old first new e saved le lat
 
 pub load_not_taken : (size : Size) (address x8 count mid_count new_count : ℕ) (old first mid new : Tells) (e : AccessFault)
     → RegisterRead x8_number x8 old first
-    → Performed (load_word size) address 0 first mid → count ≤ mid_count → mid_count ≤ new_count → ReadFailed x8_number mid_count new_count mid new e
+    → Performed (load_word size) address 0 first mid → count ≤ mid_count → mid_count ≤ new_count → TakeFailed x8 mid_count new_count mid new e
     → LoadRunFailed size address count new_count old new e
 load_not_taken size address x8 count mid_count new_count old first mid new e saved p le later f =
-    taking e x8 first mid saved p (read_counted x8_number count mid_count new_count mid new e le later f)
-
-pub load_not_restored : (size : Size) (address x8 value count mid_count new_count : ℕ) (old first mid last new : Tells) (e : AccessFault)
-    → RegisterRead x8_number x8 old first
-    → Performed (load_word size) address 0 first mid → RegisterRead x8_number value mid last → count ≤ mid_count → mid_count ≤ new_count
-    → WriteFailed x8_number x8 mid_count new_count last new e → LoadRunFailed size address count new_count old new e
-load_not_restored size address x8 value count mid_count new_count old first mid last new e saved p taken le later f =
-    in_restore e x8 value first mid last saved p taken (write_counted x8_number x8 count mid_count new_count last new e le later f)
+    taking e x8 first mid saved p (take_counted x8 count mid_count new_count mid new e le later f)

@@ -15,16 +15,16 @@ use Rattle.debug_model.specs.SystemBus.{BusUnit}
 use Rattle.rv_model.specs.Widths.{MemoryReady}
 use Rattle.debug_model.specs.Told.{Far, HartHalted, IsHalted, IsReady, Selects, SiteReady, chip_of, site_of}
 use Rattle.probe_run.specs.Acts.{Tells, tells}
-use Rattle.probe_access.specs.RegisterRuns.{RegisterRead, RegisterWritten}
+use Rattle.probe_access.specs.RegisterRuns.{RegisterRead, RegisterWritten, Swaps}
 use Rattle.probe_access.proofs.AccessSteps.{WordDid}
 use Rattle.rv_model.proofs.WideMemory.{loaded_small}
 use Rattle.probe_access.specs.Accesses.{AccessLeft, IfMemory, LoadRefused, LoadedAt, unchanged}
 use Rattle.probe_access.specs.declared.fault.AccessFault.{AccessFault}
 use Rattle.probe_access.specs.declared.fault.AccessFault.TheVariants as access_fault
-use Rattle.probe_access.specs.MemoryRuns.{LoadRun, LoadRunFailed, Performed}
-use Rattle.probe_access.specs.MemoryRuns.LoadRunFailed.{in_restore, in_restore_behind, in_save, performing, refused, taking}
-use Rattle.probe_access.proofs.AroundTold.{OnlyMemory, clean_only, lost_only, only_map, perform_only, read_clean, reads_x8, write_clean, writes_x8}
-use Rattle.probe_access.proofs.AroundUntold.{PlainMemory, perform_plain, read_plain, write_plain}
+use Rattle.probe_access.specs.MemoryRuns.{LoadRun, LoadRunFailed, Performed, TakeFailed}
+use Rattle.probe_access.specs.MemoryRuns.LoadRunFailed.{in_restore_behind, in_save, performing, refused, taking}
+use Rattle.probe_access.proofs.AroundTold.{OnlyMemory, clean_only, lost_only, only_map, perform_only, read_clean, reads_x8, write_clean, writes_x8, Clean, behind_clean}
+use Rattle.probe_access.proofs.AroundUntold.{PlainMemory, perform_plain, read_plain, write_plain, take_plain}
 use Rattle.debug_model.specs.Chip.{Chip}
 use Rattle.probe_access.specs.RegisterAccess.{load_word, x8_number}
 use Rattle.probe_access.proofs.AccessEnd.{AccessEnd, access_end, access_serving, one_access, performed_untold, ready_before, written_untold}
@@ -36,6 +36,7 @@ use Rattle.probe_access.proofs.RegClauses.{first_told, untold_serving}
 use Rattle.probe_access.proofs.ScratchLemmas.{after_load, with_core_x, x8_back, x8_holds, x8_value, x8_written, x9_value}
 use Rattle.probe_access.proofs.TransferLemmas.{written_frozen}
 use Rattle.probe_access.proofs.WordAccess.{LoadFaults, Loads, address_in, in_x8, load_did}
+use Rattle.probe_access.proofs.SwapTold.{TakenTold, taken_told, taken_untold, unswapped_told}
 
 -- ---- the hart of an access
 
@@ -84,6 +85,23 @@ x8_put x8 p h bus x base w old new all is st r =
     let a : WrittenTold x8_number x8 h bus (with_core_x x 8 p) base w st.kept new.far =
     written_told x8_number x8 h bus (with_core_x x 8 p) base w old new (omega arith) st r in
     subst (λ (z : Hart). StoodTold h bus z base w new.far) (ap (debug_written (with_core_x x 8 p) x8_number) is ∙ x8_back x p all) a.then
+
+-- it was put back where what was loaded was taken
+pub x8_taken : (x8 p value h : ℕ) (bus : BusUnit) (x : Hart) (base : Site) (w : Hart) (new : Tells) → length x.core.x ≡ 32 → x8 ≡ x_of x.core 8
+    → TakenTold x8_number value x8 h bus (with_core_x x 8 p) base w new.far → StoodTold h bus x base w new.far
+x8_taken x8 p value h bus x base w new all is t =
+    subst (λ (z : Hart). StoodTold h bus z base w new.far) (ap (debug_written (with_core_x x 8 p) x8_number) is ∙ x8_back x p all) t.then
+
+take_clean : (x8 h : ℕ) (bus : BusUnit) (y : Hart) (base : Site) (w : Hart) (old_count new_count : ℕ) (old new : Tells) (e : AccessFault)
+    → StoodTold h bus y base w old.far → TakeFailed x8 old_count new_count old new e → Clean e
+take_clean x8 h bus y base w old_count new_count old new e st (TakeFailed.swapping f) =
+    behind_clean (Swaps x8_number x8) _ _ old_count new_count old new e f
+take_clean x8 h bus y base w old_count new_count old new e st (TakeFailed.reading mid early f) =
+    read_clean x8_number h bus y base w old_count new_count mid new e (omega arith) (reads_x8 y)
+    (unswapped_told x8_number x8 h bus y base w old mid (omega arith) st early) f
+take_clean x8 h bus y base w old_count new_count old new e st (TakeFailed.writing value mid last early read f) =
+    write_clean x8_number x8 h bus y base w old_count new_count last new e (omega arith) (writes_x8 y)
+    (x8_read value h bus y base w mid last (unswapped_told x8_number x8 h bus y base w old mid (omega arith) st early) read) f
 
 -- ---- a load
 
@@ -148,8 +166,7 @@ pub load_ok : (size : Size) (address value h : ℕ) (far : Option Far) (coming :
 load_ok size address value h None coming new small ready selects halted r =
     let a : r.first.far ≡ None = read_untold x8_number r.x8 (tells None coming) r.first r.saved refl in
     let b : r.mid.far ≡ None = performed_untold (load_word size) address 0 r.first r.mid r.performed a in
-    let c : r.last.far ≡ None = read_untold x8_number value r.mid r.last r.taken b in
-    let d : new.far ≡ None = written_untold x8_number r.x8 r.last new r.put_back c in
+    let d : new.far ≡ None = taken_untold r.x8 value r.mid new r.taken b in
     record { loaded_at = d; serving = untold_serving h new.far d }
 load_ok size address value h (Some f) coming new small ready selects halted r =
     let s : Site = site_of f in
@@ -162,12 +179,11 @@ load_ok size address value h (Some f) coming new small ready selects halted r =
     let memory : Memory = (passed w.before s).board.memory in
     let base : Site = accessed memory (passed w.before s) in
     let z : Hart = with_core_x x 8 w.value in
-    let rd : ReadTold x8_number value h s.unit.bus z base x r.last.far =
-    read_told x8_number value h s.unit.bus z base x r.mid r.last (omega arith) w.then r.taken in
+    let rd : TakenTold x8_number value r.x8 h s.unit.bus z base x new.far = taken_told r.x8 value h s.unit.bus z base x r.mid new w.then r.taken in
     let was_ready : MemoryReady memory = (ready_before w.before s ready).memory in
     let value_fits : w.value < 2 ^ 64 = size_small size w.value (loaded_small memory address size w.value was_ready w.is) in
     let value_is : value ≡ w.value = held_as z x8_number rd.held value w.value (x8_loaded x w.value fits.all) rd.held_is rd.value_is value_fits in
-    let back : StoodTold h s.unit.bus x base x new.far = x8_put r.x8 w.value h s.unit.bus x base x r.last new fits.all is8 rd.then r.put_back in
+    let back : StoodTold h s.unit.bus x base x new.far = x8_taken r.x8 w.value value h s.unit.bus x base x new fits.all is8 rd in
     let e : AccessEnd memory w.before s (site_of back.far) = access_end h x memory w.before s new.far back in
     record {
       loaded_at = record {
@@ -214,14 +230,7 @@ load_only size a h bus x base old_count new_count old new _ fits small st (takin
     let w : LoadWent size a h bus x base mid.far = load_went size a h bus x base first mid fits.all small (x8_read x8 h bus x base x old first st saved) p in
     let z : Hart = with_core_x x 8 w.value in
     clean_only a (Faulted (LoadFaults size a) h bus x base x new.far) e
-    (read_clean x8_number h bus z (accessed (passed w.before base).board.memory (passed w.before base)) x old_count new_count mid new e (omega arith)
-    (reads_x8 z) w.then f)
-load_only size a h bus x base old_count new_count old new _ fits small st (in_restore e x8 value first mid last saved p taken f) =
-    let w : LoadWent size a h bus x base mid.far = load_went size a h bus x base first mid fits.all small (x8_read x8 h bus x base x old first st saved) p in
-    let z : Hart = with_core_x x 8 w.value in
-    let b : Site = accessed (passed w.before base).board.memory (passed w.before base) in
-    clean_only a (Faulted (LoadFaults size a) h bus x base x new.far) e
-    (write_clean x8_number x8 h bus z b x old_count new_count last new e (omega arith) (writes_x8 z) (x8_read value h bus z b x mid last w.then taken) f)
+    (take_clean x8 h bus z (accessed (passed w.before base).board.memory (passed w.before base)) x old_count new_count mid new e w.then f)
 
 load_untold : (size : Size) (a old_count new_count : ℕ) (old new : Tells) (e : AccessFault) → old.far ≡ None
     → LoadRunFailed size a old_count new_count old new e → PlainMemory a (new.far ≡ None) e
@@ -232,10 +241,7 @@ load_untold size a old_count new_count old new _ none (refused x8 first last sav
     (refl, written_untold x8_number x8 last new back (performed_untold (load_word size) a 3 first last p (read_untold x8_number x8 old first saved none)))
 load_untold size a old_count new_count old new _ none (in_restore_behind e x8 first last saved p back) =
     write_plain x8_number x8 a (new.far ≡ None) old_count new_count last new e back
-load_untold size a old_count new_count old new _ none (taking e x8 first mid saved p f) =
-    read_plain x8_number a (new.far ≡ None) old_count new_count mid new e f
-load_untold size a old_count new_count old new _ none (in_restore e x8 value first mid last saved p taken f) =
-    write_plain x8_number x8 a (new.far ≡ None) old_count new_count last new e f
+load_untold size a old_count new_count old new _ none (taking e x8 first mid saved p f) = take_plain x8 a (new.far ≡ None) old_count new_count mid new e f
 
 -- by what is known of a fault
 pub record AccessErr (R : Chip → Option Far → Type 0) (address h : ℕ) (old new : Option Far) (e : AccessFault) : Type 0 where

@@ -273,7 +273,7 @@ abbrev pub BegunEach : (List Act → Attempt → Type 0) → List Act → List D
 BegunEach B acts [] = Unit {0}
 BegunEach B acts (op ∷ ops) = B acts (Operation op) × ((result : ℕ) → BegunEach B (acts ++ op_act op (value_of result) ∷ []) ops)
 
-begun_at : (B : List Act → Attempt → Type 0) (acts : List Act) (ops : List DmiOp) → BegunEach B acts ops
+pub begun_at : (B : List Act → Attempt → Type 0) (acts : List Act) (ops : List DmiOp) → BegunEach B acts ops
     → (done : List ThePerformed) (next : DmiOp) (left : List DmiOp)
     → map op_of done ++ next ∷ left ≡ ops → B (acts ++ map act_of done) (Operation next)
 begun_at B acts [] b [] next left e = absurd (let no : ⊥ = cc in no)

@@ -21,7 +21,7 @@ use Rattle.probe_access.specs.RegisterRuns.{double_written}
 use Rattle.probe_access.proofs.RegisterCalls.{many_broke, sent_acts, two_did, two_small}
 use Rattle.probe_run.proofs.ActLemmas.{did_list, did_together}
 
-none_vain : InVain []
+pub none_vain : InVain []
 none_vain = record { busy = λ k d h. absurd (omega arith); few = omega arith }
 
 -- ---- a command alone

@@ -9,7 +9,7 @@ use Rattle.probe_access.specs.declared.odd.OddStatus.{OddStatus}
 use Rattle.probe_run.specs.Acts.{Act, Tells}
 use Rattle.probe_run.specs.Acts.Act.{Put}
 use Rattle.probe_access.specs.CommandRuns.{CommandFailed}
-use Rattle.probe_access.specs.RegisterRuns.{RanOddly, RanTo, ReadFailed, RegisterRead, RegisterWritten, WriteFailed, double_written, exception_error, no_error}
+use Rattle.probe_access.specs.RegisterRuns.{RanOddly, RanTo, ReadFailed, RegisterRead, RegisterWritten, WriteFailed, double_written, exception_error, no_error, SwapFailed, SwappedAtOnce, SwappedTooEarly}
 use Rattle.probe_access.specs.RegisterAccess.{ebreak_word, load_word, program_word, store_word, x8_number, x9_number}
 
 -- ---- x8 and x9
@@ -68,17 +68,29 @@ pub data PerformFailed (word address old_count new_count : ℕ) (old new : Tells
   oddly : (shown : OddStatus) → RanOddly (program_set word address) program_word shown old new
       → PerformFailed word address old_count new_count old new (fault.Odd shown)
 
+-- ---- what was loaded is taken from x8, which is put back: in one call, or behind that by calls of their own
+
+pub data Taken (x8 value : ℕ) (old new : Tells) : Type 0 where
+  at_once : SwappedAtOnce x8_number value x8 old new → Taken x8 value old new
+  late : (mid last : Tells) → SwappedTooEarly x8_number x8 old mid → RegisterRead x8_number value mid last → RegisterWritten x8_number x8 last new
+      → Taken x8 value old new
+
+pub data TakeFailed (x8 old_count new_count : ℕ) (old new : Tells) (e : AccessFault) : Type 0 where
+  swapping : SwapFailed x8_number x8 old_count new_count old new e → TakeFailed x8 old_count new_count old new e
+  reading : (mid : Tells) → SwappedTooEarly x8_number x8 old mid → ReadFailed x8_number old_count new_count mid new e
+      → TakeFailed x8 old_count new_count old new e
+  writing : (value : ℕ) (mid last : Tells) → SwappedTooEarly x8_number x8 old mid → RegisterRead x8_number value mid last
+      → WriteFailed x8_number x8 old_count new_count last new e → TakeFailed x8 old_count new_count old new e
+
 -- ---- a load: x8 is saved, has the address, has what was loaded, and is put back
 
 pub record LoadRun (size : Size) (address value : ℕ) (old new : Tells) : Type 0 where
   pub x8 : ℕ
   pub first : Tells
   pub mid : Tells
-  pub last : Tells
   pub saved : RegisterRead x8_number x8 old first
   pub performed : Performed (load_word size) address no_error first mid
-  pub taken : RegisterRead x8_number value mid last
-  pub put_back : RegisterWritten x8_number x8 last new
+  pub taken : Taken x8 value mid new
 
 -- behind a fault of memory x8 was put back
 pub data LoadRunFailed (size : Size) (address old_count new_count : ℕ) (old new : Tells) : AccessFault → Type 0 where
@@ -91,10 +103,7 @@ pub data LoadRunFailed (size : Size) (address old_count new_count : ℕ) (old ne
       → Performed (load_word size) address exception_error first last
       → WriteFailed x8_number x8 old_count new_count last new e → LoadRunFailed size address old_count new_count old new e
   taking : (e : AccessFault) (x8 : ℕ) (first mid : Tells) → RegisterRead x8_number x8 old first → Performed (load_word size) address no_error first mid
-      → ReadFailed x8_number old_count new_count mid new e → LoadRunFailed size address old_count new_count old new e
-  in_restore : (e : AccessFault) (x8 value : ℕ) (first mid last : Tells) → RegisterRead x8_number x8 old first
-      → Performed (load_word size) address no_error first mid → RegisterRead x8_number value mid last
-      → WriteFailed x8_number x8 old_count new_count last new e → LoadRunFailed size address old_count new_count old new e
+      → TakeFailed x8 old_count new_count mid new e → LoadRunFailed size address old_count new_count old new e
 
 -- ---- a store, between the saving and the putting back of x8 and x9
 

@@ -1,6 +1,6 @@
 -- The calls by which a register is read or written: a transfer, and the data words behind or before it.
 -- RISC-V Debug Specification 1.0, "Access Register" and "Abstract Data 0".
-use Rattle.std.specs.Prelude.{◌≡◌, ◌≢◌, ◌∷◌, ℕ, List, [], true, false, Option, Some, None}
+use Rattle.std.specs.Prelude.{◌≡◌, ◌≢◌, ◌∷◌, ℕ, List, [], true, false, Option, Some, None, ◌++◌}
 use Rattle.debug_model.specs.Addresses.{abstractcs_address, command_address, data0_address, data1_address}
 use Rattle.debug_model.specs.declared.dmi.DmiFault.{DmiFault}
 use Rattle.debug_model.specs.declared.dmi_op.DmiOp.TheVariants.{Read, Write}
@@ -142,3 +142,38 @@ WriteFailed number value old_count new_count old new (fault.Run why) = ⊥
 WriteFailed number value old_count new_count old new fault.StillBusy =
     CommandFailed (double_written value) (transfer_word true number) old_count new_count old new fault.StillBusy
 WriteFailed number value old_count new_count old new (fault.Odd shown) = RanOddly (double_written value) (transfer_word true number) shown old new
+
+-- ---- a register is read and then written in one call, with one poll for both: with an error that a word read too early has set no command starts
+
+abbrev pub swapped_acts : ℕ → ℕ → ℕ → ℕ → List Act
+swapped_acts number low high value = asked_acts number low high ++ (double_written value ++ Put command_address (transfer_word true number) ∷ [])
+
+pub data Swaps (number value : ℕ) : List Act → Type 0 where
+  swaps : (low high : ℕ) → Swaps number value (swapped_acts number low high value)
+
+-- the end showed no error: the words are what the register held, and it was written
+pub record SwappedAtOnce (number was value : ℕ) (old new : Tells) : Type 0 where
+  pub low : ℕ
+  pub high : ℕ
+  pub last : ℕ
+  pub is : was ≡ joined low high
+  pub ended : EndedBehind (swapped_acts number low high value) last old new
+  pub error_is : error_shown last ≡ no_error
+
+-- it showed an error, which was cleared: the words mean nothing
+pub record SwappedTooEarly (number value : ℕ) (old new : Tells) : Type 0 where
+  pub low : ℕ
+  pub high : ℕ
+  pub last : ℕ
+  pub ended : EndedBehind (swapped_acts number low high value) last old new
+  pub some : error_shown last ≢ no_error
+
+-- by its answer
+abbrev pub Swapped : ℕ → ℕ → Option ℕ → Tells → Tells → Type 0
+Swapped number value (Some was) old new = SwappedAtOnce number was value old new
+Swapped number value None old new = SwappedTooEarly number value old new
+
+abbrev pub SwapFailed : ℕ → ℕ → ℕ → ℕ → Tells → Tells → AccessFault → Type 0
+SwapFailed number value old_count new_count old new e = EndBehindFailed (Swaps number value) (Write command_address (transfer_word false number))
+    (Read data1_address ∷ Read data0_address ∷ Write data0_address (low_half value) ∷ Write data1_address (high_half value)
+    ∷ Write command_address (transfer_word true number) ∷ Read abstractcs_address ∷ []) old_count new_count old new e

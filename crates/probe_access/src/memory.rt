@@ -3,7 +3,7 @@ ghost use Rattle.rv_model.specs.Memory.{is_aligned};
 ghost use Rattle.probe_access.specs.Accesses.{AccessLeft, IfMemory, LoadRefused, LoadedAt, StoreRefused, StoredAt};
 ghost use Rattle.probe_access.specs.BusRuns.{cut_to};
 ghost use Rattle.probe_access.specs.Cuts.{AccessLeftOff, IfCut, Leaves, LoadLeaves, Scratched, StoreLeaves};
-ghost use Rattle.probe_access.specs.MemoryRuns.{Around, AroundFailed, LoadRun, LoadRunFailed, StoreFailedInside, StoredInside};
+ghost use Rattle.probe_access.specs.MemoryRuns.{Around, AroundFailed, LoadRun, LoadRunFailed, StoreFailedInside, StoredInside, TakeFailed, Taken};
 ghost use Rattle.debug_model.specs.Kept.{CanCall, Keeps};
 ghost use Rattle.probe_run.specs.Told.{Fails, OnChip, told};
 ghost use Rattle.probe_access.specs.Faults.{access_why};
@@ -13,10 +13,27 @@ use crate::fault::AccessFault;
 use crate::inside::store_inside;
 use crate::program::{X8, load_of, perform};
 use crate::scratch::save_scratch;
-use crate::transfers::{read_register, write_register};
+use crate::transfers::{read_register, swap_at_once, write_register};
 use debug_model::Dmi;
 use probe_run::Halted;
 use rv_model::Size;
+
+/// Takes what was loaded from x8 of the selected hart, and puts x8 back: in one call, and by calls of their own where that shows an error.
+fn take_loaded<D: Dmi>(link: &mut D, x8: u64) -> Result<u64, AccessFault>
+    requires callable { CanCall (D.seen link.old) }
+    ensures taken { IfOk result (λ value. Taken x8 value (told (D.seen link.old)) (told (D.seen link.new))) }
+    ensures failed { IfErr result (Fails (TakeFailed x8) (D.seen link.old) (D.seen link.new)) }
+    ensures keeps { Keeps access_why (D.seen link.old) (D.seen link.new) result }
+{
+    match swap_at_once(link, X8, x8)? {
+        Some(value) => Ok(value),
+        None => {
+            let value = read_register(link, X8)?;
+            write_register(link, X8, x8)?;
+            Ok(value)
+        }
+    }
+}
 
 /// Loads from memory by x8 of the selected hart, which has the address and then what was loaded, and is put back.
 pub(crate) fn load_around<D: Dmi>(
@@ -32,8 +49,7 @@ pub(crate) fn load_around<D: Dmi>(
     let x8 = read_register(link, X8)?;
     match perform(link, load_of(size), address) {
         Ok(()) => {
-            let value = read_register(link, X8)?;
-            write_register(link, X8, x8)?;
+            let value = take_loaded(link, x8)?;
             Ok(value)
         }
         Err(fault) => match fault {

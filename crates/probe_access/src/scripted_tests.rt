@@ -197,10 +197,10 @@ fn load_two<D: Dmi>(link: &mut D) -> Result<Loaded, Fault>
 
 #[test]
 fn loads_blocks(rt: HostRuntime) {
-    let cases: [(&[u32], Result<(), AccessFault>, usize, Option<u64>); 4] = [
+    let cases: [(&[u32], Result<(), AccessFault>, usize, Option<u64>); 5] = [
         (
             &[
-                0, 8, IDLE, IDLE, 0, 0x1000, IDLE, IDLE, 0, 8, IDLE, IDLE, 0, 0x0234, IDLE, IDLE,
+                0, 8, IDLE, IDLE, 0, 0x1000, IDLE, 0, 8, IDLE, IDLE, 0, 0x0234, IDLE,
             ],
             Ok(()),
             2,
@@ -214,13 +214,22 @@ fn loads_blocks(rt: HostRuntime) {
         ),
         (
             &[
-                0, 8, IDLE, IDLE, 0, 0x1000, IDLE, IDLE, 0, 8, IDLE, EXCEPTION, IDLE,
+                0, 8, IDLE, IDLE, 0, 0x1000, IDLE, 0, 8, IDLE, EXCEPTION, IDLE,
             ],
             Err(AccessFault::Memory(0x8000_0004)),
             1,
             Some(0x1000),
         ),
-        (&[0, 8, IDLE, IDLE, 0, 0x1000, IDLE], Err(ENDED), 0, None),
+        (&[0, 8, IDLE, IDLE, 0, 0x1000], Err(ENDED), 0, None),
+        (
+            &[
+                5, 5, EARLY, IDLE, 8, 0, IDLE, 0, 0x1000, IDLE, 0, 8, IDLE, IDLE, 5, 5, EARLY_BUSY,
+                EARLY, 0, 0x0234, IDLE, IDLE,
+            ],
+            Ok(()),
+            2,
+            Some(0x0234),
+        ),
     ];
     for (words, end, count, last) in cases {
         let mut link = opened(words);

@@ -115,9 +115,10 @@ fn writes_a_register(rt: HostRuntime) {
 #[test]
 fn loads(rt: HostRuntime) {
     let address = 0x8000_0010;
-    let cases: [(&[u32], Result<u64, AccessFault>); 6] = [
+    let cases: [(&[u32], Result<u64, AccessFault>); 7] = [
+        (&[0, 8, IDLE, IDLE, 0x66, 0x55, IDLE], Ok(0x66_0000_0055)),
         (
-            &[0, 8, IDLE, IDLE, 0x66, 0x55, IDLE, IDLE],
+            &[0, 8, IDLE, IDLE, 0x66, 0x55, BUSY, IDLE],
             Ok(0x66_0000_0055),
         ),
         (
@@ -132,10 +133,42 @@ fn loads(rt: HostRuntime) {
             &[0, 8, IDLE, EXCEPTION, 0x0400_0402],
             Err(AccessFault::Odd(OddStatus::Abstractcs(0x0400_0402))),
         ),
-        (&[0, 8, IDLE, IDLE, 0x66, 0x55, IDLE], Err(ENDED)),
+        (&[0, 8, IDLE, IDLE, 0x66, 0x55], Err(ENDED)),
         (
             &[0, 0, EXCEPTION, EXCEPTION],
             Err(AccessFault::Register(0x1008)),
+        ),
+    ];
+    for (words, wanted) in cases {
+        let mut link = around_busy(&[], 0, words);
+        assert_eq!(rt; load_around(&mut link, Size::B8, address), wanted);
+    }
+}
+
+#[test]
+fn loads_again_what_was_touched_too_early(rt: HostRuntime) {
+    let address = 0x8000_0010;
+    let loaded = Ok(0x66_0000_0055);
+    let cases: [(&[u32], Result<u64, AccessFault>); 6] = [
+        (
+            &[0, 8, IDLE, IDLE, 5, 5, EARLY, 0x66, 0x55, IDLE, IDLE],
+            loaded,
+        ),
+        (&[5, 5, EARLY, IDLE, 8, 0, IDLE, 0x66, 0x55, IDLE], loaded),
+        (
+            &[
+                0, 8, IDLE, IDLE, 5, 5, BUSY, EARLY, 5, 5, EARLY, IDLE, 0x55, 0x66, IDLE,
+            ],
+            loaded,
+        ),
+        (&[0, 8, IDLE, IDLE, 5, 5, EARLY], Err(ENDED)),
+        (
+            &[0, 8, IDLE, IDLE, 5, 5, EARLY, 0x66, 0x55, IDLE],
+            Err(ENDED),
+        ),
+        (
+            &[0, 8, IDLE, IDLE, 5, 5, EARLY, 0x66, 0x55, IDLE, 0x0400_0402],
+            odd(0x0400_0402),
         ),
     ];
     for (words, wanted) in cases {

@@ -1,11 +1,11 @@
 ghost use Rattle.std.specs.Prelude.{◌≡◌, ◌≤◌, ◌<◌, ◌^◌, ◌∷◌, [], true, false, IfOk, IfErr, OnOk};
-ghost use Rattle.probe_access.specs.RegisterRuns.{AskFailed, AskedAtOnce, ReadApart, ReadApartFailed, ReadFailed, RegisterRead, RegisterWritten, WriteFailed};
+ghost use Rattle.probe_access.specs.RegisterRuns.{AskFailed, AskedAtOnce, ReadApart, ReadApartFailed, ReadFailed, RegisterRead, RegisterWritten, SwapFailed, Swapped, WriteFailed};
 ghost use Rattle.debug_model.specs.Kept.{CanCall, Keeps};
 ghost use Rattle.probe_run.specs.Told.{Fails, told};
 ghost use Rattle.probe_access.specs.Faults.{access_why};
 
 use crate::commands::{end_command, run_command, run_with, transfer_of};
-use crate::doubles::{join, read_double};
+use crate::doubles::{high_word, join, low_word, read_double};
 use crate::fault::AccessFault;
 use crate::odd::OddStatus;
 use arrayvec::ArrayVec;
@@ -73,6 +73,39 @@ pub fn read_register<D: Dmi>(link: &mut D, register: u16) -> Result<u64, AccessF
             Ok(value)
         }
     }
+}
+
+/// Reads a register of the selected hart and then writes it, in one call with one poll for both: what it held, where the end shows no error. Else it was not
+/// written: a word that is read while a command is under way sets an error, and with an error no command starts (RISC-V Debug Specification 1.0, "Abstract
+/// Control and Status", cmderr). An error is cleared.
+pub fn swap_at_once<D: Dmi>(
+    link: &mut D,
+    register: u16,
+    value: u64,
+) -> Result<Option<u64>, AccessFault>
+    requires callable { CanCall (D.seen link.old) }
+    ensures swapped { IfOk result (λ answer. Swapped register value answer (told (D.seen link.old)) (told (D.seen link.new))) }
+    ensures failed { IfErr result (Fails (SwapFailed register value) (D.seen link.old) (D.seen link.new)) }
+    ensures keeps { Keeps access_why (D.seen link.old) (D.seen link.new) result }
+{
+    let reads = transfer_of(register, false).word();
+    let writes = transfer_of(register, true).word();
+    let operations = [
+        DmiOp::Write(AbstractCommand::ADDRESS, reads),
+        DmiOp::Read(Data1::ADDRESS),
+        DmiOp::Read(Data0::ADDRESS),
+        DmiOp::Write(Data0::ADDRESS, low_word(value)),
+        DmiOp::Write(Data1::ADDRESS, high_word(value)),
+        DmiOp::Write(AbstractCommand::ADDRESS, writes),
+        DmiOp::Read(Abstractcs::ADDRESS),
+    ];
+    let mut words = ArrayVec::new();
+    link.many(&operations, &mut words)?;
+    let last = end_command(link, words[6])?;
+    if Abstractcs::from_word(last).cmderr != 0 {
+        return Ok(None);
+    }
+    Ok(Some(join(words[2], words[1])))
 }
 
 /// Writes a register of the selected hart.

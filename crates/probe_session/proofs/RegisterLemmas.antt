@@ -43,7 +43,7 @@ pub got_none : (h number asked old_count new_count : ℕ) (old new : Tells) (e :
     → ReadFailed number old_count new_count old new e → RegisterLeft false h number old.far new.far e → GotNone h number old new
 got_none h number asked old_count new_count old new e is f left =
     refused_by (subst (λ (x : AccessFault). ReadFailed number old_count new_count old new x) is f)
-        (subst (λ (x : AccessFault). RegisterLeft false h number old.far new.far x) is left)
+    (subst (λ (x : AccessFault). RegisterLeft false h number old.far new.far x) is left)
   where
     refused_by : ReadFailed number old_count new_count old new (fault.Register asked)
         → RegisterLeft false h number old.far new.far (fault.Register asked) → GotNone h number old new

@@ -1,6 +1,6 @@
 use Rattle.std.proofs.Common.{◌∙◌, arith}
 use Rattle.probe_access.specs.MemoryRuns.LoadRunFailed.{in_save}
-use Rattle.probe_access.proofs.LoadCalls.{load_lost, load_not_restored, load_not_taken, load_refused_at, load_refused_lost, perform_loses}
+use Rattle.probe_access.proofs.LoadCalls.{load_lost, load_not_taken, load_refused_at, load_refused_lost, perform_loses}
 use Rattle.probe_access.proofs.RegisterCalls.{err_failed}
 use Rattle.probe_access.proofs.memory.load_around.Goals as goal
 
@@ -12,16 +12,7 @@ returns-in_err-value-in-Ok-clause-failed g c =
     err_failed c.from_residual-in_err-value-in-Ok.result c.in_err-value-in-Ok.field-0.0 _ c.from_residual-in_err-value-in-Ok.ensures.1
     (load_not_taken c.args.size c.args.address c.in_ok-x8.x8 _ _ _ _ _ _ _ c.in_err-value-in-Ok.field-0.0 c.in_ok-x8.ensures.read
     (rw c.load_of.ensures at c.in-Ok.ensures.performed) (omega (arith, c.read_register.ensures.keeps.later, c.perform.ensures.keeps.later))
-    c.read_register-in-Ok.ensures.keeps.later c.in_err-value-in-Ok.ensures.failed)
-
-pub returns-in_err-write_register-in-Ok-clause-failed : goal.returns-in_err-write_register-in-Ok-clause-failed
-returns-in_err-write_register-in-Ok-clause-failed g c =
-    err_failed c.from_residual-in_err-write_register-in-Ok.result c.in_err-write_register-in-Ok.field-0.0 _
-    c.from_residual-in_err-write_register-in-Ok.ensures.1
-    (load_not_restored c.args.size c.args.address c.in_ok-x8.x8 c.in_ok-value-in-Ok.value _ _ _ _ _ _ _ _ c.in_err-write_register-in-Ok.field-0.0
-    c.in_ok-x8.ensures.read (rw c.load_of.ensures at c.in-Ok.ensures.performed) c.in_ok-value-in-Ok.ensures.read
-    (omega (arith, c.read_register.ensures.keeps.later, c.perform.ensures.keeps.later, c.read_register-in-Ok.ensures.keeps.later))
-    c.write_register.ensures.keeps.later c.in_err-write_register-in-Ok.ensures.failed)
+    c.take_loaded.ensures.keeps.later c.in_err-value-in-Ok.ensures.failed)
 
 pub returns-in_err-write_register-in-Memory-clause-failed : goal.returns-in_err-write_register-in-Memory-clause-failed
 returns-in_err-write_register-in-Memory-clause-failed g c =
@@ -30,7 +21,7 @@ returns-in_err-write_register-in-Memory-clause-failed g c =
     (load_refused_lost c.args.size c.args.address c.in-Memory.field-0 c.in_ok-x8.x8 _ _ _ _ _ _ _ _ c.in-Err.fault c.in_err-write_register-in-Memory.field-0.0
     c.in_ok-x8.ensures.read c.in-Memory.is (rw c.load_of.ensures at c.in-Err.ensures.failed)
     (omega (arith, c.read_register.ensures.keeps.later, c.perform.ensures.keeps.later))
-    c.write_register-in-Memory.ensures.keeps.later c.in_err-write_register-in-Memory.ensures.failed)
+    c.write_register.ensures.keeps.later c.in_err-write_register-in-Memory.ensures.failed)
 
 pub returns-in_ok-write_register-in-Memory-clause-failed : goal.returns-in_ok-write_register-in-Memory-clause-failed
 returns-in_ok-write_register-in-Memory-clause-failed g c =

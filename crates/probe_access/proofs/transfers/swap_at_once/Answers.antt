@@ -1,0 +1,92 @@
+use Rattle.std.proofs.Common.{◌∙◌, ◌++◌, ◌∷◌, List, ℕ, [], slice_index_or, sym, ap, subst, arith}
+use Rattle.debug_model.specs.ModuleWords.{command_word}
+use Rattle.debug_model.specs.declared.abstractcs.Abstractcs.{Abstractcs}
+use Rattle.debug_model.specs.declared.abstract_command.AbstractCommand.{AbstractCommand}
+use Rattle.probe_run.specs.Acts.{Did}
+use Rattle.probe_run.specs.Told.{told}
+use Rattle.probe_access.specs.CommandRuns.{poll_act}
+use Rattle.probe_access.specs.RegisterAccess.{joined}
+use Rattle.probe_access.specs.RegisterRuns.{swapped_acts}
+use Rattle.probe_access.proofs.AskCalls.{ended_behind, swap_broke, swap_did, swap_failed}
+use Rattle.probe_access.proofs.RegisterCalls.{err_failed}
+use Rattle.probe_access.proofs.transfers.swap_at_once.Goals as goal
+
+pub returns-in_err-many-clause-failed : goal.returns-in_err-many-clause-failed
+returns-in_err-many-clause-failed g c =
+    err_failed c.from_residual.result _ _ c.from_residual.ensures.1
+    (swap_broke c.args.register c.args.value c.word-reads.result c.low_word.result c.high_word.result c.word-writes.result _ _
+    (told (g.D.Dmi.seen c.args.link.now)) (told (g.D.Dmi.seen c.many.new.self)) c.in_err-many.field-0.0
+    (record {
+      reads_are = c.word-reads.ensures ∙ ap (λ (k : AbstractCommand). command_word k) c.transfer_of.ensures;
+      low_is = c.low_word.ensures;
+      high_is = c.high_word.ensures;
+      writes_are = c.word-writes.ensures ∙ ap (λ (k : AbstractCommand). command_word k) c.transfer_of-2.ensures;
+    })
+    c.in_err-many.ensures.cut c.in_err-many.ensures.cause)
+
+pub returns-in_err-last-clause-failed : goal.returns-in_err-last-clause-failed
+returns-in_err-last-clause-failed g c =
+    err_failed c.from_residual-in_err-last.result c.in_err-last.field-0.0 _ c.from_residual-in_err-last.ensures.1
+    (swap_failed c.args.register c.args.value (slice_index_or c.many.new.results.items 2 0) (slice_index_or c.many.new.results.items 1 0)
+    (slice_index_or c.deref.result.now 6 0) c.in_err-last.field-0.0 _ _ _ _ _ _
+    (subst (λ (xs : List ℕ). Did (told (g.D.Dmi.seen c.args.link.now))
+    (swapped_acts c.args.register (slice_index_or c.many.new.results.items 2 0) (slice_index_or c.many.new.results.items 1 0) c.args.value
+    ++ poll_act (slice_index_or xs 6 0) ∷ []) (told (g.D.Dmi.seen c.many.new.self)))
+    (sym c.deref.ensures.0)
+    (swap_did c.args.register c.args.value c.word-reads.result c.low_word.result c.high_word.result c.word-writes.result c.many.new.results.items _ _
+    (record {
+      reads_are = c.word-reads.ensures ∙ ap (λ (k : AbstractCommand). command_word k) c.transfer_of.ensures;
+      low_is = c.low_word.ensures;
+      high_is = c.high_word.ensures;
+      writes_are = c.word-writes.ensures ∙ ap (λ (k : AbstractCommand). command_word k) c.transfer_of-2.ensures;
+    })
+    (omega arith) (omega arith) (omega arith) (omega arith) c.in_ok-many.ensures.count c.in_ok-many.ensures.operated c.in_ok-many.ensures.answers))
+    c.many.ensures.keeps.later c.end_command.ensures.keeps.later c.in_err-last.ensures.failed)
+
+pub returns-then-from_word-ne0-clause-swapped : goal.returns-then-from_word-ne0-clause-swapped
+returns-then-from_word-ne0-clause-swapped g c = record {
+  low = slice_index_or c.many.new.results.items 2 0;
+  high = slice_index_or c.many.new.results.items 1 0;
+  last = c.in_ok-last.last;
+  ended = ended_behind (swapped_acts c.args.register (slice_index_or c.many.new.results.items 2 0) (slice_index_or c.many.new.results.items 1 0) c.args.value)
+      (slice_index_or c.deref.result.now 6 0) c.in_ok-last.last _ _ _
+      (subst (λ (xs : List ℕ). Did (told (g.D.Dmi.seen c.args.link.now))
+      (swapped_acts c.args.register (slice_index_or c.many.new.results.items 2 0) (slice_index_or c.many.new.results.items 1 0) c.args.value
+      ++ poll_act (slice_index_or xs 6 0) ∷ []) (told (g.D.Dmi.seen c.many.new.self)))
+      (sym c.deref.ensures.0)
+      (swap_did c.args.register c.args.value c.word-reads.result c.low_word.result c.high_word.result c.word-writes.result c.many.new.results.items _ _
+      (record {
+        reads_are = c.word-reads.ensures ∙ ap (λ (k : AbstractCommand). command_word k) c.transfer_of.ensures;
+        low_is = c.low_word.ensures;
+        high_is = c.high_word.ensures;
+        writes_are = c.word-writes.ensures ∙ ap (λ (k : AbstractCommand). command_word k) c.transfer_of-2.ensures;
+      })
+      (omega arith) (omega arith) (omega arith) (omega arith) c.in_ok-many.ensures.count c.in_ok-many.ensures.operated c.in_ok-many.ensures.answers))
+      c.in_ok-last.ensures.ended;
+  some = λ none. c.if-from_word-ne0.true (ap (λ (s : Abstractcs). s.cmderr) c.from_word.ensures ∙ none);
+}
+
+pub returns-clause-swapped : goal.returns-clause-swapped
+returns-clause-swapped g c = record {
+  low = slice_index_or c.many.new.results.items 2 0;
+  high = slice_index_or c.many.new.results.items 1 0;
+  last = c.in_ok-last.last;
+  is = c.join.ensures ∙ ap (λ (xs : List ℕ). joined (slice_index_or xs 2 0) (slice_index_or c.deref-3.result.now 1 0)) c.deref-2.ensures.0
+      ∙ ap (λ (xs : List ℕ). joined (slice_index_or c.many.new.results.items 2 0) (slice_index_or xs 1 0)) c.deref-3.ensures.0;
+  ended = ended_behind (swapped_acts c.args.register (slice_index_or c.many.new.results.items 2 0) (slice_index_or c.many.new.results.items 1 0) c.args.value)
+      (slice_index_or c.deref.result.now 6 0) c.in_ok-last.last _ _ _
+      (subst (λ (xs : List ℕ). Did (told (g.D.Dmi.seen c.args.link.now))
+      (swapped_acts c.args.register (slice_index_or c.many.new.results.items 2 0) (slice_index_or c.many.new.results.items 1 0) c.args.value
+      ++ poll_act (slice_index_or xs 6 0) ∷ []) (told (g.D.Dmi.seen c.many.new.self)))
+      (sym c.deref.ensures.0)
+      (swap_did c.args.register c.args.value c.word-reads.result c.low_word.result c.high_word.result c.word-writes.result c.many.new.results.items _ _
+      (record {
+        reads_are = c.word-reads.ensures ∙ ap (λ (k : AbstractCommand). command_word k) c.transfer_of.ensures;
+        low_is = c.low_word.ensures;
+        high_is = c.high_word.ensures;
+        writes_are = c.word-writes.ensures ∙ ap (λ (k : AbstractCommand). command_word k) c.transfer_of-2.ensures;
+      })
+      (omega arith) (omega arith) (omega arith) (omega arith) c.in_ok-many.ensures.count c.in_ok-many.ensures.operated c.in_ok-many.ensures.answers))
+      c.in_ok-last.ensures.ended;
+  error_is = ap (λ (s : Abstractcs). s.cmderr) (sym c.from_word.ensures) ∙ c.if-from_word-ne0.false;
+}
