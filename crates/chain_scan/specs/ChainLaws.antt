@@ -1,5 +1,5 @@
--- What a chain of TAPs is, in the standard's words.
--- IEEE 1149.1, the serial connection of components: TMS, TCK and TRST reach all TAPs, so all stand in one state; and from TDI to TDO their registers shift as one.
+-- What a chain of TAPs is, in the standard's words. IEEE 1149.1, the serial connection of components: TMS, TCK and TRST reach all TAPs, so all stand in one
+-- state; and from TDI to TDO their registers shift as one.
 use Rattle.std.specs.Prelude.{◌≡◌, ◌≢◌, ℕ, List, [], ◌∷◌, ◌++◌, ◌⊎◌, Bool, false}
 use Rattle.jt_base.specs.BitList.{lowest, shift_in}
 use Rattle.debug_model.specs.declared.tap_state.TapState.{TapState}

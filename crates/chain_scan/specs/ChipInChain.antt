@@ -1,6 +1,6 @@
--- What the chip of a chain sees: the bytes of the stream with another TDI, that of its neighbour. So all that is proved of a chip under any bytes is so of one in
--- a chain: a rise takes one round, and no operation is lost or done twice.
--- OpenOCD, remote_bitbang, for the bytes: '0' to '7' are the levels of TCK, TMS and TDI, TCK highest.
+-- What the chip of a chain sees: the bytes of the stream with another TDI, that of its neighbour. So all that is proved of a chip under any bytes is so of one
+-- in a chain: a rise takes one round, and no operation is lost or done twice. OpenOCD, remote_bitbang, for the bytes: '0' to '7' are the levels of TCK, TMS
+-- and TDI, TCK highest.
 use Rattle.std.specs.Prelude.{◌≡◌, ℕ, ◌+◌, ◌*◌, List, [], ◌∷◌, Bool, Option, Some, None}
 use Rattle.jt_base.specs.BitList.{digit}
 use Rattle.debug_model.specs.declared.sign.Sign.{Sign}

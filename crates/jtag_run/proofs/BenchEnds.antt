@@ -81,13 +81,13 @@ possible_end : (bench : Option Live) (unread : List ℕ) (script : List Command)
 possible_end bench unread script was is first last mid e closed told cause w (behind_fault sends same kept) =
     subst (λ x. IsBenchEnd x (limit_met bench)) (sym same)
     (fault_end bench last mid.faults e sends (let none : 0 ≡ mid.faults = ap (λ (s : WireSeen). s.faults) kept in omega (arith, none))
-        (subst (λ far. EndCaused 0 mid.faults far e) told cause)
+    (subst (λ far. EndCaused 0 mid.faults far e) told cause)
     (λ met. met_at bench unread (subst MetLimit (sym (ap (λ (s : WireSeen). s.far) kept ∙ told)) met)))
 possible_end bench unread script was is first last mid e closed told cause w (quitted sends same done) =
     subst (λ x. IsBenchEnd x (limit_met bench)) (sym same) (quit_end (limit_met bench) script was is first last e sends w)
 possible_end bench unread script was is first last mid e closed told cause w (unquitted why sends same done) =
     subst (λ x. IsBenchEnd x (limit_met bench)) (sym same)
-        (unclosed_end (limit_met bench) why e (met_at bench unread (limit_unsent (far_of bench unread) mid.faults why done.later done.cause)))
+    (unclosed_end (limit_met bench) why e (met_at bench unread (limit_unsent (far_of bench unread) mid.faults why done.later done.cause)))
 
 pub on_bench : (old bench : Option Live) (unread : List ℕ) (script : List Command) (was is : SinkSeen) (closed : End)
     → WireSession script (at_bench old [] 0) (at_bench bench unread 0) was is closed

@@ -60,7 +60,7 @@ pub counted_straight : LinesAreCounted → ErrorsAreCounted
     → (loopback : Bool) (old bench : Option Live) (script : List Command) (net_was net_is : NetSeen) (taken : List ℕ) (closed : End) → loopback ≡ false
     → net_is ≡ net_was
     → SinkCaused 0 0 closed → IfSome old (λ first. OnBench first script (taken_seen []) (taken_seen taken) bench (limit_met bench) closed)
-        → IfSome old (λ first. Counted loopback first script net_was net_is taken bench closed)
+    → IfSome old (λ first. Counted loopback first script net_was net_is taken bench closed)
 counted_straight by_line by_error loopback None bench script net_was net_is taken closed direct same caused ran = tt
 counted_straight by_line by_error loopback (Some first) bench script net_was net_is taken closed direct same caused ran = record {
   carried = straight direct same ran;
@@ -72,7 +72,7 @@ pub counted_looped : LinesAreCounted → ErrorsAreCounted
     → (loopback : Bool) (old bench : Option Live) (script : List Command) (net_was mid net_is : NetSeen) (taken : List ℕ) (closed : End) → loopback ≡ true
     → Joined net_was mid
     → SinkCaused 0 0 closed → IfSome old (λ first. OnLoop first script mid net_is (taken_seen []) (taken_seen taken) bench closed)
-        → IfSome old (λ first. Counted loopback first script net_was net_is taken bench closed)
+    → IfSome old (λ first. Counted loopback first script net_was net_is taken bench closed)
 counted_looped by_line by_error loopback None bench script net_was mid net_is taken closed loops joins caused ran = tt
 counted_looped by_line by_error loopback (Some first) bench script net_was mid net_is taken closed loops joins caused ran = record {
   carried = over_net mid loops joins ran;

@@ -26,7 +26,7 @@ gen_ran : (job : Gen) (net_was net_is : NetSeen) (s t : SinkSeen) (bench mid lef
     → ((first : Live) → mid ≡ Some first → GenEnd job.loopback first script net_was net_is s t left status) → RanGen job net_was net_is s t bench left status
 gen_ran job net_was net_is s t bench mid left status script m step =
     ran m.image m.made m.loads (subst (λ commands. GenEnd job.loopback (first_chip job.options m.image) commands net_was net_is s t left status) m.script_is
-        (step (first_chip job.options m.image) m.is))
+    (step (first_chip job.options m.image) m.is))
 
 counted_at : (P : Live → Type 0) (mid : Option Live) (first : Live) → mid ≡ Some first → IfSome mid P → P first
 counted_at P mid first is holds = subst (λ m. IfSome m P) is holds
@@ -40,7 +40,7 @@ gen_unjoined job net_was net_is s t bench mid left status script fault m failed 
 pub gen_summed : (job : Gen) (net_was net_is : NetSeen) (s u t : SinkSeen) (bench mid left : Option Live) (status : Status) (script : List Command)
     (taken : List ℕ) (closed : End) → Made job script mid
     → IfSome mid (λ first. Counted job.loopback first script net_was net_is taken left closed) → u.printed ≡ grown (summary_of script taken) s.printed
-        → s.faults ≤ u.faults
+    → s.faults ≤ u.faults
     → ClosedBy closed (limit_met left) u t status → RanGen job net_was net_is s t bench left status
 gen_summed job net_was net_is s u t bench mid left status script taken closed m counted put later told =
     gen_ran job net_was net_is s t bench mid left status script m
@@ -49,7 +49,7 @@ gen_summed job net_was net_is s u t bench mid left status script taken closed m 
 pub gen_unsummed : (job : Gen) (net_was net_is : NetSeen) (s t : SinkSeen) (bench mid left : Option Live) (status : Status) (script : List Command)
     (taken : List ℕ) (closed : End) → Made job script mid
     → IfSome mid (λ first. Counted job.loopback first script net_was net_is taken left closed) → GrewByPrefix (summary_of script taken) s.printed t.printed
-        → Rises s.faults t.faults
+    → Rises s.faults t.faults
     → status ≡ status_as.Sink → RanGen job net_was net_is s t bench left status
 gen_unsummed job net_was net_is s t bench mid left status script taken closed m counted front rises sink =
     gen_ran job net_was net_is s t bench mid left status script m

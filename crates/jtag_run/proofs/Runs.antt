@@ -53,7 +53,7 @@ prepared_fresh job held commands bench p = record { first = first_chip job.optio
 both_end_at : (loopback : Bool) (job : Both) (image : List ℕ) (commands : List Command) (net_was net_is : NetSeen) (s t : SinkSeen) (mid left : Option Live)
     (status : Status) → mid ≡ Some (first_chip job.options image)
     → IfSome mid (λ first. BothEnd loopback first commands net_was net_is s t left status)
-        → BothEnd loopback (first_chip job.options image) commands net_was net_is s t left status
+    → BothEnd loopback (first_chip job.options image) commands net_was net_is s t left status
 both_end_at loopback job image commands net_was net_is s t mid left status is ended =
     subst (λ m. IfSome m (λ first. BothEnd loopback first commands net_was net_is s t left status)) is ended
 
@@ -62,7 +62,7 @@ both_ran : (job : Both) (old new : Outside) (bench mid left : Option Live) (stat
     → IfSome mid (λ first. BothEnd job.loopback first commands old.net new.net old.sink new.sink left status) → RanBoth job old new bench left status
 both_ran job old new bench mid left status commands p asked ended =
     both_done commands p.image p.script_reads p.image_is p.loads asked
-        (both_end_at job.loopback job p.image commands old.net new.net old.sink new.sink mid left status p.is ended)
+    (both_end_at job.loopback job p.image commands old.net new.net old.sink new.sink mid left status p.is ended)
 
 straight_end : (loopback : Bool) (commands : List Command) (net_was net_is : NetSeen) (s t : SinkSeen) (mid left : Option Live) (status : Status)
     → loopback ≡ false → net_is ≡ net_was
@@ -73,17 +73,17 @@ straight_end false commands net_was net_is s t (Some first) left status direct s
 
 loop_end : (loopback : Bool) (commands : List Command) (net_was net_is : NetSeen) (s t : SinkSeen) (mid left : Option Live) (status : Status) → loopback ≡ true
     → IfSome mid (λ first. LoopEnd first commands net_was net_is s t left status)
-        → IfSome mid (λ first. BothEnd loopback first commands net_was net_is s t left status)
+    → IfSome mid (λ first. BothEnd loopback first commands net_was net_is s t left status)
 loop_end true commands net_was net_is s t mid left status loops ended = ended
 loop_end false commands net_was net_is s t mid left status loops ended = absurd (let none : ⊥ = cc in none)
 
 pub both_straight : (job : Both) (old new : Outside) (bench mid left : Option Live) (status : Status) (commands : List Command)
     → Prepared job old.files.held commands mid → new.files.asked ≡ asked_both job old.files
     → job.loopback ≡ false → new.net ≡ old.net → IfSome mid (λ first. BenchEnd first commands old.sink new.sink left status)
-        → RanBoth job old new bench left status
+    → RanBoth job old new bench left status
 both_straight job old new bench mid left status commands p asked direct same ended =
     both_ran job old new bench mid left status commands p asked
-        (straight_end job.loopback commands old.net new.net old.sink new.sink mid left status direct same ended)
+    (straight_end job.loopback commands old.net new.net old.sink new.sink mid left status direct same ended)
 
 pub both_looped : (job : Both) (old new : Outside) (bench mid left : Option Live) (status : Status) (commands : List Command)
     → Prepared job old.files.held commands mid → new.files.asked ≡ asked_both job old.files
@@ -148,7 +148,7 @@ run_served words old new bench left status job is blank (served_chip image holds
 pub loop_joined : (old bench : Option Live) (script : List Command) (net_was mid net_is : NetSeen) (s u t : SinkSeen) (closed : End) (status : Status)
     → Joined net_was mid
     → IfSome old (λ first. OnLoop first script mid net_is s u bench closed) → ClosedBy closed (limit_met bench) u t status
-        → IfSome old (λ first. LoopEnd first script net_was net_is s t bench status)
+    → IfSome old (λ first. LoopEnd first script net_was net_is s t bench status)
 loop_joined None bench script net_was mid net_is s u t closed status joins went told = tt
 loop_joined (Some first) bench script net_was mid net_is s u t closed status joins went told = joined mid closed u joins went told
 

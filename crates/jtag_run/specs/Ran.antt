@@ -71,7 +71,7 @@ pub data RanBoth (job : Both) (old new : Outside) (bench left : Option Live) (st
   ran : (commands : List Command) (image : List ℕ) → HoldsScript old.files.held job.script commands → Holds old.files.held job.image image
       → CanLoad job.options image
       → new.files.asked ≡ asked_both job old.files → BothEnd job.loopback (first_chip job.options image) commands old.net new.net old.sink new.sink left status
-          → RanBoth job old new bench left status
+      → RanBoth job old new bench left status
 
 -- the image can't be loaded, and nothing was opened; or the session ran
 pub data RanGen (job : Gen) (net_was net_is : NetSeen) (old new : SinkSeen) (bench left : Option Live) (status : Status) : Type 0 where
@@ -79,7 +79,7 @@ pub data RanGen (job : Gen) (net_was net_is : NetSeen) (old new : SinkSeen) (ben
       → RanGen job net_was net_is old new bench left status
   ran : (image : List ℕ) → IsImageOf (program job.number) image → CanLoad job.options image
       → GenEnd job.loopback (first_chip job.options image) (commands job.number) net_was net_is old new left status
-          → RanGen job net_was net_is old new bench left status
+      → RanGen job net_was net_is old new bench left status
 
 -- the script was refused, and nothing was opened; or just the script was asked for, and the net was opened
 pub data RanProbe (job : Probe) (old new : Outside) (status : Status) : Type 0 where

@@ -24,7 +24,18 @@ use Rattle.probe_access.specs.RegisterAccess.{program_word, x8_number, x9_number
 use Rattle.probe_access.proofs.AccessSteps.{WordDid}
 use Rattle.probe_access.proofs.AccessTold.{Faulted, PerformedTold, SavedTold, back_told, neither_told, ran_told, saved_told}
 use Rattle.probe_access.proofs.Aside.{Frozen, accessed, passed}
-use Rattle.probe_access.proofs.RegAnswers.{ReadTold, StoodTold, WrittenTold, read_denied, read_not_odd, read_told, write_denied, write_not_odd, written_told, too_early_told}
+use Rattle.probe_access.proofs.RegAnswers.{
+  ReadTold,
+  StoodTold,
+  WrittenTold,
+  read_denied,
+  read_not_odd,
+  read_told,
+  write_denied,
+  write_not_odd,
+  written_told,
+  too_early_told,
+}
 use Rattle.probe_access.proofs.ScratchLemmas.{scratched}
 use Rattle.probe_access.proofs.TransferLemmas.{written_frozen}
 use Rattle.debug_model.specs.declared.dmi_op.DmiOp.{DmiOp}

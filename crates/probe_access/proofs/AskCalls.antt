@@ -1,5 +1,30 @@
 -- The calls of a command whose first poll is made in one call with what came in front of it, put together.
-use Rattle.std.proofs.Common.{◌≡◌, ◌≢◌, ◌∙◌, ◌≤◌, ◌<◌, ◌^◌, ◌++◌, ℕ, List, [], ◌∷◌, map, length, slice_index_or, arith, Option, refl, sym, ap, subst, append_assoc, false, All, true}
+use Rattle.std.proofs.Common.{
+  ◌≡◌,
+  ◌≢◌,
+  ◌∙◌,
+  ◌≤◌,
+  ◌<◌,
+  ◌^◌,
+  ◌++◌,
+  ℕ,
+  List,
+  [],
+  ◌∷◌,
+  map,
+  length,
+  slice_index_or,
+  arith,
+  Option,
+  refl,
+  sym,
+  ap,
+  subst,
+  append_assoc,
+  false,
+  All,
+  true,
+}
 use Rattle.debug_model.specs.Addresses.{abstractcs_address, command_address, data0_address, data1_address}
 use Rattle.debug_model.specs.declared.dmi.DmiFault.{DmiFault}
 use Rattle.debug_model.specs.declared.dmi_op.DmiOp.{DmiOp}

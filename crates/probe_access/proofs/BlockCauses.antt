@@ -14,7 +14,24 @@ use Rattle.probe_access.specs.BlockRuns.{Causes, Denied, Fetched, Fetches, Repor
 use Rattle.probe_access.specs.BlockRuns.Fetches.{nothing as none_fetched, polled_behind, polled_first}
 use Rattle.probe_access.specs.BlockRuns.WordsRead.{lower_first, upper_first}
 use Rattle.probe_access.specs.CommandRuns.{CommandFailed, RanCommand, clearing, command_acts, error_shown, poll_act, EndBehindFailed}
-use Rattle.probe_access.specs.MemoryRuns.{Around, AroundFailed, LoadRun, LoadRunFailed, PerformFailed, Performed, PutBack, PutBackFailed, Recovers, SaveFailed, Saved, StoreFailedInside, StoredInside, program_set, TakeFailed, Taken}
+use Rattle.probe_access.specs.MemoryRuns.{
+  Around,
+  AroundFailed,
+  LoadRun,
+  LoadRunFailed,
+  PerformFailed,
+  Performed,
+  PutBack,
+  PutBackFailed,
+  Recovers,
+  SaveFailed,
+  Saved,
+  StoreFailedInside,
+  StoredInside,
+  program_set,
+  TakeFailed,
+  Taken,
+}
 use Rattle.probe_access.specs.MemoryRuns.AroundFailed.{behind, in_restore, in_restore_behind, in_save, inside}
 use Rattle.probe_access.specs.MemoryRuns.LoadRunFailed.{
   in_restore_behind as load_restoring_behind,
@@ -27,7 +44,23 @@ use Rattle.probe_access.specs.MemoryRuns.PerformFailed.{in_run, faulted, oddly}
 use Rattle.probe_access.specs.MemoryRuns.PutBackFailed.{at_x8 as put_x8, at_x9 as put_x9}
 use Rattle.probe_access.specs.MemoryRuns.SaveFailed.{at_x8 as save_x8, at_x9 as save_x9}
 use Rattle.probe_access.specs.MemoryRuns.StoreFailedInside.{performing as store_performing, writing as store_writing}
-use Rattle.probe_access.specs.RegisterRuns.{RanOddly, RanTo, ReadFailed, RegisterRead, RegisterWritten, WriteFailed, double_written, Asks, ReadApart, ReadApartFailed, ReadApartFailedAt, ReadAtOnce, ReadTooEarly, SwappedAtOnce, Swaps}
+use Rattle.probe_access.specs.RegisterRuns.{
+  RanOddly,
+  RanTo,
+  ReadFailed,
+  RegisterRead,
+  RegisterWritten,
+  WriteFailed,
+  double_written,
+  Asks,
+  ReadApart,
+  ReadApartFailed,
+  ReadApartFailedAt,
+  ReadAtOnce,
+  ReadTooEarly,
+  SwappedAtOnce,
+  Swaps,
+}
 use Rattle.probe_access.specs.RegisterRuns.ReadApartFailedAt.{in_command as read_in_command, in_words as read_in_words}
 use Rattle.probe_access.specs.RegisterAccess.{joined, load_word, program_word, store_word, transfer_word, x8_number, x9_number}
 use Rattle.probe_access.proofs.RegisterCalls.{none_cleared}

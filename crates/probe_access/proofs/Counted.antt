@@ -6,7 +6,17 @@ use Rattle.probe_access.specs.declared.fault.AccessFault.TheVariants as access_f
 use Rattle.probe_run.specs.Acts.{Act, Tells}
 use Rattle.probe_access.specs.Faults.{Among}
 use Rattle.probe_access.specs.CommandRuns.{CommandBegun, CommandFailed}
-use Rattle.probe_access.specs.MemoryRuns.{AroundFailed, LoadRunFailed, PerformFailed, PutBackFailed, SaveFailed, StoreFailedInside, StoredInside, program_set, TakeFailed}
+use Rattle.probe_access.specs.MemoryRuns.{
+  AroundFailed,
+  LoadRunFailed,
+  PerformFailed,
+  PutBackFailed,
+  SaveFailed,
+  StoreFailedInside,
+  StoredInside,
+  program_set,
+  TakeFailed,
+}
 use Rattle.probe_access.specs.MemoryRuns.AroundFailed.{behind, in_restore, in_restore_behind, in_save, inside}
 use Rattle.probe_access.specs.MemoryRuns.LoadRunFailed.{
   in_restore_behind as load_restoring_behind,
@@ -19,7 +29,21 @@ use Rattle.probe_access.specs.MemoryRuns.PerformFailed.{in_run, faulted, oddly}
 use Rattle.probe_access.specs.MemoryRuns.PutBackFailed.{at_x8 as put_x8, at_x9 as put_x9}
 use Rattle.probe_access.specs.MemoryRuns.SaveFailed.{at_x8 as save_x8, at_x9 as save_x9}
 use Rattle.probe_access.specs.MemoryRuns.StoreFailedInside.{performing as store_performing, writing as store_writing}
-use Rattle.probe_access.specs.RegisterRuns.{Asks, DoubleReads, ReadApartFailed, ReadApartFailedAt, ReadFailed, WriteFailed, double_written, AskedAtOnce, ReadTooEarly, Swapped, SwappedAtOnce, SwappedTooEarly, Swaps}
+use Rattle.probe_access.specs.RegisterRuns.{
+  Asks,
+  DoubleReads,
+  ReadApartFailed,
+  ReadApartFailedAt,
+  ReadFailed,
+  WriteFailed,
+  double_written,
+  AskedAtOnce,
+  ReadTooEarly,
+  Swapped,
+  SwappedAtOnce,
+  SwappedTooEarly,
+  Swaps,
+}
 use Rattle.probe_access.specs.RegisterRuns.ReadApartFailedAt.{in_command as read_in_command, in_words as read_in_words}
 use Rattle.probe_access.specs.RegisterAccess.{load_word, program_word, transfer_word, x8_number, x9_number}
 use Rattle.probe_access.proofs.AskCalls.{behind_counted}

@@ -23,7 +23,19 @@ use Rattle.probe_access.specs.declared.fault.AccessFault.{AccessFault}
 use Rattle.probe_access.specs.declared.fault.AccessFault.TheVariants as access_fault
 use Rattle.probe_access.specs.MemoryRuns.{LoadRun, LoadRunFailed, Performed, TakeFailed}
 use Rattle.probe_access.specs.MemoryRuns.LoadRunFailed.{in_restore_behind, in_save, performing, refused, taking}
-use Rattle.probe_access.proofs.AroundTold.{OnlyMemory, clean_only, lost_only, only_map, perform_only, read_clean, reads_x8, write_clean, writes_x8, Clean, behind_clean}
+use Rattle.probe_access.proofs.AroundTold.{
+  OnlyMemory,
+  clean_only,
+  lost_only,
+  only_map,
+  perform_only,
+  read_clean,
+  reads_x8,
+  write_clean,
+  writes_x8,
+  Clean,
+  behind_clean,
+}
 use Rattle.probe_access.proofs.AroundUntold.{PlainMemory, perform_plain, read_plain, write_plain, take_plain}
 use Rattle.debug_model.specs.Chip.{Chip}
 use Rattle.probe_access.specs.RegisterAccess.{load_word, x8_number}

@@ -13,7 +13,20 @@ use Rattle.probe_access.specs.Registers.{RegisterReadAt, IfRegister, RegisterLef
 use Rattle.probe_access.proofs.Along.{did_untold}
 use Rattle.probe_access.proofs.Aside.{passed}
 use Rattle.probe_access.proofs.ReadyUnit.{kept_of, unit_of}
-use Rattle.probe_access.proofs.RegAnswers.{DeniedTold, ReadTold, StoodTold, first_stood, read_denied, read_not_odd, read_told, stood_passed, stood_ready, stood_selects, read_untold, too_early_told}
+use Rattle.probe_access.proofs.RegAnswers.{
+  DeniedTold,
+  ReadTold,
+  StoodTold,
+  first_stood,
+  read_denied,
+  read_not_odd,
+  read_told,
+  stood_passed,
+  stood_ready,
+  stood_selects,
+  read_untold,
+  too_early_told,
+}
 use Rattle.probe_access.proofs.Turns.{stays_passed, hart_aside}
 
 -- ---- the start

@@ -9,7 +9,20 @@ use Rattle.probe_access.specs.declared.odd.OddStatus.{OddStatus}
 use Rattle.probe_run.specs.Acts.{Act, Tells}
 use Rattle.probe_run.specs.Acts.Act.{Put}
 use Rattle.probe_access.specs.CommandRuns.{CommandFailed}
-use Rattle.probe_access.specs.RegisterRuns.{RanOddly, RanTo, ReadFailed, RegisterRead, RegisterWritten, WriteFailed, double_written, exception_error, no_error, SwapFailed, SwappedAtOnce, SwappedTooEarly}
+use Rattle.probe_access.specs.RegisterRuns.{
+  RanOddly,
+  RanTo,
+  ReadFailed,
+  RegisterRead,
+  RegisterWritten,
+  WriteFailed,
+  double_written,
+  exception_error,
+  no_error,
+  SwapFailed,
+  SwappedAtOnce,
+  SwappedTooEarly,
+}
 use Rattle.probe_access.specs.RegisterAccess.{ebreak_word, load_word, program_word, store_word, x8_number, x9_number}
 
 -- ---- x8 and x9

@@ -5,8 +5,13 @@ use Rattle.jtag_run.proofs.chip.serve_at.Goals as goal
 pub returns-in-Ok : goal.returns-in-Ok
 returns-in-Ok g c = record {
   served = opened
-      (record { state = g.N.Net.state c.accept.new.self; peer = g.N.Net.peer c.accept.new.self; faults = g.N.Net.fault_count c.accept.new.self; ends =
-          g.N.Net.end_count c.accept.new.self })
+      (record {
+        state = g.N.Net.state c.accept.new.self;
+        peer = g.N.Net.peer c.accept.new.self;
+        faults = g.N.Net.fault_count c.accept.new.self;
+        ends =
+            g.N.Net.end_count c.accept.new.self;
+      })
       c.serve-served.result
       (record { called = c.accept.ensures.called; opened = c.in-Ok.ensures.opened; later = c.accept.ensures.later; ends = c.accept.ensures.ends })
       c.serve-served.ensures.served c.serve-served.ensures.counts (rw c.limit_first.ensures at c.tell.ensures.told);

@@ -20,7 +20,7 @@ returns-in-Ok-put_summary g c = record {
       (record { printed = g.K.Sink.contents c.put_summary.new.out; faults = g.K.Sink.fault_count c.put_summary.new.out }) _ _ c.make.new.bench _ _
       c.in-Ok.script c.count.new.counts c.in-Ok-count.ended
       c.in-Ok.ensures.made c.in-Ok-count.ensures.counted (rw (c.commands.ensures.list, c.errors.ensures, c.lines.ensures) at c.in-Ok-put_summary.ensures.put)
-          c.put_summary.ensures.cause.later
+      c.put_summary.ensures.cause.later
       (rw c.at_limit.ensures at c.tell.ensures.told);
 }
 
@@ -28,5 +28,5 @@ pub returns : goal.returns
 returns g c = record {
   ended = gen_unsummed (gen_value c.args.job.now) _ _ _ _ _ c.make.new.bench _ _ c.in-Ok.script c.count.new.counts c.in-Ok-count.ended
       c.in-Ok.ensures.made c.in-Ok-count.ensures.counted (rw (c.commands.ensures.list, c.errors.ensures, c.lines.ensures) at c.in-Err-Failed.ensures.front)
-          c.in-Err-Failed.ensures.cause.cause refl;
+      c.in-Err-Failed.ensures.cause.cause refl;
 }

@@ -8,16 +8,22 @@ pub returns-in-Err : goal.returns-in-Err
 returns-in-Err g c = record { ended = refused_words _ _ _ _ _ c.in-Err.refusal c.in-Err.ensures.cause c.refuse.ensures.refused refl refl c.blank.ensures }
 
 pub returns-in-Both : goal.returns-in-Both
-returns-in-Both g c = record { ended = run_both _ _ _ _ _ _ (both_value c.in-Both.job) (rw c.in-Both.is at c.in-Ok.ensures.work) c.blank.ensures
-    c.run_both.ensures.ended }
+returns-in-Both g c = record {
+  ended = run_both _ _ _ _ _ _ (both_value c.in-Both.job) (rw c.in-Both.is at c.in-Ok.ensures.work) c.blank.ensures
+      c.run_both.ensures.ended;
+}
 
 pub returns-in-Gen : goal.returns-in-Gen
-returns-in-Gen g c = record { ended = run_gen _ _ _ _ _ _ (gen_value c.in-Gen.job) (rw c.in-Gen.is at c.in-Ok.ensures.work) c.blank.ensures refl
-    c.run_gen.ensures.ended }
+returns-in-Gen g c = record {
+  ended = run_gen _ _ _ _ _ _ (gen_value c.in-Gen.job) (rw c.in-Gen.is at c.in-Ok.ensures.work) c.blank.ensures refl
+      c.run_gen.ensures.ended;
+}
 
 pub returns-in-Probe : goal.returns-in-Probe
-returns-in-Probe g c = record { ended = run_probe _ _ _ _ _ (probe_value c.in-Probe.job) (rw c.in-Probe.is at c.in-Ok.ensures.work) c.blank.ensures
-    c.run_probe.ensures.ended }
+returns-in-Probe g c = record {
+  ended = run_probe _ _ _ _ _ (probe_value c.in-Probe.job) (rw c.in-Probe.is at c.in-Ok.ensures.work) c.blank.ensures
+      c.run_probe.ensures.ended;
+}
 
 pub returns-in-Chip : goal.returns-in-Chip
 returns-in-Chip g c = record {
