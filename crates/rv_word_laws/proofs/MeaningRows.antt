@@ -28,8 +28,8 @@ stated a is = record { code_is = is; operands_are = a }
 -- a line for each opcode
 all_mean : (w : ℕ) → AllMean w rows
 all_mean w =
-    let from_90 : AllMean w (drop 90 rows) = (stated refl, (stated refl, (stated refl, (stated refl, (stated refl, (stated refl, tt)))))) in
-    let from_84 : AllMean w (drop 84 rows) = (stated refl, (stated refl, (stated refl, (stated refl, (stated refl, (stated refl, from_90)))))) in
+    let from_90 : AllMean w (drop 90 rows) = (stated refl, (stated refl, ((λ is. is), ((λ is. is), ((λ is. is), ((λ is. is), tt)))))) in
+    let from_84 : AllMean w (drop 84 rows) = ((λ is. is), ((λ is. is), (stated refl, (stated refl, (stated refl, (stated refl, from_90)))))) in
     let from_78 : AllMean w (drop 78 rows) = (stated refl, (stated refl, (stated refl, (stated refl, (stated refl, (stated refl, from_84)))))) in
     let from_72 : AllMean w (drop 72 rows) = (stated refl, (stated refl, (stated refl, (stated refl, (stated refl, (stated refl, from_78)))))) in
     let from_66 : AllMean w (drop 66 rows) = (stated refl, (stated refl, (stated refl, (stated refl, (stated refl, (stated refl, from_72)))))) in
@@ -41,9 +41,9 @@ all_mean w =
     let from_30 : AllMean w (drop 30 rows) = (stated refl, (stated refl, (stated refl, (stated refl, (stated refl, (stated refl, from_36)))))) in
     let from_24 : AllMean w (drop 24 rows) = (stated refl, (stated refl, (stated refl, (stated refl, (stated refl, (stated refl, from_30)))))) in
     let from_18 : AllMean w (drop 18 rows) = (stated refl, (stated refl, (stated refl, (stated refl, (stated refl, (stated refl, from_24)))))) in
-    let from_12 : AllMean w (drop 12 rows) = ((λ is. is), ((λ is. is), (stated refl, (stated refl, (stated refl, (stated refl, from_18)))))) in
-    let from_6 : AllMean w (drop 6 rows) = ((λ is. is), ((λ is. is), (stated refl, (stated refl, (stated refl, (stated refl, from_12)))))) in
-    (stated refl, (stated refl, (stated refl, (stated refl, ((λ is. is), ((λ is. is), from_6))))))
+    let from_12 : AllMean w (drop 12 rows) = (stated refl, (stated refl, (stated refl, (stated refl, (stated refl, (stated refl, from_18)))))) in
+    let from_6 : AllMean w (drop 6 rows) = (stated refl, (stated refl, (stated refl, (stated refl, (stated refl, (stated refl, from_12)))))) in
+    (stated refl, (stated refl, (stated refl, (stated refl, (stated refl, (stated refl, from_6))))))
 
 pub means_from_meaning : (w : ℕ) (insn : Insn) → meaning w ≡ Some insn → Means w insn
 unfolding meaning
