@@ -22,7 +22,7 @@ pub record SideTap : Type 0 where
   pub tdo : Bool
   pub held : Bool  -- TRST is 1
 
--- version 1, part 0, manufacturer 0
+-- version 1, and 0 for the part number and the manufacturer
 abbrev pub side_identification : ℕ
 side_identification = 0x10000001
 

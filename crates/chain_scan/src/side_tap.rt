@@ -14,7 +14,7 @@ pub const WIDTH_LEAST: u8 = 2;
 /// The most bits of a side TAP's instruction register.
 pub const WIDTH_MOST: u8 = 8;
 
-/// What identifies a side TAP: version 1, part 0, manufacturer 0.
+/// What identifies a side TAP: version 1, and 0 for the part number and the manufacturer.
 const IDENTIFICATION: u64 = 0x1000_0001;
 
 const IDENTIFICATION_BITS: u8 = 32;
