@@ -1,5 +1,6 @@
 ghost use Rattle.std.specs.Prelude.{◌≡◌, ◌≤◌, ◌<◌, ◌^◌, ◌∷◌, [], true, false, IfOk, IfErr, OnOk};
-ghost use Rattle.probe_access.specs.RegisterRuns.{AskFailed, AskedAtOnce, ReadApart, ReadApartFailed, ReadFailed, RegisterRead, RegisterWritten, SwapFailed, Swapped, WriteFailed};
+ghost use Rattle.probe_access.specs.RegisterRuns.{AskFailed, AskedAtOnce, ReadApart, ReadApartFailed, ReadFailed};
+ghost use Rattle.probe_access.specs.RegisterRuns.{RegisterRead, RegisterWritten, SwapFailed, Swapped, WriteFailed};
 ghost use Rattle.debug_model.specs.Kept.{CanCall, Keeps};
 ghost use Rattle.probe_run.specs.Told.{Fails, told};
 ghost use Rattle.probe_access.specs.Faults.{access_why};
