@@ -174,9 +174,9 @@ def try_group(crate, group, kept, paths):
 
 def try_alone(crate, edit, kept):
     """Whether one edit is refused, and a line on it, as `rt must-fail` says it."""
-    is_refused, text = rt.must_fail(crate, edit.path, ONE_JOB, kept)
+    outcome, text = rt.must_fail(crate, edit.path, ONE_JOB, kept)
     what = text.partition(": ")[2].replace("BAD EDIT", "BROKEN").replace("refused, as it must be", "refused alone")
-    return is_refused, f"{edit.label}: {' '.join(what.split())[:SHOWN]}"
+    return outcome in (rt.REFUSED, rt.AT_LIMIT), f"{edit.label}: {' '.join(what.split())[:SHOWN]}"
 
 
 def try_edits(crate, paths, kept, is_proved):
