@@ -5,3 +5,4 @@ pub mod JobRanges
 pub mod RangeLemmas
 pub mod RowLemmas
 pub mod Whys
+pub mod Writing

@@ -7,7 +7,7 @@ use Rattle.clap.specs.declared.parser.matches.ArgMatches.{ArgMatches}
 use Rattle.debug_model.specs.Wire.{piece_most}
 use Rattle.command_line.specs.Job.{Text}
 use Rattle.command_line.specs.Options.{both_command, probe_command, chip_command, sniff_command}
-use Rattle.command_line.specs.WrittenJob.{least_busy, least_events, least_piece, most_busy, most_events, number_of, rows_found, rows_in, value_in}
+use Rattle.command_line.specs.WrittenJob.{least_busy, least_events, least_piece, most_busy, most_events, number_of, ranged_in, rows_found, rows_in, value_in}
 use Rattle.command_line.specs.declared.why.Refused.{Refused}
 use Rattle.command_line.specs.declared.why.Refused.TheVariants as whys
 
@@ -38,6 +38,10 @@ command_at job =
 -- the number that a word writes is outside these bounds
 abbrev pub IsOutside : ℕ → ℕ → Text → Type 0
 IsOutside least most word = (number : ℕ) × (number_of word ≡ Some number) × ((number < least) ⊎ (most < number))
+
+-- whatever number within these bounds stands where the option is not given, it has one within them
+abbrev pub HasNumber : List Row → Text → ℕ → ℕ → Type 0
+HasNumber rows option least most = (unsaid : ℕ) → least ≤ unsaid → unsaid ≤ most → IsSome (ranged_in rows option unsaid least most)
 
 -- of what a command found: the option that is named is at fault
 abbrev pub NamesIn : List Row → Refused → Type 0

@@ -1,8 +1,9 @@
-ghost use Rattle.std.specs.Prelude.{◌≡◌, ◌≤◌, IfErr, map, string_bytes, true};
+ghost use Rattle.std.specs.Prelude.{◌≡◌, ◌≤◌, IfErr, IsSome, None, OnOk, codes, map, string_bytes, true};
 ghost use Rattle.clap.specs.Words.{app_of, is_simple_and_free};
-ghost use Rattle.command_line.specs.Why.{Names, NamesAt, NamesBy, NamesIn, UnlessTaken, command_at, least_of, most_of};
+ghost use Rattle.command_line.specs.Why.{HasNumber, Names, NamesAt, NamesBy, NamesIn, UnlessTaken, command_at, least_of, most_of};
 ghost use Rattle.command_line.specs.Options.{both_command, chip_command, probe_command, sniff_command};
-ghost use Rattle.command_line.specs.WrittenJob.{rows_found, rows_in};
+ghost use Rattle.command_line.specs.WrittenJob.{both_in, both_of, chip_in, chip_of, inputs_in, job_by, job_of, options_in};
+ghost use Rattle.command_line.specs.WrittenJob.{probe_in, probe_of, rows_found, rows_in, sniff_in, sniff_of, value_in};
 ghost use Rattle.command_line.specs.declared.why.Refused.TheVariants.{NoMemory};
 
 use crate::fault::WordsFault;
@@ -91,10 +92,11 @@ impl Display for Refused<'_> {
 
 impl error::Error for Refused<'_> {}
 
-/// Which of the words after the program's name is why they write no job. Ok where none is found.
-#[tactic(auto, using(crate::proofs::Whys::names_first, crate::proofs::Whys::names_no_words))]
+/// Which of the words after the program's name is why they write no job. Ok exactly where they write one.
+#[tactic(auto, using(crate::proofs::Whys::names_first, crate::proofs::Whys::names_no_words, crate::proofs::Writing::writes_first))]
 pub fn why_refused<'a>(alloc: Global, words: &'a [String]) -> Result<(), Refused<'a>>
     ensures named { IfErr result (Names (map string_bytes words.now)) }
+    ensures writes { OnOk result (IsSome (job_of (map string_bytes words.now))) }
 {
     let Some(job) = words.first() else {
         return Err(Refused::NoWords);
@@ -105,6 +107,7 @@ pub fn why_refused<'a>(alloc: Global, words: &'a [String]) -> Result<(), Refused
 /// The same of words of which the first is `job`.
 fn why_of<'a>(alloc: Global, job: &'a str, words: &'a [String]) -> Result<(), Refused<'a>>
     ensures named { IfErr result (NamesAt (command_at job.now) job.now (map string_bytes words.now)) }
+    ensures writes { OnOk result (IsSome (job_by job.now (map string_bytes words.now))) }
 {
     if job == "both" {
         why_both(alloc, words)
@@ -120,43 +123,51 @@ fn why_of<'a>(alloc: Global, job: &'a str, words: &'a [String]) -> Result<(), Re
 }
 
 /// The same of the words of `both`.
-#[tactic(auto, using(crate::proofs::Whys::names_taken, crate::proofs::Whys::names_untaken))]
+#[tactic(auto, using(crate::proofs::Whys::names_taken, crate::proofs::Whys::names_untaken, crate::proofs::Writing::writes_by))]
 fn why_both<'a>(alloc: Global, words: &'a [String]) -> Result<(), Refused<'a>>
     ensures named { IfErr result (NamesBy (rows_in both_command (map string_bytes words.now))) }
+    ensures writes { OnOk result (IsSome (both_of (map string_bytes words.now))) }
 {
     let command = both_command(alloc)?;
     let matches = matched(alloc, command, words)?;
-    check_both(&matches)
+    check_both(&matches)?;
+    Ok(())
 }
 
 /// The same of the words of `probe`.
-#[tactic(auto, using(crate::proofs::Whys::names_taken, crate::proofs::Whys::names_untaken))]
+#[tactic(auto, using(crate::proofs::Whys::names_taken, crate::proofs::Whys::names_untaken, crate::proofs::Writing::writes_by))]
 fn why_probe<'a>(alloc: Global, words: &'a [String]) -> Result<(), Refused<'a>>
     ensures named { IfErr result (NamesBy (rows_in probe_command (map string_bytes words.now))) }
+    ensures writes { OnOk result (IsSome (probe_of (map string_bytes words.now))) }
 {
     let command = probe_command(alloc)?;
     let matches = matched(alloc, command, words)?;
-    check_probe(&matches)
+    check_probe(&matches)?;
+    Ok(())
 }
 
 /// The same of the words of `chip`.
-#[tactic(auto, using(crate::proofs::Whys::names_taken, crate::proofs::Whys::names_untaken))]
+#[tactic(auto, using(crate::proofs::Whys::names_taken, crate::proofs::Whys::names_untaken, crate::proofs::Writing::writes_by))]
 fn why_chip<'a>(alloc: Global, words: &'a [String]) -> Result<(), Refused<'a>>
     ensures named { IfErr result (NamesBy (rows_in chip_command (map string_bytes words.now))) }
+    ensures writes { OnOk result (IsSome (chip_of (map string_bytes words.now))) }
 {
     let command = chip_command(alloc)?;
     let matches = matched(alloc, command, words)?;
-    check_chip(&matches)
+    check_chip(&matches)?;
+    Ok(())
 }
 
 /// The same of the words of `sniff`.
-#[tactic(auto, using(crate::proofs::Whys::names_taken, crate::proofs::Whys::names_untaken))]
+#[tactic(auto, using(crate::proofs::Whys::names_taken, crate::proofs::Whys::names_untaken, crate::proofs::Writing::writes_by))]
 fn why_sniff<'a>(alloc: Global, words: &'a [String]) -> Result<(), Refused<'a>>
     ensures named { IfErr result (NamesBy (rows_in sniff_command (map string_bytes words.now))) }
+    ensures writes { OnOk result (IsSome (sniff_of (map string_bytes words.now))) }
 {
     let command = sniff_command(alloc)?;
     let matches = matched(alloc, command, words)?;
-    check_sniff(&matches)
+    check_sniff(&matches)?;
+    Ok(())
 }
 
 /// What the command finds in the words after the first, where it takes them.
@@ -178,66 +189,86 @@ fn matched<'a>(
 }
 
 /// Checks the options of `both`, in the order in which they are read.
+#[tactic(auto, using(crate::proofs::Writing::both_writes))]
 fn check_both<'a>(matches: &ArgMatches<'a>) -> Result<(), Refused<'a>>
-    ensures { IfErr result (NamesIn (rows_found matches.now)) }
+    ensures named { IfErr result (NamesIn (rows_found matches.now)) }
+    ensures writes { OnOk result (IsSome (both_in (rows_found matches.now))) }
 {
     check_inputs(matches)?;
     check_chip_options(matches)?;
-    check_number(matches, PIECE, PIECE_LEAST, PIECE_MOST as u64)
+    check_number(matches, PIECE, PIECE_LEAST, PIECE_MOST as u64)?;
+    Ok(())
 }
 
 /// Checks the options of `probe`.
+#[tactic(auto, using(crate::proofs::Writing::probe_writes))]
 fn check_probe<'a>(matches: &ArgMatches<'a>) -> Result<(), Refused<'a>>
-    ensures { IfErr result (NamesIn (rows_found matches.now)) }
+    ensures named { IfErr result (NamesIn (rows_found matches.now)) }
+    ensures writes { OnOk result (IsSome (probe_in (rows_found matches.now))) }
 {
     check_given(matches, AT)?;
-    check_given(matches, SCRIPT)
+    check_given(matches, SCRIPT)?;
+    Ok(())
 }
 
 /// Checks the options of `chip`.
+#[tactic(auto, using(crate::proofs::Writing::chip_writes))]
 fn check_chip<'a>(matches: &ArgMatches<'a>) -> Result<(), Refused<'a>>
-    ensures { IfErr result (NamesIn (rows_found matches.now)) }
+    ensures named { IfErr result (NamesIn (rows_found matches.now)) }
+    ensures writes { OnOk result (IsSome (chip_in (rows_found matches.now))) }
 {
     check_given(matches, AT)?;
     check_given(matches, IMAGE)?;
-    check_chip_options(matches)
+    check_chip_options(matches)?;
+    Ok(())
 }
 
 /// Checks the options of `sniff`.
+#[tactic(auto, using(crate::proofs::Writing::sniff_writes))]
 fn check_sniff<'a>(matches: &ArgMatches<'a>) -> Result<(), Refused<'a>>
-    ensures { IfErr result (NamesIn (rows_found matches.now)) }
+    ensures named { IfErr result (NamesIn (rows_found matches.now)) }
+    ensures writes { OnOk result (IsSome (sniff_in (rows_found matches.now))) }
 {
     check_given(matches, STREAM)?;
-    check_given(matches, ANSWERS)
+    check_given(matches, ANSWERS)?;
+    Ok(())
 }
 
 /// Checks the numbers that say how a chip is made.
+#[tactic(auto, using(crate::proofs::Writing::options_write))]
 fn check_chip_options<'a>(matches: &ArgMatches<'a>) -> Result<(), Refused<'a>>
-    ensures { IfErr result (NamesIn (rows_found matches.now)) }
+    ensures named { IfErr result (NamesIn (rows_found matches.now)) }
+    ensures writes { OnOk result (IsSome (options_in (rows_found matches.now))) }
 {
     check_number(matches, HARTS, 0, u64::MAX)?;
     check_number(matches, RAM, 0, u64::MAX)?;
     check_number(matches, SEED, 0, u64::MAX)?;
     check_number(matches, BUSY, BUSY_LEAST, BUSY_MOST)?;
-    check_number(matches, EVENTS, EVENTS_LEAST, POINTS_HIGHEST)
+    check_number(matches, EVENTS, EVENTS_LEAST, POINTS_HIGHEST)?;
+    Ok(())
 }
 
 /// Two files without a number, or a number alone.
+#[tactic(auto, using(crate::proofs::Writing::files_write, crate::proofs::Writing::number_writes))]
 fn check_inputs<'a>(matches: &ArgMatches<'a>) -> Result<(), Refused<'a>>
-    ensures { IfErr result (NamesIn (rows_found matches.now)) }
+    ensures named { IfErr result (NamesIn (rows_found matches.now)) }
+    ensures writes { OnOk result (IsSome (inputs_in (rows_found matches.now))) }
 {
     if value(matches, GEN).is_none() {
         check_given(matches, IMAGE)?;
-        return check_given(matches, SCRIPT);
+        check_given(matches, SCRIPT)?;
+        return Ok(());
     }
     check_beside(matches, IMAGE)?;
     check_beside(matches, SCRIPT)?;
-    check_number(matches, GEN, 0, u64::MAX)
+    check_number(matches, GEN, 0, u64::MAX)?;
+    Ok(())
 }
 
 /// An option that has to be given.
 fn check_given<'a>(matches: &ArgMatches<'a>, option: &'static str) -> Result<(), Refused<'a>>
-    ensures { IfErr result (NamesIn (rows_found matches.now)) }
+    ensures named { IfErr result (NamesIn (rows_found matches.now)) }
+    ensures given { OnOk result (IsSome (value_in (rows_found matches.now) option.now)) }
 {
     match value(matches, option) {
         Some(_) => Ok(()),
@@ -247,7 +278,8 @@ fn check_given<'a>(matches: &ArgMatches<'a>, option: &'static str) -> Result<(),
 
 /// An option that may not be given beside `--gen`.
 fn check_beside<'a>(matches: &ArgMatches<'a>, option: &'static str) -> Result<(), Refused<'a>>
-    ensures { IfErr result (NamesIn (rows_found matches.now)) }
+    ensures named { IfErr result (NamesIn (rows_found matches.now)) }
+    ensures alone { OnOk result (IsSome (value_in (rows_found matches.now) (codes "gen")) → value_in (rows_found matches.now) option.now ≡ None) }
 {
     match (value(matches, option), value(matches, GEN)) {
         (Some(_), Some(_)) => Err(Refused::BesideGen(option)),
@@ -256,6 +288,7 @@ fn check_beside<'a>(matches: &ArgMatches<'a>, option: &'static str) -> Result<()
 }
 
 /// The number of an option, where it is given.
+#[tactic(auto, using(crate::proofs::Writing::number_unsaid))]
 fn check_number<'a>(
     matches: &ArgMatches<'a>,
     option: &'static str,
@@ -264,7 +297,8 @@ fn check_number<'a>(
 ) -> Result<(), Refused<'a>>
     requires least { least ≡ least_of option.now }
     requires most { most ≡ most_of option.now }
-    ensures { IfErr result (NamesIn (rows_found matches.now)) }
+    ensures named { IfErr result (NamesIn (rows_found matches.now)) }
+    ensures number { OnOk result (HasNumber (rows_found matches.now) option.now least most) }
 {
     let Some(word) = value(matches, option) else {
         return Ok(());
