@@ -126,7 +126,8 @@ chip_from_is (Some a) None o x y z = cc
 chip_from_is (Some a) (Some i) None x y z = cc
 chip_from_is (Some a) (Some i) (Some o) x y z = refl
 
-pub chip_writes : (rows : List Row) → IsSome (value_in rows (codes "at")) → IsSome (value_in rows (codes "image")) → IsSome (options_in rows) → IsSome (chip_in rows)
+pub chip_writes : (rows : List Row) → IsSome (value_in rows (codes "at")) → IsSome (value_in rows (codes "image")) → IsSome (options_in rows)
+    → IsSome (chip_in rows)
 unfolding chip_in
 chip_writes rows at image options = chip_from_is _ _ _ at image options
 

@@ -35,7 +35,8 @@ returns-then-eq-4 c = record {
       (sym c.eq-else-eq-2.ensures ∙ c.if-eq-3.false) (sym c.eq-else-eq-3.ensures ∙ c.if-eq-4.true) c.why_sniff.ensures.named;
   writes = writes_at _ _ _
       (job_by-sniff c.args.job.now (map string_bytes c.args.words.now)
-      (sym c.eq.ensures ∙ c.if-eq.false) (sym c.eq-else-eq.ensures ∙ c.if-eq-2.false) (sym c.eq-else-eq-2.ensures ∙ c.if-eq-3.false) (sym c.eq-else-eq-3.ensures ∙ c.if-eq-4.true)) c.why_sniff.ensures.writes;
+      (sym c.eq.ensures ∙ c.if-eq.false) (sym c.eq-else-eq.ensures ∙ c.if-eq-2.false)
+      (sym c.eq-else-eq-2.ensures ∙ c.if-eq-3.false) (sym c.eq-else-eq-3.ensures ∙ c.if-eq-4.true)) c.why_sniff.ensures.writes;
 }
 
 pub returns-else-eq-4 : goal.returns-else-eq-4
