@@ -40,7 +40,7 @@ program_of k = Run k.progbuf0 ∷ rest_of k
 abbrev pub all_of : Kept → List Micro
 all_of k = Transfer (program_command x8_number) ∷ program_of k
 
-micro_of : (k : Kept) (y : Hart) (m : Memory) (d : Debugged) → ran_word k.progbuf0 y m ≡ d
+pub micro_of : (k : Kept) (y : Hart) (m : Memory) (d : Debugged) → ran_word k.progbuf0 y m ≡ d
     → micro_step y m (commands_of k Fine (program_of k)) ≡ executed_word d (rest_of k) (commands_of k Fine (program_of k))
 unfolding micro_step
 micro_of k y m d is = ap (λ (e : Debugged). executed_word e (rest_of k) (commands_of k Fine (program_of k))) is
@@ -77,7 +77,7 @@ pub record Running (P : Memory → Hart → Memory → Type 0) (Q : Memory → T
   pub ebreak : k.progbuf1 ≡ 0x00100073
   pub decides : (m : Memory) → WordDid P Q k.progbuf0 y m
 
-one_more : (m : DebugModule) (h : ℕ) (y : Hart) (base : Site) (w : Hart) (harts : List ℕ) (g : ℕ) (s : Site) → HartAt h base w → Frozen w → Frozen y
+pub one_more : (m : DebugModule) (h : ℕ) (y : Hart) (base : Site) (w : Hart) (harts : List ℕ) (g : ℕ) (s : Site) → HartAt h base w → Frozen w → Frozen y
     → s ≡ aside m h y (passed harts base)
     → turned g s ≡ aside m h y (passed (harts ++ g ∷ []) base)
 unfolding passed
@@ -105,7 +105,7 @@ stage_turn P Q k h bus x y base w g s r (at_fault before harts q is) =
     (one_more (unit_with k Exception [] h bus) h y (accessed (passed before base).board.memory (passed before base)) w harts g s
     (stays_passed h before base w r.held.here r.held.frozen) r.held.frozen r.frozen is)
 
-abbrev after_micro : DebugModule → ℕ → Site → Stepped → Site
+abbrev pub after_micro : DebugModule → ℕ → Site → Stepped → Site
 after_micro m h t d = aside (with_unit d.unit m) h d.hart
     (record { unit = t.unit; board = record { harts = t.board.harts; memory = d.memory }; journal = t.journal ++ access_points d.accessed })
 

@@ -12,7 +12,7 @@ use Rattle.probe_run.specs.Acts.{Act, Tells}
 use Rattle.probe_run.specs.Acts.Act.{Put}
 use Rattle.probe_access.specs.CommandRuns.{RanCommand, command_acts, error_shown}
 use Rattle.probe_access.specs.MemoryRuns.{PutBack, Saved, program_set}
-use Rattle.probe_access.specs.RegisterRuns.{RegisterRead, RegisterWritten, double_written}
+use Rattle.probe_access.specs.RegisterRuns.{double_written}
 use Rattle.probe_access.specs.RegisterAccess.{ebreak_word, program_word, x8_number, x9_number}
 use Rattle.probe_access.proofs.AccessSteps.{WordDid}
 use Rattle.probe_access.proofs.Along.{AtSites, Split, did_sites, site_acts-split}

@@ -63,7 +63,7 @@ take_plain x8 address G old_count new_count old new e (TakeFailed.reading mid ea
 take_plain x8 address G old_count new_count old new e (TakeFailed.writing value mid last early read f) =
     write_plain x8_number x8 address G old_count new_count last new e f
 
-command_plain : (front : List Act) (word address : ℕ) (G : Type 0) (old_count new_count : ℕ) (old new : Tells) (e : AccessFault)
+pub command_plain : (front : List Act) (word address : ℕ) (G : Type 0) (old_count new_count : ℕ) (old new : Tells) (e : AccessFault)
     → CommandFailed front word old_count new_count old new e → PlainMemory address G e
 command_plain front word address G old_count new_count old new (access_fault.Dmi why) f = tt
 command_plain front word address G old_count new_count old new (access_fault.Memory at) f = absurd f

@@ -1,6 +1,5 @@
 -- What a fault of an access follows, however far its calls came, and where a value was read.
 use Rattle.std.proofs.Common.{◌≡◌, ◌∙◌, ◌≤◌, ◌++◌, ℕ, List, [], ◌∷◌, map, Bool, true, false, sym, ap, subst, append_assoc, arith, All}
-use Rattle.rv_model.specs.declared.size.Size.{Size}
 use Rattle.debug_model.specs.Addresses.{data0_address, data1_address, command_address}
 use Rattle.debug_model.specs.declared.dmi.DmiFault.{DmiFault}
 use Rattle.probe_access.specs.declared.fault.AccessFault.{AccessFault}
@@ -9,60 +8,17 @@ use Rattle.probe_access.specs.declared.odd.OddStatus.{OddStatus}
 use Rattle.probe_run.specs.Acts.{Act, Did, Tells}
 use Rattle.probe_run.specs.Acts.Act.{Got, Put}
 use Rattle.probe_run.specs.Acts.Did.{nothing}
-use Rattle.probe_access.specs.Accesses.{IfMemory}
 use Rattle.probe_access.specs.BlockRuns.{Causes, Denied, Fetched, Fetches, Reported, ReportedOddly, LeavesError}
 use Rattle.probe_access.specs.BlockRuns.Fetches.{nothing as none_fetched, polled_behind, polled_first}
 use Rattle.probe_access.specs.BlockRuns.WordsRead.{lower_first, upper_first}
 use Rattle.probe_access.specs.CommandRuns.{CommandFailed, RanCommand, clearing, command_acts, error_shown, poll_act, EndBehindFailed}
-use Rattle.probe_access.specs.MemoryRuns.{
-  Around,
-  AroundFailed,
-  LoadRun,
-  LoadRunFailed,
-  PerformFailed,
-  Performed,
-  PutBack,
-  PutBackFailed,
-  Recovers,
-  SaveFailed,
-  Saved,
-  StoreFailedInside,
-  StoredInside,
-  program_set,
-  TakeFailed,
-  Taken,
-}
+use Rattle.probe_access.specs.MemoryRuns.{AroundFailed, PutBack, PutBackFailed, Recovers, SaveFailed, Saved}
 use Rattle.probe_access.specs.MemoryRuns.AroundFailed.{behind, in_restore, in_restore_behind, in_save, inside}
-use Rattle.probe_access.specs.MemoryRuns.LoadRunFailed.{
-  in_restore_behind as load_restoring_behind,
-  in_save as load_saving,
-  performing as load_performing,
-  refused as load_refused,
-  taking as load_taking,
-}
-use Rattle.probe_access.specs.MemoryRuns.PerformFailed.{in_run, faulted, oddly}
 use Rattle.probe_access.specs.MemoryRuns.PutBackFailed.{at_x8 as put_x8, at_x9 as put_x9}
 use Rattle.probe_access.specs.MemoryRuns.SaveFailed.{at_x8 as save_x8, at_x9 as save_x9}
-use Rattle.probe_access.specs.MemoryRuns.StoreFailedInside.{performing as store_performing, writing as store_writing}
-use Rattle.probe_access.specs.RegisterRuns.{
-  RanOddly,
-  RanTo,
-  ReadFailed,
-  RegisterRead,
-  RegisterWritten,
-  WriteFailed,
-  double_written,
-  Asks,
-  ReadApart,
-  ReadApartFailed,
-  ReadApartFailedAt,
-  ReadAtOnce,
-  ReadTooEarly,
-  SwappedAtOnce,
-  Swaps,
-}
+use Rattle.probe_access.specs.RegisterRuns.{RanOddly, RanTo, ReadFailed, RegisterRead, RegisterWritten, WriteFailed, double_written, Asks, DoubleRead, ReadApart, ReadApartFailed, ReadApartFailedAt, ReadAtOnce, ReadTooEarly}
 use Rattle.probe_access.specs.RegisterRuns.ReadApartFailedAt.{in_command as read_in_command, in_words as read_in_words}
-use Rattle.probe_access.specs.RegisterAccess.{joined, load_word, program_word, store_word, transfer_word, x8_number, x9_number}
+use Rattle.probe_access.specs.RegisterAccess.{joined, transfer_word, x8_number, x9_number}
 use Rattle.probe_access.proofs.RegisterCalls.{none_cleared}
 use Rattle.probe_run.proofs.ActLemmas.{broke_then, did_list, did_then}
 use Rattle.std.proofs.lemmas.List.Elements.{All-cons}
@@ -87,25 +43,18 @@ apart_calls number value a b r = calls_then a r.mid b (calls _ a r.mid r.ran.ran
 early_calls : (number : ℕ) (a b : Tells) → ReadTooEarly number a b → Calls a b
 early_calls number a b r = calls _ a b r.ended.did
 
-read_calls : (number value : ℕ) (a b : Tells) → RegisterRead number value a b → Calls a b
+pub read_calls : (number value : ℕ) (a b : Tells) → RegisterRead number value a b → Calls a b
 read_calls number value a b (RegisterRead.at_once r) = calls _ a b r.ended.did
 read_calls number value a b (RegisterRead.late mid early r) = calls_then a mid b (early_calls number a mid early) (apart_calls number value mid b r)
 
-written_calls : (number value : ℕ) (a b : Tells) → RegisterWritten number value a b → Calls a b
+pub written_calls : (number value : ℕ) (a b : Tells) → RegisterWritten number value a b → Calls a b
 written_calls number value a b r = calls _ a b r.ran.did
 
-saved_calls : (x8 x9 : ℕ) (a b : Tells) → Saved x8 x9 a b → Calls a b
+pub saved_calls : (x8 x9 : ℕ) (a b : Tells) → Saved x8 x9 a b → Calls a b
 saved_calls x8 x9 a b s = calls_then a s.mid b (read_calls x8_number x8 a s.mid s.first) (read_calls x9_number x9 s.mid b s.second)
 
-back_calls : (x8 x9 : ℕ) (a b : Tells) → PutBack x8 x9 a b → Calls a b
+pub back_calls : (x8 x9 : ℕ) (a b : Tells) → PutBack x8 x9 a b → Calls a b
 back_calls x8 x9 a b s = calls_then a s.mid b (written_calls x8_number x8 a s.mid s.first) (written_calls x9_number x9 s.mid b s.second)
-
-performed_calls : (word address error : ℕ) (a b : Tells) → Performed word address error a b → Calls a b
-performed_calls word address error a b p = calls _ a b p.ran.did
-
-stored_calls : (size : Size) (address value : ℕ) (a b : Tells) → StoredInside size address value a b → Calls a b
-stored_calls size address value a b l = calls_then a l.mid b (written_calls x9_number value a l.mid l.x9)
-    (performed_calls (store_word size) address 0 l.mid b l.performed)
 
 -- ---- a fault behind more calls
 
@@ -194,7 +143,7 @@ causes_then a b c was_count is_count count new_count (access_fault.Run why) f r 
 causes_then a b c was_count is_count count new_count (access_fault.Odd shown) f r q = absurd r
 
 -- a fault behind which calls can go on came behind calls that were Ok
-causes_calls : (a b : Tells) (was_count is_count : ℕ) (e : AccessFault) → Causes was_count is_count a b e → Recovers e → Calls a b
+pub causes_calls : (a b : Tells) (was_count is_count : ℕ) (e : AccessFault) → Causes was_count is_count a b e → Recovers e → Calls a b
 causes_calls a b was_count is_count (access_fault.Dmi why) f r = absurd r
 causes_calls a b was_count is_count (access_fault.Memory address) f r = calls _ a b f.did
 causes_calls a b was_count is_count (access_fault.Register number) f r = calls _ a b f.did
@@ -204,7 +153,7 @@ causes_calls a b was_count is_count (access_fault.Odd shown) f r = absurd r
 
 -- ---- of each part
 
-command_causes : (front : List Act) (word old_count new_count : ℕ) (a b : Tells) (e : AccessFault) → CommandFailed front word old_count new_count a b e
+pub command_causes : (front : List Act) (word old_count new_count : ℕ) (a b : Tells) (e : AccessFault) → CommandFailed front word old_count new_count a b e
     → Causes old_count new_count a b e
 command_causes front word old_count new_count a b (access_fault.Dmi why) f = (f.acts, f.failed, f.broke)
 command_causes front word old_count new_count a b (access_fault.Memory address) f = absurd f
@@ -221,7 +170,7 @@ polled_did front word last a b r =
     a b
     (sym (append_assoc front (Put command_address word ∷ map poll_act r.words) (poll_act last ∷ clearing (error_shown last)))) r.did
 
-ran_oddly : (front : List Act) (word : ℕ) (shown : OddStatus) (a b : Tells) → RanOddly front word shown a b → ReportedOddly shown a b
+pub ran_oddly : (front : List Act) (word : ℕ) (shown : OddStatus) (a b : Tells) → RanOddly front word shown a b → ReportedOddly shown a b
 ran_oddly front word shown a b r = record {
   word = r.last;
   is = r.is;
@@ -233,7 +182,7 @@ ran_oddly front word shown a b r = record {
   did = polled_did front word r.last a b r.ran;
 }
 
-ran_reported : (front : List Act) (word error : ℕ) (a b : Tells) → RanTo front word error a b → Reported error a b
+pub ran_reported : (front : List Act) (word error : ℕ) (a b : Tells) → RanTo front word error a b → Reported error a b
 ran_reported front word error a b r = record {
   front = front ++ Put command_address word ∷ map poll_act r.ran.words;
   last = r.last;
@@ -273,7 +222,7 @@ link_later count new_count access_fault.StillBusy later = tt
 link_later count new_count (access_fault.Run why) later = tt
 link_later count new_count (access_fault.Odd shown) later = tt
 
-no_link : (count new_count : ℕ) (e : AccessFault) → Recovers e → LinkLater count new_count e
+pub no_link : (count new_count : ℕ) (e : AccessFault) → Recovers e → LinkLater count new_count e
 no_link count new_count (access_fault.Dmi why) r = absurd r
 no_link count new_count (access_fault.Memory address) r = tt
 no_link count new_count (access_fault.Register number) r = tt
@@ -282,7 +231,7 @@ no_link count new_count (access_fault.Run why) r = tt
 no_link count new_count (access_fault.Odd shown) r = tt
 
 -- behind calls in this same call
-causes_same : (a b c : Tells) → Calls a b → (count new_count : ℕ) (e : AccessFault) → LinkLater count new_count e → Causes count new_count b c e
+pub causes_same : (a b c : Tells) → Calls a b → (count new_count : ℕ) (e : AccessFault) → LinkLater count new_count e → Causes count new_count b c e
     → Causes count new_count a c e
 causes_same a b c p count new_count (access_fault.Dmi why) later f = causes_behind a b c p count count new_count (access_fault.Dmi why) (omega arith) later f
 causes_same a b c p count new_count (access_fault.Memory address) later f =
@@ -319,13 +268,13 @@ behind_causes Front op ops count new_count a b access_fault.StillBusy f = record
 behind_causes Front op ops count new_count a b (access_fault.Run why) f = f
 behind_causes Front op ops count new_count a b (access_fault.Odd shown) f = absurd f
 
-read_causes : (number count new_count : ℕ) (a b : Tells) (e : AccessFault) → LinkLater count new_count e → ReadFailed number count new_count a b e
+pub read_causes : (number count new_count : ℕ) (a b : Tells) (e : AccessFault) → LinkLater count new_count e → ReadFailed number count new_count a b e
     → Causes count new_count a b e
 read_causes number count new_count a b e later (ReadFailed.asking f) = behind_causes (Asks number) _ _ count new_count a b e f
 read_causes number count new_count a b e later (ReadFailed.late mid early f) =
     causes_same a mid b (early_calls number a mid early) count new_count e later (apart_causes number count new_count mid b e later f)
 
-write_causes : (number value count new_count : ℕ) (a b : Tells) (e : AccessFault) → LinkLater count new_count e
+pub write_causes : (number value count new_count : ℕ) (a b : Tells) (e : AccessFault) → LinkLater count new_count e
     → WriteFailed number value count new_count a b e → Causes count new_count a b e
 write_causes number value count new_count a b (access_fault.Dmi why) later f =
     command_causes (double_written value) (transfer_word true number) count new_count a b (access_fault.Dmi why) f
@@ -335,28 +284,6 @@ write_causes number value count new_count a b (access_fault.Run why) later f = f
 write_causes number value count new_count a b access_fault.StillBusy later f =
     command_causes (double_written value) (transfer_word true number) count new_count a b access_fault.StillBusy f
 write_causes number value count new_count a b (access_fault.Odd shown) later f = ran_oddly (double_written value) (transfer_word true number) shown a b f
-
-take_causes : (x8 count new_count : ℕ) (a b : Tells) (e : AccessFault) → LinkLater count new_count e → TakeFailed x8 count new_count a b e
-    → Causes count new_count a b e
-take_causes x8 count new_count a b e later (TakeFailed.swapping f) = behind_causes (Swaps x8_number x8) _ _ count new_count a b e f
-take_causes x8 count new_count a b e later (TakeFailed.reading mid early f) =
-    causes_same a mid b (calls _ a mid early.ended.did) count new_count e later (read_causes x8_number count new_count mid b e later f)
-take_causes x8 count new_count a b e later (TakeFailed.writing value mid last early read f) =
-    causes_same a last b (calls_then a mid last (calls _ a mid early.ended.did) (read_calls x8_number value mid last read)) count new_count e later
-    (write_causes x8_number x8 count new_count last b e later f)
-
-perform_causes : (word address count new_count : ℕ) (a b : Tells) (e : AccessFault) → LinkLater count new_count e
-    → PerformFailed word address count new_count a b e → Causes count new_count a b e
-perform_causes word address count new_count a b _ later (in_run e f) = command_causes (program_set word address) program_word count new_count a b e f
-perform_causes word address count new_count a b _ later (faulted p) = ran_reported (program_set word address) program_word 3 a b p
-perform_causes word address count new_count a b _ later (oddly shown ran) = ran_oddly (program_set word address) program_word shown a b ran
-
-pub store_causes : (size : Size) (address value count new_count : ℕ) (a b : Tells) (e : AccessFault) → LinkLater count new_count e
-    → StoreFailedInside size address value count new_count a b e → Causes count new_count a b e
-store_causes size address value count new_count a b e later (store_writing f) = write_causes x9_number value count new_count a b e later f
-store_causes size address value count new_count a b e later (store_performing mid w f) =
-    causes_same a mid b (written_calls x9_number value a mid w) count new_count e later
-    (perform_causes (store_word size) address count new_count mid b e later f)
 
 save_causes : (count new_count : ℕ) (a b : Tells) (e : AccessFault) → LinkLater count new_count e → SaveFailed count new_count a b e
     → Causes count new_count a b e
@@ -396,42 +323,9 @@ around_causes R F count new_count a b e i later (in_restore_behind x8 x9 first l
     count new_count e later
     (back_causes x8 x9 count new_count last b e later g)
 
-pub load_causes : (size : Size) (address count new_count : ℕ) (a b : Tells) (e : AccessFault) → LinkLater count new_count e
-    → LoadRunFailed size address count new_count a b e → Causes count new_count a b e
-load_causes size address count new_count a b _ later (load_saving e f) = read_causes x8_number count new_count a b e later f
-load_causes size address count new_count a b _ later (load_performing e x8 first saved f loses) =
-    causes_same a first b (read_calls x8_number x8 a first saved) count new_count e later
-    (perform_causes (load_word size) address count new_count first b e later f)
-load_causes size address count new_count a b _ later (load_refused x8 first last saved p back) =
-    causes_same a first b (read_calls x8_number x8 a first saved) count new_count (access_fault.Memory address) later
-    (causes_then first last b count new_count count new_count (access_fault.Memory address)
-    (ran_reported (program_set (load_word size) address) program_word 3 first last p) tt
-    (written_calls x8_number x8 last b back))
-load_causes size address count new_count a b _ later (load_restoring_behind e x8 first last saved p back) =
-    causes_same a last b (calls_then a first last (read_calls x8_number x8 a first saved) (performed_calls (load_word size) address 3 first last p)) count
-    new_count e later
-    (write_causes x8_number x8 count new_count last b e later back)
-load_causes size address count new_count a b _ later (load_taking e x8 first mid saved p f) =
-    causes_same a mid b (calls_then a first mid (read_calls x8_number x8 a first saved) (performed_calls (load_word size) address 0 first mid p)) count
-    new_count e later
-    (take_causes x8 count new_count mid b e later f)
-
-pub store_inside_causes : (size : Size) (address value : ℕ) → InsideCauses (StoredInside size address value) (StoreFailedInside size address value)
-store_inside_causes size address value =
-    record {
-      went = λ a b r. stored_calls size address value a b r;
-      failed =
-          λ count new_count a b e later f. store_causes size address value count new_count a b e later f;
-    }
-
-pub store_around_calls : (size : Size) (address value : ℕ) (a b : Tells) → Around (StoredInside size address value) a b → Calls a b
-store_around_calls size address value a b r =
-    calls_then a r.first b (saved_calls r.x8 r.x9 a r.first r.saved)
-    (calls_then r.first r.last b (stored_calls size address value r.first r.last r.inside) (back_calls r.x8 r.x9 r.last b r.put_back))
-
 -- ---- what was read
 
-more_fetched : (values : List ℕ) (acts more : List Act) → Fetches values acts → Fetches values (acts ++ more)
+pub more_fetched : (values : List ℕ) (acts more : List Act) → Fetches values acts → Fetches values (acts ++ more)
 more_fetched _ _ more (none_fetched acts) = none_fetched (acts ++ more)
 more_fetched _ _ more (polled_first values front rest words last low high before idle fine read) =
     subst (λ xs. Fetches (values ++ joined low high ∷ []) xs)
@@ -447,7 +341,7 @@ more_fetched _ _ more (polled_behind values front words between rest last low hi
 pub fetched_none : (told : Tells) → Fetched [] told told
 fetched_none told = record { acts = []; did = nothing; fetches = none_fetched [] }
 
-fetched_calls : (values : List ℕ) (old mid new : Tells) → Fetched values old mid → Calls mid new → Fetched values old new
+pub fetched_calls : (values : List ℕ) (old mid new : Tells) → Fetched values old mid → Calls mid new → Fetched values old new
 fetched_calls values old mid new f p = record {
   acts = f.acts ++ p.acts;
   did = did_then f.acts old mid f.did p.acts new p.did;
@@ -455,18 +349,18 @@ fetched_calls values old mid new f p = record {
       more_fetched values f.acts p.acts f.fetches;
 }
 
--- the poll in front of the words of a register that was read
-apart_fetched : (number value : ℕ) (values : List ℕ) (old mid new : Tells) → Fetched values old mid → ReadApart number value mid new
-    → Fetched (values ++ value ∷ []) old new
-apart_fetched number value values old mid new f r =
-    let last : ℕ = r.ran.last in
-    let polls : List Act = Put command_address (transfer_word false number) ∷ map poll_act r.ran.ran.words in
-    let words : List Act = Got data0_address r.words.low ∷ Got data1_address r.words.high ∷ [] in
-    let none : [] ≡ clearing (error_shown last) = none_cleared (error_shown last) r.ran.error_is in
-    let command : Did mid (polls ++ poll_act last ∷ []) r.mid =
-    did_list (command_acts [] (transfer_word false number) r.ran.ran.words last) (polls ++ poll_act last ∷ []) mid r.mid
-    (ap (λ cs. polls ++ poll_act last ∷ cs) (sym none)) r.ran.ran.did in
-    let both : Did mid ((polls ++ poll_act last ∷ []) ++ words) new = did_then (polls ++ poll_act last ∷ []) mid r.mid command words new r.words.did in
+-- the poll in front of the words that a command handed out
+pub ran_fetched : (word value : ℕ) (values : List ℕ) (old mid ended new : Tells) → Fetched values old mid → RanTo [] word 0 mid ended
+    → DoubleRead value ended new → Fetched (values ++ value ∷ []) old new
+ran_fetched word value values old mid ended new f ran read =
+    let last : ℕ = ran.last in
+    let polls : List Act = Put command_address (word) ∷ map poll_act ran.ran.words in
+    let words : List Act = Got data0_address read.low ∷ Got data1_address read.high ∷ [] in
+    let none : [] ≡ clearing (error_shown last) = none_cleared (error_shown last) ran.error_is in
+    let command : Did mid (polls ++ poll_act last ∷ []) ended =
+    did_list (command_acts [] (word) ran.ran.words last) (polls ++ poll_act last ∷ []) mid ended
+    (ap (λ cs. polls ++ poll_act last ∷ cs) (sym none)) ran.ran.did in
+    let both : Did mid ((polls ++ poll_act last ∷ []) ++ words) new = did_then (polls ++ poll_act last ∷ []) mid ended command words new read.did in
     let shaped : Did mid (polls ++ poll_act last ∷ (words ++ [])) new =
     did_list ((polls ++ poll_act last ∷ []) ++ words) (polls ++ poll_act last ∷ (words ++ [])) mid new (append_assoc polls (poll_act last ∷ []) words) both
     in
@@ -476,13 +370,18 @@ apart_fetched number value values old mid new f r =
       acts = (f.acts ++ polls) ++ poll_act last ∷ (words ++ []);
       did = did_list (f.acts ++ (polls ++ poll_act last ∷ (words ++ []))) ((f.acts ++ polls) ++ poll_act last ∷ (words ++ [])) old new
           (sym (append_assoc f.acts polls (poll_act last ∷ (words ++ [])))) all;
-      fetches = subst (λ v. Fetches (values ++ v ∷ []) ((f.acts ++ polls) ++ poll_act last ∷ (words ++ []))) (sym r.words.is)
-          (polled_first values (f.acts ++ polls) [] words last r.words.low r.words.high (more_fetched values f.acts polls f.fetches) r.ran.ran.idle
-          r.ran.error_is lower_first);
+      fetches = subst (λ v. Fetches (values ++ v ∷ []) ((f.acts ++ polls) ++ poll_act last ∷ (words ++ []))) (sym read.is)
+          (polled_first values (f.acts ++ polls) [] words last read.low read.high (more_fetched values f.acts polls f.fetches) ran.ran.idle
+          ran.error_is lower_first);
     }
 
+apart_fetched : (number value : ℕ) (values : List ℕ) (old mid new : Tells) → Fetched values old mid → ReadApart number value mid new
+    → Fetched (values ++ value ∷ []) old new
+apart_fetched number value values old mid new f r =
+    ran_fetched (transfer_word false number) value values old mid r.mid new f r.ran r.words
+
 -- or behind them
-polls_leave : (words : List ℕ) → All LeavesError (map poll_act words)
+pub polls_leave : (words : List ℕ) → All LeavesError (map poll_act words)
 polls_leave [] = λ k d h. absurd (omega arith)
 polls_leave (w ∷ words) = All-cons LeavesError (poll_act w) (map poll_act words) tt (polls_leave words)
 
@@ -501,14 +400,14 @@ at_once_fetched number value values old mid new f r =
           (more_fetched values f.acts command f.fetches) upper_first (polls_leave r.ended.words) r.ended.idle r.error_is);
     }
 
-register_fetched : (number value : ℕ) (values : List ℕ) (old mid new : Tells) → Fetched values old mid → RegisterRead number value mid new
+pub register_fetched : (number value : ℕ) (values : List ℕ) (old mid new : Tells) → Fetched values old mid → RegisterRead number value mid new
     → Fetched (values ++ value ∷ []) old new
 register_fetched number value values old mid new f (RegisterRead.at_once r) = at_once_fetched number value values old mid new f r
 register_fetched number value values old mid new f (RegisterRead.late m early r) =
     apart_fetched number value values old m new (fetched_calls values old mid m f (early_calls number mid m early)) r
 
 -- or behind what puts the register back
-giving_leaves : (number value : ℕ) (words : List ℕ)
+pub giving_leaves : (number value : ℕ) (words : List ℕ)
     → All LeavesError ((double_written value ++ Put command_address (transfer_word true number) ∷ []) ++ map poll_act words)
 giving_leaves number value words =
     let polls : List Act = map poll_act words in
@@ -517,48 +416,5 @@ giving_leaves number value words =
     (All-cons LeavesError (Put data1_address (high_half value)) asks (omega arith)
     (All-cons LeavesError (Put command_address (transfer_word true number)) polls (omega arith) (polls_leave words)))
 
-swapped_fetched : (number value given : ℕ) (values : List ℕ) (old mid new : Tells) → Fetched values old mid → SwappedAtOnce number value given mid new
-    → Fetched (values ++ value ∷ []) old new
-swapped_fetched number value given values old mid new f r =
-    let command : List Act = Put command_address (transfer_word false number) ∷ [] in
-    let words : List Act = Got data1_address r.high ∷ Got data0_address r.low ∷ [] in
-    let between : List Act = (double_written given ++ Put command_address (transfer_word true number) ∷ []) ++ map poll_act r.ended.words in
-    let end : List Act = poll_act r.last ∷ clearing (error_shown r.last) in
-    record {
-      acts = (f.acts ++ command) ++ (words ++ (between ++ end));
-      did = did_list (f.acts ++ (command ++ (words ++ (between ++ end)))) ((f.acts ++ command) ++ (words ++ (between ++ end))) old new
-          (sym (append_assoc f.acts command (words ++ (between ++ end))))
-          (did_then f.acts old mid f.did (command ++ (words ++ (between ++ end))) new r.ended.did);
-      fetches = subst (λ v. Fetches (values ++ v ∷ []) ((f.acts ++ command) ++ (words ++ (between ++ end)))) (sym r.is)
-          (polled_behind values (f.acts ++ command) words between (clearing (error_shown r.last)) r.last r.low r.high
-          (more_fetched values f.acts command f.fetches) upper_first (giving_leaves number given r.ended.words) r.ended.idle r.error_is);
-    }
-
-taken_fetched : (x8 value : ℕ) (values : List ℕ) (old mid new : Tells) → Fetched values old mid → Taken x8 value mid new
-    → Fetched (values ++ value ∷ []) old new
-taken_fetched x8 value values old mid new f (Taken.at_once r) = swapped_fetched x8_number value x8 values old mid new f r
-taken_fetched x8 value values old mid new f (Taken.late m last early read wrote) =
-    fetched_calls (values ++ value ∷ []) old last new
-    (register_fetched x8_number value values old m last (fetched_calls values old mid m f (calls _ mid m early.ended.did)) read)
-    (written_calls x8_number x8 last new wrote)
-
-pub fetched_more : (size : Size) (address value : ℕ) (values : List ℕ) (old mid new : Tells) → Fetched values old mid → LoadRun size address value mid new
-    → Fetched (values ++ value ∷ []) old new
-fetched_more size address value values old mid new f r =
-    let at : Fetched values old r.mid = fetched_calls values old mid r.mid f
-    (calls_then mid r.first r.mid (read_calls x8_number r.x8 mid r.first r.saved) (performed_calls (load_word size) address 0 r.first r.mid r.performed)) in
-    taken_fetched r.x8 value values old r.mid new at r.taken
-
 pub fetched_made : (values : List ℕ) (old new : Tells) → Fetched values old new → Calls old new
 fetched_made values old new f = calls f.acts old new f.did
-
--- behind a fault of memory it is known still
-pub fetched_behind : (values : List ℕ) (old mid new : Tells) (old_count new_count : ℕ) (e : AccessFault) → Fetched values old mid
-    → Causes old_count new_count mid new e → IfMemory (Fetched values old new) e
-fetched_behind values old mid new old_count new_count (access_fault.Dmi why) f c = tt
-fetched_behind values old mid new old_count new_count (access_fault.Memory address) f c =
-    fetched_calls values old mid new f (calls (c.front ++ poll_act c.last ∷ c.rest) mid new c.did)
-fetched_behind values old mid new old_count new_count (access_fault.Register number) f c = tt
-fetched_behind values old mid new old_count new_count access_fault.StillBusy f c = tt
-fetched_behind values old mid new old_count new_count (access_fault.Run why) f c = tt
-fetched_behind values old mid new old_count new_count (access_fault.Odd shown) f c = tt

@@ -1,6 +1,5 @@
--- Where a block of accesses or a single step broke off at a told chip.
-use Rattle.std.proofs.Common.{◌≡◌, ◌∙◌, ◌<◌, ◌^◌, ℕ, List, Bool, true, false, Option, Some, None, ap, subst, arith, inl, inr, ◌⊎◌}
-use Rattle.rv_model.specs.declared.size.Size.{Size}
+-- Where a single step broke off at a told chip.
+use Rattle.std.proofs.Common.{◌≡◌, ◌∙◌, ◌<◌, ◌^◌, ℕ, Bool, true, false, Option, Some, None, ap, subst, arith, inl, inr, ◌⊎◌}
 use Rattle.rv_model.specs.Board.{Hart}
 use Rattle.rv_model.specs.Dcsr.{dcsr_value}
 use Rattle.rv_model.specs.DebugRegisters.{dcsr_number, debug_written}
@@ -16,10 +15,9 @@ use Rattle.probe_run.specs.declared.fault.RunFault.{RunFault}
 use Rattle.probe_run.specs.declared.fault.RunFault.TheVariants as run_fault
 use Rattle.probe_run.specs.Acts.{Tells, tells}
 use Rattle.probe_run.specs.Happens.{Leaves as RunLeaves, LeftBy, RunCut, StepLeft as RunLeft, StepsAt, target_of}
-use Rattle.probe_access.specs.BlockCuts.{BlockLoadCut, BlockStoreCut, MaybeFlagged, StepCut}
+use Rattle.probe_access.specs.BlockCuts.{MaybeFlagged, StepCut}
 use Rattle.probe_access.specs.BlockCuts.StepCut.{setting, running, clearing}
-use Rattle.probe_access.specs.Blocks.{BlockLoadedAt, BlockStoredAt, element_at}
-use Rattle.probe_access.specs.Cuts.{AccessLeftOff, IfCut, IsLeft, LeftAside, Leaves, LoadLeaves, Scratched, StoreLeaves}
+use Rattle.probe_access.specs.Cuts.{IfCut, IsLeft, LeftAside, Leaves}
 use Rattle.probe_access.specs.SingleSteps.{FlaggedAt}
 use Rattle.probe_access.specs.StepRuns.{FlagFailed, of_run, with_flag}
 use Rattle.probe_access.specs.StepRuns.FlagFailed.{at_read, at_write}
@@ -32,41 +30,6 @@ use Rattle.probe_access.proofs.RegClauses.{first_told}
 use Rattle.probe_access.proofs.StepLemmas.{flag_written}
 use Rattle.probe_access.proofs.StopClauses.{dcsr_held}
 use Rattle.probe_access.proofs.CutHung.{Hung, hung_map}
-
--- ---- blocks
-
-load_left_by : (size : Size) (address h : ℕ) (values : List ℕ) (old mid new : Option Far) → WhereTold (BlockLoadedAt size address values) old mid
-    → Leaves (AccessLeftOff Scratched LoadLeaves h) mid new → Leaves (BlockLoadCut size address values h) old new
-load_left_by size address h values None mid new before left = tt
-load_left_by size address h values (Some f) mid new before left =
-    let l : IsLeft (AccessLeftOff Scratched LoadLeaves h) before.far.live.chip new =
-    subst (λ (m : Option Far). Leaves (AccessLeftOff Scratched LoadLeaves h) m new) before.is left in
-    record { far = l.far; is = l.is; left = record { mid = site_of before.far; each = before.each; left = l.left } }
-
-pub load_block_cut : (size : Size) (address h : ℕ) (values : List ℕ) (old mid new : Option Far) (e : AccessFault)
-    → WhereTold (BlockLoadedAt size address values) old mid → IfCut (Leaves (AccessLeftOff Scratched LoadLeaves h) mid new) e
-    → IfCut (Leaves (BlockLoadCut size address values h) old new) e
-load_block_cut size address h values old mid new e before f =
-    if_cut (Leaves (AccessLeftOff Scratched LoadLeaves h) mid new) (Leaves (BlockLoadCut size address values h) old new) e
-    (load_left_by size address h values old mid new before) f
-
-store_left_by : (size : Size) (address value count h at done : ℕ) (old mid new : Option Far) → at ≡ element_at size address done → done < count
-    → WhereTold (BlockStoredAt size address value done) old mid → Leaves (AccessLeftOff Scratched (StoreLeaves size at value) h) mid new
-    → Leaves (BlockStoreCut size address value count h) old new
-store_left_by size address value count h at done None mid new is below before left = tt
-store_left_by size address value count h at done (Some f) mid new is below before left =
-    let there : Leaves (AccessLeftOff Scratched (StoreLeaves size (element_at size address done) value) h) mid new =
-    subst (λ a. Leaves (AccessLeftOff Scratched (StoreLeaves size a value) h) mid new) is left in
-    let l : IsLeft (AccessLeftOff Scratched (StoreLeaves size (element_at size address done) value) h) before.far.live.chip new =
-    subst (λ (m : Option Far). Leaves (AccessLeftOff Scratched (StoreLeaves size (element_at size address done) value) h) m new) before.is there in
-    record { far = l.far; is = l.is; left = record { done = done; below = below; mid = site_of before.far; each = before.each; left = l.left } }
-
-pub store_block_cut : (size : Size) (address value count h at done : ℕ) (old mid new : Option Far) (e : AccessFault) → at ≡ element_at size address done
-    → done < count → WhereTold (BlockStoredAt size address value done) old mid
-    → IfCut (Leaves (AccessLeftOff Scratched (StoreLeaves size at value) h) mid new) e → IfCut (Leaves (BlockStoreCut size address value count h) old new) e
-store_block_cut size address value count h at done old mid new e is below before f =
-    if_cut (Leaves (AccessLeftOff Scratched (StoreLeaves size at value) h) mid new) (Leaves (BlockStoreCut size address value count h) old new) e
-    (store_left_by size address value count h at done old mid new is below before) f
 
 -- ---- the step flag
 

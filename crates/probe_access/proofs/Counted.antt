@@ -1,51 +1,18 @@
 -- A fault is as well a fault since an earlier count of faults.
-use Rattle.std.proofs.Common.{◌≤◌, ℕ, List, [], true, false, ◌≡◌, Option, None, subst, Some}
+use Rattle.std.proofs.Common.{◌≤◌, ℕ, List, [], true, false, ◌≡◌, Option, None, subst}
 use Rattle.rv_model.specs.declared.size.Size.{Size}
 use Rattle.probe_access.specs.declared.fault.AccessFault.{AccessFault}
 use Rattle.probe_access.specs.declared.fault.AccessFault.TheVariants as access_fault
 use Rattle.probe_run.specs.Acts.{Act, Tells}
 use Rattle.probe_access.specs.Faults.{Among}
 use Rattle.probe_access.specs.CommandRuns.{CommandBegun, CommandFailed}
-use Rattle.probe_access.specs.MemoryRuns.{
-  AroundFailed,
-  LoadRunFailed,
-  PerformFailed,
-  PutBackFailed,
-  SaveFailed,
-  StoreFailedInside,
-  StoredInside,
-  program_set,
-  TakeFailed,
-}
-use Rattle.probe_access.specs.MemoryRuns.AroundFailed.{behind, in_restore, in_restore_behind, in_save, inside}
-use Rattle.probe_access.specs.MemoryRuns.LoadRunFailed.{
-  in_restore_behind as load_restoring_behind,
-  in_save as load_saving,
-  performing as load_performing,
-  refused as load_refused,
-  taking as load_taking,
-}
+use Rattle.probe_access.specs.MemoryRuns.{PerformFailed, PutBackFailed, StoreFailedInside, program_set, TakeFailed}
 use Rattle.probe_access.specs.MemoryRuns.PerformFailed.{in_run, faulted, oddly}
 use Rattle.probe_access.specs.MemoryRuns.PutBackFailed.{at_x8 as put_x8, at_x9 as put_x9}
-use Rattle.probe_access.specs.MemoryRuns.SaveFailed.{at_x8 as save_x8, at_x9 as save_x9}
 use Rattle.probe_access.specs.MemoryRuns.StoreFailedInside.{performing as store_performing, writing as store_writing}
-use Rattle.probe_access.specs.RegisterRuns.{
-  Asks,
-  DoubleReads,
-  ReadApartFailed,
-  ReadApartFailedAt,
-  ReadFailed,
-  WriteFailed,
-  double_written,
-  AskedAtOnce,
-  ReadTooEarly,
-  Swapped,
-  SwappedAtOnce,
-  SwappedTooEarly,
-  Swaps,
-}
+use Rattle.probe_access.specs.RegisterRuns.{Asks, DoubleReads, ReadApartFailed, ReadApartFailedAt, ReadFailed, WriteFailed, double_written, AskedAtOnce, ReadTooEarly, Swapped, SwappedTooEarly, Swaps}
 use Rattle.probe_access.specs.RegisterRuns.ReadApartFailedAt.{in_command as read_in_command, in_words as read_in_words}
-use Rattle.probe_access.specs.RegisterAccess.{load_word, program_word, transfer_word, x8_number, x9_number}
+use Rattle.probe_access.specs.RegisterAccess.{program_word, transfer_word, x8_number, x9_number}
 use Rattle.probe_access.proofs.AskCalls.{behind_counted}
 use Rattle.probe_access.proofs.RegisterCalls.{broke_counted}
 
@@ -136,38 +103,3 @@ take_counted x8 count mid_count new_count old new e le later (TakeFailed.writing
 pub swapped_early : (number value : ℕ) (answer : Option ℕ) (old new : Tells) → answer ≡ None → Swapped number value answer old new
     → SwappedTooEarly number value old new
 swapped_early number value answer old new is r = subst (λ (o : Option ℕ). Swapped number value o old new) is r
-
--- ---- of a whole access
-
-pub load_run_counted : (size : Size) (address count mid_count new_count : ℕ) (old new : Tells) (e : AccessFault) → count ≤ mid_count → mid_count ≤ new_count
-    → LoadRunFailed size address mid_count new_count old new e → LoadRunFailed size address count new_count old new e
-load_run_counted size address count mid_count new_count old new _ le later (load_saving e f) =
-    load_saving e (read_counted x8_number count mid_count new_count old new e le later f)
-load_run_counted size address count mid_count new_count old new _ le later (load_performing e x8 first saved f loses) =
-    load_performing e x8 first saved (perform_counted (load_word size) address count mid_count new_count first new e le later f) loses
-load_run_counted size address count mid_count new_count old new _ le later (load_refused x8 first last saved p back) = load_refused x8 first last saved p back
-load_run_counted size address count mid_count new_count old new _ le later (load_restoring_behind e x8 first last saved p f) =
-    load_restoring_behind e x8 first last saved p (write_counted x8_number x8 count mid_count new_count last new e le later f)
-load_run_counted size address count mid_count new_count old new _ le later (load_taking e x8 first mid saved p f) =
-    load_taking e x8 first mid saved p (take_counted x8 count mid_count new_count mid new e le later f)
-
-save_counted : (count mid_count new_count : ℕ) (old new : Tells) (e : AccessFault) → count ≤ mid_count → mid_count ≤ new_count
-    → SaveFailed mid_count new_count old new e → SaveFailed count new_count old new e
-save_counted count mid_count new_count old new e le later (save_x8 f) = save_x8 (read_counted x8_number count mid_count new_count old new e le later f)
-save_counted count mid_count new_count old new e le later (save_x9 x8 mid saved f) =
-    save_x9 x8 mid saved (read_counted x9_number count mid_count new_count mid new e le later f)
-
-pub store_run_counted : (size : Size) (address value count mid_count new_count : ℕ) (old new : Tells) (e : AccessFault) → count ≤ mid_count
-    → mid_count ≤ new_count → AroundFailed (StoredInside size address value) (StoreFailedInside size address value) mid_count new_count old new e
-    → AroundFailed (StoredInside size address value) (StoreFailedInside size address value) count new_count old new e
-store_run_counted size address value count mid_count new_count old new e le later (in_save f) =
-    in_save (save_counted count mid_count new_count old new e le later f)
-store_run_counted size address value count mid_count new_count old new e le later (inside x8 x9 first saved f loses) =
-    inside x8 x9 first saved (store_counted size address value count mid_count new_count first new e le later f) loses
-store_run_counted size address value count mid_count new_count old new e le later (behind x8 x9 first last was_count is_count saved f recovers back) =
-    behind x8 x9 first last was_count is_count saved f recovers back
-store_run_counted size address value count mid_count new_count old new e le later (in_restore x8 x9 first last saved done f) =
-    in_restore x8 x9 first last saved done (put_back_counted x8 x9 count mid_count new_count last new e le later f)
-store_run_counted size address value count mid_count new_count old new e le later
-    (in_restore_behind x8 x9 first last was_count is_count was saved f recovers back) =
-    in_restore_behind x8 x9 first last was_count is_count was saved f recovers (put_back_counted x8 x9 count mid_count new_count last new e le later back)

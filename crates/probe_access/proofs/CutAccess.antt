@@ -1,5 +1,5 @@
 -- Where an access to memory by the program buffer broke off: before it was made, or behind it.
-use Rattle.std.proofs.Common.{◌≡◌, ◌∙◌, ◌<◌, ◌^◌, ℕ, List, [], ◌∷◌, length, set, true, Option, Some, None, refl, sym, ap, subst, arith, inl, inr}
+use Rattle.std.proofs.Common.{◌≡◌, ◌∙◌, ◌<◌, ◌^◌, ℕ, List, [], length, set, true, Option, Some, None, refl, sym, ap, subst, arith, inl, inr}
 use Rattle.std.proofs.Math.Seq.{set-set}
 use Rattle.rv_model.specs.declared.size.Size.{Size}
 use Rattle.rv_model.specs.Board.{Hart}
@@ -10,7 +10,6 @@ use Rattle.rv_model.proofs.MemoryLemmas.{after_store_refused}
 use Rattle.debug_model.specs.Addresses.{abstractcs_address, command_address}
 use Rattle.debug_model.specs.declared.cmderr.Cmderr.TheVariants.{Fine, Exception}
 use Rattle.debug_model.specs.declared.dmi_op.DmiOp.TheVariants.{Write}
-use Rattle.debug_model.specs.Deeds.{ran}
 use Rattle.debug_model.specs.Dmi.{SiteCut}
 use Rattle.debug_model.specs.Module.{Site, after_write}
 use Rattle.debug_model.specs.SystemBus.{BusUnit}
@@ -181,7 +180,7 @@ hart_with x xs = record {
 eight_itself : (x : Hart) (q : ℕ) → length x.core.x ≡ 32 → scratched (x_of x.core 8) q x ≡ with_core_x x 9 q
 eight_itself x q all = ap (λ (xs : List ℕ). hart_with x (set xs 9 q)) (set_itself x.core.x 8 (omega arith))
 
-itself : (x : Hart) → length x.core.x ≡ 32 → AnyScratch x x
+pub itself : (x : Hart) → length x.core.x ≡ 32 → AnyScratch x x
 itself x all = record {
   p = x_of x.core 8;
   q = x_of x.core 9;
@@ -189,7 +188,7 @@ itself x all = record {
       sym (eight_itself x (x_of x.core 9) all ∙ ap (hart_with x) (set_itself x.core.x 9 (omega arith)));
 }
 
-any_same : (x y z : Hart) → z ≡ y → AnyScratch x y → AnyScratch x z
+pub any_same : (x y z : Hart) → z ≡ y → AnyScratch x y → AnyScratch x z
 any_same x y z e a = record { p = a.p; q = a.q; is = e ∙ a.is }
 
 any_x8 : (x : Hart) (p q v : ℕ) → AnyScratch x (debug_written (scratched p q x) x8_number v)
@@ -204,7 +203,7 @@ any_x8 x p q v = record {
 any_x9 : (x : Hart) (p q v : ℕ) → AnyScratch x (debug_written (scratched p q x) x9_number v)
 any_x9 x p q v = record { p = p; q = v; is = x9_written (scratched p q x) v ∙ ap (hart_with x) (set-set (set x.core.x 8 p) 9 q v) }
 
-any_written8 : (x y : Hart) (v : ℕ) → AnyScratch x y → AnyScratch x (debug_written y x8_number v)
+pub any_written8 : (x y : Hart) (v : ℕ) → AnyScratch x y → AnyScratch x (debug_written y x8_number v)
 any_written8 x y v a = any_same x (debug_written (scratched a.p a.q x) x8_number v) (debug_written y x8_number v)
     (ap (λ (z : Hart). debug_written z x8_number v) a.is) (any_x8 x a.p a.q v)
 
@@ -212,7 +211,7 @@ any_written9 : (x y : Hart) (v : ℕ) → AnyScratch x y → AnyScratch x (debug
 any_written9 x y v a = any_same x (debug_written (scratched a.p a.q x) x9_number v) (debug_written y x9_number v)
     (ap (λ (z : Hart). debug_written z x9_number v) a.is) (any_x9 x a.p a.q v)
 
-any_back : (x y : Hart) (x8 x9 : ℕ) (z : Hart) → AnyScratch x y → PutBack x8 x9 y z → AnyScratch x z
+pub any_back : (x y : Hart) (x8 x9 : ℕ) (z : Hart) → AnyScratch x y → PutBack x8 x9 y z → AnyScratch x z
 any_back x y x8 x9 z a (inl (inl e)) = any_same x y z e a
 any_back x y x8 x9 z a (inl (inr e)) = any_same x (debug_written y x8_number x8) z e (any_written8 x y x8 a)
 any_back x y x8 x9 z a (inr e) = any_same x (debug_written (debug_written y x8_number x8) x9_number x9) z e
@@ -337,7 +336,7 @@ load_hung size a h bus x base old_count new_count old new _ all small st (load_t
 
 -- ---- a store
 
-valued_scratch : (x : Hart) (v : ℕ) → length x.core.x ≡ 32 → AnyScratch x (valued x v)
+pub valued_scratch : (x : Hart) (v : ℕ) → length x.core.x ≡ 32 → AnyScratch x (valued x v)
 valued_scratch x v all = any_written9 x x v (itself x all)
 
 store_fits : (size : Size) (a v : ℕ) (x : Hart) → length x.core.x ≡ 32
@@ -349,7 +348,7 @@ store_fits size a v x all = record {
   refused = λ m q. sym (after_store_refused m a size v q.why q.is);
 }
 
-value_y : (x : Hart) (v : ℕ) (z : Hart) → length x.core.x ≡ 32 → Written x9_number v x z → AnyScratch x z
+pub value_y : (x : Hart) (v : ℕ) (z : Hart) → length x.core.x ≡ 32 → Written x9_number v x z → AnyScratch x z
 value_y x v z all (inl e) = any_same x x z e (itself x all)
 value_y x v z all (inr e) = any_same x (valued x v) z e (valued_scratch x v all)
 

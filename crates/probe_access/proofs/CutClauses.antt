@@ -37,7 +37,7 @@ use Rattle.probe_access.proofs.CutHung.{Hung, HungAt}
 
 -- ---- hart h aside
 
-left_aside : (Y : Hart → Hart → Type 0) (h : ℕ) (s : Site) (x : Hart) (t : Site) → (halted : HartHalted h s.board) → HungAt (Y halted.hart) h s.unit.bus s t
+pub left_aside : (Y : Hart → Hart → Type 0) (h : ℕ) (s : Site) (x : Hart) (t : Site) → (halted : HartHalted h s.board) → HungAt (Y halted.hart) h s.unit.bus s t
     → LeftAside Y h s t
 left_aside Y h s x t halted p =
     let q : Passed s (passed p.harts s) = passed_turns p.harts s in
@@ -119,7 +119,7 @@ stop_cut h (Some c) coming old_count new_count new e ready selects halted f =
 
 -- ---- accesses to memory
 
-scratch_as : (x y : Hart) → AnyScratch x y → Scratched x y
+pub scratch_as : (x y : Hart) → AnyScratch x y → Scratched x y
 scratch_as x y a = record {
   x8 = a.p;
   x9 = a.q;
@@ -127,7 +127,7 @@ scratch_as x y a = record {
       a.is ∙ sym (ap (λ (z : Hart). debug_written z x9_number a.q) (x8_written x a.p) ∙ x9_written (with_core_x x 8 a.p) a.q);
 }
 
-access_left : (N : Memory → Memory → Type 0) (h : ℕ) (s : Site) (halted : HartHalted h s.board) (t : Site)
+pub access_left : (N : Memory → Memory → Type 0) (h : ℕ) (s : Site) (halted : HartHalted h s.board) (t : Site)
     → InsideAt (AnyScratch halted.hart) N h s.unit.bus s t → AccessLeftOff Scratched N h s t
 access_left N h s halted t (not_yet p) =
     before_it (left_aside Scratched h s halted.hart t halted

@@ -22,6 +22,7 @@ use Rattle.probe_access.specs.Cuts.{IfCut}
 use Rattle.probe_access.specs.MemoryRuns.{PutBackFailed, SaveFailed}
 use Rattle.probe_access.specs.MemoryRuns.PutBackFailed.{at_x8 as put_x8, at_x9 as put_x9}
 use Rattle.probe_access.specs.MemoryRuns.SaveFailed.{at_x8 as save_x8, at_x9 as save_x9}
+use Rattle.probe_access.specs.Faults.{Among, BrokeIn}
 use Rattle.probe_access.specs.RegisterRuns.{DoubleReads, ReadFailed, ReadApartFailedAt, WriteFailed, double_written, ReadApartFailed}
 use Rattle.probe_access.specs.RegisterRuns.DoubleReads.{lower as low_read, upper as high_read}
 use Rattle.probe_access.specs.RegisterRuns.ReadApartFailedAt.{in_command as read_in_command, in_words as read_in_words}
@@ -37,7 +38,7 @@ use Rattle.probe_access.proofs.RegisterTold.{Stood, TransferTold, WordPuts, doub
 use Rattle.probe_access.proofs.RegisterTold.WordPuts.{no_more}
 use Rattle.probe_access.proofs.RegisterTold.TransferTold.{taken, denied}
 use Rattle.probe_access.proofs.Steps.{Between, Course, DoneAt, between_ran}
-use Rattle.probe_access.proofs.Steps.Between.{still, done}
+use Rattle.probe_access.proofs.Steps.Between.{still}
 use Rattle.probe_access.proofs.TransferLemmas.{
   TransferEnd,
   behind_frozen,
@@ -179,6 +180,13 @@ taken_stood number last h bus y base w k told f is (taken v held free error st) 
 taken_stood number last h bus y base w k told f is (denied none error st) =
     record { far = f; is = is; kept = with_command (transfer_command false number) k; stood = st }
 
+-- the words alone
+pub words_hung : (h : ℕ) (bus : BusUnit) (y : Hart) (base : Site) (w : Hart) (old_count new_count : ℕ) (mid : Tells) (told : Option Far) (why : DmiFault)
+    → StoodTold h bus y base w mid.far → BrokeIn (Among DoubleReads) old_count new_count mid told why → Hung (λ z. z ≡ y) h bus base told
+words_hung h bus y base w old_count new_count mid told why st f =
+    let cut : CutWithin DoubleReads st.far told = cut_within DoubleReads old_count new_count mid told why st.far st.is f in
+    words_read_cut h bus y base w mid.far told cut.acts cut.op st cut.begun cut.cut
+
 read_at_hung : (number h : ℕ) (bus : BusUnit) (y : Hart) (base : Site) (w : Hart) (old_count new_count : ℕ) (old new : Tells) (why : DmiFault)
     → number < 2 ^ 16 → StoodTold h bus y base w old.far
     → ReadApartFailedAt number old_count new_count old new (access_fault.Dmi why) → Hung (λ z. z ≡ y) h bus base new.far
@@ -189,8 +197,7 @@ read_at_hung number h bus y base w old_count new_count old new why small st (rea
     let c : CommandTold false number ran.last h bus y base w st.kept mid.far =
     command_told [] false number ran.last h bus y base w st.kept old mid small st (no_more st.kept) ran.ran in
     let stood : StoodTold h bus y base w mid.far = taken_stood number ran.last h bus y base w st.kept mid.far c.far c.is c.transfer in
-    let cut : CutWithin DoubleReads stood.far new.far = cut_within DoubleReads old_count new_count mid new.far why stood.far stood.is f in
-    words_read_cut h bus y base w mid.far new.far cut.acts cut.op stood cut.begun cut.cut
+    words_hung h bus y base w old_count new_count mid new.far why stood f
 
 apart_hung : (number h : ℕ) (bus : BusUnit) (y : Hart) (base : Site) (w : Hart) (old_count new_count : ℕ) (old new : Tells) (e : AccessFault)
     → number < 2 ^ 16 → StoodTold h bus y base w old.far → ReadApartFailed number old_count new_count old new e

@@ -1,49 +1,231 @@
--- The calls of a block, with one element's more.
-use Rattle.std.proofs.Common.{◌≡◌, ◌≤◌, ◌<◌, ◌+◌, ◌++◌, ◌∷◌, ℕ, List, [], length, subst}
+-- The calls of a block: its program and first command in one call, and what is counted of the faults behind it.
+use Rattle.std.proofs.Common.{◌≡◌, ◌∙◌, ◌≤◌, ◌<◌, ◌^◌, ◌++◌, ℕ, List, [], ◌∷◌, length, length-append, All, Bool, true, false, slice_index_or, arith, Option, refl, sym, ap, subst, ◌+◌}
+use Rattle.std.proofs.lemmas.List.Elements.{All-cons}
 use Rattle.rv_model.specs.declared.size.Size.{Size}
+use Rattle.debug_model.specs.Addresses.{abstractcs_address, command_address, progbuf0_address, progbuf1_address, progbuf2_address}
+use Rattle.debug_model.specs.declared.dmi.DmiFault.{DmiFault}
+use Rattle.debug_model.specs.declared.dmi_op.DmiOp.{DmiOp}
+use Rattle.debug_model.specs.declared.dmi_op.DmiOp.TheVariants.{Read, Write}
+use Rattle.debug_model.specs.Dmi.{IsOperation}
+use Rattle.debug_model.specs.Many.{AnswersAll, ManyCause, OperatedAll, OperationsCut}
+use Rattle.debug_model.specs.Scan.{WhereTold}
+use Rattle.debug_model.specs.Told.{Far}
 use Rattle.probe_access.specs.declared.fault.AccessFault.{AccessFault}
-use Rattle.probe_run.specs.Acts.{Tells}
+use Rattle.probe_access.specs.declared.fault.AccessFault.TheVariants as access_fault
+use Rattle.probe_run.specs.Acts.{Act, Did, Tells, acts_of, op_act}
+use Rattle.probe_run.specs.Acts.Act.{Put}
 use Rattle.probe_access.specs.Blocks.{element_at}
-use Rattle.probe_access.specs.ElementRuns.{LoadRuns, LoadRunsFailed, StoreRuns, StoreRunsFailed}
-use Rattle.probe_access.specs.ElementRuns.LoadRuns.{further as loaded_further}
-use Rattle.probe_access.specs.ElementRuns.StoreRuns.{further as stored_further}
-use Rattle.probe_access.specs.MemoryRuns.{Around, AroundFailed, LoadRun, LoadRunFailed, StoreFailedInside, StoredInside}
-use Rattle.probe_access.proofs.Counted.{load_run_counted, store_run_counted}
+use Rattle.probe_access.specs.CommandRuns.{CommandBegun, RanCommand, error_shown, poll_act}
+use Rattle.probe_access.specs.CommandRuns.CommandBegun.{ahead, polls, writes}
+use Rattle.probe_access.specs.ElementRuns.{HandFailed, HandedBy, LoadsFailed, LoadsInside, LoadsOn, RunFailed, StartFailed, Started, StoresFailed, block_program}
+use Rattle.probe_access.specs.ElementRuns.RunFailed.{in_run, faulted, oddly}
+use Rattle.probe_access.specs.Faults.{Among, BrokeIn}
+use Rattle.probe_access.specs.RegisterAccess.{advance_word, ebreak_word, element_load_word, next_word, x8_number, x9_number}
+use Rattle.probe_access.proofs.Counted.{command_counted, read_counted, write_counted}
+use Rattle.probe_access.proofs.RegisterCalls.{broke_counted, many_broke, sent_acts, two_small}
+use Rattle.probe_access.proofs.SentCalls.{none_vain}
+use Rattle.probe_access.specs.RegisterRuns.{DoubleReads, ReadFailed, RegisterRead}
+use Rattle.probe_run.proofs.ActLemmas.{did_list, did_together}
 
--- ---- loads
+-- ---- the program and the first command
 
-pub load_runs_more : (size : Size) (address at value : ℕ) (values : List ℕ) (old mid new : Tells) → at ≡ element_at size address (length values)
-    → LoadRuns size address old values mid → LoadRun size at value mid new → LoadRuns size address old (values ++ value ∷ []) new
-load_runs_more size address at value values old mid new is runs one =
-    loaded_further values value mid new runs (subst (λ a. LoadRun size a value mid new) is one)
+five_acts : (a b c d e : DmiOp) (results : List ℕ) (z : ℕ) → length results ≡ 5
+    → acts_of (a ∷ b ∷ c ∷ d ∷ e ∷ []) results
+    ≡ op_act a (slice_index_or results 0 z) ∷ op_act b (slice_index_or results 1 z) ∷ op_act c (slice_index_or results 2 z) ∷ op_act d
+    (slice_index_or results 3 z)
+    ∷ op_act e (slice_index_or results 4 z) ∷ []
+five_acts a b c d e [] z all = absurd (omega arith)
+five_acts a b c d e (p ∷ []) z all = absurd (omega arith)
+five_acts a b c d e (p ∷ q ∷ []) z all = absurd (omega arith)
+five_acts a b c d e (p ∷ q ∷ r ∷ []) z all = absurd (omega arith)
+five_acts a b c d e (p ∷ q ∷ r ∷ s ∷ []) z all = absurd (omega arith)
+five_acts a b c d e (p ∷ q ∷ r ∷ s ∷ t ∷ []) z all = refl
+five_acts a b c d e (p ∷ q ∷ r ∷ s ∷ t ∷ u ∷ xs) z all = absurd (omega arith)
 
-pub load_runs_stop : (size : Size) (address at count old_count mid_count new_count : ℕ) (values : List ℕ) (old mid new : Tells) (e : AccessFault)
-    → at ≡ element_at size address (length values) → length values < count → LoadRuns size address old values mid → old_count ≤ mid_count
-    → mid_count ≤ new_count → LoadRunFailed size at mid_count new_count mid new e → LoadRunsFailed size address count values old_count new_count old new e
-load_runs_stop size address at count old_count mid_count new_count values old mid new e is below runs le later f = record {
-  below = below;
+abbrev block_ops : ℕ → ℕ → ℕ → List DmiOp
+block_ops word advance wrote =
+    Write progbuf0_address word ∷ Write progbuf1_address advance ∷ Write progbuf2_address ebreak_word ∷ Write command_address wrote
+    ∷ Read abstractcs_address ∷ []
+
+five_small : (a b c d e : DmiOp) → IsOperation a → IsOperation b → IsOperation c → IsOperation d → IsOperation e → All IsOperation (a ∷ b ∷ c ∷ d ∷ e ∷ [])
+five_small a b c d e p q r s t =
+    All-cons IsOperation a (b ∷ c ∷ d ∷ e ∷ []) p (All-cons IsOperation b (c ∷ d ∷ e ∷ []) q
+    (All-cons IsOperation c (d ∷ e ∷ []) r (two_small d e s t)))
+
+pub block_did : (word advance wrote run : ℕ) (size : Size) (results : List ℕ) (old new : Tells) → advance ≡ advance_word size → wrote ≡ run
+    → word < 2 ^ 32 → advance < 2 ^ 32 → wrote < 2 ^ 32 → length results ≡ 5
+    → WhereTold (OperatedAll (block_ops word advance wrote) results) old.far new.far
+    → AnswersAll (block_ops word advance wrote) results old.coming new.coming
+    → Did old (sent_acts (block_program word size) run (slice_index_or results 4 0)) new
+block_did word advance wrote run size results old new is_advance is small_word small_advance small five told heard =
+    did_list (acts_of (block_ops word advance wrote) results) (sent_acts (block_program word size) run (slice_index_or results 4 0)) old new
+    (five_acts (Write progbuf0_address word) (Write progbuf1_address advance) (Write progbuf2_address ebreak_word) (Write command_address wrote)
+    (Read abstractcs_address) results 0 five
+    ∙ ap (λ n. Put progbuf0_address word ∷ Put progbuf1_address n ∷ Put progbuf2_address ebreak_word ∷ Put command_address wrote
+    ∷ poll_act (slice_index_or results 4 0) ∷ []) is_advance
+    ∙ ap (λ n. Put progbuf0_address word ∷ Put progbuf1_address (advance_word size) ∷ Put progbuf2_address ebreak_word ∷ Put command_address n
+    ∷ poll_act (slice_index_or results 4 0) ∷ []) is)
+    (did_together (Write progbuf0_address word)
+    (Write progbuf1_address advance ∷ Write progbuf2_address ebreak_word ∷ Write command_address wrote ∷ Read abstractcs_address ∷ []) results old new
+    (record {
+      small = five_small (Write progbuf0_address word) (Write progbuf1_address advance) (Write progbuf2_address ebreak_word) (Write command_address wrote)
+          (Read abstractcs_address) (omega arith, small_word) (omega arith, small_advance) (omega arith, omega arith) (omega arith, small) (omega arith);
+      told = told;
+      heard = heard;
+    }))
+
+pub block_broke : (word advance wrote run : ℕ) (size : Size) (old_count new_count : ℕ) (old : Tells) (told : Option Far) (why : DmiFault)
+    → advance ≡ advance_word size → wrote ≡ run
+    → WhereTold (OperationsCut (block_ops word advance wrote)) old.far told → ManyCause 5 old_count new_count old.far told old.coming why
+    → BrokeIn (Among (CommandBegun (block_program word size) run)) old_count new_count old told why
+block_broke word advance wrote run size old_count new_count old told why is_advance is cut cause =
+    many_broke (CommandBegun (block_program word size) run) (Write progbuf0_address word)
+    (Write progbuf1_address (advance_word size) ∷ Write progbuf2_address ebreak_word ∷ Write command_address run ∷ Read abstractcs_address ∷ [])
+    old_count new_count old told why (
+      ahead [] (Put progbuf1_address (advance_word size) ∷ Put progbuf2_address ebreak_word ∷ []) progbuf0_address word refl,
+      λ a. (
+        ahead (Put progbuf0_address word ∷ []) (Put progbuf2_address ebreak_word ∷ []) progbuf1_address (advance_word size) refl,
+        λ b. (
+          ahead (Put progbuf0_address word ∷ Put progbuf1_address (advance_word size) ∷ []) [] progbuf2_address ebreak_word refl,
+          λ c. (writes, λ d. (polls [] none_vain, λ e. tt)),
+        ),
+      ),
+    )
+    (subst (λ n. WhereTold (OperationsCut (block_ops word (advance_word size) n)) old.far told) is
+    (subst (λ n. WhereTold (OperationsCut (block_ops word n wrote)) old.far told) is_advance cut)) cause
+
+-- ---- counts of faults
+
+pub run_counted : (front : List Act) (at count mid_count new_count : ℕ) (old new : Tells) (e : AccessFault) → count ≤ mid_count → mid_count ≤ new_count
+    → RunFailed front at mid_count new_count old new e → RunFailed front at count new_count old new e
+run_counted front at count mid_count new_count old new _ le later (in_run e f) =
+    in_run e (command_counted front next_word count mid_count new_count old new e le later f)
+run_counted front at count mid_count new_count old new _ le later (faulted r) = faulted r
+run_counted front at count mid_count new_count old new _ le later (oddly shown r) = oddly shown r
+
+pub start_counted : (word : ℕ) (size : Size) (address count mid_count new_count : ℕ) (old new : Tells) (e : AccessFault) → count ≤ mid_count
+    → mid_count ≤ new_count → StartFailed word size address mid_count new_count old new e → StartFailed word size address count new_count old new e
+start_counted word size address count mid_count new_count old new e le later (StartFailed.at_x8 f) =
+    StartFailed.at_x8 (write_counted x8_number address count mid_count new_count old new e le later f)
+start_counted word size address count mid_count new_count old new e le later (StartFailed.at_first mid x8 f) =
+    StartFailed.at_first mid x8 (run_counted (block_program word size) address count mid_count new_count mid new e le later f)
+
+pub hand_counted : (count mid_count new_count : ℕ) (old new : Tells) (e : AccessFault) → count ≤ mid_count → mid_count ≤ new_count
+    → HandFailed mid_count new_count old new e → HandFailed count new_count old new e
+hand_counted count mid_count new_count old new _ le later (HandFailed.in_run e f) =
+    HandFailed.in_run e (command_counted [] next_word count mid_count new_count old new e le later f)
+hand_counted count mid_count new_count old new _ le later (HandFailed.in_words mid r why f) =
+    HandFailed.in_words mid r why (broke_counted (Among DoubleReads) count mid_count new_count mid new.far why le later f)
+hand_counted count mid_count new_count old new _ le later (HandFailed.in_last_words mid r why f) =
+    HandFailed.in_last_words mid r why (broke_counted (Among DoubleReads) count mid_count new_count mid new.far why le later f)
+hand_counted count mid_count new_count old new _ le later (HandFailed.oddly shown r) = HandFailed.oddly shown r
+
+pub words_failed : (last : ℕ) (why : DmiFault) (count mid_count new_count : ℕ) (old mid : Tells) (told : Tells) → RanCommand [] next_word last old mid
+    → error_shown last ≡ 0 → count ≤ mid_count → mid_count ≤ new_count → BrokeIn (Among DoubleReads) mid_count new_count mid told.far why
+    → HandFailed count new_count old told (access_fault.Dmi why)
+words_failed last why count mid_count new_count old mid told ran fine le later b =
+    HandFailed.in_words mid (record { last = last; ran = ran; error_is = fine }) why
+    (broke_counted (Among DoubleReads) count mid_count new_count mid told.far why le later b)
+
+pub last_words_failed : (last : ℕ) (why : DmiFault) (count mid_count new_count : ℕ) (old mid : Tells) (told : Tells)
+    → RanCommand [] next_word last old mid
+    → error_shown last ≡ 3 → count ≤ mid_count → mid_count ≤ new_count → BrokeIn (Among DoubleReads) mid_count new_count mid told.far why
+    → HandFailed count new_count old told (access_fault.Dmi why)
+last_words_failed last why count mid_count new_count old mid told ran bad le later b =
+    HandFailed.in_last_words mid (record { last = last; ran = ran; error_is = bad }) why
+    (broke_counted (Among DoubleReads) count mid_count new_count mid told.far why le later b)
+
+pub loads_counted : (size : Size) (address block : ℕ) (values : List ℕ) (count mid_count new_count : ℕ) (old new : Tells) (e : AccessFault)
+    → count ≤ mid_count → mid_count ≤ new_count → LoadsFailed size address block values mid_count new_count old new e
+    → LoadsFailed size address block values count new_count old new e
+loads_counted size address block values count mid_count new_count old new _ le later (LoadsFailed.in_start e none f) =
+    LoadsFailed.in_start e none (start_counted _ size address count mid_count new_count old new e le later f)
+loads_counted size address block values count mid_count new_count old new _ le later (LoadsFailed.handing e mid below on f) =
+    LoadsFailed.handing e mid below on (hand_counted count mid_count new_count mid new e le later f)
+loads_counted size address block values count mid_count new_count old new _ le later (LoadsFailed.refused front last mid are below on r) =
+    LoadsFailed.refused front last mid are below on r
+loads_counted size address block values count mid_count new_count old new _ le later (LoadsFailed.in_last e mid all on f) =
+    LoadsFailed.in_last e mid all on (read_counted x9_number count mid_count new_count mid new e le later f)
+
+-- as the code names the instruction and the address
+pub start_as : (word named : ℕ) (size : Size) (address count mid_count new_count : ℕ) (old new : Tells) (e : AccessFault) → named ≡ word → count ≤ mid_count
+    → mid_count ≤ new_count → StartFailed named size address mid_count new_count old new e → StartFailed word size address count new_count old new e
+start_as word named size address count mid_count new_count old new e is le later f =
+    subst (λ n. StartFailed n size address count new_count old new e) is
+    (start_counted named size address count mid_count new_count old new e le later f)
+
+pub started_as : (word named : ℕ) (size : Size) (address : ℕ) (old new : Tells) → named ≡ word → Started named size address old new
+    → Started word size address old new
+started_as word named size address old new is s = subst (λ n. Started n size address old new) is s
+
+pub run_as : (front : List Act) (at named count mid_count new_count : ℕ) (old new : Tells) (e : AccessFault) → named ≡ at → count ≤ mid_count
+    → mid_count ≤ new_count → RunFailed front named mid_count new_count old new e → RunFailed front at count new_count old new e
+run_as front at named count mid_count new_count old new e is le later f =
+    subst (λ a. RunFailed front a count new_count old new e) is (run_counted front named count mid_count new_count old new e le later f)
+
+pub stores_counted : (size : Size) (address value block count mid_count new_count : ℕ) (old new : Tells) (e : AccessFault) → count ≤ mid_count
+    → mid_count ≤ new_count → StoresFailed size address value block mid_count new_count old new e
+    → StoresFailed size address value block count new_count old new e
+stores_counted size address value block count mid_count new_count old new e le later (StoresFailed.at_x9 f) =
+    StoresFailed.at_x9 (write_counted x9_number value count mid_count new_count old new e le later f)
+stores_counted size address value block count mid_count new_count old new e le later (StoresFailed.in_start one x9 f) =
+    StoresFailed.in_start one x9 (start_counted _ size address count mid_count new_count one new e le later f)
+stores_counted size address value block count mid_count new_count old new e le later (StoresFailed.in_next n mid below on f) =
+    StoresFailed.in_next n mid below on (run_counted [] _ count mid_count new_count mid new e le later f)
+
+-- ---- loads, by what the code knows
+
+-- the next command failed
+pub hand_stops : (size : Size) (address block number count mid_count new_count : ℕ) (values : List ℕ) (old mid new : Tells) (e : AccessFault)
+    → length values + 1 ≡ number → number < block → LoadsOn size address old values mid → count ≤ mid_count → mid_count ≤ new_count
+    → HandFailed mid_count new_count mid new e → LoadsFailed size address block values count new_count old new e
+hand_stops size address block number count mid_count new_count values old mid new e all below on le later f =
+    LoadsFailed.handing e mid (omega (arith, all, below)) on (hand_counted count mid_count new_count mid new e le later f)
+
+handed_as : (refused is : Bool) (value : ℕ) (mid new : Tells) → refused ≡ is → HandedBy refused value mid new → HandedBy is value mid new
+handed_as refused is value mid new same h = subst (λ b. HandedBy b value mid new) same h
+
+-- memory refused the next element
+pub hand_refused : (size : Size) (address block number at value count new_count : ℕ) (refused : Bool) (front values : List ℕ) (old mid new : Tells)
+    → values ≡ front ++ value ∷ [] → length front + 1 ≡ number → number < block → at ≡ element_at size address number → refused ≡ true
+    → LoadsOn size address old front mid → HandedBy refused value mid new
+    → LoadsFailed size address block values count new_count old new (access_fault.Memory at)
+hand_refused size address block number at value count new_count refused front values old mid new are all below at_is is on h =
+    let n : length values ≡ length front + 1 = ap length are ∙ length-append front (value ∷ []) in
+    let m : length values ≡ number = n ∙ all in
+    subst (λ a. LoadsFailed size address block values count new_count old new (access_fault.Memory a))
+    (ap (element_at size address) m ∙ sym at_is)
+    (LoadsFailed.refused front value mid are (omega (arith, m, below)) on (handed_as refused true value mid new is h))
+
+-- or it was loaded
+pub hand_more : (size : Size) (address value : ℕ) (refused : Bool) (front values : List ℕ) (old mid new : Tells) → values ≡ front ++ value ∷ []
+    → refused ≡ false → LoadsOn size address old front mid → HandedBy refused value mid new → LoadsOn size address old values new
+hand_more size address value refused front values old mid new are is on h =
+    subst (λ xs. LoadsOn size address old xs new) (sym are) (LoadsOn.next front value mid new on (handed_as refused false value mid new is h))
+
+pub last_stops : (size : Size) (address block count mid_count new_count : ℕ) (values : List ℕ) (old mid new : Tells) (e : AccessFault)
+    → length values + 1 ≡ block → LoadsOn size address old values mid → count ≤ mid_count → mid_count ≤ new_count
+    → ReadFailed x9_number mid_count new_count mid new e → LoadsFailed size address block values count new_count old new e
+last_stops size address block count mid_count new_count values old mid new e all on le later f =
+    LoadsFailed.in_last e mid all on (read_counted x9_number count mid_count new_count mid new e le later f)
+
+pub none_on : (word : ℕ) (size : Size) (address : ℕ) (values : List ℕ) (old new : Tells) → values ≡ [] → word ≡ element_load_word size
+    → Started word size address old new → LoadsOn size address old values new
+none_on word size address values old new none is s =
+    subst (λ xs. LoadsOn size address old xs new) (sym none)
+    (LoadsOn.first new (started_as (element_load_word size) word size address old new is s))
+
+pub none_counted : (values : List ℕ) → values ≡ [] → length values + 1 ≡ 1
+none_counted values none = let n : length values ≡ 0 = ap length none in omega (arith, n)
+
+pub last_on : (size : Size) (address block value : ℕ) (front values : List ℕ) (old mid new : Tells) → values ≡ front ++ value ∷ []
+    → length front + 1 ≡ block → LoadsOn size address old front mid → RegisterRead x9_number value mid new → LoadsInside size address block values old new
+last_on size address block value front values old mid new are all on read = record {
+  all = ap length are ∙ length-append front (value ∷ []) ∙ all;
+  front = front;
+  last = value;
+  are = are;
   mid = mid;
-  runs = runs;
-  failed = subst (λ a. LoadRunFailed size a old_count new_count mid new e) is
-      (load_run_counted size at old_count mid_count new_count mid new e le later f);
-}
-
--- ---- stores
-
-pub store_runs_more : (size : Size) (address at value done : ℕ) (old mid new : Tells) → at ≡ element_at size address done
-    → StoreRuns size address value old done mid → Around (StoredInside size at value) mid new → StoreRuns size address value old (done + 1) new
-store_runs_more size address at value done old mid new is runs one =
-    stored_further done mid new runs (subst (λ a. Around (StoredInside size a value) mid new) is one)
-
-pub store_runs_stop : (size : Size) (address at value count done old_count mid_count new_count : ℕ) (old mid new : Tells) (e : AccessFault)
-    → at ≡ element_at size address done → done < count → StoreRuns size address value old done mid → old_count ≤ mid_count → mid_count ≤ new_count
-    → AroundFailed (StoredInside size at value) (StoreFailedInside size at value) mid_count new_count mid new e
-    → StoreRunsFailed size address value count old_count new_count old new e
-store_runs_stop size address at value count done old_count mid_count new_count old mid new e is below runs le later f = record {
-  done = done;
-  below = below;
-  mid = mid;
-  runs = runs;
-  failed = subst (λ a. AroundFailed (StoredInside size a value) (StoreFailedInside size a value) old_count new_count mid new e) is
-      (store_run_counted size at value old_count mid_count new_count mid new e le later f);
+  on = on;
+  read = read;
 }

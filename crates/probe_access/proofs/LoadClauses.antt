@@ -70,7 +70,7 @@ fits_of h s ready halted =
 pub addressed_in : (x : Hart) (a : ℕ) → length x.core.x ≡ 32 → a < 2 ^ 64 → address_in (debug_written x x8_number a) ≡ a
 addressed_in x a all small = in_x8 (debug_written x x8_number a) a (ap (λ (y : Hart). x_of y.core 8) (x8_written x a) ∙ x8_holds x a all) small
 
-size_small : (size : Size) (v : ℕ) → v < 256 ^ count_of size → v < 2 ^ 64
+pub size_small : (size : Size) (v : ℕ) → v < 256 ^ count_of size → v < 2 ^ 64
 size_small B1 v lt = omega arith
 size_small B2 v lt = omega arith
 size_small B4 v lt = omega arith

@@ -1,6 +1,6 @@
 -- What is left of a told chip where a block of accesses or a single step broke off.
 -- It is this project's own: elements in front were done, and the one that was under way is left as a single access is; a step has come so far.
-use Rattle.std.specs.Prelude.{◌≡◌, ◌⊎◌, ◌<◌, ℕ, List, Bool, true, false}
+use Rattle.std.specs.Prelude.{◌≡◌, ◌⊎◌, ◌<◌, ◌++◌, ℕ, List, length, Bool, true, false}
 use Rattle.rv_model.specs.declared.size.Size.{Size}
 use Rattle.rv_model.specs.Board.{Hart}
 use Rattle.debug_model.specs.declared.point.Point.TheVariants.{ResumeReq}
@@ -14,17 +14,17 @@ use Rattle.probe_access.specs.SingleSteps.{with_step}
 
 -- ---- blocks
 
-pub record BlockLoadCut (size : Size) (address : ℕ) (values : List ℕ) (h : ℕ) (s t : Site) : Type 0 where
-  pub mid : Site
-  pub each : LoadedEach size address s values mid
-  pub left : AccessLeftOff Scratched LoadLeaves h mid t
+-- the first elements of the block were accessed, those that were handed out and maybe more, and then at most one more of it
+pub data BlockLoadCut (size : Size) (address count : ℕ) (values : List ℕ) (h : ℕ) (s t : Site) : Type 0 where
+  within : (more : List ℕ) (mid : Site) → length (values ++ more) < count → LoadedEach size address s (values ++ more) mid
+      → AccessLeftOff Scratched LoadLeaves h mid t → BlockLoadCut size address count values h s t
+  behind : (more : List ℕ) (mid : Site) → length (values ++ more) ≡ count → LoadedEach size address s (values ++ more) mid
+      → LeftAside Scratched h mid t → BlockLoadCut size address count values h s t
 
-pub record BlockStoreCut (size : Size) (address value count h : ℕ) (s t : Site) : Type 0 where
-  pub done : ℕ
-  pub below : done < count
-  pub mid : Site
-  pub each : StoredEach size address value s done mid
-  pub left : AccessLeftOff Scratched (StoreLeaves size (element_at size address done) value) h mid t
+pub data BlockStoreCut (size : Size) (address value count h : ℕ) (s t : Site) : Type 0 where
+  within : (done : ℕ) (mid : Site) → done < count → StoredEach size address value s done mid
+      → AccessLeftOff Scratched (StoreLeaves size (element_at size address done) value) h mid t → BlockStoreCut size address value count h s t
+  behind : (mid : Site) → StoredEach size address value s count mid → LeftAside Scratched h mid t → BlockStoreCut size address value count h s t
 
 -- ---- a single step
 

@@ -155,6 +155,16 @@ pub data AroundFailed (R : Tells → Tells → Type 0) (F : ℕ → ℕ → Tell
       → F was_count is_count first last was → Recovers was → PutBackFailed x8 x9 old_count new_count last new e
       → AroundFailed R F old_count new_count old new e
 
+-- the same behind the saving
+pub data SavedFailed (R : Tells → Tells → Type 0) (F : ℕ → ℕ → Tells → Tells → AccessFault → Type 0) (x8 x9 old_count new_count : ℕ) (first new : Tells)
+    (e : AccessFault) : Type 0 where
+  inside : F old_count new_count first new e → Loses e → SavedFailed R F x8 x9 old_count new_count first new e
+  behind : (last : Tells) (was_count is_count : ℕ) → F was_count is_count first last e → Recovers e → PutBack x8 x9 last new
+      → SavedFailed R F x8 x9 old_count new_count first new e
+  in_restore : (last : Tells) → R first last → PutBackFailed x8 x9 old_count new_count last new e → SavedFailed R F x8 x9 old_count new_count first new e
+  in_restore_behind : (last : Tells) (was_count is_count : ℕ) (was : AccessFault) → F was_count is_count first last was → Recovers was
+      → PutBackFailed x8 x9 old_count new_count last new e → SavedFailed R F x8 x9 old_count new_count first new e
+
 -- what has become of a fault, with x8 and x9 to be put back
 pub data GaveUp (x8 x9 old_count new_count : ℕ) (old new : Tells) (was e : AccessFault) : Type 0 where
   put_back : Recovers was → e ≡ was → PutBack x8 x9 old new → GaveUp x8 x9 old_count new_count old new was e

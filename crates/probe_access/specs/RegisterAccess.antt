@@ -52,3 +52,26 @@ store_word B1 = 0x00940023
 store_word B2 = 0x00941023
 store_word B4 = 0x00942023
 store_word B8 = 0x00943023
+
+-- ---- accesses to the elements of a block
+
+-- x9 goes into the data words, and then the program buffer is executed
+abbrev pub next_command : AbstractCommand
+next_command = record { cmdtype = 0; aarsize = 3; aarpostincrement = false; postexec = true; transfer = true; write = false; regno = x9_number }
+
+abbrev pub next_word : ℕ
+next_word = command_word next_command
+
+-- lbu, lhu, lwu and ld x9, 0(x8)
+abbrev pub element_load_word : Size → ℕ
+element_load_word B1 = 0x00044483
+element_load_word B2 = 0x00045483
+element_load_word B4 = 0x00046483
+element_load_word B8 = 0x00043483
+
+-- addi x8, x8, and the size
+abbrev pub advance_word : Size → ℕ
+advance_word B1 = 0x00140413
+advance_word B2 = 0x00240413
+advance_word B4 = 0x00440413
+advance_word B8 = 0x00840413

@@ -19,7 +19,7 @@ pub const POLLS_MOST: u32 = 64;
 const CLEARS_CMDERR: u32 = 0x700;
 
 /// The field `aarsize` of transfers of 64 bits.
-const DOUBLE: u8 = 3;
+pub const DOUBLE: u8 = 3;
 
 /// The command to read a register into the data words, or to write it from them.
 pub fn transfer_of(register: u16, write: bool) -> AbstractCommand

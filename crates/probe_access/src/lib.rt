@@ -10,6 +10,7 @@ mod bus_parts;
 mod bus_tests;
 mod commands;
 mod doubles;
+mod elements;
 mod fault;
 mod inside;
 mod memory;

@@ -1,7 +1,7 @@
 ghost use Rattle.std.specs.Prelude.{◌≡◌, ◌≤◌, ◌<◌, ◌^◌, IfErr, IfOk, OnOk};
 ghost use Rattle.probe_access.specs.CommandRuns.{CommandFailed, RanCommand};
 ghost use Rattle.probe_access.specs.MemoryRuns.{PerformFailed, Performed, program_set};
-ghost use Rattle.probe_access.specs.RegisterAccess.{load_word, program_word, store_word};
+ghost use Rattle.probe_access.specs.RegisterAccess.{advance_word, element_load_word, load_word, program_word, store_word};
 ghost use Rattle.debug_model.specs.Kept.{CanCall, Keeps};
 ghost use Rattle.probe_run.specs.Told.{Fails, told};
 ghost use Rattle.probe_access.specs.Faults.{access_why};
@@ -22,7 +22,7 @@ pub const X8: u16 = register_number::X0 + 8;
 pub const X9: u16 = register_number::X0 + 9;
 
 /// `ebreak`
-const EBREAK: u32 = 0x0010_0073;
+pub const EBREAK: u32 = 0x0010_0073;
 
 /// `lbu x8, 0(x8)`, and the same for 2, 4 and 8 bytes.
 const LBU: u32 = 0x0004_4403;
@@ -32,6 +32,24 @@ const LHU: u32 = 0x0004_5403;
 const LWU: u32 = 0x0004_6403;
 
 const LD: u32 = 0x0004_3403;
+
+/// `lbu x9, 0(x8)`, and the same for 2, 4 and 8 bytes.
+const LBU_X9: u32 = 0x0004_4483;
+
+const LHU_X9: u32 = 0x0004_5483;
+
+const LWU_X9: u32 = 0x0004_6483;
+
+const LD_X9: u32 = 0x0004_3483;
+
+/// `addi x8, x8, 1`, and the same for 2, 4 and 8.
+const ADDI_1: u32 = 0x0014_0413;
+
+const ADDI_2: u32 = 0x0024_0413;
+
+const ADDI_4: u32 = 0x0044_0413;
+
+const ADDI_8: u32 = 0x0084_0413;
 
 /// `sb x9, 0(x8)`, and the same for 2, 4 and 8 bytes.
 const SB: u32 = 0x0094_0023;
@@ -51,6 +69,30 @@ pub fn load_of(size: Size) -> u32
         Size::B2 => LHU,
         Size::B4 => LWU,
         Size::B8 => LD,
+    }
+}
+
+/// The instruction that loads so many bytes from the address in x8 into x9, the upper bits 0.
+pub fn element_load_of(size: Size) -> u32
+    ensures { result ≡ element_load_word size }
+{
+    match size {
+        Size::B1 => LBU_X9,
+        Size::B2 => LHU_X9,
+        Size::B4 => LWU_X9,
+        Size::B8 => LD_X9,
+    }
+}
+
+/// The instruction that adds so many bytes to the address in x8.
+pub fn advance_of(size: Size) -> u32
+    ensures { result ≡ advance_word size }
+{
+    match size {
+        Size::B1 => ADDI_1,
+        Size::B2 => ADDI_2,
+        Size::B4 => ADDI_4,
+        Size::B8 => ADDI_8,
     }
 }
 

@@ -200,31 +200,36 @@ fn loads_blocks(rt: HostRuntime) {
     let cases: [(&[u32], Result<(), AccessFault>, usize, Option<u64>); 5] = [
         (
             &[
-                0, 8, IDLE, IDLE, 0, 0x1000, IDLE, 0, 8, IDLE, IDLE, 0, 0x0234, IDLE,
+                0, 8, IDLE, 0, 9, IDLE, IDLE, IDLE, IDLE, 0x1000, 0, 0, 0x0234, IDLE, IDLE, IDLE,
             ],
             Ok(()),
             2,
             Some(0x0234),
         ),
         (
-            &[0, 8, IDLE, EXCEPTION, IDLE],
+            &[0, 8, IDLE, 0, 9, IDLE, IDLE, EXCEPTION, IDLE, IDLE],
             Err(AccessFault::Memory(0x8000_0000)),
             0,
             None,
         ),
         (
             &[
-                0, 8, IDLE, IDLE, 0, 0x1000, IDLE, 0, 8, IDLE, EXCEPTION, IDLE,
+                0, 8, IDLE, 0, 9, IDLE, IDLE, IDLE, EXCEPTION, 0x1000, 0, IDLE, IDLE,
             ],
             Err(AccessFault::Memory(0x8000_0004)),
             1,
             Some(0x1000),
         ),
-        (&[0, 8, IDLE, IDLE, 0, 0x1000], Err(ENDED), 0, None),
+        (
+            &[0, 8, IDLE, 0, 9, IDLE, IDLE, IDLE, IDLE, 0x1000],
+            Err(ENDED),
+            0,
+            None,
+        ),
         (
             &[
-                5, 5, EARLY, IDLE, 8, 0, IDLE, 0, 0x1000, IDLE, 0, 8, IDLE, IDLE, 5, 5, EARLY_BUSY,
-                EARLY, 0, 0x0234, IDLE, IDLE,
+                5, 5, EARLY, IDLE, 8, 0, 0, 9, IDLE, IDLE, IDLE, IDLE, 0x1000, 0, 5, 5, EARLY_BUSY,
+                EARLY, IDLE, 0x0234, 0, IDLE, IDLE,
             ],
             Ok(()),
             2,
@@ -255,21 +260,17 @@ fn store_two<D: Dmi>(link: &mut D) -> Result<(), Fault>
 fn stores_blocks(rt: HostRuntime) {
     let cases: [(&[u32], Result<(), Fault>); 3] = [
         (
-            &[
-                0, 8, IDLE, 0, 9, IDLE, IDLE, IDLE, IDLE, IDLE, 0, 8, IDLE, 0, 9, IDLE, IDLE, IDLE,
-                IDLE, IDLE,
-            ],
+            &[0, 8, IDLE, 0, 9, IDLE, IDLE, IDLE, IDLE, IDLE, IDLE, IDLE],
             Ok(()),
         ),
         (
             &[
-                0, 8, IDLE, 0, 9, IDLE, IDLE, IDLE, IDLE, IDLE, 0, 8, IDLE, 0, 9, IDLE, IDLE,
-                EXCEPTION, IDLE, IDLE,
+                0, 8, IDLE, 0, 9, IDLE, IDLE, IDLE, IDLE, EXCEPTION, IDLE, IDLE,
             ],
             Err(Fault::Access(AccessFault::Memory(0x8000_0001))),
         ),
         (
-            &[0, 8, IDLE, 0, 9, IDLE, IDLE, 0x0400_0402],
+            &[0, 8, IDLE, 0, 9, IDLE, IDLE, IDLE, 0x0400_0402],
             Err(Fault::Access(AccessFault::Odd(OddStatus::Abstractcs(0x0400_0402)))),
         ),
     ];

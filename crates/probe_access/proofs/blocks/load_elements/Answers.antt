@@ -1,0 +1,53 @@
+use Rattle.std.proofs.Common.{◌∙◌, arith}
+use Rattle.probe_access.specs.ElementRuns.LoadsFailed.{in_start}
+use Rattle.probe_access.proofs.ElementCalls.{hand_more, hand_refused, hand_stops, last_stops, none_counted, none_on, start_as}
+use Rattle.probe_access.proofs.RegisterCalls.{err_failed}
+use Rattle.probe_access.proofs.blocks.load_elements.Goals as goal
+
+pub returns-in_err-start_block-clause-failed : goal.returns-in_err-start_block-clause-failed
+returns-in_err-start_block-clause-failed g c =
+    err_failed _ c.in_err-start_block.field-0.0 _ c.from_residual.ensures.1
+    (in_start c.in_err-start_block.field-0.0 c.requires.empty
+    (start_as _ _ c.args.size c.args.address _ _ _ _ _ c.in_err-start_block.field-0.0 c.element_load_of.ensures (omega arith)
+    c.start_block.ensures.keeps.later c.in_err-start_block.ensures.failed))
+
+pub elements-init : goal.elements-init
+elements-init g c = record {
+  all = none_counted _ c.requires.empty;
+  on = none_on _ c.args.size c.args.address _ _ _ c.requires.empty c.element_load_of.ensures c.in_ok-start_block.ensures.started;
+  callable = record { alive = c.in_ok-start_block.ensures.keeps.behind.alive; link = c.in_ok-start_block.ensures.keeps.behind.link };
+  stands = c.in_ok-start_block.ensures.keeps.behind;
+  later = c.start_block.ensures.keeps.later;
+  fixed = c.start_block.ensures.keeps.fixed;
+}
+
+pub returns-in_err-handed-clause-failed : goal.returns-in_err-handed-clause-failed
+returns-in_err-handed-clause-failed g c =
+    err_failed _ c.in_err-handed.field-0.0 _ c.from_residual-in_err-handed.ensures.1
+    (hand_stops c.args.size c.args.address c.args.count c.elements.number _ _ _ c.elements.into.items _ _ _ c.in_err-handed.field-0.0
+    c.elements.invariant.all c.elements-test.true c.elements.invariant.on c.elements.invariant.later c.hand_next.ensures.keeps.later
+    c.in_err-handed.ensures.failed)
+
+pub returns-then-handed-clause-failed : goal.returns-then-handed-clause-failed
+returns-then-handed-clause-failed g c =
+    hand_refused c.args.size c.args.address c.args.count c.elements.number c.element-at.result c.in_ok-handed.handed.value _ _
+    c.in_ok-handed.handed.refused c.elements.into.items c.push.new.self.items _ _ _ c.push.ensures.items c.elements.invariant.all c.elements-test.true
+    c.element-at.ensures c.if-handed.true c.elements.invariant.on c.in_ok-handed.ensures.handed
+
+pub elements-preserved : goal.elements-preserved
+elements-preserved g c = record {
+  all = omega (arith, c.push.ensures.len, c.elements.invariant.all);
+  on = hand_more c.args.size c.args.address c.in_ok-handed.handed.value c.in_ok-handed.handed.refused c.elements.into.items c.push.new.self.items _ _ _
+      c.push.ensures.items c.if-handed.false c.elements.invariant.on c.in_ok-handed.ensures.handed;
+  callable = record { alive = c.in_ok-handed.ensures.keeps.behind.alive; link = c.in_ok-handed.ensures.keeps.behind.link };
+  stands = c.in_ok-handed.ensures.keeps.behind;
+  later = omega (arith, c.elements.invariant.later, c.hand_next.ensures.keeps.later);
+  fixed = c.hand_next.ensures.keeps.fixed ∙ c.elements.invariant.fixed;
+}
+
+pub returns-in_err-last-clause-failed : goal.returns-in_err-last-clause-failed
+returns-in_err-last-clause-failed g c =
+    err_failed _ c.in_err-last.field-0.0 _ c.from_residual-in_err-last.ensures.1
+    (last_stops c.args.size c.args.address c.args.count _ _ _ c.elements.into.items _ _ _ c.in_err-last.field-0.0
+    (c.elements.invariant.all ∙ omega (arith, c.elements-test.false, c.elements.auto.number-end)) c.elements.invariant.on
+    c.elements.invariant.later c.read_register.ensures.keeps.later c.in_err-last.ensures.failed)

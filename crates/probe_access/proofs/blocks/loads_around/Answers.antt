@@ -1,0 +1,32 @@
+use Rattle.std.proofs.Common.{arith}
+use Rattle.probe_access.specs.ElementRuns.{LoadsFailed, LoadsInside}
+use Rattle.probe_access.specs.ElementRuns.LoadRunsFailed.{in_save, saved}
+use Rattle.probe_access.proofs.AroundLemmas.{saved_gave_up, saved_restore}
+use Rattle.probe_access.proofs.ElementCalls.{loads_counted}
+use Rattle.probe_access.proofs.RegisterCalls.{err_failed}
+use Rattle.probe_access.proofs.blocks.loads_around.Goals as goal
+
+pub returns-in_err-scratch-clause-failed : goal.returns-in_err-scratch-clause-failed
+returns-in_err-scratch-clause-failed g c =
+    err_failed _ c.in_err-scratch.field-0.0 _ c.from_residual.ensures.1 (in_save c.requires.empty c.in_err-scratch.ensures.failed)
+
+pub returns-in_err-put_back-in-Ok-clause-failed : goal.returns-in_err-put_back-in-Ok-clause-failed
+returns-in_err-put_back-in-Ok-clause-failed g c =
+    err_failed _ c.in_err-put_back-in-Ok.field-0.0 _ c.from_residual-in_err-put_back-in-Ok.ensures.1
+    (saved c.in_ok-scratch.scratch.x8 c.in_ok-scratch.scratch.x9 _ c.in_ok-scratch.ensures.saved
+    (saved_restore (LoadsInside c.args.size c.args.address c.args.count c.load_elements.new.into.items)
+    (LoadsFailed c.args.size c.args.address c.args.count c.load_elements.new.into.items)
+    c.in_ok-scratch.scratch.x8 c.in_ok-scratch.scratch.x9 _ _ _ _ _ _ c.in_err-put_back-in-Ok.field-0.0
+    c.in-Ok.ensures.loaded
+    (omega (arith, c.save_scratch.ensures.keeps.later, c.load_elements.ensures.keeps.later)) c.put_back.ensures.keeps.later
+    c.in_err-put_back-in-Ok.ensures.failed))
+
+pub returns-in-Err-clause-failed : goal.returns-in-Err-clause-failed
+returns-in-Err-clause-failed g c =
+    saved c.in_ok-scratch.scratch.x8 c.in_ok-scratch.scratch.x9 _ c.in_ok-scratch.ensures.saved
+    (saved_gave_up (LoadsInside c.args.size c.args.address c.args.count c.load_elements.new.into.items)
+    (LoadsFailed c.args.size c.args.address c.args.count c.load_elements.new.into.items)
+    c.in_ok-scratch.scratch.x8 c.in_ok-scratch.scratch.x9 _ _ _ _ _ _ c.in-Err.fault _
+    (loads_counted c.args.size c.args.address c.args.count c.load_elements.new.into.items _ _ _ _ _ c.in-Err.fault c.save_scratch.ensures.keeps.later
+    c.load_elements.ensures.keeps.later c.in-Err.ensures.failed)
+    (omega (arith, c.save_scratch.ensures.keeps.later, c.load_elements.ensures.keeps.later)) c.give_up.ensures.later c.give_up.ensures.gave_up)

@@ -1,0 +1,14 @@
+use Rattle.probe_run.specs.Told.{told}
+use Rattle.std.proofs.Common.{◌≡◌, ◌≤◌}
+use Rattle.debug_model.specs.Kept.{CanCall, Stands}
+use Rattle.probe_access.specs.ElementRuns.{StoresOn}
+use Rattle.probe_access.proofs.blocks.store_elements.Given as goal
+
+abbrev pub invariant-elements : goal.invariant-elements
+invariant-elements g l = record {
+  on : StoresOn l.fn.size l.fn.address l.fn.value (told (g.D.Dmi.seen l.fn.link)) l.number (told (g.D.Dmi.seen l.link));
+  callable : CanCall (g.D.Dmi.seen l.link);
+  stands : Stands (g.D.Dmi.seen l.link);
+  later : (g.D.Dmi.seen l.fn.link).fault_count ≤ (g.D.Dmi.seen l.link).fault_count;
+  fixed : (g.D.Dmi.seen l.link).fixed ≡ (g.D.Dmi.seen l.fn.link).fixed;
+}
