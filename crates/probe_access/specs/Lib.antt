@@ -2,7 +2,10 @@ pub mod Accesses
 pub mod BlockCuts
 pub mod BlockRuns
 pub mod Blocks
+pub mod BusBlockRuns
+pub mod BusBlocks
 pub mod BusRuns
+pub mod BusStreams
 pub mod CommandRuns
 pub mod Cuts
 pub mod ElementRuns

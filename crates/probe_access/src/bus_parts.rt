@@ -18,13 +18,13 @@ use debug_model::{Dmi, DmiFault, Sbaddress0, Sbaddress1, Sbcs, Sbdata0, Sbdata1}
 use rv_model::Size;
 
 /// The word of `sbcs` that clears every error.
-const CLEARS_SBERROR: u32 = 0x0040_7000;
+pub const CLEARS_SBERROR: u32 = 0x0040_7000;
 
 /// `sberror` of an access outside memory.
-const OUTSIDE: u8 = 2;
+pub const OUTSIDE: u8 = 2;
 
 /// `sbaccess` for accesses of this size.
-fn access_of(size: Size) -> u8
+pub fn access_of(size: Size) -> u8
     ensures { result ≡ access_number size }
 {
     match size {
@@ -55,7 +55,7 @@ fn setting_of(on_address: bool, size: Size) -> u32
 }
 
 /// Writes a word of `sbcs` and the address.
-fn set_up<D: Dmi>(link: &mut D, setting: u32, address: u64) -> Result<(), DmiFault>
+pub fn set_up<D: Dmi>(link: &mut D, setting: u32, address: u64) -> Result<(), DmiFault>
     requires callable { CanCall (D.seen link.old) }
     ensures did { OnOk result (Did (told (D.seen link.old)) (addressed setting address) (told (D.seen link.new))) }
     ensures broke { IfErr result (Breaks (BrokeIn (Starting (addressed setting address))) (D.seen link.old) (D.seen link.new)) }
@@ -97,7 +97,7 @@ pub fn start_write<D: Dmi>(
 }
 
 /// Polls `sbcs` until it shows no access under way, at most 64 times, and answers it as it was then.
-fn poll_bus<D: Dmi>(link: &mut D) -> Result<u32, AccessFault>
+pub fn poll_bus<D: Dmi>(link: &mut D) -> Result<u32, AccessFault>
     requires callable { CanCall (D.seen link.old) }
     ensures polled { IfOk result (λ last. BusPolled last (told (D.seen link.old)) (told (D.seen link.new))) }
     ensures failed { IfErr result (Fails BusPollFailed (D.seen link.old) (D.seen link.new)) }

@@ -5,7 +5,12 @@
 
 mod blocks;
 mod bus;
+#[cfg(test)]
+mod bus_block_tests;
+mod bus_blocks;
 mod bus_parts;
+mod bus_runs;
+mod bus_streams;
 #[cfg(test)]
 mod bus_tests;
 mod commands;
@@ -29,6 +34,7 @@ mod transfers;
 
 pub use blocks::{load_block, store_block};
 pub use bus::{bus_load, bus_store};
+pub use bus_blocks::{bus_load_block, bus_store_block};
 pub use fault::AccessFault;
 pub use memory::{cut_to, is_aligned, load, store};
 pub use odd::OddStatus;
