@@ -1,5 +1,5 @@
 -- The clauses of a single step.
-use Rattle.std.proofs.Common.{◌≡◌, ◌∙◌, ◌≤◌, ◌++◌, ℕ, [], map, Bool, true, false, Option, Some, None, refl, ap, subst, arith, sym}
+use Rattle.std.proofs.Common.{◌≡◌, ◌∙◌, ◌≤◌, ◌++◌, ℕ, [], ◌∷◌, map, Bool, true, false, Option, Some, None, refl, ap, subst, arith, sym}
 use Rattle.std.proofs.lemmas.Option.{none-some}
 use Rattle.rv_model.specs.Board.{Hart}
 use Rattle.rv_model.specs.DebugRegisters.{dcsr_number, debug_refuses, debug_value}
@@ -20,12 +20,12 @@ use Rattle.probe_run.specs.declared.fault.RunFault.{RunFault}
 use Rattle.probe_run.specs.declared.fault.RunFault.TheVariants as run_fault
 use Rattle.probe_run.specs.declared.control.Request.TheVariants.{Resume}
 use Rattle.probe_run.specs.Acts.{Tells, tells}
-use Rattle.probe_run.specs.Acts.Attempt.{Operation}
+use Rattle.probe_run.specs.Acts.Attempt.{Operation, Several}
 use Rattle.probe_run.specs.Acts.Did.{nothing}
 use Rattle.probe_run.specs.Happens.{Leaves, MissedAt, StepLeft as RunLeft, StepsAt, target_of}
 use Rattle.probe_run.specs.Looks.{look_act}
 use Rattle.probe_run.specs.Outcomes.{RunBroke, StepFails, asks}
-use Rattle.probe_run.specs.Outcomes.RunBroke.{at_request, at_look}
+use Rattle.probe_run.specs.Outcomes.RunBroke.{at_first, at_look}
 use Rattle.probe_run.specs.Requests.{control_word}
 use Rattle.probe_run.proofs.ActLemmas.{broke_then}
 use Rattle.probe_access.specs.Registers.{reaches}
@@ -78,8 +78,8 @@ flag_counted on count mid_count new_count old new e le later (at_write word mid 
 
 broke_run : (h count mid_count new_count : ℕ) (old : Tells) (told : Option Far) (why : DmiFault) → count ≤ mid_count → mid_count ≤ new_count
     → RunBroke Resume sees_both h mid_count new_count old told why → RunBroke Resume sees_both h count new_count old told why
-broke_run h count mid_count new_count old told why le later (at_request b) =
-    at_request (broke_then [] old old nothing [] (Operation (Write dmcontrol_address (control_word Resume h))) count mid_count new_count told why le later b)
+broke_run h count mid_count new_count old told why le later (at_first b) =
+    at_first (broke_then [] old old nothing [] (Several (Write dmcontrol_address (control_word Resume h)) (Read dmstatus_address ∷ [])) count mid_count new_count told why le later b)
 broke_run h count mid_count new_count old told why le later (at_look w) = at_look (record {
   vain = w.vain;
   none = w.none;

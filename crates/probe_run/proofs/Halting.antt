@@ -1,5 +1,6 @@
 -- What a halt did at a told chip, by its answer.
 use Rattle.std.proofs.Common.{◌≡◌, ◌++◌, ◌<◌, ◌≤◌, ◌^◌, ℕ, [], map, Option, Some, None, ap, append-nil, arith}
+use Rattle.std.proofs.lemmas.List.Elements.{All-nil}
 use Rattle.debug_model.specs.Addresses.{dmcontrol_address, dmstatus_address}
 use Rattle.debug_model.specs.declared.dmi.DmiFault.{DmiFault}
 use Rattle.debug_model.specs.declared.dmi_op.DmiOp.TheVariants.{Read, Write}
@@ -13,13 +14,14 @@ use Rattle.probe_run.specs.declared.control.Request.TheVariants.{Nothing, Halt}
 use Rattle.probe_run.specs.Acts.{Broke, Did, Tells}
 use Rattle.probe_run.specs.Acts.Attempt.{Operation}
 use Rattle.probe_run.specs.Happens.{Exists, HaltCut, HaltsAt, Leaves, LeftBy, MissedAt, target_of}
-use Rattle.probe_run.specs.Looks.{Met, Missed, look_act, looks_until, seen_in}
+use Rattle.probe_run.specs.Looks.{Met, ShowsNot, Missed, look_act, looks_until, seen_in}
 use Rattle.probe_run.specs.Outcomes.{ClearBroke, HaltedBy, RunBroke, asks}
-use Rattle.probe_run.specs.Outcomes.RunBroke.{at_request, at_look}
+use Rattle.probe_run.specs.Outcomes.RunBroke.{at_first, at_look}
 use Rattle.probe_run.specs.Requests.{control_word}
 use Rattle.probe_run.proofs.ActLemmas.{broke_list, broke_then, did_then}
 use Rattle.probe_run.proofs.Asking.{HaltAsked, HaltSeen}
 use Rattle.probe_run.proofs.Calls.{HappenedCut, Holds, Outcome, broke_outcome, did_outcome, outcome_holds, outcome_leaves, outcome_left}
+use Rattle.probe_run.proofs.FirstLooks.{first_outcome}
 use Rattle.probe_run.proofs.HartControl.{CanRun, HaltRan, halt_look_cut, halt_met, halt_missed, halt_ran, halt_request_cut, halted_there, there_met}
 use Rattle.probe_run.proofs.Moves.{CutAs, clear_notes, cut_point}
 use Rattle.probe_run.proofs.Runs.{MetRan, MissedRan, RunCutAs, cut_unit}
@@ -73,10 +75,10 @@ before_halt h s t c = record { happened = HaltCut.before_halt c.cut; unit = c.un
 
 pub halt_broke : (h : ℕ) → h < 2 ^ 10 → (old_count new_count : ℕ) (old : Tells) (new : Option Far) (fault : DmiFault) → Holds (CanRun h) old.far
     → RunBroke Halt sees_halted h old_count new_count old new fault → WhereTold (LeftBy (HaltCut h) h) old.far new
-halt_broke h small old_count new_count old new fault can (at_request b) =
+halt_broke h small old_count new_count old new fault can (at_first b) =
     outcome_left (HaltCut h) h (RunCutAs (HaltReq h) sees_halted h) old.far new (before_halt h)
-    (broke_outcome [] (Write dmcontrol_address (control_word Halt h)) (RunCutAs (HaltReq h) sees_halted h) (CanRun h) old_count new_count old new fault can
-    (halt_request_cut h small) b)
+    (first_outcome Halt h (RunCutAs (HaltReq h) sees_halted h) (CanRun h) old_count new_count old new fault small can (halt_request_cut h small)
+    (λ s e t c ran cut. halt_look_cut h small [] (All-nil (ShowsNot sees_halted)) (omega arith) s e t c ran cut) b)
 halt_broke h small old_count new_count old new fault can (at_look w) =
     outcome_left (HaltCut h) h (RunCutAs (HaltReq h) sees_halted h) old.far new (before_halt h)
     (broke_outcome (asks Halt h ++ map look_act w.vain) (Read dmstatus_address) (RunCutAs (HaltReq h) sees_halted h) (CanRun h) old_count new_count old new

@@ -16,6 +16,7 @@ pub mod Moves
 pub mod OpenedReady
 pub mod OpeningFails
 pub mod OpeningLemmas
+pub mod FirstLooks
 pub mod QuietCuts
 pub mod RanLemmas
 pub mod Resuming

@@ -17,11 +17,11 @@ use Rattle.probe_run.specs.declared.control.Request.TheVariants.{Nothing}
 use Rattle.probe_run.specs.declared.fault.ConnectFault.{ConnectFault}
 use Rattle.probe_run.specs.declared.fault.ConnectFault.TheVariants.{Dtm, Module, Abstract, Bus, Dmi}
 use Rattle.probe_run.specs.Acts.{Act, Broke, Did, Tells}
-use Rattle.probe_run.specs.Acts.Act.{Scanned, Put}
+use Rattle.probe_run.specs.Acts.Act.{Scanned}
 use Rattle.probe_run.specs.Acts.Attempt.{Scan, Operation, Several}
 use Rattle.probe_run.specs.Happens.{target_of}
 use Rattle.probe_run.specs.Looks.{look_act}
-use Rattle.probe_run.specs.Opening.{ActivateBroke, BusBroke, IsDmiFault, bus_fits, commands_fit, is_active, module_fits, BusFits, CommandsFit, ConnectFails}
+use Rattle.probe_run.specs.Opening.{ActivateBroke, BusBroke, IsDmiFault, bus_fits, commands_fit, is_active, module_fits, BusFits, ConnectFails}
 use Rattle.probe_run.specs.Opening.{LosesLoaded, Opened, OpenedChip, OpeningBroke, OpensLoaded, Then, UnopenedChip, UpToBus, UpToCommands, UpToModule}
 use Rattle.probe_run.specs.Opening.{active_act, bus_acts, clears_cmderr, clears_sberror, commands_acts, starts_none, transport_fits}
 use Rattle.probe_run.specs.Opening.ActivateBroke.{at_first, at_read}

@@ -1,5 +1,5 @@
 -- What one Look did at a told chip, and what it hands out.
-use Rattle.std.proofs.Common.{◌≡◌, ◌∙◌, ◌++◌, append_assoc, ◌<◌, ◌≤◌, ◌^◌, ℕ, List, [], ◌∷◌, Bool, true, Option, Some, None, is_some, slice_get, refl, sym}
+use Rattle.std.proofs.Common.{◌≡◌, ◌∙◌, ◌++◌, append_assoc, ◌<◌, ◌^◌, ℕ, List, [], ◌∷◌, Bool, true, Option, Some, None, is_some, slice_get, refl, sym}
 use Rattle.std.proofs.Common.{ap, subst, inl, inr}
 use Rattle.rv_model.specs.Board.{Hart}
 use Rattle.debug_model.specs.Addresses.{dmcontrol_address, dmstatus_address}
@@ -24,17 +24,15 @@ use Rattle.probe_run.specs.Acts.{Did, Tells}
 use Rattle.probe_run.specs.Acts.Act.{Put}
 use Rattle.probe_run.specs.Happens.{IsAsSeen, Leaves, LeftBy, LooksAt, target_of}
 use Rattle.probe_run.specs.Looks.{look_act, seen_in}
-use Rattle.probe_run.specs.Outcomes.{IsSeen, LookFailed, LookedAt, asks}
-use Rattle.probe_run.specs.Outcomes.LookFailed.{at_selection, at_look}
+use Rattle.probe_run.specs.Outcomes.{FirstBroke, IsSeen, LookedAt, asks}
 use Rattle.probe_run.specs.Requests.{control_word}
-use Rattle.probe_run.specs.Waits.{LookBroke}
-use Rattle.probe_run.proofs.ActLemmas.{broke_then, did_then}
 use Rattle.probe_run.specs.Sites.{IsQuiet, TurnsAlone, spun}
 use Rattle.probe_run.proofs.Asking.{Stopped, Unasked, stopped_kept, unasked_kept}
 use Rattle.probe_run.proofs.Between.{Between, between_ready, between_spun, between_weaker, ready_between, stopped_unasked, there_turns}
+use Rattle.probe_run.proofs.FirstLooks.{first_outcome}
 use Rattle.probe_run.proofs.HartControl.{at_hart, halted_of, stopped_halted}
 use Rattle.probe_run.proofs.Runs.{cut_unit}
-use Rattle.probe_run.proofs.Calls.{HappenedCut, Holds, Outcome, broke_outcome, did_outcome, outcome_holds, outcome_leaves, outcome_left}
+use Rattle.probe_run.proofs.Calls.{HappenedCut, Holds, Outcome, did_outcome, outcome_holds, outcome_leaves, outcome_left}
 use Rattle.probe_run.proofs.Moves.{CutAs, Reveals, Saw, cut_point, look_notes, saw, select_point, selected_in}
 use Rattle.probe_run.proofs.RanLemmas.{OperatedAt, Ran}
 use Rattle.probe_run.proofs.SiteLemmas.{AmidOperation, quiet_deeds, quiet_operation}
@@ -253,27 +251,15 @@ look_cut h small s e t ready (m, did, is) cut =
     (subst (λ x. SiteCut (Read dmstatus_address) x t) is cut) in
     record { happened = turns_cut h (target_of s) (target_of m) (target_of t) c.went.went q.cut; unit = cut_unit h m.unit t.unit s.unit c.went.unit q.unit }
 
-pub look_broke : (h : ℕ) → h < 2 ^ 10 → (old_count new_count : ℕ) (old : Tells) (new : Option Far) (fault : DmiFault) → IsReady old.far
-    → LookFailed h old_count new_count old new fault
-    → WhereTold (LeftBy (Cut (Look h)) h) old.far new
-look_broke h small old_count new_count old new fault ready (at_selection b) =
+pub look_broke : (h : ℕ) → h < 2 ^ 10 → (old_count new_count : ℕ) (old : Tells) (new : Option Far) (fault : DmiFault)
+    → IsReady old.far → FirstBroke Nothing h old_count new_count old new fault → WhereTold (LeftBy (Cut (Look h)) h) old.far new
+look_broke h small old_count new_count old new fault ready b =
     outcome_left (Cut (Look h)) h (HappenedCut (Cut (Look h)) h) old.far new (λ s t c. c)
-    (broke_outcome [] (Write dmcontrol_address (control_word Nothing h)) (HappenedCut (Cut (Look h)) h) SiteReady old_count new_count old new fault ready
-    (select_cut h small) b)
-look_broke h small old_count new_count old new fault ready (at_look b) =
-    outcome_left (Cut (Look h)) h (HappenedCut (Cut (Look h)) h) old.far new (λ s t c. c)
-    (broke_outcome (asks Nothing h) (Read dmstatus_address) (HappenedCut (Cut (Look h)) h) SiteReady old_count new_count old new fault ready (look_cut h small)
+    (first_outcome Nothing h (HappenedCut (Cut (Look h)) h) SiteReady old_count new_count old new fault small ready (select_cut h small) (look_cut h small)
     b)
 
 -- ---- as the contract has them
 
-pub looked_at : (h word : ℕ) (old mid new : Tells) (s : Seen) → Did old (asks Nothing h) mid → Did mid (look_act word ∷ []) new → IsSeen h (seen_in word) s
+pub looked_at : (h word : ℕ) (old new : Tells) (s : Seen) → Did old (asks Nothing h ++ look_act word ∷ []) new → IsSeen h (seen_in word) s
     → LookedAt h old new s
-looked_at h word old mid new s first second is =
-    record { word = word; did = did_then (asks Nothing h) old mid first (look_act word ∷ []) new second; shows = is }
-
-pub look_failed : (h : ℕ) (old mid : Tells) (count mid_count new_count : ℕ) (told : Option Far) (fault : DmiFault) → Did old (asks Nothing h) mid
-    → count ≤ mid_count → mid_count ≤ new_count
-    → LookBroke [] mid_count new_count mid told fault → LookBroke (asks Nothing h) count new_count old told fault
-look_failed h old mid count mid_count new_count told fault d le later b =
-    broke_then (asks Nothing h) old mid d [] _ count mid_count new_count told fault le later b
+looked_at h word old new s did is = record { word = word; did = did; shows = is }

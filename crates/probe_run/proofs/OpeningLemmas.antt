@@ -126,7 +126,7 @@ reads_all old now reads last all r inactive = record { front = r.front; did = r.
 
 -- ---- several in one call
 
-listed_two : (xs : List ℕ) → length xs ≡ 2 → xs ≡ slice_index_or xs 0 0 ∷ slice_index_or xs 1 0 ∷ []
+pub listed_two : (xs : List ℕ) → length xs ≡ 2 → xs ≡ slice_index_or xs 0 0 ∷ slice_index_or xs 1 0 ∷ []
 listed_two [] two = absurd (omega arith)
 listed_two (x ∷ []) two = absurd (omega arith)
 listed_two (x ∷ y ∷ []) two = refl

@@ -54,7 +54,7 @@ acts_done (o ∷ os) = ap (λ xs. act_of o ∷ xs) (acts_done os)
 small_value : (value : ℕ) → value < 2 ^ 32 → value ≡ value % 2 ^ 32
 small_value value small = omega arith
 
-one_did : (op : DmiOp) (result : ℕ) (s t : Site) → IsOperation op → OneOperation op result s t → SiteDid (op_act op (value_of result)) s t
+pub one_did : (op : DmiOp) (result : ℕ) (s t : Site) → IsOperation op → OneOperation op result s t → SiteDid (op_act op (value_of result)) s t
 one_did (Read address) result s t small one = record { result = result; one = one; word_is = refl }
 one_did (Write address value) result s t small one = record {
   result = value;

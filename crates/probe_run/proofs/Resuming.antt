@@ -1,5 +1,6 @@
 -- What a resume and a single step did at a told chip, by their answers.
-use Rattle.std.proofs.Common.{◌≡◌, ◌++◌, ◌+◌, ◌<◌, ◌^◌, ℕ, List, [], length, map, All, Bool, Option, ap, subst}
+use Rattle.std.proofs.Common.{◌≡◌, ◌++◌, ◌+◌, ◌<◌, ◌^◌, ℕ, List, [], length, map, All, Bool, Option, ap, subst, arith}
+use Rattle.std.proofs.lemmas.List.Elements.{All-nil}
 use Rattle.rv_model.specs.Board.{DebugPart}
 use Rattle.debug_model.specs.Addresses.{dmcontrol_address, dmstatus_address}
 use Rattle.debug_model.specs.declared.dmi.DmiFault.{DmiFault}
@@ -15,11 +16,12 @@ use Rattle.probe_run.specs.Acts.{Tells}
 use Rattle.probe_run.specs.Happens.{Exists, Leaves, LeftBy, MetAt, MissedAt, RunCut, target_of}
 use Rattle.probe_run.specs.Looks.{Met, Missed, Shows, ShowsNot, look_act, looks_until, seen_in}
 use Rattle.probe_run.specs.Outcomes.{RunBroke, asks}
-use Rattle.probe_run.specs.Outcomes.RunBroke.{at_request, at_look}
+use Rattle.probe_run.specs.Outcomes.RunBroke.{at_first, at_look}
 use Rattle.probe_run.specs.Requests.{control_word}
 use Rattle.probe_run.proofs.Asking.{GoAsked, KeptByTurns, Stopped, Unasked, go_asked_kept, stopped_kept, unasked_kept}
 use Rattle.probe_run.proofs.Between.{between_ready, between_weaker, ready_between, stopped_unasked}
 use Rattle.probe_run.proofs.Calls.{HappenedCut, Holds, Outcome, broke_outcome, did_outcome, outcome_holds, outcome_leaves, outcome_left}
+use Rattle.probe_run.proofs.FirstLooks.{first_outcome}
 use Rattle.probe_run.proofs.HartControl.{CanRun, reveals_ack, reveals_both, stopped_halted, there_met}
 use Rattle.probe_run.proofs.Moves.{Reveals, cut_point, moves_resume, resume_notes}
 use Rattle.probe_run.proofs.RanLemmas.{Ran}
@@ -132,10 +134,10 @@ run_cut test h s t c = record { happened = c.cut; unit = c.unit }
 pub go_broke : (test : Seen → Bool) (h : ℕ) → h < 2 ^ 10 → (old_count new_count : ℕ) (old : Tells) (new : Option Far) (fault : DmiFault)
     → Holds (CanRun h) old.far
     → RunBroke Resume test h old_count new_count old new fault → WhereTold (LeftBy (RunCut (ResumeReq h) test h) h) old.far new
-go_broke test h small old_count new_count old new fault can (at_request b) =
+go_broke test h small old_count new_count old new fault can (at_first b) =
     outcome_left (RunCut (ResumeReq h) test h) h (RunCutAs (ResumeReq h) test h) old.far new (run_cut test h)
-    (broke_outcome [] (Write dmcontrol_address (control_word Resume h)) (RunCutAs (ResumeReq h) test h) (CanRun h) old_count new_count old new fault can
-    (go_request_cut test h small) b)
+    (first_outcome Resume h (RunCutAs (ResumeReq h) test h) (CanRun h) old_count new_count old new fault small can (go_request_cut test h small)
+    (λ s e t c ran cut. go_look_cut test h small [] (All-nil (ShowsNot test)) (omega arith) s e t c ran cut) b)
 go_broke test h small old_count new_count old new fault can (at_look w) =
     outcome_left (RunCut (ResumeReq h) test h) h (RunCutAs (ResumeReq h) test h) old.far new (run_cut test h)
     (broke_outcome (asks Resume h ++ map look_act w.vain) (Read dmstatus_address) (RunCutAs (ResumeReq h) test h) (CanRun h) old_count new_count old new fault

@@ -1,84 +1,86 @@
--- Looks of a wait so far, and what one more of them makes of it.
+-- Looks behind a request so far, and what one more of them makes of it.
 use Rattle.std.proofs.Common.{◌≡◌, ◌++◌, ◌+◌, ◌<◌, ◌≤◌, ℕ, List, [], ◌∷◌, length, map, All, Bool, true, false, Option, refl, sym, ap, subst, arith}
-use Rattle.std.proofs.Common.{append-nil, length-append}
+use Rattle.std.proofs.Common.{append-nil, append_assoc, length-append}
 use Rattle.std.proofs.lemmas.List.Elements.{All-nil, All-push}
 use Rattle.debug_model.specs.declared.dmi.DmiFault.{DmiFault}
 use Rattle.debug_model.specs.Told.{Far}
-use Rattle.abstract_debugger.specs.Debugger.{Seen, most_looks, sees_ack}
-use Rattle.probe_run.specs.declared.wait.Wanted.{Wanted}
-use Rattle.probe_run.specs.declared.wait.Waited.TheVariants.{Unshown}
+use Rattle.abstract_debugger.specs.Debugger.{Seen, most_looks}
 use Rattle.probe_run.specs.Acts.{Act, Did, Tells}
-use Rattle.probe_run.specs.Looks.{Met, ShowsNot, WaitedAs, look_act, looks_until, seen_in, test_of}
+use Rattle.probe_run.specs.Looks.{Met, Missed, ShowsNot, look_act, looks_until, seen_in}
 use Rattle.probe_run.specs.Waits.{LookBroke, WaitBroke}
-use Rattle.probe_run.proofs.ActLemmas.{broke_then, did_then, did_list}
+use Rattle.probe_run.proofs.ActLemmas.{broke_then, did_list, did_then}
 
--- so many Looks in vain; of some, whether the last of them showed the ack
-pub data Looked (test : Seen → Bool) (old now : Tells) : ℕ → Bool → Type 0 where
-  not_yet : (acknowledged : Bool) → Did old [] now → Looked test old now 0 acknowledged
-  in_vain : (front : List ℕ) (last : ℕ) → Did old (looks_until front last) now → All (ShowsNot test) front → ShowsNot test last
-      → Looked test old now (length front + 1) (sees_ack (seen_in last))
-
-pub record Vain (test : Seen → Bool) (old now : Tells) (looks : ℕ) : Type 0 where
+-- so many Looks behind these calls, of which all but the last were in vain; the last was answered this word
+pub record Looked (test : Seen → Bool) (first : List Act) (old now : Tells) (looks word : ℕ) : Type 0 where
   pub vain : List ℕ
-  pub did : Did old (map look_act vain) now
+  pub did : Did old (first ++ looks_until vain word) now
   pub none : All (ShowsNot test) vain
-  pub count : length vain ≡ looks
+  pub count : length vain + 1 ≡ looks
 
 map_until : (front : List ℕ) (last : ℕ) → looks_until front last ≡ map look_act (front ++ last ∷ [])
 map_until [] last = refl
 map_until (w ∷ ws) last = ap (λ (acts : List Act). look_act w ∷ acts) (map_until ws last)
 
-vain_of : (test : Seen → Bool) (old now : Tells) (looks : ℕ) (acknowledged : Bool) → Looked test old now looks acknowledged → Vain test old now looks
-vain_of test old now looks acknowledged (not_yet a did) = record { vain = []; did = did; none = All-nil (ShowsNot test); count = refl }
-vain_of test old now looks acknowledged (in_vain front last did none not_shown) = record {
-  vain = front ++ last ∷ [];
-  did = did_list (looks_until front last) (map look_act (front ++ last ∷ [])) old now (map_until front last) did;
-  none = All-push (ShowsNot test) front last none not_shown;
-  count = length-append front (last ∷ []);
+pub looked_first : (test : Seen → Bool) (first : List Act) (old now : Tells) (word : ℕ) → Did old (first ++ look_act word ∷ []) now
+    → Looked test first old now 1 word
+looked_first test first old now word d = record { vain = []; did = d; none = All-nil (ShowsNot test); count = refl }
+
+-- all of them were in vain
+record Vain (test : Seen → Bool) (first : List Act) (old now : Tells) (looks : ℕ) : Type 0 where
+  vain : List ℕ
+  did : Did old (first ++ map look_act vain) now
+  none : All (ShowsNot test) vain
+  count : length vain ≡ looks
+
+vain_of : (test : Seen → Bool) (first : List Act) (old now : Tells) (looks word : ℕ) → Looked test first old now looks word → test (seen_in word) ≡ false
+    → Vain test first old now looks
+vain_of test first old now looks word l unseen = record {
+  vain = l.vain ++ word ∷ [];
+  did = did_list (first ++ looks_until l.vain word) (first ++ map look_act (l.vain ++ word ∷ [])) old now
+      (ap (λ (acts : List Act). first ++ acts) (map_until l.vain word)) l.did;
+  none = All-push (ShowsNot test) l.vain word l.none unseen;
+  count = let e : length (l.vain ++ word ∷ []) ≡ length l.vain + 1 = length-append l.vain (word ∷ []) in let c : length l.vain + 1 ≡ looks = l.count in
+      omega arith;
 }
 
-pub looked_start : (test : Seen → Bool) (acknowledged : Bool) (old : Tells) → Looked test old old 0 acknowledged
-looked_start test acknowledged old = not_yet acknowledged Did.nothing
-
-pub looked_again : (test : Seen → Bool) (old now new : Tells) (looks : ℕ) (before after : Bool) (word : ℕ) → Looked test old now looks before
-    → Did now (look_act word ∷ []) new
-    → test (seen_in word) ≡ false → after ≡ sees_ack (seen_in word) → Looked test old new (looks + 1) after
-looked_again test old now new looks before after word l d unseen is =
-    let v : Vain test old now looks = vain_of test old now looks before l in
-    let step : Looked test old new (length v.vain + 1) (sees_ack (seen_in word)) =
-    in_vain v.vain word (did_then (map look_act v.vain) old now v.did (look_act word ∷ []) new d) v.none unseen in
-    subst (λ n. Looked test old new (n + 1) after) v.count (subst (λ b. Looked test old new (length v.vain + 1) b) (sym is) step)
-
-pub looked_met : (test : Seen → Bool) (old now new : Tells) (looks : ℕ) (before : Bool) (word : ℕ) → Looked test old now looks before
-    → Did now (look_act word ∷ []) new
-    → test (seen_in word) ≡ true → looks < most_looks → Met test [] old new
-looked_met test old now new looks before word l d is few =
-    let v : Vain test old now looks = vain_of test old now looks before l in
+pub looked_again : (test : Seen → Bool) (first : List Act) (old now new : Tells) (looks word next : ℕ) → Looked test first old now looks word
+    → test (seen_in word) ≡ false → Did now (look_act next ∷ []) new → Looked test first old new (looks + 1) next
+looked_again test first old now new looks word next l unseen d =
+    let v : Vain test first old now looks = vain_of test first old now looks word l unseen in
     record {
       vain = v.vain;
-      last = word;
-      did = did_then (map look_act v.vain) old now v.did (look_act word ∷ []) new d;
+      did = did_list ((first ++ map look_act v.vain) ++ look_act next ∷ []) (first ++ looks_until v.vain next) old new
+          (append_assoc first (map look_act v.vain) (look_act next ∷ [])) (did_then (first ++ map look_act v.vain) old now v.did (look_act next ∷ []) new d);
       none = v.none;
-      shown = is;
-      few = subst (λ n. n < most_looks) (sym v.count) few;
+      count = ap (λ n. n + 1) v.count;
     }
 
-pub looked_broke : (test : Seen → Bool) (old now : Tells) (looks : ℕ) (before : Bool) (count mid_count new_count : ℕ) (told : Option Far) (fault : DmiFault)
-    → Looked test old now looks before
+pub looked_met : (test : Seen → Bool) (first : List Act) (old now : Tells) (looks word : ℕ) → Looked test first old now looks word
+    → test (seen_in word) ≡ true → looks ≤ most_looks → Met test first old now
+looked_met test first old now looks word l is few = record {
+  vain = l.vain;
+  last = word;
+  did = l.did;
+  none = l.none;
+  shown = is;
+  few = let c : length l.vain + 1 ≡ looks = l.count in let f : looks ≤ 64 = few in omega arith;
+}
+
+pub looked_missed : (test : Seen → Bool) (first : List Act) (old now : Tells) (looks word : ℕ) → Looked test first old now looks word
+    → test (seen_in word) ≡ false → looks ≡ most_looks → Missed test word first old now
+looked_missed test first old now looks word l unseen all =
+    record { front = l.vain; did = l.did; none = l.none; not_shown = unseen; all = let c : length l.vain + 1 ≡ looks = l.count in subst (λ n. length l.vain + 1 ≡ n) all c }
+
+pub looked_broke : (test : Seen → Bool) (first : List Act) (old now : Tells) (looks word count mid_count new_count : ℕ) (told : Option Far) (fault : DmiFault)
+    → Looked test first old now looks word → test (seen_in word) ≡ false
     → looks < most_looks → count ≤ mid_count → mid_count ≤ new_count → LookBroke [] mid_count new_count now told fault
-    → WaitBroke test [] count new_count old told fault
-looked_broke test old now looks before count mid_count new_count told fault l few le later b =
-    let v : Vain test old now looks = vain_of test old now looks before l in
+    → WaitBroke test first count new_count old told fault
+looked_broke test first old now looks word count mid_count new_count told fault l unseen few le later b =
+    let v : Vain test first old now looks = vain_of test first old now looks word l unseen in
     record {
       vain = v.vain;
       none = v.none;
       few = subst (λ n. n < most_looks) (sym v.count) few;
-      broke = subst (λ acts. LookBroke acts count new_count old told fault) (append-nil (map look_act v.vain))
-          (broke_then (map look_act v.vain) old now v.did [] _ count mid_count new_count told fault le later b);
+      broke = subst (λ acts. LookBroke acts count new_count old told fault) (append-nil (first ++ map look_act v.vain))
+          (broke_then (first ++ map look_act v.vain) old now v.did [] _ count mid_count new_count told fault le later b);
     }
-
-pub looked_all : (what : Wanted) (old now : Tells) (looks : ℕ) (acknowledged : Bool) → looks ≡ most_looks → Looked (test_of what) old now looks acknowledged
-    → WaitedAs what old now (Unshown acknowledged)
-looked_all what old now looks acknowledged all (not_yet a did) = absurd (let e : 0 ≡ most_looks = all in omega arith)
-looked_all what old now looks acknowledged all (in_vain front last did none not_shown) =
-    (last, record { front = front; did = did; none = none; not_shown = not_shown; all = all }, refl)

@@ -8,8 +8,6 @@ use Rattle.abstract_debugger.specs.Debugger.{Seen, most_looks, sees_ack, sees_bo
 use Rattle.abstract_debugger.specs.Debugger.Seen.{Absent, Running, Halted}
 use Rattle.probe_run.specs.declared.wait.Wanted.{Wanted}
 use Rattle.probe_run.specs.declared.wait.Wanted.TheVariants as wanted
-use Rattle.probe_run.specs.declared.wait.Waited.{Waited}
-use Rattle.probe_run.specs.declared.wait.Waited.TheVariants as waited
 use Rattle.probe_run.specs.Acts.{Act, Did, Tells}
 use Rattle.probe_run.specs.Acts.Act.{Got}
 
@@ -57,8 +55,3 @@ pub record Missed (test : Seen → Bool) (last : ℕ) (first : List Act) (old ne
   pub none : All (ShowsNot test) front
   pub not_shown : ShowsNot test last
   pub all : length front + 1 ≡ most_looks
-
--- by what a wait answers
-abbrev pub WaitedAs : Wanted → Tells → Tells → Waited → Type 0
-WaitedAs what old new waited.Shown = Met (test_of what) [] old new
-WaitedAs what old new (waited.Unshown acknowledged) = (last : ℕ) × Missed (test_of what) last [] old new × (acknowledged ≡ sees_ack (seen_in last))

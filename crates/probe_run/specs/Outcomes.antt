@@ -1,9 +1,9 @@
 -- What each call of run control did at the link: the operations that it made, in order, with what the Looks showed, and where a fault came.
 -- RISC-V Debug Specification 1.0, "Halt Control" and "Run Control".
 use Rattle.std.specs.Prelude.{◌≡◌, ℕ, List, [], ◌∷◌, Bool, true, false, Option, Some, None}
-use Rattle.debug_model.specs.Addresses.{dmcontrol_address}
+use Rattle.debug_model.specs.Addresses.{dmcontrol_address, dmstatus_address}
 use Rattle.debug_model.specs.declared.dmi.DmiFault.{DmiFault}
-use Rattle.debug_model.specs.declared.dmi_op.DmiOp.TheVariants.{Write}
+use Rattle.debug_model.specs.declared.dmi_op.DmiOp.TheVariants.{Read, Write}
 use Rattle.debug_model.specs.Told.{Far}
 use Rattle.abstract_debugger.specs.Debugger.{Seen as Sight, most_looks, sees_ack, sees_both, sees_halted}
 use Rattle.probe_run.specs.declared.control.Request.{Request}
@@ -17,10 +17,10 @@ use Rattle.probe_run.specs.declared.wait.Waited.{Waited}
 use Rattle.probe_run.specs.declared.wait.Waited.TheVariants as waited
 use Rattle.probe_run.specs.Acts.{Act, Broke, Did, Tells}
 use Rattle.probe_run.specs.Acts.Act.{Put}
-use Rattle.probe_run.specs.Acts.Attempt.{Operation}
+use Rattle.probe_run.specs.Acts.Attempt.{Operation, Several}
 use Rattle.probe_run.specs.Looks.{Met, Missed, look_act, seen_in, test_of}
 use Rattle.probe_run.specs.Requests.{control_word}
-use Rattle.probe_run.specs.Waits.{LookBroke, WaitBroke}
+use Rattle.probe_run.specs.Waits.{WaitBroke}
 
 -- ---- faults
 
@@ -46,9 +46,14 @@ AskedAs request h what old new waited.Shown = Met (test_of what) (asks request h
 AskedAs request h what old new (waited.Unshown acknowledged) = (last : ℕ) × Missed (test_of what) last (asks request h) old new
     × (acknowledged ≡ sees_ack (seen_in last))
 
--- the request failed, or a Look behind it
+-- the call failed that asks this of the hart and makes the first Look of it
+abbrev pub FirstBroke : Request → ℕ → ℕ → ℕ → Tells → Option Far → DmiFault → Type 0
+FirstBroke request h old_count new_count old told fault =
+    Broke [] (Several (Write dmcontrol_address (control_word request h)) (Read dmstatus_address ∷ [])) old_count new_count old told fault
+
+-- that call failed, or a Look behind it
 pub data RunBroke (request : Request) (test : Sight → Bool) (h old_count new_count : ℕ) (old : Tells) (told : Option Far) (fault : DmiFault) : Type 0 where
-  at_request : AskBroke request h old_count new_count old told fault → RunBroke request test h old_count new_count old told fault
+  at_first : FirstBroke request h old_count new_count old told fault → RunBroke request test h old_count new_count old told fault
   at_look : WaitBroke test (asks request h) old_count new_count old told fault → RunBroke request test h old_count new_count old told fault
 
 -- ---- a Look
@@ -71,12 +76,8 @@ pub record LookedAt (h : ℕ) (old new : Tells) (s : Seen) : Type 0 where
   pub did : Did old (Put dmcontrol_address (control_word Nothing h) ∷ look_act word ∷ []) new
   pub shows : IsSeen h (seen_in word) s
 
-pub data LookFailed (h old_count new_count : ℕ) (old : Tells) (told : Option Far) (fault : DmiFault) : Type 0 where
-  at_selection : AskBroke Nothing h old_count new_count old told fault → LookFailed h old_count new_count old told fault
-  at_look : LookBroke (asks Nothing h) old_count new_count old told fault → LookFailed h old_count new_count old told fault
-
 abbrev pub LookFails : ℕ → ℕ → ℕ → Tells → Tells → RunFault → Type 0
-LookFails h old_count new_count old new (Dmi fault) = LookFailed h old_count new_count old new.far fault
+LookFails h old_count new_count old new (Dmi fault) = FirstBroke Nothing h old_count new_count old new.far fault
 LookFails h old_count new_count old new (NoHalt looks) = ⊥
 LookFails h old_count new_count old new (NoAck looks) = ⊥
 

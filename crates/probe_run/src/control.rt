@@ -1,12 +1,15 @@
-ghost use Rattle.std.specs.Prelude.{◌≡◌, ◌≤◌, ◌∷◌, [], ◌<◌, ◌^◌, true, false, IfErr, OnOk, Some};
+ghost use Rattle.std.specs.Prelude.{◌≡◌, ◌≤◌, ◌++◌, ◌∷◌, [], ◌<◌, ◌^◌, true, false, IfOk, IfErr, OnOk, Some};
 ghost use Rattle.debug_model.specs.Addresses.{dmcontrol_address};
 ghost use Rattle.debug_model.specs.declared.dmi_op.DmiOp.TheVariants.{Write};
 ghost use Rattle.probe_run.specs.Acts.{Attempt, Broke, Did, Put};
+ghost use Rattle.probe_run.specs.Looks.{look_act};
+ghost use Rattle.probe_run.specs.Outcomes.{FirstBroke, asks};
 ghost use Rattle.probe_run.specs.Requests.{control_word};
 ghost use Rattle.debug_model.specs.Kept.{CanCall, Keeps};
 ghost use Rattle.probe_run.specs.Told.{Breaks, told};
 
-use debug_model::{Dmcontrol, Dmi, DmiFault};
+use arrayvec::ArrayVec;
+use debug_model::{Dmcontrol, Dmi, DmiFault, DmiOp, Dmstatus};
 
 /// What a write of `dmcontrol` asks of the hart that it selects.
 #[derive(Clone, Copy, PartialEq, Eq)]
@@ -43,4 +46,20 @@ pub fn control<D: Dmi>(link: &mut D, hart: u16, request: Request) -> Result<(), 
 {
     link.write(Dmcontrol::ADDRESS, word_for(hart, request))?;
     Ok(())
+}
+
+/// Selects a hart, asks this of it, and makes the first Look of it, in one call: the word of `dmstatus`.
+pub fn control_and_look<D: Dmi>(link: &mut D, hart: u16, request: Request) -> Result<u32, DmiFault>
+    requires callable { CanCall (D.seen link.old) }
+    ensures did { IfOk result (λ word. Did (told (D.seen link.old)) (asks request hart ++ look_act word ∷ []) (told (D.seen link.new))) }
+    ensures broke { IfErr result (Breaks (FirstBroke request hart) (D.seen link.old) (D.seen link.new)) }
+    ensures keeps { Keeps Some (D.seen link.old) (D.seen link.new) result }
+{
+    let mut words = ArrayVec::new();
+    let operations = [
+        DmiOp::Write(Dmcontrol::ADDRESS, word_for(hart, request)),
+        DmiOp::Read(Dmstatus::ADDRESS),
+    ];
+    link.many(&operations, &mut words)?;
+    Ok(words[1])
 }

@@ -9,13 +9,13 @@ ghost use Rattle.debug_model.specs.Kept.{CanCall, Keeps};
 ghost use Rattle.probe_run.specs.Told.{Breaks, Fails, OnChip, told};
 ghost use Rattle.probe_run.specs.Outcomes.{run_why};
 
-use crate::control::{Request, control};
+use crate::control::{Request, control, control_and_look};
 use crate::fault::RunFault;
 use crate::hart::{Halted, Running};
-use crate::wait::{LOOKS_MOST, Waited, Wanted, wait};
-use debug_model::{Dmi, DmiFault};
+use crate::wait::{LOOKS_MOST, Waited, Wanted, look};
+use debug_model::{Dmi, DmiFault, Dmstatus};
 
-/// Asks this of a hart, and looks at it until one Look shows what is wanted, at most 64 times.
+/// Asks this of a hart, and looks at it until one Look shows what is wanted, at most 64 times. The first Look goes with the request.
 fn ask<D: Dmi>(
     link: &mut D,
     hart: u16,
@@ -27,9 +27,20 @@ fn ask<D: Dmi>(
     ensures broke { IfErr result (Breaks (RunBroke request (test_of wanted) hart) (D.seen link.old) (D.seen link.new)) }
     ensures keeps { Keeps Some (D.seen link.old) (D.seen link.new) result }
 {
-    control(link, hart, request)?;
-    let waited = wait(link, wanted)?;
-    Ok(waited)
+    let mut word = control_and_look(link, hart, request)?;
+    'looks: for _looks in 1..LOOKS_MOST {
+        if wanted.is_shown(Dmstatus::from_word(word)) {
+            return Ok(Waited::Shown);
+        }
+        word = look(link)?;
+    }
+    let last = Dmstatus::from_word(word);
+    if wanted.is_shown(last) {
+        return Ok(Waited::Shown);
+    }
+    Ok(Waited::Unshown {
+        acknowledged: Wanted::Acknowledged.is_shown(last),
+    })
 }
 
 impl Running {

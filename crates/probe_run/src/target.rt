@@ -7,10 +7,9 @@ ghost use Rattle.debug_model.specs.Kept.{CanCall, Keeps};
 ghost use Rattle.probe_run.specs.Told.{Fails, OnChip, told};
 ghost use Rattle.probe_run.specs.Outcomes.{run_why};
 
-use crate::control::{Request, control};
+use crate::control::{Request, control_and_look};
 use crate::fault::RunFault;
 use crate::hart::{Halted, Running, Seen};
-use crate::wait::look;
 use debug_model::{Dmi, Dmstatus};
 
 /// A chip whose debug module was opened by `connect`.
@@ -35,7 +34,7 @@ fn seen_of(word: u32, hart: u16) -> Seen
 }
 
 impl Target {
-    /// One Look of a hart with a number of at most 1023: it is selected by a write of `dmcontrol`, and `dmstatus` is read once.
+    /// One Look of a hart with a number of at most 1023: it is selected by a write of `dmcontrol`, and `dmstatus` is read once, in one call.
     pub fn look<D: Dmi>(&self, link: &mut D, hart: u16) -> Result<Seen, RunFault>
         requires hart { hart < 2 ^ 10 }
         requires callable { CanCall (D.seen link.old) }
@@ -49,8 +48,7 @@ impl Target {
         ensures seen { IfOk result (IsAsSeen (D.seen link.new).far) }
         ensures keeps { Keeps run_why (D.seen link.old) (D.seen link.new) result }
     {
-        control(link, hart, Request::Nothing)?;
-        let word = look(link)?;
+        let word = control_and_look(link, hart, Request::Nothing)?;
         Ok(seen_of(word, hart))
     }
 }

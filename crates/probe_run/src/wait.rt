@@ -1,7 +1,7 @@
 ghost use Rattle.std.specs.Prelude.{◌≡◌, ◌≤◌, ◌∷◌, [], false, IfOk, IfErr, Some};
 ghost use Rattle.probe_run.specs.Acts.{Did};
-ghost use Rattle.probe_run.specs.Looks.{WaitedAs, look_act, seen_in_status, test_of};
-ghost use Rattle.probe_run.specs.Waits.{WaitBroke, LookBroke};
+ghost use Rattle.probe_run.specs.Looks.{look_act, seen_in_status, test_of};
+ghost use Rattle.probe_run.specs.Waits.{LookBroke};
 ghost use Rattle.debug_model.specs.Kept.{CanCall, Keeps};
 ghost use Rattle.probe_run.specs.Told.{Breaks, told};
 
@@ -23,7 +23,7 @@ pub enum Wanted {
 
 impl Wanted {
     /// Whether a Look shows it. Of a hart that is not there nothing is shown.
-    fn is_shown(self, status: Dmstatus) -> bool
+    pub fn is_shown(self, status: Dmstatus) -> bool
         ensures { result ≡ test_of self (seen_in_status status) }
     {
         if status.nonexistent {
@@ -58,23 +58,4 @@ pub fn look<D: Dmi>(link: &mut D) -> Result<u32, DmiFault>
 {
     let word = link.read(Dmstatus::ADDRESS)?;
     Ok(word)
-}
-
-/// Looks at the selected hart until one Look shows what is wanted, at most 64 times.
-pub fn wait<D: Dmi>(link: &mut D, wanted: Wanted) -> Result<Waited, DmiFault>
-    requires callable { CanCall (D.seen link.old) }
-    ensures waited { IfOk result (WaitedAs wanted (told (D.seen link.old)) (told (D.seen link.new))) }
-    ensures broke { IfErr result (Breaks (WaitBroke (test_of wanted) []) (D.seen link.old) (D.seen link.new)) }
-    ensures keeps { Keeps Some (D.seen link.old) (D.seen link.new) result }
-{
-    let mut acknowledged = false;
-    'looks: for _looks in 0..LOOKS_MOST {
-        let word = look(link)?;
-        let status = Dmstatus::from_word(word);
-        if wanted.is_shown(status) {
-            return Ok(Waited::Shown);
-        }
-        acknowledged = Wanted::Acknowledged.is_shown(status);
-    }
-    Ok(Waited::Unshown { acknowledged })
 }

@@ -164,16 +164,16 @@ by_run (run_fault.Dmi why) old_count new_count told w = w
 by_run (run_fault.NoHalt looks) old_count new_count told w = tt
 by_run (run_fault.NoAck looks) old_count new_count told w = tt
 
-single_step : (e : AccessFault) (h old_count new_count : ℕ) (old new : Tells) → StepFailed h old_count new_count old new e
+pub single_step_wire : (e : AccessFault) (h old_count new_count : ℕ) (old new : Tells) → StepFailed h old_count new_count old new e
     → AccessWire old_count new_count new.far e
-single_step e h old_count new_count old new (StepFailed.in_set f) = flag_wire e true old_count new_count old new f
-single_step e h old_count new_count old new (StepFailed.in_run begun sets why f is) =
+single_step_wire e h old_count new_count old new (StepFailed.in_set f) = flag_wire e true old_count new_count old new f
+single_step_wire e h old_count new_count old new (StepFailed.in_run begun sets why f is) =
     subst (AccessWire old_count new_count new.far) (sym is) (by_run why old_count new_count new.far (step_wire why h old_count new_count begun new f))
-single_step e h old_count new_count old new (StepFailed.in_clear begun ran sets runs f) = flag_wire e false old_count new_count ran new f
+single_step_wire e h old_count new_count old new (StepFailed.in_clear begun ran sets runs f) = flag_wire e false old_count new_count ran new f
 
 back_wire : (e : AccessFault) (h old_count new_count : ℕ) (old new : Tells) → BackFailed h old_count new_count old new e
     → AccessWire old_count new_count new.far e
-back_wire e h old_count new_count old new (BackFailed.in_step f cut) = single_step e h old_count new_count old new f
+back_wire e h old_count new_count old new (BackFailed.in_step f cut) = single_step_wire e h old_count new_count old new f
 back_wire e h old_count new_count old new (BackFailed.in_end ran steps f) = slots_wire e _ h old_count new_count ran new f
 
 pub over_wire : (e : AccessFault) (h old_count new_count : ℕ) (old new : Tells) → OverFailed h old_count new_count old new e

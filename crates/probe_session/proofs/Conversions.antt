@@ -7,6 +7,7 @@ use Rattle.probe_access.specs.declared.fault.AccessFault.TheVariants as access_f
 use Rattle.probe_access.specs.Cuts.{IfCut, Leaves, LeftAside}
 use Rattle.probe_access.specs.Registers.{RegisterLeft}
 use Rattle.probe_access.specs.Scratches.{ScratchLeft}
+use Rattle.probe_access.specs.SingleSteps.{StepLeft}
 use Rattle.probe_run.specs.Acts.{Tells}
 use Rattle.probe_run.specs.Told.{Serving}
 use Rattle.probe_trig.specs.declared.fault.TrigFault.{TrigFault}
@@ -64,6 +65,14 @@ of_over h old new (access_fault.Register number) left = tt
 of_over h old new access_fault.StillBusy left = tt
 of_over h old new (access_fault.Run why) left = tt
 of_over h old new (access_fault.Odd shown) left = tt
+
+pub of_step : (h : ℕ) (old new : Option Far) (why : AccessFault) → StepLeft h old new why → IsNotMemory why
+of_step h old new (access_fault.Dmi why) left = tt
+of_step h old new (access_fault.Memory address) left = left
+of_step h old new (access_fault.Register number) left = tt
+of_step h old new access_fault.StillBusy left = tt
+of_step h old new (access_fault.Run why) left = tt
+of_step h old new (access_fault.Odd shown) left = tt
 
 -- ---- of a call on slots
 

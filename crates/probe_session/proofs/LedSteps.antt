@@ -1,5 +1,5 @@
 -- Each step of a session over a told chip.
-use Rattle.std.proofs.Common.{◌≡◌, ◌++◌, ℕ, Bool, true, false, List, [], ◌∷◌, map, Option, Some, None, IfSome, slice_get, refl, sym, ap, subst}
+use Rattle.std.proofs.Common.{◌≡◌, ◌∙◌, ◌++◌, ℕ, Bool, true, false, List, [], ◌∷◌, map, Option, Some, None, IfSome, slice_get, refl, sym, ap, subst}
 use Rattle.std.proofs.Common.{append_assoc, append-nil, if◌then◌else◌}
 use Rattle.rv_model.specs.declared.size.Size.{Size}
 use Rattle.std.proofs.lemmas.Option.{none-some, same_Some}
@@ -38,16 +38,18 @@ use Rattle.probe_run.proofs.SiteLemmas.{quiet_deeds}
 use Rattle.probe_trig.specs.declared.slot_view.SlotView.{SlotView}
 use Rattle.probe_trig.specs.Slots.{ArmedAt, AtHarts, ForgotAt, FreedAt, FullAt, UnusedAt, ViewedAt}
 use Rattle.probe_trig.specs.Stepping.{OverAt}
+use Rattle.probe_trig.proofs.Ends.{shows_as_step}
 use Rattle.probe_session.specs.Calls.{Loaded, LoadedNone, Stored, StoredNone}
 use Rattle.probe_session.specs.Goes.{Goes}
 use Rattle.probe_session.specs.Goes.Goes.{start, step}
 use Rattle.probe_session.specs.Led.{DealsAt, GoesLead, Leads, target_at}
 use Rattle.probe_session.specs.Places.{Place, ready}
-use Rattle.probe_session.specs.Steps.{Step, behind_look, behind_step, lines_of_view, step_cause, trigger_cause, with_ebreakm}
+use Rattle.probe_session.specs.Steps.{Step, behind_look, behind_step, lines_of_view, trigger_cause, with_ebreakm}
 use Rattle.probe_session.proofs.Tolds.{at_access, at_far, halt_deals, look_deals, other_found_deals, over_deals, resume_deals, step_found_deals}
-use Rattle.probe_session.proofs.Tolds.{stop_deals, stop_trigger_deals, told_case}
+use Rattle.probe_session.proofs.Tolds.{stop_deals, stop_trigger_deals, told_case, went_by}
 use Rattle.probe_session.proofs.ToldWrites.{armed_deals, ebreak_deals, freed_deals, full_deals, hits_deals, load_deals, load_none_deals}
 use Rattle.probe_session.proofs.ToldWrites.{never_refused, no_hits_deals, read_deals, read_next_deals, slots_deals, store_deals, store_none_deals}
+use Rattle.probe_session.proofs.Unhit.{either_way_deals, holds_none_deals, made_over, none_hit_deals, still_at}
 use Rattle.probe_session.proofs.ToldWrites.{unused_deals, write_deals, write_pc_deals, write_refused_deals}
 
 -- lines that grow by none
@@ -203,16 +205,35 @@ step_leads from to old new said (Step.overlooks {way} {h} {p} {t}) m o lines a =
     (λ x d. record { stands = seen o (λ _. p) lines x d.stands; knows = d.knows }) a)
 step_leads from to old new said (Step.identifies {number} {next} id) m o lines a =
     none_said m o to lines new.far (identified number m o next lines old.far new.far id.number_is id.ready id.told a)
-step_leads from to old new said (Step.finds_step {h} {pc} stepped other found) m o lines a =
-    none_said m o to lines new.far (told_case (StoppedAt h pc step_cause) m h Still o (behind_step h stepped other) lines
+step_leads from to old new said (Step.finds_step {h} {word} stepped other got whole) m o lines a =
+    none_said m o to lines new.far (told_case (RegisterReadAt h dcsr_number word) m h Still o (behind_step h stepped other) lines
     (λ n. At m h Ready o stepped lines (target_at n)) old.far new.far
-    (λ c d l. at_far m h Ready o stepped lines l.far _ l.is (step_found_deals m h step_cause o stepped other lines (site_of c) (site_of l.far) l.hart l.here
-    l.cause_is refl l.passed d)) found.told a)
-step_leads from to old new said (Step.finds_other {h} {pc} {cause} stepped other found not_step) m o lines a =
-    none_said m o to lines new.far (told_case (StoppedAt h pc cause) m h Still o (behind_step h stepped other) lines
+    (λ c d l. at_far m h Ready o stepped lines l.far _ l.is (step_found_deals m h o stepped other lines (site_of c) (site_of l.far) l.hart l.here
+    (sym (shows_as_step word l.hart l.value_is) ∙ whole) l.passed d)) got.told a)
+step_leads from to old new said (Step.finds_other {h} {word} stepped other got not_step) m o lines a =
+    none_said m o to lines new.far (told_case (RegisterReadAt h dcsr_number word) m h Still o (behind_step h stepped other) lines
     (λ n. At m h Still o other lines (target_at n)) old.far new.far
-    (λ c d l. at_far m h Still o other lines l.far _ l.is (other_found_deals m h cause o stepped other lines (site_of c) (site_of l.far) l.hart l.here
-    l.cause_is not_step l.passed d)) found.told a)
+    (λ c d l. at_far m h Still o other lines l.far _ l.is (other_found_deals m h o stepped other lines (site_of c) (site_of l.far) l.hart l.here
+    (sym (shows_as_step word l.hart l.value_is) ∙ not_step) l.passed d)) got.told a)
+step_leads from to old new said (Step.finds_none_hit {h} {word} {p} got whole) m o lines a =
+    none_said m o to lines new.far (told_case (RegisterReadAt h dcsr_number word) m h Still o p lines
+    (λ n. At m h Ready o p lines (target_at n)) old.far new.far
+    (λ c d l. at_far m h Ready o p lines l.far _ l.is (none_hit_deals m h o p lines (site_of c) (site_of l.far) l.hart l.here
+    (sym (shows_as_step word l.hart l.value_is) ∙ whole) l.passed d)) got.told a)
+step_leads from to old new said (Step.finds_maybe_hit {h} {word} {p} got not_step) m o lines a =
+    none_said m o to lines new.far (told_case (RegisterReadAt h dcsr_number word) m h Still o p lines
+    (λ n. At m h Still o p lines (target_at n)) old.far new.far
+    (λ c d l. at_far m h Still o p lines l.far _ l.is (deals_went_on m h Still o p lines (target_of (site_of c)) (target_of (site_of l.far)) d
+    (went_by (site_of c) (site_of l.far) l.passed))) got.told a)
+step_leads from to old new said (Step.steps {h} stepped other made) m o lines a =
+    none_said m o to lines new.far (at_harts_so (OverAt h) m h h Still Still o (one h stepped other) (behind_step h stepped other) lines old.far new.far
+    (λ x y l d. over_deals m h o stepped other lines x y l d) (made_over m h o (one h stepped other) lines old new made a)
+    (still_at m h o (one h stepped other) lines (target_at old.far) a))
+step_leads from to old new said (Step.holds_none {h} held free {t}) m o lines a =
+    none_said m o to lines new.far (kept m m Ready Ready h h o _ free lines lines (target_at t.far) (λ x d. holds_none_deals m h o held free lines x d) a)
+step_leads from to old new said (Step.ends_either_way {h} {p} {t}) m o lines a =
+    none_said m o to lines new.far (kept m m Still Still h h o (behind_step h p p) p lines lines (target_at t.far)
+    (λ x d. either_way_deals m h o p lines x d) a)
 step_leads from to old new said (Step.views_hits {h} {view} held free viewed any) m o lines a =
     none_said m o to lines new.far (at_harts_so (ViewedAt view h) m h h Still Still o _ held lines old.far new.far
     (λ x y l d. hits_deals m h view o held free lines x y any l d) viewed.told a)

@@ -18,7 +18,6 @@ pub mod DumpLines
 pub mod MemoryLines
 pub mod Tolds
 pub mod ToldWrites
-pub mod LedSteps
 pub mod GoingLines
 pub mod Lines
 pub mod ScriptLemmas
@@ -29,6 +28,8 @@ pub mod BrokeOff
 pub mod RunFaults
 pub mod AccessFaults
 pub mod OverFaults
+pub mod Unhit
+pub mod LedSteps
 pub mod Faults
 pub mod Endings
 pub mod RunCauses

@@ -10,7 +10,7 @@ use Rattle.probe_run.specs.declared.fault.RunFault.{RunFault}
 use Rattle.probe_run.specs.declared.fault.RunFault.TheVariants as run_fault
 use Rattle.probe_run.specs.Acts.{Act, Attempt, Broke, Tells}
 use Rattle.probe_run.specs.Opening.{ActivateBroke, BusBroke, OpeningBroke}
-use Rattle.probe_run.specs.Outcomes.{HaltBroke, HaltFails, LookFailed, LookFails, ResumeFails, RunBroke, StepFails, run_why}
+use Rattle.probe_run.specs.Outcomes.{HaltBroke, HaltFails, LookFails, ResumeFails, RunBroke, StepFails, run_why}
 use Rattle.probe_run.proofs.ActLemmas.{attempt_wire}
 use Rattle.probe_session.specs.Causes.{WireCause}
 
@@ -37,14 +37,9 @@ scanned_wire dmi_fault.StillBusy old_count new_count told coming cause = tt
 
 -- ---- run control
 
-look_broke : (why : DmiFault) {h old_count new_count : ℕ} {old : Tells} {told : Option Far} → LookFailed h old_count new_count old told why
-    → DmiWire old_count new_count told why
-look_broke why (LookFailed.at_selection b) = broke_wire why b
-look_broke why (LookFailed.at_look b) = broke_wire why b
-
 run_broke : (why : DmiFault) {request : Request} {test : Sight → Bool} {h old_count new_count : ℕ} {old : Tells} {told : Option Far}
     → RunBroke request test h old_count new_count old told why → DmiWire old_count new_count told why
-run_broke why (RunBroke.at_request b) = broke_wire why b
+run_broke why (RunBroke.at_first b) = broke_wire why b
 run_broke why (RunBroke.at_look b) = broke_wire why b.broke
 
 halt_broke : (why : DmiFault) {h old_count new_count : ℕ} {old : Tells} {told : Option Far} → HaltBroke h old_count new_count old told why
@@ -54,7 +49,7 @@ halt_broke why (HaltBroke.at_clear b) = broke_wire why b.broke
 
 pub look_wire : (why : RunFault) (h old_count new_count : ℕ) (old new : Tells) → LookFails h old_count new_count old new why
     → IfSome (run_why why) (DmiWire old_count new_count new.far)
-look_wire (run_fault.Dmi why) h old_count new_count old new f = look_broke why f
+look_wire (run_fault.Dmi why) h old_count new_count old new f = broke_wire why f
 look_wire (run_fault.NoHalt looks) h old_count new_count old new f = tt
 look_wire (run_fault.NoAck looks) h old_count new_count old new f = tt
 

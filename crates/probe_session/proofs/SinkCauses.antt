@@ -73,6 +73,7 @@ of_fault p old_count new_count old new f (Fault.looking next r) = of_run r.why f
 of_fault p old_count new_count old new f (Fault.halt next r) = of_run r.why f r.is
 of_fault p old_count new_count old new f (Fault.resuming next r) = of_run r.why f r.is
 of_fault p old_count new_count old new f (Fault.stepping_over stepped other r) = of_access r.why f r.is
+of_fault p old_count new_count old new f (Fault.stepping stepped other r) = of_access r.why f r.is
 of_fault p old_count new_count old new f (Fault.asking r) = of_access r.fell.why f r.fell.is
 of_fault p old_count new_count old new f (Fault.reading r of) = of_access r.why f r.is
 of_fault p old_count new_count old new f (Fault.giving refused next r) = of_access r.fell.why f r.fell.is

@@ -31,7 +31,7 @@ use Rattle.probe_run.specs.Outcomes.{IsSeen}
 use Rattle.probe_run.proofs.SessionLemmas.{halts_lead, resumes_lead, steps_lead}
 use Rattle.probe_trig.specs.Stepping.{OverAt}
 use Rattle.probe_session.specs.Led.{target_at}
-use Rattle.probe_session.specs.Steps.{behind_look, behind_step, step_cause, trigger_cause}
+use Rattle.probe_session.specs.Steps.{behind_look, behind_step, trigger_cause}
 use Rattle.rv_model.specs.Dcsr.{shown_cause}
 
 -- ---- an object that tells
@@ -117,22 +117,6 @@ all_hits (Some cause.HaltReq) slots is = absurd (omega arith)
 all_hits (Some cause.Step) slots is = absurd (omega arith)
 all_hits (Some cause.Reset) slots is = absurd (omega arith)
 
-whole_step : (c : Option Cause) → dcsr.shown_cause c ≡ step_cause → is_step c ≡ true
-whole_step None is = absurd (omega arith)
-whole_step (Some cause.Trigger) is = absurd (omega arith)
-whole_step (Some cause.Ebreak) is = absurd (omega arith)
-whole_step (Some cause.HaltReq) is = absurd (omega arith)
-whole_step (Some cause.Step) is = refl
-whole_step (Some cause.Reset) is = absurd (omega arith)
-
-no_step : (c : Option Cause) → dcsr.shown_cause c ≢ step_cause → is_step c ≡ false
-no_step None other = refl
-no_step (Some cause.Trigger) other = refl
-no_step (Some cause.Ebreak) other = refl
-no_step (Some cause.HaltReq) other = refl
-no_step (Some cause.Step) other = absurd (other refl)
-no_step (Some cause.Reset) other = refl
-
 line_at : (x : Hart) (pc why : ℕ) (hits : List Bool) → pc ≡ x.core.pc → why ≡ dcsr.shown_cause x.debug.halted → shown_hits x.debug.halted x.debug.slots ≡ hits
     → stop_line_of (Some x) ≡ Line.Halted pc why hits
 line_at x pc why hits pc_is why_is hits_are =
@@ -175,18 +159,16 @@ stop_trigger_deals m h pc why hits o next lines s t new x here pc_is why_is is p
     (line_at x pc why hits pc_is why_is (all_hits x.debug.halted x.debug.slots (sym why_is ∙ is)
     ∙ sym (hits_are ∙ ap (λ (y : Option Hart). hits_of (slots_here y)) there)))) mid) went
 
-pub step_found_deals : (m : Machine) (h why : ℕ) (o : Origin) (stepped other : Plan) (lines : List Line) (s t : Site) (x : Hart)
-    → slice_get s.board.harts h ≡ Some x → why ≡ dcsr.shown_cause x.debug.halted → why ≡ step_cause → TurnsPassed s t
+pub step_found_deals : (m : Machine) (h : ℕ) (o : Origin) (stepped other : Plan) (lines : List Line) (s t : Site) (x : Hart)
+    → slice_get s.board.harts h ≡ Some x → is_step x.debug.halted ≡ true → TurnsPassed s t
     → Deals m h Still o (behind_step h stepped other) lines (target_of s) → Deals m h Ready o stepped lines (target_of t)
-step_found_deals m h why o stepped other lines s t x here why_is is passed d =
+step_found_deals m h o stepped other lines s t x here is passed d =
     deals_went_on m h Ready o stepped lines (target_of s) (target_of t)
-    (deals_stepped m h o stepped other lines (target_of s) (ap (λ (y : Option Hart). is_step (halted_of y)) here ∙ whole_step x.debug.halted (sym why_is ∙ is))
-    d) (went_by s t passed)
+    (deals_stepped m h o stepped other lines (target_of s) (ap (λ (y : Option Hart). is_step (halted_of y)) here ∙ is) d) (went_by s t passed)
 
-pub other_found_deals : (m : Machine) (h why : ℕ) (o : Origin) (stepped other : Plan) (lines : List Line) (s t : Site) (x : Hart)
-    → slice_get s.board.harts h ≡ Some x → why ≡ dcsr.shown_cause x.debug.halted → why ≢ step_cause → TurnsPassed s t
+pub other_found_deals : (m : Machine) (h : ℕ) (o : Origin) (stepped other : Plan) (lines : List Line) (s t : Site) (x : Hart)
+    → slice_get s.board.harts h ≡ Some x → is_step x.debug.halted ≡ false → TurnsPassed s t
     → Deals m h Still o (behind_step h stepped other) lines (target_of s) → Deals m h Still o other lines (target_of t)
-other_found_deals m h why o stepped other lines s t x here why_is not_step passed d =
+other_found_deals m h o stepped other lines s t x here is passed d =
     deals_went_on m h Still o other lines (target_of s) (target_of t)
-    (deals_otherwise m h o stepped other lines (target_of s) (ap (λ (y : Option Hart). is_step (halted_of y)) here
-    ∙ no_step x.debug.halted (λ e. not_step (why_is ∙ e))) d) (went_by s t passed)
+    (deals_otherwise m h o stepped other lines (target_of s) (ap (λ (y : Option Hart). is_step (halted_of y)) here ∙ is) d) (went_by s t passed)

@@ -22,6 +22,9 @@ use Rattle.probe_access.specs.RegisterRuns.{ReadFailed, RefusedAs, RegisterRead,
 use Rattle.probe_access.specs.Registers.{RegisterRefusedAt, RegisterReadAt, RegisterLeft, RegisterWrittenAt}
 use Rattle.probe_access.specs.Scratches.{ScratchLeft}
 use Rattle.probe_access.specs.Stops.{StopFailed, StopRead, StoppedAt}
+use Rattle.probe_access.specs.BlockCuts.{StepCut}
+use Rattle.probe_access.specs.SingleSteps.{StepLeft, SteppedAt}
+use Rattle.probe_access.specs.StepRuns.{StepFailed, SteppedOnce}
 use Rattle.probe_access.specs.RegisterAccess.{transfer_word}
 use Rattle.probe_run.specs.declared.fault.RunFault.{RunFault}
 use Rattle.probe_run.specs.declared.hart.Seen.{Seen}
@@ -122,6 +125,11 @@ pub record ResumeMade (h : ℕ) (old new : Tells) : Type 0 where
 pub record StepOverMade (h : ℕ) (old new : Tells) : Type 0 where
   pub heard : SteppedOverAny h old new
   pub told : WhereTold (AtHarts (OverAt h)) old.far new.far
+
+-- it did one instruction, and its slots were left alone
+pub record StepMade (h : ℕ) (old new : Tells) : Type 0 where
+  pub heard : SteppedOnce h old new
+  pub told : WhereTold (SteppedAt h) old.far new.far
 
 -- the slots were seen
 pub record Viewed (h : ℕ) (view : SlotView) (old new : Tells) : Type 0 where
@@ -275,4 +283,13 @@ pub record StepOverFell (h old_count new_count : ℕ) (old new : Tells) (f : Fai
   pub heard : OverFailed h old_count new_count old new why
   pub told : OverLeft h old.far new.far why
   pub cut : IfCut (LeavesAt (OverCut h) old.far new.far) why
+  pub is : Became why f
+
+pub record StepFell (h old_count new_count : ℕ) (old new : Tells) (f : Failure) : Type 0 where
+  pub why : AccessFault
+  pub later : old_count ≤ new_count
+  pub at : Serving h old.far
+  pub heard : StepFailed h old_count new_count old new why
+  pub told : StepLeft h old.far new.far why
+  pub cut : IfCut (LeavesChip (StepCut h) old.far new.far) why
   pub is : Became why f

@@ -22,7 +22,7 @@ use Rattle.rv_model.specs.Registers.{csr_read_only, pc_number}
 use Rattle.rv_model.specs.Size.{count_of}
 use Rattle.probe_session.specs.declared.fault.Failure.{Failure}
 use Rattle.probe_session.specs.declared.fault.Failure.TheVariants as failure
-use Rattle.probe_session.specs.Calls.{AskFell, FoundStop, Gave, GiveFell, Got, HaltFell, IdcodeFell, IsOfHarts, LoadFell, LookFell, StepOverFell}
+use Rattle.probe_session.specs.Calls.{AskFell, FoundStop, Gave, GiveFell, Got, HaltFell, IdcodeFell, IsOfHarts, LoadFell, LookFell, StepFell, StepOverFell}
 use Rattle.probe_session.specs.Calls.{ReadFell, ResumeFell, SlotsFell, StopFell, StoreFell, WriteFell}
 use Rattle.probe_session.specs.Places.{Place, idle, may_say, place, ready, spot, still}
 use Rattle.probe_session.specs.Steps.{Step, with_ebreakm}
@@ -56,6 +56,8 @@ pub data Fault : Place → ℕ → ℕ → Tells → Tells → Failure → Type 
       → Fault (ready h (going h next)) old_count new_count old new f
   stepping_over : {h old_count new_count : ℕ} (stepped other : Plan) {old new : Tells} {f : Failure} → StepOverFell h old_count new_count old new f
       → Fault (still h (one h stepped other)) old_count new_count old new f
+  stepping : {h old_count new_count : ℕ} (stepped other : Plan) {old new : Tells} {f : Failure} → StepFell h old_count new_count old new f
+      → Fault (ready h (one h stepped other)) old_count new_count old new f
   asking : {h number old_count new_count : ℕ} {p : Plan} {old new : Tells} {f : Failure} → AskFell h number old_count new_count old new f
       → Fault (still h p) old_count new_count old new f
   reading : {h number old_count new_count : ℕ} {p : Plan} {old new : Tells} {f : Failure} → ReadFell h number old_count new_count old new f → IsOfHarts number

@@ -11,6 +11,7 @@ pub mod Met
 pub mod Slots
 pub mod Commands
 pub mod Reach
+pub mod Going
 pub mod Showing
 pub mod Shown
 pub mod Led

@@ -31,7 +31,8 @@ use Rattle.probe_run.specs.declared.hart.Seen.{Seen}
 use Rattle.probe_run.specs.declared.hart.Seen.TheVariants as seen
 use Rattle.probe_run.specs.Acts.{Tells}
 use Rattle.probe_session.specs.Calls.{FoundStop, Gave, GaveNone, Got, GotNone, HaltMade, HitsForgotten, Identified, IsOfCores, Loaded, LoadedNone}
-use Rattle.probe_session.specs.Calls.{NoneFree, NotUsed, StepOverMade, ResumeMade, LookMade, SlotFreed, SlotTaken, Stored, StoredNone, Viewed}
+use Rattle.probe_session.specs.Calls.{NoneFree, NotUsed, StepMade, StepOverMade, ResumeMade, LookMade, SlotFreed, SlotTaken, Stored, StoredNone, Viewed}
+use Rattle.probe_trig.specs.Stepping.{shows_step}
 use Rattle.probe_session.specs.Places.{Place, at_say, idle, may_say, place, ready, spot, still}
 
 -- where a command stands behind its Look
@@ -43,10 +44,6 @@ behind_look (seen.Halted x) h absent running halted = still h halted
 -- dcsr's number for a halt by a trigger, beside which the slots with a hit are shown
 abbrev pub trigger_cause : ℕ
 trigger_cause = cause_number halted_by.Trigger
-
--- and for one by a step
-abbrev pub step_cause : ℕ
-step_cause = cause_number halted_by.Step
 
 -- behind a step: was it a whole one?
 abbrev pub behind_step : ℕ → (stepped other : Plan) → Plan
@@ -89,10 +86,19 @@ pub data Step : Place → Tells → List Line → Place → Tells → Type 0 whe
   resumes : {h : ℕ} (next : Plan) {old new : Tells} → ResumeMade h old new → Step (ready h (going h next)) old [] (idle next) new
   steps_over : {h : ℕ} (stepped other : Plan) {old new : Tells} → StepOverMade h old new
       → Step (still h (one h stepped other)) old [] (still h (behind_step h stepped other)) new
-  finds_step : {h pc : ℕ} (stepped other : Plan) {old new : Tells} → FoundStop h pc step_cause old new
+  finds_step : {h word : ℕ} (stepped other : Plan) {old new : Tells} → Got h dcsr_number word old new → shows_step word ≡ true
       → Step (still h (behind_step h stepped other)) old [] (ready h stepped) new
-  finds_other : {h pc cause : ℕ} (stepped other : Plan) {old new : Tells} → FoundStop h pc cause old new → cause ≢ step_cause
+  finds_other : {h word : ℕ} (stepped other : Plan) {old new : Tells} → Got h dcsr_number word old new → shows_step word ≡ false
       → Step (still h (behind_step h stepped other)) old [] (still h other) new
+  -- behind a whole step no slot has a hit, so that none is visited; behind any other stop some may
+  finds_none_hit : {h word : ℕ} {p : Plan} {old new : Tells} → Got h dcsr_number word old new → shows_step word ≡ true
+      → Step (still h p) old [] (ready h p) new
+  finds_maybe_hit : {h word : ℕ} {p : Plan} {old new : Tells} → Got h dcsr_number word old new → shows_step word ≡ false
+      → Step (still h p) old [] (still h p) new
+  steps : {h : ℕ} (stepped other : Plan) {old new : Tells} → StepMade h old new
+      → Step (ready h (one h stepped other)) old [] (still h (behind_step h stepped other)) new
+  holds_none : {h : ℕ} (held free : Plan) {t : Tells} → Step (ready h (see (λ b. if any_hit (slots_at h b) then held else free))) t [] (ready h free) t
+  ends_either_way : {h : ℕ} {p : Plan} {t : Tells} → Step (still h (behind_step h p p)) t [] (still h p) t
   views_hits : {h : ℕ} {view : SlotView} (held free : Plan) {old new : Tells} → Viewed h view old new → any_in view ≡ true
       → Step (still h (see (λ b. if any_hit (slots_at h b) then held else free))) old [] (still h held) new
   views_none : {h : ℕ} {view : SlotView} (held free : Plan) {old new : Tells} → Viewed h view old new → any_in view ≡ false

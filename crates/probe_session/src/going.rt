@@ -1,11 +1,12 @@
 //! `step` and `resume`: a halted hart goes on.
 
-ghost use Rattle.std.specs.Prelude.{◌≡◌, [], IfOk, IfErr};
+ghost use Rattle.std.specs.Prelude.{◌≡◌, [], IfOk, IfErr, OnOk};
 ghost use Rattle.abstract_debugger.specs.Debugger.{going};
 ghost use Rattle.abstract_debugger.specs.Lines.Line.{Resumed};
 ghost use Rattle.abstract_debugger.specs.Plan.Plan.{say};
 ghost use Rattle.probe_session.specs.Commands.{at_letting_go, ends_with};
 ghost use Rattle.probe_session.specs.Goes.{Falls, Went};
+ghost use Rattle.probe_session.specs.Going.{at_one, behind_first, behind_one};
 ghost use Rattle.probe_session.specs.Links.{Attached, AttachedHalted, Goes};
 ghost use Rattle.probe_session.specs.Places.{ready, still};
 ghost use Rattle.probe_session.specs.Reach.{stepped};
@@ -15,13 +16,48 @@ ghost use Rattle.probe_run.specs.Told.{told, Fails};
 
 use crate::fault::Failure;
 use crate::hart_lines::stop_line;
-use crate::slots::{slots, step_over};
-use crate::stops::stop;
+use crate::registers::reg;
+use crate::slots::{slots, step, step_over};
 use debug_model::Dmi;
 use printed_lines::Line;
 use probe_run::Halted;
-use probe_trig::SlotView;
-use rv_model::Cause;
+use probe_trig::{SlotView, shows_step};
+use rv_model::register_number;
+
+/// Makes one single step of a halted hart. Where `dcsr` shows that it halted behind a whole step none of its slots has a hit, and none is visited.
+fn step_once<D: Dmi>(link: &mut D, halted: Halted) -> Result<Halted, Failure>
+    requires serving { AttachedHalted halted.number (D.seen link.old) }
+    ensures went { OnOk result (Went (at_one halted.number) (behind_one halted.number) [] (told (D.seen link.old)) (told (D.seen link.new))) }
+    ensures falls { IfErr result (Fails (Falls (at_one halted.number) []) (D.seen link.old) (D.seen link.new)) }
+    ensures hart { IfOk result (λ again. again.number ≡ halted.number) }
+    ensures keeps { Goes (λ _. AttachedHalted halted.number) (D.seen link.old) (D.seen link.new) result }
+{
+    let word = reg(link, &halted, register_number::DCSR)?;
+    if shows_step(word) {
+        step(link, halted)
+    } else {
+        step_over(link, halted)
+    }
+}
+
+/// Makes up to so many single steps more of a hart that has made one, until one stops for another cause, and says where the hart stands then.
+fn more_steps_line<D: Dmi>(link: &mut D, halted: Halted, more: u16) -> Result<Line, Failure>
+    requires serving { AttachedHalted halted.number (D.seen link.old) }
+    ensures went { IfOk result (λ line. Went (behind_first more halted.number) (ends_with (said_by line)) [] (told (D.seen link.old))
+        (told (D.seen link.new))) }
+    ensures falls { IfErr result (Fails (Falls (behind_first more halted.number) []) (D.seen link.old) (D.seen link.new)) }
+    ensures keeps { Goes (λ _. Attached) (D.seen link.old) (D.seen link.new) result }
+{
+    let mut now = halted;
+    'stepping: for _step in 0..more {
+        let word = reg(link, &now, register_number::DCSR)?;
+        if !shows_step(word) {
+            return stop_line(link, &now);
+        }
+        now = step(link, now)?;
+    }
+    stop_line(link, &now)
+}
 
 /// Makes up to so many single steps, until one stops for another cause, and says where the hart stands then.
 pub(crate) fn stepped_line<D: Dmi>(
@@ -35,15 +71,11 @@ pub(crate) fn stepped_line<D: Dmi>(
     ensures falls { IfErr result (Fails (Falls (λ next. still halted.number (stepped count halted.number next)) []) (D.seen link.old) (D.seen link.new)) }
     ensures keeps { Goes (λ _. Attached) (D.seen link.old) (D.seen link.new) result }
 {
-    let mut now = halted;
-    'stepping: for _step in 0..count {
-        now = step_over(link, now)?;
-        let at = stop(link, &now)?;
-        if at.cause != Cause::Step.number() {
-            return stop_line(link, &now);
-        }
+    if count == 0 {
+        return stop_line(link, &halted);
     }
-    stop_line(link, &now)
+    let again = step_once(link, halted)?;
+    more_steps_line(link, again, count - 1)
 }
 
 /// Whether any slot has a hit.
@@ -66,8 +98,9 @@ fn free_line<D: Dmi>(link: &mut D, halted: Halted) -> Result<Line, Failure>
     Ok(Line::Resumed)
 }
 
-/// Lets a hart go. Where slots have a hit it is stepped over them first; if that stops it for another cause, the line says where it stands.
-pub(crate) fn let_go_line<D: Dmi>(link: &mut D, halted: Halted) -> Result<Line, Failure>
+/// Lets a hart go whose slots may have a hit. Where some have one it is stepped over them first; if that stops it for another cause, the line says where
+/// it stands.
+fn let_go_over_line<D: Dmi>(link: &mut D, halted: Halted) -> Result<Line, Failure>
     requires serving { AttachedHalted halted.number (D.seen link.old) }
     ensures went { IfOk result (λ line. Went (at_letting_go halted.number) (ends_with (said_by line)) [] (told (D.seen link.old))
         (told (D.seen link.new))) }
@@ -79,9 +112,25 @@ pub(crate) fn let_go_line<D: Dmi>(link: &mut D, halted: Halted) -> Result<Line, 
         return free_line(link, halted);
     }
     let again = step_over(link, halted)?;
-    let at = stop(link, &again)?;
-    if at.cause == Cause::Step.number() {
+    let word = reg(link, &again, register_number::DCSR)?;
+    if shows_step(word) {
         return free_line(link, again);
     }
     stop_line(link, &again)
+}
+
+/// Lets a hart go, and steps it over its slots first that have a hit. Where `dcsr` shows that it halted behind a whole step none has one, and none is visited.
+pub(crate) fn let_go_line<D: Dmi>(link: &mut D, halted: Halted) -> Result<Line, Failure>
+    requires serving { AttachedHalted halted.number (D.seen link.old) }
+    ensures went { IfOk result (λ line. Went (at_letting_go halted.number) (ends_with (said_by line)) [] (told (D.seen link.old))
+        (told (D.seen link.new))) }
+    ensures falls { IfErr result (Fails (Falls (at_letting_go halted.number) []) (D.seen link.old) (D.seen link.new)) }
+    ensures keeps { Goes (λ _. Attached) (D.seen link.old) (D.seen link.new) result }
+{
+    let word = reg(link, &halted, register_number::DCSR)?;
+    if shows_step(word) {
+        free_line(link, halted)
+    } else {
+        let_go_over_line(link, halted)
+    }
 }

@@ -1,6 +1,6 @@
 ghost use Rattle.std.specs.Prelude.{◌≡◌, ◌<◌, true, false, IfOk, IfErr, OnOk};
 ghost use Rattle.probe_session.specs.Answers.{FreedAs, TakenAs};
-ghost use Rattle.probe_session.specs.Calls.{StepOverFell, StepOverMade, SlotsFell, Viewed};
+ghost use Rattle.probe_session.specs.Calls.{SlotsFell, StepFell, StepMade, StepOverFell, StepOverMade, Viewed};
 ghost use Rattle.probe_session.specs.Links.{AttachedHalted, Goes};
 ghost use Rattle.probe_trig.specs.Runs.{ArmsAny, FreesAny, ReadsAny};
 ghost use Rattle.probe_trig.specs.SlotRegisters.{CanArm};
@@ -72,5 +72,17 @@ pub(crate) fn step_over<D: Dmi>(link: &mut D, halted: Halted) -> Result<Halted, 
     ensures keeps { Goes (λ _. AttachedHalted halted.number) (D.seen link.old) (D.seen link.new) result }
 {
     let again = probe_trig::step_over(link, halted)?;
+    Ok(again)
+}
+
+/// Makes the halted hart do one instruction, and leaves its slots as they are.
+pub(crate) fn step<D: Dmi>(link: &mut D, halted: Halted) -> Result<Halted, Failure>
+    requires serving { AttachedHalted halted.number (D.seen link.old) }
+    ensures made { OnOk result (StepMade halted.number (told (D.seen link.old)) (told (D.seen link.new))) }
+    ensures fell { IfErr result (Fails (StepFell halted.number) (D.seen link.old) (D.seen link.new)) }
+    ensures hart { IfOk result (λ again. again.number ≡ halted.number) }
+    ensures keeps { Goes (λ _. AttachedHalted halted.number) (D.seen link.old) (D.seen link.new) result }
+{
+    let again = probe_access::step(link, halted)?;
     Ok(again)
 }

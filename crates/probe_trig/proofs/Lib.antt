@@ -18,3 +18,5 @@ pub mod StepLawLemmas
 pub mod CutLemmas
 pub mod OverRegisters
 pub mod StepCutLemmas
+pub mod Clear
+pub mod Alone

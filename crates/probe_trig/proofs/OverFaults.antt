@@ -1,5 +1,5 @@
 -- Faults in the course of stepping over and of letting go.
-use Rattle.std.proofs.Common.{◌≤◌, ◌++◌, ℕ, Bool, true, false, List, [], map, Option}
+use Rattle.std.proofs.Common.{◌≤◌, ◌++◌, ℕ, Bool, true, false, List, [], ◌∷◌, map, Option}
 use Rattle.debug_model.specs.Addresses.{dmcontrol_address, dmstatus_address}
 use Rattle.debug_model.specs.declared.dmi.DmiFault.{DmiFault}
 use Rattle.debug_model.specs.declared.dmi_op.DmiOp.TheVariants.{Read, Write}
@@ -17,12 +17,12 @@ use Rattle.probe_run.specs.declared.control.Request.TheVariants.{Resume}
 use Rattle.probe_run.specs.declared.fault.RunFault.{RunFault}
 use Rattle.probe_run.specs.declared.fault.RunFault.TheVariants as run_fault
 use Rattle.probe_run.specs.Acts.{Tells}
-use Rattle.probe_run.specs.Acts.Attempt.{Operation}
+use Rattle.probe_run.specs.Acts.Attempt.{Operation, Several}
 use Rattle.probe_run.specs.Acts.Did.{nothing}
 use Rattle.probe_run.specs.Happens.{ResumeLeft}
 use Rattle.probe_run.specs.Looks.{look_act}
 use Rattle.probe_run.specs.Outcomes.{ResumeFails, RunBroke, asks}
-use Rattle.probe_run.specs.Outcomes.RunBroke.{at_look, at_request}
+use Rattle.probe_run.specs.Outcomes.RunBroke.{at_look, at_first}
 use Rattle.probe_run.specs.Requests.{control_word}
 use Rattle.probe_run.proofs.ActLemmas.{broke_then}
 use Rattle.probe_trig.specs.Going.{GoLeft, IsThroughAt, NoAckLeft}
@@ -62,8 +62,8 @@ back_counted h count mid_count new_count old new e le later (in_end ran s f) = i
 
 broke_resume : (h count mid_count new_count : ℕ) (old : Tells) (told : Option Far) (why : DmiFault) → count ≤ mid_count → mid_count ≤ new_count
     → RunBroke Resume sees_ack h mid_count new_count old told why → RunBroke Resume sees_ack h count new_count old told why
-broke_resume h count mid_count new_count old told why le later (at_request b) =
-    at_request (broke_then [] old old nothing [] (Operation (Write dmcontrol_address (control_word Resume h))) count mid_count new_count told why le later b)
+broke_resume h count mid_count new_count old told why le later (at_first b) =
+    at_first (broke_then [] old old nothing [] (Several (Write dmcontrol_address (control_word Resume h)) (Read dmstatus_address ∷ [])) count mid_count new_count told why le later b)
 broke_resume h count mid_count new_count old told why le later (at_look w) = at_look (record {
   vain = w.vain;
   none = w.none;

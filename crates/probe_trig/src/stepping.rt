@@ -32,8 +32,9 @@ struct Stepped {
     executed: bool,
 }
 
-/// Whether `dcsr` shows that a step was a whole one.
-fn shows_step(word: u64) -> bool
+/// Whether a word of `dcsr` shows a hart that halted behind a whole step: then none of its slots has a hit
+/// (RISC-V Debug Specification 1.0, "Debug Control and Status", cause).
+pub fn shows_step(word: u64) -> bool
     ensures { result ≡ shows_step word }
 {
     Dcsr::from_word(word).cause == Cause::Step.number()

@@ -18,7 +18,7 @@ use sys_events::SeedSchedule;
 const RAM_LEAST: u64 = 65_536;
 
 /// The bytes of a piece.
-const PIECE: usize = 256;
+pub const PIECE: usize = 256;
 
 /// Room for everything that a session here prints.
 const AMPLE: usize = 65_536;

@@ -7,6 +7,8 @@
 #[cfg(test)]
 mod chips;
 #[cfg(test)]
+mod costs;
+#[cfg(test)]
 mod ended;
 #[cfg(test)]
 mod paths;

@@ -1,25 +1,44 @@
+use Rattle.std.proofs.Common.{◌∙◌, sym, ap, arith}
 use Rattle.probe_run.specs.Told.{told}
-use Rattle.probe_run.specs.Looks.{test_of}
+use Rattle.probe_run.specs.Looks.{seen_in_status, test_of}
 use Rattle.probe_run.specs.Outcomes.{RunBroke, asks}
-use Rattle.probe_run.specs.Outcomes.RunBroke.{at_look, at_request}
+use Rattle.probe_run.specs.Outcomes.RunBroke.{at_first, at_look}
 use Rattle.probe_run.proofs.ActLemmas.{if_err}
-use Rattle.probe_run.proofs.Asked.{asked_as, wait_broke_behind}
+use Rattle.probe_run.proofs.Waiting.{looked_again, looked_broke, looked_first}
 use Rattle.probe_run.proofs.run.ask.Goals as goal
 
-pub returns-in_err-control-clause-broke : goal.returns-in_err-control-clause-broke
-returns-in_err-control-clause-broke g c =
+pub returns-in_err-word-clause-broke : goal.returns-in_err-word-clause-broke
+returns-in_err-word-clause-broke g c =
     if_err (RunBroke c.args.request (test_of c.args.wanted) c.args.hart (g.D.Dmi.seen c.args.link.now).fault_count
-    (g.D.Dmi.seen c.control.new.link).fault_count (told (g.D.Dmi.seen c.args.link.now)) (g.D.Dmi.seen c.control.new.link).far)
-    c.from_residual.result _ c.from_residual.ensures.1 (at_request c.in_err-control.ensures.broke)
+    (g.D.Dmi.seen c.control_and_look.new.link).fault_count (told (g.D.Dmi.seen c.args.link.now)) (g.D.Dmi.seen c.control_and_look.new.link).far)
+    c.from_residual.result _ c.from_residual.ensures.1 (at_first c.in_err-word.ensures.broke)
 
-pub returns-in_err-waited-clause-broke : goal.returns-in_err-waited-clause-broke
-returns-in_err-waited-clause-broke g c =
-    if_err (RunBroke c.args.request (test_of c.args.wanted) c.args.hart (g.D.Dmi.seen c.args.link.now).fault_count (g.D.Dmi.seen c.wait.new.link).fault_count
-    (told (g.D.Dmi.seen c.args.link.now)) (g.D.Dmi.seen c.wait.new.link).far)
-    c.from_residual-in_err-waited.result _ c.from_residual-in_err-waited.ensures.1
-    (at_look (wait_broke_behind (test_of c.args.wanted) (asks c.args.request c.args.hart) _ _ _ (g.D.Dmi.seen c.control.new.link).fault_count _ _ _
-    c.in_ok-control.ensures.did c.control.ensures.keeps.later c.wait.ensures.keeps.later c.in_err-waited.ensures.broke))
+pub looks-init : goal.looks-init
+looks-init g c = record {
+  stands = c.in_ok-word.ensures.keeps.behind;
+  later = c.control_and_look.ensures.keeps.later;
+  fixed = c.control_and_look.ensures.keeps.fixed;
+  looked = looked_first (test_of c.args.wanted) (asks c.args.request c.args.hart) _ _ _ c.in_ok-word.ensures.did;
+}
 
-pub returns-clause-asked : goal.returns-clause-asked
-returns-clause-asked g c = asked_as c.args.request c.args.hart c.args.wanted _ _ _ c.in_ok-waited.waited c.in_ok-control.ensures.did
-    c.in_ok-waited.ensures.waited
+pub returns-in_err-word-2-clause-broke : goal.returns-in_err-word-2-clause-broke
+returns-in_err-word-2-clause-broke g c =
+    if_err (RunBroke c.args.request (test_of c.args.wanted) c.args.hart (g.D.Dmi.seen c.args.link.now).fault_count (g.D.Dmi.seen c.look.new.link).fault_count
+    (told (g.D.Dmi.seen c.args.link.now)) (g.D.Dmi.seen c.look.new.link).far)
+    c.from_residual-in_err-word-2.result _ c.from_residual-in_err-word-2.ensures.1
+    (at_look (looked_broke (test_of c.args.wanted) (asks c.args.request c.args.hart) _ (told (g.D.Dmi.seen c.looks.link)) c.looks._looks c.looks.word
+    (g.D.Dmi.seen c.args.link.now).fault_count (g.D.Dmi.seen c.looks.link).fault_count (g.D.Dmi.seen c.look.new.link).fault_count _ _
+    c.looks.invariant.looked
+    (ap (λ s. test_of c.args.wanted (seen_in_status s)) (sym c.from_word.ensures) ∙ sym c.is_shown.ensures ∙ c.if-is_shown.false) (omega arith)
+    c.looks.invariant.later c.look.ensures.keeps.later c.in_err-word-2.ensures.broke))
+
+pub looks-preserved : goal.looks-preserved
+looks-preserved g c = record {
+  stands = c.in_ok-word-2.ensures.keeps.behind;
+  later = let a = c.looks.invariant.later in let b = c.look.ensures.keeps.later in omega arith;
+  fixed = c.look.ensures.keeps.fixed ∙ c.looks.invariant.fixed;
+  looked = looked_again (test_of c.args.wanted) (asks c.args.request c.args.hart) _ (told (g.D.Dmi.seen c.looks.link)) _ c.looks._looks c.looks.word
+      c.in_ok-word-2.word c.looks.invariant.looked
+      (ap (λ s. test_of c.args.wanted (seen_in_status s)) (sym c.from_word.ensures) ∙ sym c.is_shown.ensures ∙ c.if-is_shown.false)
+      c.in_ok-word-2.ensures.did;
+}

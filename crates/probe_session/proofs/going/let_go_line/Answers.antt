@@ -1,61 +1,29 @@
-use Rattle.std.proofs.Common.{◌∙◌, sym, arith}
-use Rattle.probe_session.specs.Commands.{at_stop_line, ends_with}
+use Rattle.std.proofs.Common.{◌∙◌, sym}
+use Rattle.probe_session.specs.Commands.{ends_with, let_go}
 use Rattle.probe_session.specs.Said.{said_by}
-use Rattle.probe_session.proofs.GoingLines.{at_going, err_at, found_at, found_falls, found_other, found_whole, free_to_go, held_back, held_falls}
-use Rattle.probe_session.proofs.GoingLines.{ok_at, stop_fell_at, view_falls}
+use Rattle.probe_session.proofs.GoingLines.{maybe_held, unheld_to_go, word_falls}
 use Rattle.probe_session.proofs.LinkLemmas.{if_err}
 use Rattle.probe_session.proofs.OneLine.{err_then, ok_then}
 use Rattle.probe_session.proofs.going.let_go_line.Goals as goal
 
-pub returns-in_err-seen-clause-falls : goal.returns-in_err-seen-clause-falls
-returns-in_err-seen-clause-falls g c = if_err _ c.in_err-seen.field-0.0 _ c.from_residual.ensures.1 (view_falls c.args.halted.number c.in_err-seen.ensures.fell)
+pub returns-in_err-word-clause-falls : goal.returns-in_err-word-clause-falls
+returns-in_err-word-clause-falls g c = if_err _ c.in_err-word.field-0.0 _ c.from_residual.ensures.1
+    (word_falls c.args.halted.number (let_go c.args.halted.number) c.in_err-word.ensures.fell)
 
-pub returns-then-not-has_any-clause-went : goal.returns-then-not-has_any-clause-went
-returns-then-not-has_any-clause-went g c = ok_then (λ line. ends_with (said_by line)) _ _
-    (free_to_go c.args.halted.number c.in_ok-seen.seen (sym c.has_any.ensures ∙ c.if-not-has_any.true) c.in_ok-seen.ensures.viewed) c.free_line.ensures.went
+pub returns-then-shows_step-clause-went : goal.returns-then-shows_step-clause-went
+returns-then-shows_step-clause-went g c = ok_then (λ line. ends_with (said_by line)) _ _
+    (unheld_to_go c.args.halted.number _ (sym c.shows_step.ensures ∙ c.if-shows_step.true) c.in_ok-word.ensures.got) c.free_line.ensures.went
 
-pub returns-then-not-has_any-clause-falls : goal.returns-then-not-has_any-clause-falls
-returns-then-not-has_any-clause-falls g c = err_then _ _ _ (free_to_go c.args.halted.number c.in_ok-seen.seen (sym c.has_any.ensures ∙ c.if-not-has_any.true)
-    c.in_ok-seen.ensures.viewed) c.slots.ensures.keeps.later c.free_line.ensures.falls
+pub returns-then-shows_step-clause-falls : goal.returns-then-shows_step-clause-falls
+returns-then-shows_step-clause-falls g c = err_then _ _ _
+    (unheld_to_go c.args.halted.number _ (sym c.shows_step.ensures ∙ c.if-shows_step.true) c.in_ok-word.ensures.got) c.reg.ensures.keeps.later
+    c.free_line.ensures.falls
 
-pub returns-in_err-again-clause-falls : goal.returns-in_err-again-clause-falls
-returns-in_err-again-clause-falls g c =
-    if_err _ c.in_err-again.field-0.0 _ c.from_residual-in_err-again.ensures.1
-    (held_falls c.args.halted.number c.in_ok-seen.seen (sym c.has_any.ensures ∙ c.if-not-has_any.false) c.in_ok-seen.ensures.viewed c.slots.ensures.keeps.later
-    c.in_err-again.ensures.fell)
+pub returns-else-shows_step-clause-went : goal.returns-else-shows_step-clause-went
+returns-else-shows_step-clause-went g c = ok_then (λ line. ends_with (said_by line)) _ _
+    (maybe_held c.args.halted.number _ (sym c.shows_step.ensures ∙ c.if-shows_step.false) c.in_ok-word.ensures.got) c.let_go_over_line.ensures.went
 
-pub returns-in_err-at-clause-falls : goal.returns-in_err-at-clause-falls
-returns-in_err-at-clause-falls g c =
-    if_err _ c.in_err-at.field-0.0 _ c.from_residual-in_err-at.ensures.1 (found_falls c.args.halted.number
-    (held_back c.args.halted.number c.in_ok-seen.seen (sym c.has_any.ensures ∙ c.if-not-has_any.false) c.in_ok-seen.ensures.viewed c.in_ok-again.ensures.made)
-    (omega (arith, c.slots.ensures.keeps.later, c.step_over.ensures.keeps.later)) (stop_fell_at c.in_ok-again.ensures.hart c.in_err-at.ensures.fell))
-
-pub returns-then-at-number-clause-went : goal.returns-then-at-number-clause-went
-returns-then-at-number-clause-went g c =
-    ok_then (λ line. ends_with (said_by line)) _ _ (found_whole c.args.halted.number _ _
-    (held_back c.args.halted.number c.in_ok-seen.seen (sym c.has_any.ensures ∙ c.if-not-has_any.false) c.in_ok-seen.ensures.viewed c.in_ok-again.ensures.made)
-    (c.if-at-number.true ∙ c.number.ensures) (found_at c.in_ok-again.ensures.hart c.in_ok-at.ensures.found))
-    (ok_at at_going (λ line. ends_with (said_by line)) _ _ _ c.in_ok-again.ensures.hart c.free_line-then-at-number.ensures.went)
-
-pub returns-then-at-number-clause-falls : goal.returns-then-at-number-clause-falls
-returns-then-at-number-clause-falls g c =
-    err_then _ _ _ (found_whole c.args.halted.number _ _ (held_back c.args.halted.number c.in_ok-seen.seen (sym c.has_any.ensures ∙ c.if-not-has_any.false)
-    c.in_ok-seen.ensures.viewed c.in_ok-again.ensures.made) (c.if-at-number.true ∙ c.number.ensures)
-    (found_at c.in_ok-again.ensures.hart c.in_ok-at.ensures.found))
-    (omega (arith, c.slots.ensures.keeps.later, c.step_over.ensures.keeps.later, c.stop.ensures.keeps.later))
-    (err_at at_going _ _ _ _ _ c.in_ok-again.ensures.hart c.free_line-then-at-number.ensures.falls)
-
-pub returns-clause-went : goal.returns-clause-went
-returns-clause-went g c = ok_then (λ line. ends_with (said_by line)) _ _
-    (found_other c.args.halted.number _ _ (held_back c.args.halted.number c.in_ok-seen.seen (sym c.has_any.ensures ∙ c.if-not-has_any.false)
-    c.in_ok-seen.ensures.viewed c.in_ok-again.ensures.made) (λ e. c.if-at-number.false (e ∙ sym c.number.ensures))
-    (found_at c.in_ok-again.ensures.hart c.in_ok-at.ensures.found))
-    (ok_at at_stop_line (λ line. ends_with (said_by line)) _ _ _ c.in_ok-again.ensures.hart c.stop_line.ensures.went)
-
-pub returns-clause-falls : goal.returns-clause-falls
-returns-clause-falls g c =
-    err_then _ _ _ (found_other c.args.halted.number _ _ (held_back c.args.halted.number c.in_ok-seen.seen (sym c.has_any.ensures ∙ c.if-not-has_any.false)
-    c.in_ok-seen.ensures.viewed c.in_ok-again.ensures.made) (λ e. c.if-at-number.false (e ∙ sym c.number.ensures))
-    (found_at c.in_ok-again.ensures.hart c.in_ok-at.ensures.found))
-    (omega (arith, c.slots.ensures.keeps.later, c.step_over.ensures.keeps.later, c.stop.ensures.keeps.later))
-    (err_at at_stop_line _ _ _ _ _ c.in_ok-again.ensures.hart c.stop_line.ensures.falls)
+pub returns-else-shows_step-clause-falls : goal.returns-else-shows_step-clause-falls
+returns-else-shows_step-clause-falls g c = err_then _ _ _
+    (maybe_held c.args.halted.number _ (sym c.shows_step.ensures ∙ c.if-shows_step.false) c.in_ok-word.ensures.got) c.reg.ensures.keeps.later
+    c.let_go_over_line.ensures.falls

@@ -1,49 +1,34 @@
 use Rattle.probe_run.specs.Told.{told}
 use Rattle.probe_run.specs.Happens.{LookLeft}
-use Rattle.probe_run.specs.Outcomes.{LookFails}
-use Rattle.probe_run.specs.Outcomes.LookFailed.{at_look, at_selection}
 use Rattle.probe_run.proofs.ActLemmas.{if_err}
-use Rattle.probe_run.proofs.Looking.{look_broke, look_failed, look_happened, look_ready, look_seen, look_selects, looked_at}
+use Rattle.probe_run.proofs.Looking.{look_broke, look_happened, look_ready, look_seen, look_selects, looked_at}
 use Rattle.probe_run.proofs.target.Target.look.Goals as goal
-
-pub returns-in_err-control-clause-left : goal.returns-in_err-control-clause-left
-returns-in_err-control-clause-left g c =
-    if_err (LookLeft c.args.hart (g.D.Dmi.seen c.args.link.now).far (g.D.Dmi.seen c.control.new.link).far) c.from_residual.result _ c.from_residual.ensures.1
-    (look_broke c.args.hart c.requires.hart _ _ (told (g.D.Dmi.seen c.args.link.now)) _ _ c.requires.ready (at_selection c.in_err-control.ensures.broke))
-
-pub returns-in_err-word-clause-fails : goal.returns-in_err-word-clause-fails
-returns-in_err-word-clause-fails g c =
-    if_err (LookFails c.args.hart (g.D.Dmi.seen c.args.link.now).fault_count (g.D.Dmi.seen c.look.new.link).fault_count (told (g.D.Dmi.seen c.args.link.now))
-    (told (g.D.Dmi.seen c.look.new.link))) c.from_residual-in_err-word.result _ c.from_residual-in_err-word.ensures.1
-    (at_look (look_failed c.args.hart (told (g.D.Dmi.seen c.args.link.now)) _ (g.D.Dmi.seen c.args.link.now).fault_count
-    (g.D.Dmi.seen c.control.new.link).fault_count (g.D.Dmi.seen c.look.new.link).fault_count _ _ c.in_ok-control.ensures.did c.control.ensures.keeps.later
-    c.look.ensures.keeps.later c.in_err-word.ensures.broke))
 
 pub returns-in_err-word-clause-left : goal.returns-in_err-word-clause-left
 returns-in_err-word-clause-left g c =
-    if_err (LookLeft c.args.hart (g.D.Dmi.seen c.args.link.now).far (g.D.Dmi.seen c.look.new.link).far) c.from_residual-in_err-word.result _
-    c.from_residual-in_err-word.ensures.1
-    (look_broke c.args.hart c.requires.hart (g.D.Dmi.seen c.args.link.now).fault_count (g.D.Dmi.seen c.look.new.link).fault_count
-    (told (g.D.Dmi.seen c.args.link.now)) _ _ c.requires.ready
-    (at_look (look_failed c.args.hart (told (g.D.Dmi.seen c.args.link.now)) _ (g.D.Dmi.seen c.args.link.now).fault_count
-    (g.D.Dmi.seen c.control.new.link).fault_count (g.D.Dmi.seen c.look.new.link).fault_count _ _ c.in_ok-control.ensures.did c.control.ensures.keeps.later
-    c.look.ensures.keeps.later c.in_err-word.ensures.broke)))
+    if_err (LookLeft c.args.hart (g.D.Dmi.seen c.args.link.now).far (g.D.Dmi.seen c.control_and_look.new.link).far) c.from_residual.result _
+    c.from_residual.ensures.1
+    (look_broke c.args.hart c.requires.hart _ _ (told (g.D.Dmi.seen c.args.link.now)) _ _ c.requires.ready c.in_err-word.ensures.broke)
 
 pub returns-clause-did : goal.returns-clause-did
-returns-clause-did g c = (looked_at c.args.hart _ _ _ _ _ c.in_ok-control.ensures.did c.in_ok-word.ensures.did c.seen_of.ensures)
+returns-clause-did g c = looked_at c.args.hart _ _ _ _ c.in_ok-word.ensures.did c.seen_of.ensures
 
 pub returns-clause-happened : goal.returns-clause-happened
-returns-clause-happened g c = look_happened c.args.hart c.requires.hart (told (g.D.Dmi.seen c.args.link.now)) (told (g.D.Dmi.seen c.look.new.link)) _
-    c.requires.ready (looked_at c.args.hart _ _ _ _ _ c.in_ok-control.ensures.did c.in_ok-word.ensures.did c.seen_of.ensures)
+returns-clause-happened g c =
+    look_happened c.args.hart c.requires.hart (told (g.D.Dmi.seen c.args.link.now)) (told (g.D.Dmi.seen c.control_and_look.new.link)) _ c.requires.ready
+    (looked_at c.args.hart _ _ _ _ c.in_ok-word.ensures.did c.seen_of.ensures)
 
 pub returns-clause-ready : goal.returns-clause-ready
-returns-clause-ready g c = look_ready c.args.hart c.requires.hart (told (g.D.Dmi.seen c.args.link.now)) (told (g.D.Dmi.seen c.look.new.link)) _
-    c.requires.ready (looked_at c.args.hart _ _ _ _ _ c.in_ok-control.ensures.did c.in_ok-word.ensures.did c.seen_of.ensures)
+returns-clause-ready g c =
+    look_ready c.args.hart c.requires.hart (told (g.D.Dmi.seen c.args.link.now)) (told (g.D.Dmi.seen c.control_and_look.new.link)) _ c.requires.ready
+    (looked_at c.args.hart _ _ _ _ c.in_ok-word.ensures.did c.seen_of.ensures)
 
 pub returns-clause-selects : goal.returns-clause-selects
-returns-clause-selects g c = look_selects c.args.hart c.requires.hart (told (g.D.Dmi.seen c.args.link.now)) (told (g.D.Dmi.seen c.look.new.link)) _
-    c.requires.ready (looked_at c.args.hart _ _ _ _ _ c.in_ok-control.ensures.did c.in_ok-word.ensures.did c.seen_of.ensures)
+returns-clause-selects g c =
+    look_selects c.args.hart c.requires.hart (told (g.D.Dmi.seen c.args.link.now)) (told (g.D.Dmi.seen c.control_and_look.new.link)) _ c.requires.ready
+    (looked_at c.args.hart _ _ _ _ c.in_ok-word.ensures.did c.seen_of.ensures)
 
 pub returns-clause-seen : goal.returns-clause-seen
-returns-clause-seen g c = look_seen c.args.hart c.requires.hart (told (g.D.Dmi.seen c.args.link.now)) (told (g.D.Dmi.seen c.look.new.link)) _ c.requires.ready
-    (looked_at c.args.hart _ _ _ _ _ c.in_ok-control.ensures.did c.in_ok-word.ensures.did c.seen_of.ensures)
+returns-clause-seen g c =
+    look_seen c.args.hart c.requires.hart (told (g.D.Dmi.seen c.args.link.now)) (told (g.D.Dmi.seen c.control_and_look.new.link)) _ c.requires.ready
+    (looked_at c.args.hart _ _ _ _ c.in_ok-word.ensures.did c.seen_of.ensures)

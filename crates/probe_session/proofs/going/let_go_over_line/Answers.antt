@@ -1,0 +1,61 @@
+use Rattle.std.proofs.Common.{◌∙◌, sym, arith}
+use Rattle.probe_session.specs.Commands.{at_stop_line, ends_with}
+use Rattle.probe_session.specs.Said.{said_by}
+use Rattle.probe_session.proofs.GoingLines.{at_going, behind_falls, err_at, found_other, found_whole, free_to_go, got_at, held_back, held_falls, ok_at}
+use Rattle.probe_session.proofs.GoingLines.{read_fell_at, view_falls}
+use Rattle.probe_session.proofs.LinkLemmas.{if_err}
+use Rattle.probe_session.proofs.OneLine.{err_then, ok_then}
+use Rattle.probe_session.proofs.going.let_go_over_line.Goals as goal
+
+pub returns-in_err-seen-clause-falls : goal.returns-in_err-seen-clause-falls
+returns-in_err-seen-clause-falls g c = if_err _ c.in_err-seen.field-0.0 _ c.from_residual.ensures.1 (view_falls c.args.halted.number c.in_err-seen.ensures.fell)
+
+pub returns-then-not-has_any-clause-went : goal.returns-then-not-has_any-clause-went
+returns-then-not-has_any-clause-went g c = ok_then (λ line. ends_with (said_by line)) _ _
+    (free_to_go c.args.halted.number c.in_ok-seen.seen (sym c.has_any.ensures ∙ c.if-not-has_any.true) c.in_ok-seen.ensures.viewed) c.free_line.ensures.went
+
+pub returns-then-not-has_any-clause-falls : goal.returns-then-not-has_any-clause-falls
+returns-then-not-has_any-clause-falls g c = err_then _ _ _ (free_to_go c.args.halted.number c.in_ok-seen.seen (sym c.has_any.ensures ∙ c.if-not-has_any.true)
+    c.in_ok-seen.ensures.viewed) c.slots.ensures.keeps.later c.free_line.ensures.falls
+
+pub returns-in_err-again-clause-falls : goal.returns-in_err-again-clause-falls
+returns-in_err-again-clause-falls g c =
+    if_err _ c.in_err-again.field-0.0 _ c.from_residual-in_err-again.ensures.1
+    (held_falls c.args.halted.number c.in_ok-seen.seen (sym c.has_any.ensures ∙ c.if-not-has_any.false) c.in_ok-seen.ensures.viewed c.slots.ensures.keeps.later
+    c.in_err-again.ensures.fell)
+
+pub returns-in_err-word-clause-falls : goal.returns-in_err-word-clause-falls
+returns-in_err-word-clause-falls g c =
+    if_err _ c.in_err-word.field-0.0 _ c.from_residual-in_err-word.ensures.1 (behind_falls c.args.halted.number
+    (held_back c.args.halted.number c.in_ok-seen.seen (sym c.has_any.ensures ∙ c.if-not-has_any.false) c.in_ok-seen.ensures.viewed c.in_ok-again.ensures.made)
+    (omega (arith, c.slots.ensures.keeps.later, c.step_over.ensures.keeps.later)) (read_fell_at c.in_ok-again.ensures.hart c.in_err-word.ensures.fell))
+
+pub returns-then-shows_step-clause-went : goal.returns-then-shows_step-clause-went
+returns-then-shows_step-clause-went g c =
+    ok_then (λ line. ends_with (said_by line)) _ _ (found_whole c.args.halted.number _
+    (held_back c.args.halted.number c.in_ok-seen.seen (sym c.has_any.ensures ∙ c.if-not-has_any.false) c.in_ok-seen.ensures.viewed c.in_ok-again.ensures.made)
+    (sym c.shows_step.ensures ∙ c.if-shows_step.true) (got_at c.in_ok-again.ensures.hart c.in_ok-word.ensures.got))
+    (ok_at at_going (λ line. ends_with (said_by line)) _ _ _ c.in_ok-again.ensures.hart c.free_line-then-shows_step.ensures.went)
+
+pub returns-then-shows_step-clause-falls : goal.returns-then-shows_step-clause-falls
+returns-then-shows_step-clause-falls g c =
+    err_then _ _ _ (found_whole c.args.halted.number _ (held_back c.args.halted.number c.in_ok-seen.seen (sym c.has_any.ensures ∙ c.if-not-has_any.false)
+    c.in_ok-seen.ensures.viewed c.in_ok-again.ensures.made) (sym c.shows_step.ensures ∙ c.if-shows_step.true)
+    (got_at c.in_ok-again.ensures.hart c.in_ok-word.ensures.got))
+    (omega (arith, c.slots.ensures.keeps.later, c.step_over.ensures.keeps.later, c.reg.ensures.keeps.later))
+    (err_at at_going _ _ _ _ _ c.in_ok-again.ensures.hart c.free_line-then-shows_step.ensures.falls)
+
+pub returns-clause-went : goal.returns-clause-went
+returns-clause-went g c = ok_then (λ line. ends_with (said_by line)) _ _
+    (found_other c.args.halted.number _ (held_back c.args.halted.number c.in_ok-seen.seen (sym c.has_any.ensures ∙ c.if-not-has_any.false)
+    c.in_ok-seen.ensures.viewed c.in_ok-again.ensures.made) (sym c.shows_step.ensures ∙ c.if-shows_step.false)
+    (got_at c.in_ok-again.ensures.hart c.in_ok-word.ensures.got))
+    (ok_at at_stop_line (λ line. ends_with (said_by line)) _ _ _ c.in_ok-again.ensures.hart c.stop_line.ensures.went)
+
+pub returns-clause-falls : goal.returns-clause-falls
+returns-clause-falls g c =
+    err_then _ _ _ (found_other c.args.halted.number _ (held_back c.args.halted.number c.in_ok-seen.seen (sym c.has_any.ensures ∙ c.if-not-has_any.false)
+    c.in_ok-seen.ensures.viewed c.in_ok-again.ensures.made) (sym c.shows_step.ensures ∙ c.if-shows_step.false)
+    (got_at c.in_ok-again.ensures.hart c.in_ok-word.ensures.got))
+    (omega (arith, c.slots.ensures.keeps.later, c.step_over.ensures.keeps.later, c.reg.ensures.keeps.later))
+    (err_at at_stop_line _ _ _ _ _ c.in_ok-again.ensures.hart c.stop_line.ensures.falls)

@@ -1,0 +1,65 @@
+use Rattle.std.proofs.Common.{◌∙◌, refl, sym, subst, arith}
+use Rattle.probe_session.specs.Commands.{at_stop_line, ends_with}
+use Rattle.probe_session.specs.Links.{AttachedHalted}
+use Rattle.probe_session.specs.Said.{said_by}
+use Rattle.probe_session.proofs.GoingLines.{err_at, found_falls, got_at, made_at, next_falls, next_step, ok_at, read_fell_at, step_fell_at}
+use Rattle.probe_session.proofs.GoingLines.{stepped_all, stepped_next, stepped_otherwise, stepping_none}
+use Rattle.probe_session.proofs.LinkLemmas.{if_err}
+use Rattle.probe_session.proofs.OneLine.{err_then, ok_then}
+use Rattle.probe_session.proofs.going.more_steps_line.Goals as goal
+
+pub stepping-init : goal.stepping-init
+stepping-init g c = record {
+  same = refl;
+  serving = c.requires.serving;
+  steps = stepping_none c.args.halted.number c.args.more _;
+  later = omega arith;
+  fixed = refl;
+}
+
+pub returns-in_err-word-clause-falls : goal.returns-in_err-word-clause-falls
+returns-in_err-word-clause-falls g c = if_err _ c.in_err-word.field-0.0 _ c.from_residual.ensures.1
+    (found_falls c.args.halted.number c.args.more c.stepping._step c.stepping.invariant.steps c.stepping.invariant.later
+    (read_fell_at c.stepping.invariant.same c.in_err-word.ensures.fell))
+
+pub returns-then-not-shows_step-clause-went : goal.returns-then-not-shows_step-clause-went
+returns-then-not-shows_step-clause-went g c = ok_then (λ line. ends_with (said_by line)) _ _
+    (stepped_otherwise c.args.halted.number c.args.more c.stepping._step _ c.stepping.invariant.steps (sym c.shows_step.ensures ∙ c.if-not-shows_step.true)
+    (got_at c.stepping.invariant.same c.in_ok-word.ensures.got))
+    (ok_at at_stop_line (λ line. ends_with (said_by line)) _ _ _ c.stepping.invariant.same c.stop_line.ensures.went)
+
+pub returns-then-not-shows_step-clause-falls : goal.returns-then-not-shows_step-clause-falls
+returns-then-not-shows_step-clause-falls g c = err_then _ _ _
+    (stepped_otherwise c.args.halted.number c.args.more c.stepping._step _ c.stepping.invariant.steps (sym c.shows_step.ensures ∙ c.if-not-shows_step.true)
+    (got_at c.stepping.invariant.same c.in_ok-word.ensures.got))
+    (omega (arith, c.stepping.invariant.later, c.reg.ensures.keeps.later))
+    (err_at at_stop_line _ _ _ _ _ c.stepping.invariant.same c.stop_line.ensures.falls)
+
+pub returns-in_err-now-clause-falls : goal.returns-in_err-now-clause-falls
+returns-in_err-now-clause-falls g c =
+    if_err _ c.in_err-now.field-0.0 _ c.from_residual-in_err-now.ensures.1
+    (next_falls c.args.halted.number c.args.more c.stepping._step
+    (next_step c.args.halted.number c.args.more c.stepping._step _ c.stepping-test.true c.stepping.invariant.steps
+    (sym c.shows_step.ensures ∙ c.if-not-shows_step.false) (got_at c.stepping.invariant.same c.in_ok-word.ensures.got))
+    (omega (arith, c.stepping.invariant.later, c.reg.ensures.keeps.later)) (step_fell_at c.stepping.invariant.same c.in_err-now.ensures.fell))
+
+pub stepping-preserved : goal.stepping-preserved
+stepping-preserved g c = record {
+  same = c.in_ok-now.ensures.hart ∙ c.stepping.invariant.same;
+  serving = subst (λ n. AttachedHalted n (g.D.Dmi.seen c.step.new.link)) (sym c.in_ok-now.ensures.hart) c.in_ok-now.ensures.keeps.behind;
+  steps = stepped_next c.args.halted.number c.args.more c.stepping._step
+      (next_step c.args.halted.number c.args.more c.stepping._step _ c.stepping-test.true c.stepping.invariant.steps
+      (sym c.shows_step.ensures ∙ c.if-not-shows_step.false) (got_at c.stepping.invariant.same c.in_ok-word.ensures.got))
+      (made_at c.stepping.invariant.same c.in_ok-now.ensures.made);
+  later = omega (arith, c.stepping.invariant.later, c.reg.ensures.keeps.later, c.step.ensures.keeps.later);
+  fixed = c.step.ensures.keeps.fixed ∙ c.reg.ensures.keeps.fixed ∙ c.stepping.invariant.fixed;
+}
+
+pub returns-clause-went : goal.returns-clause-went
+returns-clause-went g c = ok_then (λ line. ends_with (said_by line)) _ _
+    (stepped_all c.args.halted.number c.args.more c.stepping._step (omega arith) c.stepping.invariant.steps)
+    (ok_at at_stop_line (λ line. ends_with (said_by line)) _ _ _ c.stepping.invariant.same c.stop_line-2.ensures.went)
+
+pub returns-clause-falls : goal.returns-clause-falls
+returns-clause-falls g c = err_then _ _ _ (stepped_all c.args.halted.number c.args.more c.stepping._step (omega arith) c.stepping.invariant.steps)
+    c.stepping.invariant.later (err_at at_stop_line _ _ _ _ _ c.stepping.invariant.same c.stop_line-2.ensures.falls)

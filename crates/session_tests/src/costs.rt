@@ -1,0 +1,75 @@
+//! What a command of a session costs on a loaded chip in rises of TCK, where the transport is never found busy: 46 for each scan of `dmi`, and one scan more
+//! than operations for each call.
+
+ghost use Rattle.std.specs.Prelude.{IfSome, IsSome};
+ghost use Rattle.debug_model.specs.Loaded.{AsLoaded};
+
+use crate::chips::{HALTED, PIECE, PROGRAM, loaded};
+use chip_core::{Bench, BenchWire};
+use debug_model::{Schedule, Script};
+use jt_base::{MemorySink, Sink};
+use probe_dmi::Link;
+use probe_scan::Scanner;
+use probe_session::{Ended, run_script};
+use script_lang::parse;
+use std::alloc::Global;
+use std::process::Abort;
+use std::test::Fail;
+
+/// Room for everything that a session here prints.
+const AMPLE: usize = 65_536;
+
+/// A scan of `dmi`.
+const SCAN_RISES: u64 = 46;
+
+/// A Look, which is two operations in one call, and a register.
+const REGISTER_SCANS: u64 = 3 + 5;
+
+/// A Look; `dcsr`; a step, which reads and writes `dcsr`, asks the hart with the first Look, and reads and writes `dcsr` again; and `dpc` and `dcsr` for the
+/// line.
+const STEP_SCANS: u64 = 3 + 5 + (10 + 3 + 10) + 10;
+
+/// One step more of several: `dcsr`, and a step.
+const NEXT_STEP_SCANS: u64 = 5 + (10 + 3 + 10);
+
+/// A Look, `dcsr`, and the request with its first Look.
+const RESUME_SCANS: u64 = 3 + 5 + 3;
+
+/// One session, whose link waits between scans so long that no operation is found under way.
+fn run_paced<Q: Schedule, K: Sink>(bench: &mut Bench<Q>, script: &Script, out: &mut K) -> Ended
+    requires loaded { IsSome bench.old }
+    requires fresh { IfSome bench.old AsLoaded }
+{
+    let mut link = Link::paced(Scanner::new(BenchWire::new(bench, PIECE)));
+    run_script(&mut link, script, out)
+}
+
+/// The rises of TCK of a session with this script on a halted hart, all of whose commands are done.
+fn rises_of(rt: &impl Abort, alloc: Global, script: &str) -> Result<u64, Fail> {
+    let mut bench = loaded(alloc, PROGRAM, HALTED)?;
+    let commands = parse(alloc, script.as_bytes())?;
+    let mut out = MemorySink::new(alloc, AMPLE, Vec::new(alloc))?;
+    let ended = run_paced(&mut bench, &commands, &mut out);
+    assert_eq!(rt; ended, Ended::Clean);
+    assert_eq!(rt; bench.counts().dmi_busy, 0);
+    Ok(bench.counts().rounds)
+}
+
+#[test]
+fn one_command_more_takes_so_many_scans(rt: HostRuntime) -> Result<(), Fail> {
+    // a script, the same with one command more, and the scans of that
+    let cases = [
+        ("reg x5\n", "reg x5\nreg x5\n", REGISTER_SCANS),
+        ("step\nstep\n", "step\nstep\nstep\n", STEP_SCANS),
+        ("step 2\n", "step 3\n", NEXT_STEP_SCANS),
+        ("step\n", "step\nresume\n", RESUME_SCANS),
+    ];
+    for (shorter, longer, scans) in cases {
+        let before = rises_of(&rt, rt.alloc(), shorter)?;
+        let after = rises_of(&rt, rt.alloc(), longer)?;
+        assert!(rt; after > before);
+        assert_eq!(rt; (after - before) / SCAN_RISES, scans);
+        assert_eq!(rt; (after - before) % SCAN_RISES, 0);
+    }
+    Ok(())
+}
