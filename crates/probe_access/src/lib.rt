@@ -32,7 +32,7 @@ mod stops;
 mod tests;
 mod transfers;
 
-pub use blocks::{load_block, store_block};
+pub use blocks::{ELEMENTS_MOST, load_block, store_block};
 pub use bus::{bus_load, bus_store};
 pub use bus_blocks::{bus_load_block, bus_store_block};
 pub use fault::AccessFault;

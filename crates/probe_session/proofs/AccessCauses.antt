@@ -1,20 +1,17 @@
 -- What caused a fault of the wire in an access, and in a call on a hart's slots.
 use Rattle.std.proofs.Common.{◌≡◌, ◌≤◌, ℕ, Bool, true, false, List, [], Option, IfSome, sym, subst}
-use Rattle.rv_model.specs.declared.size.Size.{Size}
 use Rattle.debug_model.specs.declared.dmi.DmiFault.{DmiFault}
 use Rattle.debug_model.specs.Told.{Far}
 use Rattle.probe_access.specs.declared.fault.AccessFault.{AccessFault}
 use Rattle.probe_access.specs.declared.fault.AccessFault.TheVariants as fault
 use Rattle.probe_access.specs.BlockRuns.{Causes}
-use Rattle.probe_access.specs.BusRuns.{BusEndFailed, BusEnding, BusLoadFailed, BusStoreFailed}
+use Rattle.probe_access.specs.BusBlockRuns.{BusCauses}
 use Rattle.probe_access.specs.CommandRuns.{CommandFailed}
 use Rattle.probe_access.specs.Faults.{BrokeIn}
-use Rattle.probe_access.specs.MemoryRuns.{AroundFailed, LoadRunFailed, StoreFailedInside, StoredInside}
 use Rattle.probe_access.specs.RegisterRuns.{ReadFailed, WriteFailed, AskFailed, ReadApartFailed, ReadApartFailedAt}
 use Rattle.probe_access.specs.StepRuns.{FlagFailed, StepFailed, of_run, with_flag}
 use Rattle.probe_access.specs.Stops.{StopFailed, dpc_number}
 use Rattle.probe_access.specs.RegisterAccess.{transfer_word}
-use Rattle.probe_access.proofs.BlockCauses.{around_causes, link_later, load_causes, store_inside_causes}
 use Rattle.probe_run.specs.declared.fault.RunFault.{RunFault}
 use Rattle.probe_run.specs.declared.fault.RunFault.TheVariants as run_fault
 use Rattle.probe_run.specs.Acts.{Act, Attempt, Tells}
@@ -91,56 +88,23 @@ stop_wire e old_count new_count old new (StopFailed.at_dcsr pc mid read f) = rea
 
 -- ---- memory
 
-by_cause : (e : AccessFault) (old_count new_count : ℕ) (old new : Tells) → Causes old_count new_count old new e → AccessWire old_count new_count new.far e
-by_cause (fault.Dmi why) old_count new_count old new c = broke_wire why c.2
-by_cause (fault.Memory address) old_count new_count old new c = tt
-by_cause (fault.Register number) old_count new_count old new c = tt
-by_cause fault.StillBusy old_count new_count old new c = tt
-by_cause (fault.Run why) old_count new_count old new c = absurd c
-by_cause (fault.Odd shown) old_count new_count old new c = tt
-
-pub load_wire : (e : AccessFault) (size : Size) (address old_count new_count : ℕ) (old new : Tells) → old_count ≤ new_count
-    → LoadRunFailed size address old_count new_count old new e
+pub block_wire : (e : AccessFault) (old_count new_count : ℕ) (old new : Tells) → Causes old_count new_count old new e
     → AccessWire old_count new_count new.far e
-load_wire e size address old_count new_count old new later f =
-    by_cause e old_count new_count old new (load_causes size address old_count new_count old new e (link_later old_count new_count e later) f)
+block_wire (fault.Dmi why) old_count new_count old new c = broke_wire why c.2
+block_wire (fault.Memory address) old_count new_count old new c = tt
+block_wire (fault.Register number) old_count new_count old new c = tt
+block_wire fault.StillBusy old_count new_count old new c = tt
+block_wire (fault.Run why) old_count new_count old new c = absurd c
+block_wire (fault.Odd shown) old_count new_count old new c = tt
 
-pub store_wire : (e : AccessFault) (size : Size) (address value old_count new_count : ℕ) (old new : Tells) → old_count ≤ new_count
-    → AroundFailed (StoredInside size address value) (StoreFailedInside size address value) old_count new_count old new e
+pub bus_block_wire : (e : AccessFault) (old_count new_count : ℕ) (old new : Tells) → BusCauses old_count new_count old new e
     → AccessWire old_count new_count new.far e
-store_wire e size address value old_count new_count old new later f =
-    by_cause e old_count new_count old new (around_causes (StoredInside size address value) (StoreFailedInside size address value) old_count new_count old new e
-    (store_inside_causes size address value) (link_later old_count new_count e later) f)
-
-bus_ending : (why : DmiFault) {old_count new_count : ℕ} {old new : Tells} → BusEnding old_count new_count old new why → DmiWire old_count new_count new.far why
-bus_ending why (BusEnding.at_poll b) = broke_in why b
-bus_ending why (BusEnding.at_clear last mid polled outside b) = broke_in why b
-
-bus_end : (e : AccessFault) (address old_count new_count : ℕ) (old new : Tells) → BusEndFailed address old_count new_count old new e
-    → AccessWire old_count new_count new.far e
-bus_end (fault.Dmi why) address old_count new_count old new f = bus_ending why f
-bus_end (fault.Memory at) address old_count new_count old new f = tt
-bus_end (fault.Register number) address old_count new_count old new f = tt
-bus_end fault.StillBusy address old_count new_count old new f = tt
-bus_end (fault.Run why) address old_count new_count old new f = absurd f
-bus_end (fault.Odd shown) address old_count new_count old new f = tt
-
-by_link : (e : AccessFault) (old_count new_count : ℕ) (told : Option Far) (why : DmiFault) → e ≡ fault.Dmi why → DmiWire old_count new_count told why
-    → AccessWire old_count new_count told e
-by_link e old_count new_count told why is w = subst (AccessWire old_count new_count told) (sym is) w
-
-pub bus_load_wire : (e : AccessFault) (size : Size) (address old_count new_count : ℕ) (old new : Tells)
-    → BusLoadFailed size address old_count new_count old new e → AccessWire old_count new_count new.far e
-bus_load_wire e size address old_count new_count old new (BusLoadFailed.in_start why is b) = by_link e old_count new_count new.far why is (broke_in why b)
-bus_load_wire e size address old_count new_count old new (BusLoadFailed.in_end started starts f) = bus_end e address old_count new_count started new f
-bus_load_wire e size address old_count new_count old new (BusLoadFailed.in_fetch started ended starts ends why is b) =
-    by_link e old_count new_count new.far why is (broke_in why b)
-
-pub bus_store_wire : (e : AccessFault) (size : Size) (address value old_count new_count : ℕ) (old new : Tells)
-    → BusStoreFailed size address value old_count new_count old new e → AccessWire old_count new_count new.far e
-bus_store_wire e size address value old_count new_count old new (BusStoreFailed.in_start why is b) =
-    by_link e old_count new_count new.far why is (broke_in why b)
-bus_store_wire e size address value old_count new_count old new (BusStoreFailed.in_end started starts f) = bus_end e address old_count new_count started new f
+bus_block_wire (fault.Dmi why) old_count new_count old new c = broke_wire why c.2
+bus_block_wire (fault.Memory address) old_count new_count old new c = tt
+bus_block_wire (fault.Register number) old_count new_count old new c = absurd c
+bus_block_wire fault.StillBusy old_count new_count old new c = tt
+bus_block_wire (fault.Run why) old_count new_count old new c = absurd c
+bus_block_wire (fault.Odd shown) old_count new_count old new c = tt
 
 -- ---- slots, and the step over them
 

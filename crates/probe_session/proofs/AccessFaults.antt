@@ -1,22 +1,16 @@
--- Calls on registers, slots and memory that fail, over a told chip.
+-- Calls on registers and slots that fail, over a told chip.
 use Rattle.std.proofs.Common.{◌≡◌, ◌∙◌, ◌++◌, ℕ, true, false, List, Option, Some, None, refl, sym, ap, subst}
 use Rattle.std.proofs.lemmas.Option.{none-some, same_Some}
-use Rattle.rv_model.specs.declared.size.Size.{Size}
-use Rattle.rv_model.specs.Board.{Board, Hart, Machine}
+use Rattle.rv_model.specs.Board.{Hart, Machine}
 use Rattle.rv_model.specs.DebugRegisters.{debug_refuses}
-use Rattle.rv_model.specs.Memory.{Memory}
-use Rattle.debug_model.specs.declared.command.Path.{Path}
-use Rattle.debug_model.specs.declared.point.Point.TheVariants.{Access}
 use Rattle.debug_model.specs.Scan.{WhereTold}
 use Rattle.debug_model.specs.Told.{Far, site_of}
 use Rattle.abstract_debugger.specs.Lines.{Line}
 use Rattle.abstract_debugger.specs.Plan.{Plan}
-use Rattle.abstract_debugger.specs.Plan.Plan.{see, take}
-use Rattle.abstract_debugger.specs.Stands.{At, Deals, Origin, Target}
+use Rattle.abstract_debugger.specs.Stands.{At, Origin, Target}
 use Rattle.abstract_debugger.specs.Ways.{Way}
 use Rattle.abstract_debugger.specs.Turns.{turns}
-use Rattle.probe_access.specs.Accesses.{BusLoadRefused, BusStoreRefused, LoadRefused, StoreRefused}
-use Rattle.probe_access.specs.Cuts.{AccessLeftOff, BusLeftOff, Leaves, LeftAside, LoadLeaves, MaybeWritten, Scratched, StoreLeaves, Unchanged}
+use Rattle.probe_access.specs.Cuts.{Leaves, LeftAside, MaybeWritten, Unchanged}
 use Rattle.probe_access.specs.Registers.{RegisterWrittenAt}
 use Rattle.probe_run.specs.Acts.{Tells}
 use Rattle.probe_run.specs.Happens.{target_of}
@@ -25,12 +19,12 @@ use Rattle.probe_trig.specs.Runs.{ChangesAny}
 use Rattle.probe_trig.specs.Slots.{DebugAlone}
 use Rattle.probe_trig.specs.Transfers.{Transfer}
 use Rattle.probe_session.specs.declared.fault.Failure.{Failure}
-use Rattle.probe_session.specs.Calls.{AskFell, Gave, GiveFell, IsOfHarts, LoadFell, ReadFell, SlotsFell, StopFell, StoreFell, WriteFell}
+use Rattle.probe_session.specs.Calls.{AskFell, Gave, GiveFell, IsOfHarts, ReadFell, SlotsFell, StopFell, WriteFell}
 use Rattle.probe_session.specs.Led.{target_at}
 use Rattle.probe_session.specs.Transcribed.{Still}
-use Rattle.probe_session.proofs.BrokeOff.{LeftAs, OfTheLink, OnWay, access_of_link, asked_of_link, by_access, is_told, left_still, register_of_link}
+use Rattle.probe_session.proofs.BrokeOff.{LeftAs, OfTheLink, OnWay, asked_of_link, by_access, is_told, left_still, register_of_link}
 use Rattle.probe_session.proofs.BrokeOff.{scratch_of_link}
-use Rattle.probe_session.proofs.OnTheWay.{point_way, turns_twice, turns_way}
+use Rattle.probe_session.proofs.OnTheWay.{turns_twice, turns_way}
 
 -- ---- beside the plan
 
@@ -114,52 +108,6 @@ behind_given h number value m sel way o p lines (Some c) mid new a w l = made (s
           (turns_twice a.target.journal (site_of w.far).journal (site_of k.far).journal w.passed.harts k.left.harts
           (w.passed.journal ∙ ap (λ (t : Target). t.journal ++ turns w.passed.harts) (same_Some (target_of (site_of c)) a.target a.is)) k.left.journal);
     }
-
--- ---- memory
-
-access_still : (Y : Hart → Hart → Type 0) (N : Memory → Memory → Type 0) (h : ℕ) (m : Machine) (sel : ℕ) (way : Way) (o : Origin) (next : Board → Plan)
-    (lines : List Line) (old new : Option Far)
-    → At m sel way o (take Access (see next)) lines (target_at old) → Leaves (AccessLeftOff Y N h) old new → Still (OnWay o lines) new
-access_still Y N h m sel way o next lines old new a l = left_still (AccessLeftOff Y N h) m sel way o (take Access (see next)) lines
-    (OnWay o lines) old new cut l a
-  where
-    cut : (f g : Far) → Deals m sel way o (take Access (see next)) lines (target_of (site_of f)) → AccessLeftOff Y N h (site_of f) (site_of g) → OnWay o lines g
-    cut f g d (AccessLeftOff.before_it c) = turns_way o (take Access (see next)) lines (target_of (site_of f)) c.harts (site_of g).journal d.stands c.journal
-    cut f g d (AccessLeftOff.behind_it c) = point_way o Access (see next) lines (target_of (site_of f)) c.before c.behind (site_of g).journal
-        tt d.stands c.journal
-
-bus_still : (N : Memory → Memory → Type 0) (m : Machine) (sel : ℕ) (way : Way) (o : Origin) (next : Board → Plan) (lines : List Line) (old new : Option Far)
-    → At m sel way o (take Access (see next)) lines (target_at old)
-    → Leaves (BusLeftOff N) old new → Still (OnWay o lines) new
-bus_still N m sel way o next lines old new a l = left_still (BusLeftOff N) m sel way o (take Access (see next)) lines (OnWay o lines) old new cut l a
-  where
-    cut : (f g : Far) → Deals m sel way o (take Access (see next)) lines (target_of (site_of f)) → BusLeftOff N (site_of f) (site_of g) → OnWay o lines g
-    cut f g d (BusLeftOff.before_it c) = turns_way o (take Access (see next)) lines (target_of (site_of f)) c.harts (site_of g).journal d.stands c.journal
-    cut f g d (BusLeftOff.behind_it c) = point_way o Access (see next) lines (target_of (site_of f)) c.before c.behind (site_of g).journal tt d.stands c.journal
-
-pub load_fell : {path : Path} (size : Size) (address : ℕ) (m : Machine) (sel : ℕ) (way : Way) (o : Origin) (next : Board → Plan) (lines : List Line)
-    (old_count new_count : ℕ) (old new : Tells) (f : Failure) → LoadFell path size address old_count new_count old new f
-    → At m sel way o (take Access (see next)) lines (target_at old.far) → Still (LeftAs o lines f) new.far
-load_fell size address m sel way o next lines old_count new_count old new f (LoadFell.by_hart h why at later heard told cut is) a =
-    by_access why f o lines new.far (Leaves (AccessLeftOff Scratched LoadLeaves h) old.far new.far) is
-    (access_of_link (LoadRefused size address) address why old.far new.far (is_told m sel way o (take Access (see next)) lines old.far a) told) cut
-    (access_still Scratched LoadLeaves h m sel way o next lines old.far new.far a)
-load_fell size address m sel way o next lines old_count new_count old new f (LoadFell.by_bus why at later heard told cut is) a =
-    by_access why f o lines new.far (Leaves (BusLeftOff LoadLeaves) old.far new.far) is
-    (access_of_link (BusLoadRefused size address) address why old.far new.far (is_told m sel way o (take Access (see next)) lines old.far a) told) cut
-    (bus_still LoadLeaves m sel way o next lines old.far new.far a)
-
-pub store_fell : {path : Path} (size : Size) (address value : ℕ) (m : Machine) (sel : ℕ) (way : Way) (o : Origin) (next : Board → Plan) (lines : List Line)
-    (old_count new_count : ℕ) (old new : Tells) (f : Failure) → StoreFell path size address value old_count new_count old new f
-    → At m sel way o (take Access (see next)) lines (target_at old.far) → Still (LeftAs o lines f) new.far
-store_fell size address value m sel way o next lines old_count new_count old new f (StoreFell.by_hart h why at later heard told cut is) a =
-    by_access why f o lines new.far (Leaves (AccessLeftOff Scratched (StoreLeaves size address value) h) old.far new.far) is
-    (access_of_link (StoreRefused size address) address why old.far new.far (is_told m sel way o (take Access (see next)) lines old.far a) told) cut
-    (access_still Scratched (StoreLeaves size address value) h m sel way o next lines old.far new.far a)
-store_fell size address value m sel way o next lines old_count new_count old new f (StoreFell.by_bus why at later heard told cut is) a =
-    by_access why f o lines new.far (Leaves (BusLeftOff (StoreLeaves size address value)) old.far new.far) is
-    (access_of_link (BusStoreRefused size address) address why old.far new.far (is_told m sel way o (take Access (see next)) lines old.far a) told) cut
-    (bus_still (StoreLeaves size address value) m sel way o next lines old.far new.far a)
 
 -- ---- hits that were to be forgotten, behind a written pc
 

@@ -18,7 +18,6 @@ use Rattle.abstract_debugger.specs.Transcript.{End}
 use Rattle.abstract_debugger.specs.Ways.{Way}
 use Rattle.probe_access.specs.declared.fault.AccessFault.{AccessFault}
 use Rattle.probe_access.specs.declared.fault.AccessFault.TheVariants as fault
-use Rattle.probe_access.specs.Accesses.{AccessLeft}
 use Rattle.probe_access.specs.Cuts.{IfCut, Leaves}
 use Rattle.probe_access.specs.Registers.{RegisterRefusedAt, RegisterLeft}
 use Rattle.probe_access.specs.Scratches.{ScratchLeft}
@@ -111,15 +110,6 @@ scratch_of_link (fault.Register number) old told left = told left
 scratch_of_link fault.StillBusy old told left = tt
 scratch_of_link (fault.Run why) old told left = left
 scratch_of_link (fault.Odd shown) old told left = told left
-
-pub access_of_link : (R : Chip → Option Far → Type 0) (address : ℕ) (why : AccessFault) (old new : Option Far) → (old ≡ None → ⊥)
-    → AccessLeft R address old new why → OfTheLink why
-access_of_link R address (fault.Dmi why) old new told left = tt
-access_of_link R address (fault.Memory at) old new told left = tt
-access_of_link R address (fault.Register number) old new told left = told left
-access_of_link R address fault.StillBusy old new told left = tt
-access_of_link R address (fault.Run why) old new told left = left
-access_of_link R address (fault.Odd shown) old new told left = told left
 
 -- a register that may be refused, and was not
 pub asked_of_link : (write : Bool) (h number : ℕ) (why : AccessFault) (old new : Option Far) → (old ≡ None → ⊥) → IsNotRegister why

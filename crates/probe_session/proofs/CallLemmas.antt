@@ -1,50 +1,167 @@
--- Accesses that a chip refused.
-use Rattle.std.proofs.Common.{◌≡◌, ℕ, subst}
+-- Calls on blocks of memory, as a session tells of them: whole ones, refused ones, and those that broke off.
+use Rattle.std.proofs.Common.{◌≡◌, ◌≤◌, ◌<◌, ◌∙◌, ◌++◌, ℕ, true, false, List, length, map, Option, Some, None, refl, sym, subst, arith}
+use Rattle.std.proofs.lemmas.List.{length-map}
 use Rattle.rv_model.specs.declared.size.Size.{Size}
 use Rattle.debug_model.specs.declared.command.Path.TheVariants.{Progbuf, Bus}
+use Rattle.debug_model.specs.Module.{Site}
+use Rattle.debug_model.specs.Scan.{WhereTold}
+use Rattle.debug_model.specs.Told.{Far, IsReady}
 use Rattle.probe_access.specs.declared.fault.AccessFault.{AccessFault}
 use Rattle.probe_access.specs.declared.fault.AccessFault.TheVariants as fault
-use Rattle.probe_access.specs.Accesses.{AccessLeft, BusLoadRefused, BusStoreRefused, LoadRefused, StoreRefused}
-use Rattle.probe_access.specs.BusRuns.{BusLoadFailed, BusStoreFailed}
-use Rattle.probe_access.specs.MemoryRuns.{AroundFailed, LoadRunFailed, StoreFailedInside, StoredInside}
+use Rattle.probe_access.specs.Accesses.{IfMemory}
+use Rattle.probe_access.specs.BlockCuts.{BlockLoadCut, BlockStoreCut}
+use Rattle.probe_access.specs.BlockRuns.{Fetched}
+use Rattle.probe_access.specs.Blocks.{BlockLoadLeft, BlockLoadedAt, BlockStoreLeft, element_at}
+use Rattle.probe_access.specs.BusBlockRuns.{BusLoads, BusLoadsRefused, BusStoresRefused}
+use Rattle.probe_access.specs.BusBlocks.{BusBlockLoadCut, BusBlockLoadLeft, BusBlockLoadedAt, BusBlockStoreCut, BusBlockStoreLeft}
+use Rattle.probe_access.specs.BusRuns.{cut_to}
+use Rattle.probe_access.specs.Cuts.{AccessLeftOff, BusLeftOff, IfCut, Leaves, LoadLeaves, Scratched, StoreLeaves}
+use Rattle.probe_access.specs.ElementRuns.{LoadRuns, LoadRunsFailed, StoreRunsFailed}
+use Rattle.probe_access.proofs.CutSites.{if_cut}
 use Rattle.probe_run.specs.Acts.{Tells}
-use Rattle.probe_session.specs.Calls.{LoadedNone, StoredNone}
+use Rattle.probe_session.specs.Answers.{BlockLoadedAs, RefusedStore}
+use Rattle.probe_session.specs.BlockCalls.{BlockLoaded, BlockLoadedNone, BlockStoredNone, BusLoadsCut, BusStoresCut, LoadsCut, SomeLoaded, SomeStored}
+use Rattle.probe_session.specs.BlockCalls.{StoresCut}
+use Rattle.probe_session.proofs.CutLemmas.{bus_loaded_cut, bus_refused_cut, loaded_cut, refused_cut}
 
--- ---- by the hart
+as_many : (size : Size) (held : List ℕ) → length (map (cut_to size) held) ≡ length held
+as_many size held = length-map held (cut_to size)
 
-pub loaded_none : (size : Size) (address at old_count new_count : ℕ) (old new : Tells) (e : AccessFault) → e ≡ fault.Memory at
-    → AccessLeft (LoadRefused size address) address old.far new.far e
-    → LoadRunFailed size address old_count new_count old new e → LoadedNone Progbuf size address old new
-loaded_none size address at old_count new_count old new e is left heard =
-    let l = subst (AccessLeft (LoadRefused size address) address old.far new.far) is left in
-    let h = subst (λ x. LoadRunFailed size address old_count new_count old new x) is heard in
-    LoadedNone.by_hart old_count new_count (subst (λ a. LoadRunFailed size address old_count new_count old new
-    (fault.Memory a)) l.0 h) l.1
+-- ---- whole ones
 
-pub stored_none : (size : Size) (address value at old_count new_count : ℕ) (old new : Tells) (e : AccessFault) → e ≡ fault.Memory at
-    → AccessLeft (StoreRefused size address) address old.far new.far e
-    → AroundFailed (StoredInside size address value) (StoreFailedInside size address value) old_count new_count old new e
-    → StoredNone Progbuf size address value old new
-stored_none size address value at old_count new_count old new e is left heard =
-    let l = subst (AccessLeft (StoreRefused size address) address old.far new.far) is left in
-    let h = subst (λ x. AroundFailed (StoredInside size address value) (StoreFailedInside size address value) old_count new_count old new x) is heard in
-    StoredNone.by_hart old_count new_count (subst (λ a. AroundFailed (StoredInside size address value) (StoreFailedInside size address value) old_count
-    new_count old new (fault.Memory a)) l.0 h) l.1
+pub block_loaded : (size : Size) (address count : ℕ) (held : List ℕ) (old new : Tells) → IsReady old.far → length held ≡ count
+    → LoadRuns size address old held new → Fetched held old new → WhereTold (BlockLoadedAt size address held) old.far new.far
+    → BlockLoadedAs Progbuf size address count (map (cut_to size) held) old new true
+block_loaded size address count held old new ready all runs fetched told =
+    (as_many size held ∙ all, BlockLoaded.by_hart held refl runs fetched (loaded_cut size address held old.far new.far ready told))
 
--- ---- by the bus
+pub bus_block_loaded : (size : Size) (address count : ℕ) (held : List ℕ) (old new : Tells) → IsReady old.far → length held ≡ count
+    → BusLoads size address old held new → WhereTold (BusBlockLoadedAt size address held) old.far new.far
+    → BlockLoadedAs Bus size address count (map (cut_to size) held) old new true
+bus_block_loaded size address count held old new ready all loads told =
+    (as_many size held ∙ all, BlockLoaded.by_bus held refl loads (bus_loaded_cut size address held old.far new.far ready told))
 
-pub bus_loaded_none : (size : Size) (address at old_count new_count : ℕ) (old new : Tells) (e : AccessFault) → e ≡ fault.Memory at
-    → AccessLeft (BusLoadRefused size address) address old.far new.far e
-    → BusLoadFailed size address old_count new_count old new e → LoadedNone Bus size address old new
-bus_loaded_none size address at old_count new_count old new e is left heard =
-    let l = subst (AccessLeft (BusLoadRefused size address) address old.far new.far) is left in
-    let h = subst (λ x. BusLoadFailed size address old_count new_count old new x) is heard in
-    LoadedNone.by_bus old_count new_count (subst (λ a. BusLoadFailed size address old_count new_count old new (fault.Memory a)) l.0 h) l.1
+-- ---- refused ones
 
-pub bus_stored_none : (size : Size) (address value at old_count new_count : ℕ) (old new : Tells) (e : AccessFault) → e ≡ fault.Memory at
-    → AccessLeft (BusStoreRefused size address) address old.far new.far e
-    → BusStoreFailed size address value old_count new_count old new e → StoredNone Bus size address value old new
-bus_stored_none size address value at old_count new_count old new e is left heard =
-    let l = subst (AccessLeft (BusStoreRefused size address) address old.far new.far) is left in
-    let h = subst (λ x. BusStoreFailed size address value old_count new_count old new x) is heard in
-    StoredNone.by_bus old_count new_count (subst (λ a. BusStoreFailed size address value old_count new_count old new (fault.Memory a)) l.0 h) l.1
+fewer : (size : Size) (held : List ℕ) (count : ℕ) → length held < count → length (map (cut_to size) held) < count
+fewer size held count below = let e : length (map (cut_to size) held) ≡ length held = as_many size held in omega (arith, e, below)
+
+pub block_loaded_none : (size : Size) (address count at old_count new_count : ℕ) (held : List ℕ) (old new : Tells) (e : AccessFault)
+    → IsReady old.far → e ≡ fault.Memory at → BlockLoadLeft size address count held old.far new.far e
+    → LoadRunsFailed size address count held old_count new_count old new e → IfMemory (Fetched held old new) e
+    → BlockLoadedAs Progbuf size address count (map (cut_to size) held) old new false
+block_loaded_none size address count at old_count new_count held old new e ready is left failed fetched =
+    let l = subst (BlockLoadLeft size address count held old.far new.far) is left in
+    let h = subst (λ x. LoadRunsFailed size address count held old_count new_count old new x) is failed in (
+      fewer size held count l.0,
+      BlockLoadedNone.by_hart held count old_count new_count refl
+          (subst (λ a. LoadRunsFailed size address count held old_count new_count old new (fault.Memory a)) l.1 h)
+          (subst (IfMemory (Fetched held old new)) is fetched) (refused_cut size address held old.far new.far ready l.2),
+    )
+
+pub bus_block_loaded_none : (size : Size) (address count at : ℕ) (held : List ℕ) (old new : Tells) (e : AccessFault)
+    → IsReady old.far → e ≡ fault.Memory at → BusBlockLoadLeft size address count held old.far new.far e
+    → IfMemory (BusLoadsRefused size address held old new) e
+    → BlockLoadedAs Bus size address count (map (cut_to size) held) old new false
+bus_block_loaded_none size address count at held old new e ready is left refused =
+    let l = subst (BusBlockLoadLeft size address count held old.far new.far) is left in (
+      fewer size held count l.0,
+      BlockLoadedNone.by_bus held refl
+          (subst (IfMemory (BusLoadsRefused size address held old new)) is refused) (bus_refused_cut size address held old.far new.far ready l.2),
+    )
+
+pub block_stored_none : (size : Size) (address value count at old_count new_count : ℕ) (old new : Tells) (e : AccessFault) → e ≡ fault.Memory at
+    → BlockStoreLeft size address count value old.far new.far e
+    → StoreRunsFailed size address value count old_count new_count old new e → RefusedStore Progbuf size address value count at old new
+block_stored_none size address value count at old_count new_count old new e is left failed =
+    let l = subst (BlockStoreLeft size address count value old.far new.far) is left in
+    let h = subst (λ x. StoreRunsFailed size address value count old_count new_count old new x) is failed in
+    record {
+      done = l.0;
+      below = l.1;
+      at_is = l.2;
+      none = BlockStoredNone.by_hart count old_count new_count
+          (subst (λ a. StoreRunsFailed size address value count old_count new_count old new (fault.Memory a)) l.2 h) l.3;
+    }
+
+pub bus_block_stored_none : (size : Size) (address value count at : ℕ) (old new : Tells) (e : AccessFault) → e ≡ fault.Memory at
+    → BusBlockStoreLeft size address count value old.far new.far e
+    → IfMemory (BusStoresRefused size address value count old new) e → RefusedStore Bus size address value count at old new
+bus_block_stored_none size address value count at old new e is left refused =
+    let l = subst (BusBlockStoreLeft size address count value old.far new.far) is left in
+    record {
+      done = l.0;
+      below = l.1;
+      at_is = l.2;
+      none = BlockStoredNone.by_bus count (subst (IfMemory (BusStoresRefused size address value count old new)) is refused) l.3;
+    }
+
+-- ---- those that broke off
+
+leaves_as : (R S : Site → Site → Type 0) (old new : Option Far) → ((s t : Site) → R s t → S s t) → Leaves R old new → Leaves S old new
+leaves_as R S None new step l = tt
+leaves_as R S (Some f) new step l = record { far = l.far; is = l.is; left = step _ _ l.left }
+
+loads_left : (size : Size) (address count h : ℕ) (held : List ℕ) (s t : Site) → length held < count → BlockLoadCut size address held h s t
+    → LoadsCut size address count h s t
+loads_left size address count h held s t below c = by_access c.left
+  where
+    by_access : AccessLeftOff Scratched LoadLeaves h c.mid t → LoadsCut size address count h s t
+    by_access (AccessLeftOff.before_it a) = SomeLoaded.between held c.mid c.each (omega (arith, below)) a
+    by_access (AccessLeftOff.behind_it a) = SomeLoaded.within held c.mid c.each below a
+
+pub loads_cut : (size : Size) (address count h old_count new_count : ℕ) (held : List ℕ) (old new : Tells) (e : AccessFault)
+    → LoadRunsFailed size address count held old_count new_count old new e → IfCut (Leaves (BlockLoadCut size address held h) old.far new.far) e
+    → IfCut (Leaves (LoadsCut size address count h) old.far new.far) e
+loads_cut size address count h old_count new_count held old new e failed cut =
+    if_cut (Leaves (BlockLoadCut size address held h) old.far new.far) (Leaves (LoadsCut size address count h) old.far new.far) e
+    (leaves_as (BlockLoadCut size address held h) (LoadsCut size address count h) old.far new.far
+    (λ s t c. loads_left size address count h held s t failed.below c)) cut
+
+stores_left : (size : Size) (address value count h : ℕ) (s t : Site) → BlockStoreCut size address value count h s t
+    → StoresCut size address value count h s t
+stores_left size address value count h s t c = by_access c.left
+  where
+    by_access : AccessLeftOff Scratched (StoreLeaves size (element_at size address c.done) value) h c.mid t → StoresCut size address value count h s t
+    by_access (AccessLeftOff.before_it a) = SomeStored.between c.done c.mid c.each (omega (arith, c.below)) a
+    by_access (AccessLeftOff.behind_it a) = SomeStored.within c.done c.mid c.each c.below a
+
+pub stores_cut : (size : Size) (address value count h : ℕ) (old new : Option Far) (e : AccessFault)
+    → IfCut (Leaves (BlockStoreCut size address value count h) old new) e
+    → IfCut (Leaves (StoresCut size address value count h) old new) e
+stores_cut size address value count h old new e cut =
+    if_cut (Leaves (BlockStoreCut size address value count h) old new) (Leaves (StoresCut size address value count h) old new) e
+    (leaves_as (BlockStoreCut size address value count h) (StoresCut size address value count h) old new
+    (λ s t c. stores_left size address value count h s t c)) cut
+
+bus_loads_left : (size : Size) (address count : ℕ) (held : List ℕ) (s t : Site) → BusBlockLoadCut size address count held s t
+    → BusLoadsCut size address count s t
+bus_loads_left size address count held s t c = by_access c.left
+  where
+    by_access : BusLeftOff LoadLeaves c.mid t → BusLoadsCut size address count s t
+    by_access (BusLeftOff.before_it a) = SomeLoaded.between (held ++ c.more) c.mid c.each (omega (arith, c.below)) a
+    by_access (BusLeftOff.behind_it a) = SomeLoaded.within (held ++ c.more) c.mid c.each c.below a
+
+pub bus_loads_cut : (size : Size) (address count : ℕ) (held : List ℕ) (old new : Option Far) (e : AccessFault)
+    → IfCut (Leaves (BusBlockLoadCut size address count held) old new) e
+    → IfCut (Leaves (BusLoadsCut size address count) old new) e
+bus_loads_cut size address count held old new e cut =
+    if_cut (Leaves (BusBlockLoadCut size address count held) old new) (Leaves (BusLoadsCut size address count) old new) e
+    (leaves_as (BusBlockLoadCut size address count held) (BusLoadsCut size address count) old new
+    (λ s t c. bus_loads_left size address count held s t c)) cut
+
+bus_stores_left : (size : Size) (address value count : ℕ) (s t : Site) → BusBlockStoreCut size address value count s t
+    → BusStoresCut size address value count s t
+bus_stores_left size address value count s t c = by_access c.left
+  where
+    by_access : BusLeftOff (StoreLeaves size (element_at size address c.done) value) c.mid t → BusStoresCut size address value count s t
+    by_access (BusLeftOff.before_it a) = SomeStored.between c.done c.mid c.each (omega (arith, c.below)) a
+    by_access (BusLeftOff.behind_it a) = SomeStored.within c.done c.mid c.each c.below a
+
+pub bus_stores_cut : (size : Size) (address value count : ℕ) (old new : Option Far) (e : AccessFault)
+    → IfCut (Leaves (BusBlockStoreCut size address value count) old new) e
+    → IfCut (Leaves (BusStoresCut size address value count) old new) e
+bus_stores_cut size address value count old new e cut =
+    if_cut (Leaves (BusBlockStoreCut size address value count) old new) (Leaves (BusStoresCut size address value count) old new) e
+    (leaves_as (BusBlockStoreCut size address value count) (BusStoresCut size address value count) old new
+    (λ s t c. bus_stores_left size address value count s t c)) cut

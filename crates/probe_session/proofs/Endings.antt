@@ -29,14 +29,14 @@ use Rattle.probe_session.specs.declared.fault.LostCause.TheVariants as lost
 use Rattle.probe_session.specs.Failures.{failure_of_dmi}
 use Rattle.probe_session.specs.Goes.{Anyhow, Fell, Spoke}
 use Rattle.probe_session.specs.Led.{DealsAt}
-use Rattle.probe_session.specs.Places.{spot}
+use Rattle.probe_session.specs.Places.{place, spot}
 use Rattle.probe_session.specs.Scripts.{BrokeOff, EndedAs, RanInto, Unfit, Unopened, at_commands, at_stop}
 use Rattle.probe_session.specs.Transcribed.{IsCutTranscript, IsFrontOf, IsTranscript, OnTheWay, Still, TranscribedAs, WrittenAs, origin_of}
 use Rattle.probe_session.proofs.BrokeOff.{LeftAs, OnWay, still_as}
 use Rattle.probe_session.proofs.Faults.{fault_left}
 use Rattle.probe_session.proofs.LedSteps.{goes_lead}
 use Rattle.probe_session.proofs.OnTheWay.{cut_way, on_way}
-use Rattle.probe_session.proofs.Transcribing.{begun_deals, found_far, front_written, line_written, opened_deals, ran_transcribed}
+use Rattle.probe_session.proofs.Transcribing.{begun_deals, found_far, front_written, line_written, lines_written, opened_deals, ran_transcribed}
 
 abbrev ended_by : Failure → Ended
 ended_by (failure.Wire why) = ended.Wire why
@@ -104,6 +104,18 @@ fell_by f script first old_count new_count mid new sink_old sink_new was is (Fel
     record {
       front = record { on_the_way = w.not_astray; written = line_written said _ line was is w.front front };
       board_is = quiet_board o (next tt) (said ++ line ∷ []) (target_of (site_of last)) (quiet tt tt) s;
+    })
+fell_by f script first old_count new_count mid new sink_old sink_new was is (Fell.among_lines said ahead way h next quiet went front rises) d =
+    let m : Machine = machine_of (site_of first).board in
+    let o : Origin = origin_of script first in
+    let at : DealsAt m o (place way h (next tt)) (said ++ ahead) new.far =
+    goes_lead (at_commands script first_state tt) (place way h (next tt)) mid new (said ++ ahead) (went.goes tt) m o [] d in
+    found_far (λ t. Deals m h way o (next tt) (said ++ ahead) t) (λ last. IsCutTranscript script was is first last) new.far at.target at.is at.holds (λ last e.
+    let w : OnTheWay o (said ++ ahead) (site_of last).journal = on_way o (next tt) (said ++ ahead) (target_of (site_of last))
+    (site_of last).journal e.stands refl in
+    record {
+      front = record { on_the_way = w.not_astray; written = lines_written said _ ahead was is w.front front };
+      board_is = quiet_board o (next tt) (said ++ ahead) (target_of (site_of last)) (quiet tt tt) e.stands;
     })
 
 ran_into : (f : Failure) (script : List Command) (old_count new_count : ℕ) (old new : Tells) (sink_old sink_new : ℕ) (was is : Option (List ℕ))

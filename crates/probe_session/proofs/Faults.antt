@@ -2,15 +2,10 @@
 use Rattle.std.proofs.Common.{ℕ, List}
 use Rattle.rv_model.specs.Board.{Machine}
 use Rattle.rv_model.specs.DebugRegisters.{dcsr_number}
-use Rattle.rv_model.specs.Memory.{loaded, store_answer}
 use Rattle.rv_model.specs.Registers.{pc_number}
-use Rattle.rv_model.specs.Size.{count_of}
 use Rattle.debug_model.specs.Told.{site_of}
-use Rattle.abstract_debugger.specs.Debugger.{by_load, by_store}
 use Rattle.abstract_debugger.specs.Lines.{Line}
 use Rattle.abstract_debugger.specs.Plan.{Plan}
-use Rattle.abstract_debugger.specs.Plan.Change.{WriteMem}
-use Rattle.abstract_debugger.specs.Plan.Plan.{change}
 use Rattle.abstract_debugger.specs.Stands.{At, Origin}
 use Rattle.abstract_debugger.specs.Ways.Way.{Still as StillWay}
 use Rattle.abstract_debugger.proofs.DealsLemmas.{deals_went_on}
@@ -26,13 +21,14 @@ use Rattle.probe_session.specs.Led.{DealsAt, target_at}
 use Rattle.probe_session.specs.Places.{Place}
 use Rattle.probe_session.specs.Steps.{with_ebreakm}
 use Rattle.probe_session.specs.Transcribed.{Still}
-use Rattle.probe_session.proofs.AccessFaults.{asked_fell, forget_fell, given_fell, gotten_fell, load_fell, slots_fell, stop_fell, store_fell, written_fell}
+use Rattle.probe_session.proofs.AccessFaults.{asked_fell, forget_fell, given_fell, gotten_fell, slots_fell, stop_fell, written_fell}
+use Rattle.probe_session.proofs.BlockFaults.{block_load_fell, block_store_fell}
 use Rattle.probe_session.proofs.BrokeOff.{LeftAs}
 use Rattle.probe_session.proofs.OverFaults.{over_fell}
 use Rattle.probe_session.proofs.RegisterLemmas.{dcsr_of_harts, dcsr_taken}
 use Rattle.probe_session.proofs.RunFaults.{halt_fell, idcode_fell, look_fell, resume_fell}
 use Rattle.probe_session.proofs.Unhit.{step_fell}
-use Rattle.probe_session.proofs.Tolds.{at_access, at_far, told_case, went_by}
+use Rattle.probe_session.proofs.Tolds.{at_far, told_case, went_by}
 
 -- what was read passed the plan by
 passing : (h : ℕ) (m : Machine) (o : Origin) (p : Plan) (lines : List Line) (old mid : Tells) → Passing h old mid
@@ -79,10 +75,7 @@ fault_left p old_count new_count old new f (Fault.behind {h} {count = count} {p 
     fault_left _ count new_count mid new f fell m o lines (passing h m o q lines old mid passed a)
 fault_left p old_count new_count old new f (Fault.stopping {h} fell) m o lines a =
     stop_fell h m p.hart p.way o p.plan lines old_count new_count old new f fell a
-fault_left p old_count new_count old new f (Fault.loading {path} {way} {h} {address} {size = size} faulted read fell) m o lines a =
-    load_fell size address m h way o (λ b. by_load (loaded b.memory address size) faulted read) lines old_count new_count old new f fell
-    (at_access m h way o path _ lines (target_at old.far) a)
-fault_left p old_count new_count old new f (Fault.storing {path} {way} {h} {address} {value} {size = size} faulted next fell) m o lines a =
-    store_fell size address value m h way o (λ b. by_store (store_answer b.memory address size) faulted
-    (change (WriteMem address (count_of size) value) next)) lines
-    old_count new_count old new f fell (at_access m h way o path _ lines (target_at old.far) a)
+fault_left p old_count new_count old new f (Fault.loading_block {way = way} {h} {address} {count} {size = size} {p = q} may fell) m o lines a =
+    block_load_fell size address count m h way o q lines old_count new_count old new f may fell a
+fault_left p old_count new_count old new f (Fault.storing_block {way = way} {h} {address} {value} {count} {size = size} {p = q} {to} stores fell) m o lines a =
+    block_store_fell size address value count m h way o q to lines old_count new_count old new f stores fell a

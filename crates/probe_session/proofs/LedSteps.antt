@@ -1,26 +1,21 @@
 -- Each step of a session over a told chip.
 use Rattle.std.proofs.Common.{◌≡◌, ◌∙◌, ◌++◌, ℕ, Bool, true, false, List, [], ◌∷◌, map, Option, Some, None, IfSome, slice_get, refl, sym, ap, subst}
 use Rattle.std.proofs.Common.{append_assoc, append-nil, if◌then◌else◌}
-use Rattle.rv_model.specs.declared.size.Size.{Size}
 use Rattle.std.proofs.lemmas.Option.{none-some, same_Some}
 use Rattle.rv_model.specs.Board.{Hart, Machine}
 use Rattle.rv_model.specs.Dcsr.{shown_cause}
 use Rattle.rv_model.specs.DebugRegisters.{dcsr_number, debug_refuses, debug_value, debug_written}
-use Rattle.rv_model.specs.Memory.{loaded, store_answer}
 use Rattle.rv_model.specs.Registers.{csr_read_only, pc_number}
-use Rattle.rv_model.specs.Size.{count_of}
-use Rattle.debug_model.specs.declared.command.Path.{Path}
-use Rattle.debug_model.specs.declared.point.Point.TheVariants.{Access}
 use Rattle.debug_model.specs.Dmi.{NoneOperated}
 use Rattle.debug_model.specs.Scan.{WhereTold}
 use Rattle.debug_model.specs.Module.{Site}
 use Rattle.debug_model.specs.Tap.{idcode}
 use Rattle.debug_model.specs.Told.{Far, IsReady, site_of}
-use Rattle.abstract_debugger.specs.Debugger.{arming, by_load, by_store, freeing, going, halting, one, register_line, saying, stop_line}
+use Rattle.abstract_debugger.specs.Debugger.{arming, freeing, going, halting, one, register_line, saying, stop_line}
 use Rattle.abstract_debugger.specs.Lines.{Line}
 use Rattle.abstract_debugger.specs.Plan.{Plan}
-use Rattle.abstract_debugger.specs.Plan.Change.{EbreakHalts, WriteMem, WriteReg}
-use Rattle.abstract_debugger.specs.Plan.Plan.{change, say, see, take}
+use Rattle.abstract_debugger.specs.Plan.Change.{EbreakHalts, WriteReg}
+use Rattle.abstract_debugger.specs.Plan.Plan.{change, say, see}
 use Rattle.abstract_debugger.specs.Slots.Use.{Armed, Unused}
 use Rattle.abstract_debugger.specs.Stands.{At, Deals, Origin, Target, WentOn}
 use Rattle.abstract_debugger.specs.Ways.{Way}
@@ -28,7 +23,6 @@ use Rattle.abstract_debugger.specs.Ways.Way.{Idle, Ready, Still}
 use Rattle.abstract_debugger.proofs.DealsLemmas.{deals_at_plan, deals_put, deals_rests, deals_selects, deals_unspent, deals_went_on}
 use Rattle.abstract_debugger.proofs.StandsLemmas.{seen}
 use Rattle.abstract_debugger.specs.SlotUses.{hits_in}
-use Rattle.probe_access.specs.Accesses as access
 use Rattle.probe_access.specs.Registers.{RegisterRefusedAt, RegisterReadAt, RegisterWrittenAt, TurnsPassed, TurnsPassedBut}
 use Rattle.probe_access.specs.Stops.{StoppedAt}
 use Rattle.probe_run.specs.Acts.{Tells}
@@ -39,16 +33,16 @@ use Rattle.probe_trig.specs.declared.slot_view.SlotView.{SlotView}
 use Rattle.probe_trig.specs.Slots.{ArmedAt, AtHarts, ForgotAt, FreedAt, FullAt, UnusedAt, ViewedAt}
 use Rattle.probe_trig.specs.Stepping.{OverAt}
 use Rattle.probe_trig.proofs.Ends.{shows_as_step}
-use Rattle.probe_session.specs.Calls.{Loaded, LoadedNone, Stored, StoredNone}
 use Rattle.probe_session.specs.Goes.{Goes}
 use Rattle.probe_session.specs.Goes.Goes.{start, step}
 use Rattle.probe_session.specs.Led.{DealsAt, GoesLead, Leads, target_at}
 use Rattle.probe_session.specs.Places.{Place, ready}
 use Rattle.probe_session.specs.Steps.{Step, behind_look, behind_step, lines_of_view, trigger_cause, with_ebreakm}
-use Rattle.probe_session.proofs.Tolds.{at_access, at_far, halt_deals, look_deals, other_found_deals, over_deals, resume_deals, step_found_deals}
-use Rattle.probe_session.proofs.Tolds.{stop_deals, stop_trigger_deals, told_case, went_by}
-use Rattle.probe_session.proofs.ToldWrites.{armed_deals, ebreak_deals, freed_deals, full_deals, hits_deals, load_deals, load_none_deals}
-use Rattle.probe_session.proofs.ToldWrites.{never_refused, no_hits_deals, read_deals, read_next_deals, slots_deals, store_deals, store_none_deals}
+use Rattle.probe_session.proofs.BlockSteps.{block_loaded_at, block_loaded_none_at, block_stored_at, block_stored_none_at}
+use Rattle.probe_session.proofs.Tolds.{at_far, halt_deals, look_deals, other_found_deals, over_deals, resume_deals, step_found_deals}
+use Rattle.probe_session.proofs.Tolds.{stop_deals, stop_trigger_deals, told_case}
+use Rattle.probe_session.proofs.ToldWrites.{armed_deals, ebreak_deals, freed_deals, full_deals, hits_deals}
+use Rattle.probe_session.proofs.ToldWrites.{never_refused, no_hits_deals, read_deals, read_next_deals, slots_deals}
 use Rattle.probe_session.proofs.Unhit.{either_way_deals, holds_none_deals, made_over, none_hit_deals, still_at}
 use Rattle.probe_session.proofs.ToldWrites.{unused_deals, write_deals, write_pc_deals, write_refused_deals}
 
@@ -120,60 +114,6 @@ ebreak_given : (h word : ℕ) (on : Bool) (next : Plan) (m : Machine) (o : Origi
 ebreak_given h word on next m o lines c f new x here is passed g d =
     at_far m h Still o next lines g.far new g.is (ebreak_deals m h word on o next lines (site_of c) (site_of f) (site_of g.far) x g.hart here is
     passed g.here g.passed d)
-
--- ---- memory
-
-loaded_at : {path : Path} (m : Machine) (h : ℕ) (way : Way) (size : Size) (address v : ℕ) (o : Origin) (faulted : Plan) (read : ℕ → Plan) (lines : List Line)
-    (old new : Tells) → Loaded path size address v old new
-    → At m h way o (take Access (see (λ b. by_load (loaded b.memory address size) faulted read))) lines (target_at old.far)
-    → At m h way o (read v) lines (target_at new.far)
-loaded_at m h way size address v o faulted read lines old new (Loaded.by_hart held cut heard told) a =
-    told_case (access.LoadedAt size address v) m h way o _ lines (λ n. At m h way o (read v) lines (target_at n)) old.far new.far
-    (λ c d l. at_far m h way o (read v) lines l.far _ l.is (load_deals m h way size address v o faulted read lines l.before l.behind (site_of c) (site_of l.far)
-    l.value_is (record { board = l.access.board; journal = l.access.journal }) d)) told a
-loaded_at m h way size address v o faulted read lines old new (Loaded.by_bus heard told) a =
-    told_case (access.BusLoadedAt size address v) m h way o _ lines (λ n. At m h way o (read v) lines (target_at n)) old.far new.far
-    (λ c d l. at_far m h way o (read v) lines l.far _ l.is (load_deals m h way size address v o faulted read lines l.before l.behind (site_of c) (site_of l.far)
-    l.value_is (record { board = l.access.board; journal = l.access.journal }) d)) told a
-
-loaded_none_at : {path : Path} (m : Machine) (h : ℕ) (way : Way) (size : Size) (address : ℕ) (o : Origin) (faulted : Plan) (read : ℕ → Plan) (lines : List Line)
-    (old new : Tells) → LoadedNone path size address old new
-    → At m h way o (take Access (see (λ b. by_load (loaded b.memory address size) faulted read))) lines (target_at old.far)
-    → At m h way o faulted lines (target_at new.far)
-loaded_none_at m h way size address o faulted read lines old new (LoadedNone.by_hart x y heard told) a =
-    told_case (access.LoadRefused size address) m h way o _ lines (λ n. At m h way o faulted lines (target_at n)) old.far new.far
-    (λ c d l. at_far m h way o faulted lines l.far _ l.is (load_none_deals m h way size address l.why o faulted read lines l.before l.behind (site_of c)
-    (site_of l.far) l.refused (record { board = l.access.board; journal = l.access.journal }) d)) told a
-loaded_none_at m h way size address o faulted read lines old new (LoadedNone.by_bus x y heard told) a =
-    told_case (access.BusLoadRefused size address) m h way o _ lines (λ n. At m h way o faulted lines (target_at n)) old.far new.far
-    (λ c d l. at_far m h way o faulted lines l.far _ l.is (load_none_deals m h way size address l.why o faulted read lines l.before l.behind (site_of c)
-    (site_of l.far) l.refused (record { board = l.access.board; journal = l.access.journal }) d)) told a
-
-stored_at : {path : Path} (m : Machine) (h : ℕ) (way : Way) (size : Size) (address v : ℕ) (o : Origin) (faulted next : Plan) (lines : List Line)
-    (old new : Tells) → Stored path size address v old new
-    → At m h way o (take Access (see (λ b. by_store (store_answer b.memory address size) faulted (change (WriteMem address (count_of size) v) next)))) lines
-    (target_at old.far) → At m h way o next lines (target_at new.far)
-stored_at m h way size address v o faulted next lines old new (Stored.by_hart heard told) a =
-    told_case (access.StoredAt size address v) m h way o _ lines (λ n. At m h way o next lines (target_at n)) old.far new.far
-    (λ c d l. at_far m h way o next lines l.far _ l.is (store_deals m h way size address v o faulted next lines l.before l.behind (site_of c) (site_of l.far)
-    l.taken (record { board = l.access.board; journal = l.access.journal }) d)) told a
-stored_at m h way size address v o faulted next lines old new (Stored.by_bus heard told) a =
-    told_case (access.BusStoredAt size address v) m h way o _ lines (λ n. At m h way o next lines (target_at n)) old.far new.far
-    (λ c d l. at_far m h way o next lines l.far _ l.is (store_deals m h way size address v o faulted next lines l.before l.behind (site_of c) (site_of l.far)
-    l.taken (record { board = l.access.board; journal = l.access.journal }) d)) told a
-
-stored_none_at : {path : Path} (m : Machine) (h : ℕ) (way : Way) (size : Size) (address v : ℕ) (o : Origin) (faulted stored : Plan) (lines : List Line)
-    (old new : Tells) → StoredNone path size address v old new
-    → At m h way o (take Access (see (λ b. by_store (store_answer b.memory address size) faulted stored))) lines (target_at old.far)
-    → At m h way o faulted lines (target_at new.far)
-stored_none_at m h way size address v o faulted stored lines old new (StoredNone.by_hart x y heard told) a =
-    told_case (access.StoreRefused size address) m h way o _ lines (λ n. At m h way o faulted lines (target_at n)) old.far new.far
-    (λ c d l. at_far m h way o faulted lines l.far _ l.is (store_none_deals m h way size address l.why o faulted stored lines l.before l.behind (site_of c)
-    (site_of l.far) l.refused (record { board = l.access.board; journal = l.access.journal }) d)) told a
-stored_none_at m h way size address v o faulted stored lines old new (StoredNone.by_bus x y heard told) a =
-    told_case (access.BusStoreRefused size address) m h way o _ lines (λ n. At m h way o faulted lines (target_at n)) old.far new.far
-    (λ c d l. at_far m h way o faulted lines l.far _ l.is (store_none_deals m h way size address l.why o faulted stored lines l.before l.behind (site_of c)
-    (site_of l.far) l.refused (record { board = l.access.board; journal = l.access.journal }) d)) told a
 
 -- ---- the steps
 
@@ -300,17 +240,14 @@ step_leads from to old new said (Step.frees {h} {slot} next freed) m o lines a =
 step_leads from to old new said (Step.frees_none {h} {slot} next none) m o lines a =
     none_said m o to lines new.far (at_harts_so (UnusedAt slot h) m h h Still Still o (freeing h slot next) (say (Line.SlotNotInUse slot) next) lines old.far
     new.far (λ x y l d. unused_deals m h slot o next lines x y l d) none.told a)
-step_leads from to old new said (Step.loads {path} {way} {h} {address} {value} {size} faulted read l) m o lines a =
-    none_said m o to lines new.far (loaded_at m h way size address value o faulted read lines old new l
-    (at_access m h way o path _ lines (target_at old.far) a))
-step_leads from to old new said (Step.loads_none {path} {way} {h} {address} {size} faulted read l) m o lines a =
-    none_said m o to lines new.far (loaded_none_at m h way size address o faulted read lines old new l (at_access m h way o path _ lines (target_at old.far) a))
-step_leads from to old new said (Step.stores {path} {way} {h} {address} {value} {size} faulted next l) m o lines a =
-    none_said m o to lines new.far (stored_at m h way size address value o faulted next lines old new l
-    (at_access m h way o path _ lines (target_at old.far) a))
-step_leads from to old new said (Step.stores_none {path} {way} {h} {address} {value} {size} faulted stored l) m o lines a =
-    none_said m o to lines new.far (stored_none_at m h way size address value o faulted stored lines old new l
-    (at_access m h way o path _ lines (target_at old.far) a))
+step_leads from to old new said (Step.loads_block {way = way} {h} {address} {size} {values} {said = s} {from = p} {to = q} loads l) m o lines a =
+    block_loaded_at m h way size address o p q values s lines old new loads l a
+step_leads from to old new said (Step.loads_block_none {way = way} {h} {address} {size} {values} {said = s} {from = p} {faulted} read loads l) m o lines a =
+    block_loaded_none_at m h way size address o p faulted read values s lines old new loads l a
+step_leads from to old new said (Step.stores_block {way = way} {h} {address} {value} {count} {size} {from = p} {to = q} stores l) m o lines a =
+    none_said m o to lines new.far (block_stored_at m h way size address value count o p q lines old new stores l a)
+step_leads from to old new said (Step.stores_block_none {way = way} {h} {address} {value} {done} {size} {from = p} {faulted} stored stores l) m o lines a =
+    none_said m o to lines new.far (block_stored_none_at m h way size address value done o p faulted stored lines old new stores l a)
 
 walked : (from : Place) (old : Tells) (said : List Line) (to : Place) (new : Tells) → Goes from old said to new → Leads from old said to new
 walked from old said to new start m o lines a = none_said m o from lines old.far a

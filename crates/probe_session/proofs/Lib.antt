@@ -13,11 +13,16 @@ pub mod SeveralLines
 pub mod ShownLines
 pub mod SlotLines
 pub mod RegisterShow
+pub mod LinesLeft
+pub mod PutLines
 pub mod ReadLines
 pub mod DumpLines
 pub mod MemoryLines
 pub mod Tolds
 pub mod ToldWrites
+pub mod BlockDeals
+pub mod BlockSteps
+pub mod BlockFaults
 pub mod GoingLines
 pub mod Lines
 pub mod ScriptLemmas

@@ -1,33 +1,33 @@
--- `read`, `write` and `dump`: one access behind another.
-use Rattle.std.proofs.Common.{◌≡◌, ◌≤◌, ◌<◌, ◌∙◌, ◌+◌, ◌*◌, ◌%◌, ◌^◌, ℕ, zero, suc, Bool, true, false, [], refl, sym, ap, subst, arith, if◌then◌else◌}
-use Rattle.std.proofs.lemmas.Bool.{eq-eqb, eqb-true}
-use Rattle.std.proofs.Math.Nat.{mul-le-mul_left}
+-- The way to memory, and `write`: a block of stores.
+use Rattle.std.proofs.Common.{◌≡◌, ◌≤◌, ◌∙◌, ◌+◌, ◌-◌, ℕ, zero, suc, Bool, true, false, [], refl, sym, ap, subst, arith, if◌then◌else◌}
 use Rattle.rv_model.specs.declared.size.Size.{Size}
-use Rattle.rv_model.specs.declared.size.Size.TheVariants.{B1, B2, B4, B8}
-use Rattle.rv_model.specs.Memory.{is_aligned, store_answer}
+use Rattle.rv_model.specs.Memory.{is_aligned}
 use Rattle.rv_model.specs.Size.{count_of}
 use Rattle.debug_model.specs.declared.command.Path.{Path}
 use Rattle.debug_model.specs.declared.command.Path.TheVariants.{Bus, Progbuf}
-use Rattle.abstract_debugger.specs.Debugger.{State, access, at_aligned, at_halted, at_path, by_path, by_store, writing}
+use Rattle.debug_model.specs.Kept.{DmiSeen}
+use Rattle.abstract_debugger.specs.Debugger.{State, at_aligned, at_halted, at_path, by_path, writing}
 use Rattle.abstract_debugger.specs.Lines.{Line}
 use Rattle.abstract_debugger.specs.Plan.{Plan}
-use Rattle.abstract_debugger.specs.Plan.Change.{WriteMem}
-use Rattle.abstract_debugger.specs.Plan.Plan.{change, say}
+use Rattle.abstract_debugger.specs.Plan.Plan.{say}
+use Rattle.probe_access.specs.Blocks.{element_at}
 use Rattle.probe_run.specs.Acts.{Tells}
 use Rattle.probe_run.specs.declared.hart.Halted.{Halted}
 use Rattle.probe_session.specs.declared.fault.Failure.{Failure}
 use Rattle.probe_session.specs.declared.reach.Reach.{Reach}
 use Rattle.probe_session.specs.declared.reach.Reach.TheVariants as reach
 use Rattle.probe_session.specs.declared.reach.Reached.{Reached}
-use Rattle.probe_session.specs.Calls.{StoreFell, Stored, StoredNone}
+use Rattle.probe_session.specs.Answers.{RefusedStore}
+use Rattle.probe_session.specs.BlockCalls.{BlockStoreFell, BlockStored}
+use Rattle.probe_session.specs.Blocks.{Stores, storing}
 use Rattle.probe_session.specs.Commands.{at_line, ends_with}
 use Rattle.probe_session.specs.Goes.{Falls, Fault, Went}
-use Rattle.debug_model.specs.Kept.{DmiSeen}
 use Rattle.probe_session.specs.Links.{Attached}
 use Rattle.probe_session.specs.Met.{Rest, before_look}
 use Rattle.probe_session.specs.Places.{Place, at_say, idle, still}
 use Rattle.probe_session.specs.Reach.{AttachedBy, MemoryRest, ReachedAs, before_reach, path_by, place_by, written}
-use Rattle.probe_session.specs.Steps.Step.{rests, same, stores, stores_none}
+use Rattle.probe_session.specs.Steps.Step.{rests, same, stores_block, stores_block_none}
+use Rattle.probe_session.proofs.BlockDeals.{later_is}
 use Rattle.probe_session.proofs.WentLemmas.{falls_at, falls_then, falls_within, went_none, went_one, went_then, within}
 
 -- ---- the way to memory
@@ -61,29 +61,6 @@ pub reach_rests : {K : Type 0} (r : Reach) (p : K → Plan) {t : Tells} → Went
 reach_rests (reach.Hart x) p = went_one (λ k. rests)
 reach_rests reach.Bus p = went_none
 
--- ---- addresses
-
-count_least : (size : Size) → 1 ≤ count_of size
-count_least B1 = omega arith
-count_least B2 = omega arith
-count_least B4 = omega arith
-count_least B8 = omega arith
-
-pub aligned_at : (size : Size) (a k : ℕ) → is_aligned a size ≡ true → is_aligned (a + k * count_of size) size ≡ true
-aligned_at B1 a k is = eq-eqb ((a + k * 1) % 1) 0 (omega (arith, eqb-true (a % 1) 0 is))
-aligned_at B2 a k is = eq-eqb ((a + k * 2) % 2) 0 (omega (arith, eqb-true (a % 2) 0 is))
-aligned_at B4 a k is = eq-eqb ((a + k * 4) % 4) 0 (omega (arith, eqb-true (a % 4) 0 is))
-aligned_at B8 a k is = eq-eqb ((a + k * 8) % 8) 0 (omega (arith, eqb-true (a % 8) 0 is))
-
-pub block_below : (size : Size) (a count k : ℕ) → a + count_of size * count ≤ 2 ^ 64 → k < count → a + k * count_of size < 2 ^ 64
-block_below size a count k block below =
-    let one : 1 ≤ count_of size = count_least size in
-    let more : k + 1 ≤ count = omega arith in
-    omega (arith, mul-le-mul_left (count_of size) more)
-
-pub next_address : (size : Size) (a k : ℕ) → (a + k * count_of size) + count_of size ≡ a + (k + 1) * count_of size
-next_address size a k = omega arith
-
 pub aligned_body : (size : Size) (a : ℕ) (next body : Plan) → is_aligned a size ≡ true → at_aligned a size next body ≡ body
 aligned_body size a next body is = ap (λ (b : Bool). if b then body else say (Line.MemoryFault a) next) is
 
@@ -96,11 +73,24 @@ writing-zero : (path : Path) (size : Size) (a v : ℕ) (next done : Plan) → wr
 unfolding writing
 writing-zero path size a v next done = refl
 
-writing-suc : (path : Path) (n : ℕ) (size : Size) (a v : ℕ) (next done : Plan) → writing path (suc n) size a v next done
-    ≡ access path (λ b. by_store (store_answer b.memory a size) (say (Line.MemoryFault a) next)
-    (change (WriteMem a (count_of size) v) (writing path n size (a + count_of size) v next done)))
+pub first_address : (size : Size) (a : ℕ) → a ≡ element_at size a 0
+first_address size a = omega arith
+
+-- the elements of a block lead along its plan
+writing_stores : (path : Path) (n : ℕ) (size : Size) (a v : ℕ) (next end : Plan) (done left : ℕ) → n ≡ done + left
+    → Stores path size v a done (writing path n size a v next end) (writing path left size (element_at size a done) v next end)
 unfolding writing
-writing-suc path n size a v next done = refl
+writing_stores path n size a v next end zero left is =
+    let e : n ≡ left = omega (arith, is) in
+    subst (λ m. Stores path size v a 0 (writing path m size a v next end) (writing path left size (element_at size a 0) v next end)) (sym e)
+    (subst (λ b. Stores path size v a 0 (writing path left size a v next end) (writing path left size b v next end)) (first_address size a)
+    Stores.nothing)
+writing_stores path zero size a v next end (suc done) left is = absurd (omega arith)
+writing_stores path (suc n) size a v next end (suc done) left is =
+    subst (λ b. Stores path size v a (suc done) (writing path (suc n) size a v next end) (writing path left size b v next end))
+    (sym (later_is size a done))
+    (Stores.further (say (Line.MemoryFault a) next) (writing path n size (a + count_of size) v next end)
+    (writing_stores path n size (a + count_of size) v next end done left (omega arith)))
 
 abbrev done_line : ℕ → Plan → Plan
 done_line count next = say (Line.Wrote count) next
@@ -108,92 +98,48 @@ done_line count next = say (Line.Wrote count) next
 abbrev at_write : Reach → Size → ℕ → ℕ → ℕ → Plan → Place
 at_write r size a v count next = place_by r (written size a v count (path_by r) next)
 
--- so many were stored
-pub record Writes (r : Reach) (size : Size) (a v count done : ℕ) (t u : Tells) : Type 0 where
-  pub left : ℕ
-  pub all : done + left ≡ count
-  pub went : Went (at_write r size a v count) (λ next. place_by r (writing (path_by r) left size (a + done * count_of size) v next
-      (done_line count next))) [] t u
+abbrev writes : Reach → Size → ℕ → ℕ → ℕ → Plan → Plan
+writes r size a v count next = writing (path_by r) count size a v next (done_line count next)
 
-pub first_address : (size : Size) (a : ℕ) → a ≡ a + 0 * count_of size
-first_address size a = omega arith
-
-pub writes_none_yet : (r : Reach) (size : Size) (a v count : ℕ) (t : Tells) → is_aligned a size ≡ true → Writes r size a v count 0 t t
-writes_none_yet r size a v count t is = record {
-  left = count;
-  all = omega arith;
-  went = went_one (λ next. same (aligned_body size a next (writing (path_by r) count size a v next (done_line count next)) is
-      ∙ ap (λ x. writing (path_by r) count size x v next (done_line count next)) (first_address size a)));
-}
-
-wrote_by : (r : Reach) (size : Size) (a v count done left at : ℕ) {t u w : Tells} → at ≡ a + done * count_of size → done < count → done + left ≡ count
-    → Went (at_write r size a v count) (λ next. place_by r (writing (path_by r) left size (a + done * count_of size) v next (done_line count next))) [] t u
-    → Stored (path_by r) size at v u w → Writes r size a v count (done + 1) t w
-wrote_by r size a v count done zero at is below all went s = absurd (omega arith)
-wrote_by r size a v count done (suc n) at {t} {u} {w} is below all went s = record {
-  left = n;
-  all = omega arith;
-  went =
-      went_then (went_then went (went_one (λ next. same (writing-suc (path_by r) n size (a + done * count_of size) v next (done_line count next)))))
-      (went_then (went_one (λ next. stores (say (Line.MemoryFault (a + done * count_of size)) next)
-      (writing (path_by r) n size ((a + done * count_of size) + count_of size) v next (done_line count next))
-      (subst (λ x. Stored (path_by r) size x v u w) is s)))
-      (went_one (λ next. same (ap (λ x. writing (path_by r) n size x v next (done_line count next)) (next_address size a done)))));
-}
-
-pub wrote : (r : Reach) (size : Size) (a v count done at : ℕ) {t u w : Tells} → at ≡ a + done * count_of size → done < count → Writes r size a v count done t u
-    → Stored (path_by r) size at v u w → Writes r size a v count (done + 1) t w
-wrote r size a v count done at is below p s = wrote_by r size a v count done p.left at is below p.all p.went s
-
-refused_by : (r : Reach) (size : Size) (a v count done left at : ℕ) {t u w : Tells} → at ≡ a + done * count_of size → done < count → done + left ≡ count
-    → Went (at_write r size a v count) (λ next. place_by r (writing (path_by r) left size (a + done * count_of size) v next (done_line count next))) [] t u
-    → StoredNone (path_by r) size at v u w → Went (at_write r size a v count) (ends_with (Line.MemoryFault at)) [] t w
-refused_by r size a v count done zero at is below all went s = absurd (omega arith)
-refused_by r size a v count done (suc n) at {t} {u} {w} is below all went s =
-    subst (λ x. Went (at_write r size a v count) (ends_with (Line.MemoryFault x)) [] t w) (sym is)
-    (went_then (went_then went (went_one (λ next. same (writing-suc (path_by r) n size (a + done * count_of size) v next (done_line count next)))))
-    (went_then (went_one (λ next. stores_none {value = v} (say (Line.MemoryFault (a + done * count_of size)) next) _
-    (subst (λ x. StoredNone (path_by r) size x v u w) is s)))
-    (reach_rests r (λ next. say (Line.MemoryFault (a + done * count_of size)) next))))
-
-pub write_refused : (r : Reach) (size : Size) (a v count done at : ℕ) {t u w : Tells} → at ≡ a + done * count_of size → done < count
-    → Writes r size a v count done t u → StoredNone (path_by r) size at v u w
-    → Went (at_write r size a v count) (ends_with (Line.MemoryFault at)) [] t w
-write_refused r size a v count done at is below p s = refused_by r size a v count done p.left at is below p.all p.went s
+at_elements : (r : Reach) (size : Size) (a v count : ℕ) {t : Tells} → is_aligned a size ≡ true
+    → Went (at_write r size a v count) (λ next. place_by r (writes r size a v count next)) [] t t
+at_elements r size a v count is = went_one (λ next. same (aligned_body size a next (writes r size a v count next) is))
 
 pub write_misaligned : (r : Reach) (size : Size) (a v count : ℕ) (t : Tells) → is_aligned a size ≡ false
     → Went (at_write r size a v count) (ends_with (Line.MemoryFault a)) [] t t
 write_misaligned r size a v count t is =
-    went_then (went_one (λ next. same (misaligned_body size a next (writing (path_by r) count size a v next (done_line count next)) is)))
-    (reach_rests r (λ next. say (Line.MemoryFault a) next))
+    went_then (went_one (λ next. same (misaligned_body size a next (writes r size a v count next) is))) (reach_rests r (λ next. say (Line.MemoryFault a) next))
 
-all_by : (r : Reach) (size : Size) (a v count done left : ℕ) {t u : Tells} → left ≡ 0
-    → Went (at_write r size a v count) (λ next. place_by r (writing (path_by r) left size (a + done * count_of size) v next (done_line count next))) [] t u
+pub wrote_all : (r : Reach) (size : Size) (a v count : ℕ) {t u : Tells} → is_aligned a size ≡ true → BlockStored (path_by r) size a v count t u
     → Went (at_write r size a v count) (ends_with (Line.Wrote count)) [] t u
-all_by r size a v count done left {t} {u} is went =
-    went_then (subst (λ n. Went (at_write r size a v count) (λ next. place_by r
-    (writing (path_by r) n size (a + done * count_of size) v next (done_line count next))) [] t u) is went)
-    (went_then (went_one (λ next. same (writing-zero (path_by r) size (a + done * count_of size) v next (done_line count next))))
-    (reach_rests r (done_line count)))
+wrote_all r size a v count is s =
+    went_then (at_elements r size a v count is)
+    (went_then (went_one (λ next. stores_block (writing_stores (path_by r) count size a v next (done_line count next) count 0 (omega arith)) s))
+    (went_then (went_one (λ next. same (writing-zero (path_by r) size (element_at size a count) v next (done_line count next))))
+    (reach_rests r (done_line count))))
 
-pub wrote_all : (r : Reach) (size : Size) (a v count done : ℕ) {t u : Tells} → done ≡ count → Writes r size a v count done t u
-    → Went (at_write r size a v count) (ends_with (Line.Wrote count)) [] t u
-wrote_all r size a v count done is p = let e : p.left ≡ 0 = omega (arith, p.all) in all_by r size a v count done p.left e p.went
+refused_at : (path : Path) (size : Size) (a v count done left : ℕ) → count ≡ done + suc left → (next : Plan)
+    → Stores path size v a done (writing path count size a v next (done_line count next)) (storing path size (element_at size a done) v
+    (say (Line.MemoryFault (element_at size a done)) next)
+    (writing path left size (element_at size a done + count_of size) v next (done_line count next)))
+unfolding writing
+refused_at path size a v count done left all next = writing_stores path count size a v next (done_line count next) done (suc left) all
 
-write_falls_by : (r : Reach) (size : Size) (a v count done left at : ℕ) {old_count mid_count new_count : ℕ} {t u w : Tells} {f : Failure}
-    → at ≡ a + done * count_of size → done < count → done + left ≡ count → old_count ≤ mid_count
-    → Went (at_write r size a v count) (λ next. place_by r (writing (path_by r) left size (a + done * count_of size) v next (done_line count next))) [] t u
-    → StoreFell (path_by r) size at v mid_count new_count u w f
-    → Falls (at_write r size a v count) [] old_count new_count t w f
-write_falls_by r size a v count done zero at is below all le went fell = absurd (omega arith)
-write_falls_by r size a v count done (suc n) at {mid_count = mid_count} {new_count} {u = u} {w} {f} is below all le went fell =
-    falls_then (went_then went (went_one (λ next. same (writing-suc (path_by r) n size (a + done * count_of size) v next (done_line count next))))) le
-    (falls_at (λ next. Fault.storing _ _ (subst (λ x. StoreFell (path_by r) size x v mid_count new_count u w f) is fell)))
+pub write_refused : (r : Reach) (size : Size) (a v count at : ℕ) {t u : Tells} → is_aligned a size ≡ true
+    → RefusedStore (path_by r) size a v count at t u → Went (at_write r size a v count) (ends_with (Line.MemoryFault at)) [] t u
+write_refused r size a v count at {t} {u} is s =
+    let left : ℕ = count - (s.done + 1) in
+    let all : count ≡ s.done + suc left = omega (arith, s.below) in
+    subst (λ x. Went (at_write r size a v count) (ends_with (Line.MemoryFault x)) [] t u) (sym s.at_is)
+    (went_then (at_elements r size a v count is)
+    (went_then (went_one (λ next. stores_block_none _ (refused_at (path_by r) size a v count s.done left all next) s.none))
+    (reach_rests r (λ next. say (Line.MemoryFault (element_at size a s.done)) next))))
 
-pub write_falls : (r : Reach) (size : Size) (a v count done at : ℕ) {old_count mid_count new_count : ℕ} {t u w : Tells} {f : Failure}
-    → at ≡ a + done * count_of size → done < count → old_count ≤ mid_count → Writes r size a v count done t u
-    → StoreFell (path_by r) size at v mid_count new_count u w f → Falls (at_write r size a v count) [] old_count new_count t w f
-write_falls r size a v count done at is below le p fell = write_falls_by r size a v count done p.left at is below p.all le p.went fell
+pub write_falls : (r : Reach) (size : Size) (a v count : ℕ) {old_count new_count : ℕ} {t u : Tells} {f : Failure} → is_aligned a size ≡ true
+    → BlockStoreFell (path_by r) size a v count old_count new_count t u f → Falls (at_write r size a v count) [] old_count new_count t u f
+write_falls r size a v count is fell =
+    falls_then (at_elements r size a v count is) (omega arith)
+    (falls_at (λ next. Fault.storing_block (writing_stores (path_by r) count size a v next (done_line count next) count 0 (omega arith)) fell))
 
 pub attached_by : (r : Reach) (s : DmiSeen) → AttachedBy r s → Attached s
 attached_by (reach.Hart x) s a = record { stands = a.stands; ready = a.serving.ready }

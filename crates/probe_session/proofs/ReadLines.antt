@@ -1,40 +1,33 @@
--- `read`: the lines of elements of memory, one behind another.
-use Rattle.std.proofs.Common.{◌≡◌, ◌≤◌, ◌<◌, ◌∙◌, ◌+◌, ◌*◌, ℕ, zero, suc, true, false, List, [], Option, refl, sym, ap, subst, arith}
+-- `read`: a block of loads, and the lines of its elements behind it.
+use Rattle.std.proofs.Common.{◌≡◌, ◌<◌, ◌∙◌, ◌+◌, ◌-◌, ℕ, zero, suc, Bool, true, false, List, [], ◌∷◌, length, Option, refl, sym, ap, subst, arith}
 use Rattle.jt_base.specs.Faults.{Rises}
 use Rattle.jt_base.specs.Sink.{GrewByPrefix, grown}
 use Rattle.rv_model.specs.declared.size.Size.{Size}
-use Rattle.rv_model.specs.Memory.{is_aligned, loaded}
+use Rattle.rv_model.specs.Memory.{is_aligned}
 use Rattle.rv_model.specs.Size.{count_of}
 use Rattle.debug_model.specs.declared.command.Path.{Path}
-use Rattle.abstract_debugger.specs.Debugger.{access, by_load, reading}
-use Rattle.abstract_debugger.specs.Lines.{Line, text_of}
+use Rattle.abstract_debugger.specs.Debugger.{reading}
+use Rattle.abstract_debugger.specs.Laws.{Quiet}
+use Rattle.abstract_debugger.specs.Lines.{Line, any_error, text_of, text_of_all}
 use Rattle.abstract_debugger.specs.Plan.{Plan}
 use Rattle.abstract_debugger.specs.Plan.Plan.{say}
+use Rattle.probe_access.specs.Blocks.{element_at}
 use Rattle.probe_run.specs.Acts.{Tells}
 use Rattle.probe_session.specs.declared.fault.Failure.{Failure}
 use Rattle.probe_session.specs.declared.fault.Failure.TheVariants as failure
 use Rattle.probe_session.specs.declared.reach.Reach.{Reach}
-use Rattle.probe_session.specs.Calls.{LoadFell, Loaded, LoadedNone}
-use Rattle.abstract_debugger.specs.Laws.{Quiet}
-use Rattle.probe_session.proofs.QuietTails.{quiet_reading}
+use Rattle.probe_session.specs.Answers.{BlockLoadedAs}
+use Rattle.probe_session.specs.BlockCalls.{BlockLoadFell, BlockLoaded, BlockLoadedNone}
+use Rattle.probe_session.specs.Blocks.{Loads, MayLoad, Says, loading}
 use Rattle.probe_session.specs.Goes.{Fault, Fell, Spoke, Went}
 use Rattle.probe_session.specs.Places.{idle}
 use Rattle.probe_session.specs.Reach.{hart_by, path_by, place_by, way_by}
-use Rattle.probe_session.specs.Showing.{at_read}
-use Rattle.probe_session.specs.Steps.Step.{loads, loads_none, same}
-use Rattle.probe_session.proofs.MemoryLines.{aligned_body, misaligned_body, next_address, first_address, reach_rests}
-use Rattle.probe_session.proofs.Spoken.{fell_call, fell_line, spoke_first, spoke_says, spoke_went}
-use Rattle.probe_session.proofs.WentLemmas.{falls_at, went_one, went_then}
-
-reading-zero : (path : Path) (size : Size) (a : ℕ) (next : Plan) → reading path zero size a next ≡ next
-unfolding reading
-reading-zero path size a next = refl
-
-reading-suc : (path : Path) (n : ℕ) (size : Size) (a : ℕ) (next : Plan) → reading path (suc n) size a next
-    ≡ access path (λ b. by_load (loaded b.memory a size) (say (Line.MemoryFault a) next)
-    (λ v. say (Line.Element a size v) (reading path n size (a + count_of size) next)))
-unfolding reading
-reading-suc path n size a next = refl
+use Rattle.probe_session.specs.Showing.{at_read, element_lines}
+use Rattle.probe_session.specs.Steps.Step.{loads_block, loads_block_none, same}
+use Rattle.probe_session.proofs.BlockDeals.{later_is}
+use Rattle.probe_session.proofs.MemoryLines.{aligned_body, first_address, misaligned_body, reach_rests}
+use Rattle.probe_session.proofs.Spoken.{fell_among, fell_first, fell_line, spoke_first, spoke_lines, spoke_says, spoke_went}
+use Rattle.probe_session.proofs.WentLemmas.{falls_at, falls_then, went_one, went_then}
 
 -- ---- a misaligned address
 
@@ -55,107 +48,116 @@ misaligned_cut r size a count old_count new_count {c = c} is sink front rises =
     fell_line (way_by r) (hart_by r) (Line.MemoryFault a) (λ next. next) refl (λ next calm. calm) old_count new_count sink
     (spoke_first c (misaligned_at r size a count is)) front rises
 
--- ---- elements
+-- ---- the elements lead along the plan
 
--- so many were shown
-pub record Elements (r : Reach) (size : Size) (a count done : ℕ) (t u : Tells) (c d : Option (List ℕ)) : Type 0 where
-  pub left : ℕ
-  pub all : done + left ≡ count
-  pub spoke : Spoke (at_read r size a count) (λ next. place_by r (reading (path_by r) left size (a + done * count_of size) next)) false t u c d
+reading_loads : (path : Path) (n : ℕ) (size : Size) (a : ℕ) (next : Plan) (values : List ℕ) (left : ℕ) → n ≡ length values + left
+    → Loads path size a (reading path n size a next) values (element_lines size a values) (reading path left size (element_at size a (length values)) next)
+unfolding reading
+reading_loads path n size a next [] left is =
+    let e : n ≡ left = omega (arith, is) in
+    subst (λ m. Loads path size a (reading path m size a next) [] [] (reading path left size (element_at size a 0) next)) (sym e)
+    (subst (λ b. Loads path size a (reading path left size a next) [] [] (reading path left size b next)) (first_address size a) Loads.nothing)
+reading_loads path zero size a next (v ∷ values) left is = absurd (omega arith)
+reading_loads path (suc n) size a next (v ∷ values) left is =
+    subst (λ b. Loads path size a (reading path (suc n) size a next) (v ∷ values) (element_lines size a (v ∷ values)) (reading path left size b next))
+    (sym (later_is size a (length values)))
+    (Loads.further (say (Line.MemoryFault a) next) (λ x. say (Line.Element a size x) (reading path n size (a + count_of size) next))
+    (Says.further refl Says.nothing) (reading_loads path n size (a + count_of size) next values left (omega arith)))
 
-pub elements_none_yet : (r : Reach) (size : Size) (a count : ℕ) (t : Tells) (c : Option (List ℕ)) → is_aligned a size ≡ true → Elements r size a count 0 t t c c
-elements_none_yet r size a count t c is = record {
-  left = count;
-  all = omega arith;
-  spoke = spoke_first c (went_one (λ next. same (aligned_body size a next (reading (path_by r) count size a next) is
-      ∙ ap (λ x. reading (path_by r) count size x next) (first_address size a))));
-}
+reading_may : (path : Path) (n : ℕ) (size : Size) (a : ℕ) (next : Plan) → MayLoad path size a n (reading path n size a next)
+unfolding reading
+reading_may path zero size a next = MayLoad.nothing
+reading_may path (suc n) size a next = MayLoad.further (say (Line.MemoryFault a) next)
+    (λ v. say (Line.Element a size v) (reading path n size (a + count_of size) next)) (λ v. Line.Element a size v ∷ []) (λ v. reading path n size (a + count_of size) next)
+    (λ v. Says.further refl Says.nothing) (λ v. reading_may path n size (a + count_of size) next)
 
--- at the next one
-pub record NextElement (r : Reach) (size : Size) (a count done at : ℕ) (t u : Tells) (c d : Option (List ℕ)) : Type 0 where
-  pub left : ℕ
-  pub all : done + 1 + left ≡ count
-  pub along : at + count_of size ≡ a + (done + 1) * count_of size
-  pub spoke : Spoke (at_read r size a count) (λ next. place_by r (access (path_by r) (λ b. by_load (loaded b.memory at size) (say (Line.MemoryFault at) next)
-      (λ v. say (Line.Element at size v) (reading (path_by r) left size (at + count_of size) next))))) false t u c d
+no_error : (size : Size) (a : ℕ) (values : List ℕ) → any_error (element_lines size a values) ≡ false
+no_error size a [] = refl
+no_error size a (v ∷ values) = no_error size (a + count_of size) values
 
-next_by : (r : Reach) (size : Size) (a count done left at : ℕ) {t u : Tells} {c d : Option (List ℕ)} → at ≡ a + done * count_of size → done < count
-    → done + left ≡ count
-    → Spoke (at_read r size a count) (λ next. place_by r (reading (path_by r) left size (a + done * count_of size) next)) false t u c d
-    → NextElement r size a count done at t u c d
-next_by r size a count done zero at is below all s = absurd (omega arith)
-next_by r size a count done (suc n) at is below all s = record {
-  left = n;
-  all = omega arith;
-  along = ap (λ x. x + count_of size) is ∙ next_address size a done;
-  spoke = spoke_went s (went_one (λ next. same (ap (λ x. reading (path_by r) (suc n) size x next) (sym is) ∙ reading-suc (path_by r) n size at next)));
-}
+at_elements : (r : Reach) (size : Size) (a count : ℕ) {t : Tells} → is_aligned a size ≡ true
+    → Went (at_read r size a count) (λ next. place_by r (reading (path_by r) count size a next)) [] t t
+at_elements r size a count is = went_one (λ next. same (aligned_body size a next (reading (path_by r) count size a next) is))
 
-pub next_element : (r : Reach) (size : Size) (a count done at : ℕ) {t u : Tells} {c d : Option (List ℕ)} → at ≡ a + done * count_of size → done < count
-    → Elements r size a count done t u c d → NextElement r size a count done at t u c d
-next_element r size a count done at is below e = next_by r size a count done e.left at is below e.all e.spoke
+whole_block : (path : Path) (size : Size) (a count : ℕ) (values : List ℕ) (next : Plan) → length values ≡ count
+    → Loads path size a (reading path count size a next) values (element_lines size a values) next
+unfolding reading
+whole_block path size a count values next all = reading_loads path count size a next values 0 (omega (arith, all))
 
-pub element_fell : (r : Reach) (size : Size) (a count done at : ℕ) {old_count mid_count new_count : ℕ} {t u v : Tells} (sink_old sink_new : ℕ)
-    {c d : Option (List ℕ)} {f : Failure} → NextElement r size a count done at t u c d → old_count ≤ mid_count
-    → LoadFell (path_by r) size at mid_count new_count u v f → Fell Quiet (at_read r size a count) old_count new_count t v sink_old sink_new c d f
-element_fell r size a count done at sink_old sink_new n le fell = fell_call sink_old sink_new n.spoke le (falls_at (λ next. Fault.loading _ _ fell))
+refused_block : (path : Path) (size : Size) (a count : ℕ) (values : List ℕ) (left : ℕ) (next : Plan) → count ≡ length values + suc left
+    → Loads path size a (reading path count size a next) values (element_lines size a values)
+    (loading path size (element_at size a (length values)) (say (Line.MemoryFault (element_at size a (length values))) next)
+    (λ v. say (Line.Element (element_at size a (length values)) size v) (reading path left size (element_at size a (length values) + count_of size) next)))
+unfolding reading
+refused_block path size a count values left next all = reading_loads path count size a next values (suc left) all
 
-refused_at : (r : Reach) (size : Size) (a count done at : ℕ) {t u v : Tells} {c d : Option (List ℕ)} → NextElement r size a count done at t u c d
-    → LoadedNone (path_by r) size at u v
-    → Spoke (at_read r size a count) (λ next. place_by r (say (Line.MemoryFault at) next)) false t v c d
-refused_at r size a count done at n none = spoke_went n.spoke (went_one (λ next. loads_none (say (Line.MemoryFault at) next)
-    (λ v. say (Line.Element at size v) (reading (path_by r) n.left size (at + count_of size) next)) none))
+-- ---- the block
 
-pub element_refused : (r : Reach) (size : Size) (a count done at : ℕ) {t u v : Tells} {c d e : Option (List ℕ)} → NextElement r size a count done at t u c d
-    → LoadedNone (path_by r) size at u v → e ≡ grown (text_of (Line.MemoryFault at)) d
-    → Spoke (at_read r size a count) idle true t v c e
-element_refused r size a count done at n none put = spoke_went (spoke_says (way_by r) (hart_by r) (Line.MemoryFault at) (λ next. next) refl
-    (refused_at r size a count done at n none) put) (reach_rests r (λ next. next))
+pub block_read : (r : Reach) (size : Size) (a count : ℕ) (values : List ℕ) {t u : Tells} → is_aligned a size ≡ true
+    → BlockLoadedAs (path_by r) size a count values t u true → Went (at_read r size a count) (λ next. place_by r next) (element_lines size a values) t u
+block_read r size a count values is l = went_then (at_elements r size a count is)
+    (went_one (λ next. loads_block (whole_block (path_by r) size a count values next l.0) l.1))
 
-pub refused_cut : (r : Reach) (size : Size) (a count done at old_count new_count : ℕ) {t u v : Tells} {sink_old sink_new : ℕ} {c d e : Option (List ℕ)}
-    {f : Failure} → f ≡ failure.Sink → NextElement r size a count done at t u c d
-    → LoadedNone (path_by r) size at u v → GrewByPrefix (text_of (Line.MemoryFault at)) d e → Rises sink_old sink_new
-    → Fell Quiet (at_read r size a count) old_count new_count t v sink_old sink_new c e f
-refused_cut r size a count done at old_count new_count sink n none front rises =
+pub block_refused : (r : Reach) (size : Size) (a count at : ℕ) (values : List ℕ) {t u : Tells} → is_aligned a size ≡ true
+    → at ≡ element_at size a (length values)
+    → BlockLoadedAs (path_by r) size a count values t u false
+    → Went (at_read r size a count) (λ next. place_by r (say (Line.MemoryFault at) next)) (element_lines size a values) t u
+block_refused r size a count at values {t} {u} is at_is l =
+    let left : ℕ = count - (length values + 1) in
+    let all : count ≡ length values + suc left = omega (arith, l.0) in
+    subst (λ x. Went (at_read r size a count) (λ next. place_by r (say (Line.MemoryFault x) next)) (element_lines size a values) t u) (sym at_is)
+    (went_then (at_elements r size a count is)
+    (went_one (λ next. loads_block_none _ (refused_block (path_by r) size a count values left next all) l.1)))
+
+pub block_fell : (r : Reach) (size : Size) (a count : ℕ) {old_count new_count : ℕ} {t u : Tells} (sink_old sink_new : ℕ) (c : Option (List ℕ)) {f : Failure}
+    → is_aligned a size ≡ true → BlockLoadFell (path_by r) size a count old_count new_count t u f
+    → Fell Quiet (at_read r size a count) old_count new_count t u sink_old sink_new c c f
+block_fell r size a count sink_old sink_new c is fell =
+    fell_first sink_old sink_new c (falls_then (at_elements r size a count is) (omega arith)
+    (falls_at (λ next. Fault.loading_block (reading_may (path_by r) count size a next) fell)))
+
+-- ---- its lines
+
+-- where one of them is cut, whether the block is whole or not
+pub lines_cut : (r : Reach) (size : Size) (a count old_count new_count : ℕ) (values : List ℕ) (is_whole : Bool) {t u : Tells} {sink_old sink_new : ℕ}
+    {c d : Option (List ℕ)} {f : Failure} → f ≡ failure.Sink → is_aligned a size ≡ true
+    → BlockLoadedAs (path_by r) size a count values t u is_whole
+    → GrewByPrefix (text_of_all (element_lines size a values)) c d → Rises sink_old sink_new
+    → Fell Quiet (at_read r size a count) old_count new_count t u sink_old sink_new c d f
+lines_cut r size a count old_count new_count values true sink is l front rises =
+    fell_among (element_lines size a values) (way_by r) (hart_by r) (λ next. next) (λ next calm. calm) old_count new_count sink
+    (block_read r size a count values is l) front rises
+lines_cut r size a count old_count new_count values false sink is l front rises =
+    fell_among (element_lines size a values) (way_by r) (hart_by r) (λ next. say (Line.MemoryFault (element_at size a (length values))) next)
+    (λ next calm. calm) old_count new_count sink (block_refused r size a count _ values is refl l) front rises
+
+pub elements_shown : (r : Reach) (size : Size) (a count : ℕ) (values : List ℕ) {t u : Tells} {c d : Option (List ℕ)} → is_aligned a size ≡ true
+    → BlockLoadedAs (path_by r) size a count values t u true
+    → d ≡ grown (text_of_all (element_lines size a values)) c → Spoke (at_read r size a count) idle false t u c d
+elements_shown r size a count values is l put =
+    spoke_went (spoke_lines (element_lines size a values) (no_error size a values) (block_read r size a count values is l) put)
+    (reach_rests r (λ next. next))
+
+shown_before : (r : Reach) (size : Size) (a count at : ℕ) (values : List ℕ) {t u : Tells} {c d : Option (List ℕ)} → is_aligned a size ≡ true
+    → at ≡ element_at size a (length values) → BlockLoadedAs (path_by r) size a count values t u false
+    → d ≡ grown (text_of_all (element_lines size a values)) c
+    → Spoke (at_read r size a count) (λ next. place_by r (say (Line.MemoryFault at) next)) false t u c d
+shown_before r size a count at values is at_is l put =
+    spoke_lines (element_lines size a values) (no_error size a values) (block_refused r size a count at values is at_is l) put
+
+pub elements_refused : (r : Reach) (size : Size) (a count at : ℕ) (values : List ℕ) {t u : Tells} {c d e : Option (List ℕ)} → is_aligned a size ≡ true
+    → at ≡ element_at size a (length values) → BlockLoadedAs (path_by r) size a count values t u false
+    → d ≡ grown (text_of_all (element_lines size a values)) c
+    → e ≡ grown (text_of (Line.MemoryFault at)) d → Spoke (at_read r size a count) idle true t u c e
+elements_refused r size a count at values is at_is l put more =
+    spoke_went (spoke_says (way_by r) (hart_by r) (Line.MemoryFault at) (λ next. next) refl (shown_before r size a count at values is at_is l put) more)
+    (reach_rests r (λ next. next))
+
+pub refusal_cut : (r : Reach) (size : Size) (a count at old_count new_count : ℕ) (values : List ℕ) {t u : Tells} {sink_old sink_new : ℕ}
+    {c d e : Option (List ℕ)} {f : Failure} → f ≡ failure.Sink → is_aligned a size ≡ true
+    → at ≡ element_at size a (length values) → BlockLoadedAs (path_by r) size a count values t u false
+    → d ≡ grown (text_of_all (element_lines size a values)) c → GrewByPrefix (text_of (Line.MemoryFault at)) d e → Rises sink_old sink_new
+    → Fell Quiet (at_read r size a count) old_count new_count t u sink_old sink_new c e f
+refusal_cut r size a count at old_count new_count values sink is at_is l put front rises =
     fell_line (way_by r) (hart_by r) (Line.MemoryFault at) (λ next. next) refl (λ next calm. calm) old_count new_count sink
-    (refused_at r size a count done at n none) front rises
-
-loaded_at : (r : Reach) (size : Size) (a count done at value : ℕ) {t u v : Tells} {c d : Option (List ℕ)} (n : NextElement r size a count done at t u c d)
-    → Loaded (path_by r) size at value u v
-    → Spoke (at_read r size a count) (λ next. place_by r (say (Line.Element at size value)
-    (reading (path_by r) n.left size (at + count_of size) next))) false t v c d
-loaded_at r size a count done at value n l = spoke_went n.spoke (went_one
-    (λ next. loads (say (Line.MemoryFault at) next) (λ v. say (Line.Element at size v) (reading (path_by r) n.left size (at + count_of size) next)) l))
-
-pub element_shown : (r : Reach) (size : Size) (a count done at value : ℕ) {t u v : Tells} {c d e : Option (List ℕ)} → NextElement r size a count done at t u c d
-    → Loaded (path_by r) size at value u v
-    → e ≡ grown (text_of (Line.Element at size value)) d → Elements r size a count (done + 1) t v c e
-element_shown r size a count done at value n l put = record {
-  left = n.left;
-  all = n.all;
-  spoke =
-      spoke_went (spoke_says (way_by r) (hart_by r) (Line.Element at size value) (λ next. reading (path_by r) n.left size (at + count_of size) next) refl
-      (loaded_at r size a count done at value n l) put)
-      (went_one (λ next. same (ap (λ x. reading (path_by r) n.left size x next) n.along)));
-}
-
-pub element_cut : (r : Reach) (size : Size) (a count done at value old_count new_count : ℕ) {t u v : Tells} {sink_old sink_new : ℕ} {c d e : Option (List ℕ)}
-    {f : Failure} → f ≡ failure.Sink → NextElement r size a count done at t u c d
-    → Loaded (path_by r) size at value u v → GrewByPrefix (text_of (Line.Element at size value)) d e → Rises sink_old sink_new
-    → Fell Quiet (at_read r size a count) old_count new_count t v sink_old sink_new c e f
-element_cut r size a count done at value old_count new_count sink n l front rises =
-    fell_line (way_by r) (hart_by r) (Line.Element at size value) (λ next. reading (path_by r) n.left size (at + count_of size) next) refl
-    (λ next calm. quiet_reading (path_by r) n.left size (at + count_of size) next calm) old_count new_count sink
-    (loaded_at r size a count done at value n l) front rises
-
-all_by : (r : Reach) (size : Size) (a count done left : ℕ) {t u : Tells} {c d : Option (List ℕ)} → left ≡ 0
-    → Spoke (at_read r size a count) (λ next. place_by r (reading (path_by r) left size (a + done * count_of size) next)) false t u c d
-    → Spoke (at_read r size a count) idle false t u c d
-all_by r size a count done left {t} {u} {c} {d} is s =
-    spoke_went (subst (λ n. Spoke (at_read r size a count) (λ next. place_by r (reading (path_by r) n size (a + done * count_of size) next))
-    false t u c d) is s)
-    (went_then (went_one (λ next. same (reading-zero (path_by r) size (a + done * count_of size) next))) (reach_rests r (λ next. next)))
-
-pub elements_all : (r : Reach) (size : Size) (a count done : ℕ) {t u : Tells} {c d : Option (List ℕ)} → done ≡ count → Elements r size a count done t u c d
-    → Spoke (at_read r size a count) idle false t u c d
-elements_all r size a count done is e = let z : e.left ≡ 0 = omega (arith, e.all) in all_by r size a count done e.left z e.spoke
+    (shown_before r size a count at values is at_is l put) front rises

@@ -2,13 +2,10 @@
 use Rattle.std.proofs.Common.{◌≡◌, ◌≤◌, ◌∙◌, ◌++◌, ℕ, Bool, true, false, List, [], ◌∷◌, Option, All, refl, sym, ap, subst}
 use Rattle.std.specs.Prelude.{◌||◌}
 use Rattle.std.proofs.lemmas.List.Elements.{All-tail}
-use Rattle.jt_base.specs.Sink.{GrewByPrefix, grown}
-use Rattle.jt_base.proofs.FaultLemmas.{rises_from}
 use Rattle.debug_model.specs.declared.command.Command.{Command}
 use Rattle.debug_model.specs.declared.command.Command.TheVariants as command
 use Rattle.debug_model.specs.Command.{IsWithinRanges}
 use Rattle.abstract_debugger.specs.Debugger.{State, commands, first_state}
-use Rattle.abstract_debugger.specs.Lines.{Line, text_of, text_of_all}
 use Rattle.debug_model.specs.declared.dmi.DmiFault.TheVariants as dmi_fault
 use Rattle.probe_run.specs.declared.fault.ConnectFault.{ConnectFault}
 use Rattle.probe_run.specs.declared.fault.ConnectFault.TheVariants as connect
@@ -22,11 +19,9 @@ use Rattle.probe_session.specs.Acts.{Untouched}
 use Rattle.probe_session.specs.Commands.{before, behind}
 use Rattle.abstract_debugger.proofs.QuietLemmas.{commands_are_quiet}
 use Rattle.probe_session.specs.Goes.{Anyhow, CalmNext, Fell, Spoke}
-use Rattle.probe_session.specs.Goes.Fell.{at_line, in_call}
-use Rattle.probe_session.specs.Places.{Place}
 use Rattle.probe_session.specs.Scripts.{BrokeOff, EndedAs, FollowedAs, RanInto, at_commands, at_stop, ended_unopened, graded}
-use Rattle.probe_session.proofs.Spoken.{fell_within, grown_lines, spoke_then, spoke_within}
-use Rattle.probe_session.proofs.WentLemmas.{falls_then, went_then}
+use Rattle.probe_session.proofs.SeveralLines.{spoke_fell}
+use Rattle.probe_session.proofs.Spoken.{fell_within, spoke_then, spoke_within}
 
 -- the commands so far, of which some may say an error, and those that are left
 abbrev pub SoFar : List Command → State → List Command → State → Bool → (old now : Tells) → (was is : Option (List ℕ)) → Type 0
@@ -65,27 +60,13 @@ wrong_one script s c rest after t u wrong {old} {now} {new} {was} {mid} {is} e s
 
 -- ---- a command that fell, behind others
 
-text_behind : (xs ys : List Line) (line : Line) (c d e : Option (List ℕ)) → d ≡ grown (text_of_all xs) c
-    → GrewByPrefix (text_of line) (grown (text_of_all ys) d) e → GrewByPrefix (text_of line) (grown (text_of_all (xs ++ ys)) c) e
-text_behind xs ys line c d e first front = subst (λ x. GrewByPrefix (text_of line) x e) (grown_lines xs ys c d (grown (text_of_all ys) d) first refl) front
-
-pub fell_then : {K : Type 0} {T : K → Type 0} {a b : K → Place} {wrong : Bool} (old_count count new_count sink_old sink_mid sink_new : ℕ) {t u v : Tells}
-    {c d e : Option (List ℕ)} {f : Failure} → Spoke a b wrong t u c d → old_count ≤ count → sink_old ≤ sink_mid → sink_mid ≤ sink_new
-    → Fell T b count new_count u v sink_mid sink_new d e f → Fell T a old_count new_count t v sink_old sink_new c e f
-fell_then {K} {T} {a} {b} {wrong} old_count count new_count sink_old sink_mid sink_new {t} {u} {v} {c} {d} {e} {f} s le sink_le later (in_call said p put) =
-    in_call (s.said ++ said) (falls_then s.went le p) (grown_lines s.said said c d e s.put put)
-fell_then {K} {T} {a} {b} {wrong} old_count count new_count sink_old sink_mid sink_new {t} {u} {v} {c} {d} {e} {f} s le sink_le later
-    (at_line said line heard way h next may quiet w front rises) =
-    at_line (s.said ++ said) line heard way h next may quiet (went_then s.went w) (text_behind s.said said line c d e s.put front)
-    (rises_from sink_old sink_mid sink_new sink_le later rises)
-
 pub fell_one : (script : List Command) (s : State) (c : Command) (rest after : List Command) (t : State) (wrong : Bool)
     (old_count count new_count sink_old sink_mid sink_new : ℕ) {old now new : Tells} {was mid is : Option (List ℕ)} {f : Failure} → rest ≡ c ∷ after
     → SoFar script s rest t wrong old now was mid → old_count ≤ count → sink_old ≤ sink_mid → sink_mid ≤ sink_new
     → Fell CalmNext (before c t) count new_count now new sink_mid sink_new mid is f
     → Fell Anyhow (at_commands script s) old_count new_count old new sink_old sink_new was is f
 fell_one script s c rest after t wrong old_count count new_count sink_old sink_mid sink_new e so le sink_le later fell =
-    fell_then old_count count new_count sink_old sink_mid sink_new (at_rest script s rest (c ∷ after) t wrong e so) le sink_le later
+    spoke_fell (at_rest script s rest (c ∷ after) t wrong e so) le sink_le later
     (fell_within (λ (_ : Unit {0}). commands after) (λ _ calm u. commands_are_quiet after u) fell)
 
 -- ---- the script's end

@@ -1,12 +1,13 @@
 -- What a Look handed out, by its cases.
-use Rattle.std.proofs.Common.{◌≡◌, ℕ, Bool, true, false, Option, Some, None, subst}
+use Rattle.std.proofs.Common.{◌≡◌, ℕ, Bool, true, false, List, Option, Some, None, subst}
 use Rattle.rv_model.specs.declared.size.Size.{Size}
 use Rattle.debug_model.specs.declared.command.Path.{Path}
 use Rattle.probe_run.specs.declared.hart.Seen.{Seen}
 use Rattle.probe_run.specs.Acts.{Tells}
 use Rattle.debug_model.specs.declared.slot_use.SlotUse.{SlotUse}
-use Rattle.probe_session.specs.Answers.{FreedAs, LoadedAs, StoredAs, TakenAs, WrittenAs}
-use Rattle.probe_session.specs.Calls.{Gave, GaveNone, Loaded, LoadedNone, NoneFree, NotUsed, LookMade, SlotFreed, SlotTaken, Stored, StoredNone}
+use Rattle.probe_session.specs.Answers.{BlockLoadedAs, BlockStoredAs, FreedAs, RefusedStore, TakenAs, WrittenAs}
+use Rattle.probe_session.specs.BlockCalls.{BlockStored}
+use Rattle.probe_session.specs.Calls.{Gave, GaveNone, NoneFree, NotUsed, LookMade, SlotFreed, SlotTaken}
 
 pub saw_as : {h : ℕ} {old new : Tells} {s t : Seen} → s ≡ t → LookMade h old new s → LookMade h old new t
 saw_as {h} {old} {new} is saw = subst (LookMade h old new) is saw
@@ -31,18 +32,18 @@ gave_true {h} {number} {value} {b} {t} {u} is p = subst (WrittenAs h number valu
 pub gave_false : {h number value : ℕ} {b : Bool} {t u : Tells} → b ≡ false → WrittenAs h number value t u b → GaveNone h number value t u
 gave_false {h} {number} {value} {b} {t} {u} is p = subst (WrittenAs h number value t u) is p
 
-pub stored_true : {path : Path} {size : Size} {address value : ℕ} {b : Bool} {t u : Tells} → b ≡ true → StoredAs path size address value t u b
-    → Stored path size address value t u
-stored_true {path} {size} {address} {value} {b} {t} {u} is p = subst (StoredAs path size address value t u) is p
+pub block_whole : {path : Path} {size : Size} {address count : ℕ} {values : List ℕ} {b : Bool} {t u : Tells} → b ≡ true
+    → BlockLoadedAs path size address count values t u b → BlockLoadedAs path size address count values t u true
+block_whole {path} {size} {address} {count} {values} {b} {t} {u} is p = subst (BlockLoadedAs path size address count values t u) is p
 
-pub stored_false : {path : Path} {size : Size} {address value : ℕ} {b : Bool} {t u : Tells} → b ≡ false → StoredAs path size address value t u b
-    → StoredNone path size address value t u
-stored_false {path} {size} {address} {value} {b} {t} {u} is p = subst (StoredAs path size address value t u) is p
+pub block_refused : {path : Path} {size : Size} {address count : ℕ} {values : List ℕ} {b : Bool} {t u : Tells} → b ≡ false
+    → BlockLoadedAs path size address count values t u b → BlockLoadedAs path size address count values t u false
+block_refused {path} {size} {address} {count} {values} {b} {t} {u} is p = subst (BlockLoadedAs path size address count values t u) is p
 
-pub loaded_some : {path : Path} {size : Size} {address value : ℕ} {o : Option ℕ} {t u : Tells} → o ≡ Some value → LoadedAs path size address t u o
-    → Loaded path size address value t u
-loaded_some {path} {size} {address} {value} {o} {t} {u} is p = subst (LoadedAs path size address t u) is p
+pub all_stored : {path : Path} {size : Size} {address value count : ℕ} {o : Option ℕ} {t u : Tells} → o ≡ None
+    → BlockStoredAs path size address value count t u o → BlockStored path size address value count t u
+all_stored {path} {size} {address} {value} {count} {o} {t} {u} is p = subst (BlockStoredAs path size address value count t u) is p
 
-pub loaded_nothing : {path : Path} {size : Size} {address : ℕ} {o : Option ℕ} {t u : Tells} → o ≡ None → LoadedAs path size address t u o
-    → LoadedNone path size address t u
-loaded_nothing {path} {size} {address} {o} {t} {u} is p = subst (LoadedAs path size address t u) is p
+pub some_stored : {path : Path} {size : Size} {address value count at : ℕ} {o : Option ℕ} {t u : Tells} → o ≡ Some at
+    → BlockStoredAs path size address value count t u o → RefusedStore path size address value count at t u
+some_stored {path} {size} {address} {value} {count} {at} {o} {t} {u} is p = subst (BlockStoredAs path size address value count t u) is p

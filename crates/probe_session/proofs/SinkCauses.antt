@@ -17,7 +17,7 @@ use Rattle.probe_session.specs.declared.ended.Ended.{Ended}
 use Rattle.probe_session.specs.declared.ended.Ended.TheVariants as ended
 use Rattle.probe_session.specs.declared.fault.Failure.{Failure}
 use Rattle.probe_session.specs.declared.fault.Failure.TheVariants as failure
-use Rattle.probe_session.specs.Calls.{LoadFell, StoreFell}
+use Rattle.probe_session.specs.BlockCalls.{BlockLoadFell, BlockStoreFell}
 use Rattle.probe_session.specs.Causes.{SinkCaused}
 use Rattle.probe_session.specs.Failures.{Became, failure_of_dmi, failure_of_run}
 use Rattle.probe_session.specs.Goes.{Anyhow, Falls, Fault, Fell}
@@ -57,15 +57,15 @@ of_access (fault.Odd shown) f is = subst IsNotSink (sym is) tt
 
 -- ---- a call that failed
 
-of_load : {path : Path} (size : Size) (address old_count new_count : ℕ) (old new : Tells) (f : Failure)
-    → LoadFell path size address old_count new_count old new f → IsNotSink f
-of_load size address old_count new_count old new f (LoadFell.by_hart h why at later heard told cut is) = of_access why f is
-of_load size address old_count new_count old new f (LoadFell.by_bus why at later heard told cut is) = of_access why f is
+of_load : {path : Path} (size : Size) (address count old_count new_count : ℕ) (old new : Tells) (f : Failure)
+    → BlockLoadFell path size address count old_count new_count old new f → IsNotSink f
+of_load size address count old_count new_count old new f (BlockLoadFell.by_hart h why held at later heard causes told cut is) = of_access why f is
+of_load size address count old_count new_count old new f (BlockLoadFell.by_bus why held at later causes told cut is) = of_access why f is
 
-of_store : {path : Path} (size : Size) (address value old_count new_count : ℕ) (old new : Tells) (f : Failure)
-    → StoreFell path size address value old_count new_count old new f → IsNotSink f
-of_store size address value old_count new_count old new f (StoreFell.by_hart h why at later heard told cut is) = of_access why f is
-of_store size address value old_count new_count old new f (StoreFell.by_bus why at later heard told cut is) = of_access why f is
+of_store : {path : Path} (size : Size) (address value count old_count new_count : ℕ) (old new : Tells) (f : Failure)
+    → BlockStoreFell path size address value count old_count new_count old new f → IsNotSink f
+of_store size address value count old_count new_count old new f (BlockStoreFell.by_hart h why at later heard causes told cut is) = of_access why f is
+of_store size address value count old_count new_count old new f (BlockStoreFell.by_bus why at later causes told cut is) = of_access why f is
 
 of_fault : (p : Place) (old_count new_count : ℕ) (old new : Tells) (f : Failure) → Fault p old_count new_count old new f → IsNotSink f
 of_fault p old_count new_count old new f (Fault.idcode r) = of_dmi r.why f r.is
@@ -85,9 +85,10 @@ of_fault p old_count new_count old new f (Fault.forgetting r) = of_access r.why 
 of_fault p old_count new_count old new f (Fault.forgetting_behind refused next gave le r) = of_access r.why f r.is
 of_fault p old_count new_count old new f (Fault.behind {count = count} {mid = mid} passed le r) = of_fault _ count new_count mid new f r
 of_fault p old_count new_count old new f (Fault.stopping r) = of_access r.why f r.is
-of_fault p old_count new_count old new f (Fault.loading {address = address} {size = size} faulted read r) = of_load size address old_count new_count old new f r
-of_fault p old_count new_count old new f (Fault.storing {address = address} {value = value} {size = size} faulted next r) =
-    of_store size address value old_count new_count old new f r
+of_fault p old_count new_count old new f (Fault.loading_block {address = address} {count} {size = size} may r) =
+    of_load size address count old_count new_count old new f r
+of_fault p old_count new_count old new f (Fault.storing_block {address = address} {value} {count} {size = size} stores r) =
+    of_store size address value count old_count new_count old new f r
 
 fault_not_sink : (p : Place) (old_count new_count : ℕ) (old new : Tells) → Fault p old_count new_count old new failure.Sink → ⊥
 fault_not_sink p old_count new_count old new r = of_fault p old_count new_count old new failure.Sink r
@@ -103,6 +104,7 @@ fell_sink : (f : Failure) → f ≡ failure.Sink → (before : Unit {0} → Plac
 fell_sink f e before old_count new_count old new sink_old sink_new was is (Fell.in_call said r put) =
     absurd (falls_not_sink before said old_count new_count old new (subst (Falls before said old_count new_count old new) e r))
 fell_sink f e before old_count new_count old new sink_old sink_new was is (Fell.at_line said line heard way h next may quiet went front rises) = rises
+fell_sink f e before old_count new_count old new sink_old sink_new was is (Fell.among_lines said ahead way h next quiet went front rises) = rises
 
 pub sink_caused : (e : Ended) (script : List Command) (old_count new_count : ℕ) (old new : Tells) (sink_old sink_new : ℕ) (was is : Option (List ℕ))
     → EndedAs script old_count new_count old new sink_old sink_new was is e → SinkCaused sink_old sink_new e

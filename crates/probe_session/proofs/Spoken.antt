@@ -17,7 +17,7 @@ use Rattle.probe_session.specs.declared.fault.Failure.{Failure}
 use Rattle.probe_session.specs.declared.fault.Failure.TheVariants as failure
 use Rattle.abstract_debugger.specs.Laws.{Quiet}
 use Rattle.probe_session.specs.Goes.{Falls, Fell, Spoke, Went}
-use Rattle.probe_session.specs.Goes.Fell.{at_line, in_call}
+use Rattle.probe_session.specs.Goes.Fell.{among_lines, at_line, in_call}
 use Rattle.probe_session.specs.Places.{Place, at_say, idle, is_identity, may_say, place, spot}
 use Rattle.probe_session.specs.Said.{said_by}
 use Rattle.probe_session.specs.Steps.Step.{says}
@@ -27,7 +27,7 @@ pub text_of_all-append : (xs ys : List Line) → text_of_all (xs ++ ys) ≡ text
 text_of_all-append [] ys = refl
 text_of_all-append (x ∷ xs) ys = ap (λ text. text_of x ++ text) (text_of_all-append xs ys) ∙ sym (append_assoc (text_of x) (text_of_all xs) (text_of_all ys))
 
-grown_none : (c : Option (List ℕ)) → c ≡ grown [] c
+pub grown_none : (c : Option (List ℕ)) → c ≡ grown [] c
 grown_none None = refl
 grown_none (Some bytes) = ap (λ (x : List ℕ). Some x) (sym (append-nil bytes))
 
@@ -41,7 +41,7 @@ grown_lines xs ys c d e first second =
     second ∙ ap (grown (text_of_all ys)) first ∙ grown_twice (text_of_all xs) (text_of_all ys) c
     ∙ ap (λ (text : List ℕ). grown text c) (sym (text_of_all-append xs ys))
 
-one_text : (line : Line) (c : Option (List ℕ)) → grown (text_of line) c ≡ grown (text_of_all (line ∷ [])) c
+pub one_text : (line : Line) (c : Option (List ℕ)) → grown (text_of line) c ≡ grown (text_of_all (line ∷ [])) c
 one_text line c = ap (λ (text : List ℕ). grown text c) (sym (append-nil (text_of line)))
 
 -- ---- lines that were written
@@ -74,6 +74,20 @@ spoke_then {K} {a} {b} {d} {x} {y} {t} {u} {v} {c} {e} {f} p q = record {
 or_false : (b : Bool) → (b || false) ≡ b
 or_false true = refl
 or_false false = refl
+
+-- lines that were said at once, and then written
+pub spoke_lines : {K : Type 0} {a b : K → Place} {t u : Tells} (said : List Line) {c d : Option (List ℕ)} → any_error said ≡ false → Went a b said t u
+    → d ≡ grown (text_of_all said) c → Spoke a b false t u c d
+spoke_lines said plain w put = record { said = said; went = w; put = put; wrong_is = plain }
+
+-- and one of them was not
+pub fell_among : {K : Type 0} {T : K → Type 0} {a : K → Place} (said : List Line) (way : Way) (h : ℕ) (p : K → Plan) (quiet : (k : K) → T k → Quiet (p k))
+    (old_count new_count : ℕ) {t u : Tells} {sink_old sink_new : ℕ} {c d : Option (List ℕ)} {f : Failure} → f ≡ failure.Sink
+    → Went a (λ k. place way h (p k)) said t u → GrewByPrefix (text_of_all said) c d → Rises sink_old sink_new
+    → Fell T a old_count new_count t u sink_old sink_new c d f
+fell_among {K} {T} {a} said way h p quiet old_count new_count {t} {u} {sink_old} {sink_new} {c} {d} {f} is w front rises =
+    subst (λ (x : Failure). Fell T a old_count new_count t u sink_old sink_new c d x) (sym is)
+    (among_lines [] said way h p quiet w (subst (λ x. GrewByPrefix (text_of_all said) x d) (grown_none c) front) rises)
 
 -- a line that is said and written
 says_at : {K : Type 0} (heard : Bool) (way : Way) (h : ℕ) (line : Line) (p : K → Plan) {t : Tells} {c d : Option (List ℕ)} → may_say heard line ≡ true
@@ -161,6 +175,8 @@ pub fell_within : {K L : Type 0} {T : K → Type 0} {U : L → Type 0} {a : L �
 fell_within g calm (in_call said p put) = in_call said (falls_within g p) put
 fell_within g calm (at_line said line heard way h p may quiet w front rises) =
     at_line said line heard way h (λ k. p (g k)) may (λ k t. quiet (g k) (calm k t)) (within g w) front rises
+fell_within g calm (among_lines said ahead way h p quiet w front rises) =
+    among_lines said ahead way h (λ k. p (g k)) (λ k t. quiet (g k) (calm k t)) (within g w) front rises
 
 -- ---- one line
 

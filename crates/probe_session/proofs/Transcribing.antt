@@ -45,24 +45,28 @@ front_written said whole (Some bytes) is f e = record {
   is = e;
 }
 
-one_more : (said rest : List Line) (line : Line) (front back : List ℕ) → text_of line ≡ front ++ back
-    → text_of_all ((said ++ line ∷ []) ++ rest) ≡ (text_of_all said ++ front) ++ (back ++ text_of_all rest)
-one_more said rest line front back cut =
+several_more : (said ahead rest : List Line) (front back : List ℕ) → text_of_all ahead ≡ front ++ back
+    → text_of_all ((said ++ ahead) ++ rest) ≡ (text_of_all said ++ front) ++ (back ++ text_of_all rest)
+several_more said ahead rest front back cut =
     let text : List ℕ = text_of_all rest in
-    text_of_all-append (said ++ line ∷ []) rest ∙ ap (λ (x : List ℕ). x ++ text)
-    (text_of_all-append said (line ∷ []) ∙ ap (λ (x : List ℕ). text_of_all said ++ x) (append-nil (text_of line) ∙ cut)
-    ∙ sym (append_assoc (text_of_all said) front back))
+    text_of_all-append (said ++ ahead) rest ∙ ap (λ (x : List ℕ). x ++ text)
+    (text_of_all-append said ahead ∙ ap (λ (x : List ℕ). text_of_all said ++ x) cut ∙ sym (append_assoc (text_of_all said) front back))
     ∙ append_assoc (text_of_all said ++ front) back text
+
+pub lines_written : (said whole ahead : List Line) (was is : Option (List ℕ)) → IsFront (said ++ ahead) whole
+    → GrewByPrefix (text_of_all ahead) (grown (text_of_all said) was) is → GrewByPrefix (text_of_all whole) was is
+lines_written said whole ahead None is f g = g
+lines_written said whole ahead (Some bytes) is f g = record {
+  front = text_of_all said ++ g.front;
+  back = g.back ++ text_of_all f.rest;
+  cut = ap text_of_all f.is ∙ several_more said ahead f.rest g.front g.back g.cut;
+  is = g.is ∙ ap (λ (x : List ℕ). Some x) (append_assoc bytes (text_of_all said) g.front);
+}
 
 pub line_written : (said whole : List Line) (line : Line) (was is : Option (List ℕ)) → IsFront (said ++ line ∷ []) whole
     → GrewByPrefix (text_of line) (grown (text_of_all said) was) is → GrewByPrefix (text_of_all whole) was is
-line_written said whole line None is f g = g
-line_written said whole line (Some bytes) is f g = record {
-  front = text_of_all said ++ g.front;
-  back = g.back ++ text_of_all f.rest;
-  cut = ap text_of_all f.is ∙ one_more said f.rest line g.front g.back g.cut;
-  is = g.is ∙ ap (λ (x : List ℕ). Some x) (append_assoc bytes (text_of_all said) g.front);
-}
+line_written said whole line was is f g = lines_written said whole (line ∷ []) was is f
+    (subst (λ text. GrewByPrefix text (grown (text_of_all said) was) is) (sym (append-nil (text_of line))) g)
 
 -- ---- the opening of a chip as it was loaded
 

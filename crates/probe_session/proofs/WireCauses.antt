@@ -26,14 +26,15 @@ use Rattle.probe_trig.specs.Transfers.{Transfer}
 use Rattle.rv_model.specs.declared.size.Size.{Size}
 use Rattle.rv_model.specs.DebugRegisters.{dcsr_number}
 use Rattle.probe_session.specs.Steps.{with_ebreakm}
-use Rattle.probe_session.specs.Calls.{LoadFell, LookFell, ReadFell, SlotsFell, StoreFell, WriteFell}
+use Rattle.probe_session.specs.BlockCalls.{BlockLoadFell, BlockStoreFell}
+use Rattle.probe_session.specs.Calls.{LookFell, ReadFell, SlotsFell, WriteFell}
 use Rattle.probe_session.specs.Causes.{EndCaused, WireCause}
 use Rattle.probe_session.specs.Failures.{Became, failure_of_dmi, failure_of_run}
 use Rattle.probe_session.specs.Goes.{Anyhow, Fault, Fell}
 use Rattle.probe_session.specs.Places.{Place}
 use Rattle.probe_session.specs.Scripts.{BrokeOff, EndedAs, at_commands}
-use Rattle.probe_session.proofs.AccessCauses.{AccessWire, bus_load_wire, bus_store_wire, load_wire, over_wire, single_step_wire, read_wire, slots_wire, stop_wire}
-use Rattle.probe_session.proofs.AccessCauses.{store_wire, write_wire}
+use Rattle.probe_session.proofs.AccessCauses.{AccessWire, block_wire, bus_block_wire, over_wire, read_wire, single_step_wire, slots_wire, stop_wire}
+use Rattle.probe_session.proofs.AccessCauses.{write_wire}
 use Rattle.probe_session.proofs.RunCauses.{DmiWire, halt_wire, look_wire, opening_wire, resume_wire, scanned_wire}
 
 abbrev FailureWire : (old_count new_count : ℕ) → Option Far → Failure → Type 0
@@ -102,19 +103,19 @@ wired_since f count mid_count new_count told le w = record {
 
 -- ---- a call that failed
 
-load_wired : {path : Path} (size : Size) (address old_count new_count : ℕ) (old new : Tells) (f : Failure)
-    → LoadFell path size address old_count new_count old new f → Wired old_count new_count new.far f
-load_wired size address old_count new_count old new f (LoadFell.by_hart h why at later heard told cut is) =
-    record { later = later; cause = of_access why f old_count new_count new.far is (load_wire why size address old_count new_count old new later heard) }
-load_wired size address old_count new_count old new f (LoadFell.by_bus why at later heard told cut is) =
-    record { later = later; cause = of_access why f old_count new_count new.far is (bus_load_wire why size address old_count new_count old new heard) }
+load_wired : {path : Path} (size : Size) (address count old_count new_count : ℕ) (old new : Tells) (f : Failure)
+    → BlockLoadFell path size address count old_count new_count old new f → Wired old_count new_count new.far f
+load_wired size address count old_count new_count old new f (BlockLoadFell.by_hart h why held at later heard causes told cut is) =
+    record { later = later; cause = of_access why f old_count new_count new.far is (block_wire why old_count new_count old new causes) }
+load_wired size address count old_count new_count old new f (BlockLoadFell.by_bus why held at later causes told cut is) =
+    record { later = later; cause = of_access why f old_count new_count new.far is (bus_block_wire why old_count new_count old new causes) }
 
-store_wired : {path : Path} (size : Size) (address value old_count new_count : ℕ) (old new : Tells) (f : Failure)
-    → StoreFell path size address value old_count new_count old new f → Wired old_count new_count new.far f
-store_wired size address value old_count new_count old new f (StoreFell.by_hart h why at later heard told cut is) =
-    record { later = later; cause = of_access why f old_count new_count new.far is (store_wire why size address value old_count new_count old new later heard) }
-store_wired size address value old_count new_count old new f (StoreFell.by_bus why at later heard told cut is) =
-    record { later = later; cause = of_access why f old_count new_count new.far is (bus_store_wire why size address value old_count new_count old new heard) }
+store_wired : {path : Path} (size : Size) (address value count old_count new_count : ℕ) (old new : Tells) (f : Failure)
+    → BlockStoreFell path size address value count old_count new_count old new f → Wired old_count new_count new.far f
+store_wired size address value count old_count new_count old new f (BlockStoreFell.by_hart h why at later heard causes told cut is) =
+    record { later = later; cause = of_access why f old_count new_count new.far is (block_wire why old_count new_count old new causes) }
+store_wired size address value count old_count new_count old new f (BlockStoreFell.by_bus why at later causes told cut is) =
+    record { later = later; cause = of_access why f old_count new_count new.far is (bus_block_wire why old_count new_count old new causes) }
 
 read_wired : (h number old_count new_count : ℕ) (old new : Tells) (f : Failure) → ReadFell h number old_count new_count old new f
     → Wired old_count new_count new.far f
@@ -169,10 +170,10 @@ fault_wired p old_count new_count old new f (Fault.stopping r) = record {
   cause =
       of_access r.why f old_count new_count new.far r.is (stop_wire r.why old_count new_count old new r.heard);
 }
-fault_wired p old_count new_count old new f (Fault.loading {address = address} {size = size} faulted read r) =
-    load_wired size address old_count new_count old new f r
-fault_wired p old_count new_count old new f (Fault.storing {address = address} {value = value} {size = size} faulted next r) =
-    store_wired size address value old_count new_count old new f r
+fault_wired p old_count new_count old new f (Fault.loading_block {address = address} {count} {size = size} may r) =
+    load_wired size address count old_count new_count old new f r
+fault_wired p old_count new_count old new f (Fault.storing_block {address = address} {value} {count} {size = size} stores r) =
+    store_wired size address value count old_count new_count old new f r
 
 -- ---- wherever the session broke off
 
@@ -182,6 +183,7 @@ fell_wire : (f : Failure) (coming : List Command) (old_count count new_count : �
 fell_wire f coming old_count count new_count mid new sink_old sink_new was is le (Fell.in_call said p put) =
     (wired_since f old_count p.count new_count new.far (omega (arith, le, p.later)) (fault_wired (p.at tt) p.count new_count p.mid new f (p.fault tt))).cause
 fell_wire f coming old_count count new_count mid new sink_old sink_new was is le (Fell.at_line said line heard way h next may quiet went front rises) = tt
+fell_wire f coming old_count count new_count mid new sink_old sink_new was is le (Fell.among_lines said ahead way h next quiet went front rises) = tt
 
 broke_wire : (f : Failure) (coming : List Command) (old_count new_count : ℕ) (old new : Tells) (sink_old sink_new : ℕ) (was is : Option (List ℕ))
     → BrokeOff coming old_count new_count old new sink_old sink_new was is f → FailureWire old_count new_count new.far f

@@ -1,11 +1,13 @@
--- What an access answers that a chip may refuse: the value, or nothing.
+-- What an access answers that a chip may refuse: the value, or nothing; and of a block, how far it came.
 -- It is this project's own.
-use Rattle.std.specs.Prelude.{ℕ, Bool, true, false, Option, Some, None}
+use Rattle.std.specs.Prelude.{◌≡◌, ◌<◌, ℕ, Bool, true, false, List, length, Option, Some, None}
 use Rattle.rv_model.specs.declared.size.Size.{Size}
 use Rattle.debug_model.specs.declared.command.Path.{Path}
 use Rattle.probe_run.specs.Acts.{Tells}
 use Rattle.debug_model.specs.declared.slot_use.SlotUse.{SlotUse}
-use Rattle.probe_session.specs.Calls.{Gave, GaveNone, Got, GotNone, Loaded, LoadedNone, NoneFree, NotUsed, SlotFreed, SlotTaken, Stored, StoredNone}
+use Rattle.probe_access.specs.Blocks.{element_at}
+use Rattle.probe_session.specs.BlockCalls.{BlockLoaded, BlockLoadedNone, BlockStored, BlockStoredNone}
+use Rattle.probe_session.specs.Calls.{Gave, GaveNone, Got, GotNone, NoneFree, NotUsed, SlotFreed, SlotTaken}
 
 abbrev pub ReadAs : (h number : ℕ) → (old new : Tells) → Option ℕ → Type 0
 ReadAs h number old new (Some value) = Got h number value old new
@@ -15,13 +17,21 @@ abbrev pub WrittenAs : (h number value : ℕ) → (old new : Tells) → Bool →
 WrittenAs h number value old new true = Gave h number value old new
 WrittenAs h number value old new false = GaveNone h number value old new
 
-abbrev pub LoadedAs : Path → Size → (address : ℕ) → (old new : Tells) → Option ℕ → Type 0
-LoadedAs path size address old new (Some value) = Loaded path size address value old new
-LoadedAs path size address old new None = LoadedNone path size address old new
+-- all of a block's elements, or those in front of one that was refused
+abbrev pub BlockLoadedAs : Path → Size → (address count : ℕ) → (values : List ℕ) → (old new : Tells) → Bool → Type 0
+BlockLoadedAs path size address count values old new true = (length values ≡ count) × BlockLoaded path size address values old new
+BlockLoadedAs path size address count values old new false = (length values < count) × BlockLoadedNone path size address values old new
 
-abbrev pub StoredAs : Path → Size → (address value : ℕ) → (old new : Tells) → Bool → Type 0
-StoredAs path size address value old new true = Stored path size address value old new
-StoredAs path size address value old new false = StoredNone path size address value old new
+-- to all of them, or to those in front of the one at this address
+pub record RefusedStore (path : Path) (size : Size) (address value count at : ℕ) (old new : Tells) : Type 0 where
+  pub done : ℕ
+  pub below : done < count
+  pub at_is : at ≡ element_at size address done
+  pub none : BlockStoredNone path size address value done old new
+
+abbrev pub BlockStoredAs : Path → Size → (address value count : ℕ) → (old new : Tells) → Option ℕ → Type 0
+BlockStoredAs path size address value count old new None = BlockStored path size address value count old new
+BlockStoredAs path size address value count old new (Some at) = RefusedStore path size address value count at old new
 
 abbrev pub TakenAs : (h : ℕ) → SlotUse → (old new : Tells) → Option ℕ → Type 0
 TakenAs h meant old new (Some slot) = SlotTaken h meant slot old new

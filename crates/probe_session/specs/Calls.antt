@@ -1,11 +1,8 @@
 -- One call of the layers below that a session made: what was heard of the link, and what happened at a chip that is told.
 -- It is this project's own.
 use Rattle.std.specs.Prelude.{◌≡◌, ◌≤◌, ℕ, true, false, IfSome, List, [], Some, None, is_some}
-use Rattle.rv_model.specs.declared.size.Size.{Size}
 use Rattle.rv_model.specs.Core.{Core}
 use Rattle.rv_model.specs.Registers.{reg_value}
-use Rattle.debug_model.specs.declared.command.Path.{Path}
-use Rattle.debug_model.specs.declared.command.Path.TheVariants.{Progbuf, Bus}
 use Rattle.debug_model.specs.declared.dmi.DmiFault.{DmiFault}
 use Rattle.debug_model.specs.Dmi.{NoneOperated, ScannedCause, Shows}
 use Rattle.debug_model.specs.Scan.{WhereTold}
@@ -13,11 +10,7 @@ use Rattle.debug_model.specs.Tap.{idcode}
 use Rattle.debug_model.specs.Told.{IsReady}
 use Rattle.probe_access.specs.declared.fault.AccessFault.{AccessFault}
 use Rattle.probe_access.specs.declared.fault.AccessFault.TheVariants as fault
-use Rattle.probe_access.specs.Accesses.{AccessLeft, BusLoadRefused, BusLoadedAt, BusStoreRefused, BusStoredAt, LoadRefused, LoadedAt, StoreRefused, StoredAt}
-use Rattle.probe_access.specs.BusRuns.{BusLoadFailed, BusLoaded, BusStoreFailed, BusStored, cut_to}
-use Rattle.probe_access.specs.Cuts.{AccessLeftOff, BusLeftOff, IfCut, Leaves as LeavesChip, LeftAside, LoadLeaves, MaybeWritten, Scratched}
-use Rattle.probe_access.specs.Cuts.{StoreLeaves, Unchanged}
-use Rattle.probe_access.specs.MemoryRuns.{Around, AroundFailed, LoadRun, LoadRunFailed, StoreFailedInside, StoredInside}
+use Rattle.probe_access.specs.Cuts.{IfCut, Leaves as LeavesChip, LeftAside, MaybeWritten, Unchanged}
 use Rattle.probe_access.specs.RegisterRuns.{ReadFailed, RefusedAs, RegisterRead, RegisterWritten, WriteFailed, double_written, ReadTooEarly}
 use Rattle.probe_access.specs.Registers.{RegisterRefusedAt, RegisterReadAt, RegisterLeft, RegisterWrittenAt}
 use Rattle.probe_access.specs.Scratches.{ScratchLeft}
@@ -84,37 +77,6 @@ pub record GaveNone (h number value : ℕ) (old new : Tells) : Type 0 where
 pub record FoundStop (h pc cause : ℕ) (old new : Tells) : Type 0 where
   pub heard : StopRead pc cause old new
   pub told : WhereTold (StoppedAt h pc cause) old.far new.far
-
--- memory was read: on the path of the program buffer by the halted hart, whose register may hold more above the size, which is left out; or by the system bus
-pub data Loaded : Path → (size : Size) → (address value : ℕ) → (old new : Tells) → Type 0 where
-  by_hart : {size : Size} {address value : ℕ} {old new : Tells} (held : ℕ) → value ≡ cut_to size held → LoadRun size address held old new
-      → WhereTold (LoadedAt size address value) old.far new.far → Loaded Progbuf size address value old new
-  by_bus : {size : Size} {address value : ℕ} {old new : Tells} → BusLoaded size address value old new
-      → WhereTold (BusLoadedAt size address value) old.far new.far → Loaded Bus size address value old new
-
--- the chip refused the access
-pub data LoadedNone : Path → (size : Size) → (address : ℕ) → (old new : Tells) → Type 0 where
-  by_hart : {size : Size} {address : ℕ} {old new : Tells} (old_count new_count : ℕ)
-      → LoadRunFailed size address old_count new_count old new (fault.Memory address)
-      → WhereTold (LoadRefused size address) old.far new.far → LoadedNone Progbuf size address old new
-  by_bus : {size : Size} {address : ℕ} {old new : Tells} (old_count new_count : ℕ)
-      → BusLoadFailed size address old_count new_count old new (fault.Memory address)
-      → WhereTold (BusLoadRefused size address) old.far new.far → LoadedNone Bus size address old new
-
--- memory was written
-pub data Stored : Path → (size : Size) → (address value : ℕ) → (old new : Tells) → Type 0 where
-  by_hart : {size : Size} {address value : ℕ} {old new : Tells} → Around (StoredInside size address value) old new
-      → WhereTold (StoredAt size address value) old.far new.far → Stored Progbuf size address value old new
-  by_bus : {size : Size} {address value : ℕ} {old new : Tells} → BusStored size address value old new
-      → WhereTold (BusStoredAt size address value) old.far new.far → Stored Bus size address value old new
-
-pub data StoredNone : Path → (size : Size) → (address value : ℕ) → (old new : Tells) → Type 0 where
-  by_hart : {size : Size} {address value : ℕ} {old new : Tells} (old_count new_count : ℕ)
-      → AroundFailed (StoredInside size address value) (StoreFailedInside size address value) old_count new_count old new (fault.Memory address)
-      → WhereTold (StoreRefused size address) old.far new.far → StoredNone Progbuf size address value old new
-  by_bus : {size : Size} {address value : ℕ} {old new : Tells} (old_count new_count : ℕ)
-      → BusStoreFailed size address value old_count new_count old new (fault.Memory address)
-      → WhereTold (BusStoreRefused size address) old.far new.far → StoredNone Bus size address value old new
 
 -- the hart was let go
 pub record ResumeMade (h : ℕ) (old new : Tells) : Type 0 where
@@ -244,30 +206,6 @@ pub record StopFell (h old_count new_count : ℕ) (old new : Tells) (f : Failure
   pub told : ScratchLeft old.far why
   pub cut : IfCut (LeavesChip (LeftAside Unchanged h) old.far new.far) why
   pub is : Became why f
-
-pub data LoadFell : Path → (size : Size) → (address old_count new_count : ℕ) → (old new : Tells) → Failure → Type 0 where
-  by_hart : {size : Size} {address old_count new_count : ℕ} {old new : Tells} {f : Failure} (h : ℕ) (why : AccessFault) → Serving h old.far
-      → old_count ≤ new_count
-      → LoadRunFailed size address old_count new_count old new why
-      → AccessLeft (LoadRefused size address) address old.far new.far why → IfCut (LeavesChip (AccessLeftOff Scratched LoadLeaves h) old.far new.far) why
-      → Became why f → LoadFell Progbuf size address old_count new_count old new f
-  by_bus : {size : Size} {address old_count new_count : ℕ} {old new : Tells} {f : Failure} (why : AccessFault) → IsReady old.far → old_count ≤ new_count
-      → BusLoadFailed size address old_count new_count old new why
-      → AccessLeft (BusLoadRefused size address) address old.far new.far why → IfCut (LeavesChip (BusLeftOff LoadLeaves) old.far new.far) why
-      → Became why f → LoadFell Bus size address old_count new_count old new f
-
-pub data StoreFell : Path → (size : Size) → (address value old_count new_count : ℕ) → (old new : Tells) → Failure → Type 0 where
-  by_hart : {size : Size} {address value old_count new_count : ℕ} {old new : Tells} {f : Failure} (h : ℕ) (why : AccessFault) → Serving h old.far
-      → old_count ≤ new_count
-      → AroundFailed (StoredInside size address value) (StoreFailedInside size address value) old_count new_count old new why
-      → AccessLeft (StoreRefused size address) address old.far new.far why
-      → IfCut (LeavesChip (AccessLeftOff Scratched (StoreLeaves size address value) h) old.far new.far) why
-      → Became why f → StoreFell Progbuf size address value old_count new_count old new f
-  by_bus : {size : Size} {address value old_count new_count : ℕ} {old new : Tells} {f : Failure} (why : AccessFault) → IsReady old.far → old_count ≤ new_count
-      → BusStoreFailed size address value old_count new_count old new why
-      → AccessLeft (BusStoreRefused size address) address old.far new.far why
-      → IfCut (LeavesChip (BusLeftOff (StoreLeaves size address value)) old.far new.far) why
-      → Became why f → StoreFell Bus size address value old_count new_count old new f
 
 pub record ResumeFell (h old_count new_count : ℕ) (old new : Tells) (f : Failure) : Type 0 where
   pub why : RunFault

@@ -5,11 +5,11 @@ use Rattle.jt_base.specs.Faults.{Rises}
 use Rattle.jt_base.specs.Sink.{GrewByPrefix, grown}
 use Rattle.rv_model.specs.declared.size.Size.{Size}
 use Rattle.debug_model.specs.declared.command.Path.{Path}
-use Rattle.abstract_debugger.specs.Debugger.{Seen, State, access, by_load, by_store, going, halting, look, one}
+use Rattle.abstract_debugger.specs.Debugger.{Seen, State, going, halting, look, one}
 use Rattle.abstract_debugger.specs.Laws.{Quiet}
 use Rattle.abstract_debugger.specs.Lines.{Line, any_error, text_of, text_of_all}
 use Rattle.abstract_debugger.specs.Plan.{Plan}
-use Rattle.abstract_debugger.specs.Plan.Change.{EbreakHalts, WriteMem, WriteReg}
+use Rattle.abstract_debugger.specs.Plan.Change.{EbreakHalts, WriteReg}
 use Rattle.abstract_debugger.specs.Plan.Plan.{change, say}
 use Rattle.abstract_debugger.specs.Ways.{Way}
 use Rattle.probe_run.specs.Acts.{Tells}
@@ -17,13 +17,13 @@ use Rattle.probe_trig.specs.declared.change.Change.TheVariants.{Forget}
 use Rattle.debug_model.specs.declared.slot_use.SlotUse.{SlotUse}
 use Rattle.probe_trig.specs.Runs.{ArmsAny, ChangesAny, FreesAny, ReadsAny}
 use Rattle.rv_model.specs.DebugRegisters.{dcsr_number}
-use Rattle.rv_model.specs.Memory.{loaded, store_answer}
 use Rattle.rv_model.specs.Registers.{csr_read_only, pc_number}
-use Rattle.rv_model.specs.Size.{count_of}
 use Rattle.probe_session.specs.declared.fault.Failure.{Failure}
 use Rattle.probe_session.specs.declared.fault.Failure.TheVariants as failure
-use Rattle.probe_session.specs.Calls.{AskFell, FoundStop, Gave, GiveFell, Got, HaltFell, IdcodeFell, IsOfHarts, LoadFell, LookFell, StepFell, StepOverFell}
-use Rattle.probe_session.specs.Calls.{ReadFell, ResumeFell, SlotsFell, StopFell, StoreFell, WriteFell}
+use Rattle.probe_session.specs.Calls.{AskFell, FoundStop, Gave, GiveFell, Got, HaltFell, IdcodeFell, IsOfHarts, LookFell, StepFell, StepOverFell}
+use Rattle.probe_session.specs.Calls.{ReadFell, ResumeFell, SlotsFell, StopFell, WriteFell}
+use Rattle.probe_session.specs.BlockCalls.{BlockLoadFell, BlockStoreFell}
+use Rattle.probe_session.specs.Blocks.{MayLoad, Stores}
 use Rattle.probe_session.specs.Places.{Place, idle, may_say, place, ready, spot, still}
 use Rattle.probe_session.specs.Steps.{Step, with_ebreakm}
 
@@ -86,13 +86,12 @@ pub data Fault : Place → ℕ → ℕ → Tells → Tells → Failure → Type 
       → Fault (still h p) old_count new_count old new f
   stopping : {h old_count new_count : ℕ} {p : Plan} {old new : Tells} {f : Failure} → StopFell h old_count new_count old new f
       → Fault (still h p) old_count new_count old new f
-  loading : {path : Path} {way : Way} {h address old_count new_count : ℕ} {size : Size} (faulted : Plan) (read : ℕ → Plan) {old new : Tells} {f : Failure}
-      → LoadFell path size address old_count new_count old new f
-      → Fault (place way h (access path (λ b. by_load (loaded b.memory address size) faulted read))) old_count new_count old new f
-  storing : {path : Path} {way : Way} {h address value old_count new_count : ℕ} {size : Size} (faulted next : Plan) {old new : Tells} {f : Failure}
-      → StoreFell path size address value old_count new_count old new f
-      → Fault (place way h (access path (λ b.
-      by_store (store_answer b.memory address size) faulted (change (WriteMem address (count_of size) value) next)))) old_count new_count old new f
+  loading_block : {path : Path} {way : Way} {h address count old_count new_count : ℕ} {size : Size} {p : Plan} {old new : Tells} {f : Failure}
+      → MayLoad path size address count p → BlockLoadFell path size address count old_count new_count old new f
+      → Fault (place way h p) old_count new_count old new f
+  storing_block : {path : Path} {way : Way} {h address value count old_count new_count : ℕ} {size : Size} {p to : Plan} {old new : Tells} {f : Failure}
+      → Stores path size value address count p to → BlockStoreFell path size address value count old_count new_count old new f
+      → Fault (place way h p) old_count new_count old new f
 
 -- it went so far, and there a call failed
 pub record Falls {K : Type 0} (before : K → Place) (said : List Line) (old_count new_count : ℕ) (old new : Tells) (f : Failure) : Type 0 where
@@ -122,8 +121,8 @@ pub record Spoke {K : Type 0} (before after : K → Place) (wrong : Bool) (old n
   pub put : is ≡ grown (text_of_all said) was
   pub wrong_is : any_error said ≡ wrong
 
--- all lines that were said were written, and there a call failed; or a line could not be written, behind which nothing is changed up to the next point
--- where what follows the whole is as T says
+-- All lines that were said were written, and there a call failed. Or a line could not be written, behind which nothing is changed up to the next point,
+-- where what follows the whole is as T says: at that line; or among those of a block, all of whose elements had been accessed in front of its lines.
 pub data Fell {K : Type 0} (T : K → Type 0) (before : K
     → Place) (old_count new_count : ℕ) (old new : Tells) (sink_old sink_new : ℕ) (was is : Option (List ℕ)) : Failure → Type 0 where
   in_call : {f : Failure} (said : List Line) → Falls before said old_count new_count old new f → is ≡ grown (text_of_all said) was
@@ -131,4 +130,8 @@ pub data Fell {K : Type 0} (T : K → Type 0) (before : K
   at_line : (said : List Line) (line : Line) (heard : Bool) (way : Way) (h : ℕ) (next : K → Plan) → may_say heard line ≡ true
       → ((k : K) → T k → Quiet (next k)) → Went before (λ k. spot heard way h (say line (next k))) said old new
       → GrewByPrefix (text_of line) (grown (text_of_all said) was) is → Rises sink_old sink_new
+      → Fell T before old_count new_count old new sink_old sink_new was is failure.Sink
+  among_lines : (said ahead : List Line) (way : Way) (h : ℕ) (next : K → Plan) → ((k : K) → T k → Quiet (next k))
+      → Went before (λ k. place way h (next k)) (said ++ ahead) old new → GrewByPrefix (text_of_all ahead) (grown (text_of_all said) was) is
+      → Rises sink_old sink_new
       → Fell T before old_count new_count old new sink_old sink_new was is failure.Sink

@@ -4,6 +4,8 @@ pub mod Links
 pub mod Seen
 pub mod Places
 pub mod Calls
+pub mod BlockCalls
+pub mod Blocks
 pub mod Answers
 pub mod Steps
 pub mod Goes

@@ -1,16 +1,15 @@
--- What is left of a command of several lines: the registers or the bytes that are not shown yet, and what follows the command.
+-- The commands of several lines: what is left of them and what follows them, and the lines of elements and of bytes.
 -- It is this project's own.
-use Rattle.std.specs.Prelude.{◌≡◌, ◌+◌, ℕ, suc, Bool, true, false, List, [], ◌∷◌, length, Option}
-use Rattle.jt_base.specs.Sink.{GrewByPrefix}
+use Rattle.std.specs.Prelude.{◌≡◌, ◌+◌, ◌++◌, ◌==◌, ℕ, Bool, List, [], ◌∷◌, length, Option, if◌then◌else◌}
+use Rattle.jt_base.specs.Sink.{GrewByPrefix, grown}
 use Rattle.rv_model.specs.declared.size.Size.{Size}
+use Rattle.rv_model.specs.Size.{count_of}
 use Rattle.abstract_debugger.specs.Laws.{Quiet}
-use Rattle.abstract_debugger.specs.Debugger.{dumping}
-use Rattle.abstract_debugger.specs.Lines.{Line, text_of}
+use Rattle.abstract_debugger.specs.Debugger.{row_bytes}
+use Rattle.abstract_debugger.specs.Lines.{Line, text_of, text_of_all}
 use Rattle.abstract_debugger.specs.Plan.{Plan}
-use Rattle.probe_run.specs.Acts.{Tells}
 use Rattle.probe_session.specs.declared.reach.Reach.{Reach}
-use Rattle.probe_session.specs.Goes.{Spoke}
-use Rattle.probe_session.specs.Places.{Place, idle, still}
+use Rattle.probe_session.specs.Places.{Place, still}
 use Rattle.probe_session.specs.Reach.{all_shown, dumped, path_by, place_by, read, slots_shown, some_shown}
 
 -- ---- of a halted hart
@@ -43,40 +42,43 @@ at_read r size address count next = place_by r (read size address count (path_by
 abbrev pub at_dump : Reach → (address count : ℕ) → Plan → Place
 at_dump r address count next = place_by r (dumped address count (path_by r) next)
 
-pub record Bytes : Type 0 where
-  pub left : ℕ
-  pub next : Plan
+-- ---- the lines of elements, and of bytes
 
-abbrev pub CalmBytes : Bytes → Type 0
-CalmBytes k = Quiet k.next
-
--- behind these bytes of the row that begins at `first`
-abbrev pub at_bytes : Reach → (first : ℕ) → (row : List ℕ) → Bytes → Place
-at_bytes r first row k = place_by r (dumping (path_by r) k.left first row k.next)
-
-abbrev pub at_next_byte : Reach → (first : ℕ) → (row : List ℕ) → Bytes → Place
-at_next_byte r first row k = place_by r (dumping (path_by r) (suc k.left) first row k.next)
-
-abbrev pub behind_bytes : Bytes → Place
-behind_bytes k = idle k.next
-
--- a byte was shown, or waits in a row that is not whole
-pub record ByteShown (r : Reach) (first : ℕ) (row left_row : List ℕ) (old new : Tells) (was is : Option (List ℕ)) : Type 0 where
-  pub begins : ℕ
-  pub along : begins + length left_row ≡ first + length row + 1
-  pub spoke : Spoke (at_next_byte r first row) (at_bytes r begins left_row) false old new was is
-
--- memory refused it, or not
-abbrev pub DumpedAs : Reach → (first : ℕ) → (row left_row : List ℕ) → (old new : Tells) → (was is : Option (List ℕ)) → Bool → Type 0
-DumpedAs r first row left_row old new was is true = Spoke (at_next_byte r first row) behind_bytes true old new was is
-DumpedAs r first row left_row old new was is false = ByteShown r first row left_row old new was is
+-- a line for each element, upwards from an address
+abbrev pub element_lines : Size → (address : ℕ) → (values : List ℕ) → List Line
+element_lines size address [] = []
+element_lines size address (value ∷ values) = Line.Element address size value ∷ element_lines size (address + count_of size) values
 
 -- the line of a row, where it has bytes
 abbrev pub row_lines : (first : ℕ) → (row : List ℕ) → List Line
 row_lines first [] = []
 row_lines first (byte ∷ bytes) = Line.Row first (byte ∷ bytes) ∷ []
 
--- a row was cut off in the middle, if there is one
-abbrev pub RowCut : (first : ℕ) → (row : List ℕ) → (was is : Option (List ℕ)) → Type 0
-RowCut first [] was is = ⊥
-RowCut first (byte ∷ bytes) was is = GrewByPrefix (text_of (Line.Row first (byte ∷ bytes))) was is
+-- sixteen bytes to a line, where some wait in a row that begins at `first`: the lines of the rows that are then whole
+abbrev pub whole_rows : (first : ℕ) → (row bytes : List ℕ) → List Line
+whole_rows first row [] = []
+whole_rows first row (byte ∷ bytes) =
+    if length row + 1 == row_bytes
+    then Line.Row first (row ++ byte ∷ []) ∷ whole_rows (first + row_bytes) [] bytes
+    else whole_rows first (row ++ byte ∷ []) bytes
+
+-- and the line of the bytes behind them
+abbrev pub byte_rows : (first : ℕ) → (row bytes : List ℕ) → List Line
+byte_rows first row [] = row_lines first row
+byte_rows first row (byte ∷ bytes) =
+    if length row + 1 == row_bytes
+    then Line.Row first (row ++ byte ∷ []) ∷ byte_rows (first + row_bytes) [] bytes
+    else byte_rows first (row ++ byte ∷ []) bytes
+
+-- a byte was added to a row, and the row was put where it was then whole
+pub record BytePut (first : ℕ) (row : List ℕ) (byte : ℕ) (left_row : List ℕ) (was is : Option (List ℕ)) : Type 0 where
+  pub begins : ℕ
+  pub lines : List Line
+  pub along : begins + length left_row ≡ first + length row + 1
+  pub shows : (bytes : List ℕ) → byte_rows first row (byte ∷ bytes) ≡ lines ++ byte_rows begins left_row bytes
+  pub put : is ≡ grown (text_of_all lines) was
+
+-- the row is whole with it, and was cut off in the middle
+pub record RowCut (first : ℕ) (row : List ℕ) (byte : ℕ) (was is : Option (List ℕ)) : Type 0 where
+  pub whole : length row + 1 ≡ row_bytes
+  pub front : GrewByPrefix (text_of (Line.Row first (row ++ byte ∷ []))) was is

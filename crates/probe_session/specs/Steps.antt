@@ -1,21 +1,19 @@
 -- One step of a session along the abstract debugger's plan: a line that is said, something that follows without a call, or an answered call.
 -- A plan goes on by what the call answered, so that a line that a step leads to shows what was answered and nothing else.
 -- It is this project's own.
-use Rattle.std.specs.Prelude.{◌≡◌, ◌≢◌, ℕ, suc, Bool, true, false, List, [], ◌∷◌, map, slice_get, if◌then◌else◌}
+use Rattle.std.specs.Prelude.{◌≡◌, ◌≢◌, ℕ, suc, Bool, true, false, List, [], ◌∷◌, length, map, slice_get, if◌then◌else◌}
 use Rattle.std.specs.List.{list_any}
 use Rattle.rv_model.specs.declared.cause.Cause.TheVariants as halted_by
 use Rattle.rv_model.specs.declared.size.Size.{Size}
 use Rattle.rv_model.specs.Cause.{cause_number}
-use Rattle.rv_model.specs.Memory.{loaded, store_answer}
 use Rattle.rv_model.specs.Registers.{csr_read_only, pc_number}
-use Rattle.rv_model.specs.Size.{count_of}
 use Rattle.debug_model.specs.declared.command.Path.{Path}
 use Rattle.debug_model.specs.Tap.{idcode}
-use Rattle.abstract_debugger.specs.Debugger.{access, arming, by_load, by_state, by_store, freeing, going, halted_of, halting, look, one}
+use Rattle.abstract_debugger.specs.Debugger.{arming, by_state, freeing, going, halted_of, halting, look, one}
 use Rattle.abstract_debugger.specs.Debugger.{register_line, saying, slot_lines, stop_line, value_here}
 use Rattle.abstract_debugger.specs.Lines.{Line}
 use Rattle.abstract_debugger.specs.Plan.{Plan, is_step}
-use Rattle.abstract_debugger.specs.Plan.Change.{EbreakHalts, WriteMem, WriteReg}
+use Rattle.abstract_debugger.specs.Plan.Change.{EbreakHalts, WriteReg}
 use Rattle.abstract_debugger.specs.Slots.{Use, any_hit, slots_at}
 use Rattle.abstract_debugger.specs.Slots.Use.{Armed, Unused}
 use Rattle.abstract_debugger.specs.Trace.{What}
@@ -30,9 +28,12 @@ use Rattle.abstract_debugger.specs.SlotUses.{hits_in, use_named}
 use Rattle.probe_run.specs.declared.hart.Seen.{Seen}
 use Rattle.probe_run.specs.declared.hart.Seen.TheVariants as seen
 use Rattle.probe_run.specs.Acts.{Tells}
-use Rattle.probe_session.specs.Calls.{FoundStop, Gave, GaveNone, Got, GotNone, HaltMade, HitsForgotten, Identified, IsOfCores, Loaded, LoadedNone}
-use Rattle.probe_session.specs.Calls.{NoneFree, NotUsed, StepMade, StepOverMade, ResumeMade, LookMade, SlotFreed, SlotTaken, Stored, StoredNone, Viewed}
+use Rattle.probe_session.specs.Calls.{FoundStop, Gave, GaveNone, Got, GotNone, HaltMade, HitsForgotten, Identified, IsOfCores}
+use Rattle.probe_session.specs.Calls.{NoneFree, NotUsed, StepMade, StepOverMade, ResumeMade, LookMade, SlotFreed, SlotTaken, Viewed}
 use Rattle.probe_trig.specs.Stepping.{shows_step}
+use Rattle.probe_access.specs.Blocks.{element_at}
+use Rattle.probe_session.specs.BlockCalls.{BlockLoaded, BlockLoadedNone, BlockStored, BlockStoredNone}
+use Rattle.probe_session.specs.Blocks.{Loads, Stores, loading, storing}
 use Rattle.probe_session.specs.Places.{Place, at_say, idle, may_say, place, ready, spot, still}
 
 -- where a command stands behind its Look
@@ -136,17 +137,18 @@ pub data Step : Place → Tells → List Line → Place → Tells → Type 0 whe
       → Step (still h (freeing h slot next)) old [] (still h (say (Line.Slot slot Unused false) next)) new
   frees_none : {h slot : ℕ} (next : Plan) {old new : Tells} → NotUsed h slot old new
       → Step (still h (freeing h slot next)) old [] (still h (say (Line.SlotNotInUse slot) next)) new
-  -- memory: the call of the path that the plan takes
-  loads : {path : Path} {way : Way} {h address value : ℕ} {size : Size} (faulted : Plan) (read : ℕ → Plan) {old new : Tells}
-      → Loaded path size address value old new
-      → Step (place way h (access path (λ b. by_load (loaded b.memory address size) faulted read))) old [] (place way h (read value)) new
-  loads_none : {path : Path} {way : Way} {h address : ℕ} {size : Size} (faulted : Plan) (read : ℕ → Plan) {old new : Tells}
-      → LoadedNone path size address old new
-      → Step (place way h (access path (λ b. by_load (loaded b.memory address size) faulted read))) old [] (place way h faulted) new
-  stores : {path : Path} {way : Way} {h address value : ℕ} {size : Size} (faulted next : Plan) {old new : Tells} → Stored path size address value old new
-      → Step (place way h (access path (λ b. by_store (store_answer b.memory address size) faulted
-      (change (WriteMem address (count_of size) value) next)))) old []
-      (place way h next) new
-  stores_none : {path : Path} {way : Way} {h address value : ℕ} {size : Size} (faulted stored : Plan) {old new : Tells}
-      → StoredNone path size address value old new
-      → Step (place way h (access path (λ b. by_store (store_answer b.memory address size) faulted stored))) old [] (place way h faulted) new
+  -- memory: one call for a whole block, of the path that the plan takes at each element, and the lines of all its elements
+  loads_block : {path : Path} {way : Way} {h address : ℕ} {size : Size} {values : List ℕ} {said : List Line} {from to : Plan} {old new : Tells}
+      → Loads path size address from values said to → BlockLoaded path size address values old new
+      → Step (place way h from) old said (place way h to) new
+  loads_block_none : {path : Path} {way : Way} {h address : ℕ} {size : Size} {values : List ℕ} {said : List Line} {from faulted : Plan} (read : ℕ → Plan)
+      {old new : Tells} → Loads path size address from values said (loading path size (element_at size address (length values)) faulted read)
+      → BlockLoadedNone path size address values old new
+      → Step (place way h from) old said (place way h faulted) new
+  stores_block : {path : Path} {way : Way} {h address value count : ℕ} {size : Size} {from to : Plan} {old new : Tells}
+      → Stores path size value address count from to → BlockStored path size address value count old new
+      → Step (place way h from) old [] (place way h to) new
+  stores_block_none : {path : Path} {way : Way} {h address value done : ℕ} {size : Size} {from faulted : Plan} (stored : Plan) {old new : Tells}
+      → Stores path size value address done from (storing path size (element_at size address done) value faulted stored)
+      → BlockStoredNone path size address value done old new
+      → Step (place way h from) old [] (place way h faulted) new

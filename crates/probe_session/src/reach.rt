@@ -1,9 +1,12 @@
 //! The way on which a command reaches memory.
 
-ghost use Rattle.std.specs.Prelude.{◌≡◌, [], true, IfOk, IfErr};
+ghost use Rattle.std.specs.Prelude.{◌≡◌, [], true, map, IfOk, IfErr};
+ghost use Rattle.debug_model.specs.Command.{IsBlock};
 ghost use Rattle.rv_model.specs.Memory.{is_aligned};
-ghost use Rattle.probe_session.specs.Answers.{LoadedAs, StoredAs};
-ghost use Rattle.probe_session.specs.Calls.{LoadFell, StoreFell};
+ghost use Rattle.rv_model.specs.Size.{count_of};
+ghost use Rattle.probe_access.specs.BusRuns.{cut_to};
+ghost use Rattle.probe_session.specs.Answers.{BlockLoadedAs, BlockStoredAs};
+ghost use Rattle.probe_session.specs.BlockCalls.{BlockLoadFell, BlockStoreFell};
 ghost use Rattle.probe_session.specs.Commands.{state_of};
 ghost use Rattle.probe_session.specs.Goes.{Falls};
 ghost use Rattle.probe_session.specs.Links.{Attached, Goes};
@@ -11,7 +14,7 @@ ghost use Rattle.probe_session.specs.Reach.{ReachedAs, AttachedBy, AttachedReach
 ghost use Rattle.probe_run.specs.Told.{told, Fails};
 
 use crate::fault::Failure;
-use crate::memory::{bus_load, bus_store, load, store};
+use crate::memory::{Elements, bus_load, bus_store, load, store};
 use crate::met::{Met, meet};
 use crate::session::Session;
 use debug_model::{Dmi, Path};
@@ -56,41 +59,48 @@ impl Session {
     }
 }
 
-/// Loads: none where a byte lies outside memory.
+/// Loads a block. It answers whether memory held it whole: where not, `into` holds the elements in front of the one that was refused.
 pub(crate) fn load_by<D: Dmi>(
     link: &mut D,
     reach: &Reach,
     size: Size,
     address: u64,
-) -> Result<Option<u64>, Failure>
+    count: u16,
+    into: &mut Elements,
+) -> Result<bool, Failure>
     requires serving { AttachedBy reach.now (D.seen link.old) }
     requires aligned { is_aligned address size ≡ true }
-    ensures loaded { IfOk result (LoadedAs (path_by reach.now) size address (told (D.seen link.old)) (told (D.seen link.new))) }
-    ensures fell { IfErr result (Fails (LoadFell (path_by reach.now) size address) (D.seen link.old) (D.seen link.new)) }
+    requires block { IsBlock (count_of size) address count }
+    requires empty { into.old.items ≡ [] }
+    ensures loaded { IfOk result (BlockLoadedAs (path_by reach.now) size address count (map (cut_to size) into.new.items) (told (D.seen link.old))
+        (told (D.seen link.new))) }
+    ensures fell { IfErr result (Fails (BlockLoadFell (path_by reach.now) size address count) (D.seen link.old) (D.seen link.new)) }
     ensures keeps { Goes (λ _. AttachedBy reach.now) (D.seen link.old) (D.seen link.new) result }
 {
     match reach {
-        Reach::Hart(halted) => load(link, halted, size, address),
-        Reach::Bus => bus_load(link, size, address),
+        Reach::Hart(halted) => load(link, halted, size, address, count, into),
+        Reach::Bus => bus_load(link, size, address, count, into),
     }
 }
 
-/// Stores. It answers whether memory took the value: not where a byte lies outside it.
+/// Stores a value to each element of a block. It answers the address of the first element that memory refused: none where it took them all.
 pub(crate) fn store_by<D: Dmi>(
     link: &mut D,
     reach: &Reach,
     size: Size,
     address: u64,
+    count: u16,
     value: u64,
-) -> Result<bool, Failure>
+) -> Result<Option<u64>, Failure>
     requires serving { AttachedBy reach.now (D.seen link.old) }
     requires aligned { is_aligned address size ≡ true }
-    ensures stored { IfOk result (StoredAs (path_by reach.now) size address value (told (D.seen link.old)) (told (D.seen link.new))) }
-    ensures fell { IfErr result (Fails (StoreFell (path_by reach.now) size address value) (D.seen link.old) (D.seen link.new)) }
+    requires block { IsBlock (count_of size) address count }
+    ensures stored { IfOk result (BlockStoredAs (path_by reach.now) size address value count (told (D.seen link.old)) (told (D.seen link.new))) }
+    ensures fell { IfErr result (Fails (BlockStoreFell (path_by reach.now) size address value count) (D.seen link.old) (D.seen link.new)) }
     ensures keeps { Goes (λ _. AttachedBy reach.now) (D.seen link.old) (D.seen link.new) result }
 {
     match reach {
-        Reach::Hart(halted) => store(link, halted, size, address, value),
-        Reach::Bus => bus_store(link, size, address, value),
+        Reach::Hart(halted) => store(link, halted, size, address, count, value),
+        Reach::Bus => bus_store(link, size, address, count, value),
     }
 }

@@ -1,7 +1,12 @@
 //! `read`: elements of memory from an address upwards, a line each.
 
-ghost use Rattle.std.specs.Prelude.{◌≤◌, [], true, false, IfOk, IfErr};
-ghost use Rattle.debug_model.specs.Command.{IsBlock};
+ghost use Rattle.std.specs.Prelude.{◌≡◌, ◌≤◌, ◌+◌, ◌*◌, [], true, false, length, map, IfOk, IfErr, OnErr, OnOk};
+ghost use Rattle.abstract_debugger.specs.Lines.{text_of_all};
+ghost use Rattle.jt_base.specs.Faults.{Rises};
+ghost use Rattle.jt_base.specs.Sink.{GrewByPrefix, grown};
+ghost use Rattle.debug_model.specs.Command.{IsBlock, all_addresses};
+ghost use Rattle.probe_access.specs.BusRuns.{cut_to};
+ghost use Rattle.probe_session.specs.declared.fault.Failure.TheVariants as failure;
 ghost use Rattle.debug_model.specs.declared.command.Command.TheVariants as command;
 ghost use Rattle.rv_model.specs.Size.{count_of};
 ghost use Rattle.probe_session.specs.Commands.{before, state_of};
@@ -10,11 +15,12 @@ ghost use Rattle.probe_session.specs.Goes.{Falls, Fell, Spoke, Went};
 ghost use Rattle.probe_session.specs.Links.{Attached, Goes};
 ghost use Rattle.probe_session.specs.Places.{idle};
 ghost use Rattle.probe_session.specs.Reach.{AttachedBy};
-ghost use Rattle.probe_session.specs.Showing.{at_read};
+ghost use Rattle.probe_session.specs.Showing.{at_read, element_lines};
 ghost use Rattle.probe_session.specs.Shown.{AttachedShown, IsOfBlock, at_shown};
 ghost use Rattle.probe_run.specs.Told.{told, Fails};
 
 use crate::fault::Failure;
+use crate::memory::Elements;
 use crate::put::put_line;
 use crate::reach::{Reach, Reached, load_by};
 use crate::session::Session;
@@ -22,10 +28,27 @@ use crate::shown::Shown;
 use debug_model::Dmi;
 use jt_base::Sink;
 use printed_lines::Line;
-use probe_access::is_aligned;
+use probe_access::{cut_to, is_aligned};
 use rv_model::Size;
 
-/// Puts the line of each element, until memory refuses one. It answers whether it did.
+/// Puts the line of each element, upwards from an address, of which a value of the size is shown.
+fn put_values<K: Sink>(out: &mut K, size: Size, address: u64, values: &[u64]) -> Result<(), Failure>
+    requires ends { address + length values.now * count_of size ≤ all_addresses }
+    ensures put { OnOk result (K.contents out.new ≡ grown (text_of_all (element_lines size address (map (cut_to size) values.now))) (K.contents out.old)) }
+    ensures cut { OnErr result
+        (GrewByPrefix (text_of_all (element_lines size address (map (cut_to size) values.now))) (K.contents out.old) (K.contents out.new)) }
+    ensures sink { IfErr result (λ f. f ≡ failure.Sink) }
+    ensures cause { OnErr result (Rises (K.fault_count out.old) (K.fault_count out.new)) }
+    ensures later { K.fault_count out.old ≤ K.fault_count out.new }
+{
+    'showing: for number in 0..values.len() {
+        let at = address + number as u64 * u64::from(size.count());
+        put_line(out, &Line::Element(at, size, cut_to(size, values[number])))?;
+    }
+    Ok(())
+}
+
+/// Loads the elements, and puts the line of each that memory held. It answers whether memory refused one, which is then said in the last line.
 pub(crate) fn put_elements<D: Dmi, K: Sink>(
     link: &mut D,
     reach: &Reach,
@@ -48,17 +71,15 @@ pub(crate) fn put_elements<D: Dmi, K: Sink>(
         put_line(out, &Line::MemoryFault(address))?;
         return Ok(true);
     }
-    'loading: for done in 0..count {
-        let at = address + u64::from(done) * u64::from(size.count());
-        match load_by(link, reach, size, at)? {
-            Some(value) => put_line(out, &Line::Element(at, size, value))?,
-            None => {
-                put_line(out, &Line::MemoryFault(at))?;
-                return Ok(true);
-            }
-        }
+    let mut values = Elements::new();
+    let is_whole = load_by(link, reach, size, address, count, &mut values)?;
+    put_values(out, size, address, values.as_slice())?;
+    if is_whole {
+        return Ok(false);
     }
-    Ok(false)
+    let at = address + values.len() as u64 * u64::from(size.count());
+    put_line(out, &Line::MemoryFault(at))?;
+    Ok(true)
 }
 
 impl Session {

@@ -37,11 +37,8 @@ pub(crate) fn written_line<D: Dmi>(
     if !is_aligned(size, address) {
         return Ok(Line::MemoryFault(address));
     }
-    'storing: for done in 0..count {
-        let at = address + u64::from(done) * u64::from(size.count());
-        if !store_by(link, reach, size, at, value)? {
-            return Ok(Line::MemoryFault(at));
-        }
+    match store_by(link, reach, size, address, count, value)? {
+        None => Ok(Line::Wrote(count)),
+        Some(at) => Ok(Line::MemoryFault(at)),
     }
-    Ok(Line::Wrote(count))
 }

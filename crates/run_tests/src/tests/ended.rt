@@ -135,8 +135,11 @@ fn sessions_that_are_lost_say_why(rt: HostRuntime) -> Result<(), Fail> {
 
 #[test]
 fn a_session_that_meets_the_limit_says_so(rt: HostRuntime) -> Result<(), Fail> {
-    let script = "dump 0x80000000 256\n";
-    let (status, limit, out) = ended_over(rt.alloc(), Start::Halted, CROWDED, 500_000, script)?;
+    let mut script = String::new(rt.alloc());
+    'dumps: for _ in 0..64u8 {
+        script.push_str("dump 0x80000000 16\n")?;
+    }
+    let (status, limit, out) = ended_over(rt.alloc(), Start::Halted, CROWDED, 500_000, &script)?;
     assert_eq!(rt; status.code(), 10);
     assert!(rt;
         out.bytes()

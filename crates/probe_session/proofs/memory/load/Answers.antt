@@ -1,24 +1,24 @@
 use Rattle.std.proofs.Common.{rules}
-use Rattle.probe_session.specs.Calls.{LoadFell}
-use Rattle.probe_session.proofs.CallLemmas.{loaded_none}
-use Rattle.probe_session.proofs.CutLemmas.{loaded_cut}
+use Rattle.probe_session.specs.BlockCalls.{BlockLoadFell}
+use Rattle.probe_session.proofs.CallLemmas.{block_loaded, block_loaded_none, loads_cut}
 use Rattle.probe_session.proofs.Conversions.{became, not_memory}
 use Rattle.probe_session.proofs.LinkLemmas.{access_left}
 use Rattle.probe_session.proofs.memory.load.Goals as goal
 
 pub returns-in-Ok-clause-loaded : goal.returns-in-Ok-clause-loaded
-returns-in-Ok-clause-loaded g c = loaded_cut c.args.size c.args.address c.in-Ok.value _ _ _ c.cut_to.ensures c.requires.serving.serving.ready
-    c.in-Ok.ensures.around c.in-Ok.ensures.loaded
+returns-in-Ok-clause-loaded g c = block_loaded c.args.size c.args.address c.args.count _ _ _ c.requires.serving.serving.ready
+    c.in-Ok.ensures.all c.in-Ok.ensures.runs c.in-Ok.ensures.fetched c.in-Ok.ensures.loaded
 
 pub returns-in-Memory-clause-loaded : goal.returns-in-Memory-clause-loaded
-returns-in-Memory-clause-loaded g c = loaded_none c.args.size c.args.address _ _ _ _ _ c.in-Err.fault c.in-Memory.is
-    c.in-Err.ensures.left c.in-Err.ensures.failed
+returns-in-Memory-clause-loaded g c = block_loaded_none c.args.size c.args.address c.args.count _ _ _ _ _ _ c.in-Err.fault
+    c.requires.serving.serving.ready c.in-Memory.is c.in-Err.ensures.left c.in-Err.ensures.failed c.in-Err.ensures.fetched_before
 
 pub returns-in_default-clause-fell : goal.returns-in_default-clause-fell
 returns-in_default-clause-fell g c =
-    LoadFell.by_hart c.args.halted.now.number c.in-Err.fault c.requires.serving.serving
-    c.load.ensures.keeps.later c.in-Err.ensures.failed c.in-Err.ensures.left c.in-Err.ensures.cut (became c.in-Err.fault
-    (not_memory c.in-Err.fault c.in_default.not-Memory) c.from.ensures)
+    BlockLoadFell.by_hart c.args.halted.now.number c.in-Err.fault _ c.requires.serving.serving
+    c.load_block.ensures.keeps.later c.in-Err.ensures.failed c.in-Err.ensures.causes c.in-Err.ensures.left
+    (loads_cut c.args.size c.args.address c.args.count c.args.halted.now.number _ _ _ _ _ c.in-Err.fault c.in-Err.ensures.failed c.in-Err.ensures.cut)
+    (became c.in-Err.fault (not_memory c.in-Err.fault c.in_default.not-Memory) c.from.ensures)
 
 pub returns-in_default-clause-keeps : goal.returns-in_default-clause-keeps
 returns-in_default-clause-keeps g c = let b = access_left _ c.in-Err.fault _ c.in-Err.ensures.keeps.behind c.from.ensures in search rules
