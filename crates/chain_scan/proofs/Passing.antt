@@ -130,7 +130,7 @@ scans_exchange c given s same =
 
 -- ---- each register keeps its length
 
-near_length : (c : Chain) (given : List Bool) → ShiftsAlong c → length (joined_shifts (passed c given).near) ≡ length (joined_shifts c.near)
+pub near_length : (c : Chain) (given : List Bool) → ShiftsAlong c → length (joined_shifts (passed c given).near) ≡ length (joined_shifts c.near)
 near_length c [] s = refl
 near_length c (b ∷ bs) s =
     let p : Port = c.chip.port in
@@ -138,14 +138,14 @@ near_length c (b ∷ bs) s =
     ∙ ap length (sides_shift false (port_fallen p).tdo p c.near s.shifting s.free s.together.near s.near)
     ∙ length_shifted (port_fallen p).tdo (joined_shifts c.near)
 
-chip_length : (c : Chain) (given : List Bool) → ShiftsAlong c → length (passed c given).chip.port.shift ≡ length c.chip.port.shift
+pub chip_length : (c : Chain) (given : List Bool) → ShiftsAlong c → length (passed c given).chip.port.shift ≡ length c.chip.port.shift
 chip_length c [] s = refl
 chip_length c (b ∷ bs) s =
     chip_length (shift_clock b c) bs (shifts_on b c s) ∙ ap length (chip_shifted b c s)
     ∙ length_shifted (outgoing b (map side_falls c.far)) c.chip.port.shift
 
 -- what stands behind a front of the same length, and the front itself
-same_front : (xs ys us vs : List Bool) → length xs ≡ length us → xs ++ ys ≡ us ++ vs → xs ≡ us
+pub same_front : (xs ys us vs : List Bool) → length xs ≡ length us → xs ++ ys ≡ us ++ vs → xs ≡ us
 same_front [] ys [] vs same is = refl
 same_front [] ys (u ∷ us) vs same is = absurd (omega (arith, same))
 same_front (x ∷ xs) ys [] vs same is = absurd (omega (arith, same))
@@ -154,7 +154,7 @@ same_front (x ∷ xs) ys (u ∷ us) vs same is =
     let rest : xs ++ ys ≡ us ++ vs = cc in
     ap (λ z. z ∷ xs) first ∙ ap (λ zs. u ∷ zs) (same_front xs ys us vs (omega (arith, same)) rest)
 
-same_back : (xs ys us vs : List Bool) → length xs ≡ length us → xs ++ ys ≡ us ++ vs → ys ≡ vs
+pub same_back : (xs ys us vs : List Bool) → length xs ≡ length us → xs ++ ys ≡ us ++ vs → ys ≡ vs
 same_back [] ys [] vs same is = is
 same_back [] ys (u ∷ us) vs same is = absurd (omega (arith, same))
 same_back (x ∷ xs) ys [] vs same is = absurd (omega (arith, same))

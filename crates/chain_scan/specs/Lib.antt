@@ -4,3 +4,7 @@ pub mod ChainLaws
 pub mod ChainPlan
 pub mod Passing
 pub mod ChipInChain
+pub mod Told
+pub mod Bypassed
+pub mod ChainSeen
+pub mod Each

@@ -15,6 +15,7 @@ pub const SIDES_MOST: usize = 7;
 pub struct ChainPlan {
     near: ArrayVec<u8, SIDES_MOST>,
     far: ArrayVec<u8, SIDES_MOST>,
+    ghost is_plan: { IsPlan near.items far.items },
 }
 
 impl Model for ChainPlan {
@@ -56,6 +57,13 @@ impl ChainPlan {
         ensures { result.now ≡ self.now.near }
     {
         self.near.as_slice()
+    }
+
+    /// That there are 1 to 7 lengths, each from 2 to 8, is the promise of the type, which a contract knows of a plan only once it is asked.
+    pub fn know(&self)
+        ensures { IsPlan self.now.near self.now.far }
+    {
+        let _near = self.near.len();
     }
 
     /// The lengths between the chip and TDI, the one nearest the chip first.

@@ -33,6 +33,7 @@ pub record ScanSeen : Type 0 where
   pub far : Option Far  -- the chip at the far end and its unread answers, where they are told
   pub coming : Option Coming  -- what is to come out of scans, where it is told beside a chip or without one
   pub asked : Option (List Asked)  -- what was asked for, one call after another, where it is told
+  pub bypassed : Bool  -- whether each device beside the chip in one chain, where there is any, stands in BYPASS
   pub fault_count : ℕ  -- how many calls of what carries the scans have failed
   pub fixed : Fixed
 
@@ -55,6 +56,7 @@ pub record ScanRests (s : ScanSeen) : Type 0 where
   pub read : IsRead s.far
   pub free : IsFree s.far
   pub idle : IsIdle s.far
+  pub bypassed : s.bypassed ≡ true
 
 abbrev pub ScanBehind : {A : Type 0} → ScanSeen → Result A WireFault → Type 0
 ScanBehind s (Ok value) = ScanRests s

@@ -1,4 +1,4 @@
-ghost use Rattle.std.specs.Prelude.{◌≡◌, ◌<◌, ◌≤◌, [], ◌∷◌, length, OnOk, OnErr, IfOk, IfErr};
+ghost use Rattle.std.specs.Prelude.{◌≡◌, ◌<◌, ◌≤◌, [], ◌∷◌, true, length, OnOk, OnErr, IfOk, IfErr};
 ghost use Rattle.debug_model.specs.declared.asked.Asked.TheVariants as asked;
 ghost use Rattle.debug_model.specs.Asked.{and_asked};
 ghost use Rattle.debug_model.specs.Kept.{CanReset, CanShift, ScanFails, ScanKeeps, ScanSeen};
@@ -44,6 +44,7 @@ pub trait Scan: Drop {
         requires some { 0 < length bits }
         requires fits { Fits bits (seen self.old).far }
         requires callable { CanShift (seen self.old) }
+        requires bypassed { (seen self.old).bypassed ≡ true }
         ensures scanned { IfOk result (λ out. WhereTold (Scanned (seen self.old).fixed.slack bits out) (seen self.old).far (seen self.new).far) }
         ensures came { IfOk result (λ out. ComesOut out (seen self.old).coming (seen self.new).coming) }
         ensures asked { (seen self.new).asked ≡ and_asked (asked.Shift bits ∷ []) (seen self.old).asked }
@@ -58,6 +59,7 @@ pub trait Scan: Drop {
         requires some { 0 < clocks }
         requires few { clocks ≤ idle_most }
         requires callable { CanShift (seen self.old) }
+        requires bypassed { (seen self.old).bypassed ≡ true }
         ensures passed { OnOk result (WhereTold (StayedIdle (seen self.old).fixed.slack clocks) (seen self.old).far (seen self.new).far) }
         ensures cut { OnErr result (WhereTold (RoundsPassed (seen self.old).fixed.slack clocks) (seen self.old).far (seen self.new).far) }
         ensures coming { (seen self.new).coming ≡ (seen self.old).coming }

@@ -90,21 +90,21 @@ along_cut Q bytes f new cut a = subst (λ (d : Chip). Q d.inside) (sym cut.took.
 -- ---- a reset
 
 -- so many rises, and where the TAP stood at rest nothing but their rounds
-record ResetSoFar (s : TapState) (i now : Inside) : Type 0 where
+pub record ResetSoFar (s : TapState) (i now : Inside) : Type 0 where
   pub rises : ℕ
   pub passed : (s ≡ TestLogicReset) ⊎ (s ≡ RunTestIdle) → now ≡ ticks rises i
   pub counted : rounds_of now ≡ rounds_of i + rises
   pub few : rises ≤ 6
 
-at_rest : TapState → Bool
+unfoldable pub at_rest : TapState → Bool
 at_rest TestLogicReset = true
 at_rest RunTestIdle = true
 at_rest _ = false
 
-not_both : (b : Bool) {P : Type 0} → b ≡ true → b ≡ false → P
+pub not_both : (b : Bool) {P : Type 0} → b ≡ true → b ≡ false → P
 not_both b p q = absurd cc
 
-moving_so_far : (s : TapState) (i now : Inside) → at_rest s ≡ false → Counted (rounds_of i) 6 now → ResetSoFar s i now
+pub moving_so_far : (s : TapState) (i now : Inside) → at_rest s ≡ false → Counted (rounds_of i) 6 now → ResetSoFar s i now
 unfolding at_rest
 moving_so_far s i now moves c = record {
   rises = c.rises;
@@ -122,7 +122,7 @@ moving_along : (s : TapState) (tck : Bool) (r : DataRegister) (bits : List Bool)
 moving_along s tck r bits tdo i moves = along_map (Counted (rounds_of i) 6) (ResetSoFar s i) (λ now c. moving_so_far s i now moves c) reset_bytes _
     (path_counted (true ∷ true ∷ true ∷ true ∷ true ∷ false ∷ []) 0 (rounds_of i) 6 tck _ i (omega arith) (omega arith))
 
-resting : (s : TapState) (i : Inside) (k : ℕ) → k ≤ 6 → ResetSoFar s i (ticks k i)
+pub resting : (s : TapState) (i : Inside) (k : ℕ) → k ≤ 6 → ResetSoFar s i (ticks k i)
 resting s i k few = record { rises = k; passed = λ _. refl; counted = ticks_rounds k i; few = few }
 
 reset_along : (s : TapState) (tck : Bool) (r : DataRegister) (bits : List Bool) (tdo : Bool) (i : Inside)
@@ -150,7 +150,7 @@ reset_cut_behind bytes old new are s free = reset_cut old new (subst (λ b. Sent
 
 -- ---- an instruction
 
-record RoundsSoFar (i now : Inside) : Type 0 where
+pub record RoundsSoFar (i now : Inside) : Type 0 where
   pub rises : ℕ
   pub passed : now ≡ ticks rises i
   pub few : rises ≤ 11
@@ -240,10 +240,11 @@ no_bad [] (false ∷ bits) bad rest p q e = p (sym (ap (first_or bad) e))
 no_bad (g ∷ good) [] bad rest p q e = absurd (omega (arith, ap length e))
 no_bad (g ∷ good) (b ∷ bits) bad rest p q e = no_bad good bits bad rest p q (ap (drop 1) e)
 
-none_wrong : (b : ℕ) (bits : List Bool) (coming : Option (List ℕ)) (l : Live) → IsWrong b (Some (record { live = l; unread = map answer_byte bits })) coming → ⊥
+pub none_wrong : (b : ℕ) (bits : List Bool) (coming : Option (List ℕ)) (l : Live) → IsWrong b (Some
+    (record { live = l; unread = map answer_byte bits })) coming → ⊥
 none_wrong b bits coming l wrong = no_bad wrong.of_chip.good bits b wrong.of_chip.rest wrong.not_zero wrong.not_one wrong.of_chip.is
 
-coming_wrong : (b : ℕ) (coming : Option (List ℕ)) → IfSome coming (CameWrong b) → IfSome (option_map Answers coming) (WrongIn b)
+pub coming_wrong : (b : ℕ) (coming : Option (List ℕ)) → IfSome coming (CameWrong b) → IfSome (option_map Answers coming) (WrongIn b)
 coming_wrong b None wrong = tt
 coming_wrong b (Some coming) wrong = wrong
 

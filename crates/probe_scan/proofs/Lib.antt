@@ -7,3 +7,4 @@ pub mod Paths
 pub mod Received
 pub mod Rounds
 pub mod Scans
+pub mod Padding

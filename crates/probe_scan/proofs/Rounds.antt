@@ -24,7 +24,7 @@ rise_rounds tms tdi c = tick_rounds (record c.inside { works = works_risen c.por
     ∙ ap (λ n. n + 1) (busy_rounds (rise_finds_busy c.port c.inside.works.dtm) c.inside.works.counts)
 
 -- one rise more
-next_rounds : (tms tdi : Bool) (c : Chip) (base n : ℕ) → rounds_of c.inside ≡ base + n → rounds_of (rise tms tdi c).inside ≡ base + suc n
+pub next_rounds : (tms tdi : Bool) (c : Chip) (base n : ℕ) → rounds_of c.inside ≡ base + n → rounds_of (rise tms tdi c).inside ≡ base + suc n
 next_rounds tms tdi c base n e = rise_rounds tms tdi c ∙ ap (λ k. k + 1) e ∙ omega arith
 
 -- so many rises since there were `base`, and no more than `most`

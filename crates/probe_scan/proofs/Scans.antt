@@ -95,14 +95,14 @@ pub state_at : (s : TapState) (c : Chip) → c.port.held ≡ false → c.port.st
 state_at s c free is = any_at c free ∙ ap (λ t. chip_at c.tck t c.port.selected c.port.shift c.port.tdo c.inside) is
 
 -- a far end by its parts
-abbrev far_with : Live → List ℕ → Far
+abbrev pub far_with : Live → List ℕ → Far
 far_with l u = record { live = l; unread = u }
 
 pub far_of : (l l' : Live) (u u' : List ℕ) → l ≡ l' → u ≡ u' → far_with l u ≡ far_with l' u'
 far_of l l' u u' p q = cc
 
 -- a chip by its parts
-abbrev chip_with : Bool → Port → Inside → Chip
+abbrev pub chip_with : Bool → Port → Inside → Chip
 chip_with tck p i = record { tck = tck; port = p; inside = i }
 
 -- ---- a whole piece was sent
@@ -129,7 +129,7 @@ pub record Rests (r : DataRegister) (new : Option Far) : Type 0 where
   pub idle : IsIdle new
   pub holds : IfSome new (Holds r)
 
-rests_at : (tck : Bool) (r : DataRegister) (shift : List Bool) (i : Inside) (new : Option Far) → new ≡ Some (far_at tck (idle_port r shift) i) → Rests r new
+pub rests_at : (tck : Bool) (r : DataRegister) (shift : List Bool) (i : Inside) (new : Option Far) → new ≡ Some (far_at tck (idle_port r shift) i) → Rests r new
 rests_at tck r shift i new is = rw is (record {
   live = refl;
   read = refl;
@@ -138,7 +138,7 @@ rests_at tck r shift i new is = rw is (record {
   holds = record { live = refl; selected = refl; tdo = refl };
 })
 
-rests_untold : (r : DataRegister) (new : Option Far) → new ≡ None → Rests r new
+pub rests_untold : (r : DataRegister) (new : Option Far) → new ≡ None → Rests r new
 rests_untold r new is = rw is (record { live = tt; read = tt; free = tt; idle = tt; holds = tt })
 
 -- ---- a reset
@@ -147,7 +147,7 @@ pub record ResetDone (old new : Option Far) : Type 0 where
   pub reset : WhereTold (WasReset (Some 0)) old new
   pub rests : Rests Idcode new
 
-reset_chip : (d : Chip) → IsReset d → d ≡ chip_with true (idle_port Idcode d.port.shift) d.inside
+pub reset_chip : (d : Chip) → IsReset d → d ≡ chip_with true (idle_port Idcode d.port.shift) d.inside
 reset_chip d is = by d.tck d.port is.tck is.port
   where
     by : (t : Bool) (p : Port) → t ≡ true → p ≡ idle_port Idcode d.port.shift → chip_with t p d.inside ≡ chip_with true (idle_port Idcode d.port.shift) d.inside
@@ -267,7 +267,7 @@ ir_remembered code m old is holds read free idle = ir_stays code old (subst (λ 
 length-comes_out : (was bits : List Bool) → length (comes_out was bits) ≡ length bits
 length-comes_out was bits = grind (arith, length-append {A = Bool}, length-take {A = Bool})
 
-length-answers : (bits : List Bool) → length (map answer_byte bits) ≡ length bits
+pub length-answers : (bits : List Bool) → length (map answer_byte bits) ≡ length bits
 length-answers bits = simp length-map
 
 -- what the chip takes out of its register
@@ -298,7 +298,7 @@ pub record Between (bits : List Bool) (old between : Option Far) : Type 0 where
   pub ready : IsOpen between
   pub asked : IfSome old (λ f. IsAsked bits f between)
 
-open_of_live : (told : Option Far) → IsLive told → IsOpen told
+pub open_of_live : (told : Option Far) → IsLive told → IsOpen told
 open_of_live None live = tt
 open_of_live (Some f) live = rw live tt
 
@@ -324,7 +324,7 @@ waiting bits n None between few b = rw b.is tt
 waiting bits n (Some f) between few b = waiting_told bits n f between few b.asked
 
 -- a front of the answers, as many as they are, is all of them
-all_answers : (xs ys rest : List ℕ) → xs ≡ ys ++ rest → length ys ≡ length xs → (ys ≡ xs) × (rest ≡ [])
+pub all_answers : (xs ys rest : List ℕ) → xs ≡ ys ++ rest → length ys ≡ length xs → (ys ≡ xs) × (rest ≡ [])
 all_answers xs ys [] e l = (sym (e ∙ simp append-nil), refl)
 all_answers xs ys (r ∷ rest) e l = absurd (omega (arith, ap length e, length-append {A = ℕ} ys (r ∷ rest)))
 
@@ -341,7 +341,7 @@ bits_back : (bits : List Bool) → map bit_of (map answer_byte bits) ≡ bits
 bits_back [] = refl
 bits_back (b ∷ bs) = rw (bit_of-answer_byte b, bits_back bs) refl
 
-same_bits : (xs ys : List Bool) → map answer_byte xs ≡ map answer_byte ys → xs ≡ ys
+pub same_bits : (xs ys : List Bool) → map answer_byte xs ≡ map answer_byte ys → xs ≡ ys
 same_bits xs ys e = sym (bits_back xs) ∙ ap (map bit_of) e ∙ bits_back ys
 
 -- what was received is what came out, and nothing is left

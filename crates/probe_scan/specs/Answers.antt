@@ -61,6 +61,7 @@ scan_seen far coming fault_count ties gives = record {
   far = far;
   coming = option_map Answers coming;
   asked = None;
+  bypassed = true;
   fault_count = fault_count;
   fixed = record { slack = Some 0; ties = ties; gives = or_bad gives };
 }

@@ -9,5 +9,6 @@ mod calls;
 mod scanner;
 mod scripted_scan;
 
+pub use batch::{idle_batch, put_scan, read_bits, reset_batch};
 pub use scanner::Scanner;
 pub use scripted_scan::ScriptedScan;

@@ -1,4 +1,4 @@
-ghost use Rattle.std.specs.Prelude.{◌≡◌, [], ◌++◌, Some, None, IfNone, option_to_list};
+ghost use Rattle.std.specs.Prelude.{◌≡◌, [], ◌++◌, true, Some, None, IfNone, option_to_list};
 ghost use Rattle.debug_model.specs.Kept.{gives_end_of_answers};
 ghost use Rattle.debug_model.specs.Scan.{Numbers};
 ghost use Rattle.debug_model.specs.Ties.{no_ties};
@@ -53,6 +53,7 @@ impl Scan for ScriptedScan {
       far = None;
       coming = Some (Numbers s.numbers.items);
       asked = Some s.calls.calls;
+      bypassed = true;
       fault_count = s.failed;
       fixed = record { slack = None; ties = no_ties; gives = gives_end_of_answers };
     } };

@@ -63,6 +63,7 @@ impl<'a> Scan for Recorder<'a> {
       far = None;
       coming = None;
       asked = None;
+      bypassed = true;
       fault_count = s.failed;
       fixed = record { slack = None; ties = no_ties; gives = λ _. true };
     } };
