@@ -1,5 +1,5 @@
 -- Blocks of memory over a told chip, as steps of the abstract debugger's plan: an access for each element, one behind another.
-use Rattle.std.proofs.Common.{◌≡◌, ◌≤◌, ◌<◌, ◌+◌, ◌*◌, ◌++◌, ℕ, zero, suc, List, [], ◌∷◌, length, Ok, Err, refl, sym, ap, subst, append_assoc}
+use Rattle.std.proofs.Common.{◌≡◌, ◌≤◌, ◌<◌, ◌+◌, ◌++◌, ℕ, zero, suc, List, [], ◌∷◌, length, Ok, sym, subst, append_assoc}
 use Rattle.std.proofs.Common.{append-nil, arith}
 use Rattle.rv_model.specs.declared.size.Size.{Size}
 use Rattle.rv_model.specs.Board.{Board, Machine}
@@ -16,8 +16,8 @@ use Rattle.abstract_debugger.specs.Stands.{Deals, Origin, Target}
 use Rattle.abstract_debugger.specs.Turns.{after_turns}
 use Rattle.abstract_debugger.specs.Ways.{Way}
 use Rattle.abstract_debugger.proofs.DealsLemmas.{deals_put, deals_unpathed}
-use Rattle.probe_access.specs.Blocks.{LoadedEach, LoadedOne, StoredEach, StoredOne, element_at}
-use Rattle.probe_access.specs.BusBlocks.{BusLoadedEach, BusLoadedOne, BusStoredEach, BusStoredOne}
+use Rattle.probe_access.specs.Blocks.{LoadedEach, StoredEach, element_at}
+use Rattle.probe_access.specs.BusBlocks.{BusLoadedEach, BusStoredEach}
 use Rattle.probe_run.specs.Happens.{target_of}
 use Rattle.probe_session.specs.Blocks.{Loads, MayLoad, Says, Stores, loading, storing}
 use Rattle.probe_session.proofs.ToldWrites.{OneAccessed, load_deals, store_deals}

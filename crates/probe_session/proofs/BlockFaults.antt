@@ -1,5 +1,5 @@
 -- Calls on blocks of memory that fail, over a told chip: the elements so far lead along the plan, and the lines that it says of them were not written.
-use Rattle.std.proofs.Common.{◌≡◌, ◌∙◌, ◌++◌, ℕ, List, ◌∷◌, Option, Some, None, append_assoc}
+use Rattle.std.proofs.Common.{◌≡◌, ◌∙◌, ◌++◌, ℕ, List, ◌∷◌, Option, None, append_assoc}
 use Rattle.rv_model.specs.declared.size.Size.{Size}
 use Rattle.rv_model.specs.Board.{Machine}
 use Rattle.debug_model.specs.declared.command.Path.{Path}

@@ -1,5 +1,5 @@
 -- Lines that are written one behind another: those that are left.
-use Rattle.std.proofs.Common.{◌≡◌, ◌∙◌, ◌++◌, ℕ, List, [], ◌∷◌, Option, refl, sym, ap, append_assoc, append-nil}
+use Rattle.std.proofs.Common.{◌≡◌, ◌∙◌, ◌++◌, ℕ, List, [], ◌∷◌, Option, sym, ap, append_assoc, append-nil}
 use Rattle.jt_base.specs.Sink.{GrewByPrefix, grown}
 use Rattle.abstract_debugger.specs.Lines.{Line, text_of, text_of_all}
 use Rattle.probe_session.proofs.Spoken.{front_at, grown_lines, grown_none, one_text}

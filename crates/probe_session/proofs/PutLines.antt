@@ -1,8 +1,7 @@
 -- Elements and bytes that are shown one behind another: the line of the next one, and the lines that are left.
 use Rattle.std.proofs.Common.{◌≡◌, ◌≢◌, ◌<◌, ◌≤◌, ◌∙◌, ◌+◌, ◌*◌, ◌++◌, ℕ, Bool, true, false, List, [], ◌∷◌, length, map, drop, get_or, Option, refl, sym, ap, subst, arith}
-use Rattle.std.proofs.Common.{append_assoc, append-nil, if◌then◌else◌}
 use Rattle.std.specs.Prelude.{◌==◌}
-use Rattle.std.proofs.lemmas.Bool.{eq-eqb, eqb-true, false≢true, ne_eqb}
+use Rattle.std.proofs.lemmas.Bool.{eq-eqb, eqb-true, false≢true}
 use Rattle.std.proofs.lemmas.List.{drop_more, length-append, length-map}
 use Rattle.std.proofs.Math.ListN.{drop_of_length-le}
 use Rattle.jt_base.specs.Sink.{GrewByPrefix, grown}

@@ -1,5 +1,5 @@
 -- `read`: a block of loads, and the lines of its elements behind it.
-use Rattle.std.proofs.Common.{◌≡◌, ◌<◌, ◌∙◌, ◌+◌, ◌-◌, ℕ, zero, suc, Bool, true, false, List, [], ◌∷◌, length, Option, refl, sym, ap, subst, arith}
+use Rattle.std.proofs.Common.{◌≡◌, ◌+◌, ◌-◌, ℕ, zero, suc, Bool, true, false, List, [], ◌∷◌, length, Option, refl, sym, subst, arith}
 use Rattle.jt_base.specs.Faults.{Rises}
 use Rattle.jt_base.specs.Sink.{GrewByPrefix, grown}
 use Rattle.rv_model.specs.declared.size.Size.{Size}
@@ -17,7 +17,7 @@ use Rattle.probe_session.specs.declared.fault.Failure.{Failure}
 use Rattle.probe_session.specs.declared.fault.Failure.TheVariants as failure
 use Rattle.probe_session.specs.declared.reach.Reach.{Reach}
 use Rattle.probe_session.specs.Answers.{BlockLoadedAs}
-use Rattle.probe_session.specs.BlockCalls.{BlockLoadFell, BlockLoaded, BlockLoadedNone}
+use Rattle.probe_session.specs.BlockCalls.{BlockLoadFell}
 use Rattle.probe_session.specs.Blocks.{Loads, MayLoad, Says, loading}
 use Rattle.probe_session.specs.Goes.{Fault, Fell, Spoke, Went}
 use Rattle.probe_session.specs.Places.{idle}

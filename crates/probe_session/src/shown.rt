@@ -36,8 +36,8 @@ pub(crate) enum Shown {
     Bytes(Reach, u64, u16),
 }
 
-/// Puts the lines of what is shown, each as it is known, and answers whether one of them is an error line. Where memory refuses an access
-/// the line that says so is the last.
+/// Puts the lines of what is shown, those of a block of memory behind its last access, and answers whether one of them is an error line.
+/// Where memory refuses an access the line that says so is the last.
 pub(crate) fn show<D: Dmi, K: Sink>(
     link: &mut D,
     shown: Shown,

@@ -1,5 +1,5 @@
 use Rattle.std.proofs.Common.{rules}
-use Rattle.std.proofs.Common.{◌∙◌, refl, sym}
+use Rattle.std.proofs.Common.{refl}
 use Rattle.jt_base.proofs.FaultLemmas.{rises_from}
 use Rattle.probe_session.proofs.DumpLines.{dump_fell, refusal_cut, rows_cut, rows_refused, rows_shown}
 use Rattle.probe_session.proofs.LinkLemmas.{if_err}

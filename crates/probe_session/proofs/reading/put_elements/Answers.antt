@@ -1,7 +1,6 @@
 use Rattle.std.proofs.Common.{rules}
-use Rattle.std.proofs.Common.{◌∙◌, ℕ, List, map, length, sym, ap, arith}
+use Rattle.std.proofs.Common.{◌∙◌, sym}
 use Rattle.jt_base.proofs.FaultLemmas.{rises_from}
-use Rattle.probe_access.specs.BusRuns.{cut_to}
 use Rattle.probe_session.proofs.LinkLemmas.{if_err}
 use Rattle.probe_session.proofs.MemoryLines.{attached_by}
 use Rattle.probe_session.proofs.PutLines.{cut_as, fault_at, shown_as}
