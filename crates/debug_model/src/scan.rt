@@ -2,7 +2,8 @@ ghost use Rattle.std.specs.Prelude.{◌≡◌, ◌<◌, ◌≤◌, [], ◌∷◌
 ghost use Rattle.debug_model.specs.declared.asked.Asked.TheVariants as asked;
 ghost use Rattle.debug_model.specs.Asked.{and_asked};
 ghost use Rattle.debug_model.specs.Kept.{CanReset, CanShift, ScanFails, ScanKeeps, ScanSeen};
-ghost use Rattle.debug_model.specs.Scan.{Fits, Judged, Scanned, Selected, StayedIdle, WasReset, ScanCut, RoundsPassed, ResetCut, WhereTold, ComesOut, idle_most, ir_clocks};
+ghost use Rattle.debug_model.specs.Scan.{Fits, Judged, Scanned, Selected, StayedIdle, WasReset, ScanCut, RoundsPassed, ResetCut, WhereTold};
+ghost use Rattle.debug_model.specs.Scan.{ComesOut, idle_most, ir_clocks};
 ghost use Rattle.debug_model.specs.Ties.{lent_by};
 
 use crate::wire::WireFault;

@@ -153,7 +153,8 @@ only_map address G H access_fault.StillBusy f p = tt
 only_map address G H (access_fault.Run why) f p = p
 only_map address G H (access_fault.Odd shown) f p = p
 
-pub command_clean : (front : List Act) (word old_count new_count : ℕ) (old new : Tells) (e : AccessFault) → CommandFailed front word old_count new_count old new e
+pub command_clean : (front : List Act) (word old_count new_count : ℕ) (old new : Tells) (e : AccessFault)
+    → CommandFailed front word old_count new_count old new e
     → Clean e
 command_clean front word old_count new_count old new (access_fault.Dmi why) f = tt
 command_clean front word old_count new_count old new (access_fault.Memory at) f = f

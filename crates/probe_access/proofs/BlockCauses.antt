@@ -16,7 +16,8 @@ use Rattle.probe_access.specs.MemoryRuns.{AroundFailed, PutBack, PutBackFailed, 
 use Rattle.probe_access.specs.MemoryRuns.AroundFailed.{behind, in_restore, in_restore_behind, in_save, inside}
 use Rattle.probe_access.specs.MemoryRuns.PutBackFailed.{at_x8 as put_x8, at_x9 as put_x9}
 use Rattle.probe_access.specs.MemoryRuns.SaveFailed.{at_x8 as save_x8, at_x9 as save_x9}
-use Rattle.probe_access.specs.RegisterRuns.{RanOddly, RanTo, ReadFailed, RegisterRead, RegisterWritten, WriteFailed, double_written, Asks, DoubleRead, ReadApart, ReadApartFailed, ReadApartFailedAt, ReadAtOnce, ReadTooEarly}
+use Rattle.probe_access.specs.RegisterRuns.{RanOddly, RanTo, ReadFailed, RegisterRead, RegisterWritten, WriteFailed, double_written, Asks}
+use Rattle.probe_access.specs.RegisterRuns.{DoubleRead, ReadApart, ReadApartFailed, ReadApartFailedAt, ReadAtOnce, ReadTooEarly}
 use Rattle.probe_access.specs.RegisterRuns.ReadApartFailedAt.{in_command as read_in_command, in_words as read_in_words}
 use Rattle.probe_access.specs.RegisterAccess.{joined, transfer_word, x8_number, x9_number}
 use Rattle.probe_access.proofs.RegisterCalls.{none_cleared}

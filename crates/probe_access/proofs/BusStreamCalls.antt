@@ -411,7 +411,8 @@ found_each = (
               reads_snoc_bus sbaddress0_address (value_of q) (then_acts [] sbaddress1_address p) IsBusRead.lower_address one in (
                 Finding.reads sbdata1_address (then_acts (then_acts [] sbaddress1_address p) sbaddress0_address q) two IsBusRead.upper_data,
                 λ r. let three : BusReads (then_acts (then_acts (then_acts [] sbaddress1_address p) sbaddress0_address q) sbdata1_address r) =
-                    reads_snoc_bus sbdata1_address (value_of r) (then_acts (then_acts [] sbaddress1_address p) sbaddress0_address q) IsBusRead.upper_data two in (
+                    reads_snoc_bus sbdata1_address (value_of r) (then_acts (then_acts [] sbaddress1_address p) sbaddress0_address q) IsBusRead.upper_data
+                        two in (
                       Finding.reads sbdata0_address (then_acts (then_acts (then_acts [] sbaddress1_address p) sbaddress0_address q) sbdata1_address r) three
                           IsBusRead.lower_data,
                       λ t. tt,

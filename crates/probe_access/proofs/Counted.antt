@@ -10,7 +10,8 @@ use Rattle.probe_access.specs.MemoryRuns.{PerformFailed, PutBackFailed, StoreFai
 use Rattle.probe_access.specs.MemoryRuns.PerformFailed.{in_run, faulted, oddly}
 use Rattle.probe_access.specs.MemoryRuns.PutBackFailed.{at_x8 as put_x8, at_x9 as put_x9}
 use Rattle.probe_access.specs.MemoryRuns.StoreFailedInside.{performing as store_performing, writing as store_writing}
-use Rattle.probe_access.specs.RegisterRuns.{Asks, DoubleReads, ReadApartFailed, ReadApartFailedAt, ReadFailed, WriteFailed, double_written, AskedAtOnce, ReadTooEarly, Swapped, SwappedTooEarly, Swaps}
+use Rattle.probe_access.specs.RegisterRuns.{Asks, DoubleReads, ReadApartFailed, ReadApartFailedAt, ReadFailed, WriteFailed, double_written}
+use Rattle.probe_access.specs.RegisterRuns.{AskedAtOnce, ReadTooEarly, Swapped, SwappedTooEarly, Swaps}
 use Rattle.probe_access.specs.RegisterRuns.ReadApartFailedAt.{in_command as read_in_command, in_words as read_in_words}
 use Rattle.probe_access.specs.RegisterAccess.{program_word, transfer_word, x8_number, x9_number}
 use Rattle.probe_access.proofs.AskCalls.{behind_counted}

@@ -1,5 +1,6 @@
 -- The calls of a block: its program and first command in one call, and what is counted of the faults behind it.
-use Rattle.std.proofs.Common.{◌≡◌, ◌∙◌, ◌≤◌, ◌<◌, ◌^◌, ◌++◌, ℕ, List, [], ◌∷◌, length, length-append, All, Bool, true, false, slice_index_or, arith, Option, refl, sym, ap, subst, ◌+◌}
+use Rattle.std.proofs.Common.{◌≡◌, ◌∙◌, ◌≤◌, ◌<◌, ◌^◌, ◌++◌, ℕ, List, [], ◌∷◌, length, length-append, All, Bool, true, false, slice_index_or, arith}
+use Rattle.std.proofs.Common.{Option, refl, sym, ap, subst, ◌+◌}
 use Rattle.std.proofs.lemmas.List.Elements.{All-cons}
 use Rattle.rv_model.specs.declared.size.Size.{Size}
 use Rattle.debug_model.specs.Addresses.{abstractcs_address, command_address, progbuf0_address, progbuf1_address, progbuf2_address}
@@ -17,7 +18,8 @@ use Rattle.probe_run.specs.Acts.Act.{Put}
 use Rattle.probe_access.specs.Blocks.{element_at}
 use Rattle.probe_access.specs.CommandRuns.{CommandBegun, RanCommand, error_shown, poll_act}
 use Rattle.probe_access.specs.CommandRuns.CommandBegun.{ahead, polls, writes}
-use Rattle.probe_access.specs.ElementRuns.{HandFailed, HandedBy, LoadsFailed, LoadsInside, LoadsOn, RunFailed, StartFailed, Started, StoresFailed, block_program}
+use Rattle.probe_access.specs.ElementRuns.{HandFailed, HandedBy, LoadsFailed, LoadsInside, LoadsOn, RunFailed, StartFailed, Started, StoresFailed}
+use Rattle.probe_access.specs.ElementRuns.{block_program}
 use Rattle.probe_access.specs.ElementRuns.RunFailed.{in_run, faulted, oddly}
 use Rattle.probe_access.specs.Faults.{Among, BrokeIn}
 use Rattle.probe_access.specs.RegisterAccess.{advance_word, ebreak_word, element_load_word, next_word, x8_number, x9_number}

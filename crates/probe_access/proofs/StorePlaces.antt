@@ -215,7 +215,8 @@ element_faulted size address value count done at h bus x s base told below at_is
 at_first_address : (size : Size) (address value : ℕ) (x : Hart) → aimed x address value ≡ on_it size address value 0 x
 at_first_address size address value x = after_store_scratched x address value ∙ ap (λ a. scratched a value x) (sym (element_first size address))
 
-pub store_valued : (value h : ℕ) (bus : BusUnit) (x : Hart) (s : Site) (old new : Tells) → StoodTold h bus x s x old.far → RegisterWritten x9_number value old new
+pub store_valued : (value h : ℕ) (bus : BusUnit) (x : Hart) (s : Site) (old new : Tells) → StoodTold h bus x s x old.far
+    → RegisterWritten x9_number value old new
     → StoodTold h bus (valued x value) s x new.far
 store_valued value h bus x s old new st r =
     let a : WrittenTold x9_number value h bus x s x st.kept new.far = written_told x9_number value h bus x s x old new (omega arith) st r in a.then

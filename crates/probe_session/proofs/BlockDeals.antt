@@ -139,7 +139,8 @@ pub stores_deals : (path : Path) (size : Size) (value : ℕ) (m : Machine) (h : 
 stores_deals path size value m h way o zero lines s t Stores.nothing EachStored.nothing d = d
 stores_deals path size value m h way o {address} (suc count) lines s t (Stores.further faulted next rest)
     (EachStored.further k one each) d =
-    stores_deals path size value m h way o {address = address + count_of size} count lines k t rest each (store_once path size address value m h way o faulted next lines s k one d)
+    stores_deals path size value m h way o {address = address + count_of size} count lines k t rest each
+        (store_once path size address value m h way o faulted next lines s k one d)
 
 -- ---- some of them
 

@@ -1,5 +1,5 @@
 -- Calls on blocks of memory, as a session tells of them: whole ones, refused ones, and those that broke off.
-use Rattle.std.proofs.Common.{◌≡◌, ◌<◌, ◌∙◌, ◌++◌, ℕ, true, false, List, length, map, Option, Some, None, refl, subst, arith}
+use Rattle.std.proofs.Common.{◌≡◌, ◌<◌, ◌∙◌, ◌++◌, ℕ, true, false, List, length, map, Option, Some, None, refl, subst, arith, sym}
 use Rattle.std.proofs.lemmas.List.{length-map}
 use Rattle.rv_model.specs.declared.size.Size.{Size}
 use Rattle.debug_model.specs.declared.command.Path.TheVariants.{Progbuf, Bus}
@@ -30,10 +30,11 @@ as_many size held = length-map held (cut_to size)
 -- ---- whole ones
 
 pub block_loaded : (size : Size) (address count : ℕ) (held : List ℕ) (old new : Tells) → IsReady old.far → length held ≡ count
-    → LoadRuns size address old held new → Fetched held old new → WhereTold (BlockLoadedAt size address held) old.far new.far
+    → LoadRuns size address count old held new → Fetched held old new → WhereTold (BlockLoadedAt size address held) old.far new.far
     → BlockLoadedAs Progbuf size address count (map (cut_to size) held) old new true
 block_loaded size address count held old new ready all runs fetched told =
-    (as_many size held ∙ all, BlockLoaded.by_hart held refl runs fetched (loaded_cut size address held old.far new.far ready told))
+    (as_many size held ∙ all, BlockLoaded.by_hart held refl (subst (λ n. LoadRuns size address n old held new) (sym all) runs) fetched
+        (loaded_cut size address held old.far new.far ready told))
 
 pub bus_block_loaded : (size : Size) (address count : ℕ) (held : List ℕ) (old new : Tells) → IsReady old.far → length held ≡ count
     → BusLoads size address old held new → WhereTold (BusBlockLoadedAt size address held) old.far new.far
@@ -102,29 +103,27 @@ leaves_as : (R S : Site → Site → Type 0) (old new : Option Far) → ((s t : 
 leaves_as R S None new step l = tt
 leaves_as R S (Some f) new step l = record { far = l.far; is = l.is; left = step _ _ l.left }
 
-loads_left : (size : Size) (address count h : ℕ) (held : List ℕ) (s t : Site) → length held < count → BlockLoadCut size address held h s t
+loads_left : (size : Size) (address count h : ℕ) (held : List ℕ) (s t : Site) → BlockLoadCut size address count held h s t
     → LoadsCut size address count h s t
-loads_left size address count h held s t below c = by_access c.left
-  where
-    by_access : AccessLeftOff Scratched LoadLeaves h c.mid t → LoadsCut size address count h s t
-    by_access (AccessLeftOff.before_it a) = SomeLoaded.between held c.mid c.each (omega (arith, below)) a
-    by_access (AccessLeftOff.behind_it a) = SomeLoaded.within held c.mid c.each below a
+loads_left size address count h held s t (BlockLoadCut.within more mid below each (AccessLeftOff.before_it a)) =
+    SomeLoaded.between (held ++ more) mid each (omega (arith, below)) a
+loads_left size address count h held s t (BlockLoadCut.within more mid below each (AccessLeftOff.behind_it a)) =
+    SomeLoaded.within (held ++ more) mid each below a
+loads_left size address count h held s t (BlockLoadCut.behind more mid all each a) = SomeLoaded.between (held ++ more) mid each (omega (arith, all)) a
 
-pub loads_cut : (size : Size) (address count h old_count new_count : ℕ) (held : List ℕ) (old new : Tells) (e : AccessFault)
-    → LoadRunsFailed size address count held old_count new_count old new e → IfCut (Leaves (BlockLoadCut size address held h) old.far new.far) e
-    → IfCut (Leaves (LoadsCut size address count h) old.far new.far) e
-loads_cut size address count h old_count new_count held old new e failed cut =
-    if_cut (Leaves (BlockLoadCut size address held h) old.far new.far) (Leaves (LoadsCut size address count h) old.far new.far) e
-    (leaves_as (BlockLoadCut size address held h) (LoadsCut size address count h) old.far new.far
-    (λ s t c. loads_left size address count h held s t failed.below c)) cut
+pub loads_cut : (size : Size) (address count h : ℕ) (held : List ℕ) (old new : Option Far) (e : AccessFault)
+    → IfCut (Leaves (BlockLoadCut size address count held h) old new) e → IfCut (Leaves (LoadsCut size address count h) old new) e
+loads_cut size address count h held old new e cut =
+    if_cut (Leaves (BlockLoadCut size address count held h) old new) (Leaves (LoadsCut size address count h) old new) e
+    (leaves_as (BlockLoadCut size address count held h) (LoadsCut size address count h) old new
+    (λ s t c. loads_left size address count h held s t c)) cut
 
 stores_left : (size : Size) (address value count h : ℕ) (s t : Site) → BlockStoreCut size address value count h s t
     → StoresCut size address value count h s t
-stores_left size address value count h s t c = by_access c.left
-  where
-    by_access : AccessLeftOff Scratched (StoreLeaves size (element_at size address c.done) value) h c.mid t → StoresCut size address value count h s t
-    by_access (AccessLeftOff.before_it a) = SomeStored.between c.done c.mid c.each (omega (arith, c.below)) a
-    by_access (AccessLeftOff.behind_it a) = SomeStored.within c.done c.mid c.each c.below a
+stores_left size address value count h s t (BlockStoreCut.within done mid below each (AccessLeftOff.before_it a)) =
+    SomeStored.between done mid each (omega (arith, below)) a
+stores_left size address value count h s t (BlockStoreCut.within done mid below each (AccessLeftOff.behind_it a)) = SomeStored.within done mid each below a
+stores_left size address value count h s t (BlockStoreCut.behind mid each a) = SomeStored.between count mid each (omega arith) a
 
 pub stores_cut : (size : Size) (address value count h : ℕ) (old new : Option Far) (e : AccessFault)
     → IfCut (Leaves (BlockStoreCut size address value count h) old new) e

@@ -168,7 +168,8 @@ no_error (v ∷ values) first row = right_more first row v values (length row + 
 -- ---- the block
 
 -- the bytes that wait in a row are said
-row_goes : (way : Way) (h first : ℕ) (row : List ℕ) (p : Plan) {t : Tells} → Goes (place way h (saying_row first row p)) t (row_lines first row) (place way h p) t
+row_goes : (way : Way) (h first : ℕ) (row : List ℕ) (p : Plan) {t : Tells}
+    → Goes (place way h (saying_row first row p)) t (row_lines first row) (place way h p) t
 row_goes way h first [] p = start
 row_goes way h first (byte ∷ bytes) p = one (says refl)
 

@@ -40,7 +40,7 @@ use Rattle.probe_session.specs.Places.{Place, ready}
 use Rattle.probe_session.specs.Steps.{Step, behind_look, behind_step, lines_of_view, trigger_cause, with_ebreakm}
 use Rattle.probe_session.proofs.BlockSteps.{block_loaded_at, block_loaded_none_at, block_stored_at, block_stored_none_at}
 use Rattle.probe_session.proofs.Tolds.{at_far, halt_deals, look_deals, other_found_deals, over_deals, resume_deals, step_found_deals}
-use Rattle.probe_session.proofs.Tolds.{stop_deals, stop_trigger_deals, told_case}
+use Rattle.probe_session.proofs.Tolds.{stop_deals, stop_trigger_deals, told_case, went_by}
 use Rattle.probe_session.proofs.ToldWrites.{armed_deals, ebreak_deals, freed_deals, full_deals, hits_deals}
 use Rattle.probe_session.proofs.ToldWrites.{never_refused, no_hits_deals, read_deals, read_next_deals, slots_deals}
 use Rattle.probe_session.proofs.Unhit.{either_way_deals, holds_none_deals, made_over, none_hit_deals, still_at}

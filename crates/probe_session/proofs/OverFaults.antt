@@ -82,7 +82,8 @@ missed acknowledged h looks e m o stepped other lines f old new is step left las
           (step (target_of (site_of c)) (target_of (site_of l.far)) d last ack l.happened));
     }) w a
 
-pub over_by : (why : AccessFault) (f : Failure) (h : ℕ) (m : Machine) (o : Origin) (stepped other : Plan) (lines : List Line) (old new : Option Far) → Became why f
+pub over_by : (why : AccessFault) (f : Failure) (h : ℕ) (m : Machine) (o : Origin) (stepped other : Plan) (lines : List Line) (old new : Option Far)
+    → Became why f
     → OverLeft h old new why → IfCut (LeavesAt (OverCut h) old new) why
     → At m h StillWay o (one h stepped other) lines (target_at old) → Still (LeftAs o lines f) new
 over_by (fault.Dmi why) f h m o stepped other lines old new is told cut a =

@@ -1,5 +1,6 @@
 -- Elements and bytes that are shown one behind another: the line of the next one, and the lines that are left.
-use Rattle.std.proofs.Common.{◌≡◌, ◌≢◌, ◌<◌, ◌≤◌, ◌∙◌, ◌+◌, ◌*◌, ◌++◌, ℕ, Bool, true, false, List, [], ◌∷◌, length, map, drop, get_or, Option, refl, sym, ap, subst, arith}
+use Rattle.std.proofs.Common.{◌≡◌, ◌≢◌, ◌<◌, ◌≤◌, ◌∙◌, ◌+◌, ◌*◌, ◌++◌, ℕ, Bool, true, false, List, [], ◌∷◌, length, map, drop, get_or, Option, refl}
+use Rattle.std.proofs.Common.{sym, ap, subst, arith}
 use Rattle.std.specs.Prelude.{◌==◌}
 use Rattle.std.proofs.lemmas.Bool.{eq-eqb, eqb-true, false≢true}
 use Rattle.std.proofs.lemmas.List.{drop_more, length-append, length-map}
@@ -234,7 +235,8 @@ at_row : (address number first : ℕ) (values row : List ℕ) {c e : Option (Lis
     → (length row ≡ 0 → ⊥) → RowWaits address values number row c e
     → LinesLeft (byte_rows address [] (map (cut_to B1) values)) (Line.Row first row ∷ []) c e
 at_row address number first values row {c} {e} done along some p =
-    subst (λ left. LinesLeft (byte_rows address [] (map (cut_to B1) values)) left c e) (a_row first row some) (at_last address number first values row done along p)
+    subst (λ left. LinesLeft (byte_rows address [] (map (cut_to B1) values)) left c e) (a_row first row some)
+        (at_last address number first values row done along p)
 
 pub last_put : (address number first : ℕ) (values row : List ℕ) {c e f : Option (List ℕ)} → length values ≤ number → first + length row ≡ address + number
     → (length row ≡ 0 → ⊥) → RowWaits address values number row c e → f ≡ grown (text_of (Line.Row first row)) e

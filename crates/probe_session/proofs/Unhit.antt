@@ -112,7 +112,8 @@ either_way_deals m h o p lines t d =
 
 -- ---- a single step
 
-pub still_at : (m : Machine) (h : ℕ) (o : Origin) (p : Plan) (lines : List Line) (told : Option Target) → At m h Ready o p lines told → At m h StillWay o p lines told
+pub still_at : (m : Machine) (h : ℕ) (o : Origin) (p : Plan) (lines : List Line) (told : Option Target) → At m h Ready o p lines told
+    → At m h StillWay o p lines told
 still_at m h o p lines told a = record { target = a.target; is = a.is; holds = deals_unspent m h o p lines a.target a.holds }
 
 -- over slots that are all off where they have a hit, since none has one

@@ -28,7 +28,7 @@ use Rattle.probe_session.specs.Failures.{Became}
 -- the elements from an address on were read; what was handed out may hold more above the size, which is left out
 pub data BlockLoaded : Path → (size : Size) → (address : ℕ) → (values : List ℕ) → (old new : Tells) → Type 0 where
   by_hart : {size : Size} {address : ℕ} {values : List ℕ} {old new : Tells} (held : List ℕ) → values ≡ map (cut_to size) held
-      → LoadRuns size address old held new → Fetched held old new
+      → LoadRuns size address (length held) old held new → Fetched held old new
       → WhereTold (BlockLoadedAt size address values) old.far new.far → BlockLoaded Progbuf size address values old new
   by_bus : {size : Size} {address : ℕ} {values : List ℕ} {old new : Tells} (held : List ℕ) → values ≡ map (cut_to size) held
       → BusLoads size address old held new

@@ -12,7 +12,8 @@ returns-then-count-eq0-clause-went g c = ok_then (λ line. ends_with (said_by li
     c.stop_line.ensures.went
 
 pub returns-then-count-eq0-clause-falls : goal.returns-then-count-eq0-clause-falls
-returns-then-count-eq0-clause-falls g c = err_then _ _ _ (no_steps c.args.halted.number c.args.count c.if-count-eq0.true) (omega arith) c.stop_line.ensures.falls
+returns-then-count-eq0-clause-falls g c = err_then _ _ _ (no_steps c.args.halted.number c.args.count c.if-count-eq0.true)
+    (omega arith) c.stop_line.ensures.falls
 
 pub returns-in_err-again-clause-falls : goal.returns-in_err-again-clause-falls
 returns-in_err-again-clause-falls g c = if_err _ c.in_err-again.field-0.0 _ c.from_residual.ensures.1
@@ -24,5 +25,6 @@ returns-clause-went g c = ok_then (λ line. ends_with (said_by line)) _ _
     (ok_at (behind_first _) (λ line. ends_with (said_by line)) _ _ _ c.in_ok-again.ensures.hart c.more_steps_line.ensures.went)
 
 pub returns-clause-falls : goal.returns-clause-falls
-returns-clause-falls g c = err_then _ _ _ (first_step c.args.halted.number c.args.count (c.args.count - 1) (omega (arith, c.if-count-eq0.false)) c.in_ok-again.ensures.went)
+returns-clause-falls g c = err_then _ _ _ (first_step c.args.halted.number c.args.count (c.args.count - 1) (omega
+    (arith, c.if-count-eq0.false)) c.in_ok-again.ensures.went)
     c.step_once.ensures.keeps.later (err_at (behind_first _) _ _ _ _ _ c.in_ok-again.ensures.hart c.more_steps_line.ensures.falls)

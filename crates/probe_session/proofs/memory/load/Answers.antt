@@ -17,7 +17,7 @@ pub returns-in_default-clause-fell : goal.returns-in_default-clause-fell
 returns-in_default-clause-fell g c =
     BlockLoadFell.by_hart c.args.halted.now.number c.in-Err.fault _ c.requires.serving.serving
     c.load_block.ensures.keeps.later c.in-Err.ensures.failed c.in-Err.ensures.causes c.in-Err.ensures.left
-    (loads_cut c.args.size c.args.address c.args.count c.args.halted.now.number _ _ _ _ _ c.in-Err.fault c.in-Err.ensures.failed c.in-Err.ensures.cut)
+    (loads_cut c.args.size c.args.address c.args.count c.args.halted.now.number _ _ _ c.in-Err.fault c.in-Err.ensures.cut)
     (became c.in-Err.fault (not_memory c.in-Err.fault c.in_default.not-Memory) c.from.ensures)
 
 pub returns-in_default-clause-keeps : goal.returns-in_default-clause-keeps
