@@ -412,7 +412,7 @@ found_each = (
                 Finding.reads sbdata1_address (then_acts (then_acts [] sbaddress1_address p) sbaddress0_address q) two IsBusRead.upper_data,
                 λ r. let three : BusReads (then_acts (then_acts (then_acts [] sbaddress1_address p) sbaddress0_address q) sbdata1_address r) =
                     reads_snoc_bus sbdata1_address (value_of r) (then_acts (then_acts [] sbaddress1_address p) sbaddress0_address q) IsBusRead.upper_data
-                        two in (
+                    two in (
                       Finding.reads sbdata0_address (then_acts (then_acts (then_acts [] sbaddress1_address p) sbaddress0_address q) sbdata1_address r) three
                           IsBusRead.lower_data,
                       λ t. tt,

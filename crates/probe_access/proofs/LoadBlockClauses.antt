@@ -181,7 +181,7 @@ load_block_err size address count h values None coming old_count new_count new e
     (around_untold (LoadsInside size address count values) (LoadsFailed size address count values) (UntoldLoad size address count values) old_count new_count
     (tells None coming) new e (λ oc nc first last g none q. loads_plain size address count oc nc values first last g some none q)
     (λ at x8 x9 last back p u. load_back size address count values at x8 x9 last back p u) refl (load_around size address count old_count new_count values
-        (tells None coming) new e f))
+    (tells None coming) new e f))
 load_block_err size address count h values (Some c) coming old_count new_count new e ends some ready selects halted f =
     let s : Site = site_of c in
     let x : Hart = halted.hart in

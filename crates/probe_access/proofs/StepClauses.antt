@@ -80,7 +80,7 @@ broke_run : (h count mid_count new_count : ℕ) (old : Tells) (told : Option Far
     → RunBroke Resume sees_both h mid_count new_count old told why → RunBroke Resume sees_both h count new_count old told why
 broke_run h count mid_count new_count old told why le later (at_first b) =
     at_first (broke_then [] old old nothing [] (Several (Write dmcontrol_address (control_word Resume h))
-        (Read dmstatus_address ∷ [])) count mid_count new_count told why le later b)
+    (Read dmstatus_address ∷ [])) count mid_count new_count told why le later b)
 broke_run h count mid_count new_count old told why le later (at_look w) = at_look (record {
   vain = w.vain;
   none = w.none;

@@ -66,7 +66,7 @@ by_stop : (request : Request) (h : ℕ) (E : Site → Site → Type 0)
     (s : Site) → ((e t : Site) → Ran [] s e → SiteCut (Write dmcontrol_address (control_word request h)) e t → E s t)
     → ((e t : Site) → Ran (asks request h) s e → SiteCut (Read dmstatus_address) e t → E s t)
     → control_word request h < 2 ^ 32 → (done : List Operation) (op : DmiOp) (left : List DmiOp)
-        → map op_of done ++ op ∷ left ≡ first_ops (control_word request h)
+    → map op_of done ++ op ∷ left ≡ first_ops (control_word request h)
     → (e t : Site) → OperationsAt done s e → SiteCut op e t → E s t
 by_stop request h E s first second small [] op left asked e t at cut =
     let is : op ≡ Write dmcontrol_address (control_word request h) = cc in

@@ -69,8 +69,14 @@ looked_met test first old now looks word l is few = record {
 pub looked_missed : (test : Seen → Bool) (first : List Act) (old now : Tells) (looks word : ℕ) → Looked test first old now looks word
     → test (seen_in word) ≡ false → looks ≡ most_looks → Missed test word first old now
 looked_missed test first old now looks word l unseen all =
-    record { front = l.vain; did = l.did; none = l.none; not_shown = unseen; all = let c : length l.vain + 1 ≡ looks = l.count in subst
-        (λ n. length l.vain + 1 ≡ n) all c }
+    record {
+      front = l.vain;
+      did = l.did;
+      none = l.none;
+      not_shown = unseen;
+      all = let c : length l.vain + 1 ≡ looks = l.count in subst
+          (λ n. length l.vain + 1 ≡ n) all c;
+    }
 
 pub looked_broke : (test : Seen → Bool) (first : List Act) (old now : Tells) (looks word count mid_count new_count : ℕ) (told : Option Far) (fault : DmiFault)
     → Looked test first old now looks word → test (seen_in word) ≡ false

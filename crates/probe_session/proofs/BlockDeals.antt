@@ -140,7 +140,7 @@ stores_deals path size value m h way o zero lines s t Stores.nothing EachStored.
 stores_deals path size value m h way o {address} (suc count) lines s t (Stores.further faulted next rest)
     (EachStored.further k one each) d =
     stores_deals path size value m h way o {address = address + count_of size} count lines k t rest each
-        (store_once path size address value m h way o faulted next lines s k one d)
+    (store_once path size address value m h way o faulted next lines s k one d)
 
 -- ---- some of them
 

@@ -32,9 +32,11 @@ as_many size held = length-map held (cut_to size)
 pub block_loaded : (size : Size) (address count : ℕ) (held : List ℕ) (old new : Tells) → IsReady old.far → length held ≡ count
     → LoadRuns size address count old held new → Fetched held old new → WhereTold (BlockLoadedAt size address held) old.far new.far
     → BlockLoadedAs Progbuf size address count (map (cut_to size) held) old new true
-block_loaded size address count held old new ready all runs fetched told =
-    (as_many size held ∙ all, BlockLoaded.by_hart held refl (subst (λ n. LoadRuns size address n old held new) (sym all) runs) fetched
-        (loaded_cut size address held old.far new.far ready told))
+block_loaded size address count held old new ready all runs fetched told = (
+  as_many size held ∙ all,
+  BlockLoaded.by_hart held refl (subst (λ n. LoadRuns size address n old held new) (sym all) runs) fetched
+      (loaded_cut size address held old.far new.far ready told),
+)
 
 pub bus_block_loaded : (size : Size) (address count : ℕ) (held : List ℕ) (old new : Tells) → IsReady old.far → length held ≡ count
     → BusLoads size address old held new → WhereTold (BusBlockLoadedAt size address held) old.far new.far

@@ -236,7 +236,7 @@ at_row : (address number first : ℕ) (values row : List ℕ) {c e : Option (Lis
     → LinesLeft (byte_rows address [] (map (cut_to B1) values)) (Line.Row first row ∷ []) c e
 at_row address number first values row {c} {e} done along some p =
     subst (λ left. LinesLeft (byte_rows address [] (map (cut_to B1) values)) left c e) (a_row first row some)
-        (at_last address number first values row done along p)
+    (at_last address number first values row done along p)
 
 pub last_put : (address number first : ℕ) (values row : List ℕ) {c e f : Option (List ℕ)} → length values ≤ number → first + length row ≡ address + number
     → (length row ≡ 0 → ⊥) → RowWaits address values number row c e → f ≡ grown (text_of (Line.Row first row)) e

@@ -69,7 +69,7 @@ unfolding reading
 reading_may path zero size a next = MayLoad.nothing
 reading_may path (suc n) size a next = MayLoad.further (say (Line.MemoryFault a) next)
     (λ v. say (Line.Element a size v) (reading path n size (a + count_of size) next)) (λ v. Line.Element a size v ∷ []) (λ v. reading path n size
-        (a + count_of size) next)
+    (a + count_of size) next)
     (λ v. Says.further refl Says.nothing) (λ v. reading_may path n size (a + count_of size) next)
 
 no_error : (size : Size) (a : ℕ) (values : List ℕ) → any_error (element_lines size a values) ≡ false

@@ -113,7 +113,7 @@ hit_on kind.Disabled tdata2 touch e = refl
 
 marked_slot : (b : Bool) (touch : Touch) (s : Slot) → slot_fires touch s ≡ b → trigger_has_hit s.trigger ≡ false
     → with_trigger trigger_back (if b then record s { trigger = trigger_hit s.trigger } else s) ≡
-        (if b then record s { trigger = trigger_hit s.trigger } else s)
+    (if b then record s { trigger = trigger_hit s.trigger } else s)
 marked_slot true touch s is e = ap (λ (t : Trigger). record s { trigger = t }) (hit_on s.trigger s.tdata2 touch is)
 marked_slot false touch s is e = ap (λ (t : Trigger). record s { trigger = t }) (unchanged PutBack s.trigger e)
 
@@ -211,7 +211,7 @@ clear_pointed h old new p u =
 clear_looked : (h : ℕ) (now : Seen) (old new : Target) → Looked h now old new → ClearAt h old.board → ClearAt h new.board
 clear_looked h now old new l c =
     subst (ClearAt h) (sym l.pointed.board) (clear_turns h l.pointed.behind (after_turns l.pointed.before old.board)
-        (clear_turns h l.pointed.before old.board c))
+    (clear_turns h l.pointed.before old.board c))
 
 clear_vain : (test : Seen → Bool) (h : ℕ) (old : Target) (n : ℕ) (last : Seen) (new : Target) → InVain test h old n last new → ClearAt h old.board
     → ClearAt h new.board

@@ -22,7 +22,7 @@ pub returns-in_err-loads_around-clause-left : goal.returns-in_err-loads_around-c
 returns-in_err-loads_around-clause-left g c =
     err_failed c.from_residual.result c.in_err-loads_around.field-0.0 _ c.from_residual.ensures.1
     (load_block_err c.args.size c.args.address c.args.count c.args.halted.now.number c.loads_around.new.into.items _ _ _ _ _
-        c.in_err-loads_around.field-0.0 c.requires.ends c.requires.some c.requires.serving.ready
+    c.in_err-loads_around.field-0.0 c.requires.ends c.requires.some c.requires.serving.ready
     c.requires.serving.selects c.requires.serving.halted
     c.in_err-loads_around.ensures.failed).left
 
@@ -30,7 +30,7 @@ pub returns-in_err-loads_around-clause-serving_still : goal.returns-in_err-loads
 returns-in_err-loads_around-clause-serving_still g c =
     err_failed c.from_residual.result c.in_err-loads_around.field-0.0 _ c.from_residual.ensures.1
     (load_block_err c.args.size c.args.address c.args.count c.args.halted.now.number c.loads_around.new.into.items _ _ _ _ _
-        c.in_err-loads_around.field-0.0 c.requires.ends c.requires.some c.requires.serving.ready
+    c.in_err-loads_around.field-0.0 c.requires.ends c.requires.some c.requires.serving.ready
     c.requires.serving.selects c.requires.serving.halted
     c.in_err-loads_around.ensures.failed).serving
 
@@ -38,7 +38,7 @@ pub returns-in_err-loads_around-clause-cut : goal.returns-in_err-loads_around-cl
 returns-in_err-loads_around-clause-cut g c =
     err_failed c.from_residual.result c.in_err-loads_around.field-0.0 _ c.from_residual.ensures.1
     (load_block_cut c.args.size c.args.address c.args.count c.args.halted.now.number c.loads_around.new.into.items _ _ _ _ _
-        c.in_err-loads_around.field-0.0 c.requires.ends c.requires.some c.requires.serving.ready
+    c.in_err-loads_around.field-0.0 c.requires.ends c.requires.some c.requires.serving.ready
     c.requires.serving.selects c.requires.serving.halted
     c.in_err-loads_around.ensures.failed)
 
