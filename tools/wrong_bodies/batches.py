@@ -189,7 +189,8 @@ def try_edits(crate, paths, kept, is_proved):
         refused |= try_group(crate, group, kept, paths_of(texts) if is_proved else {})
     for edit, why in read:
         if why:
-            yield False, f"{edit.label}: BROKEN: {why}"
+            # The kit takes an edit that changes nothing for one that it can't read: here it is one that the prover doesn't refuse.
+            yield False, f"{edit.label}: {'NOT REFUSED' if why.startswith('it changes nothing') else 'BROKEN'}: {why}"
         elif edit.path in refused:
             yield True, f"{edit.label}: refused: {refused[edit.path]}"
         else:
