@@ -1,5 +1,5 @@
 -- What a fault of an access by the system bus follows, and the calls of a block with one element's more.
-use Rattle.std.proofs.Common.{◌≡◌, ◌≤◌, ◌<◌, ◌+◌, ◌++◌, ℕ, List, [], ◌∷◌, length, map, sym, ap, subst, append_assoc, arith, ◌⊎◌}
+use Rattle.std.proofs.Common.{◌≡◌, ◌≤◌, ◌<◌, ◌+◌, ◌++◌, ℕ, List, [], ◌∷◌, length, map, sym, subst, append_assoc, arith}
 use Rattle.rv_model.specs.declared.size.Size.{Size}
 use Rattle.debug_model.specs.Addresses.{sbcs_address}
 use Rattle.debug_model.specs.declared.dmi.DmiFault.{DmiFault}
@@ -12,26 +12,12 @@ use Rattle.probe_run.specs.Opening.{clears_sberror}
 use Rattle.probe_run.proofs.ActLemmas.{broke_then, did_list, did_then}
 use Rattle.probe_access.specs.Accesses.{IfMemory}
 use Rattle.probe_access.specs.Blocks.{element_at}
-use Rattle.probe_access.specs.BusBlockRuns.{BusCauses, BusLoads, BusLoadsRefused, BusReported, BusReportedOddly, BusStores, BusStoresRefused}
+use Rattle.probe_access.specs.BusBlockRuns.{BusCauses, BusLoads, BusLoadsRefused, BusReported, BusStores, BusStoresRefused}
 use Rattle.probe_access.specs.BusBlockRuns.BusLoads.{alone as loaded_alone}
 use Rattle.probe_access.specs.BusBlockRuns.BusLoadsRefused.{alone as load_alone}
 use Rattle.probe_access.specs.BusBlockRuns.BusStores.{alone as stored_alone}
 use Rattle.probe_access.specs.BusBlockRuns.BusStoresRefused.{alone as store_alone}
-use Rattle.probe_access.specs.BusRuns.{
-  BusEndFailed,
-  BusEnded,
-  BusEnding,
-  BusLoadFailed,
-  BusLoaded,
-  BusOddly,
-  BusPolled,
-  BusRefused,
-  BusStoreFailed,
-  BusStored,
-  bus_poll,
-  read_started,
-  write_started,
-}
+use Rattle.probe_access.specs.BusRuns.{BusEndFailed, BusEnded, BusLoadFailed, BusLoaded, BusPolled, BusRefused, BusStoreFailed, BusStored, bus_poll, read_started, write_started}
 use Rattle.probe_access.specs.BusRuns.BusEnding.{at_poll, at_clear}
 use Rattle.probe_access.specs.BusRuns.BusLoadFailed.{in_start as load_start, in_end as load_end, in_fetch as load_fetch}
 use Rattle.probe_access.specs.BusRuns.BusStoreFailed.{in_start as store_start, in_end as store_end}
@@ -71,7 +57,7 @@ bus_causes_behind a b c p count mid_count new_count (access_fault.Odd shown) le 
 
 -- ---- of each part
 
-polled_calls : (last : ℕ) (a b : Tells) → BusPolled last a b → Calls a b
+pub polled_calls : (last : ℕ) (a b : Tells) → BusPolled last a b → Calls a b
 polled_calls last a b p = calls _ a b p.did
 
 ended_calls : (a b : Tells) → BusEnded a b → Calls a b
@@ -197,6 +183,11 @@ pub bus_stores_calls : (size : Size) (address value : ℕ) (a : Tells) (n : ℕ)
 bus_stores_calls size address value a _ b BusStores.nothing = calls [] a b nothing
 bus_stores_calls size address value a _ b (stored_alone n mid _ l one) =
     calls_then a mid b (bus_stores_calls size address value a n mid l) (bus_stored_calls size (element_at size address n) value mid b one)
+bus_stores_calls size address value a _ b (BusStores.ran count _ r) = calls_then a r.mid b (calls _ a r.mid r.asked) (ended_calls r.mid b r.ends)
+bus_stores_calls size address value a _ b (BusStores.ran_on count last done _ s fine early) =
+    calls_then a s.polled b
+    (calls_then a s.shows.mid s.polled (calls _ a s.shows.mid s.shows.asked) (polled_calls last s.shows.mid s.polled s.shows.polled))
+    (calls _ s.polled b s.found.did)
 
 pub bus_stores_more : (size : Size) (address at value done : ℕ) (old mid new : Tells) → at ≡ element_at size address done
     → BusStores size address value old done mid → BusStored size at value mid new → BusStores size address value old (done + 1) new

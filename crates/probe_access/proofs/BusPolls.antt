@@ -110,7 +110,7 @@ poll_broke n count mid_count new_count old mid told why w few le later cut cause
 
 -- ---- writes
 
-begun_before : (xs ys front : List Act) (failed : Attempt) → Starting xs front failed → Starting (xs ++ ys) front failed
+pub begun_before : (xs ys front : List Act) (failed : Attempt) → Starting xs front failed → Starting (xs ++ ys) front failed
 begun_before xs ys _ _ (next front rest address value is) =
     next front (rest ++ ys) address value (ap (λ zs. zs ++ ys) is ∙ append_assoc front (Put address value ∷ rest) ys)
 

@@ -1,36 +1,6 @@
 -- The calls of a run of loads by the system bus, put together out of single calls.
-use Rattle.std.proofs.Common.{
-  ◌≡◌,
-  ◌∙◌,
-  ◌≤◌,
-  ◌<◌,
-  ◌+◌,
-  ◌*◌,
-  ◌++◌,
-  ◌-◌,
-  ◌^◌,
-  ◌%◌,
-  ℕ,
-  zero,
-  suc,
-  List,
-  [],
-  ◌∷◌,
-  length,
-  take,
-  slice_index_or,
-  All,
-  Option,
-  refl,
-  sym,
-  ap,
-  subst,
-  append_assoc,
-  append-nil,
-  length-append,
-  arith,
-}
-use Rattle.std.proofs.lemmas.List.{length-take-le, take-append-drop}
+use Rattle.std.proofs.Common.{◌≡◌, ◌∙◌, ◌≤◌, ◌<◌, ◌+◌, ◌*◌, ◌++◌, ℕ, zero, suc, List, [], ◌∷◌, length, take, slice_index_or, All, Option, refl, sym, ap, subst, append_assoc, append-nil, length-append, arith}
+use Rattle.std.proofs.lemmas.List.{take-append-drop}
 use Rattle.std.proofs.lemmas.List.Elements.{All-cons}
 use Rattle.std.specs.Prelude.{drop}
 use Rattle.rv_model.specs.declared.size.Size.{Size}
@@ -49,7 +19,6 @@ use Rattle.probe_run.specs.Acts.Attempt.{Operation}
 use Rattle.probe_run.specs.Acts.Did.{nothing}
 use Rattle.probe_run.specs.Opening.{clears_sberror}
 use Rattle.probe_run.proofs.ActLemmas.{broke_then, did_list, did_then, did_together}
-use Rattle.probe_access.specs.BusRuns.{cut_to}
 use Rattle.probe_access.specs.BusStreams.{
   DataReads,
   BusReads,
@@ -177,12 +146,12 @@ pub reads_small : (size : Size) (n : ℕ) → All IsOperation (reads_of size n)
 reads_small size zero = λ k d h. absurd (omega arith)
 reads_small size (suc n) = one_small size (reads_of size n) (reads_small size n)
 
-some_did : (ops : List DmiOp) (results : List ℕ) (old new : Tells) → 0 < length ops → All IsOperation ops → WhereTold (OperatedAll ops results) old.far new.far
+pub some_did : (ops : List DmiOp) (results : List ℕ) (old new : Tells) → 0 < length ops → All IsOperation ops → WhereTold (OperatedAll ops results) old.far new.far
     → AnswersAll ops results old.coming new.coming → Did old (acts_of ops results) new
 some_did [] results old new some small told heard = absurd (omega arith)
 some_did (op ∷ ops) results old new some small told heard = did_together op ops results old new (record { small = small; told = told; heard = heard })
 
-some_broke : (B : List Act → Attempt → Type 0) (ops : List DmiOp) (old_count new_count : ℕ) (old : Tells) (told : Option Far) (why : DmiFault)
+pub some_broke : (B : List Act → Attempt → Type 0) (ops : List DmiOp) (old_count new_count : ℕ) (old : Tells) (told : Option Far) (why : DmiFault)
     → 0 < length ops → BegunEach B [] ops → WhereTold (OperationsCut ops) old.far told
     → ManyCause (length ops) old_count new_count old.far told old.coming why → BrokeIn (Among B) old_count new_count old told why
 some_broke B [] old_count new_count old told why some each cut cause = absurd (omega arith)

@@ -1,39 +1,8 @@
 -- What the faults of a run of loads by the system bus follow, and what they leave.
-use Rattle.std.proofs.Common.{
-  ◌≡◌,
-  ◌≢◌,
-  ◌⊎◌,
-  ◌∙◌,
-  ◌≤◌,
-  ◌<◌,
-  ◌+◌,
-  ◌*◌,
-  ◌++◌,
-  ◌^◌,
-  ℕ,
-  List,
-  [],
-  ◌∷◌,
-  length,
-  map,
-  true,
-  false,
-  Option,
-  Some,
-  None,
-  refl,
-  sym,
-  ap,
-  subst,
-  inl,
-  inr,
-  append_assoc,
-  arith,
-}
+use Rattle.std.proofs.Common.{◌≡◌, ◌∙◌, ◌≤◌, ◌<◌, ◌+◌, ◌*◌, ◌++◌, ◌^◌, ℕ, List, [], ◌∷◌, map, true, Option, sym, ap, subst, inl, append_assoc, arith}
 use Rattle.rv_model.specs.declared.size.Size.{Size}
 use Rattle.rv_model.specs.Memory.{is_aligned}
 use Rattle.rv_model.specs.Size.{count_of}
-use Rattle.debug_model.specs.declared.dmi.DmiFault.{DmiFault}
 use Rattle.debug_model.specs.Dmi.{DmiComing}
 use Rattle.debug_model.specs.Told.{Far, IsReady}
 use Rattle.probe_access.specs.declared.fault.AccessFault.{AccessFault}
@@ -46,15 +15,14 @@ use Rattle.probe_access.specs.Accesses.{IfMemory}
 use Rattle.probe_access.specs.BusBlockRuns.{BusCauses, BusLoadsRefused, BusReported, BusReportedOddly}
 use Rattle.probe_access.specs.BusBlocks.{BusBlockLoadCut, BusBlockLoadLeft}
 use Rattle.probe_access.specs.BusRuns.{BusPollFailed, BusPolled, bus_error, bus_poll}
-use Rattle.probe_access.specs.BusStreams.{FrontRead, Ran, RunFailed, RunFell, RunOddly, RunRead, Stopped, found_acts}
+use Rattle.probe_access.specs.BusStreams.{FrontRead, RunFailed, RunFell, RunOddly, Stopped, found_acts}
 use Rattle.probe_access.specs.BusStreams.RunFailed.{in_start, in_front, in_stop, in_last, in_polls, in_finding}
 use Rattle.probe_access.specs.Cuts.{IfCut, Leaves}
 use Rattle.probe_access.proofs.BlockCauses.{Calls, calls, calls_then}
 use Rattle.probe_access.proofs.BusBlockCauses.{bus_causes_behind, ran_calls}
-use Rattle.probe_access.proofs.BusStreamClauses.{RunRefused, run_refused}
+use Rattle.probe_access.proofs.BusStreamClauses.{run_refused}
 use Rattle.probe_access.proofs.BusStreamFaults.{run_failed_cut}
 use Rattle.probe_access.proofs.BusStreamOutcomes.{oddly_none, two_not_zero}
-use Rattle.probe_access.proofs.CutSites.{cut_always, if_cut}
 
 -- ---- the calls of each part
 
@@ -63,7 +31,7 @@ front_calls size address count front old new r = calls_then old r.begun new (cal
 
 -- ---- a fault of the link, and polls in vain
 
-poll_causes : (old_count new_count : ℕ) (mid new : Tells) (e : AccessFault) → BusPollFailed old_count new_count mid new e
+pub poll_causes : (old_count new_count : ℕ) (mid new : Tells) (e : AccessFault) → BusPollFailed old_count new_count mid new e
     → BusCauses old_count new_count mid new e
 poll_causes old_count new_count mid new (access_fault.Dmi why) b = (b.acts, b.failed, b.broke)
 poll_causes old_count new_count mid new (access_fault.Memory at) b = absurd b
@@ -98,7 +66,7 @@ failed_causes size address count old_count new_count old new e later (in_finding
 
 -- ---- what the last poll showed
 
-polled_then : (last : ℕ) (old mid polled new : Tells) → (c : Calls old mid) → (p : BusPolled last mid polled) → (rest : List Act) → Did polled rest new
+pub polled_then : (last : ℕ) (old mid polled new : Tells) → (c : Calls old mid) → (p : BusPolled last mid polled) → (rest : List Act) → Did polled rest new
     → Did old ((c.acts ++ map bus_poll p.words) ++ bus_poll last ∷ rest) new
 polled_then last old mid polled new c p rest did =
     did_list (c.acts ++ ((map bus_poll p.words ++ bus_poll last ∷ []) ++ rest)) ((c.acts ++ map bus_poll p.words) ++ bus_poll last ∷ rest) old new

@@ -1,55 +1,21 @@
 -- The clauses of a run of loads by the system bus, where the chip is told.
-use Rattle.std.proofs.Common.{
-  ◌≡◌,
-  ◌≢◌,
-  ◌⊎◌,
-  ◌∙◌,
-  ◌≤◌,
-  ◌<◌,
-  ◌+◌,
-  ◌*◌,
-  ◌++◌,
-  ◌^◌,
-  ◌%◌,
-  ℕ,
-  List,
-  [],
-  ◌∷◌,
-  length,
-  map,
-  Bool,
-  true,
-  false,
-  Option,
-  Some,
-  None,
-  refl,
-  sym,
-  ap,
-  subst,
-  inl,
-  inr,
-  length-append,
-  arith,
-}
+use Rattle.std.proofs.Common.{◌≡◌, ◌∙◌, ◌≤◌, ◌<◌, ◌+◌, ◌*◌, ◌++◌, ◌^◌, ◌%◌, ℕ, List, [], ◌∷◌, length, map, true, false, Option, Some, None, refl, sym, ap, subst, length-append, arith}
 use Rattle.std.proofs.lemmas.Bool.{false≢true}
 use Rattle.rv_model.specs.declared.size.Size.{Size}
 use Rattle.rv_model.specs.Memory.{is_aligned}
 use Rattle.rv_model.specs.Size.{count_of}
 use Rattle.debug_model.specs.Addresses.{sbcs_address}
-use Rattle.debug_model.specs.declared.dmi_op.DmiOp.TheVariants.{Read, Write}
 use Rattle.debug_model.specs.Dmi.{DmiComing}
-use Rattle.debug_model.specs.Module.{Site}
 use Rattle.debug_model.specs.Scan.{WhereTold}
 use Rattle.debug_model.specs.Told.{Far, IsReady, SiteReady, site_of}
-use Rattle.probe_run.specs.Acts.{Act, Did, Tells, tells}
+use Rattle.probe_run.specs.Acts.{Did, Tells, tells}
 use Rattle.probe_run.specs.Acts.Act.{Put}
 use Rattle.probe_access.specs.Blocks.{element_at}
 use Rattle.probe_access.specs.BusBlocks.{BusBlockLoadRefused, BusBlockLoadedAt}
 use Rattle.probe_access.specs.BusRuns.{BusPolled, bus_collided, bus_error, bus_poll, cut_to}
 use Rattle.probe_access.specs.BusStreams.{FrontRead, Handed, MoreRead, Ran, RanThrough, Stopped, found_acts, run_started, running}
 use Rattle.probe_access.specs.RegisterAccess.{joined}
-use Rattle.probe_access.proofs.Along.{AtSites, SiteActs, did_sites, did_untold}
+use Rattle.probe_access.proofs.Along.{AtSites, did_sites, did_untold}
 use Rattle.probe_access.proofs.BusStreamEnds.{AllLoaded, AllRefused, Ended, done_ended, early_loaded, refused_left, rest_loaded}
 use Rattle.probe_access.proofs.BusStreamSteps.{elements_going, going_first, going_stops, last_done}
 use Rattle.probe_access.proofs.BusStreamTold.{Done, Going}

@@ -1,33 +1,5 @@
 -- Where a run of loads by the system bus broke off at a told chip: a front of the elements was loaded, and of the next at most the access was made.
-use Rattle.std.proofs.Common.{
-  ◌≡◌,
-  ◌∙◌,
-  ◌≤◌,
-  ◌<◌,
-  ◌+◌,
-  ◌*◌,
-  ◌++◌,
-  ◌^◌,
-  ℕ,
-  List,
-  [],
-  ◌∷◌,
-  length,
-  map,
-  Bool,
-  true,
-  false,
-  Option,
-  Some,
-  None,
-  refl,
-  sym,
-  ap,
-  subst,
-  append-nil,
-  length-append,
-  arith,
-}
+use Rattle.std.proofs.Common.{◌≡◌, ◌∙◌, ◌≤◌, ◌<◌, ◌+◌, ◌*◌, ◌++◌, ◌^◌, ℕ, List, [], ◌∷◌, length, Bool, true, false, None, refl, sym, ap, subst, append-nil, length-append, arith}
 use Rattle.rv_model.specs.declared.size.Size.{Size}
 use Rattle.rv_model.specs.declared.size.Size.TheVariants.{B1}
 use Rattle.rv_model.specs.Memory.{is_aligned}
@@ -45,23 +17,22 @@ use Rattle.debug_model.specs.Module.{DebugModule, Site, operated}
 use Rattle.debug_model.specs.SystemBus.{BusUnit, bus_looked, sbcs_written, sbdata0_read}
 use Rattle.debug_model.specs.Told.{SiteReady}
 use Rattle.probe_run.specs.Acts.{Act}
-use Rattle.probe_run.specs.Acts.Act.{Got, Put}
 use Rattle.probe_run.specs.Acts.Attempt.{Operation}
 use Rattle.probe_run.specs.Opening.{clears_sberror}
 use Rattle.probe_access.specs.Blocks.{element_at}
 use Rattle.probe_access.specs.BusBlocks.{BusBlockLoadCut, BusLoadedEach, BusLoadedOne, BusNotLoadedOne}
 use Rattle.probe_access.specs.BusStreams.{BusReads, DataReads, Finding, IsBusRead, ReadingData, running}
-use Rattle.probe_access.specs.Cuts.{BusLeftOff, LoadLeaves}
+use Rattle.probe_access.specs.Cuts.{BusBefore, BusLeftOff, LoadLeaves}
 use Rattle.probe_access.specs.Cuts.BusLeftOff.{before_it, behind_it}
-use Rattle.probe_access.proofs.Along.{ReadAt, SiteActs}
+use Rattle.probe_access.proofs.Along.{SiteActs}
 use Rattle.probe_access.proofs.Aside.{passed}
 use Rattle.probe_access.proofs.BusSites.{AtBus, put_bus}
 use Rattle.probe_access.proofs.BusSites.Writes.{to_sbcs}
 use Rattle.probe_access.proofs.BusStreamEnds.{Ended}
-use Rattle.probe_access.proofs.BusStreamSites.{Reads, Refusing, Resting, Waiting, at_ran, at_read, at_write, loaded_passed, refused_passed}
+use Rattle.probe_access.proofs.BusStreamSites.{Reads, Refusing, Resting, Waiting, at_ran, at_read, loaded_passed, refused_passed}
 use Rattle.probe_access.proofs.BusStreamSites.Reads.{of_sbaddress0, of_sbaddress1, of_sbdata0, of_sbdata1}
 use Rattle.probe_access.proofs.BusStreamSteps.{Half, next_started, stop_by, upper_read}
-use Rattle.probe_access.proofs.BusStreamTold.{Bad, Done, Going, Last, bad_lower, bad_more, done_ran, going_ran, resting_read, waiting_read}
+use Rattle.probe_access.proofs.BusStreamTold.{Bad, Done, Going, Last, bad_lower, bad_more, going_ran, resting_read, waiting_read}
 use Rattle.probe_access.proofs.BusStreamTold.Going.{waits, rests, bad}
 use Rattle.probe_access.proofs.BusStreamUnits.{next_of, read_bus, reading, refused_bus, refused_cleared, run_cleared}
 use Rattle.probe_access.proofs.BusTold.{unit_like, works_ready}
@@ -72,10 +43,10 @@ use Rattle.probe_access.proofs.Turns.{unit_passed}
 -- ---- what each place leaves
 
 -- turns alone passed since the last access
-pub bus_before : (u : BusUnit) (mid t : Site) → AtBus u mid t → BusLeftOff LoadLeaves mid t
-bus_before u mid t a =
+pub turns_alone : (u : BusUnit) (mid t : Site) → AtBus u mid t → BusBefore mid t
+turns_alone u mid t a =
     let q : Passed mid (passed a.harts mid) = passed_turns a.harts mid in
-    before_it (record {
+    record {
       harts = q.harts;
       board = ap (λ (x : Site). x.board) a.is ∙ q.board;
       journal = ap (λ (x : Site). x.journal) a.is ∙ q.journal;
@@ -83,7 +54,10 @@ bus_before u mid t a =
           ap (λ (x : Site). x.unit) a.is
           ∙ ap (λ (k : DebugModule). unit_like k u) (unit_passed a.harts mid)
           ∙ ap (unit_like mid.unit) (sym (ap (λ (x : Site). x.unit.bus) a.is));
-    })
+    }
+
+pub bus_before : (u : BusUnit) (mid t : Site) → AtBus u mid t → BusLeftOff LoadLeaves mid t
+bus_before u mid t a = before_it (turns_alone u mid t a)
 
 loaded_behind : (size : Size) (address v : ℕ) (s t : Site) → BusLoadedOne size address v s t → BusLeftOff LoadLeaves s t
 loaded_behind size address v s t one = behind_it (record {
@@ -343,28 +317,6 @@ last_cut size address count s read acts op x mid t (ReadingData.upper n _ r few)
 
 -- ---- while the errors are cleared
 
-settled_ran : (size : Size) (address count : ℕ) (s : Site) (u v : BusUnit) (x t : Site) → ((mid : Site) → SiteReady mid → AtBus u mid x → AtBus v mid t)
-    → Settled size address count s u x → Settled size address count s v t
-settled_ran size address count s u v x t f (Settled.loaded values w first mid below each one ready at) =
-    Settled.loaded values w first mid below each one ready (f mid ready at)
-settled_ran size address count s u v x t f (Settled.refused values first mid below each one ready at) =
-    Settled.refused values first mid below each one ready (f mid ready at)
-
-settled_deeds : (size : Size) (address count : ℕ) (s : Site) (u : BusUnit) (x t : Site) → u.pending ≡ None → Settled size address count s u x
-    → DeedsAlone x t → Settled size address count s u t
-settled_deeds size address count s u x t idle g d =
-    settled_ran size address count s u u x t
-    (λ mid ready at. subst (λ (y : Site). AtBus u mid y) (sym d.is) (at_ran u mid x d.deeds ready idle at)) g
-
-settled_clears : (size : Size) (address count : ℕ) (s : Site) (u : BusUnit) (at v result : ℕ) (x t : Site) → u.pending ≡ None
-    → sbcs_written clears_sberror u ≡ bus_at false B1 at v Fine None → Settled size address count s u x
-    → OneOperation (Write sbcs_address clears_sberror) result x t → Settled size address count s (bus_at false B1 at v Fine None) t
-settled_clears size address count s u at v result x t idle clears g o =
-    let w : BusUnit = bus_at false B1 at v Fine None in
-    settled_ran size address count s u w x t
-    (λ mid ready p. put_bus sbcs_address clears_sberror _ u w mid x t (to_sbcs clears_sberror) (works_ready mid ready) idle clears refl p
-    (t, record { before = o.before; behind = o.behind; is = o.is; result_is = refl }, refl)) g
-
 kept_by : (a : ℕ) (f : BusUnit → BusUnit) (g : BusUnit → ℕ) (result at v : ℕ) (mid x t : Site) → Reads a f g
     → f (bus_at false B1 at v Fine None) ≡ bus_at false B1 at v Fine None → SiteReady mid → AtBus (bus_at false B1 at v Fine None) mid x
     → OneOperation (Read a) result x t → AtBus (bus_at false B1 at v Fine None) mid t
@@ -381,34 +333,50 @@ bus_read_at _ result at v mid x t IsBusRead.lower_address ready p o = kept_by sb
 bus_read_at _ result at v mid x t IsBusRead.upper_data ready p o = kept_by sbdata1_address bus_looked _ result at v mid x t of_sbdata1 refl ready p o
 bus_read_at _ result at v mid x t IsBusRead.lower_data ready p o = kept_by sbdata0_address sbdata0_read _ result at v mid x t of_sbdata0 refl ready p o
 
-settled_reads : (size : Size) (address count : ℕ) (s : Site) (at v : ℕ) (acts : List Act) (x t : Site) → BusReads acts
-    → Settled size address count s (bus_at false B1 at v Fine None) x → SiteActs acts x t → Settled size address count s (bus_at false B1 at v Fine None) t
-settled_reads size address count s at v _ x t BusReads.none g p =
-    subst (λ (y : Site). Settled size address count s (bus_at false B1 at v Fine None) y) (sym p) g
-settled_reads size address count s at v _ x t (BusReads.more a value acts is r) g p =
-    let u : BusUnit = bus_at false B1 at v Fine None in
-    settled_reads size address count s at v acts p.0 t r
-    (settled_ran size address count s u u x p.0 (λ mid ready q. bus_read_at a p.1.result at v mid x p.0 is ready q p.1.one) g) p.2
+reads_along : (at v : ℕ) (acts : List Act) (mid x t : Site) → SiteReady mid → BusReads acts → AtBus (bus_at false B1 at v Fine None) mid x → SiteActs acts x t
+    → AtBus (bus_at false B1 at v Fine None) mid t
+reads_along at v _ mid x t ready BusReads.none a p = subst (λ (y : Site). AtBus (bus_at false B1 at v Fine None) mid y) (sym p) a
+reads_along at v _ mid x t ready (BusReads.more r value acts is others) a p =
+    reads_along at v acts mid p.0 t ready others (bus_read_at r p.1.result at v mid x p.0 is ready a p.1.one) p.2
+
+-- turns alone passed, and the bus holds something
+pub record AtSome (mid t : Site) : Type 0 where
+  pub unit : BusUnit
+  pub at : AtBus unit mid t
+
+pub finding_along : (u : BusUnit) (at v : ℕ) (acts : List Act) (op : DmiOp) (mid x m t : Site) → SiteReady mid → u.pending ≡ None
+    → sbcs_written clears_sberror u ≡ bus_at false B1 at v Fine None → Finding acts (Operation op) → AtBus u mid x → SiteActs acts x m → SiteCut op m t
+    → AtSome mid t
+finding_along u at v _ _ mid x m t ready idle clears Finding.clears a p (unperformed d) = record {
+  unit = u;
+  at = subst (λ (y : Site). AtBus u mid y) (sym d.is) (at_ran u mid m d.deeds ready idle (subst (λ (y : Site). AtBus u mid y) (sym p) a));
+}
+finding_along u at v _ _ mid x m t ready idle clears Finding.clears a p (was_performed result o) = record {
+  unit = bus_at false B1 at v Fine None;
+  at = put_bus sbcs_address clears_sberror _ u (bus_at false B1 at v Fine None) mid m t (to_sbcs clears_sberror) (works_ready mid ready) idle clears refl
+      (subst (λ (y : Site). AtBus u mid y) (sym p) a) (t, record { before = o.before; behind = o.behind; is = o.is; result_is = refl }, refl);
+}
+finding_along u at v _ _ mid x m t ready idle clears (Finding.reads r acts others is) a p cut =
+    let w : BusUnit = bus_at false B1 at v Fine None in
+    let put : AtBus w mid p.0 =
+    put_bus sbcs_address clears_sberror _ u w mid x p.0 (to_sbcs clears_sberror) (works_ready mid ready) idle clears refl a (p.0, p.1, refl) in
+    record { unit = w; at = by (reads_along at v acts mid p.0 m ready others put p.2) cut }
+  where
+    by : AtBus (bus_at false B1 at v Fine None) mid m → SiteCut (Read r) m t → AtBus (bus_at false B1 at v Fine None) mid t
+    by b (unperformed d) =
+        subst (λ (y : Site). AtBus (bus_at false B1 at v Fine None) mid y) (sym d.is)
+        (at_ran (bus_at false B1 at v Fine None) mid m d.deeds ready refl b)
+    by b (was_performed result o) = bus_read_at r result at v mid m t is ready b o
 
 finding_by : (size : Size) (address count : ℕ) (s : Site) (u : BusUnit) (at v : ℕ) (acts : List Act) (op : DmiOp) (x mid t : Site) → u.pending ≡ None
     → sbcs_written clears_sberror u ≡ bus_at false B1 at v Fine None → Finding acts (Operation op) → Settled size address count s u x
     → SiteActs acts x mid → SiteCut op mid t → BusBlockLoadCut size address count [] s t
-finding_by size address count s u at v _ _ x mid t idle clears Finding.clears g p (unperformed d) =
-    settled_cut size address count s u t
-    (settled_deeds size address count s u mid t idle (subst (λ (y : Site). Settled size address count s u y) (sym p) g) d)
-finding_by size address count s u at v _ _ x mid t idle clears Finding.clears g p (was_performed result o) =
-    settled_cut size address count s (bus_at false B1 at v Fine None) t
-    (settled_clears size address count s u at v result mid t idle clears (subst (λ (y : Site). Settled size address count s u y) (sym p) g) o)
-finding_by size address count s u at v _ _ x mid t idle clears (Finding.reads a acts r is) g p (unperformed d) =
-    let w : BusUnit = bus_at false B1 at v Fine None in
-    settled_cut size address count s w t
-    (settled_deeds size address count s w mid t refl
-    (settled_reads size address count s at v acts p.0 mid r (settled_clears size address count s u at v _ x p.0 idle clears g p.1) p.2) d)
-finding_by size address count s u at v _ _ x mid t idle clears (Finding.reads a acts r is) g p (was_performed result o) =
-    let w : BusUnit = bus_at false B1 at v Fine None in
-    settled_cut size address count s w t
-    (settled_ran size address count s w w mid t (λ base ready q. bus_read_at a result at v base mid t is ready q o)
-    (settled_reads size address count s at v acts p.0 mid r (settled_clears size address count s u at v _ x p.0 idle clears g p.1) p.2))
+finding_by size address count s u at v acts op x mid t idle clears f (Settled.loaded values w first base below each one ready a) p cut =
+    let g : AtSome base t = finding_along u at v acts op base x mid t ready idle clears f a p cut in
+    settled_cut size address count s g.unit t (Settled.loaded values w first base below each one ready g.at)
+finding_by size address count s u at v acts op x mid t idle clears f (Settled.refused values first base below each one ready a) p cut =
+    let g : AtSome base t = finding_along u at v acts op base x mid t ready idle clears f a p cut in
+    settled_cut size address count s g.unit t (Settled.refused values first base below each one ready g.at)
 
 pub finding_cut : (size : Size) (address count : ℕ) (s : Site) (read : List ℕ) (last : ℕ) (acts : List Act) (op : DmiOp) (x mid t : Site)
     → Finding acts (Operation op) → Ended size address count s read last x → SiteActs acts x mid → SiteCut op mid t

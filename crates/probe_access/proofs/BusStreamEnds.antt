@@ -32,8 +32,8 @@ use Rattle.rv_model.specs.declared.size.Size.{Size}
 use Rattle.rv_model.specs.declared.size.Size.TheVariants.{B1, B2, B4, B8}
 use Rattle.rv_model.specs.Size.{count_of}
 use Rattle.debug_model.specs.Addresses.{sbaddress0_address, sbaddress1_address, sbcs_address, sbdata0_address, sbdata1_address}
-use Rattle.debug_model.specs.declared.dmi_op.DmiOp.TheVariants.{Read, Write}
-use Rattle.debug_model.specs.declared.sberror.Sberror.TheVariants.{Address, Fine}
+use Rattle.debug_model.specs.declared.dmi_op.DmiOp.TheVariants.{Read}
+use Rattle.debug_model.specs.declared.sberror.Sberror.TheVariants.{Fine}
 use Rattle.debug_model.specs.Commands.{high_half, low_half}
 use Rattle.debug_model.specs.Deeds.{Deed, ran}
 use Rattle.debug_model.specs.Dmi.{value_of}
@@ -41,8 +41,6 @@ use Rattle.debug_model.specs.Module.{Site, operated, operation_result}
 use Rattle.debug_model.specs.ModuleWords.{sbcs_word}
 use Rattle.debug_model.specs.SystemBus.{BusUnit, bus_looked, sbcs_shown, sbcs_written, sbdata0_read}
 use Rattle.debug_model.specs.Told.{SiteReady}
-use Rattle.probe_run.specs.Acts.{Act}
-use Rattle.probe_run.specs.Acts.Act.{Got, Put}
 use Rattle.probe_run.specs.Opening.{clears_sberror}
 use Rattle.probe_access.specs.Blocks.{element_at}
 use Rattle.probe_access.specs.BusBlocks.{BusLoadedEach, BusNotLoadedOne}
@@ -54,24 +52,10 @@ use Rattle.probe_access.proofs.Along.{ReadAt, SiteActs}
 use Rattle.probe_access.proofs.BusSites.{AtBus, put_bus}
 use Rattle.probe_access.proofs.BusSites.Writes.{to_sbcs}
 use Rattle.probe_access.proofs.BusStreamShown.{RunShown, reading_shown, refused_shown, rest_shown, sbcs_seen}
-use Rattle.probe_access.proofs.BusStreamSites.{
-  Reads,
-  Refusing,
-  Resting,
-  Waiting,
-  at_ran,
-  at_read,
-  at_write,
-  loaded_passed,
-  ready_at,
-  refused_passed,
-  refusing_ran,
-  resting_ran,
-  shown_at,
-}
+use Rattle.probe_access.proofs.BusStreamSites.{Reads, Refusing, Resting, at_ran, at_read, loaded_passed, ready_at, refused_passed, refusing_ran, resting_ran, shown_at}
 use Rattle.probe_access.proofs.BusStreamSites.Reads.{of_sbaddress0, of_sbaddress1, of_sbcs, of_sbdata0, of_sbdata1}
-use Rattle.probe_access.proofs.BusStreamTold.{Bad, Done, Last, bad_ran, done_ran, refusing_read, resting_read, waiting_read}
-use Rattle.probe_access.proofs.BusStreamUnits.{next_of, read_bus, reading, refused_bus, refused_cleared, run_bus, run_cleared}
+use Rattle.probe_access.proofs.BusStreamTold.{Bad, Done, Last, done_ran, refusing_read, resting_read, waiting_read}
+use Rattle.probe_access.proofs.BusStreamUnits.{next_of, read_bus, reading, refused_bus, refused_cleared, run_cleared}
 use Rattle.probe_access.proofs.BusTold.{value_whole, works_ready}
 use Rattle.probe_access.proofs.BusUnits.{bus_at}
 
@@ -99,7 +83,7 @@ pub data Ended (size : Size) (address count : ℕ) (s : Site) (read : List ℕ) 
       → Last size values value → read ≡ values ++ rest → bus_error last ≡ 2 → Ended size address count s read last t
 
 -- what the poll shows of the bus
-shows_of : (last : ℕ) (u : BusUnit) (base x : Site) → SiteReady base → AtBus u base x → last ≡ value_of (operation_result (Read sbcs_address) x)
+pub shows_of : (last : ℕ) (u : BusUnit) (base x : Site) → SiteReady base → AtBus u base x → last ≡ value_of (operation_result (Read sbcs_address) x)
     → last ≡ sbcs_seen u
 shows_of last u base x ready at shows = shows ∙ ap value_of (shown_at sbcs_address (λ v. v) (λ v. sbcs_word (sbcs_shown v)) u base x of_sbcs ready at)
 

@@ -1,35 +1,5 @@
 -- What a run of loads by the system bus leaves of a told chip where it broke off, and what its faults follow.
-use Rattle.std.proofs.Common.{
-  ◌≡◌,
-  ◌≢◌,
-  ◌⊎◌,
-  ◌∙◌,
-  ◌≤◌,
-  ◌<◌,
-  ◌+◌,
-  ◌*◌,
-  ◌++◌,
-  ◌^◌,
-  ℕ,
-  List,
-  [],
-  ◌∷◌,
-  length,
-  map,
-  true,
-  false,
-  Option,
-  Some,
-  None,
-  refl,
-  sym,
-  ap,
-  subst,
-  inl,
-  inr,
-  append_assoc,
-  arith,
-}
+use Rattle.std.proofs.Common.{◌≡◌, ◌⊎◌, ◌≤◌, ◌<◌, ◌+◌, ◌*◌, ◌^◌, ℕ, List, [], ◌∷◌, map, true, false, Option, Some, None, refl, sym, subst, inl, inr}
 use Rattle.rv_model.specs.declared.size.Size.{Size}
 use Rattle.rv_model.specs.Memory.{is_aligned}
 use Rattle.rv_model.specs.Size.{count_of}
@@ -46,7 +16,7 @@ use Rattle.debug_model.specs.SystemBus.{BusUnit}
 use Rattle.debug_model.specs.Told.{Far, IsReady, SiteReady, site_of}
 use Rattle.probe_access.specs.declared.fault.AccessFault.{AccessFault}
 use Rattle.probe_access.specs.declared.fault.AccessFault.TheVariants as access_fault
-use Rattle.probe_run.specs.Acts.{Act, Attempt, Broke, Did, Tells, tells}
+use Rattle.probe_run.specs.Acts.{Act, Attempt, Broke, Tells, tells}
 use Rattle.probe_run.specs.Acts.Act.{Put}
 use Rattle.probe_run.specs.Acts.Attempt.{Operation}
 use Rattle.probe_access.specs.BusBlocks.{BusBlockLoadCut}
@@ -56,9 +26,9 @@ use Rattle.probe_access.specs.BusRuns.BusPollBegun.{polls}
 use Rattle.probe_access.specs.BusRuns.Starting.{next}
 use Rattle.probe_access.specs.BusStreams.{Finding, ReadingData, RunFailed, run_started, running}
 use Rattle.probe_access.specs.BusStreams.RunFailed.{in_start, in_front, in_stop, in_last, in_polls, in_finding}
-use Rattle.probe_access.specs.Cuts.{BusLeftOff, IfCut, IsLeft, Leaves, LoadLeaves}
+use Rattle.probe_access.specs.Cuts.{BusLeftOff, IfCut, Leaves, LoadLeaves}
 use Rattle.probe_access.specs.Faults.{Among, BrokeIn}
-use Rattle.probe_access.proofs.Along.{AtSites, SiteActs, did_sites}
+use Rattle.probe_access.proofs.Along.{AtSites, did_sites}
 use Rattle.probe_access.proofs.BusCuts.{Nth, nth_of, write_cut}
 use Rattle.probe_access.proofs.BusCuts.Nth.{here, there}
 use Rattle.probe_access.proofs.BusSites.{AtBus, put_bus}
@@ -68,7 +38,7 @@ use Rattle.probe_access.proofs.BusStreamClauses.{DoneAt, EndedAt, FrontAt, Stopp
 use Rattle.probe_access.proofs.BusStreamCuts.{bus_before, done_cut, finding_cut, going_cut, last_cut, reading_cut, stop_cut}
 use Rattle.probe_access.proofs.BusStreamEnds.{done_poll, polls_done}
 use Rattle.probe_access.proofs.BusStreamSites.{at_ran, stage_stands}
-use Rattle.probe_access.proofs.BusStreamSteps.{going_first, start_set}
+use Rattle.probe_access.proofs.BusStreamSteps.{start_set}
 use Rattle.probe_access.proofs.BusStreamTold.{Done, Going, Last, done_ran, first_at, waited}
 use Rattle.probe_access.proofs.BusStreamUnits.{reading, run_bus, run_high, run_low, run_pends, run_set}
 use Rattle.probe_access.proofs.BusStartCuts.{no_more}

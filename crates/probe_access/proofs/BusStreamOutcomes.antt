@@ -1,80 +1,27 @@
 -- What a run of loads by the system bus comes to.
-use Rattle.std.proofs.Common.{
-  ◌≡◌,
-  ◌≢◌,
-  ◌⊎◌,
-  ◌∙◌,
-  ◌≤◌,
-  ◌<◌,
-  ◌+◌,
-  ◌*◌,
-  ◌++◌,
-  ◌^◌,
-  ◌%◌,
-  ℕ,
-  List,
-  [],
-  ◌∷◌,
-  length,
-  map,
-  true,
-  false,
-  Option,
-  Some,
-  None,
-  refl,
-  sym,
-  ap,
-  subst,
-  inl,
-  inr,
-  append_assoc,
-  arith,
-}
+use Rattle.std.proofs.Common.{◌≡◌, ◌≢◌, ◌⊎◌, ◌∙◌, ◌≤◌, ◌<◌, ◌+◌, ◌*◌, ◌^◌, ◌%◌, ℕ, List, length, true, false, Option, Some, None, refl, sym, subst, inl, inr, arith}
 use Rattle.std.proofs.lemmas.Bool.{false≢true}
 use Rattle.rv_model.specs.declared.size.Size.{Size}
 use Rattle.rv_model.specs.declared.size.Size.TheVariants.{B1, B2, B4, B8}
 use Rattle.rv_model.specs.Memory.{is_aligned}
 use Rattle.rv_model.specs.Size.{count_of}
-use Rattle.debug_model.specs.Addresses.{sbcs_address}
 use Rattle.debug_model.specs.declared.dmi.DmiFault.{DmiFault}
 use Rattle.debug_model.specs.Dmi.{DmiComing}
 use Rattle.debug_model.specs.Module.{Site}
-use Rattle.debug_model.specs.Scan.{WhereTold}
 use Rattle.debug_model.specs.Told.{Far, IsReady, SiteReady, site_of}
 use Rattle.probe_access.specs.declared.fault.AccessFault.{AccessFault}
 use Rattle.probe_access.specs.declared.fault.AccessFault.TheVariants as access_fault
 use Rattle.probe_access.specs.declared.odd.OddStatus.{OddStatus}
-use Rattle.probe_access.specs.declared.odd.OddStatus.TheVariants.{Sbcs}
-use Rattle.probe_run.specs.Acts.{Act, Did, Tells, tells}
+use Rattle.probe_run.specs.Acts.{Tells, tells}
 use Rattle.probe_access.specs.Blocks.{element_at}
-use Rattle.probe_access.specs.BusBlockRuns.{BusCauses, BusLoads, BusLoadsRefused, BusReported, BusReportedOddly}
-use Rattle.probe_access.specs.BusRuns.{BusPollFailed, BusPolled, bus_busy, bus_collided, bus_error, bus_poll, cut_to, outside_error}
-use Rattle.probe_access.specs.BusStreams.{
-  Finding,
-  FoundAt,
-  FrontRead,
-  HandOutFell,
-  Handed,
-  HandedOut,
-  Misplaced,
-  Ran,
-  RanThrough,
-  RunFailed,
-  RunFell,
-  RunLoads,
-  RunOddly,
-  RunRead,
-  Stopped,
-  found_acts,
-}
+use Rattle.probe_access.specs.BusBlockRuns.{BusLoads}
+use Rattle.probe_access.specs.BusRuns.{BusPollFailed, bus_collided, bus_error, cut_to, outside_error}
+use Rattle.probe_access.specs.BusStreams.{Finding, FoundAt, HandOutFell, Handed, HandedOut, Misplaced, Ran, RunFailed, RunFell, RunLoads, RunOddly, RunRead, Stopped, found_acts}
 use Rattle.probe_access.specs.BusStreams.RunFailed.{in_start, in_front, in_stop, in_last, in_polls, in_finding}
 use Rattle.probe_access.specs.Faults.{Among, BrokeIn}
-use Rattle.probe_access.specs.RegisterAccess.{joined}
 use Rattle.probe_access.proofs.Along.{AtSites, did_sites}
 use Rattle.probe_access.proofs.BusStreamClauses.{EndedAt, RunLoaded, RunRefused, done_at, ended_at, ran_on, ran_through, run_refused}
 use Rattle.probe_access.proofs.BusStreamEnds.{Ended, Found, address_small, element_small, found_at}
-use Rattle.probe_access.proofs.BusStreamSites.{Refusing, Resting}
 use Rattle.probe_access.proofs.BusStreamUnits.{next_of, read_bus, refused_bus, refused_cleared, run_cleared}
 use Rattle.probe_access.proofs.RegisterCalls.{broke_counted}
 
@@ -195,13 +142,13 @@ loads_heard size address count values old new (RunLoads.some last s fine early) 
 pub two_not_zero : (n : ℕ) → n ≡ 2 → n ≡ 0 → ⊥
 two_not_zero n two none = omega arith
 
-element_behind : (size : Size) (address n : ℕ) → next_of size (element_at size address n) ≡ element_at size address (n + 1) % 2 ^ 64
+pub element_behind : (size : Size) (address n : ℕ) → next_of size (element_at size address n) ≡ element_at size address (n + 1) % 2 ^ 64
 element_behind B1 a n = omega arith
 element_behind B2 a n = omega arith
 element_behind B4 a n = omega arith
 element_behind B8 a n = omega arith
 
-element_whole : (size : Size) (address n : ℕ) → element_at size address n < 2 ^ 64 → element_at size address n ≡ element_at size address n % 2 ^ 64
+pub element_whole : (size : Size) (address n : ℕ) → element_at size address n < 2 ^ 64 → element_at size address n ≡ element_at size address n % 2 ^ 64
 element_whole size address n small = omega (arith, small)
 
 odd_other : (size : Size) (address count last : ℕ) (read : List ℕ) (s t : Site) → bus_error last ≢ 0 → bus_error last ≢ 2
@@ -210,7 +157,7 @@ odd_other size address count last read s t none other (Ended.fine values v r is 
 odd_other size address count last read s t none other (Ended.early on_data values rest v r is error collided) = none error
 odd_other size address count last read s t none other (Ended.refused on_data c values rest v r last_is is error) = other error
 
-odd_fine : (last : ℕ) → (bus_error last ≢ 0) ⊎ (bus_collided last ≡ true) → bus_error last ≡ 0 → bus_collided last ≡ false → ⊥
+pub odd_fine : (last : ℕ) → (bus_error last ≢ 0) ⊎ (bus_collided last ≡ true) → bus_error last ≡ 0 → bus_collided last ≡ false → ⊥
 odd_fine last (inl none) error collided = none error
 odd_fine last (inr some) error collided = false≢true (sym collided ∙ some)
 

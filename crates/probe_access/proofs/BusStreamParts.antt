@@ -1,38 +1,11 @@
 -- The calls of a run of loads by the system bus, one part behind another.
-use Rattle.std.proofs.Common.{
-  ◌≡◌,
-  ◌≢◌,
-  ◌⊎◌,
-  ◌∙◌,
-  ◌≤◌,
-  ◌<◌,
-  ◌+◌,
-  ◌-◌,
-  ◌++◌,
-  ℕ,
-  List,
-  [],
-  ◌∷◌,
-  length,
-  true,
-  false,
-  Option,
-  refl,
-  sym,
-  ap,
-  subst,
-  inl,
-  inr,
-  length-append,
-  arith,
-}
+use Rattle.std.proofs.Common.{◌≡◌, ◌≢◌, ◌⊎◌, ◌∙◌, ◌≤◌, ◌+◌, ◌-◌, ◌++◌, ℕ, List, [], ◌∷◌, length, true, false, refl, sym, ap, subst, inl, inr, length-append, arith}
 use Rattle.rv_model.specs.declared.size.Size.{Size}
 use Rattle.debug_model.specs.Addresses.{sbcs_address}
 use Rattle.debug_model.specs.declared.dmi.DmiFault.{DmiFault}
 use Rattle.debug_model.specs.declared.dmi_op.DmiOp.TheVariants.{Write}
 use Rattle.debug_model.specs.Dmi.{DmiCause, OperationCut}
 use Rattle.debug_model.specs.Scan.{WhereTold}
-use Rattle.debug_model.specs.Told.{Far}
 use Rattle.probe_access.specs.declared.fault.AccessFault.{AccessFault}
 use Rattle.probe_access.specs.declared.fault.AccessFault.TheVariants as access_fault
 use Rattle.probe_run.specs.Acts.{Did, Tells}

@@ -1,8 +1,8 @@
 -- What sbcs shows along a run of loads by the system bus.
-use Rattle.std.proofs.Common.{◌≡◌, ℕ, Bool, true, false, None, refl, if◌then◌else◌}
+use Rattle.std.proofs.Common.{◌≡◌, ℕ, Bool, true, false, None, refl}
 use Rattle.rv_model.specs.declared.size.Size.{Size}
 use Rattle.rv_model.specs.declared.size.Size.TheVariants.{B1, B2, B4, B8}
-use Rattle.debug_model.specs.declared.sberror.Sberror.TheVariants.{Address, Fine}
+use Rattle.debug_model.specs.declared.sberror.Sberror.TheVariants.{Fine}
 use Rattle.debug_model.specs.Dmi.{value_of}
 use Rattle.debug_model.specs.ModuleWords.{sbcs_word}
 use Rattle.debug_model.specs.SystemBus.{BusUnit, sbcs_shown}

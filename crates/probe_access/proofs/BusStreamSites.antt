@@ -1,36 +1,9 @@
 -- A site along a run of loads by the system bus: elements were loaded, and an access is under way, or was made, or was refused.
-use Rattle.std.proofs.Common.{
-  ◌≡◌,
-  ◌∙◌,
-  ◌<◌,
-  ◌+◌,
-  ◌*◌,
-  ◌++◌,
-  ◌^◌,
-  ℕ,
-  List,
-  [],
-  ◌∷◌,
-  length,
-  Bool,
-  true,
-  false,
-  None,
-  Ok,
-  Err,
-  refl,
-  sym,
-  ap,
-  subst,
-  append_assoc,
-  if◌then◌else◌,
-}
-use Rattle.rv_model.specs.declared.mem_fault.MemFault.{MemFault}
+use Rattle.std.proofs.Common.{◌≡◌, ◌∙◌, ◌<◌, ◌++◌, ◌^◌, ℕ, List, ◌∷◌, length, Bool, true, None, refl, sym, ap, subst, append_assoc, if◌then◌else◌}
 use Rattle.rv_model.specs.declared.size.Size.{Size}
 use Rattle.rv_model.specs.Board.{Board}
 use Rattle.rv_model.specs.Memory.{Memory, loaded}
 use Rattle.rv_model.specs.Size.{count_of}
-use Rattle.rv_model.specs.Widths.{MemoryReady}
 use Rattle.rv_model.proofs.WideMemory.{loaded_small}
 use Rattle.abstract_debugger.specs.Turns.{after_turns, turns}
 use Rattle.abstract_debugger.proofs.StandsLemmas.{after_turns-append, turns-append}
@@ -39,25 +12,23 @@ use Rattle.debug_model.specs.declared.dmi_op.DmiOp.TheVariants.{Read, Write}
 use Rattle.debug_model.specs.declared.module_register.ModuleRegister.TheVariants.{Sbaddress0, Sbaddress1, Sbcs, Sbdata0, Sbdata1}
 use Rattle.debug_model.specs.declared.point.Point.{Point}
 use Rattle.debug_model.specs.declared.point.Point.TheVariants.{Access}
-use Rattle.debug_model.specs.declared.sberror.Sberror.TheVariants.{Address, Fine}
 use Rattle.debug_model.specs.Commands.{high_half, low_half}
 use Rattle.debug_model.specs.Deeds.{Deed, ran}
-use Rattle.debug_model.specs.Module.{DebugModule, Site, operated, operation_result, read_by, register_at, result_by}
+use Rattle.debug_model.specs.Module.{DebugModule, Site, operated, operation_result, register_at, result_by}
 use Rattle.debug_model.specs.ModuleWords.{sbcs_word}
-use Rattle.debug_model.specs.SystemBus.{BusDone, BusUnit, bus_done, bus_looked, sbcs_shown, sbdata0_read}
+use Rattle.debug_model.specs.SystemBus.{BusDone, BusUnit, bus_looked, sbcs_shown, sbdata0_read}
 use Rattle.debug_model.specs.Told.{BusReady, ModuleReady, SiteReady}
 use Rattle.probe_access.specs.Accesses.{OneBusAccess, unchanged, with_memory}
 use Rattle.probe_access.specs.Blocks.{element_at}
 use Rattle.probe_access.specs.BusBlocks.{BusLoadedEach, BusLoadedOne, BusNotLoadedOne}
 use Rattle.probe_access.proofs.AccessEnd.{ready_before}
 use Rattle.probe_access.proofs.Aside.{accessed, harts_of, passed}
-use Rattle.probe_access.proofs.BusSites.{AtBus, Works, Writes, at_bus, bus_ran, works_passed, written_bus}
+use Rattle.probe_access.proofs.BusSites.{AtBus, Writes, at_bus, bus_ran, works_passed, written_bus}
 use Rattle.probe_access.proofs.BusStages.{BusStage, done_behind, done_site, stage_ran}
 use Rattle.probe_access.proofs.BusStages.BusStage.{waits, made}
 use Rattle.probe_access.proofs.BusStreamUnits.{RunEnd, read_bus, reading, refused_bus, run_end, run_pends}
 use Rattle.probe_access.proofs.BusStreamUnits.RunEnd.{was_read, not_read}
 use Rattle.probe_access.proofs.BusTold.{at_start, bus_one_access, bus_serving, unit_like, works_ready}
-use Rattle.probe_access.proofs.BusUnits.{done_as}
 use Rattle.probe_access.proofs.ReadyTurns.{BoardReady, Passed, board_ready_turns, passed_turns}
 use Rattle.probe_access.proofs.Turns.{unit_passed}
 

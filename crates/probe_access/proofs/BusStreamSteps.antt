@@ -1,32 +1,5 @@
 -- A run of loads by the system bus at a told chip, element by element: what was read is right as long as no error is set.
-use Rattle.std.proofs.Common.{
-  ◌≡◌,
-  ◌∙◌,
-  ◌≤◌,
-  ◌<◌,
-  ◌+◌,
-  ◌*◌,
-  ◌++◌,
-  ◌^◌,
-  ◌%◌,
-  ℕ,
-  List,
-  [],
-  ◌∷◌,
-  length,
-  Bool,
-  true,
-  false,
-  None,
-  refl,
-  sym,
-  ap,
-  subst,
-  append_assoc,
-  append-nil,
-  length-append,
-  arith,
-}
+use Rattle.std.proofs.Common.{◌≡◌, ◌∙◌, ◌≤◌, ◌<◌, ◌+◌, ◌*◌, ◌++◌, ◌^◌, ℕ, List, [], ◌∷◌, length, Bool, true, false, None, refl, sym, ap, subst, append_assoc, append-nil, length-append, arith}
 use Rattle.rv_model.specs.declared.size.Size.{Size}
 use Rattle.rv_model.specs.declared.size.Size.TheVariants.{B1, B2, B4, B8}
 use Rattle.rv_model.specs.Memory.{is_aligned}
@@ -39,10 +12,10 @@ use Rattle.debug_model.specs.Commands.{high_half, low_half}
 use Rattle.debug_model.specs.Deeds.{Deed, ran}
 use Rattle.debug_model.specs.Dmi.{value_of}
 use Rattle.debug_model.specs.Module.{Site, operated, operation_result}
-use Rattle.debug_model.specs.SystemBus.{BusUnit, bus_looked, bus_started, sbcs_written, sbdata0_read}
+use Rattle.debug_model.specs.SystemBus.{BusUnit, bus_looked, bus_started, sbdata0_read}
 use Rattle.debug_model.specs.Told.{SiteReady}
 use Rattle.probe_run.specs.Acts.{Act}
-use Rattle.probe_run.specs.Acts.Act.{Got, Put}
+use Rattle.probe_run.specs.Acts.Act.{Put}
 use Rattle.probe_access.specs.Blocks.{element_at}
 use Rattle.probe_access.specs.BusBlocks.BusLoadedEach.{nothing as none_loaded, further as loaded_further}
 use Rattle.probe_access.specs.BusRuns.{cut_to}
@@ -53,7 +26,7 @@ use Rattle.probe_access.proofs.Along.{ReadAt, SiteActs}
 use Rattle.probe_access.proofs.BusSites.{AtBus, put_bus}
 use Rattle.probe_access.proofs.BusSites.Writes.{to_sbaddress0, to_sbaddress1, to_sbcs}
 use Rattle.probe_access.proofs.BusStages.{BusStage, start_bus}
-use Rattle.probe_access.proofs.BusStreamSites.{Refusing, Resting, Stands, Waiting, at_read, at_write, resting_ran, shown_at, stage_stands}
+use Rattle.probe_access.proofs.BusStreamSites.{Resting, Waiting, at_read, at_write, resting_ran, shown_at, stage_stands}
 use Rattle.probe_access.proofs.BusStreamSites.Reads.{of_sbdata0, of_sbdata1}
 use Rattle.probe_access.proofs.BusStreamTold.{
   Bad,

@@ -1,83 +1,20 @@
 -- A run of loads by the system bus at a told chip: the words that were read, and where the run stands.
-use Rattle.std.proofs.Common.{
-  ◌≡◌,
-  ◌∙◌,
-  ◌≤◌,
-  ◌<◌,
-  ◌+◌,
-  ◌*◌,
-  ◌++◌,
-  ◌^◌,
-  ◌%◌,
-  ℕ,
-  List,
-  [],
-  ◌∷◌,
-  length,
-  map,
-  Bool,
-  true,
-  false,
-  None,
-  refl,
-  sym,
-  ap,
-  subst,
-  append_assoc,
-  append-nil,
-  length-append,
-  arith,
-}
+use Rattle.std.proofs.Common.{◌≡◌, ◌∙◌, ◌≤◌, ◌<◌, ◌+◌, ◌*◌, ◌++◌, ◌^◌, ◌%◌, ℕ, List, [], ◌∷◌, length, Bool, true, false, refl, sym, ap, append_assoc, append-nil, arith}
 use Rattle.std.proofs.lemmas.Bool.{eq-eqb, eqb-true}
 use Rattle.rv_model.specs.declared.size.Size.{Size}
 use Rattle.rv_model.specs.declared.size.Size.TheVariants.{B1, B2, B4, B8}
 use Rattle.rv_model.specs.Memory.{is_aligned}
 use Rattle.rv_model.specs.Size.{count_of}
-use Rattle.debug_model.specs.Addresses.{sbaddress0_address, sbaddress1_address, sbcs_address, sbdata0_address, sbdata1_address}
-use Rattle.debug_model.specs.declared.bus_access.BusAccess.TheVariants as access
-use Rattle.debug_model.specs.declared.dmi_op.DmiOp.TheVariants.{Read, Write}
-use Rattle.debug_model.specs.declared.sberror.Sberror.TheVariants.{Fine}
-use Rattle.debug_model.specs.Commands.{high_half, low_half}
-use Rattle.debug_model.specs.Course.{OneOperation}
+use Rattle.debug_model.specs.Addresses.{sbdata0_address, sbdata1_address}
+use Rattle.debug_model.specs.declared.dmi_op.DmiOp.TheVariants.{Read}
 use Rattle.debug_model.specs.Deeds.{Deed, ran}
-use Rattle.debug_model.specs.Dmi.{value_of}
-use Rattle.debug_model.specs.Module.{Site, operated, operation_result}
-use Rattle.debug_model.specs.SystemBus.{BusUnit, bus_looked, bus_started, sbdata0_read, sbcs_written}
-use Rattle.debug_model.specs.Told.{SiteReady}
-use Rattle.probe_run.specs.Acts.{Act}
-use Rattle.probe_run.specs.Acts.Act.{Got, Put}
+use Rattle.debug_model.specs.Module.{Site, operated}
+use Rattle.debug_model.specs.SystemBus.{BusUnit, bus_looked, sbdata0_read}
 use Rattle.probe_access.specs.Blocks.{element_at}
-use Rattle.probe_access.specs.BusBlocks.{BusLoadedEach}
-use Rattle.probe_access.specs.BusBlocks.BusLoadedEach.{nothing as none_loaded, further as loaded_further}
-use Rattle.probe_access.specs.BusRuns.{cut_to}
-use Rattle.probe_access.specs.BusStreams.{ElementsRead, IsNarrow, run_started, running}
-use Rattle.probe_access.specs.BusStreams.ElementsRead.{none as none_read, narrow, double}
-use Rattle.probe_access.specs.RegisterAccess.{joined}
-use Rattle.probe_access.proofs.Along.{ReadAt, SiteActs}
-use Rattle.probe_access.proofs.BusSites.{AtBus, put_bus}
-use Rattle.probe_access.proofs.BusSites.Writes.{to_sbaddress0, to_sbaddress1, to_sbcs}
-use Rattle.probe_access.proofs.BusStages.{BusStage, start_bus}
 use Rattle.probe_access.proofs.BusStreamSites.{Reads, Refusing, Resting, Stands, Waiting, at_read, refusing_ran, resting_ran, waiting_ran}
 use Rattle.probe_access.proofs.BusStreamSites.Reads.{of_sbdata0, of_sbdata1}
 use Rattle.probe_access.proofs.BusStreamSites.Stands.{waiting as still_waiting, resting as was_loaded, refusing as was_refused}
-use Rattle.probe_access.proofs.BusStreamUnits.{
-  erred_reads,
-  next_of,
-  read_bus,
-  read_starts,
-  reading,
-  refused_bus,
-  refused_reads,
-  refused_stops,
-  run_bus,
-  run_high,
-  run_low,
-  run_pends,
-  run_set,
-  run_stops,
-}
-use Rattle.probe_access.proofs.BusTold.{at_start, works_ready}
-use Rattle.probe_access.proofs.BusUnits.{upper_put}
+use Rattle.probe_access.proofs.BusStreamUnits.{erred_reads, next_of, read_bus, reading, refused_bus, refused_reads}
 
 -- ---- addresses
 

@@ -1,5 +1,5 @@
 -- The system bus along a run of loads, register by register: what its reads and writes make of it, and what each access leaves.
-use Rattle.std.proofs.Common.{◌≡◌, ◌∙◌, ◌+◌, ◌%◌, ◌^◌, ℕ, Bool, true, false, Option, Some, None, Result, Ok, Err, refl, sym, ap, if◌then◌else◌}
+use Rattle.std.proofs.Common.{◌≡◌, ◌∙◌, ◌+◌, ◌%◌, ◌^◌, ℕ, Bool, true, false, Option, Some, None, Result, Ok, Err, refl, ap, if◌then◌else◌}
 use Rattle.rv_model.specs.declared.mem_fault.MemFault.{MemFault}
 use Rattle.rv_model.specs.declared.size.Size.{Size}
 use Rattle.rv_model.specs.declared.size.Size.TheVariants.{B1, B2, B4, B8}
@@ -9,22 +9,8 @@ use Rattle.debug_model.specs.declared.bus_access.BusAccess.{BusAccess}
 use Rattle.debug_model.specs.declared.bus_access.BusAccess.TheVariants.{Read}
 use Rattle.debug_model.specs.declared.sberror.Sberror.{Sberror}
 use Rattle.debug_model.specs.declared.sberror.Sberror.TheVariants.{Fine, Address, Alignment}
-use Rattle.debug_model.specs.Commands.{high_half, joined_halves, low_half}
-use Rattle.debug_model.specs.SystemBus.{
-  BusDone,
-  BusUnit,
-  bus_done,
-  bus_done_by,
-  bus_looked,
-  bus_made,
-  bus_read_by,
-  bus_started,
-  sbaddress0_written,
-  sbaddress1_written,
-  sbcs_written,
-  sbdata0_read,
-  started_at,
-}
+use Rattle.debug_model.specs.Commands.{high_half, low_half}
+use Rattle.debug_model.specs.SystemBus.{BusDone, BusUnit, bus_done, bus_done_by, bus_made, bus_read_by, bus_started, sbaddress0_written, sbaddress1_written, sbcs_written, sbdata0_read, started_at}
 use Rattle.debug_model.specs.Told.{BusReady}
 use Rattle.probe_run.specs.Opening.{clears_sberror}
 use Rattle.probe_access.specs.BusRuns.{access_number}
@@ -63,7 +49,7 @@ refused_bus on_data size address value collided = run_bus on_data size address v
 
 -- ---- the start
 
-abbrev any_bus : Bool → ℕ → Bool → Bool → ℕ → ℕ → Sberror → Bool → Option BusAccess → BusUnit
+abbrev pub any_bus : Bool → ℕ → Bool → Bool → ℕ → ℕ → Sberror → Bool → Option BusAccess → BusUnit
 any_bus on_address access grows on_data address value error collided pending = record {
   readonaddr = on_address;
   access = access;
@@ -76,7 +62,7 @@ any_bus on_address access grows on_data address value error collided pending = r
   pending = pending;
 }
 
-ready_bus : (u : BusUnit) → BusReady u → u ≡ any_bus u.readonaddr u.access u.autoincrement u.readondata u.address u.value Fine false None
+pub ready_bus : (u : BusUnit) → BusReady u → u ≡ any_bus u.readonaddr u.access u.autoincrement u.readondata u.address u.value Fine false None
 ready_bus u r =
     ap (λ p. any_bus u.readonaddr u.access u.autoincrement u.readondata u.address u.value u.error u.busyerror p) r.idle
     ∙ ap (λ e. any_bus u.readonaddr u.access u.autoincrement u.readondata u.address u.value e u.busyerror None) r.fine

@@ -86,3 +86,12 @@ pub mod BusStreamFaults
 pub mod BusStreamOutcomes
 pub mod BusStreamCauses
 pub mod BusStreamParts
+pub mod BusStoreUnits
+pub mod BusStoreSites
+pub mod BusStoreSteps
+pub mod BusStoreEnds
+pub mod BusStoreOutcomes
+pub mod BusStoreCuts
+pub mod BusStoreCauses
+pub mod BusStoreCalls
+pub mod BusStoreParts

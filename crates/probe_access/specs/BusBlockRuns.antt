@@ -8,21 +8,9 @@ use Rattle.probe_access.specs.declared.odd.OddStatus.{OddStatus}
 use Rattle.probe_access.specs.declared.odd.OddStatus.TheVariants.{Sbcs}
 use Rattle.probe_run.specs.Acts.{Act, Attempt, Broke, Did, Tells}
 use Rattle.probe_access.specs.Blocks.{element_at}
+use Rattle.probe_access.specs.BusStoreStreams.{StoresStopped, StoresThrough}
 use Rattle.probe_access.specs.BusStreams.{RanThrough, Stopped}
-use Rattle.probe_access.specs.BusRuns.{
-  BusAlwaysBusy,
-  BusEnded,
-  BusLoaded,
-  BusRefused,
-  BusStored,
-  bus_busy,
-  bus_collided,
-  bus_error,
-  bus_poll,
-  outside_error,
-  read_started,
-  write_started,
-}
+use Rattle.probe_access.specs.BusRuns.{BusAlwaysBusy, BusLoaded, BusRefused, BusStored, bus_busy, bus_collided, bus_error, bus_poll, outside_error, read_started, write_started}
 
 -- ---- loads
 
@@ -45,16 +33,22 @@ pub data BusLoadsRefused (size : Size) (address : ℕ) (values : List ℕ) (old 
 
 -- ---- stores
 
--- just so many elements from an address on were stored, in this order
+-- just so many elements from an address on were stored, in this order: each by an access of its own, or the first of them in a run that went through, or
+-- that ended where one was asked for too early
 pub data BusStores (size : Size) (address value : ℕ) (old : Tells) : ℕ → Tells → Type 0 where
   nothing : BusStores size address value old 0 old
   alone : (n : ℕ) (mid new : Tells) → BusStores size address value old n mid → BusStored size (element_at size address n) value mid new
       → BusStores size address value old (n + 1) new
+  ran : (count : ℕ) (new : Tells) → StoresThrough size address value count old new → BusStores size address value old count new
+  ran_on : (count last done : ℕ) (new : Tells) → StoresStopped size address value count last done old new → bus_error last ≡ 0 → bus_collided last ≡ true
+      → BusStores size address value old done new
 
 -- and the next was tried and refused
 pub data BusStoresRefused (size : Size) (address value count : ℕ) (old new : Tells) : Type 0 where
   alone : (n : ℕ) (mid started : Tells) → n < count → BusStores size address value old n mid
       → Did mid (write_started size (element_at size address n) value) started → BusRefused started new
+      → BusStoresRefused size address value count old new
+  in_run : (last done : ℕ) → done < count → StoresStopped size address value count last done old new → bus_error last ≡ outside_error
       → BusStoresRefused size address value count old new
 
 -- ---- what a fault follows

@@ -5,6 +5,7 @@ pub mod Blocks
 pub mod BusBlockRuns
 pub mod BusBlocks
 pub mod BusRuns
+pub mod BusStoreStreams
 pub mod BusStreams
 pub mod CommandRuns
 pub mod Cuts

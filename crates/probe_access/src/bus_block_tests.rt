@@ -9,7 +9,7 @@ use crate::fault::AccessFault;
 use crate::odd::OddStatus;
 use crate::scripted_tests::ENDED;
 use arrayvec::ArrayVec;
-use debug_model::ScriptedDmi;
+use debug_model::{Dmi, ScriptedDmi};
 use rv_model::Size;
 
 /// No access of the bus is under way, and no error is set.
@@ -151,12 +151,98 @@ fn refuses_an_error_behind_the_last_element(rt: HostRuntime) {
     );
 }
 
+/// What a store of three elements of so many bytes answers.
+fn store_three(size: Size, words: &[u32]) -> Result<(), AccessFault> {
+    let mut link = answering(words);
+    bus_store_block(&mut link, size, PLACE, 3, 0x0123_4567_89ab_cdef)
+}
+
 #[test]
 fn stores_blocks_by_the_bus(rt: HostRuntime) {
-    let mut link = answering(&[IDLE, BUSY, IDLE, REFUSED]);
-    assert_eq!(rt; bus_store_block(&mut link, Size::B8, PLACE, 2, 7), Ok(()));
+    for size in [Size::B1, Size::B2, Size::B4, Size::B8] {
+        assert_eq!(rt; store_three(size, &[IDLE]), Ok(()));
+        assert_eq!(rt; store_three(size, &[BUSY, BUSY, IDLE]), Ok(()));
+        assert_eq!(rt; store_three(size, &[BUSY]), Err(ENDED));
+    }
+}
+
+#[test]
+fn stores_more_than_one_call_takes(rt: HostRuntime) {
+    let mut link = answering(&[IDLE, 7]);
+    assert_eq!(rt; bus_store_block(&mut link, Size::B8, PLACE, 300, 7), Ok(()));
+    assert_eq!(rt; link.read(0x38), Ok(7));
+}
+
+#[test]
+fn stores_what_was_asked_for_too_early_again(rt: HostRuntime) {
+    // one was stored, and then each of the other two alone
     assert_eq!(rt;
-        bus_store_block(&mut link, Size::B2, PLACE, 2, 7),
-        Err(AccessFault::Memory(PLACE))
+        store_three(Size::B8, &[EARLY, 0, 0x8000_0018, 0, 1, IDLE, IDLE]),
+        Ok(())
     );
+    assert_eq!(rt;
+        store_three(Size::B8, &[EARLY, 0, 0x8000_0018, 0, 1, IDLE]),
+        Err(ENDED)
+    );
+    // all were stored
+    assert_eq!(rt;
+        store_three(Size::B2, &[EARLY, 0, 0x8000_0016, 0, 1]),
+        Ok(())
+    );
+    // the next is refused where it is stored alone
+    assert_eq!(rt;
+        store_three(Size::B4, &[EARLY, 0, 0x8000_0018, 0, 1, REFUSED]),
+        Err(AccessFault::Memory(0x8000_0018))
+    );
+}
+
+#[test]
+fn names_the_element_that_memory_refused(rt: HostRuntime) {
+    let cases: [(Size, u32, u64); 5] = [
+        (Size::B1, 0x8000_0010, 0x8000_0010),
+        (Size::B1, 0x8000_0012, 0x8000_0012),
+        (Size::B2, 0x8000_0012, 0x8000_0012),
+        (Size::B4, 0x8000_0018, 0x8000_0018),
+        (Size::B8, 0x8000_0020, 0x8000_0020),
+    ];
+    for (size, place, wanted) in cases {
+        assert_eq!(rt;
+            store_three(size, &[REFUSED, 0, place, 0, 1]),
+            Err(AccessFault::Memory(wanted))
+        );
+        assert_eq!(rt;
+            store_three(size, &[EARLY_AND_REFUSED, 0, place, 0, 1]),
+            Err(AccessFault::Memory(wanted))
+        );
+    }
+}
+
+#[test]
+fn stores_nothing_more_behind_another_error(rt: HostRuntime) {
+    let cases: [(&[u32], AccessFault); 6] = [
+        (
+            &[0x2016_480f],
+            AccessFault::Odd(OddStatus::Sbcs(0x2016_480f)),
+        ),
+        (
+            &[EARLY, 0, 0x8000_0012, 0, 1],
+            AccessFault::Odd(OddStatus::Sbcs(EARLY)),
+        ),
+        (
+            &[EARLY, 0, 0x8000_0020, 0, 1],
+            AccessFault::Odd(OddStatus::Sbcs(EARLY)),
+        ),
+        (
+            &[EARLY, 1, 0x8000_0014, 0, 1],
+            AccessFault::Odd(OddStatus::Sbcs(EARLY)),
+        ),
+        (
+            &[REFUSED, 0, 0x8000_001c, 0, 1],
+            AccessFault::Odd(OddStatus::Sbcs(REFUSED)),
+        ),
+        (&[EARLY, 0], ENDED),
+    ];
+    for (words, wanted) in cases {
+        assert_eq!(rt; store_three(Size::B4, words), Err(wanted));
+    }
 }

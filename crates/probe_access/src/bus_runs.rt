@@ -59,7 +59,7 @@ fn run<D: Dmi>(
 }
 
 /// Whether `sbcs` shows no error.
-fn is_fine(last: u32) -> bool
+pub fn is_fine(last: u32) -> bool
     ensures fine { result ≡ true → (bus_error last ≡ 0) × (bus_collided last ≡ false) }
     ensures not_fine { result ≡ false → (bus_error last ≢ 0) ⊎ (bus_collided last ≡ true) }
 {
@@ -71,7 +71,7 @@ fn is_fine(last: u32) -> bool
 }
 
 /// Whether `sbcs` shows another error than that of an access outside memory.
-fn is_other(last: u32) -> bool
+pub fn is_other(last: u32) -> bool
     ensures other { result ≡ true → (bus_error last ≢ 0) × (bus_error last ≢ outside_error) }
     ensures none_other { result ≡ false → (bus_error last ≡ 0) ⊎ (bus_error last ≡ outside_error) }
 {

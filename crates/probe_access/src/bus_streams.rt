@@ -140,17 +140,18 @@ pub fn read_call<D: Dmi>(
     Ok(())
 }
 
-/// How many of so many elements are read in the next call.
-fn next_call(left: u16) -> u16
+/// How many of so many elements are accessed in the next call, of which each takes so many at most.
+pub fn next_call(left: u16, most: u16) -> u16
     requires some { 1 ≤ left }
+    requires takes_some { 1 ≤ most }
     ensures some { 1 ≤ result }
-    ensures few { result ≤ 64 }
+    ensures few { result ≤ most }
     ensures within { result ≤ left }
 {
-    if left < ELEMENTS_A_CALL {
+    if left < most {
         return left;
     }
-    ELEMENTS_A_CALL
+    most
 }
 
 /// Reads so many elements, in calls of at most 64.
@@ -168,7 +169,7 @@ pub fn read_elements<D: Dmi>(
 {
     let mut left = number;
     'calls: while left > 0 {
-        let now = next_call(left);
+        let now = next_call(left, ELEMENTS_A_CALL);
         read_call(link, size, now, into)?;
         left -= now;
     }

@@ -10,6 +10,7 @@ mod bus_block_tests;
 mod bus_blocks;
 mod bus_parts;
 mod bus_runs;
+mod bus_store_runs;
 mod bus_streams;
 #[cfg(test)]
 mod bus_tests;

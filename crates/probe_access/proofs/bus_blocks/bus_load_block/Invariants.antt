@@ -1,6 +1,6 @@
 use Rattle.probe_run.specs.Told.{told}
 use Rattle.std.proofs.Common.{◌≡◌, ◌≤◌, length}
-use Rattle.debug_model.specs.Kept.{CanCall, Stands}
+use Rattle.debug_model.specs.Kept.{Stands}
 use Rattle.debug_model.specs.Scan.{WhereTold}
 use Rattle.debug_model.specs.Told.{IsReady}
 use Rattle.probe_access.specs.BusBlockRuns.{BusLoads}

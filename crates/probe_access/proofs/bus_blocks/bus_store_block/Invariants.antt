@@ -1,6 +1,6 @@
 use Rattle.probe_run.specs.Told.{told}
-use Rattle.std.proofs.Common.{◌≡◌, ◌≤◌, ◌<◌}
-use Rattle.debug_model.specs.Kept.{CanCall, Stands}
+use Rattle.std.proofs.Common.{◌≡◌, ◌≤◌}
+use Rattle.debug_model.specs.Kept.{Stands}
 use Rattle.debug_model.specs.Scan.{WhereTold}
 use Rattle.debug_model.specs.Told.{IsReady}
 use Rattle.probe_access.specs.BusBlockRuns.{BusStores}
@@ -12,8 +12,7 @@ invariant-elements g l = record {
   stored : WhereTold (BusBlockStoredAt l.fn.size l.fn.address l.fn.value l.number) (g.D.Dmi.seen l.fn.link).far (g.D.Dmi.seen l.link).far;
   stores : BusStores l.fn.size l.fn.address l.fn.value (told (g.D.Dmi.seen l.fn.link)) l.number (told (g.D.Dmi.seen l.link));
   ready : IsReady (g.D.Dmi.seen l.link).far;
-  callable : CanCall (g.D.Dmi.seen l.link);
-  stands : 0 < l.number → Stands (g.D.Dmi.seen l.link);
+  stands : Stands (g.D.Dmi.seen l.link);
   later : (g.D.Dmi.seen l.fn.link).fault_count ≤ (g.D.Dmi.seen l.link).fault_count;
   fixed : (g.D.Dmi.seen l.link).fixed ≡ (g.D.Dmi.seen l.fn.link).fixed;
 }

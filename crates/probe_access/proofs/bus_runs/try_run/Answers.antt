@@ -1,7 +1,6 @@
 use Rattle.std.proofs.Common.{refl}
 use Rattle.probe_run.specs.Told.{told}
 use Rattle.probe_access.specs.BusStreams.{RunLoads, RunOddly}
-use Rattle.probe_access.proofs.BusStreamCauses.{fell_cut}
 use Rattle.probe_access.proofs.BusStreamOutcomes.{find_fell, hand_out_fell, stopped_of}
 use Rattle.probe_access.proofs.BusStreamParts.{too_early}
 use Rattle.probe_access.proofs.RegisterCalls.{err_failed}

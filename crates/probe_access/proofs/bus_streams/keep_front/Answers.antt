@@ -1,9 +1,8 @@
-use Rattle.std.proofs.Common.{◌∙◌, ap, sym, subst, [], ◌∷◌, ◌++◌, take, length, arith, ◌-◌}
+use Rattle.std.proofs.Common.{◌∙◌, ap, sym, subst, [], ◌∷◌, ◌++◌, take, arith, ◌-◌}
 use Rattle.probe_access.specs.BusRuns.{cut_to}
 use Rattle.probe_access.specs.BusStreams.{Handed}
 use Rattle.probe_access.specs.BusStreams.Handed.{none}
 use Rattle.probe_access.proofs.BusStreamCalls.{handed_some}
-use Rattle.probe_access.proofs.BusStreamClauses.{run_refused}
 use Rattle.probe_access.proofs.bus_streams.keep_front.Goals as goal
 
 pub returns-then-number-eq0-clause-handed : goal.returns-then-number-eq0-clause-handed

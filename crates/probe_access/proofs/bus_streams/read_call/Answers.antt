@@ -3,7 +3,6 @@ use Rattle.debug_model.specs.Dmi.{IsOperation}
 use Rattle.probe_run.specs.Told.{told}
 use Rattle.probe_access.specs.BusStreams.{values_in}
 use Rattle.probe_access.proofs.BusStreamCalls.{more_read, reads_broke, reads_small}
-use Rattle.probe_access.proofs.BusStreamFaults.{run_failed_cut}
 use Rattle.probe_access.proofs.RegisterCalls.{fault_failed}
 use Rattle.probe_access.proofs.bus_streams.read_call.Goals as goal
 

@@ -1,4 +1,4 @@
-use Rattle.std.proofs.Common.{◌≡◌, ◌∙◌, ◌-◌, ◌+◌, ◌++◌, ◌≤◌, ℕ, List, length, refl, sym, ap, subst, length-append, arith}
+use Rattle.std.proofs.Common.{◌≡◌, ◌∙◌, ◌-◌, ◌+◌, ◌++◌, ℕ, List, length, refl, ap, subst, length-append, arith}
 use Rattle.rv_model.specs.declared.size.Size.{Size}
 use Rattle.probe_run.specs.Acts.{Tells}
 use Rattle.probe_run.specs.Told.{told}

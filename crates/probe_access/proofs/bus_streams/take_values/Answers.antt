@@ -1,6 +1,6 @@
-use Rattle.std.proofs.Common.{◌≡◌, ◌∙◌, ap, length, arith}
+use Rattle.std.proofs.Common.{ap, length, arith}
 use Rattle.rv_model.specs.declared.size.Size.{Size}
-use Rattle.rv_model.specs.declared.size.Size.TheVariants.{B1, B2, B4, B8}
+use Rattle.rv_model.specs.declared.size.Size.TheVariants.{B1, B2, B4}
 use Rattle.probe_access.specs.BusStreams.{reads_of}
 use Rattle.probe_access.proofs.BusStreamCalls.{double_long, narrow_results}
 use Rattle.probe_access.proofs.bus_streams.take_values.Goals as goal

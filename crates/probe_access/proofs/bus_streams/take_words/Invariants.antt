@@ -1,4 +1,4 @@
-use Rattle.std.proofs.Common.{◌≡◌, ◌≤◌, ◌*◌, ◌+◌, ◌++◌, length}
+use Rattle.std.proofs.Common.{◌≡◌, ◌≤◌, ◌+◌, ◌++◌, length}
 use Rattle.debug_model.specs.Command.{most_elements}
 use Rattle.probe_access.specs.BusStreams.{words_of}
 use Rattle.probe_access.proofs.bus_streams.take_words.Given as goal
