@@ -31,7 +31,7 @@ apart_plain number address G old_count new_count old new access_fault.StillBusy 
 apart_plain number address G old_count new_count old new (access_fault.Run why) f = f
 apart_plain number address G old_count new_count old new (access_fault.Odd shown) f = tt
 
-behind_plain : (Front : List Act → Type 0) (op : DmiOp) (ops : List DmiOp) (address : ℕ) (G : Type 0) (old_count new_count : ℕ) (old new : Tells)
+pub behind_plain : (Front : List Act → Type 0) (op : DmiOp) (ops : List DmiOp) (address : ℕ) (G : Type 0) (old_count new_count : ℕ) (old new : Tells)
     (e : AccessFault) → EndBehindFailed Front op ops old_count new_count old new e → PlainMemory address G e
 behind_plain Front op ops address G old_count new_count old new (access_fault.Dmi why) f = tt
 behind_plain Front op ops address G old_count new_count old new (access_fault.Memory at) f = absurd f

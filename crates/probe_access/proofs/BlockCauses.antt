@@ -1,5 +1,5 @@
 -- What a fault of an access follows, however far its calls came, and where a value was read.
-use Rattle.std.proofs.Common.{◌≡◌, ◌∙◌, ◌≤◌, ◌++◌, ℕ, List, [], ◌∷◌, map, Bool, true, false, sym, ap, subst, append_assoc, arith, All}
+use Rattle.std.proofs.Common.{◌≡◌, ◌∙◌, ◌≤◌, ◌++◌, ℕ, List, [], ◌∷◌, map, Bool, true, false, sym, ap, subst, append_assoc, arith, All, inl}
 use Rattle.debug_model.specs.Addresses.{data0_address, data1_address, command_address}
 use Rattle.debug_model.specs.declared.dmi.DmiFault.{DmiFault}
 use Rattle.probe_access.specs.declared.fault.AccessFault.{AccessFault}
@@ -38,7 +38,7 @@ calls acts old new did = record { acts = acts; did = did }
 pub calls_then : (a b c : Tells) → Calls a b → Calls b c → Calls a c
 calls_then a b c p q = record { acts = p.acts ++ q.acts; did = did_then p.acts a b p.did q.acts c q.did }
 
-apart_calls : (number value : ℕ) (a b : Tells) → ReadApart number value a b → Calls a b
+pub apart_calls : (number value : ℕ) (a b : Tells) → ReadApart number value a b → Calls a b
 apart_calls number value a b r = calls_then a r.mid b (calls _ a r.mid r.ran.ran.did) (calls _ r.mid b r.words.did)
 
 early_calls : (number : ℕ) (a b : Tells) → ReadTooEarly number a b → Calls a b
@@ -179,7 +179,7 @@ ran_oddly front word shown a b r = record {
   rest = clearing (error_shown r.last);
   idle = r.ran.idle;
   some = r.some;
-  other = r.other;
+  other = inl r.other;
   did = polled_did front word r.last a b r.ran;
 }
 
@@ -260,7 +260,7 @@ apart_causes number count new_count a b access_fault.StillBusy later f =
     command_causes [] (transfer_word false number) count new_count a b access_fault.StillBusy f
 apart_causes number count new_count a b (access_fault.Odd shown) later f = ran_oddly [] (transfer_word false number) shown a b f
 
-behind_causes : (Front : List Act → Type 0) (op : DmiOp) (ops : List DmiOp) (count new_count : ℕ) (a b : Tells) (e : AccessFault)
+pub behind_causes : (Front : List Act → Type 0) (op : DmiOp) (ops : List DmiOp) (count new_count : ℕ) (a b : Tells) (e : AccessFault)
     → EndBehindFailed Front op ops count new_count a b e → Causes count new_count a b e
 behind_causes Front op ops count new_count a b (access_fault.Dmi why) f = (f.acts, f.failed, f.broke)
 behind_causes Front op ops count new_count a b (access_fault.Memory address) f = absurd f

@@ -165,16 +165,6 @@ pub run_as : (front : List Act) (at named count mid_count new_count : ℕ) (old 
 run_as front at named count mid_count new_count old new e is le later f =
     subst (λ a. RunFailed front a count new_count old new e) is (run_counted front named count mid_count new_count old new e le later f)
 
-pub stores_counted : (size : Size) (address value block count mid_count new_count : ℕ) (old new : Tells) (e : AccessFault) → count ≤ mid_count
-    → mid_count ≤ new_count → StoresFailed size address value block mid_count new_count old new e
-    → StoresFailed size address value block count new_count old new e
-stores_counted size address value block count mid_count new_count old new e le later (StoresFailed.at_x9 f) =
-    StoresFailed.at_x9 (write_counted x9_number value count mid_count new_count old new e le later f)
-stores_counted size address value block count mid_count new_count old new e le later (StoresFailed.in_start one x9 f) =
-    StoresFailed.in_start one x9 (start_counted _ size address count mid_count new_count one new e le later f)
-stores_counted size address value block count mid_count new_count old new e le later (StoresFailed.in_next n mid below on f) =
-    StoresFailed.in_next n mid below on (run_counted [] _ count mid_count new_count mid new e le later f)
-
 -- ---- loads, by what the code knows
 
 -- the next command failed

@@ -4,7 +4,10 @@ use Rattle.rv_model.specs.declared.size.Size.{Size}
 use Rattle.rv_model.specs.Board.{Hart}
 use Rattle.rv_model.specs.Memory.{Memory}
 use Rattle.debug_model.specs.Addresses.{abstractcs_address, command_address}
-use Rattle.debug_model.specs.declared.cmderr.Cmderr.TheVariants.{Exception}
+use Rattle.debug_model.specs.declared.abstractauto.Abstractauto.{Abstractauto}
+use Rattle.debug_model.specs.declared.cmderr.Cmderr.{Cmderr}
+use Rattle.debug_model.specs.declared.cmderr.Cmderr.TheVariants.{Exception, Fine}
+use Rattle.debug_model.specs.Commands.{no_auto}
 use Rattle.debug_model.specs.declared.dmi_op.DmiOp.TheVariants.{Write}
 use Rattle.debug_model.specs.Dmi.{SiteCut}
 use Rattle.debug_model.specs.Module.{Site, after_write}
@@ -28,7 +31,7 @@ use Rattle.probe_access.proofs.CutHarts.{clear_cut}
 use Rattle.probe_access.proofs.CutHung.{HungAt, hung_stood}
 use Rattle.probe_access.proofs.CutSites.{CommandCutAt, CommandCutTold, command_cut_told, if_cut}
 use Rattle.probe_access.proofs.CutSites.CommandCutAt.{unsent, sent, ended}
-use Rattle.probe_access.proofs.NextSteps.{NextRunning, NextStage, advanced, all_next, next_ran, third_of}
+use Rattle.probe_access.proofs.NextSteps.{NextRunning, NextStage, advanced, all_next, going, next_ran, third_of}
 use Rattle.probe_access.proofs.NextSteps.NextStage.{at_transfer, at_start, in_middle, in_third, at_end, at_fault}
 use Rattle.probe_access.proofs.NextTold.{IsProgram, NextEnd, begun, handed, next_ends, next_runs, next_sent}
 use Rattle.probe_access.proofs.NextTold.NextEnd.{ran_well, ran_badly}
@@ -46,42 +49,42 @@ pub record NextFits (P : Memory → Hart → Memory → Type 0) (Q : Memory → 
   pub memory : (m : Memory) (z : Hart) (n : Memory) → P m z n → N m n
   pub refused : (m : Memory) → Q m → N m m
 
-stage_hung : (P : Memory → Hart → Memory → Type 0) (Q : Memory → Type 0) (Y : Hart → Type 0) (N : Memory → Memory → Type 0) (size : Size) (k j : Kept) (h : ℕ)
-    (bus : BusUnit) (y : Hart) (base t : Site) → NextFits P Q Y N size y → NextStage P Q size k j h bus y base t → InsideAt Y N h bus base t
-stage_hung P Q Y N size k j h bus y base t f (at_transfer harts is) =
-    not_yet (record { unit = running k (all_next k) h bus; bus_is = refl; hart = y; one = f.first; harts = harts; at = is })
-stage_hung P Q Y N size k j h bus y base t f (at_start harts is) =
-    not_yet (record { unit = running j (program_of j) h bus; bus_is = refl; hart = y; one = f.first; harts = harts; at = is })
-stage_hung P Q Y N size k j h bus y base t f (in_middle before harts z n p fz is) =
+pub stage_hung : (a : Abstractauto) (e : Cmderr) (P : Memory → Hart → Memory → Type 0) (Q : Memory → Type 0) (Y : Hart → Type 0) (N : Memory → Memory → Type 0) (size : Size) (k j : Kept) (h : ℕ)
+    (bus : BusUnit) (y : Hart) (base t : Site) → NextFits P Q Y N size y → NextStage a e P Q size k j h bus y base t → InsideAt Y N h bus base t
+stage_hung a e P Q Y N size k j h bus y base t f (at_transfer harts is) =
+    not_yet (record { unit = going a e k (all_next k) h bus; bus_is = refl; hart = y; one = f.first; harts = harts; at = is })
+stage_hung a e P Q Y N size k j h bus y base t f (at_start harts is) =
+    not_yet (record { unit = going a e j (program_of j) h bus; bus_is = refl; hart = y; one = f.first; harts = harts; at = is })
+stage_hung a e P Q Y N size k j h bus y base t f (in_middle before harts z n p fz is) =
     made before n (f.memory (passed before base).board.memory z n p)
-    (record { unit = running j (rest_of j) h bus; bus_is = refl; hart = z; one = f.hart (passed before base).board.memory z n p; harts = harts; at = is })
-stage_hung P Q Y N size k j h bus y base t f (in_third before harts z n p fz is) =
+    (record { unit = going a e j (rest_of j) h bus; bus_is = refl; hart = z; one = f.hart (passed before base).board.memory z n p; harts = harts; at = is })
+stage_hung a e P Q Y N size k j h bus y base t f (in_third before harts z n p fz is) =
     made before n (f.memory (passed before base).board.memory z n p)
     (record {
-      unit = running j (third_of j) h bus;
+      unit = going a e j (third_of j) h bus;
       bus_is = refl;
       hart = advanced size z;
       one = f.raised (passed before base).board.memory z n p;
       harts = harts;
       at = is;
     })
-stage_hung P Q Y N size k j h bus y base t f (at_end before harts z n p fz is) =
+stage_hung a e P Q Y N size k j h bus y base t f (at_end before harts z n p fz is) =
     made before n (f.memory (passed before base).board.memory z n p)
     (record {
-      unit = unit_of j h bus;
+      unit = going a e j [] h bus;
       bus_is = refl;
       hart = advanced size z;
       one = f.raised (passed before base).board.memory z n p;
       harts = harts;
       at = is;
     })
-stage_hung P Q Y N size k j h bus y base t f (at_fault before harts q is) =
+stage_hung a e P Q Y N size k j h bus y base t f (at_fault before harts q is) =
     made before (passed before base).board.memory (f.refused (passed before base).board.memory q)
-    (record { unit = unit_with j Exception [] h bus; bus_is = refl; hart = y; one = f.first; harts = harts; at = is })
+    (record { unit = going a Exception j [] h bus; bus_is = refl; hart = y; one = f.first; harts = harts; at = is })
 
 end_cut : (P : Memory → Hart → Memory → Type 0) (Q : Memory → Type 0) (Y : Hart → Type 0) (N : Memory → Memory → Type 0) (size : Size) (last : ℕ)
     (k j : Kept) (h : ℕ) (bus : BusUnit) (y : Hart) (base : Site) (w : Hart) (mid t : Site) → NextFits P Q Y N size y
-    → NextRunning P Q size k j h bus y base w → (error_shown last ≡ 0 → ⊥) → NextEnd P Q size last j h bus y base mid
+    → NextRunning no_auto Fine P Q size k j h bus y base w → (error_shown last ≡ 0 → ⊥) → NextEnd P Q size last j h bus y base mid
     → SiteCut (Write abstractcs_address clears_cmderr) mid t → InsideAt Y N h bus base t
 end_cut P Q Y N size last k j h bus y base w mid t f r error (ran_well before z n p fz end) cut = absurd (error end.error_is)
 end_cut P Q Y N size last k j h bus y base w mid t f r error (ran_badly before q end) cut =
@@ -95,14 +98,14 @@ next_cut : (P : Memory → Hart → Memory → Type 0) (Q : Memory → Type 0) (
     → CommandCutAt next_word h bus y base w k t → InsideAt Y N h bus base t
 next_cut P Q Y N size h bus y base w k t f held fy idle advance ebreak decides (unsent u) = not_yet (hung_stood Y h bus y base w u.kept t f.first u.stood)
 next_cut P Q Y N size h bus y base w k t f held fy idle advance ebreak decides (sent e) =
-    let r : NextRunning P Q size (begun k) (handed y k) h bus y base w = next_runs P Q size h bus y base w k held fy idle advance ebreak decides in
+    let r : NextRunning no_auto Fine P Q size (begun k) (handed y k) h bus y base w = next_runs P Q size h bus y base w k held fy idle advance ebreak decides in
     let start : Site = after_write command_address next_word (aside (unit_of k h bus) h y (passed e.harts base)) in
     let starts : start ≡ aside (running (begun k) (all_next (begun k)) h bus) h y (passed e.harts base) = next_sent k h bus y base w e.harts held fy in
-    stage_hung P Q Y N size (begun k) (handed y k) h bus y base t f
-    (subst (λ u. NextStage P Q size (begun k) (handed y k) h bus y base u) (sym e.is)
-    (next_ran e.during P Q size (begun k) (handed y k) h bus y base w start r (at_transfer e.harts starts)))
+    stage_hung no_auto Fine P Q Y N size (begun k) (handed y k) h bus y base t f
+    (subst (λ u. NextStage no_auto Fine P Q size (begun k) (handed y k) h bus y base u) (sym e.is)
+    (next_ran e.during no_auto Fine P Q size (begun k) (handed y k) h bus y base w start r (at_transfer e.harts starts)))
 next_cut P Q Y N size h bus y base w k t f held fy idle advance ebreak decides (ended last mid not_busy error c cut) =
-    let r : NextRunning P Q size (begun k) (handed y k) h bus y base w = next_runs P Q size h bus y base w k held fy idle advance ebreak decides in
+    let r : NextRunning no_auto Fine P Q size (begun k) (handed y k) h bus y base w = next_runs P Q size h bus y base w k held fy idle advance ebreak decides in
     end_cut P Q Y N size last (begun k) (handed y k) h bus y base w mid t f r error (next_ends P Q size last k h bus y base w mid r c not_busy) cut
 
 pub command_hung : (P : Memory → Hart → Memory → Type 0) (Q : Memory → Type 0) (Y : Hart → Type 0) (N : Memory → Memory → Type 0) (word : ℕ) (size : Size)

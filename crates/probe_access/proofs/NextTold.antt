@@ -10,7 +10,7 @@ use Rattle.rv_model.specs.Registers.{csr_read_only}
 use Rattle.debug_model.specs.Addresses.{abstractcs_address, command_address}
 use Rattle.debug_model.specs.declared.cmderr.Cmderr.TheVariants.{Fine, Exception, HaltResume}
 use Rattle.debug_model.specs.declared.micro.Micro.{Micro}
-use Rattle.debug_model.specs.Commands.{is_held, refusal}
+use Rattle.debug_model.specs.Commands.{is_held, no_auto, refusal}
 use Rattle.debug_model.specs.Deeds.{Deed, ran}
 use Rattle.debug_model.specs.Dmi.{value_of}
 use Rattle.debug_model.specs.Module.{Site, after_write, result_of}
@@ -54,11 +54,11 @@ handed y k = holding (x_of y.core 9) (begun k)
 
 pub next_runs : (P : Memory → Hart → Memory → Type 0) (Q : Memory → Type 0) (size : Size) (h : ℕ) (bus : BusUnit) (y : Hart) (base : Site) (w : Hart) (k : Kept)
     → Held h w base → Frozen y → bus.pending ≡ None → k.progbuf1 ≡ advance_word size → k.progbuf2 ≡ ebreak_word
-    → ((m : Memory) → WordDid P Q k.progbuf0 y m) → NextRunning P Q size (begun k) (handed y k) h bus y base w
+    → ((m : Memory) → WordDid P Q k.progbuf0 y m) → NextRunning no_auto Fine P Q size (begun k) (handed y k) h bus y base w
 next_runs P Q size h bus y base w k held fy idle advance ebreak decides = record {
   held = held;
   frozen = fy;
-  moves = transfer_does (begun k) y;
+  moves = transfer_does no_auto Fine (begun k) y;
   idle = idle;
   advance = advance;
   ebreak = ebreak;
@@ -86,9 +86,9 @@ still_some : (m : Micro) (ms steps : List Micro) → steps ≡ m ∷ ms → step
 still_some m ms steps some none = let e : m ∷ ms ≡ [] = sym some ∙ none in cc
 
 stage_ends : (P : Memory → Hart → Memory → Type 0) (Q : Memory → Type 0) (size : Size) (last : ℕ) (k j : Kept) (h : ℕ) (bus : BusUnit) (y : Hart)
-    (base : Site) (w : Hart) (shown t : Site) (behind : List Deed) → NextRunning P Q size k j h bus y base w
+    (base : Site) (w : Hart) (shown t : Site) (behind : List Deed) → NextRunning no_auto Fine P Q size k j h bus y base w
     → shown.unit.active ≡ true → last ≡ value_of (result_of abstractcs_address shown) → shown.unit.commands.steps ≡ [] → t ≡ ran behind shown
-    → NextStage P Q size k j h bus y base shown → NextEnd P Q size last j h bus y base t
+    → NextStage no_auto Fine P Q size k j h bus y base shown → NextEnd P Q size last j h bus y base t
 unfolding passed
 stage_ends P Q size last k j h bus y base w shown t behind r on last_is none moved (at_transfer harts is) =
     absurd (still_some _ _ shown.unit.commands.steps (ap (λ (s : Site). s.unit.commands.steps) is) none)
@@ -109,7 +109,7 @@ stage_ends P Q size last k j h bus y base w shown t behind r on last_is none mov
     (record { harts = harts; is = is }))
 
 pub next_ends : (P : Memory → Hart → Memory → Type 0) (Q : Memory → Type 0) (size : Size) (last : ℕ) (k : Kept) (h : ℕ) (bus : BusUnit) (y : Hart)
-    (base : Site) (w : Hart) (t : Site) → NextRunning P Q size (begun k) (handed y k) h bus y base w
+    (base : Site) (w : Hart) (t : Site) → NextRunning no_auto Fine P Q size (begun k) (handed y k) h bus y base w
     → Commanded next_word last (unit_of k h bus) h y base t → shows_busy last ≡ false → NextEnd P Q size last (handed y k) h bus y base t
 next_ends P Q size last k h bus y base w t r c not_busy =
     let start : Site = after_write command_address next_word (aside (unit_of k h bus) h y (passed c.harts base)) in
@@ -117,11 +117,11 @@ next_ends P Q size last k h bus y base w t r c not_busy =
     next_sent k h bus y base w c.harts r.held r.frozen in
     let active : c.shown.unit.active ≡ true = ap (λ (s : Site). s.unit.active) c.shown_is ∙ active_ran c.during start
     ∙ ap (λ (s : Site). s.unit.active) starts in
-    let stage : NextStage P Q size (begun k) (handed y k) h bus y base (ran c.during start) =
-    next_ran c.during P Q size (begun k) (handed y k) h bus y base w start r (at_transfer c.harts starts) in
+    let stage : NextStage no_auto Fine P Q size (begun k) (handed y k) h bus y base (ran c.during start) =
+    next_ran c.during no_auto Fine P Q size (begun k) (handed y k) h bus y base w start r (at_transfer c.harts starts) in
     stage_ends P Q size last (begun k) (handed y k) h bus y base w c.shown t c.behind r active c.last_is
     (shown_idle c.shown last active c.last_is not_busy) c.is
-    (subst (λ s. NextStage P Q size (begun k) (handed y k) h bus y base s) (sym c.shown_is) stage)
+    (subst (λ s. NextStage no_auto Fine P Q size (begun k) (handed y k) h bus y base s) (sym c.shown_is) stage)
 
 -- ---- with its error cleared
 
@@ -133,7 +133,7 @@ pub data NextTold (P : Memory → Hart → Memory → Type 0) (Q : Memory → Ty
       → Stood h bus y (accessed (passed before base).board.memory (passed before base)) w j t → NextTold P Q size last h bus y base w j t
 
 next_cleared : (P : Memory → Hart → Memory → Type 0) (Q : Memory → Type 0) (size : Size) (last : ℕ) (k j : Kept) (h : ℕ) (bus : BusUnit) (y : Hart)
-    (base : Site) (w : Hart) (mid t : Site) → NextRunning P Q size k j h bus y base w
+    (base : Site) (w : Hart) (mid t : Site) → NextRunning no_auto Fine P Q size k j h bus y base w
     → NextEnd P Q size last j h bus y base mid → SiteActs (clearing (error_shown last)) mid t → NextTold P Q size last h bus y base w j t
 next_cleared P Q size last k j h bus y base w mid t r (ran_well before z n p fz end) acts =
     went before z n p end.error_is
@@ -157,7 +157,7 @@ next_told_at P Q size words last k h bus y base w s t st advance ebreak decides 
     let cut : CommandCut words next_word last s t = command_cut words next_word last s t acts in
     let c : Commanded next_word last (unit_of k h bus) h y base cut.mid =
     commanded next_word words last (unit_of k h bus) h y base w s cut.mid st.held st.frozen refl st.idle st.at cut.ran in
-    let r : NextRunning P Q size (begun k) (handed y k) h bus y base w = next_runs P Q size h bus y base w k st.held st.frozen st.idle advance ebreak decides in
+    let r : NextRunning no_auto Fine P Q size (begun k) (handed y k) h bus y base w = next_runs P Q size h bus y base w k st.held st.frozen st.idle advance ebreak decides in
     next_cleared P Q size last (begun k) (handed y k) h bus y base w cut.mid t r (next_ends P Q size last k h bus y base w cut.mid r c not_busy) cut.cleared
 
 -- ---- along a told link

@@ -1,6 +1,6 @@
 -- The clauses of a block of stores: what is stored, what a fault leaves, and that the hart serves again.
 use Rattle.probe_run.specs.Told.{Serving}
-use Rattle.std.proofs.Common.{◌≡◌, ◌∙◌, ◌≤◌, ◌<◌, ◌+◌, ◌*◌, ◌^◌, ℕ, List, [], Option, Some, None, slice_get, refl, sym, ap, arith}
+use Rattle.std.proofs.Common.{◌≡◌, ◌∙◌, ◌≤◌, ◌<◌, ◌+◌, ◌*◌, ◌^◌, ℕ, List, [], Option, Some, None, slice_get, refl, sym, ap, arith, subst}
 use Rattle.rv_model.specs.declared.size.Size.{Size}
 use Rattle.rv_model.specs.Board.{Hart}
 use Rattle.rv_model.specs.Size.{count_of}
@@ -14,13 +14,13 @@ use Rattle.probe_access.specs.declared.fault.AccessFault.TheVariants as access_f
 use Rattle.probe_run.specs.Acts.{Act, Tells, tells}
 use Rattle.probe_access.specs.Accesses.{IfMemory}
 use Rattle.probe_access.specs.Blocks.{BlockStoreLeft, BlockStoredAt, StoredEach, element_at}
-use Rattle.probe_access.specs.ElementRuns.{RunFailed, StartFailed, Started, StoreRuns, StoreRunsFailed, StoresFailed, StoresOn, block_program}
+use Rattle.probe_access.specs.ElementRuns.{RunFailed, StartFailed, Started, StoreRuns, StoreRunsFailed, RunsStoreFailed, StoredInRuns, StoresFailed, StoresOn, block_program}
 use Rattle.probe_access.specs.ElementRuns.RunFailed.{in_run, faulted, oddly}
 use Rattle.probe_access.specs.MemoryRuns.{PutBack}
 use Rattle.probe_access.specs.RegisterAccess.{next_word, store_word, x8_number, x9_number}
 use Rattle.probe_access.proofs.AccessEnd.{back_untold, saved_untold, written_untold}
 use Rattle.probe_access.proofs.Along.{did_untold}
-use Rattle.probe_access.proofs.AroundUntold.{command_plain, write_plain}
+use Rattle.probe_access.proofs.AroundUntold.{behind_plain, command_plain, read_plain, write_plain}
 use Rattle.probe_access.proofs.Aside.{HartAt, passed}
 use Rattle.probe_access.proofs.BlockAround.{BackWith, BlockInside, LeftWith, OnlyAt, PlainAt, around_at, around_ok, around_untold, plain_at, plain_at_map}
 use Rattle.probe_access.proofs.ElementSites.{not_stored_more, stood_turns, stored_more, turns_ready}
@@ -28,9 +28,11 @@ use Rattle.probe_access.proofs.ElementWords.{element_first}
 use Rattle.probe_access.proofs.LoadClauses.{fits_of}
 use Rattle.probe_access.proofs.ReadyTurns.{BoardReady}
 use Rattle.probe_access.proofs.ReadyUnit.{unit_of}
-use Rattle.probe_access.proofs.RegAnswers.{StoodTold, stood_selects, stood_unit}
+use Rattle.probe_access.proofs.RegAnswers.{StoodTold, read_untold, stood_selects, stood_unit}
 use Rattle.probe_access.proofs.RegClauses.{first_told, told_serving, untold_serving}
-use Rattle.probe_access.proofs.StorePlaces.{BlockAt, StoreFault, StorePlace, stores_only, stores_place}
+use Rattle.probe_access.proofs.StoreEnds.{cut_below, stores_only, stores_place}
+use Rattle.probe_access.specs.AskedRuns.{Asked, AskedFailed, CutShort, RunFell, RunsFell, RunsOn}
+use Rattle.probe_access.proofs.StorePlaces.{BlockAt, StoreFault, StorePlace}
 use Rattle.probe_access.proofs.Turns.{hart_aside, stays_passed}
 
 -- ---- the hart serves again
@@ -78,7 +80,7 @@ stores_done size address value count h bus x s told pl = record {
 }
 
 pub stores_inside : (size : Size) (address value count h : ℕ) (bus : BusUnit) (x : Hart) (s : Site) → BlockAt size address count x s → s.unit.bus ≡ bus
-    → BlockInside (λ a b. StoresOn size address value a count b) (StoresFailed size address value count) (StoresDone size address value count h bus x s)
+    → BlockInside (λ a b. StoresOn size address value count a count b) (StoresFailed size address value count) (StoresDone size address value count h bus x s)
     (λ at. StoreFault size address value count at h bus x s) h bus x s
 stores_inside size address value count h bus x s env bus_is = record {
   well = λ first last st r. stores_done size address value count h bus x s last.far
@@ -93,19 +95,40 @@ pub record StoreBlockOk (size : Size) (address value count h : ℕ) (old new : O
 pub started_untold : (word : ℕ) (size : Size) (address : ℕ) (old new : Tells) → Started word size address old new → old.far ≡ None → new.far ≡ None
 started_untold word size address old new r is = did_untold r.mid _ new r.ran.ran.did (written_untold x8_number address old r.mid r.x8 is)
 
-stores_untold : (size : Size) (address value : ℕ) (old : Tells) (n : ℕ) (new : Tells) → StoresOn size address value old n new → old.far ≡ None
+-- runs
+pub asked_untold : (more last : ℕ) (old new : Tells) → Asked more last old new → old.far ≡ None → new.far ≡ None
+asked_untold more last old new a is = did_untold a.mid _ new a.off (did_untold old _ a.mid a.ran.did is)
+
+pub runs_untold : (count : ℕ) (old : Tells) (n : ℕ) (new : Tells) → RunsOn count old n new → old.far ≡ None → new.far ≡ None
+runs_untold count old _ _ RunsOn.none is = is
+runs_untold count old _ _ (RunsOn.more n again mid new within runs a) is = asked_untold again a.last mid new a.asked (runs_untold count old n mid runs is)
+
+pub cut_untold : (size : Size) (address count found : ℕ) (old new : Tells) → CutShort size address count found old new → old.far ≡ None → new.far ≡ None
+cut_untold size address count found old new c is =
+    read_untold x8_number (element_at size address found) c.some.mid new c.some.read
+    (asked_untold c.again c.some.last c.mid c.some.mid c.some.asked (runs_untold count old c.n c.mid c.runs is))
+
+runs_to_untold : (size : Size) (address count : ℕ) (old : Tells) (n : ℕ) (new : Tells) → StoredInRuns size address count old n new → old.far ≡ None
     → new.far ≡ None
-stores_untold size address value old _ _ (StoresOn.first one new x9 started) is =
+runs_to_untold size address count old _ _ (StoredInRuns.whole n new runs) is = runs_untold count old n new runs is
+runs_to_untold size address count old _ _ (StoredInRuns.again found cut new c started) is =
+    started_untold (store_word size) size (element_at size address found) cut new started (cut_untold size address count found old cut c is)
+
+stores_untold : (size : Size) (address value count : ℕ) (old : Tells) (n : ℕ) (new : Tells) → StoresOn size address value count old n new → old.far ≡ None
+    → new.far ≡ None
+stores_untold size address value count old _ _ (StoresOn.first one new x9 started) is =
     started_untold (store_word size) size address one new started (written_untold x9_number value old one x9 is)
-stores_untold size address value old _ _ (StoresOn.next n mid new on r) is =
-    did_untold mid _ new r.ran.did (stores_untold size address value old n mid on is)
+stores_untold size address value count old _ _ (StoresOn.next n mid new on r) is =
+    did_untold mid _ new r.ran.did (stores_untold size address value count old n mid on is)
+stores_untold size address value count old _ _ (StoresOn.ran n mid new on runs) is =
+    runs_to_untold size address count mid n new runs (stores_untold size address value count old 1 mid on is)
 
 pub store_block_ok : (size : Size) (address value count h : ℕ) (far : Option Far) (coming : Option DmiComing) (new : Tells)
     → address + count * count_of size ≤ 2 ^ 64 → 0 < count → IsReady far → Selects h far → IsHalted h far
     → StoreRuns size address value (tells far coming) count new → StoreBlockOk size address value count h far new.far
 store_block_ok size address value count h None coming new ends some ready selects halted r =
     let a : r.first.far ≡ None = saved_untold r.x8 r.x9 (tells None coming) r.first r.saved refl in
-    let b : r.last.far ≡ None = stores_untold size address value r.first count r.last r.inside a in
+    let b : r.last.far ≡ None = stores_untold size address value count r.first count r.last r.inside a in
     let d : new.far ≡ None = back_untold r.x8 r.x9 r.last new r.put_back b in
     record { stored = d; serving = untold_serving h new.far d }
 store_block_ok size address value count h (Some f) coming new ends some ready selects halted r =
@@ -113,7 +136,7 @@ store_block_ok size address value count h (Some f) coming new ends some ready se
     let x : Hart = halted.hart in
     let env : BlockAt size address count x s = block_at size address count h f ready halted ends some in
     let b : BackWith (StoresDone size address value count h s.unit.bus x s) h s.unit.bus x new.far =
-    around_ok (λ a b. StoresOn size address value a count b) (StoresFailed size address value count) (StoresDone size address value count h s.unit.bus x s)
+    around_ok (λ a b. StoresOn size address value count a count b) (StoresFailed size address value count) (StoresDone size address value count h s.unit.bus x s)
     (λ at. StoreFault size address value count at h s.unit.bus x s) h s.unit.bus x s (tells (Some f) coming) new (fits_of h s ready halted)
     (stores_inside size address value count h s.unit.bus x s env refl) (first_told h f ready halted selects) r in
     let t : Site = site_of b.then.far in
@@ -153,6 +176,38 @@ plain_fault size address count done at new e below is p =
     plain_at_map (λ a. (a ≡ at) × (new.far ≡ None)) (λ a. UntoldFault size address count a new) e
     (λ a u. record { done = done; below = below; at_is = u.0 ∙ is; untold = u.1 }) p
 
+-- of runs
+asked_plain : (G : ℕ → Type 0) (more old_count new_count : ℕ) (old new : Tells) (e : AccessFault) → AskedFailed more old_count new_count old new e
+    → PlainAt G e
+asked_plain G more old_count new_count old new e (AskedFailed.in_run f) = plain_at G e (behind_plain _ _ _ 0 ⊥ old_count new_count old new e f)
+asked_plain G more old_count new_count old new e (AskedFailed.in_switch last mid r why is b) = subst (PlainAt G) (sym is) tt
+
+run_fell_plain : (size : Size) (address count n again old_count new_count : ℕ) (old new : Tells) (e : AccessFault) → n + 1 + again < count
+    → old.far ≡ None → RunFell size address n again old_count new_count old new e → PlainAt (λ a. UntoldFault size address count a new) e
+run_fell_plain size address count n again old_count new_count old new _ within none (RunFell.asking e f) =
+    asked_plain (λ a. UntoldFault size address count a new) again old_count new_count old new e f
+run_fell_plain size address count n again old_count new_count old new _ within none (RunFell.finding e last mid a f) =
+    plain_at (λ a. UntoldFault size address count a new) e (read_plain x8_number 0 ⊥ old_count new_count mid new e f)
+run_fell_plain size address count n again old_count new_count old new _ within none (RunFell.refused found last mid a error least most r) = record {
+  done = found;
+  below = omega (arith, within, most);
+  at_is = refl;
+  untold = read_untold x8_number (element_at size address found) mid new r (asked_untold again last old mid a none);
+}
+run_fell_plain size address count n again old_count new_count old new _ within none (RunFell.oddly shown last is a zero one three) = tt
+run_fell_plain size address count n again old_count new_count old new _ within none (RunFell.misplaced shown last x8 mid is a which r un) = tt
+
+runs_plain : (size : Size) (address count old_count new_count : ℕ) (old new : Tells) (e : AccessFault) → old.far ≡ None
+    → RunsStoreFailed size address count old_count new_count old new e → PlainAt (λ a. UntoldFault size address count a new) e
+runs_plain size address count old_count new_count old new e none (RunsStoreFailed.in_runs (RunsFell.fell n again mid within runs f)) =
+    run_fell_plain size address count n again old_count new_count mid new e within (runs_untold count old n mid runs none) f
+runs_plain size address count old_count new_count old new e none (RunsStoreFailed.in_again found cut c (StartFailed.at_x8 f)) =
+    plain_at (λ a. UntoldFault size address count a new) e (write_plain x8_number (element_at size address found) 0 ⊥ old_count new_count cut new e f)
+runs_plain size address count old_count new_count old new e none (RunsStoreFailed.in_again found cut c (StartFailed.at_first mid x8 f)) =
+    plain_fault size address count found (element_at size address found) new e (cut_below size address count found old cut c) refl
+    (run_plain (block_program (store_word size) size) (element_at size address found) old_count new_count mid new e
+    (written_untold x8_number (element_at size address found) cut mid x8 (cut_untold size address count found old cut c none)) f)
+
 stores_plain : (size : Size) (address value count old_count new_count : ℕ) (old new : Tells) (e : AccessFault) → 0 < count → old.far ≡ None
     → StoresFailed size address value count old_count new_count old new e → PlainAt (λ a. UntoldFault size address count a new) e
 stores_plain size address value count old_count new_count old new e some none (StoresFailed.at_x9 f) =
@@ -165,7 +220,9 @@ stores_plain size address value count old_count new_count old new e some none (S
     (written_untold x8_number address one mid x8 (written_untold x9_number value old one x9 none)) f)
 stores_plain size address value count old_count new_count old new e some none (StoresFailed.in_next n mid below on f) =
     plain_fault size address count n (element_at size address n) new e below refl
-    (run_plain [] (element_at size address n) old_count new_count mid new e (stores_untold size address value old n mid on none) f)
+    (run_plain [] (element_at size address n) old_count new_count mid new e (stores_untold size address value count old n mid on none) f)
+stores_plain size address value count old_count new_count old new e some none (StoresFailed.in_runs mid on f) =
+    runs_plain size address count old_count new_count mid new e (stores_untold size address value count old 1 mid on none) f
 
 untold_back : (size : Size) (address count at x8 x9 : ℕ) (last back : Tells) → PutBack x8 x9 last back → UntoldFault size address count at last
     → UntoldFault size address count at back
@@ -215,14 +272,14 @@ pub store_block_err : (size : Size) (address value count h : ℕ) (far : Option 
     → StoreRunsFailed size address value count old_count new_count (tells far coming) new e → StoreBlockErr size address value count h far new.far e
 store_block_err size address value count h None coming old_count new_count new e ends some ready selects halted f =
     untold_err size address value count h new e
-    (around_untold (λ a b. StoresOn size address value a count b) (StoresFailed size address value count) (UntoldFault size address count) old_count new_count
+    (around_untold (λ a b. StoresOn size address value count a count b) (StoresFailed size address value count) (UntoldFault size address count) old_count new_count
     (tells None coming) new e (λ oc nc first last g none q. stores_plain size address value count oc nc first last g some none q)
     (λ at x8 x9 last back p u. untold_back size address count at x8 x9 last back p u) refl f)
 store_block_err size address value count h (Some c) coming old_count new_count new e ends some ready selects halted f =
     let s : Site = site_of c in
     let x : Hart = halted.hart in
     told_err size address value count h c ready halted new.far e
-    (around_at (λ a b. StoresOn size address value a count b) (StoresFailed size address value count) (StoresDone size address value count h s.unit.bus x s)
+    (around_at (λ a b. StoresOn size address value count a count b) (StoresFailed size address value count) (StoresDone size address value count h s.unit.bus x s)
     (λ at. StoreFault size address value count at h s.unit.bus x s) h s.unit.bus x s old_count new_count (tells (Some c) coming) new e
     (fits_of h s ready halted)
     (stores_inside size address value count h s.unit.bus x s (block_at size address count h c ready halted ends some) refl)

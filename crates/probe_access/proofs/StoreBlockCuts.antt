@@ -16,7 +16,7 @@ use Rattle.probe_access.specs.BlockCuts.{BlockStoreCut}
 use Rattle.probe_access.specs.Blocks.{StoredEach, element_at}
 use Rattle.probe_access.specs.Blocks.StoredEach.{nothing as none_stored}
 use Rattle.probe_access.specs.Cuts.{IfCut, Leaves, StoreLeaves}
-use Rattle.probe_access.specs.ElementRuns.{StartFailed, StoreRunsFailed, StoresFailed, StoresOn, block_program}
+use Rattle.probe_access.specs.ElementRuns.{RunsStoreFailed, StartFailed, StoreRunsFailed, StoresFailed, StoresOn, block_program}
 use Rattle.probe_access.specs.RegisterAccess.{store_word, x8_number, x9_number}
 use Rattle.probe_access.proofs.Aside.{HartAt, passed}
 use Rattle.probe_access.proofs.BlockAround.{BlockCutInside, around_cut}
@@ -28,7 +28,6 @@ use Rattle.probe_access.proofs.CutSites.{cut_always, if_cut}
 use Rattle.probe_access.proofs.ElementWords.{scratched_advanced}
 use Rattle.probe_access.proofs.NextCuts.{NextFits, hung_aside, inside_left, run_hung}
 use Rattle.probe_access.proofs.NextSteps.{advanced}
-use Rattle.probe_access.proofs.NextTold.{Handing}
 use Rattle.probe_access.proofs.RegAnswers.{StoodTold}
 use Rattle.probe_access.proofs.RegClauses.{first_told}
 use Rattle.probe_access.proofs.RegisterTold.WordPuts.{no_more}
@@ -37,6 +36,7 @@ use Rattle.probe_access.proofs.StoreBlockClauses.{StoresDone, block_at, stores_i
 use Rattle.probe_access.proofs.StoreClauses.{valued}
 use Rattle.probe_access.proofs.StorePlaces.{
   BlockAt,
+  Prepared,
   StoreFault,
   StorePlace,
   block_puts,
@@ -46,9 +46,23 @@ use Rattle.probe_access.proofs.StorePlaces.{
   place_aimed,
   store_aimed,
   store_valued,
-  stores_place,
   with_block,
 }
+use Rattle.probe_access.proofs.StoreEnds.{cut_aimed, cut_below, stores_place}
+use Rattle.probe_access.proofs.StoreRuns.{
+  StoreCut,
+  StoreDoes,
+  StoreDone,
+  StoreRefuses,
+  StoreRun,
+  cut_place,
+  place_asked,
+  place_done,
+  runs_place,
+  store_rests,
+}
+use Rattle.probe_access.proofs.RunCuts.{HalfTold, Halves, asked_half, find_half}
+use Rattle.probe_access.specs.AskedRuns.{RunFell, RunsFell}
 use Rattle.probe_access.proofs.WordAccess.{StoreFaults, Stores}
 
 -- ---- where it stands
@@ -118,6 +132,94 @@ start_hung size address value count h bus x s old_count new_count old new e env 
     (block_there (store_word size) size ready.kept)
     (λ m. element_decides size address value count 0 x s m env env.some ready.stood.frozen) f)
 
+-- ---- runs
+
+store_halves : (size : Size) (address value count n most h : ℕ) (bus : BusUnit) (x : Hart) (s : Site) → length x.core.x ≡ 32
+    → Halves (StoreDone size address value count h bus x s n) (StoreDoes size address value) (StoreRefuses size address) (AnyScratch x)
+    (λ i. StoreLeaves size (element_at size address i) value) size most
+store_halves size address value count n most h bus x s all = record {
+  first = λ i y base c. record { p = c.p; q = value; is = c.hart_is };
+  fits = λ i y base c below. record {
+    first = record { p = c.p; q = value; is = c.hart_is };
+    hart = λ m z k l. record { p = c.p; q = value; is = l.hart ∙ c.hart_is };
+    raised = λ m z k l. record { p = _; q = value; is = ap (advanced size) (l.hart ∙ c.hart_is) ∙ scratched_advanced size c.p value x all };
+    memory = λ m z k l. l.memory;
+    refused = λ m q. sym (after_store_refused m (element_at size address i) size value q.why q.is);
+  };
+}
+
+half_hung : (size : Size) (address value count n b h : ℕ) (bus : BusUnit) (x : Hart) (s : Site) (told : Option Far) → b < count
+    → HalfTold (StoreDone size address value count h bus x s n) (AnyScratch x) (λ i. StoreLeaves size (element_at size address i) value) h bus b told
+    → StoreHung size address value count h bus x s told
+half_hung size address value count n b h bus x s told below p =
+    let within : p.half.i ≤ b = p.half.within in
+    record {
+      far = p.far;
+      is = p.is;
+      hung = StoreHungAt.within p.half.i p.half.base (omega (arith, below, within)) p.half.done.each p.half.done.held.here p.half.done.bus_is p.half.inside;
+    }
+
+run_fell_hung : (size : Size) (address value count n again h : ℕ) (bus : BusUnit) (x : Hart) (s : Site) (old_count new_count : ℕ) (old new : Tells)
+    (e : AccessFault) → BlockAt size address count x s → n + 1 + again < count → StorePlace size address value count n h bus x s old.far
+    → RunFell size address n again old_count new_count old new e → IfCut (StoreHung size address value count h bus x s new.far) e
+run_fell_hung size address value count n again h bus x s old_count new_count old new _ env below pl (RunFell.asking e f) =
+    if_cut (HalfTold (StoreDone size address value count h bus x s n) (AnyScratch x) (λ i. StoreLeaves size (element_at size address i) value) h bus
+    (n + 1 + again) new.far) (StoreHung size address value count h bus x s new.far) e
+    (half_hung size address value count n (n + 1 + again) h bus x s new.far below)
+    (asked_half again (StoreDone size address value count h bus x s n) (StoreDoes size address value) (StoreRefuses size address) (AnyScratch x)
+    (λ i. StoreLeaves size (element_at size address i) value) (store_word size) size (n + 1 + again) h bus x n (scratched pl.p value x) pl.base old_count
+    new_count old new e
+    (store_rests size address value count n (n + 1 + again) h bus x s env (omega (arith, below)) pl.set.then.stood.idle)
+    (store_halves size address value count n (n + 1 + again) h bus x s env.all) (omega arith)
+    (place_done size address value count n h bus x s old.far pl) pl.set.then pl.set.program f)
+run_fell_hung size address value count n again h bus x s old_count new_count old new _ env below pl (RunFell.finding e last mid a f) =
+    let r : StoreRun size address value count n last h bus x s (n + 1 + again) mid.far =
+    place_asked size address value count n again last h bus x s old mid env (omega (arith, below)) pl a in
+    if_cut (HalfTold (StoreDone size address value count h bus x s n) (AnyScratch x) (λ i. StoreLeaves size (element_at size address i) value) h bus
+    (n + 1 + again) new.far) (StoreHung size address value count h bus x s new.far) e
+    (half_hung size address value count n (n + 1 + again) h bus x s new.far below)
+    (find_half (StoreDone size address value count h bus x s n) (StoreDoes size address value) (StoreRefuses size address) (AnyScratch x)
+    (λ i. StoreLeaves size (element_at size address i) value) (store_word size) size (n + 1 + again) last h bus x (n + 1 + again) old_count new_count mid
+    new r.far e (store_halves size address value count n (n + 1 + again) h bus x s env.all) (omega arith) r.is r.left f)
+run_fell_hung size address value count n again h bus x s old_count new_count old new _ env below pl (RunFell.refused found last mid a error least most r) = tt
+run_fell_hung size address value count n again h bus x s old_count new_count old new _ env below pl (RunFell.oddly shown last is a zero one three) = tt
+run_fell_hung size address value count n again h bus x s old_count new_count old new _ env below pl (RunFell.misplaced shown last x8 mid is a which r un) = tt
+
+again_hung : (size : Size) (address value count found h : ℕ) (bus : BusUnit) (x : Hart) (s : Site) (old_count new_count : ℕ) (old new : Tells)
+    (e : AccessFault) → BlockAt size address count x s → found < count → StoreCut size address value count found h bus x s old.far
+    → StartFailed (store_word size) size (element_at size address found) old_count new_count old new e
+    → IfCut (StoreHung size address value count h bus x s new.far) e
+again_hung size address value count found h bus x s old_count new_count old new e env below c (StartFailed.at_x8 f) =
+    let a : ℕ = element_at size address found in
+    let y : Hart = scratched c.p value x in
+    if_cut (Hung (Written x8_number a y) h bus c.base new.far) (StoreHung size address value count h bus x s new.far) e
+    (λ p. let r : Hung (AnyScratch x) h bus c.base new.far =
+    hung_map (Written x8_number a y) (AnyScratch x) h bus c.base new.far
+    (λ z q. written_scratch x y a z (record { p = c.p; q = value; is = refl }) q) p in
+    record { far = r.far; is = r.is; hung = StoreHungAt.within found c.base below c.each c.then.stood.held.here c.bus_is (not_yet r.hung) })
+    (write_hung x8_number a h bus y c.base x old_count new_count old new e (omega arith) c.then f)
+again_hung size address value count found h bus x s old_count new_count old new e env below c (StartFailed.at_first mid x8 f) =
+    let a : ℕ = element_at size address found in
+    let y : Hart = on_it size address value found x in
+    let ready : StoodTold h bus y c.base x mid.far = cut_aimed size address value count found h bus x s old mid c x8 in
+    if_cut (HungInside (AnyScratch x) (StoreLeaves size a value) h bus c.base new.far) (StoreHung size address value count h bus x s new.far) e
+    (hung_within size address value count found h bus x s c.base new.far below c.each c.then.stood.held.here c.bus_is)
+    (run_hung (Stores size a value y) (StoreFaults size a) (AnyScratch x) (StoreLeaves size a value) (store_word size) size
+    (block_program (store_word size) size) a (with_block (store_word size) size ready.kept) h bus y c.base x old_count new_count mid new e
+    (element_fits size address value found x env.all) ready (block_puts (store_word size) size h bus y ready.kept)
+    (block_there (store_word size) size ready.kept)
+    (λ m. element_decides size address value count found x s m env below ready.stood.frozen) f)
+
+runs_hung : (size : Size) (address value count h : ℕ) (bus : BusUnit) (x : Hart) (s : Site) (old_count new_count : ℕ) (old new : Tells) (e : AccessFault)
+    → BlockAt size address count x s → StorePlace size address value count 1 h bus x s old.far
+    → RunsStoreFailed size address count old_count new_count old new e → IfCut (StoreHung size address value count h bus x s new.far) e
+runs_hung size address value count h bus x s old_count new_count old new e env pl (RunsStoreFailed.in_runs (RunsFell.fell n again mid below runs f)) =
+    run_fell_hung size address value count n again h bus x s old_count new_count mid new e env below
+    (runs_place size address value count h bus x s old n mid env pl runs) f
+runs_hung size address value count h bus x s old_count new_count old new e env pl (RunsStoreFailed.in_again found cut c f) =
+    again_hung size address value count found h bus x s old_count new_count cut new e env (cut_below size address count found old cut c)
+    (cut_place size address value count found h bus x s old cut env pl c) f
+
 stores_hung : (size : Size) (address value count h : ℕ) (bus : BusUnit) (x : Hart) (s : Site) (old_count new_count : ℕ) (old new : Tells) (e : AccessFault)
     → BlockAt size address count x s → s.unit.bus ≡ bus → StoodTold h bus x s x old.far
     → StoresFailed size address value count old_count new_count old new e
@@ -134,12 +236,15 @@ stores_hung size address value count h bus x s old_count new_count old new e env
     let y : Hart = on_it size address value n x in
     let pl : StorePlace size address value count n h bus x s mid.far =
     stores_place size address value count h bus x s old n mid env bus_is (omega (arith, below)) st on in
-    let g : Handing (store_word size) size pl.q h bus y pl.base x mid.far = place_aimed size address value count n h bus x s mid.far below pl in
+    let g : Prepared (store_word size) size h bus y pl.base x mid.far = place_aimed size address value count n h bus x s mid.far below pl in
     if_cut (HungInside (AnyScratch x) (StoreLeaves size a value) h bus pl.base new.far) (StoreHung size address value count h bus x s new.far) e
     (hung_within size address value count n h bus x s pl.base new.far below pl.each pl.set.then.stood.held.here pl.bus_is)
     (run_hung (Stores size a value y) (StoreFaults size a) (AnyScratch x) (StoreLeaves size a value) (store_word size) size [] a g.then.kept h bus y
     pl.base x old_count new_count mid new e (element_fits size address value n x env.all) g.then (no_more g.then.kept) g.program
     (λ m. element_decides size address value count n x s m env below g.then.stood.frozen) f)
+stores_hung size address value count h bus x s old_count new_count old new e env bus_is st (StoresFailed.in_runs mid on f) =
+    runs_hung size address value count h bus x s old_count new_count mid new e env
+    (stores_place size address value count h bus x s old 1 mid env bus_is env.some st on) f
 
 -- ---- while x8 and x9 were put back
 
@@ -171,7 +276,7 @@ done_hung size address value count p q x8 x9 h bus x s b told d g =
 
 stores_cut : (size : Size) (address value count h : ℕ) (bus : BusUnit) (x : Hart) (s : Site) → BlockAt size address count x s → s.unit.bus ≡ bus
     → HartAt h s x
-    → BlockCutInside (λ a b. StoresOn size address value a count b) (StoresFailed size address value count) (StoresDone size address value count h bus x s)
+    → BlockCutInside (λ a b. StoresOn size address value count a count b) (StoresFailed size address value count) (StoresDone size address value count h bus x s)
     (λ at. StoreFault size address value count at h bus x s) (StoreHung size address value count h bus x s) h bus x s
 stores_cut size address value count h bus x s env bus_is here = record {
   inside = stores_inside size address value count h bus x s env bus_is;
@@ -202,7 +307,7 @@ store_block_cut size address value count h (Some c) coming old_count new_count n
     let x : Hart = halted.hart in
     if_cut (StoreHung size address value count h s.unit.bus x s new.far) (Leaves (BlockStoreCut size address value count h) (Some c) new.far) e
     (λ p. record { far = p.far; is = p.is; left = cut_as size address value count h s.unit.bus s halted (site_of p.far) p.hung })
-    (around_cut (λ a b. StoresOn size address value a count b) (StoresFailed size address value count) (StoresDone size address value count h s.unit.bus x s)
+    (around_cut (λ a b. StoresOn size address value count a count b) (StoresFailed size address value count) (StoresDone size address value count h s.unit.bus x s)
     (λ at. StoreFault size address value count at h s.unit.bus x s) (StoreHung size address value count h s.unit.bus x s) h s.unit.bus x s old_count new_count
     (tells (Some c) coming) new e
     (stores_cut size address value count h s.unit.bus x s (block_at size address count h c ready halted ends some) refl halted.is)

@@ -29,7 +29,7 @@ use Rattle.probe_access.proofs.BlockAround.{LeftWith, OnlyAt, clean_at, only_at_
 use Rattle.probe_access.proofs.ElementSites.{access_on, access_ready}
 use Rattle.probe_access.proofs.ElementWords.{element_first, element_next, element_small, scratched_address, scratched_advanced, scratched_x9}
 use Rattle.probe_access.proofs.NextSteps.{advanced}
-use Rattle.probe_access.proofs.NextTold.{Handing, IsProgram, NextFaulted, NextWent, RanNext, next_faulted, next_neither, next_went, ran_next}
+use Rattle.probe_access.proofs.NextTold.{IsProgram, NextFaulted, NextWent, RanNext, next_faulted, next_neither, next_went, ran_next}
 use Rattle.probe_access.proofs.ReadyTurns.{BoardReady, Passed, passed_turns}
 use Rattle.probe_access.proofs.ReadyUnit.{Kept}
 use Rattle.probe_access.proofs.RegAnswers.{StoodTold, WrittenTold, written_told}
@@ -90,6 +90,11 @@ pub record BlockAt (size : Size) (address count : ℕ) (x : Hart) (s : Site) : T
   pub some : 0 < count
   pub ready : BoardReady s.board
 
+-- the program is there
+pub record Prepared (word : ℕ) (size : Size) (h : ℕ) (bus : BusUnit) (z : Hart) (base : Site) (w : Hart) (told : Option Far) : Type 0 where
+  pub then : StoodTold h bus z base w told
+  pub program : IsProgram word size then.kept
+
 -- ---- the places of a block of stores
 
 pub record StorePlace (size : Size) (address value count done h : ℕ) (bus : BusUnit) (x : Hart) (s : Site) (told : Option Far) : Type 0 where
@@ -99,8 +104,7 @@ pub record StorePlace (size : Size) (address value count done h : ℕ) (bus : Bu
   pub bus_is : base.unit.bus ≡ bus
   pub p : ℕ
   pub p_is : done < count → p ≡ element_at size address done
-  pub q : ℕ
-  pub set : Handing (store_word size) size q h bus (scratched p value x) base x told
+  pub set : Prepared (store_word size) size h bus (scratched p value x) base x told
 
 -- memory refused an element
 pub record StoreFault (size : Size) (address value count at h : ℕ) (bus : BusUnit) (x : Hart) (s base : Site) : Type 0 where
@@ -121,7 +125,7 @@ pub record StoreFault (size : Size) (address value count at h : ℕ) (bus : BusU
 abbrev pub on_it : Size → ℕ → ℕ → ℕ → Hart → Hart
 on_it size address value done x = scratched (element_at size address done) value x
 
-abbrev ElementRan : Size → ℕ → ℕ → ℕ → ℕ → ℕ → BusUnit → Hart → Site → Option Far → Type 0
+abbrev pub ElementRan : Size → ℕ → ℕ → ℕ → ℕ → ℕ → BusUnit → Hart → Site → Option Far → Type 0
 ElementRan size address value done last h bus x base told =
     RanNext (Stores size (element_at size address done) value (on_it size address value done x)) (StoreFaults size (element_at size address done))
     (store_word size) size last h bus (on_it size address value done x) base x told
@@ -136,7 +140,7 @@ element_decides size address value count done x s m env below frozen =
     (scratched_x9 (element_at size address done) value x env.all)
 
 -- with the element's address in x8, behind these writes
-element_ran : (size : Size) (address value count done : ℕ) (front : List Act) (l : Kept) (last h : ℕ) (bus : BusUnit) (x : Hart) (s base : Site)
+pub element_ran : (size : Size) (address value count done : ℕ) (front : List Act) (l : Kept) (last h : ℕ) (bus : BusUnit) (x : Hart) (s base : Site)
     (old new : Tells) → BlockAt size address count x s → done < count → (st : StoodTold h bus (on_it size address value done x) base x old.far)
     → WordPuts h bus (on_it size address value done x) st.kept front l → IsProgram (store_word size) size l → RanCommand front next_word last old new
     → ElementRan size address value done last h bus x base new.far
@@ -145,7 +149,34 @@ element_ran size address value count done front l last h bus x s base old new en
     (store_word size) size front l last h bus (on_it size address value done x) base x old new st puts program
     (λ m. element_decides size address value count done x s m env below st.stood.frozen) ran
 
-element_went : (size : Size) (address value count done h : ℕ) (bus : BusUnit) (x : Hart) (s base : Site) (told : Option Far) → BlockAt size address count x s
+-- one more is stored
+pub record StoredNext (size : Size) (address value done : ℕ) (bus : BusUnit) (s next : Site) : Type 0 where
+  pub each : StoredEach size address value s (done + 1) next
+  pub ready : BoardReady next.board
+  pub bus_is : next.unit.bus ≡ bus
+
+pub stored_next : (size : Size) (address value done : ℕ) (bus : BusUnit) (s base : Site) (before : List ℕ) (y z : Hart) (n : Memory)
+    → StoredEach size address value s done base → BoardReady base.board → base.unit.bus ≡ bus
+    → Stores size (element_at size address done) value y (passed before base).board.memory z n
+    → StoredNext size address value done bus s (accessed n (passed before base))
+stored_next size address value done bus s base before y z n each ready bus_is did =
+    let a : ℕ = element_at size address done in
+    let pass : Passed base (passed before base) = passed_turns before base in
+    record {
+      each = stored_further done base (accessed n (passed before base)) each
+          (record {
+            before = pass.harts;
+            behind = [];
+            done = did.done;
+            taken = ap (λ (b : Board). store_answer b.memory a size) (sym pass.board) ∙ did.is;
+            access = access_on (λ m. after_store m a size value) before n base did.memory;
+          });
+      ready = access_ready before n base ready
+          (λ r. subst (λ (m : Memory). MemoryReady m) (sym did.memory) (stored_ready (passed before base).board.memory a size value r));
+      bus_is = ap (λ (m : DebugModule). m.bus) (unit_passed before base) ∙ bus_is;
+    }
+
+pub element_went : (size : Size) (address value count done h : ℕ) (bus : BusUnit) (x : Hart) (s base : Site) (told : Option Far) → BlockAt size address count x s
     → done < count → StoredEach size address value s done base → BoardReady base.board → base.unit.bus ≡ bus
     → NextWent (Stores size (element_at size address done) value (on_it size address value done x)) (store_word size) size h bus
     (on_it size address value done x) base x told
@@ -153,62 +184,61 @@ element_went : (size : Size) (address value count done h : ℕ) (bus : BusUnit) 
 element_went size address value count done h bus x s base told env below each ready bus_is w =
     let a : ℕ = element_at size address done in
     let next : Site = accessed w.memory (passed w.before base) in
-    let pass : Passed base (passed w.before base) = passed_turns w.before base in
+    let one : StoredNext size address value done bus s next =
+    stored_next size address value done bus s base w.before (on_it size address value done x) w.hart w.memory each ready bus_is w.did in
     record {
       base = next;
-      each = stored_further done base next each
-          (record {
-            before = pass.harts;
-            behind = [];
-            done = w.did.done;
-            taken = ap (λ (b : Board). store_answer b.memory a size) (sym pass.board) ∙ w.did.is;
-            access = access_on (λ m. after_store m a size value) w.before w.memory base w.did.memory;
-          });
-      ready = access_ready w.before w.memory base ready
-          (λ r. subst (λ (m : Memory). MemoryReady m) (sym w.did.memory) (stored_ready (passed w.before base).board.memory a size value r));
-      bus_is = ap (λ (m : DebugModule). m.bus) (unit_passed w.before base) ∙ bus_is;
+      each = one.each;
+      ready = one.ready;
+      bus_is = one.bus_is;
       p = (a + count_of size) % 2 ^ 64;
       p_is = λ further. element_next size address count done env.ends further;
-      q = x_of (on_it size address value done x).core 9;
-      set = subst (λ (z : Hart). Handing (store_word size) size (x_of (on_it size address value done x).core 9) h bus z next x told)
-          (ap (advanced size) w.did.hart ∙ scratched_advanced size a value x env.all) w.then;
+      set = subst (λ (z : Hart). Prepared (store_word size) size h bus z next x told)
+          (ap (advanced size) w.did.hart ∙ scratched_advanced size a value x env.all) (record { then = w.then.then; program = w.then.program });
     }
 
-element_faulted : (size : Size) (address value count done at h : ℕ) (bus : BusUnit) (x : Hart) (s base : Site) (told : Option Far) → done < count
+-- memory refused an element
+pub store_fault : (size : Size) (address value count done at h : ℕ) (bus : BusUnit) (x : Hart) (s base : Site) (before : List ℕ) → done < count
+    → at ≡ element_at size address done → StoredEach size address value s done base → BoardReady base.board → base.unit.bus ≡ bus → HartAt h base x
+    → StoreFaults size (element_at size address done) (passed before base).board.memory
+    → StoreFault size address value count at h bus x s (accessed (passed before base).board.memory (passed before base))
+store_fault size address value count done at h bus x s base before below at_is each ready bus_is here did =
+    let a : ℕ = element_at size address done in
+    let m : Memory = (passed before base).board.memory in
+    let pass : Passed base (passed before base) = passed_turns before base in
+    record {
+      done = done;
+      below = below;
+      at_is = at_is;
+      mid = base;
+      each = each;
+      here = here;
+      mid_bus = bus_is;
+      turned = before;
+      did = did;
+      base_is = refl;
+      refused = record {
+        before = pass.harts;
+        behind = [];
+        why = did.why;
+        refused = ap (λ (b : Board). store_answer b.memory a size) (sym pass.board) ∙ did.is;
+        access = access_on unchanged before m base refl;
+      };
+      ready = access_ready before m base ready (λ r. r);
+      bus_is = ap (λ (u : DebugModule). u.bus) (unit_passed before base) ∙ bus_is;
+    }
+
+pub element_faulted : (size : Size) (address value count done at h : ℕ) (bus : BusUnit) (x : Hart) (s base : Site) (told : Option Far) → done < count
     → at ≡ element_at size address done → StoredEach size address value s done base → BoardReady base.board → base.unit.bus ≡ bus → HartAt h base x
     → NextFaulted (StoreFaults size (element_at size address done)) (store_word size) size h bus (on_it size address value done x) base x told
     → LeftWith (StoreFault size address value count at h bus x s) h bus x told
-element_faulted size address value count done at h bus x s base told below at_is each ready bus_is here w =
-    let a : ℕ = element_at size address done in
-    let m : Memory = (passed w.before base).board.memory in
-    let pass : Passed base (passed w.before base) = passed_turns w.before base in
-    record {
-      p = a;
-      q = value;
-      base = accessed m (passed w.before base);
-      content = record {
-        done = done;
-        below = below;
-        at_is = at_is;
-        mid = base;
-        each = each;
-        here = here;
-        mid_bus = bus_is;
-        turned = w.before;
-        did = w.did;
-        base_is = refl;
-        refused = record {
-          before = pass.harts;
-          behind = [];
-          why = w.did.why;
-          refused = ap (λ (b : Board). store_answer b.memory a size) (sym pass.board) ∙ w.did.is;
-          access = access_on unchanged w.before m base refl;
-        };
-        ready = access_ready w.before m base ready (λ r. r);
-        bus_is = ap (λ (u : DebugModule). u.bus) (unit_passed w.before base) ∙ bus_is;
-      };
-      then = w.then.then;
-    }
+element_faulted size address value count done at h bus x s base told below at_is each ready bus_is here w = record {
+  p = element_at size address done;
+  q = value;
+  base = accessed (passed w.before base).board.memory (passed w.before base);
+  content = store_fault size address value count done at h bus x s base w.before below at_is each ready bus_is here w.did;
+  then = w.then.then;
+}
 
 -- ---- the first element
 
@@ -235,7 +265,7 @@ first_ran size address value count last h bus x s old new env st ran =
     element_ran size address value count 0 (block_program (store_word size) size) (with_block (store_word size) size st.kept) last h bus x s s old new env
     env.some st (block_puts (store_word size) size h bus (on_it size address value 0 x) st.kept) (block_there (store_word size) size st.kept) ran
 
-started_place : (size : Size) (address value count h : ℕ) (bus : BusUnit) (x : Hart) (s : Site) (old new : Tells) → BlockAt size address count x s
+pub started_place : (size : Size) (address value count h : ℕ) (bus : BusUnit) (x : Hart) (s : Site) (old new : Tells) → BlockAt size address count x s
     → s.unit.bus ≡ bus → StoodTold h bus (valued x value) s x old.far → Started (store_word size) size address old new
     → StorePlace size address value count 1 h bus x s new.far
 started_place size address value count h bus x s old new env bus_is st r =
@@ -248,15 +278,15 @@ started_place size address value count h bus x s old new env bus_is st r =
 
 pub place_aimed : (size : Size) (address value count done h : ℕ) (bus : BusUnit) (x : Hart) (s : Site) (told : Option Far) → done < count
     → (pl : StorePlace size address value count done h bus x s told)
-    → Handing (store_word size) size pl.q h bus (on_it size address value done x) pl.base x told
+    → Prepared (store_word size) size h bus (on_it size address value done x) pl.base x told
 place_aimed size address value count done h bus x s told below pl =
-    subst (λ n. Handing (store_word size) size pl.q h bus (scratched n value x) pl.base x told) (pl.p_is below) pl.set
+    subst (λ n. Prepared (store_word size) size h bus (scratched n value x) pl.base x told) (pl.p_is below) pl.set
 
 pub place_ran : (size : Size) (address value count done last h : ℕ) (bus : BusUnit) (x : Hart) (s : Site) (old new : Tells)
     → BlockAt size address count x s → done < count → (pl : StorePlace size address value count done h bus x s old.far)
     → RanCommand [] next_word last old new → ElementRan size address value done last h bus x pl.base new.far
 place_ran size address value count done last h bus x s old new env below pl ran =
-    let g : Handing (store_word size) size pl.q h bus (on_it size address value done x) pl.base x old.far =
+    let g : Prepared (store_word size) size h bus (on_it size address value done x) pl.base x old.far =
     place_aimed size address value count done h bus x s old.far below pl in
     element_ran size address value count done [] g.then.kept last h bus x s pl.base old new env below g.then (no_more g.then.kept) g.program ran
 
@@ -267,53 +297,3 @@ next_place size address value count done h bus x s old new env below pl r =
     element_went size address value count done h bus x s pl.base new.far env below pl.each pl.ready pl.bus_is
     (next_went _ _ (store_word size) size r.last h bus (on_it size address value done x) pl.base x new.far
     (place_ran size address value count done r.last h bus x s old new env below pl r.ran) r.error_is)
-
-pub stores_place : (size : Size) (address value count h : ℕ) (bus : BusUnit) (x : Hart) (s : Site) (old : Tells) (done : ℕ) (new : Tells)
-    → BlockAt size address count x s → s.unit.bus ≡ bus → done ≤ count → StoodTold h bus x s x old.far → StoresOn size address value old done new
-    → StorePlace size address value count done h bus x s new.far
-stores_place size address value count h bus x s old _ _ env bus_is le st (StoresOn.first one new x9 started) =
-    started_place size address value count h bus x s one new env bus_is (store_valued value h bus x s old one st x9) started
-stores_place size address value count h bus x s old _ _ env bus_is le st (StoresOn.next n mid new on r) =
-    next_place size address value count n h bus x s mid new env (omega (arith, le))
-    (stores_place size address value count h bus x s old n mid env bus_is (omega (arith, le)) st on) r
-
--- ---- faults
-
-start_only : (size : Size) (address value count h : ℕ) (bus : BusUnit) (x : Hart) (s : Site) (old_count new_count : ℕ) (old new : Tells) (e : AccessFault)
-    → BlockAt size address count x s → s.unit.bus ≡ bus → StoodTold h bus (valued x value) s x old.far
-    → StartFailed (store_word size) size address old_count new_count old new e
-    → OnlyAt (λ at. LeftWith (StoreFault size address value count at h bus x s) h bus x new.far) e
-start_only size address value count h bus x s old_count new_count old new e env bus_is st (StartFailed.at_x8 f) =
-    clean_at (λ at. LeftWith (StoreFault size address value count at h bus x s) h bus x new.far) e
-    (write_clean x8_number address h bus (valued x value) s x old_count new_count old new e (omega arith) (writes_x8 (valued x value)) st f)
-start_only size address value count h bus x s old_count new_count old new e env bus_is st (StartFailed.at_first mid x8 f) =
-    let a : ℕ = element_at size address 0 in
-    let y : Hart = on_it size address value 0 x in
-    only_at_map (λ at. (at ≡ address) × NextFaulted (StoreFaults size a) (store_word size) size h bus y s x new.far)
-    (λ at. LeftWith (StoreFault size address value count at h bus x s) h bus x new.far) e
-    (λ at g. element_faulted size address value count 0 at h bus x s s new.far env.some (g.0 ∙ sym (element_first size address)) none_stored env.ready bus_is
-    st.stood.held.here g.1)
-    (run_only (Stores size a value y) (StoreFaults size a) (store_word size) size (block_program (store_word size) size) address h bus y s x old_count
-    new_count mid new e
-    (λ last ran. first_ran size address value count last h bus x s mid new env (store_aimed size address value h bus x s old mid st x8) ran) f)
-
-pub stores_only : (size : Size) (address value count h : ℕ) (bus : BusUnit) (x : Hart) (s : Site) (old_count new_count : ℕ) (old new : Tells)
-    (e : AccessFault) → BlockAt size address count x s → s.unit.bus ≡ bus → StoodTold h bus x s x old.far
-    → StoresFailed size address value count old_count new_count old new e
-    → OnlyAt (λ at. LeftWith (StoreFault size address value count at h bus x s) h bus x new.far) e
-stores_only size address value count h bus x s old_count new_count old new e env bus_is st (StoresFailed.at_x9 f) =
-    clean_at (λ at. LeftWith (StoreFault size address value count at h bus x s) h bus x new.far) e
-    (write_clean x9_number value h bus x s x old_count new_count old new e (omega arith) (writes_x9 x) st f)
-stores_only size address value count h bus x s old_count new_count old new e env bus_is st (StoresFailed.in_start one x9 f) =
-    start_only size address value count h bus x s old_count new_count one new e env bus_is (store_valued value h bus x s old one st x9) f
-stores_only size address value count h bus x s old_count new_count old new e env bus_is st (StoresFailed.in_next n mid below on f) =
-    let a : ℕ = element_at size address n in
-    let y : Hart = on_it size address value n x in
-    let pl : StorePlace size address value count n h bus x s mid.far =
-    stores_place size address value count h bus x s old n mid env bus_is (omega (arith, below)) st on in
-    only_at_map (λ at. (at ≡ a) × NextFaulted (StoreFaults size a) (store_word size) size h bus y pl.base x new.far)
-    (λ at. LeftWith (StoreFault size address value count at h bus x s) h bus x new.far) e
-    (λ at g. element_faulted size address value count n at h bus x s pl.base new.far below g.0 pl.each pl.ready pl.bus_is
-    pl.set.then.stood.held.here g.1)
-    (run_only (Stores size a value y) (StoreFaults size a) (store_word size) size [] a h bus y pl.base x old_count new_count mid new e
-    (λ last ran. place_ran size address value count n last h bus x s mid new env below pl ran) f)

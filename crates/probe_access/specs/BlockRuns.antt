@@ -1,7 +1,7 @@
 -- The calls of a block of accesses, as far as they don't depend on how the accesses are made: where its values were read, and what a fault follows.
 -- RISC-V Debug Specification 1.0, "Abstract Control and Status" and "Abstract Data 0".
 use Rattle.debug_model.specs.Addresses.{abstractcs_address, data0_address, data1_address, command_address}
-use Rattle.std.specs.Prelude.{◌≡◌, ◌≢◌, ◌++◌, ◌∷◌, ℕ, List, [], map, All, Bool, false}
+use Rattle.std.specs.Prelude.{◌≡◌, ◌≢◌, ◌⊎◌, ◌++◌, ◌∷◌, ℕ, List, [], map, All, Bool, false}
 use Rattle.probe_access.specs.declared.fault.AccessFault.{AccessFault}
 use Rattle.probe_access.specs.declared.fault.AccessFault.TheVariants as fault
 use Rattle.probe_access.specs.declared.odd.OddStatus.{OddStatus}
@@ -10,7 +10,7 @@ use Rattle.probe_run.specs.Acts.{Act, Attempt, Broke, Did, Tells}
 use Rattle.probe_run.specs.Acts.Act.{Got, Put, Scanned}
 use Rattle.probe_access.specs.CommandRuns.{AlwaysBusy, error_shown, poll_act, shows_busy}
 use Rattle.probe_access.specs.RegisterRuns.{exception_error, no_error}
-use Rattle.probe_access.specs.RegisterAccess.{joined, transfer_word}
+use Rattle.probe_access.specs.RegisterAccess.{joined, transfer_word, x8_number}
 
 -- ---- what was read
 
@@ -63,7 +63,13 @@ pub record Denied (number : ℕ) (old new : Tells) : Type 0 where
   pub error_is : error_shown last ≡ exception_error
   pub did : Did old (front ++ Put command_address (transfer_word write number) ∷ (map poll_act words ++ poll_act last ∷ rest)) new
 
--- the end of a command was shown with an error that is neither
+-- x8 was read
+pub record EightRead (acts : List Act) : Type 0 where
+  pub front : List Act
+  pub rest : List Act
+  pub is : acts ≡ front ++ Put command_address (transfer_word false x8_number) ∷ rest
+
+-- the end of a command was shown with an error that is neither, or that what x8 holds then does not fit
 pub record ReportedOddly (shown : OddStatus) (old new : Tells) : Type 0 where
   pub word : ℕ
   pub is : shown ≡ Abstractcs word
@@ -71,7 +77,7 @@ pub record ReportedOddly (shown : OddStatus) (old new : Tells) : Type 0 where
   pub rest : List Act
   pub idle : shows_busy word ≡ false
   pub some : error_shown word ≢ no_error
-  pub other : error_shown word ≢ exception_error
+  pub other : (error_shown word ≢ exception_error) ⊎ EightRead rest
   pub did : Did old (front ++ poll_act word ∷ rest) new
 
 -- 64 polls in a row, behind any calls, showed a command under way

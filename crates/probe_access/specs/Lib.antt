@@ -9,6 +9,7 @@ pub mod BusStoreStreams
 pub mod BusStreams
 pub mod CommandRuns
 pub mod Cuts
+pub mod AskedRuns
 pub mod ElementRuns
 pub mod Faults
 pub mod MemoryRuns

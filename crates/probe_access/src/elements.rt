@@ -28,7 +28,7 @@ pub struct Handed {
 }
 
 /// The command to read x9 into the data words, and then to execute the program buffer.
-fn next_command() -> AbstractCommand
+pub fn next_command() -> AbstractCommand
     ensures { result ≡ next_command }
 {
     AbstractCommand {

@@ -3,6 +3,8 @@
 //! of harts are all else that happened, that just the named register was changed or one access made, and that the chip is ready again.
 #![tactic(auto)]
 
+#[cfg(test)]
+mod block_run_tests;
 mod blocks;
 mod bus;
 #[cfg(test)]
@@ -23,6 +25,7 @@ mod memory;
 mod odd;
 mod program;
 mod registers;
+mod runs;
 mod scratch;
 #[cfg(test)]
 mod scripted_tests;

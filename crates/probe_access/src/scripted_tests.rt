@@ -1,7 +1,7 @@
 //! Single steps and blocks over operations whose answers are given beforehand: words of `abstractcs` and `dmstatus` by the layouts of RISC-V Debug
 //! Specification 1.0, "Abstract Control and Status" and "Debug Module Status".
 
-ghost use Rattle.std.specs.Prelude.{◌≡◌, [], true};
+ghost use Rattle.std.specs.Prelude.{◌≡◌, ◌≤◌, [], true};
 ghost use Rattle.debug_model.specs.Told.{IsAsLoaded};
 ghost use Rattle.debug_model.specs.Kept.{CanCall};
 
@@ -15,18 +15,18 @@ use probe_run::{ConnectFault, RunFault, Seen, connect};
 use rv_model::Size;
 
 /// No command is under way, and no error is set.
-const IDLE: u32 = 0x0400_0002;
+pub(crate) const IDLE: u32 = 0x0400_0002;
 
 /// `cmderr` 3.
-const EXCEPTION: u32 = 0x0400_0302;
+pub(crate) const EXCEPTION: u32 = 0x0400_0302;
 
 /// `cmderr` 2.
-const UNSUPPORTED: u32 = 0x0400_0202;
+pub(crate) const UNSUPPORTED: u32 = 0x0400_0202;
 
 /// `cmderr` 1, while a command is under way and behind its end.
 const EARLY_BUSY: u32 = 0x0400_1102;
 
-const EARLY: u32 = 0x0400_0102;
+pub(crate) const EARLY: u32 = 0x0400_0102;
 
 /// No answer is left.
 pub(crate) const ENDED: AccessFault = AccessFault::Dmi(DmiFault::Wire(WireFault::RecvFailed));
@@ -45,7 +45,7 @@ const OPENING: [u32; 6] = [
 const STEPPED: u32 = 0x000f_0383;
 
 /// Operations that answer the words of an opening, and then these.
-fn opened(words: &[u32]) -> ScriptedDmi
+pub(crate) fn opened(words: &[u32]) -> ScriptedDmi
     ensures { result.alive ≡ true }
 {
     let mut answers: ArrayVec<u32, 64> = ArrayVec::new();
@@ -60,7 +60,7 @@ fn opened(words: &[u32]) -> ScriptedDmi
 
 /// Why a test's session failed, or that the Look saw the hart otherwise.
 #[derive(Clone, Copy, Debug, PartialEq, Eq)]
-enum Fault {
+pub(crate) enum Fault {
     Connect(ConnectFault),
     Run(RunFault),
     Access(AccessFault),
@@ -243,8 +243,10 @@ fn loads_blocks(rt: HostRuntime) {
     }
 }
 
-/// Opens the chip and stores a byte twice.
-fn store_two<D: Dmi>(link: &mut D) -> Result<(), Fault>
+/// Opens the chip and stores a byte so many times.
+pub(crate) fn store_bytes<D: Dmi>(link: &mut D, count: u16) -> Result<(), Fault>
+    requires some { 1 ≤ count }
+    requires few { count ≤ 512 }
     requires callable { CanCall (D.seen link.old) }
     requires loaded { IsAsLoaded (D.seen link.old).far }
 {
@@ -252,7 +254,7 @@ fn store_two<D: Dmi>(link: &mut D) -> Result<(), Fault>
     let Seen::Halted(halted) = target.look(link, 0)? else {
         return Err(Fault::SeenOtherwise);
     };
-    store_block(link, &halted, Size::B1, 0x8000_0000, 2, 0xff)?;
+    store_block(link, &halted, Size::B1, 0x8000_0000, count, 0xff)?;
     Ok(())
 }
 
@@ -276,6 +278,6 @@ fn stores_blocks(rt: HostRuntime) {
     ];
     for (words, wanted) in cases {
         let mut link = opened(words);
-        assert_eq!(rt; store_two(&mut link), wanted);
+        assert_eq!(rt; store_bytes(&mut link, 2), wanted);
     }
 }

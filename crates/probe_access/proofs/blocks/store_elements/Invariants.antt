@@ -6,7 +6,7 @@ use Rattle.probe_access.proofs.blocks.store_elements.Given as goal
 
 abbrev pub invariant-elements : goal.invariant-elements
 invariant-elements g l = record {
-  on : StoresOn l.fn.size l.fn.address l.fn.value (told (g.D.Dmi.seen l.fn.link)) l.number (told (g.D.Dmi.seen l.link));
+  on : StoresOn l.fn.size l.fn.address l.fn.value l.fn.count (told (g.D.Dmi.seen l.fn.link)) l.number (told (g.D.Dmi.seen l.link));
   callable : CanCall (g.D.Dmi.seen l.link);
   stands : Stands (g.D.Dmi.seen l.link);
   later : (g.D.Dmi.seen l.fn.link).fault_count ≤ (g.D.Dmi.seen l.link).fault_count;

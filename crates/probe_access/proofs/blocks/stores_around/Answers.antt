@@ -2,7 +2,7 @@ use Rattle.std.proofs.Common.{arith}
 use Rattle.probe_access.specs.ElementRuns.{StoresFailed, StoresOn}
 use Rattle.probe_access.specs.MemoryRuns.AroundFailed.{in_save}
 use Rattle.probe_access.proofs.AroundLemmas.{around_gave_up, around_restore}
-use Rattle.probe_access.proofs.ElementCalls.{stores_counted}
+use Rattle.probe_access.proofs.StoreRunCalls.{stores_counted}
 use Rattle.probe_access.proofs.RegisterCalls.{err_failed}
 use Rattle.probe_access.proofs.blocks.stores_around.Goals as goal
 
@@ -12,7 +12,7 @@ returns-in_err-scratch-clause-failed g c = err_failed _ c.in_err-scratch.field-0
 pub returns-in_err-put_back-in-Ok-clause-failed : goal.returns-in_err-put_back-in-Ok-clause-failed
 returns-in_err-put_back-in-Ok-clause-failed g c =
     err_failed _ c.in_err-put_back-in-Ok.field-0.0 _ c.from_residual-in_err-put_back-in-Ok.ensures.1
-    (around_restore (λ a b. StoresOn c.args.size c.args.address c.args.value a c.args.count b)
+    (around_restore (λ a b. StoresOn c.args.size c.args.address c.args.value c.args.count a c.args.count b)
     (StoresFailed c.args.size c.args.address c.args.value c.args.count)
     c.in_ok-scratch.scratch.x8 c.in_ok-scratch.scratch.x9 _ _ _ _ _ _ _ c.in_err-put_back-in-Ok.field-0.0 c.in_ok-scratch.ensures.saved
     c.in-Ok.ensures.stored
@@ -21,7 +21,7 @@ returns-in_err-put_back-in-Ok-clause-failed g c =
 
 pub returns-in-Err-clause-failed : goal.returns-in-Err-clause-failed
 returns-in-Err-clause-failed g c =
-    around_gave_up (λ a b. StoresOn c.args.size c.args.address c.args.value a c.args.count b)
+    around_gave_up (λ a b. StoresOn c.args.size c.args.address c.args.value c.args.count a c.args.count b)
     (StoresFailed c.args.size c.args.address c.args.value c.args.count)
     c.in_ok-scratch.scratch.x8 c.in_ok-scratch.scratch.x9 _ _ _ _ _ _ _ _ c.in-Err.fault _ c.in_ok-scratch.ensures.saved c.in-Err.ensures.failed
     (stores_counted c.args.size c.args.address c.args.value c.args.count _ _ _ _ _ c.in-Err.fault c.save_scratch.ensures.keeps.later
