@@ -7,7 +7,7 @@ use Rattle.debug_model.specs.Signs.{sign_of}
 use Rattle.chain_scan.specs.Chain.{Chain, chain_pins, chain_signed, outgoing, run_chain}
 use Rattle.chain_scan.specs.ChipInChain.{ChipSeesAnotherTdi, levels_byte, seen_byte, seen_bytes}
 
-levels_sign : (tck tms tdi : Bool) → sign_of (levels_byte tck tms tdi) ≡ Some (Pins tck tms tdi)
+pub levels_sign : (tck tms tdi : Bool) → sign_of (levels_byte tck tms tdi) ≡ Some (Pins tck tms tdi)
 levels_sign false false false = refl
 levels_sign false false true = refl
 levels_sign false true false = refl

@@ -53,6 +53,13 @@ impl Model for SideTap {
     } };
 }
 
+/// It only fills the places of a fixed list that hold no device.
+impl Default for SideTap {
+    fn default() -> Self {
+        SideTap::new(WIDTH_LEAST)
+    }
+}
+
 impl SideTap {
     /// In Test-Logic-Reset, with an instruction register of so many bits.
     pub fn new(len: u8) -> Self

@@ -1,0 +1,90 @@
+-- A question for TDO, and one byte whose answer is dropped.
+use Rattle.std.proofs.Common.{◌≡◌, ◌∙◌, ℕ, ◌+◌, ◌<◌, ◌≤◌, List, [], ◌∷◌, ◌++◌, length, get_or, nat_eq, Bool, true, false, Option, Some, None, is_none, option_map, refl, sym, ap, arith}
+use Rattle.debug_model.specs.declared.chip_end.ChipEnd.{ChipEnd}
+use Rattle.debug_model.specs.declared.chip_end.ChipEnd.TheVariants.{Quitted, BadByte, AtLimit}
+use Rattle.debug_model.specs.Chip.{Live, after, answer_byte, feed, said, unless_ended}
+use Rattle.chip_core.specs.declared.fed.Fed.{Fed}
+use Rattle.chip_core.specs.declared.fed.Fed.TheVariants.{All, Quit, Bad, EventLimit}
+use Rattle.chip_core.specs.Fed.{fed, fed_from, placed}
+use Rattle.chip_core.specs.Feeds.{fed_of, feed_of, said_of}
+use Rattle.chain_bench.specs.Benched.{is_live, tdo_of}
+
+-- ---- a question
+
+asked_live : (o : Option ChipEnd) (l : Live) → l.ended ≡ o → unless_ended o (let m : Live = record { chip = l.chip; ended = None } in m) l ≡ l
+asked_live None l is = ap (λ (z : Option ChipEnd). let m : Live = record { chip = l.chip; ended = z } in m) (sym is)
+asked_live (Some e) l is = refl
+
+-- it leaves the chip as it is
+pub asked_same : (bench : Option Live) → feed_of bench (82 ∷ []) ≡ bench
+unfolding feed
+asked_same None = refl
+asked_same (Some l) = ap (λ (m : Live). Some m) (asked_live l.ended l refl)
+
+abbrev heard : Option Bool → List ℕ
+heard None = []
+heard (Some level) = answer_byte level ∷ []
+
+asked_answer : (o : Option ChipEnd) (level : Bool) → unless_ended o (answer_byte level ∷ []) [] ++ [] ≡ heard (unless_ended o (Some level) None)
+asked_answer None level = refl
+asked_answer (Some e) level = refl
+
+asked_said : (bench : Option Live) → said_of bench (82 ∷ []) ≡ heard (tdo_of bench)
+unfolding said
+asked_said None = refl
+asked_said (Some l) = asked_answer l.ended l.chip.port.tdo
+
+level_heard : (level : Bool) → nat_eq (answer_byte level) 49 ≡ level
+level_heard false = refl
+level_heard true = refl
+
+first_heard : (o : Option Bool) (x : ℕ) → 1 ≤ length (heard o) → x ≡ get_or (heard o) 0 x → Some (nat_eq x 49) ≡ o
+first_heard None x some is = absurd (omega arith)
+first_heard (Some level) x some is = ap (λ z. Some (nat_eq z 49)) is ∙ ap (λ (b : Bool). Some b) (level_heard level)
+
+none_heard : (o : Option Bool) → length (heard o) < 1 → None ≡ o
+none_heard None none = refl
+none_heard (Some level) none = absurd (omega arith)
+
+-- what the answers say, in a list that was empty
+pub asked_first : (bench : Option Live) (old items : List ℕ) (x : ℕ) → old ≡ [] → items ≡ old ++ said_of bench (82 ∷ []) → 1 ≤ length items
+    → x ≡ get_or items 0 x → Some (nat_eq x 49) ≡ tdo_of bench
+asked_first bench old items x empty told some is =
+    let all : items ≡ heard (tdo_of bench) = told ∙ ap (λ xs. xs ++ said_of bench (82 ∷ [])) empty ∙ asked_said bench in
+    let long : length items ≡ length (heard (tdo_of bench)) = ap length all in
+    first_heard (tdo_of bench) x (omega arith) (is ∙ ap (λ xs. get_or xs 0 x) all)
+
+pub asked_none : (bench : Option Live) (old items : List ℕ) → old ≡ [] → items ≡ old ++ said_of bench (82 ∷ []) → length items < 1 → None ≡ tdo_of bench
+asked_none bench old items empty told none =
+    let all : items ≡ heard (tdo_of bench) = told ∙ ap (λ xs. xs ++ said_of bench (82 ∷ [])) empty ∙ asked_said bench in
+    let long : length items ≡ length (heard (tdo_of bench)) = ap length all in
+    none_heard (tdo_of bench) (omega arith)
+
+-- ---- one byte
+
+pub one_fed : (bench : Option Live) (b : ℕ) → feed_of bench (b ∷ []) ≡ option_map (λ l. after l b) bench
+unfolding feed
+one_fed None b = refl
+one_fed (Some l) b = refl
+
+abbrev is_all : Fed → Bool
+is_all All = true
+is_all (Quit place) = false
+is_all (Bad place byte) = false
+is_all (EventLimit place) = false
+
+all_placed : (o : Option ChipEnd) → is_all (placed o 0 All) ≡ is_none o
+all_placed None = refl
+all_placed (Some Quitted) = refl
+all_placed (Some (BadByte b)) = refl
+all_placed (Some AtLimit) = refl
+
+one_taken : (bench : Option Live) (b : ℕ) → is_all (fed_of bench (b ∷ [])) ≡ is_live (option_map (λ l. after l b) bench)
+unfolding fed_from
+one_taken None b = refl
+one_taken (Some l) b = all_placed (after l b).ended
+
+pub taken_if_all : (bench new : Option Live) (b : ℕ) (said : Fed) (all : Bool) → new ≡ feed_of bench (b ∷ []) → said ≡ fed_of bench (b ∷ [])
+    → is_all said ≡ all → all ≡ is_live new
+taken_if_all bench new b said all is told which =
+    sym which ∙ ap is_all told ∙ one_taken bench b ∙ ap is_live (sym (one_fed bench b)) ∙ ap is_live (sym is)

@@ -1,0 +1,5 @@
+pub mod Rises
+pub mod Asking
+pub mod Steps
+pub mod Courses
+pub mod Tells

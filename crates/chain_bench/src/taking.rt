@@ -1,0 +1,125 @@
+//! The bytes of the stream, one by one, at the chip and at the devices beside it.
+
+ghost use Rattle.std.specs.Prelude.{◌≡◌, ◌<◌, ◌≤◌, ◌+◌, ◌++◌, [], IsSome, length, option_map};
+ghost use Rattle.arrayvec.specs.ArrayVec.{array_vec_len};
+ghost use Rattle.debug_model.specs.Chip.{after, answer_byte};
+ghost use Rattle.debug_model.specs.Ties.{timing_told};
+ghost use Rattle.debug_model.specs.Wire.{piece_most};
+ghost use Rattle.chain_scan.specs.ChipInChain.{levels_byte};
+ghost use Rattle.chain_scan.specs.Told.{chain_after, feed_chain};
+ghost use Rattle.chip_core.specs.Feeds.{far_of};
+ghost use Rattle.chain_bench.specs.Benched.{answer_in, chain_on, is_live, said_in, tck_of, tdo_of};
+
+use crate::sides::Sides;
+use bitbang_stream::classify;
+use chip_core::{Answers, Bench, Fed};
+use debug_model::{Schedule, Sign};
+
+/// The sign that asks for TDO.
+const ASK: u8 = b'R';
+
+/// The chip's level on TDO, None where something has ended it. It stays as it is.
+fn ask<Q: Schedule>(bench: &mut Bench<Q>) -> Option<bool>
+    requires loaded { IsSome bench.old }
+    ensures level { result ≡ tdo_of bench.old }
+    ensures same { bench.new ≡ bench.old }
+{
+    let mut answers = Answers::new();
+    bench.feed(&[ASK], &mut answers);
+    match answers.as_slice() {
+        [answer, ..] => Some(*answer == b'1'),
+        [] => None,
+    }
+}
+
+/// Gives the chip this byte, whose answer is dropped, and says whether nothing has ended it.
+fn feed_one<Q: Schedule>(bench: &mut Bench<Q>, byte: u8) -> bool
+    requires loaded { IsSome bench.old }
+    ensures chip { bench.new ≡ option_map (λ l. after l byte) bench.old }
+    ensures taken { result ≡ is_live bench.new }
+    ensures timing { timing_told (far_of bench.new []) ≡ timing_told (far_of bench.old []) }
+    ensures loaded { IsSome bench.new }
+{
+    let mut dropped = Answers::new();
+    match bench.feed(&[byte], &mut dropped) {
+        Fed::All => true,
+        Fed::Quit(_) | Fed::Bad(_, _) | Fed::EventLimit(_) => false,
+    }
+}
+
+/// The digit that sets TCK, TMS and TDI to these levels.
+fn pins_digit(tck: bool, tms: bool, tdi: bool) -> u8
+    ensures { result ≡ levels_byte tck tms tdi }
+{
+    match (tck, tms, tdi) {
+        (false, false, false) => b'0',
+        (false, false, true) => b'1',
+        (false, true, false) => b'2',
+        (false, true, true) => b'3',
+        (true, false, false) => b'4',
+        (true, false, true) => b'5',
+        (true, true, false) => b'6',
+        (true, true, true) => b'7',
+    }
+}
+
+/// The answer to a question for this level.
+fn answer_of(level: bool) -> u8
+    ensures { result ≡ answer_byte level }
+{
+    if level { b'1' } else { b'0' }
+}
+
+/// One byte, at the chip and at the devices beside it; where it ends the chip, these stay as they are.
+fn take<Q: Schedule>(bench: &mut Bench<Q>, sides: &mut Sides, byte: u8, unread: &mut Answers)
+    requires loaded { IsSome bench.old }
+    requires clock { sides.old.tck ≡ tck_of bench.old }
+    requires room { array_vec_len unread.old < piece_most }
+    ensures chain { chain_on bench.new sides.new ≡ option_map (λ l. chain_after l byte) (chain_on bench.old sides.old) }
+    ensures answers { unread.new.items ≡ unread.old.items ++ answer_in (chain_on bench.old sides.old) byte }
+    ensures clock { sides.new.tck ≡ tck_of bench.new }
+    ensures timing { timing_told (far_of bench.new []) ≡ timing_told (far_of bench.old []) }
+    ensures loaded { IsSome bench.new }
+    ensures room { array_vec_len unread.new ≤ array_vec_len unread.old + 1 }
+{
+    let Some(chip_tdo) = ask(bench) else {
+        return;
+    };
+    match classify(byte) {
+        Ok(Sign::Pins(tck, tms, tdi)) => {
+            let seen = pins_digit(tck, tms, sides.chip_tdi(tdi));
+            if feed_one(bench, seen) {
+                sides.set_pins(chip_tdo, tck, tms, tdi);
+            }
+        }
+        Ok(Sign::Ask) => unread.push(answer_of(sides.tdo(chip_tdo))),
+        Ok(Sign::Reset(on)) => {
+            let _taken = feed_one(bench, byte);
+            sides.hold_reset(on);
+        }
+        Ok(Sign::Light) | Ok(Sign::Quit) | Err(_) => {
+            let _taken = feed_one(bench, byte);
+        }
+    }
+}
+
+/// All these bytes; nothing behind what ended the chip.
+pub fn take_all<Q: Schedule>(
+    bench: &mut Bench<Q>,
+    sides: &mut Sides,
+    bytes: &[u8],
+    unread: &mut Answers,
+)
+    requires loaded { IsSome bench.old }
+    requires clock { sides.old.tck ≡ tck_of bench.old }
+    requires room { array_vec_len unread.old + length bytes.now ≤ piece_most }
+    ensures chain { chain_on bench.new sides.new ≡ option_map (λ l. feed_chain l bytes.now) (chain_on bench.old sides.old) }
+    ensures answers { unread.new.items ≡ unread.old.items ++ said_in (chain_on bench.old sides.old) bytes.now }
+    ensures clock { sides.new.tck ≡ tck_of bench.new }
+    ensures timing { timing_told (far_of bench.new []) ≡ timing_told (far_of bench.old []) }
+    ensures loaded { IsSome bench.new }
+{
+    for byte in bytes {
+        take(bench, sides, *byte, unread);
+    }
+}
