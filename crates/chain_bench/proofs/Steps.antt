@@ -243,6 +243,7 @@ bench_ended bench new s b told clock chip = step_to bench new bench s s b chip (
         (live_with s l)
     at None l is shown = never l.chip.port.tdo (sym shown)
     at (Some e) l is shown = refl
+
     by : (o : Option Live) → None ≡ tdo_of o → chain_on o s ≡ option_map (λ l. chain_after l b) (chain_on o s)
     by None shown = refl
     by (Some l) shown = ap (λ (m : ChainLive). Some m) (at l.ended l refl shown)
@@ -287,6 +288,7 @@ answers_ended bench s b items told = sym (ap (λ xs. items ++ xs) (by bench told
         → unless_ended o (chain_answered (sign_of b) (chain_with s l.chip)) [] ≡ []
     at None l shown = never l.chip.port.tdo (sym shown)
     at (Some e) l shown = refl
+
     by : (o : Option Live) → None ≡ tdo_of o → answer_in (chain_on o s) b ≡ []
     by None shown = refl
     by (Some l) shown = at l.ended l shown
@@ -300,6 +302,7 @@ answers_asked bench s b level told sign = by bench told
         ap (λ t. answer_byte (outgoing t s.near) ∷ []) (sym shown.tdo)
         ∙ ap (λ z. chain_answered z (chain_with s l.chip)) (sym sign)
         ∙ ap (λ o. unless_ended o (chain_answered (sign_of b) (chain_with s l.chip)) []) (sym shown.live)
+
     by : (o : Option Live) → Some level ≡ tdo_of o → answer_byte (outgoing level s.near) ∷ [] ≡ answer_in (chain_on o s) b
     by None shown = never level shown
     by (Some l) shown = live l (shows l level shown)
