@@ -6,8 +6,10 @@ use Rattle.debug_model.specs.Chip.{Live, after, answer_byte, feed, said, unless_
 use Rattle.chip_core.specs.declared.fed.Fed.{Fed}
 use Rattle.chip_core.specs.declared.fed.Fed.TheVariants.{All, Quit, Bad, EventLimit}
 use Rattle.chip_core.specs.Fed.{fed, fed_from, placed}
-use Rattle.chip_core.specs.Feeds.{fed_of, feed_of, said_of}
-use Rattle.chain_bench.specs.Benched.{is_live, tdo_of}
+use Rattle.debug_model.specs.Ties.{timing_told}
+use Rattle.chip_core.proofs.Timed.{fed_timing}
+use Rattle.chip_core.specs.Feeds.{far_of, fed_of, feed_of, said_of}
+use Rattle.chain_bench.specs.Benched.{is_all, is_live, tdo_of}
 
 -- ---- a question
 
@@ -67,12 +69,6 @@ unfolding feed
 one_fed None b = refl
 one_fed (Some l) b = refl
 
-abbrev is_all : Fed → Bool
-is_all All = true
-is_all (Quit place) = false
-is_all (Bad place byte) = false
-is_all (EventLimit place) = false
-
 all_placed : (o : Option ChipEnd) → is_all (placed o 0 All) ≡ is_none o
 all_placed None = refl
 all_placed (Some Quitted) = refl
@@ -85,6 +81,12 @@ one_taken None b = refl
 one_taken (Some l) b = all_placed (after l b).ended
 
 pub taken_if_all : (bench new : Option Live) (b : ℕ) (said : Fed) (all : Bool) → new ≡ feed_of bench (b ∷ []) → said ≡ fed_of bench (b ∷ [])
-    → is_all said ≡ all → all ≡ is_live new
+    → all ≡ is_all said → all ≡ is_live new
 taken_if_all bench new b said all is told which =
-    sym which ∙ ap is_all told ∙ one_taken bench b ∙ ap is_live (sym (one_fed bench b)) ∙ ap is_live (sym is)
+    which ∙ ap is_all told ∙ one_taken bench b ∙ ap is_live (sym (one_fed bench b)) ∙ ap is_live (sym is)
+
+pub one_fed_is : (bench new : Option Live) (b : ℕ) → new ≡ feed_of bench (b ∷ []) → new ≡ option_map (λ l. after l b) bench
+one_fed_is bench new b is = is ∙ one_fed bench b
+
+pub kept_by_one : (bench new : Option Live) (b : ℕ) → new ≡ feed_of bench (b ∷ []) → timing_told (far_of new []) ≡ timing_told (far_of bench [])
+kept_by_one bench new b is = ap (λ o. timing_told (far_of o [])) is ∙ fed_timing bench (b ∷ []) [] []

@@ -1,5 +1,5 @@
 -- What a wire to a chain on a bench tells: what was sent, that nothing has ended the chain, its limit, and what it keeps of the schedule.
-use Rattle.std.proofs.Common.{◌≡◌, ◌∙◌, ◌⊎◌, inl, inr, ℕ, List, [], ◌∷◌, ◌++◌, map, Bool, true, false, ◌&&◌, cond, IsTrue, Option, Some, None, IfSome, option_map, refl, sym, ap, ap₂, subst}
+use Rattle.std.proofs.Common.{◌≡◌, ◌∙◌, ◌⊎◌, inl, inr, ℕ, List, [], ◌∷◌, ◌++◌, map, replicate, Bool, true, false, ◌&&◌, cond, IsTrue, Option, Some, None, IfSome, option_map, refl, sym, ap, ap₂, subst}
 use Rattle.std.proofs.lemmas.List.{append-nil}
 use Rattle.debug_model.specs.declared.chip_end.ChipEnd.{ChipEnd}
 use Rattle.debug_model.specs.declared.chip_end.ChipEnd.TheVariants.{Quitted, BadByte, AtLimit}
@@ -13,13 +13,13 @@ use Rattle.debug_model.specs.Port.{Port}
 use Rattle.debug_model.specs.Signs.{sign_of, stays_open}
 use Rattle.debug_model.specs.Ties.{no_net, ties_told, timing_told}
 use Rattle.debug_model.specs.Told.{IsLive, IsOpen, MetLimit, StaysOpen}
-use Rattle.debug_model.specs.Wire.{EndCause, are_open}
+use Rattle.debug_model.specs.Wire.{EndCause, are_open, no_answer}
 use Rattle.chain_scan.specs.Bypassed.{IsPlanned, IsPlannedTold, width_of}
 use Rattle.chain_scan.specs.Chain.{Chain, chain_signed}
 use Rattle.chain_scan.specs.ChainLaws.{Each, StandsAs}
 use Rattle.chain_scan.specs.ChainPlan.{Plan}
 use Rattle.chain_scan.specs.SideTap.{reset_side}
-use Rattle.chain_scan.specs.Told.{ChainFar, ChainLive, ChainSentFront, chain_after, chain_sent, chain_taken_by, chip_told, feed_chain}
+use Rattle.chain_scan.specs.Told.{ChainFar, ChainLive, ChainReadsFront, ChainReadsSome, ChainSentFront, chain_after, chain_sent, chain_taken_by, chip_told, feed_chain}
 use Rattle.chip_core.specs.Feeds.{far_of, is_limit, limit_met}
 use Rattle.chain_bench.specs.Benched.{Beside, chain_far, chain_on, chain_told, live_with, planned_far, said_in}
 
@@ -157,3 +157,14 @@ pub planned : (bench : Option Live) (plan : Plan) → IfSome bench AsLoaded
     → IsPlannedTold plan (chain_far bench (record { near = map reset_side plan.near; far = map reset_side plan.far; tck = false }) [])
 planned None plan loaded = tt
 planned (Some l) plan loaded = live_planned plan l loaded
+
+-- ---- what was read
+
+pub nothing_came : (n : ℕ) (into : List ℕ) (told : Option ChainFar) → into ≡ replicate n no_answer → ChainReadsSome into told told
+nothing_came n into None filled = refl
+nothing_came n into (Some f) filled = (f.unread, record { came = []; missing = n; are = refl; stand = filled }, refl)
+
+pub front_read : (bench : Option Live) (s : Beside) (unread into rest : List ℕ) → unread ≡ into ++ rest
+    → ChainReadsFront into (chain_far bench s unread) (chain_far bench s rest)
+front_read None s unread into rest is = refl
+front_read (Some l) s unread into rest is = (rest, is, refl)

@@ -2,6 +2,8 @@
 -- IEEE 1149.1, the serial connection of components. That a chain on a bench moves as its definition says is what the contracts of the wire state.
 use Rattle.std.specs.Prelude.{ℕ, List, [], ◌++◌, map, Bool, true, false, Option, Some, None, is_none, option_map}
 use Rattle.debug_model.specs.Chip.{Chip, Live, unless_ended}
+use Rattle.chip_core.specs.declared.fed.Fed.{Fed}
+use Rattle.chip_core.specs.declared.fed.Fed.TheVariants.{All, Quit, Bad, EventLimit}
 use Rattle.chain_scan.specs.Chain.{Chain, chain_of, sides_rise}
 use Rattle.chain_scan.specs.ChainPlan.{Plan}
 use Rattle.chain_scan.specs.SideTap.{SideTap, side_falls, side_holds}
@@ -33,6 +35,13 @@ tck_of (Some l) = l.chip.tck
 abbrev pub is_live : Option Live → Bool
 is_live None = true
 is_live (Some l) = is_none l.ended
+
+-- were all bytes taken?
+abbrev pub is_all : Fed → Bool
+is_all All = true
+is_all (Quit place) = false
+is_all (Bad place byte) = false
+is_all (EventLimit place) = false
 
 -- TDO, where nothing has ended it
 abbrev pub tdo_of : Option Live → Option Bool

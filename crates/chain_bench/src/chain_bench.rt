@@ -32,6 +32,7 @@ pub struct ChainBench<'a, Q: Schedule> {
 
 impl<'a, Q: Schedule> ChainBench<'a, Q> {
     /// A wire to this bench, which is loaded, with the devices of this plan beside its chip, as a reset leaves them. TCK is 0, as behind a load.
+    #[tactic(auto, using(crate::proofs::Tells::begins, crate::proofs::Tells::planned))]
     pub fn new(bench: &'a mut Bench<Q>, plan: &ChainPlan) -> Self
         requires loaded { IsSome bench.old }
         requires low { tck_of bench.old ≡ false }
@@ -86,6 +87,7 @@ impl<'a, Q: Schedule> ChainWire for ChainBench<'a, Q> {
         Ok(())
     }
 
+    #[tactic(auto, using(crate::proofs::Tells::nothing_came, crate::proofs::Tells::front_read))]
     fn recv(&mut self, into: &mut [u8]) -> Result<(), WireFault>
         requires open { IsOpen (chip_told (chain_far self.old.bench.now self.old.sides self.old.unread.items)) }
         requires waiting { IfSome (chain_far self.old.bench.now self.old.sides self.old.unread.items) (λ f. length into.old ≤ length f.unread) }

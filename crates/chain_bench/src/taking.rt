@@ -8,7 +8,7 @@ ghost use Rattle.debug_model.specs.Wire.{piece_most};
 ghost use Rattle.chain_scan.specs.ChipInChain.{levels_byte};
 ghost use Rattle.chain_scan.specs.Told.{chain_after, feed_chain};
 ghost use Rattle.chip_core.specs.Feeds.{far_of};
-ghost use Rattle.chain_bench.specs.Benched.{answer_in, chain_on, is_live, said_in, tck_of, tdo_of};
+ghost use Rattle.chain_bench.specs.Benched.{answer_in, chain_on, is_all, is_live, said_in, tck_of, tdo_of};
 
 use crate::sides::Sides;
 use bitbang_stream::classify;
@@ -32,6 +32,18 @@ fn ask<Q: Schedule>(bench: &mut Bench<Q>) -> Option<bool>
     }
 }
 
+/// Whether all bytes were taken.
+fn is_whole(fed: Fed) -> bool
+    ensures { result ≡ is_all fed }
+{
+    match fed {
+        Fed::All => true,
+        Fed::Quit(_) => false,
+        Fed::Bad(_, _) => false,
+        Fed::EventLimit(_) => false,
+    }
+}
+
 /// Gives the chip this byte, whose answer is dropped, and says whether nothing has ended it.
 fn feed_one<Q: Schedule>(bench: &mut Bench<Q>, byte: u8) -> bool
     requires loaded { IsSome bench.old }
@@ -41,10 +53,8 @@ fn feed_one<Q: Schedule>(bench: &mut Bench<Q>, byte: u8) -> bool
     ensures loaded { IsSome bench.new }
 {
     let mut dropped = Answers::new();
-    match bench.feed(&[byte], &mut dropped) {
-        Fed::All => true,
-        Fed::Quit(_) | Fed::Bad(_, _) | Fed::EventLimit(_) => false,
-    }
+    let fed = bench.feed(&[byte], &mut dropped);
+    is_whole(fed)
 }
 
 /// The digit that sets TCK, TMS and TDI to these levels.
@@ -94,11 +104,17 @@ fn take<Q: Schedule>(bench: &mut Bench<Q>, sides: &mut Sides, byte: u8, unread: 
         }
         Ok(Sign::Ask) => unread.push(answer_of(sides.tdo(chip_tdo))),
         Ok(Sign::Reset(on)) => {
-            let _taken = feed_one(bench, byte);
+            let _held = feed_one(bench, byte);
             sides.hold_reset(on);
         }
-        Ok(Sign::Light) | Ok(Sign::Quit) | Err(_) => {
-            let _taken = feed_one(bench, byte);
+        Ok(Sign::Light) => {
+            let _light = feed_one(bench, byte);
+        }
+        Ok(Sign::Quit) => {
+            let _quit = feed_one(bench, byte);
+        }
+        Err(_) => {
+            let _bad = feed_one(bench, byte);
         }
     }
 }
