@@ -1,4 +1,4 @@
-use Rattle.std.proofs.Common.{◌∙◌, ◌+◌, ◌≤◌, get_or, length, refl, arith}
+use Rattle.std.proofs.Common.{◌∙◌, ◌<◌, get_or, length, arith}
 use Rattle.std.proofs.lemmas.List.{get_or_default}
 use Rattle.chain_bench.specs.Benched.{chain_on}
 use Rattle.chain_bench.proofs.Courses.{answers_end, answers_more, course_end, course_more}
@@ -16,7 +16,7 @@ returns-clause-answers g c =
 pub loop-byte-preserved : goal.loop-byte-preserved
 loop-byte-preserved g c =
     let b = get_or c.args.bytes.now c.loop-byte.byte-index 0 in
-    let here : c.loop-byte.byte-index + 1 ≤ length c.args.bytes.now = omega arith in
+    let here : c.loop-byte.byte-index < length c.args.bytes.now = omega arith in
     record {
       chain = course_more (chain_on c.loop-byte.bench c.loop-byte.sides) (chain_on c.take.new.bench c.take.new.sides) _ c.args.bytes.now c.loop-byte.byte-index b
           here (get_or_default c.args.bytes.now c.loop-byte.byte-index 0 b here) c.take.ensures.chain c.loop-byte.invariant.chain;
