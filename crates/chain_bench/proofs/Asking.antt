@@ -1,11 +1,11 @@
 -- A question for TDO, and one byte whose answer is dropped.
-use Rattle.std.proofs.Common.{◌≡◌, ◌∙◌, ℕ, ◌+◌, ◌<◌, ◌≤◌, List, [], ◌∷◌, ◌++◌, length, get_or, nat_eq, Bool, true, false, Option, Some, None, is_none, option_map, refl, sym, ap, arith}
+use Rattle.std.proofs.Common.{◌≡◌, ◌∙◌, ℕ, ◌<◌, ◌≤◌, List, [], ◌∷◌, ◌++◌, length, get_or, nat_eq, Bool, true, false, Option, Some, None, is_none, option_map, refl, sym, ap, arith}
 use Rattle.debug_model.specs.declared.chip_end.ChipEnd.{ChipEnd}
 use Rattle.debug_model.specs.declared.chip_end.ChipEnd.TheVariants.{Quitted, BadByte, AtLimit}
 use Rattle.debug_model.specs.Chip.{Live, after, answer_byte, feed, said, unless_ended}
 use Rattle.chip_core.specs.declared.fed.Fed.{Fed}
-use Rattle.chip_core.specs.declared.fed.Fed.TheVariants.{All, Quit, Bad, EventLimit}
-use Rattle.chip_core.specs.Fed.{fed, fed_from, placed}
+use Rattle.chip_core.specs.declared.fed.Fed.TheVariants.{All}
+use Rattle.chip_core.specs.Fed.{fed_from, placed}
 use Rattle.debug_model.specs.Ties.{timing_told}
 use Rattle.chip_core.proofs.Timed.{fed_timing}
 use Rattle.chip_core.specs.Feeds.{far_of, fed_of, feed_of, said_of}

@@ -1,7 +1,7 @@
 -- Bytes at a chain on a bench, one by one from the first on.
 use Rattle.std.proofs.Common.{◌≡◌, ◌∙◌, ℕ, ◌+◌, ◌<◌, ◌≤◌, List, [], ◌∷◌, ◌++◌, length, drop, get_or, Option, Some, None, option_map, refl, sym, ap, append_assoc}
 use Rattle.std.proofs.lemmas.List.{append-nil, drop_all, drop_more}
-use Rattle.chain_scan.specs.Told.{ChainLive, chain_after, chain_answer, feed_chain, said_in_chain}
+use Rattle.chain_scan.specs.Told.{ChainLive, chain_after, feed_chain, said_in_chain}
 use Rattle.chain_bench.specs.Benched.{answer_in, said_in}
 
 abbrev fed : List ℕ → Option ChainLive → Option ChainLive

@@ -1,5 +1,5 @@
 -- What a wire to a chain on a bench tells: what was sent, that nothing has ended the chain, its limit, and what it keeps of the schedule.
-use Rattle.std.proofs.Common.{◌≡◌, ◌∙◌, ◌⊎◌, inl, inr, ℕ, List, [], ◌∷◌, ◌++◌, map, replicate, Bool, true, false, ◌&&◌, cond, IsTrue, Option, Some, None, IfSome, option_map, refl, sym, ap, ap₂, subst}
+use Rattle.std.proofs.Common.{◌≡◌, ◌∙◌, inr, ℕ, List, [], ◌∷◌, ◌++◌, map, replicate, Bool, true, false, ◌&&◌, cond, IsTrue, Option, Some, None, IfSome, option_map, refl, sym, ap, ap₂, subst}
 use Rattle.std.proofs.lemmas.List.{append-nil}
 use Rattle.debug_model.specs.declared.chip_end.ChipEnd.{ChipEnd}
 use Rattle.debug_model.specs.declared.chip_end.ChipEnd.TheVariants.{Quitted, BadByte, AtLimit}
@@ -12,7 +12,7 @@ use Rattle.debug_model.specs.Offered.{Timing}
 use Rattle.debug_model.specs.Port.{Port}
 use Rattle.debug_model.specs.Signs.{sign_of, stays_open}
 use Rattle.debug_model.specs.Ties.{no_net, ties_told, timing_told}
-use Rattle.debug_model.specs.Told.{IsLive, IsOpen, MetLimit, StaysOpen}
+use Rattle.debug_model.specs.Told.{IsLive, IsOpen, StaysOpen}
 use Rattle.debug_model.specs.Wire.{EndCause, are_open, no_answer}
 use Rattle.chain_scan.specs.Bypassed.{IsPlanned, IsPlannedTold, width_of}
 use Rattle.chain_scan.specs.Chain.{Chain, chain_signed}

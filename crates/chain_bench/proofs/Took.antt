@@ -1,16 +1,15 @@
 -- What the calls for one byte ensure, put together.
-use Rattle.std.proofs.Common.{◌≡◌, ◌∙◌, ℕ, List, [], ◌∷◌, ◌++◌, Bool, true, false, Option, Some, None, option_map, refl, sym, ap}
+use Rattle.std.proofs.Common.{◌≡◌, ◌∙◌, ℕ, List, [], ◌∷◌, ◌++◌, Bool, true, false, Option, Some, option_map, sym, ap}
 use Rattle.debug_model.specs.declared.sign.Sign.{Sign}
-use Rattle.debug_model.specs.declared.sign.Sign.TheVariants.{Pins, Ask, Light, Reset, Quit}
+use Rattle.debug_model.specs.declared.sign.Sign.TheVariants.{Pins, Ask, Reset}
 use Rattle.debug_model.specs.Chip.{Live, after, answer_byte}
-use Rattle.debug_model.specs.Offered.{Timing}
 use Rattle.debug_model.specs.Signs.{sign_of}
 use Rattle.debug_model.specs.Ties.{timing_told}
 use Rattle.chain_scan.specs.Chain.{outgoing}
 use Rattle.chain_scan.specs.ChipInChain.{levels_byte}
 use Rattle.chip_core.specs.Feeds.{far_of}
 use Rattle.chain_bench.specs.Benched.{Beside, answer_in, beside_held, beside_pinned, chain_on, is_live, tck_of, tdo_of}
-use Rattle.chain_bench.proofs.Steps.{IsPlain, Stepped, answers_asked, bench_asked, bench_held, bench_pins, bench_plain, bench_stopped}
+use Rattle.chain_bench.proofs.Steps.{IsPlain, Stepped, answers_asked, bench_held, bench_pins, bench_plain, bench_stopped}
 
 abbrev given : ℕ → Option Live → Option Live
 given b bench = option_map (λ l. after l b) bench
@@ -20,7 +19,7 @@ pub took_pins : (bench asked new : Option Live) (s t : Beside) (b seen : ℕ) (l
     → new ≡ option_map (λ l. after l seen) asked → true ≡ is_live new → t ≡ beside_pinned level s.tck tck tms tdi s → Stepped bench new s t b
 took_pins bench asked new s t b seen level tck tms tdi given_tdi same told clock sign is neighbour chip live sides =
     let step : Stepped bench new s (beside_pinned level s.tck tck tms tdi s) b =
-      bench_pins bench new s b seen level tck tms tdi told clock sign (is ∙ ap (levels_byte tck tms) neighbour) (chip ∙ ap (given seen) same) (sym live) in
+    bench_pins bench new s b seen level tck tms tdi told clock sign (is ∙ ap (levels_byte tck tms) neighbour) (chip ∙ ap (given seen) same) (sym live) in
     record { chain = ap (λ u. chain_on new u) sides ∙ step.chain; clock = ap (λ (u : Beside). u.tck) sides ∙ step.clock }
 
 pub took_stop : (bench asked new : Option Live) (s : Beside) (b seen : ℕ) (level tck tms tdi given_tdi : Bool) → asked ≡ bench → Some level ≡ tdo_of bench

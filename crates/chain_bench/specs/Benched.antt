@@ -1,6 +1,6 @@
 -- The devices beside the chip on a bench, the chain that it and they are, and what a wire to that chain tells.
 -- IEEE 1149.1, the serial connection of components. That a chain on a bench moves as its definition says is what the contracts of the wire state.
-use Rattle.std.specs.Prelude.{ℕ, List, [], ◌++◌, map, Bool, true, false, Option, Some, None, is_none, option_map}
+use Rattle.std.specs.Prelude.{ℕ, List, [], map, Bool, true, false, Option, Some, None, is_none, option_map}
 use Rattle.debug_model.specs.Chip.{Chip, Live, unless_ended}
 use Rattle.chip_core.specs.declared.fed.Fed.{Fed}
 use Rattle.chip_core.specs.declared.fed.Fed.TheVariants.{All, Quit, Bad, EventLimit}

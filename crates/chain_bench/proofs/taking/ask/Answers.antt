@@ -1,4 +1,4 @@
-use Rattle.std.proofs.Common.{◌∙◌, refl, ap, arith, get_or}
+use Rattle.std.proofs.Common.{◌∙◌, get_or}
 use Rattle.std.proofs.lemmas.List.{get_or_default}
 use Rattle.chain_bench.proofs.Asking.{asked_first, asked_none, asked_same}
 use Rattle.chain_bench.proofs.taking.ask.Goals as goal

@@ -1,4 +1,3 @@
-use Rattle.std.proofs.Common.{◌∙◌}
 use Rattle.chain_bench.proofs.Asking.{kept_by_one, one_fed_is, taken_if_all}
 use Rattle.chain_bench.proofs.taking.feed_one.Goals as goal
 
