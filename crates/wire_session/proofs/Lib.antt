@@ -1,4 +1,4 @@
 pub mod Headlines
-mod StreamEnds
-mod Loads
-mod SessionRuns
+pub mod StreamEnds
+pub mod Loads
+pub mod SessionRuns

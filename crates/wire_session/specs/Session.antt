@@ -3,6 +3,7 @@
 use Rattle.std.specs.Prelude.{ℕ, List, Option, option_map}
 use Rattle.debug_model.specs.Dmi.{CanQuit, DmiComing}
 use Rattle.debug_model.specs.Dmi.DmiComing.{Scans}
+use Rattle.debug_model.specs.Kept.{ScanSeen}
 use Rattle.debug_model.specs.Scan.Coming.{Answers}
 use Rattle.debug_model.specs.Told.{Far}
 use Rattle.probe_run.specs.Acts.{Tells, tells}
@@ -16,6 +17,10 @@ scans_of coming = option_map Scans (option_map Answers coming)
 -- the chip at the far end and the answers that are to come, where they are told
 abbrev pub told_by : Option Far → Option (List ℕ) → Tells
 told_by far coming = tells far (scans_of coming)
+
+-- the same of scans over anything
+abbrev pub told_by_scan : ScanSeen → Tells
+told_by_scan s = tells s.far (option_map Scans s.coming)
 
 -- behind anything but a fault of the wire the stream can be ended
 abbrev pub LeavesWire : Option Far → End → Type 0

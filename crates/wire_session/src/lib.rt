@@ -7,4 +7,5 @@
 mod session;
 mod stream_end;
 
-pub use session::run_session;
+pub use session::{know_ranges, run_over_scan, run_session};
+pub use stream_end::{QUIT, sends_quit, unclosed};

@@ -5,18 +5,40 @@ ghost use Rattle.debug_model.specs.Command.{IsWithinRanges};
 ghost use Rattle.debug_model.specs.Dmi.{CanOperate};
 ghost use Rattle.debug_model.specs.Told.{IsAsLoaded, IsRead};
 ghost use Rattle.wire_session.specs.Closing.{IsOfRegister};
-ghost use Rattle.wire_session.specs.Session.{LeavesWire, told_by};
+ghost use Rattle.wire_session.specs.Session.{LeavesWire, told_by, told_by_scan};
 ghost use Rattle.wire_session.specs.WireSession.{IsTimed, WireSession};
 ghost use Rattle.probe_session.specs.Causes.{EndCaused, SinkCaused};
 ghost use Rattle.probe_session.specs.Scripts.{EndedAs};
 ghost use Rattle.probe_session.specs.Transcribed.{TranscribedAs};
 
 use crate::stream_end::end_stream;
-use debug_model::{Script, Wire};
+use debug_model::{Scan, Script, Wire};
 use jt_base::Sink;
 use probe_dmi::Link;
 use probe_scan::Scanner;
 use probe_session::{Ended, run_script};
+
+/// Runs a script over these scans, puts its lines, and hands the scans back. It ends no stream, and takes no memory.
+///
+/// Where they tell their chip, that is as it was loaded, and an operation may be made on it.
+pub fn run_over_scan<S: Scan, K: Sink>(scan: S, script: &Script, out: &mut K) -> (Ended, S)
+    requires link { CanOperate (S.seen scan).far }
+    requires loaded { IsAsLoaded (S.seen scan).far }
+    ensures ended { EndedAs script.now (S.seen scan).fault_count (S.seen result.1).fault_count (told_by_scan (S.seen scan))
+        (told_by_scan (S.seen result.1)) (K.fault_count out.old) (K.fault_count out.new) (K.contents out.old)
+        (K.contents out.new) result.0 }
+    ensures cause { EndCaused (S.seen scan).fault_count (S.seen result.1).fault_count (S.seen result.1).far result.0 }
+    ensures sink_cause { SinkCaused (K.fault_count out.old) (K.fault_count out.new) result.0 }
+    ensures transcribed { TranscribedAs script.now (K.contents out.old) (K.contents out.new) (S.seen scan).far (S.seen result.1).far result.0 }
+    ensures leaves { LeavesWire (S.seen result.1).far result.0 }
+    ensures later { (S.seen scan).fault_count ≤ (S.seen result.1).fault_count }
+    ensures fixed { (S.seen result.1).fixed ≡ (S.seen scan).fixed }
+    ensures sink_later { K.fault_count out.old ≤ K.fault_count out.new }
+{
+    let mut link = Link::paced(scan);
+    let ended = run_script(&mut link, script, out);
+    (ended, link.into_scan())
+}
 
 /// Runs a script over this wire, puts its lines, and hands the wire back: what becomes of a wire that is only lent is known where it is lent.
 fn run_over<W: Wire, K: Sink>(wire: W, script: &Script, out: &mut K) -> (Ended, W)
@@ -33,13 +55,12 @@ fn run_over<W: Wire, K: Sink>(wire: W, script: &Script, out: &mut K) -> (Ended, 
     ensures ties { W.ties result.1 ≡ W.ties wire }
     ensures sink_later { K.fault_count out.old ≤ K.fault_count out.new }
 {
-    let mut link = Link::paced(Scanner::new(wire));
-    let ended = run_script(&mut link, script, out);
-    (ended, link.into_scan().into_wire())
+    let (ended, scanner) = run_over_scan(Scanner::new(wire), script, out);
+    (ended, scanner.into_wire())
 }
 
 /// That a script's commands are within their ranges is the promise of its type, which a contract knows of a script only once it is asked.
-fn know_ranges(script: &Script)
+pub fn know_ranges(script: &Script)
     ensures { All IsWithinRanges script.now }
 {
     let _commands = script.commands();

@@ -8,10 +8,10 @@ use debug_model::{Wire, WireFault};
 use probe_session::Ended;
 
 /// The sign that ends a stream.
-const QUIT: u8 = b'Q';
+pub const QUIT: u8 = b'Q';
 
 /// Whether the stream of a session that ended so is ended: behind a fault of the wire nothing more is sent.
-fn sends_quit(ended: Ended) -> bool
+pub fn sends_quit(ended: Ended) -> bool
     ensures { result ≡ sends_quit ended }
 {
     match ended {
@@ -25,7 +25,7 @@ fn sends_quit(ended: Ended) -> bool
 }
 
 /// How a session ended whose stream could not be ended: by the wire, unless a line could not be written before.
-fn unclosed(fault: WireFault, ended: Ended) -> Ended
+pub fn unclosed(fault: WireFault, ended: Ended) -> Ended
     ensures { result ≡ unclosed fault ended }
 {
     match ended {
