@@ -1,0 +1,2 @@
+mod ChainEnds
+mod Untold
