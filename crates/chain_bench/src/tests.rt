@@ -15,7 +15,6 @@ use debug_model::{Event, POINTS_USUAL, Round, Scan, WireFault};
 use hart_debug::Start;
 use jt_base::Bits;
 use std::alloc::Global;
-use std::process::Abort;
 use std::test::Fail;
 use sys_events::ListSchedule;
 
