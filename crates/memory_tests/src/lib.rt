@@ -4,6 +4,8 @@
 #[cfg(test)]
 mod blocks;
 #[cfg(test)]
+mod bus_blocks;
+#[cfg(test)]
 mod memory;
 #[cfg(test)]
 mod reservations;
