@@ -25,7 +25,7 @@ use Rattle.abstract_debugger.specs.Debugger.{waiting, writing}
 use Rattle.abstract_debugger.specs.Debugger.Seen.{Absent, Running, Halted}
 use Rattle.abstract_debugger.specs.Lines.{Line}
 use Rattle.abstract_debugger.specs.Plan.{Change, Plan, PlanEnd, is_step}
-use Rattle.abstract_debugger.specs.Plan.Change.{WriteReg, WriteMem, ArmSlot, FreeSlot, StepOver, StepDone, EbreakHalts}
+use Rattle.abstract_debugger.specs.Plan.Change.{WriteReg, WriteMem, ArmSlot, FreeSlot, StepOver, StepDone, EbreakHalts, Patch}
 use Rattle.abstract_debugger.specs.Plan.Plan.{take, on_path, see, change, say, stop}
 use Rattle.abstract_debugger.specs.Plan.PlanEnd.{Done, NoAck, NoHalt}
 use Rattle.abstract_debugger.specs.Slots.{any_hit, first_free, slots_at}
@@ -38,7 +38,7 @@ IsLost Done = ⊥
 IsLost (NoHalt looks) = Unit {0}
 IsLost (NoAck looks) = Unit {0}
 
--- a change that every command may make; the switch of ebreaks stands alone
+-- a change that many a command makes; the switch of ebreaks and patches stand alone
 abbrev pub IsUsual : Change → Type 0
 IsUsual (WriteReg h r v) = Unit {0}
 IsUsual (WriteMem a count v) = Unit {0}
@@ -47,6 +47,7 @@ IsUsual (FreeSlot h slot) = Unit {0}
 IsUsual (StepOver h) = Unit {0}
 IsUsual (StepDone h) = Unit {0}
 IsUsual (EbreakHalts h on) = ⊥
+IsUsual (Patch a original covers) = ⊥
 
 -- a relation that plans keep however they are put together, of the commands that A allows
 pub record Walks (A : Command → Type 0) (R : Plan → Plan → Type 0) : Type 0 where
