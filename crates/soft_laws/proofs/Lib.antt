@@ -1,0 +1,4 @@
+pub mod ByteLemmas
+pub mod PatchedLemmas
+pub mod ExecLemmas
+pub mod HideLemmas

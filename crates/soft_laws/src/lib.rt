@@ -1,0 +1,6 @@
+//! Laws of software breakpoints: an ebreak that a debugger patches over a word of memory is hidden from its user, and from the program's results.
+#![tactic(auto)]
+
+mod laws;
+
+pub use laws::{patches_hide};
