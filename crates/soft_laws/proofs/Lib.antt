@@ -2,3 +2,5 @@ pub mod ByteLemmas
 pub mod PatchedLemmas
 pub mod ExecLemmas
 pub mod HideLemmas
+pub mod SoftKeeps
+pub mod SoftTransparency
