@@ -4,3 +4,5 @@ pub mod ExecLemmas
 pub mod HideLemmas
 pub mod SoftKeeps
 pub mod SoftTransparency
+pub mod PatchLemmas
+pub mod StoreLemmas

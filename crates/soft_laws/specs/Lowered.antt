@@ -42,9 +42,9 @@ hidden_board t b = record b { memory = hidden_memory t b.memory }
 
 -- ---- what is merged into writes
 
--- the byte at q, where an ebreak stands over the word at c: that of the ebreak, the least significant first, or one that is given
+-- the byte at q, where an ebreak stands over the word at c: that of the ebreak, or one that is given
 abbrev pub ebreak_over : (c q byte : ℕ) → ℕ
-ebreak_over c q byte = if q == c then 0x73 else (if q == c + 1 then 0x00 else (if q == c + 2 then 0x10 else (if q == c + 3 then 0x00 else byte)))
+ebreak_over c q byte = if q == c + 3 then 0x00 else (if q == c + 2 then 0x10 else (if q == c + 1 then 0x00 else (if q == c then 0x73 else byte)))
 
 abbrev pub merged_byte : List ℕ → ℕ → ℕ → ℕ
 merged_byte [] q byte = byte
