@@ -6,3 +6,6 @@ pub mod SoftKeeps
 pub mod SoftTransparency
 pub mod PatchLemmas
 pub mod StoreLemmas
+pub mod SoftPasts
+pub mod Hidings
+pub mod TurnHides
