@@ -9,3 +9,5 @@ pub mod StoreLemmas
 pub mod SoftPasts
 pub mod Hidings
 pub mod TurnHides
+pub mod SinceLemmas
+pub mod StepHides
