@@ -11,3 +11,5 @@ pub mod Hidings
 pub mod TurnHides
 pub mod SinceLemmas
 pub mod StepHides
+pub mod HiddenPlans
+pub mod EachHart

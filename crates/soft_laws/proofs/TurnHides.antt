@@ -42,7 +42,7 @@ noted-patched cs (Some x) h m past are =
     ∙ ap (λ b. noted_by x.debug.halted x.debug.halt_request (soft_fires cs x m) b x.debug.step h (fires (soft_touch cs x.core m) x.debug.slots) past)
     (stops-patched cs x m are)
 
-noted-covered : (cs : List ℕ) (o : Option Hart) (h : ℕ) (m : Memory) (past : Past) → covered (soft_noted_here cs o h m past) ≡ covered past
+pub noted-covered : (cs : List ℕ) (o : Option Hart) (h : ℕ) (m : Memory) (past : Past) → covered (soft_noted_here cs o h m past) ≡ covered past
 noted-covered cs None h m past = refl
 noted-covered cs (Some x) h m past =
     noted_by-covered x.debug.halted x.debug.halt_request (soft_fires cs x m) (soft_stops cs x m) x.debug.step h (fires (soft_touch cs x.core m) x.debug.slots) past
