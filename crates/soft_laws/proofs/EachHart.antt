@@ -129,3 +129,16 @@ each-changed F (StepDone h) b sw each =
 each-changed F (EbreakHalts h on) b sw each =
     each-changed_at F h (with_debug_part (ebreak_halts on)) b.harts _ (changed-over h (with_debug_part (ebreak_halts on)) b.harts) (λ y is. sw) each
 each-changed F (Patch a original covers) b sw each = each
+
+-- the switch of one hart, where other things are known behind it
+pub each-switched : (F G : ℕ → Bool → Type 0) (h : ℕ) (on : Bool) (b : Board) → G h on → ((j : ℕ) (e : Bool) → (j ≡ h → ⊥) → F j e → G j e) → Each F b.harts
+    → Each G (changed_board (EbreakHalts h on) b).harts
+each-switched F G h on b here others each j x is = elim (cases_eq j h) [
+  | inl e ↦ subst (λ n. slice_get (changed_board (EbreakHalts h on) b).harts n ≡ Some x → G n x.debug.ebreakm) (sym e)
+      (λ at. by (slice_get b.harts h) (sym (changed-over h (with_debug_part (ebreak_halts on)) b.harts).here ∙ at)) is
+  | inr other ↦ others j x.debug.ebreakm other (each j x (sym ((changed-over h (with_debug_part (ebreak_halts on)) b.harts).others j other) ∙ is))
+]
+  where
+    by : (o : Option Hart) → option_map (with_debug_part (ebreak_halts on)) o ≡ Some x → G h x.debug.ebreakm
+    by None at = absurd (none-some x at)
+    by (Some y) at = subst (λ (z : Hart). G h z.debug.ebreakm) (same_Some (with_debug_part (ebreak_halts on) y) x at) here

@@ -13,3 +13,4 @@ pub mod SinceLemmas
 pub mod StepHides
 pub mod HiddenPlans
 pub mod EachHart
+pub mod PlantedLemmas
