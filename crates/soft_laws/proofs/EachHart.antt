@@ -98,9 +98,9 @@ written_leaves : (b : Bool) (d : DebugPart) → (if b then with_slots hits_forgo
 written_leaves true d = refl
 written_leaves false d = refl
 
--- by: the switch that a change sets, if it sets one
+-- what the switch that a change sets has to keep, if it sets one
 abbrev pub Switches : (ℕ → Bool → Type 0) → Change → Type 0
-Switches F (EbreakHalts h on) = F h on
+Switches F (EbreakHalts h on) = (before : Bool) → F h before → F h on
 Switches F (WriteReg h r v) = Unit {0}
 Switches F (WriteMem a count v) = Unit {0}
 Switches F (ArmSlot h slot what) = Unit {0}
@@ -127,7 +127,7 @@ each-changed F (StepDone h) b sw each =
     each-changed_at F h (with_debug_part step_ended) b.harts _ (changed-over h (with_debug_part step_ended) b.harts)
     (left F h (with_debug_part step_ended) (λ y. refl)) each
 each-changed F (EbreakHalts h on) b sw each =
-    each-changed_at F h (with_debug_part (ebreak_halts on)) b.harts _ (changed-over h (with_debug_part (ebreak_halts on)) b.harts) (λ y is. sw) each
+    each-changed_at F h (with_debug_part (ebreak_halts on)) b.harts _ (changed-over h (with_debug_part (ebreak_halts on)) b.harts) (λ y is. sw y.debug.ebreakm is) each
 each-changed F (Patch a original covers) b sw each = each
 
 -- the switch of one hart, where other things are known behind it

@@ -14,3 +14,4 @@ pub mod StepHides
 pub mod HiddenPlans
 pub mod EachHart
 pub mod PlantedLemmas
+pub mod HiddenScripts

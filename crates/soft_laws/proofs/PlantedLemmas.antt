@@ -1,5 +1,5 @@
 -- What a plan knows of a user's world by the breakpoints that it takes for planted.
-use Rattle.std.proofs.Common.{◌≡◌, ◌∙◌, ◌%◌, ◌<◌, ◌⊎◌, ℕ, Bool, true, false, ◌||◌, List, [], ◌∷◌, Some, slice_get, refl, sym, ap, subst, inl, inr, if◌then◌else◌}
+use Rattle.std.proofs.Common.{◌≡◌, ◌∙◌, ◌<◌, ◌⊎◌, ℕ, Bool, true, false, ◌||◌, List, [], ◌∷◌, Some, slice_get, refl, sym, ap, subst, inl, inr, if◌then◌else◌}
 use Rattle.std.specs.Prelude.{◌==◌, nat_lt}
 use Rattle.std.proofs.lemmas.Bool.{cases_eq, eq-eqb, eqb-true, false≢true, ne_eqb}
 use Rattle.rv_model.specs.Board.{Board, Hart, Machine}
@@ -137,33 +137,30 @@ changed_covered (Patch a original covers) w none = absurd none
 
 -- ---- what a plan takes for planted
 
-pub IsGuarded : ℕ → Bool → Type 0
+abbrev pub IsGuarded : ℕ → Bool → Type 0
 IsGuarded h on = on ≡ true
 
-pub IsFew : ℕ → Bool → Type 0
+abbrev pub IsFew : ℕ → Bool → Type 0
 IsFew h on = h < most_harts
 
--- covered words are planted, planted ones are words, and while there is one, every hart halts at an ebreak
+-- covered words are planted, and while one is planted, every hart halts at an ebreak
 pub record Plants (ps : List ℕ) (w : World) : Type 0 where
   pub within : (a : ℕ) → is_listed (covered w.past) a ≡ true → is_listed ps a ≡ true
-  pub words : (a : ℕ) → is_listed ps a ≡ true → a % 4 ≡ 0
   pub guarded : has_some ps ≡ true → Each IsGuarded w.board.harts
   pub few : Each IsFew w.board.harts
 
 plants-stop : (ps : List ℕ) (w : World) → Plants ps w → StopsWhereCovered w
-unfolding IsGuarded
 plants-stop ps w p h x at there = p.guarded (listed_some ps x.core.pc (p.within x.core.pc there)) h x at
 
 plants-passed : (ps : List ℕ) (q : Point) (w : World) → Plants ps w → Plants ps (soft_passed q w)
 plants-passed ps q w p = record {
   within = λ a there. p.within a (subst (λ cs. is_listed cs a ≡ true) (passed_covered q w) there);
-  words = p.words;
   guarded = λ some. each-passed IsGuarded q w (p.guarded some);
   few = each-passed IsFew q w p.few;
 }
 
 plants-said : (ps : List ℕ) (line : Line) (w : World) → Plants ps w → Plants ps (said line w)
-plants-said ps line w p = record { within = p.within; words = p.words; guarded = p.guarded; few = p.few }
+plants-said ps line w p = record { within = p.within; guarded = p.guarded; few = p.few }
 
 pub plants-known : (ps : List ℕ) → IsKnowledge (Plants ps)
 plants-known ps = record { passes = plants-passed ps; says = plants-said ps; stops = plants-stop ps }
@@ -173,7 +170,6 @@ pub plants-changed : (ps : List ℕ) (c : Change) (w : World) → PatchesNothing
     → Plants ps (changed c w)
 plants-changed ps c w none switches few p = record {
   within = λ a there. p.within a (subst (λ cs. is_listed cs a ≡ true) (changed_covered c w none) there);
-  words = p.words;
   guarded = λ some. each-changed IsGuarded c w.board (switches some) (p.guarded some);
   few = each-changed IsFew c w.board few p.few;
 }
@@ -194,7 +190,6 @@ plants-lifted a original ps qs w f p = record {
   within = λ b there.
       let l : Left a b (covered w.past) = without-listed a b (covered w.past) there in
       f.keeps b (p.within b l.before) l.other;
-  words = λ b there. p.words b (f.subset b there);
   guarded = λ some. p.guarded (some_subset ps qs f.subset some);
   few = p.few;
 }
@@ -228,7 +223,6 @@ plants-again a original ps w planted p = record {
     | inl e ↦ subst (λ n. is_listed ps n ≡ true) (sym e) planted
     | inr e ↦ p.within b e
   ];
-  words = p.words;
   guarded = p.guarded;
   few = p.few;
 }
@@ -247,15 +241,11 @@ armed-known ps = record {
   stops = λ w k. plants-stop ps w k.plants;
 }
 
-pub plants-more : (a original : ℕ) (ps : List ℕ) (w : World) → a % 4 ≡ 0 → Armed ps w → Plants (put_in a ps) (changed (Patch a original true) w)
-plants-more a original ps w aligned k = record {
+pub plants-more : (a original : ℕ) (ps : List ℕ) (w : World) → Armed ps w → Plants (put_in a ps) (changed (Patch a original true) w)
+plants-more a original ps w k = record {
   within = λ b there. elim (covered_either a b (covered w.past) there) [
     | inl e ↦ subst (λ n. is_listed (put_in a ps) n ≡ true) (sym e) (put-here a ps)
     | inr e ↦ put-keeps a b ps (k.plants.within b e)
-  ];
-  words = λ b there. elim (put-either a b ps there) [
-    | inl e ↦ subst (λ n. n % 4 ≡ 0) (sym e) aligned
-    | inr e ↦ k.plants.words b e
   ];
   guarded = λ some. k.all;
   few = k.plants.few;

@@ -1,8 +1,21 @@
 //! Laws of software breakpoints. Each is the contract of a function that does nothing; `specs/Laws.antt` has the statements.
 
-ghost use Rattle.soft_laws.specs.Laws.{PatchesHide};
+ghost use Rattle.soft_laws.specs.Laws.{ChipsAreUndebugged, PatchesHide, SessionsHide, SoftTransparent};
 
 /// One turn of a chip whose memory has ebreaks patched in is the turn that a user sees over memory without them.
 pub fn patches_hide()
     ensures { PatchesHide }
+{}
+
+/// For every script with software breakpoints, every journal and every end, the chip says what the user sees and ends so, and its board is the
+/// user's under patches, of which none is left where the session ran to its end.
+pub fn sessions_hide()
+    ensures { SessionsHide }
+{}
+
+/// What a user sees of memory and of every hart's core is a machine that nobody debugs, whatever the plan; so the chip's is too, where a covered
+/// word counts as its original.
+pub fn soft_transparent()
+    ensures seen { SoftTransparent }
+    ensures chips { ChipsAreUndebugged }
 {}

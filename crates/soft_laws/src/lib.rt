@@ -3,4 +3,4 @@
 
 mod laws;
 
-pub use laws::{patches_hide};
+pub use laws::{patches_hide, sessions_hide, soft_transparent};
