@@ -304,14 +304,14 @@ resuming h next b =
     if any_hit (slots_at h b) then one h (going h (say Line.Resumed next)) (stop_line h next) else going h (say Line.Resumed next)
 
 -- with no hit nothing is spent: the test is turned round, since what is learnt is learnt where it holds
-abbrev no_hit_in : ℕ → List Hart → Bool
+abbrev pub no_hit_in : ℕ → List Hart → Bool
 no_hit_in h harts = if hit_in h harts then false else true
 
-turned_round : (b : Bool) → (if b then false else true) ≡ true → b ≡ false
+pub turned_round : (b : Bool) → (if b then false else true) ≡ true → b ≡ false
 turned_round true is = absurd (false≢true is)
 turned_round false is = refl
 
-turned_back : (b : Bool) → (if b then false else true) ≡ false → b ≡ true
+pub turned_back : (b : Bool) → (if b then false else true) ≡ false → b ≡ true
 turned_back true is = refl
 turned_back false is = absurd (false≢true (sym is))
 

@@ -15,3 +15,4 @@ pub mod HiddenPlans
 pub mod EachHart
 pub mod PlantedLemmas
 pub mod HiddenScripts
+pub mod LoweredGood
