@@ -16,3 +16,4 @@ pub mod EachHart
 pub mod PlantedLemmas
 pub mod HiddenScripts
 pub mod LoweredGood
+pub mod SoftQuiet

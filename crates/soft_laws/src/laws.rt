@@ -1,6 +1,6 @@
 //! Laws of software breakpoints. Each is the contract of a function that does nothing; `specs/Laws.antt` has the statements.
 
-ghost use Rattle.soft_laws.specs.Laws.{ChipsAreUndebugged, PatchesHide, SessionsHide, SoftTransparent};
+ghost use Rattle.soft_laws.specs.Laws.{ChipsAreUndebugged, LoweredSessionsSayQuietly, PatchesHide, SessionsHide, SoftFirstMatchHolds, SoftTransparent};
 
 /// One turn of a chip whose memory has ebreaks patched in is the turn that a user sees over memory without them.
 pub fn patches_hide()
@@ -18,4 +18,14 @@ pub fn sessions_hide()
 pub fn soft_transparent()
     ensures seen { SoftTransparent }
     ensures chips { ChipsAreUndebugged }
+{}
+
+/// First match holds of what a user sees: no hart runs past an armed slot, nor executes at a covered word.
+pub fn soft_first_match()
+    ensures { SoftFirstMatchHolds }
+{}
+
+/// Where no line is written any more, the chip's board is left to the turns up to the next point.
+pub fn soft_sessions_say_quietly()
+    ensures { LoweredSessionsSayQuietly }
 {}

@@ -3,4 +3,6 @@
 
 mod laws;
 
-pub use laws::{patches_hide, sessions_hide, soft_transparent};
+pub use laws::{
+    patches_hide, sessions_hide, soft_first_match, soft_sessions_say_quietly, soft_transparent,
+};
