@@ -17,3 +17,5 @@ pub mod PlantedLemmas
 pub mod HiddenScripts
 pub mod LoweredGood
 pub mod SoftQuiet
+pub mod ReadLemmas
+pub mod SoftSteps

@@ -3,7 +3,7 @@ use Rattle.std.proofs.Common.{◌≡◌, ◌∙◌, ◌+◌, ◌%◌, ◌<◌, �
 use Rattle.std.proofs.Common.{refl, sym, ap, subst, if◌then◌else◌, inl, inr, arith}
 use Rattle.std.specs.Prelude.{◌==◌, nat_lt}
 use Rattle.std.specs.FinMap.{get}
-use Rattle.std.proofs.lemmas.Bool.{and_parts, cases_eq, cases_lt, eq-eqb, eqb-true, false≢true, le-ltb, ltb-false, ltb-true, ne_eqb, or_parts}
+use Rattle.std.proofs.lemmas.Bool.{and_parts, cases_eq, cases_lt, eq-eqb, eqb-true, false≢true, le-ltb, lt-ltb, ltb-false, ltb-true, ne_eqb, or_parts}
 use Rattle.rv_model.specs.declared.mem_fault.MemFault.{MemFault}
 use Rattle.rv_model.specs.declared.mem_fault.MemFault.TheVariants.{Misaligned}
 use Rattle.rv_model.specs.declared.size.Size.{Size}
@@ -42,6 +42,10 @@ meets-within c q is =
     let parts = and_parts (nat_lt q (c + 4)) (nat_lt c (q + 1)) is in
     let last : c < q + 1 = ltb-true c (q + 1) parts.1 in
     record { from = omega arith; less = ltb-true q (c + 4) parts.0 }
+
+-- a byte of a word meets it
+pub meets-here : (c q : ℕ) → c ≤ q → q < c + 4 → meets c q 1 ≡ true
+meets-here c q from less = ap (λ b. b && nat_lt c (q + 1)) (lt-ltb q (c + 4) less) ∙ lt-ltb c (q + 1) (omega (arith, from))
 
 pub words_apart : (c a : ℕ) → c % 4 ≡ 0 → a % 4 ≡ 0 → (a ≡ c → ⊥) → Apart c 4 a 4
 words_apart c a ec ea other = elim (cases_lt a c) [

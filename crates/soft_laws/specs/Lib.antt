@@ -6,3 +6,5 @@ pub mod Lowered
 pub mod Undisturbed
 pub mod SoftFirstMatch
 pub mod Laws
+pub mod Shown
+pub mod CallLaws

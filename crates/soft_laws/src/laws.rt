@@ -1,5 +1,6 @@
 //! Laws of software breakpoints. Each is the contract of a function that does nothing; `specs/Laws.antt` has the statements.
 
+ghost use Rattle.soft_laws.specs.CallLaws.{BytesStay, CoveringStands, ReadsHide, UncoveringStands};
 ghost use Rattle.soft_laws.specs.Laws.{ChipsAreUndebugged, LoweredSessionsSayQuietly, PatchesHide, SessionsHide, SoftFirstMatchHolds, SoftTransparent};
 
 /// One turn of a chip whose memory has ebreaks patched in is the turn that a user sees over memory without them.
@@ -28,4 +29,20 @@ pub fn soft_first_match()
 /// Where no line is written any more, the chip's board is left to the turns up to the next point.
 pub fn soft_sessions_say_quietly()
     ensures { LoweredSessionsSayQuietly }
+{}
+
+/// What memory without patches answers to a read or a store is what the chip's memory answers, with the originals in place of the ebreaks.
+pub fn reads_hide()
+    ensures { ReadsHide }
+{}
+
+/// A chip's memory goes on holding bytes, and none goes, along every plan, journal and end.
+pub fn bytes_stay()
+    ensures { BytesStay }
+{}
+
+/// An Access that stores the remembered word of a covered address uncovers it in the plan, and one that stores an ebreak covers it.
+pub fn patches_stand()
+    ensures uncovering { UncoveringStands }
+    ensures covering { CoveringStands }
 {}

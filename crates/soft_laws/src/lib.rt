@@ -4,5 +4,6 @@
 mod laws;
 
 pub use laws::{
-    patches_hide, sessions_hide, soft_first_match, soft_sessions_say_quietly, soft_transparent,
+    bytes_stay, patches_hide, patches_stand, reads_hide, sessions_hide, soft_first_match,
+    soft_sessions_say_quietly, soft_transparent,
 };
