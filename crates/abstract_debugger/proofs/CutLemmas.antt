@@ -6,7 +6,7 @@ use Rattle.rv_model.specs.Core.{Core}
 use Rattle.rv_model.specs.Registers.{reg_written}
 use Rattle.abstract_debugger.specs.Laws.{CutBoards, IsChangeOf, IsFrozen, IsFrozenAt, IsWritten, WritesOnly}
 use Rattle.abstract_debugger.specs.Plan.{Change, Plan, changed_board, hart_over}
-use Rattle.abstract_debugger.specs.Plan.Change.{WriteReg, WriteMem, ArmSlot, FreeSlot, StepOver, StepDone, EbreakHalts}
+use Rattle.abstract_debugger.specs.Plan.Change.{WriteReg, WriteMem, ArmSlot, FreeSlot, StepOver, StepDone, EbreakHalts, Patch}
 use Rattle.abstract_debugger.specs.Plan.Plan.{take, on_path, see, change, say, stop}
 use Rattle.abstract_debugger.specs.Slots.{over}
 use Rattle.abstract_debugger.specs.Transcript.{World, changed, replay, said}
@@ -93,6 +93,7 @@ ends (change (StepDone j) next) w h n harts only frozen =
 ends (change (EbreakHalts j on) next) w h n harts only frozen =
     changed_ends n n h (EbreakHalts j on) w.board harts _ only.0 frozen (λ x d e. e)
     (ends next (changed (EbreakHalts j on) w) h n harts only.1 (changed_frozen (EbreakHalts j on) h w.board only.0 frozen))
+ends (change (Patch a original covers) next) w h n harts only frozen = absurd only
 ends (say line next) w h n harts only frozen = ends next (said line w) h n harts only frozen
 ends (stop e) w h n harts only frozen = nothing n h w.board harts _ (finish-board e w harts)
 

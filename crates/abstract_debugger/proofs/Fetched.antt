@@ -22,7 +22,7 @@ use Rattle.debug_model.specs.declared.point.Point.{Point}
 use Rattle.debug_model.specs.declared.point.Point.TheVariants.{Turn, Look, HaltReq, HaltClear, ResumeReq, Access}
 use Rattle.abstract_debugger.specs.ExampleCases.{Holds, Program}
 use Rattle.abstract_debugger.specs.Plan.{Change, Plan, PlanEnd}
-use Rattle.abstract_debugger.specs.Plan.Change.{WriteReg, WriteMem, ArmSlot, FreeSlot, StepOver, StepDone, EbreakHalts}
+use Rattle.abstract_debugger.specs.Plan.Change.{WriteReg, WriteMem, ArmSlot, FreeSlot, StepOver, StepDone, EbreakHalts, Patch}
 use Rattle.abstract_debugger.specs.Plan.Plan.{take, on_path, see, change, say, stop}
 use Rattle.abstract_debugger.specs.Trace.{noted_by}
 use Rattle.abstract_debugger.specs.Transcript.{End, Outcome, World, changed, finish, graded, passed, replay, said, same_point, taking}
@@ -166,6 +166,7 @@ computed_finish words end w (q ∷ j) = Some (record { world = w; end = End.Astr
 
 abbrev changed_if : Change → World → Option World
 changed_if (WriteMem a count v) w = None
+changed_if (Patch a original covers) w = None
 changed_if (WriteReg h r v) w = Some (changed (WriteReg h r v) w)
 changed_if (ArmSlot h slot what) w = Some (changed (ArmSlot h slot what) w)
 changed_if (FreeSlot h slot) w = Some (changed (FreeSlot h slot) w)
@@ -245,6 +246,7 @@ some_world x v m kept is =
 
 changed-same : (c : Change) (w v : World) → changed_if c w ≡ Some v → Same (changed c w) v w.board.memory
 changed-same (WriteMem a count x) w v is = absurd (cc)
+changed-same (Patch a original covers) w v is = absurd (cc)
 changed-same (WriteReg h r x) w v is = some_world _ v w.board.memory refl is
 changed-same (ArmSlot h slot what) w v is = some_world _ v w.board.memory refl is
 changed-same (FreeSlot h slot) w v is = some_world _ v w.board.memory refl is

@@ -15,7 +15,7 @@ use Rattle.rv_model.proofs.MapLemmas.{slice_get-set_other}
 use Rattle.abstract_debugger.specs.Laws.{ChangesMayWait, FrozenMayWait, FrozenStays, IsChangeOf, IsFrozen, IsFrozenAt}
 use Rattle.abstract_debugger.specs.Plan.{Change, changed_board, ebreak_halts, hart_over, register_set, slot_changed, slot_freed, step_begun}
 use Rattle.abstract_debugger.specs.Plan.{step_ended, with_debug_part}
-use Rattle.abstract_debugger.specs.Plan.Change.{WriteReg, WriteMem, ArmSlot, FreeSlot, StepOver, StepDone, EbreakHalts}
+use Rattle.abstract_debugger.specs.Plan.Change.{WriteReg, WriteMem, ArmSlot, FreeSlot, StepOver, StepDone, EbreakHalts, Patch}
 use Rattle.abstract_debugger.specs.Slots.{hits_forgotten, over, with_slots}
 use Rattle.abstract_debugger.specs.Turns.{after_turns}
 use Rattle.abstract_debugger.proofs.HartLemmas.{frozen_place}
@@ -154,6 +154,7 @@ hart_change (FreeSlot h slot) x = with_debug_part (slot_freed slot) x
 hart_change (StepOver h) x = with_debug_part step_begun x
 hart_change (StepDone h) x = with_debug_part step_ended x
 hart_change (EbreakHalts h on) x = with_debug_part (ebreak_halts on) x
+hart_change (Patch a original covers) x = x
 
 pub hart_change-frozen : (c : Change) (x : Hart) → IsFrozen x.debug → IsFrozen (hart_change c x).debug
 hart_change-frozen (WriteReg h r v) x f = written_frozen (r == pc_number) x.debug f
@@ -163,6 +164,7 @@ hart_change-frozen (FreeSlot h slot) x f = record { why = f.why; halted = f.halt
 hart_change-frozen (StepOver h) x f = record { why = f.why; halted = f.halted; not_asked = f.not_asked }
 hart_change-frozen (StepDone h) x f = record { why = f.why; halted = f.halted; not_asked = f.not_asked }
 hart_change-frozen (EbreakHalts h on) x f = record { why = f.why; halted = f.halted; not_asked = f.not_asked }
+hart_change-frozen (Patch a original covers) x f = f
 
 pub changed_hart : (c : Change) (h : ℕ) (b : Board) → IsChangeOf h c → changed_board c b ≡ hart_over (hart_change c) h b
 changed_hart (WriteReg j r v) h b is = ap (λ n. hart_over (register_set r v) n b) is
@@ -172,6 +174,7 @@ changed_hart (FreeSlot j slot) h b is = ap (λ n. hart_over (with_debug_part (sl
 changed_hart (StepOver j) h b is = ap (λ n. hart_over (with_debug_part step_begun) n b) is
 changed_hart (StepDone j) h b is = ap (λ n. hart_over (with_debug_part step_ended) n b) is
 changed_hart (EbreakHalts j on) h b is = ap (λ n. hart_over (with_debug_part (ebreak_halts on)) n b) is
+changed_hart (Patch a original covers) h b is = absurd is
 
 pub changes_may_wait : ChangesMayWait
 changes_may_wait c h hart b harts of_h is frozen =

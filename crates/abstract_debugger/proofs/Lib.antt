@@ -11,6 +11,7 @@ pub mod KnownHarts
 pub mod KnownPoints
 pub mod KnownChanges
 pub mod PointLemmas
+pub mod WayWalks
 pub mod GoodLemmas
 pub mod ScriptLemmas
 pub mod FrontLemmas
@@ -18,6 +19,7 @@ pub mod FrozenLemmas
 pub mod QuietLemmas
 pub mod StandsLemmas
 pub mod DealsLemmas
+pub mod WalkLemmas
 pub mod OrderLemmas
 pub mod ToldLemmas
 pub mod RunLemmas

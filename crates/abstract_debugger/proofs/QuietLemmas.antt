@@ -58,52 +58,52 @@ quiet_boards (stop e) w hs is = finish-board e w hs
 -- ---- how plans are put together
 
 -- what follows each of its lines is quiet
-record Says (p : Plan) : Type 0 where
-  says : SaysQuietly p
+pub record Says (p : Plan) : Type 0 where
+  pub says : SaysQuietly p
 
 -- and it is quiet itself
-record Calm (p : Plan) : Type 0 where
-  quiet : Quiet p
-  says : SaysQuietly p
+pub record Calm (p : Plan) : Type 0 where
+  pub quiet : Quiet p
+  pub says : SaysQuietly p
 
-says_of : (p : Plan) → Calm p → Says p
+pub says_of : (p : Plan) → Calm p → Says p
 says_of p c = record { says = c.says }
 
-calm-take : (q : Point) (next : Plan) → Says next → Calm (take q next)
+pub calm-take : (q : Point) (next : Plan) → Says next → Calm (take q next)
 calm-take q next s = record { quiet = tt; says = s.says }
 
-says-take : (q : Point) (next : Plan) → Says next → Says (take q next)
+pub says-take : (q : Point) (next : Plan) → Says next → Says (take q next)
 says-take q next s = record { says = s.says }
 
 calm-on_path : (path : Path) (next : Plan) → Calm next → Calm (on_path path next)
 calm-on_path path next c = record { quiet = c.quiet; says = c.says }
 
-says-see : (next : Board → Plan) → ((b : Board) → Says (next b)) → Says (see next)
+pub says-see : (next : Board → Plan) → ((b : Board) → Says (next b)) → Says (see next)
 says-see next s = record { says = λ b. (s b).says }
 
-says-change : (c : Change) (next : Plan) → Says next → Says (change c next)
+pub says-change : (c : Change) (next : Plan) → Says next → Says (change c next)
 says-change c next s = record { says = s.says }
 
-calm-say : (line : Line) (next : Plan) → Calm next → Calm (say line next)
+pub calm-say : (line : Line) (next : Plan) → Calm next → Calm (say line next)
 calm-say line next c = record { quiet = c.quiet; says = (c.quiet, c.says) }
 
-says-say : (line : Line) (next : Plan) → Calm next → Says (say line next)
+pub says-say : (line : Line) (next : Plan) → Calm next → Says (say line next)
 says-say line next c = record { says = (c.quiet, c.says) }
 
-calm-stop : (e : PlanEnd) → Calm (stop e)
+pub calm-stop : (e : PlanEnd) → Calm (stop e)
 calm-stop e = record { quiet = tt; says = tt }
 
-says-if : (b : Bool) (p q : Plan) → Says p → Says q → Says (if b then p else q)
+pub says-if : (b : Bool) (p q : Plan) → Says p → Says q → Says (if b then p else q)
 says-if true p q sp sq = sp
 says-if false p q sp sq = sq
 
-calm-if : (b : Bool) (p q : Plan) → Calm p → Calm q → Calm (if b then p else q)
+pub calm-if : (b : Bool) (p q : Plan) → Calm p → Calm q → Calm (if b then p else q)
 calm-if true p q cp cq = cp
 calm-if false p q cp cq = cq
 
 -- ---- Looks
 
-calm-look : (h : ℕ) (next : Seen → Plan) → ((s : Seen) → Says (next s)) → Calm (look h next)
+pub calm-look : (h : ℕ) (next : Seen → Plan) → ((s : Seen) → Says (next s)) → Calm (look h next)
 calm-look h next s = calm-take (Look h) (see (λ b. next (seen_at h b))) (says-see (λ b. next (seen_at h b)) (λ b. s (seen_at h b)))
 
 says-by_state : (absent running halted : Plan) → Says absent → Says running → Says halted → (s : Seen) → Says (by_state absent running halted s)
@@ -111,7 +111,7 @@ says-by_state absent running halted sa sr sh Absent = sa
 says-by_state absent running halted sa sr sh (Running ack) = sr
 says-by_state absent running halted sa sr sh (Halted ack) = sh
 
-calm-look_by : (h : ℕ) (absent running halted : Plan) → Says absent → Says running → Says halted → Calm (look h (by_state absent running halted))
+pub calm-look_by : (h : ℕ) (absent running halted : Plan) → Says absent → Says running → Says halted → Calm (look h (by_state absent running halted))
 calm-look_by h absent running halted sa sr sh = calm-look h (by_state absent running halted) (says-by_state absent running halted sa sr sh)
 
 calm-until : (n h : ℕ) (test : Seen → Bool) (failed : Seen → Plan) (found : Plan) (last : Seen) → ((s : Seen) → Calm (failed s)) → Says found
@@ -129,13 +129,13 @@ calm-waiting (suc n) h absent running halted sa cr sh =
     calm-look_by h absent (waiting n h absent running halted) halted sa (says_of (waiting n h absent running halted)
     (calm-waiting n h absent running halted sa cr sh)) sh
 
-calm-halted : (h : ℕ) (next body : Plan) → Calm next → Says body → Calm (at_halted h next body)
+pub calm-halted : (h : ℕ) (next body : Plan) → Calm next → Says body → Calm (at_halted h next body)
 calm-halted h next body c s =
     calm-look_by h (say (Line.NoHart h) next) (say (Line.IsRunning h) next) body (says-say (Line.NoHart h) next c) (says-say (Line.IsRunning h) next c) s
 
 -- ---- run control
 
-says-stop_line : (h : ℕ) (next : Plan) → Calm next → Says (stop_line h next)
+pub says-stop_line : (h : ℕ) (next : Plan) → Calm next → Says (stop_line h next)
 says-stop_line h next c = says-see (λ b. say (stop_line_of (slice_get b.harts h)) next) (λ b. says-say (stop_line_of (slice_get b.harts h)) next c)
 
 says-halting : (h : ℕ) (next : Plan) → Says next → Says (halting h next)
@@ -143,11 +143,11 @@ says-halting h next s =
     says-take _ _ (says_of _ (calm-until most_looks h sees_halted (λ t. stop (NoHalt most_looks)) (take (HaltClear h) next) unseen
     (λ t. calm-stop (NoHalt most_looks)) (says-take (HaltClear h) next s)))
 
-says-going : (h : ℕ) (next : Plan) → Says next → Says (going h next)
+pub says-going : (h : ℕ) (next : Plan) → Says next → Says (going h next)
 says-going h next s = says-take _ _ (says_of _ (calm-until most_looks h sees_ack (λ t. stop (NoAck most_looks)) next unseen
     (λ t. calm-stop (NoAck most_looks)) s))
 
-says-one : (h : ℕ) (stepped other : Plan) → Says stepped → Says other → Says (one h stepped other)
+pub says-one : (h : ℕ) (stepped other : Plan) → Says stepped → Says other → Says (one h stepped other)
 says-one h stepped other ss so =
     says-change (StepOver h) _ (says-take (ResumeReq h) _ (says_of _ (calm-until most_looks h sees_both lost_step
     (change (StepDone h) (see (λ b. if is_step (halted_of (slice_get b.harts h)) then stepped else other))) unseen
@@ -169,7 +169,7 @@ says-saying : (lines : List Line) (next : Plan) → Calm next → Calm (saying l
 says-saying [] next c = c
 says-saying (l ∷ lines) next c = calm-say l (saying lines next) (says-saying lines next c)
 
-says-by_load : (r : Result ℕ MemFault) (faulted : Plan) (read : ℕ → Plan) → Says faulted → ((v : ℕ) → Says (read v)) → Says (by_load r faulted read)
+pub says-by_load : (r : Result ℕ MemFault) (faulted : Plan) (read : ℕ → Plan) → Says faulted → ((v : ℕ) → Says (read v)) → Says (by_load r faulted read)
 says-by_load (Ok v) faulted read sf s = s v
 says-by_load (Err fault) faulted read sf s = sf
 
@@ -245,12 +245,12 @@ says-freeing h slot next c =
 says-seen : (lines : Board → List Line) (next : Plan) → Calm next → Says (see (λ b. saying (lines b) next))
 says-seen lines next c = says-see (λ b. saying (lines b) next) (λ b. says_of (saying (lines b) next) (says-saying (lines b) next c))
 
-says-resumed : (h : ℕ) (next : Plan) → Calm next → Says (going h (say Line.Resumed next))
+pub says-resumed : (h : ℕ) (next : Plan) → Calm next → Says (going h (say Line.Resumed next))
 says-resumed h next c = says-going h (say Line.Resumed next) (says-say Line.Resumed next c)
 
 -- ---- the commands
 
-act-calm : (c : Command) (s : State) (next : State → Plan) → ((t : State) → Calm (next t)) → Calm (act c s next)
+pub act-calm : (c : Command) (s : State) (next : State → Plan) → ((t : State) → Calm (next t)) → Calm (act c s next)
 act-calm command.Idcode s next f = calm-say (Line.Idcode idcode) (next s) (f s)
 act-calm (command.Hart n) s next f =
     calm-look_by n (say (Line.NoHart n) (next s)) (say (Line.Selected n) (next (record s { hart = n }))) (say (Line.Selected n) (next (record s { hart = n })))

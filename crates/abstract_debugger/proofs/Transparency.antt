@@ -18,11 +18,11 @@ use Rattle.debug_model.proofs.JournalLemmas.{points_forget_debugging}
 use Rattle.abstract_debugger.specs.Laws.{Transparent, PastsAreUndebugged}
 use Rattle.abstract_debugger.specs.Own.{lived, own}
 use Rattle.abstract_debugger.specs.Plan.{Change, changed_board, changed_past, ebreak_halts, hart_over, register_set, slot_changed, slot_freed}
-use Rattle.abstract_debugger.specs.Plan.{step_begun, step_ended, with_debug_part}
-use Rattle.abstract_debugger.specs.Plan.Change.{WriteReg, WriteMem, ArmSlot, FreeSlot, StepOver, StepDone, EbreakHalts}
+use Rattle.abstract_debugger.specs.Plan.{patch_bytes, step_begun, step_ended, with_debug_part}
+use Rattle.abstract_debugger.specs.Plan.Change.{WriteReg, WriteMem, ArmSlot, FreeSlot, StepOver, StepDone, EbreakHalts, Patch}
 use Rattle.abstract_debugger.specs.Slots.{over}
 use Rattle.abstract_debugger.specs.Trace.{Note, Past, noted, noted_by, noted_here, trace_of}
-use Rattle.abstract_debugger.specs.Trace.Note.{Did, Stop, Arm, Free}
+use Rattle.abstract_debugger.specs.Trace.Note.{Did, Stop, Arm, Free, Patched}
 use Rattle.abstract_debugger.specs.Transcript.{World, replay, start}
 use Rattle.abstract_debugger.proofs.Keeps.{Keeps, replay-keeps}
 
@@ -34,6 +34,7 @@ own-append (Did entry ∷ xs) ys = ap (λ (es : List Entry). entry ∷ es) (own-
 own-append (Stop h why slots ∷ xs) ys = own-append xs ys
 own-append (Arm h slot what ∷ xs) ys = own-append xs ys
 own-append (Free h slot ∷ xs) ys = own-append xs ys
+own-append (Patched a covers ∷ xs) ys = own-append xs ys
 
 own_last : (m : Machine) (past : Past) (n : Note) → undebugged m (own (trace_of past ++ n ∷ [])) ≡ undebugged
     (undebugged m (own (trace_of past))) (own (n ∷ []))
@@ -45,10 +46,11 @@ pasts_are_undebugged m (Did entry ∷ past) = own_last m past (Did entry) ∙ ap
 pasts_are_undebugged m (Stop h why slots ∷ past) = own_last m past (Stop h why slots) ∙ pasts_are_undebugged m past
 pasts_are_undebugged m (Arm h slot what ∷ past) = own_last m past (Arm h slot what) ∙ pasts_are_undebugged m past
 pasts_are_undebugged m (Free h slot ∷ past) = own_last m past (Free h slot) ∙ pasts_are_undebugged m past
+pasts_are_undebugged m (Patched a covers ∷ past) = own_last m past (Patched a covers) ∙ pasts_are_undebugged m past
 
 -- ---- a point
 
-noted_by-lived : (halted : Option Cause) (resume request fired at_ebreak step : Bool) (h : ℕ) (slots : List Bool) (past : Past) (m now : Machine)
+pub noted_by-lived : (halted : Option Cause) (resume request fired at_ebreak step : Bool) (h : ℕ) (slots : List Bool) (past : Past) (m now : Machine)
     → now ≡ lived m past → (if executes_by halted resume request fired at_ebreak then execute h now else now) ≡ lived m
     (noted_by halted request fired at_ebreak step h slots past)
 noted_by-lived (Some why) true request fired at_ebreak step h slots past m now is = is
@@ -119,6 +121,7 @@ change-lived (FreeSlot h slot) b past m is = debug-lived (slot_freed slot) h b �
 change-lived (StepOver h) b past m is = debug-lived step_begun h b ∙ is
 change-lived (StepDone h) b past m is = debug-lived step_ended h b ∙ is
 change-lived (EbreakHalts h on) b past m is = debug-lived (ebreak_halts on) h b ∙ is
+change-lived (Patch a original covers) b past m is = ap (entered (SetMem a patch_bytes original)) is
 
 -- ---- a replay
 

@@ -17,7 +17,7 @@ use Rattle.debug_model.specs.declared.command.WatchKind.{WatchKind}
 use Rattle.debug_model.specs.declared.command.WatchKind.TheVariants.{Load, Store, Access}
 use Rattle.abstract_debugger.specs.Own.{lived}
 use Rattle.abstract_debugger.specs.Trace.{Note, Past, What}
-use Rattle.abstract_debugger.specs.Trace.Note.{Did, Stop, Arm, Free}
+use Rattle.abstract_debugger.specs.Trace.Note.{Did, Stop, Arm, Free, Patched}
 use Rattle.abstract_debugger.specs.Trace.What.{Break, Watch, Count}
 
 -- is a slot in a set that is given by place?
@@ -36,6 +36,7 @@ concerns h (Did (SetMem a count v)) = false
 concerns h (Stop i why slots) = h == i
 concerns h (Arm i slot what) = h == i
 concerns h (Free i slot) = h == i
+concerns h (Patched address covers) = false
 
 -- ---- what a past says of one slot of a hart
 
@@ -69,6 +70,7 @@ told k (Did (SetMem a count v)) s = s
 told k (Stop h why slots) s = record s { stopped = has slots k || s.stopped; spent = spent_by why (has slots k) s.spent }
 told k (Arm h slot what) s = if k == slot then newly_armed what else s
 told k (Free h slot) s = if k == slot then unarmed else s
+told k (Patched address covers) s = s
 
 -- slot k of hart h
 abbrev pub story : ℕ → ℕ → Past → Story
@@ -135,6 +137,7 @@ RightNote m (Did entry) past = RightEntry m entry past
 RightNote m (Stop h why slots) past = RightStop m h why slots past
 RightNote m (Arm h slot what) past = Unit {0}
 RightNote m (Free h slot) past = Unit {0}
+RightNote m (Patched address covers) past = Unit {0}
 
 -- each note of a past is right over what stands before it
 abbrev pub FirstMatch : Machine → Past → Type 0

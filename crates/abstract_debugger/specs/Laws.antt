@@ -16,7 +16,7 @@ use Rattle.abstract_debugger.specs.Lines.{Line}
 use Rattle.abstract_debugger.specs.Own as entries
 use Rattle.abstract_debugger.specs.Own.{lived}
 use Rattle.abstract_debugger.specs.Plan.{Change, Plan, hart_over, changed_board}
-use Rattle.abstract_debugger.specs.Plan.Change.{WriteReg, WriteMem, ArmSlot, FreeSlot, StepOver, StepDone, EbreakHalts}
+use Rattle.abstract_debugger.specs.Plan.Change.{WriteReg, WriteMem, ArmSlot, FreeSlot, StepOver, StepDone, EbreakHalts, Patch}
 use Rattle.abstract_debugger.specs.Plan.Plan.{take, on_path, see, change, say, stop}
 use Rattle.abstract_debugger.specs.Trace.{Note, Past, trace_of}
 use Rattle.abstract_debugger.specs.Transcript.{World, replay, start, trace, transcript}
@@ -141,6 +141,7 @@ IsChangeOf h (FreeSlot j slot) = j ≡ h
 IsChangeOf h (StepOver j) = j ≡ h
 IsChangeOf h (StepDone j) = j ≡ h
 IsChangeOf h (EbreakHalts j on) = j ≡ h
+IsChangeOf h (Patch address original covers) = ⊥
 
 abbrev pub ChangesMayWait : Type 0
 ChangesMayWait = (c : Change) (h : ℕ) (hart : Hart) (b : Board) (harts : List ℕ) → IsChangeOf h c → slice_get b.harts h ≡ Some hart → IsFrozen hart.debug
@@ -160,6 +161,7 @@ WritesOnly h n (change (FreeSlot j slot) next) = (j ≡ h) × WritesOnly h n nex
 WritesOnly h n (change (StepOver j) next) = (j ≡ h) × WritesOnly h n next
 WritesOnly h n (change (StepDone j) next) = (j ≡ h) × WritesOnly h n next
 WritesOnly h n (change (EbreakHalts j on) next) = (j ≡ h) × WritesOnly h n next
+WritesOnly h n (change (Patch address original covers) next) = ⊥
 WritesOnly h n (say line next) = WritesOnly h n next
 WritesOnly h n (stop end) = Unit {0}
 

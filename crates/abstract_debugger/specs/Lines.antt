@@ -27,12 +27,18 @@ pub data Line : Type 0 where
   Via : (path : Path) → Line
   Ebreak : (is_on : Bool) → Line
   Slot : (slot : ℕ) → (used : Use) → (hit : Bool) → Line
+  SoftSet : (address : ℕ) → Line
+  SoftClear : (address : ℕ) → Line
   NoHart : (hart : ℕ) → Line
   IsRunning : (hart : ℕ) → Line
   MemoryFault : (address : ℕ) → Line
   RegisterRefused : (number : ℕ) → Line
   NoFreeSlot : Line
   SlotNotInUse : (slot : ℕ) → Line
+  SoftIsSet : (address : ℕ) → Line
+  SoftNotSet : (address : ℕ) → Line
+  NoFreeSoftBreak : Line
+  SoftBreaksAreSet : Line
 
 abbrev pub is_error : Line → Bool
 is_error (NoHart hart) = true
@@ -41,6 +47,10 @@ is_error (MemoryFault address) = true
 is_error (RegisterRefused number) = true
 is_error NoFreeSlot = true
 is_error (SlotNotInUse slot) = true
+is_error (SoftIsSet address) = true
+is_error (SoftNotSet address) = true
+is_error NoFreeSoftBreak = true
+is_error SoftBreaksAreSet = true
 is_error _ = false
 
 abbrev pub any_error : List Line → Bool
@@ -107,12 +117,18 @@ words_of_line (Row address bytes) = spelled_address address ++ codes " " ++ flat
 words_of_line (Via path) = codes "via " ++ spelled_path path
 words_of_line (Ebreak is_on) = codes "ebreak " ++ spelled_switch is_on
 words_of_line (Slot slot used hit) = codes "slot " ++ decimal slot ++ codes " " ++ spelled_use used ++ spelled_hit hit
+words_of_line (SoftSet address) = codes "soft " ++ spelled_address address ++ codes " set"
+words_of_line (SoftClear address) = codes "soft " ++ spelled_address address ++ codes " clear"
 words_of_line (NoHart hart) = codes "error: no hart " ++ decimal hart
 words_of_line (IsRunning hart) = codes "error: hart " ++ decimal hart ++ codes " is running"
 words_of_line (MemoryFault address) = codes "error: memory fault at " ++ spelled_address address
 words_of_line (RegisterRefused number) = codes "error: register " ++ name_of_register number ++ codes " refused"
 words_of_line NoFreeSlot = codes "error: no free slot"
 words_of_line (SlotNotInUse slot) = codes "error: slot " ++ decimal slot ++ codes " not in use"
+words_of_line (SoftIsSet address) = codes "error: soft " ++ spelled_address address ++ codes " is set"
+words_of_line (SoftNotSet address) = codes "error: soft " ++ spelled_address address ++ codes " not set"
+words_of_line NoFreeSoftBreak = codes "error: no free soft break"
+words_of_line SoftBreaksAreSet = codes "error: soft breaks are set"
 
 abbrev pub text_of : Line → List ℕ
 text_of line = words_of_line line ++ line_feed ∷ []

@@ -11,7 +11,7 @@ use Rattle.debug_model.specs.declared.point.Point.{Point}
 use Rattle.abstract_debugger.specs.Lines.{Line}
 use Rattle.abstract_debugger.specs.Slots.{armed_for, freed, hits_forgotten, over, slots_back, slots_held, with_slots}
 use Rattle.abstract_debugger.specs.Trace.{Past, What}
-use Rattle.abstract_debugger.specs.Trace.Note.{Did, Arm, Free}
+use Rattle.abstract_debugger.specs.Trace.Note.{Did, Arm, Free, Patched}
 
 -- what a debugger does at once, however many registers it writes for it
 pub data Change : Type 0 where
@@ -22,6 +22,7 @@ pub data Change : Type 0 where
   StepOver : (hart : ℕ) → Change  -- before a single step: slots with a hit are off
   StepDone : (hart : ℕ) → Change  -- behind it: they are on again, and hits are forgotten where the step was a whole one
   EbreakHalts : (hart : ℕ) → (on : Bool) → Change
+  Patch : (address original : ℕ) → (covers : Bool) → Change  -- over the word there, which a user sees as this, an ebreak stands, or stands no more
 
 -- how a plan stops: done, or after so many Looks that did not see what was wanted
 pub data PlanEnd : Type 0 where
@@ -82,7 +83,13 @@ step_ended d = record d {
 abbrev pub ebreak_halts : Bool → DebugPart → DebugPart
 ebreak_halts on d = record d { ebreakm = on }
 
--- ---- a change of the board, and of the trace
+-- ---- patches
+
+-- an ebreak has four bytes
+abbrev pub patch_bytes : ℕ
+patch_bytes = 4
+
+-- ---- a change of the board, and of the trace; a patch is hidden from the board, where the word that it covers or uncovers is written once more
 
 abbrev pub changed_board : Change → Board → Board
 changed_board (WriteReg h r v) b = hart_over (register_set r v) h b
@@ -92,6 +99,7 @@ changed_board (FreeSlot h slot) b = hart_over (with_debug_part (slot_freed slot)
 changed_board (StepOver h) b = hart_over (with_debug_part step_begun) h b
 changed_board (StepDone h) b = hart_over (with_debug_part step_ended) h b
 changed_board (EbreakHalts h on) b = hart_over (with_debug_part (ebreak_halts on)) h b
+changed_board (Patch a original covers) b = record b { memory = with_bytes b.memory a patch_bytes original }
 
 abbrev pub changed_past : Change → Past → Past
 changed_past (WriteReg h r v) past = Did (SetReg h r v) ∷ past
@@ -101,3 +109,4 @@ changed_past (FreeSlot h slot) past = Free h slot ∷ past
 changed_past (StepOver h) past = past
 changed_past (StepDone h) past = past
 changed_past (EbreakHalts h on) past = past
+changed_past (Patch a original covers) past = Did (SetMem a patch_bytes original) ∷ Patched a covers ∷ past

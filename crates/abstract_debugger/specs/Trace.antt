@@ -25,6 +25,7 @@ pub data Note : Type 0 where
   Stop : (hart : ℕ) → (cause : Cause) → (slots : List Bool) → Note  -- a hart halted in its turn; by place, the slots that fired
   Arm : (hart slot : ℕ) → (what : What) → Note
   Free : (hart slot : ℕ) → Note
+  Patched : (address : ℕ) → (covers : Bool) → Note  -- an ebreak stands over the word there, or it stands there no more
 
 -- the newest note first
 abbrev pub Past : Type 0

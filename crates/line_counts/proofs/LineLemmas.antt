@@ -11,8 +11,9 @@ use Rattle.debug_model.specs.Spelling.{spelled_address}
 use Rattle.debug_model.specs.ScriptText.{line_feed, lines_of}
 use Rattle.abstract_debugger.specs.Lines.{Line, is_error, words_of_line, text_of, text_of_all, spelled_places, places_from, spelled_cause, spelled_use}
 use Rattle.abstract_debugger.specs.Lines.{spelled_what, spelled_hit}
-use Rattle.abstract_debugger.specs.Lines.Line.{Idcode, Selected, Halted, Running, Resumed, Register, Element, Wrote, Row, Via, Ebreak, Slot, NoHart}
-use Rattle.abstract_debugger.specs.Lines.Line.{IsRunning, MemoryFault, RegisterRefused, NoFreeSlot, SlotNotInUse}
+use Rattle.abstract_debugger.specs.Lines.Line.{Idcode, Selected, Halted, Running, Resumed, Register, Element, Wrote, Row, Via, Ebreak, Slot, SoftSet, SoftClear}
+use Rattle.abstract_debugger.specs.Lines.Line.{NoHart, IsRunning, MemoryFault, RegisterRefused, NoFreeSlot, SlotNotInUse, SoftIsSet, SoftNotSet}
+use Rattle.abstract_debugger.specs.Lines.Line.{NoFreeSoftBreak, SoftBreaksAreSet}
 use Rattle.abstract_debugger.specs.Slots.{Use}
 use Rattle.abstract_debugger.specs.Slots.Use.{Armed, Unused, Other}
 use Rattle.abstract_debugger.specs.Trace.{What}
@@ -65,12 +66,18 @@ line_clean (Via Bus) = refl
 line_clean (Ebreak true) = refl
 line_clean (Ebreak false) = refl
 line_clean (Slot slot used hit) = simp (list_all-append, decimal_clean, use_clean, hit_clean)
+line_clean (SoftSet address) = simp (list_all-append, hexadecimal_clean)
+line_clean (SoftClear address) = simp (list_all-append, hexadecimal_clean)
 line_clean (NoHart hart) = simp decimal_clean
 line_clean (IsRunning hart) = simp (list_all-append, decimal_clean)
 line_clean (MemoryFault address) = simp hexadecimal_clean
 line_clean (RegisterRefused number) = simp (list_all-append, name_clean)
 line_clean NoFreeSlot = refl
 line_clean (SlotNotInUse slot) = simp (list_all-append, decimal_clean)
+line_clean (SoftIsSet address) = simp (list_all-append, hexadecimal_clean)
+line_clean (SoftNotSet address) = simp (list_all-append, hexadecimal_clean)
+line_clean NoFreeSoftBreak = refl
+line_clean SoftBreaksAreSet = refl
 
 -- ---- errors begin as errors, and no other line does
 
@@ -87,12 +94,18 @@ error_told (Row address bytes) = refl
 error_told (Via path) = refl
 error_told (Ebreak is_on) = refl
 error_told (Slot slot used hit) = refl
+error_told (SoftSet address) = refl
+error_told (SoftClear address) = refl
 error_told (NoHart hart) = refl
 error_told (IsRunning hart) = refl
 error_told (MemoryFault address) = refl
 error_told (RegisterRefused number) = refl
 error_told NoFreeSlot = refl
 error_told (SlotNotInUse slot) = refl
+error_told (SoftIsSet address) = refl
+error_told (SoftNotSet address) = refl
+error_told NoFreeSoftBreak = refl
+error_told SoftBreaksAreSet = refl
 
 -- ---- the whole lines
 

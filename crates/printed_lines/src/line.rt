@@ -41,6 +41,10 @@ pub enum Line {
     Ebreak(bool),
     /// A slot's number, what it is used for, and whether its hit is to be shown.
     Slot(u8, SlotUse, bool),
+    /// A software breakpoint stands at this address now.
+    SoftSet(u64),
+    /// The software breakpoint at this address is taken out.
+    SoftClear(u64),
     /// An error: there is no such hart.
     NoHart(u16),
     /// An error: the hart is running.
@@ -53,6 +57,14 @@ pub enum Line {
     NoFreeSlot,
     /// An error: the slot to be freed is free.
     SlotNotInUse(u8),
+    /// An error: a software breakpoint stands at this address already.
+    SoftIsSet(u64),
+    /// An error: no software breakpoint stands at this address.
+    SoftNotSet(u64),
+    /// An error: as many software breakpoints stand as there may be.
+    NoFreeSoftBreak,
+    /// An error: software breakpoints stand, and need that ebreaks halt.
+    SoftBreaksAreSet,
 }
 
 impl Line {
@@ -66,7 +78,11 @@ impl Line {
             | Line::MemoryFault(_)
             | Line::RegisterRefused(_)
             | Line::NoFreeSlot
-            | Line::SlotNotInUse(_) => true,
+            | Line::SlotNotInUse(_)
+            | Line::SoftIsSet(_)
+            | Line::SoftNotSet(_)
+            | Line::NoFreeSoftBreak
+            | Line::SoftBreaksAreSet => true,
             _ => false,
         }
     }

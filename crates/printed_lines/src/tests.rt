@@ -47,6 +47,8 @@ fn a_line_of_words_has_its_text(rt: HostRuntime) -> Result<(), Fail> {
         (Line::Via(Path::Bus), "via bus\n"),
         (Line::Ebreak(true), "ebreak on\n"),
         (Line::Ebreak(false), "ebreak off\n"),
+        (Line::SoftSet(RAM), "soft 0x0000000080000000 set\n"),
+        (Line::SoftClear(RAM), "soft 0x0000000080000000 clear\n"),
     ];
     for (line, printed) in cases {
         check(&rt, line, printed)?;
@@ -193,6 +195,16 @@ fn an_error_says_so(rt: HostRuntime) -> Result<(), Fail> {
         ),
         (Line::NoFreeSlot, "error: no free slot\n"),
         (Line::SlotNotInUse(2), "error: slot 2 not in use\n"),
+        (
+            Line::SoftIsSet(RAM + 8),
+            "error: soft 0x0000000080000008 is set\n",
+        ),
+        (
+            Line::SoftNotSet(RAM),
+            "error: soft 0x0000000080000000 not set\n",
+        ),
+        (Line::NoFreeSoftBreak, "error: no free soft break\n"),
+        (Line::SoftBreaksAreSet, "error: soft breaks are set\n"),
     ];
     for (line, printed) in cases {
         check(&rt, line, printed)?;

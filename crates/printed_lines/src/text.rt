@@ -41,6 +41,17 @@ fn push_between(text: &mut LineText, words: &[u8], number: u32, more: &[u8])
     push_word(text, more);
 }
 
+/// Appends an address between fixed words.
+fn push_around(text: &mut LineText, words: &[u8], address: u64, more: &[u8])
+    requires { array_vec_len text.old + length words.now + ADDRESS_LENGTH + length more.now ≤ LINE_MOST }
+    ensures words { text.new.items ≡ text.old.items ++ words.now ++ spelled_address address ++ more.now }
+    ensures room { array_vec_len text.new ≡ array_vec_len text.old + length words.now + ADDRESS_LENGTH + length more.now }
+{
+    push_word(text, words);
+    push_address(text, address);
+    push_word(text, more);
+}
+
 /// Appends a register's name and its value.
 fn push_register(text: &mut LineText, number: u16, value: u64)
     requires { array_vec_len text.old ≡ 0 }
@@ -117,6 +128,8 @@ impl Line {
                 push_word(&mut text, switch_word(*is_on));
             }
             Line::Slot(slot, used, hit) => push_slot(&mut text, *slot, *used, *hit),
+            Line::SoftSet(address) => push_around(&mut text, b"soft ", *address, b" set"),
+            Line::SoftClear(address) => push_around(&mut text, b"soft ", *address, b" clear"),
             Line::NoHart(hart) => {
                 push_numbered(&mut text, b"error: no hart ", u32::from(*hart));
             }
@@ -136,6 +149,14 @@ impl Line {
             Line::SlotNotInUse(slot) => {
                 push_between(&mut text, b"error: slot ", u32::from(*slot), b" not in use");
             }
+            Line::SoftIsSet(address) => {
+                push_around(&mut text, b"error: soft ", *address, b" is set");
+            }
+            Line::SoftNotSet(address) => {
+                push_around(&mut text, b"error: soft ", *address, b" not set");
+            }
+            Line::NoFreeSoftBreak => push_word(&mut text, b"error: no free soft break"),
+            Line::SoftBreaksAreSet => push_word(&mut text, b"error: soft breaks are set"),
         }
         text
     }

@@ -201,12 +201,18 @@ same_error (printed.Row a bytes) = refl
 same_error (printed.Via path) = refl
 same_error (printed.Ebreak on) = refl
 same_error (printed.Slot n used hit) = refl
+same_error (printed.SoftSet a) = refl
+same_error (printed.SoftClear a) = refl
 same_error (printed.NoHart h) = refl
 same_error (printed.IsRunning h) = refl
 same_error (printed.MemoryFault a) = refl
 same_error (printed.RegisterRefused n) = refl
 same_error printed.NoFreeSlot = refl
 same_error (printed.SlotNotInUse n) = refl
+same_error (printed.SoftIsSet a) = refl
+same_error (printed.SoftNotSet a) = refl
+same_error printed.NoFreeSoftBreak = refl
+same_error printed.SoftBreaksAreSet = refl
 
 -- a command of one line, which is said and written
 pub one_line : {K : Type 0} {a : K → Place} (l : PrintedLine) (p : K → Plan) (wrong : Bool) {t u : Tells} {c d : Option (List ℕ)} → wrong ≡ is_error (line_of l)

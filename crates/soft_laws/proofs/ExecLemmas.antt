@@ -1,0 +1,234 @@
+-- One instruction over memory with patches: where it isn't a covered one and leaves covered words alone, it does what it does without them.
+use Rattle.std.proofs.Common.{◌≡◌, ◌∙◌, ℕ, Bool, true, false, List, Option, Some, None, Result, Ok, Err, refl, sym, ap, if◌then◌else◌}
+use Rattle.std.specs.Prelude.{⊤}
+use Rattle.rv_model.specs.declared.alu_op.AluOp.{AluOp}
+use Rattle.rv_model.specs.declared.alu_op.AluOp.TheVariants as op
+use Rattle.rv_model.specs.declared.insn.Insn.{Insn}
+use Rattle.rv_model.specs.declared.insn.Insn.TheVariants.{Lui, Auipc, Jal, Jalr, Branch, Load, Store, Immediate, Shift, WordShift, Register, LoadReserved}
+use Rattle.rv_model.specs.declared.insn.Insn.TheVariants.{StoreConditional, Amo, Fence, FenceI, Csr, CsrImmediate, Ecall, Ebreak, Mret, Wfi}
+use Rattle.rv_model.specs.declared.mem_fault.MemFault.{MemFault}
+use Rattle.rv_model.specs.declared.size.Size.{Size}
+use Rattle.rv_model.specs.declared.size.Size.TheVariants.{B4}
+use Rattle.rv_model.specs.declared.touch.Touch.{Touch}
+use Rattle.rv_model.specs.Accesses.{load_extension, load_size, width_extension, width_size}
+use Rattle.rv_model.specs.Core.{Core, offset_by, x_of}
+use Rattle.rv_model.specs.Effects.{Outcome, after_amo, after_load, after_reserve, after_sc, amo_step, effect_of, same_memory, sc_step, stored_step}
+use Rattle.rv_model.specs.Effects.{stores_at, stores_if_reserved_at, updates_at, loads_at, reserves_at}
+use Rattle.rv_model.specs.Execute.{decoded, exec_of, fetched}
+use Rattle.rv_model.specs.Laws.{answered}
+use Rattle.rv_model.specs.Memory.{Memory, after_store, cleared, covers, dropped, loaded, store_answer, with_value}
+use Rattle.rv_model.specs.Rows.{meaning}
+use Rattle.rv_model.specs.Size.{count_of}
+use Rattle.rv_model.specs.Touch.{reads, reads_and_writes, touch_fetched, touch_of, touches_nothing, writes}
+use Rattle.rv_model.specs.Turn.{is_ebreak_at, is_ebreak_word}
+use Rattle.rv_model.proofs.MemoryLemmas.{after_store_refused, after_store_taken, store_answer_is}
+use Rattle.soft_laws.specs.SoftBreaks.{AreAligned, AreInside, ebreak_word, is_listed, meets_some, patched_bytes, patched_memory}
+use Rattle.soft_laws.specs.SoftTurns.{ebreak_by, soft_touch, touch_by}
+use Rattle.soft_laws.specs.Undisturbed.{LeavesWords, accessed, accessed_fetched, accessed_meant, accessed_of, reaches, unless_refused}
+use Rattle.soft_laws.proofs.PatchedLemmas.{answered-patched, fetched-covered, fetched-patched, loaded-patched, patched-write}
+
+abbrev pub patched_outcome : List ℕ → Outcome → Outcome
+patched_outcome cs o = record o { memory = patched_memory cs o.memory }
+
+-- ---- an access by what memory answers
+
+-- where it is taken, it meets no covered word
+abbrev LeftBy : List ℕ → ℕ → Size → Result ℕ MemFault → Type 0
+LeftBy cs a size (Ok v) = meets_some cs a (count_of size) ≡ false
+LeftBy cs a size (Err fault) = Unit {0}
+
+left_load : (cs : List ℕ) (c : Core) (a : ℕ) (size : Size) (r : Result ℕ MemFault) → reaches cs (unless_refused r (reads c a size) c).load ≡ false
+    → LeftBy cs a size r
+left_load cs c a size (Ok v) is = is
+left_load cs c a size (Err fault) is = tt
+
+left_store : (cs : List ℕ) (c : Core) (a : ℕ) (size : Size) (r : Result ℕ MemFault) → reaches cs (unless_refused r (writes c a size) c).store ≡ false
+    → LeftBy cs a size r
+left_store cs c a size (Ok v) is = is
+left_store cs c a size (Err fault) is = tt
+
+left_both : (cs : List ℕ) (c : Core) (a : ℕ) (size : Size) (r : Result ℕ MemFault)
+    → reaches cs (unless_refused r (reads_and_writes c a size) c).store ≡ false → LeftBy cs a size r
+left_both cs c a size (Ok v) is = is
+left_both cs c a size (Err fault) is = tt
+
+refused_too : (r : Result ℕ MemFault) (fault : MemFault) → answered r ≡ Err fault → r ≡ Err fault
+refused_too (Ok v) fault is = absurd (cc)
+refused_too (Err other) fault is = let e : other ≡ fault = cc in ap Err e
+
+taken_too : (r : Result ℕ MemFault) → answered r ≡ Ok tt → (v : ℕ) × (r ≡ Ok v)
+taken_too (Ok v) is = (v, refl)
+taken_too (Err other) is = absurd (cc)
+
+pub loaded-left : (cs : List ℕ) (m : Memory) (a : ℕ) (size : Size) → AreInside cs m.bytes → (r : Result ℕ MemFault) → loaded m a size ≡ r → LeftBy cs a size r
+    → loaded (patched_memory cs m) a size ≡ r
+loaded-left cs m a size inside (Ok v) is left = loaded-patched cs m a size left ∙ is
+loaded-left cs m a size inside (Err fault) is left =
+    refused_too (loaded (patched_memory cs m) a size) fault (answered-patched cs m a size inside ∙ ap answered is)
+
+store_answer-patched : (cs : List ℕ) (m : Memory) (a : ℕ) (size : Size) → AreInside cs m.bytes
+    → store_answer (patched_memory cs m) a size ≡ store_answer m a size
+store_answer-patched cs m a size inside =
+    store_answer_is (patched_memory cs m) a size ∙ answered-patched cs m a size inside ∙ sym (store_answer_is m a size)
+
+after_store-patched : (cs : List ℕ) (m : Memory) (a : ℕ) (size : Size) (v : ℕ) → AreInside cs m.bytes → (r : Result ℕ MemFault) → loaded m a size ≡ r
+    → LeftBy cs a size r → after_store (patched_memory cs m) a size v ≡ patched_memory cs (after_store m a size v)
+after_store-patched cs m a size v inside (Ok old) is left =
+    let plain : store_answer m a size ≡ Ok tt = store_answer_is m a size ∙ ap answered is in
+    after_store_taken (patched_memory cs m) a size v (store_answer-patched cs m a size inside ∙ plain)
+    ∙ ap (λ b. cleared (record m { bytes = b }) a (count_of size)) (patched-write cs m.bytes a (count_of size) v left)
+    ∙ ap (patched_memory cs) (sym (after_store_taken m a size v plain))
+after_store-patched cs m a size v inside (Err fault) is left =
+    let plain : store_answer m a size ≡ Err fault = store_answer_is m a size ∙ ap answered is in
+    after_store_refused (patched_memory cs m) a size v fault (store_answer-patched cs m a size inside ∙ plain)
+    ∙ ap (patched_memory cs) (sym (after_store_refused m a size v fault plain))
+
+-- ---- the instructions with an access
+
+loads-patched : (cs : List ℕ) (a : ℕ) (size : Size) (extend : ℕ → ℕ) (rd : ℕ) (c : Core) (m : Memory) → AreInside cs m.bytes → LeftBy cs a size (loaded m a size)
+    → loads_at a size extend rd c (patched_memory cs m) ≡ patched_outcome cs (loads_at a size extend rd c m)
+loads-patched cs a size extend rd c m inside left =
+    ap (λ r. same_memory (patched_memory cs m) (after_load r extend rd a c)) (loaded-left cs m a size inside (loaded m a size) refl left)
+
+stores-patched : (cs : List ℕ) (a : ℕ) (size : Size) (v : ℕ) (c : Core) (m : Memory) → AreInside cs m.bytes → LeftBy cs a size (loaded m a size)
+    → stores_at a size v c (patched_memory cs m) ≡ patched_outcome cs (stores_at a size v c m)
+stores-patched cs a size v c m inside left =
+    ap (λ r. let o : Outcome = record { step = stored_step r a c; memory = after_store (patched_memory cs m) a size v } in o)
+    (store_answer-patched cs m a size inside)
+    ∙ ap (λ (n : Memory). let o : Outcome = record { step = stored_step (store_answer m a size) a c; memory = n } in o)
+    (after_store-patched cs m a size v inside (loaded m a size) refl left)
+
+reserves-patched : (cs : List ℕ) (a : ℕ) (size : Size) (extend : ℕ → ℕ) (rd : ℕ) (c : Core) (m : Memory) → AreInside cs m.bytes
+    → LeftBy cs a size (loaded m a size)
+    → reserves_at a size extend rd c (patched_memory cs m) ≡ patched_outcome cs (reserves_at a size extend rd c m)
+reserves-patched cs a size extend rd c m inside left =
+    ap (λ r. let o : Outcome = record { step = after_load r extend rd a c; memory = after_reserve r a c (patched_memory cs m) } in o)
+    (loaded-left cs m a size inside (loaded m a size) refl left)
+    ∙ ap (λ (n : Memory). let o : Outcome = record { step = after_load (loaded m a size) extend rd a c; memory = n } in o) (by (loaded m a size))
+  where
+    by : (r : Result ℕ MemFault) → after_reserve r a c (patched_memory cs m) ≡ patched_memory cs (after_reserve r a c m)
+    by (Ok v) = refl
+    by (Err fault) = refl
+
+updates-patched : (cs : List ℕ) (a : ℕ) (size : Size) (extend : ℕ → ℕ) (o : AluOp) (b rd : ℕ) (c : Core) (m : Memory) → AreInside cs m.bytes
+    → LeftBy cs a size (loaded m a size)
+    → updates_at a size extend o b rd c (patched_memory cs m) ≡ patched_outcome cs (updates_at a size extend o b rd c m)
+updates-patched cs a size extend o b rd c m inside left =
+    ap (λ r. let p : Outcome = record { step = amo_step r extend rd a c; memory = after_amo r extend o a size b (patched_memory cs m) } in p)
+    (loaded-left cs m a size inside (loaded m a size) refl left)
+    ∙ ap (λ (n : Memory). let p : Outcome = record { step = amo_step (loaded m a size) extend rd a c; memory = n } in p) (by (loaded m a size) refl left)
+  where
+    by : (r : Result ℕ MemFault) → loaded m a size ≡ r → LeftBy cs a size r
+        → after_amo r extend o a size b (patched_memory cs m) ≡ patched_memory cs (after_amo r extend o a size b m)
+    by (Ok v) is l = after_store-patched cs m a size _ inside (Ok v) is l
+    by (Err fault) is l = refl
+
+-- an sc goes by whether its access is refused, and writes only where its reservation covers it
+sc_alike : (r r' : Result ℕ MemFault) (covered : Bool) (rd a : ℕ) (c : Core) → answered r ≡ answered r' → sc_step r covered rd a c ≡ sc_step r' covered rd a c
+sc_alike (Ok v) (Ok w) covered rd a c e = refl
+sc_alike (Ok v) (Err fault) covered rd a c e = absurd (cc)
+sc_alike (Err fault) (Ok w) covered rd a c e = absurd (cc)
+sc_alike (Err fault) (Err other) covered rd a c e = let same : fault ≡ other = cc in ap (λ f. sc_step (Err f) covered rd a c) same
+
+abbrev ScLeft : List ℕ → ℕ → Size → (covered : Bool) → Result ℕ MemFault → Type 0
+ScLeft cs a size true r = LeftBy cs a size r
+ScLeft cs a size false r = Unit {0}
+
+left_sc : (cs : List ℕ) (c : Core) (a : ℕ) (size : Size) (covered : Bool) (r : Result ℕ MemFault)
+    → reaches cs (unless_refused r (if covered then writes c a size else touches_nothing c) c).store ≡ false → ScLeft cs a size covered r
+left_sc cs c a size true (Ok v) is = is
+left_sc cs c a size true (Err fault) is = tt
+left_sc cs c a size false r is = tt
+
+after_sc-patched : (cs : List ℕ) (a : ℕ) (size : Size) (v : ℕ) (c : Core) (m : Memory) → AreInside cs m.bytes → (covered : Bool) (r r' : Result ℕ MemFault)
+    → loaded m a size ≡ r → answered r' ≡ answered r → ScLeft cs a size covered r
+    → after_sc r' covered a size v c (patched_memory cs m) ≡ patched_memory cs (after_sc r covered a size v c m)
+after_sc-patched cs a size v c m inside covered (Ok old) (Err fault) is e left = absurd (cc)
+after_sc-patched cs a size v c m inside covered (Err fault) (Ok new) is e left = absurd (cc)
+after_sc-patched cs a size v c m inside covered (Err fault) (Err other) is e left = refl
+after_sc-patched cs a size v c m inside true (Ok old) (Ok new) is e left =
+    ap (λ n. dropped n c.id) (after_store-patched cs m a size v inside (Ok old) is left)
+after_sc-patched cs a size v c m inside false (Ok old) (Ok new) is e left = refl
+
+sc-patched : (cs : List ℕ) (a : ℕ) (size : Size) (v rd : ℕ) (c : Core) (m : Memory) → AreInside cs m.bytes
+    → ScLeft cs a size (covers m c.id a size) (loaded m a size)
+    → stores_if_reserved_at a size v rd c (patched_memory cs m) ≡ patched_outcome cs (stores_if_reserved_at a size v rd c m)
+sc-patched cs a size v rd c m inside left =
+    let alike : answered (loaded (patched_memory cs m) a size) ≡ answered (loaded m a size) = answered-patched cs m a size inside in
+    ap (λ s. let o : Outcome = record {
+      step = s;
+      memory = after_sc (loaded (patched_memory cs m) a size) (covers m c.id a size) a size v c (patched_memory cs m);
+    } in o) (sc_alike (loaded (patched_memory cs m) a size) (loaded m a size) (covers m c.id a size) rd a c alike)
+    ∙ ap (λ (n : Memory). let o : Outcome = record { step = sc_step (loaded m a size) (covers m c.id a size) rd a c; memory = n } in o)
+    (after_sc-patched cs a size v c m inside (covers m c.id a size) (loaded m a size) (loaded (patched_memory cs m) a size) refl alike left)
+
+-- ---- the table
+
+effect-patched : (cs : List ℕ) (insn : Insn) (c : Core) (m : Memory) → AreInside cs m.bytes → LeavesWords cs (accessed insn c m)
+    → effect_of insn c (patched_memory cs m) ≡ patched_outcome cs (effect_of insn c m)
+unfolding effect_of
+effect-patched cs (Load o p) c m inside leaves =
+    loads-patched cs (offset_by (x_of c p.rs1) p.imm) (load_size o) (load_extension o) p.rd c m inside
+    (left_load cs c (offset_by (x_of c p.rs1) p.imm) (load_size o) (loaded m (offset_by (x_of c p.rs1) p.imm) (load_size o)) leaves.0)
+effect-patched cs (Store size p) c m inside leaves =
+    stores-patched cs (offset_by (x_of c p.rs1) p.imm) size (x_of c p.rs2) c m inside
+    (left_store cs c (offset_by (x_of c p.rs1) p.imm) size (loaded m (offset_by (x_of c p.rs1) p.imm) size) leaves.1)
+effect-patched cs (LoadReserved width p) c m inside leaves =
+    reserves-patched cs (x_of c p.rs1) (width_size width) (width_extension width) p.rd c m inside
+    (left_load cs c (x_of c p.rs1) (width_size width) (loaded m (x_of c p.rs1) (width_size width)) leaves.0)
+effect-patched cs (StoreConditional width p) c m inside leaves =
+    sc-patched cs (x_of c p.rs1) (width_size width) (x_of c p.rs2) p.rd c m inside
+    (left_sc cs c (x_of c p.rs1) (width_size width) (covers m c.id (x_of c p.rs1) (width_size width)) (loaded m (x_of c p.rs1) (width_size width)) leaves.1)
+effect-patched cs (Amo o width p) c m inside leaves =
+    updates-patched cs (x_of c p.rs1) (width_size width) (width_extension width) (op.Amo o width) (x_of c p.rs2) p.rd c m inside
+    (left_both cs c (x_of c p.rs1) (width_size width) (loaded m (x_of c p.rs1) (width_size width)) leaves.1)
+effect-patched cs (Lui p) c m inside leaves = refl
+effect-patched cs (Auipc p) c m inside leaves = refl
+effect-patched cs (Jal p) c m inside leaves = refl
+effect-patched cs (Jalr p) c m inside leaves = refl
+effect-patched cs (Branch condition p) c m inside leaves = refl
+effect-patched cs (Immediate o p) c m inside leaves = refl
+effect-patched cs (Shift o p) c m inside leaves = refl
+effect-patched cs (WordShift o p) c m inside leaves = refl
+effect-patched cs (Register o p) c m inside leaves = refl
+effect-patched cs Fence c m inside leaves = refl
+effect-patched cs FenceI c m inside leaves = refl
+effect-patched cs (Csr change p) c m inside leaves = refl
+effect-patched cs (CsrImmediate change p) c m inside leaves = refl
+effect-patched cs Ecall c m inside leaves = refl
+effect-patched cs Ebreak c m inside leaves = refl
+effect-patched cs Mret c m inside leaves = refl
+effect-patched cs Wfi c m inside leaves = refl
+
+fetched_by : (cs : List ℕ) (r : Result ℕ MemFault) (c : Core) (m : Memory) → AreInside cs m.bytes → LeavesWords cs (accessed_fetched r c m)
+    → fetched r c (patched_memory cs m) ≡ patched_outcome cs (fetched r c m)
+fetched_by cs (Err fault) c m inside leaves = refl
+fetched_by cs (Ok w) c m inside leaves = by (meaning w) leaves
+  where
+    by : (o : Option Insn) → LeavesWords cs (accessed_meant o c m) → decoded o c (patched_memory cs m) ≡ patched_outcome cs (decoded o c m)
+    by (Some insn) left = effect-patched cs insn c m inside left
+    by None left = refl
+
+pub exec-patched : (cs : List ℕ) (c : Core) (m : Memory) → AreAligned cs → AreInside cs m.bytes → is_listed cs c.pc ≡ false
+    → LeavesWords cs (accessed_of c m) → exec_of c (patched_memory cs m) ≡ patched_outcome cs (exec_of c m)
+unfolding exec_of accessed_of
+exec-patched cs c m are inside none leaves =
+    ap (λ r. fetched r c (patched_memory cs m)) (fetched-patched cs m c.pc are none) ∙ fetched_by cs (loaded m c.pc B4) c m inside leaves
+
+-- ---- what stands at pc
+
+pub touch-patched : (cs : List ℕ) (c : Core) (m : Memory) → AreAligned cs → touch_of c (patched_memory cs m) ≡ soft_touch cs c m
+unfolding soft_touch touch_of meaning
+touch-patched cs c m are = by (is_listed cs c.pc) refl
+  where
+    by : (b : Bool) → is_listed cs c.pc ≡ b → touch_of c (patched_memory cs m) ≡ touch_by b c m
+    by true e = ap (λ r. touch_fetched r c) (fetched-covered cs m c.pc are e)
+    by false e = ap (λ r. touch_fetched r c) (fetched-patched cs m c.pc are e)
+
+pub ebreak-patched : (cs : List ℕ) (c : Core) (m : Memory) → AreAligned cs → is_ebreak_at c (patched_memory cs m) ≡ ebreak_by (is_listed cs c.pc) c m
+unfolding is_ebreak_at meaning
+ebreak-patched cs c m are = by (is_listed cs c.pc) refl
+  where
+    by : (b : Bool) → is_listed cs c.pc ≡ b → is_ebreak_at c (patched_memory cs m) ≡ ebreak_by b c m
+    by true e = ap is_ebreak_word (fetched-covered cs m c.pc are e)
+    by false e = ap is_ebreak_word (fetched-patched cs m c.pc are e)

@@ -1,0 +1,57 @@
+-- Where the code of a session stands behind an Access that covers or uncovers a word.
+use Rattle.std.proofs.Common.{◌≡◌, ◌∙◌, ◌+◌, ◌<◌, ◌≤◌, ℕ, Bool, true, false, ◌||◌, List, [], ◌∷◌, refl, sym, ap, subst, inl, inr, arith}
+use Rattle.std.specs.Prelude.{◌==◌, unwrap_or}
+use Rattle.std.specs.FinMap.{get}
+use Rattle.std.proofs.lemmas.Bool.{eqb-true, false≢true}
+use Rattle.rv_model.specs.Board.{Board, Machine}
+use Rattle.rv_model.specs.Memory.{Bytes, value_at}
+use Rattle.debug_model.specs.declared.point.Point.TheVariants.{Access}
+use Rattle.abstract_debugger.specs.Lines.{Line}
+use Rattle.abstract_debugger.specs.Plan.{Plan, patch_bytes}
+use Rattle.abstract_debugger.specs.Plan.Change.{Patch, WriteMem}
+use Rattle.abstract_debugger.specs.Plan.Plan.{change, see, take}
+use Rattle.abstract_debugger.specs.Stands.{Deals, Origin, PointedWith, Target}
+use Rattle.abstract_debugger.specs.Turns.{after_turns}
+use Rattle.abstract_debugger.specs.Ways.{Way}
+use Rattle.abstract_debugger.proofs.DealsLemmas.{deals_stored}
+use Rattle.soft_laws.specs.CallLaws.{CoveringStands, UncoveringStands}
+use Rattle.soft_laws.specs.Lowered.{Table, hidden_board, hidden_bytes, lower, patched_table}
+use Rattle.soft_laws.specs.Shown.{original_at}
+use Rattle.soft_laws.specs.SoftBreaks.{ebreak_word, is_listed, meets, meets_some}
+use Rattle.soft_laws.specs.SoftDebugger.{covering, lifting, word_at}
+use Rattle.soft_laws.proofs.ByteLemmas.{value_alike}
+use Rattle.soft_laws.proofs.PatchLemmas.{get-hidden, hidden_covered}
+use Rattle.soft_laws.proofs.PatchedLemmas.{either_true, meets-here}
+
+-- a byte of a covered word
+listed-meets : (cs : List ℕ) (a q : ℕ) → is_listed cs a ≡ true → a ≤ q → q < a + 4 → meets_some cs q 1 ≡ true
+listed-meets [] a q is from less = absurd (false≢true is)
+listed-meets (c ∷ cs) a q is from less = elim (either_true (a == c) (is_listed cs a) is) [
+  | inl e ↦ ap (λ b. b || meets_some cs q 1) (subst (λ n. meets n q 1 ≡ true) (eqb-true a c e) (meets-here a q from less))
+  | inr e ↦ later (meets c q 1) (meets_some cs q 1) (listed-meets cs a q e from less)
+]
+  where
+    later : (x y : Bool) → y ≡ true → (x || y) ≡ true
+    later true y e = refl
+    later false y e = e
+
+-- the word seen at a covered address is the remembered one, whatever the chip holds
+pub shown-word : (t : Table) (b : Board) (a : ℕ) → is_listed t.covered a ≡ true → word_at a (hidden_board t b) ≡ original_at t a
+shown-word t b a is = ap (λ o. unwrap_or o 0) (value_alike (hidden_bytes t.covered t.originals b.memory.bytes) t.originals a 4 (λ q from less.
+    get-hidden t.covered t.originals b.memory.bytes q
+    ∙ hidden_covered t.covered q (get t.originals q) (get b.memory.bytes q) (listed-meets t.covered a q is from less)))
+
+pub uncovering_stands : UncoveringStands
+unfolding lower
+uncovering_stands m sel way o a next t lines old new is d at =
+    deals_stored m sel way o a patch_bytes (original_at t a)
+    (λ b. change (WriteMem a patch_bytes (word_at a (hidden_board t b)))
+    (lower (next (word_at a (hidden_board t b))) (patched_table false a (word_at a (hidden_board t b)) t)))
+    (lower (next (original_at t a)) (patched_table false a (original_at t a) t)) lines old new d at
+    (ap (λ w. change (WriteMem a patch_bytes w) (lower (next w) (patched_table false a w t))) (shown-word t (after_turns at.before old.board) a is))
+
+pub covering_stands : CoveringStands
+unfolding lower
+covering_stands m sel way o a original next t lines old new d at =
+    deals_stored m sel way o a patch_bytes ebreak_word (λ b. change (WriteMem a patch_bytes ebreak_word) (lower next (patched_table true a original t)))
+    (lower next (patched_table true a original t)) lines old new d at refl
