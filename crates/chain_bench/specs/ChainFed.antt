@@ -46,5 +46,5 @@ chip_in chain = option_map chip_live chain
 -- it is in the chain behind that
 pub record WasServedIn (plan : Plan) (served : Served) (old new : NetState) (bench left : Option Live) : Type 0 where
   pub chain : Option ChainLive
-  pub served : ServedBy chain_feeding served old new (planned_on plan bench) chain
+  pub is : ServedBy chain_feeding served old new (planned_on plan bench) chain
   pub chip : left ≡ chip_in chain

@@ -1,5 +1,5 @@
 -- A chain takes pieces as the whole of them.
-use Rattle.std.proofs.Common.{◌≡◌, ◌∙◌, ◌+◌, ◌<◌, ◌++◌, ℕ, List, [], ◌∷◌, length, Option, Some, None, refl, sym, ap, append_assoc, zero-add, arith}
+use Rattle.std.proofs.Common.{◌≡◌, ◌∙◌, ◌+◌, ◌++◌, ℕ, List, [], ◌∷◌, length, Option, Some, None, refl, sym, ap, append_assoc, zero-add, arith}
 use Rattle.chain_scan.specs.Told.{ChainLive, chain_after, chain_answer, feed_chain, said_in_chain}
 use Rattle.chip_core.specs.Pieces.{joined, moved_by}
 use Rattle.chip_core.specs.declared.fed.Fed.{Fed}

@@ -64,7 +64,11 @@ impl<'a, Q: Schedule> Feed for ServedChain<'a, Q> {
 /// `serve` of the crate `chip_server` serves the chip alone.
 ///
 /// The bench is loaded, TCK is 0 there, as behind a load, the near end is open, and the net tells neither a chip nor a pipe.
-pub fn serve_in_chain<N: Net, Q: Schedule>(net: &mut N, bench: &mut Bench<Q>, plan: &ChainPlan) -> Served
+pub fn serve_in_chain<N: Net, Q: Schedule>(
+    net: &mut N,
+    bench: &mut Bench<Q>,
+    plan: &ChainPlan,
+) -> Served
     requires opened { is_open end.Near (N.state net.old) ≡ true }
     requires plain { IsPlain (N.state net.old) }
     requires loaded { IsSome bench.old }

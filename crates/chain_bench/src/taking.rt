@@ -94,7 +94,12 @@ fn answer_of(level: bool) -> u8
 }
 
 /// One byte, at the chip and at the devices beside it; where it ends the chip, these stay as they are. It answers what has ended the chip.
-fn take<Q: Schedule>(bench: &mut Bench<Q>, sides: &mut Sides, byte: u8, unread: &mut Answers) -> Option<ChipEnd>
+fn take<Q: Schedule>(
+    bench: &mut Bench<Q>,
+    sides: &mut Sides,
+    byte: u8,
+    unread: &mut Answers,
+) -> Option<ChipEnd>
     requires loaded { IsSome bench.old }
     requires clock { sides.old.tck ≡ tck_of bench.old }
     requires room { array_vec_len unread.old < piece_most }
