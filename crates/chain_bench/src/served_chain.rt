@@ -18,8 +18,8 @@ use debug_model::{Net, Schedule};
 
 /// The chip on a bench, which the caller keeps, and the devices of a plan beside it, as one chain that takes the bytes of a stream.
 ///
-/// `R` is answered by TDO of the device at the pin. What ends the chip ends the chain: `Q`, a byte that is no sign, and a rise of TCK at the chip's event limit,
-/// which reaches none of the devices.
+/// `R` is answered by TDO of the device at the pin. What ends the chip ends the chain: `Q`, a byte that is no sign, and a rise of TCK at the chip's event
+/// limit, which reaches none of the devices.
 #[derive(Drop)]
 pub struct ServedChain<'a, Q: Schedule> {
     bench: &'a mut Bench<Q>,

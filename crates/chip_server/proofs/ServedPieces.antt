@@ -105,7 +105,8 @@ module _ {S : Type 0} (f : Feeding S) (law : TakesPieces f) where
 
   pub piece_by : (n : ℕ) (into answers begun replies : List ℕ) (old mid : NetState) (b l : Option S) → n ≤ length into → length into ≡ most_served
       → GivesNear n into old → mid ≡ after_take ends.Near n old
-      → l ≡ f.feed_of b (take n into) → begun ≡ [] → replies ≡ begun ++ f.said_of b (take n into) → answers ≡ replies → Piece f n into (take n into) answers old mid b l
+      → l ≡ f.feed_of b (take n into) → begun ≡ [] → replies ≡ begun ++ f.said_of b (take n into) → answers ≡ replies → Piece f n into (take n into)
+      answers old mid b l
   piece_by n into answers begun replies old mid b l within count gives took chip empty said put = record {
     within = within;
     most = subst (λ m. n ≤ m) count within;

@@ -5,7 +5,8 @@ use Rattle.debug_model.specs.declared.sign.Sign.{Sign}
 use Rattle.debug_model.specs.Ties.{timing_told}
 use Rattle.chip_core.specs.Feeds.{far_of}
 use Rattle.chain_bench.specs.Benched.{ended_of, tdo_of}
-use Rattle.chain_bench.proofs.Steps.{answers_ended, answers_none, bench_asked, bench_ended, held_silent, light_plain, light_silent, live_shown, none_plain, none_silent, pins_silent, quit_plain, quit_silent}
+use Rattle.chain_bench.proofs.Steps.{answers_ended, answers_none, bench_asked, bench_ended, held_silent, light_plain, light_silent, live_shown}
+use Rattle.chain_bench.proofs.Steps.{none_plain, none_silent, pins_silent, quit_plain, quit_silent}
 use Rattle.chain_bench.proofs.Took.{is_live_by, pushed, took_ended, took_pins, took_plain, took_reset, took_stop, took_timing}
 use Rattle.chain_bench.proofs.taking.take.Goals as goal
 
@@ -35,24 +36,32 @@ returns-in_default-clause-timing g c =
 pub returns-in-None-clause-chain : goal.returns-in-None-clause-chain
 returns-in-None-clause-chain g c =
     let is : c.in-Ok-Pins.field-0 ≡ Pins c.in-Ok-Pins.tck c.in-Ok-Pins.tms c.in-Ok-Pins.tdi = cc in
-    let sign : sign_of c.args.byte ≡ Some (Pins c.in-Ok-Pins.tck c.in-Ok-Pins.tms c.in-Ok-Pins.tdi) = c.in-Ok-Pins.ensures.sign ∙ ap (λ (z : Sign). Some z) is in
-    (took_pins c.args.bench.now c.ask.new.bench c.feed_one-in-Ok-Pins.new.bench c.args.sides.now c.set_pins.new.self c.args.byte c.pins_digit-seen.result c.in-Some.chip_tdo
-    c.in-Ok-Pins.tck c.in-Ok-Pins.tms c.in-Ok-Pins.tdi c.chip_tdi.result c.ask.ensures.same c.in-Some.ensures.level c.requires.clock sign c.pins_digit-seen.ensures c.chip_tdi.ensures
+    let sign : sign_of c.args.byte ≡ Some (Pins c.in-Ok-Pins.tck c.in-Ok-Pins.tms c.in-Ok-Pins.tdi) = c.in-Ok-Pins.ensures.sign
+    ∙ ap (λ (z : Sign). Some z) is in
+    (took_pins c.args.bench.now c.ask.new.bench c.feed_one-in-Ok-Pins.new.bench c.args.sides.now c.set_pins.new.self c.args.byte
+    c.pins_digit-seen.result c.in-Some.chip_tdo
+    c.in-Ok-Pins.tck c.in-Ok-Pins.tms c.in-Ok-Pins.tdi c.chip_tdi.result c.ask.ensures.same c.in-Some.ensures.level c.requires.clock sign
+    c.pins_digit-seen.ensures c.chip_tdi.ensures
     c.feed_one-in-Ok-Pins.ensures.chip (is_live_by c.feed_one-in-Ok-Pins.new.bench None true c.in-None.ensures.ended refl) c.set_pins.ensures).chain
 
 pub returns-in-None-clause-clock : goal.returns-in-None-clause-clock
 returns-in-None-clause-clock g c =
     let is : c.in-Ok-Pins.field-0 ≡ Pins c.in-Ok-Pins.tck c.in-Ok-Pins.tms c.in-Ok-Pins.tdi = cc in
-    let sign : sign_of c.args.byte ≡ Some (Pins c.in-Ok-Pins.tck c.in-Ok-Pins.tms c.in-Ok-Pins.tdi) = c.in-Ok-Pins.ensures.sign ∙ ap (λ (z : Sign). Some z) is in
-    (took_pins c.args.bench.now c.ask.new.bench c.feed_one-in-Ok-Pins.new.bench c.args.sides.now c.set_pins.new.self c.args.byte c.pins_digit-seen.result c.in-Some.chip_tdo
-    c.in-Ok-Pins.tck c.in-Ok-Pins.tms c.in-Ok-Pins.tdi c.chip_tdi.result c.ask.ensures.same c.in-Some.ensures.level c.requires.clock sign c.pins_digit-seen.ensures c.chip_tdi.ensures
+    let sign : sign_of c.args.byte ≡ Some (Pins c.in-Ok-Pins.tck c.in-Ok-Pins.tms c.in-Ok-Pins.tdi) = c.in-Ok-Pins.ensures.sign
+    ∙ ap (λ (z : Sign). Some z) is in
+    (took_pins c.args.bench.now c.ask.new.bench c.feed_one-in-Ok-Pins.new.bench c.args.sides.now c.set_pins.new.self c.args.byte
+    c.pins_digit-seen.result c.in-Some.chip_tdo
+    c.in-Ok-Pins.tck c.in-Ok-Pins.tms c.in-Ok-Pins.tdi c.chip_tdi.result c.ask.ensures.same c.in-Some.ensures.level c.requires.clock sign
+    c.pins_digit-seen.ensures c.chip_tdi.ensures
     c.feed_one-in-Ok-Pins.ensures.chip (is_live_by c.feed_one-in-Ok-Pins.new.bench None true c.in-None.ensures.ended refl) c.set_pins.ensures).clock
 
 pub returns-in-None-clause-answers : goal.returns-in-None-clause-answers
 returns-in-None-clause-answers g c =
     let is : c.in-Ok-Pins.field-0 ≡ Pins c.in-Ok-Pins.tck c.in-Ok-Pins.tms c.in-Ok-Pins.tdi = cc in
-    let sign : sign_of c.args.byte ≡ Some (Pins c.in-Ok-Pins.tck c.in-Ok-Pins.tms c.in-Ok-Pins.tdi) = c.in-Ok-Pins.ensures.sign ∙ ap (λ (z : Sign). Some z) is in
-    answers_none c.args.bench.now c.args.sides.now c.args.byte (Some (Pins c.in-Ok-Pins.tck c.in-Ok-Pins.tms c.in-Ok-Pins.tdi)) c.args.unread.now.items sign (pins_silent c.in-Ok-Pins.tck c.in-Ok-Pins.tms c.in-Ok-Pins.tdi)
+    let sign : sign_of c.args.byte ≡ Some (Pins c.in-Ok-Pins.tck c.in-Ok-Pins.tms c.in-Ok-Pins.tdi) = c.in-Ok-Pins.ensures.sign
+    ∙ ap (λ (z : Sign). Some z) is in
+    answers_none c.args.bench.now c.args.sides.now c.args.byte (Some (Pins c.in-Ok-Pins.tck c.in-Ok-Pins.tms c.in-Ok-Pins.tdi))
+    c.args.unread.now.items sign (pins_silent c.in-Ok-Pins.tck c.in-Ok-Pins.tms c.in-Ok-Pins.tdi)
 
 pub returns-in-None-clause-timing : goal.returns-in-None-clause-timing
 returns-in-None-clause-timing g c =
@@ -61,24 +70,32 @@ returns-in-None-clause-timing g c =
 pub returns-in-Some-feed_one-clause-chain : goal.returns-in-Some-feed_one-clause-chain
 returns-in-Some-feed_one-clause-chain g c =
     let is : c.in-Ok-Pins.field-0 ≡ Pins c.in-Ok-Pins.tck c.in-Ok-Pins.tms c.in-Ok-Pins.tdi = cc in
-    let sign : sign_of c.args.byte ≡ Some (Pins c.in-Ok-Pins.tck c.in-Ok-Pins.tms c.in-Ok-Pins.tdi) = c.in-Ok-Pins.ensures.sign ∙ ap (λ (z : Sign). Some z) is in
+    let sign : sign_of c.args.byte ≡ Some (Pins c.in-Ok-Pins.tck c.in-Ok-Pins.tms c.in-Ok-Pins.tdi) = c.in-Ok-Pins.ensures.sign
+    ∙ ap (λ (z : Sign). Some z) is in
     (took_stop c.args.bench.now c.ask.new.bench c.feed_one-in-Ok-Pins.new.bench c.args.sides.now c.args.byte c.pins_digit-seen.result c.in-Some.chip_tdo
-    c.in-Ok-Pins.tck c.in-Ok-Pins.tms c.in-Ok-Pins.tdi c.chip_tdi.result c.ask.ensures.same c.in-Some.ensures.level c.requires.clock sign c.pins_digit-seen.ensures c.chip_tdi.ensures
-    c.feed_one-in-Ok-Pins.ensures.chip (is_live_by c.feed_one-in-Ok-Pins.new.bench (Some c.in-Some-feed_one.end) false c.in-Some-feed_one.ensures.ended refl)).chain
+    c.in-Ok-Pins.tck c.in-Ok-Pins.tms c.in-Ok-Pins.tdi c.chip_tdi.result c.ask.ensures.same c.in-Some.ensures.level c.requires.clock sign
+    c.pins_digit-seen.ensures c.chip_tdi.ensures
+    c.feed_one-in-Ok-Pins.ensures.chip (is_live_by c.feed_one-in-Ok-Pins.new.bench (Some c.in-Some-feed_one.end) false
+    c.in-Some-feed_one.ensures.ended refl)).chain
 
 pub returns-in-Some-feed_one-clause-clock : goal.returns-in-Some-feed_one-clause-clock
 returns-in-Some-feed_one-clause-clock g c =
     let is : c.in-Ok-Pins.field-0 ≡ Pins c.in-Ok-Pins.tck c.in-Ok-Pins.tms c.in-Ok-Pins.tdi = cc in
-    let sign : sign_of c.args.byte ≡ Some (Pins c.in-Ok-Pins.tck c.in-Ok-Pins.tms c.in-Ok-Pins.tdi) = c.in-Ok-Pins.ensures.sign ∙ ap (λ (z : Sign). Some z) is in
+    let sign : sign_of c.args.byte ≡ Some (Pins c.in-Ok-Pins.tck c.in-Ok-Pins.tms c.in-Ok-Pins.tdi) = c.in-Ok-Pins.ensures.sign
+    ∙ ap (λ (z : Sign). Some z) is in
     (took_stop c.args.bench.now c.ask.new.bench c.feed_one-in-Ok-Pins.new.bench c.args.sides.now c.args.byte c.pins_digit-seen.result c.in-Some.chip_tdo
-    c.in-Ok-Pins.tck c.in-Ok-Pins.tms c.in-Ok-Pins.tdi c.chip_tdi.result c.ask.ensures.same c.in-Some.ensures.level c.requires.clock sign c.pins_digit-seen.ensures c.chip_tdi.ensures
-    c.feed_one-in-Ok-Pins.ensures.chip (is_live_by c.feed_one-in-Ok-Pins.new.bench (Some c.in-Some-feed_one.end) false c.in-Some-feed_one.ensures.ended refl)).clock
+    c.in-Ok-Pins.tck c.in-Ok-Pins.tms c.in-Ok-Pins.tdi c.chip_tdi.result c.ask.ensures.same c.in-Some.ensures.level c.requires.clock sign
+    c.pins_digit-seen.ensures c.chip_tdi.ensures
+    c.feed_one-in-Ok-Pins.ensures.chip (is_live_by c.feed_one-in-Ok-Pins.new.bench (Some c.in-Some-feed_one.end) false
+    c.in-Some-feed_one.ensures.ended refl)).clock
 
 pub returns-in-Some-feed_one-clause-answers : goal.returns-in-Some-feed_one-clause-answers
 returns-in-Some-feed_one-clause-answers g c =
     let is : c.in-Ok-Pins.field-0 ≡ Pins c.in-Ok-Pins.tck c.in-Ok-Pins.tms c.in-Ok-Pins.tdi = cc in
-    let sign : sign_of c.args.byte ≡ Some (Pins c.in-Ok-Pins.tck c.in-Ok-Pins.tms c.in-Ok-Pins.tdi) = c.in-Ok-Pins.ensures.sign ∙ ap (λ (z : Sign). Some z) is in
-    answers_none c.args.bench.now c.args.sides.now c.args.byte (Some (Pins c.in-Ok-Pins.tck c.in-Ok-Pins.tms c.in-Ok-Pins.tdi)) c.args.unread.now.items sign (pins_silent c.in-Ok-Pins.tck c.in-Ok-Pins.tms c.in-Ok-Pins.tdi)
+    let sign : sign_of c.args.byte ≡ Some (Pins c.in-Ok-Pins.tck c.in-Ok-Pins.tms c.in-Ok-Pins.tdi) = c.in-Ok-Pins.ensures.sign
+    ∙ ap (λ (z : Sign). Some z) is in
+    answers_none c.args.bench.now c.args.sides.now c.args.byte (Some (Pins c.in-Ok-Pins.tck c.in-Ok-Pins.tms c.in-Ok-Pins.tdi))
+    c.args.unread.now.items sign (pins_silent c.in-Ok-Pins.tck c.in-Ok-Pins.tms c.in-Ok-Pins.tdi)
 
 pub returns-in-Some-feed_one-clause-timing : goal.returns-in-Some-feed_one-clause-timing
 returns-in-Some-feed_one-clause-timing g c =
@@ -88,13 +105,15 @@ pub returns-in-Ok-Ask-clause-chain : goal.returns-in-Ok-Ask-clause-chain
 returns-in-Ok-Ask-clause-chain g c =
     let is : c.in-Ok-Ask.field-0 ≡ Ask = cc in
     let sign : sign_of c.args.byte ≡ Some Ask = c.in-Ok-Ask.ensures.sign ∙ ap (λ (z : Sign). Some z) is in
-    (bench_asked c.args.bench.now c.ask.new.bench c.args.sides.now c.args.byte c.in-Some.chip_tdo c.in-Some.ensures.level c.requires.clock sign c.ask.ensures.same).chain
+    (bench_asked c.args.bench.now c.ask.new.bench c.args.sides.now c.args.byte c.in-Some.chip_tdo c.in-Some.ensures.level c.requires.clock sign
+    c.ask.ensures.same).chain
 
 pub returns-in-Ok-Ask-clause-clock : goal.returns-in-Ok-Ask-clause-clock
 returns-in-Ok-Ask-clause-clock g c =
     let is : c.in-Ok-Ask.field-0 ≡ Ask = cc in
     let sign : sign_of c.args.byte ≡ Some Ask = c.in-Ok-Ask.ensures.sign ∙ ap (λ (z : Sign). Some z) is in
-    (bench_asked c.args.bench.now c.ask.new.bench c.args.sides.now c.args.byte c.in-Some.chip_tdo c.in-Some.ensures.level c.requires.clock sign c.ask.ensures.same).clock
+    (bench_asked c.args.bench.now c.ask.new.bench c.args.sides.now c.args.byte c.in-Some.chip_tdo c.in-Some.ensures.level c.requires.clock sign
+    c.ask.ensures.same).clock
 
 pub returns-in-Ok-Ask-clause-ended : goal.returns-in-Ok-Ask-clause-ended
 returns-in-Ok-Ask-clause-ended g c =
@@ -115,14 +134,16 @@ pub returns-in-Ok-Reset-clause-chain : goal.returns-in-Ok-Reset-clause-chain
 returns-in-Ok-Reset-clause-chain g c =
     let is : c.in-Ok-Reset.field-0 ≡ (Reset c.in-Ok-Reset.on) = cc in
     let sign : sign_of c.args.byte ≡ Some (Reset c.in-Ok-Reset.on) = c.in-Ok-Reset.ensures.sign ∙ ap (λ (z : Sign). Some z) is in
-    (took_reset c.args.bench.now c.ask.new.bench c.feed_one-held.new.bench c.args.sides.now c.hold_reset.new.self c.args.byte c.in-Some.chip_tdo c.in-Ok-Reset.on
+    (took_reset c.args.bench.now c.ask.new.bench c.feed_one-held.new.bench c.args.sides.now c.hold_reset.new.self c.args.byte c.in-Some.chip_tdo
+    c.in-Ok-Reset.on
     c.ask.ensures.same c.in-Some.ensures.level c.requires.clock sign c.feed_one-held.ensures.chip c.hold_reset.ensures).chain
 
 pub returns-in-Ok-Reset-clause-clock : goal.returns-in-Ok-Reset-clause-clock
 returns-in-Ok-Reset-clause-clock g c =
     let is : c.in-Ok-Reset.field-0 ≡ (Reset c.in-Ok-Reset.on) = cc in
     let sign : sign_of c.args.byte ≡ Some (Reset c.in-Ok-Reset.on) = c.in-Ok-Reset.ensures.sign ∙ ap (λ (z : Sign). Some z) is in
-    (took_reset c.args.bench.now c.ask.new.bench c.feed_one-held.new.bench c.args.sides.now c.hold_reset.new.self c.args.byte c.in-Some.chip_tdo c.in-Ok-Reset.on
+    (took_reset c.args.bench.now c.ask.new.bench c.feed_one-held.new.bench c.args.sides.now c.hold_reset.new.self c.args.byte c.in-Some.chip_tdo
+    c.in-Ok-Reset.on
     c.ask.ensures.same c.in-Some.ensures.level c.requires.clock sign c.feed_one-held.ensures.chip c.hold_reset.ensures).clock
 
 pub returns-in-Ok-Reset-clause-answers : goal.returns-in-Ok-Reset-clause-answers
@@ -139,14 +160,16 @@ pub returns-in-Ok-Light-clause-chain : goal.returns-in-Ok-Light-clause-chain
 returns-in-Ok-Light-clause-chain g c =
     let is : c.in-Ok-Light.field-0 ≡ Light = cc in
     let sign : sign_of c.args.byte ≡ Some Light = c.in-Ok-Light.ensures.sign ∙ ap (λ (z : Sign). Some z) is in
-    (took_plain c.args.bench.now c.ask.new.bench c.feed_one-in-Ok-Light.new.bench c.args.sides.now c.args.byte c.in-Some.chip_tdo (Some Light) light_plain c.ask.ensures.same
+    (took_plain c.args.bench.now c.ask.new.bench c.feed_one-in-Ok-Light.new.bench c.args.sides.now c.args.byte c.in-Some.chip_tdo (Some Light)
+    light_plain c.ask.ensures.same
     c.in-Some.ensures.level c.requires.clock sign c.feed_one-in-Ok-Light.ensures.chip).chain
 
 pub returns-in-Ok-Light-clause-clock : goal.returns-in-Ok-Light-clause-clock
 returns-in-Ok-Light-clause-clock g c =
     let is : c.in-Ok-Light.field-0 ≡ Light = cc in
     let sign : sign_of c.args.byte ≡ Some Light = c.in-Ok-Light.ensures.sign ∙ ap (λ (z : Sign). Some z) is in
-    (took_plain c.args.bench.now c.ask.new.bench c.feed_one-in-Ok-Light.new.bench c.args.sides.now c.args.byte c.in-Some.chip_tdo (Some Light) light_plain c.ask.ensures.same
+    (took_plain c.args.bench.now c.ask.new.bench c.feed_one-in-Ok-Light.new.bench c.args.sides.now c.args.byte c.in-Some.chip_tdo (Some Light)
+    light_plain c.ask.ensures.same
     c.in-Some.ensures.level c.requires.clock sign c.feed_one-in-Ok-Light.ensures.chip).clock
 
 pub returns-in-Ok-Light-clause-answers : goal.returns-in-Ok-Light-clause-answers
@@ -163,14 +186,16 @@ pub returns-in-Ok-Quit-clause-chain : goal.returns-in-Ok-Quit-clause-chain
 returns-in-Ok-Quit-clause-chain g c =
     let is : c.in-Ok-Quit.field-0 ≡ Quit = cc in
     let sign : sign_of c.args.byte ≡ Some Quit = c.in-Ok-Quit.ensures.sign ∙ ap (λ (z : Sign). Some z) is in
-    (took_plain c.args.bench.now c.ask.new.bench c.feed_one-in-Ok-Quit.new.bench c.args.sides.now c.args.byte c.in-Some.chip_tdo (Some Quit) quit_plain c.ask.ensures.same
+    (took_plain c.args.bench.now c.ask.new.bench c.feed_one-in-Ok-Quit.new.bench c.args.sides.now c.args.byte c.in-Some.chip_tdo (Some Quit)
+    quit_plain c.ask.ensures.same
     c.in-Some.ensures.level c.requires.clock sign c.feed_one-in-Ok-Quit.ensures.chip).chain
 
 pub returns-in-Ok-Quit-clause-clock : goal.returns-in-Ok-Quit-clause-clock
 returns-in-Ok-Quit-clause-clock g c =
     let is : c.in-Ok-Quit.field-0 ≡ Quit = cc in
     let sign : sign_of c.args.byte ≡ Some Quit = c.in-Ok-Quit.ensures.sign ∙ ap (λ (z : Sign). Some z) is in
-    (took_plain c.args.bench.now c.ask.new.bench c.feed_one-in-Ok-Quit.new.bench c.args.sides.now c.args.byte c.in-Some.chip_tdo (Some Quit) quit_plain c.ask.ensures.same
+    (took_plain c.args.bench.now c.ask.new.bench c.feed_one-in-Ok-Quit.new.bench c.args.sides.now c.args.byte c.in-Some.chip_tdo (Some Quit)
+    quit_plain c.ask.ensures.same
     c.in-Some.ensures.level c.requires.clock sign c.feed_one-in-Ok-Quit.ensures.chip).clock
 
 pub returns-in-Ok-Quit-clause-answers : goal.returns-in-Ok-Quit-clause-answers

@@ -44,8 +44,9 @@ pub returns-in-Some-clause-chain : goal.returns-in-Some-clause-chain
 returns-in-Some-clause-chain g c =
     let b = get_or c.args.bytes.now c.loop-place.place 0 in
     let here : c.loop-place.place < length c.args.bytes.now = omega arith in
-    course_stop (chain_on c.loop-place.bench c.loop-place.sides) (chain_on c.take.new.bench c.take.new.sides) _ c.args.bytes.now c.loop-place.place b c.in-Some.end
-    here (get_or_default c.args.bytes.now c.loop-place.place 0 b here) c.take.ensures.chain
+    course_stop (chain_on c.loop-place.bench c.loop-place.sides) (chain_on c.take.new.bench c.take.new.sides)
+    (feed_in (chain_on c.args.bench.now c.args.sides.now) c.args.bytes.now) c.args.bytes.now c.loop-place.place b c.in-Some.end here
+    (get_or_default c.args.bytes.now c.loop-place.place 0 b here) c.take.ensures.chain
     (ended_on c.take.new.bench c.take.new.sides (Some c.in-Some.end) c.in-Some.ensures.ended) c.loop-place.invariant.chain
 
 pub returns-in-Some-clause-answers : goal.returns-in-Some-clause-answers
@@ -53,14 +54,16 @@ returns-in-Some-clause-answers g c =
     let b = get_or c.args.bytes.now c.loop-place.place 0 in
     let here : c.loop-place.place < length c.args.bytes.now = omega arith in
     answers_stop (chain_on c.loop-place.bench c.loop-place.sides) (chain_on c.take.new.bench c.take.new.sides) c.loop-place.unread.items
-    c.take.new.unread.items _ c.args.bytes.now c.loop-place.place b c.in-Some.end here (get_or_default c.args.bytes.now c.loop-place.place 0 b here)
-    c.take.ensures.chain c.take.ensures.answers (ended_on c.take.new.bench c.take.new.sides (Some c.in-Some.end) c.in-Some.ensures.ended)
+    c.take.new.unread.items (c.args.unread.now.items ++ said_in (chain_on c.args.bench.now c.args.sides.now) c.args.bytes.now) c.args.bytes.now
+    c.loop-place.place b c.in-Some.end here (get_or_default c.args.bytes.now c.loop-place.place 0 b here) c.take.ensures.chain c.take.ensures.answers
+    (ended_on c.take.new.bench c.take.new.sides (Some c.in-Some.end) c.in-Some.ensures.ended)
     c.loop-place.invariant.answers
 
 pub returns-in-Some-clause-fed : goal.returns-in-Some-clause-fed
 returns-in-Some-clause-fed g c =
     let b = get_or c.args.bytes.now c.loop-place.place 0 in
     let here : c.loop-place.place < length c.args.bytes.now = omega arith in
-    ends_stop (chain_on c.loop-place.bench c.loop-place.sides) (chain_on c.take.new.bench c.take.new.sides) c.fed_at.result _ c.args.bytes.now
+    ends_stop (chain_on c.loop-place.bench c.loop-place.sides) (chain_on c.take.new.bench c.take.new.sides) c.fed_at.result
+    (fed_in (chain_on c.args.bench.now c.args.sides.now) c.args.bytes.now) c.args.bytes.now
     c.loop-place.place b c.in-Some.end here (get_or_default c.args.bytes.now c.loop-place.place 0 b here) c.take.ensures.chain
     (ended_on c.take.new.bench c.take.new.sides (Some c.in-Some.end) c.in-Some.ensures.ended) c.fed_at.ensures c.loop-place.invariant.fed
