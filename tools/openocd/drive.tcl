@@ -184,13 +184,13 @@ proc drive_chain {devices} {
         foreach tap $taps { lappend all [format 0x%08x [jtag cget $tap -idcode]] }
         set all
     }
-    # The standard: BYPASS is one bit, which captures 0, and an instruction of ones selects it. So of eight bits that go in seven come out behind a 0, and
-    # 0x5a comes out as 0xb4. OpenOCD holds the other devices in BYPASS meanwhile.
-    check "each device has one bit of BYPASS" [lrepeat [llength $taps] b4] {
+    # The standard: BYPASS is one bit, which captures 0, and an instruction of ones selects it. With all in BYPASS, whichever is asked, what goes in comes
+    # out behind as many zeros as there are devices.
+    check "each device adds one bit in BYPASS" [lrepeat [llength $taps] [format %08x [expr {0x5a << [llength $taps]}]]] {
         set all {}
         foreach tap $taps code $ones {
             irscan $tap $code
-            lappend all [drscan $tap 8 0x5a]
+            lappend all [drscan $tap 32 0x5a]
         }
         set all
     }

@@ -53,11 +53,7 @@ const CODES: &[u8] = b"111110000111111";
 const CAPTURED: &[u8] = b"100010000100000";
 
 /// A bench with one hart over memory of zeros, this round again and again, and this limit of points.
-fn bench_of(
-    alloc: Global,
-    round: &[Event],
-    most_points: u64,
-) -> Result<Bench<ListSchedule>, Fail>
+fn bench_of(alloc: Global, round: &[Event], most_points: u64) -> Result<Bench<ListSchedule>, Fail>
     requires { RightLimit most_points }
     ensures loaded { IfOk result IsSome }
     ensures fresh { IfOk result (λ bench. IfSome bench AsLoaded) }
@@ -66,7 +62,15 @@ fn bench_of(
     rounds.push(Round::try_from(round)?)?;
     let mut bench = Bench::blank();
     let schedule = ListSchedule::new(rounds);
-    bench.load_with_limit(alloc, &[], 1, RAM_LEAST, Start::Running, schedule, most_points)?;
+    bench.load_with_limit(
+        alloc,
+        &[],
+        1,
+        RAM_LEAST,
+        Start::Running,
+        schedule,
+        most_points,
+    )?;
     Ok(bench)
 }
 
@@ -77,41 +81,43 @@ fn one(width: u8) -> ArrayVec<u8, SIDES_MOST> {
     widths
 }
 
-/// A scan of these bits, each asked before it is shifted, from a Shift state to its Exit1.
-fn scan(alloc: Global, bits: &[u8]) -> Result<Vec<u8>, AllocError> {
-    let mut bytes = Vec::new(alloc);
-    let mut rest = bits;
-    'bits: while let [bit, after @ ..] = rest {
-        let clock: &[u8] = match (after.is_empty(), *bit == b'1') {
-            (false, false) => b"0R4",
-            (false, true) => b"1R5",
-            (true, false) => b"2R6",
-            (true, true) => b"3R7",
-        };
-        bytes.extend_from_slice(clock)?;
-        rest = after;
+/// Appends a scan of these bits, each asked before it is shifted, from a Shift state to its Exit1.
+fn scan(bytes: &mut Vec<u8>, bits: &[u8]) -> Result<(), AllocError> {
+    for (place, bit) in bits.iter().enumerate() {
+        let is_last = place + 1 == bits.len();
+        match (is_last, *bit == b'1') {
+            (false, false) => bytes.extend_from_slice(b"0R4")?,
+            (false, true) => bytes.extend_from_slice(b"1R5")?,
+            (true, false) => bytes.extend_from_slice(b"2R6")?,
+            (true, true) => bytes.extend_from_slice(b"3R7")?,
+        }
     }
-    Ok(bytes)
+    Ok(())
 }
 
-/// These texts, one behind the other.
-fn joined(alloc: Global, parts: &[&[u8]]) -> Result<Vec<u8>, AllocError> {
-    let mut bytes = Vec::new(alloc);
-    for part in parts {
-        bytes.extend_from_slice(part)?;
-    }
-    Ok(bytes)
+/// Appends a reset, and a scan that selects IDCODE in the chip and BYPASS in the others.
+fn select(bytes: &mut Vec<u8>) -> Result<(), AllocError> {
+    bytes.extend_from_slice(RESET)?;
+    bytes.extend_from_slice(TO_IR)?;
+    scan(bytes, CODES)?;
+    bytes.extend_from_slice(TO_IDLE)
 }
 
 /// A reset, and a scan of all identifications with zeros.
 fn identifications(alloc: Global) -> Result<Vec<u8>, AllocError> {
-    let zeros = [b'0'; 96];
-    joined(alloc, &[RESET, TO_DR, &scan(alloc, &zeros)?, TO_IDLE])
+    let mut bytes = RESET.to_vec(alloc)?;
+    bytes.extend_from_slice(TO_DR)?;
+    scan(&mut bytes, &[b'0'; 96])?;
+    bytes.extend_from_slice(TO_IDLE)?;
+    Ok(bytes)
 }
 
-/// What it answers.
-fn three(alloc: Global) -> Result<Vec<u8>, AllocError> {
-    joined(alloc, &[OTHER, CHIP, OTHER])
+/// What that answers, behind these answers.
+fn then_three(mut answers: Vec<u8>) -> Result<Vec<u8>, AllocError> {
+    answers.extend_from_slice(OTHER)?;
+    answers.extend_from_slice(CHIP)?;
+    answers.extend_from_slice(OTHER)?;
+    Ok(answers)
 }
 
 /// What comes to a chain, the most bytes of a piece, the room for the answers, and the call that is to fail: the first is the opening.
@@ -169,12 +175,7 @@ fn check(
 }
 
 /// In pieces of each size, over a net that does not fail.
-fn check_pieces(
-    rt: &impl Abort,
-    alloc: Global,
-    input: &[u8],
-    wanted: Wanted,
-) -> Result<(), Fail> {
+fn check_pieces(rt: &impl Abort, alloc: Global, input: &[u8], wanted: Wanted) -> Result<(), Fail> {
     for piece in [1, 2, 3, 256] {
         let given = Given {
             input,
@@ -191,32 +192,27 @@ fn check_pieces(
 #[test]
 fn identifications_come_from_tdo_to_tdi(rt: HostRuntime) -> Result<(), Fail> {
     let alloc = rt.alloc();
-    let answers = three(alloc)?;
+    let input = identifications(alloc)?;
+    let answers = then_three(Vec::new(alloc))?;
     let wanted = Wanted {
         served: Served::PeerEnded,
         answers: &answers,
     };
-    check_pieces(&rt, alloc, &identifications(alloc)?, wanted)
+    check_pieces(&rt, alloc, &input, wanted)
 }
 
 // Each device in BYPASS adds one bit, a 0, and behind them comes what went in.
 #[test]
 fn bypass_adds_a_bit_for_each_device(rt: HostRuntime) -> Result<(), Fail> {
     let alloc = rt.alloc();
-    let zeros = [b'0'; 35];
-    let input = joined(
-        alloc,
-        &[
-            RESET,
-            TO_IR,
-            &scan(alloc, CODES)?,
-            TO_IDLE,
-            TO_DR,
-            &scan(alloc, &zeros)?,
-            TO_IDLE,
-        ],
-    )?;
-    let answers = joined(alloc, &[CAPTURED, b"0", CHIP, b"0", b"0"])?;
+    let mut input = Vec::new(alloc);
+    select(&mut input)?;
+    input.extend_from_slice(TO_DR)?;
+    scan(&mut input, &[b'0'; 35])?;
+    let mut answers = CAPTURED.to_vec(alloc)?;
+    answers.extend_from_slice(b"0")?;
+    answers.extend_from_slice(CHIP)?;
+    answers.extend_from_slice(b"00")?;
     let wanted = Wanted {
         served: Served::PeerEnded,
         answers: &answers,
@@ -228,21 +224,15 @@ fn bypass_adds_a_bit_for_each_device(rt: HostRuntime) -> Result<(), Fail> {
 #[test]
 fn trst_reaches_each_device(rt: HostRuntime) -> Result<(), Fail> {
     let alloc = rt.alloc();
-    let zeros = [b'0'; 96];
-    let input = joined(
-        alloc,
-        &[
-            RESET,
-            TO_IR,
-            &scan(alloc, CODES)?,
-            TO_IDLE,
-            TO_DR,
-            b"0R4tRr",
-            TO_DR,
-            &scan(alloc, &zeros)?,
-        ],
-    )?;
-    let answers = joined(alloc, &[CAPTURED, b"00", OTHER, CHIP, OTHER])?;
+    let mut input = Vec::new(alloc);
+    select(&mut input)?;
+    input.extend_from_slice(TO_DR)?;
+    input.extend_from_slice(b"0R4tRr")?;
+    input.extend_from_slice(TO_DR)?;
+    scan(&mut input, &[b'0'; 96])?;
+    let mut front = CAPTURED.to_vec(alloc)?;
+    front.extend_from_slice(b"00")?;
+    let answers = then_three(front)?;
     let wanted = Wanted {
         served: Served::PeerEnded,
         answers: &answers,
@@ -250,24 +240,20 @@ fn trst_reaches_each_device(rt: HostRuntime) -> Result<(), Fail> {
     check_pieces(&rt, alloc, &input, wanted)
 }
 
+// A scan of all identifications has 310 bytes: 18 to Shift-DR, three for each of 96 bits, and four back.
 #[test]
 fn nothing_is_taken_behind_an_end(rt: HostRuntime) -> Result<(), Fail> {
     let alloc = rt.alloc();
-    let whole = identifications(alloc)?;
-    let answers = three(alloc)?;
-    // 18 bytes to Shift-DR, and three for each of 96 bits but the last, which has four more behind it.
-    let ends: [(&[u8], Served); 3] = [
-        (b"Q0R4", Served::Quit),
-        (b"x0R4", Served::Bad(310, b'x')),
-        (b"B0Rb", Served::PeerEnded),
+    let cases: [(&[u8], Served, &[u8]); 3] = [
+        (b"Q0R4", Served::Quit, b""),
+        (b"x0R4", Served::Bad(310, b'x'), b""),
+        (b"B0Rb", Served::PeerEnded, b"0"),
     ];
-    for (end, served) in ends {
-        let input = joined(alloc, &[&whole, end])?;
-        let asked: &[u8] = match served {
-            Served::PeerEnded => b"0",
-            _ => b"",
-        };
-        let answers = joined(alloc, &[&answers, asked])?;
+    for (end, served, asked) in cases {
+        let mut input = identifications(alloc)?;
+        input.extend_from_slice(end)?;
+        let mut answers = then_three(Vec::new(alloc))?;
+        answers.extend_from_slice(asked)?;
         let wanted = Wanted {
             served,
             answers: &answers,
@@ -277,55 +263,57 @@ fn nothing_is_taken_behind_an_end(rt: HostRuntime) -> Result<(), Fail> {
     Ok(())
 }
 
-// The calls are: the opening, a take of 256 bytes, a put, a take of the 54 others, a put, and the take that finds the end.
+// The calls are: the opening, a take of 256 bytes, a put, a take of the 54 others, a put, and the take that finds the end. The first piece has 18 bytes to
+// Shift-DR, 79 bits, and one byte of the next.
 #[test]
 fn a_net_that_fails_is_told(rt: HostRuntime) -> Result<(), Fail> {
     let alloc = rt.alloc();
     let input = identifications(alloc)?;
-    let answers = three(alloc)?;
-    // 18 bytes lead to Shift-DR, and 79 bits and one byte of the next are in the first piece.
-    let first = answers.get(..79).ok_or("answers")?;
+    let answers = then_three(Vec::new(alloc))?;
     let takes = Served::NetFailed(WireFault::RecvFailed);
     let puts = Served::NetFailed(WireFault::SendFailed);
-    let cases: [(usize, u32, Served, &[u8]); 5] = [
-        (AMPLE, 1, takes, b""),
-        (AMPLE, 2, puts, b""),
-        (AMPLE, 3, takes, first),
-        (AMPLE, 5, takes, &answers),
-        (79, NO_FAILURE, puts, first),
+    let cases: [(usize, u32, Served, usize); 5] = [
+        (AMPLE, 1, takes, 0),
+        (AMPLE, 2, puts, 0),
+        (AMPLE, 3, takes, 79),
+        (AMPLE, 5, takes, 96),
+        (79, NO_FAILURE, puts, 79),
     ];
-    for (room, fail_at, served, answers) in cases {
+    for (room, fail_at, served, count) in cases {
         let given = Given {
             input: &input,
             piece: 256,
             room,
             fail_at,
         };
+        let wanted = Wanted {
+            served,
+            answers: answers.get(..count).ok_or("answers")?,
+        };
         let mut bench = bench_of(alloc, &[Event::Turn(0)], POINTS_USUAL)?;
-        let wanted = Wanted { served, answers };
         check(&rt, alloc, &mut bench, given, wanted)?;
     }
     Ok(())
 }
 
 // 120 points are 24 rounds of five turns. The rise behind them still takes its round, and the next one none: of these 25 rises 9 lead to the registers, and 16
-// shift them. One more bit is answered, and what the other devices hold does not move.
+// shift them. One more bit is answered.
 #[test]
 fn the_limit_ends_the_serving(rt: HostRuntime) -> Result<(), Fail> {
     let alloc = rt.alloc();
     let input = identifications(alloc)?;
-    let answers = three(alloc)?;
+    let answers = then_three(Vec::new(alloc))?;
     let given = Given {
         input: &input,
         piece: 256,
         room: AMPLE,
         fail_at: NO_FAILURE,
     };
-    let mut bench = bench_of(alloc, &[Event::Turn(0); 5], 120)?;
     let wanted = Wanted {
         served: Served::Limit,
         answers: answers.get(..17).ok_or("answers")?,
     };
+    let mut bench = bench_of(alloc, &[Event::Turn(0); 5], 120)?;
     check(&rt, alloc, &mut bench, given, wanted)?;
     assert!(rt; bench.at_limit());
     assert_eq!(rt; bench.counts().rounds, 25);
