@@ -166,6 +166,39 @@ proc drive_together {harts} {
     }
 }
 
+# What only a chain can show, of its devices in the order of TDI to TDO. OpenOCD polls the chip before each command, which would scan between two of these.
+proc drive_chain {devices} {
+    global taps ones
+    set taps {}
+    set ones {}
+    set codes {}
+    set place 0
+    foreach device $devices {
+        incr place
+        if {$device eq "t"} { set device 5; lappend taps chip.cpu; lappend codes 0x10d64001 } else { lappend taps device$place.tap; lappend codes 0x10000001 }
+        lappend ones [expr {(1 << $device) - 1}]
+    }
+    poll off
+    check "each device is identified" $codes {
+        set all {}
+        foreach tap $taps { lappend all [format 0x%08x [jtag cget $tap -idcode]] }
+        set all
+    }
+    # The standard: BYPASS is one bit, which captures 0, and an instruction of ones selects it. With all in BYPASS, whichever is asked, what goes in comes
+    # out behind as many zeros as there are devices.
+    check "each device adds one bit in BYPASS" [lrepeat [llength $taps] [format %08x [expr {0x5a << [llength $taps]}]]] {
+        set all {}
+        foreach tap $taps code $ones {
+            irscan $tap $code
+            lappend all [drscan $tap 32 0x5a]
+        }
+        set all
+    }
+    check "the chip is identified behind that" 10d64001 {irscan chip.cpu 1; drscan chip.cpu 32 0}
+    poll on
+    check "and its harts answer" 0x8000000000001101 {targets chip.cpu0; regs misa}
+}
+
 init
 for {set hart 0} {$hart < $HARTS} {incr hart} {
     targets chip.cpu$hart
@@ -177,5 +210,6 @@ for {set hart 0} {$hart < $HARTS} {incr hart} {
     write_memory 0x80000080 64 0
 }
 if {$HARTS == 4} { drive_together {0 1 2 3} }
+if {[llength $devices] > 1} { drive_chain $devices }
 echo "driven with $failures failures"
 shutdown

@@ -1,5 +1,6 @@
 -- A question for TDO, and one byte whose answer is dropped.
-use Rattle.std.proofs.Common.{◌≡◌, ◌∙◌, ℕ, ◌<◌, ◌≤◌, List, [], ◌∷◌, ◌++◌, length, get_or, nat_eq, Bool, true, false, Option, Some, None, is_none, option_map, refl, sym, ap, arith}
+use Rattle.std.proofs.Common.{◌≡◌, ◌∙◌, ℕ, ◌<◌, ◌≤◌, List, [], ◌∷◌, ◌++◌, length, get_or, nat_eq, Bool, true, false, Option, Some, None, option_map}
+use Rattle.std.proofs.Common.{refl, sym, ap, arith}
 use Rattle.debug_model.specs.declared.chip_end.ChipEnd.{ChipEnd}
 use Rattle.debug_model.specs.declared.chip_end.ChipEnd.TheVariants.{Quitted, BadByte, AtLimit}
 use Rattle.debug_model.specs.Chip.{Live, after, answer_byte, feed, said, unless_ended}
@@ -9,7 +10,7 @@ use Rattle.chip_core.specs.Fed.{fed_from, placed}
 use Rattle.debug_model.specs.Ties.{timing_told}
 use Rattle.chip_core.proofs.Timed.{fed_timing}
 use Rattle.chip_core.specs.Feeds.{far_of, fed_of, feed_of, said_of}
-use Rattle.chain_bench.specs.Benched.{is_all, is_live, tdo_of}
+use Rattle.chain_bench.specs.Benched.{end_told, ended_of, tdo_of}
 
 -- ---- a question
 
@@ -69,21 +70,21 @@ unfolding feed
 one_fed None b = refl
 one_fed (Some l) b = refl
 
-all_placed : (o : Option ChipEnd) → is_all (placed o 0 All) ≡ is_none o
-all_placed None = refl
-all_placed (Some Quitted) = refl
-all_placed (Some (BadByte b)) = refl
-all_placed (Some AtLimit) = refl
+end_placed : (o : Option ChipEnd) → end_told (placed o 0 All) ≡ o
+end_placed None = refl
+end_placed (Some Quitted) = refl
+end_placed (Some (BadByte b)) = refl
+end_placed (Some AtLimit) = refl
 
-one_taken : (bench : Option Live) (b : ℕ) → is_all (fed_of bench (b ∷ [])) ≡ is_live (option_map (λ l. after l b) bench)
+one_ended : (bench : Option Live) (b : ℕ) → end_told (fed_of bench (b ∷ [])) ≡ ended_of (option_map (λ l. after l b) bench)
 unfolding fed_from
-one_taken None b = refl
-one_taken (Some l) b = all_placed (after l b).ended
+one_ended None b = refl
+one_ended (Some l) b = end_placed (after l b).ended
 
-pub taken_if_all : (bench new : Option Live) (b : ℕ) (said : Fed) (all : Bool) → new ≡ feed_of bench (b ∷ []) → said ≡ fed_of bench (b ∷ [])
-    → all ≡ is_all said → all ≡ is_live new
-taken_if_all bench new b said all is told which =
-    which ∙ ap is_all told ∙ one_taken bench b ∙ ap is_live (sym (one_fed bench b)) ∙ ap is_live (sym is)
+pub ended_by_one : (bench new : Option Live) (b : ℕ) (said : Fed) (end : Option ChipEnd) → new ≡ feed_of bench (b ∷ []) → said ≡ fed_of bench (b ∷ [])
+    → end ≡ end_told said → end ≡ ended_of new
+ended_by_one bench new b said end is told which =
+    which ∙ ap end_told told ∙ one_ended bench b ∙ ap ended_of (sym (one_fed bench b)) ∙ ap ended_of (sym is)
 
 pub one_fed_is : (bench new : Option Live) (b : ℕ) → new ≡ feed_of bench (b ∷ []) → new ≡ option_map (λ l. after l b) bench
 one_fed_is bench new b is = is ∙ one_fed bench b

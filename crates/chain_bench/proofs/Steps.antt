@@ -10,7 +10,7 @@ use Rattle.chain_scan.specs.Chain.{Chain, chain_answered, chain_pins, chain_sign
 use Rattle.chain_scan.specs.ChipInChain.{levels_byte}
 use Rattle.chain_scan.specs.Told.{ChainLive, chain_after, chain_taken_by}
 use Rattle.chain_scan.proofs.ChipInChain.{levels_sign}
-use Rattle.chain_bench.specs.Benched.{Beside, answer_in, beside_held, beside_pinned, chain_on, chain_with, is_live, live_with, tck_of, tdo_of}
+use Rattle.chain_bench.specs.Benched.{Beside, answer_in, beside_held, beside_pinned, chain_on, chain_with, ended_of, is_live, live_with, tck_of, tdo_of}
 
 -- ---- what a byte does where nothing has ended the chip
 
@@ -247,6 +247,27 @@ bench_ended bench new s b told clock chip = step_to bench new bench s s b chip (
     by : (o : Option Live) → None ≡ tdo_of o → chain_on o s ≡ option_map (λ l. chain_after l b) (chain_on o s)
     by None shown = refl
     by (Some l) shown = ap (λ (m : ChainLive). Some m) (at l.ended l refl shown)
+
+-- no byte is taken then
+pub stays_ended : (bench : Option Live) (b : ℕ) → None ≡ tdo_of bench → option_map (λ l. after l b) bench ≡ bench
+stays_ended bench b told = by bench told
+  where
+    at : (o : Option ChipEnd) (l : Live) → None ≡ unless_ended o (Some l.chip.port.tdo) None
+        → unless_ended o (taken_by (end_of b (sign_of b) l.chip) (signed (sign_of b) l.chip) l.chip) l ≡ l
+    at None l shown = never l.chip.port.tdo (sym shown)
+    at (Some e) l shown = refl
+
+    by : (o : Option Live) → None ≡ tdo_of o → option_map (λ l. after l b) o ≡ o
+    by None shown = refl
+    by (Some l) shown = ap (λ (m : Live). Some m) (at l.ended l shown)
+
+-- nothing has ended it then
+pub live_shown : (bench : Option Live) (level : Bool) → Some level ≡ tdo_of bench → None ≡ ended_of bench
+live_shown bench level told = by bench told
+  where
+    by : (o : Option Live) → Some level ≡ tdo_of o → None ≡ ended_of o
+    by None shown = never level shown
+    by (Some l) shown = sym (shows l level shown).live
 
 -- ---- answers
 

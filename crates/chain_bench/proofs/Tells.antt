@@ -1,5 +1,6 @@
 -- What a wire to a chain on a bench tells: what was sent, that nothing has ended the chain, its limit, and what it keeps of the schedule.
-use Rattle.std.proofs.Common.{◌≡◌, ◌∙◌, inr, ℕ, List, [], ◌∷◌, ◌++◌, map, replicate, Bool, true, false, ◌&&◌, cond, IsTrue, Option, Some, None, IfSome, option_map, refl, sym, ap, ap₂, subst}
+use Rattle.std.proofs.Common.{◌≡◌, ◌∙◌, inr, ℕ, List, [], ◌∷◌, ◌++◌, map, replicate, Bool, true, false, ◌&&◌, cond, IsTrue, Option, Some, None}
+use Rattle.std.proofs.Common.{IfSome, option_map, refl, sym, ap, ap₂, subst}
 use Rattle.std.proofs.lemmas.List.{append-nil}
 use Rattle.debug_model.specs.declared.chip_end.ChipEnd.{ChipEnd}
 use Rattle.debug_model.specs.declared.chip_end.ChipEnd.TheVariants.{Quitted, BadByte, AtLimit}
@@ -19,7 +20,8 @@ use Rattle.chain_scan.specs.Chain.{Chain, chain_signed}
 use Rattle.chain_scan.specs.ChainLaws.{Each, StandsAs}
 use Rattle.chain_scan.specs.ChainPlan.{Plan}
 use Rattle.chain_scan.specs.SideTap.{reset_side}
-use Rattle.chain_scan.specs.Told.{ChainFar, ChainLive, ChainReadsFront, ChainReadsSome, ChainSentFront, chain_after, chain_sent, chain_taken_by, chip_told, feed_chain}
+use Rattle.chain_scan.specs.Told.{ChainFar, ChainLive, ChainReadsFront, ChainReadsSome, ChainSentFront, chain_after, chain_sent, chain_taken_by}
+use Rattle.chain_scan.specs.Told.{chip_told, feed_chain}
 use Rattle.chip_core.specs.Feeds.{far_of, is_limit, limit_met}
 use Rattle.chain_bench.specs.Benched.{Beside, chain_far, chain_on, chain_told, live_with, planned_far, said_in}
 

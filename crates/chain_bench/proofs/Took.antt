@@ -1,5 +1,6 @@
 -- What the calls for one byte ensure, put together.
-use Rattle.std.proofs.Common.{◌≡◌, ◌∙◌, ℕ, List, [], ◌∷◌, ◌++◌, Bool, true, false, Option, Some, option_map, sym, ap}
+use Rattle.std.proofs.Common.{◌≡◌, ◌∙◌, ℕ, List, [], ◌∷◌, ◌++◌, Bool, true, false, Option, Some, None, is_none, option_map, refl, sym, ap}
+use Rattle.debug_model.specs.declared.chip_end.ChipEnd.{ChipEnd}
 use Rattle.debug_model.specs.declared.sign.Sign.{Sign}
 use Rattle.debug_model.specs.declared.sign.Sign.TheVariants.{Pins, Ask, Reset}
 use Rattle.debug_model.specs.Chip.{Live, after, answer_byte}
@@ -8,11 +9,22 @@ use Rattle.debug_model.specs.Ties.{timing_told}
 use Rattle.chain_scan.specs.Chain.{outgoing}
 use Rattle.chain_scan.specs.ChipInChain.{levels_byte}
 use Rattle.chip_core.specs.Feeds.{far_of}
-use Rattle.chain_bench.specs.Benched.{Beside, answer_in, beside_held, beside_pinned, chain_on, is_live, tck_of, tdo_of}
-use Rattle.chain_bench.proofs.Steps.{IsPlain, Stepped, answers_asked, bench_held, bench_pins, bench_plain, bench_stopped}
+use Rattle.chain_bench.specs.Benched.{Beside, answer_in, beside_held, beside_pinned, chain_on, ended_of, is_live, tck_of, tdo_of}
+use Rattle.chain_bench.proofs.Steps.{IsPlain, Stepped, answers_asked, bench_held, bench_pins, bench_plain, bench_stopped, stays_ended}
 
 abbrev given : ℕ → Option Live → Option Live
 given b bench = option_map (λ l. after l b) bench
+
+-- nothing has ended it, or something has
+pub is_live_by : (bench : Option Live) (end : Option ChipEnd) (live : Bool) → end ≡ ended_of bench → live ≡ is_none end → live ≡ is_live bench
+is_live_by bench end live told is = is ∙ ap is_none told ∙ by bench
+  where
+    by : (o : Option Live) → is_none (ended_of o) ≡ is_live o
+    by None = refl
+    by (Some l) = refl
+
+pub took_ended : (bench asked new : Option Live) (b : ℕ) → asked ≡ bench → None ≡ tdo_of bench → new ≡ option_map (λ l. after l b) asked → new ≡ bench
+took_ended bench asked new b same told chip = chip ∙ ap (given b) same ∙ stays_ended bench b told
 
 pub took_pins : (bench asked new : Option Live) (s t : Beside) (b seen : ℕ) (level tck tms tdi given_tdi : Bool) → asked ≡ bench → Some level ≡ tdo_of bench
     → s.tck ≡ tck_of bench → sign_of b ≡ Some (Pins tck tms tdi) → seen ≡ levels_byte tck tms given_tdi → given_tdi ≡ outgoing tdi s.far

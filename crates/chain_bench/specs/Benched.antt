@@ -1,13 +1,15 @@
 -- The devices beside the chip on a bench, the chain that it and they are, and what a wire to that chain tells.
 -- IEEE 1149.1, the serial connection of components. That a chain on a bench moves as its definition says is what the contracts of the wire state.
 use Rattle.std.specs.Prelude.{ℕ, List, [], map, Bool, true, false, Option, Some, None, is_none, option_map}
+use Rattle.debug_model.specs.declared.chip_end.ChipEnd.{ChipEnd}
+use Rattle.debug_model.specs.declared.chip_end.ChipEnd.TheVariants.{Quitted, BadByte, AtLimit}
 use Rattle.debug_model.specs.Chip.{Chip, Live, unless_ended}
 use Rattle.chip_core.specs.declared.fed.Fed.{Fed}
 use Rattle.chip_core.specs.declared.fed.Fed.TheVariants.{All, Quit, Bad, EventLimit}
 use Rattle.chain_scan.specs.Chain.{Chain, chain_of, sides_rise}
 use Rattle.chain_scan.specs.ChainPlan.{Plan}
 use Rattle.chain_scan.specs.SideTap.{SideTap, side_falls, side_holds}
-use Rattle.chain_scan.specs.Told.{ChainFar, ChainLive, chain_answer, said_in_chain}
+use Rattle.chain_scan.specs.Told.{ChainFar, ChainLive, chain_answer, feed_chain, said_in_chain}
 
 -- the devices beside the chip, and the level that TCK has at them
 pub record Beside : Type 0 where
@@ -31,17 +33,22 @@ abbrev pub tck_of : Option Live → Bool
 tck_of None = false
 tck_of (Some l) = l.chip.tck
 
+-- what has ended it
+abbrev pub ended_of : Option Live → Option ChipEnd
+ended_of None = None
+ended_of (Some l) = l.ended
+
 -- has nothing ended it?
 abbrev pub is_live : Option Live → Bool
 is_live None = true
 is_live (Some l) = is_none l.ended
 
--- were all bytes taken?
-abbrev pub is_all : Fed → Bool
-is_all All = true
-is_all (Quit place) = false
-is_all (Bad place byte) = false
-is_all (EventLimit place) = false
+-- what has ended it, by what a feed has answered
+abbrev pub end_told : Fed → Option ChipEnd
+end_told All = None
+end_told (Quit place) = Some Quitted
+end_told (Bad place byte) = Some (BadByte byte)
+end_told (EventLimit place) = Some AtLimit
 
 -- TDO, where nothing has ended it
 abbrev pub tdo_of : Option Live → Option Bool
@@ -58,6 +65,10 @@ live_with s l = record { chain = chain_with s l.chip; ended = l.ended }
 
 abbrev pub chain_on : Option Live → Beside → Option ChainLive
 chain_on bench s = option_map (live_with s) bench
+
+-- what it is behind bytes
+abbrev pub feed_in : Option ChainLive → List ℕ → Option ChainLive
+feed_in chain bytes = option_map (λ l. feed_chain l bytes) chain
 
 -- what it answers to a byte, and to bytes
 abbrev pub answer_in : Option ChainLive → ℕ → List ℕ

@@ -1,1 +1,3 @@
 pub mod Benched
+pub mod ChainFed
+pub mod ChainPieces

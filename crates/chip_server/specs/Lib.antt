@@ -1,1 +1,4 @@
+pub mod Feeding
+pub mod Places
+pub mod BenchPieces
 pub mod Served

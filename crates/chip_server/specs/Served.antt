@@ -1,14 +1,14 @@
--- Serving a chip over a net: which bytes are taken and fed, which answers are put, and what ends it.
+-- Serving a chip, or a chain with a chip in it, over a net: which bytes are taken and fed, which answers are put, and what ends it.
 -- OpenOCD, remote_bitbang, for the stream and its `Q`; the pieces and the limit are this project's own.
 use Rattle.std.specs.Prelude.{◌≡◌, ◌≤◌, ◌+◌, ℕ, List, [], ◌++◌, length, take, Option, None, IfSome}
 use Rattle.debug_model.specs.Chip.{Live}
 use Rattle.debug_model.specs.Net.{NetState, after_put, after_take}
 use Rattle.debug_model.specs.declared.net.End.TheVariants as ends
 use Rattle.debug_model.specs.declared.wire.WireFault.TheVariants.{SendFailed, RecvFailed, Ended, BadAnswer}
-use Rattle.chip_core.specs.Feeds.{fed_of, feed_of, said_of}
 use Rattle.chip_core.specs.declared.fed.Fed.{Fed}
 use Rattle.chip_core.specs.declared.fed.Fed.TheVariants as fed
 use Rattle.jt_base.specs.Faults.{counted}
+use Rattle.chip_server.specs.Feeding.{Feeding, bench_feeding}
 use Rattle.chip_server.specs.declared.served.Served.{Served}
 use Rattle.chip_server.specs.declared.served.Served.TheVariants.{Quit, PeerEnded, Bad, Limit, NetFailed}
 
@@ -21,67 +21,71 @@ pub record IsPlain (s : NetState) : Type 0 where
   pub chip : s.chip ≡ None
   pub pipe : s.pipe ≡ None
 
--- ---- what crosses the net and the bench
+-- ---- what crosses the net and what is fed
 
--- these bytes were taken at the near end, and fed to the bench, and no others; these were put there
-pub record Passed (taken put : List ℕ) (old new : NetState) (bench left : Option Live) : Type 0 where
+-- these bytes were taken at the near end, and fed, and no others; these were put there
+pub record Passed {S : Type 0} (f : Feeding S) (taken put : List ℕ) (old new : NetState) (bench left : Option S) : Type 0 where
   pub net : new ≡ after_put ends.Near put (after_take ends.Near (length taken) old)
   pub came : IfSome old.exchange (λ e. take (length taken) e.coming ≡ taken)
-  pub chip : left ≡ feed_of bench taken
+  pub chip : left ≡ f.feed_of bench taken
 
--- so many bytes were taken: all are answered, and none has ended the chip
-pub record Serving (count : ℕ) (old new : NetState) (bench left : Option Live) : Type 0 where
+-- so many bytes were taken: all are answered, and none has ended what they were fed to
+pub record Serving {S : Type 0} (f : Feeding S) (count : ℕ) (old new : NetState) (bench left : Option S) : Type 0 where
   pub taken : List ℕ
   pub many : length taken ≡ count
-  pub passed : Passed taken (said_of bench taken) old new bench left
-  pub whole : fed_of bench taken ≡ fed.All
+  pub passed : Passed f taken (f.said_of bench taken) old new bench left
+  pub whole : f.fed_of bench taken ≡ fed.All
 
 -- ---- ends
 
 -- the bytes before the last piece, of at most 256 bytes, end nothing: nothing is taken behind an end but in its own piece
-pub record LastPiece (bench : Option Live) (taken : List ℕ) : Type 0 where
+pub record LastPiece {S : Type 0} (f : Feeding S) (bench : Option S) (taken : List ℕ) : Type 0 where
   pub before : List ℕ
   pub piece : List ℕ
   pub cut : taken ≡ before ++ piece
   pub most : length piece ≤ most_served
-  pub whole : fed_of bench before ≡ fed.All
+  pub whole : f.fed_of bench before ≡ fed.All
 
 -- the chip has ended so in its last piece, and every answer was put
-pub record ChipEnds (bench : Option Live) (taken put : List ℕ) (end : Fed) : Type 0 where
-  pub answers : put ≡ said_of bench taken
-  pub is : fed_of bench taken ≡ end
-  pub last : LastPiece bench taken
+pub record ChipEnds {S : Type 0} (f : Feeding S) (bench : Option S) (taken put : List ℕ) (end : Fed) : Type 0 where
+  pub answers : put ≡ f.said_of bench taken
+  pub is : f.fed_of bench taken ≡ end
+  pub last : LastPiece f bench taken
 
 -- every answer was put, and nothing has ended the chip
-pub record AllAnswered (bench : Option Live) (taken put : List ℕ) : Type 0 where
-  pub answers : put ≡ said_of bench taken
-  pub whole : fed_of bench taken ≡ fed.All
+pub record AllAnswered {S : Type 0} (f : Feeding S) (bench : Option S) (taken put : List ℕ) : Type 0 where
+  pub answers : put ≡ f.said_of bench taken
+  pub whole : f.fed_of bench taken ≡ fed.All
 
 -- a front of the answers was put: all of them but of the last piece
-pub record FrontAnswered (bench : Option Live) (taken put : List ℕ) : Type 0 where
+pub record FrontAnswered {S : Type 0} (f : Feeding S) (bench : Option S) (taken put : List ℕ) : Type 0 where
   pub back : List ℕ
-  pub answers : said_of bench taken ≡ put ++ back
-  pub last : LastPiece bench taken
+  pub answers : f.said_of bench taken ≡ put ++ back
+  pub last : LastPiece f bench taken
   pub front : List ℕ
-  pub before : put ≡ said_of bench last.before ++ front
+  pub before : put ≡ f.said_of bench last.before ++ front
 
 -- what is so at each end. Over a scripted net the peer ends where no byte is left to come
-abbrev pub EndOf : Served → Option Live → List ℕ → List ℕ → NetState → Type 0
-EndOf Quit bench taken put new = (place : ℕ) × ChipEnds bench taken put (fed.Quit place)
-EndOf PeerEnded bench taken put new = AllAnswered bench taken put × IfSome new.exchange (λ e. e.coming ≡ [])
-EndOf (Bad place byte) bench taken put new = ChipEnds bench taken put (fed.Bad place byte)
-EndOf Limit bench taken put new = (place : ℕ) × ChipEnds bench taken put (fed.EventLimit place)
-EndOf (NetFailed SendFailed) bench taken put new = FrontAnswered bench taken put
-EndOf (NetFailed RecvFailed) bench taken put new = AllAnswered bench taken put
-EndOf (NetFailed Ended) bench taken put new = ⊥
-EndOf (NetFailed (BadAnswer byte)) bench taken put new = ⊥
+abbrev pub EndOf : {S : Type 0} → Feeding S → Served → Option S → List ℕ → List ℕ → NetState → Type 0
+EndOf f Quit bench taken put new = (place : ℕ) × ChipEnds f bench taken put (fed.Quit place)
+EndOf f PeerEnded bench taken put new = AllAnswered f bench taken put × IfSome new.exchange (λ e. e.coming ≡ [])
+EndOf f (Bad place byte) bench taken put new = ChipEnds f bench taken put (fed.Bad place byte)
+EndOf f Limit bench taken put new = (place : ℕ) × ChipEnds f bench taken put (fed.EventLimit place)
+EndOf f (NetFailed SendFailed) bench taken put new = FrontAnswered f bench taken put
+EndOf f (NetFailed RecvFailed) bench taken put new = AllAnswered f bench taken put
+EndOf f (NetFailed Ended) bench taken put new = ⊥
+EndOf f (NetFailed (BadAnswer byte)) bench taken put new = ⊥
 
--- a chip was served: what was taken was fed and nothing else, what was put are its answers, and this ended it
-pub record WasServed (served : Served) (old new : NetState) (bench left : Option Live) : Type 0 where
+-- what was taken was fed and nothing else, what were put are the answers to it, and this ended it
+pub record ServedBy {S : Type 0} (f : Feeding S) (served : Served) (old new : NetState) (bench left : Option S) : Type 0 where
   pub taken : List ℕ
   pub put : List ℕ
-  pub passed : Passed taken put old new bench left
-  pub end : EndOf served bench taken put new
+  pub passed : Passed f taken put old new bench left
+  pub end : EndOf f served bench taken put new
+
+-- a chip was served, on its bench
+abbrev pub WasServed : Served → NetState → NetState → Option Live → Option Live → Type 0
+WasServed served old new bench left = ServedBy bench_feeding served old new bench left
 
 -- the counts of the net behind a serving, of its faults and of its ends: one more of what ended it, and no other
 abbrev pub CountsOnce : ℕ → ℕ → ℕ → ℕ → Served → Type 0

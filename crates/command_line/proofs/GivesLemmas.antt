@@ -2,7 +2,7 @@
 use Rattle.std.proofs.Common.{◌≡◌, Option, Some, None, Result, Ok, Err, sym, ap, subst}
 use Rattle.std.specs.Prelude.{IsErrAnd}
 use Rattle.command_line.specs.Job.{Fails, Gives}
-use Rattle.command_line.specs.WrittenJob.{◌>>=◌}
+use Rattle.command_line.specs.Numbers.{◌>>=◌}
 use Rattle.command_line.specs.declared.fault.WordsFault.{WordsFault}
 use Rattle.command_line.specs.declared.fault.WordsFault.TheVariants.{Refused, NoMemory}
 

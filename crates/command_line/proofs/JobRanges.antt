@@ -8,13 +8,17 @@ use Rattle.debug_model.specs.Wire.{piece_most}
 use Rattle.command_line.specs.declared.job.ChipOptions.{ChipOptions}
 use Rattle.command_line.specs.declared.job.Job.{Job}
 use Rattle.command_line.specs.declared.fault.WordsFault.{WordsFault}
+use Rattle.chain_scan.specs.ChainPlan.{Plan}
+use Rattle.command_line.specs.declared.job.Way.{Way}
 use Rattle.command_line.specs.Job.{Gives, InputsValue, JobValue, Text, job_value}
 use Rattle.command_line.specs.Options.{both_command, chip_command, probe_command, sniff_command}
-use Rattle.command_line.specs.WrittenJob.{◌>>=◌, HasRanges, InRange, OptionsInRange, both_from, both_in, both_of, chip_from, chip_in, chip_of, job_by, job_of}
+use Rattle.command_line.specs.WrittenJob.{HasRanges, InRange, OptionsInRange, both_from, both_in, both_of, chip_from, chip_in, chip_of, job_by, job_of}
+use Rattle.command_line.specs.Numbers.{◌>>=◌}
 use Rattle.command_line.specs.WrittenJob.{busy_unsaid, events_unsaid, harts_unsaid, piece_unsaid, ram_unsaid, seed_unsaid}
 use Rattle.command_line.specs.WrittenJob.{least_busy, least_events, least_piece, most_busy, most_events}
-use Rattle.command_line.specs.WrittenJob.{flag_in, inputs_in, number_in, options_from, options_in, probe_from, probe_in, probe_of, ranged_in, rows_in}
-use Rattle.command_line.specs.WrittenJob.{sniff_from, sniff_in, sniff_of, value_in, within}
+use Rattle.command_line.specs.WrittenJob.{chain_in, flag_in, inputs_in, number_in, options_from, options_in, probe_from, probe_in, probe_of, ranged_in, rows_in}
+use Rattle.command_line.specs.WrittenJob.{sniff_from, sniff_in, sniff_of, value_in, way_in}
+use Rattle.command_line.specs.Numbers.{within}
 
 none : {A : Type 0} {B : Type 0} (x : A) → None ≡ Some x → B
 none x e = absurd (none-some x e)
@@ -62,39 +66,43 @@ options_range rows options e =
       events = ranged_is rows (codes "events") events_unsaid least_events most_events options.events said.events_is;
     }
 
-both_ranges_by : (inputs : Option InputsValue) (options : Option ChipOptions) (piece : Option ℕ) (loopback : Bool) (v : JobValue)
+both_ranges_by : (inputs : Option InputsValue) (options : Option ChipOptions) (piece : Option ℕ) (way : Option Way) (v : JobValue)
     → ((o : ChipOptions) → options ≡ Some o → OptionsInRange o) → ((n : ℕ) → piece ≡ Some n → InRange least_piece piece_most n)
-    → both_from inputs options piece loopback ≡ Some v → HasRanges v
-both_ranges_by (Some i) (Some o) (Some n) loopback v ranges small e = subst HasRanges (same_Some _ v e) (small n refl, ranges o refl)
-both_ranges_by (Some i) (Some o) None loopback v ranges small e = none v e
-both_ranges_by (Some i) None piece loopback v ranges small e = none v e
-both_ranges_by None options piece loopback v ranges small e = none v e
+    → both_from inputs options piece way ≡ Some v → HasRanges v
+both_ranges_by (Some i) (Some o) (Some n) (Some w) v ranges small e = subst HasRanges (same_Some _ v e) (small n refl, ranges o refl)
+both_ranges_by (Some i) (Some o) (Some n) None v ranges small e = none v e
+both_ranges_by (Some i) (Some o) None way v ranges small e = none v e
+both_ranges_by (Some i) None piece way v ranges small e = none v e
+both_ranges_by None options piece way v ranges small e = none v e
 
 both_ranges : (rows : List Row) (v : JobValue) → both_in rows ≡ Some v → HasRanges v
 unfolding both_in
 both_ranges rows v e = both_ranges_by (inputs_in rows) (options_in rows) (ranged_in rows (codes "piece") piece_unsaid least_piece piece_most)
-    (flag_in rows (codes "loopback")) v
+    (way_in rows) v
     (λ o is. options_range rows o is) (λ n is. ranged_is rows (codes "piece") piece_unsaid least_piece piece_most n is) e
 
-probe_ranges_by : (at script : Option Text) (v : JobValue) → probe_from at script ≡ Some v → HasRanges v
-probe_ranges_by (Some a) (Some s) v e = subst HasRanges (same_Some _ v e) tt
-probe_ranges_by (Some a) None v e = none v e
-probe_ranges_by None script v e = none v e
+probe_ranges_by : (at script : Option Text) (chain : Option (Option Plan)) (v : JobValue) → probe_from at script chain ≡ Some v → HasRanges v
+probe_ranges_by (Some a) (Some s) (Some c) v e = subst HasRanges (same_Some _ v e) tt
+probe_ranges_by (Some a) (Some s) None v e = none v e
+probe_ranges_by (Some a) None chain v e = none v e
+probe_ranges_by None script chain v e = none v e
 
 probe_ranges : (rows : List Row) (v : JobValue) → probe_in rows ≡ Some v → HasRanges v
 unfolding probe_in
-probe_ranges rows v e = probe_ranges_by (value_in rows (codes "at")) (value_in rows (codes "script")) v e
+probe_ranges rows v e = probe_ranges_by (value_in rows (codes "at")) (value_in rows (codes "script")) (chain_in rows) v e
 
-chip_ranges_by : (at image : Option Text) (options : Option ChipOptions) (v : JobValue) → ((o : ChipOptions) → options ≡ Some o → OptionsInRange o)
-    → chip_from at image options ≡ Some v → HasRanges v
-chip_ranges_by (Some a) (Some i) (Some o) v ranges e = subst HasRanges (same_Some _ v e) (ranges o refl)
-chip_ranges_by (Some a) (Some i) None v ranges e = none v e
-chip_ranges_by (Some a) None options v ranges e = none v e
-chip_ranges_by None image options v ranges e = none v e
+chip_ranges_by : (at image : Option Text) (options : Option ChipOptions) (chain : Option (Option Plan)) (v : JobValue)
+    → ((o : ChipOptions) → options ≡ Some o → OptionsInRange o) → chip_from at image options chain ≡ Some v → HasRanges v
+chip_ranges_by (Some a) (Some i) (Some o) (Some c) v ranges e = subst HasRanges (same_Some _ v e) (ranges o refl)
+chip_ranges_by (Some a) (Some i) (Some o) None v ranges e = none v e
+chip_ranges_by (Some a) (Some i) None chain v ranges e = none v e
+chip_ranges_by (Some a) None options chain v ranges e = none v e
+chip_ranges_by None image options chain v ranges e = none v e
 
 chip_ranges : (rows : List Row) (v : JobValue) → chip_in rows ≡ Some v → HasRanges v
 unfolding chip_in
-chip_ranges rows v e = chip_ranges_by (value_in rows (codes "at")) (value_in rows (codes "image")) (options_in rows) v (λ o is. options_range rows o is) e
+chip_ranges rows v e = chip_ranges_by (value_in rows (codes "at")) (value_in rows (codes "image")) (options_in rows) (chain_in rows) v
+    (λ o is. options_range rows o is) e
 
 sniff_ranges_by : (stream answers : Option Text) (waves : Bool) (v : JobValue) → sniff_from stream answers waves ≡ Some v → HasRanges v
 sniff_ranges_by (Some s) (Some a) waves v e = subst HasRanges (same_Some _ v e) tt

@@ -1,3 +1,5 @@
+pub mod ChainLists
+pub mod ChainWriting
 pub mod CommandLemmas
 pub mod GivesLemmas
 pub mod JobLemmas

@@ -1,7 +1,7 @@
 -- A number within its range, or out of it.
 use Rattle.std.proofs.Common.{◌≡◌, ℕ, ◌<◌, ◌≤◌, ◌&&◌, Bool, true, false, cond, nat_le, Some, None, refl, ap, ◌∙◌, arith}
 use Rattle.std.proofs.lemmas.Bool.Decides.{nat_tests}
-use Rattle.command_line.specs.WrittenJob.{within}
+use Rattle.command_line.specs.Numbers.{within}
 
 pub within_range : (least most n : ℕ) → least ≤ n → n ≤ most → within least most n ≡ Some n
 within_range least most n low high = ap (λ b. cond b (Some n) None)

@@ -18,6 +18,8 @@ names_taken found rows (whys.Missing option) is names = (rows, is, names)
 names_taken found rows (whys.BesideGen option) is names = (rows, is, names)
 names_taken found rows (whys.NoNumber option word) is names = (rows, is, names)
 names_taken found rows (whys.OutOfRange option word least most) is names = (rows, is, names)
+names_taken found rows (whys.NoChain list) is names = (rows, is, names)
+names_taken found rows whys.ChainLooped is names = (rows, is, names)
 names_taken found rows whys.NoMemory is names = tt
 
 pub names_untaken : (command : App) (words : List Text) (why : Refused) → UntakenBy command words why → NamesBy (rows_in command words) why
@@ -28,6 +30,8 @@ names_untaken command words (whys.Missing option) untaken = absurd untaken
 names_untaken command words (whys.BesideGen option) untaken = absurd untaken
 names_untaken command words (whys.NoNumber option word) untaken = absurd untaken
 names_untaken command words (whys.OutOfRange option word least most) untaken = absurd untaken
+names_untaken command words (whys.NoChain list) untaken = absurd untaken
+names_untaken command words whys.ChainLooped untaken = absurd untaken
 names_untaken command words whys.NoMemory untaken = tt
 
 chosen : Bool → Bool → Bool → Bool → Option App

@@ -6,13 +6,18 @@ use Rattle.std.specs.Prelude.{IsSome, OnOk, String, slice_get}
 use Rattle.clap.specs.Words.{Row}
 use Rattle.debug_model.specs.Loaded.{usual_points}
 use Rattle.debug_model.specs.Wire.{piece_most}
+use Rattle.chain_scan.specs.ChainPlan.{Plan}
+use Rattle.command_line.specs.declared.job.Way.{Way}
 use Rattle.command_line.specs.Job.{InputsValue, JobValue, Text, gen}
 use Rattle.command_line.specs.Why.{HasNumber}
-use Rattle.command_line.specs.WrittenJob.{◌>>=◌, both_from, both_in, chip_from, chip_in, flag_in, inputs_from, inputs_in, job_by, job_of, number_in}
-use Rattle.command_line.specs.WrittenJob.{number_of, number_or}
-use Rattle.command_line.specs.WrittenJob.{options_from, options_in, probe_from, probe_in, ranged_in, sniff_from, sniff_in, value_in}
+use Rattle.command_line.specs.WrittenJob.{both_from, both_in, chain_in, chip_from, chip_in, flag_in, inputs_from, inputs_in, job_by, job_of, number_in}
+use Rattle.command_line.specs.Numbers.{◌>>=◌}
+use Rattle.command_line.specs.WrittenJob.{number_or}
+use Rattle.command_line.specs.Numbers.{number_of}
+use Rattle.command_line.specs.WrittenJob.{options_from, options_in, probe_from, probe_in, ranged_in, sniff_from, sniff_in, value_in, way_in}
 use Rattle.command_line.specs.WrittenJob.{busy_unsaid, harts_unsaid, least_busy, least_events, least_piece, most_busy, most_events, piece_unsaid, ram_unsaid}
-use Rattle.command_line.specs.WrittenJob.{seed_unsaid, events_unsaid, within}
+use Rattle.command_line.specs.WrittenJob.{seed_unsaid, events_unsaid}
+use Rattle.command_line.specs.Numbers.{within}
 use Rattle.command_line.specs.declared.job.ChipOptions.{ChipOptions}
 use Rattle.command_line.specs.declared.why.Refused.{Refused}
 use Rattle.command_line.proofs.JobLemmas.{job_of-first}
@@ -95,16 +100,18 @@ pub number_writes : (rows : List Row) → IsSome (value_in rows (codes "gen"))
 unfolding inputs_in number_in
 number_writes rows given image script has = alone_are _ _ _ (image given) (script given) given (number_any rows (codes "gen") 0 (omega arith) has)
 
-both_from_is : (i : Option InputsValue) (o : Option ChipOptions) (p : Option ℕ) (l : Bool) → IsSome i → IsSome o → IsSome p → IsSome (both_from i o p l)
-both_from_is None o p l a b c = cc
-both_from_is (Some i) None p l a b c = cc
-both_from_is (Some i) (Some o) None l a b c = cc
-both_from_is (Some i) (Some o) (Some p) l a b c = refl
+both_from_is : (i : Option InputsValue) (o : Option ChipOptions) (p : Option ℕ) (w : Option Way) → IsSome i → IsSome o → IsSome p → IsSome w
+    → IsSome (both_from i o p w)
+both_from_is None o p w a b c d = cc
+both_from_is (Some i) None p w a b c d = cc
+both_from_is (Some i) (Some o) None w a b c d = cc
+both_from_is (Some i) (Some o) (Some p) None a b c d = cc
+both_from_is (Some i) (Some o) (Some p) (Some w) a b c d = refl
 
 pub both_writes : (rows : List Row) → IsSome (inputs_in rows) → IsSome (options_in rows) → HasNumber rows (codes "piece") least_piece piece_most
-    → IsSome (both_in rows)
+    → IsSome (way_in rows) → IsSome (both_in rows)
 unfolding both_in
-both_writes rows inputs options piece = both_from_is _ _ _ _ inputs options (piece piece_unsaid (omega arith) (omega arith))
+both_writes rows inputs options piece way = both_from_is _ _ _ _ inputs options (piece piece_unsaid (omega arith) (omega arith)) way
 
 two_are : (f : Option Text → Option Text → Option JobValue) → ((x y : Text) → IsSome (f (Some x) (Some y))) → (a b : Option Text) → IsSome a → IsSome b
     → IsSome (f a b)
@@ -112,24 +119,33 @@ two_are f of None b is also = cc
 two_are f of (Some x) None is also = cc
 two_are f of (Some x) (Some y) is also = of x y
 
-pub probe_writes : (rows : List Row) → IsSome (value_in rows (codes "at")) → IsSome (value_in rows (codes "script")) → IsSome (probe_in rows)
+probe_from_is : (a s : Option Text) (c : Option (Option Plan)) → IsSome a → IsSome s → IsSome c → IsSome (probe_from a s c)
+probe_from_is None s c x y z = cc
+probe_from_is (Some a) None c x y z = cc
+probe_from_is (Some a) (Some s) None x y z = cc
+probe_from_is (Some a) (Some s) (Some c) x y z = refl
+
+pub probe_writes : (rows : List Row) → IsSome (value_in rows (codes "at")) → IsSome (value_in rows (codes "script")) → IsSome (chain_in rows)
+    → IsSome (probe_in rows)
 unfolding probe_in
-probe_writes rows at script = two_are probe_from (λ _ _. refl) _ _ at script
+probe_writes rows at script chain = probe_from_is _ _ _ at script chain
 
 pub sniff_writes : (rows : List Row) → IsSome (value_in rows (codes "stream")) → IsSome (value_in rows (codes "answers")) → IsSome (sniff_in rows)
 unfolding sniff_in
 sniff_writes rows stream answers = two_are (λ s a. sniff_from s a (flag_in rows (codes "vcd"))) (λ _ _. refl) _ _ stream answers
 
-chip_from_is : (a i : Option Text) (o : Option ChipOptions) → IsSome a → IsSome i → IsSome o → IsSome (chip_from a i o)
-chip_from_is None i o x y z = cc
-chip_from_is (Some a) None o x y z = cc
-chip_from_is (Some a) (Some i) None x y z = cc
-chip_from_is (Some a) (Some i) (Some o) x y z = refl
+chip_from_is : (a i : Option Text) (o : Option ChipOptions) (c : Option (Option Plan)) → IsSome a → IsSome i → IsSome o → IsSome c
+    → IsSome (chip_from a i o c)
+chip_from_is None i o c x y z w = cc
+chip_from_is (Some a) None o c x y z w = cc
+chip_from_is (Some a) (Some i) None c x y z w = cc
+chip_from_is (Some a) (Some i) (Some o) None x y z w = cc
+chip_from_is (Some a) (Some i) (Some o) (Some c) x y z w = refl
 
 pub chip_writes : (rows : List Row) → IsSome (value_in rows (codes "at")) → IsSome (value_in rows (codes "image")) → IsSome (options_in rows)
-    → IsSome (chip_in rows)
+    → IsSome (chain_in rows) → IsSome (chip_in rows)
 unfolding chip_in
-chip_writes rows at image options = chip_from_is _ _ _ at image options
+chip_writes rows at image options chain = chip_from_is _ _ _ _ at image options chain
 
 -- ---- the words
 

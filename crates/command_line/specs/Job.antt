@@ -8,6 +8,8 @@ use Rattle.command_line.specs.declared.job.Inputs.{Inputs}
 use Rattle.command_line.specs.declared.job.Inputs.TheVariants.{Files, Gen}
 use Rattle.command_line.specs.declared.job.Job.{Job}
 use Rattle.command_line.specs.declared.job.Job.TheVariants.{Both, Probe, Chip, Sniff}
+use Rattle.command_line.specs.declared.job.Way.{Way}
+use Rattle.chain_scan.specs.ChainPlan.{Plan}
 
 abbrev pub Text : Type 0
 Text = List ℕ
@@ -17,13 +19,14 @@ pub data InputsValue : Type 0 where
   files : Text → Text → InputsValue
   gen : ℕ → InputsValue
 
--- `both` has its inputs, the chip's options, the most bytes of a piece and whether the bytes go over a connection;
--- `probe` an address and the script's name; `chip` an address, the image's name and its options;
+-- `both` has its inputs, the chip's options, the most bytes of a piece and the way of the bytes to the chip;
+-- `probe` an address, the script's name, and the devices beside the chip, where it is in a chain;
+-- `chip` an address, the image's name, its options, and such devices too;
 -- `sniff` the names of a recorded stream and of its answers, and whether they are drawn as a waveform
 pub data JobValue : Type 0 where
-  both : InputsValue → ChipOptions → ℕ → Bool → JobValue
-  probe : Text → Text → JobValue
-  chip : Text → Text → ChipOptions → JobValue
+  both : InputsValue → ChipOptions → ℕ → Way → JobValue
+  probe : Text → Text → Option Plan → JobValue
+  chip : Text → Text → ChipOptions → Option Plan → JobValue
   sniff : Text → Text → Bool → JobValue
 
 abbrev pub inputs_value : Inputs → InputsValue
@@ -31,9 +34,9 @@ inputs_value (Files image script) = files (string_bytes image) (string_bytes scr
 inputs_value (Gen number) = gen number
 
 abbrev pub job_value : Job → JobValue
-job_value (Both inputs options piece loopback) = both (inputs_value inputs) options piece loopback
-job_value (Probe at script) = probe (string_bytes at) (string_bytes script)
-job_value (Chip at image options) = chip (string_bytes at) (string_bytes image) options
+job_value (Both inputs options piece way) = both (inputs_value inputs) options piece way
+job_value (Probe at script chain) = probe (string_bytes at) (string_bytes script) chain
+job_value (Chip at image options chain) = chip (string_bytes at) (string_bytes image) options chain
 job_value (Sniff stream answers waves) = sniff (string_bytes stream) (string_bytes answers) waves
 
 -- A reading is refused where the words say nothing. Want of memory may stand for anything that they say.

@@ -7,19 +7,22 @@ use Rattle.clap.specs.declared.builder.action.ArgAction.TheVariants.{SetTrue}
 use Rattle.command_line.specs.Job.{Text}
 
 abbrev pub both_options : List Text
-both_options = codes "image" ∷ codes "script" ∷ codes "gen" ∷ codes "harts" ∷ codes "ram" ∷ codes "seed" ∷ codes "busy" ∷ codes "events" ∷ codes "piece" ∷ []
+both_options =
+    codes "image" ∷ codes "script" ∷ codes "gen" ∷ codes "harts" ∷ codes "ram" ∷ codes "seed" ∷ codes "busy" ∷ codes "events" ∷ codes "piece"
+    ∷ codes "chain" ∷ []
 
 abbrev pub both_flags : List Text
 both_flags = codes "halted" ∷ codes "loopback" ∷ []
 
 abbrev pub probe_options : List Text
-probe_options = codes "at" ∷ codes "script" ∷ []
+probe_options = codes "at" ∷ codes "script" ∷ codes "chain" ∷ []
 
 abbrev pub probe_flags : List Text
 probe_flags = []
 
 abbrev pub chip_options : List Text
-chip_options = codes "at" ∷ codes "image" ∷ codes "harts" ∷ codes "ram" ∷ codes "seed" ∷ codes "busy" ∷ codes "events" ∷ []
+chip_options =
+    codes "at" ∷ codes "image" ∷ codes "harts" ∷ codes "ram" ∷ codes "seed" ∷ codes "busy" ∷ codes "events" ∷ codes "chain" ∷ []
 
 abbrev pub chip_flags : List Text
 chip_flags = codes "halted" ∷ []

@@ -1,13 +1,16 @@
 -- Which of the words is why they write no job: what is named is at fault.
 -- The words are this project's own (docs/FORMATS.md, "Words").
-use Rattle.std.specs.Prelude.{◌≡◌, ◌<◌, ◌≤◌, ◌⊎◌, ℕ, ◌-◌, ◌^◌, List, [], ◌∷◌, codes, bytes_eq}
+use Rattle.std.specs.Prelude.{true, ◌≡◌, ◌<◌, ◌≤◌, ◌⊎◌, ℕ, ◌-◌, ◌^◌, List, [], ◌∷◌, codes, bytes_eq}
 use Rattle.std.specs.Prelude.{Option, Some, None, Result, Ok, Err, if◌then◌else◌, IsSome}
 use Rattle.clap.specs.Words.{App, Row}
 use Rattle.clap.specs.declared.parser.matches.ArgMatches.{ArgMatches}
 use Rattle.debug_model.specs.Wire.{piece_most}
+use Rattle.command_line.specs.Chains.{plan_of}
 use Rattle.command_line.specs.Job.{Text}
 use Rattle.command_line.specs.Options.{both_command, probe_command, chip_command, sniff_command}
-use Rattle.command_line.specs.WrittenJob.{least_busy, least_events, least_piece, most_busy, most_events, number_of, ranged_in, rows_found, rows_in, value_in}
+use Rattle.command_line.specs.WrittenJob.{flag_in, least_busy, least_events, least_piece, most_busy, most_events}
+use Rattle.command_line.specs.WrittenJob.{ranged_in, rows_found, rows_in, value_in}
+use Rattle.command_line.specs.Numbers.{number_of}
 use Rattle.command_line.specs.declared.why.Refused.{Refused}
 use Rattle.command_line.specs.declared.why.Refused.TheVariants as whys
 
@@ -53,6 +56,8 @@ NamesIn rows (whys.BesideGen option) = IsSome (value_in rows option.now) × IsSo
 NamesIn rows (whys.NoNumber option word) = (value_in rows option.now ≡ Some word.now) × (number_of word.now ≡ None)
 NamesIn rows (whys.OutOfRange option word least most) =
     (value_in rows option.now ≡ Some word.now) × (least ≡ least_of option.now) × (most ≡ most_of option.now) × IsOutside least most word.now
+NamesIn rows (whys.NoChain list) = (value_in rows (codes "chain") ≡ Some list.now) × (plan_of list.now ≡ None)
+NamesIn rows whys.ChainLooped = IsSome (value_in rows (codes "chain")) × (flag_in rows (codes "loopback") ≡ true)
 NamesIn rows whys.NoMemory = Unit {0}
 
 -- of what a command finds in words, where it takes them
@@ -64,6 +69,8 @@ NamesBy found (whys.Missing option) = (rows : List Row) × (found ≡ Some rows)
 NamesBy found (whys.BesideGen option) = (rows : List Row) × (found ≡ Some rows) × NamesIn rows (whys.BesideGen option)
 NamesBy found (whys.NoNumber option word) = (rows : List Row) × (found ≡ Some rows) × NamesIn rows (whys.NoNumber option word)
 NamesBy found (whys.OutOfRange option word least most) = (rows : List Row) × (found ≡ Some rows) × NamesIn rows (whys.OutOfRange option word least most)
+NamesBy found (whys.NoChain list) = (rows : List Row) × (found ≡ Some rows) × NamesIn rows (whys.NoChain list)
+NamesBy found whys.ChainLooped = (rows : List Row) × (found ≡ Some rows) × NamesIn rows whys.ChainLooped
 NamesBy found whys.NoMemory = Unit {0}
 
 -- of a first word that names no job
@@ -75,6 +82,8 @@ NamesNone job (whys.Missing option) = ⊥
 NamesNone job (whys.BesideGen option) = ⊥
 NamesNone job (whys.NoNumber option word) = ⊥
 NamesNone job (whys.OutOfRange option word least most) = ⊥
+NamesNone job (whys.NoChain list) = ⊥
+NamesNone job whys.ChainLooped = ⊥
 NamesNone job whys.NoMemory = ⊥
 
 -- of words of which the first is the job, by the command that this names
@@ -95,6 +104,8 @@ UntakenBy command words (whys.Missing option) = ⊥
 UntakenBy command words (whys.BesideGen option) = ⊥
 UntakenBy command words (whys.NoNumber option word) = ⊥
 UntakenBy command words (whys.OutOfRange option word least most) = ⊥
+UntakenBy command words (whys.NoChain list) = ⊥
+UntakenBy command words whys.ChainLooped = ⊥
 UntakenBy command words whys.NoMemory = Unit {0}
 
 -- what a command finds, unless it does not take the words

@@ -1,17 +1,20 @@
 -- The job that words write, or none: the first word names the program, and the rest are the options of its command.
 -- The words are this project's own (docs/FORMATS.md, "Words"); which words a command takes, and what it finds in them, is what the crate `clap` says.
-use Rattle.std.specs.Prelude.{◌≤◌, ◌^◌, ℕ, ◌&&◌, nat_le}
-use Rattle.std.specs.Prelude.{Bool, false, List, [], ◌∷◌, codes, bytes_eq, Option, Some, None, option_map, Result, Ok, Err, if◌then◌else◌}
+use Rattle.std.specs.Prelude.{◌≤◌, ◌^◌, ℕ}
+use Rattle.std.specs.Prelude.{Bool, true, false, List, [], ◌∷◌, codes, bytes_eq, Option, Some, None, option_map, if◌then◌else◌}
 use Rattle.std.specs.Borrow.{Bor}
 use Rattle.clap.specs.Words.{App, Kinds, Row, fault_of, first_of, found_of, matches_of, rows_of}
 use Rattle.clap.specs.declared.parser.matches.ArgMatches.{ArgMatches}
 use Rattle.debug_model.specs.Loaded.{usual_points}
-use Rattle.debug_model.specs.ScriptNumber.{number_read}
 use Rattle.debug_model.specs.Wire.{piece_most}
-use Rattle.debug_model.specs.declared.script_error.ScriptFault.{ScriptFault}
+use Rattle.chain_scan.specs.ChainPlan.{Plan}
 use Rattle.command_line.specs.Job.{Text, InputsValue, files, gen, JobValue, both, probe, chip, sniff}
+use Rattle.command_line.specs.Chains.{plan_of}
+use Rattle.command_line.specs.Numbers.{◌>>=◌, number_of, within}
 use Rattle.command_line.specs.Options.{both_command, probe_command, chip_command, sniff_command}
 use Rattle.command_line.specs.declared.job.ChipOptions.{ChipOptions}
+use Rattle.command_line.specs.declared.job.Way.{Way}
+use Rattle.command_line.specs.declared.job.Way.TheVariants.{Straight, Looped, Chained}
 
 abbrev pub harts_unsaid : ℕ
 harts_unsaid = 1
@@ -46,11 +49,6 @@ least_piece = 1
 abbrev pub piece_unsaid : ℕ
 piece_unsaid = piece_most
 
-infixl 10 ◌>>=◌
-abbrev pub ◌>>=◌ : {A B : Type 0} → Option A → (A → Option B) → Option B
-(Some x) >>= f = f x
-None >>= f = None
-
 -- what is found, where there is no fault
 abbrev pub unless_faulty : Kinds → List Row → Option (List Row)
 unless_faulty [] rows = Some rows
@@ -80,14 +78,6 @@ says_true None = false
 unfoldable pub flag_in : List Row → Text → Bool
 flag_in rows name = says_true (value_in rows name)
 
-abbrev pub value_of : Result ℕ ScriptFault → Option ℕ
-value_of (Ok number) = Some number
-value_of (Err fault) = None
-
--- a number has the form of the numbers of a script, and is below 2^64
-unfoldable pub number_of : Text → Option ℕ
-number_of word = value_of (number_read word)
-
 abbrev pub number_or : ℕ → Option Text → Option ℕ
 number_or unsaid None = Some unsaid
 number_or unsaid (Some word) = number_of word
@@ -95,9 +85,6 @@ number_or unsaid (Some word) = number_of word
 -- the number of an option, or the one that stands where it isn't given
 unfoldable pub number_in : List Row → Text → ℕ → Option ℕ
 number_in rows name unsaid = number_or unsaid (value_in rows name)
-
-abbrev pub within : ℕ → ℕ → ℕ → Option ℕ
-within least most number = if nat_le least number && nat_le number most then Some number else None
 
 -- the same, from `least` to `most`
 unfoldable pub ranged_in : List Row → Text → ℕ → ℕ → ℕ → Option ℕ
@@ -129,35 +116,58 @@ inputs_from _ _ _ = None
 unfoldable pub inputs_in : List Row → Option InputsValue
 inputs_in rows = inputs_from (value_in rows (codes "image")) (value_in rows (codes "script")) (value_in rows (codes "gen"))
 
-abbrev pub both_from : Option InputsValue → Option ChipOptions → Option ℕ → Bool → Option JobValue
-both_from said_inputs said_options said_piece loopback = do
+-- the devices beside the chip, where a list of them is given
+abbrev pub chain_from : Option Text → Option (Option Plan)
+chain_from None = Some None
+chain_from (Some list) = do
+  plan ← plan_of list
+  Some (Some plan)
+
+unfoldable pub chain_in : List Row → Option (Option Plan)
+chain_in rows = chain_from (value_in rows (codes "chain"))
+
+-- a chain may not stand beside `--loopback`
+abbrev pub way_by : (loopback : Bool) → Option Plan → Option Way
+way_by false None = Some Straight
+way_by true None = Some Looped
+way_by false (Some plan) = Some (Chained plan)
+way_by true (Some plan) = None
+
+unfoldable pub way_in : List Row → Option Way
+way_in rows = chain_in rows >>= way_by (flag_in rows (codes "loopback"))
+
+abbrev pub both_from : Option InputsValue → Option ChipOptions → Option ℕ → Option Way → Option JobValue
+both_from said_inputs said_options said_piece said_way = do
   inputs ← said_inputs
   options ← said_options
   piece ← said_piece
-  Some (both inputs options piece loopback)
+  way ← said_way
+  Some (both inputs options piece way)
 
 unfoldable pub both_in : List Row → Option JobValue
 both_in rows = both_from (inputs_in rows) (options_in rows) (ranged_in rows (codes "piece") piece_unsaid least_piece piece_most)
-    (flag_in rows (codes "loopback"))
+    (way_in rows)
 
-abbrev pub probe_from : Option Text → Option Text → Option JobValue
-probe_from said_at said_script = do
+abbrev pub probe_from : Option Text → Option Text → Option (Option Plan) → Option JobValue
+probe_from said_at said_script said_chain = do
   at ← said_at
   script ← said_script
-  Some (probe at script)
+  chain ← said_chain
+  Some (probe at script chain)
 
 unfoldable pub probe_in : List Row → Option JobValue
-probe_in rows = probe_from (value_in rows (codes "at")) (value_in rows (codes "script"))
+probe_in rows = probe_from (value_in rows (codes "at")) (value_in rows (codes "script")) (chain_in rows)
 
-abbrev pub chip_from : Option Text → Option Text → Option ChipOptions → Option JobValue
-chip_from said_at said_image said_options = do
+abbrev pub chip_from : Option Text → Option Text → Option ChipOptions → Option (Option Plan) → Option JobValue
+chip_from said_at said_image said_options said_chain = do
   at ← said_at
   image ← said_image
   options ← said_options
-  Some (chip at image options)
+  chain ← said_chain
+  Some (chip at image options chain)
 
 unfoldable pub chip_in : List Row → Option JobValue
-chip_in rows = chip_from (value_in rows (codes "at")) (value_in rows (codes "image")) (options_in rows)
+chip_in rows = chip_from (value_in rows (codes "at")) (value_in rows (codes "image")) (options_in rows) (chain_in rows)
 
 abbrev pub sniff_from : Option Text → Option Text → Bool → Option JobValue
 sniff_from said_stream said_answers waves = do
@@ -207,7 +217,7 @@ pub record OptionsInRange (options : ChipOptions) : Type 0 where
 
 -- the numbers of a job that have a range are within it; of the others `load` judges
 abbrev pub HasRanges : JobValue → Type 0
-HasRanges (both inputs options piece loopback) = InRange least_piece piece_most piece × OptionsInRange options
-HasRanges (probe at script) = Unit {0}
-HasRanges (chip at image options) = OptionsInRange options
+HasRanges (both inputs options piece way) = InRange least_piece piece_most piece × OptionsInRange options
+HasRanges (probe at script chain) = Unit {0}
+HasRanges (chip at image options chain) = OptionsInRange options
 HasRanges (sniff stream answers waves) = Unit {0}

@@ -1,15 +1,19 @@
+use chain_scan::ChainPlan;
+
 /// What the words ask for.
-#[derive(Debug, PartialEq, Eq, Drop)]
+#[derive(Drop)]
 pub enum Job {
     /// Chip and probe in one process: the inputs, the chip's options, the most bytes that a piece of the stream has
-    /// (from 1 to 256), and whether the bytes go over a connection of the machine to itself.
-    Both(Inputs, ChipOptions, u16, bool),
+    /// (from 1 to 256), and the way of the bytes to the chip.
+    Both(Inputs, ChipOptions, u16, Way),
     /// The probe alone.
     Probe {
         /// The address of the target.
         at: String,
         /// The name of the script's file.
         script: String,
+        /// The devices beside the chip, where it is in a chain.
+        chain: Option<ChainPlan>,
     },
     /// The chip alone.
     Chip {
@@ -19,6 +23,8 @@ pub enum Job {
         image: String,
         /// How the chip is made.
         options: ChipOptions,
+        /// The devices beside the chip, where it is in a chain.
+        chain: Option<ChainPlan>,
     },
     /// A recording of a wire.
     Sniff {
@@ -43,6 +49,17 @@ pub enum Inputs {
     },
     /// Made from a number.
     Gen(u64),
+}
+
+/// How the stream goes to a chip in the same process.
+#[derive(Drop)]
+pub enum Way {
+    /// Straight to the chip.
+    Straight,
+    /// Over a connection of the machine to itself.
+    Looped,
+    /// To a chain of the chip and these devices beside it.
+    Chained(ChainPlan),
 }
 
 /// How a chip is made.

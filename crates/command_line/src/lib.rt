@@ -4,6 +4,7 @@
 //! Which options a program takes stands in one table; that the words fit it is what the crate `clap` proves of a simple command.
 #![tactic(auto)]
 
+mod chains;
 mod fault;
 mod job;
 mod options;
@@ -12,6 +13,6 @@ mod values;
 mod why;
 
 pub use fault::WordsFault;
-pub use job::{ChipOptions, Inputs, Job};
+pub use job::{ChipOptions, Inputs, Job, Way};
 pub use reading::read_words;
 pub use why::{Refused, why_refused};

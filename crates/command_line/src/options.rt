@@ -20,6 +20,8 @@ pub(crate) const ANSWERS: &str = "answers";
 pub(crate) const AT: &str = "at";
 /// The most rounds between two events of a kind.
 pub(crate) const BUSY: &str = "busy";
+/// The devices of the chip's chain.
+pub(crate) const CHAIN: &str = "chain";
 /// The most points that a rise of TCK may find.
 pub(crate) const EVENTS: &str = "events";
 /// The number from which image and script are made.
@@ -45,13 +47,15 @@ pub(crate) const STREAM: &str = "stream";
 /// Whether a recording is drawn as a Value Change Dump.
 pub(crate) const VCD: &str = "vcd";
 
-static BOTH_OPTIONS: [&str; 9] = [IMAGE, SCRIPT, GEN, HARTS, RAM, SEED, BUSY, EVENTS, PIECE];
+static BOTH_OPTIONS: [&str; 10] = [
+    IMAGE, SCRIPT, GEN, HARTS, RAM, SEED, BUSY, EVENTS, PIECE, CHAIN,
+];
 
 static BOTH_FLAGS: [&str; 2] = [HALTED, LOOPBACK];
 
-static PROBE_OPTIONS: [&str; 2] = [AT, SCRIPT];
+static PROBE_OPTIONS: [&str; 3] = [AT, SCRIPT, CHAIN];
 
-static CHIP_OPTIONS: [&str; 7] = [AT, IMAGE, HARTS, RAM, SEED, BUSY, EVENTS];
+static CHIP_OPTIONS: [&str; 8] = [AT, IMAGE, HARTS, RAM, SEED, BUSY, EVENTS, CHAIN];
 
 static CHIP_FLAGS: [&str; 1] = [HALTED];
 

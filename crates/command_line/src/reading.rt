@@ -9,10 +9,10 @@ ghost use Rattle.command_line.specs.WrittenJob.{probe_in, probe_of, rows_found, 
 use crate::fault::WordsFault;
 use crate::job::Job;
 use crate::options::{
-    ANSWERS, AT, IMAGE, LOOPBACK, PIECE, SCRIPT, STREAM, VCD, both_command, chip_command,
-    probe_command, sniff_command,
+    ANSWERS, AT, IMAGE, PIECE, SCRIPT, STREAM, VCD, both_command, chip_command, probe_command,
+    sniff_command,
 };
-use crate::values::{chip_options, flag, inputs, ranged, required};
+use crate::values::{chain, chip_options, flag, inputs, ranged, required, way};
 use clap::error::ErrorKind;
 use clap::{ArgMatches, Command, Error};
 use debug_model::PIECE_MOST;
@@ -102,7 +102,8 @@ fn both_in(alloc: Global, matches: &ArgMatches) -> Result<Job, WordsFault>
     let inputs = inputs(alloc, matches)?;
     let options = chip_options(matches)?;
     let piece = ranged(matches, PIECE, PIECE_UNSAID, PIECE_LEAST, PIECE_MOST as u64)?;
-    Ok(Job::Both(inputs, options, piece as u16, flag(matches, LOOPBACK)))
+    let way = way(matches)?;
+    Ok(Job::Both(inputs, options, piece as u16, way))
 }
 
 /// The job of the probe alone.
@@ -111,7 +112,8 @@ fn probe_in(alloc: Global, matches: &ArgMatches) -> Result<Job, WordsFault>
 {
     let at = required(alloc, matches, AT)?;
     let script = required(alloc, matches, SCRIPT)?;
-    Ok(Job::Probe { at, script })
+    let chain = chain(matches)?;
+    Ok(Job::Probe { at, script, chain })
 }
 
 /// The job of the chip alone.
@@ -121,7 +123,13 @@ fn chip_in(alloc: Global, matches: &ArgMatches) -> Result<Job, WordsFault>
     let at = required(alloc, matches, AT)?;
     let image = required(alloc, matches, IMAGE)?;
     let options = chip_options(matches)?;
-    Ok(Job::Chip { at, image, options })
+    let chain = chain(matches)?;
+    Ok(Job::Chip {
+        at,
+        image,
+        options,
+        chain,
+    })
 }
 
 /// The job of a recording.

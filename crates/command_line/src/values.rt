@@ -1,10 +1,14 @@
 ghost use Rattle.std.specs.Prelude.{◌≡◌, ◌≤◌, IfOk, string_bytes};
 ghost use Rattle.command_line.specs.Job.{Gives, inputs_value};
-ghost use Rattle.command_line.specs.WrittenJob.{flag_in, inputs_from, inputs_in, number_in, number_of, number_or, options_in, ranged_in, rows_found, text_of, value_in};
+ghost use Rattle.command_line.specs.Numbers.{number_of};
+ghost use Rattle.command_line.specs.WrittenJob.{chain_in, flag_in, inputs_from, inputs_in, number_in, number_or, options_in, ranged_in};
+ghost use Rattle.command_line.specs.WrittenJob.{rows_found, text_of, value_in, way_in};
 
+use crate::chains::plan_of;
 use crate::fault::WordsFault;
-use crate::job::{ChipOptions, Inputs};
-use crate::options::{BUSY, EVENTS, GEN, HALTED, HARTS, IMAGE, RAM, SCRIPT, SEED};
+use crate::job::{ChipOptions, Inputs, Way};
+use crate::options::{BUSY, CHAIN, EVENTS, GEN, HALTED, HARTS, IMAGE, LOOPBACK, RAM, SCRIPT, SEED};
+use chain_scan::ChainPlan;
 use clap::ArgMatches;
 use debug_model::{POINTS_HIGHEST, POINTS_USUAL};
 use script_lang::read_number;
@@ -56,7 +60,7 @@ pub(crate) fn flag(matches: &ArgMatches, name: &str) -> bool
 }
 
 /// The number that a word writes.
-#[tactic(auto, unfolding(crate::specs::WrittenJob::number_of))]
+#[tactic(auto, unfolding(crate::specs::Numbers::number_of))]
 pub(crate) fn number_of(word: &str) -> Result<u64, WordsFault>
     ensures { Gives (λ number. number) result (number_of word.now) }
 {
@@ -147,5 +151,31 @@ fn inputs_from(
             Ok(Inputs::Gen(number))
         }
         _ => Err(WordsFault::Refused),
+    }
+}
+
+/// The devices beside the chip, where a list of them is given.
+pub(crate) fn chain(matches: &ArgMatches) -> Result<Option<ChainPlan>, WordsFault>
+    ensures { Gives (λ chain. chain) result (chain_in (rows_found matches.now)) }
+{
+    let Some(list) = value(matches, CHAIN) else {
+        return Ok(None);
+    };
+    match plan_of(list) {
+        Some(plan) => Ok(Some(plan)),
+        None => Err(WordsFault::Refused),
+    }
+}
+
+/// The way of the stream to the chip. A chain may not stand beside `--loopback`.
+pub(crate) fn way(matches: &ArgMatches) -> Result<Way, WordsFault>
+    ensures { Gives (λ way. way) result (way_in (rows_found matches.now)) }
+{
+    let chain = chain(matches)?;
+    match (chain, flag(matches, LOOPBACK)) {
+        (None, false) => Ok(Way::Straight),
+        (None, true) => Ok(Way::Looped),
+        (Some(plan), false) => Ok(Way::Chained(plan)),
+        (Some(_), true) => Err(WordsFault::Refused),
     }
 }

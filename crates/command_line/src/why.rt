@@ -2,17 +2,18 @@ ghost use Rattle.std.specs.Prelude.{◌≡◌, ◌≤◌, IfErr, IsSome, None, O
 ghost use Rattle.clap.specs.Words.{app_of, is_simple_and_free};
 ghost use Rattle.command_line.specs.Why.{HasNumber, Names, NamesAt, NamesBy, NamesIn, UnlessTaken, command_at, least_of, most_of};
 ghost use Rattle.command_line.specs.Options.{both_command, chip_command, probe_command, sniff_command};
-ghost use Rattle.command_line.specs.WrittenJob.{both_in, both_of, chip_in, chip_of, inputs_in, job_by, job_of, options_in};
-ghost use Rattle.command_line.specs.WrittenJob.{probe_in, probe_of, rows_found, rows_in, sniff_in, sniff_of, value_in};
+ghost use Rattle.command_line.specs.WrittenJob.{both_in, both_of, chain_in, chip_in, chip_of, inputs_in, job_by, job_of, options_in};
+ghost use Rattle.command_line.specs.WrittenJob.{probe_in, probe_of, rows_found, rows_in, sniff_in, sniff_of, value_in, way_in};
 ghost use Rattle.command_line.specs.declared.why.Refused.TheVariants.{NoMemory};
 
+use crate::chains::plan_of;
 use crate::fault::WordsFault;
 use crate::options::{
-    ANSWERS, AT, BUSY, EVENTS, GEN, HARTS, IMAGE, PIECE, RAM, SCRIPT, SEED, STREAM, both_command,
-    chip_command, probe_command, sniff_command,
+    ANSWERS, AT, BUSY, CHAIN, EVENTS, GEN, HARTS, IMAGE, LOOPBACK, PIECE, RAM, SCRIPT, SEED,
+    STREAM, both_command, chip_command, probe_command, sniff_command,
 };
 use crate::reading::{PIECE_LEAST, fault_by};
-use crate::values::{BUSY_LEAST, BUSY_MOST, EVENTS_LEAST, number_of, value};
+use crate::values::{BUSY_LEAST, BUSY_MOST, EVENTS_LEAST, flag, number_of, value};
 use clap::{ArgMatches, Command};
 use debug_model::{PIECE_MOST, POINTS_HIGHEST};
 use std::alloc::{AllocError, AllocFailed, Global};
@@ -41,6 +42,10 @@ pub enum Refused<'a> {
         least: u64,
         most: u64,
     },
+    /// The word of `--chain` is no list of a chip and 1 to 7 other devices.
+    NoChain(&'a str),
+    /// `--chain` stands beside `--loopback`.
+    ChainLooped,
     /// No memory was left to tell.
     NoMemory,
 }
@@ -85,6 +90,12 @@ impl Display for Refused<'_> {
                 least,
                 most,
             } => write!(f, "{word} of --{option} is not from {least} to {most}"),
+            Refused::NoChain(list) => write!(
+                f,
+                "'{list}' of --chain is no list from TDI to TDO, parted by commas, of 't' for the chip and the instruction register lengths, \
+                 from 2 to 8, of 1 to 7 others"
+            ),
+            Refused::ChainLooped => write!(f, "--chain may not stand beside --loopback"),
             Refused::NoMemory => write!(f, "no memory was left to tell which"),
         }
     }
@@ -197,6 +208,7 @@ fn check_both<'a>(matches: &ArgMatches<'a>) -> Result<(), Refused<'a>>
     check_inputs(matches)?;
     check_chip_options(matches)?;
     check_number(matches, PIECE, PIECE_LEAST, PIECE_MOST as u64)?;
+    check_way(matches)?;
     Ok(())
 }
 
@@ -208,6 +220,7 @@ fn check_probe<'a>(matches: &ArgMatches<'a>) -> Result<(), Refused<'a>>
 {
     check_given(matches, AT)?;
     check_given(matches, SCRIPT)?;
+    check_chain(matches)?;
     Ok(())
 }
 
@@ -220,6 +233,7 @@ fn check_chip<'a>(matches: &ArgMatches<'a>) -> Result<(), Refused<'a>>
     check_given(matches, AT)?;
     check_given(matches, IMAGE)?;
     check_chip_options(matches)?;
+    check_chain(matches)?;
     Ok(())
 }
 
@@ -245,6 +259,34 @@ fn check_chip_options<'a>(matches: &ArgMatches<'a>) -> Result<(), Refused<'a>>
     check_number(matches, SEED, 0, u64::MAX)?;
     check_number(matches, BUSY, BUSY_LEAST, BUSY_MOST)?;
     check_number(matches, EVENTS, EVENTS_LEAST, POINTS_HIGHEST)?;
+    Ok(())
+}
+
+/// The devices of a chain, where they are given.
+#[tactic(auto, using(crate::proofs::ChainWriting::chain_unsaid, crate::proofs::ChainWriting::chain_said))]
+fn check_chain<'a>(matches: &ArgMatches<'a>) -> Result<(), Refused<'a>>
+    ensures named { IfErr result (NamesIn (rows_found matches.now)) }
+    ensures writes { OnOk result (IsSome (chain_in (rows_found matches.now))) }
+{
+    let Some(list) = value(matches, CHAIN) else {
+        return Ok(());
+    };
+    match plan_of(list) {
+        Some(_) => Ok(()),
+        None => Err(Refused::NoChain(list)),
+    }
+}
+
+/// The devices of a chain, which may not stand beside `--loopback`.
+#[tactic(auto, using(crate::proofs::ChainWriting::way_unsaid, crate::proofs::ChainWriting::way_unlooped))]
+fn check_way<'a>(matches: &ArgMatches<'a>) -> Result<(), Refused<'a>>
+    ensures named { IfErr result (NamesIn (rows_found matches.now)) }
+    ensures writes { OnOk result (IsSome (way_in (rows_found matches.now))) }
+{
+    check_chain(matches)?;
+    if value(matches, CHAIN).is_some() && flag(matches, LOOPBACK) {
+        return Err(Refused::ChainLooped);
+    }
     Ok(())
 }
 

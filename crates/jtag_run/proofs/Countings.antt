@@ -1,7 +1,10 @@
 -- A session into a sink that counts, and its summary, over plain variables.
-use Rattle.std.proofs.Common.{◌≡◌, ◌∙◌, ◌<◌, ℕ, Bool, true, false, List, [], Option, Some, None, IfSome, ap, arith}
+use Rattle.std.proofs.Common.{◌≡◌, ◌∙◌, ◌<◌, ℕ, List, [], Option, Some, None, IfSome, ap, arith}
 use Rattle.std.proofs.lemmas.Option.{same_Some}
+use Rattle.chain_scan.specs.ChainPlan.{Plan}
 use Rattle.chip_core.specs.Feeds.{limit_met}
+use Rattle.command_line.specs.declared.job.Way.{Way}
+use Rattle.command_line.specs.declared.job.Way.TheVariants.{Straight, Looped, Chained}
 use Rattle.debug_model.specs.declared.command.Command.{Command}
 use Rattle.debug_model.specs.Chip.{Live}
 use Rattle.debug_model.specs.Told.{Far, read_out}
@@ -11,7 +14,7 @@ use Rattle.jtag_run.specs.Opening.{Joined}
 use Rattle.jtag_run.specs.Outside.{NetSeen}
 use Rattle.jtag_run.specs.Ends.{AreCounted, Counted, CountedBehind, TakesAll, taken_seen}
 use Rattle.jtag_run.specs.Sessions.{OnBench, OnLoop}
-use Rattle.jtag_run.specs.Sessions.Carried.{over_net, straight}
+use Rattle.jtag_run.specs.Sessions.Carried.{chained, over_net, straight}
 use Rattle.line_counts.specs.Counts.{errors_in, lines_in}
 use Rattle.line_counts.specs.Laws.{ErrorsAreCounted, LinesAreCounted}
 use Rattle.probe_session.specs.declared.ended.Ended.{Ended as End}
@@ -57,24 +60,36 @@ takes_all ends.Sink caused = let h : 0 < 0 = caused (omega arith) in absurd (ome
 -- ---- by the way of the stream
 
 pub counted_straight : LinesAreCounted → ErrorsAreCounted
-    → (loopback : Bool) (old bench : Option Live) (script : List Command) (net_was net_is : NetSeen) (taken : List ℕ) (closed : End) → loopback ≡ false
+    → (way : Way) (old bench : Option Live) (script : List Command) (net_was net_is : NetSeen) (taken : List ℕ) (closed : End) → way ≡ Straight
     → net_is ≡ net_was
     → SinkCaused 0 0 closed → IfSome old (λ first. OnBench first script (taken_seen []) (taken_seen taken) bench (limit_met bench) closed)
-    → IfSome old (λ first. Counted loopback first script net_was net_is taken bench closed)
-counted_straight by_line by_error loopback None bench script net_was net_is taken closed direct same caused ran = tt
-counted_straight by_line by_error loopback (Some first) bench script net_was net_is taken closed direct same caused ran = record {
+    → IfSome old (λ first. Counted way first script net_was net_is taken bench closed)
+counted_straight by_line by_error way None bench script net_was net_is taken closed direct same caused ran = tt
+counted_straight by_line by_error way (Some first) bench script net_was net_is taken closed direct same caused ran = record {
   carried = straight direct same ran;
   counted = counted_behind by_line by_error script taken (read_out first) ran.session.headline.far ran.session.end ran.session.headline.holds.written;
   all = takes_all closed caused;
 }
 
+pub counted_chained : LinesAreCounted → ErrorsAreCounted
+    → (way : Way) (plan : Plan) (old bench : Option Live) (script : List Command) (net_was net_is : NetSeen) (taken : List ℕ) (closed : End) → way ≡ Chained plan
+    → net_is ≡ net_was
+    → SinkCaused 0 0 closed → IfSome old (λ first. OnBench first script (taken_seen []) (taken_seen taken) bench (limit_met bench) closed)
+    → IfSome old (λ first. Counted way first script net_was net_is taken bench closed)
+counted_chained by_line by_error way plan None bench script net_was net_is taken closed in_chain same caused ran = tt
+counted_chained by_line by_error way plan (Some first) bench script net_was net_is taken closed in_chain same caused ran = record {
+  carried = chained plan in_chain same ran;
+  counted = counted_behind by_line by_error script taken (read_out first) ran.session.headline.far ran.session.end ran.session.headline.holds.written;
+  all = takes_all closed caused;
+}
+
 pub counted_looped : LinesAreCounted → ErrorsAreCounted
-    → (loopback : Bool) (old bench : Option Live) (script : List Command) (net_was mid net_is : NetSeen) (taken : List ℕ) (closed : End) → loopback ≡ true
+    → (way : Way) (old bench : Option Live) (script : List Command) (net_was mid net_is : NetSeen) (taken : List ℕ) (closed : End) → way ≡ Looped
     → Joined net_was mid
     → SinkCaused 0 0 closed → IfSome old (λ first. OnLoop first script mid net_is (taken_seen []) (taken_seen taken) bench closed)
-    → IfSome old (λ first. Counted loopback first script net_was net_is taken bench closed)
-counted_looped by_line by_error loopback None bench script net_was mid net_is taken closed loops joins caused ran = tt
-counted_looped by_line by_error loopback (Some first) bench script net_was mid net_is taken closed loops joins caused ran = record {
+    → IfSome old (λ first. Counted way first script net_was net_is taken bench closed)
+counted_looped by_line by_error way None bench script net_was mid net_is taken closed loops joins caused ran = tt
+counted_looped by_line by_error way (Some first) bench script net_was mid net_is taken closed loops joins caused ran = record {
   carried = over_net mid loops joins ran;
   counted = counted_behind by_line by_error script taken (read_out first) ran.session.headline.far ran.session.end ran.session.headline.holds.written;
   all = takes_all closed caused;

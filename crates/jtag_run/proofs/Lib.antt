@@ -1,5 +1,6 @@
 pub mod Answered
 pub mod BenchEnds
+pub mod ChainEnds
 mod Countings
 mod Numbers
 pub mod Prepares

@@ -23,9 +23,9 @@ use Rattle.probe_session.specs.declared.ended.Ended.{Ended as End}
 use Rattle.wire_session.specs.Seen.{SinkSeen}
 
 gen_ran : (job : Gen) (net_was net_is : NetSeen) (s t : SinkSeen) (bench mid left : Option Live) (status : Status) (script : List Command) → Made job script mid
-    → ((first : Live) → mid ≡ Some first → GenEnd job.loopback first script net_was net_is s t left status) → RanGen job net_was net_is s t bench left status
+    → ((first : Live) → mid ≡ Some first → GenEnd job.way first script net_was net_is s t left status) → RanGen job net_was net_is s t bench left status
 gen_ran job net_was net_is s t bench mid left status script m step =
-    ran m.image m.made m.loads (subst (λ commands. GenEnd job.loopback (first_chip job.options m.image) commands net_was net_is s t left status) m.script_is
+    ran m.image m.made m.loads (subst (λ commands. GenEnd job.way (first_chip job.options m.image) commands net_was net_is s t left status) m.script_is
     (step (first_chip job.options m.image) m.is))
 
 counted_at : (P : Live → Type 0) (mid : Option Live) (first : Live) → mid ≡ Some first → IfSome mid P → P first
@@ -33,24 +33,24 @@ counted_at P mid first is holds = subst (λ m. IfSome m P) is holds
 
 pub gen_unjoined : (job : Gen) (net_was net_is : NetSeen) (s t : SinkSeen) (bench mid left : Option Live) (status : Status) (script : List Command)
     (fault : NetFault) → Made job script mid
-    → Unjoined job.loopback fault net_was net_is → left ≡ mid → Refused (refusal_of fault) s t status → RanGen job net_was net_is s t bench left status
+    → Unjoined job.way fault net_was net_is → left ≡ mid → Refused (refusal_of fault) s t status → RanGen job net_was net_is s t bench left status
 gen_unjoined job net_was net_is s t bench mid left status script fault m failed kept was =
     gen_ran job net_was net_is s t bench mid left status script m (λ first is. unjoined fault failed was (kept ∙ is))
 
 pub gen_summed : (job : Gen) (net_was net_is : NetSeen) (s u t : SinkSeen) (bench mid left : Option Live) (status : Status) (script : List Command)
     (taken : List ℕ) (closed : End) → Made job script mid
-    → IfSome mid (λ first. Counted job.loopback first script net_was net_is taken left closed) → u.printed ≡ grown (summary_of script taken) s.printed
+    → IfSome mid (λ first. Counted job.way first script net_was net_is taken left closed) → u.printed ≡ grown (summary_of script taken) s.printed
     → s.faults ≤ u.faults
     → ClosedBy closed (limit_met left) u t status → RanGen job net_was net_is s t bench left status
 gen_summed job net_was net_is s u t bench mid left status script taken closed m counted put later told =
     gen_ran job net_was net_is s t bench mid left status script m
-    (λ first is. summed taken closed u (counted_at (λ f. Counted job.loopback f script net_was net_is taken left closed) mid first is counted) put later told)
+    (λ first is. summed taken closed u (counted_at (λ f. Counted job.way f script net_was net_is taken left closed) mid first is counted) put later told)
 
 pub gen_unsummed : (job : Gen) (net_was net_is : NetSeen) (s t : SinkSeen) (bench mid left : Option Live) (status : Status) (script : List Command)
     (taken : List ℕ) (closed : End) → Made job script mid
-    → IfSome mid (λ first. Counted job.loopback first script net_was net_is taken left closed) → GrewByPrefix (summary_of script taken) s.printed t.printed
+    → IfSome mid (λ first. Counted job.way first script net_was net_is taken left closed) → GrewByPrefix (summary_of script taken) s.printed t.printed
     → Rises s.faults t.faults
     → status ≡ status_as.Sink → RanGen job net_was net_is s t bench left status
 gen_unsummed job net_was net_is s t bench mid left status script taken closed m counted front rises sink =
     gen_ran job net_was net_is s t bench mid left status script m
-    (λ first is. unsummed taken closed (counted_at (λ f. Counted job.loopback f script net_was net_is taken left closed) mid first is counted) front rises sink)
+    (λ first is. unsummed taken closed (counted_at (λ f. Counted job.way f script net_was net_is taken left closed) mid first is counted) front rises sink)

@@ -1,5 +1,5 @@
 -- How a job and a run end, over plain variables.
-use Rattle.std.proofs.Common.{◌≡◌, ◌∙◌, ℕ, Bool, true, false, List, Option, Some, None, IfSome, sym, subst}
+use Rattle.std.proofs.Common.{◌≡◌, ◌∙◌, ℕ, List, Option, Some, None, IfSome, refl, sym, subst}
 use Rattle.debug_model.specs.declared.command.Command.{Command}
 use Rattle.chip_core.specs.Feeds.{limit_met}
 use Rattle.debug_model.specs.declared.net.Call.TheVariants as calls
@@ -30,7 +30,10 @@ use Rattle.jtag_run.specs.Jobs.{Both, Chip, Gen, Probe, said_both, said_chip, sa
 use Rattle.jtag_run.specs.declared.refusal.Refusal.{Refusal}
 use Rattle.jtag_run.specs.declared.status.Status.{Status}
 use Rattle.jtag_run.specs.declared.status.Status.TheVariants.{Sink}
+use Rattle.chain_scan.specs.ChainPlan.{Plan}
 use Rattle.command_line.specs.WrittenJob.{job_of}
+use Rattle.command_line.specs.declared.job.Way.{Way}
+use Rattle.command_line.specs.declared.job.Way.TheVariants.{Straight, Looped, Chained}
 use Rattle.probe_session.specs.declared.ended.Ended.{Ended as End}
 use Rattle.wire_session.specs.Seen.{SinkSeen}
 
@@ -50,46 +53,57 @@ pub prepared_fresh : (job : Both) (held : Option (List NamedFile)) (commands : L
     → IsLoadedBench bench
 prepared_fresh job held commands bench p = record { first = first_chip job.options p.image; is = p.is; as_loaded = p.as_loaded }
 
-both_end_at : (loopback : Bool) (job : Both) (image : List ℕ) (commands : List Command) (net_was net_is : NetSeen) (s t : SinkSeen) (mid left : Option Live)
+both_end_at : (way : Way) (job : Both) (image : List ℕ) (commands : List Command) (net_was net_is : NetSeen) (s t : SinkSeen) (mid left : Option Live)
     (status : Status) → mid ≡ Some (first_chip job.options image)
-    → IfSome mid (λ first. BothEnd loopback first commands net_was net_is s t left status)
-    → BothEnd loopback (first_chip job.options image) commands net_was net_is s t left status
-both_end_at loopback job image commands net_was net_is s t mid left status is ended =
-    subst (λ m. IfSome m (λ first. BothEnd loopback first commands net_was net_is s t left status)) is ended
+    → IfSome mid (λ first. BothEnd way first commands net_was net_is s t left status)
+    → BothEnd way (first_chip job.options image) commands net_was net_is s t left status
+both_end_at way job image commands net_was net_is s t mid left status is ended =
+    subst (λ m. IfSome m (λ first. BothEnd way first commands net_was net_is s t left status)) is ended
 
 both_ran : (job : Both) (old new : Outside) (bench mid left : Option Live) (status : Status) (commands : List Command)
     → Prepared job old.files.held commands mid → new.files.asked ≡ asked_both job old.files
-    → IfSome mid (λ first. BothEnd job.loopback first commands old.net new.net old.sink new.sink left status) → RanBoth job old new bench left status
+    → IfSome mid (λ first. BothEnd job.way first commands old.net new.net old.sink new.sink left status) → RanBoth job old new bench left status
 both_ran job old new bench mid left status commands p asked ended =
     both_done commands p.image p.script_reads p.image_is p.loads asked
-    (both_end_at job.loopback job p.image commands old.net new.net old.sink new.sink mid left status p.is ended)
+    (both_end_at job.way job p.image commands old.net new.net old.sink new.sink mid left status p.is ended)
 
-straight_end : (loopback : Bool) (commands : List Command) (net_was net_is : NetSeen) (s t : SinkSeen) (mid left : Option Live) (status : Status)
-    → loopback ≡ false → net_is ≡ net_was
-    → IfSome mid (λ first. BenchEnd first commands s t left status) → IfSome mid (λ first. BothEnd loopback first commands net_was net_is s t left status)
-straight_end true commands net_was net_is s t mid left status direct same ended = absurd (let none : ⊥ = cc in none)
-straight_end false commands net_was net_is s t None left status direct same ended = tt
-straight_end false commands net_was net_is s t (Some first) left status direct same ended = (same, ended)
+-- on the bench, alone or in a chain
+bench_end : (way : Way) → (way ≡ Looped → ⊥) → (commands : List Command) (net_was net_is : NetSeen) (s t : SinkSeen) (mid left : Option Live) (status : Status)
+    → net_is ≡ net_was
+    → IfSome mid (λ first. BenchEnd first commands s t left status) → IfSome mid (λ first. BothEnd way first commands net_was net_is s t left status)
+bench_end way other commands net_was net_is s t None left status same ended = tt
+bench_end Looped other commands net_was net_is s t (Some first) left status same ended = absurd (other refl)
+bench_end Straight other commands net_was net_is s t (Some first) left status same ended = (same, ended)
+bench_end (Chained plan) other commands net_was net_is s t (Some first) left status same ended = (same, ended)
 
-loop_end : (loopback : Bool) (commands : List Command) (net_was net_is : NetSeen) (s t : SinkSeen) (mid left : Option Live) (status : Status) → loopback ≡ true
-    → IfSome mid (λ first. LoopEnd first commands net_was net_is s t left status)
-    → IfSome mid (λ first. BothEnd loopback first commands net_was net_is s t left status)
-loop_end true commands net_was net_is s t mid left status loops ended = ended
-loop_end false commands net_was net_is s t mid left status loops ended = absurd (let none : ⊥ = cc in none)
+straight_loops : (way : Way) → way ≡ Straight → way ≡ Looped → ⊥
+straight_loops way straight looped = let none : Straight ≡ Looped = sym straight ∙ looped in cc
+
+chained_loops : (way : Way) (plan : Plan) → way ≡ Chained plan → way ≡ Looped → ⊥
+chained_loops way plan chained looped = let none : Chained plan ≡ Looped = sym chained ∙ looped in cc
 
 pub both_straight : (job : Both) (old new : Outside) (bench mid left : Option Live) (status : Status) (commands : List Command)
     → Prepared job old.files.held commands mid → new.files.asked ≡ asked_both job old.files
-    → job.loopback ≡ false → new.net ≡ old.net → IfSome mid (λ first. BenchEnd first commands old.sink new.sink left status)
+    → job.way ≡ Straight → new.net ≡ old.net → IfSome mid (λ first. BenchEnd first commands old.sink new.sink left status)
     → RanBoth job old new bench left status
 both_straight job old new bench mid left status commands p asked direct same ended =
     both_ran job old new bench mid left status commands p asked
-    (straight_end job.loopback commands old.net new.net old.sink new.sink mid left status direct same ended)
+    (bench_end job.way (straight_loops job.way direct) commands old.net new.net old.sink new.sink mid left status same ended)
+
+pub both_chained : (job : Both) (plan : Plan) (old new : Outside) (bench mid left : Option Live) (status : Status) (commands : List Command)
+    → Prepared job old.files.held commands mid → new.files.asked ≡ asked_both job old.files
+    → job.way ≡ Chained plan → new.net ≡ old.net → IfSome mid (λ first. BenchEnd first commands old.sink new.sink left status)
+    → RanBoth job old new bench left status
+both_chained job plan old new bench mid left status commands p asked chained same ended =
+    both_ran job old new bench mid left status commands p asked
+    (bench_end job.way (chained_loops job.way plan chained) commands old.net new.net old.sink new.sink mid left status same ended)
 
 pub both_looped : (job : Both) (old new : Outside) (bench mid left : Option Live) (status : Status) (commands : List Command)
     → Prepared job old.files.held commands mid → new.files.asked ≡ asked_both job old.files
-    → job.loopback ≡ true → IfSome mid (λ first. LoopEnd first commands old.net new.net old.sink new.sink left status) → RanBoth job old new bench left status
+    → job.way ≡ Looped → IfSome mid (λ first. LoopEnd first commands old.net new.net old.sink new.sink left status) → RanBoth job old new bench left status
 both_looped job old new bench mid left status commands p asked loops ended =
-    both_ran job old new bench mid left status commands p asked (loop_end job.loopback commands old.net new.net old.sink new.sink mid left status loops ended)
+    both_ran job old new bench mid left status commands p asked
+    (subst (λ way. IfSome mid (λ first. BothEnd way first commands old.net new.net old.sink new.sink left status)) (sym loops) ended)
 
 pub both_refused : (job : Both) (old new : Outside) (bench left : Option Live) (status : Status) (refusal : Refusal) → JobCause job old.files new.files refusal
     → Refused refusal old.sink new.sink status

@@ -2,6 +2,8 @@
 -- The program is this project's own (docs/FORMATS.md, "Statuses").
 use Rattle.std.specs.Prelude.{◌≡◌, ◌≤◌, ℕ, List, [], Bool, true, false, length, count_by, Option, None, Some}
 use Rattle.chip_core.specs.Feeds.{limit_met}
+use Rattle.command_line.specs.declared.job.Way.{Way}
+use Rattle.command_line.specs.declared.job.Way.TheVariants.{Looped}
 use Rattle.debug_model.specs.declared.command.Command.{Command}
 use Rattle.debug_model.specs.declared.net.Call.TheVariants as calls
 use Rattle.debug_model.specs.declared.net.NetFault.{NetFault}
@@ -15,7 +17,7 @@ use Rattle.jtag_run.specs.Opening.{ConnectedAt, Joined, OpenFailed, refusal_of}
 use Rattle.jtag_run.specs.Outside.{NetSeen}
 use Rattle.jtag_run.specs.Refusal.{Refused}
 use Rattle.jtag_run.specs.Sessions.{Carried, OnBench, OnLoop, OnNet}
-use Rattle.jtag_run.specs.Sessions.Carried.{straight, over_net}
+use Rattle.jtag_run.specs.Sessions.Carried.{chained, over_net, straight}
 use Rattle.jtag_run.specs.Summary.{summary_of}
 use Rattle.jtag_run.specs.declared.status.Status.{Status}
 use Rattle.jtag_run.specs.declared.status.Status.TheVariants as status_as
@@ -49,16 +51,18 @@ abbrev pub taken_seen : List ℕ → SinkSeen
 taken_seen taken = record { printed = Some taken; faults = 0 }
 
 -- how the session ended, before its stream, and the chip behind it
-abbrev pub end_of : {loopback : Bool} {first : Live} {script : List Command} {net_was net_is : NetSeen} {was is : SinkSeen} {bench : Option Live}
+abbrev pub end_of : {way : Way} {first : Live} {script : List Command} {net_was net_is : NetSeen} {was is : SinkSeen} {bench : Option Live}
     {limit : Bool} {closed : End}
-    → Carried loopback first script net_was net_is was is bench limit closed → End
+    → Carried way first script net_was net_is was is bench limit closed → End
 end_of (straight direct same ran) = ran.session.end
+end_of (chained plan in_chain same ran) = ran.session.end
 end_of (over_net mid loops joins ran) = ran.session.end
 
-abbrev pub last_of : {loopback : Bool} {first : Live} {script : List Command} {net_was net_is : NetSeen} {was is : SinkSeen} {bench : Option Live}
+abbrev pub last_of : {way : Way} {first : Live} {script : List Command} {net_was net_is : NetSeen} {was is : SinkSeen} {bench : Option Live}
     {limit : Bool} {closed : End}
-    → Carried loopback first script net_was net_is was is bench limit closed → Far
+    → Carried way first script net_was net_is was is bench limit closed → Far
 last_of (straight direct same ran) = ran.session.headline.far
+last_of (chained plan in_chain same ran) = ran.session.headline.far
 last_of (over_net mid loops joins ran) = ran.session.headline.far
 
 -- these bytes have as many lines and error lines as the session's lines are
@@ -89,29 +93,29 @@ TakesAll (ends.Lost why) = Unit {0}
 TakesAll ends.Sink = ⊥
 
 -- the session ran into a sink that counts, which has taken these bytes
-pub record Counted (loopback : Bool) (first : Live) (script : List Command) (net_was net_is : NetSeen) (taken : List ℕ) (bench : Option Live)
+pub record Counted (way : Way) (first : Live) (script : List Command) (net_was net_is : NetSeen) (taken : List ℕ) (bench : Option Live)
     (closed : End) : Type 0 where
-  pub carried : Carried loopback first script net_was net_is (taken_seen []) (taken_seen taken) bench (limit_met bench) closed
+  pub carried : Carried way first script net_was net_is (taken_seen []) (taken_seen taken) bench (limit_met bench) closed
   pub counted : CountedBehind (end_of carried) (shown script (read_out first) (last_of carried)).world.lines taken
   pub all : TakesAll closed
 
 -- the net that was to be joined for it was not
-pub record Unjoined (loopback : Bool) (fault : NetFault) (net_was net_is : NetSeen) : Type 0 where
-  pub loops : loopback ≡ true
+pub record Unjoined (way : Way) (fault : NetFault) (net_was net_is : NetSeen) : Type 0 where
+  pub loops : way ≡ Looped
   pub failed : OpenFailed calls.Join None fault net_was net_is
 
-pub data GenEnd (loopback : Bool) (first : Live) (script : List Command) (net_was net_is : NetSeen) (old new : SinkSeen) (bench : Option Live)
+pub data GenEnd (way : Way) (first : Live) (script : List Command) (net_was net_is : NetSeen) (old new : SinkSeen) (bench : Option Live)
     (status : Status) : Type 0 where
-  unjoined : (fault : NetFault) → Unjoined loopback fault net_was net_is → Refused (refusal_of fault) old new status → bench ≡ Some first
-      → GenEnd loopback first script net_was net_is old new bench status
+  unjoined : (fault : NetFault) → Unjoined way fault net_was net_is → Refused (refusal_of fault) old new status → bench ≡ Some first
+      → GenEnd way first script net_was net_is old new bench status
   -- the summary was printed, and then the end
-  summed : (taken : List ℕ) (closed : End) (mid : SinkSeen) → Counted loopback first script net_was net_is taken bench closed
+  summed : (taken : List ℕ) (closed : End) (mid : SinkSeen) → Counted way first script net_was net_is taken bench closed
       → mid.printed ≡ grown (summary_of script taken) old.printed
-      → old.faults ≤ mid.faults → ClosedBy closed (limit_met bench) mid new status → GenEnd loopback first script net_was net_is old new bench status
+      → old.faults ≤ mid.faults → ClosedBy closed (limit_met bench) mid new status → GenEnd way first script net_was net_is old new bench status
   -- or a front of it
-  unsummed : (taken : List ℕ) (closed : End) → Counted loopback first script net_was net_is taken bench closed
+  unsummed : (taken : List ℕ) (closed : End) → Counted way first script net_was net_is taken bench closed
       → GrewByPrefix (summary_of script taken) old.printed new.printed
-      → Rises old.faults new.faults → status ≡ status_as.Sink → GenEnd loopback first script net_was net_is old new bench status
+      → Rises old.faults new.faults → status ≡ status_as.Sink → GenEnd way first script net_was net_is old new bench status
 
 -- ---- a script on a chip at the far side of a net
 

@@ -5,7 +5,9 @@ use Rattle.debug_model.specs.Schedule.{RoundPlan}
 use Rattle.debug_model.specs.Wire.{piece_most}
 use Rattle.hart_debug.specs.declared.start.Start.{Start}
 use Rattle.hart_debug.specs.declared.start.Start.TheVariants.{Running, Halted}
+use Rattle.chain_scan.specs.ChainPlan.{Plan}
 use Rattle.command_line.specs.declared.job.ChipOptions.{ChipOptions}
+use Rattle.command_line.specs.declared.job.Way.{Way}
 use Rattle.command_line.specs.Job.{JobValue, both, probe, chip, sniff, files, gen}
 use Rattle.command_line.specs.WrittenJob.{InRange, OptionsInRange, least_piece}
 use Rattle.jtag_run.specs.declared.words.BothJob.{BothJob}
@@ -19,47 +21,50 @@ use Rattle.sys_events.specs.Seed.{seed_plan}
 
 -- ---- chip and probe in one process
 
--- the names of the two files that a run reads, the chip's options, the most bytes of a piece of the stream, and whether it goes over a connection
+-- the names of the two files that a run reads, the chip's options, the most bytes of a piece of the stream, and its way to the chip
 pub record Both : Type 0 where
   pub image : List ℕ
   pub script : List ℕ
   pub options : ChipOptions
   pub piece : ℕ
-  pub loopback : Bool
+  pub way : Way
 
 abbrev pub both_value : BothJob → Both
-both_value j = record { image = string_bytes j.image; script = string_bytes j.script; options = j.options; piece = j.piece; loopback = j.loopback }
+both_value j = record { image = string_bytes j.image; script = string_bytes j.script; options = j.options; piece = j.piece; way = j.way }
 
 -- the same, with an image and a script that are made from a number
 pub record Gen : Type 0 where
   pub number : ℕ
   pub options : ChipOptions
   pub piece : ℕ
-  pub loopback : Bool
+  pub way : Way
 
 abbrev pub gen_value : GenJob → Gen
-gen_value j = record { number = j.number; options = j.options; piece = j.piece; loopback = j.loopback }
+gen_value j = record { number = j.number; options = j.options; piece = j.piece; way = j.way }
 
 -- ---- the probe alone
 
--- the address of the target, and the name of the file that a run reads
+-- the address of the target, the name of the file that a run reads, and the devices beside the chip, where it is in a chain
 pub record Probe : Type 0 where
   pub at : List ℕ
   pub script : List ℕ
+  pub chain : Option Plan
 
 abbrev pub probe_value : ProbeJob → Probe
-probe_value j = record { at = string_bytes j.at; script = string_bytes j.script }
+probe_value j = record { at = string_bytes j.at; script = string_bytes j.script; chain = j.chain }
 
 -- ---- a served chip
 
--- the address at which the chip waits for its client, the name of the file that a run reads, and the chip's options
+-- the address at which the chip waits for its client, the name of the file that a run reads, the chip's options, and the devices beside the chip, where it is
+-- in a chain
 pub record Chip : Type 0 where
   pub at : List ℕ
   pub image : List ℕ
   pub options : ChipOptions
+  pub chain : Option Plan
 
 abbrev pub chip_value : ChipJob → Chip
-chip_value j = record { at = string_bytes j.at; image = string_bytes j.image; options = j.options }
+chip_value j = record { at = string_bytes j.at; image = string_bytes j.image; options = j.options; chain = j.chain }
 
 -- ---- a recording
 
@@ -75,16 +80,16 @@ sniff_value j = record { stream = string_bytes j.stream; answers = string_bytes 
 -- ---- what words write
 
 abbrev pub said_both : Both → JobValue
-said_both j = both (files j.image j.script) j.options j.piece j.loopback
+said_both j = both (files j.image j.script) j.options j.piece j.way
 
 abbrev pub said_gen : Gen → JobValue
-said_gen j = both (gen j.number) j.options j.piece j.loopback
+said_gen j = both (gen j.number) j.options j.piece j.way
 
 abbrev pub said_probe : Probe → JobValue
-said_probe j = probe j.at j.script
+said_probe j = probe j.at j.script j.chain
 
 abbrev pub said_chip : Chip → JobValue
-said_chip j = chip j.at j.image j.options
+said_chip j = chip j.at j.image j.options j.chain
 
 abbrev pub said_sniff : Sniff → JobValue
 said_sniff j = sniff j.stream j.answers j.waves

@@ -17,6 +17,8 @@ use Rattle.jtag_run.specs.Jobs.{Both, Chip, Gen, Probe, Sniff, said_both, said_g
 use Rattle.jtag_run.specs.declared.refusal.Refusal.{Refusal}
 use Rattle.jtag_run.specs.declared.status.Status.{Status}
 use Rattle.command_line.specs.WrittenJob.{job_of}
+use Rattle.command_line.specs.declared.job.Way.{Way}
+use Rattle.command_line.specs.declared.job.Way.TheVariants.{Straight, Looped, Chained}
 use Rattle.wire_session.specs.Seen.{SinkSeen}
 
 -- ---- what was accepted
@@ -59,10 +61,11 @@ pub record Made (job : Gen) (script : List Command) (bench : Option Live) : Type
 
 -- ---- each job, once its words are read
 
--- by its way: straight to the bench, and the net stays as it is, or over the net
-abbrev pub BothEnd : (loopback : Bool) → Live → List Command → (net_was net_is : NetSeen) → (old new : SinkSeen) → Option Live → Status → Type 0
-BothEnd false first script net_was net_is old new bench status = (net_is ≡ net_was) × BenchEnd first script old new bench status
-BothEnd true first script net_was net_is old new bench status = LoopEnd first script net_was net_is old new bench status
+-- by its way: straight to the chip on the bench, or to a chain that it is in, and the net stays as it is; or over the net
+abbrev pub BothEnd : Way → Live → List Command → (net_was net_is : NetSeen) → (old new : SinkSeen) → Option Live → Status → Type 0
+BothEnd Straight first script net_was net_is old new bench status = (net_is ≡ net_was) × BenchEnd first script old new bench status
+BothEnd (Chained plan) first script net_was net_is old new bench status = (net_is ≡ net_was) × BenchEnd first script old new bench status
+BothEnd Looped first script net_was net_is old new bench status = LoopEnd first script net_was net_is old new bench status
 
 -- the script or the image was refused, and nothing was opened; or just the two were asked for, and the session ran
 pub data RanBoth (job : Both) (old new : Outside) (bench left : Option Live) (status : Status) : Type 0 where
@@ -70,7 +73,7 @@ pub data RanBoth (job : Both) (old new : Outside) (bench left : Option Live) (st
       → RanBoth job old new bench left status
   ran : (commands : List Command) (image : List ℕ) → HoldsScript old.files.held job.script commands → Holds old.files.held job.image image
       → CanLoad job.options image
-      → new.files.asked ≡ asked_both job old.files → BothEnd job.loopback (first_chip job.options image) commands old.net new.net old.sink new.sink left status
+      → new.files.asked ≡ asked_both job old.files → BothEnd job.way (first_chip job.options image) commands old.net new.net old.sink new.sink left status
       → RanBoth job old new bench left status
 
 -- the image can't be loaded, and nothing was opened; or the session ran
@@ -78,7 +81,7 @@ pub data RanGen (job : Gen) (net_was net_is : NetSeen) (old new : SinkSeen) (ben
   refused : (refusal : Refusal) → GenCause job refusal → Refused refusal old new status → net_is ≡ net_was → left ≡ bench
       → RanGen job net_was net_is old new bench left status
   ran : (image : List ℕ) → IsImageOf (program job.number) image → CanLoad job.options image
-      → GenEnd job.loopback (first_chip job.options image) (commands job.number) net_was net_is old new left status
+      → GenEnd job.way (first_chip job.options image) (commands job.number) net_was net_is old new left status
       → RanGen job net_was net_is old new bench left status
 
 -- the script was refused, and nothing was opened; or just the script was asked for, and the net was opened
@@ -98,9 +101,9 @@ pub data Ran (words : List (List ℕ)) (old new : Outside) (bench : Option Live)
       → Ran words old new bench status
   ran : (job : Both) (commands : List Command) (image : List ℕ) → IsAccepted words old.files.held job commands image
       → new.files.asked ≡ asked_both job old.files
-      → BothEnd job.loopback (first_chip job.options image) commands old.net new.net old.sink new.sink bench status → Ran words old new bench status
+      → BothEnd job.way (first_chip job.options image) commands old.net new.net old.sink new.sink bench status → Ran words old new bench status
   generated : (job : Gen) (image : List ℕ) → IsAcceptedGen words job image → new.files ≡ old.files
-      → GenEnd job.loopback (first_chip job.options image) (commands job.number) old.net new.net old.sink new.sink bench status → Ran words old new bench status
+      → GenEnd job.way (first_chip job.options image) (commands job.number) old.net new.net old.sink new.sink bench status → Ran words old new bench status
   probed : (job : Probe) (commands : List Command) → IsAcceptedProbe words old.files.held job commands → new.files.asked ≡ asked_more job.script old.files.asked
       → ProbeEnd job.at commands old.net new.net old.sink new.sink status → bench ≡ None → Ran words old new bench status
   served : (job : Chip) (image : List ℕ) → IsAcceptedChip words old.files.held job image → new.files.asked ≡ asked_image job old.files

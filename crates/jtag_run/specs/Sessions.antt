@@ -1,9 +1,12 @@
--- A session over the chip on a bench, straight or over a connection of the machine to itself, and a session over a net: what it did there.
+-- A session over the chip on a bench, alone or in a chain, straight or over a connection of the machine to itself, and a session over a net: what it did there.
 -- The program is this project's own.
-use Rattle.std.specs.Prelude.{◌≡◌, ℕ, List, [], Bool, true, false, Option, Some, IfSome}
+use Rattle.std.specs.Prelude.{◌≡◌, ℕ, List, [], Bool, true, Option, Some, IfSome}
 use Rattle.jt_base.specs.Faults.{Rises}
 use Rattle.bench_links.specs.Looped.{looped}
+use Rattle.chain_scan.specs.ChainPlan.{Plan}
 use Rattle.chip_core.specs.Feeds.{far_of, nothing_coming}
+use Rattle.command_line.specs.declared.job.Way.{Way}
+use Rattle.command_line.specs.declared.job.Way.TheVariants.{Straight, Looped, Chained}
 use Rattle.debug_model.specs.declared.command.Command.{Command}
 use Rattle.debug_model.specs.Chip.{Live}
 use Rattle.debug_model.specs.Loaded.{AsLoaded}
@@ -53,13 +56,16 @@ pub record OnLoop (first : Live) (script : List Command) (net_was net_is : NetSe
   pub ties : net_is.state.ties ≡ net_was.state.ties
   pub alike : net_was.state.ties.tells_pipe ≡ true → (Rises net_was.faults net_is.faults → ⊥) → (Rises net_was.ends net_is.ends → ⊥) → differences ≡ 0
 
--- straight, and the net stays as it is; or over the net, which was joined for it
-pub data Carried (loopback : Bool) (first : Live) (script : List Command) (net_was net_is : NetSeen) (was is : SinkSeen) (bench : Option Live) (limit : Bool)
+-- straight to the chip, or to a chain that it is in, and the net stays as it is; or over the net, which was joined for it.
+-- Of the chip in a chain the same is said as of the chip alone
+pub data Carried (way : Way) (first : Live) (script : List Command) (net_was net_is : NetSeen) (was is : SinkSeen) (bench : Option Live) (limit : Bool)
     (closed : End) : Type 0 where
-  straight : loopback ≡ false → net_is ≡ net_was → OnBench first script was is bench limit closed
-      → Carried loopback first script net_was net_is was is bench limit closed
-  over_net : (mid : NetSeen) → loopback ≡ true → Joined net_was mid → OnLoop first script mid net_is was is bench closed
-      → Carried loopback first script net_was net_is was is bench limit closed
+  straight : way ≡ Straight → net_is ≡ net_was → OnBench first script was is bench limit closed
+      → Carried way first script net_was net_is was is bench limit closed
+  chained : (plan : Plan) → way ≡ Chained plan → net_is ≡ net_was → OnBench first script was is bench limit closed
+      → Carried way first script net_was net_is was is bench limit closed
+  over_net : (mid : NetSeen) → way ≡ Looped → Joined net_was mid → OnLoop first script mid net_is was is bench closed
+      → Carried way first script net_was net_is was is bench limit closed
 
 -- ---- over a net
 

@@ -1,4 +1,5 @@
-//! A chip and a probe in one process: the session of a script, straight to the chip on the bench or over a connection of the machine to itself.
+//! A chip and a probe in one process: the session of a script, straight to the chip on the bench, to a chain that it is in, or over a connection of the machine
+//! to itself.
 
 ghost use Rattle.std.specs.Prelude.{◌≡◌, ◌≤◌, IfSome, None};
 ghost use Rattle.debug_model.specs.Wire.{piece_most};
@@ -11,10 +12,12 @@ ghost use Rattle.command_line.specs.WrittenJob.{InRange, OptionsInRange, least_p
 use crate::last_line::{refuse, tell};
 use crate::opening::refusal_of;
 use crate::prepare::prepare;
-use crate::sessions::{run_on_bench, run_on_loop};
+use crate::sessions::{run_on_bench, run_on_chain, run_on_loop};
 use crate::status::Status;
 use crate::words::BothJob;
+use chain_scan::ChainPlan;
 use chip_core::Bench;
+use command_line::Way;
 use debug_model::{Net, Schedule, Script};
 use jt_base::{Files, Sink};
 use std::alloc::Global;
@@ -36,6 +39,23 @@ pub fn both_with<Q: Schedule, K: Sink>(
         bench.new result) }
 {
     let ended = run_on_bench(script, bench, piece, out);
+    tell(out, ended, bench.at_limit())
+}
+
+/// The same on the chip of a chain with the devices of this plan.
+fn chain_with<Q: Schedule, K: Sink>(
+    script: &Script,
+    bench: &mut Bench<Q>,
+    plan: ChainPlan,
+    out: &mut K,
+) -> Status
+    requires fresh { IsLoadedBench bench.old }
+    ensures ended { IfSome bench.old (λ first. BenchEnd first script.now
+        (record { printed = K.contents out.old; faults = K.fault_count out.old })
+        (record { printed = K.contents out.new; faults = K.fault_count out.new })
+        bench.new result) }
+{
+    let ended = run_on_chain(script, bench, plan, out);
     tell(out, ended, bench.at_limit())
 }
 
@@ -68,16 +88,16 @@ fn loop_with<N: Net, Q: Schedule, K: Sink>(
 /// Reads and loads what this job names, and runs its session. Nothing is opened where the script or the image is refused, and the bench stays as it was then.
 pub fn run_both<F: Files, N: Net, K: Sink>(
     alloc: Global,
-    job: &BothJob,
+    job: BothJob,
     files: &mut F,
     net: &mut N,
     out: &mut K,
     bench: &mut Bench<SeedSchedule>,
 ) -> Status
-    requires piece { InRange least_piece piece_most job.now.piece }
-    requires options { OptionsInRange job.now.options }
+    requires piece { InRange least_piece piece_most job.piece }
+    requires options { OptionsInRange job.options }
     requires unopened { (N.state net.old).ties.opening ≡ None }
-    ensures ended { RanBoth (both_value job.now)
+    ensures ended { RanBoth (both_value job)
         (record {
           files = record { held = F.held files.old; asked = F.asked files.old; faults = F.fault_count files.old };
           net = record { state = N.state net.old; peer = N.peer net.old; faults = N.fault_count net.old; ends = N.end_count net.old };
@@ -90,14 +110,14 @@ pub fn run_both<F: Files, N: Net, K: Sink>(
         })
         bench.old bench.new result }
 {
-    match prepare(alloc, job, files, bench) {
-        Ok(script) => {
-            if job.loopback {
-                loop_with(alloc, &script, net, bench, out)
-            } else {
-                both_with(&script, bench, usize::from(job.piece), out)
-            }
-        }
-        Err(refusal) => refuse(out, refusal),
+    let script = match prepare(alloc, &job, files, bench) {
+        Ok(script) => script,
+        Err(refusal) => return refuse(out, refusal),
+    };
+    let BothJob { piece, way, .. } = job;
+    match way {
+        Way::Straight => both_with(&script, bench, usize::from(piece), out),
+        Way::Looped => loop_with(alloc, &script, net, bench, out),
+        Way::Chained(plan) => chain_with(&script, bench, plan, out),
     }
 }

@@ -14,11 +14,12 @@ use crate::last_line::{refuse, tell};
 use crate::opening::refusal_of;
 use crate::prepare::load_chip;
 use crate::refusal::Refusal;
-use crate::sessions::{run_on_bench, run_on_loop};
+use crate::sessions::{run_on_bench, run_on_chain, run_on_loop};
 use crate::status::Status;
 use crate::summary::{Summary, put_summary};
 use crate::words::GenJob;
 use chip_core::Bench;
+use command_line::Way;
 use debug_model::{Net, NetFault, Script};
 use generator::generate;
 use jt_base::{Sink, SinkFault};
@@ -45,63 +46,65 @@ fn make(
     Ok(script)
 }
 
-/// Runs the script into a sink that counts, straight to the bench or over the net, which this opens then.
+/// Runs the script into a sink that counts, on this way to the bench. The net is opened where it goes over that.
 fn count<N: Net>(
     alloc: Global,
-    job: &GenJob,
+    way: Way,
+    piece: u16,
     script: &Script,
     net: &mut N,
     bench: &mut Bench<SeedSchedule>,
     counts: &mut LineCounts,
 ) -> Result<Ended, NetFault>
-    requires piece { InRange least_piece piece_most job.now.piece }
+    requires piece { InRange least_piece piece_most piece }
     requires unopened { (N.state net.old).ties.opening ≡ None }
     requires fresh { IsLoadedBench bench.old }
     requires nothing { counts.old ≡ [] }
-    ensures counted { IfOk result (λ ended. IfSome bench.old (λ first. Counted job.now.loopback first script.now
+    ensures counted { IfOk result (λ ended. IfSome bench.old (λ first. Counted way first script.now
         (record { state = N.state net.old; peer = N.peer net.old; faults = N.fault_count net.old; ends = N.end_count net.old })
         (record { state = N.state net.new; peer = N.peer net.new; faults = N.fault_count net.new; ends = N.end_count net.new })
         counts.new bench.new ended)) }
     ensures of_register { IfOk result IsOfRegister }
-    ensures unjoined { IfErr result (λ fault. Unjoined job.now.loopback fault
+    ensures unjoined { IfErr result (λ fault. Unjoined way fault
         (record { state = N.state net.old; peer = N.peer net.old; faults = N.fault_count net.old; ends = N.end_count net.old })
         (record { state = N.state net.new; peer = N.peer net.new; faults = N.fault_count net.new; ends = N.end_count net.new })) }
     ensures kept { OnErr result (bench.new ≡ bench.old) }
 {
     lines_are_counted();
-    if !job.loopback {
-        return Ok(run_on_bench(script, bench, usize::from(job.piece), counts));
-    }
-    match net.join(alloc) {
-        Ok(()) => Ok(run_on_loop(script, net, bench, counts)),
-        Err(fault) => Err(fault),
+    match way {
+        Way::Straight => Ok(run_on_bench(script, bench, usize::from(piece), counts)),
+        Way::Chained(plan) => Ok(run_on_chain(script, bench, plan, counts)),
+        Way::Looped => match net.join(alloc) {
+            Ok(()) => Ok(run_on_loop(script, net, bench, counts)),
+            Err(fault) => Err(fault),
+        },
     }
 }
 
 /// Makes what the job's number says, runs its session, and prints its summary in the place of a transcript.
 pub fn run_gen<N: Net, K: Sink>(
     alloc: Global,
-    job: &GenJob,
+    job: GenJob,
     net: &mut N,
     out: &mut K,
     bench: &mut Bench<SeedSchedule>,
 ) -> Status
-    requires piece { InRange least_piece piece_most job.now.piece }
-    requires options { OptionsInRange job.now.options }
+    requires piece { InRange least_piece piece_most job.piece }
+    requires options { OptionsInRange job.options }
     requires unopened { (N.state net.old).ties.opening ≡ None }
-    ensures ended { RanGen (gen_value job.now)
+    ensures ended { RanGen (gen_value job)
         (record { state = N.state net.old; peer = N.peer net.old; faults = N.fault_count net.old; ends = N.end_count net.old })
         (record { state = N.state net.new; peer = N.peer net.new; faults = N.fault_count net.new; ends = N.end_count net.new })
         (record { printed = K.contents out.old; faults = K.fault_count out.old })
         (record { printed = K.contents out.new; faults = K.fault_count out.new })
         bench.old bench.new result }
 {
-    let script = match make(alloc, job, bench) {
+    let script = match make(alloc, &job, bench) {
         Ok(script) => script,
         Err(refusal) => return refuse(out, refusal),
     };
     let mut counts = LineCounts::new();
-    let ended = match count(alloc, job, &script, net, bench, &mut counts) {
+    let ended = match count(alloc, job.way, job.piece, &script, net, bench, &mut counts) {
         Ok(ended) => ended,
         Err(fault) => return refuse(out, refusal_of(fault)),
     };

@@ -49,11 +49,11 @@ pub fn run<F: Files, N: Net, K: Sink>(
         Ok(work) => work,
         Err(refusal) => return refuse(out, refusal),
     };
-    match &work {
+    match work {
         Work::Both(job) => run_both(alloc, job, files, net, out, bench),
         Work::Gen(job) => run_gen(alloc, job, net, out, bench),
-        Work::Probe(job) => run_probe(alloc, job, files, net, out),
-        Work::Chip(job) => run_chip(alloc, job, files, net, out, bench),
-        Work::Sniff(job) => run_sniff(alloc, job, files, out),
+        Work::Probe(job) => run_probe(alloc, &job, files, net, out),
+        Work::Chip(job) => run_chip(alloc, &job, files, net, out, bench),
+        Work::Sniff(job) => run_sniff(alloc, &job, files, out),
     }
 }

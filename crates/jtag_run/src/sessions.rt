@@ -1,4 +1,4 @@
-//! Sessions over the wires that a job has: to a bench, over both ends of a joined net to a bench, and over a net.
+//! Sessions over the wires that a job has: to a bench, to a chain on a bench, over both ends of a joined net to a bench, and over a net.
 
 ghost use Rattle.std.specs.Prelude.{◌≡◌, ◌≤◌, IfSome, None, true};
 ghost use Rattle.chip_core.specs.Feeds.{limit_met};
@@ -10,6 +10,9 @@ ghost use Rattle.probe_session.specs.Causes.{SinkCaused};
 ghost use Rattle.wire_session.specs.Closing.{IsOfRegister};
 
 use bench_links::LoopWire;
+use chain_bench::ChainBench;
+use chain_scan::ChainPlan;
+use chain_session::run_chain_session;
 use chip_core::{Bench, BenchWire};
 use debug_model::{Net, Schedule, Script};
 use jt_base::Sink;
@@ -36,6 +39,26 @@ pub fn run_on_bench<Q: Schedule, K: Sink>(
 {
     let mut wire = BenchWire::new(bench, piece);
     run_session(&mut wire, script, out)
+}
+
+/// Runs the script over a wire to a chain of the chip on the bench and the devices of this plan.
+pub fn run_on_chain<Q: Schedule, K: Sink>(
+    script: &Script,
+    bench: &mut Bench<Q>,
+    plan: ChainPlan,
+    out: &mut K,
+) -> Ended
+    requires fresh { IsLoadedBench bench.old }
+    ensures ran { IfSome bench.old (λ first. OnBench first script.now
+        (record { printed = K.contents out.old; faults = K.fault_count out.old })
+        (record { printed = K.contents out.new; faults = K.fault_count out.new })
+        bench.new (limit_met bench.new) result) }
+    ensures of_register { IsOfRegister result }
+    ensures sink_cause { SinkCaused (K.fault_count out.old) (K.fault_count out.new) result }
+    ensures sink_later { K.fault_count out.old ≤ K.fault_count out.new }
+{
+    let mut wire = ChainBench::new(bench, &plan);
+    run_chain_session(&mut wire, plan, script, out)
 }
 
 /// Runs the script over both ends of a joined net, with the bench at its far end.

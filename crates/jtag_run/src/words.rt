@@ -7,7 +7,8 @@ ghost use Rattle.command_line.specs.Job.{both, inputs_value, job_value};
 ghost use Rattle.command_line.specs.WrittenJob.{HasRanges, job_of};
 
 use crate::refusal::Refusal;
-use command_line::{ChipOptions, Inputs, Job, WordsFault, read_words};
+use chain_scan::ChainPlan;
+use command_line::{ChipOptions, Inputs, Job, Way, WordsFault, read_words};
 use std::alloc::Global;
 
 /// A chip and a probe in one process, with an image and a script from two files.
@@ -21,8 +22,8 @@ pub struct BothJob {
     pub options: ChipOptions,
     /// The most bytes of a piece of the stream, from 1 to 256.
     pub piece: u16,
-    /// Whether the stream goes over a connection of the machine to itself.
-    pub loopback: bool,
+    /// The way of the stream to the chip.
+    pub way: Way,
 }
 
 /// A chip and a probe in one process, with an image and a script that are made from a number.
@@ -34,8 +35,8 @@ pub struct GenJob {
     pub options: ChipOptions,
     /// The most bytes of a piece of the stream, from 1 to 256.
     pub piece: u16,
-    /// Whether the stream goes over a connection of the machine to itself.
-    pub loopback: bool,
+    /// The way of the stream to the chip.
+    pub way: Way,
 }
 
 /// A probe alone, which connects to a chip over a net.
@@ -45,6 +46,8 @@ pub struct ProbeJob {
     pub at: String,
     /// The file of the session's script.
     pub script: String,
+    /// The devices beside the chip, where it is in a chain.
+    pub chain: Option<ChainPlan>,
 }
 
 /// A chip that another debugger drives over a net.
@@ -56,6 +59,8 @@ pub struct ChipJob {
     pub image: String,
     /// How the chip is made.
     pub options: ChipOptions,
+    /// The devices beside the chip, where it is in a chain.
+    pub chain: Option<ChainPlan>,
 }
 
 /// A recording of a wire.
@@ -85,9 +90,9 @@ pub enum Work {
 }
 
 /// A chip and a probe in one process, by where the image and the script come from.
-fn work_over(inputs: Inputs, options: ChipOptions, piece: u16, loopback: bool) -> Work
-    ensures work { IsWork (Some (both (inputs_value inputs) options piece loopback)) result }
-    ensures ranges { HasRanges (both (inputs_value inputs) options piece loopback) → HasWorkRanges result }
+fn work_over(inputs: Inputs, options: ChipOptions, piece: u16, way: Way) -> Work
+    ensures work { IsWork (Some (both (inputs_value inputs) options piece way)) result }
+    ensures ranges { HasRanges (both (inputs_value inputs) options piece way) → HasWorkRanges result }
 {
     match inputs {
         Inputs::Files { image, script } => Work::Both(BothJob {
@@ -95,13 +100,13 @@ fn work_over(inputs: Inputs, options: ChipOptions, piece: u16, loopback: bool) -
             script,
             options,
             piece,
-            loopback,
+            way,
         }),
         Inputs::Gen(number) => Work::Gen(GenJob {
             number,
             options,
             piece,
-            loopback,
+            way,
         }),
     }
 }
@@ -112,9 +117,19 @@ fn work_of(job: Job) -> Work
     ensures ranges { HasRanges (job_value job) → HasWorkRanges result }
 {
     match job {
-        Job::Both(inputs, options, piece, loopback) => work_over(inputs, options, piece, loopback),
-        Job::Probe { at, script } => Work::Probe(ProbeJob { at, script }),
-        Job::Chip { at, image, options } => Work::Chip(ChipJob { at, image, options }),
+        Job::Both(inputs, options, piece, way) => work_over(inputs, options, piece, way),
+        Job::Probe { at, script, chain } => Work::Probe(ProbeJob { at, script, chain }),
+        Job::Chip {
+            at,
+            image,
+            options,
+            chain,
+        } => Work::Chip(ChipJob {
+            at,
+            image,
+            options,
+            chain,
+        }),
         Job::Sniff {
             stream,
             answers,

@@ -3,6 +3,7 @@
 ghost use Rattle.std.specs.Prelude.{◌≡◌, ◌<◌, None, IfOk};
 
 mod accesses;
+mod chained;
 mod ended;
 mod generated;
 mod loopback;

@@ -1,41 +1,50 @@
-use command_line::{ChipOptions, Inputs, Job, WordsFault, read_words, why_refused};
+use chain_scan::ChainPlan;
+use command_line::{ChipOptions, Inputs, Job, Way, WordsFault, read_words, why_refused};
 use std::alloc::{AllocError, Global};
 use std::test::Fail;
 
 /// Lines of words, and the jobs that they write, with a bar between them and a line feed after each pair but the last.
-/// Of `both` from the number 5 stand the harts, the bytes of memory, whether they are halted, the seed, the most rounds, the
-/// limit of events, the most bytes of a piece, and whether the bytes go over a connection.
-const JOBS: &str = "both --gen 5|1 65536 false 0 1 16777200 256 false\n\
-both --gen=0x5 --|1 65536 false 0 1 16777200 256 false\n\
-both --halted --gen 5|1 65536 true 0 1 16777200 256 false\n\
-both --loopback --gen 5|1 65536 false 0 1 16777200 256 true\n\
-both --gen 5 --harts 0|0 65536 false 0 1 16777200 256 false\n\
-both --gen 5 --ram=0xABcd|1 43981 false 0 1 16777200 256 false\n\
-both --gen 5 --seed 18446744073709551615|1 65536 false 18446744073709551615 1 16777200 256 false\n\
-both --gen 5 --seed 0xffffFFFFffffFFFF|1 65536 false 18446744073709551615 1 16777200 256 false\n\
-both --gen 5 --seed 00000000000000000007|1 65536 false 7 1 16777200 256 false\n\
-both --gen 5 --busy 1|1 65536 false 0 1 16777200 256 false\n\
-both --gen 5 --busy 32|1 65536 false 0 32 16777200 256 false\n\
-both --gen 5 --busy 032|1 65536 false 0 32 16777200 256 false\n\
-both --gen 5 --busy 0x20|1 65536 false 0 32 16777200 256 false\n\
-both --gen 5 --events 1|1 65536 false 0 1 1 256 false\n\
-both --gen 5 --events 4611686018427387904|1 65536 false 0 1 4611686018427387904 256 false\n\
-both --gen 5 --events=0x4000000000000000|1 65536 false 0 1 4611686018427387904 256 false\n\
-both --gen 5 --piece 1|1 65536 false 0 1 16777200 1 false\n\
-both --gen 5 --piece 256|1 65536 false 0 1 16777200 256 false\n\
-both --script=--halt --image core.bin|Both(Files { image: \"core.bin\", script: \"--halt\" }, \
-ChipOptions { harts: 1, ram: 65536, halted: false, seed: 0, busy: 1, events: 16777200 }, 256, false)\n\
-probe --at localhost:9000 --script probe|Probe { at: \"localhost:9000\", script: \"probe\" }\n\
-chip --at  --image a --halted --harts 4|Chip { at: \"\", image: \"a\", options: \
-ChipOptions { harts: 4, ram: 65536, halted: true, seed: 0, busy: 1, events: 16777200 } }\n\
-chip --at a --image i --events 1000000000|Chip { at: \"a\", image: \"i\", options: \
-ChipOptions { harts: 1, ram: 65536, halted: false, seed: 0, busy: 1, events: 1000000000 } }\n\
-sniff --stream s --answers a|Sniff { stream: \"s\", answers: \"a\", waves: false }\n\
-sniff --vcd --answers=s --stream=a|Sniff { stream: \"a\", answers: \"s\", waves: true }";
+/// Of a chip stand the harts, the bytes of memory, whether they are halted, the seed, the most rounds and the limit of events; of `both` then the most bytes
+/// of a piece. The way to the chip comes last, of a chain the lengths near TDO and far from it.
+const JOBS: &str = "both --gen 5|1 65536 false 0 1 16777200 256 straight\n\
+both --gen=0x5 --|1 65536 false 0 1 16777200 256 straight\n\
+both --halted --gen 5|1 65536 true 0 1 16777200 256 straight\n\
+both --loopback --gen 5|1 65536 false 0 1 16777200 256 looped\n\
+both --gen 5 --harts 0|0 65536 false 0 1 16777200 256 straight\n\
+both --gen 5 --ram=0xABcd|1 43981 false 0 1 16777200 256 straight\n\
+both --gen 5 --seed 18446744073709551615|1 65536 false 18446744073709551615 1 16777200 256 straight\n\
+both --gen 5 --seed 0xffffFFFFffffFFFF|1 65536 false 18446744073709551615 1 16777200 256 straight\n\
+both --gen 5 --seed 00000000000000000007|1 65536 false 7 1 16777200 256 straight\n\
+both --gen 5 --busy 1|1 65536 false 0 1 16777200 256 straight\n\
+both --gen 5 --busy 32|1 65536 false 0 32 16777200 256 straight\n\
+both --gen 5 --busy 032|1 65536 false 0 32 16777200 256 straight\n\
+both --gen 5 --busy 0x20|1 65536 false 0 32 16777200 256 straight\n\
+both --gen 5 --events 1|1 65536 false 0 1 1 256 straight\n\
+both --gen 5 --events 4611686018427387904|1 65536 false 0 1 4611686018427387904 256 straight\n\
+both --gen 5 --events=0x4000000000000000|1 65536 false 0 1 4611686018427387904 256 straight\n\
+both --gen 5 --piece 1|1 65536 false 0 1 16777200 1 straight\n\
+both --gen 5 --piece 256|1 65536 false 0 1 16777200 256 straight\n\
+both --gen 5 --chain 4,t,6|1 65536 false 0 1 16777200 256 near [6] far [4]\n\
+both --gen 5 --chain t,8|1 65536 false 0 1 16777200 256 near [8] far []\n\
+both --chain=8,t --gen 5|1 65536 false 0 1 16777200 256 near [] far [8]\n\
+both --gen 5 --chain 04,t|1 65536 false 0 1 16777200 256 near [] far [4]\n\
+both --gen 5 --chain 0x8,t|1 65536 false 0 1 16777200 256 near [] far [8]\n\
+both --gen 5 --chain t,2,3,4,5,6,7,8|1 65536 false 0 1 16777200 256 near [8, 7, 6, 5, 4, 3, 2] far []\n\
+both --gen 5 --chain 2,3,4,5,6,7,8,t|1 65536 false 0 1 16777200 256 near [] far [8, 7, 6, 5, 4, 3, 2]\n\
+both --gen 5 --chain 2,3,4,t,5,6,7|1 65536 false 0 1 16777200 256 near [7, 6, 5] far [4, 3, 2]\n\
+both --script=--halt --image core.bin|Files { image: \"core.bin\", script: \"--halt\" } 1 65536 false 0 1 16777200 256 straight\n\
+probe --at localhost:9000 --script probe|localhost:9000 probe straight\n\
+probe --at a --script s --chain 4,t,6|a s near [6] far [4]\n\
+chip --at  --image a --halted --harts 4| a 4 65536 true 0 1 16777200 straight\n\
+chip --at a --image i --events 1000000000|a i 1 65536 false 0 1 1000000000 straight\n\
+chip --at a --image i --chain t,8|a i 1 65536 false 0 1 16777200 near [8] far []\n\
+sniff --stream s --answers a|s a listed\n\
+sniff --vcd --answers=s --stream=a|a s drawn";
 
 /// Lines of words that write no job, with a line feed after each but the last: no program or another; an option of another
 /// program, an unknown or a shortened one, or one that asks for help or a version; an option twice, a missing value, a flag with
-/// one, or a word that is no option; inputs that are missing or given twice; words that are no number; numbers out of range.
+/// one, or a word that is no option; inputs that are missing or given twice; words that are no number; numbers out of range; lists that write no chain, or
+/// one that stands beside `--loopback`.
 const REFUSED: &str = "\n\
 Both --gen 5\n\
 bench --gen 5\n\
@@ -109,7 +118,36 @@ sniff --stream s --answers a --script s\n\
 sniff --stream s --answers a --halted\n\
 sniff s a\n\
 both --gen 5 --vcd\n\
-chip --at a --image i --stream s";
+chip --at a --image i --stream s\n\
+both --gen 5 --chain t\n\
+both --gen 5 --chain 4\n\
+both --gen 5 --chain 4,4\n\
+both --gen 5 --chain t,t\n\
+both --gen 5 --chain 4,t,t\n\
+both --gen 5 --chain 4,,t\n\
+both --gen 5 --chain ,t\n\
+both --gen 5 --chain 4,t,\n\
+both --gen 5 --chain 1,t\n\
+both --gen 5 --chain t,1\n\
+both --gen 5 --chain 9,t\n\
+both --gen 5 --chain t,9\n\
+both --gen 5 --chain 260,t\n\
+both --gen 5 --chain=\n\
+both --gen 5 --chain 2,2,2,2,t,2,2,2,2\n\
+both --gen 5 --chain t,2,2,2,2,2,2,2,2\n\
+both --gen 5 --chain 2,2,2,2,2,2,2,2,t\n\
+both --gen 5 --chain T,4\n\
+both --gen 5 --chain 4;t\n\
+both --gen 5 --chain t.4\n\
+both --gen 5 --chain four,t\n\
+both --gen 5 --chain 4,tt\n\
+both --gen 5 --chain\n\
+both --gen 5 --chain 4,t --chain 4,t\n\
+both --gen 5 --chain 4,t --loopback\n\
+both --gen 5 --loopback --chain t,8\n\
+probe --at a --script s --chain t\n\
+chip --at a --image i --chain t\n\
+sniff --stream s --answers a --chain 4,t";
 
 /// Lines of words that write no job, and what is said of them, with a bar between them and a line feed after each pair but the last.
 const WHYS: &str = "Both --gen 5|'Both' is no job: both, probe, chip and sniff are\n\
@@ -133,7 +171,16 @@ probe --at a|--script is missing\n\
 chip --at a|--image is missing\n\
 chip --image i --busy 40|--at is missing\n\
 sniff --vcd|--stream is missing\n\
-sniff --vcd --stream s|--answers is missing";
+sniff --vcd --stream s|--answers is missing\n\
+both --gen 5 --chain 4,4|'4,4' of --chain is no list from TDI to TDO, parted by commas, of 't' for the chip and the instruction register lengths, \
+from 2 to 8, of 1 to 7 others\n\
+probe --at a --script s --chain t|'t' of --chain is no list from TDI to TDO, parted by commas, of 't' for the chip and the instruction register lengths, \
+from 2 to 8, of 1 to 7 others\n\
+chip --at a --image i --chain t,9|'t,9' of --chain is no list from TDI to TDO, parted by commas, of 't' for the chip and the instruction register lengths, \
+from 2 to 8, of 1 to 7 others\n\
+both --gen 5 --loopback --chain 4,4|'4,4' of --chain is no list from TDI to TDO, parted by commas, of 't' for the chip and the instruction register lengths, \
+from 2 to 8, of 1 to 7 others\n\
+both --gen 5 --chain 4,t,6 --loopback|--chain may not stand beside --loopback";
 
 /// The words of a line, which single spaces part.
 fn words_of(alloc: Global, line: &str) -> Result<Vec<String>, AllocError> {
@@ -157,22 +204,75 @@ fn why(alloc: Global, line: &str) -> Result<String, Fail> {
     }
 }
 
+/// The lengths of a chain, near TDO and far from it, or that there is none.
+fn shown_chain(alloc: Global, chain: Option<ChainPlan>) -> Result<String, Fail> {
+    match chain {
+        Some(plan) => Ok(format!(in alloc; "near {:?} far {:?}", plan.near(), plan.far())?),
+        None => Ok(String::from_str(alloc, "straight")?),
+    }
+}
+
+/// The way to the chip.
+fn shown_way(alloc: Global, way: Way) -> Result<String, Fail> {
+    match way {
+        Way::Straight => shown_chain(alloc, None),
+        Way::Looped => Ok(String::from_str(alloc, "looped")?),
+        Way::Chained(plan) => shown_chain(alloc, Some(plan)),
+    }
+}
+
+/// How a chip is made.
+fn shown_options(alloc: Global, options: ChipOptions) -> Result<String, Fail> {
+    let ChipOptions {
+        harts,
+        ram,
+        halted,
+        seed,
+        busy,
+        events,
+    } = options;
+    Ok(format!(in alloc; "{harts} {ram} {halted} {seed} {busy} {events}")?)
+}
+
+/// A job; of one that is made from the number 5 not its inputs.
+fn shown_job(alloc: Global, job: Job) -> Result<String, Fail> {
+    match job {
+        Job::Both(inputs, options, piece, way) => {
+            let options = shown_options(alloc, options)?;
+            let way = shown_way(alloc, way)?;
+            match inputs {
+                Inputs::Gen(5) => Ok(format!(in alloc; "{options} {piece} {way}")?),
+                inputs => Ok(format!(in alloc; "{inputs:?} {options} {piece} {way}")?),
+            }
+        }
+        Job::Probe { at, script, chain } => {
+            let chain = shown_chain(alloc, chain)?;
+            Ok(format!(in alloc; "{at} {script} {chain}")?)
+        }
+        Job::Chip {
+            at,
+            image,
+            options,
+            chain,
+        } => {
+            let options = shown_options(alloc, options)?;
+            let chain = shown_chain(alloc, chain)?;
+            Ok(format!(in alloc; "{at} {image} {options} {chain}")?)
+        }
+        Job::Sniff {
+            stream,
+            answers,
+            waves,
+        } => {
+            let way = if waves { "drawn" } else { "listed" };
+            Ok(format!(in alloc; "{stream} {answers} {way}")?)
+        }
+    }
+}
+
 /// Whether a line's words are this job.
 fn is_job(alloc: Global, line: &str, wanted: &str) -> Result<bool, Fail> {
-    let text = match read(alloc, line)? {
-        Job::Both(Inputs::Gen(5), options, piece, loopback) => {
-            let ChipOptions {
-                harts,
-                ram,
-                halted,
-                seed,
-                busy,
-                events,
-            } = options;
-            format!(in alloc; "{harts} {ram} {halted} {seed} {busy} {events} {piece} {loopback}")?
-        }
-        job => format!(in alloc; "{job:?}")?,
-    };
+    let text = shown_job(alloc, read(alloc, line)?)?;
     Ok(text.as_str() == wanted)
 }
 
@@ -184,11 +284,11 @@ fn reads_or_refuses(rt: HostRuntime) -> Result<(), Fail> {
     }
     for line in REFUSED.split('\n') {
         assert!(rt;
-            read(rt.alloc(), line) == Err(WordsFault::Refused),
+            matches!(read(rt.alloc(), line), Err(WordsFault::Refused)),
             "{line}"
         );
     }
-    assert!(rt; read_words(rt.alloc(), &[]) == Err(WordsFault::Refused));
+    assert!(rt; matches!(read_words(rt.alloc(), &[]), Err(WordsFault::Refused)));
     Ok(())
 }
 

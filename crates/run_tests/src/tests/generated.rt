@@ -37,6 +37,7 @@ fn generated_sessions_print_their_summary(rt: HostRuntime) -> Result<(), Fail> {
         "both --gen 2 --harts 4 --busy 32",
         "both --gen 2 --halted --piece 1",
         "both --gen 2 --loopback",
+        "both --gen 2 --chain 4,t,6",
     ];
     for line in cases {
         let mut net = net_of(alloc, b"", 256, AMPLE, NO_FAILURE)?;

@@ -36,7 +36,7 @@ fn the_limit_is_that_of_the_words(rt: HostRuntime) -> Result<(), Fail> {
 }
 
 /// How many rounds pass, how many turns the harts have and how many Looks are taken in a session that reads the IDCODE of a chip that these words describe.
-fn counted(alloc: Global, chip: &str) -> Result<(u64, u64, u64), Fail> {
+pub fn counted(alloc: Global, chip: &str) -> Result<(u64, u64, u64), Fail> {
     let line = format!(in alloc; "both --image i --script s --piece 3 {chip}")?;
     let mut files = two_files(alloc, PROGRAM, b"idcode", NO_FAILURE)?;
     let outcome = outcome_of(alloc, line.as_str(), &mut files, &mut quiet_net(alloc)?)?;

@@ -6,10 +6,11 @@ use Rattle.chip_server.proofs.serving.serve.Goals as goal
 
 pub pieces-init : goal.pieces-init
 pieces-init g c = (
-  serving_none _ _ c.requires.plain,
+  serving_none g.F.Feed.feeding g.met.F.Feed.takes_pieces _ _ c.requires.plain,
   c.requires.plain,
   c.requires.opened,
   c.requires.loaded,
+  grind (arith, common_steps),
   grind (arith, common_steps),
   grind (arith, common_steps),
   grind (arith, common_steps),
@@ -20,14 +21,15 @@ pieces-init g c = (
 pub pieces-preserved : goal.pieces-preserved
 pieces-preserved g c =
     let given : (g.N.Net.state c.serve_piece.new.net).near_given ≡ (g.N.Net.state c.args.net.now).near_given + (c.pieces.taken + c.in-Ok.count) =
-    serving_given _ _ _ _ _ c.in-Ok.ensures.serving ∙ ap (λ n. n + c.in-Ok.count) c.pieces.invariant.4
+    serving_given g.F.Feed.feeding g.met.F.Feed.takes_pieces _ _ _ _ _ c.in-Ok.ensures.serving ∙ ap (λ n. n + c.in-Ok.count) c.pieces.invariant.4
     ∙ add_assoc (g.N.Net.state c.args.net.now).near_given c.pieces.taken c.in-Ok.count in (
-      serving_on c.pieces_join.ensures _ _ _ _ _ _ _ _ c.requires.plain c.pieces.invariant.0 c.in-Ok.ensures.serving,
-      serving_plain _ _ _ _ _ c.in-Ok.ensures.serving c.pieces.invariant.1,
-      serving_open _ _ _ _ _ c.in-Ok.ensures.serving c.pieces.invariant.2,
+      serving_on g.F.Feed.feeding g.met.F.Feed.takes_pieces _ _ _ _ _ _ _ _ c.requires.plain c.pieces.invariant.0 c.in-Ok.ensures.serving,
+      serving_plain g.F.Feed.feeding g.met.F.Feed.takes_pieces _ _ _ _ _ c.in-Ok.ensures.serving c.pieces.invariant.1,
+      serving_open g.F.Feed.feeding g.met.F.Feed.takes_pieces _ _ _ _ _ c.in-Ok.ensures.serving c.pieces.invariant.2,
       c.serve_piece.ensures.loaded,
       given,
       omega (arith, given, c.in-Ok.ensures.bound),
+      grind (arith, common_steps),
       grind (arith, common_steps),
       grind (arith, common_steps),
       grind (arith, common_steps),
@@ -35,5 +37,5 @@ pieces-preserved g c =
 
 pub returns-in-Err-clause-served : goal.returns-in-Err-clause-served
 returns-in-Err-clause-served g c =
-    rw c.behind.ensures (served_on c.pieces_join.ensures c.pieces.taken c.in-Err.served _ _ _ _ _ _ c.requires.plain c.pieces.invariant.0
+    rw c.behind.ensures (served_on g.F.Feed.feeding g.met.F.Feed.takes_pieces c.pieces.taken c.in-Err.served _ _ _ _ _ _ c.requires.plain c.pieces.invariant.0
     c.in-Err.ensures.served)

@@ -1,6 +1,5 @@
 use Rattle.command_line.specs.WrittenJob.{both_in, both_from}
 use Rattle.command_line.proofs.GivesLemmas.{gives_err, gives_then}
-use Rattle.std.proofs.Common.{sym}
 use Rattle.command_line.proofs.reading.both_in.Goals as goal
 
 pub returns-in_err-inputs : goal.returns-in_err-inputs
@@ -16,6 +15,12 @@ unfolding both_in
 returns-in_err-piece c = gives_then _ _ _ _ _ c.in_ok-inputs.ensures
     (gives_then _ _ _ _ _ c.in_ok-options.ensures (gives_err _ _ _ _ _ c.in_err-piece.ensures.read c.from_residual-in_err-piece.ensures.1))
 
+pub returns-in_err-way : goal.returns-in_err-way
+unfolding both_in
+returns-in_err-way c = gives_then _ _ _ _ _ c.in_ok-inputs.ensures
+    (gives_then _ _ _ _ _ c.in_ok-options.ensures
+    (gives_then _ _ _ _ _ c.in_ok-piece.ensures.read (gives_err _ _ _ _ _ c.in_err-way.ensures c.from_residual-in_err-way.ensures.1)))
+
 pub returns : goal.returns
 unfolding both_in
-returns c = λ i. both_from (c.in_ok-inputs.ensures i) (c.in_ok-options.ensures i) (c.in_ok-piece.ensures.read i) (sym c.flag.ensures i)
+returns c = λ i. both_from (c.in_ok-inputs.ensures i) (c.in_ok-options.ensures i) (c.in_ok-piece.ensures.read i) (c.in_ok-way.ensures i)

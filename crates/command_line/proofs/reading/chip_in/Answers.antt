@@ -15,6 +15,12 @@ unfolding chip_in
 returns-in_err-options c = gives_then _ _ _ _ _ c.in_ok-at.ensures
     (gives_then _ _ _ _ _ c.in_ok-image.ensures (gives_err _ _ _ _ _ c.in_err-options.ensures c.from_residual-in_err-options.ensures.1))
 
+pub returns-in_err-chain : goal.returns-in_err-chain
+unfolding chip_in
+returns-in_err-chain c = gives_then _ _ _ _ _ c.in_ok-at.ensures
+    (gives_then _ _ _ _ _ c.in_ok-image.ensures
+    (gives_then _ _ _ _ _ c.in_ok-options.ensures (gives_err _ _ _ _ _ c.in_err-chain.ensures c.from_residual-in_err-chain.ensures.1)))
+
 pub returns : goal.returns
 unfolding chip_in
-returns c = λ i. chip_from (c.in_ok-at.ensures i) (c.in_ok-image.ensures i) (c.in_ok-options.ensures i)
+returns c = λ i. chip_from (c.in_ok-at.ensures i) (c.in_ok-image.ensures i) (c.in_ok-options.ensures i) (c.in_ok-chain.ensures i)

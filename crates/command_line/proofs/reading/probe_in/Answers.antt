@@ -10,6 +10,11 @@ pub returns-in_err-script : goal.returns-in_err-script
 unfolding probe_in
 returns-in_err-script c = gives_then _ _ _ _ _ c.in_ok-at.ensures (gives_err _ _ _ _ _ c.in_err-script.ensures c.from_residual-in_err-script.ensures.1)
 
+pub returns-in_err-chain : goal.returns-in_err-chain
+unfolding probe_in
+returns-in_err-chain c = gives_then _ _ _ _ _ c.in_ok-at.ensures
+    (gives_then _ _ _ _ _ c.in_ok-script.ensures (gives_err _ _ _ _ _ c.in_err-chain.ensures c.from_residual-in_err-chain.ensures.1))
+
 pub returns : goal.returns
 unfolding probe_in
-returns c = λ i. probe_from (c.in_ok-at.ensures i) (c.in_ok-script.ensures i)
+returns c = λ i. probe_from (c.in_ok-at.ensures i) (c.in_ok-script.ensures i) (c.in_ok-chain.ensures i)

@@ -1,6 +1,6 @@
 use Rattle.std.proofs.Common.{sym, ap, ◌∙◌}
 use Rattle.debug_model.specs.ScriptNumber.{number_read}
-use Rattle.command_line.specs.WrittenJob.{number_of, value_of}
+use Rattle.command_line.specs.Numbers.{number_of, value_of}
 use Rattle.command_line.proofs.values.number_of.Goals as goal
 
 pub returns-in-Ok : goal.returns-in-Ok

@@ -1,5 +1,6 @@
 use Rattle.std.proofs.Common.{ap, ◌∙◌}
-use Rattle.command_line.specs.WrittenJob.{ranged_in, within, ◌>>=◌}
+use Rattle.command_line.specs.WrittenJob.{ranged_in}
+use Rattle.command_line.specs.Numbers.{within, ◌>>=◌}
 use Rattle.command_line.proofs.GivesLemmas.{gives_err}
 use Rattle.command_line.proofs.RangeLemmas.{within_range, within_below, within_above}
 use Rattle.command_line.proofs.values.ranged.Goals.{else-least-number-via-then-least-number+else-number-most, else-least-number-via-else-least-number}

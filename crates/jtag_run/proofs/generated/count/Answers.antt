@@ -1,22 +1,28 @@
 use Rattle.std.proofs.Common.{refl}
-use Rattle.jtag_run.proofs.Countings.{counted_looped, counted_straight}
+use Rattle.jtag_run.proofs.Countings.{counted_chained, counted_looped, counted_straight}
 use Rattle.jtag_run.proofs.generated.count.Goals as goal
 
-pub returns-then-not-job-clause-counted : goal.returns-then-not-job-clause-counted
-returns-then-not-job-clause-counted g c =
-    counted_straight c.lines_are_counted.ensures.lines c.lines_are_counted.ensures.errors c.args.job.now.loopback c.args.bench.now _ c.args.script.now _ _ _ _
-    (cc) refl
+pub returns-in-Straight-clause-counted : goal.returns-in-Straight-clause-counted
+returns-in-Straight-clause-counted g c =
+    counted_straight c.lines_are_counted.ensures.lines c.lines_are_counted.ensures.errors c.args.way c.args.bench.now _ c.args.script.now _ _ _ _
+    c.in-Straight.is refl
     c.run_on_bench.ensures.sink_cause (rw c.requires.nothing at c.run_on_bench.ensures.ran)
+
+pub returns-in-Chained-clause-counted : goal.returns-in-Chained-clause-counted
+returns-in-Chained-clause-counted g c =
+    counted_chained c.lines_are_counted.ensures.lines c.lines_are_counted.ensures.errors c.args.way c.in-Chained.plan c.args.bench.now _ c.args.script.now _ _
+    _ _ c.in-Chained.is refl
+    c.run_on_chain.ensures.sink_cause (rw c.requires.nothing at c.run_on_chain.ensures.ran)
 
 pub returns-in-Ok-clause-counted : goal.returns-in-Ok-clause-counted
 returns-in-Ok-clause-counted g c =
-    counted_looped c.lines_are_counted.ensures.lines c.lines_are_counted.ensures.errors c.args.job.now.loopback c.args.bench.now _ c.args.script.now _
+    counted_looped c.lines_are_counted.ensures.lines c.lines_are_counted.ensures.errors c.args.way c.args.bench.now _ c.args.script.now _
     (record {
       state = g.N.Net.state c.join.new.self;
       peer = g.N.Net.peer c.join.new.self;
       faults = g.N.Net.fault_count c.join.new.self;
       ends =
           g.N.Net.end_count c.join.new.self;
-    }) _ _ _ (cc)
+    }) _ _ _ c.in-Looped.is
     (record { called = c.join.ensures.called; opened = c.in-Ok.ensures.opened; later = c.join.ensures.later; ends = c.join.ensures.ends })
     c.run_on_loop.ensures.sink_cause (rw c.requires.nothing at c.run_on_loop.ensures.ran)

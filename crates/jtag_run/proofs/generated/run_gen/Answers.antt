@@ -9,14 +9,14 @@ returns-in-Err g c = record { ended = refused c.in-Err.refusal c.in-Err.ensures.
 
 pub returns-in-Err-count : goal.returns-in-Err-count
 returns-in-Err-count g c = record {
-  ended = gen_unjoined (gen_value c.args.job.now) _ _ _ _ _ c.make.new.bench _ _ c.in-Ok.script c.in-Err-count.fault c.in-Ok.ensures.made
+  ended = gen_unjoined (gen_value c.args.job) _ _ _ _ _ c.make.new.bench _ _ c.in-Ok.script c.in-Err-count.fault c.in-Ok.ensures.made
       c.in-Err-count.ensures.unjoined c.in-Err-count.ensures.kept
       (rw c.refusal_of.ensures at c.refuse-in-Err-count.ensures.refused);
 }
 
 pub returns-in-Ok-put_summary : goal.returns-in-Ok-put_summary
 returns-in-Ok-put_summary g c = record {
-  ended = gen_summed (gen_value c.args.job.now) _ _ _
+  ended = gen_summed (gen_value c.args.job) _ _ _
       (record { printed = g.K.Sink.contents c.put_summary.new.out; faults = g.K.Sink.fault_count c.put_summary.new.out }) _ _ c.make.new.bench _ _
       c.in-Ok.script c.count.new.counts c.in-Ok-count.ended
       c.in-Ok.ensures.made c.in-Ok-count.ensures.counted (rw (c.commands.ensures.list, c.errors.ensures, c.lines.ensures) at c.in-Ok-put_summary.ensures.put)
@@ -26,7 +26,7 @@ returns-in-Ok-put_summary g c = record {
 
 pub returns : goal.returns
 returns g c = record {
-  ended = gen_unsummed (gen_value c.args.job.now) _ _ _ _ _ c.make.new.bench _ _ c.in-Ok.script c.count.new.counts c.in-Ok-count.ended
+  ended = gen_unsummed (gen_value c.args.job) _ _ _ _ _ c.make.new.bench _ _ c.in-Ok.script c.count.new.counts c.in-Ok-count.ended
       c.in-Ok.ensures.made c.in-Ok-count.ensures.counted (rw (c.commands.ensures.list, c.errors.ensures, c.lines.ensures) at c.in-Err-Failed.ensures.front)
       c.in-Err-Failed.ensures.cause.cause refl;
 }

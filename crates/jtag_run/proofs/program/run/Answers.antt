@@ -30,7 +30,7 @@ returns-in-Chip g c = record {
   ended = run_served _ _ _ _ _ _ (chip_value c.in-Chip.job) (rw c.in-Chip.is at c.in-Ok.ensures.work) c.blank.ensures c.run_chip.ensures.ended;
 }
 
-pub returns : goal.returns
-returns g c = record {
+pub returns-in-Sniff : goal.returns-in-Sniff
+returns-in-Sniff g c = record {
   ended = run_recorded _ _ _ _ _ (sniff_value c.in-Sniff.job) (rw c.in-Sniff.is at c.in-Ok.ensures.work) c.blank.ensures refl c.run_sniff.ensures.ended;
 }
