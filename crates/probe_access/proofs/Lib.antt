@@ -56,6 +56,9 @@ pub mod StorePlaces
 pub mod StoreRuns
 pub mod StoreEnds
 pub mod LoadPlaces
+pub mod AutoReads
+pub mod ReadEnds
+pub mod ReadPlaces
 pub mod StoreBlockClauses
 pub mod LoadBlockClauses
 pub mod NextCuts

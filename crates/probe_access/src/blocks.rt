@@ -18,6 +18,7 @@ ghost use Rattle.probe_run.specs.Told.{Serving};
 
 use crate::elements::{hand_next, next_element, start_block};
 use crate::fault::AccessFault;
+use crate::load_runs::load_runs;
 use crate::program::{X9, element_load_of, store_of};
 use crate::runs::run_all;
 use crate::scratch::save_scratch;
@@ -58,7 +59,9 @@ fn load_elements<D: Dmi>(
     ensures keeps { Keeps access_why (D.seen link.old) (D.seen link.new) result }
 {
     start_block(link, element_load_of(size), size, address)?;
-    'elements: for number in 1..count {
+    load_runs(link, size, address, count, into)?;
+    let first = into.len() as u16 + 1;
+    'elements: for number in first..count {
         let at = element(size, address, number, count);
         let handed = hand_next(link)?;
         into.push(handed.value);

@@ -29,13 +29,13 @@ use rv_model::Size;
 pub const MORE_MOST: u16 = 125;
 
 /// `abstractauto` with which an access to data0 starts the command.
-const BY_DATA0: u32 = 1;
+pub const BY_DATA0: u32 = 1;
 
 /// `cmderr` of an access that came while a command was under way.
-const EARLY: u8 = 1;
+pub const EARLY: u8 = 1;
 
 /// Puts an operation at a place, and answers the place behind it.
-fn put(operation: DmiOp, operations: &mut [DmiOp], at: usize) -> usize
+pub fn put(operation: DmiOp, operations: &mut [DmiOp], at: usize) -> usize
     requires room { at < length operations.old }
     ensures put { take result operations.new ≡ take at operations.old ++ operation ∷ [] }
     ensures behind { result ≡ at + 1 }

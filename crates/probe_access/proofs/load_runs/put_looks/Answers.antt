@@ -1,0 +1,1 @@
+use Rattle.probe_access.proofs.ReadPlaces.{run_loads_only}
