@@ -59,6 +59,9 @@ pub mod LoadPlaces
 pub mod AutoReads
 pub mod ReadEnds
 pub mod ReadPlaces
+pub mod LoadEnds
+pub mod LoadHangs
+pub mod ReadCuts
 pub mod StoreBlockClauses
 pub mod LoadBlockClauses
 pub mod NextCuts
