@@ -62,6 +62,7 @@ pub mod ReadPlaces
 pub mod LoadEnds
 pub mod LoadHangs
 pub mod ReadCuts
+pub mod ReadCalls
 pub mod StoreBlockClauses
 pub mod LoadBlockClauses
 pub mod NextCuts
@@ -73,6 +74,7 @@ pub mod RunCauses
 pub mod StoreBlockCalls
 pub mod BlockCauses
 pub mod ElementCalls
+pub mod ReadHands
 pub mod StoreRunCalls
 pub mod CutSites
 pub mod CutHung

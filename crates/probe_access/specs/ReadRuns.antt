@@ -3,7 +3,7 @@
 -- accesses were made, and so which words were read in front of the error.
 -- RISC-V Debug Specification 1.0, "Abstract Command Autoexec" and "Abstract Control and Status" (cmderr): with an error set no command starts. That the first comes by
 -- a command, that data0 starts the others, and that looks may stand between them, is this project's own choice.
-use Rattle.std.specs.Prelude.{◌≡◌, ◌≢◌, ◌⊎◌, ◌<◌, ◌≤◌, ◌+◌, ◌++◌, ◌∷◌, ℕ, zero, suc, List, [], length, take}
+use Rattle.std.specs.Prelude.{◌≡◌, ◌≢◌, ◌⊎◌, ◌<◌, ◌≤◌, ◌+◌, ◌++◌, ◌∷◌, ℕ, zero, suc, List, [], length, take, drop, slice_index_or}
 use Rattle.rv_model.specs.declared.size.Size.{Size}
 use Rattle.debug_model.specs.Addresses.{abstractauto_address, abstractcs_address, command_address, data0_address, data1_address}
 use Rattle.debug_model.specs.declared.dmi.DmiFault.{DmiFault}
@@ -47,7 +47,29 @@ reads_of looks (suc n) = looks_of looks ++ (Read data1_address ∷ Read data0_ad
 abbrev pub load_ops : ℕ → ℕ → List DmiOp
 load_ops looks more = Write command_address next_word ∷ (reads_of looks more ++ Read abstractcs_address ∷ [])
 
--- they were asked for, the end was shown, an error was cleared, and autoexec is off again
+-- the most operations of its elements
+abbrev pub reads_most : ℕ
+reads_most = 125
+
+-- the most looks in front of each
+abbrev pub looks_most : ℕ
+looks_most = 6
+
+-- the elements of the words that such operations answer, the upper word of each first
+abbrev pub pair_of : List ℕ → ℕ
+pair_of words = joined (slice_index_or words 1 0) (slice_index_or words 0 0)
+
+abbrev pub values_read : ℕ → ℕ → List ℕ → List ℕ
+values_read looks zero words = []
+values_read looks (suc n) words = pair_of (drop looks words) ∷ values_read looks n (drop 2 (drop looks words))
+
+-- they were asked for, the end was shown, and an error was cleared
+pub record LoadsRead (read : List ℕ) (last : ℕ) (old new : Tells) : Type 0 where
+  pub reads : List Act
+  pub are : Reads read reads
+  pub ran : EndedBehind (run_reads reads) last old new
+
+-- the same, and autoexec is off again
 pub record AskedLoads (read : List ℕ) (last : ℕ) (old new : Tells) : Type 0 where
   pub reads : List Act
   pub are : Reads read reads
@@ -79,6 +101,12 @@ pub data RanLoads (size : Size) (address count handed : ℕ) (values : List ℕ)
       → ReadApart x8_number (element_at size address (handed + 2 + taken)) then new → values ≡ take taken read ++ value ∷ []
       → RanLoads size address count handed values old new
 
+-- behind what was handed out before
+pub record HandedMore (size : Size) (address count : ℕ) (before after : List ℕ) (old new : Tells) : Type 0 where
+  pub values : List ℕ
+  pub are : after ≡ before ++ values
+  pub ran : RanLoads size address count (length before) values old new
+
 -- x8 fits no number of accesses: with a word read too early one was made at least
 abbrev pub Misplaced : Size → ℕ → ℕ → ℕ → ℕ → ℕ → Type 0
 Misplaced size address handed more error x8 =
@@ -105,3 +133,12 @@ pub data RunLoadsFailed (size : Size) (address count handed : ℕ) (values : Lis
       → handed + 2 + length read < count → AskedLoads read last old mid → (error_shown last ≡ early_error) ⊎ (error_shown last ≡ exception_error)
       → DoubleRead value mid then → ReadApart x8_number x8 then new → Misplaced size address handed (length read) (error_shown last) x8
       → RunLoadsFailed size address count handed values old_count new_count old new (fault.Odd shown)
+
+pub record HandingFailed (size : Size) (address count : ℕ) (before after : List ℕ) (old_count new_count : ℕ) (old new : Tells) (e : AccessFault) : Type 0 where
+  pub values : List ℕ
+  pub are : after ≡ before ++ values
+  pub failed : RunLoadsFailed size address count (length before) values old_count new_count old new e
+
+-- between these numbers of accesses none fits x8
+abbrev pub NoneMade : Size → ℕ → ℕ → ℕ → ℕ → ℕ → Type 0
+NoneMade size address handed least more x8 = (made : ℕ) → least ≤ made → made ≤ more → x8 ≡ element_at size address (handed + 1 + made) → ⊥
