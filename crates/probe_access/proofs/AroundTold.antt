@@ -50,7 +50,7 @@ Clean access_fault.StillBusy = Unit {0}
 Clean (access_fault.Run why) = ⊥
 Clean (access_fault.Odd shown) = ⊥
 
-apart_clean : (number h : ℕ) (bus : BusUnit) (y : Hart) (base : Site) (w : Hart) (old_count new_count : ℕ) (old new : Tells) (e : AccessFault)
+pub apart_clean : (number h : ℕ) (bus : BusUnit) (y : Hart) (base : Site) (w : Hart) (old_count new_count : ℕ) (old new : Tells) (e : AccessFault)
     → number < 2 ^ 16 → reaches false y number ≡ true → StoodTold h bus y base w old.far
     → ReadApartFailed number old_count new_count old new e → Clean e
 apart_clean number h bus y base w old_count new_count old new (access_fault.Dmi why) small there st f = tt

@@ -22,7 +22,7 @@ PlainMemory address G access_fault.StillBusy = Unit {0}
 PlainMemory address G (access_fault.Run why) = ⊥
 PlainMemory address G (access_fault.Odd shown) = Unit {0}
 
-apart_plain : (number address : ℕ) (G : Type 0) (old_count new_count : ℕ) (old new : Tells) (e : AccessFault)
+pub apart_plain : (number address : ℕ) (G : Type 0) (old_count new_count : ℕ) (old new : Tells) (e : AccessFault)
     → ReadApartFailed number old_count new_count old new e → PlainMemory address G e
 apart_plain number address G old_count new_count old new (access_fault.Dmi why) f = tt
 apart_plain number address G old_count new_count old new (access_fault.Memory at) f = absurd f

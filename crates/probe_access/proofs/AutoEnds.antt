@@ -42,7 +42,7 @@ pub data RunOver (C : ℕ → Hart → Site → Type 0) (Q : ℕ → Memory → 
       → Q i (passed before base).board.memory
       → DoneAt (automatic Exception k h bus) h y (accessed (passed before base).board.memory (passed before base)) t → RunOver C Q word size h bus b t
 
-none_left : (m : Micro) (ms steps : List Micro) → steps ≡ m ∷ ms → steps ≡ [] → ⊥
+pub none_left : (m : Micro) (ms steps : List Micro) → steps ≡ m ∷ ms → steps ≡ [] → ⊥
 none_left m ms steps some none = let e : m ∷ ms ≡ [] = sym some ∙ none in cc
 
 left_program : (word : ℕ) (size : Size) (y : Hart) (k : Kept) → IsProgram word size k → IsProgram word size (left_words y k)
@@ -97,7 +97,7 @@ run_over C P Q word size most h bus w b s es within none (refused i y base k bef
 
 -- ---- the module goes on working
 
-stage_active : (e : Cmderr) (P : Memory → Hart → Memory → Type 0) (Q : Memory → Type 0) (size : Size) (k j : Kept) (h : ℕ) (bus : BusUnit) (y : Hart)
+pub stage_active : (e : Cmderr) (P : Memory → Hart → Memory → Type 0) (Q : Memory → Type 0) (size : Size) (k j : Kept) (h : ℕ) (bus : BusUnit) (y : Hart)
     (base s : Site) → NextStage by_data0 e P Q size k j h bus y base s → s.unit.active ≡ true
 stage_active e P Q size k j h bus y base s (at_transfer harts is) = ap (λ (u : Site). u.unit.active) is
 stage_active e P Q size k j h bus y base s (at_start harts is) = ap (λ (u : Site). u.unit.active) is

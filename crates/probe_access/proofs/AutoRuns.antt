@@ -113,7 +113,7 @@ run_ran C P Q word size most h bus w b ds s t es within is (refused i y base k b
 
 -- ---- a write of data0
 
-abbrev started : Cmderr → Kept → ℕ → BusUnit → DebugModule
+abbrev pub started : Cmderr → Kept → ℕ → BusUnit → DebugModule
 started e k h bus = record { active = true; hartsel = h; commands = started_by e (commands_at by_data0 Fine (begun k) []); bus = bus }
 
 -- it starts the command
@@ -271,7 +271,7 @@ auto_on k h bus y base w s t st one =
     (switched_on k h bus y (passed o.harts base))
 
 -- the command starts while autoexec is on
-command_begins : (k : Kept) (h : ℕ) (bus : BusUnit) (y : Hart) (z : Site) (w : Hart) → HartAt h z w → Frozen y
+pub command_begins : (k : Kept) (h : ℕ) (bus : BusUnit) (y : Hart) (z : Site) (w : Hart) → HartAt h z w → Frozen y
     → operated (Write command_address next_word) (aside (going by_data0 Fine k [] h bus) h y z)
     ≡ aside (going by_data0 Fine (begun k) (all_next (begun k)) h bus) h y z
 unfolding register_at

@@ -9,7 +9,7 @@ use Rattle.probe_run.specs.Acts.{Act, Did, Tells}
 use Rattle.probe_run.specs.Acts.Act.{Got, Put}
 use Rattle.probe_run.specs.Acts.Did.{nothing}
 use Rattle.probe_access.specs.BlockRuns.{Causes, Denied, Fetched, Fetches, Reported, ReportedOddly, LeavesError}
-use Rattle.probe_access.specs.BlockRuns.Fetches.{nothing as none_fetched, polled_behind, polled_first}
+use Rattle.probe_access.specs.BlockRuns.Fetches.{nothing as none_fetched, polled_behind, polled_first, in_run}
 use Rattle.probe_access.specs.BlockRuns.WordsRead.{lower_first, upper_first}
 use Rattle.probe_access.specs.CommandRuns.{CommandFailed, RanCommand, clearing, command_acts, error_shown, poll_act, EndBehindFailed}
 use Rattle.probe_access.specs.MemoryRuns.{AroundFailed, PutBack, PutBackFailed, Recovers, SaveFailed, Saved}
@@ -250,7 +250,7 @@ apart_at_causes number count new_count a b why later (read_in_command _ f) =
 apart_at_causes number count new_count a b why later (read_in_words mid ran _ f) =
     causes_same a mid b (calls _ a mid ran.ran.did) count new_count (access_fault.Dmi why) later (f.acts, f.failed, f.broke)
 
-apart_causes : (number count new_count : ℕ) (a b : Tells) (e : AccessFault) → LinkLater count new_count e → ReadApartFailed number count new_count a b e
+pub apart_causes : (number count new_count : ℕ) (a b : Tells) (e : AccessFault) → LinkLater count new_count e → ReadApartFailed number count new_count a b e
     → Causes count new_count a b e
 apart_causes number count new_count a b (access_fault.Dmi why) later f = apart_at_causes number count new_count a b why later f
 apart_causes number count new_count a b (access_fault.Memory address) later f = absurd f
@@ -338,6 +338,10 @@ more_fetched _ _ more (polled_behind values front words between rest last low hi
     ∙ ap (λ xs. front ++ xs) (append_assoc words (between ++ poll_act last ∷ rest) more)
     ∙ ap (λ xs. front ++ (words ++ xs)) (append_assoc between (poll_act last ∷ rest) more)))
     (polled_behind values front words between (rest ++ more) last low high before read leaves idle fine)
+more_fetched _ _ more (in_run values read front run rest before fetches) =
+    subst (λ xs. Fetches (values ++ read) xs)
+    (sym (append_assoc front (run ++ rest) more ∙ ap (λ xs. front ++ xs) (append_assoc run rest more)))
+    (in_run values read front run (rest ++ more) before fetches)
 
 pub fetched_none : (told : Tells) → Fetched [] told told
 fetched_none told = record { acts = []; did = nothing; fetches = none_fetched [] }

@@ -34,7 +34,7 @@ apart_at_counted number count mid_count new_count old new e le later (read_in_co
 apart_at_counted number count mid_count new_count old new e le later (read_in_words mid ran why b) =
     read_in_words mid ran why (broke_counted (Among DoubleReads) count mid_count new_count mid new.far why le later b)
 
-apart_counted : (number count mid_count new_count : ℕ) (old new : Tells) (e : AccessFault) → count ≤ mid_count → mid_count ≤ new_count
+pub apart_counted : (number count mid_count new_count : ℕ) (old new : Tells) (e : AccessFault) → count ≤ mid_count → mid_count ≤ new_count
     → ReadApartFailed number mid_count new_count old new e → ReadApartFailed number count new_count old new e
 apart_counted number count mid_count new_count old new (access_fault.Dmi why) le later f =
     apart_at_counted number count mid_count new_count old new (access_fault.Dmi why) le later f

@@ -199,7 +199,7 @@ read_at_hung number h bus y base w old_count new_count old new why small st (rea
     let stood : StoodTold h bus y base w mid.far = taken_stood number ran.last h bus y base w st.kept mid.far c.far c.is c.transfer in
     words_hung h bus y base w old_count new_count mid new.far why stood f
 
-apart_hung : (number h : ℕ) (bus : BusUnit) (y : Hart) (base : Site) (w : Hart) (old_count new_count : ℕ) (old new : Tells) (e : AccessFault)
+pub apart_hung : (number h : ℕ) (bus : BusUnit) (y : Hart) (base : Site) (w : Hart) (old_count new_count : ℕ) (old new : Tells) (e : AccessFault)
     → number < 2 ^ 16 → StoodTold h bus y base w old.far → ReadApartFailed number old_count new_count old new e
     → IfCut (Hung (λ z. z ≡ y) h bus base new.far) e
 apart_hung number h bus y base w old_count new_count old new (access_fault.Dmi why) small st f =

@@ -22,8 +22,11 @@ use Rattle.probe_access.specs.ElementRuns.{HandFailed, HandedBy, LoadsFailed, Lo
 use Rattle.probe_access.specs.ElementRuns.{block_program}
 use Rattle.probe_access.specs.ElementRuns.RunFailed.{in_run, faulted, oddly}
 use Rattle.probe_access.specs.Faults.{Among, BrokeIn}
+use Rattle.probe_access.specs.AskedRuns.{Switching}
+use Rattle.probe_access.specs.ReadRuns.{AskLoadsFailed, ReadFront, RunLoadsFailed}
 use Rattle.probe_access.specs.RegisterAccess.{advance_word, ebreak_word, element_load_word, next_word, x8_number, x9_number}
-use Rattle.probe_access.proofs.Counted.{command_counted, read_counted, write_counted}
+use Rattle.probe_access.proofs.AskCalls.{behind_counted}
+use Rattle.probe_access.proofs.Counted.{apart_counted, command_counted, read_counted, write_counted}
 use Rattle.probe_access.proofs.RegisterCalls.{broke_counted, many_broke, sent_acts, two_small}
 use Rattle.probe_access.proofs.SentCalls.{none_vain}
 use Rattle.probe_access.specs.RegisterRuns.{DoubleReads, ReadFailed, RegisterRead}
@@ -137,6 +140,32 @@ last_words_failed last why count mid_count new_count old mid told ran bad le lat
     HandFailed.in_last_words mid (record { last = last; ran = ran; error_is = bad }) why
     (broke_counted (Among DoubleReads) count mid_count new_count mid told.far why le later b)
 
+pub ask_loads_counted : (looks more count mid_count new_count : ℕ) (old new : Tells) (e : AccessFault) → count ≤ mid_count → mid_count ≤ new_count
+    → AskLoadsFailed looks more mid_count new_count old new e → AskLoadsFailed looks more count new_count old new e
+ask_loads_counted looks more count mid_count new_count old new e le later (AskLoadsFailed.in_run f) =
+    AskLoadsFailed.in_run (behind_counted (ReadFront more) _ _ count mid_count new_count old new e le later f)
+ask_loads_counted looks more count mid_count new_count old new e le later (AskLoadsFailed.in_switch front last mid begins r why is f) =
+    AskLoadsFailed.in_switch front last mid begins r why is (broke_counted Switching count mid_count new_count mid new.far why le later f)
+
+pub run_loads_counted : (size : Size) (address block handed : ℕ) (values : List ℕ) (count mid_count new_count : ℕ) (old new : Tells) (e : AccessFault)
+    → count ≤ mid_count → mid_count ≤ new_count → RunLoadsFailed size address block handed values mid_count new_count old new e
+    → RunLoadsFailed size address block handed values count new_count old new e
+run_loads_counted size address block handed values count mid_count new_count old new _ le later (RunLoadsFailed.asking e looks more none within f) =
+    RunLoadsFailed.asking e looks more none within (ask_loads_counted looks more count mid_count new_count old new e le later f)
+run_loads_counted size address block handed values count mid_count new_count old new _ le later (RunLoadsFailed.in_words why read last mid none within a f) =
+    RunLoadsFailed.in_words why read last mid none within a (broke_counted (Among DoubleReads) count mid_count new_count mid new.far why le later f)
+run_loads_counted size address block handed values count mid_count new_count old new _ le later
+    (RunLoadsFailed.finding e read value last mid then none within a words f) =
+    RunLoadsFailed.finding e read value last mid then none within a words (apart_counted x8_number count mid_count new_count then new e le later f)
+run_loads_counted size address block handed values count mid_count new_count old new _ le later
+    (RunLoadsFailed.refused read made value last mid then within a error words few x8 are) =
+    RunLoadsFailed.refused read made value last mid then within a error words few x8 are
+run_loads_counted size address block handed values count mid_count new_count old new _ le later
+    (RunLoadsFailed.oddly shown read last is none within a fine early fault) = RunLoadsFailed.oddly shown read last is none within a fine early fault
+run_loads_counted size address block handed values count mid_count new_count old new _ le later
+    (RunLoadsFailed.misplaced shown read value last x8 mid then is none within a which words found un) =
+    RunLoadsFailed.misplaced shown read value last x8 mid then is none within a which words found un
+
 pub loads_counted : (size : Size) (address block : ℕ) (values : List ℕ) (count mid_count new_count : ℕ) (old new : Tells) (e : AccessFault)
     → count ≤ mid_count → mid_count ≤ new_count → LoadsFailed size address block values mid_count new_count old new e
     → LoadsFailed size address block values count new_count old new e
@@ -144,6 +173,8 @@ loads_counted size address block values count mid_count new_count old new _ le l
     LoadsFailed.in_start e none (start_counted _ size address count mid_count new_count old new e le later f)
 loads_counted size address block values count mid_count new_count old new _ le later (LoadsFailed.handing e mid below on f) =
     LoadsFailed.handing e mid below on (hand_counted count mid_count new_count mid new e le later f)
+loads_counted size address block values count mid_count new_count old new _ le later (LoadsFailed.in_run e front more mid are on f) =
+    LoadsFailed.in_run e front more mid are on (run_loads_counted size address block (length front) more count mid_count new_count mid new e le later f)
 loads_counted size address block values count mid_count new_count old new _ le later (LoadsFailed.refused front last mid are below on r) =
     LoadsFailed.refused front last mid are below on r
 loads_counted size address block values count mid_count new_count old new _ le later (LoadsFailed.in_last e mid all on f) =
@@ -169,7 +200,7 @@ run_as front at named count mid_count new_count old new e is le later f =
 
 -- the next command failed
 pub hand_stops : (size : Size) (address block number count mid_count new_count : ℕ) (values : List ℕ) (old mid new : Tells) (e : AccessFault)
-    → length values + 1 ≡ number → number < block → LoadsOn size address old values mid → count ≤ mid_count → mid_count ≤ new_count
+    → length values + 1 ≡ number → number < block → LoadsOn size address block old values mid → count ≤ mid_count → mid_count ≤ new_count
     → HandFailed mid_count new_count mid new e → LoadsFailed size address block values count new_count old new e
 hand_stops size address block number count mid_count new_count values old mid new e all below on le later f =
     LoadsFailed.handing e mid (omega (arith, all, below)) on (hand_counted count mid_count new_count mid new e le later f)
@@ -180,7 +211,7 @@ handed_as refused is value mid new same h = subst (λ b. HandedBy b value mid ne
 -- memory refused the next element
 pub hand_refused : (size : Size) (address block number at value count new_count : ℕ) (refused : Bool) (front values : List ℕ) (old mid new : Tells)
     → values ≡ front ++ value ∷ [] → length front + 1 ≡ number → number < block → at ≡ element_at size address number → refused ≡ true
-    → LoadsOn size address old front mid → HandedBy refused value mid new
+    → LoadsOn size address block old front mid → HandedBy refused value mid new
     → LoadsFailed size address block values count new_count old new (access_fault.Memory at)
 hand_refused size address block number at value count new_count refused front values old mid new are all below at_is is on h =
     let n : length values ≡ length front + 1 = ap length are ∙ length-append front (value ∷ []) in
@@ -190,28 +221,28 @@ hand_refused size address block number at value count new_count refused front va
     (LoadsFailed.refused front value mid are (omega (arith, m, below)) on (handed_as refused true value mid new is h))
 
 -- or it was loaded
-pub hand_more : (size : Size) (address value : ℕ) (refused : Bool) (front values : List ℕ) (old mid new : Tells) → values ≡ front ++ value ∷ []
-    → refused ≡ false → LoadsOn size address old front mid → HandedBy refused value mid new → LoadsOn size address old values new
-hand_more size address value refused front values old mid new are is on h =
-    subst (λ xs. LoadsOn size address old xs new) (sym are) (LoadsOn.next front value mid new on (handed_as refused false value mid new is h))
+pub hand_more : (size : Size) (address block value : ℕ) (refused : Bool) (front values : List ℕ) (old mid new : Tells) → values ≡ front ++ value ∷ []
+    → refused ≡ false → LoadsOn size address block old front mid → HandedBy refused value mid new → LoadsOn size address block old values new
+hand_more size address block value refused front values old mid new are is on h =
+    subst (λ xs. LoadsOn size address block old xs new) (sym are) (LoadsOn.next front value mid new on (handed_as refused false value mid new is h))
 
 pub last_stops : (size : Size) (address block count mid_count new_count : ℕ) (values : List ℕ) (old mid new : Tells) (e : AccessFault)
-    → length values + 1 ≡ block → LoadsOn size address old values mid → count ≤ mid_count → mid_count ≤ new_count
+    → length values + 1 ≡ block → LoadsOn size address block old values mid → count ≤ mid_count → mid_count ≤ new_count
     → ReadFailed x9_number mid_count new_count mid new e → LoadsFailed size address block values count new_count old new e
 last_stops size address block count mid_count new_count values old mid new e all on le later f =
     LoadsFailed.in_last e mid all on (read_counted x9_number count mid_count new_count mid new e le later f)
 
-pub none_on : (word : ℕ) (size : Size) (address : ℕ) (values : List ℕ) (old new : Tells) → values ≡ [] → word ≡ element_load_word size
-    → Started word size address old new → LoadsOn size address old values new
-none_on word size address values old new none is s =
-    subst (λ xs. LoadsOn size address old xs new) (sym none)
+pub none_on : (word : ℕ) (size : Size) (address block : ℕ) (values : List ℕ) (old new : Tells) → values ≡ [] → word ≡ element_load_word size
+    → Started word size address old new → LoadsOn size address block old values new
+none_on word size address block values old new none is s =
+    subst (λ xs. LoadsOn size address block old xs new) (sym none)
     (LoadsOn.first new (started_as (element_load_word size) word size address old new is s))
 
 pub none_counted : (values : List ℕ) → values ≡ [] → length values + 1 ≡ 1
 none_counted values none = let n : length values ≡ 0 = ap length none in omega (arith, n)
 
 pub last_on : (size : Size) (address block value : ℕ) (front values : List ℕ) (old mid new : Tells) → values ≡ front ++ value ∷ []
-    → length front + 1 ≡ block → LoadsOn size address old front mid → RegisterRead x9_number value mid new → LoadsInside size address block values old new
+    → length front + 1 ≡ block → LoadsOn size address block old front mid → RegisterRead x9_number value mid new → LoadsInside size address block values old new
 last_on size address block value front values old mid new are all on read = record {
   all = ap length are ∙ length-append front (value ∷ []) ∙ all;
   front = front;

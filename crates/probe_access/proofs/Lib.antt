@@ -56,6 +56,13 @@ pub mod StorePlaces
 pub mod StoreRuns
 pub mod StoreEnds
 pub mod LoadPlaces
+pub mod AutoReads
+pub mod ReadEnds
+pub mod ReadPlaces
+pub mod LoadEnds
+pub mod LoadHangs
+pub mod ReadCuts
+pub mod ReadCalls
 pub mod StoreBlockClauses
 pub mod LoadBlockClauses
 pub mod NextCuts
@@ -67,6 +74,7 @@ pub mod RunCauses
 pub mod StoreBlockCalls
 pub mod BlockCauses
 pub mod ElementCalls
+pub mod ReadHands
 pub mod StoreRunCalls
 pub mod CutSites
 pub mod CutHung

@@ -1,6 +1,8 @@
 -- The clauses of a block of loads: what is loaded, what a fault leaves, and that the hart serves again.
 use Rattle.probe_run.specs.Told.{Serving}
-use Rattle.std.proofs.Common.{◌≡◌, ◌∙◌, ◌≤◌, ◌<◌, ◌+◌, ◌*◌, ◌^◌, ℕ, List, [], length, Option, Some, None, refl, sym, subst}
+use Rattle.std.proofs.Common.{◌≡◌, ◌∙◌, ◌++◌, ◌∷◌, ◌≤◌, ◌<◌, ◌+◌, ◌*◌, ◌^◌, ℕ, List, [], length, take, ap, arith, Option, Some, None, refl, sym, subst}
+use Rattle.std.proofs.Common.{length-append}
+use Rattle.std.proofs.lemmas.List.{length-take-le}
 use Rattle.rv_model.specs.declared.size.Size.{Size}
 use Rattle.rv_model.specs.Board.{Hart}
 use Rattle.rv_model.specs.Size.{count_of}
@@ -16,16 +18,19 @@ use Rattle.probe_access.specs.Accesses.{IfMemory}
 use Rattle.probe_access.specs.Blocks.{BlockLoadLeft, BlockLoadedAt, element_at}
 use Rattle.probe_access.specs.ElementRuns.{HandFailed, Handed, LoadRuns, LoadRunsFailed, LoadsFailed, LoadsInside, LoadsOn, StartFailed, block_program}
 use Rattle.probe_access.specs.MemoryRuns.{AroundFailed, PutBack}
+use Rattle.probe_access.specs.ReadRuns.{AskLoadsFailed, AskedLoads, RanLoads, RunLoadsFailed}
+use Rattle.probe_access.specs.RegisterRuns.{ReadApart}
 use Rattle.probe_access.specs.RegisterAccess.{element_load_word, next_word, x8_number, x9_number}
 use Rattle.probe_access.proofs.AccessEnd.{back_untold, saved_untold, written_untold}
 use Rattle.probe_access.proofs.Along.{did_untold}
 use Rattle.probe_access.proofs.AroundLemmas.{around_saved}
-use Rattle.probe_access.proofs.AroundUntold.{command_plain, read_plain, write_plain}
+use Rattle.probe_access.proofs.AroundUntold.{apart_plain, behind_plain, command_plain, read_plain, write_plain}
 use Rattle.probe_access.proofs.BlockAround.{BackWith, BlockInside, OnlyAt, PlainAt, around_at, around_ok, around_untold, plain_at, plain_at_map}
 use Rattle.probe_access.proofs.ElementSites.{loaded_more, not_loaded_more, stood_turns}
 use Rattle.probe_access.proofs.ElementWords.{element_first}
 use Rattle.probe_access.proofs.LoadClauses.{fits_of}
-use Rattle.probe_access.proofs.LoadPlaces.{LoadFault, LoadsDone, loads_done, loads_only}
+use Rattle.probe_access.proofs.LoadEnds.{loads_done, loads_only, run_below}
+use Rattle.probe_access.proofs.LoadPlaces.{LoadFault, LoadsDone}
 use Rattle.probe_access.proofs.RegAnswers.{read_untold}
 use Rattle.probe_access.proofs.RegClauses.{first_told, untold_serving}
 use Rattle.probe_access.proofs.StoreBlockClauses.{back_serving, block_at, run_plain, started_untold}
@@ -49,18 +54,33 @@ pub record LoadBlockOk (size : Size) (address h : ℕ) (values : List ℕ) (old 
 handed_untold : (error value : ℕ) (old new : Tells) → Handed error value old new → old.far ≡ None → new.far ≡ None
 handed_untold error value old new r is = did_untold r.mid _ new r.words.did (did_untold old _ r.mid r.ran.ran.did is)
 
-loads_untold : (size : Size) (address : ℕ) (old : Tells) (values : List ℕ) (new : Tells) → LoadsOn size address old values new → old.far ≡ None
+asked_untold : (read : List ℕ) (last : ℕ) (old new : Tells) → AskedLoads read last old new → old.far ≡ None → new.far ≡ None
+asked_untold read last old new a is = did_untold a.mid _ new a.off (did_untold old _ a.mid a.ran.did is)
+
+apart_untold : (number value : ℕ) (old new : Tells) → ReadApart number value old new → old.far ≡ None → new.far ≡ None
+apart_untold number value old new r is = did_untold r.mid _ new r.words.did (did_untold old _ r.mid r.ran.ran.did is)
+
+ran_untold : (size : Size) (address count handed : ℕ) (values : List ℕ) (old new : Tells) → RanLoads size address count handed values old new
+    → old.far ≡ None → new.far ≡ None
+ran_untold size address count handed values old new (RanLoads.whole read value last mid within a error words are) is =
+    did_untold mid _ new words.did (asked_untold read last old mid a is)
+ran_untold size address count handed values old new (RanLoads.short read made value last mid then within a error words few x8 are) is =
+    apart_untold x8_number _ then new x8 (did_untold mid _ then words.did (asked_untold read last old mid a is))
+
+loads_untold : (size : Size) (address count : ℕ) (old : Tells) (values : List ℕ) (new : Tells) → LoadsOn size address count old values new → old.far ≡ None
     → new.far ≡ None
-loads_untold size address old _ _ (LoadsOn.first new started) is = started_untold (element_load_word size) size address old new started is
-loads_untold size address old _ _ (LoadsOn.next values value mid new on r) is =
-    handed_untold 0 value mid new r (loads_untold size address old values mid on is)
+loads_untold size address count old _ _ (LoadsOn.first new started) is = started_untold (element_load_word size) size address old new started is
+loads_untold size address count old _ _ (LoadsOn.next values value mid new on r) is =
+    handed_untold 0 value mid new r (loads_untold size address count old values mid on is)
+loads_untold size address count old _ _ (LoadsOn.ran values more mid new on r) is =
+    ran_untold size address count (length values) more mid new r (loads_untold size address count old values mid on is)
 
 pub load_block_ok : (size : Size) (address count h : ℕ) (values : List ℕ) (far : Option Far) (coming : Option DmiComing) (new : Tells)
     → address + count * count_of size ≤ 2 ^ 64 → 0 < count → IsReady far → Selects h far → IsHalted h far
     → LoadRuns size address count (tells far coming) values new → LoadBlockOk size address h values far new.far
 load_block_ok size address count h values None coming new ends some ready selects halted r =
     let a : r.first.far ≡ None = saved_untold r.x8 r.x9 (tells None coming) r.first r.saved refl in
-    let b : r.inside.mid.far ≡ None = loads_untold size address r.first r.inside.front r.inside.mid r.inside.on a in
+    let b : r.inside.mid.far ≡ None = loads_untold size address count r.first r.inside.front r.inside.mid r.inside.on a in
     let c : r.last.far ≡ None = read_untold x9_number r.inside.last r.inside.mid r.last r.inside.read b in
     let d : new.far ≡ None = back_untold r.x8 r.x9 r.last new r.put_back c in
     record { loaded = d; serving = untold_serving h new.far d }
@@ -110,6 +130,38 @@ hand_plain G old_count new_count old new _ (HandFailed.in_words mid r why f) = t
 hand_plain G old_count new_count old new _ (HandFailed.in_last_words mid r why f) = tt
 hand_plain G old_count new_count old new _ (HandFailed.oddly shown r) = tt
 
+asking_plain : (G : ℕ → Type 0) (looks more old_count new_count : ℕ) (old new : Tells) (e : AccessFault)
+    → AskLoadsFailed looks more old_count new_count old new e → PlainAt G e
+asking_plain G looks more old_count new_count old new e (AskLoadsFailed.in_run f) =
+    plain_at G e (behind_plain _ _ _ 0 ⊥ old_count new_count old new e f)
+asking_plain G looks more old_count new_count old new e (AskLoadsFailed.in_switch front last mid begins r why is b) =
+    subst (λ f. PlainAt G f) (sym is) tt
+
+taken_long : (read : List ℕ) (made value : ℕ) → made ≤ length read → length (take made read ++ value ∷ []) ≡ made + 1
+taken_long read made value few = length-append (take made read) (value ∷ []) ∙ ap (λ n. n + 1) (length-take-le made read few)
+
+run_loads_plain : (size : Size) (address count old_count new_count : ℕ) (values more : List ℕ) (old new : Tells) (e : AccessFault) → old.far ≡ None
+    → RunLoadsFailed size address count (length values) more old_count new_count old new e → PlainAt (λ a. UntoldLoad size address count (values ++ more) a new) e
+run_loads_plain size address count old_count new_count values more old new _ none (RunLoadsFailed.asking e looks n nothing within f) =
+    asking_plain (λ a. UntoldLoad size address count (values ++ more) a new) looks n old_count new_count old new e f
+run_loads_plain size address count old_count new_count values more old new _ none (RunLoadsFailed.in_words why read last mid nothing within a f) = tt
+run_loads_plain size address count old_count new_count values more old new _ none
+    (RunLoadsFailed.finding e read value last mid then nothing within a words f) =
+    plain_at (λ a. UntoldLoad size address count (values ++ more) a new) e (apart_plain x8_number 0 ⊥ old_count new_count then new e f)
+run_loads_plain size address count old_count new_count values more old new _ none
+    (RunLoadsFailed.refused read made value last mid then within a error words few x8 are) =
+    let n : length (values ++ more) ≡ length values + (made + 1) =
+    length-append values more ∙ ap (λ m. length values + m) (ap length are ∙ taken_long read made value few) in
+    record {
+      below = omega (arith, n, few, within);
+      at_is = ap (element_at size address) (let e : length values + 1 + made ≡ length values + (made + 1) = omega arith in e ∙ sym n);
+      untold = apart_untold x8_number _ then new x8 (did_untold mid _ then words.did (asked_untold read last old mid a none));
+    }
+run_loads_plain size address count old_count new_count values more old new _ none
+    (RunLoadsFailed.oddly shown read last is nothing within a fine early fault) = tt
+run_loads_plain size address count old_count new_count values more old new _ none
+    (RunLoadsFailed.misplaced shown read value last x8 mid then is nothing within a which words found un) = tt
+
 loads_plain : (size : Size) (address count old_count new_count : ℕ) (values : List ℕ) (old new : Tells) (e : AccessFault) → 0 < count → old.far ≡ None
     → LoadsFailed size address count values old_count new_count old new e → PlainAt (λ a. UntoldLoad size address count values a new) e
 loads_plain size address count old_count new_count values old new _ some none (LoadsFailed.in_start e nothing f) =
@@ -117,8 +169,11 @@ loads_plain size address count old_count new_count values old new _ some none (L
     (start_plain size address count old_count new_count old new e some none f)
 loads_plain size address count old_count new_count values old new _ some none (LoadsFailed.handing e mid below on f) =
     hand_plain (λ a. UntoldLoad size address count values a new) old_count new_count mid new e f
+loads_plain size address count old_count new_count values old new _ some none (LoadsFailed.in_run e front more mid are on f) =
+    subst (λ xs. PlainAt (λ a. UntoldLoad size address count xs a new) e) (sym are)
+    (run_loads_plain size address count old_count new_count front more mid new e (loads_untold size address count old front mid on none) f)
 loads_plain size address count old_count new_count values old new _ some none (LoadsFailed.refused front last mid are below on r) =
-    record { below = below; at_is = refl; untold = handed_untold 3 last mid new r (loads_untold size address old front mid on none) }
+    record { below = below; at_is = refl; untold = handed_untold 3 last mid new r (loads_untold size address count old front mid on none) }
 loads_plain size address count old_count new_count values old new _ some none (LoadsFailed.in_last e mid all on f) =
     plain_at (λ a. UntoldLoad size address count values a new) e (read_plain x9_number 0 ⊥ old_count new_count mid new e f)
 

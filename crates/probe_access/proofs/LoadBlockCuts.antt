@@ -30,6 +30,10 @@ use Rattle.probe_access.proofs.CutHung.{Hung, HungAt, hung_map}
 use Rattle.probe_access.proofs.CutSites.{cut_always, if_cut}
 use Rattle.probe_access.proofs.ElementWords.{LoadsElement, scratched_advanced, x9_again}
 use Rattle.probe_access.proofs.LoadBlockClauses.{loads_inside}
+use Rattle.probe_access.proofs.LoadEnds.{loads_place, run_below}
+use Rattle.probe_access.proofs.LoadHangs.{LoadHung, LoadHungAt, any_scratched, hung_before, hung_behind, hung_within, load_fits}
+use Rattle.probe_access.proofs.LoadHangs.LoadHungAt.{within, behind}
+use Rattle.probe_access.proofs.ReadCuts.{run_loads_hung}
 use Rattle.probe_access.proofs.LoadPlaces.{
   LoadFault,
   LoadPlace,
@@ -40,7 +44,6 @@ use Rattle.probe_access.proofs.LoadPlaces.{
   load_aimed,
   load_decides,
   load_place_aimed,
-  loads_place,
   on_element,
   place_load,
 }
@@ -56,55 +59,7 @@ use Rattle.probe_access.proofs.StoreBlockCuts.{any_put, written_scratch}
 use Rattle.probe_access.proofs.StorePlaces.{BlockAt, block_puts, block_there, with_block}
 use Rattle.probe_access.proofs.WordAccess.{LoadFaults}
 
--- ---- where it stands
-
--- elements were loaded, more than were handed out maybe, and the next one maybe too; or all were
-pub data LoadHungAt (size : Size) (address count : ℕ) (values : List ℕ) (h : ℕ) (bus : BusUnit) (x : Hart) (s t : Site) : Type 0 where
-  within : (more : List ℕ) (base : Site) → length (values ++ more) < count → LoadedEach size address s (values ++ more) base → HartAt h base x
-      → base.unit.bus ≡ bus → InsideAt (AnyScratch x) LoadLeaves h bus base t → LoadHungAt size address count values h bus x s t
-  behind : (more : List ℕ) (base : Site) → length (values ++ more) ≡ count → LoadedEach size address s (values ++ more) base → HartAt h base x
-      → base.unit.bus ≡ bus → HungAt (AnyScratch x) h bus base t → LoadHungAt size address count values h bus x s t
-
-pub record LoadHung (size : Size) (address count : ℕ) (values : List ℕ) (h : ℕ) (bus : BusUnit) (x : Hart) (s : Site) (told : Option Far) : Type 0 where
-  pub far : Far
-  pub is : told ≡ Some far
-  pub hung : LoadHungAt size address count values h bus x s (site_of far)
-
-hung_within : (size : Size) (address count h : ℕ) (values more : List ℕ) (bus : BusUnit) (x : Hart) (s base : Site) (told : Option Far)
-    → length (values ++ more) < count → LoadedEach size address s (values ++ more) base → HartAt h base x → base.unit.bus ≡ bus
-    → HungInside (AnyScratch x) LoadLeaves h bus base told → LoadHung size address count values h bus x s told
-hung_within size address count h values more bus x s base told below each here bus_is p =
-    record { far = p.far; is = p.is; hung = within more base below each here bus_is p.inside }
-
-hung_behind : (size : Size) (address count h : ℕ) (values more : List ℕ) (bus : BusUnit) (x : Hart) (s base : Site) (told : Option Far)
-    → length (values ++ more) ≡ count → LoadedEach size address s (values ++ more) base → HartAt h base x → base.unit.bus ≡ bus
-    → Hung (AnyScratch x) h bus base told → LoadHung size address count values h bus x s told
-hung_behind size address count h values more bus x s base told all each here bus_is p =
-    record { far = p.far; is = p.is; hung = behind more base all each here bus_is p.hung }
-
-hung_before : (size : Size) (address count h : ℕ) (bus : BusUnit) (x : Hart) (s : Site) (told : Option Far) → 0 < count → HartAt h s x
-    → s.unit.bus ≡ bus → Hung (AnyScratch x) h bus s told → LoadHung size address count [] h bus x s told
-hung_before size address count h bus x s told some here bus_is p =
-    record { far = p.far; is = p.is; hung = within [] s some none_loaded here bus_is (not_yet p.hung) }
-
 -- ---- one element
-
-load_fits : (size : Size) (address done q : ℕ) (x : Hart) → length x.core.x ≡ 32
-    → NextFits (LoadsElement size (element_at size address done) (on_element size address done q x)) (LoadFaults size (element_at size address done))
-    (AnyScratch x) LoadLeaves size (on_element size address done q x)
-load_fits size address done q x all =
-    let a : ℕ = element_at size address done in
-    record {
-      first = record { p = a; q = q; is = refl };
-      hart = λ m z n l. record { p = a; q = l.value; is = l.hart ∙ x9_again a q l.value x };
-      raised = λ m z n l. record {
-        p = _;
-        q = l.value;
-        is = ap (advanced size) (l.hart ∙ x9_again a q l.value x) ∙ scratched_advanced size a l.value x all;
-      };
-      memory = λ m z n l. l.memory;
-      refused = λ m q. refl;
-    }
 
 start_hung : (size : Size) (address count h : ℕ) (bus : BusUnit) (x : Hart) (s : Site) (old_count new_count : ℕ) (old new : Tells) (e : AccessFault)
     → BlockAt size address count x s → s.unit.bus ≡ bus → StoodTold h bus x s x old.far
@@ -129,9 +84,6 @@ start_hung size address count h bus x s old_count new_count old new e env bus_is
     (λ m. load_decides size address count 0 q x s m env env.some ready.stood.frozen) f)
 
 -- ---- one that was to be handed out
-
-any_scratched : (x z : Hart) (p q : ℕ) → z ≡ scratched p q x → AnyScratch x z
-any_scratched x z p q is = record { p = p; q = q; is = is }
 
 -- while its words were read, behind the access of the next
 words_cut : (size : Size) (address count h : ℕ) (values : List ℕ) (bus : BusUnit) (x : Hart) (s : Site) (old_count new_count : ℕ) (old mid new : Tells)
@@ -212,6 +164,11 @@ loads_hung size address count h values bus x s old_count new_count old new _ env
 loads_hung size address count h values bus x s old_count new_count old new _ env bus_is st (LoadsFailed.handing e mid below on f) =
     hand_hung size address count h values bus x s old_count new_count mid new e env below
     (loads_place size address count h bus x s old values mid env bus_is (omega (arith, below)) st on) f
+loads_hung size address count h values bus x s old_count new_count old new _ env bus_is st (LoadsFailed.in_run e front more mid are on f) =
+    subst (λ xs. IfCut (LoadHung size address count xs h bus x s new.far) e) (sym are)
+    (run_loads_hung size address count front more old_count new_count h bus x s mid new e env
+    (loads_place size address count h bus x s old front mid env bus_is (run_below size address count (length front) more old_count new_count mid new e f) st on)
+    f)
 loads_hung size address count h values bus x s old_count new_count old new _ env bus_is st (LoadsFailed.refused front last mid are below on r) = tt
 loads_hung size address count h values bus x s old_count new_count old new _ env bus_is st (LoadsFailed.in_last e mid all on f) =
     let pl : LoadPlace size address count values h bus x s mid.far =

@@ -193,7 +193,7 @@ first_load size address count last h bus x s old new env st ran =
     x s s old new env env.some st (block_puts (element_load_word size) size h bus (on_element size address 0 (first_x9 x) x) st.kept)
     (block_there (element_load_word size) size st.kept) ran
 
-started_place : (size : Size) (address count h : ℕ) (bus : BusUnit) (x : Hart) (s : Site) (old new : Tells) → BlockAt size address count x s
+pub started_place : (size : Size) (address count h : ℕ) (bus : BusUnit) (x : Hart) (s : Site) (old new : Tells) → BlockAt size address count x s
     → s.unit.bus ≡ bus → StoodTold h bus x s x old.far → Started (element_load_word size) size address old new
     → LoadPlace size address count [] h bus x s new.far
 started_place size address count h bus x s old new env bus_is st r =
@@ -266,16 +266,6 @@ next_load size address count values value h bus x s old new env below pl r =
     (record { before = w.before; hart = w.hart; memory = w.memory; did = w.did; then = t.set }) in
     subst (λ v. LoadPlace size address count (values ++ v ∷ []) h bus x s new.far) (sym same) went
 
-pub loads_place : (size : Size) (address count h : ℕ) (bus : BusUnit) (x : Hart) (s : Site) (old : Tells) (values : List ℕ) (new : Tells)
-    → BlockAt size address count x s → s.unit.bus ≡ bus → length values < count → StoodTold h bus x s x old.far → LoadsOn size address old values new
-    → LoadPlace size address count values h bus x s new.far
-loads_place size address count h bus x s old _ _ env bus_is below st (LoadsOn.first new started) =
-    started_place size address count h bus x s old new env bus_is st started
-loads_place size address count h bus x s old _ _ env bus_is below st (LoadsOn.next values value mid new on r) =
-    let n : length (values ++ value ∷ []) ≡ length values + 1 = all_but_last values value in
-    next_load size address count values value h bus x s mid new env (omega (arith, n, below))
-    (loads_place size address count h bus x s old values mid env bus_is (omega (arith, n, below)) st on) r
-
 -- ---- the last one
 
 -- all were loaded and handed out
@@ -287,7 +277,7 @@ pub record LoadsDone (size : Size) (address count : ℕ) (values : List ℕ) (h 
   pub some : 0 < length values
   pub all : length values ≡ count
 
-last_load : (size : Size) (address count : ℕ) (front : List ℕ) (last h : ℕ) (bus : BusUnit) (x : Hart) (s : Site) (mid new : Tells)
+pub last_load : (size : Size) (address count : ℕ) (front : List ℕ) (last h : ℕ) (bus : BusUnit) (x : Hart) (s : Site) (mid new : Tells)
     → length x.core.x ≡ 32 → length (front ++ last ∷ []) ≡ count → LoadPlace size address count front h bus x s mid.far
     → RegisterRead x9_number last mid new
     → LeftWith (LoadsDone size address count (front ++ last ∷ []) h bus x s) h bus x new.far
@@ -312,18 +302,6 @@ last_load size address count front last h bus x s mid new all count_is pl r =
       then = a.then;
     }
 
-pub loads_done : (size : Size) (address count h : ℕ) (bus : BusUnit) (x : Hart) (s : Site) (values : List ℕ) (old new : Tells)
-    → BlockAt size address count x s → s.unit.bus ≡ bus → StoodTold h bus x s x old.far
-    → LoadsInside size address count values old new
-    → LeftWith (LoadsDone size address count values h bus x s) h bus x new.far
-loads_done size address count h bus x s values old new env bus_is st r =
-    let n : length (r.front ++ r.last ∷ []) ≡ length r.front + 1 = all_but_last r.front r.last in
-    let m : length values ≡ length (r.front ++ r.last ∷ []) = ap length r.are in
-    let all : length values ≡ count = r.all in
-    subst (λ xs. LeftWith (LoadsDone size address count xs h bus x s) h bus x new.far) (sym r.are)
-    (last_load size address count r.front r.last h bus x s r.mid new env.all (omega (arith, m, all))
-    (loads_place size address count h bus x s old r.front r.mid env bus_is (omega (arith, n, m, all)) st r.on) r.read)
-
 -- ---- faults
 
 load_fault_at : (size : Size) (address count q at h : ℕ) (values : List ℕ) (bus : BusUnit) (x : Hart) (s base : Site) (told : Option Far)
@@ -340,7 +318,7 @@ load_fault_at size address count q at h values bus x s base told below at_is eac
   then = w.then.then;
 }
 
-start_only : (size : Size) (address count h : ℕ) (bus : BusUnit) (x : Hart) (s : Site) (old_count new_count : ℕ) (old new : Tells) (e : AccessFault)
+pub start_only : (size : Size) (address count h : ℕ) (bus : BusUnit) (x : Hart) (s : Site) (old_count new_count : ℕ) (old new : Tells) (e : AccessFault)
     → BlockAt size address count x s → s.unit.bus ≡ bus → StoodTold h bus x s x old.far
     → StartFailed (element_load_word size) size address old_count new_count old new e
     → OnlyAt (λ at. LeftWith (LoadFault size address count [] at h bus x s) h bus x new.far) e
@@ -358,7 +336,7 @@ start_only size address count h bus x s old_count new_count old new e env bus_is
     old_count new_count mid new e
     (λ last ran. first_load size address count last h bus x s mid new env (load_aimed size address h bus x s old mid env.all st x8) ran) f)
 
-hand_clean : (size : Size) (address count : ℕ) (values : List ℕ) (h : ℕ) (bus : BusUnit) (x : Hart) (s : Site) (old_count new_count : ℕ)
+pub hand_clean : (size : Size) (address count : ℕ) (values : List ℕ) (h : ℕ) (bus : BusUnit) (x : Hart) (s : Site) (old_count new_count : ℕ)
     (old new : Tells) (e : AccessFault) → BlockAt size address count x s → length values + 1 < count
     → LoadPlace size address count values h bus x s old.far → HandFailed old_count new_count old new e → Clean e
 hand_clean size address count values h bus x s old_count new_count old new _ env below pl (HandFailed.in_run e f) =
@@ -394,27 +372,3 @@ refused_place size address count front last h bus x s old new env below pl r =
     } in
     subst (λ v. LeftWith (LoadFault size address count (front ++ v ∷ []) (element_at size address (length (front ++ v ∷ []))) h bus x s) h bus x new.far)
     (sym same) left
-
-pub loads_only : (size : Size) (address count h : ℕ) (values : List ℕ) (bus : BusUnit) (x : Hart) (s : Site) (old_count new_count : ℕ)
-    (old new : Tells) (e : AccessFault) → BlockAt size address count x s → s.unit.bus ≡ bus → StoodTold h bus x s x old.far
-    → LoadsFailed size address count values old_count new_count old new e
-    → OnlyAt (λ at. LeftWith (LoadFault size address count values at h bus x s) h bus x new.far) e
-loads_only size address count h values bus x s old_count new_count old new _ env bus_is st (LoadsFailed.in_start e none f) =
-    subst (λ xs. OnlyAt (λ at. LeftWith (LoadFault size address count xs at h bus x s) h bus x new.far) e) (sym none)
-    (start_only size address count h bus x s old_count new_count old new e env bus_is st f)
-loads_only size address count h values bus x s old_count new_count old new _ env bus_is st (LoadsFailed.handing e mid below on f) =
-    clean_at (λ at. LeftWith (LoadFault size address count values at h bus x s) h bus x new.far) e
-    (hand_clean size address count values h bus x s old_count new_count mid new e env below
-    (loads_place size address count h bus x s old values mid env bus_is (omega (arith, below)) st on) f)
-loads_only size address count h values bus x s old_count new_count old new _ env bus_is st (LoadsFailed.refused front last mid are below on r) =
-    let n : length (front ++ last ∷ []) ≡ length front + 1 = all_but_last front last in
-    let m : length values ≡ length (front ++ last ∷ []) = ap length are in
-    subst (λ xs. LeftWith (LoadFault size address count xs (element_at size address (length xs)) h bus x s) h bus x new.far) (sym are)
-    (refused_place size address count front last h bus x s mid new env (omega (arith, n, m, below))
-    (loads_place size address count h bus x s old front mid env bus_is (omega (arith, n, m, below)) st on) r)
-loads_only size address count h values bus x s old_count new_count old new _ env bus_is st (LoadsFailed.in_last e mid all on f) =
-    let pl : LoadPlace size address count values h bus x s mid.far =
-    loads_place size address count h bus x s old values mid env bus_is (omega (arith, all)) st on in
-    clean_at (λ at. LeftWith (LoadFault size address count values at h bus x s) h bus x new.far) e
-    (read_clean x9_number h bus (scratched pl.p pl.last x) pl.base x old_count new_count mid new e (omega arith) (reads_x9 (scratched pl.p pl.last x))
-    pl.set.then f)

@@ -224,7 +224,7 @@ together_cut n C P Q Y N word size most h bus w i y base k (o ∷ done) op left 
 -- ---- behind it
 
 -- the clearing of an error
-clear_half : (e : Cmderr) (C : ℕ → Hart → Site → Type 0) (Y : Hart → Type 0) (k : Kept) (h : ℕ) (bus : BusUnit) (y : Hart) (base : Site) (w : Hart)
+pub clear_half : (e : Cmderr) (C : ℕ → Hart → Site → Type 0) (Y : Hart → Type 0) (k : Kept) (h : ℕ) (bus : BusUnit) (y : Hart) (base : Site) (w : Hart)
     (s t : Site) → Held h w base → Frozen y → bus.pending ≡ None → Y y → DoneAt (automatic e k h bus) h y base s
     → SiteCut (Write abstractcs_address clears_cmderr) s t → HungAt Y h bus base t
 clear_half e C Y k h bus y base w s t held fy idle one d (unperformed c) =
@@ -256,7 +256,7 @@ clears_cut C P Q Y N word size most last h bus w b s t es f within error (except
     }
 
 -- the switching off
-off_half : (Y : Hart → Type 0) (k : Kept) (h : ℕ) (bus : BusUnit) (y : Hart) (base : Site) (w : Hart) (s t : Site) → Held h w base → Frozen y
+pub off_half : (Y : Hart → Type 0) (k : Kept) (h : ℕ) (bus : BusUnit) (y : Hart) (base : Site) (w : Hart) (s t : Site) → Held h w base → Frozen y
     → bus.pending ≡ None → Y y → DoneAt (automatic Fine k h bus) h y base s → SiteCut (Write abstractauto_address 0) s t → HungAt Y h bus base t
 off_half Y k h bus y base w s t held fy idle one d (unperformed c) =
     hung_done Y (automatic Fine k h bus) h bus y base t refl one (done_ran (automatic Fine k h bus) h y base w c.deeds s t held fy refl idle c.is d)
@@ -360,7 +360,7 @@ begun_half n C P Q Y N word size most h bus w i y base old_count new_count old t
           cut.cut;
     }
 
-nothing_more : (t : Site) → RanAlone t t
+pub nothing_more : (t : Site) → RanAlone t t
 unfolding ran
 nothing_more t = record { deeds = []; is = refl }
 

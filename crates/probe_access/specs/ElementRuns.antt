@@ -15,6 +15,7 @@ use Rattle.probe_access.specs.Blocks.{element_at}
 use Rattle.probe_access.specs.CommandRuns.{CommandFailed}
 use Rattle.probe_access.specs.Faults.{Among, BrokeIn}
 use Rattle.probe_access.specs.MemoryRuns.{Around, AroundFailed, SaveFailed, Saved, SavedFailed}
+use Rattle.probe_access.specs.ReadRuns.{RanLoads, RunLoadsFailed}
 use Rattle.probe_access.specs.RegisterAccess.{advance_word, ebreak_word, element_load_word, next_word, store_word, x8_number, x9_number}
 use Rattle.probe_access.specs.RegisterRuns.{
   DoubleRead,
@@ -73,32 +74,37 @@ pub data HandFailed (old_count new_count : ℕ) (old new : Tells) : AccessFault 
       → BrokeIn (Among DoubleReads) old_count new_count mid new.far why → HandFailed old_count new_count old new (fault.Dmi why)
   oddly : (shown : OddStatus) → RanOddly [] next_word shown old new → HandFailed old_count new_count old new (fault.Odd shown)
 
--- just one more than these was loaded, upwards from the address, each by one command, and these were handed out
-pub data LoadsOn (size : Size) (address : ℕ) (old : Tells) : List ℕ → Tells → Type 0 where
-  first : (new : Tells) → Started (element_load_word size) size address old new → LoadsOn size address old [] new
-  next : (values : List ℕ) (value : ℕ) (mid new : Tells) → LoadsOn size address old values mid → Handed no_error value mid new
-      → LoadsOn size address old (values ++ value ∷ []) new
+-- just one more than these was loaded, upwards from the address, each by one command or in runs, which end in front of the block's last, and these were handed out
+pub data LoadsOn (size : Size) (address count : ℕ) (old : Tells) : List ℕ → Tells → Type 0 where
+  first : (new : Tells) → Started (element_load_word size) size address old new → LoadsOn size address count old [] new
+  next : (values : List ℕ) (value : ℕ) (mid new : Tells) → LoadsOn size address count old values mid → Handed no_error value mid new
+      → LoadsOn size address count old (values ++ value ∷ []) new
+  ran : (values more : List ℕ) (mid new : Tells) → LoadsOn size address count old values mid → RanLoads size address count (length values) more mid new
+      → LoadsOn size address count old (values ++ more) new
 
--- just these, all of the block, were loaded, each by one command, and handed out
+-- just these, all of the block, were loaded, each by one command or in runs, and handed out
 pub record LoadsInside (size : Size) (address count : ℕ) (values : List ℕ) (old new : Tells) : Type 0 where
   pub all : length values ≡ count
   pub front : List ℕ
   pub last : ℕ
   pub are : values ≡ front ++ last ∷ []
   pub mid : Tells
-  pub on : LoadsOn size address old front mid
+  pub on : LoadsOn size address count old front mid
   pub read : RegisterRead x9_number last mid new
 
 -- it failed when these had been handed out
 pub data LoadsFailed (size : Size) (address count : ℕ) (values : List ℕ) (old_count new_count : ℕ) (old new : Tells) : AccessFault → Type 0 where
   in_start : (e : AccessFault) → values ≡ [] → StartFailed (element_load_word size) size address old_count new_count old new e
       → LoadsFailed size address count values old_count new_count old new e
-  handing : (e : AccessFault) (mid : Tells) → length values + 1 < count → LoadsOn size address old values mid → HandFailed old_count new_count mid new e
+  handing : (e : AccessFault) (mid : Tells) → length values + 1 < count → LoadsOn size address count old values mid → HandFailed old_count new_count mid new e
       → LoadsFailed size address count values old_count new_count old new e
-  refused : (front : List ℕ) (last : ℕ) (mid : Tells) → values ≡ front ++ last ∷ [] → length values < count → LoadsOn size address old front mid
+  in_run : (e : AccessFault) (front more : List ℕ) (mid : Tells) → values ≡ front ++ more → LoadsOn size address count old front mid
+      → RunLoadsFailed size address count (length front) more old_count new_count mid new e
+      → LoadsFailed size address count values old_count new_count old new e
+  refused : (front : List ℕ) (last : ℕ) (mid : Tells) → values ≡ front ++ last ∷ [] → length values < count → LoadsOn size address count old front mid
       → Handed exception_error last mid new
       → LoadsFailed size address count values old_count new_count old new (fault.Memory (element_at size address (length values)))
-  in_last : (e : AccessFault) (mid : Tells) → length values + 1 ≡ count → LoadsOn size address old values mid
+  in_last : (e : AccessFault) (mid : Tells) → length values + 1 ≡ count → LoadsOn size address count old values mid
       → ReadFailed x9_number old_count new_count mid new e → LoadsFailed size address count values old_count new_count old new e
 
 -- the whole block, with x8 and x9 saved and put back

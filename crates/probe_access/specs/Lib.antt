@@ -20,3 +20,4 @@ pub mod SingleSteps
 pub mod StepRuns
 pub mod Stops
 pub mod RegisterAccess
+pub mod ReadRuns

@@ -18,7 +18,8 @@ ghost use Rattle.probe_run.specs.Told.{Serving};
 
 use crate::elements::{hand_next, next_element, start_block};
 use crate::fault::AccessFault;
-use crate::program::{X9, element_load_of, store_of};
+use crate::load_runs::load_front;
+use crate::program::{X9, store_of};
 use crate::runs::run_all;
 use crate::scratch::save_scratch;
 use crate::transfers::{read_register, write_register};
@@ -31,7 +32,7 @@ use rv_model::Size;
 pub const ELEMENTS_MOST: usize = 512;
 
 /// The address of an element of a block.
-fn element(size: Size, address: u64, number: u16, count: u16) -> u64
+pub fn element(size: Size, address: u64, number: u16, count: u16) -> u64
     requires within { number < count }
     requires ends { address + count * count_of size ≤ all_addresses }
     ensures { result ≡ element_at size address number }
@@ -57,8 +58,9 @@ fn load_elements<D: Dmi>(
     ensures failed { IfErr result (Fails (LoadsFailed size address count into.new.items) (D.seen link.old) (D.seen link.new)) }
     ensures keeps { Keeps access_why (D.seen link.old) (D.seen link.new) result }
 {
-    start_block(link, element_load_of(size), size, address)?;
-    'elements: for number in 1..count {
+    load_front(link, size, address, count, into)?;
+    let first = into.len() as u16 + 1;
+    'elements: for number in first..count {
         let at = element(size, address, number, count);
         let handed = hand_next(link)?;
         into.push(handed.value);

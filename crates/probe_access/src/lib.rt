@@ -21,6 +21,7 @@ mod doubles;
 mod elements;
 mod fault;
 mod inside;
+mod load_runs;
 mod memory;
 mod odd;
 mod program;

@@ -29,13 +29,13 @@ use rv_model::Size;
 pub const MORE_MOST: u16 = 125;
 
 /// `abstractauto` with which an access to data0 starts the command.
-const BY_DATA0: u32 = 1;
+pub const BY_DATA0: u32 = 1;
 
 /// `cmderr` of an access that came while a command was under way.
-const EARLY: u8 = 1;
+pub const EARLY: u8 = 1;
 
 /// Puts an operation at a place, and answers the place behind it.
-fn put(operation: DmiOp, operations: &mut [DmiOp], at: usize) -> usize
+pub fn put(operation: DmiOp, operations: &mut [DmiOp], at: usize) -> usize
     requires room { at < length operations.old }
     ensures put { take result operations.new ≡ take at operations.old ++ operation ∷ [] }
     ensures behind { result ≡ at + 1 }
@@ -95,7 +95,7 @@ fn run_elements<D: Dmi>(link: &mut D, more: u16) -> Result<u32, AccessFault>
 }
 
 /// How many elements of a block lie in front of the address in x8, where it is that of an element of a run that follows the first `done`.
-fn place_of(size: Size, address: u64, done: u16, more: u16, x8: u64) -> Option<u16>
+pub fn place_of(size: Size, address: u64, done: u16, more: u16, x8: u64) -> Option<u16>
     requires few { done + 1 + more ≤ most_elements }
     requires ends { address + (done + 1 + more) * count_of size < 2 ^ 64 }
     ensures there { IfSome result (λ found. (done ≤ found) × (found < done + 1 + more) × (x8 ≡ element_at size address found)) }

@@ -43,7 +43,7 @@ fn read_at_once<D: Dmi>(link: &mut D, register: u16) -> Result<Option<u64>, Acce
 }
 
 /// Reads a register of the selected hart by calls of their own: the data words are read behind the end of the transfer.
-fn read_apart<D: Dmi>(link: &mut D, register: u16) -> Result<u64, AccessFault>
+pub fn read_apart<D: Dmi>(link: &mut D, register: u16) -> Result<u64, AccessFault>
     requires callable { CanCall (D.seen link.old) }
     ensures read { IfOk result (λ value. ReadApart register value (told (D.seen link.old)) (told (D.seen link.new))) }
     ensures failed { IfErr result (Fails (ReadApartFailed register) (D.seen link.old) (D.seen link.new)) }

@@ -4,21 +4,18 @@ use Rattle.probe_access.proofs.ElementCalls.{hand_more, hand_refused, hand_stops
 use Rattle.probe_access.proofs.RegisterCalls.{err_failed}
 use Rattle.probe_access.proofs.blocks.load_elements.Goals as goal
 
-pub returns-in_err-start_block-clause-failed : goal.returns-in_err-start_block-clause-failed
-returns-in_err-start_block-clause-failed g c =
-    err_failed _ c.in_err-start_block.field-0.0 _ c.from_residual.ensures.1
-    (in_start c.in_err-start_block.field-0.0 c.requires.empty
-    (start_as _ _ c.args.size c.args.address _ _ _ _ _ c.in_err-start_block.field-0.0 c.element_load_of.ensures (omega arith)
-    c.start_block.ensures.keeps.later c.in_err-start_block.ensures.failed))
+pub returns-in_err-load_front-clause-failed : goal.returns-in_err-load_front-clause-failed
+returns-in_err-load_front-clause-failed g c = err_failed _ c.in_err-load_front.field-0.0 _ c.from_residual.ensures.1 c.in_err-load_front.ensures.failed
 
 pub elements-init : goal.elements-init
 elements-init g c = record {
-  all = none_counted _ c.requires.empty;
-  on = none_on _ c.args.size c.args.address _ _ _ c.requires.empty c.element_load_of.ensures c.in_ok-start_block.ensures.started;
-  callable = record { alive = c.in_ok-start_block.ensures.keeps.behind.alive; link = c.in_ok-start_block.ensures.keeps.behind.link };
-  stands = c.in_ok-start_block.ensures.keeps.behind;
-  later = c.start_block.ensures.keeps.later;
-  fixed = c.start_block.ensures.keeps.fixed;
+  all = omega (arith, c.len.ensures.value, c.in_ok-load_front.ensures.most, c.requires.room);
+  most = omega (arith, c.len.ensures.value, c.in_ok-load_front.ensures.most, c.requires.room);
+  on = c.in_ok-load_front.ensures.on;
+  callable = record { alive = c.in_ok-load_front.ensures.keeps.behind.alive; link = c.in_ok-load_front.ensures.keeps.behind.link };
+  stands = c.in_ok-load_front.ensures.keeps.behind;
+  later = c.load_front.ensures.keeps.later;
+  fixed = c.load_front.ensures.keeps.fixed;
 }
 
 pub returns-in_err-handed-clause-failed : goal.returns-in_err-handed-clause-failed
@@ -37,7 +34,8 @@ returns-then-handed-clause-failed g c =
 pub elements-preserved : goal.elements-preserved
 elements-preserved g c = record {
   all = omega (arith, c.push.ensures.len, c.elements.invariant.all);
-  on = hand_more c.args.size c.args.address c.in_ok-handed.handed.value c.in_ok-handed.handed.refused c.elements.into.items c.push.new.self.items _ _ _
+  most = omega (arith, c.elements-test.true);
+  on = hand_more c.args.size c.args.address c.args.count c.in_ok-handed.handed.value c.in_ok-handed.handed.refused c.elements.into.items c.push.new.self.items _ _ _
       c.push.ensures.items c.if-handed.false c.elements.invariant.on c.in_ok-handed.ensures.handed;
   callable = record { alive = c.in_ok-handed.ensures.keeps.behind.alive; link = c.in_ok-handed.ensures.keeps.behind.link };
   stands = c.in_ok-handed.ensures.keeps.behind;
@@ -49,5 +47,5 @@ pub returns-in_err-last-clause-failed : goal.returns-in_err-last-clause-failed
 returns-in_err-last-clause-failed g c =
     err_failed _ c.in_err-last.field-0.0 _ c.from_residual-in_err-last.ensures.1
     (last_stops c.args.size c.args.address c.args.count _ _ _ c.elements.into.items _ _ _ c.in_err-last.field-0.0
-    (c.elements.invariant.all ∙ omega (arith, c.elements-test.false, c.elements.auto.number-end)) c.elements.invariant.on
+    (c.elements.invariant.all ∙ omega (arith, c.elements-test.false, c.elements.invariant.most)) c.elements.invariant.on
     c.elements.invariant.later c.read_register.ensures.keeps.later c.in_err-last.ensures.failed)

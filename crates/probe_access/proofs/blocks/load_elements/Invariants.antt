@@ -7,7 +7,8 @@ use Rattle.probe_access.proofs.blocks.load_elements.Given as goal
 abbrev pub invariant-elements : goal.invariant-elements
 invariant-elements g l = record {
   all : length l.into.items + 1 ≡ l.number;
-  on : LoadsOn l.fn.size l.fn.address (told (g.D.Dmi.seen l.fn.link)) l.into.items (told (g.D.Dmi.seen l.link));
+  most : l.number ≤ l.fn.count;
+  on : LoadsOn l.fn.size l.fn.address l.fn.count (told (g.D.Dmi.seen l.fn.link)) l.into.items (told (g.D.Dmi.seen l.link));
   callable : CanCall (g.D.Dmi.seen l.link);
   stands : Stands (g.D.Dmi.seen l.link);
   later : (g.D.Dmi.seen l.fn.link).fault_count ≤ (g.D.Dmi.seen l.link).fault_count;

@@ -1,0 +1,18 @@
+use Rattle.std.proofs.Common.{◌≡◌, ◌≤◌, ◌<◌, ◌-◌, ◌+◌, length}
+use Rattle.debug_model.specs.Kept.{CanCall, Stands}
+use Rattle.probe_run.specs.Told.{told}
+use Rattle.probe_access.specs.ElementRuns.{LoadsOn}
+use Rattle.probe_access.proofs.load_runs.load_front.Given as goal
+
+abbrev pub decreases-runs : goal.decreases-runs
+decreases-runs g l = l.count - length l.into.items
+
+abbrev pub invariant-runs : goal.invariant-runs
+invariant-runs g l = record {
+  on : LoadsOn l.fn.size l.fn.address l.fn.count (told (g.D.Dmi.seen l.fn.link)) l.into.items (told (g.D.Dmi.seen l.link));
+  most : length l.into.items < l.fn.count;
+  callable : CanCall (g.D.Dmi.seen l.link);
+  stands : Stands (g.D.Dmi.seen l.link);
+  later : (g.D.Dmi.seen l.fn.link).fault_count ≤ (g.D.Dmi.seen l.link).fault_count;
+  fixed : (g.D.Dmi.seen l.link).fixed ≡ (g.D.Dmi.seen l.fn.link).fixed;
+}
