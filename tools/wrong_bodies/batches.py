@@ -25,6 +25,8 @@ def load(name, path):
 rt = load("rt", shutil.which("rt") or sys.exit("the Rattle kit (rt) is not on the path"))
 rtlib = rt.rtlib
 ONE_JOB = ["--jobs", "1"]
+# What the kit says of an edit that the prover refuses: some kits answer a word for each way in which it does, and others that it is so.
+REFUSALS = {getattr(rt, name, True) for name in ("REFUSED", "AT_LIMIT")}
 SHOWN = 240  # the most characters of what refuses an edit
 
 
@@ -176,7 +178,7 @@ def try_alone(crate, edit, kept):
     """Whether one edit is refused, and a line on it, as `rt must-fail` says it."""
     outcome, text = rt.must_fail(crate, edit.path, ONE_JOB, kept)
     what = text.partition(": ")[2].replace("BAD EDIT", "BROKEN").replace("refused, as it must be", "refused alone")
-    return outcome in (rt.REFUSED, rt.AT_LIMIT), f"{edit.label}: {' '.join(what.split())[:SHOWN]}"
+    return outcome in REFUSALS, f"{edit.label}: {' '.join(what.split())[:SHOWN]}"
 
 
 def try_edits(crate, paths, kept, is_proved):
