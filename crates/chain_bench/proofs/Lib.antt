@@ -4,3 +4,4 @@ pub mod Steps
 pub mod Took
 pub mod Courses
 pub mod Tells
+pub mod AsChip

@@ -1,13 +1,14 @@
 -- What a feed of bytes to a chain answers, and that a chain takes the bytes of a stream in the same sense as its chip alone does.
 -- OpenOCD, remote_bitbang, for the stream and its `Q`; that a chain ends as its chip does, and the limit, are this project's own choices.
 use Rattle.std.specs.Prelude.{◌≡◌, ℕ, ◌+◌, List, [], ◌∷◌, Option, Some, None, option_map}
-use Rattle.debug_model.specs.Chip.{Live}
+use Rattle.debug_model.specs.Chip.{Live, feed}
 use Rattle.debug_model.specs.Net.{NetState}
-use Rattle.chip_core.specs.Fed.{placed}
+use Rattle.chip_core.specs.Fed.{fed, placed}
 use Rattle.chip_core.specs.declared.fed.Fed.{Fed}
 use Rattle.chip_core.specs.declared.fed.Fed.TheVariants.{All}
 use Rattle.chain_scan.specs.ChainPlan.{Plan}
-use Rattle.chain_scan.specs.Told.{ChainLive, chain_after, chip_live}
+use Rattle.chain_scan.specs.ChipInChain.{seen_bytes}
+use Rattle.chain_scan.specs.Told.{ChainLive, chain_after, chip_live, feed_chain}
 use Rattle.chip_server.specs.Feeding.{Feeding, TakesPieces}
 use Rattle.chip_server.specs.Served.{ServedBy}
 use Rattle.chip_server.specs.declared.served.Served.{Served}
@@ -31,6 +32,16 @@ chain_feeding = record { feed_of = feed_in; said_of = said_in; fed_of = fed_in }
 -- pieces fed to a chain one after the other are the whole of them fed at once
 abbrev pub ChainTakesPieces : Type 0
 ChainTakesPieces = TakesPieces chain_feeding
+
+-- ---- its chip
+
+-- these bytes do to the chip of this chain what the same bytes with another TDI, that of its neighbour, do to the chip alone; and they end both at one place
+pub record EndsAsChip (l : ChainLive) (bytes : List ℕ) : Type 0 where
+  pub chip : chip_live (feed_chain l bytes) ≡ feed (chip_live l) (seen_bytes l.chain bytes)
+  pub place : fed_in (Some l) bytes ≡ fed (chip_live l) (seen_bytes l.chain bytes)
+
+abbrev pub ChainEndsAsItsChip : Type 0
+ChainEndsAsItsChip = (l : ChainLive) (bytes : List ℕ) → EndsAsChip l bytes
 
 -- ---- a chain that is served over a net
 

@@ -13,4 +13,4 @@ mod taking;
 mod tests;
 
 pub use chain_bench::ChainBench;
-pub use served_chain::{ServedChain, chain_takes_pieces, serve_in_chain};
+pub use served_chain::{ServedChain, chain_ends_as_its_chip, chain_takes_pieces, serve_in_chain};

@@ -6,7 +6,7 @@ ghost use Rattle.debug_model.specs.declared.net.End.TheVariants as end;
 ghost use Rattle.chain_scan.specs.Told.{ChainLive};
 ghost use Rattle.chip_server.specs.Served.{CountsOnce, IsPlain};
 ghost use Rattle.chain_bench.specs.Benched.{chain_on, tck_of};
-ghost use Rattle.chain_bench.specs.ChainFed.{ChainTakesPieces, WasServedIn, chain_feeding, planned_on};
+ghost use Rattle.chain_bench.specs.ChainFed.{ChainEndsAsItsChip, ChainTakesPieces, WasServedIn, chain_feeding, planned_on};
 ghost use Rattle.chain_bench.specs.ChainPieces.{chain_pieces};
 
 use crate::sides::Sides;
@@ -85,4 +85,9 @@ pub fn serve_in_chain<N: Net, Q: Schedule>(
 /// Pieces fed to a chain one after the other are the whole of them fed at once, with places counted on where the first piece was taken whole.
 pub fn chain_takes_pieces()
     ensures { ChainTakesPieces }
+{}
+
+/// Bytes do to the chip of a chain what the same bytes with another TDI, that of its neighbour, do to the chip alone, and end both at one place.
+pub fn chain_ends_as_its_chip()
+    ensures { ChainEndsAsItsChip }
 {}

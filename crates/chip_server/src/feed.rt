@@ -41,6 +41,7 @@ pub trait Feed {
         ensures room { array_vec_len answers.new ≤ array_vec_len answers.old + length bytes.now }
         ensures lenders { lenders self.new ≡ lenders self.old };
 
+    /// No bytes do nothing, two pieces are the whole of them, and an end stands among the bytes of its piece.
     ghost takes_pieces: { TakesPieces feeding };
 }
 
