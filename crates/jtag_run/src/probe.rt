@@ -46,14 +46,14 @@ fn probe_at<N: Net, K: Sink>(
 /// The same of a chip in a chain with the devices of this plan. A net that tells a chip, which stands alone at its far side, is not opened.
 fn probe_chain_at<N: FarSide, K: Sink>(
     alloc: Global,
-    at: &str,
+    address: &str,
     plan: ChainPlan,
     script: &Script,
     net: &mut N,
     out: &mut K,
 ) -> Status
     requires unopened { (N.state net.old).ties.opening ≡ None }
-    ensures ended { ProbeEnd at.now (Some plan) script.now
+    ensures ended { ProbeEnd address.now (Some plan) script.now
         (record { state = N.state net.old; peer = N.peer net.old; faults = N.fault_count net.old; ends = N.end_count net.old })
         (record { state = N.state net.new; peer = N.peer net.new; faults = N.fault_count net.new; ends = N.end_count net.new })
         (record { printed = K.contents out.old; faults = K.fault_count out.old })
@@ -63,7 +63,7 @@ fn probe_chain_at<N: FarSide, K: Sink>(
     if net.tells_chip() {
         return refuse(out, Refusal::Open);
     }
-    match net.connect(alloc, at) {
+    match net.connect(alloc, address) {
         Ok(()) => {
             let closed = run_on_chain_net(script, net, plan, out);
             tell(out, closed, false)

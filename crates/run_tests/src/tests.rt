@@ -83,7 +83,7 @@ fn quiet_net(alloc: Global) -> Result<MemoryNet, AllocError>
 }
 
 /// One run, of which nothing is known here but that it ends: a test looks at what came out.
-fn run_once<F: Files, N: Net, K: Sink>(
+fn run_once<F: Files, N: FarSide, K: Sink>(
     alloc: Global,
     words: &[String],
     files: &mut F,
