@@ -60,7 +60,8 @@ WasServedAs (Some plan) served old new bench left = WasServedIn plan served old 
 
 -- how a net is opened and the chip on the bench served there: the opening fails, and the chip stays as it is; or a client is accepted, the chip, or the chain
 -- that it is in, takes the bytes that come and nothing else, and the end is told
-pub data ServedAt (at : List ℕ) (chain : Option Plan) (old new : NetSeen) (sink_old sink_new : SinkSeen) (bench left : Option Live) (status : Status) : Type 0 where
+pub data ServedAt (at : List ℕ) (chain : Option Plan) (old new : NetSeen) (sink_old sink_new : SinkSeen) (bench left : Option Live)
+    (status : Status) : Type 0 where
   unopened : (fault : NetFault) → OpenFailed calls.Accept (Some at) fault old new → Refused (refusal_of fault) sink_old sink_new status → left ≡ bench
       → ServedAt at chain old new sink_old sink_new bench left status
   opened : (mid : NetSeen) (served : Served) → AcceptedAt at old mid → WasServedAs chain served mid.state new.state bench left

@@ -4,7 +4,10 @@ use Rattle.jtag_run.proofs.Probes.{told_there, untold}
 use Rattle.jtag_run.proofs.probe.probe_chain_at.Goals as goal
 
 pub returns-then-tells_chip : goal.returns-then-tells_chip
-returns-then-tells_chip g c = record { ended = alone refl (told_there (g.N.Net.peer c.args.net.now) _ c.if-tells_chip.true c.tells_chip.ensures) refl c.refuse.ensures.refused }
+returns-then-tells_chip g c = record {
+  ended = alone refl (told_there (g.N.Net.peer c.args.net.now) _ c.if-tells_chip.true c.tells_chip.ensures) refl
+      c.refuse.ensures.refused;
+}
 
 pub run_on_chain_net-closed-requires-clause-untold : goal.run_on_chain_net-closed-requires-clause-untold
 run_on_chain_net-closed-requires-clause-untold g c = untold (g.N.Net.peer c.args.net.now) _ _ c.if-tells_chip.false c.tells_chip.ensures c.in-Ok.ensures.opened
