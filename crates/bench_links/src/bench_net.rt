@@ -146,6 +146,13 @@ impl<'a, Q: Schedule> BenchNet<'a, Q> {
             failed: 0,
         }
     }
+
+    /// That its bench is loaded is the promise of the type, which a contract knows of a net only once it is asked.
+    pub fn know_loaded(&self)
+        ensures { IsSome self.now.bench.now }
+    {
+        let _calls = self.calls;
+    }
 }
 
 impl<'a, Q: Schedule> Net for BenchNet<'a, Q> {

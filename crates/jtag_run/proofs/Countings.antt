@@ -72,7 +72,8 @@ counted_straight by_line by_error way (Some first) bench script net_was net_is t
 }
 
 pub counted_chained : LinesAreCounted → ErrorsAreCounted
-    → (way : Way) (plan : Plan) (old bench : Option Live) (script : List Command) (net_was net_is : NetSeen) (taken : List ℕ) (closed : End) → way ≡ Chained plan
+    → (way : Way) (plan : Plan) (old bench : Option Live) (script : List Command) (net_was net_is : NetSeen) (taken : List ℕ) (closed : End)
+    → way ≡ Chained plan
     → net_is ≡ net_was
     → SinkCaused 0 0 closed → IfSome old (λ first. OnBench first script (taken_seen []) (taken_seen taken) bench (limit_met bench) closed)
     → IfSome old (λ first. Counted way first script net_was net_is taken bench closed)

@@ -1,12 +1,13 @@
 -- How a job and a run end, over plain variables.
-use Rattle.std.proofs.Common.{◌≡◌, ◌∙◌, ℕ, List, Option, Some, None, IfSome, refl, sym, subst}
+use Rattle.std.proofs.Common.{◌≡◌, ◌∙◌, ℕ, false, List, Option, Some, None, IfSome, refl, sym, ap, subst}
+use Rattle.chain_bench.specs.Benched.{tck_of}
 use Rattle.debug_model.specs.declared.command.Command.{Command}
 use Rattle.chip_core.specs.Feeds.{limit_met}
 use Rattle.debug_model.specs.declared.net.Call.TheVariants as calls
 use Rattle.debug_model.specs.declared.net.NetFault.{NetFault}
 use Rattle.debug_model.specs.Chip.{Live}
 use Rattle.jt_base.specs.Faults.{Rises}
-use Rattle.jt_base.specs.Files.{NamedFile}
+use Rattle.jt_base.specs.Files.{NamedFile, asked_more}
 use Rattle.jt_base.specs.Sink.{grown, GrewByPrefix}
 use Rattle.jtag_run.specs.Ran.{BothEnd, Prepared, Ran, RanBoth, RanGen, RanProbe}
 use Rattle.jtag_run.specs.Ran.Ran.{refused, ran, generated, probed, served}
@@ -19,9 +20,9 @@ use Rattle.jtag_run.specs.Opening.{Joined, OpenFailed, refusal_of}
 use Rattle.jtag_run.specs.LastLine.{Closed}
 use Rattle.jtag_run.specs.LastLine.Closed.{said, unsaid}
 use Rattle.jtag_run.specs.Outside.{NetSeen, Outside}
-use Rattle.jtag_run.specs.Ends.{BenchEnd, LoopEnd}
+use Rattle.jtag_run.specs.Ends.{BenchEnd, LoopEnd, ProbeEnd}
 use Rattle.jtag_run.specs.Ends.LoopEnd.{joined, unjoined}
-use Rattle.jtag_run.specs.Refusal.{ChipCause, JobCause, Refused, WordsCause, asked_both, asked_image}
+use Rattle.jtag_run.specs.Refusal.{ChipCause, HoldsScript, JobCause, Refused, WordsCause, asked_both, asked_image}
 use Rattle.jtag_run.specs.Refusal.RefusalCause.{of_both, of_chip, of_gen, of_probe, of_words}
 use Rattle.jtag_run.specs.ServedChip.{RanChip, PreparedChip, ServedAt}
 use Rattle.jtag_run.specs.ServedChip.RanChip.{refused as refused_chip, served as served_chip}
@@ -110,6 +111,24 @@ pub both_refused : (job : Both) (old new : Outside) (bench left : Option Live) (
     → new.net ≡ old.net → left ≡ bench → RanBoth job old new bench left status
 both_refused job old new bench left status refusal cause was net kept = both_unready refusal cause was net kept
 
+-- ---- a probe
+
+probe_as : (job : Probe) (chain : Option Plan) (old new : Outside) (status : Status) (commands : List Command)
+    → HoldsScript old.files.held job.script commands → new.files.asked ≡ asked_more job.script old.files.asked
+    → job.chain ≡ chain → ProbeEnd job.at chain commands old.net new.net old.sink new.sink status → RanProbe job old new status
+probe_as job chain old new status commands script asked is ended =
+    probe_done commands script asked (subst (λ c. ProbeEnd job.at c commands old.net new.net old.sink new.sink status) (sym is) ended)
+
+pub probe_alone : (job : Probe) (old new : Outside) (status : Status) (commands : List Command)
+    → HoldsScript old.files.held job.script commands → new.files.asked ≡ asked_more job.script old.files.asked
+    → job.chain ≡ None → ProbeEnd job.at None commands old.net new.net old.sink new.sink status → RanProbe job old new status
+probe_alone job old new status commands script asked is ended = probe_as job None old new status commands script asked is ended
+
+pub probe_chained : (job : Probe) (plan : Plan) (old new : Outside) (status : Status) (commands : List Command)
+    → HoldsScript old.files.held job.script commands → new.files.asked ≡ asked_more job.script old.files.asked
+    → job.chain ≡ Some plan → ProbeEnd job.at (Some plan) commands old.net new.net old.sink new.sink status → RanProbe job old new status
+probe_chained job plan old new status commands script asked is ended = probe_as job (Some plan) old new status commands script asked is ended
+
 -- ---- a served chip
 
 pub chip_refused : (job : Chip) (old new : Outside) (bench left : Option Live) (status : Status) (refusal : Refusal)
@@ -117,11 +136,15 @@ pub chip_refused : (job : Chip) (old new : Outside) (bench left : Option Live) (
     → new.net ≡ old.net → left ≡ bench → RanChip job old new bench left status
 chip_refused job old new bench left status refusal cause was net kept = refused_chip refusal cause was net kept
 
+-- TCK is 0 behind a load
+pub chip_is_low : (job : Chip) (held : Option (List NamedFile)) (bench : Option Live) → PreparedChip job held bench → tck_of bench ≡ false
+chip_is_low job held bench p = ap tck_of p.is
+
 pub chip_served : (job : Chip) (old new : Outside) (bench mid left : Option Live) (status : Status) → PreparedChip job old.files.held mid
     → new.files.asked ≡ asked_image job old.files
-    → ServedAt job.at old.net new.net old.sink new.sink mid left status → RanChip job old new bench left status
+    → ServedAt job.at job.chain old.net new.net old.sink new.sink mid left status → RanChip job old new bench left status
 chip_served job old new bench mid left status p asked ended =
-    served_chip p.image p.image_is p.loads asked (subst (λ m. ServedAt job.at old.net new.net old.sink new.sink m left status) p.is ended)
+    served_chip p.image p.image_is p.loads asked (subst (λ m. ServedAt job.at job.chain old.net new.net old.sink new.sink m left status) p.is ended)
 
 -- ---- a run
 

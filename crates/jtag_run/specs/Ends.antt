@@ -1,6 +1,7 @@
 -- What each job with a session does once it was accepted: how the session went, and what the program says of its end.
 -- The program is this project's own (docs/FORMATS.md, "Statuses").
-use Rattle.std.specs.Prelude.{◌≡◌, ◌≤◌, ℕ, List, [], Bool, true, false, length, count_by, Option, None, Some}
+use Rattle.std.specs.Prelude.{◌≡◌, ◌≤◌, ℕ, List, [], Bool, true, false, length, count_by, Option, None, Some, IsSome}
+use Rattle.chain_scan.specs.ChainPlan.{Plan}
 use Rattle.chip_core.specs.Feeds.{limit_met}
 use Rattle.command_line.specs.declared.job.Way.{Way}
 use Rattle.command_line.specs.declared.job.Way.TheVariants.{Looped}
@@ -16,9 +17,10 @@ use Rattle.jtag_run.specs.Ending.{ClosedBy}
 use Rattle.jtag_run.specs.Opening.{ConnectedAt, Joined, OpenFailed, refusal_of}
 use Rattle.jtag_run.specs.Outside.{NetSeen}
 use Rattle.jtag_run.specs.Refusal.{Refused}
-use Rattle.jtag_run.specs.Sessions.{Carried, OnBench, OnLoop, OnNet}
+use Rattle.jtag_run.specs.Sessions.{Carried, OnBench, OnLoop, OnNetAs}
 use Rattle.jtag_run.specs.Sessions.Carried.{chained, over_net, straight}
 use Rattle.jtag_run.specs.Summary.{summary_of}
+use Rattle.jtag_run.specs.declared.refusal.Refusal.TheVariants.{Open}
 use Rattle.jtag_run.specs.declared.status.Status.{Status}
 use Rattle.jtag_run.specs.declared.status.Status.TheVariants as status_as
 use Rattle.line_counts.specs.Counts.{errors_in, lines_in}
@@ -117,11 +119,13 @@ pub data GenEnd (way : Way) (first : Live) (script : List Command) (net_was net_
       → GrewByPrefix (summary_of script taken) old.printed new.printed
       → Rises old.faults new.faults → status ≡ status_as.Sink → GenEnd way first script net_was net_is old new bench status
 
--- ---- a script on a chip at the far side of a net
+-- ---- a script on a chip at the far side of a net, alone or in a chain
 
-pub data ProbeEnd (at : List ℕ) (script : List Command) (net_was net_is : NetSeen) (old new : SinkSeen) (status : Status) : Type 0 where
+pub data ProbeEnd (at : List ℕ) (chain : Option Plan) (script : List Command) (net_was net_is : NetSeen) (old new : SinkSeen) (status : Status) : Type 0 where
+  -- a net that tells the chip at its far side leads to that chip alone, and is not opened for a chain
+  alone : IsSome chain → IsSome net_was.peer.chip → net_is ≡ net_was → Refused Open old new status → ProbeEnd at chain script net_was net_is old new status
   unopened : (fault : NetFault) → OpenFailed calls.Connect (Some at) fault net_was net_is → Refused (refusal_of fault) old new status
-      → ProbeEnd at script net_was net_is old new status
-  opened : (mid : NetSeen) (closed : End) (behind : SinkSeen) → ConnectedAt at net_was mid → OnNet script mid net_is old behind closed
+      → ProbeEnd at chain script net_was net_is old new status
+  opened : (mid : NetSeen) (closed : End) (behind : SinkSeen) → ConnectedAt at net_was mid → OnNetAs chain script mid net_is old behind closed
       → ClosedBy closed false behind new status
-      → ProbeEnd at script net_was net_is old new status
+      → ProbeEnd at chain script net_was net_is old new status

@@ -89,7 +89,7 @@ pub data RanProbe (job : Probe) (old new : Outside) (status : Status) : Type 0 w
   refused : (refusal : Refusal) → ScriptFileCause job.script old.files new.files refusal → Refused refusal old.sink new.sink status → new.net ≡ old.net
       → RanProbe job old new status
   ran : (commands : List Command) → HoldsScript old.files.held job.script commands → new.files.asked ≡ asked_more job.script old.files.asked
-      → ProbeEnd job.at commands old.net new.net old.sink new.sink status → RanProbe job old new status
+      → ProbeEnd job.at job.chain commands old.net new.net old.sink new.sink status → RanProbe job old new status
 
 -- ---- a run
 
@@ -105,8 +105,8 @@ pub data Ran (words : List (List ℕ)) (old new : Outside) (bench : Option Live)
   generated : (job : Gen) (image : List ℕ) → IsAcceptedGen words job image → new.files ≡ old.files
       → GenEnd job.way (first_chip job.options image) (commands job.number) old.net new.net old.sink new.sink bench status → Ran words old new bench status
   probed : (job : Probe) (commands : List Command) → IsAcceptedProbe words old.files.held job commands → new.files.asked ≡ asked_more job.script old.files.asked
-      → ProbeEnd job.at commands old.net new.net old.sink new.sink status → bench ≡ None → Ran words old new bench status
+      → ProbeEnd job.at job.chain commands old.net new.net old.sink new.sink status → bench ≡ None → Ran words old new bench status
   served : (job : Chip) (image : List ℕ) → IsAcceptedChip words old.files.held job image → new.files.asked ≡ asked_image job old.files
-      → ServedAt job.at old.net new.net old.sink new.sink (Some (first_chip job.options image)) bench status → Ran words old new bench status
+      → ServedAt job.at job.chain old.net new.net old.sink new.sink (Some (first_chip job.options image)) bench status → Ran words old new bench status
   sniffed : (job : Sniff) (stream answers : List ℕ) → IsAcceptedSniff words old.files.held job stream answers → new.files.asked ≡ asked_recording job old.files
       → SniffEnded job.waves stream answers old.sink new.sink status → new.net ≡ old.net → bench ≡ None → Ran words old new bench status

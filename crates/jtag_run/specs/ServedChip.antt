@@ -1,8 +1,11 @@
 -- A run whose chip is served over a net: what is accepted first, how the net is opened, and how the serving's end is printed and answered.
 -- The program is this project's own (docs/FORMATS.md, "Statuses").
-use Rattle.std.specs.Prelude.{◌≡◌, ℕ, List, Option, Some, if◌then◌else◌}
+use Rattle.std.specs.Prelude.{◌≡◌, ℕ, List, Option, None, Some, if◌then◌else◌}
+use Rattle.chain_bench.specs.ChainFed.{WasServedIn}
+use Rattle.chain_scan.specs.ChainPlan.{Plan}
 use Rattle.chip_core.specs.Feeds.{limit_met}
 use Rattle.debug_model.specs.Chip.{Live}
+use Rattle.debug_model.specs.Net.{NetState}
 use Rattle.debug_model.specs.declared.net.Call.TheVariants as calls
 use Rattle.debug_model.specs.declared.net.NetFault.{NetFault}
 use Rattle.jt_base.specs.Files.{Holds, NamedFile}
@@ -50,14 +53,20 @@ Told (Bad place byte) old new status = Closed (bad_byte place byte) BadByte old 
 Told Limit old new status = Closed event_limit EventLimit old new status
 Told (NetFailed fault) old new status = Closed (wire_failed fault) Wire old new status
 
--- how a net is opened and the chip on the bench served there: the opening fails, and the chip stays as it is; or a client is accepted, the chip takes the
--- bytes that come and nothing else, and the end is told
-pub data ServedAt (at : List ℕ) (old new : NetSeen) (sink_old sink_new : SinkSeen) (bench left : Option Live) (status : Status) : Type 0 where
+-- what the client is served: the chip on the bench alone, or as one of a chain with these devices beside it
+abbrev pub WasServedAs : (chain : Option Plan) → Served → NetState → NetState → Option Live → Option Live → Type 0
+WasServedAs None served old new bench left = WasServed served old new bench left
+WasServedAs (Some plan) served old new bench left = WasServedIn plan served old new bench left
+
+-- how a net is opened and the chip on the bench served there: the opening fails, and the chip stays as it is; or a client is accepted, the chip, or the chain
+-- that it is in, takes the bytes that come and nothing else, and the end is told
+pub data ServedAt (at : List ℕ) (chain : Option Plan) (old new : NetSeen) (sink_old sink_new : SinkSeen) (bench left : Option Live)
+    (status : Status) : Type 0 where
   unopened : (fault : NetFault) → OpenFailed calls.Accept (Some at) fault old new → Refused (refusal_of fault) sink_old sink_new status → left ≡ bench
-      → ServedAt at old new sink_old sink_new bench left status
-  opened : (mid : NetSeen) (served : Served) → AcceptedAt at old mid → WasServed served mid.state new.state bench left
+      → ServedAt at chain old new sink_old sink_new bench left status
+  opened : (mid : NetSeen) (served : Served) → AcceptedAt at old mid → WasServedAs chain served mid.state new.state bench left
       → CountsOnce mid.faults new.faults mid.ends new.ends served
-      → Told (limit_first left served) sink_old sink_new status → ServedAt at old new sink_old sink_new bench left status
+      → Told (limit_first left served) sink_old sink_new status → ServedAt at chain old new sink_old sink_new bench left status
 
 -- ---- the whole job
 
@@ -67,4 +76,4 @@ pub data RanChip (job : Chip) (old new : Outside) (bench left : Option Live) (st
   refused : (refusal : Refusal) → ChipCause job old.files new.files refusal → Refused refusal old.sink new.sink status → new.net ≡ old.net → left ≡ bench
       → RanChip job old new bench left status
   served : (image : List ℕ) → Holds old.files.held job.image image → CanLoad job.options image → new.files.asked ≡ asked_image job old.files
-      → ServedAt job.at old.net new.net old.sink new.sink (Some (first_chip job.options image)) left status → RanChip job old new bench left status
+      → ServedAt job.at job.chain old.net new.net old.sink new.sink (Some (first_chip job.options image)) left status → RanChip job old new bench left status

@@ -1,6 +1,6 @@
 -- A session over the chip on a bench, alone or in a chain, straight or over a connection of the machine to itself, and a session over a net: what it did there.
 -- The program is this project's own.
-use Rattle.std.specs.Prelude.{◌≡◌, ℕ, List, [], Bool, true, Option, Some, IfSome}
+use Rattle.std.specs.Prelude.{◌≡◌, ℕ, List, [], Bool, true, Option, None, Some, IfSome}
 use Rattle.jt_base.specs.Faults.{Rises}
 use Rattle.bench_links.specs.Looped.{looped}
 use Rattle.chain_scan.specs.ChainPlan.{Plan}
@@ -79,3 +79,17 @@ pub record OnNet (script : List Command) (net_was net_is : NetSeen) (was is : Si
   pub session : WireSession script (wired 0 net_was) (wired bad_answers net_is) was is closed
   pub ties : net_is.state.ties ≡ net_was.state.ties
   pub judged : IfSome net_is.state.chip (λ _. bad_answers ≡ 0)
+
+-- the same of a net with a chain at its far side, of which nothing is told
+abbrev pub chained_wire : ℕ → NetSeen → WireSeen
+chained_wire bad net = record { far = None; coming = coming_of net.state; faults = summed bad net.faults net.ends }
+
+pub record OnChainNet (script : List Command) (net_was net_is : NetSeen) (was is : SinkSeen) (closed : End) : Type 0 where
+  pub bad_answers : ℕ
+  pub session : WireSession script (chained_wire 0 net_was) (chained_wire bad_answers net_is) was is closed
+  pub ties : net_is.state.ties ≡ net_was.state.ties
+
+-- by what is at the far side: a chip alone, or a chain with these devices beside it
+abbrev pub OnNetAs : (chain : Option Plan) → List Command → (net_was net_is : NetSeen) → (was is : SinkSeen) → End → Type 0
+OnNetAs None script net_was net_is was is closed = OnNet script net_was net_is was is closed
+OnNetAs (Some plan) script net_was net_is was is closed = OnChainNet script net_was net_is was is closed

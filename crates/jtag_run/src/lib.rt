@@ -6,6 +6,7 @@
 
 mod both;
 mod chip;
+mod far_side;
 mod generated;
 mod last_line;
 mod lines;
@@ -22,6 +23,7 @@ mod summary;
 mod words;
 
 pub use both::both_with;
+pub use far_side::FarSide;
 pub use last_line::refuse;
 pub use program::run;
 pub use refusal::Refusal;

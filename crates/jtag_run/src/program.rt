@@ -5,6 +5,7 @@ ghost use Rattle.jtag_run.specs.Ran.{Ran};
 
 use crate::both::run_both;
 use crate::chip::run_chip;
+use crate::far_side::FarSide;
 use crate::generated::run_gen;
 use crate::last_line::refuse;
 use crate::probe::run_probe;
@@ -12,7 +13,6 @@ use crate::recording::run_sniff;
 use crate::status::Status;
 use crate::words::{Work, read_work};
 use chip_core::Bench;
-use debug_model::Net;
 use jt_base::{Files, Sink};
 use std::alloc::Global;
 use sys_events::SeedSchedule;
@@ -22,7 +22,7 @@ use sys_events::SeedSchedule;
 /// The words are judged first, then a script is read and judged, then an image is read and loaded, or both are made from a number; then the net is opened,
 /// where the job has one. Of a recording the stream is read, and then its answers. The first refusal ends the run with its last line. Before the words are
 /// accepted nothing else is asked for, and before files and image are, no net is opened.
-pub fn run<F: Files, N: Net, K: Sink>(
+pub fn run<F: Files, N: FarSide, K: Sink>(
     alloc: Global,
     words: &[String],
     files: &mut F,
@@ -52,7 +52,7 @@ pub fn run<F: Files, N: Net, K: Sink>(
     match work {
         Work::Both(job) => run_both(alloc, job, files, net, out, bench),
         Work::Gen(job) => run_gen(alloc, job, net, out, bench),
-        Work::Probe(job) => run_probe(alloc, &job, files, net, out),
+        Work::Probe(job) => run_probe(alloc, job, files, net, out),
         Work::Chip(job) => run_chip(alloc, &job, files, net, out, bench),
         Work::Sniff(job) => run_sniff(alloc, &job, files, out),
     }

@@ -5,14 +5,14 @@ ghost use Rattle.chip_core.specs.Feeds.{limit_met};
 ghost use Rattle.debug_model.specs.Net.{IsJoined};
 ghost use Rattle.debug_model.specs.Told.{IsAsLoaded, IsRead};
 ghost use Rattle.debug_model.specs.Wire.{piece_most};
-ghost use Rattle.jtag_run.specs.Sessions.{IsLoadedBench, OnBench, OnLoop, OnNet};
+ghost use Rattle.jtag_run.specs.Sessions.{IsLoadedBench, OnBench, OnChainNet, OnLoop, OnNet};
 ghost use Rattle.probe_session.specs.Causes.{SinkCaused};
 ghost use Rattle.wire_session.specs.Closing.{IsOfRegister};
 
 use bench_links::LoopWire;
 use chain_bench::ChainBench;
 use chain_scan::ChainPlan;
-use chain_session::run_chain_session;
+use chain_session::{ChainNetWire, run_chain_session};
 use chip_core::{Bench, BenchWire};
 use debug_model::{Net, Schedule, Script};
 use jt_base::Sink;
@@ -57,8 +57,8 @@ pub fn run_on_chain<Q: Schedule, K: Sink>(
     ensures sink_cause { SinkCaused (K.fault_count out.old) (K.fault_count out.new) result }
     ensures sink_later { K.fault_count out.old ≤ K.fault_count out.new }
 {
-    let mut wire = ChainBench::new(bench, &plan);
-    run_chain_session(&mut wire, plan, script, out)
+    let mut chain = ChainBench::new(bench, &plan);
+    run_chain_session(&mut chain, plan, script, out)
 }
 
 /// Runs the script over both ends of a joined net, with the bench at its far end.
@@ -106,4 +106,28 @@ pub fn run_on_net<N: Net, K: Sink>(script: &Script, net: &mut N, out: &mut K) ->
     let ended = run_session(&mut wire, script, out);
     wire.know_sound();
     ended
+}
+
+/// Runs the script over the near end of a net that tells no chip, on the chip of a chain with the devices of this plan.
+pub fn run_on_chain_net<N: Net, K: Sink>(
+    script: &Script,
+    net: &mut N,
+    plan: ChainPlan,
+    out: &mut K,
+) -> Ended
+    requires opened { (N.state net.old).near_open ≡ true }
+    requires plain { (N.state net.old).pipe ≡ None }
+    requires untold { (N.state net.old).chip ≡ None }
+    ensures ran { OnChainNet script.now
+        (record { state = N.state net.old; peer = N.peer net.old; faults = N.fault_count net.old; ends = N.end_count net.old })
+        (record { state = N.state net.new; peer = N.peer net.new; faults = N.fault_count net.new; ends = N.end_count net.new })
+        (record { printed = K.contents out.old; faults = K.fault_count out.old })
+        (record { printed = K.contents out.new; faults = K.fault_count out.new })
+        result }
+    ensures of_register { IsOfRegister result }
+    ensures sink_cause { SinkCaused (K.fault_count out.old) (K.fault_count out.new) result }
+    ensures sink_later { K.fault_count out.old ≤ K.fault_count out.new }
+{
+    let mut wire = ChainNetWire::new(NetWire::new(net));
+    run_chain_session(&mut wire, plan, script, out)
 }

@@ -14,10 +14,9 @@ mod served;
 mod sessions;
 
 use chip_core::Bench;
-use debug_model::Net;
 use jt_base::{DiskFiles, Files, MemoryFile, MemoryFiles, MemorySink, Sink};
 use jtag_net::MemoryNet;
-use jtag_run::{Status, run};
+use jtag_run::{FarSide, Status, run};
 use sessions::STEPPED;
 use std::alloc::{AllocError, Global};
 use std::process::Abort;
@@ -84,7 +83,7 @@ fn quiet_net(alloc: Global) -> Result<MemoryNet, AllocError>
 }
 
 /// One run, of which nothing is known here but that it ends: a test looks at what came out.
-fn run_once<F: Files, N: Net, K: Sink>(
+fn run_once<F: Files, N: FarSide, K: Sink>(
     alloc: Global,
     words: &[String],
     files: &mut F,
@@ -106,7 +105,7 @@ struct Outcome {
 }
 
 /// A run of the words of this line.
-fn outcome_of<F: Files, N: Net>(
+fn outcome_of<F: Files, N: FarSide>(
     alloc: Global,
     line: &str,
     files: &mut F,

@@ -1,9 +1,12 @@
-//! Sessions on the chip of a chain, in one process.
+//! Sessions on the chip of a chain: in one process, and of a probe with a chain that is served.
 
 use super::sessions::{ROWS, check_row, counted};
-use super::{AMPLE, Held, NO_FAILURE, check_words, net_of, outcome_of, quiet_net, two_files};
+use super::{
+    AMPLE, Held, NO_FAILURE, PROGRAM, check_words, net_of, outcome_of, quiet_net, two_files,
+};
 use debug_model::Net;
 use jtag_run::Status;
+use std::alloc::Global;
 use std::test::Fail;
 
 /// A script of one command, and what it prints.
@@ -105,5 +108,63 @@ fn lists_of_no_chain_are_refused(rt: HostRuntime) -> Result<(), Fail> {
             refused,
         )?;
     }
+    Ok(())
+}
+
+/// The most bytes of the stream that is played again.
+const STREAM_MOST: usize = 65_536;
+
+/// What a served chain of these TAPs answers to this stream.
+fn answers_to(alloc: Global, list: &str, stream: &[u8]) -> Result<Vec<u8>, Fail> {
+    let line = format!(in alloc; "chip --at x --image i --halted --chain {list}")?;
+    let mut files = two_files(alloc, PROGRAM, b"", NO_FAILURE)?;
+    let mut net = net_of(alloc, stream, 256, STREAM_MOST, NO_FAILURE)?;
+    outcome_of(alloc, line.as_str(), &mut files, &mut net)?;
+    Ok(net.sent().to_vec(alloc)?)
+}
+
+// A probe that was given the chain's answers to what it put goes on until it needs the next ones.
+#[test]
+fn a_stream_played_to_a_served_chain_is_the_session(rt: HostRuntime) -> Result<(), Fail> {
+    let alloc = rt.alloc();
+    for list in ["4,t,6", "t,8", "8,t"] {
+        let line = format!(in alloc; "probe --at x --script s --chain {list}")?;
+        let mut input = Vec::new(alloc);
+        let mut status = 7;
+        for _ in 0..200 {
+            let mut files = two_files(alloc, b"", b"hart 7\nidcode\n", NO_FAILURE)?;
+            let mut net = net_of(alloc, &input, 256, STREAM_MOST, NO_FAILURE)?;
+            let outcome = outcome_of(alloc, line.as_str(), &mut files, &mut net)?;
+            status = outcome.status;
+            if status != 7 {
+                let printed = b"error: no hart 7\nidcode 0x10d64001\n".as_slice();
+                assert_eq!(rt; outcome.out.bytes(), printed, "{list}");
+                break;
+            }
+            input = answers_to(alloc, list, net.sent())?;
+        }
+        assert_eq!(rt; status, 1, "{list}");
+    }
+    Ok(())
+}
+
+// What goes out for a scan of the chip alone is not what a chain takes: its neighbour's identification is read for the chip's registers.
+#[test]
+fn a_probe_that_knows_of_no_chain_finds_no_chip(rt: HostRuntime) -> Result<(), Fail> {
+    let alloc = rt.alloc();
+    let mut input = Vec::new(alloc);
+    let mut status = 7;
+    for _ in 0..20 {
+        let mut files = two_files(alloc, b"", b"idcode", NO_FAILURE)?;
+        let mut net = net_of(alloc, &input, 256, STREAM_MOST, NO_FAILURE)?;
+        let line = "probe --at x --script s";
+        let outcome = outcome_of(alloc, line, &mut files, &mut net)?;
+        status = outcome.status;
+        if status != 7 {
+            break;
+        }
+        input = answers_to(alloc, "t,8", net.sent())?;
+    }
+    assert_eq!(rt; status, 6);
     Ok(())
 }

@@ -4,8 +4,8 @@ ghost use Rattle.std.specs.Prelude.{◌≡◌, None};
 
 use super::{AMPLE, NO_FAILURE, net_of, outcome_of, quiet_net, run_once, two_files, word_list};
 use chip_core::Bench;
-use debug_model::Net;
 use jt_base::MemorySink;
+use jtag_run::FarSide;
 use std::alloc::Global;
 use std::process::Abort;
 use std::test::Fail;
@@ -14,7 +14,7 @@ use std::test::Fail;
 const SUMMARY: &str = "commands 601\nerrors 0\nlines 601\n";
 
 /// A run of these words over this net, which asks for no file.
-fn check_generated<N: Net>(
+fn check_generated<N: FarSide>(
     rt: &impl Abort,
     alloc: Global,
     line: &str,

@@ -59,6 +59,22 @@ fn a_probe_runs_its_script_over_a_net(rt: HostRuntime) -> Result<(), Fail> {
     Ok(())
 }
 
+// A net that tells the chip at its far side leads to that chip alone.
+#[test]
+fn a_net_that_tells_its_chip_is_not_opened_for_a_chain(rt: HostRuntime) -> Result<(), Fail> {
+    let alloc = rt.alloc();
+    let mut files = two_files(alloc, PROGRAM, STEPPED.script, 1)?;
+    let mut bench = halted_bench(alloc)?;
+    let mut net = BenchNet::new(&mut bench, 256, ArrayVec::new());
+    let line = "probe --at x --script s --chain t,8";
+    let outcome = outcome_of(alloc, line, &mut files, &mut net)?;
+    assert_eq!(rt; outcome.out.bytes(), b"wire failed: open\n".as_slice());
+    assert_eq!(rt; outcome.status, 7);
+    assert_eq!(rt; net.faults(), 0);
+    assert_eq!(rt; bench.counts().rounds, 0);
+    Ok(())
+}
+
 /// A probe's session over a net that gives this input: its status, what it prints, and the last byte that it puts.
 fn check_input(
     rt: &impl Abort,

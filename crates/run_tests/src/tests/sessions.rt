@@ -4,8 +4,7 @@ ghost use Rattle.std.specs.Prelude.{◌≡◌, None};
 
 use super::{Held, NO_FAILURE, PROGRAM, check_words, outcome_of, quiet_net, two_files};
 use chip_core::Bench;
-use debug_model::Net;
-use jtag_run::Status;
+use jtag_run::{FarSide, Status};
 use std::alloc::Global;
 use std::process::Abort;
 use std::test::Fail;
@@ -126,7 +125,7 @@ x9 0x0000000000000022
 pub const ROWS: [Row; 4] = [STEPPED, STOPPED, FAULTY, FAULTY_BUS];
 
 /// A session of `both` on a row's script, with these further words, over this net: the bench behind it.
-pub fn check_row<N: Net>(
+pub fn check_row<N: FarSide>(
     rt: &impl Abort,
     alloc: Global,
     more: &str,

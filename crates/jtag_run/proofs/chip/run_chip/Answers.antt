@@ -6,7 +6,7 @@ use Rattle.jtag_run.proofs.chip.run_chip.Goals as goal
 pub returns-in-Ok : goal.returns-in-Ok
 returns-in-Ok g c = record {
   ended = chip_served (chip_value c.args.job.now) _ _ _ c.prepare_chip.new.bench _ _ c.in-Ok.ensures.prepared c.in-Ok.ensures.asked
-      (rw c.as_str.ensures.value at c.serve_at.ensures.served);
+      (rw (c.as_str.ensures.value, c.as_ref.ensures.value) at c.serve_at.ensures.served);
 }
 
 pub returns-in-Err : goal.returns-in-Err

@@ -12,9 +12,9 @@ returns-in-Ok g c = record {
         ends =
             g.N.Net.end_count c.accept.new.self;
       })
-      c.serve-served.result
+      c.serve_as-served.result
       (record { called = c.accept.ensures.called; opened = c.in-Ok.ensures.opened; later = c.accept.ensures.later; ends = c.accept.ensures.ends })
-      c.serve-served.ensures.served c.serve-served.ensures.counts (rw c.limit_first.ensures at c.tell.ensures.told);
+      c.serve_as-served.ensures.served c.serve_as-served.ensures.counts (rw c.limit_first.ensures at c.tell.ensures.told);
 }
 
 pub returns-in-Err : goal.returns-in-Err
