@@ -13,29 +13,27 @@ use Rattle.debug_model.specs.declared.command.Command.{Command}
 use Rattle.debug_model.specs.declared.command.Command.TheVariants as command
 use Rattle.debug_model.specs.declared.point.Point.{Point}
 use Rattle.debug_model.specs.declared.point.Point.TheVariants.{Look, Access}
-use Rattle.abstract_debugger.specs.Debugger.{Seen, State, act, at_halted, by_load, by_state, going, look, one, seen_at, seen_by, seen_here, stop_line}
+use Rattle.abstract_debugger.specs.Debugger.{Seen, act, by_load, by_state, going, one, seen_at, seen_by, seen_here, stop_line}
 use Rattle.abstract_debugger.specs.Debugger.Seen.{Absent, Running, Halted}
 use Rattle.abstract_debugger.specs.Lines.{Line}
 use Rattle.abstract_debugger.specs.Plan.{Change, Plan, PlanEnd}
 use Rattle.abstract_debugger.specs.Plan.Change.{WriteReg, WriteMem, ArmSlot, FreeSlot, StepOver, StepDone, EbreakHalts, Patch}
-use Rattle.abstract_debugger.specs.Plan.Plan.{take, see, change, say, stop}
+use Rattle.abstract_debugger.specs.Plan.Plan.{see, change, say, stop}
 use Rattle.abstract_debugger.specs.Plan.PlanEnd.{Done, NoHalt, NoAck}
 use Rattle.abstract_debugger.specs.Slots.{any_hit, slots_at}
 use Rattle.abstract_debugger.specs.Transcript.{World, changed, graded, start}
-use Rattle.abstract_debugger.proofs.WalkLemmas.{IsLost, IsUsual, Walks, act-walks, walk-going, walk-halted, walk-if, walk-look, walk-one, walk-resumed, walk-stop_line}
+use Rattle.abstract_debugger.proofs.WalkLemmas.{IsLost, IsUsual, Walks, act-walks, walk-halted, walk-if, walk-look, walk-one, walk-resumed, walk-stop_line}
 use Rattle.rv_model.specs.declared.cause.Cause.{Cause}
-use Rattle.soft_laws.specs.Laws.{ChipsAreUndebugged, HasFewHarts, HasRun, IsHidden, IsSoftWithinRanges, IsUndisturbed, SessionsHide, chip_outcome}
+use Rattle.soft_laws.specs.Laws.{ChipsAreUndebugged, HasFewHarts, HasRun, IsSoftWithinRanges, IsUndisturbed, SessionsHide, chip_outcome}
 use Rattle.soft_laws.specs.Lowered.{no_table}
 use Rattle.soft_laws.specs.SoftBreaks.{covered, has_some, is_listed, patched_board, patched_machine, without}
 use Rattle.soft_laws.specs.SoftDebugger.{SoftCommand, SoftState, clearing, closing, covering, first_soft_state, lifting, most_harts, most_planted, one_by}
 use Rattle.soft_laws.specs.SoftDebugger.{pc_at, plain_act, planting, prepared, preparing, put_in, setting, soft_act, soft_commands, soft_one, soft_resuming}
 use Rattle.soft_laws.specs.SoftDebugger.{soft_session, soft_stepping, soft_transcript, switching, word_at}
 use Rattle.soft_laws.specs.SoftDebugger.SoftCommand.{Plain, Soft, Unsoft}
-use Rattle.soft_laws.specs.SoftReplay.{soft_passed}
 use Rattle.soft_laws.proofs.EachHart.{Each, Switches, each-passed, each-switched}
 use Rattle.soft_laws.proofs.HiddenPlans.{Hidden, IsKnowledge, Same, h-change, h-on_path, h-say, h-see, h-see_at, h-stop, h-take, h-weaker}
-use Rattle.soft_laws.proofs.Hidings.{Hides}
-use Rattle.soft_laws.proofs.PatchedLemmas.{either_true, listed-here, listed-there}
+use Rattle.soft_laws.proofs.PatchedLemmas.{listed-here, listed-there}
 use Rattle.soft_laws.proofs.PlantedLemmas.{Armed, Fewer, IsFew, IsGuarded, PatchesNothing, Plants, armed-known, fewer_rest, fewer_same, fewer_without}
 use Rattle.soft_laws.proofs.PlantedLemmas.{plants-again, plants-changed, plants-known, plants-lifted, plants-more, put-either, without-listed}
 use Rattle.soft_laws.proofs.SoftTransparency.{soft_transparent}
@@ -241,7 +239,8 @@ prepared-hidden : (m : Machine) (ps : List ℕ) (next ready : Plan) → Hidden m
     → Hidden m (Plants ps) (prepared ps next ready)
 unfolding IsGuardedBelow
 prepared-hidden m [] next ready hn hr =
-    h-weaker m (Plants []) (Below [] 0) (preparing most_harts 0 next ready) (λ w k. record { plants = k; below = λ j x at less. absurd (omega (arith, less)) })
+    h-weaker m (Plants []) (Below [] 0) (preparing most_harts 0 next ready) (λ w k. record { plants = k; below = λ j x at less. absurd (omega
+    (arith, less)) })
     (preparing-hidden m [] next ready hn hr most_harts 0 refl)
 prepared-hidden m (a ∷ ps) next ready hn hr =
     h-weaker m (Plants (a ∷ ps)) (Armed (a ∷ ps)) ready (λ w k. record { plants = k; all = k.guarded refl }) hr
@@ -286,7 +285,7 @@ setting-hidden m a s next aligned words f =
     let ws : Walks Walked (λ p q. Hidden m (Plants s.planted) p) = hidden-walk m s.planted in
     let later : Plan = next (record s { planted = put_in a s.planted }) in
     let full : Plan = (if length s.planted == most_planted then say Line.NoFreeSoftBreak (next s)
-        else prepared s.planted (next s) (planting a (next s) later)) in
+    else prepared s.planted (next s) (planting a (next s) later)) in
     walk-if ws (is_listed s.planted a) (say (Line.SoftIsSet a) (next s)) full (say (Line.SoftIsSet a) (next s)) full
     (ws.says (Line.SoftIsSet a) (next s) (next s) (f s words))
     (walk-if ws (length s.planted == most_planted) (say Line.NoFreeSoftBreak (next s)) (prepared s.planted (next s) (planting a (next s) later))
@@ -315,12 +314,14 @@ switching-hidden m on s next words f =
   where
     ws : Walks Walked (λ p q. Hidden m (Plants s.planted) p)
     ws = hidden-walk m s.planted
+
     switched : (e : Bool) → (has_some s.planted ≡ true → e ≡ true)
         → Hidden m (Plants s.planted) (change (EbreakHalts s.plain.hart e) (say (Line.Ebreak e) (next s)))
     switched e stays =
         h-change m (Plants s.planted) (Plants s.planted) (EbreakHalts s.plain.hart e) (say (Line.Ebreak e) (next s)) tt
         (λ w. plants-changed s.planted (EbreakHalts s.plain.hart e) w tt (λ some before is. stays some) (λ before is. is))
         (ws.says (Line.Ebreak e) (next s) (next s) (f s words))
+
     by : (e some : Bool) → has_some s.planted ≡ some → Hidden m (Plants s.planted) (if not e && some then say Line.SoftBreaksAreSet (next s)
         else change (EbreakHalts s.plain.hart e) (say (Line.Ebreak e) (next s)))
     by true some is = switched true (λ there. refl)
@@ -398,7 +399,7 @@ session-same board script journal within few u =
 pub sessions_hide : SessionsHide
 sessions_hide board script journal within few u =
     let same : Same (machine_of board) (soft_transcript board script journal) (chip_outcome board script journal) =
-        session-same board script journal within few u in
+    session-same board script journal within few u in
     record {
       end = same.end;
       lines = same.hides.lines;

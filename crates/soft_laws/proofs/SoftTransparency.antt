@@ -27,7 +27,8 @@ use Rattle.soft_laws.proofs.SoftKeeps.{SoftKeeps, soft-replay-keeps}
 
 -- only an executed turn changes the core
 core_by : (halted : Option Cause) (resume request fired at_ebreak : Bool) (touch : Touch) (o : Outcome) (h : Hart)
-    → (place_by halted resume request fired at_ebreak touch o h).hart.core ≡ (if executes_by halted resume request fired at_ebreak then o.step.core else h.core)
+    → (place_by halted resume request fired at_ebreak touch o h).hart.core ≡
+    (if executes_by halted resume request fired at_ebreak then o.step.core else h.core)
 core_by (Some why) true request fired at_ebreak touch o h = refl
 core_by (Some why) false request fired at_ebreak touch o h = refl
 core_by None resume true fired at_ebreak touch o h = refl

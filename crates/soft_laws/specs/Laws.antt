@@ -1,7 +1,7 @@
 -- Laws of software breakpoints: what a chip with patches in its memory does is what a user sees over memory without them.
 -- They are this project's own. A session is a plan, seen by `soft_replay`; the chip's journal is replayed along the same plan, lowered.
 use Rattle.std.specs.Prelude.{◌≡◌, ◌≤◌, ◌<◌, ◌%◌, ℕ, All, List, [], Some, true, slice_get}
-use Rattle.rv_model.specs.Board.{Board, Hart, Machine, machine_of}
+use Rattle.rv_model.specs.Board.{Board, Hart, machine_of}
 use Rattle.rv_model.specs.Memory.{ram_base}
 use Rattle.rv_model.specs.Turn.{turn}
 use Rattle.rv_model.specs.Undebugged.{undebugged}
