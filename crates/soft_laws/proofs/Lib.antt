@@ -19,3 +19,4 @@ pub mod LoweredGood
 pub mod SoftQuiet
 pub mod ReadLemmas
 pub mod SoftSteps
+pub mod SoftFetched
