@@ -239,8 +239,11 @@ prepared-hidden : (m : Machine) (ps : List ℕ) (next ready : Plan) → Hidden m
     → Hidden m (Plants ps) (prepared ps next ready)
 unfolding IsGuardedBelow
 prepared-hidden m [] next ready hn hr =
-    h-weaker m (Plants []) (Below [] 0) (preparing most_harts 0 next ready) (λ w k. record { plants = k; below = λ j x at less. absurd (omega
-    (arith, less)) })
+    h-weaker m (Plants []) (Below [] 0) (preparing most_harts 0 next ready) (λ w k. record {
+      plants = k;
+      below = λ j x at less. absurd (omega
+          (arith, less));
+    })
     (preparing-hidden m [] next ready hn hr most_harts 0 refl)
 prepared-hidden m (a ∷ ps) next ready hn hr =
     h-weaker m (Plants (a ∷ ps)) (Armed (a ∷ ps)) ready (λ w k. record { plants = k; all = k.guarded refl }) hr

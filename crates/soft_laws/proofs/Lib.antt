@@ -20,3 +20,4 @@ pub mod SoftQuiet
 pub mod ReadLemmas
 pub mod SoftSteps
 pub mod SoftFetched
+pub mod SoftExampleLemmas
