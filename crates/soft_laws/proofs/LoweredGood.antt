@@ -28,8 +28,8 @@ use Rattle.abstract_debugger.proofs.KnownHarts.{known-start}
 use Rattle.abstract_debugger.proofs.KnownPoints.{known-ready}
 use Rattle.abstract_debugger.proofs.ScriptLemmas.{good-walks}
 use Rattle.abstract_debugger.proofs.SlotLemmas.{CanArm}
-use Rattle.abstract_debugger.proofs.WayWalks.{WayWalks, hit_in, no_hit_in, turned_back, turned_round, way-act, way-by_load, way-first, way-halted, way-if}
-use Rattle.abstract_debugger.proofs.WayWalks.{way-look, way-look_by, way-one, way-resumed, way-stop_line, way_still}
+use Rattle.abstract_debugger.proofs.WayCommands.{hit_in, no_hit_in, turned_back, turned_round, way-act, way-by_load}
+use Rattle.abstract_debugger.proofs.WayWalks.{WayWalks, way-first, way-halted, way-if, way-look, way-look_by, way-one, way-resumed, way-stop_line, way_still}
 use Rattle.soft_laws.specs.Laws.{IsSoftWithinRanges, SoftFirstMatchHolds}
 use Rattle.soft_laws.specs.Lowered.{Table, hidden_board, lower, merged, no_table, patched_table, written_table}
 use Rattle.soft_laws.specs.SoftBreaks.{ebreak_word, has_some, is_listed, without}

@@ -1,9 +1,8 @@
 -- The worked examples with software breakpoints, computed: what is seen of memory is given by the program.
-use Rattle.std.proofs.Common.{◌≡◌, ◌∙◌, ◌+◌, ℕ, zero, suc, Bool, true, false, ◌||◌, List, [], ◌∷◌, Option, Some, None, is_some, Result, Ok, Err, refl, sym, ap}
+use Rattle.std.proofs.Common.{◌≡◌, ◌∙◌, ◌+◌, ℕ, zero, suc, Bool, true, false, ◌||◌, List, [], ◌∷◌, Option, Some, None, is_some, Ok, refl, sym, ap}
 use Rattle.std.proofs.Common.{subst, if◌then◌else◌, inl, inr}
 use Rattle.std.specs.Prelude.{◌==◌, unwrap_or}
 use Rattle.std.proofs.lemmas.Bool.{eqb-true, false≢true}
-use Rattle.rv_model.specs.declared.mem_fault.MemFault.{MemFault}
 use Rattle.rv_model.specs.declared.size.Size.TheVariants.{B4}
 use Rattle.rv_model.specs.Alu.{alu_of}
 use Rattle.rv_model.specs.Board.{Board}
@@ -12,28 +11,28 @@ use Rattle.rv_model.specs.Memory.{Memory, loaded, or_outside, value_at}
 use Rattle.rv_model.specs.Registers.{csr_value, csr_read_only}
 use Rattle.rv_model.specs.Rows.{meaning}
 use Rattle.debug_model.specs.declared.command.Command.TheVariants as command
-use Rattle.debug_model.specs.declared.point.Point.{Point}
 use Rattle.debug_model.specs.declared.point.Point.TheVariants.{Access}
-use Rattle.abstract_debugger.specs.Debugger.{State, access, act, at_aligned, at_halted, at_path, by_load, by_state, first_state, going, look, one, reading}
+use Rattle.abstract_debugger.specs.Debugger.{State, act, at_aligned, at_halted, at_path, by_load, first_state, going, look, one, reading}
 use Rattle.abstract_debugger.specs.Debugger.{stepping, stop_line, until, waiting}
-use Rattle.abstract_debugger.specs.ExampleCases.{counter, halted_board, running_board, x5}
+use Rattle.abstract_debugger.specs.ExampleCases.{counter, x5}
 use Rattle.abstract_debugger.specs.Lines.{Line}
 use Rattle.abstract_debugger.specs.Plan.{Change, Plan}
 use Rattle.abstract_debugger.specs.Plan.Change.{WriteReg, WriteMem, ArmSlot, FreeSlot, StepOver, StepDone, EbreakHalts, Patch}
 use Rattle.abstract_debugger.specs.Plan.Plan.{take, on_path, see, change, say, stop}
 use Rattle.abstract_debugger.specs.Plan.PlanEnd.{Done}
 use Rattle.abstract_debugger.specs.Slots.{any_hit, slots_at}
-use Rattle.abstract_debugger.specs.Transcript.{End, Outcome, World, start}
+use Rattle.abstract_debugger.specs.Transcript.{End, Outcome, start}
 use Rattle.abstract_debugger.proofs.Fetched.{some-unwrap, word_held}
 use Rattle.abstract_debugger.proofs.WalkLemmas.{IsUsual, Walks, act-walks, walk-aligned, walk-halted, walk-if, walk-look, walk-look_by, walk-one, walk-path}
 use Rattle.abstract_debugger.proofs.WalkLemmas.{walk-resumed, walk-stop_line}
 use Rattle.soft_laws.specs.SoftBreaks.{is_listed}
 use Rattle.soft_laws.specs.SoftDebugger.{SoftCommand, SoftState, covering, first_soft_state, lifting, most_harts, one_by, pc_at, planting, preparing}
 use Rattle.soft_laws.specs.SoftDebugger.{soft_commands, soft_resuming, soft_session, soft_transcript, word_at}
-use Rattle.soft_laws.specs.SoftDebugger.SoftCommand.{Plain, Soft, Unsoft}
-use Rattle.soft_laws.specs.SoftExamples.{IsPlain, SaysSo, SoftCase, SoftExamplesHappen, SoftHappens, break_at_jump, jump_at, refused_twice}
+use Rattle.soft_laws.specs.SoftDebugger.SoftCommand.{Plain, Soft}
+use Rattle.soft_laws.specs.SoftExamples.{IsPlain, SoftCase, SoftExamplesHappen, SoftHappens, break_at_jump, jump_at, refused_twice}
 use Rattle.soft_laws.proofs.PatchedLemmas.{either_true}
-use Rattle.soft_laws.proofs.SoftFetched.{Leads, computed, l-change, l-nowhere, l-on_path, l-patch, l-say, l-see, l-seen, l-stop, l-take, l-write, nowhere}
+use Rattle.soft_laws.proofs.SoftFetched.{computed}
+use Rattle.soft_laws.proofs.SoftLeads.{Leads, l-change, l-nowhere, l-on_path, l-patch, l-say, l-see, l-seen, l-stop, l-take, l-write, nowhere}
 
 -- ---- the walk
 
@@ -203,7 +202,8 @@ shown_x5 more t = at_halted t.hart (waited t) (see (resumed_with t.hart (waited 
 show-leads : (rest : List SoftCommand) (more : State → Plan) → ((t : State) → Leads counter (soft_commands rest (planted_at t)) (more t)) → (t : State)
     → Leads counter (soft_commands (show_x5 rest) (planted_at t)) (shown_x5 more t)
 show-leads rest more l t =
-    walk-halted leads-walk t.hart (next t) (see (soft_resuming (jump_at ∷ []) t.hart (next t))) (waited t) (see (resumed_with t.hart (waited t))) (waiting-leads t)
+    walk-halted leads-walk t.hart (next t) (see (soft_resuming (jump_at ∷ []) t.hart (next t))) (waited t) (see (resumed_with t.hart (waited t)))
+    (waiting-leads t)
     (resuming-leads t.hart (next t) (waited t) (waiting-leads t))
   where
     next : State → Plan
@@ -233,7 +233,8 @@ break-leads =
     (λ seen. preparing most_harts 0 nowhere (take Access (covering jump_at jump (say (Line.SoftSet jump_at) (shown_x5 from_read first_state)))))
     (λ seen. preparing-leads most_harts 0 (soft_commands rest first_soft_state)
     (planting jump_at (soft_commands rest first_soft_state) (soft_commands rest (planted_at first_state))) nowhere
-    (take Access (covering jump_at jump (say (Line.SoftSet jump_at) (shown_x5 from_read first_state)))) (l-nowhere counter (soft_commands rest first_soft_state))
+    (take Access (covering jump_at jump (say (Line.SoftSet jump_at) (shown_x5 from_read first_state)))) (l-nowhere counter
+    (soft_commands rest first_soft_state))
     (planting-leads (soft_commands rest first_soft_state) (soft_commands rest (planted_at first_state)) (shown_x5 from_read first_state)
     (show-leads (Plain (command.Read B4 jump_at 1) ∷ show_x5 []) from_read read-leads first_state)))
   where

@@ -20,7 +20,8 @@ use Rattle.abstract_debugger.proofs.Transparency.{Erased, erased-keeps, noted_by
 use Rattle.soft_laws.specs.Laws.{SoftTransparent}
 use Rattle.soft_laws.specs.SoftBreaks.{covered}
 use Rattle.soft_laws.specs.SoftReplay.{soft_passed, soft_replay}
-use Rattle.soft_laws.specs.SoftTurns.{soft_executes, soft_fires, soft_memory_after, soft_noted_here, soft_place, soft_stops, soft_touch, soft_turn_by, soft_turned}
+use Rattle.soft_laws.specs.SoftTurns.{soft_executes, soft_fires, soft_memory_after, soft_noted_here, soft_place, soft_stops}
+use Rattle.soft_laws.specs.SoftTurns.{soft_touch, soft_turn_by, soft_turned}
 use Rattle.soft_laws.proofs.SoftKeeps.{SoftKeeps, soft-replay-keeps}
 
 -- ---- one hart

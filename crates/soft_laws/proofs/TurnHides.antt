@@ -20,7 +20,8 @@ use Rattle.soft_laws.specs.Laws.{MayHide}
 use Rattle.soft_laws.specs.Lowered.{Table}
 use Rattle.soft_laws.specs.SoftBreaks.{AreAligned, AreInside, covered, meets_some, patched_board, patched_memory}
 use Rattle.soft_laws.specs.SoftFirstMatch.{SoftFirstMatch, armed_at_touch, covers_pc, soft_matches_at, soft_matching}
-use Rattle.soft_laws.specs.SoftTurns.{soft_executes, soft_fires, soft_memory_after, soft_noted_here, soft_stops, soft_touch, soft_turn, soft_turn_by, soft_turned}
+use Rattle.soft_laws.specs.SoftTurns.{soft_executes, soft_fires, soft_memory_after, soft_noted_here, soft_stops, soft_touch}
+use Rattle.soft_laws.specs.SoftTurns.{soft_turn, soft_turn_by, soft_turned}
 use Rattle.soft_laws.specs.Undisturbed.{CoreLeaves, LeavesWords, Undisturbed, accessed_of}
 use Rattle.soft_laws.proofs.ExecLemmas.{touch-patched}
 use Rattle.soft_laws.proofs.HideLemmas.{executes_uncovered, patches_hide, stops-patched}
