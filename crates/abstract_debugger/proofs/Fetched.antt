@@ -29,7 +29,7 @@ use Rattle.abstract_debugger.specs.Transcript.{End, Outcome, World, changed, fin
 
 -- ---- a word of a program
 
-abbrev word_in : Program → ℕ → Option ℕ
+abbrev pub word_in : Program → ℕ → Option ℕ
 word_in [] pc = None
 word_in (e ∷ words) pc = if pc == e.0 then Some e.1 else word_in words pc
 
@@ -38,14 +38,14 @@ found_word : (b : Bool) (pc a word v : ℕ) (rest : Option ℕ) (m : Memory) →
 found_word true pc a word v rest m here holds later is = ap (λ x. loaded m x B4) (here refl) ∙ holds ∙ ap Ok (let e : word ≡ v = cc in e)
 found_word false pc a word v rest m here holds later is = later is
 
-word_held : (p : Program) (m : Memory) (pc v : ℕ) → Holds p m → word_in p pc ≡ Some v → loaded m pc B4 ≡ Ok v
+pub word_held : (p : Program) (m : Memory) (pc v : ℕ) → Holds p m → word_in p pc ≡ Some v → loaded m pc B4 ≡ Ok v
 word_held [] m pc v holds is = absurd (cc)
 word_held (e ∷ words) m pc v holds is =
     found_word (pc == e.0) pc e.0 e.1 v (word_in words pc) m (λ t. eqb-true pc e.0 t) holds.0 (word_held words m pc v holds.1) is
 
 -- ---- a turn, by what is fetched
 
-abbrev keeps_memory : Option Insn → Bool
+abbrev pub keeps_memory : Option Insn → Bool
 keeps_memory None = true
 keeps_memory (Some (Immediate op p)) = true
 keeps_memory (Some (Auipc p)) = true
@@ -53,7 +53,7 @@ keeps_memory (Some (Jal p)) = true
 keeps_memory (Some Ebreak) = true
 keeps_memory (Some _) = false
 
-memory_kept : (o : Option Insn) (c : Core) (m : Memory) → keeps_memory o ≡ true → (decoded o c m).memory ≡ m
+pub memory_kept : (o : Option Insn) (c : Core) (m : Memory) → keeps_memory o ≡ true → (decoded o c m).memory ≡ m
 unfolding effect_of
 memory_kept None c m is = refl
 memory_kept (Some (Immediate op p)) c m is = refl
@@ -150,7 +150,7 @@ turn-same p h w v holds is =
 
 -- ---- a replay
 
-abbrev onward : Option World → (World → Option Outcome) → Option Outcome
+abbrev pub onward : Option World → (World → Option Outcome) → Option Outcome
 onward (Some w) next = next w
 onward None next = None
 
@@ -195,14 +195,14 @@ onward-agrees words (Some v) now real with_words o m holds same agrees is =
     let s : Same now v m = same v refl in
     ap real s.worlds ∙ agrees v (subst (Holds words) (sym s.memories) holds) is
 
-some_is : (x o : Outcome) → Some x ≡ Some o → x ≡ o
+pub some_is : (x o : Outcome) → Some x ≡ Some o → x ≡ o
 some_is x o is = cc
 
-point-kept : (by : Option Hart) (f : DebugPart → DebugPart) (h : ℕ) (b : Board) → (debug_changed_by by f h b).memory ≡ b.memory
+pub point-kept : (by : Option Hart) (f : DebugPart → DebugPart) (h : ℕ) (b : Board) → (debug_changed_by by f h b).memory ≡ b.memory
 point-kept (Some hart) f h b = refl
 point-kept None f h b = refl
 
-either-agrees : (b : Bool) (x y o : Outcome) (x' : Option Outcome) → (x' ≡ Some o → x ≡ o) → (if b then x' else Some y) ≡ Some o → (if b then x else y) ≡ o
+pub either-agrees : (b : Bool) (x y o : Outcome) (x' : Option Outcome) → (x' ≡ Some o → x ≡ o) → (if b then x' else Some y) ≡ Some o → (if b then x else y) ≡ o
 either-agrees true x y o x' agrees is = agrees is
 either-agrees false x y o x' agrees is = some_is y o is
 

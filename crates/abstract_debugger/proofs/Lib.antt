@@ -12,6 +12,7 @@ pub mod KnownPoints
 pub mod KnownChanges
 pub mod PointLemmas
 pub mod WayWalks
+pub mod WayCommands
 pub mod GoodLemmas
 pub mod ScriptLemmas
 pub mod FrontLemmas

@@ -34,7 +34,8 @@ use Rattle.abstract_debugger.proofs.KnownChanges.{HasSlot, known-arm, known-ebre
 use Rattle.abstract_debugger.proofs.KnownChanges.{known-write_reg}
 use Rattle.abstract_debugger.proofs.KnownHarts.{known-start, known_idle}
 use Rattle.abstract_debugger.proofs.KnownPoints.{known-asked, known-going, known-halt_clear, known-halt_req, known-rests}
-use Rattle.abstract_debugger.proofs.WayWalks.{IsCalm, Learns, WayWalks, way-act, way-look}
+use Rattle.abstract_debugger.proofs.WayCommands.{way-act}
+use Rattle.abstract_debugger.proofs.WayWalks.{IsCalm, Learns, WayWalks, way-look}
 
 -- ---- slots
 

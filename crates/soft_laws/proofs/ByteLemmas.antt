@@ -1,10 +1,9 @@
 -- Bytes of memory behind a write of several: the written ones, those beside them, and writes and reads that have no byte in common.
-use Rattle.std.proofs.Common.{◌≡◌, ◌∙◌, ◌+◌, ◌*◌, ◌/◌, ◌%◌, ◌<◌, ◌≤◌, ◌^◌, ◌⊎◌, ℕ, zero, suc, Bool, true, false, cond, ◌&&◌, ◌||◌, List, [], ◌∷◌}
-use Rattle.std.proofs.Common.{Option, Some, None, is_some, option_map, refl, sym, ap, subst, if◌then◌else◌, inl, inr, arith}
-use Rattle.std.specs.Prelude.{◌==◌, nat_lt}
+use Rattle.std.proofs.Common.{◌≡◌, ◌∙◌, ◌+◌, ◌*◌, ◌/◌, ◌%◌, ◌<◌, ◌≤◌, ◌^◌, ◌⊎◌, ℕ, zero, suc, true, cond}
+use Rattle.std.proofs.Common.{Option, Some, None, is_some, refl, sym, ap, if◌then◌else◌, inl, inr, arith}
+use Rattle.std.specs.Prelude.{◌==◌}
 use Rattle.std.specs.FinMap.{get, get-insert, insert, nat_cmp-IsAntisymmetric, same_map}
 use Rattle.std.specs.Cmp.{nat_cmp_total, unsigned_tied}
-use Rattle.std.specs.Ordering.{nat_cmp}
 use Rattle.std.proofs.lemmas.Bool.{cases_eq, cases_lt, eq-eqb, ne_eqb}
 use Rattle.std.proofs.Math.Arith.{mod-mul}
 use Rattle.std.proofs.Math.Nat.{pow-suc}
@@ -118,8 +117,10 @@ value_alike m m' a (suc n) alike =
 
 -- a value beside a write
 pub value_apart : (m : Bytes) (a n v b k : ℕ) → Apart a n b k → value_at (with_value m a n v) b k ≡ value_at m b k
-value_apart m a n v b k (inl front) = value_alike (with_value m a n v) m b k (λ q from less. get-with_value m a n v q ∙ byte_above a n v q (get m q) (omega arith))
-value_apart m a n v b k (inr behind) = value_alike (with_value m a n v) m b k (λ q from less. get-with_value m a n v q ∙ byte_below a n v q (get m q) (omega arith))
+value_apart m a n v b k (inl front) = value_alike (with_value m a n v) m b k (λ q from less. get-with_value m a n v q ∙ byte_above a n v q (get m q)
+    (omega arith))
+value_apart m a n v b k (inr behind) = value_alike (with_value m a n v) m b k (λ q from less. get-with_value m a n v q ∙ byte_below a n v q
+    (get m q) (omega arith))
 
 -- the same, of whether there is one
 pub value_there : (m m' : Bytes) (a n : ℕ) → ((q : ℕ) → a ≤ q → q < a + n → is_some (get m q) ≡ is_some (get m' q))

@@ -1,5 +1,5 @@
 -- Facts about the switch of ebreaks of every hart: points and most changes leave it as it was.
-use Rattle.std.proofs.Common.{◌≡◌, ◌∙◌, ℕ, Bool, true, false, List, Option, Some, None, slice_get, option_map, refl, sym, ap, subst, inl, inr, if◌then◌else◌}
+use Rattle.std.proofs.Common.{◌≡◌, ◌∙◌, ℕ, Bool, true, false, List, Option, Some, None, slice_get, option_map, refl, sym, subst, inl, inr, if◌then◌else◌}
 use Rattle.std.proofs.lemmas.Bool.{cases_eq}
 use Rattle.std.proofs.lemmas.Option.{none-some, same_Some}
 use Rattle.std.specs.Prelude.{◌==◌}
@@ -10,7 +10,7 @@ use Rattle.rv_model.specs.Effects.{Outcome}
 use Rattle.rv_model.specs.Execute.{exec_of}
 use Rattle.rv_model.specs.Memory.{Memory}
 use Rattle.rv_model.specs.Registers.{pc_number}
-use Rattle.rv_model.specs.Turn.{place_by, stepped}
+use Rattle.rv_model.specs.Turn.{place_by}
 use Rattle.debug_model.specs.Journal.{debug_changed_by, halt_requested, resume_asked, resume_asked_by, with_debug}
 use Rattle.debug_model.specs.declared.point.Point.{Point}
 use Rattle.debug_model.specs.declared.point.Point.TheVariants.{Turn, Look, HaltReq, HaltClear, ResumeReq, Access}
@@ -65,7 +65,8 @@ place_leaves None resume false false false t o x = stepped_leaves x.debug.step _
 soft_place_leaves : (cs : List ℕ) (m : Memory) → Leaves (λ y. (soft_place cs y m).hart)
 unfolding soft_place
 soft_place_leaves cs m y =
-    place_leaves y.debug.halted y.debug.resume_request y.debug.halt_request (soft_fires cs y m) (soft_stops cs y m) (soft_touch cs y.core m) (exec_of y.core m) y
+    place_leaves y.debug.halted y.debug.resume_request y.debug.halt_request (soft_fires cs y m) (soft_stops cs y m) (soft_touch cs y.core m)
+    (exec_of y.core m) y
 
 turned_each : (F : ℕ → Bool → Type 0) (cs : List ℕ) (o : Option Hart) (h : ℕ) (b : Board) → slice_get b.harts h ≡ o → Each F b.harts
     → Each F (soft_turn_by cs o h b).harts
@@ -127,7 +128,8 @@ each-changed F (StepDone h) b sw each =
     each-changed_at F h (with_debug_part step_ended) b.harts _ (changed-over h (with_debug_part step_ended) b.harts)
     (left F h (with_debug_part step_ended) (λ y. refl)) each
 each-changed F (EbreakHalts h on) b sw each =
-    each-changed_at F h (with_debug_part (ebreak_halts on)) b.harts _ (changed-over h (with_debug_part (ebreak_halts on)) b.harts) (λ y is. sw y.debug.ebreakm is) each
+    each-changed_at F h (with_debug_part (ebreak_halts on)) b.harts _ (changed-over h (with_debug_part (ebreak_halts on)) b.harts)
+    (λ y is. sw y.debug.ebreakm is) each
 each-changed F (Patch a original covers) b sw each = each
 
 -- the switch of one hart, where other things are known behind it

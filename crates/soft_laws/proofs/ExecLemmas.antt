@@ -1,6 +1,5 @@
 -- One instruction over memory with patches: where it isn't a covered one and leaves covered words alone, it does what it does without them.
 use Rattle.std.proofs.Common.{◌≡◌, ◌∙◌, ℕ, Bool, true, false, List, Option, Some, None, Result, Ok, Err, refl, sym, ap, if◌then◌else◌}
-use Rattle.std.specs.Prelude.{⊤}
 use Rattle.rv_model.specs.declared.alu_op.AluOp.{AluOp}
 use Rattle.rv_model.specs.declared.alu_op.AluOp.TheVariants as op
 use Rattle.rv_model.specs.declared.insn.Insn.{Insn}
@@ -9,20 +8,19 @@ use Rattle.rv_model.specs.declared.insn.Insn.TheVariants.{StoreConditional, Amo,
 use Rattle.rv_model.specs.declared.mem_fault.MemFault.{MemFault}
 use Rattle.rv_model.specs.declared.size.Size.{Size}
 use Rattle.rv_model.specs.declared.size.Size.TheVariants.{B4}
-use Rattle.rv_model.specs.declared.touch.Touch.{Touch}
 use Rattle.rv_model.specs.Accesses.{load_extension, load_size, width_extension, width_size}
 use Rattle.rv_model.specs.Core.{Core, offset_by, x_of}
 use Rattle.rv_model.specs.Effects.{Outcome, after_amo, after_load, after_reserve, after_sc, amo_step, effect_of, same_memory, sc_step, stored_step}
 use Rattle.rv_model.specs.Effects.{stores_at, stores_if_reserved_at, updates_at, loads_at, reserves_at}
 use Rattle.rv_model.specs.Execute.{decoded, exec_of, fetched}
 use Rattle.rv_model.specs.Laws.{answered}
-use Rattle.rv_model.specs.Memory.{Memory, after_store, cleared, covers, dropped, loaded, store_answer, with_value}
+use Rattle.rv_model.specs.Memory.{Memory, after_store, cleared, covers, dropped, loaded, store_answer}
 use Rattle.rv_model.specs.Rows.{meaning}
 use Rattle.rv_model.specs.Size.{count_of}
 use Rattle.rv_model.specs.Touch.{reads, reads_and_writes, touch_fetched, touch_of, touches_nothing, writes}
 use Rattle.rv_model.specs.Turn.{is_ebreak_at, is_ebreak_word}
 use Rattle.rv_model.proofs.MemoryLemmas.{after_store_refused, after_store_taken, store_answer_is}
-use Rattle.soft_laws.specs.SoftBreaks.{AreAligned, AreInside, ebreak_word, is_listed, meets_some, patched_bytes, patched_memory}
+use Rattle.soft_laws.specs.SoftBreaks.{AreAligned, AreInside, is_listed, meets_some, patched_memory}
 use Rattle.soft_laws.specs.SoftTurns.{ebreak_by, soft_touch, touch_by}
 use Rattle.soft_laws.specs.Undisturbed.{LeavesWords, accessed, accessed_fetched, accessed_meant, accessed_of, reaches, unless_refused}
 use Rattle.soft_laws.proofs.PatchedLemmas.{answered-patched, fetched-covered, fetched-patched, loaded-patched, patched-write}
@@ -85,7 +83,8 @@ after_store-patched cs m a size v inside (Err fault) is left =
 
 -- ---- the instructions with an access
 
-loads-patched : (cs : List ℕ) (a : ℕ) (size : Size) (extend : ℕ → ℕ) (rd : ℕ) (c : Core) (m : Memory) → AreInside cs m.bytes → LeftBy cs a size (loaded m a size)
+loads-patched : (cs : List ℕ) (a : ℕ) (size : Size) (extend : ℕ → ℕ) (rd : ℕ) (c : Core) (m : Memory) → AreInside cs m.bytes → LeftBy cs a size
+    (loaded m a size)
     → loads_at a size extend rd c (patched_memory cs m) ≡ patched_outcome cs (loads_at a size extend rd c m)
 loads-patched cs a size extend rd c m inside left =
     ap (λ r. same_memory (patched_memory cs m) (after_load r extend rd a c)) (loaded-left cs m a size inside (loaded m a size) refl left)

@@ -1,9 +1,7 @@
 -- Plans whose lowered replays stay hidden behind what a user sees, by how they are put together: each lemma carries every journal and every end.
-use Rattle.std.proofs.Common.{◌≡◌, ◌∙◌, ℕ, Bool, true, false, List, [], ◌∷◌, Option, Some, None, slice_get, option_map, refl, sym, ap, subst, inl, inr}
+use Rattle.std.proofs.Common.{◌≡◌, Bool, true, false, List, [], ◌∷◌, refl, sym, ap, subst}
 use Rattle.std.proofs.Common.{if◌then◌else◌}
-use Rattle.std.proofs.lemmas.Bool.{cases_eq}
-use Rattle.std.proofs.lemmas.Option.{none-some, same_Some}
-use Rattle.rv_model.specs.Board.{Board, Hart, Machine}
+use Rattle.rv_model.specs.Board.{Board, Machine}
 use Rattle.debug_model.specs.declared.command.Path.{Path}
 use Rattle.debug_model.specs.declared.point.Point.{Point}
 use Rattle.debug_model.specs.declared.point.Point.TheVariants.{Turn, Look, HaltReq, HaltClear, ResumeReq, Access}
@@ -12,7 +10,7 @@ use Rattle.abstract_debugger.specs.Plan.{Change, Plan, PlanEnd}
 use Rattle.abstract_debugger.specs.Plan.Plan.{take, on_path, see, change, say, stop}
 use Rattle.abstract_debugger.specs.Transcript.{End, Outcome, World, changed, graded, passed, replay, said, same_point, taking, finish}
 use Rattle.soft_laws.specs.Laws.{HasRun}
-use Rattle.soft_laws.specs.Lowered.{Table, hidden_board, lower}
+use Rattle.soft_laws.specs.Lowered.{Table, lower}
 use Rattle.soft_laws.specs.SoftBreaks.{covered}
 use Rattle.soft_laws.specs.SoftReplay.{soft_finish, soft_passed, soft_replay, soft_taking}
 use Rattle.soft_laws.specs.SoftTurns.{soft_turned}
@@ -69,7 +67,8 @@ calm-hidden m K knows b p next h t seen chip hides k calm j u =
     (record { world = chip; end = End.Astray })
     (λ v. h.goes t (passed p seen) (passed p chip)
     (subst (λ w. Hides m t w (passed p chip)) calm
-    (hides-passed m t p seen chip hides (knows.stops seen k) (subst (λ (w : World). Undisturbed m w.past) (sym calm) (since-replay m next (passed p seen) j v))))
+    (hides-passed m t p seen chip hides (knows.stops seen k) (subst (λ (w : World). Undisturbed m w.past) (sym calm) (since-replay m next
+    (passed p seen) j v))))
     (subst K calm (knows.passes p seen k)) j v)
     (λ v. stopped_astray m t seen chip hides) u
 
@@ -127,7 +126,8 @@ h-change m K L c next of_words steps h = record {
 }
 
 finish-hidden : (m : Machine) (K : World → Type 0) → IsKnowledge K → (e : PlanEnd)
-    → ((w : World) → K w → HasRun (graded e w.lines) → covered w.past ≡ []) → (t : Table) (seen chip : World) → Hides m t seen chip → K seen → (j : List Point)
+    → ((w : World) → K w → HasRun (graded e w.lines) → covered w.past ≡ []) → (t : Table) (seen chip : World) → Hides m t seen chip → K seen →
+    (j : List Point)
     → Undisturbed m (soft_finish e seen j).world.past → Same m (soft_finish e seen j) (finish e chip j)
 finish-hidden m K knows e clear t seen chip hides k [] u = record {
   end = ap (graded e) hides.lines;

@@ -7,9 +7,8 @@ use Rattle.rv_model.specs.Board.{Board, Hart}
 use Rattle.rv_model.specs.Effects.{Outcome}
 use Rattle.rv_model.specs.Execute.{exec_of}
 use Rattle.rv_model.specs.Memory.{Memory}
-use Rattle.rv_model.specs.Touch.{touch_of}
 use Rattle.rv_model.specs.Turn.{Place, executes, executes_by, memory_after, place_by, place_of, some_fires, stops_at_ebreak, turn_by}
-use Rattle.soft_laws.specs.Laws.{MayHide, PatchesHide}
+use Rattle.soft_laws.specs.Laws.{PatchesHide}
 use Rattle.soft_laws.specs.SoftBreaks.{AreAligned, AreInside, is_listed, patched_board, patched_memory}
 use Rattle.soft_laws.specs.SoftTurns.{ebreak_by, soft_executes, soft_fires, soft_memory_after, soft_place, soft_stops, soft_touch, soft_turn_by}
 use Rattle.soft_laws.specs.Undisturbed.{LeavesWords, accessed_of}
@@ -97,7 +96,8 @@ memory-patched cs x m are runs =
 -- ---- the board
 
 hides_by : (cs : List ℕ) (o : Option Hart) (h : ℕ) (b : Board) → AreAligned cs
-    → ((x : Hart) → o ≡ Some x → soft_executes cs x b.memory ≡ true → exec_of x.core (patched_memory cs b.memory) ≡ patched_outcome cs (exec_of x.core b.memory))
+    → ((x : Hart) → o ≡ Some x → soft_executes cs x b.memory ≡ true → exec_of x.core (patched_memory cs b.memory) ≡ patched_outcome cs
+    (exec_of x.core b.memory))
     → turn_by o h (patched_board cs b) ≡ patched_board cs (soft_turn_by cs o h b)
 hides_by cs None h b are runs = refl
 hides_by cs (Some x) h b are runs =

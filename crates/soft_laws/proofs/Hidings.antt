@@ -1,6 +1,6 @@
 -- How a chip's world stands to what a user sees: the chip's board is the user's under patches, of which a table remembers the originals.
 use Rattle.std.proofs.Common.{◌≡◌, ℕ, true, Some, slice_get}
-use Rattle.rv_model.specs.Board.{Board, Hart, Machine}
+use Rattle.rv_model.specs.Board.{Hart, Machine}
 use Rattle.abstract_debugger.specs.FirstMatch.{FirstMatch}
 use Rattle.abstract_debugger.specs.Transcript.{World}
 use Rattle.abstract_debugger.proofs.Transparency.{Erased}

@@ -14,8 +14,12 @@ pub mod StepHides
 pub mod HiddenPlans
 pub mod EachHart
 pub mod PlantedLemmas
+pub mod HiddenSteps
 pub mod HiddenScripts
 pub mod LoweredGood
 pub mod SoftQuiet
 pub mod ReadLemmas
 pub mod SoftSteps
+pub mod SoftFetched
+pub mod SoftLeads
+pub mod SoftExampleLemmas

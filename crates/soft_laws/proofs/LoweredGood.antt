@@ -1,30 +1,26 @@
 -- The chip of a session with software breakpoints keeps to first match as any chip does: its lowered plan is walked by the ways of harts.
-use Rattle.std.proofs.Common.{◌≡◌, ◌∙◌, ◌+◌, ℕ, zero, suc, Bool, true, false, not, ◌&&◌, ◌||◌, List, [], ◌∷◌, length, Option, Some, None, Result, Ok, Err}
+use Rattle.std.proofs.Common.{◌≡◌, ◌+◌, ℕ, zero, suc, Bool, true, false, not, ◌&&◌, ◌||◌, List, [], ◌∷◌, length, Option, Some, None}
 use Rattle.std.proofs.Common.{slice_get, refl, sym, ap, subst, if◌then◌else◌}
 use Rattle.std.specs.Prelude.{All, ◌==◌}
 use Rattle.std.proofs.lemmas.List.Elements.{All-head, All-tail}
-use Rattle.rv_model.specs.declared.mem_fault.MemFault.{MemFault}
 use Rattle.rv_model.specs.declared.size.Size.TheVariants.{B4}
-use Rattle.rv_model.specs.declared.slot.Slot.{Slot}
-use Rattle.rv_model.specs.Board.{Board, Hart, Machine, machine_of}
+use Rattle.rv_model.specs.Board.{Machine, machine_of}
 use Rattle.rv_model.specs.Memory.{loaded}
 use Rattle.debug_model.specs.Command.{IsWithinRanges}
 use Rattle.debug_model.specs.declared.command.Command.{Command}
 use Rattle.debug_model.specs.declared.command.Command.TheVariants as command
-use Rattle.debug_model.specs.declared.point.Point.{Point}
 use Rattle.debug_model.specs.declared.point.Point.TheVariants.{Access}
-use Rattle.abstract_debugger.specs.Debugger.{State, act, arming, arming_at, at_halted, by_load, by_state, freeing, going, is_free_slot, one, stop_line}
+use Rattle.abstract_debugger.specs.Debugger.{act, arming, arming_at, at_halted, by_load, freeing, going, is_free_slot, one, stop_line}
 use Rattle.abstract_debugger.specs.FirstMatch.{FirstMatch}
-use Rattle.abstract_debugger.specs.Known.{IsKnown}
 use Rattle.abstract_debugger.specs.Lines.{Line}
 use Rattle.abstract_debugger.specs.Plan.{Plan, patch_bytes}
-use Rattle.abstract_debugger.specs.Plan.Change.{WriteMem, FreeSlot, EbreakHalts, Patch}
-use Rattle.abstract_debugger.specs.Plan.Plan.{take, see, change, say, stop}
+use Rattle.abstract_debugger.specs.Plan.Change.{FreeSlot, EbreakHalts, Patch}
+use Rattle.abstract_debugger.specs.Plan.Plan.{see, change, say, stop}
 use Rattle.abstract_debugger.specs.Plan.PlanEnd.{Done}
-use Rattle.abstract_debugger.specs.Slots.{any_hit, first_free, slots_at}
-use Rattle.abstract_debugger.specs.Slots.Use.{Armed, Unused}
+use Rattle.abstract_debugger.specs.Slots.{first_free, slots_at}
+use Rattle.abstract_debugger.specs.Slots.Use.{Unused}
 use Rattle.abstract_debugger.specs.Trace.{What}
-use Rattle.abstract_debugger.specs.Transcript.{World, replay, start}
+use Rattle.abstract_debugger.specs.Transcript.{replay, start}
 use Rattle.abstract_debugger.specs.Ways.{Way}
 use Rattle.abstract_debugger.specs.Ways.Way.{Idle, Still, Ready}
 use Rattle.abstract_debugger.proofs.GoodLemmas.{Good, good-see}
@@ -32,8 +28,8 @@ use Rattle.abstract_debugger.proofs.KnownHarts.{known-start}
 use Rattle.abstract_debugger.proofs.KnownPoints.{known-ready}
 use Rattle.abstract_debugger.proofs.ScriptLemmas.{good-walks}
 use Rattle.abstract_debugger.proofs.SlotLemmas.{CanArm}
-use Rattle.abstract_debugger.proofs.WayWalks.{WayWalks, hit_in, no_hit_in, turned_back, turned_round, way-act, way-by_load, way-first, way-halted, way-if}
-use Rattle.abstract_debugger.proofs.WayWalks.{way-look, way-look_by, way-one, way-resumed, way-stop_line, way_still}
+use Rattle.abstract_debugger.proofs.WayCommands.{hit_in, no_hit_in, turned_back, turned_round, way-act, way-by_load}
+use Rattle.abstract_debugger.proofs.WayWalks.{WayWalks, way-first, way-halted, way-if, way-look, way-look_by, way-one, way-resumed, way-stop_line, way_still}
 use Rattle.soft_laws.specs.Laws.{IsSoftWithinRanges, SoftFirstMatchHolds}
 use Rattle.soft_laws.specs.Lowered.{Table, hidden_board, lower, merged, no_table, patched_table, written_table}
 use Rattle.soft_laws.specs.SoftBreaks.{ebreak_word, has_some, is_listed, without}
@@ -135,7 +131,8 @@ one_by-lowered : (m : Machine) (b : Bool) (pc h : ℕ) (stepped other : Plan) �
 one_by-lowered m false pc h stepped other gs go = way-one (lowered-walks m) h stepped other gs go
 one_by-lowered m true pc h stepped other gs go =
     lifting-lowered m h Still pc (λ o. one h (covering pc o stepped) (covering pc o other)) (λ o.
-    way-one (lowered-walks m) h (covering pc o stepped) (covering pc o other) (covering-lowered m h Ready pc o stepped gs) (covering-lowered m h Still pc o other go))
+    way-one (lowered-walks m) h (covering pc o stepped) (covering pc o other) (covering-lowered m h Ready pc o stepped gs)
+    (covering-lowered m h Still pc o other go))
 
 soft_one-lowered : (m : Machine) (ps : List ℕ) (h : ℕ) (stepped other : Plan) → Lowered m h Ready stepped → Lowered m h Still other
     → Lowered m h Still (soft_one ps h stepped other)
@@ -161,8 +158,10 @@ resuming-lowered m ps h next fine =
   where
     gone : Plan
     gone = going h (say Line.Resumed next)
+
     over : Plan
     over = soft_one ps h gone (stop_line h next)
+
     stepped : Lowered m h Still over
     stepped = soft_one-lowered m ps h gone (stop_line h next) (way-resumed (lowered-walks m) h next fine) (way-stop_line (lowered-walks m) h next fine)
 
@@ -178,7 +177,8 @@ preparing-lowered m (suc n) h next ready gn gr =
     ((lowered-walks m).ebreaks h true (preparing n (h + 1) next ready)
     (way_still (lowered-walks m) h (preparing n (h + 1) next ready) (preparing-lowered m n (h + 1) next ready gn gr))))
 
-prepared-lowered : (m : Machine) (ps : List ℕ) (next ready : Plan) → Lowered m 0 Idle next → Lowered m 0 Idle ready → Lowered m 0 Idle (prepared ps next ready)
+prepared-lowered : (m : Machine) (ps : List ℕ) (next ready : Plan) → Lowered m 0 Idle next → Lowered m 0 Idle ready → Lowered m 0 Idle
+    (prepared ps next ready)
 prepared-lowered m [] next ready gn gr = preparing-lowered m most_harts 0 next ready gn gr
 prepared-lowered m (a ∷ ps) next ready gn gr = gr
 
@@ -206,8 +206,10 @@ setting-lowered m a s next f =
   where
     ws : WayWalks (Lowered m)
     ws = lowered-walks m
+
     later : Plan
     later = next (record s { planted = put_in a s.planted })
+
     full : Plan
     full = if length s.planted == most_planted then say Line.NoFreeSoftBreak (next s) else prepared s.planted (next s) (planting a (next s) later)
 
@@ -219,6 +221,7 @@ clearing-lowered m a s next f =
   where
     ws : WayWalks (Lowered m)
     ws = lowered-walks m
+
     later : SoftState
     later = record s { planted = without a s.planted }
 
@@ -236,6 +239,7 @@ switching-lowered m on s next f =
   where
     ws : WayWalks (Lowered m)
     ws = lowered-walks m
+
     h : ℕ
     h = s.plain.hart
 

@@ -1,14 +1,14 @@
 -- What the table of a debugger gives back and keeps: hiding takes patches off, a patch of one word moves through the others, and a merged write
 -- is a write below patches.
 use Rattle.std.proofs.Common.{◌≡◌, ◌∙◌, ◌+◌, ◌*◌, ◌/◌, ◌%◌, ◌<◌, ◌≤◌, ◌⊎◌, ℕ, zero, suc, Bool, true, false, cond, ◌||◌, List, [], ◌∷◌, Option, Some, None}
-use Rattle.std.proofs.Common.{is_some, refl, sym, ap, subst, if◌then◌else◌, inl, inr, arith}
+use Rattle.std.proofs.Common.{is_some, refl, sym, ap, if◌then◌else◌, inl, inr, arith}
 use Rattle.std.specs.Prelude.{◌==◌}
-use Rattle.std.specs.FinMap.{get, get-remove, insert, remove}
+use Rattle.std.specs.FinMap.{get, get-remove}
 use Rattle.std.specs.Cmp.{nat_cmp_total, unsigned_tied}
 use Rattle.std.proofs.lemmas.Bool.{cases_eq, eq-eqb, eqb-true, false≢true, ne_eqb, or_parts}
 use Rattle.rv_model.specs.Memory.{Bytes, with_value}
 use Rattle.soft_laws.specs.Lowered.{copied, ebreak_over, hidden_bytes, merged, merged_byte, put}
-use Rattle.soft_laws.specs.SoftBreaks.{AreAligned, AreInside, ebreak_word, is_listed, meets, meets_some, patched_by, patched_bytes, without}
+use Rattle.soft_laws.specs.SoftBreaks.{AreAligned, AreInside, ebreak_word, meets, meets_some, patched_by, patched_bytes, without}
 use Rattle.soft_laws.proofs.ByteLemmas.{Place, byte_or, byte_some, byte_within, get-with_value, get_insert, place_of, same_bytes, writes_swap}
 use Rattle.soft_laws.proofs.ByteLemmas.{byte_above, byte_below, written_over}
 use Rattle.soft_laws.proofs.ByteLemmas.Place.{below, within, above}
@@ -133,16 +133,20 @@ patch-moves false cs are m a original aligned = patch-off cs are m a original al
 
 ebreak_bytes : (c q byte : ℕ) → byte_or c 4 ebreak_word q (Some byte) ≡ Some (ebreak_over c q byte)
 ebreak_bytes c q byte =
-    ap (λ n. if q == n then Some 0x00 else (if q == c + 1 + 1 then Some 0x10 else (if q == c + 1 then Some 0x00 else (if q == c then Some 0x73 else Some byte))))
+    ap (λ n. if q == n then Some 0x00 else (if q == c + 1 + 1 then Some 0x10 else (if q == c + 1 then Some 0x00 else
+    (if q == c then Some 0x73 else Some byte))))
     (third c)
-    ∙ ap (λ n. if q == c + 3 then Some 0x00 else (if q == n then Some 0x10 else (if q == c + 1 then Some 0x00 else (if q == c then Some 0x73 else Some byte))))
+    ∙ ap (λ n. if q == c + 3 then Some 0x00 else (if q == n then Some 0x10 else (if q == c + 1 then Some 0x00 else
+    (if q == c then Some 0x73 else Some byte))))
     (second c)
     ∙ five (q == c + 3) (q == c + 2) (q == c + 1) (q == c)
   where
     third : (c : ℕ) → c + 1 + 1 + 1 ≡ c + 3
     third c = omega arith
+
     second : (c : ℕ) → c + 1 + 1 ≡ c + 2
     second c = omega arith
+
     five : (t s r p : Bool) → (if t then Some 0x00 else (if s then Some 0x10 else (if r then Some 0x00 else (if p then Some 0x73 else Some byte))))
         ≡ Some (if t then 0x00 else (if s then 0x10 else (if r then 0x00 else (if p then 0x73 else byte))))
     five true s r p = refl
@@ -170,19 +174,24 @@ merged_at : (cs : List ℕ) (a n v q : ℕ) (o : Option ℕ) → byte_or a n (me
 unfolding merged
 merged_at cs a zero v q o = refl
 merged_at cs a (suc n) v q o =
-    ap (λ rest. byte_or (a + 1) n rest q (if q == a then Some (merged cs a (suc n) v % 256) else patched_or cs q o)) (higher x y (merged_small cs a (v % 256) (omega arith)))
+    ap (λ rest. byte_or (a + 1) n rest q (if q == a then Some (merged cs a (suc n) v % 256) else patched_or cs q o)) (higher x y (merged_small cs a
+    (v % 256) (omega arith)))
     ∙ ap (λ byte. byte_or (a + 1) n y q (if q == a then Some byte else patched_or cs q o)) (lowest x y (merged_small cs a (v % 256) (omega arith)))
     ∙ ap (byte_or (a + 1) n y q) (first (q == a) refl)
     ∙ merged_at cs (a + 1) n (v / 256) q (if q == a then Some (v % 256) else o)
   where
     x : ℕ
     x = merged_byte cs a (v % 256)
+
     y : ℕ
     y = merged cs (a + 1) n (v / 256)
+
     higher : (x y : ℕ) → x < 256 → (x + 256 * y) / 256 ≡ y
     higher x y small = omega arith
+
     lowest : (x y : ℕ) → x < 256 → (x + 256 * y) % 256 ≡ x
     lowest x y small = omega arith
+
     first : (b : Bool) → (q == a) ≡ b → (if b then Some x else patched_or cs q o) ≡ patched_or cs q (if b then Some (v % 256) else o)
     first true e = sym (ap (λ p. patched_or cs p (Some (v % 256))) (eqb-true q a e) ∙ patched_some cs a (v % 256))
     first false e = refl
@@ -202,6 +211,7 @@ without-meets a (c ∷ cs) q n is = by (a == c) is (without-meets a cs q n)
     later : (x y : Bool) → y ≡ true → (x || y) ≡ true
     later true y e = refl
     later false y e = e
+
     by : (b : Bool) → meets_some (if b then without a cs else c ∷ without a cs) q n ≡ true
         → (meets_some (without a cs) q n ≡ true → meets_some cs q n ≡ true) → (meets c q n || meets_some cs q n) ≡ true
     by true is more = later (meets c q n) (meets_some cs q n) (more is)
@@ -222,7 +232,8 @@ pub patched-aligned : (covers : Bool) (a : ℕ) (cs : List ℕ) → a % 4 ≡ 0 
 patched-aligned true a cs aligned are = (aligned, without-aligned a cs are)
 patched-aligned false a cs aligned are = without-aligned a cs are
 
-pub remembers-write : (cs : List ℕ) (originals m : Bytes) (a n v : ℕ) → Remembers cs originals m → Remembers cs (with_value originals a n v) (with_value m a n v)
+pub remembers-write : (cs : List ℕ) (originals m : Bytes) (a n v : ℕ) → Remembers cs originals m → Remembers cs (with_value originals a n v)
+    (with_value m a n v)
 remembers-write cs originals m a n v remembers q is =
     get-with_value originals a n v q ∙ ap (byte_or a n v q) (remembers q is) ∙ sym (get-with_value m a n v q)
 
@@ -257,7 +268,8 @@ written-there m a n v q is = ap is_some (get-with_value m a n v q) ∙ kept_at a
 pub inside-write : (cs : List ℕ) (m : Bytes) (a n v : ℕ) → AreInside cs m → AreInside cs (with_value m a n v)
 inside-write cs m a n v inside q is = written-there m a n v q (inside q is)
 
-pub inside-patch : (covers : Bool) (a original : ℕ) (cs : List ℕ) (m : Bytes) → AreInside cs m → AreInside (patched_by covers a cs) (with_value m a 4 original)
+pub inside-patch : (covers : Bool) (a original : ℕ) (cs : List ℕ) (m : Bytes) → AreInside cs m → AreInside (patched_by covers a cs)
+    (with_value m a 4 original)
 inside-patch covers a original cs m inside q is = elim (patched_either covers a cs q is) [
   | inl e ↦ ap is_some (get-with_value m a 4 original q)
       ∙ byte_some a 4 original q (get m q) (meets-within a q e).from (meets-within a q e).less

@@ -1,16 +1,14 @@
 -- What a plan knows of a user's world by the breakpoints that it takes for planted.
-use Rattle.std.proofs.Common.{◌≡◌, ◌∙◌, ◌<◌, ◌⊎◌, ℕ, Bool, true, false, ◌||◌, List, [], ◌∷◌, Some, slice_get, refl, sym, ap, subst, inl, inr, if◌then◌else◌}
+use Rattle.std.proofs.Common.{◌≡◌, ◌∙◌, ◌<◌, ◌⊎◌, ℕ, Bool, true, false, ◌||◌, List, [], ◌∷◌, slice_get, refl, sym, ap, subst, inl, inr, if◌then◌else◌}
 use Rattle.std.specs.Prelude.{◌==◌, nat_lt}
-use Rattle.std.proofs.lemmas.Bool.{cases_eq, eq-eqb, eqb-true, false≢true, ne_eqb}
-use Rattle.rv_model.specs.Board.{Board, Hart, Machine}
+use Rattle.std.proofs.lemmas.Bool.{eq-eqb, eqb-true, false≢true}
 use Rattle.debug_model.specs.declared.point.Point.{Point}
 use Rattle.debug_model.specs.declared.point.Point.TheVariants.{Turn, Look, HaltReq, HaltClear, ResumeReq, Access}
 use Rattle.abstract_debugger.specs.Lines.{Line}
 use Rattle.abstract_debugger.specs.Plan.{Change}
 use Rattle.abstract_debugger.specs.Plan.Change.{WriteReg, WriteMem, ArmSlot, FreeSlot, StepOver, StepDone, EbreakHalts, Patch}
 use Rattle.abstract_debugger.specs.Transcript.{World, changed, said}
-use Rattle.abstract_debugger.proofs.WalkLemmas.{IsUsual}
-use Rattle.soft_laws.specs.SoftBreaks.{covered, has_some, is_listed, patched_by, without}
+use Rattle.soft_laws.specs.SoftBreaks.{covered, has_some, is_listed, without}
 use Rattle.soft_laws.specs.SoftDebugger.{most_harts, put_in}
 use Rattle.soft_laws.specs.SoftReplay.{soft_passed}
 use Rattle.soft_laws.proofs.EachHart.{Each, Switches, each-changed, each-passed}
@@ -36,14 +34,15 @@ without-listed a b (c ∷ cs) is = by (a == c) refl is (without-listed a b cs)
   where
     more : Left a b cs → Left a b (c ∷ cs)
     more l = record { before = listed-there c cs b l.before; other = l.other }
+
     by : (t : Bool) → (a == c) ≡ t → is_listed (if t then without a cs else c ∷ without a cs) b ≡ true → (is_listed (without a cs) b ≡ true → Left a b cs)
         → Left a b (c ∷ cs)
     by true e at later = more (later at)
     by false e at later = elim (either_true (b == c) (is_listed (without a cs) b) at) [
       | inl f ↦ record {
-          before = listed-here c cs b (eqb-true b c f);
-          other = λ g. false≢true (sym e ∙ eq-eqb a c (sym g ∙ eqb-true b c f));
-        }
+        before = listed-here c cs b (eqb-true b c f);
+        other = λ g. false≢true (sym e ∙ eq-eqb a c (sym g ∙ eqb-true b c f));
+      }
       | inr f ↦ more (later f)
     ]
 

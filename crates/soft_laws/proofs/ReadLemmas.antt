@@ -1,17 +1,17 @@
 -- What is shown of a read of memory with patches, and what a chip's memory keeps through a replay.
-use Rattle.std.proofs.Common.{◌≡◌, ◌∙◌, ◌+◌, ◌*◌, ◌/◌, ◌%◌, ◌<◌, ℕ, zero, suc, Bool, true, false, List, Option, Some, None, is_some, Result, Ok, Err}
+use Rattle.std.proofs.Common.{◌≡◌, ◌∙◌, ◌+◌, ◌*◌, ◌/◌, ◌%◌, ◌<◌, ℕ, zero, suc, Bool, true, false, Option, Some, None, is_some, Result, Ok, Err}
 use Rattle.std.proofs.Common.{slice_get, option_map, refl, sym, ap, subst, arith, if◌then◌else◌, inl, inr}
 use Rattle.std.specs.Prelude.{◌==◌, unwrap_or}
 use Rattle.std.specs.FinMap.{get}
 use Rattle.std.proofs.lemmas.Bool.{false≢true}
-use Rattle.std.proofs.lemmas.Option.{none-some, same_Some}
+use Rattle.std.proofs.lemmas.Option.{same_Some}
 use Rattle.rv_model.specs.declared.mem_fault.MemFault.{MemFault}
 use Rattle.rv_model.specs.declared.mem_fault.MemFault.TheVariants.{Misaligned}
 use Rattle.rv_model.specs.declared.size.Size.{Size}
 use Rattle.rv_model.specs.Board.{Board, Hart}
 use Rattle.rv_model.specs.Execute.{exec_of}
 use Rattle.rv_model.specs.Laws.{answered}
-use Rattle.rv_model.specs.Memory.{Bytes, Memory, is_aligned, loaded, or_outside, store_answer, value_at, with_byte, with_value}
+use Rattle.rv_model.specs.Memory.{Bytes, Memory, is_aligned, loaded, or_outside, value_at, with_byte, with_value}
 use Rattle.rv_model.specs.Size.{count_of}
 use Rattle.rv_model.specs.Turn.{executes, memory_after, turn_by}
 use Rattle.rv_model.proofs.MemoryLemmas.{store_answer_is}
@@ -22,25 +22,27 @@ use Rattle.rv_model.specs.Board.{DebugPart}
 use Rattle.abstract_debugger.specs.Plan.{Change, changed_board, patch_bytes}
 use Rattle.abstract_debugger.specs.Plan.Change.{WriteReg, WriteMem, ArmSlot, FreeSlot, StepOver, StepDone, EbreakHalts, Patch}
 use Rattle.abstract_debugger.specs.Transcript.{World, passed}
-use Rattle.abstract_debugger.proofs.Keeps.{Keeps, replay-keeps}
-use Rattle.soft_laws.specs.CallLaws.{BytesStay, ReadHides, ReadsHide, Stays}
+use Rattle.abstract_debugger.proofs.Keeps.{replay-keeps}
+use Rattle.soft_laws.specs.CallLaws.{BytesStay, ReadsHide, Stays}
 use Rattle.soft_laws.specs.Lowered.{Table, hidden_bytes, hidden_memory}
 use Rattle.soft_laws.specs.Shown.{AreBytes, RemembersEach, shown_answer, shown_byte, shown_value}
 use Rattle.soft_laws.specs.SoftBreaks.{AreInside, meets_some}
 use Rattle.soft_laws.specs.Undisturbed.{accessed_of}
 use Rattle.soft_laws.proofs.ByteLemmas.{byte_or, get-with_value}
 use Rattle.soft_laws.proofs.PatchLemmas.{get-hidden, hidden_covered, hidden_or, hidden_uncovered, written-there}
-use Rattle.soft_laws.proofs.StoreLemmas.{Stored, exec-bytes, stored_there}
+use Rattle.soft_laws.proofs.StoreLemmas.{Stored, exec-bytes}
 
 -- ---- one byte
 
 -- where a byte was read, this is shown of it
-byte_shown : (t : Table) (m : Bytes) → RemembersEach t → (q byte : ℕ) → get m q ≡ Some byte → get (hidden_bytes t.covered t.originals m) q ≡ Some (shown_byte t q byte)
+byte_shown : (t : Table) (m : Bytes) → RemembersEach t → (q byte : ℕ) → get m q ≡ Some byte → get (hidden_bytes t.covered t.originals m) q ≡ Some
+    (shown_byte t q byte)
 byte_shown t m each q byte is = get-hidden t.covered t.originals m q ∙ by (meets_some t.covered q 1) refl
   where
     known : (o : Option ℕ) → is_some o ≡ true → o ≡ Some (unwrap_or o 0)
     known (Some v) e = refl
     known None e = absurd (false≢true e)
+
     by : (b : Bool) → meets_some t.covered q 1 ≡ b
         → hidden_or t.covered q (get t.originals q) (get m q) ≡ Some (if b then unwrap_or (get t.originals q) 0 else byte)
     by true e = hidden_covered t.covered q (get t.originals q) (get m q) e ∙ known (get t.originals q) (each q e)
@@ -73,10 +75,12 @@ value_shown t m inside each small a (suc n) =
     shown_first b r less =
         ap (λ x. shown_byte t a x + 256 * shown_value t (a + 1) n r) (sym (lowest b r less))
         ∙ ap (λ x. shown_byte t a ((b + 256 * r) % 256) + 256 * shown_value t (a + 1) n x) (sym (higher b r less))
+
     some_rest : (b : ℕ) → b < 256 → (rest : Option ℕ)
         → with_byte (Some (shown_byte t a b)) (option_map (shown_value t (a + 1) n) rest) ≡ option_map (shown_value t a (suc n)) (with_byte (Some b) rest)
     some_rest b less None = refl
     some_rest b less (Some r) = ap Some (shown_first b r less)
+
     by : (o : Option ℕ) → get m a ≡ o → (rest : Option ℕ)
         → with_byte (get (hidden_bytes t.covered t.originals m) a) (option_map (shown_value t (a + 1) n) rest)
         ≡ option_map (shown_value t a (suc n)) (with_byte o rest)
@@ -94,6 +98,7 @@ answer_shown t m a size inside each small = by (is_aligned a size)
     outside : (o : Option ℕ) → or_outside (option_map (shown_value t a (count_of size)) o) ≡ shown_answer t a size (or_outside o)
     outside None = refl
     outside (Some v) = refl
+
     by : (b : Bool) → (if b then or_outside (value_at (hidden_bytes t.covered t.originals m.bytes) a (count_of size)) else Err Misaligned)
         ≡ shown_answer t a size (if b then or_outside (value_at m.bytes a (count_of size)) else Err Misaligned)
     by true = ap or_outside (value_shown t m.bytes inside each small a (count_of size)) ∙ outside (value_at m.bytes a (count_of size))

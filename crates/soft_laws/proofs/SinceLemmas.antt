@@ -7,7 +7,7 @@ use Rattle.std.proofs.Common.{slice_get}
 use Rattle.abstract_debugger.specs.Plan.{Change, Plan, PlanEnd, changed_past}
 use Rattle.abstract_debugger.specs.Plan.Change.{WriteReg, WriteMem, ArmSlot, FreeSlot, StepOver, StepDone, EbreakHalts, Patch}
 use Rattle.abstract_debugger.specs.Trace.{Past}
-use Rattle.abstract_debugger.specs.Transcript.{Outcome, World}
+use Rattle.abstract_debugger.specs.Transcript.{World}
 use Rattle.soft_laws.specs.SoftBreaks.{covered}
 use Rattle.soft_laws.specs.SoftReplay.{soft_finish, soft_passed, soft_replay, soft_taking}
 use Rattle.soft_laws.specs.Undisturbed.{Undisturbed}

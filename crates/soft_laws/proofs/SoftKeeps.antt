@@ -5,7 +5,7 @@ use Rattle.debug_model.specs.declared.point.Point.TheVariants.{Turn, Look, HaltR
 use Rattle.abstract_debugger.specs.Lines.{Line}
 use Rattle.abstract_debugger.specs.Plan.{Change, Plan, PlanEnd}
 use Rattle.abstract_debugger.specs.Plan.Plan.{take, on_path, see, change, say, stop}
-use Rattle.abstract_debugger.specs.Transcript.{World, Outcome, changed, passed, said, same_point}
+use Rattle.abstract_debugger.specs.Transcript.{World, Outcome, changed, said, same_point}
 use Rattle.soft_laws.specs.SoftReplay.{soft_finish, soft_passed, soft_replay, soft_taking}
 use Rattle.soft_laws.specs.SoftTurns.{soft_turned}
 

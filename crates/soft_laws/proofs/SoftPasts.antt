@@ -1,5 +1,5 @@
 -- What the notes of one turn leave of a past: which words are covered, the stories of slots, the premise on programs, and first match.
-use Rattle.std.proofs.Common.{◌≡◌, ◌∙◌, ℕ, Bool, true, false, not, ◌&&◌, List, ◌∷◌, Option, Some, None, slice_get, refl, sym, ap, subst, if◌then◌else◌}
+use Rattle.std.proofs.Common.{◌≡◌, ◌∙◌, ℕ, Bool, true, false, not, ◌&&◌, List, ◌∷◌, Option, Some, None, slice_get, refl, sym, ap, if◌then◌else◌}
 use Rattle.std.proofs.lemmas.Bool.{false≢true}
 use Rattle.rv_model.specs.declared.cause.Cause.{Cause}
 use Rattle.rv_model.specs.declared.cause.Cause.TheVariants as cause
@@ -73,7 +73,8 @@ pub record Agrees (m : Machine) (h : ℕ) (chip seen : Past) : Type 0 where
   pub matches : (k : ℕ) → matching m h k chip ≡ soft_matching m h k seen
   pub spends : (k : ℕ) → spent h k chip ≡ spent h k seen
 
-right_stop : (m : Machine) (h : ℕ) (slots : List Bool) (chip seen : Past) → Agrees m h chip seen → StopsAtMatch m h slots chip → SoftStopsAtMatch m h slots seen
+right_stop : (m : Machine) (h : ℕ) (slots : List Bool) (chip seen : Past) → Agrees m h chip seen → StopsAtMatch m h slots chip
+    → SoftStopsAtMatch m h slots seen
 right_stop m h slots chip seen agrees right = record {
   each = λ k. right.each k ∙ ap (λ b. b && not (spent h k chip)) (agrees.matches k) ∙ ap (λ b. soft_matching m h k seen && not b) (agrees.spends k);
   some = right.some;

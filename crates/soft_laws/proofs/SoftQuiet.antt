@@ -1,9 +1,7 @@
 -- Behind a line of a session with software breakpoints nothing is changed up to the next point, at the chip as in its plan.
-use Rattle.std.proofs.Common.{◌≡◌, ◌+◌, ℕ, zero, suc, Bool, true, false, not, ◌&&◌, ◌||◌, List, [], ◌∷◌, length, Result, Ok, Err, refl, sym, subst, if◌then◌else◌}
+use Rattle.std.proofs.Common.{◌+◌, ℕ, zero, suc, Bool, true, false, not, ◌&&◌, ◌||◌, List, [], ◌∷◌, length, sym, subst, if◌then◌else◌}
 use Rattle.std.specs.Prelude.{◌==◌}
-use Rattle.rv_model.specs.declared.mem_fault.MemFault.{MemFault}
 use Rattle.rv_model.specs.declared.size.Size.TheVariants.{B4}
-use Rattle.rv_model.specs.Board.{Board}
 use Rattle.rv_model.specs.Memory.{loaded}
 use Rattle.debug_model.specs.declared.command.Command.{Command}
 use Rattle.debug_model.specs.declared.command.Command.TheVariants as command
@@ -11,7 +9,7 @@ use Rattle.debug_model.specs.declared.point.Point.TheVariants.{Access}
 use Rattle.abstract_debugger.specs.Debugger.{act, by_load, going, one, stop_line}
 use Rattle.abstract_debugger.specs.Laws.{Quiet, SaysQuietly}
 use Rattle.abstract_debugger.specs.Lines.{Line}
-use Rattle.abstract_debugger.specs.Plan.{Change, Plan}
+use Rattle.abstract_debugger.specs.Plan.{Plan}
 use Rattle.abstract_debugger.specs.Plan.Change.{EbreakHalts, Patch}
 use Rattle.abstract_debugger.specs.Plan.Plan.{take, on_path, see, change, say, stop}
 use Rattle.abstract_debugger.specs.Plan.PlanEnd.{Done}
@@ -22,10 +20,10 @@ use Rattle.soft_laws.specs.Laws.{LoweredSessionsSayQuietly}
 use Rattle.soft_laws.specs.Lowered.{Table, hidden_board, lower, no_table}
 use Rattle.soft_laws.specs.SoftBreaks.{has_some, is_listed, without}
 use Rattle.soft_laws.specs.SoftDebugger.{SoftCommand, SoftState, clearing, closing, covering, first_soft_state, lifting, most_harts, most_planted, one_by}
-use Rattle.soft_laws.specs.SoftDebugger.{pc_at, plain_act, planting, prepared, preparing, put_in, setting, soft_act, soft_commands, soft_one, soft_resuming}
+use Rattle.soft_laws.specs.SoftDebugger.{pc_at, plain_act, planting, prepared, preparing, put_in, setting, soft_commands, soft_one, soft_resuming}
 use Rattle.soft_laws.specs.SoftDebugger.{soft_session, soft_stepping, switching, word_at}
 use Rattle.soft_laws.specs.SoftDebugger.SoftCommand.{Plain, Soft, Unsoft}
-use Rattle.soft_laws.proofs.StepHides.{low_of, lowered-change, table_of}
+use Rattle.soft_laws.proofs.StepHides.{lowered-change, table_of}
 
 -- ---- lowered plans
 
@@ -126,6 +124,7 @@ setting-calm a s next f =
   where
     later : Plan
     later = next (record s { planted = put_in a s.planted })
+
     full : Plan
     full = if length s.planted == most_planted then say Line.NoFreeSoftBreak (next s) else prepared s.planted (next s) (planting a (next s) later)
 

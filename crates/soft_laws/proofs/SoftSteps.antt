@@ -1,24 +1,19 @@
 -- Where the code of a session stands behind an Access that covers or uncovers a word.
-use Rattle.std.proofs.Common.{◌≡◌, ◌∙◌, ◌+◌, ◌<◌, ◌≤◌, ℕ, Bool, true, false, ◌||◌, List, [], ◌∷◌, refl, sym, ap, subst, inl, inr, arith}
+use Rattle.std.proofs.Common.{◌≡◌, ◌∙◌, ◌+◌, ◌<◌, ◌≤◌, ℕ, Bool, true, false, ◌||◌, List, [], ◌∷◌, refl, ap, subst, inl, inr}
 use Rattle.std.specs.Prelude.{◌==◌, unwrap_or}
 use Rattle.std.specs.FinMap.{get}
 use Rattle.std.proofs.lemmas.Bool.{eqb-true, false≢true}
-use Rattle.rv_model.specs.Board.{Board, Machine}
-use Rattle.rv_model.specs.Memory.{Bytes, value_at}
-use Rattle.debug_model.specs.declared.point.Point.TheVariants.{Access}
-use Rattle.abstract_debugger.specs.Lines.{Line}
-use Rattle.abstract_debugger.specs.Plan.{Plan, patch_bytes}
-use Rattle.abstract_debugger.specs.Plan.Change.{Patch, WriteMem}
-use Rattle.abstract_debugger.specs.Plan.Plan.{change, see, take}
-use Rattle.abstract_debugger.specs.Stands.{Deals, Origin, PointedWith, Target}
+use Rattle.rv_model.specs.Board.{Board}
+use Rattle.abstract_debugger.specs.Plan.{patch_bytes}
+use Rattle.abstract_debugger.specs.Plan.Change.{WriteMem}
+use Rattle.abstract_debugger.specs.Plan.Plan.{change}
 use Rattle.abstract_debugger.specs.Turns.{after_turns}
-use Rattle.abstract_debugger.specs.Ways.{Way}
 use Rattle.abstract_debugger.proofs.DealsLemmas.{deals_stored}
 use Rattle.soft_laws.specs.CallLaws.{CoveringStands, UncoveringStands}
 use Rattle.soft_laws.specs.Lowered.{Table, hidden_board, hidden_bytes, lower, patched_table}
 use Rattle.soft_laws.specs.Shown.{original_at}
 use Rattle.soft_laws.specs.SoftBreaks.{ebreak_word, is_listed, meets, meets_some}
-use Rattle.soft_laws.specs.SoftDebugger.{covering, lifting, word_at}
+use Rattle.soft_laws.specs.SoftDebugger.{word_at}
 use Rattle.soft_laws.proofs.ByteLemmas.{value_alike}
 use Rattle.soft_laws.proofs.PatchLemmas.{get-hidden, hidden_covered}
 use Rattle.soft_laws.proofs.PatchedLemmas.{either_true, meets-here}

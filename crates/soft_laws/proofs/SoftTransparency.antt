@@ -20,14 +20,16 @@ use Rattle.abstract_debugger.proofs.Transparency.{Erased, erased-keeps, noted_by
 use Rattle.soft_laws.specs.Laws.{SoftTransparent}
 use Rattle.soft_laws.specs.SoftBreaks.{covered}
 use Rattle.soft_laws.specs.SoftReplay.{soft_passed, soft_replay}
-use Rattle.soft_laws.specs.SoftTurns.{soft_executes, soft_fires, soft_memory_after, soft_noted_here, soft_place, soft_stops, soft_touch, soft_turn_by, soft_turned}
+use Rattle.soft_laws.specs.SoftTurns.{soft_executes, soft_fires, soft_memory_after, soft_noted_here, soft_place, soft_stops}
+use Rattle.soft_laws.specs.SoftTurns.{soft_touch, soft_turn_by, soft_turned}
 use Rattle.soft_laws.proofs.SoftKeeps.{SoftKeeps, soft-replay-keeps}
 
 -- ---- one hart
 
 -- only an executed turn changes the core
 core_by : (halted : Option Cause) (resume request fired at_ebreak : Bool) (touch : Touch) (o : Outcome) (h : Hart)
-    → (place_by halted resume request fired at_ebreak touch o h).hart.core ≡ (if executes_by halted resume request fired at_ebreak then o.step.core else h.core)
+    → (place_by halted resume request fired at_ebreak touch o h).hart.core ≡
+    (if executes_by halted resume request fired at_ebreak then o.step.core else h.core)
 core_by (Some why) true request fired at_ebreak touch o h = refl
 core_by (Some why) false request fired at_ebreak touch o h = refl
 core_by None resume true fired at_ebreak touch o h = refl

@@ -2,8 +2,8 @@
 use Rattle.std.proofs.Common.{◌≡◌, ◌∙◌, ◌%◌, ℕ, Bool, true, false, List, [], ◌∷◌, ◌++◌, Option, Some, None, slice_get, refl, sym, ap, subst, if◌then◌else◌}
 use Rattle.std.proofs.lemmas.Bool.{false≢true}
 use Rattle.rv_model.specs.Board.{Board, DebugPart, Hart, Machine, machine_of}
-use Rattle.rv_model.specs.Memory.{Bytes, Memory, cleared, with_value}
-use Rattle.debug_model.specs.Journal.{after_point, debug_changed, debug_changed_by, halt_requested, resume_asked}
+use Rattle.rv_model.specs.Memory.{Bytes, Memory, cleared}
+use Rattle.debug_model.specs.Journal.{debug_changed, debug_changed_by, halt_requested, resume_asked}
 use Rattle.debug_model.specs.declared.point.Point.{Point}
 use Rattle.debug_model.specs.declared.point.Point.TheVariants.{Turn, Look, HaltReq, HaltClear, ResumeReq, Access}
 use Rattle.abstract_debugger.specs.FirstMatch.{FirstMatch}
@@ -111,7 +111,8 @@ IsOfWords (EbreakHalts h on) = Unit {0}
 
 -- by what the change does to boards and pasts
 hides_hart : (m : Machine) (t : Table) (c : Change) (seen chip : World) → Hides m t seen chip
-    → changed_board c (patched_board t.covered seen.board) ≡ patched_board t.covered (changed_board c seen.board) → (changed c seen).board.memory ≡ seen.board.memory → covered (changed c seen).past ≡ covered seen.past
+    → changed_board c (patched_board t.covered seen.board) ≡ patched_board t.covered (changed_board c seen.board) →
+    (changed c seen).board.memory ≡ seen.board.memory → covered (changed c seen).past ≡ covered seen.past
     → SameStories (changed c chip).past (changed c seen).past → (FirstMatch m (changed c chip).past → SoftFirstMatch m (changed c seen).past)
     → Hides m t (changed c seen) (changed c chip)
 hides_hart m t c seen chip hides boards memory told stories matched = record {

@@ -1,5 +1,5 @@
 -- The bytes of memory behind one instruction: they are kept, or written where the instruction writes.
-use Rattle.std.proofs.Common.{◌≡◌, ◌∙◌, ◌⊎◌, ◌+◌, ◌<◌, ◌≤◌, ℕ, Bool, true, false, List, [], ◌∷◌, Option, Some, None, Result, Ok, Err, is_some, refl, sym, ap}
+use Rattle.std.proofs.Common.{◌≡◌, ◌∙◌, ◌⊎◌, ◌+◌, ◌<◌, ◌≤◌, ℕ, Bool, true, false, List, [], ◌∷◌, Option, Some, None, Result, Ok, Err, is_some, refl, ap}
 use Rattle.std.proofs.Common.{if◌then◌else◌, inl, inr, arith}
 use Rattle.std.specs.FinMap.{get}
 use Rattle.std.proofs.lemmas.Bool.{false≢true, or_parts}
@@ -16,7 +16,7 @@ use Rattle.rv_model.specs.declared.alu_op.AluOp.{AluOp}
 use Rattle.rv_model.specs.Effects.{after_amo, after_reserve, after_sc, effect_of}
 use Rattle.rv_model.specs.Execute.{decoded, exec_of, fetched}
 use Rattle.rv_model.specs.Laws.{answered}
-use Rattle.rv_model.specs.Memory.{Bytes, Memory, after_store, covers, loaded, store_answer, with_value}
+use Rattle.rv_model.specs.Memory.{Bytes, Memory, after_store, covers, loaded, with_value}
 use Rattle.rv_model.specs.Rows.{meaning}
 use Rattle.rv_model.specs.Size.{count_of}
 use Rattle.rv_model.specs.Touch.{reads, reads_and_writes, touches_nothing, writes}
@@ -32,7 +32,8 @@ abbrev pub Stored : Option (ℕ × ℕ) → (old new : Bytes) → Type 0
 Stored None old new = new ≡ old
 Stored (Some access) old new = (new ≡ old) ⊎ ((v : ℕ) × (new ≡ with_value old access.0 access.1 v))
 
-bytes_taken : (m : Memory) (a : ℕ) (size : Size) (v old : ℕ) → loaded m a size ≡ Ok old → (after_store m a size v).bytes ≡ with_value m.bytes a (count_of size) v
+bytes_taken : (m : Memory) (a : ℕ) (size : Size) (v old : ℕ) → loaded m a size ≡ Ok old → (after_store m a size v).bytes ≡ with_value m.bytes a
+    (count_of size) v
 bytes_taken m a size v old is = ap (λ (n : Memory). n.bytes) (after_store_taken m a size v (store_answer_is m a size ∙ ap answered is))
 
 stored_store : (m : Memory) (c : Core) (a : ℕ) (size : Size) (v : ℕ) (r : Result ℕ MemFault) → loaded m a size ≡ r

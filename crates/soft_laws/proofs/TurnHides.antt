@@ -1,15 +1,14 @@
 -- One turn keeps the chip's world hidden behind what a user sees.
-use Rattle.std.proofs.Common.{◌≡◌, ◌∙◌, ℕ, Bool, true, false, List, Option, Some, None, is_some, slice_get, option_map, refl, sym, ap, subst, if◌then◌else◌}
+use Rattle.std.proofs.Common.{◌≡◌, ◌∙◌, ℕ, Bool, true, false, List, Option, Some, None, is_some, slice_get, refl, sym, ap, subst, if◌then◌else◌}
 use Rattle.std.specs.FinMap.{get}
 use Rattle.rv_model.specs.declared.touch.Touch.{Touch}
-use Rattle.rv_model.specs.Board.{Board, Hart, Machine, cores, machine_of}
+use Rattle.rv_model.specs.Board.{Board, Hart, Machine, cores}
 use Rattle.rv_model.specs.Core.{Core}
 use Rattle.rv_model.specs.Execute.{exec_of}
 use Rattle.rv_model.specs.Memory.{Memory}
 use Rattle.rv_model.specs.Touch.{touch_of}
 use Rattle.rv_model.specs.Triggers.{fires}
 use Rattle.rv_model.specs.Turn.{some_fires, stops_at_ebreak, turn}
-use Rattle.rv_model.specs.Undebugged.{Exec}
 use Rattle.debug_model.specs.declared.point.Point.TheVariants.{Turn}
 use Rattle.abstract_debugger.specs.FirstMatch.{FirstMatch, Story, armed_matches, matches_at, matching, story}
 use Rattle.abstract_debugger.specs.Own.{lived}
@@ -19,14 +18,14 @@ use Rattle.abstract_debugger.specs.Transcript.{World, passed}
 use Rattle.abstract_debugger.proofs.Transparency.{Erased, erased-keeps}
 use Rattle.soft_laws.specs.Laws.{MayHide}
 use Rattle.soft_laws.specs.Lowered.{Table}
-use Rattle.soft_laws.specs.SoftBreaks.{AreAligned, AreInside, covered, is_listed, meets_some, patched_board, patched_memory}
+use Rattle.soft_laws.specs.SoftBreaks.{AreAligned, AreInside, covered, meets_some, patched_board, patched_memory}
 use Rattle.soft_laws.specs.SoftFirstMatch.{SoftFirstMatch, armed_at_touch, covers_pc, soft_matches_at, soft_matching}
-use Rattle.soft_laws.specs.SoftTurns.{soft_executes, soft_fires, soft_memory_after, soft_noted_here, soft_stops, soft_touch, soft_turn, soft_turn_by, soft_turned}
+use Rattle.soft_laws.specs.SoftTurns.{soft_executes, soft_fires, soft_memory_after, soft_noted_here, soft_stops, soft_touch}
+use Rattle.soft_laws.specs.SoftTurns.{soft_turn, soft_turn_by, soft_turned}
 use Rattle.soft_laws.specs.Undisturbed.{CoreLeaves, LeavesWords, Undisturbed, accessed_of}
 use Rattle.soft_laws.proofs.ExecLemmas.{touch-patched}
 use Rattle.soft_laws.proofs.HideLemmas.{executes_uncovered, patches_hide, stops-patched}
 use Rattle.soft_laws.proofs.Hidings.{Hides, StopsWhereCovered}
-use Rattle.soft_laws.proofs.PatchLemmas.{Remembers}
 use Rattle.soft_laws.proofs.SoftPasts.{Agrees, SameStories, noted_by-covered, noted_by-leaves, noted_by-matched, noted_by-since, noted_by-stories}
 use Rattle.soft_laws.proofs.SoftTransparency.{cores_here, soft_turned-erased}
 use Rattle.soft_laws.proofs.StoreLemmas.{exec-bytes, stored_covered, stored_there}
@@ -45,7 +44,8 @@ noted-patched cs (Some x) h m past are =
 pub noted-covered : (cs : List ℕ) (o : Option Hart) (h : ℕ) (m : Memory) (past : Past) → covered (soft_noted_here cs o h m past) ≡ covered past
 noted-covered cs None h m past = refl
 noted-covered cs (Some x) h m past =
-    noted_by-covered x.debug.halted x.debug.halt_request (soft_fires cs x m) (soft_stops cs x m) x.debug.step h (fires (soft_touch cs x.core m) x.debug.slots) past
+    noted_by-covered x.debug.halted x.debug.halt_request (soft_fires cs x m) (soft_stops cs x m) x.debug.step h (fires
+    (soft_touch cs x.core m) x.debug.slots) past
 
 noted-stories : (cs : List ℕ) (o : Option Hart) (h : ℕ) (m : Memory) (past past' : Past) → SameStories past past'
     → SameStories (soft_noted_here cs o h m past) (soft_noted_here cs o h m past')
@@ -58,12 +58,14 @@ pub noted-since : (m : Machine) (cs : List ℕ) (o : Option Hart) (h : ℕ) (mem
     → Undisturbed m past
 noted-since m cs None h mem past u = u
 noted-since m cs (Some x) h mem past u =
-    noted_by-since m x.debug.halted x.debug.halt_request (soft_fires cs x mem) (soft_stops cs x mem) x.debug.step h (fires (soft_touch cs x.core mem) x.debug.slots)
+    noted_by-since m x.debug.halted x.debug.halt_request (soft_fires cs x mem) (soft_stops cs x mem) x.debug.step h (fires
+    (soft_touch cs x.core mem) x.debug.slots)
     past u
 
 -- ---- first match
 
-armed-touch : (o : Option What) (c : Core) (m : Memory) (execs : ℕ) (stopped : Bool) → armed_matches o c m execs stopped ≡ armed_at_touch o c (touch_of c m) execs stopped
+armed-touch : (o : Option What) (c : Core) (m : Memory) (execs : ℕ) (stopped : Bool) → armed_matches o c m execs stopped ≡ armed_at_touch o c
+    (touch_of c m) execs stopped
 armed-touch (Some (Break address)) c m execs stopped = refl
 armed-touch (Some (Watch kind address)) c m execs stopped = refl
 armed-touch (Some (Count turns)) c m execs stopped = refl
@@ -130,19 +132,20 @@ turn_there cs (Some x) h b q there = memory_there cs x b.memory q there
 -- ---- the premises of one turn
 
 -- hart x, which is hart h, leaves covered words alone where it executes
-leaves_here : (m : Machine) (h : ℕ) (seen : World) → Erased m seen → Undisturbed m (soft_turned h seen).past → (o : Option Hart) → slice_get seen.board.harts h ≡ o
+leaves_here : (m : Machine) (h : ℕ) (seen : World) → Erased m seen → Undisturbed m (soft_turned h seen).past → (o : Option Hart)
+    → slice_get seen.board.harts h ≡ o
     → (x : Hart) → o ≡ Some x → soft_executes (covered seen.past) x seen.board.memory ≡ true
     → LeavesWords (covered seen.past) (accessed_of x.core seen.board.memory)
 leaves_here m h seen erased u o here x is runs =
     let cs : List ℕ = covered seen.past in
     let at : slice_get seen.board.harts h ≡ Some x = here ∙ is in
     let u' : Undisturbed m (soft_noted_here cs (Some x) h seen.board.memory seen.past) =
-        subst (λ p. Undisturbed m (soft_noted_here cs p h seen.board.memory seen.past)) at u in
+    subst (λ p. Undisturbed m (soft_noted_here cs p h seen.board.memory seen.past)) at u in
     let left : CoreLeaves cs (slice_get (lived m seen.past).cores h) (lived m seen.past).memory =
-        noted_by-leaves m x.debug.halted x.debug.resume_request x.debug.halt_request (soft_fires cs x seen.board.memory) (soft_stops cs x seen.board.memory)
-        x.debug.step h (fires (soft_touch cs x.core seen.board.memory) x.debug.slots) seen.past u' runs in
+    noted_by-leaves m x.debug.halted x.debug.resume_request x.debug.halt_request (soft_fires cs x seen.board.memory) (soft_stops cs x seen.board.memory)
+    x.debug.step h (fires (soft_touch cs x.core seen.board.memory) x.debug.slots) seen.past u' runs in
     let left' : CoreLeaves cs (slice_get (cores seen.board.harts) h) seen.board.memory =
-        subst (λ (n : Machine). CoreLeaves cs (slice_get n.cores h) n.memory) (sym erased) left in
+    subst (λ (n : Machine). CoreLeaves cs (slice_get n.cores h) n.memory) (sym erased) left in
     subst (λ p. CoreLeaves cs p seen.board.memory) (cores_here seen.board h x at) left'
 
 uncovered_here : (m : Machine) (h : ℕ) (seen : World) → Erased m seen → StopsWhereCovered seen → (x : Hart) → slice_get seen.board.harts h ≡ Some x
@@ -160,7 +163,7 @@ hides-turn m t h seen chip hides halts u =
     let cs : List ℕ = covered seen.past in
     let o : Option Hart = slice_get seen.board.harts h in
     let leaves : (x : Hart) → o ≡ Some x → soft_executes cs x seen.board.memory ≡ true → LeavesWords cs (accessed_of x.core seen.board.memory) =
-        leaves_here m h seen hides.seen_erased u o refl in
+    leaves_here m h seen hides.seen_erased u o refl in
     let aligned : AreAligned cs = subst AreAligned hides.told hides.aligned in
     let may : MayHide cs h seen.board = record {
       aligned = aligned;
@@ -170,7 +173,7 @@ hides-turn m t h seen chip hides halts u =
     } in
     let below : chip.board ≡ patched_board cs seen.board = hides.board ∙ ap (λ c. patched_board c seen.board) hides.told in
     let notes : (passed (Turn h) chip).past ≡ soft_noted_here cs o h seen.board.memory chip.past =
-        ap (λ (b : Board). noted_here (slice_get b.harts h) h b.memory chip.past) below ∙ noted-patched cs o h seen.board.memory chip.past aligned in
+    ap (λ (b : Board). noted_here (slice_get b.harts h) h b.memory chip.past) below ∙ noted-patched cs o h seen.board.memory chip.past aligned in
     record {
       told = hides.told ∙ sym (noted-covered cs o h seen.board.memory seen.past);
       board = ap (turn h) below ∙ patches_hide cs h seen.board may ∙ ap (λ c. patched_board c (soft_turn cs h seen.board)) (sym hides.told);

@@ -1,7 +1,7 @@
 -- Laws of software breakpoints: what a chip with patches in its memory does is what a user sees over memory without them.
 -- They are this project's own. A session is a plan, seen by `soft_replay`; the chip's journal is replayed along the same plan, lowered.
 use Rattle.std.specs.Prelude.{◌≡◌, ◌≤◌, ◌<◌, ◌%◌, ℕ, All, List, [], Some, true, slice_get}
-use Rattle.rv_model.specs.Board.{Board, Hart, Machine, machine_of}
+use Rattle.rv_model.specs.Board.{Board, Hart, machine_of}
 use Rattle.rv_model.specs.Memory.{ram_base}
 use Rattle.rv_model.specs.Turn.{turn}
 use Rattle.rv_model.specs.Undebugged.{undebugged}
@@ -10,7 +10,7 @@ use Rattle.debug_model.specs.declared.point.Point.{Point}
 use Rattle.abstract_debugger.specs.Known.{IsFresh}
 use Rattle.abstract_debugger.specs.Laws.{SaysQuietly}
 use Rattle.abstract_debugger.specs.Own as entries
-use Rattle.abstract_debugger.specs.Plan.{Plan}
+use Rattle.abstract_debugger.specs.Plan.{Plan, patch_bytes}
 use Rattle.abstract_debugger.specs.Transcript.{End, Outcome, replay, start, trace}
 use Rattle.abstract_debugger.specs.Transcript.End.{Clean, WithErrors, NoHalt, NoAck, Open, Astray}
 use Rattle.soft_laws.specs.Lowered.{lower, no_table}
@@ -37,14 +37,14 @@ PatchesHide = (cs : List ℕ) (h : ℕ) (b : Board) → MayHide cs h b → turn 
 
 -- ---- sessions
 
--- the words at which breakpoints are set are words of RAM
-abbrev pub IsWordOfRam : ℕ → Type 0
-IsWordOfRam a = (a % 4 ≡ 0) × (ram_base ≤ a)
+-- an address that a breakpoint may be asked for: that of a word, from the base of RAM on
+abbrev pub IsSoftAddress : ℕ → Type 0
+IsSoftAddress a = (a % patch_bytes ≡ 0) × (ram_base ≤ a)
 
 abbrev pub IsSoftWithinRanges : SoftCommand → Type 0
 IsSoftWithinRanges (Plain c) = IsWithinRanges c
-IsSoftWithinRanges (Soft a) = IsWordOfRam a
-IsSoftWithinRanges (Unsoft a) = IsWordOfRam a
+IsSoftWithinRanges (Soft a) = IsSoftAddress a
+IsSoftWithinRanges (Unsoft a) = IsSoftAddress a
 
 -- no more harts than are looked for before the first breakpoint; every chip has one to four
 abbrev pub HasFewHarts : Board → Type 0

@@ -8,3 +8,4 @@ pub mod SoftFirstMatch
 pub mod Laws
 pub mod Shown
 pub mod CallLaws
+pub mod SoftExamples

@@ -1,7 +1,7 @@
 -- What becomes of a plan at a chip whose memory has the patches in it: its patches are writes of ebreaks and of originals, its writes leave ebreaks
 -- standing, and its looks see the originals, which a table remembers.
 -- It is this project's own. A chip's journal is replayed along the lowered plan as along any other.
-use Rattle.std.specs.Prelude.{ℕ, zero, suc, ◌+◌, ◌*◌, ◌/◌, ◌%◌, Bool, true, false, ◌==◌, List, [], ◌∷◌, Option, Some, None, if◌then◌else◌}
+use Rattle.std.specs.Prelude.{ℕ, zero, suc, ◌+◌, ◌*◌, ◌/◌, ◌%◌, Bool, ◌==◌, List, [], ◌∷◌, Option, Some, None, if◌then◌else◌}
 use Rattle.std.specs.FinMap.{empty, get, insert, remove}
 use Rattle.rv_model.specs.Board.{Board}
 use Rattle.rv_model.specs.Memory.{Bytes, Memory, with_value}

@@ -1,6 +1,6 @@
 -- Software breakpoints: which words of memory an ebreak covers, and memory with the ebreaks in it.
--- The ebreak is that of the unprivileged manual, "Environment Call and Breakpoints"; patching it over a word of memory is this project's own choice
--- among the ways of RISC-V Debug Specification 1.0, "Software Breakpoints".
+-- The ebreak is that of the unprivileged manual, "Environment Call and Breakpoints", which halts a hart by ebreakm of RISC-V Debug Specification 1.0,
+-- "Debug Control and Status"; what is patched where is this project's own.
 use Rattle.std.specs.Prelude.{◌≡◌, ℕ, ◌+◌, ◌%◌, Bool, true, false, ◌||◌, ◌&&◌, ◌==◌, nat_lt, List, [], ◌∷◌, is_some, if◌then◌else◌}
 use Rattle.std.specs.FinMap.{get}
 use Rattle.rv_model.specs.Board.{Board, Machine}
@@ -74,7 +74,7 @@ meets_some (c ∷ cs) a count = meets c a count || meets_some cs a count
 -- each address is a word's
 abbrev pub AreAligned : List ℕ → Type 0
 AreAligned [] = Unit {0}
-AreAligned (c ∷ cs) = (c % 4 ≡ 0) × AreAligned cs
+AreAligned (c ∷ cs) = (c % patch_bytes ≡ 0) × AreAligned cs
 
 -- each byte of the words lies in memory
 abbrev pub AreInside : List ℕ → Bytes → Type 0

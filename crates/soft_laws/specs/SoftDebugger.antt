@@ -16,7 +16,7 @@ use Rattle.abstract_debugger.specs.Plan.Change.{EbreakHalts, Patch}
 use Rattle.abstract_debugger.specs.Plan.Plan.{take, see, change, say, stop}
 use Rattle.abstract_debugger.specs.Plan.PlanEnd.{Done}
 use Rattle.abstract_debugger.specs.Slots.{any_hit, slots_at}
-use Rattle.abstract_debugger.specs.Transcript.{Outcome, World, start}
+use Rattle.abstract_debugger.specs.Transcript.{Outcome, start}
 use Rattle.soft_laws.specs.SoftBreaks.{has_some, is_listed, without}
 use Rattle.soft_laws.specs.SoftReplay.{soft_replay}
 

@@ -1,6 +1,6 @@
 -- What a user of software breakpoints sees of a session: its plan replayed over a board without patches, where covered words stop harts.
 -- It is this project's own. A plan's changes, lines and ends are those of any session; only a turn is another.
-use Rattle.std.specs.Prelude.{ℕ, List, [], ◌∷◌, if◌then◌else◌}
+use Rattle.std.specs.Prelude.{List, [], ◌∷◌, if◌then◌else◌}
 use Rattle.debug_model.specs.declared.point.Point.{Point}
 use Rattle.debug_model.specs.declared.point.Point.TheVariants.{Turn, Look, HaltReq, HaltClear, ResumeReq, Access}
 use Rattle.abstract_debugger.specs.Plan.{Plan, PlanEnd}
