@@ -194,3 +194,67 @@ fn a_block_ends_at_the_element_that_is_refused(rt: HostRuntime) -> Result<(), Fa
     check_block(&rt, rt.alloc(), 1, RAM_FIRST, 512, whole)?;
     Ok(())
 }
+
+fn load_all<Q: Schedule>(
+    bench: &mut Bench<Q>,
+    size: Size,
+    address: u64,
+    count: u16,
+    into: &mut ArrayVec<u64, 512>,
+) -> Result<Result<(), AccessFault>, Fault> {
+    let mut link = Link::new(Scanner::new(BenchWire::new(bench, PIECE)));
+    let target = connect(&mut link)?;
+    let Seen::Halted(halted) = target.look(&mut link, 0)? else {
+        return Err(Fault::SeenOtherwise);
+    };
+    set_reg(&mut link, &halted, X8, 0x11)?;
+    set_reg(&mut link, &halted, X9, 0x22)?;
+    let end = try_load_block(&mut link, &halted, size, address, count, into)?;
+    let x8 = reg(&mut link, &halted, X8)?;
+    let x9 = reg(&mut link, &halted, X9)?;
+    if x8 != 0x11 || x9 != 0x22 {
+        return Err(Fault::SeenOtherwise);
+    }
+    Ok(end)
+}
+
+#[test]
+fn exhaustive(rt: HostRuntime) -> Result<(), Fail> {
+    let mut image = Vec::new(rt.alloc());
+    let mut byte: u32 = 7;
+    for _number in 0..65536 {
+        byte = (byte * 75 + 74) % 65537;
+        image.push((byte % 256) as u8)?;
+    }
+    let mut tried = 0;
+    for busy in [1, 8, 16, 32] {
+        for (size, each) in [(Size::B1, 1), (Size::B2, 2), (Size::B4, 4), (Size::B8, 8)] {
+            for count in [1, 2, 3, 4, 5, 6, 7, 8, 9, 11, 14, 20, 40] {
+                for outside in [0, 1, 2, 3, 4, 5, 6, 8, 10] {
+                    if outside <= count {
+                        let address = 0x8001_0000 - each * (count - outside);
+                        let mut bench = Bench::blank();
+                        let schedule = SeedSchedule::new(7 + count + outside, busy, 1);
+                        bench.load(rt.alloc(), &image, 1, RAM_LEAST, Start::Halted, schedule)?;
+                        let mut into: ArrayVec<u64, 512> = ArrayVec::new();
+                        let end = load_all(&mut bench, size, address, count as u16, &mut into);
+                        let wanted = if outside == 0 { Ok(Ok(())) } else { Ok(Err(AccessFault::Memory(0x8001_0000))) };
+                        assert_eq!(rt; end, wanted, "{busy} {each} {count} {outside}");
+                        assert_eq!(rt; into.len() as u64, count - outside, "{busy} {each} {count} {outside}");
+                        for place in 0..(count - outside) {
+                            let mut value: u64 = 0;
+                            for part in 0..each {
+                                let at = 65536 - each * (count - outside) + place * each + (each - 1 - part);
+                                value = value * 256 + u64::from(image[at as usize]);
+                            }
+                            assert_eq!(rt; into[place as usize], value, "{busy} {each} {count} {outside} {place}");
+                        }
+                        tried += 1;
+                    }
+                }
+            }
+        }
+    }
+    println!(rt; "tried {tried}")?;
+    Ok(())
+}

@@ -68,11 +68,7 @@ fn fill_loads(run: Run, operations: &mut [DmiOp]) -> usize
     ensures count { result ≡ run.more * (run.looks + 2) + 3 }
     ensures long { length operations.new ≡ operations_most }
 {
-    let first = put(
-        DmiOp::Write(Abstractauto::ADDRESS, BY_DATA0),
-        operations,
-        0,
-    );
+    let first = put(DmiOp::Write(Abstractauto::ADDRESS, BY_DATA0), operations, 0);
     let mut at = put(
         DmiOp::Write(AbstractCommand::ADDRESS, next_command().word()),
         operations,
@@ -129,14 +125,7 @@ fn run_loads<D: Dmi>(
 }
 
 /// How many accesses a run made, from `least` up to `more`, by the address in x8, where so many elements were handed out before it.
-fn made_of(
-    size: Size,
-    address: u64,
-    handed: u16,
-    least: u16,
-    more: u16,
-    x8: u64,
-) -> Option<u16>
+fn made_of(size: Size, address: u64, handed: u16, least: u16, more: u16, x8: u64) -> Option<u16>
     requires few { handed + 2 + more ≤ most_elements }
     requires ends { address + (handed + 2 + more) * count_of size < 2 ^ 64 }
     ensures there { IfSome result (λ made. (least ≤ made) × (made ≤ more) × (x8 ≡ element_at size address (handed + 1 + made))) }
