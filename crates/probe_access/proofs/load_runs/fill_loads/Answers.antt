@@ -1,9 +1,10 @@
 use Rattle.std.proofs.Common.{◌∙◌, ◌++◌, ◌∷◌, ◌+◌, [], ap, arith}
 use Rattle.debug_model.specs.Addresses.{abstractauto_address, command_address, data0_address, data1_address}
 use Rattle.debug_model.specs.declared.dmi_op.DmiOp.TheVariants.{Read, Write}
-use Rattle.probe_access.specs.ReadRuns.{looks_of}
+use Rattle.probe_access.specs.AskedRuns.{looks_of}
 use Rattle.probe_access.specs.RegisterAccess.{next_word}
-use Rattle.probe_access.proofs.ReadCalls.{left_within, reads_snoc, step_within}
+use Rattle.probe_access.proofs.AskedCalls.{left_within, step_within}
+use Rattle.probe_access.proofs.ReadCalls.{reads_snoc}
 use Rattle.probe_access.proofs.load_runs.fill_loads.Goals as goal
 
 pub put_looks-looked-requires : goal.put_looks-looked-requires

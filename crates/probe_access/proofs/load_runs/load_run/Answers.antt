@@ -1,4 +1,4 @@
-use Rattle.std.proofs.Common.{◌≡◌, ◌∙◌, ◌-◌, ◌++◌, ◌∷◌, [], List, ℕ, drop, sym, ap, subst, arith, refl}
+use Rattle.std.proofs.Common.{◌∙◌, ◌-◌, ◌++◌, ◌∷◌, [], List, ℕ, drop, sym, ap, arith, refl}
 use Rattle.debug_model.specs.declared.abstractcs.Abstractcs.{Abstractcs}
 use Rattle.probe_run.specs.Told.{told}
 use Rattle.probe_access.specs.ReadRuns.{values_read}
