@@ -93,13 +93,13 @@ pub asked_told : (C : ℕ → Hart → Site → Type 0) (P : ℕ → Hart → Me
     → RunTold C Q word size last h bus w (i + 1 + more) new.far
 asked_told C P Q word size most more last h bus w i y base old new es within c st program a =
     let tail : List Act = map poll_act a.ran.words ++ poll_act last ∷ clearing (error_shown last) in
-    let at : AtSites (run_asked more ++ tail) st.far a.mid.far = did_sites old (run_asked more ++ tail) a.mid st.far a.ran.did st.is in
+    let at : AtSites (run_asked a.acts ++ tail) st.far a.mid.far = did_sites old (run_asked a.acts ++ tail) a.mid st.far a.ran.did st.is in
     let off : AtSites (Put abstractauto_address 0 ∷ []) at.far new.far = did_sites a.mid (Put abstractauto_address 0 ∷ []) new at.far a.off at.is in
-    let cut : Split (run_asked more) tail (site_of st.far) (site_of at.far) =
-    site_acts-split (run_asked more) tail (site_of st.far) (site_of at.far) at.acts_are in
+    let cut : Split (run_asked a.acts) tail (site_of st.far) (site_of at.far) =
+    site_acts-split (run_asked a.acts) tail (site_of st.far) (site_of at.far) at.acts_are in
     let ends : EndSplit a.ran.words last cut.mid (site_of at.far) = end_split a.ran.words last cut.mid (site_of at.far) cut.rest in
     let asked : RunAt C P Q word size h bus (i + 1 + more) cut.mid =
-    run_asked_at more C P Q word size most h bus w i y base st.kept (site_of st.far) cut.mid es within c program st.stood cut.first in
+    run_asked_at more a.acts C P Q word size most h bus w i y base st.kept (site_of st.far) cut.mid es within c program st.stood a.are cut.first in
     record {
       far = off.far;
       is = off.is;

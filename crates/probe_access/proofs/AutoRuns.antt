@@ -5,11 +5,11 @@ use Rattle.rv_model.specs.declared.size.Size.{Size}
 use Rattle.rv_model.specs.Board.{Hart}
 use Rattle.rv_model.specs.Core.{x_of}
 use Rattle.rv_model.specs.Memory.{Memory}
-use Rattle.debug_model.specs.Addresses.{abstractauto_address, command_address, data0_address}
+use Rattle.debug_model.specs.Addresses.{abstractauto_address, abstractcs_address, command_address, data0_address}
 use Rattle.debug_model.specs.declared.abstractauto.Abstractauto.{Abstractauto}
 use Rattle.debug_model.specs.declared.cmderr.Cmderr.{Cmderr}
 use Rattle.debug_model.specs.declared.cmderr.Cmderr.TheVariants.{Fine, Busy, Exception}
-use Rattle.debug_model.specs.declared.dmi_op.DmiOp.TheVariants.{Write}
+use Rattle.debug_model.specs.declared.dmi_op.DmiOp.TheVariants.{Read, Write}
 use Rattle.debug_model.specs.declared.micro.Micro.{Micro}
 use Rattle.debug_model.specs.declared.micro.Micro.TheVariants.{Run, Transfer}
 use Rattle.debug_model.specs.Commands.{refusal, started_by}
@@ -19,7 +19,7 @@ use Rattle.debug_model.specs.Module.{DebugModule, Site, operated, register_at}
 use Rattle.debug_model.specs.SystemBus.{BusUnit}
 use Rattle.probe_run.specs.Acts.{Act}
 use Rattle.probe_run.specs.Acts.Act.{Put}
-use Rattle.probe_access.specs.AskedRuns.{again, run_asked}
+use Rattle.probe_access.specs.AskedRuns.{Again, run_asked}
 use Rattle.probe_access.specs.RegisterAccess.{next_command, next_word}
 use Rattle.probe_access.proofs.Along.{SiteActs}
 use Rattle.probe_access.proofs.AccessSteps.{WordDid, program_of, rest_of}
@@ -31,6 +31,7 @@ use Rattle.probe_access.proofs.PerformTold.{held_behind}
 use Rattle.probe_access.proofs.ReadyUnit.{Held, Kept, OpAt, done_ran, op_at, op_done, unit_of}
 use Rattle.probe_access.proofs.RegisterTold.{Stood, with_data0}
 use Rattle.probe_access.proofs.Steps.{DoneAt}
+use Rattle.probe_access.proofs.TransferLemmas.{read_status}
 use Rattle.probe_access.proofs.Turns.{hart_aside, stays_passed}
 
 -- an access to data0 starts the kept command
@@ -294,20 +295,30 @@ run_begun C P Q word size most h bus w i y base k s t es within c p d one =
 
 -- ---- the further elements
 
-pub run_again : (n : ℕ) (C : ℕ → Hart → Site → Type 0) (P : ℕ → Hart → Memory → Hart → Memory → Type 0) (Q : ℕ → Memory → Type 0) (word : ℕ)
-    (size : Size) (most h : ℕ) (bus : BusUnit) (w : Hart) (b : ℕ) (s t : Site) → Elements C P Q word size most h bus w → b + n ≤ most
-    → SiteActs (again n) s t → RunAt C P Q word size h bus b s → RunAt C P Q word size h bus (b + n) t
-run_again zero C P Q word size most h bus w b s t es within acts r =
-    subst (λ m. RunAt C P Q word size h bus m t) (let e : b ≡ b + 0 = omega arith in e) (subst (λ u. RunAt C P Q word size h bus b u) (sym acts) r)
-run_again (suc n) C P Q word size most h bus w b s t es within acts r =
-    subst (λ m. RunAt C P Q word size h bus m t) (let e : (b + 1) + n ≡ b + suc n = omega arith in e)
-    (run_again n C P Q word size most h bus w (b + 1) acts.0 t es (omega (arith, within)) acts.2
-    (run_wrote 0 0 C P Q word size most h bus w b s acts.0 es (omega (arith, within)) acts.1 r))
+pub run_looked : (shown : ℕ) (C : ℕ → Hart → Site → Type 0) (P : ℕ → Hart → Memory → Hart → Memory → Type 0) (Q : ℕ → Memory → Type 0) (word : ℕ)
+    (size : Size) (most h : ℕ) (bus : BusUnit) (w : Hart) (b : ℕ) (s t : Site) → Elements C P Q word size most h bus w → b ≤ most
+    → OneOperation (Read abstractcs_address) shown s t → RunAt C P Q word size h bus b s → RunAt C P Q word size h bus b t
+run_looked shown C P Q word size most h bus w b s t es within one r =
+    run_ran C P Q word size most h bus w b one.behind (ran one.before s) t es within (one.is ∙ ap (ran one.behind) (read_status (ran one.before s)))
+    (run_ran C P Q word size most h bus w b one.before s (ran one.before s) es within refl r)
 
-pub run_asked_at : (n : ℕ) (C : ℕ → Hart → Site → Type 0) (P : ℕ → Hart → Memory → Hart → Memory → Type 0) (Q : ℕ → Memory → Type 0) (word : ℕ)
-    (size : Size) (most h : ℕ) (bus : BusUnit) (w : Hart) (i : ℕ) (y : Hart) (base : Site) (k : Kept) (s t : Site) → Elements C P Q word size most h bus w
-    → i + 1 + n ≤ most → C i y base → IsProgram word size k → Stood h bus y base w k s → SiteActs (run_asked n) s t
-    → RunAt C P Q word size h bus (i + 1 + n) t
-run_asked_at n C P Q word size most h bus w i y base k s t es within c p st acts =
-    run_again n C P Q word size most h bus w (i + 1) acts.2.0 t es within acts.2.2
-    (run_begun C P Q word size most h bus w i y base k acts.0 acts.2.0 es (omega (arith, within)) c p (auto_on k h bus y base w s acts.0 st acts.1) acts.2.1)
+pub run_again : (n : ℕ) (acts : List Act) (C : ℕ → Hart → Site → Type 0) (P : ℕ → Hart → Memory → Hart → Memory → Type 0) (Q : ℕ → Memory → Type 0)
+    (word : ℕ) (size : Size) (most h : ℕ) (bus : BusUnit) (w : Hart) (b : ℕ) (s t : Site) → Elements C P Q word size most h bus w → b + n ≤ most
+    → Again n acts → SiteActs acts s t → RunAt C P Q word size h bus b s → RunAt C P Q word size h bus (b + n) t
+run_again _ _ C P Q word size most h bus w b s t es within Again.nothing acts r =
+    subst (λ m. RunAt C P Q word size h bus m t) (let e : b ≡ b + 0 = omega arith in e) (subst (λ u. RunAt C P Q word size h bus b u) (sym acts) r)
+run_again _ _ C P Q word size most h bus w b s t es within (Again.look n acts shown more) p r =
+    run_again n acts C P Q word size most h bus w b p.0 t es within more p.2
+    (run_looked p.1.result C P Q word size most h bus w b s p.0 es (omega (arith, within)) p.1.one r)
+run_again _ _ C P Q word size most h bus w b s t es within (Again.element n acts more) p r =
+    subst (λ m. RunAt C P Q word size h bus m t) (let e : (b + 1) + n ≡ b + suc n = omega arith in e)
+    (run_again n acts C P Q word size most h bus w (b + 1) p.0 t es (omega (arith, within)) more p.2
+    (run_wrote 0 0 C P Q word size most h bus w b s p.0 es (omega (arith, within)) p.1 r))
+
+pub run_asked_at : (n : ℕ) (acts : List Act) (C : ℕ → Hart → Site → Type 0) (P : ℕ → Hart → Memory → Hart → Memory → Type 0) (Q : ℕ → Memory → Type 0)
+    (word : ℕ) (size : Size) (most h : ℕ) (bus : BusUnit) (w : Hart) (i : ℕ) (y : Hart) (base : Site) (k : Kept) (s t : Site)
+    → Elements C P Q word size most h bus w → i + 1 + n ≤ most → C i y base → IsProgram word size k → Stood h bus y base w k s → Again n acts
+    → SiteActs (run_asked acts) s t → RunAt C P Q word size h bus (i + 1 + n) t
+run_asked_at n acts C P Q word size most h bus w i y base k s t es within c p st are did =
+    run_again n acts C P Q word size most h bus w (i + 1) did.2.0 t es within are did.2.2
+    (run_begun C P Q word size most h bus w i y base k did.0 did.2.0 es (omega (arith, within)) c p (auto_on k h bus y base w s did.0 st did.1) did.2.1)

@@ -2,7 +2,7 @@
 use Rattle.std.proofs.Common.{◌≡◌, ◌∙◌, ◌≤◌, ◌<◌, ◌+◌, ◌-◌, ◌*◌, ◌^◌, ◌++◌, ℕ, zero, suc, List, [], ◌∷◌, length, map, slice_index_or, take, drop, All, Option, Some, None, refl, sym, ap, subst, append_assoc, arith}
 use Rattle.std.proofs.Common.{append-nil, length-append}
 use Rattle.std.proofs.lemmas.List.Elements.{All-cons, All-nil}
-use Rattle.std.proofs.Math.Nat.{mul-le-mul_right, suc-mul}
+use Rattle.std.proofs.Math.Nat.{suc-mul}
 use Rattle.std.proofs.lemmas.List.{drop-drop, get_or-drop}
 use Rattle.debug_model.specs.Addresses.{abstractauto_address, abstractcs_address, command_address, data0_address, data1_address}
 use Rattle.debug_model.specs.declared.dmi_op.DmiOp.{DmiOp}
@@ -15,19 +15,16 @@ use Rattle.probe_access.specs.declared.fault.AccessFault.{AccessFault}
 use Rattle.probe_access.specs.declared.fault.AccessFault.TheVariants as access_fault
 use Rattle.probe_run.specs.Acts.{Act, Did, Tells, acts_of}
 use Rattle.probe_run.specs.Acts.Act.{Got, Put}
-use Rattle.probe_access.specs.AskedRuns.{Switching}
+use Rattle.probe_access.specs.AskedRuns.{Switching, looks_of}
 use Rattle.probe_access.specs.CommandRuns.{EndFailed, EndedFrom, poll_act}
-use Rattle.probe_access.specs.ReadRuns.{AskLoadsFailed, AskedLoads, LoadsAsking, LoadsRead, ReadFront, Reads, load_ops, looks_of, pair_of, reads_of, run_reads, values_read}
+use Rattle.probe_access.specs.ReadRuns.{AskLoadsFailed, AskedLoads, LoadsAsking, LoadsRead, ReadFront, Reads, load_ops, pair_of, reads_of, run_reads, values_read}
 use Rattle.probe_access.specs.RegisterAccess.{joined, next_word}
+use Rattle.probe_access.proofs.AskedCalls.{looks_long, looks_small, shift_last}
 use Rattle.probe_access.proofs.AskCalls.{ended_behind, failed_behind, together_broke}
 use Rattle.probe_access.proofs.RegisterCalls.{broke_counted, word_broke, word_put}
 use Rattle.probe_run.proofs.ActLemmas.{did_list, did_together}
 
 -- ---- the operations
-
-pub looks_snoc : (n : ℕ) → looks_of n ++ Read abstractcs_address ∷ [] ≡ looks_of (n + 1)
-looks_snoc zero = refl
-looks_snoc (suc n) = let e : suc (n + 1) ≡ suc n + 1 = omega arith in ap (λ xs. Read abstractcs_address ∷ xs) (looks_snoc n) ∙ ap looks_of e
 
 pub reads_snoc : (looks n : ℕ) → ((reads_of looks n ++ looks_of looks) ++ Read data1_address ∷ []) ++ Read data0_address ∷ [] ≡ reads_of looks (n + 1)
 reads_snoc looks zero =
@@ -43,16 +40,6 @@ reads_snoc looks (suc n) =
     (sym (append_assoc (reads_of looks n) (looks_of looks) pair)
     ∙ sym (append_assoc (reads_of looks n ++ looks_of looks) (Read data1_address ∷ []) (Read data0_address ∷ [])) ∙ reads_snoc looks n)
     ∙ ap (reads_of looks) e
-
-pub step_within : (e more k : ℕ) → e < more → e * k + k ≤ more * k
-step_within e more k below =
-    let h : suc e * k ≤ more * k = mul-le-mul_right k (omega (arith, below)) in
-    let s : suc e * k ≡ e * k + k = suc-mul e k in
-    subst (λ n. n ≤ more * k) s h
-
-pub left_within : (left k : ℕ) → 0 < left → left * k ≡ (left - 1) * k + k
-left_within zero k some = absurd (omega (arith, some))
-left_within (suc n) k some = suc-mul n k ∙ ap (λ m. m * k + k) (let e : n ≡ suc n - 1 = omega arith in e)
 
 -- ---- the elements in their answers
 
@@ -103,13 +90,6 @@ pub record ReadsOf (looks n z : ℕ) (results : List ℕ) (acts : List Act) : Ty
   pub reads : List Act
   pub are : Reads (values_read looks n results) reads
   pub is : acts ≡ reads ++ poll_act (slice_index_or results (length results - 1) z) ∷ []
-
-shift_last : (r : ℕ) (results : List ℕ) (z : ℕ) → 0 < length results
-    → slice_index_or (r ∷ results) (length (r ∷ results) - 1) z ≡ slice_index_or results (length results - 1) z
-shift_last r [] z some = absurd (omega (arith, some))
-shift_last r (q ∷ results) z some =
-    let e : suc (suc (length results)) - 1 ≡ suc (suc (length results) - 1) = omega arith in
-    ap (λ n. slice_index_or (r ∷ q ∷ results) n z) e
 
 -- of one element, behind so many looks more than those in front of the others
 pub record ElementOf (left looks n z : ℕ) (results : List ℕ) (acts : List Act) : Type 0 where
@@ -177,10 +157,6 @@ values_taken looks (suc taken) (suc n) words few =
 abbrev pub all_ops : ℕ → ℕ → List DmiOp
 all_ops looks more = Write abstractauto_address 1 ∷ load_ops looks more
 
-looks_small : (n : ℕ) (ops : List DmiOp) → All IsOperation ops → All IsOperation (looks_of n ++ ops)
-looks_small zero ops all = all
-looks_small (suc n) ops all = All-cons IsOperation (Read abstractcs_address) (looks_of n ++ ops) (omega arith) (looks_small n ops all)
-
 reads_small : (looks n : ℕ) → All IsOperation (reads_of looks n ++ Read abstractcs_address ∷ [])
 reads_small looks zero = All-cons IsOperation (Read abstractcs_address) [] (omega arith) (All-nil IsOperation)
 reads_small looks (suc n) =
@@ -195,10 +171,6 @@ load_small looks more =
     All-cons IsOperation (Write abstractauto_address 1) (load_ops looks more) (omega arith, omega arith)
     (All-cons IsOperation (Write command_address next_word) (reads_of looks more ++ Read abstractcs_address ∷ []) (omega arith, omega arith)
     (reads_small looks more))
-
-looks_long : (n : ℕ) → length (looks_of n) ≡ n
-looks_long zero = refl
-looks_long (suc n) = ap suc (looks_long n)
 
 reads_long : (looks n : ℕ) → length (reads_of looks n) ≡ n * (looks + 2)
 reads_long looks zero = let e : 0 ≡ 0 * (looks + 2) = omega arith in e

@@ -26,13 +26,13 @@ use Rattle.probe_run.specs.Acts.{Act, Attempt, Broke, Did, Tells}
 use Rattle.probe_run.specs.Acts.Act.{Put}
 use Rattle.probe_run.specs.Acts.Attempt.{Operation, Several}
 use Rattle.probe_run.specs.Opening.{clears_cmderr}
-use Rattle.probe_access.specs.AskedRuns.{Switching}
+use Rattle.probe_access.specs.AskedRuns.{Switching, looks_of}
 use Rattle.probe_access.specs.AskedRuns.Switching.{off}
 use Rattle.probe_access.specs.Blocks.{LoadedEach, element_at}
 use Rattle.probe_access.specs.CommandRuns.{BehindBegun, EndedBehind, clearing, error_shown, poll_act, shows_busy}
 use Rattle.probe_access.specs.CommandRuns.BehindBegun.{clears, polls, together}
 use Rattle.probe_access.specs.Cuts.{IfCut, LoadLeaves}
-use Rattle.probe_access.specs.ReadRuns.{AskLoadsFailed, AskedLoads, LoadsAsking, ReadFront, Reads, RunLoadsFailed, load_ops, looks_of, reads_of, run_reads}
+use Rattle.probe_access.specs.ReadRuns.{AskLoadsFailed, AskedLoads, LoadsAsking, ReadFront, Reads, RunLoadsFailed, load_ops, reads_of, run_reads}
 use Rattle.probe_access.specs.RegisterAccess.{joined, next_word, x8_number}
 use Rattle.probe_access.specs.RegisterRuns.{DoubleRead}
 use Rattle.probe_access.proofs.Along.{AtSites, SiteActs, Split, did_sites, site_acts-split}

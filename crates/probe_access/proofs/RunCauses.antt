@@ -9,7 +9,7 @@ use Rattle.probe_access.specs.declared.odd.OddStatus.TheVariants.{Abstractcs}
 use Rattle.probe_run.specs.Acts.{Act, Did, Tells}
 use Rattle.probe_run.specs.Acts.Act.{Put}
 use Rattle.probe_run.specs.Acts.Did.{nothing}
-use Rattle.probe_access.specs.AskedRuns.{Asked, AskedFailed, CutShort, RunFell, RunsFell, RunsOn, run_asked}
+use Rattle.probe_access.specs.AskedRuns.{Asked, AskedFailed, AskedSome, RunFell, run_asked}
 use Rattle.probe_access.specs.Blocks.{element_at}
 use Rattle.probe_access.specs.BlockRuns.{Causes, EightRead, Reported, ReportedOddly}
 use Rattle.probe_access.specs.CommandRuns.{clearing, error_shown, poll_act, shows_busy}
@@ -23,16 +23,9 @@ use Rattle.probe_run.proofs.ActLemmas.{did_list, did_then}
 pub asked_calls : (more last : ℕ) (a b : Tells) → Asked more last a b → Calls a b
 asked_calls more last a b r = calls_then a r.mid b (calls _ a r.mid r.ran.did) (calls _ r.mid b r.off)
 
-pub runs_calls : (count : ℕ) (a : Tells) (n : ℕ) (b : Tells) → RunsOn count a n b → Calls a b
-runs_calls count a _ _ RunsOn.none = calls [] a a nothing
-runs_calls count a _ _ (RunsOn.more n again mid b within runs r) =
-    calls_then a mid b (runs_calls count a n mid runs) (asked_calls again r.last mid b r.asked)
-
-pub cut_calls : (size : Size) (address count found : ℕ) (a b : Tells) → CutShort size address count found a b → Calls a b
-cut_calls size address count found a b c =
-    calls_then a c.some.mid b
-    (calls_then a c.mid c.some.mid (runs_calls count a c.n c.mid c.runs) (asked_calls c.again c.some.last c.mid c.some.mid c.some.asked))
-    (read_calls x8_number (element_at size address found) c.some.mid b c.some.read)
+pub some_calls : (size : Size) (address n more found : ℕ) (a b : Tells) → AskedSome size address n more found a b → Calls a b
+some_calls size address n more found a b c =
+    calls_then a c.mid b (asked_calls more c.last a c.mid c.asked) (read_calls x8_number (element_at size address found) c.mid b c.read)
 
 -- ---- the end was shown, and more calls were made
 
@@ -47,11 +40,11 @@ shown_in more last a mid b acts r did =
     let tail : List Act = poll_act last ∷ clearing (error_shown last) in
     let off : List Act = Put abstractauto_address 0 ∷ acts in
     record {
-      front = run_asked more ++ polls;
-      did = did_list ((run_asked more ++ (polls ++ tail)) ++ off) ((run_asked more ++ polls) ++ poll_act last ∷ (clearing (error_shown last) ++ off)) a b
-          (append_assoc (run_asked more) (polls ++ tail) off ∙ ap (λ xs. run_asked more ++ xs) (append_assoc polls tail off)
-          ∙ sym (append_assoc (run_asked more) polls (tail ++ off)))
-          (did_then (run_asked more ++ (polls ++ tail)) a r.mid r.ran.did off b (did_then (Put abstractauto_address 0 ∷ []) r.mid mid r.off acts b did));
+      front = run_asked r.acts ++ polls;
+      did = did_list ((run_asked r.acts ++ (polls ++ tail)) ++ off) ((run_asked r.acts ++ polls) ++ poll_act last ∷ (clearing (error_shown last) ++ off)) a b
+          (append_assoc (run_asked r.acts) (polls ++ tail) off ∙ ap (λ xs. run_asked r.acts ++ xs) (append_assoc polls tail off)
+          ∙ sym (append_assoc (run_asked r.acts) polls (tail ++ off)))
+          (did_then (run_asked r.acts ++ (polls ++ tail)) a r.mid r.ran.did off b (did_then (Put abstractauto_address 0 ∷ []) r.mid mid r.off acts b did));
     }
 
 -- the reading of x8
@@ -66,12 +59,12 @@ asks8 value a b (RegisterRead.late mid early r) =
 
 -- ---- faults
 
-asked_causes : (more count new_count : ℕ) (a b : Tells) (e : AccessFault) → LinkLater count new_count e → AskedFailed more count new_count a b e
+asked_causes : (looks more count new_count : ℕ) (a b : Tells) (e : AccessFault) → LinkLater count new_count e → AskedFailed looks more count new_count a b e
     → Causes count new_count a b e
-asked_causes more count new_count a b e later (AskedFailed.in_run f) = behind_causes _ _ _ count new_count a b e f
-asked_causes more count new_count a b e later (AskedFailed.in_switch last mid r why is f) =
+asked_causes looks more count new_count a b e later (AskedFailed.in_run f) = behind_causes _ _ _ count new_count a b e f
+asked_causes looks more count new_count a b e later (AskedFailed.in_switch last mid r why is f) =
     subst (λ x. Causes count new_count a b x) (sym is)
-    (causes_same a mid b (calls _ a mid r.did) count new_count (access_fault.Dmi why) (subst (LinkLater count new_count) is later)
+    (causes_same a mid b (calls _ a mid r.ran.did) count new_count (access_fault.Dmi why) (subst (LinkLater count new_count) is later)
     (f.acts, f.failed, f.broke))
 
 not_exception : (error : ℕ) → error ≡ 1 → error ≢ 3
@@ -90,9 +83,9 @@ unfit error rest behind (inr e) = inr (record {
   is = sym (append_assoc rest (Put abstractauto_address 0 ∷ []) (Put command_address (transfer_word false x8_number) ∷ behind));
 })
 
-run_fell_causes : (size : Size) (address n again count new_count : ℕ) (a b : Tells) (e : AccessFault) → LinkLater count new_count e
+pub run_fell_causes : (size : Size) (address n again count new_count : ℕ) (a b : Tells) (e : AccessFault) → LinkLater count new_count e
     → RunFell size address n again count new_count a b e → Causes count new_count a b e
-run_fell_causes size address n again count new_count a b _ later (RunFell.asking e f) = asked_causes again count new_count a b e later f
+run_fell_causes size address n again count new_count a b _ later (RunFell.asking e looks f) = asked_causes looks again count new_count a b e later f
 run_fell_causes size address n again count new_count a b _ later (RunFell.finding e last mid r f) =
     causes_same a mid b (asked_calls again last a mid r) count new_count e later (read_causes x8_number count new_count mid b e later f)
 run_fell_causes size address n again count new_count a b _ later (RunFell.refused found last mid r error least most x8) =
@@ -132,8 +125,3 @@ run_fell_causes size address n again count new_count a b _ later (RunFell.mispla
       other = unfit (error_shown last) (clearing (error_shown last)) q.rest which;
       did = s.did;
     }
-
-pub runs_fell_causes : (size : Size) (address block count new_count : ℕ) (a b : Tells) (e : AccessFault) → LinkLater count new_count e
-    → RunsFell size address block count new_count a b e → Causes count new_count a b e
-runs_fell_causes size address block count new_count a b e later (RunsFell.fell n again mid within runs f) =
-    causes_same a mid b (runs_calls block a n mid runs) count new_count e later (run_fell_causes size address n again count new_count mid b e later f)

@@ -1,5 +1,5 @@
 -- Where a run of elements by autoexec broke off at a told chip: at one of its elements, before its access or behind it.
-use Rattle.std.proofs.Common.{◌≡◌, ◌∙◌, ◌++◌, ◌≤◌, ◌<◌, ◌+◌, ◌^◌, ℕ, zero, suc, List, [], ◌∷◌, map, false, Option, Some, None, refl, sym, ap, subst, arith}
+use Rattle.std.proofs.Common.{◌≡◌, ◌∙◌, ◌++◌, ◌≤◌, ◌<◌, ◌+◌, ◌^◌, ℕ, zero, suc, List, [], ◌∷◌, map, false, Option, Some, None, refl, sym, ap, subst, append_assoc, arith}
 use Rattle.rv_model.specs.declared.size.Size.{Size}
 use Rattle.rv_model.specs.Board.{Hart}
 use Rattle.rv_model.specs.Memory.{Memory}
@@ -25,7 +25,7 @@ use Rattle.probe_run.specs.Acts.{Act, Attempt, Broke, Did, Tells}
 use Rattle.probe_run.specs.Acts.Act.{Put}
 use Rattle.probe_run.specs.Acts.Attempt.{Operation, Several}
 use Rattle.probe_run.specs.Opening.{clears_cmderr}
-use Rattle.probe_access.specs.AskedRuns.{AskedFailed, AskingFailed, RunFront, Switching, asks_of, run_asked, run_ops}
+use Rattle.probe_access.specs.AskedRuns.{Again, AskedFailed, AskedOnce, AskingFailed, RunFront, Switching, asks_of, looks_of, run_asked, run_ops}
 use Rattle.probe_access.specs.AskedRuns.Switching.{off}
 use Rattle.probe_access.specs.CommandRuns.{BehindBegun, EndedBehind, clearing, error_shown, poll_act, shows_busy}
 use Rattle.probe_access.specs.CommandRuns.BehindBegun.{clears, polls, together}
@@ -40,7 +40,7 @@ use Rattle.probe_access.proofs.Aside.{Frozen, accessed, passed}
 use Rattle.probe_access.proofs.AtOnceTold.{EndSplit, end_split}
 use Rattle.probe_access.proofs.AutoEnds.{RunEnd, auto_cleared, auto_off, run_polled}
 use Rattle.probe_access.proofs.AutoEnds.RunEnd.{fine, busy, exception}
-use Rattle.probe_access.proofs.AutoRuns.{Elements, RunAt, auto_on, automatic, by_data0, run_asked_at, run_begun, run_ran, run_wrote}
+use Rattle.probe_access.proofs.AutoRuns.{Elements, RunAt, auto_on, automatic, by_data0, run_asked_at, run_begun, run_looked, run_ran, run_wrote}
 use Rattle.probe_access.proofs.AutoRuns.RunAt.{on, early_on, early, refused}
 use Rattle.probe_access.proofs.CutAccess.{InsideAt}
 use Rattle.probe_access.proofs.CutAccess.InsideAt.{made, not_yet}
@@ -126,50 +126,83 @@ unbegun C Y N h bus b i y base t within c p = record { i = i; hart = y; base = b
 
 -- ---- among the operations of the one call
 
-asks_cut : (n : ℕ) (C : ℕ → Hart → Site → Type 0) (P : ℕ → Hart → Memory → Hart → Memory → Type 0) (Q : ℕ → Memory → Type 0) (Y : Hart → Type 0)
-    (N : ℕ → Memory → Memory → Type 0) (word : ℕ) (size : Size) (most h : ℕ) (bus : BusUnit) (w : Hart) (b : ℕ) (done : List Done) (op : DmiOp)
-    (left : List DmiOp) (s mid t : Site) → Elements C P Q word size most h bus w → Halves C P Q Y N size most → b + n ≤ most
-    → map op_of done ++ op ∷ left ≡ asks_of n ++ Read abstractcs_address ∷ [] → RunAt C P Q word size h bus b s → OperationsAt done s mid → SiteCut op mid t
-    → Halfway C Y N h bus (b + n) t
-asks_cut zero C P Q Y N word size most h bus w b [] op left s mid t es f within asked r at cut =
-    let is : op ≡ Read abstractcs_address = cc in
-    let polled : RanAlone mid t = status_cut mid t (subst (λ q. SiteCut q mid t) is cut) in
-    half_more C Y N h bus b (b + 0) t (omega arith)
-    (run_half C P Q Y N word size most h bus b t f (omega (arith, within))
-    (run_ran C P Q word size most h bus w b polled.deeds mid t es (omega (arith, within)) polled.is (subst (RunAt C P Q word size h bus b) (sym at) r)))
-asks_cut zero C P Q Y N word size most h bus w b (o ∷ []) op left s mid t es f within asked r at cut = absurd (let no : ⊥ = cc in no)
-asks_cut zero C P Q Y N word size most h bus w b (o ∷ p ∷ done) op left s mid t es f within asked r at cut = absurd (let no : ⊥ = cc in no)
-asks_cut (suc n) C P Q Y N word size most h bus w b [] op left s mid t es f within asked r at cut =
-    let is : op ≡ Write data0_address 0 = cc in
-    write_cut (subst (λ q. SiteCut q mid t) is cut)
-  where
-    here : RunAt C P Q word size h bus b mid
-    here = subst (RunAt C P Q word size h bus b) (sym at) r
+-- so many elements are asked for, with looks in front of some, and the first poll
+data AskOps : ℕ → List DmiOp → Type 0 where
+  at_last : AskOps 0 (Read abstractcs_address ∷ [])
+  a_look : (n : ℕ) (ops : List DmiOp) → AskOps n ops → AskOps n (Read abstractcs_address ∷ ops)
+  an_element : (n : ℕ) (ops : List DmiOp) → AskOps n ops → AskOps (suc n) (Write data0_address 0 ∷ ops)
 
-    write_cut : SiteCut (Write data0_address 0) mid t → Halfway C Y N h bus (b + suc n) t
-    write_cut (unperformed d) =
-        half_more C Y N h bus b (b + suc n) t (omega arith)
-        (run_half C P Q Y N word size most h bus b t f (omega (arith, within))
-        (run_ran C P Q word size most h bus w b d.deeds mid t es (omega (arith, within)) d.is here))
-    write_cut (was_performed result one) =
-        half_more C Y N h bus (b + 1) (b + suc n) t (omega arith)
-        (run_half C P Q Y N word size most h bus (b + 1) t f (omega (arith, within))
-        (run_wrote 0 result C P Q word size most h bus w b mid t es (omega (arith, within)) one here))
-asks_cut (suc n) C P Q Y N word size most h bus w b (o ∷ done) op left s mid t es f within asked r at cut =
+looks_ops : (looks n : ℕ) (ops : List DmiOp) → AskOps n ops → AskOps n (looks_of looks ++ ops)
+looks_ops zero n ops r = r
+looks_ops (suc looks) n ops r = a_look n (looks_of looks ++ ops) (looks_ops looks n ops r)
+
+asks_ops : (looks n : ℕ) → AskOps n (asks_of looks n ++ Read abstractcs_address ∷ [])
+asks_ops looks zero = at_last
+asks_ops looks (suc n) =
+    subst (AskOps (suc n)) (sym (append_assoc (looks_of looks) (Write data0_address 0 ∷ asks_of looks n) (Read abstractcs_address ∷ [])))
+    (looks_ops looks (suc n) (Write data0_address 0 ∷ (asks_of looks n ++ Read abstractcs_address ∷ []))
+    (an_element n (asks_of looks n ++ Read abstractcs_address ∷ []) (asks_ops looks n)))
+
+look_cut : (n : ℕ) (C : ℕ → Hart → Site → Type 0) (P : ℕ → Hart → Memory → Hart → Memory → Type 0) (Q : ℕ → Memory → Type 0) (Y : Hart → Type 0)
+    (N : ℕ → Memory → Memory → Type 0) (word : ℕ) (size : Size) (most h : ℕ) (bus : BusUnit) (w : Hart) (b : ℕ) (mid t : Site) → Elements C P Q word size most h bus w
+    → Halves C P Q Y N size most → b + n ≤ most → RunAt C P Q word size h bus b mid → SiteCut (Read abstractcs_address) mid t
+    → Halfway C Y N h bus (b + n) t
+look_cut n C P Q Y N word size most h bus w b mid t es f within r cut =
+    let polled : RanAlone mid t = status_cut mid t cut in
+    half_more C Y N h bus b (b + n) t (omega arith)
+    (run_half C P Q Y N word size most h bus b t f (omega (arith, within))
+    (run_ran C P Q word size most h bus w b polled.deeds mid t es (omega (arith, within)) polled.is r))
+
+write_cut : (n : ℕ) (C : ℕ → Hart → Site → Type 0) (P : ℕ → Hart → Memory → Hart → Memory → Type 0) (Q : ℕ → Memory → Type 0) (Y : Hart → Type 0)
+    (N : ℕ → Memory → Memory → Type 0) (word : ℕ) (size : Size) (most h : ℕ) (bus : BusUnit) (w : Hart) (b : ℕ) (mid t : Site) → Elements C P Q word size most h bus w
+    → Halves C P Q Y N size most → b + suc n ≤ most → RunAt C P Q word size h bus b mid → SiteCut (Write data0_address 0) mid t
+    → Halfway C Y N h bus (b + suc n) t
+write_cut n C P Q Y N word size most h bus w b mid t es f within here (unperformed d) =
+    half_more C Y N h bus b (b + suc n) t (omega arith)
+    (run_half C P Q Y N word size most h bus b t f (omega (arith, within))
+    (run_ran C P Q word size most h bus w b d.deeds mid t es (omega (arith, within)) d.is here))
+write_cut n C P Q Y N word size most h bus w b mid t es f within here (was_performed result one) =
+    half_more C Y N h bus (b + 1) (b + suc n) t (omega arith)
+    (run_half C P Q Y N word size most h bus (b + 1) t f (omega (arith, within))
+    (run_wrote 0 result C P Q word size most h bus w b mid t es (omega (arith, within)) one here))
+
+asks_cut : (n : ℕ) (ops : List DmiOp) (C : ℕ → Hart → Site → Type 0) (P : ℕ → Hart → Memory → Hart → Memory → Type 0) (Q : ℕ → Memory → Type 0) (Y : Hart → Type 0)
+    (N : ℕ → Memory → Memory → Type 0) (word : ℕ) (size : Size) (most h : ℕ) (bus : BusUnit) (w : Hart) (b : ℕ) (done : List Done)
+    (op : DmiOp) (left : List DmiOp) (s mid t : Site) → Elements C P Q word size most h bus w → Halves C P Q Y N size most → b + n ≤ most → AskOps n ops
+    → map op_of done ++ op ∷ left ≡ ops → RunAt C P Q word size h bus b s → OperationsAt done s mid → SiteCut op mid t
+    → Halfway C Y N h bus (b + n) t
+asks_cut _ _ C P Q Y N word size most h bus w b [] op left s mid t es f within at_last asked r at cut =
+    let is : op ≡ Read abstractcs_address = cc in
+    look_cut 0 C P Q Y N word size most h bus w b mid t es f within (subst (RunAt C P Q word size h bus b) (sym at) r) (subst (λ q. SiteCut q mid t) is cut)
+asks_cut _ _ C P Q Y N word size most h bus w b (o ∷ []) op left s mid t es f within at_last asked r at cut = absurd (let no : ⊥ = cc in no)
+asks_cut _ _ C P Q Y N word size most h bus w b (o ∷ p ∷ done) op left s mid t es f within at_last asked r at cut = absurd (let no : ⊥ = cc in no)
+asks_cut _ _ C P Q Y N word size most h bus w b [] op left s mid t es f within (a_look n ops more) asked r at cut =
+    let is : op ≡ Read abstractcs_address = cc in
+    look_cut n C P Q Y N word size most h bus w b mid t es f within (subst (RunAt C P Q word size h bus b) (sym at) r) (subst (λ q. SiteCut q mid t) is cut)
+asks_cut _ _ C P Q Y N word size most h bus w b (o ∷ done) op left s mid t es f within (a_look n ops more) asked r at cut =
+    let first : o.op ≡ Read abstractcs_address = cc in
+    let others : map op_of done ++ op ∷ left ≡ ops = cc in
+    let one : OneOperation (Read abstractcs_address) o.result s at.0 = subst (λ q. OneOperation q o.result s at.0) first at.1 in
+    asks_cut n ops C P Q Y N word size most h bus w b done op left at.0 mid t es f within more others
+    (run_looked o.result C P Q word size most h bus w b s at.0 es (omega (arith, within)) one r) at.2 cut
+asks_cut _ _ C P Q Y N word size most h bus w b [] op left s mid t es f within (an_element n ops more) asked r at cut =
+    let is : op ≡ Write data0_address 0 = cc in
+    write_cut n C P Q Y N word size most h bus w b mid t es f within (subst (RunAt C P Q word size h bus b) (sym at) r) (subst (λ q. SiteCut q mid t) is cut)
+asks_cut _ _ C P Q Y N word size most h bus w b (o ∷ done) op left s mid t es f within (an_element n ops more) asked r at cut =
     let first : o.op ≡ Write data0_address 0 = cc in
-    let others : map op_of done ++ op ∷ left ≡ asks_of n ++ Read abstractcs_address ∷ [] = cc in
+    let others : map op_of done ++ op ∷ left ≡ ops = cc in
     let one : OneOperation (Write data0_address 0) o.result s at.0 = subst (λ q. OneOperation q o.result s at.0) first at.1 in
     let e : (b + 1) + n ≡ b + suc n = omega arith in
     subst (λ m. Halfway C Y N h bus m t) e
-    (asks_cut n C P Q Y N word size most h bus w (b + 1) done op left at.0 mid t es f (omega (arith, within)) others
+    (asks_cut n ops C P Q Y N word size most h bus w (b + 1) done op left at.0 mid t es f (omega (arith, within)) more others
     (run_wrote 0 o.result C P Q word size most h bus w b s at.0 es (omega (arith, within)) one r) at.2 cut)
 
-begins_cut : (n : ℕ) (C : ℕ → Hart → Site → Type 0) (P : ℕ → Hart → Memory → Hart → Memory → Type 0) (Q : ℕ → Memory → Type 0) (Y : Hart → Type 0)
+begins_cut : (looks n : ℕ) (C : ℕ → Hart → Site → Type 0) (P : ℕ → Hart → Memory → Hart → Memory → Type 0) (Q : ℕ → Memory → Type 0) (Y : Hart → Type 0)
     (N : ℕ → Memory → Memory → Type 0) (word : ℕ) (size : Size) (most h : ℕ) (bus : BusUnit) (w : Hart) (i : ℕ) (y : Hart) (base : Site) (k : Kept)
     (done : List Done) (op : DmiOp) (left : List DmiOp) (s mid t : Site) → Elements C P Q word size most h bus w → Halves C P Q Y N size most
-    → i + 1 + n ≤ most → C i y base → IsProgram word size k → map op_of done ++ op ∷ left ≡ run_ops n
+    → i + 1 + n ≤ most → C i y base → IsProgram word size k → map op_of done ++ op ∷ left ≡ run_ops looks n
     → DoneAt (going by_data0 Fine k [] h bus) h y base s → OperationsAt done s mid → SiteCut op mid t → Halfway C Y N h bus (i + 1 + n) t
-begins_cut n C P Q Y N word size most h bus w i y base k [] op left s mid t es f within c p asked d at cut =
+begins_cut looks n C P Q Y N word size most h bus w i y base k [] op left s mid t es f within c p asked d at cut =
     let is : op ≡ Write command_address next_word = cc in
     command_cut (subst (λ q. SiteCut q mid t) is cut)
   where
@@ -186,20 +219,21 @@ begins_cut n C P Q Y N word size most h bus w i y base k [] op left s mid t es f
         (run_half C P Q Y N word size most h bus (i + 1) t f (omega (arith, within))
         (run_begun C P Q word size most h bus w i y base k mid t es (omega (arith, within)) c p here
         (write_one command_address next_word result mid t one)))
-begins_cut n C P Q Y N word size most h bus w i y base k (o ∷ done) op left s mid t es f within c p asked d at cut =
+begins_cut looks n C P Q Y N word size most h bus w i y base k (o ∷ done) op left s mid t es f within c p asked d at cut =
     let first : o.op ≡ Write command_address next_word = cc in
-    let others : map op_of done ++ op ∷ left ≡ asks_of n ++ Read abstractcs_address ∷ [] = cc in
+    let others : map op_of done ++ op ∷ left ≡ asks_of looks n ++ Read abstractcs_address ∷ [] = cc in
     let one : OneOperation (Write command_address next_word) o.result s at.0 = subst (λ q. OneOperation q o.result s at.0) first at.1 in
-    asks_cut n C P Q Y N word size most h bus w (i + 1) done op left at.0 mid t es f within others
+    asks_cut n (asks_of looks n ++ Read abstractcs_address ∷ []) C P Q Y N word size most h bus w (i + 1) done op left at.0 mid t es f within
+    (asks_ops looks n) others
     (run_begun C P Q word size most h bus w i y base k s at.0 es (omega (arith, within)) c p d (write_one command_address next_word o.result s at.0 one)) at.2
     cut
 
-together_cut : (n : ℕ) (C : ℕ → Hart → Site → Type 0) (P : ℕ → Hart → Memory → Hart → Memory → Type 0) (Q : ℕ → Memory → Type 0) (Y : Hart → Type 0)
+together_cut : (looks n : ℕ) (C : ℕ → Hart → Site → Type 0) (P : ℕ → Hart → Memory → Hart → Memory → Type 0) (Q : ℕ → Memory → Type 0) (Y : Hart → Type 0)
     (N : ℕ → Memory → Memory → Type 0) (word : ℕ) (size : Size) (most h : ℕ) (bus : BusUnit) (w : Hart) (i : ℕ) (y : Hart) (base : Site) (k : Kept)
     (done : List Done) (op : DmiOp) (left : List DmiOp) (s mid t : Site) → Elements C P Q word size most h bus w → Halves C P Q Y N size most
-    → i + 1 + n ≤ most → C i y base → IsProgram word size k → map op_of done ++ op ∷ left ≡ Write abstractauto_address 1 ∷ run_ops n
+    → i + 1 + n ≤ most → C i y base → IsProgram word size k → map op_of done ++ op ∷ left ≡ Write abstractauto_address 1 ∷ run_ops looks n
     → Stood h bus y base w k s → OperationsAt done s mid → SiteCut op mid t → Halfway C Y N h bus (i + 1 + n) t
-together_cut n C P Q Y N word size most h bus w i y base k [] op left s mid t es f within c p asked st at cut =
+together_cut looks n C P Q Y N word size most h bus w i y base k [] op left s mid t es f within c p asked st at cut =
     let is : op ≡ Write abstractauto_address 1 = cc in
     auto_cut (subst (λ q. SiteCut q mid t) is cut)
   where
@@ -214,11 +248,11 @@ together_cut n C P Q Y N word size most h bus w i y base k [] op left s mid t es
         unbegun C Y N h bus (i + 1 + n) i y base t (omega arith) c
         (hung_done Y (going by_data0 Fine k [] h bus) h bus y base t refl (f.first i y base c)
         (auto_on k h bus y base w mid t here (write_one abstractauto_address 1 result mid t one)))
-together_cut n C P Q Y N word size most h bus w i y base k (o ∷ done) op left s mid t es f within c p asked st at cut =
+together_cut looks n C P Q Y N word size most h bus w i y base k (o ∷ done) op left s mid t es f within c p asked st at cut =
     let first : o.op ≡ Write abstractauto_address 1 = cc in
-    let others : map op_of done ++ op ∷ left ≡ run_ops n = cc in
+    let others : map op_of done ++ op ∷ left ≡ run_ops looks n = cc in
     let one : OneOperation (Write abstractauto_address 1) o.result s at.0 = subst (λ q. OneOperation q o.result s at.0) first at.1 in
-    begins_cut n C P Q Y N word size most h bus w i y base k done op left at.0 mid t es f within c p others
+    begins_cut looks n C P Q Y N word size most h bus w i y base k done op left at.0 mid t es f within c p others
     (auto_on k h bus y base w s at.0 st (write_one abstractauto_address 1 o.result s at.0 one)) at.2 cut
 
 -- ---- behind it
@@ -295,68 +329,68 @@ pub record HalfTold (C : ℕ → Hart → Site → Type 0) (Y : Hart → Type 0)
   pub is : told ≡ Some far
   pub half : Halfway C Y N h bus b (site_of far)
 
-several_half : (n : ℕ) (C : ℕ → Hart → Site → Type 0) (P : ℕ → Hart → Memory → Hart → Memory → Type 0) (Q : ℕ → Memory → Type 0) (Y : Hart → Type 0)
+several_half : (looks n : ℕ) (C : ℕ → Hart → Site → Type 0) (P : ℕ → Hart → Memory → Hart → Memory → Type 0) (Q : ℕ → Memory → Type 0) (Y : Hart → Type 0)
     (N : ℕ → Memory → Memory → Type 0) (word : ℕ) (size : Size) (most h : ℕ) (bus : BusUnit) (w : Hart) (i : ℕ) (y : Hart) (base : Site)
     (old_count new_count : ℕ) (old : Tells) (told : Option Far) (why : DmiFault) → Elements C P Q word size most h bus w → Halves C P Q Y N size most
     → i + 1 + n ≤ most → C i y base → (st : StoodTold h bus y base w old.far) → IsProgram word size st.kept
-    → Broke [] (Several (Write abstractauto_address 1) (run_ops n)) old_count new_count old told why → HalfTold C Y N h bus (i + 1 + n) told
-several_half n C P Q Y N word size most h bus w i y base old_count new_count old told why es f within c st p b =
+    → Broke [] (Several (Write abstractauto_address 1) (run_ops looks n)) old_count new_count old told why → HalfTold C Y N h bus (i + 1 + n) told
+several_half looks n C P Q Y N word size most h bus w i y base old_count new_count old told why es f within c st p b =
     let op : DmiOp = Write abstractauto_address 1 in
     let at : AtSites [] st.far b.mid.far = did_sites old [] b.mid st.far b.did st.is in
-    let cut : OperationsCut (op ∷ run_ops n) at.far.live.chip told =
-    subst (λ (m : Option Far). WhereTold (OperationsCut (op ∷ run_ops n)) m told) at.is b.cut in
-    let s : StoppedAt (op ∷ run_ops n) (site_of at.far) (site_of cut.far) =
-    stopped_at op (run_ops n) cut.done cut.rest cut.happened (site_of at.far) (site_of cut.far) cut.asked cut.once cut.site in
+    let cut : OperationsCut (op ∷ run_ops looks n) at.far.live.chip told =
+    subst (λ (m : Option Far). WhereTold (OperationsCut (op ∷ run_ops looks n)) m told) at.is b.cut in
+    let s : StoppedAt (op ∷ run_ops looks n) (site_of at.far) (site_of cut.far) =
+    stopped_at op (run_ops looks n) cut.done cut.rest cut.happened (site_of at.far) (site_of cut.far) cut.asked cut.once cut.site in
     record {
       far = cut.far;
       is = cut.is;
-      half = together_cut n C P Q Y N word size most h bus w i y base st.kept s.done s.op s.left (site_of at.far) s.mid (site_of cut.far) es f within c p
+      half = together_cut looks n C P Q Y N word size most h bus w i y base st.kept s.done s.op s.left (site_of at.far) s.mid (site_of cut.far) es f within c p
           s.asked (subst (Stood h bus y base w st.kept) (sym at.acts_are) st.stood) s.before s.cut;
     }
 
-polls_half : (n : ℕ) (C : ℕ → Hart → Site → Type 0) (P : ℕ → Hart → Memory → Hart → Memory → Type 0) (Q : ℕ → Memory → Type 0) (Y : Hart → Type 0)
+polls_half : (n : ℕ) (asked : List Act) (C : ℕ → Hart → Site → Type 0) (P : ℕ → Hart → Memory → Hart → Memory → Type 0) (Q : ℕ → Memory → Type 0) (Y : Hart → Type 0)
     (N : ℕ → Memory → Memory → Type 0) (word : ℕ) (size : Size) (most h : ℕ) (bus : BusUnit) (w : Hart) (i : ℕ) (y : Hart) (base : Site) (k : Kept)
     (words : List ℕ) (s mid t : Site) → Elements C P Q word size most h bus w → Halves C P Q Y N size most → i + 1 + n ≤ most → C i y base
-    → IsProgram word size k → Stood h bus y base w k s → SiteActs (run_asked n ++ map poll_act words) s mid → RanAlone mid t
+    → IsProgram word size k → Stood h bus y base w k s → Again n asked → SiteActs (run_asked asked ++ map poll_act words) s mid → RanAlone mid t
     → Halfway C Y N h bus (i + 1 + n) t
-polls_half n C P Q Y N word size most h bus w i y base k words s mid t es f within c p st acts more =
-    let split : Split (run_asked n) (map poll_act words) s mid = site_acts-split (run_asked n) (map poll_act words) s mid acts in
+polls_half n asked C P Q Y N word size most h bus w i y base k words s mid t es f within c p st are acts more =
+    let split : Split (run_asked asked) (map poll_act words) s mid = site_acts-split (run_asked asked) (map poll_act words) s mid acts in
     let polled : RanAlone split.mid mid = polls_ran words split.mid mid split.rest in
     run_half C P Q Y N word size most h bus (i + 1 + n) t f within
     (run_ran C P Q word size most h bus w (i + 1 + n) more.deeds mid t es within more.is
     (run_ran C P Q word size most h bus w (i + 1 + n) polled.deeds split.mid mid es within polled.is
-    (run_asked_at n C P Q word size most h bus w i y base k s split.mid es within c p st split.first)))
+    (run_asked_at n asked C P Q word size most h bus w i y base k s split.mid es within c p st are split.first)))
 
-begun_half : (n : ℕ) (C : ℕ → Hart → Site → Type 0) (P : ℕ → Hart → Memory → Hart → Memory → Type 0) (Q : ℕ → Memory → Type 0) (Y : Hart → Type 0)
+begun_half : (looks n : ℕ) (C : ℕ → Hart → Site → Type 0) (P : ℕ → Hart → Memory → Hart → Memory → Type 0) (Q : ℕ → Memory → Type 0) (Y : Hart → Type 0)
     (N : ℕ → Memory → Memory → Type 0) (word : ℕ) (size : Size) (most h : ℕ) (bus : BusUnit) (w : Hart) (i : ℕ) (y : Hart) (base : Site)
     (old_count new_count : ℕ) (old : Tells) (told : Option Far) (why : DmiFault) (acts : List Act) (failed : Attempt)
     → Elements C P Q word size most h bus w → Halves C P Q Y N size most
     → i + 1 + n ≤ most → C i y base → (st : StoodTold h bus y base w old.far) → IsProgram word size st.kept
-    → BehindBegun (RunFront n) (Write abstractauto_address 1) (run_ops n) acts failed → Broke acts failed old_count new_count old told why
+    → BehindBegun (RunFront n) (Write abstractauto_address 1) (run_ops looks n) acts failed → Broke acts failed old_count new_count old told why
     → HalfTold C Y N h bus (i + 1 + n) told
-begun_half n C P Q Y N word size most h bus w i y base old_count new_count old told why _ _ es f within c st p together b =
-    several_half n C P Q Y N word size most h bus w i y base old_count new_count old told why es f within c st p b
-begun_half n C P Q Y N word size most h bus w i y base old_count new_count old told why _ _ es f within c st p (polls _ first words RunFront.asked vain) b =
-    let cut : CutAt (run_asked n ++ map poll_act (first ∷ words)) (Read abstractcs_address) st.far told =
-    cut_at (run_asked n ++ map poll_act (first ∷ words)) (Read abstractcs_address) old_count new_count old told why st.far st.is b in
+begun_half looks n C P Q Y N word size most h bus w i y base old_count new_count old told why _ _ es f within c st p together b =
+    several_half looks n C P Q Y N word size most h bus w i y base old_count new_count old told why es f within c st p b
+begun_half looks n C P Q Y N word size most h bus w i y base old_count new_count old told why _ _ es f within c st p (polls _ first words (RunFront.asked asked are) vain) b =
+    let cut : CutAt (run_asked asked ++ map poll_act (first ∷ words)) (Read abstractcs_address) st.far told =
+    cut_at (run_asked asked ++ map poll_act (first ∷ words)) (Read abstractcs_address) old_count new_count old told why st.far st.is b in
     record {
       far = cut.far;
       is = cut.is;
-      half = polls_half n C P Q Y N word size most h bus w i y base st.kept (first ∷ words) (site_of st.far) cut.mid (site_of cut.far) es f within c p
-          st.stood cut.acts_are (status_cut cut.mid (site_of cut.far) cut.cut);
+      half = polls_half n asked C P Q Y N word size most h bus w i y base st.kept (first ∷ words) (site_of st.far) cut.mid (site_of cut.far) es f within c p
+          st.stood are cut.acts_are (status_cut cut.mid (site_of cut.far) cut.cut);
     }
-begun_half n C P Q Y N word size most h bus w i y base old_count new_count old told why _ _ es f within c st p
-    (clears _ words last RunFront.asked vain not_busy error) b =
+begun_half looks n C P Q Y N word size most h bus w i y base old_count new_count old told why _ _ es f within c st p
+    (clears _ words last (RunFront.asked asked are) vain not_busy error) b =
     let tail : List Act = map poll_act words ++ poll_act last ∷ [] in
-    let cut : CutAt (run_asked n ++ tail) (Write abstractcs_address clears_cmderr) st.far told =
-    cut_at (run_asked n ++ tail) (Write abstractcs_address clears_cmderr) old_count new_count old told why st.far st.is b in
-    let split : Split (run_asked n) tail (site_of st.far) cut.mid = site_acts-split (run_asked n) tail (site_of st.far) cut.mid cut.acts_are in
+    let cut : CutAt (run_asked asked ++ tail) (Write abstractcs_address clears_cmderr) st.far told =
+    cut_at (run_asked asked ++ tail) (Write abstractcs_address clears_cmderr) old_count new_count old told why st.far st.is b in
+    let split : Split (run_asked asked) tail (site_of st.far) cut.mid = site_acts-split (run_asked asked) tail (site_of st.far) cut.mid cut.acts_are in
     record {
       far = cut.far;
       is = cut.is;
       half = clears_cut C P Q Y N word size most last h bus w (i + 1 + n) cut.mid (site_of cut.far) es f within error
           (run_polled C P Q word size most words last h bus w (i + 1 + n) split.mid cut.mid es within
-          (run_asked_at n C P Q word size most h bus w i y base st.kept (site_of st.far) split.mid es within c p st.stood split.first) split.rest not_busy)
+          (run_asked_at n asked C P Q word size most h bus w i y base st.kept (site_of st.far) split.mid es within c p st.stood are split.first) split.rest not_busy)
           cut.cut;
     }
 
@@ -369,42 +403,42 @@ busy_half : (n : ℕ) (C : ℕ → Hart → Site → Type 0) (P : ℕ → Hart �
     (old new : Tells) (front : List Act) (words : List ℕ) → Elements C P Q word size most h bus w → Halves C P Q Y N size most
     → i + 1 + n ≤ most → C i y base → (st : StoodTold h bus y base w old.far) → IsProgram word size st.kept → RunFront n front
     → Did old (front ++ map poll_act words) new → HalfTold C Y N h bus (i + 1 + n) new.far
-busy_half n C P Q Y N word size most h bus w i y base old new _ words es f within c st p RunFront.asked did =
-    let at : AtSites (run_asked n ++ map poll_act words) st.far new.far = did_sites old (run_asked n ++ map poll_act words) new st.far did st.is in
+busy_half n C P Q Y N word size most h bus w i y base old new _ words es f within c st p (RunFront.asked asked are) did =
+    let at : AtSites (run_asked asked ++ map poll_act words) st.far new.far = did_sites old (run_asked asked ++ map poll_act words) new st.far did st.is in
     record {
       far = at.far;
       is = at.is;
-      half = polls_half n C P Q Y N word size most h bus w i y base st.kept words (site_of st.far) (site_of at.far) (site_of at.far) es f within c p st.stood
+      half = polls_half n asked C P Q Y N word size most h bus w i y base st.kept words (site_of st.far) (site_of at.far) (site_of at.far) es f within c p st.stood are
           at.acts_are (nothing_more (site_of at.far));
     }
 
-asking_half : (n : ℕ) (C : ℕ → Hart → Site → Type 0) (P : ℕ → Hart → Memory → Hart → Memory → Type 0) (Q : ℕ → Memory → Type 0) (Y : Hart → Type 0)
+asking_half : (looks n : ℕ) (C : ℕ → Hart → Site → Type 0) (P : ℕ → Hart → Memory → Hart → Memory → Type 0) (Q : ℕ → Memory → Type 0) (Y : Hart → Type 0)
     (N : ℕ → Memory → Memory → Type 0) (word : ℕ) (size : Size) (most h : ℕ) (bus : BusUnit) (w : Hart) (i : ℕ) (y : Hart) (base : Site)
     (old_count new_count : ℕ) (old new : Tells) (e : AccessFault) → Elements C P Q word size most h bus w → Halves C P Q Y N size most
     → i + 1 + n ≤ most → C i y base → (st : StoodTold h bus y base w old.far) → IsProgram word size st.kept
-    → AskingFailed n old_count new_count old new e → IfCut (HalfTold C Y N h bus (i + 1 + n) new.far) e
-asking_half n C P Q Y N word size most h bus w i y base old_count new_count old new (access_fault.Dmi why) es f within c st p g =
-    begun_half n C P Q Y N word size most h bus w i y base old_count new_count old new.far why g.acts g.failed es f within c st p g.begun g.broke
-asking_half n C P Q Y N word size most h bus w i y base old_count new_count old new (access_fault.Memory at) es f within c st p g = tt
-asking_half n C P Q Y N word size most h bus w i y base old_count new_count old new (access_fault.Register asked) es f within c st p g = tt
-asking_half n C P Q Y N word size most h bus w i y base old_count new_count old new access_fault.StillBusy es f within c st p g =
+    → AskingFailed looks n old_count new_count old new e → IfCut (HalfTold C Y N h bus (i + 1 + n) new.far) e
+asking_half looks n C P Q Y N word size most h bus w i y base old_count new_count old new (access_fault.Dmi why) es f within c st p g =
+    begun_half looks n C P Q Y N word size most h bus w i y base old_count new_count old new.far why g.acts g.failed es f within c st p g.begun g.broke
+asking_half looks n C P Q Y N word size most h bus w i y base old_count new_count old new (access_fault.Memory at) es f within c st p g = tt
+asking_half looks n C P Q Y N word size most h bus w i y base old_count new_count old new (access_fault.Register asked) es f within c st p g = tt
+asking_half looks n C P Q Y N word size most h bus w i y base old_count new_count old new access_fault.StillBusy es f within c st p g =
     busy_half n C P Q Y N word size most h bus w i y base old new g.front g.busy.words es f within c st p g.made g.busy.did
-asking_half n C P Q Y N word size most h bus w i y base old_count new_count old new (access_fault.Run why) es f within c st p g = tt
-asking_half n C P Q Y N word size most h bus w i y base old_count new_count old new (access_fault.Odd shown) es f within c st p g = tt
+asking_half looks n C P Q Y N word size most h bus w i y base old_count new_count old new (access_fault.Run why) es f within c st p g = tt
+asking_half looks n C P Q Y N word size most h bus w i y base old_count new_count old new (access_fault.Odd shown) es f within c st p g = tt
 
 -- the switching off
 switching_half : (n last : ℕ) (C : ℕ → Hart → Site → Type 0) (P : ℕ → Hart → Memory → Hart → Memory → Type 0) (Q : ℕ → Memory → Type 0) (Y : Hart → Type 0)
     (N : ℕ → Memory → Memory → Type 0) (word : ℕ) (size : Size) (most h : ℕ) (bus : BusUnit) (w : Hart) (i : ℕ) (y : Hart) (base : Site)
     (old_count new_count : ℕ) (old mid : Tells) (told : Option Far) (why : DmiFault) (acts : List Act) (failed : Attempt)
     → Elements C P Q word size most h bus w → Halves C P Q Y N size most → i + 1 + n ≤ most → C i y base → (st : StoodTold h bus y base w old.far)
-    → IsProgram word size st.kept → EndedBehind (run_asked n) last old mid → Switching acts failed
+    → IsProgram word size st.kept → AskedOnce n last old mid → Switching acts failed
     → Broke acts failed old_count new_count mid told why → HalfTold C Y N h bus (i + 1 + n) told
 switching_half n last C P Q Y N word size most h bus w i y base old_count new_count old mid told why _ _ es f within c st p r off b =
-    let tail : List Act = map poll_act r.words ++ poll_act last ∷ clearing (error_shown last) in
-    let at : AtSites (run_asked n ++ tail) st.far mid.far = did_sites old (run_asked n ++ tail) mid st.far r.did st.is in
-    let split : Split (run_asked n) tail (site_of st.far) (site_of at.far) =
-    site_acts-split (run_asked n) tail (site_of st.far) (site_of at.far) at.acts_are in
-    let ends : EndSplit r.words last split.mid (site_of at.far) = end_split r.words last split.mid (site_of at.far) split.rest in
+    let tail : List Act = map poll_act r.ran.words ++ poll_act last ∷ clearing (error_shown last) in
+    let at : AtSites (run_asked r.acts ++ tail) st.far mid.far = did_sites old (run_asked r.acts ++ tail) mid st.far r.ran.did st.is in
+    let split : Split (run_asked r.acts) tail (site_of st.far) (site_of at.far) =
+    site_acts-split (run_asked r.acts) tail (site_of st.far) (site_of at.far) at.acts_are in
+    let ends : EndSplit r.ran.words last split.mid (site_of at.far) = end_split r.ran.words last split.mid (site_of at.far) split.rest in
     let cut : CutAt [] (Write abstractauto_address 0) at.far told =
     cut_at [] (Write abstractauto_address 0) old_count new_count mid told why at.far at.is b in
     record {
@@ -413,19 +447,19 @@ switching_half n last C P Q Y N word size most h bus w i y base old_count new_co
       half = switch_cut C P Q Y N word size most last h bus w (i + 1 + n) cut.mid (site_of cut.far) es f within
           (subst (RunGone C Q word size last h bus w (i + 1 + n)) (sym cut.acts_are)
           (run_gone C P Q word size most last h bus w (i + 1 + n) ends.mid (site_of at.far) es
-          (run_polled C P Q word size most r.words last h bus w (i + 1 + n) split.mid ends.mid es within
-          (run_asked_at n C P Q word size most h bus w i y base st.kept (site_of st.far) split.mid es within c p st.stood split.first) ends.polled r.idle)
+          (run_polled C P Q word size most r.ran.words last h bus w (i + 1 + n) split.mid ends.mid es within
+          (run_asked_at n r.acts C P Q word size most h bus w i y base st.kept (site_of st.far) split.mid es within c p st.stood r.are split.first) ends.polled r.ran.idle)
           ends.cleared)) cut.cut;
     }
 
-pub asked_half : (n : ℕ) (C : ℕ → Hart → Site → Type 0) (P : ℕ → Hart → Memory → Hart → Memory → Type 0) (Q : ℕ → Memory → Type 0) (Y : Hart → Type 0)
+pub asked_half : (looks n : ℕ) (C : ℕ → Hart → Site → Type 0) (P : ℕ → Hart → Memory → Hart → Memory → Type 0) (Q : ℕ → Memory → Type 0) (Y : Hart → Type 0)
     (N : ℕ → Memory → Memory → Type 0) (word : ℕ) (size : Size) (most h : ℕ) (bus : BusUnit) (w : Hart) (i : ℕ) (y : Hart) (base : Site)
     (old_count new_count : ℕ) (old new : Tells) (e : AccessFault) → Elements C P Q word size most h bus w → Halves C P Q Y N size most
     → i + 1 + n ≤ most → C i y base → (st : StoodTold h bus y base w old.far) → IsProgram word size st.kept
-    → AskedFailed n old_count new_count old new e → IfCut (HalfTold C Y N h bus (i + 1 + n) new.far) e
-asked_half n C P Q Y N word size most h bus w i y base old_count new_count old new e es f within c st p (AskedFailed.in_run g) =
-    asking_half n C P Q Y N word size most h bus w i y base old_count new_count old new e es f within c st p g
-asked_half n C P Q Y N word size most h bus w i y base old_count new_count old new e es f within c st p (AskedFailed.in_switch last mid r why is g) =
+    → AskedFailed looks n old_count new_count old new e → IfCut (HalfTold C Y N h bus (i + 1 + n) new.far) e
+asked_half looks n C P Q Y N word size most h bus w i y base old_count new_count old new e es f within c st p (AskedFailed.in_run g) =
+    asking_half looks n C P Q Y N word size most h bus w i y base old_count new_count old new e es f within c st p g
+asked_half looks n C P Q Y N word size most h bus w i y base old_count new_count old new e es f within c st p (AskedFailed.in_switch last mid r why is g) =
     subst (IfCut (HalfTold C Y N h bus (i + 1 + n) new.far)) (sym is)
     (switching_half n last C P Q Y N word size most h bus w i y base old_count new_count old mid new.far why g.acts g.failed es f within c st p r g.begun
     g.broke)

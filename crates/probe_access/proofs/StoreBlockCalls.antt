@@ -5,10 +5,10 @@ use Rattle.probe_access.specs.declared.fault.AccessFault.{AccessFault}
 use Rattle.probe_run.specs.Acts.{Act, Tells}
 use Rattle.probe_access.specs.BlockRuns.{Causes}
 use Rattle.probe_access.specs.Blocks.{element_at}
-use Rattle.probe_access.specs.ElementRuns.{RunFailed, RunsStoreFailed, StartFailed, Started, StoredInRuns, StoresFailed, StoresOn, block_program}
+use Rattle.probe_access.specs.ElementRuns.{RunFailed, StartFailed, Started, StoresFailed, StoresOn, block_program}
 use Rattle.probe_access.specs.ElementRuns.RunFailed.{in_run, faulted, oddly}
 use Rattle.probe_access.specs.RegisterAccess.{next_word, store_word, x8_number, x9_number}
-use Rattle.probe_access.proofs.RunCauses.{cut_calls, runs_calls, runs_fell_causes}
+use Rattle.probe_access.proofs.RunCauses.{asked_calls, run_fell_causes, some_calls}
 use Rattle.probe_access.proofs.BlockCauses.{
   Calls,
   InsideCauses,
@@ -26,18 +26,16 @@ use Rattle.probe_access.proofs.BlockCauses.{
 pub started_calls : (word : ℕ) (size : Size) (address : ℕ) (a b : Tells) → Started word size address a b → Calls a b
 started_calls word size address a b s = calls_then a s.mid b (written_calls x8_number address a s.mid s.x8) (calls _ s.mid b s.ran.ran.did)
 
-runs_to_calls : (size : Size) (address count : ℕ) (a : Tells) (n : ℕ) (b : Tells) → StoredInRuns size address count a n b → Calls a b
-runs_to_calls size address count a _ _ (StoredInRuns.whole n b runs) = runs_calls count a n b runs
-runs_to_calls size address count a _ _ (StoredInRuns.again found cut b c started) =
-    calls_then a cut b (cut_calls size address count found a cut c) (started_calls (store_word size) size (element_at size address found) cut b started)
-
 stores_calls : (size : Size) (address value block : ℕ) (a : Tells) (n : ℕ) (b : Tells) → StoresOn size address value block a n b → Calls a b
 stores_calls size address value block a _ _ (StoresOn.first one b x9 started) =
     calls_then a one b (written_calls x9_number value a one x9) (started_calls (store_word size) size address one b started)
 stores_calls size address value block a _ _ (StoresOn.next n mid b on r) =
     calls_then a mid b (stores_calls size address value block a n mid on) (calls _ mid b r.ran.did)
-stores_calls size address value block a _ _ (StoresOn.ran n mid b on runs) =
-    calls_then a mid b (stores_calls size address value block a 1 mid on) (runs_to_calls size address block mid n b runs)
+stores_calls size address value block a _ _ (StoresOn.ran n more mid b below on r) =
+    calls_then a mid b (stores_calls size address value block a n mid on) (asked_calls more r.last mid b r.asked)
+stores_calls size address value block a _ _ (StoresOn.again n more found mid cut b below on r started) =
+    calls_then a cut b (calls_then a mid cut (stores_calls size address value block a n mid on) (some_calls size address n more found mid cut r))
+    (started_calls (store_word size) size (element_at size address found) cut b started)
 
 run_causes : (front : List Act) (at count new_count : ℕ) (a b : Tells) (e : AccessFault) → RunFailed front at count new_count a b e
     → Causes count new_count a b e
@@ -52,14 +50,6 @@ start_causes word size address count new_count a b e later (StartFailed.at_first
     causes_same a mid b (written_calls x8_number address a mid x8) count new_count e later
     (run_causes (block_program word size) address count new_count mid b e f)
 
-runs_causes : (size : Size) (address block count new_count : ℕ) (a b : Tells) (e : AccessFault) → LinkLater count new_count e
-    → RunsStoreFailed size address block count new_count a b e → Causes count new_count a b e
-runs_causes size address block count new_count a b e later (RunsStoreFailed.in_runs f) =
-    runs_fell_causes size address block count new_count a b e later f
-runs_causes size address block count new_count a b e later (RunsStoreFailed.in_again found cut c f) =
-    causes_same a cut b (cut_calls size address block found a cut c) count new_count e later
-    (start_causes (store_word size) size (element_at size address found) count new_count cut b e later f)
-
 stores_causes : (size : Size) (address value block count new_count : ℕ) (a b : Tells) (e : AccessFault) → LinkLater count new_count e
     → StoresFailed size address value block count new_count a b e → Causes count new_count a b e
 stores_causes size address value block count new_count a b e later (StoresFailed.at_x9 f) = write_causes x9_number value count new_count a b e later f
@@ -68,9 +58,13 @@ stores_causes size address value block count new_count a b e later (StoresFailed
     (start_causes (store_word size) size address count new_count one b e later f)
 stores_causes size address value block count new_count a b e later (StoresFailed.in_next n mid below on f) =
     causes_same a mid b (stores_calls size address value block a n mid on) count new_count e later (run_causes [] _ count new_count mid b e f)
-stores_causes size address value block count new_count a b e later (StoresFailed.in_runs mid on f) =
-    causes_same a mid b (stores_calls size address value block a 1 mid on) count new_count e later
-    (runs_causes size address block count new_count mid b e later f)
+stores_causes size address value block count new_count a b e later (StoresFailed.in_run n more mid below on f) =
+    causes_same a mid b (stores_calls size address value block a n mid on) count new_count e later
+    (run_fell_causes size address n more count new_count mid b e later f)
+stores_causes size address value block count new_count a b e later (StoresFailed.in_again n more found mid cut below on r f) =
+    causes_same a cut b (calls_then a mid cut (stores_calls size address value block a n mid on) (some_calls size address n more found mid cut r))
+    count new_count e later
+    (start_causes (store_word size) size (element_at size address found) count new_count cut b e later f)
 
 pub stores_inside_causes : (size : Size) (address value block : ℕ)
     → InsideCauses (λ a b. StoresOn size address value block a block b) (StoresFailed size address value block)

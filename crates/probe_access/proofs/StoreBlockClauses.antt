@@ -14,7 +14,7 @@ use Rattle.probe_access.specs.declared.fault.AccessFault.TheVariants as access_f
 use Rattle.probe_run.specs.Acts.{Act, Tells, tells}
 use Rattle.probe_access.specs.Accesses.{IfMemory}
 use Rattle.probe_access.specs.Blocks.{BlockStoreLeft, BlockStoredAt, StoredEach, element_at}
-use Rattle.probe_access.specs.ElementRuns.{RunFailed, StartFailed, Started, StoreRuns, StoreRunsFailed, RunsStoreFailed, StoredInRuns, StoresFailed, StoresOn, block_program}
+use Rattle.probe_access.specs.ElementRuns.{RunFailed, StartFailed, Started, StoreRuns, StoreRunsFailed, StoresFailed, StoresOn, block_program}
 use Rattle.probe_access.specs.ElementRuns.RunFailed.{in_run, faulted, oddly}
 use Rattle.probe_access.specs.MemoryRuns.{PutBack}
 use Rattle.probe_access.specs.RegisterAccess.{next_word, store_word, x8_number, x9_number}
@@ -30,8 +30,8 @@ use Rattle.probe_access.proofs.ReadyTurns.{BoardReady}
 use Rattle.probe_access.proofs.ReadyUnit.{unit_of}
 use Rattle.probe_access.proofs.RegAnswers.{StoodTold, read_untold, stood_selects, stood_unit}
 use Rattle.probe_access.proofs.RegClauses.{first_told, told_serving, untold_serving}
-use Rattle.probe_access.proofs.StoreEnds.{cut_below, stores_only, stores_place}
-use Rattle.probe_access.specs.AskedRuns.{Asked, AskedFailed, CutShort, RunFell, RunsFell, RunsOn}
+use Rattle.probe_access.proofs.StoreEnds.{stores_only, stores_place}
+use Rattle.probe_access.specs.AskedRuns.{Asked, AskedFailed, AskedSome, RunFell}
 use Rattle.probe_access.proofs.StorePlaces.{BlockAt, StoreFault, StorePlace}
 use Rattle.probe_access.proofs.Turns.{hart_aside, stays_passed}
 
@@ -99,20 +99,9 @@ started_untold word size address old new r is = did_untold r.mid _ new r.ran.ran
 pub asked_untold : (more last : ℕ) (old new : Tells) → Asked more last old new → old.far ≡ None → new.far ≡ None
 asked_untold more last old new a is = did_untold a.mid _ new a.off (did_untold old _ a.mid a.ran.did is)
 
-pub runs_untold : (count : ℕ) (old : Tells) (n : ℕ) (new : Tells) → RunsOn count old n new → old.far ≡ None → new.far ≡ None
-runs_untold count old _ _ RunsOn.none is = is
-runs_untold count old _ _ (RunsOn.more n again mid new within runs a) is = asked_untold again a.last mid new a.asked (runs_untold count old n mid runs is)
-
-pub cut_untold : (size : Size) (address count found : ℕ) (old new : Tells) → CutShort size address count found old new → old.far ≡ None → new.far ≡ None
-cut_untold size address count found old new c is =
-    read_untold x8_number (element_at size address found) c.some.mid new c.some.read
-    (asked_untold c.again c.some.last c.mid c.some.mid c.some.asked (runs_untold count old c.n c.mid c.runs is))
-
-runs_to_untold : (size : Size) (address count : ℕ) (old : Tells) (n : ℕ) (new : Tells) → StoredInRuns size address count old n new → old.far ≡ None
-    → new.far ≡ None
-runs_to_untold size address count old _ _ (StoredInRuns.whole n new runs) is = runs_untold count old n new runs is
-runs_to_untold size address count old _ _ (StoredInRuns.again found cut new c started) is =
-    started_untold (store_word size) size (element_at size address found) cut new started (cut_untold size address count found old cut c is)
+pub some_untold : (size : Size) (address n more found : ℕ) (old new : Tells) → AskedSome size address n more found old new → old.far ≡ None → new.far ≡ None
+some_untold size address n more found old new c is =
+    read_untold x8_number (element_at size address found) c.mid new c.read (asked_untold more c.last old c.mid c.asked is)
 
 stores_untold : (size : Size) (address value count : ℕ) (old : Tells) (n : ℕ) (new : Tells) → StoresOn size address value count old n new → old.far ≡ None
     → new.far ≡ None
@@ -120,8 +109,11 @@ stores_untold size address value count old _ _ (StoresOn.first one new x9 starte
     started_untold (store_word size) size address one new started (written_untold x9_number value old one x9 is)
 stores_untold size address value count old _ _ (StoresOn.next n mid new on r) is =
     did_untold mid _ new r.ran.did (stores_untold size address value count old n mid on is)
-stores_untold size address value count old _ _ (StoresOn.ran n mid new on runs) is =
-    runs_to_untold size address count mid n new runs (stores_untold size address value count old 1 mid on is)
+stores_untold size address value count old _ _ (StoresOn.ran n more mid new below on a) is =
+    asked_untold more a.last mid new a.asked (stores_untold size address value count old n mid on is)
+stores_untold size address value count old _ _ (StoresOn.again n more found mid cut new below on a started) is =
+    started_untold (store_word size) size (element_at size address found) cut new started
+    (some_untold size address n more found mid cut a (stores_untold size address value count old n mid on is))
 
 pub store_block_ok : (size : Size) (address value count h : ℕ) (far : Option Far) (coming : Option DmiComing) (new : Tells)
     → address + count * count_of size ≤ 2 ^ 64 → 0 < count → IsReady far → Selects h far → IsHalted h far
@@ -177,15 +169,15 @@ plain_fault size address count done at new e below is p =
     (λ a u. record { done = done; below = below; at_is = u.0 ∙ is; untold = u.1 }) p
 
 -- of runs
-asked_plain : (G : ℕ → Type 0) (more old_count new_count : ℕ) (old new : Tells) (e : AccessFault) → AskedFailed more old_count new_count old new e
+asked_plain : (G : ℕ → Type 0) (looks more old_count new_count : ℕ) (old new : Tells) (e : AccessFault) → AskedFailed looks more old_count new_count old new e
     → PlainAt G e
-asked_plain G more old_count new_count old new e (AskedFailed.in_run f) = plain_at G e (behind_plain _ _ _ 0 ⊥ old_count new_count old new e f)
-asked_plain G more old_count new_count old new e (AskedFailed.in_switch last mid r why is b) = subst (PlainAt G) (sym is) tt
+asked_plain G looks more old_count new_count old new e (AskedFailed.in_run f) = plain_at G e (behind_plain _ _ _ 0 ⊥ old_count new_count old new e f)
+asked_plain G looks more old_count new_count old new e (AskedFailed.in_switch last mid r why is b) = subst (PlainAt G) (sym is) tt
 
 run_fell_plain : (size : Size) (address count n again old_count new_count : ℕ) (old new : Tells) (e : AccessFault) → n + 1 + again < count
     → old.far ≡ None → RunFell size address n again old_count new_count old new e → PlainAt (λ a. UntoldFault size address count a new) e
-run_fell_plain size address count n again old_count new_count old new _ within none (RunFell.asking e f) =
-    asked_plain (λ a. UntoldFault size address count a new) again old_count new_count old new e f
+run_fell_plain size address count n again old_count new_count old new _ within none (RunFell.asking e looks f) =
+    asked_plain (λ a. UntoldFault size address count a new) looks again old_count new_count old new e f
 run_fell_plain size address count n again old_count new_count old new _ within none (RunFell.finding e last mid a f) =
     plain_at (λ a. UntoldFault size address count a new) e (read_plain x8_number 0 ⊥ old_count new_count mid new e f)
 run_fell_plain size address count n again old_count new_count old new _ within none (RunFell.refused found last mid a error least most r) = record {
@@ -196,17 +188,6 @@ run_fell_plain size address count n again old_count new_count old new _ within n
 }
 run_fell_plain size address count n again old_count new_count old new _ within none (RunFell.oddly shown last is a zero one three) = tt
 run_fell_plain size address count n again old_count new_count old new _ within none (RunFell.misplaced shown last x8 mid is a which r un) = tt
-
-runs_plain : (size : Size) (address count old_count new_count : ℕ) (old new : Tells) (e : AccessFault) → old.far ≡ None
-    → RunsStoreFailed size address count old_count new_count old new e → PlainAt (λ a. UntoldFault size address count a new) e
-runs_plain size address count old_count new_count old new e none (RunsStoreFailed.in_runs (RunsFell.fell n again mid within runs f)) =
-    run_fell_plain size address count n again old_count new_count mid new e within (runs_untold count old n mid runs none) f
-runs_plain size address count old_count new_count old new e none (RunsStoreFailed.in_again found cut c (StartFailed.at_x8 f)) =
-    plain_at (λ a. UntoldFault size address count a new) e (write_plain x8_number (element_at size address found) 0 ⊥ old_count new_count cut new e f)
-runs_plain size address count old_count new_count old new e none (RunsStoreFailed.in_again found cut c (StartFailed.at_first mid x8 f)) =
-    plain_fault size address count found (element_at size address found) new e (cut_below size address count found old cut c) refl
-    (run_plain (block_program (store_word size) size) (element_at size address found) old_count new_count mid new e
-    (written_untold x8_number (element_at size address found) cut mid x8 (cut_untold size address count found old cut c none)) f)
 
 stores_plain : (size : Size) (address value count old_count new_count : ℕ) (old new : Tells) (e : AccessFault) → 0 < count → old.far ≡ None
     → StoresFailed size address value count old_count new_count old new e → PlainAt (λ a. UntoldFault size address count a new) e
@@ -221,8 +202,17 @@ stores_plain size address value count old_count new_count old new e some none (S
 stores_plain size address value count old_count new_count old new e some none (StoresFailed.in_next n mid below on f) =
     plain_fault size address count n (element_at size address n) new e below refl
     (run_plain [] (element_at size address n) old_count new_count mid new e (stores_untold size address value count old n mid on none) f)
-stores_plain size address value count old_count new_count old new e some none (StoresFailed.in_runs mid on f) =
-    runs_plain size address count old_count new_count mid new e (stores_untold size address value count old 1 mid on none) f
+stores_plain size address value count old_count new_count old new e some none (StoresFailed.in_run n more mid below on f) =
+    run_fell_plain size address count n more old_count new_count mid new e below (stores_untold size address value count old n mid on none) f
+stores_plain size address value count old_count new_count old new e some none
+    (StoresFailed.in_again n more found mid cut below on a (StartFailed.at_x8 f)) =
+    plain_at (λ a. UntoldFault size address count a new) e (write_plain x8_number (element_at size address found) 0 ⊥ old_count new_count cut new e f)
+stores_plain size address value count old_count new_count old new e some none
+    (StoresFailed.in_again n more found mid cut below on a (StartFailed.at_first then x8 f)) =
+    plain_fault size address count found (element_at size address found) new e (omega (arith, below, a.most)) refl
+    (run_plain (block_program (store_word size) size) (element_at size address found) old_count new_count then new e
+    (written_untold x8_number (element_at size address found) cut then x8
+    (some_untold size address n more found mid cut a (stores_untold size address value count old n mid on none))) f)
 
 untold_back : (size : Size) (address count at x8 x9 : ℕ) (last back : Tells) → PutBack x8 x9 last back → UntoldFault size address count at last
     → UntoldFault size address count at back

@@ -16,7 +16,7 @@ use Rattle.probe_access.specs.BlockCuts.{BlockStoreCut}
 use Rattle.probe_access.specs.Blocks.{StoredEach, element_at}
 use Rattle.probe_access.specs.Blocks.StoredEach.{nothing as none_stored}
 use Rattle.probe_access.specs.Cuts.{IfCut, Leaves, StoreLeaves}
-use Rattle.probe_access.specs.ElementRuns.{RunsStoreFailed, StartFailed, StoreRunsFailed, StoresFailed, StoresOn, block_program}
+use Rattle.probe_access.specs.ElementRuns.{StartFailed, StoreRunsFailed, StoresFailed, StoresOn, block_program}
 use Rattle.probe_access.specs.RegisterAccess.{store_word, x8_number, x9_number}
 use Rattle.probe_access.proofs.Aside.{HartAt, passed}
 use Rattle.probe_access.proofs.BlockAround.{BlockCutInside, around_cut}
@@ -48,21 +48,20 @@ use Rattle.probe_access.proofs.StorePlaces.{
   store_valued,
   with_block,
 }
-use Rattle.probe_access.proofs.StoreEnds.{cut_aimed, cut_below, stores_place}
+use Rattle.probe_access.proofs.StoreEnds.{cut_aimed, stores_place}
 use Rattle.probe_access.proofs.StoreRuns.{
   StoreCut,
   StoreDoes,
   StoreDone,
   StoreRefuses,
   StoreRun,
-  cut_place,
   place_asked,
   place_done,
-  runs_place,
   store_rests,
+  some_place,
 }
 use Rattle.probe_access.proofs.RunCuts.{HalfTold, Halves, asked_half, find_half}
-use Rattle.probe_access.specs.AskedRuns.{RunFell, RunsFell}
+use Rattle.probe_access.specs.AskedRuns.{RunFell}
 use Rattle.probe_access.proofs.WordAccess.{StoreFaults, Stores}
 
 -- ---- where it stands
@@ -162,11 +161,11 @@ half_hung size address value count n b h bus x s told below p =
 run_fell_hung : (size : Size) (address value count n again h : ℕ) (bus : BusUnit) (x : Hart) (s : Site) (old_count new_count : ℕ) (old new : Tells)
     (e : AccessFault) → BlockAt size address count x s → n + 1 + again < count → StorePlace size address value count n h bus x s old.far
     → RunFell size address n again old_count new_count old new e → IfCut (StoreHung size address value count h bus x s new.far) e
-run_fell_hung size address value count n again h bus x s old_count new_count old new _ env below pl (RunFell.asking e f) =
+run_fell_hung size address value count n again h bus x s old_count new_count old new _ env below pl (RunFell.asking e looks f) =
     if_cut (HalfTold (StoreDone size address value count h bus x s n) (AnyScratch x) (λ i. StoreLeaves size (element_at size address i) value) h bus
     (n + 1 + again) new.far) (StoreHung size address value count h bus x s new.far) e
     (half_hung size address value count n (n + 1 + again) h bus x s new.far below)
-    (asked_half again (StoreDone size address value count h bus x s n) (StoreDoes size address value) (StoreRefuses size address) (AnyScratch x)
+    (asked_half looks again (StoreDone size address value count h bus x s n) (StoreDoes size address value) (StoreRefuses size address) (AnyScratch x)
     (λ i. StoreLeaves size (element_at size address i) value) (store_word size) size (n + 1 + again) h bus x n (scratched pl.p value x) pl.base old_count
     new_count old new e
     (store_rests size address value count n (n + 1 + again) h bus x s env (omega (arith, below)) pl.set.then.stood.idle)
@@ -210,16 +209,6 @@ again_hung size address value count found h bus x s old_count new_count old new 
     (block_there (store_word size) size ready.kept)
     (λ m. element_decides size address value count found x s m env below ready.stood.frozen) f)
 
-runs_hung : (size : Size) (address value count h : ℕ) (bus : BusUnit) (x : Hart) (s : Site) (old_count new_count : ℕ) (old new : Tells) (e : AccessFault)
-    → BlockAt size address count x s → StorePlace size address value count 1 h bus x s old.far
-    → RunsStoreFailed size address count old_count new_count old new e → IfCut (StoreHung size address value count h bus x s new.far) e
-runs_hung size address value count h bus x s old_count new_count old new e env pl (RunsStoreFailed.in_runs (RunsFell.fell n again mid below runs f)) =
-    run_fell_hung size address value count n again h bus x s old_count new_count mid new e env below
-    (runs_place size address value count h bus x s old n mid env pl runs) f
-runs_hung size address value count h bus x s old_count new_count old new e env pl (RunsStoreFailed.in_again found cut c f) =
-    again_hung size address value count found h bus x s old_count new_count cut new e env (cut_below size address count found old cut c)
-    (cut_place size address value count found h bus x s old cut env pl c) f
-
 stores_hung : (size : Size) (address value count h : ℕ) (bus : BusUnit) (x : Hart) (s : Site) (old_count new_count : ℕ) (old new : Tells) (e : AccessFault)
     → BlockAt size address count x s → s.unit.bus ≡ bus → StoodTold h bus x s x old.far
     → StoresFailed size address value count old_count new_count old new e
@@ -242,9 +231,13 @@ stores_hung size address value count h bus x s old_count new_count old new e env
     (run_hung (Stores size a value y) (StoreFaults size a) (AnyScratch x) (StoreLeaves size a value) (store_word size) size [] a g.then.kept h bus y
     pl.base x old_count new_count mid new e (element_fits size address value n x env.all) g.then (no_more g.then.kept) g.program
     (λ m. element_decides size address value count n x s m env below g.then.stood.frozen) f)
-stores_hung size address value count h bus x s old_count new_count old new e env bus_is st (StoresFailed.in_runs mid on f) =
-    runs_hung size address value count h bus x s old_count new_count mid new e env
-    (stores_place size address value count h bus x s old 1 mid env bus_is env.some st on) f
+stores_hung size address value count h bus x s old_count new_count old new e env bus_is st (StoresFailed.in_run n more mid below on f) =
+    run_fell_hung size address value count n more h bus x s old_count new_count mid new e env below
+    (stores_place size address value count h bus x s old n mid env bus_is (omega (arith, below)) st on) f
+stores_hung size address value count h bus x s old_count new_count old new e env bus_is st (StoresFailed.in_again n more found mid cut below on a f) =
+    again_hung size address value count found h bus x s old_count new_count cut new e env (omega (arith, below, a.most))
+    (some_place size address value count n more found h bus x s mid cut env (omega (arith, below))
+    (stores_place size address value count h bus x s old n mid env bus_is (omega (arith, below)) st on) a) f
 
 -- ---- while x8 and x9 were put back
 

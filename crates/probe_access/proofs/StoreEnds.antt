@@ -9,11 +9,11 @@ use Rattle.debug_model.specs.Told.{Far, site_of}
 use Rattle.probe_access.specs.declared.fault.AccessFault.{AccessFault}
 use Rattle.probe_access.specs.declared.fault.AccessFault.TheVariants as access_fault
 use Rattle.probe_run.specs.Acts.{Tells}
-use Rattle.probe_access.specs.AskedRuns.{Asked, AskedFailed, CutShort, RunFell, RunsFell, RunsOn, Unplaced}
+use Rattle.probe_access.specs.AskedRuns.{Asked, AskedFailed, AskedSome, RunFell, Unplaced}
 use Rattle.probe_access.specs.Blocks.{StoredEach, element_at}
 use Rattle.probe_access.specs.Blocks.StoredEach.{nothing as none_stored}
 use Rattle.probe_access.specs.CommandRuns.{RanCommand, error_shown}
-use Rattle.probe_access.specs.ElementRuns.{RunsStoreFailed, StartFailed, Started, StoredInRuns, StoresFailed, StoresOn, block_program}
+use Rattle.probe_access.specs.ElementRuns.{StartFailed, Started, StoresFailed, StoresOn, block_program}
 use Rattle.probe_access.specs.RegisterAccess.{next_word, store_word, x8_number, x9_number}
 use Rattle.probe_access.specs.RegisterRuns.{RegisterRead, RegisterWritten}
 use Rattle.probe_access.proofs.AroundTold.{behind_clean, read_clean, reads_x8, write_clean, writes_x8, writes_x9}
@@ -56,11 +56,11 @@ use Rattle.probe_access.proofs.StoreRuns.{
   StoreDone,
   StoreRefuses,
   StoreRun,
-  cut_place,
   eight_read,
   other_error,
   place_asked,
-  runs_place,
+  all_place,
+  some_place,
   same_element,
 }
 use Rattle.probe_access.proofs.WordAccess.{StoreFaults, Stores}
@@ -93,18 +93,6 @@ again_place size address value count found h bus x s old new env below c r =
     (cut_ran size address value count found r.ran.last h bus x s c.base r.mid new env below
     (cut_aimed size address value count found h bus x s old r.mid c r.x8) r.ran.ran) r.ran.error_is)
 
-pub cut_below : (size : Size) (address count found : ℕ) (old new : Tells) → CutShort size address count found old new → found < count
-cut_below size address count found old new c = omega (arith, c.within, c.some.most)
-
-runs_to : (size : Size) (address value count h : ℕ) (bus : BusUnit) (x : Hart) (s : Site) (old : Tells) (n : ℕ) (new : Tells) → BlockAt size address count x s
-    → StorePlace size address value count 1 h bus x s old.far → StoredInRuns size address count old n new
-    → StorePlace size address value count n h bus x s new.far
-runs_to size address value count h bus x s old _ _ env pl (StoredInRuns.whole n new runs) =
-    runs_place size address value count h bus x s old n new env pl runs
-runs_to size address value count h bus x s old _ _ env pl (StoredInRuns.again found cut new c started) =
-    again_place size address value count found h bus x s cut new env (cut_below size address count found old cut c)
-    (cut_place size address value count found h bus x s old cut env pl c) started
-
 -- ---- all that was done
 
 pub stores_place : (size : Size) (address value count h : ℕ) (bus : BusUnit) (x : Hart) (s : Site) (old : Tells) (done : ℕ) (new : Tells)
@@ -115,8 +103,13 @@ stores_place size address value count h bus x s old _ _ env bus_is le st (Stores
 stores_place size address value count h bus x s old _ _ env bus_is le st (StoresOn.next n mid new on r) =
     next_place size address value count n h bus x s mid new env (omega (arith, le))
     (stores_place size address value count h bus x s old n mid env bus_is (omega (arith, le)) st on) r
-stores_place size address value count h bus x s old _ _ env bus_is le st (StoresOn.ran n mid new on runs) =
-    runs_to size address value count h bus x s mid n new env (stores_place size address value count h bus x s old 1 mid env bus_is env.some st on) runs
+stores_place size address value count h bus x s old _ _ env bus_is le st (StoresOn.ran n more mid new below on a) =
+    all_place size address value count n more h bus x s mid new env (omega (arith, below))
+    (stores_place size address value count h bus x s old n mid env bus_is (omega (arith, below)) st on) a
+stores_place size address value count h bus x s old _ _ env bus_is le st (StoresOn.again n more found mid cut new below on a started) =
+    again_place size address value count found h bus x s cut new env (omega (arith, below, a.most))
+    (some_place size address value count n more found h bus x s mid cut env (omega (arith, below))
+    (stores_place size address value count h bus x s old n mid env bus_is (omega (arith, below)) st on) a) started
 
 -- ---- faults
 
@@ -221,20 +214,20 @@ known_error size address value count n last b h bus x s t (done y base k shown c
 known_error size address value count n last b h bus x s t (early i y base k shown below c p st) zero one three = one shown
 known_error size address value count n last b h bus x s t (fault i y base k before shown below c p q st) zero one three = three shown
 
-asked_only : (size : Size) (address value count again old_count new_count h : ℕ) (bus : BusUnit) (x : Hart) (s : Site) (old new : Tells) (e : AccessFault)
-    → AskedFailed again old_count new_count old new e
+asked_only : (size : Size) (address value count looks again old_count new_count h : ℕ) (bus : BusUnit) (x : Hart) (s : Site) (old new : Tells) (e : AccessFault)
+    → AskedFailed looks again old_count new_count old new e
     → OnlyAt (λ at. LeftWith (StoreFault size address value count at h bus x s) h bus x new.far) e
-asked_only size address value count again old_count new_count h bus x s old new e (AskedFailed.in_run f) =
+asked_only size address value count looks again old_count new_count h bus x s old new e (AskedFailed.in_run f) =
     clean_at (λ at. LeftWith (StoreFault size address value count at h bus x s) h bus x new.far) e (behind_clean _ _ _ old_count new_count old new e f)
-asked_only size address value count again old_count new_count h bus x s old new e (AskedFailed.in_switch last mid r why is b) =
+asked_only size address value count looks again old_count new_count h bus x s old new e (AskedFailed.in_switch last mid r why is b) =
     subst (λ f. OnlyAt (λ at. LeftWith (StoreFault size address value count at h bus x s) h bus x new.far) f) (sym is) tt
 
 run_fell_only : (size : Size) (address value count n again old_count new_count h : ℕ) (bus : BusUnit) (x : Hart) (s : Site) (old new : Tells) (e : AccessFault)
     → BlockAt size address count x s → n + 1 + again ≤ count → StorePlace size address value count n h bus x s old.far
     → RunFell size address n again old_count new_count old new e
     → OnlyAt (λ at. LeftWith (StoreFault size address value count at h bus x s) h bus x new.far) e
-run_fell_only size address value count n again old_count new_count h bus x s old new _ env within pl (RunFell.asking e f) =
-    asked_only size address value count again old_count new_count h bus x s old new e f
+run_fell_only size address value count n again old_count new_count h bus x s old new _ env within pl (RunFell.asking e looks f) =
+    asked_only size address value count looks again old_count new_count h bus x s old new e f
 run_fell_only size address value count n again old_count new_count h bus x s old new _ env within pl (RunFell.finding e last mid a f) =
     let r : StoreRun size address value count n last h bus x s (n + 1 + again) mid.far =
     place_asked size address value count n again last h bus x s old mid env within pl a in
@@ -272,17 +265,6 @@ again_only size address value count found h bus x s old_count new_count old new 
     (run_only (Stores size a value y) (StoreFaults size a) (store_word size) size (block_program (store_word size) size) a h bus y c.base x old_count
     new_count mid new e (λ last ran. cut_ran size address value count found last h bus x s c.base mid new env below st ran) f)
 
-runs_only : (size : Size) (address value count h : ℕ) (bus : BusUnit) (x : Hart) (s : Site) (old_count new_count : ℕ) (old new : Tells) (e : AccessFault)
-    → BlockAt size address count x s → StorePlace size address value count 1 h bus x s old.far
-    → RunsStoreFailed size address count old_count new_count old new e
-    → OnlyAt (λ at. LeftWith (StoreFault size address value count at h bus x s) h bus x new.far) e
-runs_only size address value count h bus x s old_count new_count old new e env pl (RunsStoreFailed.in_runs (RunsFell.fell n again mid within runs f)) =
-    run_fell_only size address value count n again old_count new_count h bus x s mid new e env (omega (arith, within))
-    (runs_place size address value count h bus x s old n mid env pl runs) f
-runs_only size address value count h bus x s old_count new_count old new e env pl (RunsStoreFailed.in_again found cut c f) =
-    again_only size address value count found h bus x s old_count new_count cut new e env (cut_below size address count found old cut c)
-    (cut_place size address value count found h bus x s old cut env pl c) f
-
 -- of the whole
 
 pub stores_only : (size : Size) (address value count h : ℕ) (bus : BusUnit) (x : Hart) (s : Site) (old_count new_count : ℕ) (old new : Tells)
@@ -305,6 +287,10 @@ stores_only size address value count h bus x s old_count new_count old new e env
     pl.set.then.stood.held.here g.1)
     (run_only (Stores size a value y) (StoreFaults size a) (store_word size) size [] a h bus y pl.base x old_count new_count mid new e
     (λ last ran. place_ran size address value count n last h bus x s mid new env below pl ran) f)
-stores_only size address value count h bus x s old_count new_count old new e env bus_is st (StoresFailed.in_runs mid on f) =
-    runs_only size address value count h bus x s old_count new_count mid new e env
-    (stores_place size address value count h bus x s old 1 mid env bus_is env.some st on) f
+stores_only size address value count h bus x s old_count new_count old new e env bus_is st (StoresFailed.in_run n more mid below on f) =
+    run_fell_only size address value count n more old_count new_count h bus x s mid new e env (omega (arith, below))
+    (stores_place size address value count h bus x s old n mid env bus_is (omega (arith, below)) st on) f
+stores_only size address value count h bus x s old_count new_count old new e env bus_is st (StoresFailed.in_again n more found mid cut below on a f) =
+    again_only size address value count found h bus x s old_count new_count cut new e env (omega (arith, below, a.most))
+    (some_place size address value count n more found h bus x s mid cut env (omega (arith, below))
+    (stores_place size address value count h bus x s old n mid env bus_is (omega (arith, below)) st on) a) f

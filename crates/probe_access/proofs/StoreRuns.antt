@@ -10,9 +10,8 @@ use Rattle.debug_model.specs.Module.{Site}
 use Rattle.debug_model.specs.SystemBus.{BusUnit}
 use Rattle.debug_model.specs.Told.{Far, site_of}
 use Rattle.probe_run.specs.Acts.{Tells}
-use Rattle.probe_access.specs.AskedRuns.{Asked, AskedAll, AskedSome, CutShort, RunsOn}
+use Rattle.probe_access.specs.AskedRuns.{Asked, AskedAll, AskedSome}
 use Rattle.probe_access.specs.Blocks.{StoredEach, element_at}
-use Rattle.probe_access.specs.ElementRuns.{Started, StoredInRuns}
 use Rattle.probe_access.specs.RegisterAccess.{store_word, x8_number}
 use Rattle.probe_access.specs.RegisterRuns.{RegisterRead}
 use Rattle.probe_access.proofs.AccessSteps.{WordDid}
@@ -153,21 +152,13 @@ whole_left size address value count n last b h bus x s told far is error (early 
 whole_left size address value count n last b h bus x s told far is error (fault i y base k before shown below c p q st) =
     absurd (other_error (error_shown last) 3 0 shown error (λ e. omega (arith, e)))
 
-all_place : (size : Size) (address value count n again h : ℕ) (bus : BusUnit) (x : Hart) (s : Site) (old new : Tells) → BlockAt size address count x s
+pub all_place : (size : Size) (address value count n again h : ℕ) (bus : BusUnit) (x : Hart) (s : Site) (old new : Tells) → BlockAt size address count x s
     → n + 1 + again ≤ count → StorePlace size address value count n h bus x s old.far → AskedAll again old new
     → StorePlace size address value count (n + 1 + again) h bus x s new.far
 all_place size address value count n again h bus x s old new env within pl a =
     let r : StoreRun size address value count n a.last h bus x s (n + 1 + again) new.far =
     place_asked size address value count n again a.last h bus x s old new env within pl a.asked in
     whole_left size address value count n a.last (n + 1 + again) h bus x s new.far r.far r.is a.error_is r.left
-
-pub runs_place : (size : Size) (address value count h : ℕ) (bus : BusUnit) (x : Hart) (s : Site) (old : Tells) (n : ℕ) (new : Tells)
-    → BlockAt size address count x s → StorePlace size address value count 1 h bus x s old.far → RunsOn count old n new
-    → StorePlace size address value count n h bus x s new.far
-runs_place size address value count h bus x s old _ _ env pl RunsOn.none = pl
-runs_place size address value count h bus x s old _ _ env pl (RunsOn.more n again mid new within runs a) =
-    all_place size address value count n again h bus x s mid new env (omega (arith, within))
-    (runs_place size address value count h bus x s old n mid env pl runs) a
 
 -- ---- one that was cut short
 
@@ -227,13 +218,10 @@ early_left size address value count n last found b h bus x s mid new far env wit
 early_left size address value count n last found b h bus x s mid new far env within below is error r (fault i y base k before shown less c p q st) =
     absurd (other_error (error_shown last) 3 1 shown error (λ e. omega (arith, e)))
 
-pub cut_place : (size : Size) (address value count found h : ℕ) (bus : BusUnit) (x : Hart) (s : Site) (old new : Tells) → BlockAt size address count x s
-    → StorePlace size address value count 1 h bus x s old.far → CutShort size address count found old new
+pub some_place : (size : Size) (address value count n more found h : ℕ) (bus : BusUnit) (x : Hart) (s : Site) (old new : Tells) → BlockAt size address count x s
+    → n + 1 + more ≤ count → StorePlace size address value count n h bus x s old.far → AskedSome size address n more found old new
     → StoreCut size address value count found h bus x s new.far
-cut_place size address value count found h bus x s old new env pl c =
-    let b : ℕ = c.n + 1 + c.again in
-    let at : StorePlace size address value count c.n h bus x s c.mid.far = runs_place size address value count h bus x s old c.n c.mid env pl c.runs in
-    let r : StoreRun size address value count c.n c.some.last h bus x s b c.some.mid.far =
-    place_asked size address value count c.n c.again c.some.last h bus x s c.mid c.some.mid env (omega (arith, c.within)) at c.some.asked in
-    early_left size address value count c.n c.some.last found b h bus x s c.some.mid new r.far env (omega (arith, c.within)) c.some.most r.is c.some.error_is
-    c.some.read r.left
+some_place size address value count n more found h bus x s old new env within pl a =
+    let r : StoreRun size address value count n a.last h bus x s (n + 1 + more) a.mid.far =
+    place_asked size address value count n more a.last h bus x s old a.mid env within pl a.asked in
+    early_left size address value count n a.last found (n + 1 + more) h bus x s a.mid new r.far env within a.most r.is a.error_is a.read r.left

@@ -16,7 +16,7 @@ use Rattle.probe_access.specs.declared.fault.AccessFault.TheVariants as fault
 use Rattle.probe_access.specs.declared.odd.OddStatus.{OddStatus}
 use Rattle.probe_access.specs.declared.odd.OddStatus.TheVariants.{Abstractcs}
 use Rattle.probe_access.specs.Blocks.{element_at}
-use Rattle.probe_access.specs.CommandRuns.{EndBehindFailed, EndedBehind, error_shown}
+use Rattle.probe_access.specs.CommandRuns.{EndBehindFailed, EndedBehind, error_shown, poll_act}
 use Rattle.probe_access.specs.Faults.{BrokeIn}
 use Rattle.probe_access.specs.RegisterAccess.{next_word, x8_number}
 use Rattle.probe_access.specs.RegisterRuns.{ReadFailed, RegisterRead, exception_error, no_error}
@@ -27,49 +27,65 @@ early_error = 1
 
 -- ---- what is asked
 
--- so many elements more
-abbrev pub again : ℕ → List Act
-again zero = []
-again (suc n) = Put data0_address 0 ∷ again n
+-- so many elements more, with looks in front of some
+pub data Again : ℕ → List Act → Type 0 where
+  nothing : Again 0 []
+  look : (n : ℕ) (acts : List Act) (word : ℕ) → Again n acts → Again n (poll_act word ∷ acts)
+  element : (n : ℕ) (acts : List Act) → Again n acts → Again (suc n) (Put data0_address 0 ∷ acts)
 
--- an element by a command, and so many more
-abbrev pub run_asked : ℕ → List Act
-run_asked more = Put abstractauto_address 1 ∷ Put command_address next_word ∷ again more
+-- behind an element by a command
+abbrev pub run_asked : List Act → List Act
+run_asked acts = Put abstractauto_address 1 ∷ Put command_address next_word ∷ acts
 
 -- in one call, with the first poll
-abbrev pub asks_of : ℕ → List DmiOp
-asks_of zero = []
-asks_of (suc n) = Write data0_address 0 ∷ asks_of n
+abbrev pub looks_of : ℕ → List DmiOp
+looks_of zero = []
+looks_of (suc n) = Read abstractcs_address ∷ looks_of n
 
-abbrev pub run_ops : ℕ → List DmiOp
-run_ops more = Write command_address next_word ∷ (asks_of more ++ Read abstractcs_address ∷ [])
+abbrev pub asks_of : ℕ → ℕ → List DmiOp
+asks_of looks zero = []
+asks_of looks (suc n) = looks_of looks ++ (Write data0_address 0 ∷ asks_of looks n)
 
--- the most that are asked for behind the first
+abbrev pub run_ops : ℕ → ℕ → List DmiOp
+run_ops looks more = Write command_address next_word ∷ (asks_of looks more ++ Read abstractcs_address ∷ [])
+
+-- the most operations of the elements behind the first, and the most looks in front of each
 abbrev pub more_most : ℕ
 more_most = 125
 
--- they were asked for, the end was shown, an error was cleared, and autoexec is off again
+abbrev pub looks_most : ℕ
+looks_most = 6
+
+-- they were asked for, the end was shown, and an error was cleared
+pub record AskedOnce (more last : ℕ) (old new : Tells) : Type 0 where
+  pub acts : List Act
+  pub are : Again more acts
+  pub ran : EndedBehind (run_asked acts) last old new
+
+-- the same, and autoexec is off again
 pub record Asked (more last : ℕ) (old new : Tells) : Type 0 where
+  pub acts : List Act
+  pub are : Again more acts
   pub mid : Tells
-  pub ran : EndedBehind (run_asked more) last old mid
+  pub ran : EndedBehind (run_asked acts) last old mid
   pub off : Did mid (Put abstractauto_address 0 ∷ []) new
 
 -- what goes before its polls
 pub data RunFront (more : ℕ) : List Act → Type 0 where
-  asked : RunFront more (run_asked more)
+  asked : (acts : List Act) → Again more acts → RunFront more (run_asked acts)
 
-abbrev pub AskingFailed : ℕ → ℕ → ℕ → Tells → Tells → AccessFault → Type 0
-AskingFailed more old_count new_count old new e =
-    EndBehindFailed (RunFront more) (Write abstractauto_address 1) (run_ops more) old_count new_count old new e
+abbrev pub AskingFailed : ℕ → ℕ → ℕ → ℕ → Tells → Tells → AccessFault → Type 0
+AskingFailed looks more old_count new_count old new e =
+    EndBehindFailed (RunFront more) (Write abstractauto_address 1) (run_ops looks more) old_count new_count old new e
 
 -- autoexec is to be switched off
 pub data Switching : List Act → Attempt → Type 0 where
   off : Switching [] (Operation (Write abstractauto_address 0))
 
-pub data AskedFailed (more old_count new_count : ℕ) (old new : Tells) (e : AccessFault) : Type 0 where
-  in_run : AskingFailed more old_count new_count old new e → AskedFailed more old_count new_count old new e
-  in_switch : (last : ℕ) (mid : Tells) → EndedBehind (run_asked more) last old mid → (why : DmiFault) → e ≡ fault.Dmi why
-      → BrokeIn Switching old_count new_count mid new.far why → AskedFailed more old_count new_count old new e
+pub data AskedFailed (looks more old_count new_count : ℕ) (old new : Tells) (e : AccessFault) : Type 0 where
+  in_run : AskingFailed looks more old_count new_count old new e → AskedFailed looks more old_count new_count old new e
+  in_switch : (last : ℕ) (mid : Tells) → AskedOnce more last old mid → (why : DmiFault) → e ≡ fault.Dmi why
+      → BrokeIn Switching old_count new_count mid new.far why → AskedFailed looks more old_count new_count old new e
 
 -- ---- how far it came
 
@@ -100,7 +116,7 @@ Unplaced size address n more x8 = (i : ℕ) → n ≤ i → i < n + 1 + more →
 
 -- a call failed; memory refused the element whose address x8 has; or an error was shown that is neither, or that x8 does not fit
 pub data RunFell (size : Size) (address n more old_count new_count : ℕ) (old new : Tells) : AccessFault → Type 0 where
-  asking : (e : AccessFault) → AskedFailed more old_count new_count old new e → RunFell size address n more old_count new_count old new e
+  asking : (e : AccessFault) (looks : ℕ) → AskedFailed looks more old_count new_count old new e → RunFell size address n more old_count new_count old new e
   finding : (e : AccessFault) (last : ℕ) (mid : Tells) → Asked more last old mid → ReadFailed x8_number old_count new_count mid new e
       → RunFell size address n more old_count new_count old new e
   refused : (found last : ℕ) (mid : Tells) → Asked more last old mid → error_shown last ≡ exception_error → n ≤ found → found < n + 1 + more
@@ -121,28 +137,3 @@ EndFell size address n more last x8 (fault.Register number) = ⊥
 EndFell size address n more last x8 fault.StillBusy = ⊥
 EndFell size address n more last x8 (fault.Run why) = ⊥
 EndFell size address n more last x8 (fault.Odd shown) = (shown ≡ Abstractcs last) × Unplaced size address n more x8
-
--- ---- runs, from the second element of a block on up to its last
-
--- whole runs: so many of the block are done, of which the first was before
-pub data RunsOn (count : ℕ) (old : Tells) : ℕ → Tells → Type 0 where
-  none : RunsOn count old 1 old
-  more : (n again : ℕ) (mid new : Tells) → n + 1 + again < count → RunsOn count old n mid → AskedAll again mid new → RunsOn count old (n + 1 + again) new
-
--- behind whole runs one that was cut short
-pub record CutShort (size : Size) (address count found : ℕ) (old new : Tells) : Type 0 where
-  pub n : ℕ
-  pub again : ℕ
-  pub mid : Tells
-  pub within : n + 1 + again < count
-  pub runs : RunsOn count old n mid
-  pub some : AskedSome size address n again found mid new
-
--- up to the block's last element; or cut short
-pub data RunsTo (size : Size) (address count : ℕ) (old : Tells) : ℕ → Tells → Type 0 where
-  whole : (n : ℕ) (new : Tells) → count ≤ n + 1 → RunsOn count old n new → RunsTo size address count old n new
-  short : (found : ℕ) (new : Tells) → CutShort size address count found old new → RunsTo size address count old found new
-
-pub data RunsFell (size : Size) (address count old_count new_count : ℕ) (old new : Tells) (e : AccessFault) : Type 0 where
-  fell : (n again : ℕ) (mid : Tells) → n + 1 + again < count → RunsOn count old n mid → RunFell size address n again old_count new_count mid new e
-      → RunsFell size address count old_count new_count old new e

@@ -10,7 +10,7 @@ use Rattle.probe_access.specs.declared.fault.AccessFault.TheVariants as fault
 use Rattle.probe_access.specs.declared.odd.OddStatus.{OddStatus}
 use Rattle.probe_run.specs.Acts.{Act, Tells}
 use Rattle.probe_run.specs.Acts.Act.{Put}
-use Rattle.probe_access.specs.AskedRuns.{CutShort, RunsFell, RunsOn}
+use Rattle.probe_access.specs.AskedRuns.{AskedAll, AskedSome, RunFell}
 use Rattle.probe_access.specs.Blocks.{element_at}
 use Rattle.probe_access.specs.CommandRuns.{CommandFailed}
 use Rattle.probe_access.specs.Faults.{Among, BrokeIn}
@@ -120,26 +120,18 @@ pub data LoadRunsFailed (size : Size) (address count : ℕ) (values : List ℕ) 
 
 -- ---- stores
 
--- the elements behind the first in whole runs; or up to one that was cut short, behind which the program is begun again
-pub data StoredInRuns (size : Size) (address count : ℕ) (old : Tells) : ℕ → Tells → Type 0 where
-  whole : (n : ℕ) (new : Tells) → RunsOn count old n new → StoredInRuns size address count old n new
-  again : (found : ℕ) (cut new : Tells) → CutShort size address count found old cut
-      → Started (store_word size) size (element_at size address found) cut new → StoredInRuns size address count old (found + 1) new
-
-pub data RunsStoreFailed (size : Size) (address count old_count new_count : ℕ) (old new : Tells) (e : AccessFault) : Type 0 where
-  in_runs : RunsFell size address count old_count new_count old new e → RunsStoreFailed size address count old_count new_count old new e
-  in_again : (found : ℕ) (cut : Tells) → CutShort size address count found old cut
-      → StartFailed (store_word size) size (element_at size address found) old_count new_count cut new e
-      → RunsStoreFailed size address count old_count new_count old new e
-
--- the value went into x9, and just so many were stored, upwards from the address, each by one command or in runs, which end in front of the block's last
+-- the value went into x9, and just so many were stored, upwards from the address, each by one command or in runs, which end in front of the block's last. Behind a
+-- run that was cut short the program is begun again, at the first element that was not stored
 pub data StoresOn (size : Size) (address value count : ℕ) (old : Tells) : ℕ → Tells → Type 0 where
   first : (one new : Tells) → RegisterWritten x9_number value old one → Started (store_word size) size address one new
       → StoresOn size address value count old 1 new
   next : (n : ℕ) (mid new : Tells) → StoresOn size address value count old n mid → RanTo [] next_word no_error mid new
       → StoresOn size address value count old (n + 1) new
-  ran : (n : ℕ) (mid new : Tells) → StoresOn size address value count old 1 mid → StoredInRuns size address count mid n new
-      → StoresOn size address value count old n new
+  ran : (n more : ℕ) (mid new : Tells) → n + 1 + more < count → StoresOn size address value count old n mid → AskedAll more mid new
+      → StoresOn size address value count old (n + 1 + more) new
+  again : (n more found : ℕ) (mid cut new : Tells) → n + 1 + more < count → StoresOn size address value count old n mid
+      → AskedSome size address n more found mid cut → Started (store_word size) size (element_at size address found) cut new
+      → StoresOn size address value count old (found + 1) new
 
 -- the elements in front were stored, and then it failed
 pub data StoresFailed (size : Size) (address value count old_count new_count : ℕ) (old new : Tells) (e : AccessFault) : Type 0 where
@@ -148,7 +140,10 @@ pub data StoresFailed (size : Size) (address value count old_count new_count : �
       → StoresFailed size address value count old_count new_count old new e
   in_next : (n : ℕ) (mid : Tells) → n < count → StoresOn size address value count old n mid
       → RunFailed [] (element_at size address n) old_count new_count mid new e → StoresFailed size address value count old_count new_count old new e
-  in_runs : (mid : Tells) → StoresOn size address value count old 1 mid → RunsStoreFailed size address count old_count new_count mid new e
+  in_run : (n more : ℕ) (mid : Tells) → n + 1 + more < count → StoresOn size address value count old n mid
+      → RunFell size address n more old_count new_count mid new e → StoresFailed size address value count old_count new_count old new e
+  in_again : (n more found : ℕ) (mid cut : Tells) → n + 1 + more < count → StoresOn size address value count old n mid
+      → AskedSome size address n more found mid cut → StartFailed (store_word size) size (element_at size address found) old_count new_count cut new e
       → StoresFailed size address value count old_count new_count old new e
 
 -- so many of the block, with x8 and x9 saved and put back

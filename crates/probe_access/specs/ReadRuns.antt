@@ -15,7 +15,7 @@ use Rattle.probe_access.specs.declared.fault.AccessFault.{AccessFault}
 use Rattle.probe_access.specs.declared.fault.AccessFault.TheVariants as fault
 use Rattle.probe_access.specs.declared.odd.OddStatus.{OddStatus}
 use Rattle.probe_access.specs.declared.odd.OddStatus.TheVariants.{Abstractcs}
-use Rattle.probe_access.specs.AskedRuns.{Switching, early_error}
+use Rattle.probe_access.specs.AskedRuns.{Switching, early_error, looks_of}
 use Rattle.probe_access.specs.Blocks.{element_at}
 use Rattle.probe_access.specs.CommandRuns.{EndBehindFailed, EndedBehind, error_shown, poll_act}
 use Rattle.probe_access.specs.Faults.{Among, BrokeIn}
@@ -36,10 +36,6 @@ abbrev pub run_reads : List Act → List Act
 run_reads reads = Put abstractauto_address 1 ∷ Put command_address next_word ∷ reads
 
 -- in one call, with the first poll
-abbrev pub looks_of : ℕ → List DmiOp
-looks_of zero = []
-looks_of (suc n) = Read abstractcs_address ∷ looks_of n
-
 abbrev pub reads_of : ℕ → ℕ → List DmiOp
 reads_of looks zero = []
 reads_of looks (suc n) = looks_of looks ++ (Read data1_address ∷ Read data0_address ∷ reads_of looks n)
@@ -50,10 +46,6 @@ load_ops looks more = Write command_address next_word ∷ (reads_of looks more +
 -- the most operations of its elements
 abbrev pub reads_most : ℕ
 reads_most = 125
-
--- the most looks in front of each
-abbrev pub looks_most : ℕ
-looks_most = 6
 
 -- the elements of the words that such operations answer, the upper word of each first
 abbrev pub pair_of : List ℕ → ℕ

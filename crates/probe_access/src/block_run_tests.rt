@@ -4,25 +4,44 @@ ghost use Rattle.std.specs.Prelude.{◌≡◌, true};
 
 use crate::fault::AccessFault;
 use crate::odd::OddStatus;
-use crate::scripted_tests::{EARLY, EXCEPTION, Fault, IDLE, UNSUPPORTED, opened, store_bytes};
+use crate::scripted_tests::{
+    EARLY, ENDED, EXCEPTION, Fault, IDLE, Loaded, UNSUPPORTED, load_bytes, opened, store_bytes,
+};
 use arrayvec::ArrayVec;
 use debug_model::ScriptedDmi;
 
 /// x8 and x9 are saved, x9 and x8 written, and the first of five elements is stored.
 const BEGUN: [u32; 9] = [0, 8, IDLE, 0, 9, IDLE, IDLE, IDLE, IDLE];
 
-/// Operations that answer these words behind the first element.
-fn begun(words: &[u32]) -> ScriptedDmi
+/// The same of a load, which leaves x9.
+const LOADING: [u32; 8] = [0, 8, IDLE, 0, 9, IDLE, IDLE, IDLE];
+
+/// Operations that answer these words, and then those.
+fn answered(front: &[u32], words: &[u32]) -> ScriptedDmi
     ensures { result.alive ≡ true }
 {
     let mut answers: ArrayVec<u32, 32> = ArrayVec::new();
-    for word in &BEGUN {
+    for word in front {
         let _room = answers.try_push(*word);
     }
     for word in words {
         let _room = answers.try_push(*word);
     }
     opened(&answers)
+}
+
+/// Operations that answer these words behind the first element.
+fn begun(words: &[u32]) -> ScriptedDmi
+    ensures { result.alive ≡ true }
+{
+    answered(&BEGUN, words)
+}
+
+/// Operations that answer these words behind the first element that is loaded.
+fn loading(words: &[u32]) -> ScriptedDmi
+    ensures { result.alive ≡ true }
+{
+    answered(&LOADING, words)
 }
 
 /// What a session is lost by that this word of `abstractcs` shows.
@@ -77,4 +96,86 @@ fn judges_what_no_run_can_end_with(rt: HostRuntime) {
     }
     let mut link = begun(&[UNSUPPORTED]);
     assert_eq!(rt; store_bytes(&mut link, 5), odd(UNSUPPORTED));
+}
+
+/// How the load of five bytes ended.
+fn loaded(end: Result<(), AccessFault>, count: usize, last: Option<u64>) -> Result<Loaded, Fault> {
+    Ok(Loaded { end, count, last })
+}
+
+// The elements 1 to 3 are loaded in one run, which reads 0 and 1; the data words then hold 2. The last is loaded by a command of its own, which hands out 3.
+#[test]
+fn loads_the_middle_of_a_block_in_one_run(rt: HostRuntime) {
+    let mut link = loading(&[
+        0, 0x10, 0, 0x11, IDLE, 0x12, 0, IDLE, 0x13, 0, 0, 0x14, IDLE, IDLE, IDLE,
+    ]);
+    assert_eq!(rt; load_bytes(&mut link, 5), loaded(Ok(()), 5, Some(0x14)));
+}
+
+// Where a word came too early x8 says how many were loaded: what was read in front of that one is handed out, and what the data words hold.
+#[test]
+fn hands_out_what_a_run_read_in_front_of_an_early_word(rt: HostRuntime) {
+    let mut link = loading(&[
+        0,
+        0x10,
+        0,
+        0x77,
+        EARLY,
+        0x11,
+        0,
+        IDLE,
+        0x8000_0003,
+        0,
+        IDLE,
+        0x12,
+        0,
+        IDLE,
+        0x13,
+        0,
+        0,
+        0x14,
+        IDLE,
+        IDLE,
+        IDLE,
+    ]);
+    assert_eq!(rt; load_bytes(&mut link, 5), loaded(Ok(()), 5, Some(0x14)));
+}
+
+#[test]
+fn hands_out_what_a_run_read_in_front_of_a_fault(rt: HostRuntime) {
+    for (made, place) in [(0, 0x8000_0001), (1, 0x8000_0002), (2, 0x8000_0003)] {
+        let mut link = loading(&[
+            0, 0x10, 0, 0x11, EXCEPTION, 0x12, 0, IDLE, place, 0, IDLE, IDLE,
+        ]);
+        let end = Err(AccessFault::Memory(u64::from(place)));
+        assert_eq!(rt;
+            load_bytes(&mut link, 5),
+            loaded(end, made + 1, Some(0x12)),
+            "{place}"
+        );
+    }
+}
+
+// x8 has the address of no element that the run can have come to, or `cmderr` is another one: nothing of the run is handed out.
+#[test]
+fn judges_what_no_run_of_loads_can_end_with(rt: HostRuntime) {
+    for place in [0, 0x8000_0000, 0x8000_0004, 0xffff_ffff] {
+        for word in [EARLY, EXCEPTION] {
+            let mut link = loading(&[0, 0x10, 0, 0x11, word, 0x12, 0, IDLE, place, 0]);
+            let end = Err(AccessFault::Odd(OddStatus::Abstractcs(word)));
+            assert_eq!(rt;
+                load_bytes(&mut link, 5),
+                loaded(end, 0, None),
+                "{place} {word}"
+            );
+        }
+    }
+    let early = Err(AccessFault::Odd(OddStatus::Abstractcs(EARLY)));
+    let mut link = loading(&[0, 0x10, 0, 0x11, EARLY, 0x12, 0, IDLE, 0x8000_0001, 0]);
+    assert_eq!(rt; load_bytes(&mut link, 5), loaded(early, 0, None));
+    let other = Err(AccessFault::Odd(OddStatus::Abstractcs(UNSUPPORTED)));
+    let mut link = loading(&[0, 0x10, 0, 0x11, UNSUPPORTED]);
+    assert_eq!(rt; load_bytes(&mut link, 5), loaded(other, 0, None));
+    let mut link = loading(&[0, 0x10, 0, 0x11]);
+    assert_eq!(rt; load_bytes(&mut link, 5), loaded(Err(ENDED), 0, None));
 }

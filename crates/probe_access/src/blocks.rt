@@ -1,6 +1,6 @@
 //! Accesses to many elements in a row.
 
-ghost use Rattle.std.specs.Prelude.{◌≡◌, ◌≤◌, ◌<◌, ◌+◌, ◌*◌, [], true, length, IfErr, IfOk, OnOk};
+ghost use Rattle.std.specs.Prelude.{◌≡◌, ◌≤◌, ◌<◌, ◌+◌, ◌*◌, [], true, length, IfErr, OnOk};
 ghost use Rattle.rv_model.specs.Memory.{is_aligned};
 ghost use Rattle.rv_model.specs.Size.{count_of};
 ghost use Rattle.debug_model.specs.Command.{most_elements, all_addresses};
@@ -9,20 +9,19 @@ ghost use Rattle.probe_access.specs.BlockCuts.{BlockLoadCut, BlockStoreCut};
 ghost use Rattle.probe_access.specs.BlockRuns.{Causes, Fetched};
 ghost use Rattle.probe_access.specs.Blocks.{BlockLoadLeft, BlockLoadedAt, BlockStoreLeft, BlockStoredAt, element_at};
 ghost use Rattle.probe_access.specs.Cuts.{IfCut, Leaves};
-ghost use Rattle.probe_access.specs.ElementRuns.{LoadRuns, LoadRunsFailed, LoadsFailed, LoadsInside, RunsStoreFailed, StoreRuns, StoreRunsFailed, StoredInRuns, StoresFailed};
-ghost use Rattle.probe_access.specs.ElementRuns.{StoresOn};
-ghost use Rattle.debug_model.specs.Kept.{CanCall, Keeps, Stands};
+ghost use Rattle.probe_access.specs.ElementRuns.{LoadRuns, LoadRunsFailed, LoadsFailed, LoadsInside, StoreRuns, StoreRunsFailed, StoresFailed, StoresOn};
+ghost use Rattle.debug_model.specs.Kept.{CanCall, Keeps};
 ghost use Rattle.probe_run.specs.Told.{Fails, OnChip, told};
 ghost use Rattle.probe_access.specs.Faults.{access_why};
 ghost use Rattle.probe_run.specs.Told.{Serving};
 
-use crate::elements::{hand_next, next_element, start_block};
+use crate::elements::{hand_next, next_element};
 use crate::fault::AccessFault;
 use crate::load_runs::load_front;
-use crate::program::{X9, store_of};
-use crate::runs::run_all;
+use crate::program::X9;
+use crate::runs::store_front;
 use crate::scratch::save_scratch;
-use crate::transfers::{read_register, write_register};
+use crate::transfers::read_register;
 use arrayvec::ArrayVec;
 use debug_model::Dmi;
 use probe_run::Halted;
@@ -73,31 +72,6 @@ fn load_elements<D: Dmi>(
     Ok(())
 }
 
-/// Stores the elements of a block behind its first in runs: how many are stored then. Where one was cut short the program is begun again, at the next element.
-fn store_runs<D: Dmi>(
-    link: &mut D,
-    size: Size,
-    address: u64,
-    count: u16,
-) -> Result<u16, AccessFault>
-    requires stands { Stands (D.seen link.old) }
-    requires some { 1 ≤ count }
-    requires room { count ≤ most_elements }
-    requires ends { address + count * count_of size ≤ all_addresses }
-    ensures ran { IfOk result (λ done. StoredInRuns size address count (told (D.seen link.old)) done (told (D.seen link.new))) }
-    ensures most { IfOk result (λ done. done ≤ count) }
-    ensures failed { IfErr result (Fails (RunsStoreFailed size address count) (D.seen link.old) (D.seen link.new)) }
-    ensures keeps { Keeps access_why (D.seen link.old) (D.seen link.new) result }
-{
-    let done = run_all(link, size, address, count)?;
-    if count - done <= 1 {
-        return Ok(done);
-    }
-    let at = element(size, address, done, count);
-    start_block(link, store_of(size), size, at)?;
-    Ok(done + 1)
-}
-
 /// Stores a value to the elements of a block by x8 and x9 of the selected hart, which it changes.
 fn store_elements<D: Dmi>(
     link: &mut D,
@@ -114,9 +88,7 @@ fn store_elements<D: Dmi>(
     ensures failed { IfErr result (Fails (StoresFailed size address value count) (D.seen link.old) (D.seen link.new)) }
     ensures keeps { Keeps access_why (D.seen link.old) (D.seen link.new) result }
 {
-    write_register(link, X9, value)?;
-    start_block(link, store_of(size), size, address)?;
-    let done = store_runs(link, size, address, count)?;
+    let done = store_front(link, size, address, count, value)?;
     'elements: for number in done..count {
         let at = element(size, address, number, count);
         next_element(link, at)?;

@@ -1,4 +1,4 @@
-//! The accesses of a block, each by one command: it hands out what x9 holds, and then executes a program that makes one access at the address in x8, and
+//! The accesses of a block, one by one: a command hands out what x9 holds, and then executes a program that makes one access at the address in x8, and
 //! raises x8 to the next element (RISC-V Debug Specification 1.0, "Program Buffer").
 
 ghost use Rattle.std.specs.Prelude.{◌≡◌, ◌≤◌, ◌<◌, ◌^◌, [], IfErr, IfOk, OnOk};

@@ -1,7 +1,7 @@
 //! Runs of a block's loads by autoexec, with no poll between: a command hands out what x9 holds and makes the access of the next element, and each read of data0
 //! takes the word that was handed out and starts it again (RISC-V Debug Specification 1.0, "Abstract Command Autoexec").
 
-ghost use Rattle.std.specs.Prelude.{◌≡◌, ◌≤◌, ◌<◌, ◌+◌, ◌*◌, ◌^◌, ◌++◌, ◌∷◌, [], length, take, drop, None, true, IfErr, IfOk, IfSome, OnOk};
+ghost use Rattle.std.specs.Prelude.{◌≡◌, ◌≤◌, ◌<◌, ◌+◌, ◌*◌, ◌^◌, ◌++◌, ◌∷◌, [], length, take, drop, None, IfErr, IfOk, IfSome, OnOk};
 ghost use Rattle.rv_model.specs.Size.{count_of};
 ghost use Rattle.debug_model.specs.Addresses.{abstractauto_address};
 ghost use Rattle.debug_model.specs.Command.{all_addresses, most_elements};
@@ -11,7 +11,7 @@ ghost use Rattle.debug_model.specs.declared.dmi_op.DmiOp.TheVariants.{Write};
 ghost use Rattle.probe_access.specs.Blocks.{element_at};
 ghost use Rattle.probe_access.specs.ElementRuns.{LoadsFailed, LoadsOn};
 ghost use Rattle.probe_access.specs.Faults.{access_why};
-ghost use Rattle.probe_access.specs.ReadRuns.{AskLoadsFailed, AskedLoads, HandedMore, HandingFailed, LoadsAsking, LoadsRead, NoneMade, load_ops, looks_most, looks_of};
+ghost use Rattle.probe_access.specs.ReadRuns.{AskLoadsFailed, AskedLoads, HandedMore, HandingFailed, LoadsAsking, LoadsRead, NoneMade, load_ops};
 ghost use Rattle.probe_access.specs.ReadRuns.{reads_most, values_read};
 ghost use Rattle.probe_run.specs.Told.{Fails, told};
 
@@ -22,43 +22,13 @@ use crate::elements::{next_command, start_block};
 use crate::fault::AccessFault;
 use crate::odd::OddStatus;
 use crate::program::{X8, element_load_of};
-use crate::runs::{BY_DATA0, EARLY, place_of, put};
+use crate::runs::{BY_DATA0, EARLY, LOOKS_MOST, Run, next_run, place_of, put, put_looks};
 use crate::transfers::{EXCEPTION, read_apart};
 use arrayvec::ArrayVec;
 use debug_model::{
     AbstractCommand, Abstractauto, Abstractcs, Data0, Data1, Dmi, DmiOp, OPERATIONS_MOST,
 };
 use rv_model::Size;
-
-/// The most operations of a run's elements: three of its call are none of theirs.
-const READS_MOST: u16 = 125;
-
-/// The most looks in front of each element.
-const LOOKS_MOST: u16 = 6;
-
-/// How many elements a run reads that may come too early.
-const TRIAL: u16 = 4;
-
-/// A run reads so many elements, with so many looks in front of each.
-#[derive(Clone, Copy)]
-struct Run {
-    more: u16,
-    looks: u16,
-}
-
-/// Puts so many looks, and answers the place behind them.
-fn put_looks(looks: u16, operations: &mut [DmiOp], at: usize) -> usize
-    requires room { at + looks ≤ length operations.old }
-    ensures put { take result operations.new ≡ take at operations.old ++ looks_of looks }
-    ensures behind { result ≡ at + looks }
-    ensures long { length operations.new ≡ length operations.old }
-{
-    let mut behind = at;
-    'looks: for _look in 0..looks {
-        behind = put(DmiOp::Read(Abstractcs::ADDRESS), operations, behind);
-    }
-    behind
-}
 
 /// Puts the operations of a run in front, and answers how many they are.
 fn fill_loads(run: Run, operations: &mut [DmiOp]) -> usize
@@ -68,11 +38,7 @@ fn fill_loads(run: Run, operations: &mut [DmiOp]) -> usize
     ensures count { result ≡ run.more * (run.looks + 2) + 3 }
     ensures long { length operations.new ≡ operations_most }
 {
-    let first = put(
-        DmiOp::Write(Abstractauto::ADDRESS, BY_DATA0),
-        operations,
-        0,
-    );
+    let first = put(DmiOp::Write(Abstractauto::ADDRESS, BY_DATA0), operations, 0);
     let mut at = put(
         DmiOp::Write(AbstractCommand::ADDRESS, next_command().word()),
         operations,
@@ -129,14 +95,7 @@ fn run_loads<D: Dmi>(
 }
 
 /// How many accesses a run made, from `least` up to `more`, by the address in x8, where so many elements were handed out before it.
-fn made_of(
-    size: Size,
-    address: u64,
-    handed: u16,
-    least: u16,
-    more: u16,
-    x8: u64,
-) -> Option<u16>
+fn made_of(size: Size, address: u64, handed: u16, least: u16, more: u16, x8: u64) -> Option<u16>
     requires few { handed + 2 + more ≤ most_elements }
     requires ends { address + (handed + 2 + more) * count_of size < 2 ^ 64 }
     ensures there { IfSome result (λ made. (least ≤ made) × (made ≤ more) × (x8 ≡ element_at size address (handed + 1 + made))) }
@@ -224,24 +183,6 @@ fn load_run<D: Dmi>(
     }
 }
 
-/// The next run, of at most so many elements.
-fn next_run(most: u16, looks: u16, trial: bool) -> Run
-    requires some { 1 ≤ most }
-    requires few { looks ≤ looks_most }
-    ensures few { result.more * (result.looks + 2) ≤ reads_most }
-    ensures within { result.more ≤ most }
-{
-    let room = if trial {
-        TRIAL
-    } else {
-        READS_MOST / (looks + 2)
-    };
-    Run {
-        more: most.min(room),
-        looks,
-    }
-}
-
 /// Loads the first element of a block, and the others in runs but for the last ones, by x8 and x9 of the selected hart, and hands out all but the one that was loaded
 /// last, which x9 holds. Where a word was read too early the next run has one more look in front of each element.
 pub fn load_front<D: Dmi>(
@@ -266,7 +207,7 @@ pub fn load_front<D: Dmi>(
     let mut trial = true;
     'runs: while looks <= LOOKS_MOST && into.len() + 3 < usize::from(count) {
         let left = count - 3 - into.len() as u16;
-        let run = next_run(left, looks, trial);
+        let run = next_run(left, looks, 2, trial);
         let whole = load_run(link, size, address, count, run, into)?;
         trial = !whole;
         if !whole {

@@ -171,10 +171,30 @@ fn steps(rt: HostRuntime) {
 
 /// How a block ended, how many elements were handed out, and the last of them.
 #[derive(Clone, Copy, Debug, PartialEq, Eq)]
-struct Loaded {
-    end: Result<(), AccessFault>,
-    count: usize,
-    last: Option<u64>,
+pub(crate) struct Loaded {
+    pub(crate) end: Result<(), AccessFault>,
+    pub(crate) count: usize,
+    pub(crate) last: Option<u64>,
+}
+
+/// Opens the chip and loads so many bytes.
+pub(crate) fn load_bytes<D: Dmi>(link: &mut D, count: u16) -> Result<Loaded, Fault>
+    requires some { 1 ≤ count }
+    requires few { count ≤ 512 }
+    requires callable { CanCall (D.seen link.old) }
+    requires loaded { IsAsLoaded (D.seen link.old).far }
+{
+    let target = connect(link)?;
+    let Seen::Halted(halted) = target.look(link, 0)? else {
+        return Err(Fault::SeenOtherwise);
+    };
+    let mut into: ArrayVec<u64, 512> = ArrayVec::new();
+    let end = load_block(link, &halted, Size::B1, 0x8000_0000, count, &mut into);
+    Ok(Loaded {
+        end,
+        count: into.len(),
+        last: into.last().copied(),
+    })
 }
 
 /// Opens the chip and loads two words.

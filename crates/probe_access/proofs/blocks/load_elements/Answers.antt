@@ -1,6 +1,5 @@
 use Rattle.std.proofs.Common.{◌∙◌, arith}
-use Rattle.probe_access.specs.ElementRuns.LoadsFailed.{in_start}
-use Rattle.probe_access.proofs.ElementCalls.{hand_more, hand_refused, hand_stops, last_stops, none_counted, none_on, start_as}
+use Rattle.probe_access.proofs.ElementCalls.{hand_more, hand_refused, hand_stops, last_stops}
 use Rattle.probe_access.proofs.RegisterCalls.{err_failed}
 use Rattle.probe_access.proofs.blocks.load_elements.Goals as goal
 

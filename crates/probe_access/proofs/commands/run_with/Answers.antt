@@ -1,4 +1,4 @@
-use Rattle.std.proofs.Common.{[], List, ℕ, slice_index_or, sym, subst, arith}
+use Rattle.std.proofs.Common.{List, ℕ, slice_index_or, sym, subst, arith}
 use Rattle.probe_run.specs.Acts.{Did}
 use Rattle.probe_run.specs.Told.{told}
 use Rattle.debug_model.specs.ModuleWords.{command_word}

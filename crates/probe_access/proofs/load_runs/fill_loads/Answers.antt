@@ -1,15 +1,21 @@
 use Rattle.std.proofs.Common.{◌∙◌, ◌++◌, ◌∷◌, ◌+◌, [], ap, arith}
 use Rattle.debug_model.specs.Addresses.{abstractauto_address, command_address, data0_address, data1_address}
 use Rattle.debug_model.specs.declared.dmi_op.DmiOp.TheVariants.{Read, Write}
-use Rattle.probe_access.specs.ReadRuns.{looks_of}
+use Rattle.probe_access.specs.AskedRuns.{looks_of}
 use Rattle.probe_access.specs.RegisterAccess.{next_word}
-use Rattle.probe_access.proofs.ReadCalls.{left_within, reads_snoc, step_within}
+use Rattle.probe_access.proofs.AskedCalls.{left_within, step_within}
+use Rattle.probe_access.proofs.ReadCalls.{reads_snoc}
 use Rattle.probe_access.proofs.load_runs.fill_loads.Goals as goal
 
 pub put_looks-looked-requires : goal.put_looks-looked-requires
 put_looks-looked-requires c =
-    omega (arith, c.elements.invariant.place, c.elements.invariant.long, c.requires.few,
-    step_within c.elements._element c.args.run.more (c.args.run.looks + 2) c.elements-test.true)
+    omega (
+      arith,
+      c.elements.invariant.place,
+      c.elements.invariant.long,
+      c.requires.few,
+      step_within c.elements._element c.args.run.more (c.args.run.looks + 2) c.elements-test.true,
+    )
 
 pub elements-preserved : goal.elements-preserved
 elements-preserved c = record {
@@ -17,7 +23,13 @@ elements-preserved c = record {
       ∙ ap (λ xs. (xs ++ Read data1_address ∷ []) ++ Read data0_address ∷ []) c.put_looks-looked.ensures.put
       ∙ ap (λ xs. ((xs ++ looks_of c.args.run.looks) ++ Read data1_address ∷ []) ++ Read data0_address ∷ []) c.elements.invariant.filled
       ∙ ap (λ xs. Write abstractauto_address 1 ∷ Write command_address next_word ∷ xs) (reads_snoc c.args.run.looks c.elements._element);
-  place = omega (arith, c.put-at-in-elements.ensures.behind, c.put-upper.ensures.behind, c.put_looks-looked.ensures.behind, c.elements.invariant.place,
-      left_within (c.elements._element + 1) (c.args.run.looks + 2) (omega arith));
+  place = omega (
+    arith,
+    c.put-at-in-elements.ensures.behind,
+    c.put-upper.ensures.behind,
+    c.put_looks-looked.ensures.behind,
+    c.elements.invariant.place,
+    left_within (c.elements._element + 1) (c.args.run.looks + 2) (omega arith),
+  );
   long = c.put-at-in-elements.ensures.long ∙ c.put-upper.ensures.long ∙ c.put_looks-looked.ensures.long ∙ c.elements.invariant.long;
 }

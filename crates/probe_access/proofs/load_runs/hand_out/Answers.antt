@@ -1,5 +1,6 @@
 use Rattle.std.proofs.Common.{◌≡◌, ◌≤◌, ◌+◌, ◌-◌, ◌*◌, length, subst, sym, arith}
-use Rattle.probe_access.proofs.ReadCalls.{handed_one, left_within}
+use Rattle.probe_access.proofs.AskedCalls.{left_within}
+use Rattle.probe_access.proofs.ReadCalls.{handed_one}
 use Rattle.probe_access.proofs.load_runs.hand_out.Goals as goal
 
 pub elements-preserved : goal.elements-preserved

@@ -1,4 +1,4 @@
-use Rattle.std.proofs.Common.{◌≡◌, ◌≤◌, ◌<◌, ◌-◌, ◌+◌, length}
+use Rattle.std.proofs.Common.{◌≡◌, ◌≤◌, ◌<◌, ◌-◌, length}
 use Rattle.debug_model.specs.Kept.{CanCall, Stands}
 use Rattle.probe_run.specs.Told.{told}
 use Rattle.probe_access.specs.ElementRuns.{LoadsOn}

@@ -1,4 +1,4 @@
-use Rattle.std.proofs.Common.{◌≡◌, ◌∙◌, ◌-◌, ◌++◌, ◌∷◌, [], List, ℕ, drop, sym, ap, subst, arith, refl}
+use Rattle.std.proofs.Common.{◌∙◌, ◌-◌, ◌++◌, ◌∷◌, [], List, ℕ, drop, sym, ap, arith, refl}
 use Rattle.debug_model.specs.declared.abstractcs.Abstractcs.{Abstractcs}
 use Rattle.probe_run.specs.Told.{told}
 use Rattle.probe_access.specs.ReadRuns.{values_read}
@@ -88,8 +88,12 @@ returns-in_ok-value-in-0-clause-handed g c =
 
 pub returns-in_ok-value-in-0-clause-most : goal.returns-in_ok-value-in-0-clause-most
 returns-in_ok-value-in-0-clause-most g c =
-    omega (arith, hand_long c.args.run.looks c.args.run.more c.in_ok-value-in-0.value c.args.into.now.items c.hand_out.new.into.items
-    (drop 2 c.deref.result.now) c.hand_out.ensures.handed, c.requires.within)
+    omega (
+      arith,
+      hand_long c.args.run.looks c.args.run.more c.in_ok-value-in-0.value c.args.into.now.items c.hand_out.new.into.items
+          (drop 2 c.deref.result.now) c.hand_out.ensures.handed,
+      c.requires.within,
+    )
 
 pub returns-in-Some-clause-handed : goal.returns-in-Some-clause-handed
 returns-in-Some-clause-handed g c =
@@ -104,8 +108,14 @@ returns-in-Some-clause-handed g c =
 
 pub returns-in-Some-clause-most : goal.returns-in-Some-clause-most
 returns-in-Some-clause-most g c =
-    omega (arith, hand_long c.args.run.looks (c.in-Some.made - 1) c.in_ok-value-in-1.value c.args.into.now.items c.hand_out-in-1.new.into.items
-    (drop 2 c.deref-in-1.result.now) c.hand_out-in-1.ensures.handed, c.requires.within, c.in-Some.ensures.there.0, c.in-Some.ensures.there.1)
+    omega (
+      arith,
+      hand_long c.args.run.looks (c.in-Some.made - 1) c.in_ok-value-in-1.value c.args.into.now.items c.hand_out-in-1.new.into.items
+          (drop 2 c.deref-in-1.result.now) c.hand_out-in-1.ensures.handed,
+      c.requires.within,
+      c.in-Some.ensures.there.0,
+      c.in-Some.ensures.there.1,
+    )
 
 pub returns-in-Some-made_of-clause-failed : goal.returns-in-Some-made_of-clause-failed
 returns-in-Some-made_of-clause-failed g c =

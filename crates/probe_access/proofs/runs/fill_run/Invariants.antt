@@ -1,4 +1,4 @@
-use Rattle.std.proofs.Common.{◌≡◌, ◌+◌, ◌∷◌, length, take}
+use Rattle.std.proofs.Common.{◌≡◌, ◌+◌, ◌*◌, ◌∷◌, length, take}
 use Rattle.debug_model.specs.Addresses.{abstractauto_address, command_address}
 use Rattle.debug_model.specs.Many.{operations_most}
 use Rattle.debug_model.specs.declared.dmi_op.DmiOp.TheVariants.{Write}
@@ -8,7 +8,7 @@ use Rattle.probe_access.proofs.runs.fill_run.Given as goal
 
 abbrev pub invariant-elements : goal.invariant-elements
 invariant-elements l = record {
-  filled : take l.at l.operations ≡ Write abstractauto_address 1 ∷ Write command_address next_word ∷ asks_of l._element;
-  place : l.at ≡ l._element + 2;
+  filled : take l.at l.operations ≡ Write abstractauto_address 1 ∷ Write command_address next_word ∷ asks_of l.fn.run.looks l._element;
+  place : l.at ≡ l._element * (l.fn.run.looks + 1) + 2;
   long : length l.operations ≡ operations_most;
 }

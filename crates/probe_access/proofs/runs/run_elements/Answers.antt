@@ -6,10 +6,10 @@ use Rattle.probe_access.proofs.runs.run_elements.Goals as goal
 pub returns-in_err-write-clause-failed : goal.returns-in_err-write-clause-failed
 returns-in_err-write-clause-failed g c =
     err_failed c.from_residual-in_err-write.result _ _ c.from_residual-in_err-write.ensures.1
-    (switch_failed c.args.more c.in_ok-last.last _ _ _ (told (g.D.Dmi.seen c.args.link.now)) (told (g.D.Dmi.seen c.ask_elements.new.link))
+    (switch_failed c.args.run.looks c.args.run.more c.in_ok-last.last _ _ _ (told (g.D.Dmi.seen c.args.link.now)) (told (g.D.Dmi.seen c.ask_elements.new.link))
     (told (g.D.Dmi.seen c.write.new.self)) c.in_err-write.field-0.0 c.in_ok-last.ensures.asked c.ask_elements.ensures.keeps.later
     c.write.ensures.keeps.later c.in_err-write.ensures.cut c.in_err-write.ensures.cause)
 
 pub returns-clause-asked : goal.returns-clause-asked
 returns-clause-asked g c =
-    switched c.args.more c.in_ok-last.last _ _ _ c.in_ok-last.ensures.asked c.in_ok-write.ensures.operated c.in_ok-write.ensures.passes
+    switched c.args.run.more c.in_ok-last.last _ _ _ c.in_ok-last.ensures.asked c.in_ok-write.ensures.operated c.in_ok-write.ensures.passes

@@ -1,4 +1,4 @@
-use Rattle.std.proofs.Common.{◌∙◌, ◌++◌, ◌∷◌, List, ℕ, [], false, slice_index_or, sym, ap, subst, arith}
+use Rattle.std.proofs.Common.{◌∙◌, ◌++◌, ◌∷◌, List, ℕ, [], slice_index_or, sym, ap, subst, arith}
 use Rattle.debug_model.specs.ModuleWords.{command_word}
 use Rattle.debug_model.specs.declared.abstractcs.Abstractcs.{Abstractcs}
 use Rattle.debug_model.specs.declared.abstract_command.AbstractCommand.{AbstractCommand}

@@ -1,9 +1,9 @@
 use Rattle.std.proofs.Common.{◌∙◌, ◌++◌, ◌∷◌, [], take, ap, append_assoc, arith}
 use Rattle.debug_model.specs.Addresses.{abstractcs_address}
 use Rattle.debug_model.specs.declared.dmi_op.DmiOp.TheVariants.{Read}
-use Rattle.probe_access.specs.ReadRuns.{looks_of}
-use Rattle.probe_access.proofs.ReadCalls.{looks_snoc}
-use Rattle.probe_access.proofs.load_runs.put_looks.Goals as goal
+use Rattle.probe_access.specs.AskedRuns.{looks_of}
+use Rattle.probe_access.proofs.AskedCalls.{looks_snoc}
+use Rattle.probe_access.proofs.runs.put_looks.Goals as goal
 
 pub looks-preserved : goal.looks-preserved
 looks-preserved c = record {

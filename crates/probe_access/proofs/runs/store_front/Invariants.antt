@@ -1,16 +1,15 @@
-use Rattle.std.proofs.Common.{◌≡◌, ◌≤◌, ◌-◌, ℕ}
+use Rattle.std.proofs.Common.{◌≡◌, ◌≤◌, ◌-◌}
 use Rattle.debug_model.specs.Kept.{CanCall, Stands}
-use Rattle.probe_access.specs.AskedRuns.{RunsOn}
 use Rattle.probe_run.specs.Told.{told}
-use Rattle.probe_access.proofs.runs.run_all.Given as goal
+use Rattle.probe_access.specs.ElementRuns.{StoresOn}
+use Rattle.probe_access.proofs.runs.store_front.Given as goal
 
 abbrev pub decreases-runs : goal.decreases-runs
 decreases-runs g l = l.count - l.done
 
 abbrev pub invariant-runs : goal.invariant-runs
 invariant-runs g l = record {
-  on : RunsOn l.fn.count (told (g.D.Dmi.seen l.fn.link)) l.done (told (g.D.Dmi.seen l.link));
-  least : 1 ≤ l.done;
+  on : StoresOn l.fn.size l.fn.address l.fn.value l.fn.count (told (g.D.Dmi.seen l.fn.link)) l.done (told (g.D.Dmi.seen l.link));
   most : l.done ≤ l.count;
   callable : CanCall (g.D.Dmi.seen l.link);
   stands : Stands (g.D.Dmi.seen l.link);

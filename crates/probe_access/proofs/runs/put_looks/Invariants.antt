@@ -1,6 +1,6 @@
 use Rattle.std.proofs.Common.{◌≡◌, ◌+◌, ◌++◌, length, take}
-use Rattle.probe_access.specs.ReadRuns.{looks_of}
-use Rattle.probe_access.proofs.load_runs.put_looks.Given as goal
+use Rattle.probe_access.specs.AskedRuns.{looks_of}
+use Rattle.probe_access.proofs.runs.put_looks.Given as goal
 
 abbrev pub invariant-looks : goal.invariant-looks
 invariant-looks l = record {

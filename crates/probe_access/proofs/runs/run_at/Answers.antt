@@ -4,24 +4,24 @@ use Rattle.probe_run.specs.Told.{told}
 use Rattle.probe_access.specs.AskedRuns.RunFell.{asking, oddly}
 use Rattle.probe_access.proofs.AskedCalls.{end_fell, fell_finding, which_error}
 use Rattle.probe_access.proofs.RegisterCalls.{err_failed}
-use Rattle.probe_access.proofs.runs.run.Goals as goal
+use Rattle.probe_access.proofs.runs.run_at.Goals as goal
 
 pub returns-in_err-last-clause-fell : goal.returns-in_err-last-clause-fell
 returns-in_err-last-clause-fell g c =
     err_failed c.from_residual.result c.in_err-last.field-0.0 _ c.from_residual.ensures.1
-    (asking c.in_err-last.field-0.0 c.in_err-last.ensures.failed)
+    (asking c.in_err-last.field-0.0 c.args.run.looks c.in_err-last.ensures.failed)
 
 pub returns-in_err-x8-in-1-clause-fell : goal.returns-in_err-x8-in-1-clause-fell
 returns-in_err-x8-in-1-clause-fell g c =
     err_failed c.from_residual-in_err-x8-in-1.result c.in_err-x8-in-1.field-0.0 _ c.from_residual-in_err-x8-in-1.ensures.1
-    (fell_finding c.args.size c.args.address c.args.done c.args.more c.in_ok-last.last _ _ _ (told (g.D.Dmi.seen c.args.link.now))
+    (fell_finding c.args.size c.args.address c.args.done c.args.run.more c.in_ok-last.last _ _ _ (told (g.D.Dmi.seen c.args.link.now))
     (told (g.D.Dmi.seen c.run_elements.new.link)) (told (g.D.Dmi.seen c.read_register.new.link)) c.in_err-x8-in-1.field-0.0
     c.in_ok-last.ensures.asked c.run_elements.ensures.keeps.later c.read_register.ensures.keeps.later c.in_err-x8-in-1.ensures.failed)
 
 pub returns-in_err-found-in-1-clause-fell : goal.returns-in_err-found-in-1-clause-fell
 returns-in_err-found-in-1-clause-fell g c =
     err_failed c.from_residual-in_err-found-in-1.result c.in_err-found-in-1.field-0.0 _ c.from_residual-in_err-found-in-1.ensures.1
-    (end_fell c.args.size c.args.address c.args.done c.args.more c.in_ok-last.last c.in_ok-x8-in-1.x8 _ _ (told (g.D.Dmi.seen c.args.link.now))
+    (end_fell c.args.size c.args.address c.args.done c.args.run.more c.in_ok-last.last c.in_ok-x8-in-1.x8 _ _ (told (g.D.Dmi.seen c.args.link.now))
     (told (g.D.Dmi.seen c.run_elements.new.link)) (told (g.D.Dmi.seen c.read_register.new.link)) c.in_err-found-in-1.field-0.0
     c.in_ok-last.ensures.asked
     (which_error c.in_ok-last.last c.from_word.result.cmderr (ap (λ (s : Abstractcs). s.cmderr) c.from_word.ensures) c.in-1.is)

@@ -1,0 +1,70 @@
+use Rattle.std.proofs.Common.{◌∙◌, arith}
+use Rattle.probe_access.specs.ElementRuns.StoresFailed.{in_start}
+use Rattle.probe_access.specs.ElementRuns.StoresOn.{first}
+use Rattle.probe_access.proofs.ElementCalls.{start_as, started_as}
+use Rattle.probe_access.proofs.StoreRunCalls.{again_failed, some_most, stores_again, stores_fell, stores_ran}
+use Rattle.probe_access.proofs.RegisterCalls.{err_failed}
+use Rattle.probe_access.proofs.runs.store_front.Goals as goal
+
+pub returns-in_err-start_block-clause-failed : goal.returns-in_err-start_block-clause-failed
+returns-in_err-start_block-clause-failed g c =
+    err_failed _ c.in_err-start_block.field-0.0 _ c.from_residual-in_err-start_block.ensures.1
+    (in_start _ c.in_ok-write_register.ensures.written
+    (start_as _ _ c.args.size c.args.address _ _ _ _ _ c.in_err-start_block.field-0.0 c.store_of.ensures c.write_register.ensures.keeps.later
+    c.start_block.ensures.keeps.later c.in_err-start_block.ensures.failed))
+
+pub runs-init : goal.runs-init
+runs-init g c = record {
+  on = first _ _ c.in_ok-write_register.ensures.written
+      (started_as _ _ c.args.size c.args.address _ _ c.store_of.ensures c.in_ok-start_block.ensures.started);
+  most = c.requires.some;
+  callable = record { alive = c.in_ok-start_block.ensures.keeps.behind.alive; link = c.in_ok-start_block.ensures.keeps.behind.link };
+  stands = c.in_ok-start_block.ensures.keeps.behind;
+  later = omega (arith, c.write_register.ensures.keeps.later, c.start_block.ensures.keeps.later);
+  fixed = c.start_block.ensures.keeps.fixed ∙ c.write_register.ensures.keeps.fixed;
+}
+
+pub returns-in_err-run_at-clause-failed : goal.returns-in_err-run_at-clause-failed
+returns-in_err-run_at-clause-failed g c =
+    err_failed _ c.in_err-run_at.field-0.0 _ c.from_residual-in_err-run_at.ensures.1
+    (stores_fell c.args.size c.args.address c.args.value c.args.count c.runs.done c.next_run-run.result.more _ _ _ _ _ _ c.in_err-run_at.field-0.0
+    (omega (arith, c.next_run-run.ensures.within, c.if-done-count.true))
+    c.runs.invariant.later c.run_at.ensures.keeps.later c.runs.invariant.on c.in_err-run_at.ensures.fell)
+
+pub runs-preserved-in-None : goal.runs-preserved-in-None
+runs-preserved-in-None g c = record {
+  on = stores_ran c.args.size c.args.address c.args.value c.args.count c.runs.done c.next_run-run.result.more c.in_ok-run_at.field-0 _ _ _ c.in-None.is
+      (omega (arith, c.next_run-run.ensures.within, c.if-done-count.true)) c.runs.invariant.on c.in_ok-run_at.ensures.ran;
+  most = omega (arith, c.next_run-run.ensures.within, c.if-done-count.true);
+  callable = record { alive = c.in_ok-run_at.ensures.keeps.behind.alive; link = c.in_ok-run_at.ensures.keeps.behind.link };
+  stands = c.in_ok-run_at.ensures.keeps.behind;
+  later = omega (arith, c.runs.invariant.later, c.run_at.ensures.keeps.later);
+  fixed = c.run_at.ensures.keeps.fixed ∙ c.runs.invariant.fixed;
+}
+
+pub returns-in_err-start_block-in-Some-clause-failed : goal.returns-in_err-start_block-in-Some-clause-failed
+returns-in_err-start_block-in-Some-clause-failed g c =
+    err_failed _ c.in_err-start_block-in-Some.field-0.0 _ c.from_residual-in_err-start_block-in-Some.ensures.1
+    (again_failed _ c.args.size c.args.address c.args.value c.args.count c.runs.done c.next_run-run.result.more c.in-Some.found c.element-at.result
+    c.in_ok-run_at.field-0 _ _ _ _ _ _ _ c.in_err-start_block-in-Some.field-0.0 c.store_of-in-Some.ensures c.element-at.ensures c.in-Some.is
+    (omega (arith, c.next_run-run.ensures.within, c.if-done-count.true))
+    (omega (arith, c.runs.invariant.later, c.run_at.ensures.keeps.later)) c.start_block-in-Some.ensures.keeps.later c.runs.invariant.on
+    c.in_ok-run_at.ensures.ran c.in_err-start_block-in-Some.ensures.failed)
+
+pub runs-preserved : goal.runs-preserved
+runs-preserved g c = record {
+  on = stores_again _ c.args.size c.args.address c.args.value c.args.count c.runs.done c.next_run-run.result.more c.in-Some.found c.element-at.result
+      c.in_ok-run_at.field-0 _ _ _ _ c.store_of-in-Some.ensures c.element-at.ensures c.in-Some.is
+      (omega (arith, c.next_run-run.ensures.within, c.if-done-count.true)) c.runs.invariant.on c.in_ok-run_at.ensures.ran c.in_ok-start_block-in-Some.ensures.started;
+  most = omega (
+    arith,
+    c.next_run-run.ensures.within,
+    c.if-done-count.true,
+    some_most c.args.size c.args.address c.runs.done c.next_run-run.result.more
+        c.in-Some.found c.in_ok-run_at.field-0 _ _ c.in-Some.is c.in_ok-run_at.ensures.ran,
+  );
+  callable = record { alive = c.in_ok-start_block-in-Some.ensures.keeps.behind.alive; link = c.in_ok-start_block-in-Some.ensures.keeps.behind.link };
+  stands = c.in_ok-start_block-in-Some.ensures.keeps.behind;
+  later = omega (arith, c.runs.invariant.later, c.run_at.ensures.keeps.later, c.start_block-in-Some.ensures.keeps.later);
+  fixed = c.start_block-in-Some.ensures.keeps.fixed ∙ c.run_at.ensures.keeps.fixed ∙ c.runs.invariant.fixed;
+}
