@@ -4,8 +4,10 @@ use Rattle.chip_server.proofs.ServedPieces.{bad_in_piece, peer_ended, piece_bad,
 use Rattle.chip_server.proofs.serving.serve_piece.Goals as goal
 
 pub returns-in-Ok-eq0-clause-served : goal.returns-in-Ok-eq0-clause-served
-returns-in-Ok-eq0-clause-served g c = peer_ended g.F.Feed.feeding g.met.F.Feed.takes_pieces c.in-Ok-eq0.field-0 _ _ _ _ _ (grind (arith,
-    common_steps)) c.requires.plain c.in-Ok-eq0.ensures.gave
+returns-in-Ok-eq0-clause-served g c = peer_ended g.F.Feed.feeding g.met.F.Feed.takes_pieces c.in-Ok-eq0.field-0 _ _ _ _ _ (grind (
+  arith,
+  common_steps,
+)) c.requires.plain c.in-Ok-eq0.ensures.gave
     c.in-Ok-eq0.ensures.took refl
 
 pub returns-in-Err-clause-served : goal.returns-in-Err-clause-served
