@@ -1,5 +1,5 @@
--- A run of loads by autoexec at a told chip: each read of data0 takes the element that the data words hold and starts the command again. A word that is read while one
--- is under way sets an error, with which no further one starts.
+-- A run of loads by autoexec at a told chip: each read of data0 takes the element that the data words hold and starts the command again. A word that
+-- is read while one is under way sets an error, with which no further one starts.
 use Rattle.std.proofs.Common.{◌≡◌, ◌∙◌, ◌++◌, ◌≤◌, ◌<◌, ◌+◌, ◌*◌, ◌%◌, ◌/◌, ◌^◌, ℕ, List, [], ◌∷◌, length, Option, Some, None, refl, sym, ap, subst, append_assoc, arith}
 use Rattle.std.proofs.Common.{append-nil, length-append}
 use Rattle.rv_model.specs.declared.size.Size.{Size}
@@ -154,7 +154,8 @@ pub record Holds (u : ℕ) (k : Kept) : Type 0 where
   pub low : k.data0 ≡ u % 2 ^ 32
   pub high : k.data1 ≡ u / 2 ^ 32
 
--- an error stands, and these were handed out or read in front of it: a word came too early, while a command was under way or before its end; or memory refused one
+-- an error stands, and these were handed out or read in front of it: a word came too early, while a command was under way or before its end; or memory
+-- refused one
 pub data Lost (e : LoadRun) (good : List ℕ) (t : Site) : Type 0 where
   busy_on : (v : ℕ) (y : Hart) (base : Site) (k : Kept) → LoadDone e good v y base → IsLoad e k → LoadStage Busy e good y k base t → Lost e good t
   refused : (v : ℕ) (y : Hart) (base : Site) (k : Kept) (before : List ℕ) → LoadDone e good v y base → IsLoad e k → Holds v k

@@ -141,7 +141,8 @@ taken_long : (read : List ℕ) (made value : ℕ) → made ≤ length read → l
 taken_long read made value few = length-append (take made read) (value ∷ []) ∙ ap (λ n. n + 1) (length-take-le made read few)
 
 run_loads_plain : (size : Size) (address count old_count new_count : ℕ) (values more : List ℕ) (old new : Tells) (e : AccessFault) → old.far ≡ None
-    → RunLoadsFailed size address count (length values) more old_count new_count old new e → PlainAt (λ a. UntoldLoad size address count (values ++ more) a new) e
+    → RunLoadsFailed size address count (length values) more old_count new_count old new e
+    → PlainAt (λ a. UntoldLoad size address count (values ++ more) a new) e
 run_loads_plain size address count old_count new_count values more old new _ none (RunLoadsFailed.asking e looks n nothing within f) =
     asking_plain (λ a. UntoldLoad size address count (values ++ more) a new) looks n old_count new_count old new e f
 run_loads_plain size address count old_count new_count values more old new _ none (RunLoadsFailed.in_words why read last mid nothing within a f) = tt

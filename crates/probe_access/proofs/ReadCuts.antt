@@ -257,7 +257,8 @@ begins_cut looks n e given v y base k (o ∷ done) op left s mid t f below d p a
 
 together_cut : (looks n : ℕ) (e : LoadRun) (given : List ℕ) (v : ℕ) (y : Hart) (base : Site) (k : Kept) (done : List Done) (op : DmiOp) (left : List DmiOp)
     (s mid t : Site) → RunFits e → length given + 1 + n < e.count → LoadDone e given v y base → IsLoad e k
-    → map op_of done ++ op ∷ left ≡ Write abstractauto_address 1 ∷ load_ops looks n → Stood e.h e.bus y base e.x k s → OperationsAt done s mid → SiteCut op mid t
+    → map op_of done ++ op ∷ left ≡ Write abstractauto_address 1 ∷ load_ops looks n → Stood e.h e.bus y base e.x k s → OperationsAt done s mid
+    → SiteCut op mid t
     → HungHere e t
 together_cut looks n e given v y base k [] op left s mid t f below d p asked st ops cut =
     let is : op ≡ Write abstractauto_address 1 = cc in

@@ -1,5 +1,5 @@
--- The end of a run of loads by autoexec at a told chip, as polls show it: all was read, or a word came too early, or memory refused an element. Behind it the error is
--- cleared and autoexec switched off.
+-- The end of a run of loads by autoexec at a told chip, as polls show it: all was read, or a word came too early, or memory refused an element. Behind
+-- it the error is cleared and autoexec switched off.
 use Rattle.std.proofs.Common.{◌≡◌, ◌∙◌, ◌++◌, ◌≤◌, ◌<◌, ◌+◌, ℕ, List, [], ◌∷◌, map, length, true, false, refl, sym, ap, subst, append_assoc, arith}
 use Rattle.std.proofs.Common.{append-nil, length-append}
 use Rattle.rv_model.specs.Board.{Hart}
@@ -91,7 +91,8 @@ run_done e given read reads v y base k s t f below d p st r acts =
 pub data ReadsEnd (e : LoadRun) (last : ℕ) (given : List ℕ) (t : Site) : Type 0 where
   all_end : (u v : ℕ) (y : Hart) (base : Site) (k : Kept) → error_shown last ≡ 0 → LoadDone e (given ++ u ∷ []) v y base → IsLoad e k → Holds u k
       → DoneAt (automatic Fine k e.h e.bus) e.h y base t → ReadsEnd e last given t
-  short_end : (good behind : List ℕ) (u v : ℕ) (y : Hart) (base : Site) (k : Kept) → error_shown last ≡ 1 → given ≡ good ++ behind → 0 < length behind → length e.front ≤ length good
+  short_end : (good behind : List ℕ) (u v : ℕ) (y : Hart) (base : Site) (k : Kept) → error_shown last ≡ 1 → given ≡ good ++ behind
+      → 0 < length behind → length e.front ≤ length good
       → LoadDone e (good ++ u ∷ []) v y base → IsLoad e k → Holds u k → DoneAt (automatic Busy k e.h e.bus) e.h y base t → ReadsEnd e last given t
   fault_end : (good behind : List ℕ) (v : ℕ) (y : Hart) (base : Site) (k : Kept) (before : List ℕ) → error_shown last ≡ 3 → given ≡ good ++ behind
       → LoadDone e good v y base → IsLoad e k → Holds v k → NextRefuses e good (passed before base).board.memory
@@ -113,7 +114,8 @@ shown_all e last given u v y base k shown t f l d p holds at =
     all_end u v y base k end.error_is d p holds end.done_at
 
 shown_short : (e : LoadRun) (last : ℕ) (given good behind : List ℕ) (u v : ℕ) (y : Hart) (base : Site) (k : Kept) (shown t : Site) → RunFits e
-    → Shown last shown t → given ≡ good ++ behind → 0 < length behind → length e.front ≤ length good → LoadDone e (good ++ u ∷ []) v y base → IsLoad e k → Holds u k
+    → Shown last shown t → given ≡ good ++ behind → 0 < length behind → length e.front ≤ length good → LoadDone e (good ++ u ∷ []) v y base
+    → IsLoad e k → Holds u k
     → DoneAt (automatic Busy k e.h e.bus) e.h y base shown → ReadsEnd e last given t
 shown_short e last given good behind u v y base k shown t f l cut more least d p holds at =
     let end : Ended 1 (automatic Busy k e.h e.bus) e.h y base last t =
@@ -219,7 +221,8 @@ reads_polled e words last given s t f below r acts not_busy =
 pub data ReadsGone (e : LoadRun) (last : ℕ) (given : List ℕ) (t : Site) : Type 0 where
   all_gone : (u v : ℕ) (y : Hart) (base : Site) (k : Kept) → error_shown last ≡ 0 → LoadDone e (given ++ u ∷ []) v y base → IsLoad e k → Holds u k
       → DoneAt (automatic Fine k e.h e.bus) e.h y base t → ReadsGone e last given t
-  short_gone : (good behind : List ℕ) (u v : ℕ) (y : Hart) (base : Site) (k : Kept) → error_shown last ≡ 1 → given ≡ good ++ behind → 0 < length behind → length e.front ≤ length good
+  short_gone : (good behind : List ℕ) (u v : ℕ) (y : Hart) (base : Site) (k : Kept) → error_shown last ≡ 1 → given ≡ good ++ behind
+      → 0 < length behind → length e.front ≤ length good
       → LoadDone e (good ++ u ∷ []) v y base → IsLoad e k → Holds u k → DoneAt (automatic Fine k e.h e.bus) e.h y base t → ReadsGone e last given t
   fault_gone : (good behind : List ℕ) (v : ℕ) (y : Hart) (base : Site) (k : Kept) (before : List ℕ) → error_shown last ≡ 3 → given ≡ good ++ behind
       → LoadDone e good v y base → IsLoad e k → Holds v k → NextRefuses e good (passed before base).board.memory
@@ -244,7 +247,8 @@ reads_gone e last given s u f (fault_end good behind v y base k before error cut
 pub data ReadsLeft (e : LoadRun) (last : ℕ) (given : List ℕ) (t : Site) : Type 0 where
   all_left : (u v : ℕ) (y : Hart) (base : Site) (k : Kept) → error_shown last ≡ 0 → LoadDone e (given ++ u ∷ []) v y base → IsLoad e k → Holds u k
       → Stood e.h e.bus y base e.x k t → ReadsLeft e last given t
-  short_left : (good behind : List ℕ) (u v : ℕ) (y : Hart) (base : Site) (k : Kept) → error_shown last ≡ 1 → given ≡ good ++ behind → 0 < length behind → length e.front ≤ length good
+  short_left : (good behind : List ℕ) (u v : ℕ) (y : Hart) (base : Site) (k : Kept) → error_shown last ≡ 1 → given ≡ good ++ behind
+      → 0 < length behind → length e.front ≤ length good
       → LoadDone e (good ++ u ∷ []) v y base → IsLoad e k → Holds u k → Stood e.h e.bus y base e.x k t → ReadsLeft e last given t
   fault_left : (good behind : List ℕ) (v : ℕ) (y : Hart) (base : Site) (k : Kept) (before : List ℕ) → error_shown last ≡ 3 → given ≡ good ++ behind
       → LoadDone e good v y base → IsLoad e k → Holds v k → NextRefuses e good (passed before base).board.memory

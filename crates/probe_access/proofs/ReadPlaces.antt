@@ -1,4 +1,5 @@
--- Where a block of loads stands behind a run by autoexec, at a told chip: the elements that were read and are right, the one that the data words hold, and one in x9.
+-- Where a block of loads stands behind a run by autoexec, at a told chip: the elements that were read and are right, the one that the data words hold,
+-- and one in x9.
 use Rattle.std.proofs.Common.{◌≡◌, ◌≢◌, ◌∙◌, ◌⊎◌, ◌++◌, ◌≤◌, ◌<◌, ◌+◌, ◌^◌, ◌%◌, ◌/◌, ℕ, List, [], ◌∷◌, length, map, take, false, Option, Some, refl, sym, ap, subst, append_assoc, arith, inl, inr}
 use Rattle.std.proofs.Common.{append-nil, length-append}
 use Rattle.std.proofs.Math.Seq.{take-append-add, take-append_seam}

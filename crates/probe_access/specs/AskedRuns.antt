@@ -1,7 +1,7 @@
 -- The calls of a run of a block's elements by autoexec: a command makes the access of the first, and each write of data0 starts it again, with no poll between.
 -- Where one came too early x8 says how far the run came.
--- RISC-V Debug Specification 1.0, "Abstract Command Autoexec" and "Abstract Control and Status" (cmderr). That the first comes by a command and that data0 starts
--- the others is this project's own choice.
+-- RISC-V Debug Specification 1.0, "Abstract Command Autoexec" and "Abstract Control and Status" (cmderr). That the first comes by a command and that
+-- data0 starts the others is this project's own choice.
 use Rattle.std.specs.Prelude.{◌≡◌, ◌≢◌, ◌⊎◌, ◌<◌, ◌≤◌, ◌+◌, ◌++◌, ◌∷◌, ℕ, zero, suc, List, [], Option, None, Some}
 use Rattle.rv_model.specs.declared.size.Size.{Size}
 use Rattle.debug_model.specs.Addresses.{abstractauto_address, abstractcs_address, command_address, data0_address}

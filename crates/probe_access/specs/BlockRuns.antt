@@ -28,8 +28,8 @@ LeavesError (Put address value) = address ≢ abstractcs_address
 
 -- the values of a run by autoexec, whose words were read with no poll between, and of the data words behind it
 pub data RunFetches : List ℕ → List Act → Type 0 where
-  -- a poll behind them showed neither a command under way nor an error, and nothing between cleared an error that a word read too early has set. Then autoexec was
-  -- switched off, and the data words were read
+  -- a poll behind them showed neither a command under way nor an error, and nothing between cleared an error that a word read too early has set. Then
+  -- autoexec was switched off, and the data words were read
   whole : (read : List ℕ) (words between double : List Act) (last low high : ℕ) → Reads read words → All LeavesError between → shows_busy last ≡ false
       → error_shown last ≡ no_error → WordsRead low high double
       → RunFetches (read ++ joined low high ∷ []) (words ++ (between ++ poll_act last ∷ Put abstractauto_address 0 ∷ double))

@@ -74,7 +74,8 @@ pub data HandFailed (old_count new_count : ℕ) (old new : Tells) : AccessFault 
       → BrokeIn (Among DoubleReads) old_count new_count mid new.far why → HandFailed old_count new_count old new (fault.Dmi why)
   oddly : (shown : OddStatus) → RanOddly [] next_word shown old new → HandFailed old_count new_count old new (fault.Odd shown)
 
--- just one more than these was loaded, upwards from the address, each by one command or in runs, which end in front of the block's last, and these were handed out
+-- just one more than these was loaded, upwards from the address, each by one command or in runs, which end in front of the block's last, and these
+-- were handed out
 pub data LoadsOn (size : Size) (address count : ℕ) (old : Tells) : List ℕ → Tells → Type 0 where
   first : (new : Tells) → Started (element_load_word size) size address old new → LoadsOn size address count old [] new
   next : (values : List ℕ) (value : ℕ) (mid new : Tells) → LoadsOn size address count old values mid → Handed no_error value mid new
@@ -120,8 +121,8 @@ pub data LoadRunsFailed (size : Size) (address count : ℕ) (values : List ℕ) 
 
 -- ---- stores
 
--- the value went into x9, and just so many were stored, upwards from the address, each by one command or in runs, which end in front of the block's last. Behind a
--- run that was cut short the program is begun again, at the first element that was not stored
+-- the value went into x9, and just so many were stored, upwards from the address, each by one command or in runs, which end in front of the block's
+-- last. Behind a run that was cut short the program is begun again, at the first element that was not stored
 pub data StoresOn (size : Size) (address value count : ℕ) (old : Tells) : ℕ → Tells → Type 0 where
   first : (one new : Tells) → RegisterWritten x9_number value old one → Started (store_word size) size address one new
       → StoresOn size address value count old 1 new

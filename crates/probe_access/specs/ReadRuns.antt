@@ -1,8 +1,8 @@
--- The calls of a run of a block's loads by autoexec: a command hands out what x9 holds and makes the access of the next element, and each read of data0 takes the
--- word that was handed out and starts the command again, with no poll between. Where a word was read too early, or memory refused an element, x8 says how many
--- accesses were made, and so which words were read in front of the error.
--- RISC-V Debug Specification 1.0, "Abstract Command Autoexec" and "Abstract Control and Status" (cmderr): with an error set no command starts. That the first comes by
--- a command, that data0 starts the others, and that looks may stand between them, is this project's own choice.
+-- The calls of a run of a block's loads by autoexec: a command hands out what x9 holds and makes the access of the next element, and each read of
+-- data0 takes the word that was handed out and starts the command again, with no poll between. Where a word was read too early, or memory refused an
+-- element, x8 says how many accesses were made, and so which words were read in front of the error.
+-- RISC-V Debug Specification 1.0, "Abstract Command Autoexec" and "Abstract Control and Status" (cmderr): with an error set no command starts. That
+-- the first comes by a command, that data0 starts the others, and that looks may stand between them, is this project's own choice.
 use Rattle.std.specs.Prelude.{◌≡◌, ◌≢◌, ◌⊎◌, ◌<◌, ◌≤◌, ◌+◌, ◌++◌, ◌∷◌, ℕ, zero, suc, List, [], length, take, drop, slice_index_or}
 use Rattle.rv_model.specs.declared.size.Size.{Size}
 use Rattle.debug_model.specs.Addresses.{abstractauto_address, abstractcs_address, command_address, data0_address, data1_address}

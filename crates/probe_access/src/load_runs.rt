@@ -1,5 +1,5 @@
-//! Runs of a block's loads by autoexec, with no poll between: a command hands out what x9 holds and makes the access of the next element, and each read of data0
-//! takes the word that was handed out and starts it again (RISC-V Debug Specification 1.0, "Abstract Command Autoexec").
+//! Runs of a block's loads by autoexec, with no poll between: a command hands out what x9 holds and makes the access of the next element, and each
+//! read of data0 takes the word that was handed out and starts it again (RISC-V Debug Specification 1.0, "Abstract Command Autoexec").
 
 ghost use Rattle.std.specs.Prelude.{◌≡◌, ◌≤◌, ◌<◌, ◌+◌, ◌*◌, ◌^◌, ◌++◌, ◌∷◌, [], length, take, drop, None, IfErr, IfOk, IfSome, OnOk};
 ghost use Rattle.rv_model.specs.Size.{count_of};
@@ -130,9 +130,9 @@ fn hand_out(
     into.push(value);
 }
 
-/// Makes the accesses of an element of a block and of those of a run behind it, with `into` and one more in front of them, and hands out as many that come before the
-/// last of them. Whether all were made: else a word was read too early, and those in front of it were. `Memory` where memory refused one: then all in front of
-/// that are handed out.
+/// Makes the accesses of an element of a block and of those of a run behind it, with `into` and one more in front of them, and hands out as many that
+/// come before the last of them. Whether all were made: else a word was read too early, and those in front of it were. `Memory` where memory refused
+/// one: then all in front of that are handed out.
 fn load_run<D: Dmi>(
     link: &mut D,
     size: Size,
@@ -183,8 +183,8 @@ fn load_run<D: Dmi>(
     }
 }
 
-/// Loads the first element of a block, and the others in runs but for the last ones, by x8 and x9 of the selected hart, and hands out all but the one that was loaded
-/// last, which x9 holds. Where a word was read too early the next run has one more look in front of each element.
+/// Loads the first element of a block, and the others in runs but for the last ones, by x8 and x9 of the selected hart, and hands out all but the one
+/// that was loaded last, which x9 holds. Where a word was read too early the next run has one more look in front of each element.
 pub fn load_front<D: Dmi>(
     link: &mut D,
     size: Size,

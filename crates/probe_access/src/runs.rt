@@ -165,8 +165,8 @@ fn end_run(
     Err(AccessFault::Memory(address + u64::from(found) * u64::from(size.count())))
 }
 
-/// Makes the accesses of an element of a block and of those of a run behind it, with `done` in front of them: how many are done then, where one was asked for too
-/// early, and else none is left. `Memory` where memory refused one.
+/// Makes the accesses of an element of a block and of those of a run behind it, with `done` in front of them: how many are done then, where one was
+/// asked for too early, and else none is left. `Memory` where memory refused one.
 fn run_at<D: Dmi>(
     link: &mut D,
     size: Size,
@@ -212,8 +212,8 @@ pub fn next_run(most: u16, looks: u16, own: u16, trial: bool) -> Run
     }
 }
 
-/// Stores a value to the first element of a block, and to the others in runs but for the last ones, by x8 and x9 of the selected hart: how many are stored then. Where
-/// one was asked for too early the program is begun again, and the next run has one more look in front of each element.
+/// Stores a value to the first element of a block, and to the others in runs but for the last ones, by x8 and x9 of the selected hart: how many are
+/// stored then. Where one was asked for too early the program is begun again, and the next run has one more look in front of each element.
 pub fn store_front<D: Dmi>(
     link: &mut D,
     size: Size,
