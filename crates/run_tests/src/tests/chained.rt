@@ -45,7 +45,9 @@ fn the_chip_is_found_at_every_place(rt: HostRuntime) -> Result<(), Fail> {
     ];
     for list in lists {
         for busy in [1, 32] {
-            let line = format!(in rt.alloc(); "both --image i --script s --busy {busy} --chain {list}")?;
+            let line = format!(in rt.alloc();
+                "both --image i --script s --busy {busy} --chain {list}"
+            )?;
             check_words(
                 &rt,
                 rt.alloc(),
