@@ -34,13 +34,13 @@ use Rattle.std.proofs.Common.{
 }
 use Rattle.std.proofs.lemmas.List.{append-nil, drop_all, length-append, length-drop, length-replicate}
 use Rattle.std.proofs.lemmas.List.Elements.{All-append, All-drop, All-replicate}
-use Rattle.std.specs.FinMap.{len}
 use Rattle.rv_model.specs.declared.cause.Cause.{Cause}
 use Rattle.rv_model.specs.Board.{Hart, halted_by_reset, reset_hart, runs}
 use Rattle.rv_model.specs.Image.{ram_size}
 use Rattle.rv_model.specs.Memory.{Bytes, IsRamSize, map_of, ram_base}
 use Rattle.rv_model.proofs.MapLemmas.{get-map_of}
-use Rattle.rv_mem.proofs.ImageLemmas.{len-map_of, with_image-map_of}
+use Rattle.rv_mem.proofs.ImageLemmas.{with_image-map_of}
+use Rattle.rv_mem.proofs.RamLemmas.{size_map_of}
 use Rattle.debug_model.specs.Chip.{Live}
 use Rattle.debug_model.proofs.LoadedHarts.{one_hart_more}
 use Rattle.debug_model.specs.Loaded.{AsLoaded, Fits, RightHarts, live, loaded_board, loaded_chip, loaded_harts, loaded_memory}
@@ -88,7 +88,9 @@ memory_is : (image : List ℕ) (ram : ℕ) → (loaded_memory image ram).bytes �
 memory_is image ram = with_image-map_of (replicate ram 0) image
 
 size_is : (image : List ℕ) (ram : ℕ) → Fits image ram → ram_size (loaded_memory image ram) ≡ ram
-size_is image ram fits = ap len (memory_is image ram) ∙ len-map_of (whole image ram) ∙ length_whole image ram fits
+size_is image ram fits =
+    ap (λ m. ram_size (record (loaded_memory image ram) { bytes = m })) (memory_is image ram)
+    ∙ size_map_of (whole image ram) (loaded_memory image ram).reserved ∙ length_whole image ram fits
 
 image_is : (image : List ℕ) (ram : ℕ) → Fits image ram → image_of (loaded_memory image ram) ≡ whole image ram
 image_is image ram fits =

@@ -14,14 +14,14 @@ use Rattle.debug_model.specs.Schedule.{RoundPlan}
 use Rattle.hart_debug.specs.Changes.{start_cause}
 use Rattle.hart_debug.specs.declared.start.Start.{Start}
 use Rattle.hart_debug.specs.declared.start.Start.TheVariants.{Running, Halted}
-use Rattle.rv_mem.proofs.ImageLemmas.{len-map_of}
+use Rattle.rv_mem.proofs.RamLemmas.{size_map_of}
 use Rattle.chip_core.specs.Loads.{IsFirst, loaded_with}
 
 pub one_hart_on : (n : ℕ) (why : Option Cause) → loaded_harts (n + 1) why ≡ loaded_harts n why ++ reset_hart n why ∷ []
 one_hart_on n why = ap (λ k. loaded_harts k why) (add-one n) ∙ one_hart_more n why
 
 pub zero_size : (n : ℕ) → ram_size (zero_memory n) ≡ n
-zero_size n = len-map_of (replicate n 0) ∙ length-replicate n 0
+zero_size n = size_map_of (replicate n 0) (zero_memory n).reserved ∙ length-replicate n 0
 
 start_known : (start : Start) → (start_cause start ≡ runs) ⊎ (start_cause start ≡ halted_by_reset)
 start_known Running = inl refl

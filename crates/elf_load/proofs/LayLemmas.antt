@@ -46,7 +46,7 @@ use Rattle.std.specs.Cmp.{nat_cmp_total, unsigned_tied}
 use Rattle.std.specs.FinMap.{get, get-insert, insert}
 use Rattle.std.specs.List.{list_any}
 use Rattle.std.specs.Ordering.{eq_by_cmp, nat_cmp}
-use Rattle.rv_model.specs.Memory.{Bytes, with_value}
+use Rattle.rv_model.specs.Memory.{Bytes, kept_byte, with_value}
 use Rattle.rv_model.specs.Size.{count_of}
 use Rattle.elf_load.specs.declared.element.Element.{Element}
 use Rattle.elf_load.specs.declared.file.Segment.{Segment}
@@ -59,9 +59,10 @@ use Rattle.elf_load.proofs.SegmentLemmas.{Lies, length-bytes_of, lies, none_behi
 
 -- ---- bytes one after another
 
+-- as writes keep them
 abbrev pub with_bytes : Bytes → ℕ → List ℕ → Bytes
 with_bytes m a [] = m
-with_bytes m a (b ∷ bytes) = with_bytes (insert m a b) (a + 1) bytes
+with_bytes m a (b ∷ bytes) = with_bytes (insert m a (kept_byte a b)) (a + 1) bytes
 
 -- each is a byte
 abbrev pub AreBytes : List ℕ → Type 0
@@ -85,23 +86,24 @@ value_laid (suc n) a m (b ∷ bytes) small enough =
     let here : b < 256 = small 0 in
     let low : (b + 256 * v) % 256 ≡ b = omega (arith, here) in
     let high : (b + 256 * v) / 256 ≡ v = omega (arith, here) in
-    ap (λ k. with_value (insert m a k) (a + 1) n ((b + 256 * v) / 256)) low ∙ ap (λ k. with_value (insert m a b) (a + 1) n k) high
-    ∙ value_laid n (a + 1) (insert m a b) bytes (behind_bytes b bytes small) (omega arith)
+    ap (λ k. with_value (insert m a (kept_byte a k)) (a + 1) n ((b + 256 * v) / 256)) low ∙ ap (λ k. with_value (insert m a (kept_byte a b)) (a + 1) n k) high
+    ∙ value_laid n (a + 1) (insert m a (kept_byte a b)) bytes (behind_bytes b bytes small) (omega arith)
 
 laid_on : (n a : ℕ) (m : Bytes) (bytes : List ℕ) → n ≤ length bytes → with_bytes m a bytes ≡ with_bytes (with_bytes m a (take n bytes)) (a + n) (drop n bytes)
 laid_on zero a m bytes enough = let e : a ≡ a + 0 = omega arith in ap (λ k. with_bytes m k bytes) e
 laid_on (suc n) a m [] enough = absurd (omega arith)
 laid_on (suc n) a m (b ∷ bytes) enough =
     let e : a + 1 + n ≡ a + suc n = omega arith in
-    laid_on n (a + 1) (insert m a b) bytes (omega arith) ∙ ap (λ k. with_bytes (with_bytes (insert m a b) (a + 1) (take n bytes)) k (drop n bytes)) e
+    laid_on n (a + 1) (insert m a (kept_byte a b)) bytes (omega arith)
+    ∙ ap (λ k. with_bytes (with_bytes (insert m a (kept_byte a b)) (a + 1) (take n bytes)) k (drop n bytes)) e
 
 -- ---- the elements of bytes
 
-single_laid : (m : Bytes) (a b : ℕ) → b < 256 → with_value m a 1 b ≡ insert m a b
-single_laid m a b small = let e : b % 256 ≡ b = omega arith in ap (λ k. insert m a k) e
+single_laid : (m : Bytes) (a b : ℕ) → b < 256 → with_value m a 1 b ≡ insert m a (kept_byte a b)
+single_laid m a b small = let e : b % 256 ≡ b = omega arith in ap (λ k. insert m a (kept_byte a k)) e
 
 single_step : (a b : ℕ) (m : Bytes) (bytes : List ℕ) → b < 256 → (a % 8 ≡ 0 → length bytes < 7)
-    → with_elements (insert m a b) (cut (a + 1) bytes) ≡ with_bytes (insert m a b) (a + 1) bytes
+    → with_elements (insert m a (kept_byte a b)) (cut (a + 1) bytes) ≡ with_bytes (insert m a (kept_byte a b)) (a + 1) bytes
     → with_elements m (cut a (b ∷ bytes)) ≡ with_bytes m a (b ∷ bytes)
 single_step a b m bytes small short behind =
     ap (with_elements m) (cut_single a b bytes short) ∙ ap (λ k. with_elements k (cut (a + 1) bytes)) (single_laid m a b small) ∙ behind
@@ -111,8 +113,8 @@ cut_laid : (most a : ℕ) (m : Bytes) (bytes : List ℕ) → length bytes ≤ mo
 cut_laid most a m [] few small = ap (with_elements m) (cut_nothing a)
 cut_laid zero a m (b ∷ bytes) few small = absurd (omega arith)
 cut_laid (suc most) a m (b ∷ bytes) few small =
-    let behind : with_elements (insert m a b) (cut (a + 1) bytes) ≡ with_bytes (insert m a b) (a + 1) bytes =
-    cut_laid most (a + 1) (insert m a b) bytes (omega arith) (behind_bytes b bytes small) in
+    let behind : with_elements (insert m a (kept_byte a b)) (cut (a + 1) bytes) ≡ with_bytes (insert m a (kept_byte a b)) (a + 1) bytes =
+    cut_laid most (a + 1) (insert m a (kept_byte a b)) bytes (omega arith) (behind_bytes b bytes small) in
     elim (cases_eq (a % 8) 0) [
       | inl aligned ↦ elim (cases_lt (length (b ∷ bytes)) 8) [
         | inl short ↦ single_step a b m bytes (small 0) (λ e. omega (arith, short)) behind
@@ -138,18 +140,19 @@ other_key q k h = unsigned_tied q k ∙ ne_eqb q k h
 get_out : (bytes : List ℕ) (a x : ℕ) (m : Bytes) → (x < a) ⊎ (a + length bytes ≤ x) → get (with_bytes m a bytes) x ≡ get m x
 get_out [] a x m h = refl
 get_out (b ∷ bytes) a x m (inl below) =
-    get_out bytes (a + 1) x (insert m a b) (inl (omega arith)) ∙ get-insert nat_cmp_total m a b x
-    ∙ ap (λ t. cond t (Some b) (get m x)) (other_key x a (λ e. omega arith))
+    get_out bytes (a + 1) x (insert m a (kept_byte a b)) (inl (omega arith)) ∙ get-insert nat_cmp_total m a (kept_byte a b) x
+    ∙ ap (λ t. cond t (Some (kept_byte a b)) (get m x)) (other_key x a (λ e. omega arith))
 get_out (b ∷ bytes) a x m (inr above) =
-    get_out bytes (a + 1) x (insert m a b) (inr (omega arith)) ∙ get-insert nat_cmp_total m a b x
-    ∙ ap (λ t. cond t (Some b) (get m x)) (other_key x a (λ e. omega arith))
+    get_out bytes (a + 1) x (insert m a (kept_byte a b)) (inr (omega arith)) ∙ get-insert nat_cmp_total m a (kept_byte a b) x
+    ∙ ap (λ t. cond t (Some (kept_byte a b)) (get m x)) (other_key x a (λ e. omega arith))
 
-get_in : (bytes : List ℕ) (a x i : ℕ) (m : Bytes) → x ≡ a + i → i < length bytes → get (with_bytes m a bytes) x ≡ Some (get_or bytes i 0)
+get_in : (bytes : List ℕ) (a x i : ℕ) (m : Bytes) → x ≡ a + i → i < length bytes → get (with_bytes m a bytes) x ≡ Some (kept_byte x (get_or bytes i 0))
 get_in [] a x i m at inside = absurd (omega arith)
 get_in (b ∷ bytes) a x zero m at inside =
-    get_out bytes (a + 1) x (insert m a b) (inl (omega arith)) ∙ get-insert nat_cmp_total m a b x
-    ∙ ap (λ t. cond t (Some b) (get m x)) (same_key x a (omega arith))
-get_in (b ∷ bytes) a x (suc i) m at inside = get_in bytes (a + 1) x i (insert m a b) (omega arith) (omega arith)
+    get_out bytes (a + 1) x (insert m a (kept_byte a b)) (inl (omega arith)) ∙ get-insert nat_cmp_total m a (kept_byte a b) x
+    ∙ ap (λ t. cond t (Some (kept_byte a b)) (get m x)) (same_key x a (omega arith))
+    ∙ ap (λ k. Some (kept_byte k b)) (omega arith)
+get_in (b ∷ bytes) a x (suc i) m at inside = get_in bytes (a + 1) x i (insert m a (kept_byte a b)) (omega arith) (omega arith)
 
 -- ---- the bytes of a segment
 
@@ -204,7 +207,7 @@ segment_laid file s m x l small =
     let whole : length bytes ≡ s.in_memory = length-bytes_of file s l in
     let b : Bool = nat_le s.address x in
     let c : Bool = nat_lt x (s.address + s.in_memory) in
-    let byte : Option ℕ = Some (byte_of file s (x - s.address)) in
+    let byte : Option ℕ = Some (kept_byte x (byte_of file s (x - s.address))) in
     let as_bytes : get (with_elements m (elements_of file s)) x ≡ get (with_bytes m s.address bytes) x =
     ap (λ k. get k x) (cut_laid (length bytes) s.address m bytes (omega arith) (bytes_small file s l small)) in
     as_bytes ∙ elim (cases_lt x s.address) [
@@ -213,7 +216,7 @@ segment_laid file s m x l small =
       | inr from ↦ elim (cases_lt x (s.address + s.in_memory)) [
         | inl inside ↦
             get_in bytes s.address x (x - s.address) m (omega (arith, from)) (omega (arith, whole, from, inside))
-            ∙ ap Some (byte_is file s (x - s.address) l (omega (arith, from, inside)))
+            ∙ ap (λ v. Some (kept_byte x v)) (byte_is file s (x - s.address) l (omega (arith, from, inside)))
             ∙ ap (λ t. cond t byte (get m x)) (sym (both b c (le-leb s.address x from) (lt-ltb x (s.address + s.in_memory) inside)))
         | inr past ↦
             get_out bytes s.address x m (inr (omega (arith, whole, past)))

@@ -2,7 +2,7 @@
 -- System V ABI, "Program Header".
 use Rattle.std.specs.Prelude.{◌≡◌, ◌+◌, ◌-◌, ◌<◌, ◌&&◌, ℕ, List, [], ◌∷◌, Option, None, Some, if◌then◌else◌, nat_le, nat_lt, slice_index}
 use Rattle.std.specs.FinMap.{get}
-use Rattle.rv_model.specs.Memory.{Bytes, with_value}
+use Rattle.rv_model.specs.Memory.{Bytes, kept_byte, with_value}
 use Rattle.rv_model.specs.Size.{count_of}
 use Rattle.elf_load.specs.declared.element.Element.{Element}
 use Rattle.elf_load.specs.declared.file.Segment.{Segment}
@@ -18,9 +18,9 @@ with_elements m (e ∷ es) = with_elements (with_value m e.address (count_of e.s
 abbrev pub byte_of : List ℕ → Segment → ℕ → ℕ
 byte_of file s i = if nat_lt i s.in_file then slice_index file (s.offset + i) else 0
 
--- what stands at an address behind a segment that is laid over what was there
+-- what stands at an address behind a segment that is laid over what was there, as a write keeps it
 abbrev pub covered : List ℕ → Segment → ℕ → Option ℕ → Option ℕ
-covered file s x was = if nat_le s.address x && nat_lt x (s.address + s.in_memory) then Some (byte_of file s (x - s.address)) else was
+covered file s x was = if nat_le s.address x && nat_lt x (s.address + s.in_memory) then Some (kept_byte x (byte_of file s (x - s.address))) else was
 
 -- and behind several, in order
 abbrev pub laid : List ℕ → List Segment → ℕ → Option ℕ → Option ℕ

@@ -5,7 +5,7 @@ ghost use Rattle.rv_model.specs.Turn.{is_ebreak_at};
 
 use rv_hart::Hart;
 use rv_mem::Ram;
-use rv_model::{Insn, Size};
+use rv_model::Insn;
 use rv_words::decode;
 
 #[tactic(auto, unfolding(rv_model::specs::Turn::is_ebreak_at))]
@@ -13,12 +13,12 @@ use rv_words::decode;
 pub fn is_ebreak_at(hart: &Hart, ram: &Ram) -> bool
     ensures { result ≡ is_ebreak_at hart.now ram.now }
 {
-    match ram.load(hart.pc(), Size::B4) {
-        Ok(word) => match decode(word as u32) {
+    match ram.fetch(hart.pc()) {
+        Some(word) => match decode(word) {
             Some(Insn::Ebreak) => true,
             Some(_) => false,
             None => false,
         },
-        Err(_) => false,
+        None => false,
     }
 }

@@ -5,7 +5,7 @@ ghost use Rattle.rv_model.specs.Execute.{exec_of};
 
 use crate::hart::{FETCH_OUTSIDE, Hart, ILLEGAL_INSTRUCTION};
 use rv_mem::Ram;
-use rv_model::{Did, Size};
+use rv_model::Did;
 use rv_words::decode;
 
 impl Hart {
@@ -16,12 +16,12 @@ impl Hart {
         ensures memory { ram.new ≡ (exec_of self.old ram.old).memory }
     {
         let pc = self.pc();
-        match ram.load(pc, Size::B4) {
-            Ok(word) => match decode(word as u32) {
+        match ram.fetch(pc) {
+            Some(word) => match decode(word) {
                 Some(insn) => self.execute(ram, insn),
                 None => self.trap(ILLEGAL_INSTRUCTION, 0),
             },
-            Err(_) => self.trap(FETCH_OUTSIDE, pc),
+            None => self.trap(FETCH_OUTSIDE, pc),
         }
     }
 }

@@ -83,12 +83,12 @@ impl Hart {
     pub fn touch(&self, ram: &Ram) -> Touch
         ensures { result ≡ touch_of self.now ram.now }
     {
-        match ram.load(self.pc(), Size::B4) {
-            Ok(word) => match decode(word as u32) {
+        match ram.fetch(self.pc()) {
+            Some(word) => match decode(word) {
                 Some(insn) => self.touch_by(insn),
                 None => touches_nothing(self),
             },
-            Err(_) => touches_nothing(self),
+            None => touches_nothing(self),
         }
     }
 }

@@ -1,6 +1,6 @@
 -- How many bytes RAM has and where they stand, and what stands in RAM with an image.
-use Rattle.std.proofs.Common.{◌≡◌, ℕ, zero, suc, ◌+◌, ◌-◌, ◌<◌, ◌≤◌, ◌↔◌, Bool, true, false, cond, List, [], ◌∷◌, ◌++◌, length, take, drop, length-append}
-use Rattle.std.proofs.Common.{length-drop, Option, Some, None, is_some, IsSome, slice_get, refl, sym, ap, ◌∙◌, inl, inr, arith, add-one}
+use Rattle.std.proofs.Common.{◌≡◌, ℕ, zero, suc, ◌+◌, ◌-◌, Bool, true, false, cond, List, [], ◌∷◌, ◌++◌, length, drop}
+use Rattle.std.proofs.Common.{Option, Some, None, is_some, slice_get, refl, sym, ap, ◌∙◌, inl, inr, arith, add-one}
 use Rattle.std.specs.FinMap as map
 use Rattle.std.specs.FinMap.{same_map, get-from_entries, get-entries, len-empty, len-insert, nat_cmp-IsAntisymmetric}
 use Rattle.std.specs.Cmp.{nat_cmp_total}
@@ -8,11 +8,9 @@ use Rattle.std.specs.Ordering.{nat_cmp, eq_by_cmp}
 use Rattle.std.specs.List.{enumerate_from}
 use Rattle.std.specs.Option.{option_or}
 use Rattle.std.proofs.Math.Seq.{drop-nil}
-use Rattle.std.proofs.lemmas.List.{length-take}
 use Rattle.std.proofs.lemmas.Bool.{cases_lt}
-use Rattle.std.proofs.lemmas.Option.{slice_get-get_or}
 use Rattle.rv_model.specs.Memory.{map_of, ram_base, Bytes}
-use Rattle.rv_model.proofs.MapLemmas.{find_below, get-map_of, get-map_of_below, get-map_of_above}
+use Rattle.rv_model.proofs.MapLemmas.{find_below, get-map_of, get-map_of_below}
 use Rattle.rv_model.specs.Image.{with_image}
 
 -- ---- RAM's bytes
@@ -32,38 +30,13 @@ pub len-map_of : (xs : List ℕ) → map.len (map_of xs) ≡ length xs
 unfolding map_of
 len-map_of xs = len_from ram_base xs
 
--- bytes that are written over all of RAM's are as many
-pub size_kept : (xs ys : List ℕ) (n : ℕ) → length xs ≡ n → length ys ≡ length xs
-    → map.len (map_of (take n (ys ++ drop (length ys) xs))) ≡ map.len (map_of xs)
-size_kept xs ys n all same =
-    let over : length (take n (ys ++ drop (length ys) xs)) ≡ length xs =
-    simp (length-take, length-append, length-drop) (omega arith) in
-    len-map_of (take n (ys ++ drop (length ys) xs)) ∙ over ∙ sym (len-map_of xs)
-
-none_is : (o : Option ℕ) → o ≡ None → IsSome o → ⊥
-none_is o e h = let k : false ≡ true = sym (ap is_some e) ∙ h in cc
-
--- a byte stands at each address of RAM and at no other
-pub has_byte : (xs : List ℕ) (a n : ℕ) → n ≡ length xs → IsSome (map.get (map_of xs) a) ↔ ((ram_base ≤ a) × (a < ram_base + n))
-has_byte xs a n e =
-    let here : IsSome (map.get (map_of xs) a) → (ram_base ≤ a) × (a < ram_base + n) = λ h. elim (cases_lt a ram_base) [
-      | inl low ↦ absurd (none_is _ (get-map_of_below xs a low) h)
-      | inr high ↦ elim (cases_lt a (ram_base + n)) [
-        | inl inside ↦ (high, inside)
-        | inr past ↦ absurd (none_is _ (get-map_of_above xs a (omega arith)) h)
-      ]
-    ] in
-    let there : (ram_base ≤ a) × (a < ram_base + n) → IsSome (map.get (map_of xs) a) = λ h.
-    ap is_some (get-map_of xs (a - ram_base) a (omega (arith, h.0)) ∙ slice_get-get_or xs (a - ram_base) 0 (omega (arith, h.0, h.1))) in
-    (here, there)
-
 -- ---- an image
 
-option_or_cond : (b : Bool) (v : ℕ) (o p : Option ℕ) → cond b (Some v) (option_or o p) ≡ option_or (cond b (Some v) o) p
+pub option_or_cond : (b : Bool) (v : ℕ) (o p : Option ℕ) → cond b (Some v) (option_or o p) ≡ option_or (cond b (Some v) o) p
 option_or_cond true v o p = refl
 option_or_cond false v o p = refl
 
-find_append : (q : ℕ) (es fs : List (ℕ × ℕ)) → map.find nat_cmp q (es ++ fs) ≡ option_or (map.find nat_cmp q es) (map.find nat_cmp q fs)
+pub find_append : (q : ℕ) (es fs : List (ℕ × ℕ)) → map.find nat_cmp q (es ++ fs) ≡ option_or (map.find nat_cmp q es) (map.find nat_cmp q fs)
 find_append q [] fs = refl
 find_append q (e ∷ es) fs =
     ap (cond (eq_by_cmp nat_cmp q e.0) (Some e.1)) (find_append q es fs)
@@ -99,5 +72,3 @@ with_image-map_of xs image =
           ∙ sym (get-map_of (image ++ drop (length image) xs) (q - ram_base) q place ∙ slice_get-over image xs (q - ram_base))
     ] in
     same_map nat_cmp_total nat_cmp-IsAntisymmetric _ _ at
-
-pub ruleset ram_lemmas = (len-map_of, has_byte)

@@ -1,2 +1,4 @@
 pub mod ByteLemmas
 pub mod ImageLemmas
+pub mod LaidLemmas
+pub mod RamLemmas

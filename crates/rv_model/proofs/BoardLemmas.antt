@@ -4,9 +4,8 @@ use Rattle.std.proofs.lemmas.List.{length-set}
 use Rattle.std.proofs.lemmas.Option.{slice_get-map}
 use Rattle.rv_model.specs.declared.insn.Insn.{Insn}
 use Rattle.rv_model.specs.declared.mem_fault.MemFault.{MemFault}
-use Rattle.rv_model.specs.declared.size.Size.TheVariants.{B4}
 use Rattle.rv_model.specs.Rows.{meaning}
-use Rattle.rv_model.specs.Memory.{Memory, loaded}
+use Rattle.rv_model.specs.Memory.{Memory, fetch_of}
 use Rattle.rv_model.specs.Core.{Core}
 use Rattle.rv_model.specs.Effects.{effect_of}
 use Rattle.rv_model.specs.Execute.{decoded, fetched, exec_of}
@@ -30,7 +29,7 @@ fetched_keeps (Err fault) c m = quiet m (traps_keeps 1 c.pc c)
 
 pub execution_keeps : ExecutionKeeps
 unfolding exec_of
-execution_keeps c m = fetched_keeps (loaded m c.pc B4) c m
+execution_keeps c m = fetched_keeps (fetch_of m c.pc) c m
 
 -- ---- one hart of several
 

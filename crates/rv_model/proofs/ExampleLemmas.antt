@@ -46,6 +46,7 @@ use Rattle.rv_model.specs.Memory.{
   value_at,
   or_outside,
   is_aligned,
+  fetch_of,
   loaded,
   store_answer,
   after_store,
@@ -84,7 +85,7 @@ reserved_words_mean_nothing = record { all_zeros = refl; all_ones = refl; branch
 -- ---- programs
 
 -- a fetched word's outcome in the place of the execution
-fetch : (c : Core) (m : Memory) (w : ℕ) (es : List Entry) → loaded m c.pc B4 ≡ Ok w
+fetch : (c : Core) (m : Memory) (w : ℕ) (es : List Entry) → fetch_of m c.pc ≡ Ok w
     → undebugged (one_hart c m) (Exec 0 ∷ es) ≡ undebugged (with_outcome 0 (fetched (Ok w) c m) (one_hart c m)) es
 unfolding exec_of
 fetch c m w es is = ap (λ r. undebugged (with_outcome 0 (fetched r c m) (one_hart c m)) es) is
@@ -101,7 +102,7 @@ writes_keep_their_bits m = refl
 
 -- ---- single instructions
 
-exec_fetched : (c : Core) (m : Memory) (r : Result ℕ MemFault) → loaded m c.pc B4 ≡ r → exec_of c m ≡ fetched r c m
+exec_fetched : (c : Core) (m : Memory) (r : Result ℕ MemFault) → fetch_of m c.pc ≡ r → exec_of c m ≡ fetched r c m
 unfolding exec_of
 exec_fetched c m r is = ap (λ r. fetched r c m) is
 

@@ -7,6 +7,8 @@ use Rattle.std.proofs.Common.{
   false,
   cond,
   ◌&&◌,
+  ◌<◌,
+  ◌≤◌,
   List,
   length,
   set,
@@ -28,13 +30,16 @@ use Rattle.std.proofs.Common.{
   inr,
 }
 use Rattle.std.specs.Prelude.{⊤}
+use Rattle.std.proofs.lemmas.Bool.{le-ltb, lt-ltb}
 use Rattle.std.proofs.lemmas.List.{length-map}
 use Rattle.std.proofs.lemmas.Option.{slice_get-map}
 use Rattle.rv_model.specs.declared.mem_fault.MemFault.{MemFault}
 use Rattle.rv_model.specs.declared.mem_fault.MemFault.TheVariants.{Misaligned, Outside}
 use Rattle.rv_model.specs.declared.size.Size.{Size}
+use Rattle.rv_model.specs.declared.size.Size.TheVariants.{B4}
 use Rattle.rv_model.specs.Size.{count_of}
-use Rattle.rv_model.specs.Memory.{Memory, value_at, with_value, is_aligned, is_inside, or_outside, loaded, store_answer, after_store, touches, kept, cleared}
+use Rattle.rv_model.specs.Memory.{Memory, fetch_of, ram_base, value_at, with_value, is_aligned, is_inside, or_outside, loaded, store_answer}
+use Rattle.rv_model.specs.Memory.{after_store, touches, kept, cleared}
 use Rattle.rv_model.specs.Laws.{answered, KeptOrCleared, RefusedStoresKeepMemory}
 use Rattle.rv_model.proofs.MapLemmas.{slice_get-set_other}
 
@@ -86,6 +91,18 @@ pub after_store_taken : (m : Memory) (a : ℕ) (size : Size) (v : ℕ) → store
     → after_store m a size v ≡ cleared (record m { bytes = with_value m.bytes a (count_of size) v }) a (count_of size)
 unfolding store_answer after_store
 after_store_taken m a size v is = chosen_taken (is_aligned a size) (is_inside m a size) _ m is
+
+-- ---- fetches
+
+-- from RAM's base on, a fetch is a load
+pub fetch_high : (m : Memory) (pc : ℕ) → ram_base ≤ pc → fetch_of m pc ≡ loaded m pc B4
+unfolding fetch_of
+fetch_high m pc high = ap (λ b. cond b (Err Outside) (loaded m pc B4)) (le-ltb pc ram_base high)
+
+-- below it there is no word
+pub fetch_low : (m : Memory) (pc : ℕ) → pc < ram_base → fetch_of m pc ≡ Err Outside
+unfolding fetch_of
+fetch_low m pc low = ap (λ b. cond b (Err Outside) (loaded m pc B4)) (lt-ltb pc ram_base low)
 
 -- ---- reservations
 

@@ -3,9 +3,8 @@ use Rattle.std.proofs.Common.{◌≡◌, ℕ, Option, Some, None, Result, Ok, Er
 use Rattle.rv_model.specs.declared.insn.Insn.{Insn}
 use Rattle.rv_model.specs.declared.insn.Insn.TheVariants.{Load}
 use Rattle.rv_model.specs.declared.mem_fault.MemFault.{MemFault}
-use Rattle.rv_model.specs.declared.size.Size.TheVariants.{B4}
 use Rattle.rv_model.specs.Core.{Core}
-use Rattle.rv_model.specs.Memory.{Memory, loaded}
+use Rattle.rv_model.specs.Memory.{Memory, fetch_of}
 use Rattle.rv_model.specs.Rows.{meaning}
 use Rattle.rv_model.specs.Touch.{touch, touch_meant, touch_fetched, touch_of}
 
@@ -24,4 +23,4 @@ touch_fetched-pc (Err fault) c = refl
 -- the address that a trigger compares with an instruction's is the core's pc
 pub touch_of-pc : (c : Core) (m : Memory) → (touch_of c m).pc ≡ c.pc
 unfolding touch_of
-touch_of-pc c m = touch_fetched-pc (loaded m c.pc B4) c
+touch_of-pc c m = touch_fetched-pc (fetch_of m c.pc) c

@@ -39,7 +39,7 @@ use Rattle.rv_model.specs.Core.{Core, offset_by, x_of}
 use Rattle.rv_model.specs.Effects.{Outcome, Step, effect, effect_of, loads_at, reserves_at, same_memory, stores_at, stores_if_reserved_at, updates_at}
 use Rattle.rv_model.specs.Execute.{decoded, exec_of, fetched}
 use Rattle.rv_model.specs.Fields.{sign_extended}
-use Rattle.rv_model.specs.Memory.{Memory, covers, loaded, store_answer}
+use Rattle.rv_model.specs.Memory.{Memory, covers, fetch_of, loaded, store_answer}
 use Rattle.rv_model.specs.Rows.{meaning}
 use Rattle.rv_model.specs.Size.{count_of}
 use Rattle.rv_model.specs.Widths.{MemoryReady}
@@ -201,4 +201,4 @@ fetched_wide (Err fault) c m w r = quiet_wide m (traps_wide 1 c.pc c w one_wide 
 
 pub exec_wide : (c : Core) (m : Memory) → CoreWide c → MemoryReady m → OutcomeWide (exec_of c m)
 unfolding exec_of
-exec_wide c m w r = fetched_wide (loaded m c.pc B4) c m w r
+exec_wide c m w r = fetched_wide (fetch_of m c.pc) c m w r

@@ -8,6 +8,7 @@ use Rattle.std.proofs.Common.{
   ◌^◌,
   ◌<◌,
   ◌&&◌,
+  ◌==◌,
   ℕ,
   zero,
   suc,
@@ -36,7 +37,8 @@ use Rattle.rv_model.specs.declared.size.Size.{Size}
 use Rattle.rv_model.specs.Effects.{after_amo, after_reserve, after_sc}
 use Rattle.rv_model.specs.declared.alu_op.AluOp.{AluOp}
 use Rattle.rv_model.specs.Core.{Core}
-use Rattle.rv_model.specs.Memory.{Bytes, Memory, after_store, is_aligned, is_inside, loaded, or_outside, value_at, with_byte, with_value}
+use Rattle.rv_model.specs.Memory.{Bytes, Memory, after_store, is_aligned, is_inside, is_msip, kept_byte, loaded, msip_size, or_outside}
+use Rattle.rv_model.specs.Memory.{value_at, with_byte, with_value}
 use Rattle.rv_model.specs.Size.{count_of}
 use Rattle.rv_model.specs.Widths.{MemoryReady}
 use Rattle.rv_model.proofs.MapLemmas.{small_with}
@@ -76,9 +78,21 @@ byte_or false b o v small old is = old v is
 insert_ready : (m : Bytes) (k b : ℕ) → b < 256 → BytesReady m → BytesReady (insert m k b)
 insert_ready m k b small ready q v is = byte_or (eq_by_cmp nat_cmp q k) b (get m q) v small (λ u at. ready q u at) (sym (get-insert nat_cmp_total m k b q) ∙ is)
 
+-- a write keeps no more of a byte than the byte
+kept_small : (a v : ℕ) → v < 256 → kept_byte a v < 256
+unfolding kept_byte
+kept_small a v h = elim (is_msip a) as (λ b. (cond b (cond (a % msip_size == 0) (v % 2) 0) v) < 256) [
+  | true ↦ elim (a % msip_size == 0) as (λ b. (cond b (v % 2) 0) < 256) [
+    | true ↦ omega arith
+    | false ↦ omega arith
+  ]
+  | false ↦ h
+]
+
 with_value_ready : (m : Bytes) (a n v : ℕ) → BytesReady m → BytesReady (with_value m a n v)
 with_value_ready m a zero v ready = ready
-with_value_ready m a (suc n) v ready = with_value_ready (insert m a (v % 256)) (a + 1) n (v / 256) (insert_ready m a (v % 256) (omega arith) ready)
+with_value_ready m a (suc n) v ready = with_value_ready (insert m a (kept_byte a (v % 256))) (a + 1) n (v / 256)
+    (insert_ready m a (kept_byte a (v % 256)) (kept_small a (v % 256) (omega arith)) ready)
 
 pub if_ready : (b : Bool) (m n : Memory) → MemoryReady m → MemoryReady n → MemoryReady (if b then m else n)
 if_ready true m n p q = p

@@ -7,10 +7,10 @@ use Rattle.rv_model.specs.declared.did.Did.TheVariants.{Retired, Trapped}
 use Rattle.rv_model.specs.declared.insn.Insn.TheVariants.{StoreConditional}
 use Rattle.rv_model.specs.declared.mem_fault.MemFault.TheVariants.{Outside}
 use Rattle.rv_model.specs.declared.size.Size.{Size}
-use Rattle.rv_model.specs.declared.size.Size.TheVariants.{B4, B8}
+use Rattle.rv_model.specs.declared.size.Size.TheVariants.{B8}
 use Rattle.rv_model.specs.declared.width.Width.TheVariants.{DoubleWord}
 use Rattle.rv_model.specs.Rows.{meaning}
-use Rattle.rv_model.specs.Memory.{Memory, loaded, store_answer, after_store, reserve, dropped}
+use Rattle.rv_model.specs.Memory.{Memory, fetch_of, loaded, store_answer, after_store, reserve, dropped}
 use Rattle.rv_model.specs.Core.{Core, reset_core, x_of}
 use Rattle.rv_model.specs.Effects.{effect_of, sets_rd}
 use Rattle.rv_model.specs.Execute.{exec_of}
@@ -30,9 +30,9 @@ pub record ReservedWordsMeanNothing : Type 0 where
 -- ---- a program: x5 = 5; again: x5 = x5 + 1; jump to again, at the start of RAM
 
 pub record HoldsCounter (m : Memory) : Type 0 where
-  pub sets : loaded m 0x80000000 B4 ≡ Ok 0x00500293
-  pub adds : loaded m 0x80000004 B4 ≡ Ok 0x00128293
-  pub jumps : loaded m 0x80000008 B4 ≡ Ok 0xffdff06f
+  pub sets : fetch_of m 0x80000000 ≡ Ok 0x00500293
+  pub adds : fetch_of m 0x80000004 ≡ Ok 0x00128293
+  pub jumps : fetch_of m 0x80000008 ≡ Ok 0xffdff06f
 
 abbrev pub one_hart : Core → Memory → Machine
 one_hart c m = record { cores = c ∷ []; memory = m }
@@ -59,7 +59,7 @@ hart_with x6 x7 = record (reset_core 0) { x = slice_set (slice_set (replicate 32
 
 -- the core steps to the second core, by the word at its pc, and memory stays as it was
 abbrev pub StepsTo : ℕ → Core → Core → Did → Type 0
-StepsTo word before after did = (m : Memory) → loaded m before.pc B4 ≡ Ok word
+StepsTo word before after did = (m : Memory) → fetch_of m before.pc ≡ Ok word
     → exec_of before m ≡ record { step = record { core = after; did = did }; memory = m }
 
 -- the word gives x5 this value, and the hart goes on
@@ -77,7 +77,7 @@ Traps word x6 x7 cause value = StepsTo word (hart_with x6 x7) (in_handler x6 x7 
 
 -- it traps at an address that it makes of x6 and x7, where memory has no byte there
 abbrev pub TrapsOutside : ℕ → ℕ → ℕ → ℕ → ℕ → Type 0
-TrapsOutside word x6 x7 cause address = (m : Memory) → loaded m 0x80000000 B4 ≡ Ok word → get m.bytes address ≡ None
+TrapsOutside word x6 x7 cause address = (m : Memory) → fetch_of m 0x80000000 ≡ Ok word → get m.bytes address ≡ None
     → exec_of (hart_with x6 x7) m ≡ record { step = record { core = in_handler x6 x7 cause address; did = Trapped cause }; memory = m }
 
 pub record Divisions : Type 0 where
@@ -99,7 +99,7 @@ pub record TrapExamples : Type 0 where
   pub write_of_mhartid : Traps 0xf1401073 0 0 2 0  -- csrrw x0, mhartid, x0
   pub no_such_register : Traps 0x7b0022f3 0 0 2 0  -- csrrs x5, dcsr, x0
   pub read_of_mhartid : Gives 0xf14022f3 0 0 0  -- csrrs x5, mhartid, x0: no write, so no trap
-  pub nothing_at_pc : (m : Memory) → loaded m 0x80000000 B4 ≡ Err Outside
+  pub nothing_at_pc : (m : Memory) → fetch_of m 0x80000000 ≡ Err Outside
       → exec_of (hart_with 0 0) m ≡ record { step = record { core = in_handler 0 0 1 0x80000000; did = Trapped 1 }; memory = m }
 
 -- ---- reservations: sc.d x5, x7, (x6)

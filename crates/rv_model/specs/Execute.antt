@@ -3,9 +3,8 @@
 use Rattle.std.specs.Prelude.{ℕ, Option, Some, None, Result, Ok, Err}
 use Rattle.rv_model.specs.declared.insn.Insn.{Insn}
 use Rattle.rv_model.specs.declared.mem_fault.MemFault.{MemFault}
-use Rattle.rv_model.specs.declared.size.Size.TheVariants.{B4}
 use Rattle.rv_model.specs.Rows.{meaning}
-use Rattle.rv_model.specs.Memory.{Memory, loaded}
+use Rattle.rv_model.specs.Memory.{Memory, fetch_of}
 use Rattle.rv_model.specs.Core.{Core}
 use Rattle.rv_model.specs.Traps.{fetch_outside, illegal_instruction}
 use Rattle.rv_model.specs.Effects.{Outcome, same_memory, traps, effect_of}
@@ -22,4 +21,4 @@ fetched (Err fault) c m = same_memory m (traps fetch_outside c.pc c)
 
 -- one instruction or one trap
 unfoldable pub exec_of : Core → Memory → Outcome
-exec_of c m = fetched (loaded m c.pc B4) c m
+exec_of c m = fetched (fetch_of m c.pc) c m

@@ -1,7 +1,8 @@
 -- Memory as a finite map from addresses to bytes, and the reservations that stand beside it, one place for each hart.
--- Unprivileged manual, "Load and Store Instructions" and "Load-Reserved/Store-Conditional Instructions"; what lies outside RAM has no byte,
--- an access is misaligned before it is outside, and a reservation is the aligned eight bytes round its address: these are this project's own choice.
-use Rattle.std.specs.Prelude.{◌≡◌, ℕ, zero, suc, ◌+◌, ◌*◌, ◌/◌, ◌%◌, ◌≤◌, Bool, false, ◌&&◌, if◌then◌else◌, nat_lt, nat_le, ◌==◌, List, map, replicate, ⊤}
+-- Unprivileged manual, "Load and Store Instructions" and "Load-Reserved/Store-Conditional Instructions"; what lies outside RAM and the harts' MSIP words
+-- has no byte, an access is misaligned before it is outside, and a reservation is the aligned eight bytes round its address: these are this project's own
+-- choice. RISC-V Advanced Core Local Interruptor Specification, "Machine-level Software Interrupt Device": the MSIP words, of which bit 0 can be written.
+use Rattle.std.specs.Prelude.{◌≡◌, ℕ, zero, suc, ◌+◌, ◌*◌, ◌/◌, ◌%◌, ◌≤◌, Bool, false, ◌&&◌, if◌then◌else◌, nat_lt, nat_le, ◌==◌, List, ◌++◌, map, replicate, ⊤}
 use Rattle.std.specs.Prelude.{Option, Some, None, is_some, Result, Ok, Err, option_map, slice_get, slice_set}
 use Rattle.std.specs.Coded.{Coded, code_by, coded×, coded_ℕ, coded_list, coded_option}
 use Rattle.std.specs.FinMap.{FinMap, code, get, insert, from_entries}
@@ -11,6 +12,7 @@ use Rattle.std.specs.Prelude.{refl}
 use Rattle.rv_model.specs.declared.mem_fault.MemFault.{MemFault}
 use Rattle.rv_model.specs.declared.mem_fault.MemFault.TheVariants.{Misaligned, Outside}
 use Rattle.rv_model.specs.declared.size.Size.{Size}
+use Rattle.rv_model.specs.declared.size.Size.TheVariants.{B4}
 use Rattle.rv_model.specs.Size.{count_of}
 
 abbrev pub Bytes : Type 0
@@ -41,6 +43,10 @@ pub record IsRamSize (size : ℕ) : Type 0 where
   pub largest : size ≤ largest_ram
   pub whole : size % page_size ≡ 0
 
+-- the map of a list of bytes, the first of which stands at a base
+unfoldable pub bytes_from : ℕ → List ℕ → Bytes
+bytes_from base xs = from_entries (enumerate_from base xs)
+
 -- the map of a list of bytes, the first of which stands at RAM's base
 unfoldable pub map_of : List ℕ → Bytes
 map_of xs = from_entries (enumerate_from ram_base xs)
@@ -51,6 +57,40 @@ hart_places = 4
 -- RAM as it is made: so many zeros, and no reservation
 abbrev pub zero_memory : ℕ → Memory
 zero_memory size = record { bytes = map_of (replicate size 0); reserved = replicate hart_places None }
+
+-- ---- the words of software interrupts
+
+-- where hart 0 has its MSIP word; the next hart has the next
+abbrev pub msip_base : ℕ
+msip_base = 0x2000000
+
+-- how many bytes an MSIP word has
+abbrev pub msip_size : ℕ
+msip_size = 4
+
+-- is an address one of the MSIP words' of the most harts?
+abbrev pub is_msip : ℕ → Bool
+is_msip a = nat_le msip_base a && nat_lt a (msip_base + msip_size * hart_places)
+
+-- what a write of a byte keeps of it: of an MSIP word bit 0, and elsewhere all
+unfoldable pub kept_byte : ℕ → ℕ → ℕ
+kept_byte a v = if is_msip a then (if a % msip_size == 0 then v % 2 else 0) else v
+
+-- the map of the MSIP words' bytes and of RAM's
+unfoldable pub laid : List ℕ → List ℕ → Bytes
+laid words xs = from_entries (enumerate_from msip_base words ++ enumerate_from ram_base xs)
+
+-- memory as it is made with MSIP words for so many harts: zeros, and no reservation
+abbrev pub msip_memory : ℕ → ℕ → Memory
+msip_memory size harts = record { bytes = laid (replicate (msip_size * harts) 0) (replicate size 0); reserved = replicate hart_places None }
+
+abbrev pub is_set : Option ℕ → Bool
+is_set (Some b) = b % 2 == 1
+is_set None = false
+
+-- a hart's software interrupt pends; it does not where the hart has no MSIP word
+abbrev pub msip_bit : Memory → ℕ → Bool
+msip_bit m h = nat_lt h hart_places && is_set (get m.bytes (msip_base + msip_size * h))
 
 -- ---- values
 
@@ -63,10 +103,10 @@ abbrev pub value_at : Bytes → ℕ → ℕ → Option ℕ
 value_at m a zero = Some 0
 value_at m a (suc n) = with_byte (get m a) (value_at m (a + 1) n)
 
--- the map with a value's lowest bytes, so many, from an address on
+-- the map with what a write keeps of a value's lowest bytes, so many, from an address on
 abbrev pub with_value : Bytes → ℕ → ℕ → ℕ → Bytes
 with_value m a zero v = m
-with_value m a (suc n) v = with_value (insert m a (v % 256)) (a + 1) n (v / 256)
+with_value m a (suc n) v = with_value (insert m a (kept_byte a (v % 256))) (a + 1) n (v / 256)
 
 abbrev pub is_aligned : ℕ → Size → Bool
 is_aligned a size = a % count_of size == 0
@@ -81,6 +121,15 @@ or_outside None = Err Outside
 
 unfoldable pub loaded : Memory → ℕ → Size → Result ℕ MemFault
 loaded m a size = if is_aligned a size then or_outside (value_at m.bytes a (count_of size)) else Err Misaligned
+
+-- the word that a hart would execute at a pc: only RAM holds instructions
+unfoldable pub fetch_of : Memory → ℕ → Result ℕ MemFault
+fetch_of m pc = if nat_lt pc ram_base then Err Outside else loaded m pc B4
+
+-- the word of a fetch, where there is one
+abbrev pub word_of : Result ℕ MemFault → Option ℕ
+word_of (Ok w) = Some w
+word_of (Err fault) = None
 
 -- ---- reservations
 

@@ -5,13 +5,12 @@ use Rattle.std.specs.Prelude.{ℕ, Option, Some, None, Result, Ok, Err}
 use Rattle.rv_model.specs.declared.touch.Touch.{Touch}
 use Rattle.rv_model.specs.declared.mem_fault.MemFault.{MemFault}
 use Rattle.rv_model.specs.declared.size.Size.{Size}
-use Rattle.rv_model.specs.declared.size.Size.TheVariants.{B4}
 use Rattle.rv_model.specs.declared.insn.Insn.{Insn}
 use Rattle.rv_model.specs.declared.insn.Insn.TheVariants.{Load, Store, LoadReserved, StoreConditional, Amo}
 use Rattle.rv_model.specs.Accesses.{load_size, width_size}
 use Rattle.rv_model.specs.Size.{count_of}
 use Rattle.rv_model.specs.Rows.{meaning}
-use Rattle.rv_model.specs.Memory.{Memory, loaded}
+use Rattle.rv_model.specs.Memory.{Memory, fetch_of}
 use Rattle.rv_model.specs.Core.{Core, x_of, offset_by}
 
 abbrev pub touches_nothing : Core → Touch
@@ -44,4 +43,4 @@ touch_fetched (Err fault) c = touches_nothing c
 
 -- what the instruction at a core's pc would read and write
 unfoldable pub touch_of : Core → Memory → Touch
-touch_of c m = touch_fetched (loaded m c.pc B4) c
+touch_of c m = touch_fetched (fetch_of m c.pc) c

@@ -8,7 +8,6 @@ use Rattle.rv_model.specs.declared.cause.Cause.TheVariants as cause
 use Rattle.rv_model.specs.declared.insn.Insn.{Insn}
 use Rattle.rv_model.specs.declared.insn.Insn.TheVariants.{Ebreak}
 use Rattle.rv_model.specs.declared.mem_fault.MemFault.{MemFault}
-use Rattle.rv_model.specs.declared.size.Size.TheVariants.{B4}
 use Rattle.rv_model.specs.declared.touch.Touch.{Touch}
 use Rattle.rv_model.specs.declared.turned.Turned.{Turned}
 use Rattle.rv_model.specs.declared.turned.Turned.TheVariants.{Idle, Resumed, Halted, Ran}
@@ -16,7 +15,7 @@ use Rattle.rv_model.specs.Board.{Board, DebugPart, Hart}
 use Rattle.rv_model.specs.Core.{Core}
 use Rattle.rv_model.specs.Effects.{Outcome}
 use Rattle.rv_model.specs.Execute.{exec_of}
-use Rattle.rv_model.specs.Memory.{Memory, loaded}
+use Rattle.rv_model.specs.Memory.{Memory, fetch_of}
 use Rattle.rv_model.specs.Rows.{meaning}
 use Rattle.rv_model.specs.Touch.{touch_of}
 use Rattle.rv_model.specs.Triggers.{counted_down, fires, marked}
@@ -47,7 +46,7 @@ is_ebreak_word (Err fault) = false
 
 -- no ebreak stands where there is no word
 unfoldable pub is_ebreak_at : Core → Memory → Bool
-is_ebreak_at c m = is_ebreak_word (loaded m c.pc B4)
+is_ebreak_at c m = is_ebreak_word (fetch_of m c.pc)
 
 -- ---- the cases of a turn, in order
 

@@ -8,6 +8,8 @@ mod hart;
 #[cfg(test)]
 mod memory;
 #[cfg(test)]
+mod msip;
+#[cfg(test)]
 mod results;
 #[cfg(test)]
 mod words;
