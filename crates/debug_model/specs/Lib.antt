@@ -22,9 +22,12 @@ pub mod Schedule
 pub mod ScriptArguments
 pub mod ScriptFault
 pub mod ScriptForms
+pub mod ScriptLines
 pub mod ScriptNumber
 pub mod ScriptText
 pub mod Signs
+pub mod SoftCommand
+pub mod SoftGrammar
 pub mod Spelling
 pub mod SystemBus
 pub mod Tap

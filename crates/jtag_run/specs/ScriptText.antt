@@ -1,7 +1,8 @@
 -- Which scripts the program runs.
 -- The language is that of docs/SCRIPT.md; the limit is this project's own.
 use Rattle.std.specs.Prelude.{◌≤◌, ℕ, List, length}
-use Rattle.debug_model.specs.Grammar.{IsReadAs, most_text}
+use Rattle.debug_model.specs.Grammar.{IsReadAs}
+use Rattle.debug_model.specs.ScriptLines.{most_text}
 use Rattle.debug_model.specs.declared.command.Command.{Command}
 
 -- the grammar reads the text as these commands

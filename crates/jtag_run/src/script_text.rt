@@ -1,5 +1,5 @@
 ghost use Rattle.std.specs.Prelude.{◌≡◌, ◌⊎◌, ◌≤◌, IfOk, IfErr, length};
-ghost use Rattle.debug_model.specs.Grammar.{most_text};
+ghost use Rattle.debug_model.specs.ScriptLines.{most_text};
 ghost use Rattle.jtag_run.specs.ScriptFault.{ScriptCause};
 ghost use Rattle.jtag_run.specs.ScriptText.{IsAcceptedText};
 

@@ -2,11 +2,13 @@ pub mod CleanLemmas
 pub mod FormLemmas
 pub mod LawLemmas
 pub mod LineLemmas
+pub mod LinesAgain
 pub mod NumberLemmas
 pub mod PrintLemmas
 pub mod ReadAgain
 pub mod ReaderLemmas
 pub mod RoundTrip
+pub mod SoftAgain
 pub mod SpellingAgain
 pub mod WordLemmas
 pub mod Places

@@ -6,7 +6,9 @@ use Rattle.std.specs.Char.{digit_char}
 use Rattle.std.proofs.lemmas.List.{take_more, map-append, append-nil}
 use Rattle.std.proofs.lemmas.Grind.{flat_map-append}
 use Rattle.debug_model.specs.declared.command.Command.{Command}
-use Rattle.debug_model.specs.Spelling.{hexadecimal, spelling, spelled_line, spelled_script}
+use Rattle.debug_model.specs.declared.soft_command.SoftCommand.{SoftCommand}
+use Rattle.debug_model.specs.SoftGrammar.{soft_spelled_script, soft_spelling}
+use Rattle.debug_model.specs.Spelling.{hexadecimal, spelling, spelled_script}
 use Rattle.debug_model.specs.ScriptText.{line_feed, space}
 use Rattle.script_lang.specs.declared.spelled.Argument.{Argument}
 use Rattle.script_lang.specs.Argument.{spelled_argument}
@@ -52,26 +54,37 @@ join_more name arguments i d h =
     ∙ ap (λ ws. join_with_byte space (name ∷ ws)) (map-append spelled_argument (take i arguments) (get_or arguments i d ∷ []))
     ∙ join_push name (map spelled_argument (take i arguments)) (spelled_argument (get_or arguments i d))
 
-pub spelled_more : (commands : List Command) (i : ℕ) (d : Command) → i < length commands
-    → spelled_script (take (i + 1) commands) ≡ spelled_script (take i commands) ++ (spelling (get_or commands i d) ++ (line_feed ∷ []))
-unfolding spelled_script
-spelled_more commands i d h =
-    ap (flat_map spelled_line) (take_more commands i d h)
-    ∙ flat_map-append spelled_line (take i commands) (get_or commands i d ∷ [])
-    ∙ ap (λ t. flat_map spelled_line (take i commands) ++ t) (append-nil (spelled_line (get_or commands i d)))
+-- one command more, in each language of commands
+pub text_step : {C : Type 0} (spelled : C → List ℕ) (commands : List C) (i : ℕ) (d : C) (before written after : List ℕ) → i < length commands
+    → before ≡ flat_map (λ c. spelled c ++ (line_feed ∷ [])) (take i commands) → written ≡ before ++ spelled (get_or commands i d)
+    → after ≡ written ++ (line_feed ∷ []) → after ≡ flat_map (λ c. spelled c ++ (line_feed ∷ [])) (take (i + 1) commands)
+text_step {C} spelled commands i d before written after h e f g =
+    let line : C → List ℕ = λ c. spelled c ++ (line_feed ∷ []) in
+    g ∙ ap (λ t. t ++ (line_feed ∷ [])) (f ∙ ap (λ t. t ++ spelled (get_or commands i d)) e)
+    ∙ append_assoc (flat_map line (take i commands)) (spelled (get_or commands i d)) (line_feed ∷ [])
+    ∙ sym (ap (flat_map line) (take_more commands i d h)
+    ∙ flat_map-append line (take i commands) (get_or commands i d ∷ [])
+    ∙ ap (λ t. flat_map line (take i commands) ++ t) (append-nil (line (get_or commands i d))))
 
 pub spelled_none : spelled_script [] ≡ []
 unfolding spelled_script
 spelled_none = refl
 
--- one command more
 pub spelled_step : (commands : List Command) (i : ℕ) (d : Command) (before written after : List ℕ) → i < length commands
     → before ≡ spelled_script (take i commands) → written ≡ before ++ spelling (get_or commands i d) → after ≡ written ++ (line_feed ∷ [])
     → after ≡ spelled_script (take (i + 1) commands)
-spelled_step commands i d before written after h e f g =
-    g ∙ ap (λ t. t ++ (line_feed ∷ [])) (f ∙ ap (λ t. t ++ spelling (get_or commands i d)) e)
-    ∙ append_assoc (spelled_script (take i commands)) (spelling (get_or commands i d)) (line_feed ∷ [])
-    ∙ sym (spelled_more commands i d h)
+unfolding spelled_script
+spelled_step commands i d before written after h e f g = text_step spelling commands i d before written after h e f g
+
+pub soft_spelled_none : soft_spelled_script [] ≡ []
+unfolding soft_spelled_script
+soft_spelled_none = refl
+
+pub soft_spelled_step : (commands : List SoftCommand) (i : ℕ) (d : SoftCommand) (before written after : List ℕ) → i < length commands
+    → before ≡ soft_spelled_script (take i commands) → written ≡ before ++ soft_spelling (get_or commands i d) → after ≡ written ++ (line_feed ∷ [])
+    → after ≡ soft_spelled_script (take (i + 1) commands)
+unfolding soft_spelled_script
+soft_spelled_step commands i d before written after h e f g = text_step soft_spelling commands i d before written after h e f g
 
 -- one argument more
 pub join_step : (name : List ℕ) (arguments : List Argument) (i : ℕ) (d : Argument) (old before parted after : List ℕ) → i < length arguments

@@ -27,8 +27,9 @@ use Rattle.debug_model.specs.ScriptArguments.{path_named, watch_kind_named, swit
 use Rattle.debug_model.specs.ScriptForms.{hart_form, step_form, wait_form, reg_value_form, reg_form, read_form, write_form, dump_form, via_form, break_form}
 use Rattle.debug_model.specs.ScriptForms.{watch_form, count_form, clear_form, ebreak_form, plain_forms, hart_forms, memory_forms, slot_forms, command_read}
 use Rattle.debug_model.specs.Spelling.{spelled_address, spelled_path, spelled_watch_kind, spelled_switch, spelled_words}
-use Rattle.debug_model.specs.Grammar.{finished, words_read}
+use Rattle.debug_model.specs.Grammar.{words_read}
 use Rattle.script_lang.proofs.CleanLemmas.{IsWord, is_name, IsWord-from_name}
+use Rattle.script_lang.proofs.LinesAgain.{words_again}
 use Rattle.script_lang.proofs.ReadAgain.{number_read-decimal_of, number_read-address}
 
 -- registers
@@ -109,7 +110,7 @@ within least most n word e low high =
     tests_hold : (a b n : ℕ) → a ≤ n → n ≤ b → (nat_le a n && nat_le n b) ≡ true
     tests_hold a b n low high = grind (arith, nat_tests)
 
-ranged_again : (least most n : ℕ) (word : List ℕ) (rest : Words) → number_read word ≡ Ok n → least ≤ n → n ≤ most
+pub ranged_again : (least most n : ℕ) (word : List ℕ) (rest : Words) → number_read word ≡ Ok n → least ≤ n → n ≤ most
     → ranged least most (word ∷ rest) ≡ Ok (n, rest)
 unfolding ranged
 ranged_again least most n word rest e low high = ap (λ t. t >>= (λ value. Ok (value, rest))) (within least most n word e low high)
@@ -180,10 +181,6 @@ pub then : {A B : Type 0} (t : Result A ScriptFault) (x : A) (f : A → Result B
 then t x f r e g = ap (λ t. t >>= f) e ∙ g
 
 -- commands
-
-words_again : (name : List ℕ) (words : Words) (command : Command) → command_read name words ≡ Ok (command, []) → words_read (name ∷ words) ≡ Ok (Some command)
-unfolding words_read finished
-words_again name words command e = ap (λ t. t >>= (λ taken. finished taken >>= (λ command. Ok (Some command)))) e
 
 hart_again : (n : ℕ) → n ≤ 1023 → hart_form (decimal n ∷ []) ≡ Ok (Hart n, [])
 unfolding hart_form
@@ -292,31 +289,31 @@ ebreak_again is_on = then _ _ _ _ (switch_again is_on []) refl
 
 pub words_read-spelled : (command : Command) → IsWithinRanges command → words_read (spelled_words command) ≡ Ok (Some command)
 unfolding command_read plain_forms hart_forms memory_forms slot_forms
-words_read-spelled Idcode h = words_again (codes "idcode") [] Idcode refl
-words_read-spelled (Hart n) h = words_again (codes "hart") (decimal n ∷ []) (Hart n) (hart_again n h)
-words_read-spelled State h = words_again (codes "state") [] State refl
-words_read-spelled Halt h = words_again (codes "halt") [] Halt refl
-words_read-spelled Resume h = words_again (codes "resume") [] Resume refl
-words_read-spelled (Step n) h = words_again (codes "step") (decimal n ∷ []) (Step n) (step_again n h.0 h.1)
-words_read-spelled (Wait n) h = words_again (codes "wait") (decimal n ∷ []) (Wait n) (wait_again n h.0 h.1)
-words_read-spelled Regs h = words_again (codes "regs") [] Regs refl
-words_read-spelled (Reg register) h = words_again (codes "reg") (name_of_register register.0 ∷ []) (Reg register) (reg_again register h)
+words_read-spelled Idcode h = words_again command_read (codes "idcode") [] Idcode refl
+words_read-spelled (Hart n) h = words_again command_read (codes "hart") (decimal n ∷ []) (Hart n) (hart_again n h)
+words_read-spelled State h = words_again command_read (codes "state") [] State refl
+words_read-spelled Halt h = words_again command_read (codes "halt") [] Halt refl
+words_read-spelled Resume h = words_again command_read (codes "resume") [] Resume refl
+words_read-spelled (Step n) h = words_again command_read (codes "step") (decimal n ∷ []) (Step n) (step_again n h.0 h.1)
+words_read-spelled (Wait n) h = words_again command_read (codes "wait") (decimal n ∷ []) (Wait n) (wait_again n h.0 h.1)
+words_read-spelled Regs h = words_again command_read (codes "regs") [] Regs refl
+words_read-spelled (Reg register) h = words_again command_read (codes "reg") (name_of_register register.0 ∷ []) (Reg register) (reg_again register h)
 words_read-spelled (SetReg register value) h =
-    words_again (codes "reg") (name_of_register register.0 ∷ spelled_address value ∷ []) (SetReg register value) (set_reg_again register value h.0 h.1)
+    words_again command_read (codes "reg") (name_of_register register.0 ∷ spelled_address value ∷ []) (SetReg register value) (set_reg_again register value h.0 h.1)
 words_read-spelled (Read size address count) h =
-    words_again (codes "read") (decimal (count_of size) ∷ spelled_address address ∷ decimal count ∷ []) (Read size address count)
+    words_again command_read (codes "read") (decimal (count_of size) ∷ spelled_address address ∷ decimal count ∷ []) (Read size address count)
     (read_again size address count h)
 words_read-spelled (Write size address value count) h =
-    words_again (codes "write") (decimal (count_of size) ∷ spelled_address address ∷ spelled_address value ∷ decimal count ∷ [])
+    words_again command_read (codes "write") (decimal (count_of size) ∷ spelled_address address ∷ spelled_address value ∷ decimal count ∷ [])
     (Write size address value count) (write_again size address value count h.0 h.1)
 words_read-spelled (Dump address count) h =
-    words_again (codes "dump") (spelled_address address ∷ decimal count ∷ []) (Dump address count) (dump_again address count h)
-words_read-spelled (Via path) h = words_again (codes "via") (spelled_path path ∷ []) (Via path) (via_again path)
-words_read-spelled (Break address) h = words_again (codes "break") (spelled_address address ∷ []) (Break address) (break_again address h)
-words_read-spelled (Watch kind address) h = words_again (codes "watch") (spelled_watch_kind kind ∷ spelled_address address ∷ []) (Watch kind address)
+    words_again command_read (codes "dump") (spelled_address address ∷ decimal count ∷ []) (Dump address count) (dump_again address count h)
+words_read-spelled (Via path) h = words_again command_read (codes "via") (spelled_path path ∷ []) (Via path) (via_again path)
+words_read-spelled (Break address) h = words_again command_read (codes "break") (spelled_address address ∷ []) (Break address) (break_again address h)
+words_read-spelled (Watch kind address) h = words_again command_read (codes "watch") (spelled_watch_kind kind ∷ spelled_address address ∷ []) (Watch kind address)
     (watch_again kind address h)
-words_read-spelled (Count n) h = words_again (codes "count") (decimal n ∷ []) (Count n) (turns_again n h.0 h.1)
-words_read-spelled (Clear n) h = words_again (codes "clear") (decimal n ∷ []) (Clear n) (clear_again n h)
-words_read-spelled Slots h = words_again (codes "slots") [] Slots refl
-words_read-spelled (Ebreak is_on) h = words_again (codes "ebreak") (spelled_switch is_on ∷ []) (Ebreak is_on) (ebreak_again is_on)
-words_read-spelled End h = words_again (codes "end") [] End refl
+words_read-spelled (Count n) h = words_again command_read (codes "count") (decimal n ∷ []) (Count n) (turns_again n h.0 h.1)
+words_read-spelled (Clear n) h = words_again command_read (codes "clear") (decimal n ∷ []) (Clear n) (clear_again n h)
+words_read-spelled Slots h = words_again command_read (codes "slots") [] Slots refl
+words_read-spelled (Ebreak is_on) h = words_again command_read (codes "ebreak") (spelled_switch is_on ∷ []) (Ebreak is_on) (ebreak_again is_on)
+words_read-spelled End h = words_again command_read (codes "end") [] End refl

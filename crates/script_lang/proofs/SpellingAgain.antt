@@ -18,16 +18,18 @@ use Rattle.debug_model.specs.declared.command.WatchKind.TheVariants.{Load, Store
 use Rattle.debug_model.specs.declared.command.Command.{Command}
 use Rattle.debug_model.specs.declared.command.Command.TheVariants.{Idcode, Hart, State, Halt, Resume, Step, Wait, Regs, Reg, SetReg, Read, Write, Dump, Via}
 use Rattle.debug_model.specs.declared.command.Command.TheVariants.{Break, Watch, Count, Clear, Slots, Ebreak, End}
-use Rattle.debug_model.specs.declared.script_error.ScriptFault.TheVariants.{NotAscii}
 use Rattle.debug_model.specs.Command.{IsWithinRanges, most_commands}
 use Rattle.debug_model.specs.Registers.{name_of_register}
+use Rattle.debug_model.specs.ScriptForms.{command_read}
 use Rattle.debug_model.specs.ScriptText.{is_plain, is_not_empty, words_of, content_of, lines_of, line_feed, space}
-use Rattle.debug_model.specs.Grammar.{words_read, line_read, most_text, AreReadAs, IsReadAs}
+use Rattle.debug_model.specs.Grammar.{line_read, AreReadAs, IsReadAs}
+use Rattle.debug_model.specs.ScriptLines.{most_text}
 use Rattle.debug_model.specs.Spelling.{hexadecimal, spelled_address, spelled_path, spelled_watch_kind, spelled_switch, spelled_words, spelling}
 use Rattle.debug_model.specs.Spelling.{spelled_line, spelled_script}
 use Rattle.script_lang.proofs.CleanLemmas.{IsWord, IsWordByte, IsLineByte, IsWordByte-from_range, IsWord-from_name, longest_word, line_of_words}
 use Rattle.script_lang.proofs.CleanLemmas.{length-line_of_words, content_of-plain, is_plain-line, words_of-joined, lines_of-line}
 use Rattle.script_lang.proofs.ReadAgain.{length-hexadecimal, AllDigits-hexadecimal}
+use Rattle.script_lang.proofs.LinesAgain.{IsReadIn-spelled, Spells, line_again}
 use Rattle.script_lang.proofs.RoundTrip.{IsWord-register, words_read-spelled}
 
 -- each spelled word is a word
@@ -63,7 +65,7 @@ decimal_word n small =
           digits_are_word_bytes 10 (decimal n) (omega arith) numeral.1;
     }
 
-address_word : (n : ℕ) → IsWord (spelled_address n)
+pub address_word : (n : ℕ) → IsWord (spelled_address n)
 address_word n = record {
   some = refl;
   few = omega (arith, length-hexadecimal 16 n);
@@ -94,7 +96,7 @@ switch_word false = IsWord-from_name (codes "off") refl
 one : (v : List ℕ) → IsWord v → All IsWord (v ∷ [])
 one v h = All-cons IsWord v [] h (All-nil IsWord)
 
-two : (v w : List ℕ) → IsWord v → IsWord w → All IsWord (v ∷ w ∷ [])
+pub two : (v w : List ℕ) → IsWord v → IsWord w → All IsWord (v ∷ w ∷ [])
 two v w h i = All-cons IsWord v (w ∷ []) h (one w i)
 
 three : (v w x : List ℕ) → IsWord v → IsWord w → IsWord x → All IsWord (v ∷ w ∷ x ∷ [])
@@ -103,7 +105,7 @@ three v w x h i j = All-cons IsWord v (w ∷ x ∷ []) h (two w x i j)
 name : (word : List ℕ) → IsWord word → (words : List (List ℕ)) → All IsWord words → All IsWord (word ∷ words)
 name word h words hs = All-cons IsWord word words h hs
 
-are_words : (command : Command) → IsWithinRanges command → All IsWord (spelled_words command)
+pub are_words : (command : Command) → IsWithinRanges command → All IsWord (spelled_words command)
 are_words Idcode h = one (codes "idcode") (IsWord-from_name (codes "idcode") refl)
 are_words (Hart n) h = two (codes "hart") (decimal n) (IsWord-from_name (codes "hart") refl) (decimal_word n (omega arith))
 are_words State h = one (codes "state") (IsWord-from_name (codes "state") refl)
@@ -137,54 +139,9 @@ are_words Slots h = one (codes "slots") (IsWord-from_name (codes "slots") refl)
 are_words (Ebreak is_on) h = two (codes "ebreak") (spelled_switch is_on) (IsWord-from_name (codes "ebreak") refl) (switch_word is_on)
 are_words End h = one (codes "end") (IsWord-from_name (codes "end") refl)
 
--- a spelled line
+-- a spelled line and a spelled text
 
-line_again : (words : List (List ℕ)) (command : Command) → All IsWord words → words_read words ≡ Ok (Some command)
-    → line_read (join_with_byte space words) ≡ Ok (Some command)
-unfolding line_read words_read
-line_again [] command h e = cc
-line_again (w ∷ words) command h e =
-    let line = join_with_byte space (w ∷ words) in
-    let bytes = line_of_words (w ∷ words) h in
-    ap (λ c. cond (is_plain c) (words_read (words_of c)) (Err NotAscii)) (content_of-plain line bytes)
-    ∙ ap (λ b. cond b (words_read (words_of line)) (Err NotAscii)) (is_plain-line line bytes)
-    ∙ ap words_read (words_of-joined w words (All-head IsWord w words h) (All-tail IsWord w words h))
-    ∙ e
-
-pub line_read-spelling : (command : Command) → IsWithinRanges command → line_read (spelling command) ≡ Ok (Some command)
-unfolding spelling
-line_read-spelling command h = line_again (spelled_words command) command (are_words command h) (words_read-spelled command h)
-
-line_bytes : (command : Command) → IsWithinRanges command → All IsLineByte (spelling command)
-unfolding spelling
-line_bytes command h = line_of_words (spelled_words command) (are_words command h)
-
--- a spelled text
-
-AreReadAs-cons : (line : List ℕ) (lines : List (List ℕ)) (command : Command) (commands : List Command) → line_read line ≡ Ok (Some command)
-    → AreReadAs lines commands → AreReadAs (line ∷ lines) (command ∷ commands)
-AreReadAs-cons line lines command commands e h = record {
-  readings = Some command ∷ h.readings;
-  each = ap (λ r. r ∷ map line_read lines) e ∙ ap (λ rs. Ok (Some command) ∷ rs) h.each;
-  commands_of = ap (λ cs. command ∷ cs) h.commands_of;
-}
-
-empty_line : line_read [] ≡ Ok None
-unfolding line_read words_read words_of content_of
-empty_line = refl
-
-are_read : (commands : List Command) → All IsWithinRanges commands → AreReadAs (lines_of (spelled_script commands)) commands
-unfolding spelled_script
-are_read [] h = record { readings = None ∷ []; each = ap (λ r. r ∷ []) empty_line; commands_of = refl }
-are_read (command ∷ commands) h =
-    let here = All-head IsWithinRanges command commands h in
-    let rest = are_read commands (All-tail IsWithinRanges command commands h) in
-    subst (λ lines. AreReadAs lines (command ∷ commands)) (sym (lines_of-line (spelling command) (flat_map spelled_line commands) (line_bytes command here)))
-    (AreReadAs-cons (spelling command) (lines_of (flat_map spelled_line commands)) command commands (line_read-spelling command here) rest)
-
--- a spelled text is short
-
-few_words : (command : Command) → length (spelled_words command) ≤ 5
+pub few_words : (command : Command) → length (spelled_words command) ≤ 5
 few_words Idcode = lit≤ tt
 few_words (Hart n) = lit≤ tt
 few_words State = lit≤ tt
@@ -207,25 +164,13 @@ few_words Slots = lit≤ tt
 few_words (Ebreak is_on) = lit≤ tt
 few_words End = lit≤ tt
 
-abbrev longest_line : ℕ
-longest_line = 5 * (longest_word + 1) + 1
-
-length-spelled_line : (command : Command) → IsWithinRanges command → length (spelled_line command) ≤ longest_line
+pub line_read-spelling : (command : Command) → IsWithinRanges command → line_read (spelling command) ≡ Ok (Some command)
 unfolding spelling
-length-spelled_line command h =
-    let words = spelled_words command in
-    omega (arith, length-append (join_with_byte space words) (line_feed ∷ []), length-line_of_words words (are_words command h), few_words command)
+line_read-spelling command h = line_again command_read (spelled_words command) command (are_words command h) (words_read-spelled command h)
 
-length-spelled : (commands : List Command) → All IsWithinRanges commands → length (flat_map spelled_line commands) ≤ longest_line * length commands
-length-spelled [] h = omega arith
-length-spelled (command ∷ commands) h =
-    let line = length-spelled_line command (All-head IsWithinRanges command commands h) in
-    let rest = length-spelled commands (All-tail IsWithinRanges command commands h) in
-    omega (arith, line, rest, length-append (spelled_line command) (flat_map spelled_line commands))
-
-is_short : (commands : List Command) → length commands ≤ most_commands → All IsWithinRanges commands → length (spelled_script commands) ≤ most_text
-unfolding spelled_script
-is_short commands few h = omega (arith, few, length-spelled commands h)
+spells : Spells command_read spelled_words IsWithinRanges
+spells = record { are_words = are_words; reads = words_read-spelled; few = few_words }
 
 pub IsReadAs-spelled : (commands : List Command) → length commands ≤ most_commands → All IsWithinRanges commands → IsReadAs (spelled_script commands) commands
-IsReadAs-spelled commands few h = record { short = is_short commands few h; few = few; lines = are_read commands h }
+unfolding spelled_script spelling
+IsReadAs-spelled commands few h = IsReadIn-spelled command_read spelled_words IsWithinRanges spells commands few h

@@ -24,7 +24,7 @@ pub fn print(alloc: Global, script: &Script) -> Result<Vec<u8>, AllocError>
 
 /// Appends the spelling of a command.
 #[tactic(auto, unfolding(debug_model::specs::Spelling::spelling))]
-fn write_command(text: &mut Vec<u8>, command: Command) -> Result<(), AllocError>
+pub(crate) fn write_command(text: &mut Vec<u8>, command: Command) -> Result<(), AllocError>
     requires { IsWithinRanges command }
     ensures { OnOk result (text.new.items ≡ text.old.items ++ spelling command) }
 {

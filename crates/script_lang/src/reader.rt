@@ -1,5 +1,6 @@
 ghost use Rattle.std.specs.Prelude.{◌≤◌, length, IfOk, IfErr};
-ghost use Rattle.debug_model.specs.Grammar.{IsReadAs, most_text};
+ghost use Rattle.debug_model.specs.Grammar.{IsReadAs};
+ghost use Rattle.debug_model.specs.ScriptLines.{most_text};
 ghost use Rattle.script_lang.specs.Refused.{IsRefusal};
 
 use crate::line::read_line;
@@ -10,13 +11,13 @@ use std::alloc::Global;
 pub const MOST_TEXT: usize = 1_048_576;
 
 /// A text over the limit, which is no line's fault.
-const TOO_LONG: ScriptError = ScriptError {
+pub(crate) const TOO_LONG: ScriptError = ScriptError {
     line: 0,
     fault: ScriptFault::TooManyLines,
 };
 
 /// Want of memory, which is no line's fault.
-const NO_MEMORY: ScriptError = ScriptError {
+pub(crate) const NO_MEMORY: ScriptError = ScriptError {
     line: 0,
     fault: ScriptFault::NoMemory,
 };

@@ -25,15 +25,18 @@ const SCAN_RISES: u64 = 46;
 /// A Look, which is two operations in one call, and a register.
 const REGISTER_SCANS: u64 = 3 + 5;
 
-/// A Look; `dcsr`; a step, which reads and writes `dcsr`, asks the hart with the first Look, and reads and writes `dcsr` again; and `dpc` and `dcsr` for the
-/// line.
-const STEP_SCANS: u64 = 3 + 5 + (10 + 3 + 10) + 10;
+/// A Look; `dcsr`; a step, which reads and writes `dcsr`, asks the hart with the first Look, and reads and writes `dcsr` again; and for the line `dpc` and
+/// `dcsr` in one call of six operations.
+const STEP_SCANS: u64 = 3 + 5 + (10 + 3 + 10) + 7;
 
 /// One step more of several: `dcsr`, and a step.
 const NEXT_STEP_SCANS: u64 = 5 + (10 + 3 + 10);
 
 /// A Look, `dcsr`, and the request with its first Look.
 const RESUME_SCANS: u64 = 3 + 5 + 3;
+
+/// One byte more of a run, which its data0 is read for.
+const BYTE_SCANS: u64 = 1;
 
 /// One session, whose link waits between scans so long that no operation is found under way.
 fn run_paced<Q: Schedule, K: Sink>(bench: &mut Bench<Q>, script: &Script, out: &mut K) -> Ended
@@ -63,6 +66,7 @@ fn one_command_more_takes_so_many_scans(rt: HostRuntime) -> Result<(), Fail> {
         ("step\nstep\n", "step\nstep\nstep\n", STEP_SCANS),
         ("step 2\n", "step 3\n", NEXT_STEP_SCANS),
         ("step\n", "step\nresume\n", RESUME_SCANS),
+        ("dump 0x80000000 60\n", "dump 0x80000000 61\n", BYTE_SCANS),
     ];
     for (shorter, longer, scans) in cases {
         let before = rises_of(&rt, rt.alloc(), shorter)?;

@@ -3,6 +3,7 @@ use Rattle.std.proofs.lemmas.List.{map-append, length-map, length-append}
 use Rattle.std.proofs.lemmas.Iterator.Splits.{YieldsList-from_slice_split}
 use Rattle.std.proofs.lemmas.Iterator.Consumers.{YieldsList-so_far, YieldsList-turn, YieldsList-end}
 use Rattle.debug_model.specs.ScriptText.{line_feed}
+use Rattle.debug_model.specs.ScriptForms.{command_read}
 use Rattle.debug_model.specs.Grammar.{AreReadAs, line_read_after}
 use Rattle.script_lang.proofs.LineLemmas.{room_for, line_read-alone}
 use Rattle.script_lang.proofs.ReaderLemmas.{AreReadAs-push_none, AreReadAs-push_some, HasFirstFault-at, at_ok}
@@ -12,12 +13,12 @@ pub push-requires-clause-few : goal.push-requires-clause-few
 push-requires-clause-few c =
     let e = ap (λ cs. line_read_after (length cs) c.in-Some.line.now) (sym c.commands.ensures.list) ∙ sym c.read_line.ensures.reading ∙ c.in-Ok.is
     ∙ ap Ok c.in-Some-reading.is in
-    room_for (length c.loop-line.script) c.in-Some.line.now c.in-Some-reading.command e
+    room_for command_read (length c.loop-line.script) c.in-Some.line.now c.in-Some-reading.command e
 
 pub loop-line-preserved : goal.loop-line-preserved
 loop-line-preserved c =
     let e = sym c.read_line.ensures.reading ∙ c.in-Ok.is ∙ ap Ok c.in_default.is in
-    let alone = line_read-alone _ c.in-Some.line.now None e in
+    let alone = line_read-alone command_read _ c.in-Some.line.now None e in
     let pushed = AreReadAs-push_none (map (λ x. x.now) c.loop-line.yielded) c.loop-line.script c.in-Some.line.now c.loop-line.invariant.read alone in
     record {
       read = subst (λ ls. AreReadAs ls c.loop-line.script) (sym (map-append (λ x. x.now) c.loop-line.yielded (c.in-Some.line ∷ []))) pushed;
@@ -29,8 +30,8 @@ pub loop-line-preserved-else-is_err : goal.loop-line-preserved-else-is_err
 loop-line-preserved-else-is_err c =
     let e = ap (λ cs. line_read_after (length cs) c.in-Some.line.now) (sym c.commands.ensures.list) ∙ sym c.read_line.ensures.reading ∙ c.in-Ok.is
     ∙ ap Ok c.in-Some-reading.is in
-    let room = room_for (length c.loop-line.script) c.in-Some.line.now c.in-Some-reading.command e in
-    let alone = line_read-alone _ c.in-Some.line.now (Some c.in-Some-reading.command) e in
+    let room = room_for command_read (length c.loop-line.script) c.in-Some.line.now c.in-Some-reading.command e in
+    let alone = line_read-alone command_read _ c.in-Some.line.now (Some c.in-Some-reading.command) e in
     let grown = at_ok c.push.result (sym c.is_err.ensures.value ∙ c.if-is_err.false) c.push.ensures.ok in
     let pushed = AreReadAs-push_some (map (λ x. x.now) c.loop-line.yielded) c.loop-line.script c.in-Some.line.now c.in-Some-reading.command
     c.loop-line.invariant.read alone in

@@ -1,6 +1,7 @@
 use Rattle.std.proofs.Common.{◌≡◌, ◌≤◌, length, map}
 use Rattle.debug_model.specs.Command.{most_commands}
-use Rattle.debug_model.specs.Grammar.{AreReadAs, line_number}
+use Rattle.debug_model.specs.Grammar.{AreReadAs}
+use Rattle.debug_model.specs.ScriptLines.{line_number}
 use Rattle.script_lang.proofs.reader.read_lines.Given as goal
 
 abbrev pub invariant-loop-line : goal.invariant-loop-line
