@@ -11,7 +11,7 @@ use Rattle.rv_model.specs.Board.{Board, Hart}
 use Rattle.rv_model.specs.Core.{Core}
 use Rattle.rv_model.specs.Effects.{effect_of}
 use Rattle.rv_model.specs.Execute.{decoded, exec_of, fetched}
-use Rattle.rv_model.specs.Memory.{Memory, loaded}
+use Rattle.rv_model.specs.Memory.{Memory, fetch_of}
 use Rattle.rv_model.specs.Rows.{meaning}
 use Rattle.rv_model.specs.Touch.{touch_of, touch_fetched}
 use Rattle.rv_model.specs.Triggers.{fires}
@@ -33,12 +33,12 @@ abbrev pub word_in : Program → ℕ → Option ℕ
 word_in [] pc = None
 word_in (e ∷ words) pc = if pc == e.0 then Some e.1 else word_in words pc
 
-found_word : (b : Bool) (pc a word v : ℕ) (rest : Option ℕ) (m : Memory) → (b ≡ true → pc ≡ a) → loaded m a B4 ≡ Ok word
-    → (rest ≡ Some v → loaded m pc B4 ≡ Ok v) → (if b then Some word else rest) ≡ Some v → loaded m pc B4 ≡ Ok v
-found_word true pc a word v rest m here holds later is = ap (λ x. loaded m x B4) (here refl) ∙ holds ∙ ap Ok (let e : word ≡ v = cc in e)
+found_word : (b : Bool) (pc a word v : ℕ) (rest : Option ℕ) (m : Memory) → (b ≡ true → pc ≡ a) → fetch_of m a ≡ Ok word
+    → (rest ≡ Some v → fetch_of m pc ≡ Ok v) → (if b then Some word else rest) ≡ Some v → fetch_of m pc ≡ Ok v
+found_word true pc a word v rest m here holds later is = ap (λ x. fetch_of m x) (here refl) ∙ holds ∙ ap Ok (let e : word ≡ v = cc in e)
 found_word false pc a word v rest m here holds later is = later is
 
-pub word_held : (p : Program) (m : Memory) (pc v : ℕ) → Holds p m → word_in p pc ≡ Some v → loaded m pc B4 ≡ Ok v
+pub word_held : (p : Program) (m : Memory) (pc v : ℕ) → Holds p m → word_in p pc ≡ Some v → fetch_of m pc ≡ Ok v
 word_held [] m pc v holds is = absurd (cc)
 word_held (e ∷ words) m pc v holds is =
     found_word (pc == e.0) pc e.0 e.1 v (word_in words pc) m (λ t. eqb-true pc e.0 t) holds.0 (word_held words m pc v holds.1) is
@@ -85,8 +85,8 @@ world_with r behind hart h w = record w {
 }
 
 abbrev passed_by : Option Hart → ℕ → World → World
-passed_by (Some hart) h w = world_with (loaded w.board.memory hart.core.pc B4)
-    (memory_with (loaded w.board.memory hart.core.pc B4) hart w.board.memory) hart h w
+passed_by (Some hart) h w = world_with (fetch_of w.board.memory hart.core.pc)
+    (memory_with (fetch_of w.board.memory hart.core.pc) hart w.board.memory) hart h w
 passed_by None h w = w
 
 passed-by : (o : Option Hart) (h : ℕ) (w : World) → slice_get w.board.harts h ≡ o → passed (Turn h) w ≡ passed_by o h w
@@ -124,7 +124,7 @@ turn_if-same false kept m behind hart r h w v stays is =
     let e : world_with r m hart h w ≡ v = cc in
     record { worlds = e; memories = ap (λ (x : World). x.board.memory) (sym e) }
 
-turn_word-same : (o : Option ℕ) (hart : Hart) (h : ℕ) (w v : World) → ((word : ℕ) → o ≡ Some word → loaded w.board.memory hart.core.pc B4 ≡ Ok word)
+turn_word-same : (o : Option ℕ) (hart : Hart) (h : ℕ) (w v : World) → ((word : ℕ) → o ≡ Some word → fetch_of w.board.memory hart.core.pc ≡ Ok word)
     → turn_word o hart h w ≡ Some v → Same (passed_by (Some hart) h w) v w.board.memory
 turn_word-same None hart h w v held is = absurd (cc)
 turn_word-same (Some word) hart h w v held is =

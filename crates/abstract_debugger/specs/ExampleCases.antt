@@ -3,7 +3,7 @@
 use Rattle.std.specs.Prelude.{◌≡◌, ℕ, Bool, true, false, List, [], ◌∷◌, Ok}
 use Rattle.rv_model.specs.declared.size.Size.TheVariants.{B4}
 use Rattle.rv_model.specs.Board.{Board, halted_by_reset, reset_hart, runs}
-use Rattle.rv_model.specs.Memory.{Memory, loaded}
+use Rattle.rv_model.specs.Memory.{Memory, fetch_of}
 use Rattle.debug_model.specs.declared.command.Command.{Command}
 use Rattle.debug_model.specs.declared.point.Point.{Point}
 use Rattle.debug_model.specs.declared.point.Point.TheVariants.{Turn, Look, ResumeReq}
@@ -20,7 +20,7 @@ Program = List (ℕ × ℕ)
 
 abbrev pub Holds : Program → Memory → Type 0
 Holds [] m = Unit {0}
-Holds (e ∷ words) m = (loaded m e.0 B4 ≡ Ok e.1) × Holds words m
+Holds (e ∷ words) m = (fetch_of m e.0 ≡ Ok e.1) × Holds words m
 
 -- addi x5, x0, 5; again: addi x5, x5, 1; jal x0, again
 abbrev pub counter : Program

@@ -60,9 +60,9 @@ slot_changed slot what d = with_slots (over slot (armed_for what)) d
 abbrev pub slot_freed : ℕ → DebugPart → DebugPart
 slot_freed slot d = with_slots (over slot freed) d
 
--- stepping over: the slots with a hit are off, and one instruction is to be done
+-- stepping over: the slots with a hit are off, and one instruction is to be done, with interrupts as without a debugger
 abbrev pub step_begun : DebugPart → DebugPart
-step_begun d = record d { step = true; slots = slots_held d.slots }
+step_begun d = record d { step = true; stepie = true; slots = slots_held d.slots }
 
 -- did the hart halt because a step was done?
 abbrev pub is_step : Option Cause → Bool
@@ -73,10 +73,11 @@ is_step (Some cause.HaltReq) = false
 is_step (Some cause.Reset) = false
 is_step None = false
 
--- behind the step: the slots are on again, and where the step was a whole one the hits have been stepped over
+-- behind the step: both flags are clear, the slots are on again, and where the step was a whole one the hits have been stepped over
 abbrev pub step_ended : DebugPart → DebugPart
 step_ended d = record d {
   step = false;
+  stepie = false;
   slots = if is_step d.halted then hits_forgotten (slots_back d.slots) else slots_back d.slots;
 }
 

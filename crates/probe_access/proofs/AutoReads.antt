@@ -1,6 +1,6 @@
 -- A run of loads by autoexec at a told chip: each read of data0 takes the element that the data words hold and starts the command again. A word that
 -- is read while one is under way sets an error, with which no further one starts.
-use Rattle.std.proofs.Common.{◌≡◌, ◌∙◌, ◌++◌, ◌≤◌, ◌<◌, ◌+◌, ◌*◌, ◌%◌, ◌/◌, ◌^◌, ℕ, List, [], ◌∷◌, length, Option, Some, None, refl, sym, ap, subst, append_assoc, arith}
+use Rattle.std.proofs.Common.{◌≡◌, ◌∙◌, ◌++◌, ◌≤◌, ◌<◌, ◌+◌, ◌*◌, ◌%◌, ◌/◌, ◌^◌, ℕ, List, [], ◌∷◌, length, false, Option, Some, None, refl, sym, ap, subst, append_assoc, arith}
 use Rattle.std.proofs.Common.{append-nil, length-append}
 use Rattle.rv_model.specs.declared.size.Size.{Size}
 use Rattle.rv_model.specs.Board.{Board, Hart}
@@ -24,6 +24,7 @@ use Rattle.debug_model.specs.SystemBus.{BusUnit}
 use Rattle.probe_access.specs.Accesses.{unchanged}
 use Rattle.probe_access.specs.Blocks.{LoadedEach, element_at}
 use Rattle.probe_access.specs.Blocks.LoadedEach.{further as loaded_further}
+use Rattle.probe_access.specs.ReadRuns.{is_wide}
 use Rattle.probe_access.specs.RegisterAccess.{element_load_word, joined, next_command, next_word}
 use Rattle.probe_access.proofs.AccessSteps.{WordDid, program_of, rest_of}
 use Rattle.probe_access.proofs.Along.{ReadAt}
@@ -31,7 +32,7 @@ use Rattle.probe_access.proofs.Aside.{Frozen, HartAt, accessed, aside, passed}
 use Rattle.probe_access.proofs.AutoRuns.{automatic, by_data0, command_begins, left_words, started}
 use Rattle.probe_access.proofs.ElementSites.{access_on, access_ready, passed_ready}
 use Rattle.probe_access.proofs.ElementWords.{LoadsElement, element_next, element_small, scratched_advanced, scratched_x9, x9_again}
-use Rattle.probe_access.proofs.LoadClauses.{size_small}
+use Rattle.probe_access.proofs.LoadClauses.{size_narrow, size_small}
 use Rattle.probe_access.proofs.LoadPlaces.{all_but_last, load_decides, on_element}
 use Rattle.probe_access.proofs.NextSteps.{NextRunning, NextStage, advanced, advanced_frozen, all_next, going, holding, next_ran, third_of, transfer_does}
 use Rattle.probe_access.proofs.NextSteps.NextStage.{at_transfer, at_start, in_middle, in_third, at_end, at_fault}
@@ -70,6 +71,7 @@ pub record LoadDone (e : LoadRun) (given : List ℕ) (v : ℕ) (y : Hart) (base 
   pub given_is : given ≡ e.front ++ more
   pub each : LoadedEach e.size e.address e.s (given ++ v ∷ []) base
   pub small : v < 2 ^ 64
+  pub narrow : is_wide e.size ≡ false → v < 2 ^ 32
   pub ready : BoardReady base.board
   pub bus_is : base.unit.bus ≡ e.bus
   pub held : Held e.h e.x base
@@ -134,6 +136,8 @@ load_onward e given v y base before z n f d below fz did =
             access = access_on unchanged before n base did.memory;
           });
       small = size_small e.size did.value (loaded_small (passed before base).board.memory a e.size did.value (passed_ready before base d.ready).memory did.is);
+      narrow = size_narrow e.size did.value
+          (loaded_small (passed before base).board.memory a e.size did.value (passed_ready before base d.ready).memory did.is);
       ready = access_ready before n base d.ready (λ r. subst (λ (m : Memory). MemoryReady m) (sym did.memory) r);
       bus_is = ap (λ (m : DebugModule). m.bus) (unit_passed before base) ∙ d.bus_is;
       held = held_behind e.h e.x base before n d.held;
@@ -405,6 +409,70 @@ lower_read e given low high s t f below r at =
     reads_ran e (given ++ joined low high ∷ []) o.behind (operated (Read data0_address) (ran o.before s)) t f below o.is
     (lower_at e given low high (ran o.before s) f (r.value_is ∙ ap value_of o.result_is)
     (half_ran e given high o.before s (ran o.before s) f (omega (arith, n, below)) refl at))
+
+-- ---- the only word of an element, which starts the next command
+
+early_data0 : (k : Kept) (h : ℕ) (bus : BusUnit) (y : Hart) (z : Site) (m : Micro) (ms : List Micro)
+    → operated (Read data0_address) (aside (going by_data0 Fine k (m ∷ ms) h bus) h y z) ≡ aside (going by_data0 Busy k (m ∷ ms) h bus) h y z
+unfolding register_at
+early_data0 k h bus y z m ms = refl
+
+only_on : (e : LoadRun) (given : List ℕ) (low v : ℕ) (y : Hart) (base : Site) (k : Kept) (s : Site) → RunFits e → length given + 1 < e.count
+    → is_wide e.size ≡ false → low ≡ value_of (result_of data0_address s) → LoadDone e given v y base → IsLoad e k → LoadStage Fine e given y k base s
+    → ReadsAt e (given ++ low ∷ []) (operated (Read data0_address) s)
+only_on e given low v y base k s f below thin low_is d p (at_transfer harts is) =
+    lost given (low ∷ []) refl (omega arith)
+    (busy_on v y base k d p (at_transfer harts (ap (operated (Read data0_address)) is
+    ∙ early_data0 (begun k) e.h e.bus y (passed harts base) (Transfer next_command) (program_of (begun k)))))
+only_on e given low v y base k s f below thin low_is d p (at_start harts is) =
+    lost given (low ∷ []) refl (omega arith)
+    (busy_on v y base k d p (at_start harts (ap (operated (Read data0_address)) is
+    ∙ early_data0 (handed y k) e.h e.bus y (passed harts base) (Run k.progbuf0) (rest_of k))))
+only_on e given low v y base k s f below thin low_is d p (in_middle before harts z n pf fz is) =
+    lost given (low ∷ []) refl (omega arith)
+    (busy_on v y base k d p (in_middle before harts z n pf fz (ap (operated (Read data0_address)) is
+    ∙ early_data0 (handed y k) e.h e.bus z (passed harts (accessed n (passed before base))) (Run k.progbuf1) (third_of k))))
+only_on e given low v y base k s f below thin low_is d p (in_third before harts z n pf fz is) =
+    lost given (low ∷ []) refl (omega arith)
+    (busy_on v y base k d p (in_third before harts z n pf fz (ap (operated (Read data0_address)) is
+    ∙ early_data0 (handed y k) e.h e.bus (advanced e.size z) (passed harts (accessed n (passed before base))) (Run k.progbuf2) (Run k.progbuf3 ∷ []))))
+only_on e given low v y base k s f below thin low_is d p (at_end before harts z n pf fz is) =
+    let next : Site = accessed n (passed before base) in
+    let onward : LoadDone e (given ++ v ∷ []) pf.value (advanced e.size z) next = load_onward e given v y base before z n f d below fz pf in
+    let shown : low ≡ value_of (v % 2 ^ 32) =
+    low_is ∙ ap (λ (u : Site). value_of (result_of data0_address u)) is
+    ∙ ap value_of (shown_data0 (left_words y k) e.h e.bus (advanced e.size z) (passed harts next) ∙ (left_holds e given v y base k f d).low) in
+    let low_small : v < 2 ^ 32 = d.narrow thin in
+    let v_is : low ≡ v = omega (arith, shown, low_small) in
+    subst (λ n. ReadsAt e (given ++ n ∷ []) (operated (Read data0_address) s)) (sym v_is)
+    (on pf.value (advanced e.size z) next (left_words y k) onward (left_load e y k p)
+    (at_transfer harts (ap (operated (Read data0_address)) is
+    ∙ starts_again (left_words y k) e.h e.bus (advanced e.size z) (passed harts next) e.x
+    (stays_passed e.h harts next e.x onward.held.here onward.held.frozen) onward.frozen)))
+only_on e given low v y base k s f below thin low_is d p (at_fault before harts q is) =
+    lost given (low ∷ []) refl (omega arith)
+    (refused v y base (left_words y k) before d (left_load e y k p) (left_holds e given v y base k f d) q
+    (record {
+      harts = harts;
+      is = ap (operated (Read data0_address)) is
+          ∙ fault_data0 (handed y k) e.h e.bus y (passed harts (accessed (passed before base).board.memory (passed before base)));
+    }))
+
+only_at : (e : LoadRun) (given : List ℕ) (low : ℕ) (s : Site) → RunFits e → length given + 1 < e.count → is_wide e.size ≡ false
+    → low ≡ value_of (result_of data0_address s) → ReadsAt e given s → ReadsAt e (given ++ low ∷ []) (operated (Read data0_address) s)
+only_at e given low s f below thin low_is (on v y base k d p st) = only_on e given low v y base k s f below thin low_is d p st
+only_at e given low s f below thin low_is (lost good behind cut more l) =
+    lost good (behind ++ low ∷ []) (ap (λ xs. xs ++ low ∷ []) cut ∙ append_assoc good behind (low ∷ [])) (one_behind good behind low)
+    (subst (Lost e good) (sym (lost_same data0_address e good s lower_sets l)) l)
+
+pub only_read : (e : LoadRun) (given : List ℕ) (low : ℕ) (s t : Site) → RunFits e → length (given ++ low ∷ []) + 1 < e.count → is_wide e.size ≡ false
+    → ReadAt data0_address low s t → ReadsAt e given s → ReadsAt e (given ++ low ∷ []) t
+only_read e given low s t f below thin r at =
+    let o : OneOperation (Read data0_address) r.result s t = r.one in
+    let n : length (given ++ low ∷ []) ≡ length given + 1 = all_but_last given low in
+    reads_ran e (given ++ low ∷ []) o.behind (operated (Read data0_address) (ran o.before s)) t f below o.is
+    (only_at e given low (ran o.before s) f (omega (arith, n, below)) thin (r.value_is ∙ ap value_of o.result_is)
+    (reads_ran e given o.before s (ran o.before s) f (omega (arith, n, below)) refl at))
 
 -- ---- a look
 

@@ -326,38 +326,38 @@ around_causes R F count new_count a b e i later (in_restore_behind x8 x9 first l
 
 -- ---- what was read
 
-pub more_fetched : (values : List ℕ) (acts more : List Act) → Fetches values acts → Fetches values (acts ++ more)
-more_fetched _ _ more (none_fetched acts) = none_fetched (acts ++ more)
-more_fetched _ _ more (polled_first values front rest words last low high before idle fine read) =
-    subst (λ xs. Fetches (values ++ joined low high ∷ []) xs)
+pub more_fetched : (wide : Bool) (values : List ℕ) (acts more : List Act) → Fetches wide values acts → Fetches wide values (acts ++ more)
+more_fetched wide _ _ more (none_fetched acts) = none_fetched (acts ++ more)
+more_fetched wide _ _ more (polled_first values front rest words last low high before idle fine read) =
+    subst (λ xs. Fetches wide (values ++ joined low high ∷ []) xs)
     (sym (append_assoc front (poll_act last ∷ (words ++ rest)) more ∙ ap (λ xs. front ++ poll_act last ∷ xs) (append_assoc words rest more)))
     (polled_first values front (rest ++ more) words last low high before idle fine read)
-more_fetched _ _ more (polled_behind values front words between rest last low high before read leaves idle fine) =
-    subst (λ xs. Fetches (values ++ joined low high ∷ []) xs)
+more_fetched wide _ _ more (polled_behind values front words between rest last low high before read leaves idle fine) =
+    subst (λ xs. Fetches wide (values ++ joined low high ∷ []) xs)
     (sym (append_assoc front (words ++ (between ++ poll_act last ∷ rest)) more
     ∙ ap (λ xs. front ++ xs) (append_assoc words (between ++ poll_act last ∷ rest) more)
     ∙ ap (λ xs. front ++ (words ++ xs)) (append_assoc between (poll_act last ∷ rest) more)))
     (polled_behind values front words between (rest ++ more) last low high before read leaves idle fine)
-more_fetched _ _ more (in_run values read front run rest before fetches) =
-    subst (λ xs. Fetches (values ++ read) xs)
+more_fetched wide _ _ more (in_run values read front run rest before fetches) =
+    subst (λ xs. Fetches wide (values ++ read) xs)
     (sym (append_assoc front (run ++ rest) more ∙ ap (λ xs. front ++ xs) (append_assoc run rest more)))
     (in_run values read front run (rest ++ more) before fetches)
 
-pub fetched_none : (told : Tells) → Fetched [] told told
-fetched_none told = record { acts = []; did = nothing; fetches = none_fetched [] }
+pub fetched_none : (wide : Bool) (told : Tells) → Fetched wide [] told told
+fetched_none wide told = record { acts = []; did = nothing; fetches = none_fetched [] }
 
-pub fetched_calls : (values : List ℕ) (old mid new : Tells) → Fetched values old mid → Calls mid new → Fetched values old new
-fetched_calls values old mid new f p = record {
+pub fetched_calls : (wide : Bool) (values : List ℕ) (old mid new : Tells) → Fetched wide values old mid → Calls mid new → Fetched wide values old new
+fetched_calls wide values old mid new f p = record {
   acts = f.acts ++ p.acts;
   did = did_then f.acts old mid f.did p.acts new p.did;
   fetches =
-      more_fetched values f.acts p.acts f.fetches;
+      more_fetched wide values f.acts p.acts f.fetches;
 }
 
 -- the poll in front of the words that a command handed out
-pub ran_fetched : (word value : ℕ) (values : List ℕ) (old mid ended new : Tells) → Fetched values old mid → RanTo [] word 0 mid ended
-    → DoubleRead value ended new → Fetched (values ++ value ∷ []) old new
-ran_fetched word value values old mid ended new f ran read =
+pub ran_fetched : (wide : Bool) (word value : ℕ) (values : List ℕ) (old mid ended new : Tells) → Fetched wide values old mid → RanTo [] word 0 mid ended
+    → DoubleRead value ended new → Fetched wide (values ++ value ∷ []) old new
+ran_fetched wide word value values old mid ended new f ran read =
     let last : ℕ = ran.last in
     let polls : List Act = Put command_address (word) ∷ map poll_act ran.ran.words in
     let words : List Act = Got data0_address read.low ∷ Got data1_address read.high ∷ [] in
@@ -375,24 +375,24 @@ ran_fetched word value values old mid ended new f ran read =
       acts = (f.acts ++ polls) ++ poll_act last ∷ (words ++ []);
       did = did_list (f.acts ++ (polls ++ poll_act last ∷ (words ++ []))) ((f.acts ++ polls) ++ poll_act last ∷ (words ++ [])) old new
           (sym (append_assoc f.acts polls (poll_act last ∷ (words ++ [])))) all;
-      fetches = subst (λ v. Fetches (values ++ v ∷ []) ((f.acts ++ polls) ++ poll_act last ∷ (words ++ []))) (sym read.is)
-          (polled_first values (f.acts ++ polls) [] words last read.low read.high (more_fetched values f.acts polls f.fetches) ran.ran.idle
+      fetches = subst (λ v. Fetches wide (values ++ v ∷ []) ((f.acts ++ polls) ++ poll_act last ∷ (words ++ []))) (sym read.is)
+          (polled_first values (f.acts ++ polls) [] words last read.low read.high (more_fetched wide values f.acts polls f.fetches) ran.ran.idle
           ran.error_is lower_first);
     }
 
-apart_fetched : (number value : ℕ) (values : List ℕ) (old mid new : Tells) → Fetched values old mid → ReadApart number value mid new
-    → Fetched (values ++ value ∷ []) old new
-apart_fetched number value values old mid new f r =
-    ran_fetched (transfer_word false number) value values old mid r.mid new f r.ran r.words
+apart_fetched : (wide : Bool) (number value : ℕ) (values : List ℕ) (old mid new : Tells) → Fetched wide values old mid → ReadApart number value mid new
+    → Fetched wide (values ++ value ∷ []) old new
+apart_fetched wide number value values old mid new f r =
+    ran_fetched wide (transfer_word false number) value values old mid r.mid new f r.ran r.words
 
 -- or behind them
 pub polls_leave : (words : List ℕ) → All LeavesError (map poll_act words)
 polls_leave [] = λ k d h. absurd (omega arith)
 polls_leave (w ∷ words) = All-cons LeavesError (poll_act w) (map poll_act words) tt (polls_leave words)
 
-at_once_fetched : (number value : ℕ) (values : List ℕ) (old mid new : Tells) → Fetched values old mid → ReadAtOnce number value mid new
-    → Fetched (values ++ value ∷ []) old new
-at_once_fetched number value values old mid new f r =
+at_once_fetched : (wide : Bool) (number value : ℕ) (values : List ℕ) (old mid new : Tells) → Fetched wide values old mid → ReadAtOnce number value mid new
+    → Fetched wide (values ++ value ∷ []) old new
+at_once_fetched wide number value values old mid new f r =
     let command : List Act = Put command_address (transfer_word false number) ∷ [] in
     let words : List Act = Got data1_address r.high ∷ Got data0_address r.low ∷ [] in
     let tail : List Act = words ++ (map poll_act r.ended.words ++ poll_act r.last ∷ clearing (error_shown r.last)) in
@@ -400,16 +400,17 @@ at_once_fetched number value values old mid new f r =
       acts = (f.acts ++ command) ++ tail;
       did = did_list (f.acts ++ (command ++ tail)) ((f.acts ++ command) ++ tail) old new (sym (append_assoc f.acts command tail))
           (did_then f.acts old mid f.did (command ++ tail) new r.ended.did);
-      fetches = subst (λ v. Fetches (values ++ v ∷ []) ((f.acts ++ command) ++ tail)) (sym r.is)
+      fetches = subst (λ v. Fetches wide (values ++ v ∷ []) ((f.acts ++ command) ++ tail)) (sym r.is)
           (polled_behind values (f.acts ++ command) words (map poll_act r.ended.words) (clearing (error_shown r.last)) r.last r.low r.high
-          (more_fetched values f.acts command f.fetches) upper_first (polls_leave r.ended.words) r.ended.idle r.error_is);
+          (more_fetched wide values f.acts command f.fetches) upper_first (polls_leave r.ended.words) r.ended.idle r.error_is);
     }
 
-pub register_fetched : (number value : ℕ) (values : List ℕ) (old mid new : Tells) → Fetched values old mid → RegisterRead number value mid new
-    → Fetched (values ++ value ∷ []) old new
-register_fetched number value values old mid new f (RegisterRead.at_once r) = at_once_fetched number value values old mid new f r
-register_fetched number value values old mid new f (RegisterRead.late m early r) =
-    apart_fetched number value values old m new (fetched_calls values old mid m f (early_calls number mid m early)) r
+pub register_fetched : (wide : Bool) (number value : ℕ) (values : List ℕ) (old mid new : Tells) → Fetched wide values old mid
+    → RegisterRead number value mid new
+    → Fetched wide (values ++ value ∷ []) old new
+register_fetched wide number value values old mid new f (RegisterRead.at_once r) = at_once_fetched wide number value values old mid new f r
+register_fetched wide number value values old mid new f (RegisterRead.late m early r) =
+    apart_fetched wide number value values old m new (fetched_calls wide values old mid m f (early_calls number mid m early)) r
 
 -- or behind what puts the register back
 pub giving_leaves : (number value : ℕ) (words : List ℕ)
@@ -421,5 +422,5 @@ giving_leaves number value words =
     (All-cons LeavesError (Put data1_address (high_half value)) asks (omega arith)
     (All-cons LeavesError (Put command_address (transfer_word true number)) polls (omega arith) (polls_leave words)))
 
-pub fetched_made : (values : List ℕ) (old new : Tells) → Fetched values old new → Calls old new
-fetched_made values old new f = calls f.acts old new f.did
+pub fetched_made : (wide : Bool) (values : List ℕ) (old new : Tells) → Fetched wide values old new → Calls old new
+fetched_made wide values old new f = calls f.acts old new f.did

@@ -57,13 +57,13 @@ erred_hung h bus y base t (Erred.over k e set d) = hung_done (λ z. z ≡ y) (un
 pub rests_hung : (h : ℕ) (bus : BusUnit) (y : Hart) (base : Site) (w : Hart) (t : Site) → Rests h bus y base w t → HungAt (λ z. z ≡ y) h bus base t
 rests_hung h bus y base w t r = hung_stood (λ z. z ≡ y) h bus y base w r.kept t refl r.stood
 
-asked_hung : (number h : ℕ) (bus : BusUnit) (y : Hart) (base : Site) (k : Kept) (t : Site) → Asked number h bus y base k t → HungAt (λ z. z ≡ y) h bus base t
+pub asked_hung : (number h : ℕ) (bus : BusUnit) (y : Hart) (base : Site) (k : Kept) (t : Site) → Asked number h bus y base k t → HungAt (λ z. z ≡ y) h bus base t
 asked_hung number h bus y base k t (Asked.going v held b) = between_hung (λ z. z ≡ y) _ _ h bus y y base t refl refl refl refl b
 asked_hung number h bus y base k t (Asked.failed e) = erred_hung h bus y base t e
 
 -- ---- deeds behind the words
 
-touched_ran : (number word : ℕ) (half : ℕ → ℕ) (h : ℕ) (bus : BusUnit) (y : Hart) (base : Site) (w : Hart) (k : Kept) (s t : Site) → Calm h bus y base w
+pub touched_ran : (number word : ℕ) (half : ℕ → ℕ) (h : ℕ) (bus : BusUnit) (y : Hart) (base : Site) (w : Hart) (k : Kept) (s t : Site) → Calm h bus y base w
     → DeedsAlone s t → Touched number word half h bus y base w k s → HungAt (λ z. z ≡ y) h bus base t
 touched_ran number word half h bus y base w k s t c d (Touched.right v held is st) =
     hung_stood (λ z. z ≡ y) h bus y base w _ t refl (stood_ran h bus y base w _ s t st d)
@@ -90,7 +90,7 @@ command_cut number h bus y base w k s t small st (unperformed d) =
 command_cut number h bus y base w k s t small st (was_performed result o) =
     asked_hung number h bus y base k t (asked_first number h bus y base w k s t small st (write_one command_address (transfer_word false number) result s t o))
 
-nothing_ran : (z : Site) → z ≡ ran [] z
+pub nothing_ran : (z : Site) → z ≡ ran [] z
 unfolding ran
 nothing_ran z = refl
 

@@ -19,17 +19,18 @@ use Rattle.probe_access.specs.Cuts.{AccessLeftOff, IfCut, IsLeft, LeftAside, Lea
 use Rattle.probe_access.specs.Cuts.AccessLeftOff.{before_it, behind_it}
 use Rattle.probe_access.specs.MemoryRuns.{AroundFailed, LoadRunFailed, PutBackFailed, SaveFailed, StoreFailedInside, StoredInside}
 use Rattle.probe_access.specs.RegisterRuns.{ReadFailed, WriteFailed}
-use Rattle.probe_access.specs.Stops.{StopFailed, dpc_number}
-use Rattle.probe_access.specs.Stops.StopFailed.{at_dcsr, at_dpc}
+use Rattle.probe_access.specs.Stops.{StopApartFailed, StopFailed, dpc_number}
 use Rattle.probe_access.specs.RegisterAccess.{x9_number}
 use Rattle.probe_access.proofs.Aside.{accessed, passed}
 use Rattle.probe_access.proofs.CutAccess.{AnyScratch, HungInside, InsideAt, around_hung, load_hung, store_cut}
 use Rattle.probe_access.proofs.CutAccess.InsideAt.{not_yet, made}
-use Rattle.probe_access.proofs.CutHarts.{back_hung, read_hung, save_hung, write_hung}
+use Rattle.probe_access.proofs.CutStop.{stop_asking_hung}
+use Rattle.probe_access.proofs.StopTold.{stop_early_told}
+use Rattle.probe_access.proofs.CutHarts.{apart_hung, back_hung, read_hung, save_hung, write_hung}
 use Rattle.probe_access.proofs.CutSites.{cut_always, if_cut}
 use Rattle.probe_access.proofs.LoadClauses.{fits_of}
 use Rattle.probe_access.proofs.ReadyTurns.{Passed, passed_turns}
-use Rattle.probe_access.proofs.RegAnswers.{ReadTold, StoodTold, read_told}
+use Rattle.probe_access.proofs.RegAnswers.{ReadTold, StoodTold, apart_told}
 use Rattle.probe_access.proofs.RegClauses.{first_told}
 use Rattle.probe_access.proofs.ScratchLemmas.{with_core_x, x8_written, x9_written}
 use Rattle.probe_access.proofs.WordAccess.{StoreFaults}
@@ -104,10 +105,13 @@ restore_cut h x8 x9 (Some c) coming old_count new_count new e ready selects halt
 
 stop_hung : (h : ℕ) (bus : BusUnit) (y : Hart) (base : Site) (w : Hart) (old_count new_count : ℕ) (old new : Tells) (e : AccessFault)
     → StoodTold h bus y base w old.far → StopFailed old_count new_count old new e → IfCut (Hung (λ z. z ≡ y) h bus base new.far) e
-stop_hung h bus y base w old_count new_count old new e st (at_dpc f) = read_hung dpc_number h bus y base w old_count new_count old new e (omega arith) st f
-stop_hung h bus y base w old_count new_count old new e st (at_dcsr pc mid r f) =
-    let a : ReadTold dpc_number pc h bus y base w mid.far = read_told dpc_number pc h bus y base w old mid (omega arith) st r in
-    read_hung dcsr_number h bus y base w old_count new_count mid new e (omega arith) a.then f
+stop_hung h bus y base w old_count new_count old new e st (StopFailed.asking f) = stop_asking_hung h bus y base w old_count new_count old new e st f
+stop_hung h bus y base w old_count new_count old new e st (StopFailed.late mid early (StopApartFailed.at_dpc f)) =
+    apart_hung dpc_number h bus y base w old_count new_count mid new e (omega arith) (stop_early_told h bus y base w old mid st early) f
+stop_hung h bus y base w old_count new_count old new e st (StopFailed.late mid early (StopApartFailed.at_dcsr pc then r f)) =
+    let a : ReadTold dpc_number pc h bus y base w then.far =
+    apart_told dpc_number pc h bus y base w mid then (omega arith) (stop_early_told h bus y base w old mid st early) r in
+    apart_hung dcsr_number h bus y base w old_count new_count then new e (omega arith) a.then f
 
 pub stop_cut : (h : ℕ) (far : Option Far) (coming : Option DmiComing) (old_count new_count : ℕ) (new : Tells) (e : AccessFault) → IsReady far → Selects h far
     → IsHalted h far → StopFailed old_count new_count (tells far coming) new e

@@ -23,7 +23,7 @@ use Rattle.probe_access.specs.ElementRuns.{block_program}
 use Rattle.probe_access.specs.ElementRuns.RunFailed.{in_run, faulted, oddly}
 use Rattle.probe_access.specs.Faults.{Among, BrokeIn}
 use Rattle.probe_access.specs.AskedRuns.{Switching}
-use Rattle.probe_access.specs.ReadRuns.{AskLoadsFailed, ReadFront, RunLoadsFailed}
+use Rattle.probe_access.specs.ReadRuns.{is_wide, AskLoadsFailed, ReadFront, RunLoadsFailed}
 use Rattle.probe_access.specs.RegisterAccess.{advance_word, ebreak_word, element_load_word, next_word, x8_number, x9_number}
 use Rattle.probe_access.proofs.AskCalls.{behind_counted}
 use Rattle.probe_access.proofs.Counted.{apart_counted, command_counted, read_counted, write_counted}
@@ -140,18 +140,18 @@ last_words_failed last why count mid_count new_count old mid told ran bad le lat
     HandFailed.in_last_words mid (record { last = last; ran = ran; error_is = bad }) why
     (broke_counted (Among DoubleReads) count mid_count new_count mid told.far why le later b)
 
-pub ask_loads_counted : (looks more count mid_count new_count : ℕ) (old new : Tells) (e : AccessFault) → count ≤ mid_count → mid_count ≤ new_count
-    → AskLoadsFailed looks more mid_count new_count old new e → AskLoadsFailed looks more count new_count old new e
-ask_loads_counted looks more count mid_count new_count old new e le later (AskLoadsFailed.in_run f) =
-    AskLoadsFailed.in_run (behind_counted (ReadFront more) _ _ count mid_count new_count old new e le later f)
-ask_loads_counted looks more count mid_count new_count old new e le later (AskLoadsFailed.in_switch front last mid begins r why is f) =
+pub ask_loads_counted : (wide : Bool) (looks more count mid_count new_count : ℕ) (old new : Tells) (e : AccessFault) → count ≤ mid_count → mid_count ≤ new_count
+    → AskLoadsFailed wide looks more mid_count new_count old new e → AskLoadsFailed wide looks more count new_count old new e
+ask_loads_counted wide looks more count mid_count new_count old new e le later (AskLoadsFailed.in_run f) =
+    AskLoadsFailed.in_run (behind_counted (ReadFront wide more) _ _ count mid_count new_count old new e le later f)
+ask_loads_counted wide looks more count mid_count new_count old new e le later (AskLoadsFailed.in_switch front last mid begins r why is f) =
     AskLoadsFailed.in_switch front last mid begins r why is (broke_counted Switching count mid_count new_count mid new.far why le later f)
 
 pub run_loads_counted : (size : Size) (address block handed : ℕ) (values : List ℕ) (count mid_count new_count : ℕ) (old new : Tells) (e : AccessFault)
     → count ≤ mid_count → mid_count ≤ new_count → RunLoadsFailed size address block handed values mid_count new_count old new e
     → RunLoadsFailed size address block handed values count new_count old new e
 run_loads_counted size address block handed values count mid_count new_count old new _ le later (RunLoadsFailed.asking e looks more none within f) =
-    RunLoadsFailed.asking e looks more none within (ask_loads_counted looks more count mid_count new_count old new e le later f)
+    RunLoadsFailed.asking e looks more none within (ask_loads_counted (is_wide size) looks more count mid_count new_count old new e le later f)
 run_loads_counted size address block handed values count mid_count new_count old new _ le later (RunLoadsFailed.in_words why read last mid none within a f) =
     RunLoadsFailed.in_words why read last mid none within a (broke_counted (Among DoubleReads) count mid_count new_count mid new.far why le later f)
 run_loads_counted size address block handed values count mid_count new_count old new _ le later

@@ -34,6 +34,8 @@ pub mod AccessErrs
 pub mod WrittenReady
 pub mod SetClauses
 pub mod ScratchClauses
+pub mod StopCalls
+pub mod StopTold
 pub mod StopClauses
 pub mod StepLemmas
 pub mod StepClauses
@@ -80,6 +82,7 @@ pub mod CutSites
 pub mod CutHung
 pub mod CutAtOnce
 pub mod CutSwap
+pub mod CutStop
 pub mod CutHarts
 pub mod CutClauses
 pub mod CutAccess

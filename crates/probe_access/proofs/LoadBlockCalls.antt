@@ -1,5 +1,5 @@
 -- What a fault of a block of loads follows, however far its calls came, and where its values were read.
-use Rattle.std.proofs.Common.{◌≡◌, ◌≢◌, ◌∙◌, ◌⊎◌, ◌≤◌, ◌++◌, ℕ, List, [], ◌∷◌, map, length, take, true, false, sym, ap, subst, append_assoc, arith, inl, inr}
+use Rattle.std.proofs.Common.{◌≡◌, ◌≢◌, ◌∙◌, ◌⊎◌, ◌≤◌, ◌++◌, ℕ, List, [], ◌∷◌, map, length, take, Bool, true, false, sym, ap, subst, append_assoc, arith, inl, inr}
 use Rattle.std.proofs.Common.{append-nil}
 use Rattle.rv_model.specs.declared.size.Size.{Size}
 use Rattle.debug_model.specs.Addresses.{abstractauto_address, command_address, data0_address, data1_address}
@@ -17,7 +17,7 @@ use Rattle.probe_access.specs.CommandRuns.{clearing, command_acts, error_shown, 
 use Rattle.probe_access.specs.ElementRuns.{HandFailed, Handed, LoadRuns, LoadRunsFailed, LoadsFailed, LoadsInside, LoadsOn}
 use Rattle.probe_access.specs.MemoryRuns.{PutBack, Recovers, SavedFailed}
 use Rattle.probe_access.specs.RegisterAccess.{joined, element_load_word, next_word, transfer_word, x8_number, x9_number}
-use Rattle.probe_access.specs.ReadRuns.{AskLoadsFailed, AskedLoads, RanLoads, RunLoadsFailed, run_reads}
+use Rattle.probe_access.specs.ReadRuns.{AskLoadsFailed, AskedLoads, RanLoads, RunLoadsFailed, is_wide, run_reads}
 use Rattle.probe_access.specs.RegisterRuns.{DoubleRead, ReadApart, RegisterWritten, double_written}
 use Rattle.probe_access.proofs.AroundUntold.{PlainMemory, apart_plain, behind_plain, command_plain, put_back_plain, read_plain, save_plain}
 use Rattle.probe_access.proofs.BlockCauses.{
@@ -60,14 +60,15 @@ use Rattle.probe_run.proofs.ActLemmas.{did_list, did_then}
 handed_calls : (error value : ℕ) (a b : Tells) → Handed error value a b → Calls a b
 handed_calls error value a b r = calls_then a r.mid b (calls _ a r.mid r.ran.ran.did) (calls _ r.mid b r.words.did)
 
-asked_loads_calls : (read : List ℕ) (last : ℕ) (a b : Tells) → AskedLoads read last a b → Calls a b
-asked_loads_calls read last a b r = calls_then a r.mid b (calls _ a r.mid r.ran.did) (calls _ r.mid b r.off)
+asked_loads_calls : (wide : Bool) (read : List ℕ) (last : ℕ) (a b : Tells) → AskedLoads wide read last a b → Calls a b
+asked_loads_calls wide read last a b r = calls_then a r.mid b (calls _ a r.mid r.ran.did) (calls _ r.mid b r.off)
 
 ran_calls : (size : Size) (address count handed : ℕ) (values : List ℕ) (a b : Tells) → RanLoads size address count handed values a b → Calls a b
 ran_calls size address count handed values a b (RanLoads.whole read value last mid within r error words are) =
-    calls_then a mid b (asked_loads_calls read last a mid r) (calls _ mid b words.did)
+    calls_then a mid b (asked_loads_calls (is_wide size) read last a mid r) (calls _ mid b words.did)
 ran_calls size address count handed values a b (RanLoads.short read made value last mid then within r error words few x8 are) =
-    calls_then a then b (calls_then a mid then (asked_loads_calls read last a mid r) (calls _ mid then words.did)) (apart_calls x8_number _ then b x8)
+    calls_then a then b (calls_then a mid then (asked_loads_calls (is_wide size) read last a mid r) (calls _ mid then words.did))
+    (apart_calls x8_number _ then b x8)
 
 loads_calls : (size : Size) (address block : ℕ) (a : Tells) (values : List ℕ) (b : Tells) → LoadsOn size address block a values b → Calls a b
 loads_calls size address block a _ _ (LoadsOn.first b started) = started_calls (element_load_word size) size address a b started
@@ -103,9 +104,9 @@ record RunShown (last : ℕ) (rest : List Act) (a b : Tells) : Type 0 where
   front : List Act
   did : Did a (front ++ poll_act last ∷ rest) b
 
-run_shown : (read : List ℕ) (last : ℕ) (a mid b : Tells) (acts : List Act) → (r : AskedLoads read last a mid) → Did mid acts b
+run_shown : (wide : Bool) (read : List ℕ) (last : ℕ) (a mid b : Tells) (acts : List Act) → (r : AskedLoads wide read last a mid) → Did mid acts b
     → RunShown last (clearing (error_shown last) ++ (Put abstractauto_address 0 ∷ acts)) a b
-run_shown read last a mid b acts r did =
+run_shown wide read last a mid b acts r did =
     let polls : List Act = map poll_act r.ran.words in
     let tail : List Act = poll_act last ∷ clearing (error_shown last) in
     let off : List Act = Put abstractauto_address 0 ∷ acts in
@@ -117,10 +118,10 @@ run_shown read last a mid b acts r did =
           (did_then (run_reads r.reads ++ (polls ++ tail)) a r.mid r.ran.did off b (did_then (Put abstractauto_address 0 ∷ []) r.mid mid r.off acts b did));
     }
 
-asking_loads_causes : (looks more count new_count : ℕ) (a b : Tells) (e : AccessFault) → LinkLater count new_count e
-    → AskLoadsFailed looks more count new_count a b e → Causes count new_count a b e
-asking_loads_causes looks more count new_count a b e later (AskLoadsFailed.in_run f) = behind_causes _ _ _ count new_count a b e f
-asking_loads_causes looks more count new_count a b e later (AskLoadsFailed.in_switch front last mid begins r why is f) =
+asking_loads_causes : (wide : Bool) (looks more count new_count : ℕ) (a b : Tells) (e : AccessFault) → LinkLater count new_count e
+    → AskLoadsFailed wide looks more count new_count a b e → Causes count new_count a b e
+asking_loads_causes wide looks more count new_count a b e later (AskLoadsFailed.in_run f) = behind_causes _ _ _ count new_count a b e f
+asking_loads_causes wide looks more count new_count a b e later (AskLoadsFailed.in_switch front last mid begins r why is f) =
     subst (λ x. Causes count new_count a b x) (sym is)
     (causes_same a mid b (calls _ a mid r.did) count new_count (access_fault.Dmi why) (subst (LinkLater count new_count) is later)
     (f.acts, f.failed, f.broke))
@@ -143,16 +144,17 @@ eight_list cleared front polls last second =
 run_loads_causes : (size : Size) (address block handed : ℕ) (values : List ℕ) (count new_count : ℕ) (a b : Tells) (e : AccessFault)
     → LinkLater count new_count e → RunLoadsFailed size address block handed values count new_count a b e → Causes count new_count a b e
 run_loads_causes size address block handed values count new_count a b _ later (RunLoadsFailed.asking e looks more none within f) =
-    asking_loads_causes looks more count new_count a b e later f
+    asking_loads_causes (is_wide size) looks more count new_count a b e later f
 run_loads_causes size address block handed values count new_count a b _ later (RunLoadsFailed.in_words why read last mid none within r f) =
-    causes_same a mid b (asked_loads_calls read last a mid r) count new_count (access_fault.Dmi why) later (f.acts, f.failed, f.broke)
+    causes_same a mid b (asked_loads_calls (is_wide size) read last a mid r) count new_count (access_fault.Dmi why) later (f.acts, f.failed, f.broke)
 run_loads_causes size address block handed values count new_count a b _ later (RunLoadsFailed.finding e read value last mid then none within r words f) =
-    causes_same a then b (calls_then a mid then (asked_loads_calls read last a mid r) (calls _ mid then words.did)) count new_count e later
+    causes_same a then b (calls_then a mid then (asked_loads_calls (is_wide size) read last a mid r) (calls _ mid then words.did)) count new_count e later
     (apart_causes x8_number count new_count then b e later f)
 run_loads_causes size address block handed values count new_count a b _ later
     (RunLoadsFailed.refused read made value last mid then within r error words few x8 are) =
     let q : Calls mid b = calls_then mid then b (calls _ mid then words.did) (apart_calls x8_number _ then b x8) in
-    let s : RunShown last (clearing (error_shown last) ++ (Put abstractauto_address 0 ∷ q.acts)) a b = run_shown read last a mid b q.acts r q.did in
+    let s : RunShown last (clearing (error_shown last) ++ (Put abstractauto_address 0 ∷ q.acts)) a b = run_shown
+    (is_wide size) read last a mid b q.acts r q.did in
     record {
       front = s.front;
       last = last;
@@ -163,7 +165,7 @@ run_loads_causes size address block handed values count new_count a b _ later
     }
 run_loads_causes size address block handed values count new_count a b _ later
     (RunLoadsFailed.oddly shown read last is none within r fine early fault) =
-    let s : RunShown last (clearing (error_shown last) ++ (Put abstractauto_address 0 ∷ [])) a b = run_shown read last a b b [] r nothing in
+    let s : RunShown last (clearing (error_shown last) ++ (Put abstractauto_address 0 ∷ [])) a b = run_shown (is_wide size) read last a b b [] r nothing in
     record {
       word = last;
       is = is;
@@ -181,7 +183,7 @@ run_loads_causes size address block handed values count new_count a b _ later
     let second : List Act = Got data0_address found.words.low ∷ Got data1_address found.words.high ∷ [] in
     let acts : List Act = double ++ (first ++ second) in
     let s : RunShown last (clearing (error_shown last) ++ (Put abstractauto_address 0 ∷ acts)) a b =
-    run_shown read last a mid b acts r
+    run_shown (is_wide size) read last a mid b acts r
     (did_then double mid then words.did (first ++ second) b (did_then first then found.mid found.ran.ran.did second b found.words.did)) in
     record {
       word = last;
@@ -226,9 +228,10 @@ loads_inside_causes size address block values = record {
 some_shown : (last error : ℕ) → error_shown last ≡ error → (error ≡ 0 → ⊥) → error_shown last ≢ 0
 some_shown last error is some none = some (sym is ∙ none)
 
-whole_fetched : (values read : List ℕ) (value last : ℕ) (old a mid new : Tells) → Fetched values old a → (r : AskedLoads read last a mid)
-    → error_shown last ≡ 0 → DoubleRead value mid new → Fetched (values ++ (read ++ value ∷ [])) old new
-whole_fetched values read value last old a mid new f r fine words =
+whole_fetched : (wide : Bool) (values read : List ℕ) (value last : ℕ) (old a mid new : Tells) → Fetched wide values old a
+    → (r : AskedLoads wide read last a mid)
+    → error_shown last ≡ 0 → DoubleRead value mid new → Fetched wide (values ++ (read ++ value ∷ [])) old new
+whole_fetched wide values read value last old a mid new f r fine words =
     let begin : List Act = Put abstractauto_address 1 ∷ Put command_address next_word ∷ [] in
     let polls : List Act = map poll_act r.ran.words in
     let double : List Act = Got data0_address words.low ∷ Got data1_address words.high ∷ [] in
@@ -248,15 +251,16 @@ whole_fetched values read value last old a mid new f r fine words =
       did = did_list (f.acts ++ (begin ++ (run ++ []))) ((f.acts ++ begin) ++ (run ++ [])) old new (sym (append_assoc f.acts begin (run ++ [])))
           (did_then f.acts old a f.did (begin ++ (run ++ [])) new
           (did_list ((run_reads r.reads ++ (polls ++ poll_act last ∷ [])) ++ (Put abstractauto_address 0 ∷ double)) (begin ++ (run ++ [])) a new shaped did));
-      fetches = subst (λ v. Fetches (values ++ (read ++ v ∷ [])) ((f.acts ++ begin) ++ (run ++ []))) (sym words.is)
-          (in_run values (read ++ joined words.low words.high ∷ []) (f.acts ++ begin) run [] (more_fetched values f.acts begin f.fetches)
+      fetches = subst (λ v. Fetches wide (values ++ (read ++ v ∷ [])) ((f.acts ++ begin) ++ (run ++ []))) (sym words.is)
+          (in_run values (read ++ joined words.low words.high ∷ []) (f.acts ++ begin) run [] (more_fetched wide values f.acts begin f.fetches)
           (RunFetches.whole read r.reads polls double last words.low words.high r.are (polls_leave r.ran.words) r.ran.idle fine lower_first));
     }
 
-short_fetched : (values read : List ℕ) (taken value last x8 : ℕ) (old a mid then new : Tells) → Fetched values old a → (r : AskedLoads read last a mid)
+short_fetched : (wide : Bool) (values read : List ℕ) (taken value last x8 : ℕ) (old a mid then new : Tells) → Fetched wide values old a
+    → (r : AskedLoads wide read last a mid)
     → error_shown last ≢ 0 → taken ≤ length read → DoubleRead value mid then → ReadApart x8_number x8 then new
-    → Fetched (values ++ (take taken read ++ value ∷ [])) old new
-short_fetched values read taken value last x8 old a mid then new f r some few words found =
+    → Fetched wide (values ++ (take taken read ++ value ∷ [])) old new
+short_fetched wide values read taken value last x8 old a mid then new f r some few words found =
     let begin : List Act = Put abstractauto_address 1 ∷ Put command_address next_word ∷ [] in
     let polls : List Act = map poll_act r.ran.words in
     let double : List Act = Got data0_address words.low ∷ Got data1_address words.high ∷ [] in
@@ -290,43 +294,46 @@ short_fetched values read taken value last x8 old a mid then new f r some few wo
       did = did_list (f.acts ++ (begin ++ (run ++ second))) ((f.acts ++ begin) ++ (run ++ second)) old new (sym (append_assoc f.acts begin (run ++ second)))
           (did_then f.acts old a f.did (begin ++ (run ++ second)) new
           (did_list (front ++ (Put abstractauto_address 0 ∷ behind)) (begin ++ (run ++ second)) a new shaped did));
-      fetches = subst (λ v. Fetches (values ++ (take taken read ++ v ∷ [])) ((f.acts ++ begin) ++ (run ++ second))) (sym words.is)
-          (in_run values (take taken read ++ joined words.low words.high ∷ []) (f.acts ++ begin) run second (more_fetched values f.acts begin f.fetches)
+      fetches = subst (λ v. Fetches wide (values ++ (take taken read ++ v ∷ [])) ((f.acts ++ begin) ++ (run ++ second))) (sym words.is)
+          (in_run values (take taken read ++ joined words.low words.high ∷ []) (f.acts ++ begin) run second (more_fetched wide values f.acts begin f.fetches)
           (RunFetches.up_to_error read taken r.reads polls cleared double asked last ended words.low words.high r.are few (polls_leave r.ran.words) r.ran.idle
           some lower_first (polls_leave found.ran.ran.words) found.ran.ran.idle found.ran.error_is));
     }
 
-run_fetched : (size : Size) (address count handed : ℕ) (values more : List ℕ) (old a b : Tells) → Fetched values old a
-    → RanLoads size address count handed more a b → Fetched (values ++ more) old b
+run_fetched : (size : Size) (address count handed : ℕ) (values more : List ℕ) (old a b : Tells) → Fetched (is_wide size) values old a
+    → RanLoads size address count handed more a b → Fetched (is_wide size) (values ++ more) old b
 run_fetched size address count handed values more old a b f (RanLoads.whole read value last mid within r error words are) =
-    subst (λ xs. Fetched (values ++ xs) old b) (sym are) (whole_fetched values read value last old a mid b f r error words)
+    subst (λ xs. Fetched (is_wide size) (values ++ xs) old b) (sym are) (whole_fetched (is_wide size) values read value last old a mid b f r error words)
 run_fetched size address count handed values more old a b f (RanLoads.short read made value last mid then within r error words few x8 are) =
-    subst (λ xs. Fetched (values ++ xs) old b) (sym are)
-    (short_fetched values read made value last _ old a mid then b f r (some_shown last 1 error (λ n. omega (arith, n))) (omega (arith, few)) words x8)
+    subst (λ xs. Fetched (is_wide size) (values ++ xs) old b) (sym are)
+    (short_fetched (is_wide size) values read made value last _ old a mid then b f r (some_shown last 1 error (λ n. omega (arith, n))) (omega
+    (arith, few)) words x8)
 
-loads_fetched : (size : Size) (address block : ℕ) (old a : Tells) (values : List ℕ) (b : Tells) → Fetched [] old a → LoadsOn size address block a values b
-    → Fetched values old b
+loads_fetched : (size : Size) (address block : ℕ) (old a : Tells) (values : List ℕ) (b : Tells) → Fetched (is_wide size) [] old a
+    → LoadsOn size address block a values b
+    → Fetched (is_wide size) values old b
 loads_fetched size address block old a _ _ f (LoadsOn.first b started) =
-    fetched_calls [] old a b f (started_calls (element_load_word size) size address a b started)
+    fetched_calls (is_wide size) [] old a b f (started_calls (element_load_word size) size address a b started)
 loads_fetched size address block old a _ _ f (LoadsOn.next values value mid b on r) =
-    ran_fetched next_word value values old mid r.mid b (loads_fetched size address block old a values mid f on) r.ran r.words
+    ran_fetched (is_wide size) next_word value values old mid r.mid b (loads_fetched size address block old a values mid f on) r.ran r.words
 loads_fetched size address block old a _ _ f (LoadsOn.ran values more mid b on r) =
     run_fetched size address block (length values) values more old mid b (loads_fetched size address block old a values mid f on) r
 
 pub load_fetched : (size : Size) (address count : ℕ) (values : List ℕ) (old new : Tells) → LoadRuns size address count old values new
-    → Fetched values old new
+    → Fetched (is_wide size) values old new
 load_fetched size address count values old new r =
-    let f : Fetched [] old r.first = fetched_calls [] old old r.first (fetched_none old) (saved_calls r.x8 r.x9 old r.first r.saved) in
-    let g : Fetched r.inside.front old r.inside.mid = loads_fetched size address count old r.first r.inside.front r.inside.mid f r.inside.on in
-    let k : Fetched (r.inside.front ++ r.inside.last ∷ []) old r.last =
-    register_fetched x9_number r.inside.last r.inside.front old r.inside.mid r.last g r.inside.read in
-    subst (λ xs. Fetched xs old new) (sym r.inside.are)
-    (fetched_calls (r.inside.front ++ r.inside.last ∷ []) old r.last new k (back_calls r.x8 r.x9 r.last new r.put_back))
+    let f : Fetched (is_wide size) [] old r.first = fetched_calls (is_wide size) [] old old r.first (fetched_none (is_wide size) old)
+    (saved_calls r.x8 r.x9 old r.first r.saved) in
+    let g : Fetched (is_wide size) r.inside.front old r.inside.mid = loads_fetched size address count old r.first r.inside.front r.inside.mid f r.inside.on in
+    let k : Fetched (is_wide size) (r.inside.front ++ r.inside.last ∷ []) old r.last =
+    register_fetched (is_wide size) x9_number r.inside.last r.inside.front old r.inside.mid r.last g r.inside.read in
+    subst (λ xs. Fetched (is_wide size) xs old new) (sym r.inside.are)
+    (fetched_calls (is_wide size) (r.inside.front ++ r.inside.last ∷ []) old r.last new k (back_calls r.x8 r.x9 r.last new r.put_back))
 
 -- the last words were read behind an error, and a poll behind what puts x8 back showed none
-refused_fetched : (value x8 : ℕ) (values : List ℕ) (old mid last new : Tells) → Fetched values old mid → Handed 3 value mid last
-    → RegisterWritten x8_number x8 last new → Fetched (values ++ value ∷ []) old new
-refused_fetched value x8 values old mid last new f r w =
+refused_fetched : (wide : Bool) (value x8 : ℕ) (values : List ℕ) (old mid last new : Tells) → Fetched wide values old mid → Handed 3 value mid last
+    → RegisterWritten x8_number x8 last new → Fetched wide (values ++ value ∷ []) old new
+refused_fetched wide value x8 values old mid last new f r w =
     let command : List Act = command_acts [] next_word r.ran.ran.words r.ran.last in
     let words : List Act = Got data0_address r.words.low ∷ Got data1_address r.words.high ∷ [] in
     let between : List Act = (double_written x8 ++ Put command_address (transfer_word true x8_number) ∷ []) ++ map poll_act w.ran.words in
@@ -337,9 +344,9 @@ refused_fetched value x8 values old mid last new f r w =
       did = did_list (f.acts ++ (command ++ tail)) ((f.acts ++ command) ++ tail) old new (sym (append_assoc f.acts command tail))
           (did_then f.acts old mid f.did (command ++ tail) new
           (did_then command mid r.mid r.ran.ran.did tail new (did_then words r.mid last r.words.did (between ++ end) new w.ran.did)));
-      fetches = subst (λ v. Fetches (values ++ v ∷ []) ((f.acts ++ command) ++ tail)) (sym r.words.is)
+      fetches = subst (λ v. Fetches wide (values ++ v ∷ []) ((f.acts ++ command) ++ tail)) (sym r.words.is)
           (polled_behind values (f.acts ++ command) words between (clearing (error_shown w.last)) w.last r.words.low r.words.high
-          (more_fetched values f.acts command f.fetches) lower_first (giving_leaves x8_number x8 w.ran.words) w.ran.idle w.error_is);
+          (more_fetched wide values f.acts command f.fetches) lower_first (giving_leaves x8_number x8 w.ran.words) w.ran.idle w.error_is);
     }
 
 no_memory : (G : Type 0) (e : AccessFault) → PlainMemory 0 ⊥ e → IfMemory G e
@@ -359,10 +366,10 @@ lost_memory G (access_fault.Run why) loses = tt
 lost_memory G (access_fault.Odd shown) loses = tt
 
 -- whatever its calls were
-none_of : (old new : Tells) (e : AccessFault) → Calls old new → IfMemory (Fetched [] old new) e
-none_of old new e c = always e (record { acts = c.acts; did = c.did; fetches = none_fetched c.acts })
+none_of : (wide : Bool) (old new : Tells) (e : AccessFault) → Calls old new → IfMemory (Fetched wide [] old new) e
+none_of wide old new e c = always e (record { acts = c.acts; did = c.did; fetches = none_fetched c.acts })
   where
-    always : (x : AccessFault) → Fetched [] old new → IfMemory (Fetched [] old new) x
+    always : (x : AccessFault) → Fetched wide [] old new → IfMemory (Fetched wide [] old new) x
     always (access_fault.Dmi why) p = tt
     always (access_fault.Memory at) p = p
     always (access_fault.Register number) p = tt
@@ -370,10 +377,11 @@ none_of old new e c = always e (record { acts = c.acts; did = c.did; fetches = n
     always (access_fault.Run why) p = tt
     always (access_fault.Odd shown) p = tt
 
-asking_memory : (looks more old_count new_count : ℕ) (old new : Tells) (e : AccessFault) → AskLoadsFailed looks more old_count new_count old new e
+asking_memory : (wide : Bool) (looks more old_count new_count : ℕ) (old new : Tells) (e : AccessFault)
+    → AskLoadsFailed wide looks more old_count new_count old new e
     → PlainMemory 0 ⊥ e
-asking_memory looks more old_count new_count old new e (AskLoadsFailed.in_run f) = behind_plain _ _ _ 0 ⊥ old_count new_count old new e f
-asking_memory looks more old_count new_count old new e (AskLoadsFailed.in_switch front last mid begins r why is b) = subst (PlainMemory 0 ⊥) (sym is) tt
+asking_memory wide looks more old_count new_count old new e (AskLoadsFailed.in_run f) = behind_plain _ _ _ 0 ⊥ old_count new_count old new e f
+asking_memory wide looks more old_count new_count old new e (AskLoadsFailed.in_switch front last mid begins r why is b) = subst (PlainMemory 0 ⊥) (sym is) tt
 
 hand_memory : (old_count new_count : ℕ) (old new : Tells) (e : AccessFault) → HandFailed old_count new_count old new e → PlainMemory 0 ⊥ e
 hand_memory old_count new_count old new _ (HandFailed.in_run e f) = command_plain [] next_word 0 ⊥ old_count new_count old new e f
@@ -382,19 +390,19 @@ hand_memory old_count new_count old new _ (HandFailed.in_last_words mid r why f)
 hand_memory old_count new_count old new _ (HandFailed.oddly shown r) = tt
 
 run_memory : (size : Size) (address count handed x8 x9 old_count new_count : ℕ) (values more : List ℕ) (old mid last new : Tells) (e : AccessFault)
-    → Fetched values old mid → RunLoadsFailed size address count handed more old_count new_count mid last e → PutBack x8 x9 last new
-    → IfMemory (Fetched (values ++ more) old new) e
+    → Fetched (is_wide size) values old mid → RunLoadsFailed size address count handed more old_count new_count mid last e → PutBack x8 x9 last new
+    → IfMemory (Fetched (is_wide size) (values ++ more) old new) e
 run_memory size address count handed x8 x9 old_count new_count values more old mid last new _ f (RunLoadsFailed.asking e looks n none within g) p =
-    no_memory (Fetched (values ++ more) old new) e (asking_memory looks n old_count new_count mid last e g)
+    no_memory (Fetched (is_wide size) (values ++ more) old new) e (asking_memory (is_wide size) looks n old_count new_count mid last e g)
 run_memory size address count handed x8 x9 old_count new_count values more old mid last new _ f (RunLoadsFailed.in_words why read end m none within a g) p = tt
 run_memory size address count handed x8 x9 old_count new_count values more old mid last new _ f
     (RunLoadsFailed.finding e read value end m then none within a words g) p =
-    no_memory (Fetched (values ++ more) old new) e (apart_plain x8_number 0 ⊥ old_count new_count then last e g)
+    no_memory (Fetched (is_wide size) (values ++ more) old new) e (apart_plain x8_number 0 ⊥ old_count new_count then last e g)
 run_memory size address count handed x8 x9 old_count new_count values more old mid last new _ f
     (RunLoadsFailed.refused read made value end m then within a error words few found are) p =
-    fetched_calls (values ++ more) old last new
-    (subst (λ xs. Fetched (values ++ xs) old last) (sym are)
-    (short_fetched values read made value end _ old mid m then last f a (some_shown end 3 error (λ n. omega (arith, n))) few words found))
+    fetched_calls (is_wide size) (values ++ more) old last new
+    (subst (λ xs. Fetched (is_wide size) (values ++ xs) old last) (sym are)
+    (short_fetched (is_wide size) values read made value end _ old mid m then last f a (some_shown end 3 error (λ n. omega (arith, n))) few words found))
     (back_calls x8 x9 last new p)
 run_memory size address count handed x8 x9 old_count new_count values more old mid last new _ f
     (RunLoadsFailed.oddly shown read end is none within a fine early fault) p = tt
@@ -402,50 +410,51 @@ run_memory size address count handed x8 x9 old_count new_count values more old m
     (RunLoadsFailed.misplaced shown read value end found m then is none within a which words x un) p = tt
 
 behind_fetched : (size : Size) (address count x8 x9 old_count new_count : ℕ) (values : List ℕ) (old first last new : Tells) (e : AccessFault)
-    → Recovers e → Fetched [] old first → LoadsFailed size address count values old_count new_count first last e → PutBack x8 x9 last new
-    → IfMemory (Fetched values old new) e
+    → Recovers e → Fetched (is_wide size) [] old first → LoadsFailed size address count values old_count new_count first last e → PutBack x8 x9 last new
+    → IfMemory (Fetched (is_wide size) values old new) e
 behind_fetched size address count x8 x9 old_count new_count values old first last new _ recovers f (LoadsFailed.in_start e none g) p =
     let failed : LoadsFailed size address count values old_count new_count first last e = LoadsFailed.in_start e none g in
     let between : Calls first last =
     causes_calls first last old_count new_count e
     (loads_causes size address count old_count new_count values first last e (no_link old_count new_count e recovers) failed) recovers in
-    subst (λ xs. IfMemory (Fetched xs old new) e) (sym none)
-    (none_of old new e (calls_then old last new (calls_then old first last (fetched_made [] old first f) between) (back_calls x8 x9 last new p)))
+    subst (λ xs. IfMemory (Fetched (is_wide size) xs old new) e) (sym none)
+    (none_of (is_wide size) old new e (calls_then old last new (calls_then old first last (fetched_made (is_wide size) [] old first f) between)
+    (back_calls x8 x9 last new p)))
 behind_fetched size address count x8 x9 old_count new_count values old first last new _ recovers f (LoadsFailed.handing e mid below on g) p =
-    no_memory (Fetched values old new) e (hand_memory old_count new_count mid last e g)
+    no_memory (Fetched (is_wide size) values old new) e (hand_memory old_count new_count mid last e g)
 behind_fetched size address count x8 x9 old_count new_count values old first last new _ recovers f (LoadsFailed.in_run e front more mid are on g) p =
-    subst (λ xs. IfMemory (Fetched xs old new) e) (sym are)
+    subst (λ xs. IfMemory (Fetched (is_wide size) xs old new) e) (sym are)
     (run_memory size address count (length front) x8 x9 old_count new_count front more old mid last new e
     (loads_fetched size address count old first front mid f on) g p)
 behind_fetched size address count x8 x9 old_count new_count values old first last new _ recovers f (LoadsFailed.refused front v mid are below on r) p =
-    subst (λ xs. Fetched xs old new) (sym are)
-    (fetched_calls (front ++ v ∷ []) old p.mid new
-    (refused_fetched v x8 front old mid last p.mid (loads_fetched size address count old first front mid f on) r p.first)
+    subst (λ xs. Fetched (is_wide size) xs old new) (sym are)
+    (fetched_calls (is_wide size) (front ++ v ∷ []) old p.mid new
+    (refused_fetched (is_wide size) v x8 front old mid last p.mid (loads_fetched size address count old first front mid f on) r p.first)
     (written_calls x9_number x9 p.mid new p.second))
 behind_fetched size address count x8 x9 old_count new_count values old first last new _ recovers f (LoadsFailed.in_last e mid all on g) p =
-    no_memory (Fetched values old new) e (read_plain x9_number 0 ⊥ old_count new_count mid last e g)
+    no_memory (Fetched (is_wide size) values old new) e (read_plain x9_number 0 ⊥ old_count new_count mid last e g)
 
 saved_fetched : (size : Size) (address count x8 x9 old_count new_count : ℕ) (values : List ℕ) (old first new : Tells) (e : AccessFault)
-    → Fetched [] old first
+    → Fetched (is_wide size) [] old first
     → SavedFailed (LoadsInside size address count values) (LoadsFailed size address count values) x8 x9 old_count new_count first new e
-    → IfMemory (Fetched values old new) e
+    → IfMemory (Fetched (is_wide size) values old new) e
 saved_fetched size address count x8 x9 old_count new_count values old first new e f (SavedFailed.inside g loses) =
-    lost_memory (Fetched values old new) e loses
+    lost_memory (Fetched (is_wide size) values old new) e loses
 saved_fetched size address count x8 x9 old_count new_count values old first new e f (SavedFailed.behind last was_count is_count g recovers p) =
     behind_fetched size address count x8 x9 was_count is_count values old first last new e recovers f g p
 saved_fetched size address count x8 x9 old_count new_count values old first new e f (SavedFailed.in_restore last g p) =
-    no_memory (Fetched values old new) e (put_back_plain x8 x9 0 ⊥ old_count new_count last new e p)
+    no_memory (Fetched (is_wide size) values old new) e (put_back_plain x8 x9 0 ⊥ old_count new_count last new e p)
 saved_fetched size address count x8 x9 old_count new_count values old first new e f
     (SavedFailed.in_restore_behind last was_count is_count was g recovers p) =
-    no_memory (Fetched values old new) e (put_back_plain x8 x9 0 ⊥ old_count new_count last new e p)
+    no_memory (Fetched (is_wide size) values old new) e (put_back_plain x8 x9 0 ⊥ old_count new_count last new e p)
 
 pub fetched_before : (size : Size) (address count old_count new_count : ℕ) (values : List ℕ) (old new : Tells) (e : AccessFault)
-    → LoadRunsFailed size address count values old_count new_count old new e → IfMemory (Fetched values old new) e
+    → LoadRunsFailed size address count values old_count new_count old new e → IfMemory (Fetched (is_wide size) values old new) e
 fetched_before size address count old_count new_count values old new e (LoadRunsFailed.in_save none f) =
-    no_memory (Fetched values old new) e (save_plain 0 ⊥ old_count new_count old new e f)
+    no_memory (Fetched (is_wide size) values old new) e (save_plain 0 ⊥ old_count new_count old new e f)
 fetched_before size address count old_count new_count values old new e (LoadRunsFailed.saved x8 x9 first saved f) =
     saved_fetched size address count x8 x9 old_count new_count values old first new e
-    (fetched_calls [] old old first (fetched_none old) (saved_calls x8 x9 old first saved)) f
+    (fetched_calls (is_wide size) [] old old first (fetched_none (is_wide size) old) (saved_calls x8 x9 old first saved)) f
 
 pub load_block_causes : (size : Size) (address count old_count new_count : ℕ) (values : List ℕ) (old new : Tells) (e : AccessFault)
     → LinkLater old_count new_count e → LoadRunsFailed size address count values old_count new_count old new e → Causes old_count new_count old new e

@@ -1,6 +1,6 @@
 -- The clauses of a block of loads: what is loaded, what a fault leaves, and that the hart serves again.
 use Rattle.probe_run.specs.Told.{Serving}
-use Rattle.std.proofs.Common.{◌≡◌, ◌∙◌, ◌++◌, ◌∷◌, ◌≤◌, ◌<◌, ◌+◌, ◌*◌, ◌^◌, ℕ, List, [], length, take, ap, arith, Option, Some, None, refl, sym, subst}
+use Rattle.std.proofs.Common.{◌≡◌, ◌∙◌, ◌++◌, ◌∷◌, ◌≤◌, ◌<◌, ◌+◌, ◌*◌, ◌^◌, ℕ, Bool, List, [], length, take, ap, arith, Option, Some, None, refl, sym, subst}
 use Rattle.std.proofs.Common.{length-append}
 use Rattle.std.proofs.lemmas.List.{length-take-le}
 use Rattle.rv_model.specs.declared.size.Size.{Size}
@@ -18,7 +18,7 @@ use Rattle.probe_access.specs.Accesses.{IfMemory}
 use Rattle.probe_access.specs.Blocks.{BlockLoadLeft, BlockLoadedAt, element_at}
 use Rattle.probe_access.specs.ElementRuns.{HandFailed, Handed, LoadRuns, LoadRunsFailed, LoadsFailed, LoadsInside, LoadsOn, StartFailed, block_program}
 use Rattle.probe_access.specs.MemoryRuns.{AroundFailed, PutBack}
-use Rattle.probe_access.specs.ReadRuns.{AskLoadsFailed, AskedLoads, RanLoads, RunLoadsFailed}
+use Rattle.probe_access.specs.ReadRuns.{is_wide, AskLoadsFailed, AskedLoads, RanLoads, RunLoadsFailed}
 use Rattle.probe_access.specs.RegisterRuns.{ReadApart}
 use Rattle.probe_access.specs.RegisterAccess.{element_load_word, next_word, x8_number, x9_number}
 use Rattle.probe_access.proofs.AccessEnd.{back_untold, saved_untold, written_untold}
@@ -54,8 +54,8 @@ pub record LoadBlockOk (size : Size) (address h : ℕ) (values : List ℕ) (old 
 handed_untold : (error value : ℕ) (old new : Tells) → Handed error value old new → old.far ≡ None → new.far ≡ None
 handed_untold error value old new r is = did_untold r.mid _ new r.words.did (did_untold old _ r.mid r.ran.ran.did is)
 
-asked_untold : (read : List ℕ) (last : ℕ) (old new : Tells) → AskedLoads read last old new → old.far ≡ None → new.far ≡ None
-asked_untold read last old new a is = did_untold a.mid _ new a.off (did_untold old _ a.mid a.ran.did is)
+asked_untold : (wide : Bool) (read : List ℕ) (last : ℕ) (old new : Tells) → AskedLoads wide read last old new → old.far ≡ None → new.far ≡ None
+asked_untold wide read last old new a is = did_untold a.mid _ new a.off (did_untold old _ a.mid a.ran.did is)
 
 apart_untold : (number value : ℕ) (old new : Tells) → ReadApart number value old new → old.far ≡ None → new.far ≡ None
 apart_untold number value old new r is = did_untold r.mid _ new r.words.did (did_untold old _ r.mid r.ran.ran.did is)
@@ -63,9 +63,9 @@ apart_untold number value old new r is = did_untold r.mid _ new r.words.did (did
 ran_untold : (size : Size) (address count handed : ℕ) (values : List ℕ) (old new : Tells) → RanLoads size address count handed values old new
     → old.far ≡ None → new.far ≡ None
 ran_untold size address count handed values old new (RanLoads.whole read value last mid within a error words are) is =
-    did_untold mid _ new words.did (asked_untold read last old mid a is)
+    did_untold mid _ new words.did (asked_untold (is_wide size) read last old mid a is)
 ran_untold size address count handed values old new (RanLoads.short read made value last mid then within a error words few x8 are) is =
-    apart_untold x8_number _ then new x8 (did_untold mid _ then words.did (asked_untold read last old mid a is))
+    apart_untold x8_number _ then new x8 (did_untold mid _ then words.did (asked_untold (is_wide size) read last old mid a is))
 
 loads_untold : (size : Size) (address count : ℕ) (old : Tells) (values : List ℕ) (new : Tells) → LoadsOn size address count old values new → old.far ≡ None
     → new.far ≡ None
@@ -130,11 +130,11 @@ hand_plain G old_count new_count old new _ (HandFailed.in_words mid r why f) = t
 hand_plain G old_count new_count old new _ (HandFailed.in_last_words mid r why f) = tt
 hand_plain G old_count new_count old new _ (HandFailed.oddly shown r) = tt
 
-asking_plain : (G : ℕ → Type 0) (looks more old_count new_count : ℕ) (old new : Tells) (e : AccessFault)
-    → AskLoadsFailed looks more old_count new_count old new e → PlainAt G e
-asking_plain G looks more old_count new_count old new e (AskLoadsFailed.in_run f) =
+asking_plain : (G : ℕ → Type 0) (wide : Bool) (looks more old_count new_count : ℕ) (old new : Tells) (e : AccessFault)
+    → AskLoadsFailed wide looks more old_count new_count old new e → PlainAt G e
+asking_plain G wide looks more old_count new_count old new e (AskLoadsFailed.in_run f) =
     plain_at G e (behind_plain _ _ _ 0 ⊥ old_count new_count old new e f)
-asking_plain G looks more old_count new_count old new e (AskLoadsFailed.in_switch front last mid begins r why is b) =
+asking_plain G wide looks more old_count new_count old new e (AskLoadsFailed.in_switch front last mid begins r why is b) =
     subst (λ f. PlainAt G f) (sym is) tt
 
 taken_long : (read : List ℕ) (made value : ℕ) → made ≤ length read → length (take made read ++ value ∷ []) ≡ made + 1
@@ -144,7 +144,7 @@ run_loads_plain : (size : Size) (address count old_count new_count : ℕ) (value
     → RunLoadsFailed size address count (length values) more old_count new_count old new e
     → PlainAt (λ a. UntoldLoad size address count (values ++ more) a new) e
 run_loads_plain size address count old_count new_count values more old new _ none (RunLoadsFailed.asking e looks n nothing within f) =
-    asking_plain (λ a. UntoldLoad size address count (values ++ more) a new) looks n old_count new_count old new e f
+    asking_plain (λ a. UntoldLoad size address count (values ++ more) a new) (is_wide size) looks n old_count new_count old new e f
 run_loads_plain size address count old_count new_count values more old new _ none (RunLoadsFailed.in_words why read last mid nothing within a f) = tt
 run_loads_plain size address count old_count new_count values more old new _ none
     (RunLoadsFailed.finding e read value last mid then nothing within a words f) =
@@ -156,7 +156,7 @@ run_loads_plain size address count old_count new_count values more old new _ non
     record {
       below = omega (arith, n, few, within);
       at_is = ap (element_at size address) (let e : length values + 1 + made ≡ length values + (made + 1) = omega arith in e ∙ sym n);
-      untold = apart_untold x8_number _ then new x8 (did_untold mid _ then words.did (asked_untold read last old mid a none));
+      untold = apart_untold x8_number _ then new x8 (did_untold mid _ then words.did (asked_untold (is_wide size) read last old mid a none));
     }
 run_loads_plain size address count old_count new_count values more old new _ none
     (RunLoadsFailed.oddly shown read last is nothing within a fine early fault) = tt

@@ -1,6 +1,6 @@
 -- The clauses of a load by the program buffer, where the chip is told.
 use Rattle.probe_run.specs.Told.{Serving}
-use Rattle.std.proofs.Common.{◌≡◌, ◌∙◌, ◌<◌, ◌^◌, ℕ, List, length, Option, Some, None, Ok, refl, sym, ap, subst, arith}
+use Rattle.std.proofs.Common.{◌≡◌, ◌∙◌, ◌<◌, ◌^◌, ℕ, List, length, false, Option, Some, None, Ok, refl, sym, ap, subst, arith}
 use Rattle.rv_model.specs.declared.size.Size.{Size}
 use Rattle.rv_model.specs.declared.size.Size.TheVariants.{B1, B2, B4, B8}
 use Rattle.rv_model.specs.Board.{Board, Hart}
@@ -38,6 +38,7 @@ use Rattle.probe_access.proofs.AroundTold.{
 }
 use Rattle.probe_access.proofs.AroundUntold.{PlainMemory, perform_plain, read_plain, write_plain, take_plain}
 use Rattle.debug_model.specs.Chip.{Chip}
+use Rattle.probe_access.specs.ReadRuns.{is_wide}
 use Rattle.probe_access.specs.RegisterAccess.{load_word, x8_number}
 use Rattle.probe_access.proofs.AccessEnd.{AccessEnd, access_end, access_serving, one_access, performed_untold, ready_before, written_untold}
 use Rattle.probe_access.proofs.AccessTold.{Faulted, PerformedTold, Went, faulted_told, held_as, ran_told, went_told}
@@ -75,6 +76,13 @@ size_small B1 v lt = omega arith
 size_small B2 v lt = omega arith
 size_small B4 v lt = omega arith
 size_small B8 v lt = omega arith
+
+-- without an upper word
+pub size_narrow : (size : Size) (v : ℕ) → v < 256 ^ count_of size → is_wide size ≡ false → v < 2 ^ 32
+size_narrow B1 v lt thin = omega arith
+size_narrow B2 v lt thin = omega arith
+size_narrow B4 v lt thin = omega arith
+size_narrow B8 v lt thin = absurd (let none : ⊥ = cc in none)
 
 -- ---- x8
 

@@ -1,5 +1,5 @@
 -- Where a block of loads stands at a told chip, one element after the other, and what a fault of memory leaves.
-use Rattle.std.proofs.Common.{◌≡◌, ◌∙◌, ◌<◌, ◌+◌, ◌%◌, ◌^◌, ◌++◌, ℕ, List, [], ◌∷◌, length, Option, Some, refl, sym, ap, subst, arith}
+use Rattle.std.proofs.Common.{◌≡◌, ◌∙◌, ◌<◌, ◌+◌, ◌%◌, ◌^◌, ◌++◌, ℕ, List, [], ◌∷◌, length, false, Option, Some, refl, sym, ap, subst, arith}
 use Rattle.std.proofs.Common.{length-append}
 use Rattle.rv_model.specs.declared.size.Size.{Size}
 use Rattle.rv_model.specs.Board.{Board, Hart}
@@ -19,6 +19,7 @@ use Rattle.probe_access.specs.Blocks.{LoadedEach, NotLoadedOne, element_at}
 use Rattle.probe_access.specs.Blocks.LoadedEach.{nothing as none_loaded, further as loaded_further}
 use Rattle.probe_access.specs.CommandRuns.{RanCommand}
 use Rattle.probe_access.specs.ElementRuns.{HandFailed, Handed, LoadsFailed, LoadsInside, LoadsOn, StartFailed, Started, block_program}
+use Rattle.probe_access.specs.ReadRuns.{is_wide}
 use Rattle.probe_access.specs.RegisterAccess.{element_load_word, next_word, x8_number, x9_number}
 use Rattle.probe_access.specs.RegisterRuns.{DoubleRead, RegisterRead, RegisterWritten}
 use Rattle.probe_access.proofs.AccessSteps.{WordDid}
@@ -39,7 +40,7 @@ use Rattle.probe_access.proofs.ElementWords.{
   scratched_x9,
   x9_again,
 }
-use Rattle.probe_access.proofs.LoadClauses.{size_small}
+use Rattle.probe_access.proofs.LoadClauses.{size_narrow, size_small}
 use Rattle.probe_access.proofs.NextSteps.{advanced}
 use Rattle.probe_access.proofs.NextTold.{Handing, IsProgram, NextFaulted, NextWent, RanNext, next_faulted, next_neither, next_went, ran_next}
 use Rattle.probe_access.proofs.ReadyTurns.{BoardReady, Passed, passed_turns}
@@ -59,6 +60,7 @@ pub record LoadPlace (size : Size) (address count : ℕ) (values : List ℕ) (h 
   pub last : ℕ
   pub each : LoadedEach size address s (values ++ last ∷ []) base
   pub small : last < 2 ^ 64
+  pub narrow : is_wide size ≡ false → last < 2 ^ 32
   pub ready : BoardReady base.board
   pub bus_is : base.unit.bus ≡ bus
   pub p : ℕ
@@ -131,6 +133,7 @@ element_went size address count q h values bus x s base told env each ready bus_
             access = access_on unchanged w.before w.memory base w.did.memory;
           });
       small = size_small size v (loaded_small (passed w.before base).board.memory a size v (passed_ready w.before base ready).memory w.did.is);
+      narrow = size_narrow size v (loaded_small (passed w.before base).board.memory a size v (passed_ready w.before base ready).memory w.did.is);
       ready = access_ready w.before w.memory base ready (λ r. subst (λ (m : Memory). MemoryReady m) (sym w.did.memory) r);
       bus_is = ap (λ (m : DebugModule). m.bus) (unit_passed w.before base) ∙ bus_is;
       p = (a + count_of size) % 2 ^ 64;

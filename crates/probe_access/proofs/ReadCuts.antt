@@ -1,5 +1,5 @@
 -- Where a run of loads by autoexec broke off at a told chip: at one of its elements, before its access or behind it.
-use Rattle.std.proofs.Common.{◌≡◌, ◌∙◌, ◌++◌, ◌≤◌, ◌<◌, ◌+◌, ◌^◌, ℕ, zero, suc, List, [], ◌∷◌, length, map, false, Option, Some, None, refl, sym, ap, subst, append_assoc, arith}
+use Rattle.std.proofs.Common.{◌≡◌, ◌∙◌, ◌++◌, ◌≤◌, ◌<◌, ◌+◌, ◌^◌, ℕ, zero, suc, List, [], ◌∷◌, length, map, Bool, true, false, Option, Some, None, refl, sym, ap, subst, append_assoc, arith}
 use Rattle.std.proofs.Common.{append-nil, length-append}
 use Rattle.rv_model.specs.declared.size.Size.{Size}
 use Rattle.rv_model.specs.Board.{Hart}
@@ -32,7 +32,7 @@ use Rattle.probe_access.specs.Blocks.{LoadedEach, element_at}
 use Rattle.probe_access.specs.CommandRuns.{BehindBegun, EndedBehind, clearing, error_shown, poll_act, shows_busy}
 use Rattle.probe_access.specs.CommandRuns.BehindBegun.{clears, polls, together}
 use Rattle.probe_access.specs.Cuts.{IfCut, LoadLeaves}
-use Rattle.probe_access.specs.ReadRuns.{AskLoadsFailed, AskedLoads, LoadsAsking, ReadFront, Reads, RunLoadsFailed, load_ops, reads_of, run_reads}
+use Rattle.probe_access.specs.ReadRuns.{AskLoadsFailed, AskedLoads, LoadsAsking, ReadFront, Reads, RunLoadsFailed, element_ops, is_wide, load_ops, reads_of, run_reads}
 use Rattle.probe_access.specs.RegisterAccess.{joined, next_word, x8_number}
 use Rattle.probe_access.specs.RegisterRuns.{DoubleRead}
 use Rattle.probe_access.proofs.Along.{AtSites, SiteActs, Split, did_sites, site_acts-split}
@@ -53,6 +53,7 @@ use Rattle.probe_access.proofs.AutoReads.{
   half_ran,
   look_read,
   lower_read,
+  only_read,
   reads_begun,
   reads_ran,
   upper_read,
@@ -75,6 +76,7 @@ use Rattle.probe_access.proofs.NextCuts.{NextFits, stage_hung}
 use Rattle.probe_access.proofs.NextSteps.{going}
 use Rattle.probe_access.proofs.NextTold.{begun, handed}
 use Rattle.probe_access.proofs.PerformTold.{held_behind}
+use Rattle.probe_access.proofs.ReadCalls.{reads_first}
 use Rattle.probe_access.proofs.ReadEnds.{ReadsEnd, ReadsGone, ReadsLeft, reads_gone, reads_polled, run_done}
 use Rattle.probe_access.proofs.ReadEnds.ReadsEnd.{all_end, short_end, fault_end}
 use Rattle.probe_access.proofs.ReadEnds.ReadsGone.{all_gone, short_gone, fault_gone}
@@ -143,21 +145,26 @@ half_cut e given high t f below (half_lost good behind cut l) =
 -- ---- among the operations of the one call
 
 -- so many elements are to be read, with looks in front of some, and the first poll
-data ReadOps : ℕ → List DmiOp → Type 0 where
-  at_last : ReadOps 0 (Read abstractcs_address ∷ [])
-  a_look : (n : ℕ) (ops : List DmiOp) → ReadOps n ops → ReadOps n (Read abstractcs_address ∷ ops)
-  an_element : (n : ℕ) (ops : List DmiOp) → ReadOps n ops → ReadOps (suc n) (Read data1_address ∷ Read data0_address ∷ ops)
+data ReadOps (wide : Bool) : ℕ → List DmiOp → Type 0 where
+  at_last : ReadOps wide 0 (Read abstractcs_address ∷ [])
+  a_look : (n : ℕ) (ops : List DmiOp) → ReadOps wide n ops → ReadOps wide n (Read abstractcs_address ∷ ops)
+  an_element : (n : ℕ) (ops : List DmiOp) → ReadOps wide n ops → ReadOps wide (suc n) (Read data1_address ∷ Read data0_address ∷ ops)
+  a_narrow : (n : ℕ) (ops : List DmiOp) → wide ≡ false → ReadOps wide n ops → ReadOps wide (suc n) (Read data0_address ∷ ops)
 
-looks_ops : (looks n : ℕ) (ops : List DmiOp) → ReadOps n ops → ReadOps n (looks_of looks ++ ops)
-looks_ops zero n ops r = r
-looks_ops (suc looks) n ops r = a_look n (looks_of looks ++ ops) (looks_ops looks n ops r)
+looks_ops : (wide : Bool) (looks n : ℕ) (ops : List DmiOp) → ReadOps wide n ops → ReadOps wide n (looks_of looks ++ ops)
+looks_ops wide zero n ops r = r
+looks_ops wide (suc looks) n ops r = a_look n (looks_of looks ++ ops) (looks_ops wide looks n ops r)
 
-reads_ops : (looks n : ℕ) → ReadOps n (reads_of looks n ++ Read abstractcs_address ∷ [])
-reads_ops looks zero = at_last
-reads_ops looks (suc n) =
-    subst (ReadOps (suc n)) (sym (append_assoc (looks_of looks) (Read data1_address ∷ Read data0_address ∷ reads_of looks n) (Read abstractcs_address ∷ [])))
-    (looks_ops looks (suc n) (Read data1_address ∷ Read data0_address ∷ (reads_of looks n ++ Read abstractcs_address ∷ []))
-    (an_element n (reads_of looks n ++ Read abstractcs_address ∷ []) (reads_ops looks n)))
+one_more : (wide : Bool) (n : ℕ) (ops : List DmiOp) → ReadOps wide n ops → ReadOps wide (suc n) (element_ops wide ++ ops)
+one_more true n ops r = an_element n ops r
+one_more false n ops r = a_narrow n ops refl r
+
+reads_ops : (wide : Bool) (looks n : ℕ) → ReadOps wide n (reads_of wide looks n ++ Read abstractcs_address ∷ [])
+reads_ops wide looks zero = at_last
+reads_ops wide looks (suc n) =
+    subst (ReadOps wide (suc n)) (sym (reads_first wide looks n))
+    (looks_ops wide looks (suc n) (element_ops wide ++ (reads_of wide looks n ++ Read abstractcs_address ∷ []))
+    (one_more wide n (reads_of wide looks n ++ Read abstractcs_address ∷ []) (reads_ops wide looks n)))
 
 -- at a look
 look_cut : (e : LoadRun) (given : List ℕ) (mid t : Site) → RunFits e → length given + 1 < e.count → SiteCut (Read abstractcs_address) mid t
@@ -185,8 +192,19 @@ lower_cut e given high mid t f below (was_performed result one) at =
     reads_cut e (given ++ joined (value_of result) high ∷ []) t f (omega (arith, n, below))
     (lower_read e given (value_of result) high mid t f (omega (arith, n, below)) (record { result = result; one = one; value_is = refl }) at)
 
+-- at the only word
+only_cut : (e : LoadRun) (given : List ℕ) (mid t : Site) → RunFits e → length given + 2 < e.count → is_wide e.size ≡ false
+    → SiteCut (Read data0_address) mid t → ReadsAt e given mid → HungHere e t
+only_cut e given mid t f below thin (unperformed d) at =
+    reads_cut e given t f (omega (arith, below)) (reads_ran e given d.deeds mid t f (omega (arith, below)) d.is at)
+only_cut e given mid t f below thin (was_performed result one) at =
+    let n : length (given ++ value_of result ∷ []) ≡ length given + 1 = all_but_last given (value_of result) in
+    reads_cut e (given ++ value_of result ∷ []) t f (omega (arith, n, below))
+    (only_read e given (value_of result) mid t f (omega (arith, n, below)) thin (record { result = result; one = one; value_is = refl }) at)
+
 ops_cut : (e : LoadRun) (given : List ℕ) (n : ℕ) (ops : List DmiOp) (done : List Done) (op : DmiOp) (left : List DmiOp) (s mid t : Site) → RunFits e
-    → length given + 1 + n < e.count → ReadOps n ops → map op_of done ++ op ∷ left ≡ ops → ReadsAt e given s → OperationsAt done s mid → SiteCut op mid t
+    → length given + 1 + n < e.count → ReadOps (is_wide e.size) n ops → map op_of done ++ op ∷ left ≡ ops → ReadsAt e given s → OperationsAt done s mid
+    → SiteCut op mid t
     → HungHere e t
 ops_cut e given _ _ [] op left s mid t f below at_last asked r at cut =
     let is : op ≡ Read abstractcs_address = cc in
@@ -223,6 +241,17 @@ ops_cut e given _ _ (o ∷ p ∷ done) op left s mid t f below (an_element n ops
     ops_cut e (given ++ v ∷ []) n ops done op left at.2.0 mid t f (omega (arith, m, below)) more others
     (lower_read e given (value_of p.result) high at.0 at.2.0 f (omega (arith, m, below)) (record { result = p.result; one = two; value_is = refl })
     (upper_read e given high s at.0 f (omega (arith, below)) (record { result = o.result; one = one; value_is = refl }) r)) at.2.2 cut
+ops_cut e given _ _ [] op left s mid t f below (a_narrow n ops thin more) asked r at cut =
+    let is : op ≡ Read data0_address = cc in
+    only_cut e given mid t f (omega (arith, below)) thin (subst (λ q. SiteCut q mid t) is cut) (subst (ReadsAt e given) (sym at) r)
+ops_cut e given _ _ (o ∷ done) op left s mid t f below (a_narrow n ops thin more) asked r at cut =
+    let first : o.op ≡ Read data0_address = cc in
+    let others : map op_of done ++ op ∷ left ≡ ops = cc in
+    let one : OneOperation (Read data0_address) o.result s at.0 = subst (λ q. OneOperation q o.result s at.0) first at.1 in
+    let v : ℕ = value_of o.result in
+    let m : length (given ++ v ∷ []) ≡ length given + 1 = all_but_last given v in
+    ops_cut e (given ++ v ∷ []) n ops done op left at.0 mid t f (omega (arith, m, below)) more others
+    (only_read e given v s at.0 f (omega (arith, m, below)) thin (record { result = o.result; one = one; value_is = refl }) r) at.2 cut
 
 -- none was begun
 unbegun : (e : LoadRun) (given : List ℕ) (v : ℕ) (y : Hart) (base t : Site) → LoadDone e given v y base → length given + 1 < e.count
@@ -231,7 +260,8 @@ unbegun e given v y base t d below p = hung_here e given v y base t d below (not
 
 begins_cut : (looks n : ℕ) (e : LoadRun) (given : List ℕ) (v : ℕ) (y : Hart) (base : Site) (k : Kept) (done : List Done) (op : DmiOp) (left : List DmiOp)
     (s mid t : Site) → RunFits e → length given + 1 + n < e.count → LoadDone e given v y base → IsLoad e k
-    → map op_of done ++ op ∷ left ≡ load_ops looks n → DoneAt (going by_data0 Fine k [] e.h e.bus) e.h y base s → OperationsAt done s mid → SiteCut op mid t
+    → map op_of done ++ op ∷ left ≡ load_ops (is_wide e.size) looks n → DoneAt (going by_data0 Fine k [] e.h e.bus) e.h y base s → OperationsAt done s mid
+    → SiteCut op mid t
     → HungHere e t
 begins_cut looks n e given v y base k [] op left s mid t f below d p asked at ops cut =
     let is : op ≡ Write command_address next_word = cc in
@@ -250,14 +280,15 @@ begins_cut looks n e given v y base k [] op left s mid t f below d p asked at op
         (reads_begun e given v y base k mid t f (omega (arith, below)) d p here (write_one command_address next_word result mid t one))
 begins_cut looks n e given v y base k (o ∷ done) op left s mid t f below d p asked at ops cut =
     let first : o.op ≡ Write command_address next_word = cc in
-    let others : map op_of done ++ op ∷ left ≡ reads_of looks n ++ Read abstractcs_address ∷ [] = cc in
+    let others : map op_of done ++ op ∷ left ≡ reads_of (is_wide e.size) looks n ++ Read abstractcs_address ∷ [] = cc in
     let one : OneOperation (Write command_address next_word) o.result s ops.0 = subst (λ q. OneOperation q o.result s ops.0) first ops.1 in
-    ops_cut e given n (reads_of looks n ++ Read abstractcs_address ∷ []) done op left ops.0 mid t f below (reads_ops looks n) others
+    ops_cut e given n (reads_of (is_wide e.size) looks n ++ Read abstractcs_address ∷ []) done op left ops.0 mid t f below (reads_ops
+    (is_wide e.size) looks n) others
     (reads_begun e given v y base k s ops.0 f (omega (arith, below)) d p at (write_one command_address next_word o.result s ops.0 one)) ops.2 cut
 
 together_cut : (looks n : ℕ) (e : LoadRun) (given : List ℕ) (v : ℕ) (y : Hart) (base : Site) (k : Kept) (done : List Done) (op : DmiOp) (left : List DmiOp)
     (s mid t : Site) → RunFits e → length given + 1 + n < e.count → LoadDone e given v y base → IsLoad e k
-    → map op_of done ++ op ∷ left ≡ Write abstractauto_address 1 ∷ load_ops looks n → Stood e.h e.bus y base e.x k s → OperationsAt done s mid
+    → map op_of done ++ op ∷ left ≡ Write abstractauto_address 1 ∷ load_ops (is_wide e.size) looks n → Stood e.h e.bus y base e.x k s → OperationsAt done s mid
     → SiteCut op mid t
     → HungHere e t
 together_cut looks n e given v y base k [] op left s mid t f below d p asked st ops cut =
@@ -277,7 +308,7 @@ together_cut looks n e given v y base k [] op left s mid t f below d p asked st 
         (auto_on k e.h e.bus y base e.x mid t here (write_one abstractauto_address 1 result mid t one)))
 together_cut looks n e given v y base k (o ∷ done) op left s mid t f below d p asked st ops cut =
     let first : o.op ≡ Write abstractauto_address 1 = cc in
-    let others : map op_of done ++ op ∷ left ≡ load_ops looks n = cc in
+    let others : map op_of done ++ op ∷ left ≡ load_ops (is_wide e.size) looks n = cc in
     let one : OneOperation (Write abstractauto_address 1) o.result s ops.0 = subst (λ q. OneOperation q o.result s ops.0) first ops.1 in
     begins_cut looks n e given v y base k done op left ops.0 mid t f below d p others
     (auto_on k e.h e.bus y base e.x s ops.0 st (write_one abstractauto_address 1 o.result s ops.0 one)) ops.2 cut
@@ -327,14 +358,15 @@ HungTold e told = LoadHung e.size e.address e.count e.front e.h e.bus e.x e.s to
 
 several_cut : (looks n : ℕ) (e : LoadRun) (given : List ℕ) (v : ℕ) (y : Hart) (base : Site) (old_count new_count : ℕ) (old : Tells) (told : Option Far)
     (why : DmiFault) → RunFits e → length given + 2 + n < e.count → LoadDone e given v y base → (st : StoodTold e.h e.bus y base e.x old.far)
-    → IsLoad e st.kept → Broke [] (Several (Write abstractauto_address 1) (load_ops looks n)) old_count new_count old told why → HungTold e told
+    → IsLoad e st.kept → Broke [] (Several (Write abstractauto_address 1) (load_ops (is_wide e.size) looks n)) old_count new_count old told why
+    → HungTold e told
 several_cut looks n e given v y base old_count new_count old told why f below d st p b =
     let op : DmiOp = Write abstractauto_address 1 in
     let at : AtSites [] st.far b.mid.far = did_sites old [] b.mid st.far b.did st.is in
-    let cut : OperationsCut (op ∷ load_ops looks n) at.far.live.chip told =
-    subst (λ (m : Option Far). WhereTold (OperationsCut (op ∷ load_ops looks n)) m told) at.is b.cut in
-    let s : StoppedAt (op ∷ load_ops looks n) (site_of at.far) (site_of cut.far) =
-    stopped_at op (load_ops looks n) cut.done cut.rest cut.happened (site_of at.far) (site_of cut.far) cut.asked cut.once cut.site in
+    let cut : OperationsCut (op ∷ load_ops (is_wide e.size) looks n) at.far.live.chip told =
+    subst (λ (m : Option Far). WhereTold (OperationsCut (op ∷ load_ops (is_wide e.size) looks n)) m told) at.is b.cut in
+    let s : StoppedAt (op ∷ load_ops (is_wide e.size) looks n) (site_of at.far) (site_of cut.far) =
+    stopped_at op (load_ops (is_wide e.size) looks n) cut.done cut.rest cut.happened (site_of at.far) (site_of cut.far) cut.asked cut.once cut.site in
     record {
       far = cut.far;
       is = cut.is;
@@ -347,7 +379,7 @@ read_long values read n count long below =
     let l : length (values ++ read) ≡ length values + length read = length-append values read in omega (arith, l, long, below)
 
 polls_cut : (e : LoadRun) (given read : List ℕ) (reads : List Act) (v : ℕ) (y : Hart) (base : Site) (k : Kept) (words : List ℕ) (s mid t : Site) → RunFits e
-    → length (given ++ read) + 1 < e.count → LoadDone e given v y base → IsLoad e k → Stood e.h e.bus y base e.x k s → Reads read reads
+    → length (given ++ read) + 1 < e.count → LoadDone e given v y base → IsLoad e k → Stood e.h e.bus y base e.x k s → Reads (is_wide e.size) read reads
     → SiteActs (run_reads reads ++ map poll_act words) s mid → RanAlone mid t → HungHere e t
 polls_cut e given read reads v y base k words s mid t f below d p st r acts more =
     let split : Split (run_reads reads) (map poll_act words) s mid = site_acts-split (run_reads reads) (map poll_act words) s mid acts in
@@ -360,7 +392,8 @@ polls_cut e given read reads v y base k words s mid t f below d p st r acts more
 begun_cut : (looks n : ℕ) (e : LoadRun) (given : List ℕ) (v : ℕ) (y : Hart) (base : Site) (old_count new_count : ℕ) (old : Tells) (told : Option Far)
     (why : DmiFault) (acts : List Act) (failed : Attempt) → RunFits e → length given + 2 + n < e.count → LoadDone e given v y base
     → (st : StoodTold e.h e.bus y base e.x old.far) → IsLoad e st.kept
-    → BehindBegun (ReadFront n) (Write abstractauto_address 1) (load_ops looks n) acts failed → Broke acts failed old_count new_count old told why
+    → BehindBegun (ReadFront (is_wide e.size) n) (Write abstractauto_address 1) (load_ops (is_wide e.size) looks n) acts failed
+    → Broke acts failed old_count new_count old told why
     → HungTold e told
 begun_cut looks n e given v y base old_count new_count old told why _ _ f below d st p together b =
     several_cut looks n e given v y base old_count new_count old told why f below d st p b
@@ -391,7 +424,8 @@ begun_cut looks n e given v y base old_count new_count old told why _ _ f below 
     }
 
 busy_cut : (n : ℕ) (e : LoadRun) (given : List ℕ) (v : ℕ) (y : Hart) (base : Site) (old new : Tells) (front : List Act) (words : List ℕ) → RunFits e
-    → length given + 2 + n < e.count → LoadDone e given v y base → (st : StoodTold e.h e.bus y base e.x old.far) → IsLoad e st.kept → ReadFront n front
+    → length given + 2 + n < e.count → LoadDone e given v y base → (st : StoodTold e.h e.bus y base e.x old.far) → IsLoad e st.kept
+    → ReadFront (is_wide e.size) n front
     → Did old (front ++ map poll_act words) new → HungTold e new.far
 busy_cut n e given v y base old new _ words f below d st p (ReadFront.asked read reads long r) did =
     let all : length (given ++ read) + 2 < e.count = read_long given read n e.count long below in
@@ -405,7 +439,7 @@ busy_cut n e given v y base old new _ words f below d st p (ReadFront.asked read
 
 asking_cut : (looks n : ℕ) (e : LoadRun) (given : List ℕ) (v : ℕ) (y : Hart) (base : Site) (old_count new_count : ℕ) (old new : Tells) (why : AccessFault)
     → RunFits e → length given + 2 + n < e.count → LoadDone e given v y base → (st : StoodTold e.h e.bus y base e.x old.far) → IsLoad e st.kept
-    → LoadsAsking looks n old_count new_count old new why → IfCut (HungTold e new.far) why
+    → LoadsAsking (is_wide e.size) looks n old_count new_count old new why → IfCut (HungTold e new.far) why
 asking_cut looks n e given v y base old_count new_count old new (access_fault.Dmi why) f below d st p g =
     begun_cut looks n e given v y base old_count new_count old new.far why g.acts g.failed f below d st p g.begun g.broke
 asking_cut looks n e given v y base old_count new_count old new (access_fault.Memory at) f below d st p g = tt
@@ -417,7 +451,8 @@ asking_cut looks n e given v y base old_count new_count old new (access_fault.Od
 
 switching_cut : (n last : ℕ) (e : LoadRun) (given : List ℕ) (v : ℕ) (y : Hart) (base : Site) (old_count new_count : ℕ) (old mid : Tells) (told : Option Far)
     (why : DmiFault) (front acts : List Act) (failed : Attempt) → RunFits e → length given + 2 + n < e.count → LoadDone e given v y base
-    → (st : StoodTold e.h e.bus y base e.x old.far) → IsLoad e st.kept → ReadFront n front → EndedBehind front last old mid → Switching acts failed
+    → (st : StoodTold e.h e.bus y base e.x old.far) → IsLoad e st.kept → ReadFront (is_wide e.size) n front → EndedBehind front last old mid
+    → Switching acts failed
     → Broke acts failed old_count new_count mid told why → HungTold e told
 switching_cut n last e given v y base old_count new_count old mid told why _ _ _ f below d st p (ReadFront.asked read reads long r) ended off b =
     let all : length (given ++ read) + 2 < e.count = read_long given read n e.count long below in
@@ -441,7 +476,7 @@ switching_cut n last e given v y base old_count new_count old mid told why _ _ _
 
 asked_cut : (looks n : ℕ) (e : LoadRun) (given : List ℕ) (v : ℕ) (y : Hart) (base : Site) (old_count new_count : ℕ) (old new : Tells) (why : AccessFault)
     → RunFits e → length given + 2 + n < e.count → LoadDone e given v y base → (st : StoodTold e.h e.bus y base e.x old.far) → IsLoad e st.kept
-    → AskLoadsFailed looks n old_count new_count old new why → IfCut (HungTold e new.far) why
+    → AskLoadsFailed (is_wide e.size) looks n old_count new_count old new why → IfCut (HungTold e new.far) why
 asked_cut looks n e given v y base old_count new_count old new why f below d st p (AskLoadsFailed.in_run g) =
     asking_cut looks n e given v y base old_count new_count old new why f below d st p g
 asked_cut looks n e given v y base old_count new_count old new why f below d st p (AskLoadsFailed.in_switch front last mid begins r fault is g) =

@@ -17,7 +17,7 @@ use Rattle.probe_run.specs.Acts.{Act}
 use Rattle.probe_run.specs.Acts.Act.{Put}
 use Rattle.probe_run.specs.Opening.{clears_cmderr}
 use Rattle.probe_access.specs.CommandRuns.{clearing, error_shown, poll_act, shows_busy}
-use Rattle.probe_access.specs.ReadRuns.{Reads, run_reads}
+use Rattle.probe_access.specs.ReadRuns.{Reads, is_wide, run_reads}
 use Rattle.probe_access.specs.RegisterAccess.{joined}
 use Rattle.probe_access.proofs.Along.{SiteActs, Split, site_acts-split}
 use Rattle.probe_access.proofs.Aside.{Frozen, accessed, passed}
@@ -39,6 +39,7 @@ use Rattle.probe_access.proofs.AutoReads.{
   load_onward,
   look_read,
   lower_read,
+  only_read,
   reads_begun,
   reads_ran,
   upper_read,
@@ -61,14 +62,15 @@ use Rattle.probe_access.proofs.TransferLemmas.{Ended, RanAlone, ended_at, polls_
 front_within : (given more : List ℕ) (r count : ℕ) → length (given ++ r ∷ more) + 1 < count → length given + 1 < count
 front_within given more r count below = within_all (given ++ r ∷ more) given (r ∷ more) count refl below
 
-pub reads_done : (e : LoadRun) (given read : List ℕ) (acts : List Act) (s t : Site) → RunFits e → length (given ++ read) + 1 < e.count → Reads read acts
+pub reads_done : (e : LoadRun) (given read : List ℕ) (acts : List Act) (s t : Site) → RunFits e → length (given ++ read) + 1 < e.count
+    → Reads (is_wide e.size) read acts
     → SiteActs acts s t → ReadsAt e given s → ReadsAt e (given ++ read) t
 reads_done e given _ _ s t f below Reads.nothing p at =
     subst (λ xs. ReadsAt e xs t) (sym (append-nil given)) (subst (ReadsAt e given) (sym p) at)
 reads_done e given read _ s t f below (Reads.look _ acts word more) p at =
     reads_done e given read acts p.0 t f below more p.2
     (look_read e given p.1.result s p.0 f (within_all (given ++ read) given read e.count refl below) p.1.one at)
-reads_done e given _ _ s t f below (Reads.element values acts low high more) p at =
+reads_done e given _ _ s t f below (Reads.element values acts low high wide more) p at =
     let r : ℕ = joined low high in
     let shift : (given ++ r ∷ []) ++ values ≡ given ++ r ∷ values = append_assoc given (r ∷ []) values in
     let all : length ((given ++ r ∷ []) ++ values) + 1 < e.count = subst (λ xs. length xs + 1 < e.count) (sym shift) below in
@@ -76,9 +78,15 @@ reads_done e given _ _ s t f below (Reads.element values acts low high more) p a
     (reads_done e (given ++ r ∷ []) values acts p.2.0 t f all more p.2.2
     (lower_read e given low high p.0 p.2.0 f (within_all ((given ++ r ∷ []) ++ values) (given ++ r ∷ []) values e.count refl all) p.2.1
     (upper_read e given high s p.0 f (front_within given values r e.count below) p.1 at)))
+reads_done e given _ _ s t f below (Reads.narrow values acts low thin more) p at =
+    let shift : (given ++ low ∷ []) ++ values ≡ given ++ low ∷ values = append_assoc given (low ∷ []) values in
+    let all : length ((given ++ low ∷ []) ++ values) + 1 < e.count = subst (λ xs. length xs + 1 < e.count) (sym shift) below in
+    subst (λ xs. ReadsAt e xs t) shift
+    (reads_done e (given ++ low ∷ []) values acts p.0 t f all more p.2
+    (only_read e given low s p.0 f (within_all ((given ++ low ∷ []) ++ values) (given ++ low ∷ []) values e.count refl all) thin p.1 at))
 
 pub run_done : (e : LoadRun) (given read : List ℕ) (reads : List Act) (v : ℕ) (y : Hart) (base : Site) (k : Kept) (s t : Site) → RunFits e
-    → length (given ++ read) + 1 < e.count → LoadDone e given v y base → IsLoad e k → Stood e.h e.bus y base e.x k s → Reads read reads
+    → length (given ++ read) + 1 < e.count → LoadDone e given v y base → IsLoad e k → Stood e.h e.bus y base e.x k s → Reads (is_wide e.size) read reads
     → SiteActs (run_reads reads) s t → ReadsAt e (given ++ read) t
 run_done e given read reads v y base k s t f below d p st r acts =
     reads_done e given read reads acts.2.0 t f below r acts.2.2

@@ -1,6 +1,6 @@
 -- Where a block of loads stands behind a run by autoexec, at a told chip: the elements that were read and are right, the one that the data words hold,
 -- and one in x9.
-use Rattle.std.proofs.Common.{◌≡◌, ◌≢◌, ◌∙◌, ◌⊎◌, ◌++◌, ◌≤◌, ◌<◌, ◌+◌, ◌^◌, ◌%◌, ◌/◌, ℕ, List, [], ◌∷◌, length, map, take, false, Option, Some, refl, sym, ap, subst, append_assoc, arith, inl, inr}
+use Rattle.std.proofs.Common.{◌≡◌, ◌≢◌, ◌∙◌, ◌⊎◌, ◌++◌, ◌≤◌, ◌<◌, ◌+◌, ◌^◌, ◌%◌, ◌/◌, ℕ, List, [], ◌∷◌, length, map, take, Bool, false, Option, Some, refl, sym, ap, subst, append_assoc, arith, inl, inr}
 use Rattle.std.proofs.Common.{append-nil, length-append}
 use Rattle.std.proofs.Math.Seq.{take-append-add, take-append_seam}
 use Rattle.rv_model.specs.declared.size.Size.{Size}
@@ -17,7 +17,7 @@ use Rattle.probe_run.specs.Acts.{Act, Tells}
 use Rattle.probe_run.specs.Acts.Act.{Put}
 use Rattle.probe_access.specs.Blocks.{element_at}
 use Rattle.probe_access.specs.CommandRuns.{clearing, error_shown, poll_act}
-use Rattle.probe_access.specs.ReadRuns.{AskLoadsFailed, AskedLoads, Misplaced, RanLoads, RunLoadsFailed, run_reads}
+use Rattle.probe_access.specs.ReadRuns.{AskLoadsFailed, AskedLoads, Misplaced, RanLoads, RunLoadsFailed, is_wide, run_reads}
 use Rattle.probe_access.specs.RegisterAccess.{element_load_word, transfer_word, x8_number}
 use Rattle.probe_access.specs.RegisterRuns.{DoubleRead, ReadApart}
 use Rattle.probe_access.specs.Accesses.{unchanged}
@@ -55,7 +55,7 @@ pub record ReadsTold (e : LoadRun) (last : ℕ) (given : List ℕ) (told : Optio
 
 pub asked_loads_told : (e : LoadRun) (given read : List ℕ) (last v : ℕ) (y : Hart) (base : Site) (old new : Tells) → RunFits e
     → length (given ++ read) + 1 < e.count → LoadDone e given v y base → (st : StoodTold e.h e.bus y base e.x old.far) → IsLoad e st.kept
-    → AskedLoads read last old new → ReadsTold e last (given ++ read) new.far
+    → AskedLoads (is_wide e.size) read last old new → ReadsTold e last (given ++ read) new.far
 asked_loads_told e given read last v y base old new f below d st program a =
     let tail : List Act = map poll_act a.ran.words ++ poll_act last ∷ clearing (error_shown last) in
     let at : AtSites (run_reads a.reads ++ tail) st.far a.mid.far = did_sites old (run_reads a.reads ++ tail) a.mid st.far a.ran.did st.is in
@@ -134,6 +134,7 @@ place_done size address count values h bus x s told pl = record {
   given_is = sym (append-nil values);
   each = pl.each;
   small = pl.small;
+  narrow = pl.narrow;
   ready = pl.ready;
   bus_is = pl.bus_is;
   held = pl.set.then.stood.held;
@@ -154,6 +155,7 @@ done_place e given v q y base told d g = record {
   last = v;
   each = d.each;
   small = d.small;
+  narrow = d.narrow;
   ready = d.ready;
   bus_is = d.bus_is;
   p = d.p;
@@ -182,7 +184,7 @@ run_within values read count below = let n : length (values ++ read) ≡ length 
 
 pub run_asked : (size : Size) (address count : ℕ) (values read : List ℕ) (last h : ℕ) (bus : BusUnit) (x : Hart) (s : Site) (old new : Tells)
     → BlockAt size address count x s → length values + 2 + length read < count → LoadPlace size address count values h bus x s old.far
-    → AskedLoads read last old new → ReadsTold (run_of size address count h bus x s values) last (values ++ read) new.far
+    → AskedLoads (is_wide size) read last old new → ReadsTold (run_of size address count h bus x s values) last (values ++ read) new.far
 run_asked size address count values read last h bus x s old new env within pl a =
     asked_loads_told (run_of size address count h bus x s values) values read last pl.last (scratched pl.p pl.last x) pl.base old new
     (place_fits size address count values h bus x s old.far env pl) (run_within values read count within)
@@ -410,18 +412,20 @@ placed e last values read value x8 mid then new far f front within is which (fau
     (at_made e (length values) (length d.more) (length good + 1) x8 (omega (arith, g))
     (eight_is e good v x8 y base next new.far f d (omega (arith, m, l, within)) w))
 
-asking_only : (G : ℕ → Type 0) (looks more old_count new_count : ℕ) (old new : Tells) (e : AccessFault)
-    → AskLoadsFailed looks more old_count new_count old new e → OnlyAt G e
-asking_only G looks more old_count new_count old new e (AskLoadsFailed.in_run f) = clean_at G e (behind_clean _ _ _ old_count new_count old new e f)
-asking_only G looks more old_count new_count old new e (AskLoadsFailed.in_switch front last mid made r why is b) =
+asking_only : (G : ℕ → Type 0) (wide : Bool) (looks more old_count new_count : ℕ) (old new : Tells) (e : AccessFault)
+    → AskLoadsFailed wide looks more old_count new_count old new e → OnlyAt G e
+asking_only G wide looks more old_count new_count old new e (AskLoadsFailed.in_run f) = clean_at G e (behind_clean _ _ _ old_count new_count old new e f)
+asking_only G wide looks more old_count new_count old new e (AskLoadsFailed.in_switch front last mid made r why is b) =
     subst (λ f. OnlyAt G f) (sym is) tt
 
-pub run_loads_only : (size : Size) (address count : ℕ) (values more : List ℕ) (old_count new_count h : ℕ) (bus : BusUnit) (x : Hart) (s : Site) (old new : Tells)
+pub run_loads_only : (size : Size) (address count : ℕ) (values more : List ℕ) (old_count new_count h : ℕ) (bus : BusUnit) (x : Hart) (s : Site)
+    (old new : Tells)
     (e : AccessFault) → BlockAt size address count x s → LoadPlace size address count values h bus x s old.far
     → RunLoadsFailed size address count (length values) more old_count new_count old new e
     → OnlyAt (λ at. LeftWith (LoadFault size address count (values ++ more) at h bus x s) h bus x new.far) e
 run_loads_only size address count values more old_count new_count h bus x s old new _ env pl (RunLoadsFailed.asking e looks n none within f) =
-    asking_only (λ at. LeftWith (LoadFault size address count (values ++ more) at h bus x s) h bus x new.far) looks n old_count new_count old new e f
+    asking_only (λ at. LeftWith (LoadFault size address count (values ++ more) at h bus x s) h bus x new.far)
+    (is_wide size) looks n old_count new_count old new e f
 run_loads_only size address count values more old_count new_count h bus x s old new _ env pl (RunLoadsFailed.in_words why read last mid none within a f) = tt
 run_loads_only size address count values more old_count new_count h bus x s old new _ env pl
     (RunLoadsFailed.finding e read value last mid then none within a words f) =

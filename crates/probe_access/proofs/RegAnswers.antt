@@ -155,7 +155,7 @@ read_told_by number value last h bus y base w k mid new f is fine (taken v held 
     }
 read_told_by number value last h bus y base w k mid new f is fine (denied none error st) words = absurd (three_not_zero (error_shown last) error fine)
 
-apart_told : (number value h : ℕ) (bus : BusUnit) (y : Hart) (base : Site) (w : Hart) (old new : Tells) → number < 2 ^ 16 → StoodTold h bus y base w old.far
+pub apart_told : (number value h : ℕ) (bus : BusUnit) (y : Hart) (base : Site) (w : Hart) (old new : Tells) → number < 2 ^ 16 → StoodTold h bus y base w old.far
     → ReadApart number value old new → ReadTold number value h bus y base w new.far
 apart_told number value h bus y base w old new small st r =
     let c : CommandTold false number r.ran.last h bus y base w st.kept r.mid.far =

@@ -34,7 +34,7 @@ use Rattle.probe_access.proofs.WrittenReady.{written_ready}
 -- ---- the flag in dcsr
 
 abbrev pub flag_fields : Bool → Dcsr → Dcsr
-flag_fields on d = record d { step = on }
+flag_fields on d = record d { step = on; stepie = on }
 
 flag_read_back : (on : Bool) (x : Hart) → dcsr_of_word (with_flag on (dcsr_value x.debug)) ≡ flag_fields on (dcsr_of x.debug)
 flag_read_back on x =

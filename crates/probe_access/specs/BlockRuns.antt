@@ -27,35 +27,37 @@ LeavesError (Got address value) = Unit {0}
 LeavesError (Put address value) = address ≢ abstractcs_address
 
 -- the values of a run by autoexec, whose words were read with no poll between, and of the data words behind it
-pub data RunFetches : List ℕ → List Act → Type 0 where
+pub data RunFetches (wide : Bool) : List ℕ → List Act → Type 0 where
   -- a poll behind them showed neither a command under way nor an error, and nothing between cleared an error that a word read too early has set. Then
   -- autoexec was switched off, and the data words were read
-  whole : (read : List ℕ) (words between double : List Act) (last low high : ℕ) → Reads read words → All LeavesError between → shows_busy last ≡ false
+  whole : (read : List ℕ) (words between double : List Act) (last low high : ℕ) → Reads wide read words → All LeavesError between → shows_busy last ≡ false
       → error_shown last ≡ no_error → WordsRead low high double
-      → RunFetches (read ++ joined low high ∷ []) (words ++ (between ++ poll_act last ∷ Put abstractauto_address 0 ∷ double))
+      → RunFetches wide (read ++ joined low high ∷ []) (words ++ (between ++ poll_act last ∷ Put abstractauto_address 0 ∷ double))
   -- it showed an error: some in front were taken, as many as x8 says, which was read behind the data words; a poll then showed no error
-  up_to_error : (read : List ℕ) (taken : ℕ) (words between cleared double asked : List Act) (last ended low high : ℕ) → Reads read words → taken ≤ length read
+  up_to_error : (read : List ℕ) (taken : ℕ) (words between cleared double asked : List Act) (last ended low high : ℕ) → Reads wide read words
+      → taken ≤ length read
       → All LeavesError between → shows_busy last ≡ false → error_shown last ≢ no_error → WordsRead low high double → All LeavesError asked
       → shows_busy ended ≡ false → error_shown ended ≡ no_error
-      → RunFetches (take taken read ++ joined low high ∷ [])
+      → RunFetches wide (take taken read ++ joined low high ∷ [])
       (words ++ (between ++ poll_act last ∷ (cleared ++ (double ++ (Put command_address (transfer_word false x8_number) ∷ (asked ++ poll_act ended ∷ []))))))
 
 -- each value was read from the data words, and a poll in front of them showed neither a command under way nor an error; or a poll behind them did, between
 -- which nothing cleared an error that a word read too early has set; or they were read in a run
-pub data Fetches : List ℕ → List Act → Type 0 where
-  nothing : (acts : List Act) → Fetches [] acts
-  polled_first : (values : List ℕ) (front rest words : List Act) (last low high : ℕ) → Fetches values front → shows_busy last ≡ false
+pub data Fetches (wide : Bool) : List ℕ → List Act → Type 0 where
+  nothing : (acts : List Act) → Fetches wide [] acts
+  polled_first : (values : List ℕ) (front rest words : List Act) (last low high : ℕ) → Fetches wide values front → shows_busy last ≡ false
       → error_shown last ≡ no_error → WordsRead low high words
-      → Fetches (values ++ joined low high ∷ []) (front ++ poll_act last ∷ (words ++ rest))
-  polled_behind : (values : List ℕ) (front words between rest : List Act) (last low high : ℕ) → Fetches values front → WordsRead low high words
+      → Fetches wide (values ++ joined low high ∷ []) (front ++ poll_act last ∷ (words ++ rest))
+  polled_behind : (values : List ℕ) (front words between rest : List Act) (last low high : ℕ) → Fetches wide values front → WordsRead low high words
       → All LeavesError between → shows_busy last ≡ false → error_shown last ≡ no_error
-      → Fetches (values ++ joined low high ∷ []) (front ++ (words ++ (between ++ poll_act last ∷ rest)))
-  in_run : (values read : List ℕ) (front run rest : List Act) → Fetches values front → RunFetches read run → Fetches (values ++ read) (front ++ (run ++ rest))
+      → Fetches wide (values ++ joined low high ∷ []) (front ++ (words ++ (between ++ poll_act last ∷ rest)))
+  in_run : (values read : List ℕ) (front run rest : List Act) → Fetches wide values front → RunFetches wide read run
+      → Fetches wide (values ++ read) (front ++ (run ++ rest))
 
-pub record Fetched (values : List ℕ) (old new : Tells) : Type 0 where
+pub record Fetched (wide : Bool) (values : List ℕ) (old new : Tells) : Type 0 where
   pub acts : List Act
   pub did : Did old acts new
-  pub fetches : Fetches values acts
+  pub fetches : Fetches wide values acts
 
 -- ---- what a fault follows
 

@@ -1,10 +1,12 @@
 -- The calls of a run of a block's loads by autoexec: a command hands out what x9 holds and makes the access of the next element, and each read of
--- data0 takes the word that was handed out and starts the command again, with no poll between. Where a word was read too early, or memory refused an
--- element, x8 says how many accesses were made, and so which words were read in front of the error.
+-- data0 takes the word that was handed out and starts the command again, with no poll between. data1 is read in front of it where elements have an upper
+-- word. Where a word was read too early, or memory refused an element, x8 says how many accesses were made, and so which words were read in front of the
+-- error.
 -- RISC-V Debug Specification 1.0, "Abstract Command Autoexec" and "Abstract Control and Status" (cmderr): with an error set no command starts. That
 -- the first comes by a command, that data0 starts the others, and that looks may stand between them, is this project's own choice.
-use Rattle.std.specs.Prelude.{◌≡◌, ◌≢◌, ◌⊎◌, ◌<◌, ◌≤◌, ◌+◌, ◌++◌, ◌∷◌, ℕ, zero, suc, List, [], length, take, drop, slice_index_or}
+use Rattle.std.specs.Prelude.{◌≡◌, ◌≢◌, ◌⊎◌, ◌<◌, ◌≤◌, ◌+◌, ◌++◌, ◌∷◌, ℕ, zero, suc, List, [], length, take, drop, slice_index_or, Bool, true, false}
 use Rattle.rv_model.specs.declared.size.Size.{Size}
+use Rattle.rv_model.specs.declared.size.Size.TheVariants.{B1, B2, B4, B8}
 use Rattle.debug_model.specs.Addresses.{abstractauto_address, abstractcs_address, command_address, data0_address, data1_address}
 use Rattle.debug_model.specs.declared.dmi.DmiFault.{DmiFault}
 use Rattle.debug_model.specs.declared.dmi_op.DmiOp.{DmiOp}
@@ -24,71 +26,92 @@ use Rattle.probe_access.specs.RegisterRuns.{DoubleRead, DoubleReads, ReadApart, 
 
 -- ---- what is asked
 
--- both data words of each element were read, with looks in front of some: these are the elements
-pub data Reads : List ℕ → List Act → Type 0 where
-  nothing : Reads [] []
-  look : (values : List ℕ) (acts : List Act) (word : ℕ) → Reads values acts → Reads values (poll_act word ∷ acts)
-  element : (values : List ℕ) (acts : List Act) (low high : ℕ) → Reads values acts
-      → Reads (joined low high ∷ values) (Got data1_address high ∷ Got data0_address low ∷ acts)
+-- whether elements of a size have an upper word. One of at most 4 bytes is loaded with its upper bits 0, and its lower word is all of it
+abbrev pub is_wide : Size → Bool
+is_wide B1 = false
+is_wide B2 = false
+is_wide B4 = false
+is_wide B8 = true
+
+-- the data words of each element were read, with looks in front of some: these are the elements
+pub data Reads (wide : Bool) : List ℕ → List Act → Type 0 where
+  nothing : Reads wide [] []
+  look : (values : List ℕ) (acts : List Act) (word : ℕ) → Reads wide values acts → Reads wide values (poll_act word ∷ acts)
+  element : (values : List ℕ) (acts : List Act) (low high : ℕ) → wide ≡ true → Reads wide values acts
+      → Reads wide (joined low high ∷ values) (Got data1_address high ∷ Got data0_address low ∷ acts)
+  narrow : (values : List ℕ) (acts : List Act) (low : ℕ) → wide ≡ false → Reads wide values acts
+      → Reads wide (low ∷ values) (Got data0_address low ∷ acts)
 
 -- behind the command
 abbrev pub run_reads : List Act → List Act
 run_reads reads = Put abstractauto_address 1 ∷ Put command_address next_word ∷ reads
 
--- in one call, with the first poll
-abbrev pub reads_of : ℕ → ℕ → List DmiOp
-reads_of looks zero = []
-reads_of looks (suc n) = looks_of looks ++ (Read data1_address ∷ Read data0_address ∷ reads_of looks n)
+-- the reads of one
+abbrev pub element_ops : Bool → List DmiOp
+element_ops true = Read data1_address ∷ Read data0_address ∷ []
+element_ops false = Read data0_address ∷ []
 
-abbrev pub load_ops : ℕ → ℕ → List DmiOp
-load_ops looks more = Write command_address next_word ∷ (reads_of looks more ++ Read abstractcs_address ∷ [])
+-- how many they are
+abbrev pub own_words : Bool → ℕ
+own_words true = 2
+own_words false = 1
+
+-- in one call, with the first poll
+abbrev pub reads_of : Bool → ℕ → ℕ → List DmiOp
+reads_of wide looks zero = []
+reads_of wide looks (suc n) = looks_of looks ++ (element_ops wide ++ reads_of wide looks n)
+
+abbrev pub load_ops : Bool → ℕ → ℕ → List DmiOp
+load_ops wide looks more = Write command_address next_word ∷ (reads_of wide looks more ++ Read abstractcs_address ∷ [])
 
 -- the most operations of its elements
 abbrev pub reads_most : ℕ
 reads_most = 125
 
--- the elements of the words that such operations answer, the upper word of each first
-abbrev pub pair_of : List ℕ → ℕ
-pair_of words = joined (slice_index_or words 1 0) (slice_index_or words 0 0)
+-- the elements of the words that such operations answer, an upper word in front of its lower one
+abbrev pub element_of : Bool → List ℕ → ℕ
+element_of true words = joined (slice_index_or words 1 0) (slice_index_or words 0 0)
+element_of false words = slice_index_or words 0 0
 
-abbrev pub values_read : ℕ → ℕ → List ℕ → List ℕ
-values_read looks zero words = []
-values_read looks (suc n) words = pair_of (drop looks words) ∷ values_read looks n (drop 2 (drop looks words))
+abbrev pub values_read : Bool → ℕ → ℕ → List ℕ → List ℕ
+values_read wide looks zero words = []
+values_read wide looks (suc n) words = element_of wide (drop looks words) ∷ values_read wide looks n (drop (own_words wide) (drop looks words))
 
 -- they were asked for, the end was shown, and an error was cleared
-pub record LoadsRead (read : List ℕ) (last : ℕ) (old new : Tells) : Type 0 where
+pub record LoadsRead (wide : Bool) (read : List ℕ) (last : ℕ) (old new : Tells) : Type 0 where
   pub reads : List Act
-  pub are : Reads read reads
+  pub are : Reads wide read reads
   pub ran : EndedBehind (run_reads reads) last old new
 
 -- the same, and autoexec is off again
-pub record AskedLoads (read : List ℕ) (last : ℕ) (old new : Tells) : Type 0 where
+pub record AskedLoads (wide : Bool) (read : List ℕ) (last : ℕ) (old new : Tells) : Type 0 where
   pub reads : List Act
-  pub are : Reads read reads
+  pub are : Reads wide read reads
   pub mid : Tells
   pub ran : EndedBehind (run_reads reads) last old mid
   pub off : Did mid (Put abstractauto_address 0 ∷ []) new
 
 -- what goes before its polls, where so many elements are read
-pub data ReadFront (more : ℕ) : List Act → Type 0 where
-  asked : (read : List ℕ) (reads : List Act) → length read ≡ more → Reads read reads → ReadFront more (run_reads reads)
+pub data ReadFront (wide : Bool) (more : ℕ) : List Act → Type 0 where
+  asked : (read : List ℕ) (reads : List Act) → length read ≡ more → Reads wide read reads → ReadFront wide more (run_reads reads)
 
-abbrev pub LoadsAsking : ℕ → ℕ → ℕ → ℕ → Tells → Tells → AccessFault → Type 0
-LoadsAsking looks more old_count new_count old new e =
-    EndBehindFailed (ReadFront more) (Write abstractauto_address 1) (load_ops looks more) old_count new_count old new e
+abbrev pub LoadsAsking : Bool → ℕ → ℕ → ℕ → ℕ → Tells → Tells → AccessFault → Type 0
+LoadsAsking wide looks more old_count new_count old new e =
+    EndBehindFailed (ReadFront wide more) (Write abstractauto_address 1) (load_ops wide looks more) old_count new_count old new e
 
-pub data AskLoadsFailed (looks more old_count new_count : ℕ) (old new : Tells) (e : AccessFault) : Type 0 where
-  in_run : LoadsAsking looks more old_count new_count old new e → AskLoadsFailed looks more old_count new_count old new e
-  in_switch : (front : List Act) (last : ℕ) (mid : Tells) → ReadFront more front → EndedBehind front last old mid → (why : DmiFault) → e ≡ fault.Dmi why
-      → BrokeIn Switching old_count new_count mid new.far why → AskLoadsFailed looks more old_count new_count old new e
+pub data AskLoadsFailed (wide : Bool) (looks more old_count new_count : ℕ) (old new : Tells) (e : AccessFault) : Type 0 where
+  in_run : LoadsAsking wide looks more old_count new_count old new e → AskLoadsFailed wide looks more old_count new_count old new e
+  in_switch : (front : List Act) (last : ℕ) (mid : Tells) → ReadFront wide more front → EndedBehind front last old mid → (why : DmiFault)
+      → e ≡ fault.Dmi why → BrokeIn Switching old_count new_count mid new.far why → AskLoadsFailed wide looks more old_count new_count old new e
 
 -- ---- how far it came, with so many handed out before, and one in x9
 
 -- what was read in the run, and then the element that the data words hold: all of it; or up to the error, where words came too early
 pub data RanLoads (size : Size) (address count handed : ℕ) (values : List ℕ) (old new : Tells) : Type 0 where
-  whole : (read : List ℕ) (value last : ℕ) (mid : Tells) → handed + 2 + length read < count → AskedLoads read last old mid → error_shown last ≡ no_error
+  whole : (read : List ℕ) (value last : ℕ) (mid : Tells) → handed + 2 + length read < count → AskedLoads (is_wide size) read last old mid
+      → error_shown last ≡ no_error
       → DoubleRead value mid new → values ≡ read ++ value ∷ [] → RanLoads size address count handed values old new
-  short : (read : List ℕ) (taken value last : ℕ) (mid then : Tells) → handed + 2 + length read < count → AskedLoads read last old mid
+  short : (read : List ℕ) (taken value last : ℕ) (mid then : Tells) → handed + 2 + length read < count → AskedLoads (is_wide size) read last old mid
       → error_shown last ≡ early_error → DoubleRead value mid then → taken < length read
       → ReadApart x8_number (element_at size address (handed + 2 + taken)) then new → values ≡ take taken read ++ value ∷ []
       → RanLoads size address count handed values old new
@@ -106,23 +129,24 @@ Misplaced size address handed more error x8 =
 
 -- these were handed out when it failed: none, or where memory refused an element all in front of it
 pub data RunLoadsFailed (size : Size) (address count handed : ℕ) (values : List ℕ) (old_count new_count : ℕ) (old new : Tells) : AccessFault → Type 0 where
-  asking : (e : AccessFault) (looks more : ℕ) → values ≡ [] → handed + 2 + more < count → AskLoadsFailed looks more old_count new_count old new e
+  asking : (e : AccessFault) (looks more : ℕ) → values ≡ [] → handed + 2 + more < count → AskLoadsFailed (is_wide size) looks more old_count new_count old new e
       → RunLoadsFailed size address count handed values old_count new_count old new e
-  in_words : (why : DmiFault) (read : List ℕ) (last : ℕ) (mid : Tells) → values ≡ [] → handed + 2 + length read < count → AskedLoads read last old mid
+  in_words : (why : DmiFault) (read : List ℕ) (last : ℕ) (mid : Tells) → values ≡ [] → handed + 2 + length read < count
+      → AskedLoads (is_wide size) read last old mid
       → BrokeIn (Among DoubleReads) old_count new_count mid new.far why
       → RunLoadsFailed size address count handed values old_count new_count old new (fault.Dmi why)
   finding : (e : AccessFault) (read : List ℕ) (value last : ℕ) (mid then : Tells) → values ≡ [] → handed + 2 + length read < count
-      → AskedLoads read last old mid → DoubleRead value mid then → ReadApartFailed x8_number old_count new_count then new e
+      → AskedLoads (is_wide size) read last old mid → DoubleRead value mid then → ReadApartFailed x8_number old_count new_count then new e
       → RunLoadsFailed size address count handed values old_count new_count old new e
-  refused : (read : List ℕ) (made value last : ℕ) (mid then : Tells) → handed + 2 + length read < count → AskedLoads read last old mid
+  refused : (read : List ℕ) (made value last : ℕ) (mid then : Tells) → handed + 2 + length read < count → AskedLoads (is_wide size) read last old mid
       → error_shown last ≡ exception_error → DoubleRead value mid then → made ≤ length read
       → ReadApart x8_number (element_at size address (handed + 1 + made)) then new → values ≡ take made read ++ value ∷ []
       → RunLoadsFailed size address count handed values old_count new_count old new (fault.Memory (element_at size address (handed + 1 + made)))
   oddly : (shown : OddStatus) (read : List ℕ) (last : ℕ) → shown ≡ Abstractcs last → values ≡ [] → handed + 2 + length read < count
-      → AskedLoads read last old new → error_shown last ≢ no_error → error_shown last ≢ early_error → error_shown last ≢ exception_error
+      → AskedLoads (is_wide size) read last old new → error_shown last ≢ no_error → error_shown last ≢ early_error → error_shown last ≢ exception_error
       → RunLoadsFailed size address count handed values old_count new_count old new (fault.Odd shown)
   misplaced : (shown : OddStatus) (read : List ℕ) (value last x8 : ℕ) (mid then : Tells) → shown ≡ Abstractcs last → values ≡ []
-      → handed + 2 + length read < count → AskedLoads read last old mid → (error_shown last ≡ early_error) ⊎ (error_shown last ≡ exception_error)
+      → handed + 2 + length read < count → AskedLoads (is_wide size) read last old mid → (error_shown last ≡ early_error) ⊎ (error_shown last ≡ exception_error)
       → DoubleRead value mid then → ReadApart x8_number x8 then new → Misplaced size address handed (length read) (error_shown last) x8
       → RunLoadsFailed size address count handed values old_count new_count old new (fault.Odd shown)
 

@@ -17,9 +17,9 @@ use Rattle.probe_run.specs.declared.fault.RunFault.TheVariants as run_fault
 use Rattle.probe_run.specs.Happens.{MissedAt, StepsAt, target_of}
 use Rattle.probe_access.specs.Registers.{site_before}
 
--- a hart with its step flag so, and nothing else changed
+-- a hart with its step flag so, and with it stepie, so that a step takes the interrupt that an undebugged turn takes; nothing else is changed
 abbrev pub flagged : Bool → DebugPart → DebugPart
-flagged on d = record d { step = on }
+flagged on d = record d { step = on; stepie = on }
 
 abbrev pub with_step : Bool → Hart → Hart
 with_step on = with_debug_part (flagged on)

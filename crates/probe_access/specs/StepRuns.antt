@@ -11,9 +11,9 @@ use Rattle.probe_run.specs.Outcomes.{StepFails, SteppedBy}
 use Rattle.probe_access.specs.RegisterRuns.{ReadFailed, RegisterRead, RegisterWritten, WriteFailed}
 use Rattle.rv_model.specs.DebugRegisters.{dcsr_number}
 
--- a word of dcsr with its step flag so, and its other fields as they were
+-- a word of dcsr with its step flag and stepie so, and its other fields as they were
 abbrev pub with_flag : Bool → ℕ → ℕ
-with_flag on word = dcsr_word (record (dcsr_of_word word) { step = on })
+with_flag on word = dcsr_word (record (dcsr_of_word word) { step = on; stepie = on })
 
 -- dcsr was read, and written with the flag so
 pub record FlagWritten (on : Bool) (old new : Tells) : Type 0 where

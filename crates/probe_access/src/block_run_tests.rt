@@ -5,10 +5,12 @@ ghost use Rattle.std.specs.Prelude.{◌≡◌, true};
 use crate::fault::AccessFault;
 use crate::odd::OddStatus;
 use crate::scripted_tests::{
-    EARLY, ENDED, EXCEPTION, Fault, IDLE, Loaded, UNSUPPORTED, load_bytes, opened, store_bytes,
+    EARLY, ENDED, EXCEPTION, Fault, IDLE, Loaded, UNSUPPORTED, load_bytes, load_five, opened,
+    store_bytes,
 };
 use arrayvec::ArrayVec;
 use debug_model::ScriptedDmi;
+use rv_model::Size;
 
 /// x8 and x9 are saved, x9 and x8 written, and the first of five elements is stored.
 const BEGUN: [u32; 9] = [0, 8, IDLE, 0, 9, IDLE, IDLE, IDLE, IDLE];
@@ -107,18 +109,54 @@ fn loaded(end: Result<(), AccessFault>, count: usize, last: Option<u64>) -> Resu
 #[test]
 fn loads_the_middle_of_a_block_in_one_run(rt: HostRuntime) {
     let mut link = loading(&[
-        0, 0x10, 0, 0x11, IDLE, 0x12, 0, IDLE, 0x13, 0, 0, 0x14, IDLE, IDLE, IDLE,
+        0x10, 0x11, IDLE, 0x12, 0, IDLE, 0x13, 0, 0, 0x14, IDLE, IDLE, IDLE,
     ]);
     assert_eq!(rt; load_bytes(&mut link, 5), loaded(Ok(()), 5, Some(0x14)));
+}
+
+// An element of at most 4 bytes costs one read in the run, and one of 8 bytes two, its upper word first. The data words behind the run, those of the next
+// command and x9 are read whole.
+#[test]
+fn reads_the_upper_word_of_wide_elements_alone(rt: HostRuntime) {
+    let narrow = [
+        0xffff_ff80,
+        0x11,
+        IDLE,
+        0x12,
+        0,
+        IDLE,
+        0x13,
+        0,
+        0,
+        0x14,
+        IDLE,
+        IDLE,
+        IDLE,
+    ];
+    let wanted = Ok([0xffff_ff80, 0x11, 0x12, 0x13, 0x14]);
+    assert_eq!(rt; load_five(&mut loading(&narrow), Size::B1), wanted);
+    assert_eq!(rt; load_five(&mut loading(&narrow), Size::B2), wanted);
+    assert_eq!(rt; load_five(&mut loading(&narrow), Size::B4), wanted);
+    let wide = [
+        1, 0x10, 2, 0x11, IDLE, 0x12, 3, IDLE, 0x13, 4, 5, 0x14, IDLE, IDLE, IDLE,
+    ];
+    assert_eq!(rt;
+        load_five(&mut loading(&wide), Size::B8),
+        Ok([
+            0x1_0000_0010,
+            0x2_0000_0011,
+            0x3_0000_0012,
+            0x4_0000_0013,
+            0x5_0000_0014
+        ])
+    );
 }
 
 // Where a word came too early x8 says how many were loaded: what was read in front of that one is handed out, and what the data words hold.
 #[test]
 fn hands_out_what_a_run_read_in_front_of_an_early_word(rt: HostRuntime) {
     let mut link = loading(&[
-        0,
         0x10,
-        0,
         0x77,
         EARLY,
         0x11,
@@ -144,9 +182,7 @@ fn hands_out_what_a_run_read_in_front_of_an_early_word(rt: HostRuntime) {
 #[test]
 fn hands_out_what_a_run_read_in_front_of_a_fault(rt: HostRuntime) {
     for (made, place) in [(0, 0x8000_0001), (1, 0x8000_0002), (2, 0x8000_0003)] {
-        let mut link = loading(&[
-            0, 0x10, 0, 0x11, EXCEPTION, 0x12, 0, IDLE, place, 0, IDLE, IDLE,
-        ]);
+        let mut link = loading(&[0x10, 0x11, EXCEPTION, 0x12, 0, IDLE, place, 0, IDLE, IDLE]);
         let end = Err(AccessFault::Memory(u64::from(place)));
         assert_eq!(rt;
             load_bytes(&mut link, 5),
@@ -161,7 +197,7 @@ fn hands_out_what_a_run_read_in_front_of_a_fault(rt: HostRuntime) {
 fn judges_what_no_run_of_loads_can_end_with(rt: HostRuntime) {
     for place in [0, 0x8000_0000, 0x8000_0004, 0xffff_ffff] {
         for word in [EARLY, EXCEPTION] {
-            let mut link = loading(&[0, 0x10, 0, 0x11, word, 0x12, 0, IDLE, place, 0]);
+            let mut link = loading(&[0x10, 0x11, word, 0x12, 0, IDLE, place, 0]);
             let end = Err(AccessFault::Odd(OddStatus::Abstractcs(word)));
             assert_eq!(rt;
                 load_bytes(&mut link, 5),
@@ -171,11 +207,11 @@ fn judges_what_no_run_of_loads_can_end_with(rt: HostRuntime) {
         }
     }
     let early = Err(AccessFault::Odd(OddStatus::Abstractcs(EARLY)));
-    let mut link = loading(&[0, 0x10, 0, 0x11, EARLY, 0x12, 0, IDLE, 0x8000_0001, 0]);
+    let mut link = loading(&[0x10, 0x11, EARLY, 0x12, 0, IDLE, 0x8000_0001, 0]);
     assert_eq!(rt; load_bytes(&mut link, 5), loaded(early, 0, None));
     let other = Err(AccessFault::Odd(OddStatus::Abstractcs(UNSUPPORTED)));
-    let mut link = loading(&[0, 0x10, 0, 0x11, UNSUPPORTED]);
+    let mut link = loading(&[0x10, 0x11, UNSUPPORTED]);
     assert_eq!(rt; load_bytes(&mut link, 5), loaded(other, 0, None));
-    let mut link = loading(&[0, 0x10, 0, 0x11]);
+    let mut link = loading(&[0x10, 0x11]);
     assert_eq!(rt; load_bytes(&mut link, 5), loaded(Err(ENDED), 0, None));
 }

@@ -13,6 +13,7 @@ ghost use Rattle.probe_access.specs.ElementRuns.{LoadRuns, LoadRunsFailed, Loads
 ghost use Rattle.debug_model.specs.Kept.{CanCall, Keeps};
 ghost use Rattle.probe_run.specs.Told.{Fails, OnChip, told};
 ghost use Rattle.probe_access.specs.Faults.{access_why};
+ghost use Rattle.probe_access.specs.ReadRuns.{is_wide};
 ghost use Rattle.probe_run.specs.Told.{Serving};
 
 use crate::elements::{hand_next, next_element};
@@ -145,8 +146,8 @@ pub fn load_block<D: Dmi>(
     ensures loaded { OnOk result (OnChip (BlockLoadedAt size address into.new.items) (D.seen link.old) (D.seen link.new)) }
     ensures runs { OnOk result (LoadRuns size address count (told (D.seen link.old)) into.new.items (told (D.seen link.new))) }
     ensures failed { IfErr result (Fails (LoadRunsFailed size address count into.new.items) (D.seen link.old) (D.seen link.new)) }
-    ensures fetched { OnOk result (Fetched into.new.items (told (D.seen link.old)) (told (D.seen link.new))) }
-    ensures fetched_before { IfErr result (IfMemory (Fetched into.new.items (told (D.seen link.old)) (told (D.seen link.new)))) }
+    ensures fetched { OnOk result (Fetched (is_wide size) into.new.items (told (D.seen link.old)) (told (D.seen link.new))) }
+    ensures fetched_before { IfErr result (IfMemory (Fetched (is_wide size) into.new.items (told (D.seen link.old)) (told (D.seen link.new)))) }
     ensures left { IfErr result (BlockLoadLeft size address count into.new.items (D.seen link.old).far (D.seen link.new).far) }
     ensures causes { IfErr result (Fails Causes (D.seen link.old) (D.seen link.new)) }
     ensures cut { IfErr result (IfCut (Leaves (BlockLoadCut size address count into.new.items halted.now.number) (D.seen link.old).far (D.seen link.new).far)) }

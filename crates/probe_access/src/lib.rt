@@ -31,6 +31,8 @@ mod scratch;
 #[cfg(test)]
 mod scripted_tests;
 mod single;
+#[cfg(test)]
+mod stop_tests;
 mod stopped;
 mod stops;
 #[cfg(test)]

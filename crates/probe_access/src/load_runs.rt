@@ -1,5 +1,6 @@
 //! Runs of a block's loads by autoexec, with no poll between: a command hands out what x9 holds and makes the access of the next element, and each
-//! read of data0 takes the word that was handed out and starts it again (RISC-V Debug Specification 1.0, "Abstract Command Autoexec").
+//! read of data0 takes the word that was handed out and starts it again (RISC-V Debug Specification 1.0, "Abstract Command Autoexec"). An element of at
+//! most 4 bytes was loaded with its upper bits 0, so data1 is read for elements of 8 bytes alone.
 
 ghost use Rattle.std.specs.Prelude.{◌≡◌, ◌≤◌, ◌<◌, ◌+◌, ◌*◌, ◌^◌, ◌++◌, ◌∷◌, [], length, take, drop, None, IfErr, IfOk, IfSome, OnOk};
 ghost use Rattle.rv_model.specs.Size.{count_of};
@@ -11,8 +12,8 @@ ghost use Rattle.debug_model.specs.declared.dmi_op.DmiOp.TheVariants.{Write};
 ghost use Rattle.probe_access.specs.Blocks.{element_at};
 ghost use Rattle.probe_access.specs.ElementRuns.{LoadsFailed, LoadsOn};
 ghost use Rattle.probe_access.specs.Faults.{access_why};
-ghost use Rattle.probe_access.specs.ReadRuns.{AskLoadsFailed, AskedLoads, HandedMore, HandingFailed, LoadsAsking, LoadsRead, NoneMade, load_ops};
-ghost use Rattle.probe_access.specs.ReadRuns.{reads_most, values_read};
+ghost use Rattle.probe_access.specs.ReadRuns.{AskLoadsFailed, AskedLoads, HandedMore, HandingFailed, LoadsAsking, LoadsRead, NoneMade, element_of};
+ghost use Rattle.probe_access.specs.ReadRuns.{element_ops, is_wide, load_ops, own_words, reads_most, values_read};
 ghost use Rattle.probe_run.specs.Told.{Fails, told};
 
 use crate::blocks::{ELEMENTS_MOST, element};
@@ -30,12 +31,55 @@ use debug_model::{
 };
 use rv_model::Size;
 
+/// How many words of an element are read.
+fn own_words(size: Size) -> u16
+    ensures words { result ≡ own_words (is_wide size) }
+    ensures some { 1 ≤ result }
+    ensures few { result ≤ 2 }
+{
+    match size {
+        Size::B1 | Size::B2 | Size::B4 => 1,
+        Size::B8 => 2,
+    }
+}
+
+/// Puts the reads of one element at a place and answers the place behind them. Its lower word comes last, since it starts the next access.
+fn put_element(size: Size, operations: &mut [DmiOp], at: usize) -> usize
+    requires room { at + own_words (is_wide size) ≤ length operations.old }
+    ensures put { take result operations.new ≡ take at operations.old ++ element_ops (is_wide size) }
+    ensures behind { result ≡ at + own_words (is_wide size) }
+    ensures long { length operations.new ≡ length operations.old }
+{
+    match size {
+        Size::B1 | Size::B2 | Size::B4 => {
+            operations[at] = DmiOp::Read(Data0::ADDRESS);
+            at + 1
+        }
+        Size::B8 => {
+            operations[at] = DmiOp::Read(Data1::ADDRESS);
+            operations[at + 1] = DmiOp::Read(Data0::ADDRESS);
+            at + 2
+        }
+    }
+}
+
+/// The element of the words from a place on.
+fn element_of(size: Size, words: &[u32], at: usize) -> u64
+    requires there { at + own_words (is_wide size) ≤ length words.now }
+    ensures { result ≡ element_of (is_wide size) (drop at words.now) }
+{
+    match size {
+        Size::B1 | Size::B2 | Size::B4 => u64::from(words[at]),
+        Size::B8 => join(words[at + 1], words[at]),
+    }
+}
+
 /// Puts the operations of a run in front, and answers how many they are.
-fn fill_loads(run: Run, operations: &mut [DmiOp]) -> usize
-    requires few { run.more * (run.looks + 2) ≤ reads_most }
+fn fill_loads(size: Size, run: Run, operations: &mut [DmiOp]) -> usize
+    requires few { run.more * (run.looks + own_words (is_wide size)) ≤ reads_most }
     requires room { length operations.old ≡ operations_most }
-    ensures filled { take result operations.new ≡ Write abstractauto_address 1 ∷ load_ops run.looks run.more }
-    ensures count { result ≡ run.more * (run.looks + 2) + 3 }
+    ensures filled { take result operations.new ≡ Write abstractauto_address 1 ∷ load_ops (is_wide size) run.looks run.more }
+    ensures count { result ≡ run.more * (run.looks + own_words (is_wide size)) + 3 }
     ensures long { length operations.new ≡ operations_most }
 {
     let first = put(DmiOp::Write(Abstractauto::ADDRESS, BY_DATA0), operations, 0);
@@ -46,8 +90,7 @@ fn fill_loads(run: Run, operations: &mut [DmiOp]) -> usize
     );
     'elements: for _element in 0..run.more {
         let looked = put_looks(run.looks, operations, at);
-        let upper = put(DmiOp::Read(Data1::ADDRESS), operations, looked);
-        at = put(DmiOp::Read(Data0::ADDRESS), operations, upper);
+        at = put_element(size, operations, looked);
     }
     put(DmiOp::Read(Abstractcs::ADDRESS), operations, at)
 }
@@ -55,20 +98,22 @@ fn fill_loads(run: Run, operations: &mut [DmiOp]) -> usize
 /// Asks for an element and those of a run behind it, in one call, and answers `abstractcs` as it was at their end. An error that it shows is cleared.
 fn ask_loads<D: Dmi>(
     link: &mut D,
+    size: Size,
     run: Run,
     words: &mut ArrayVec<u32, OPERATIONS_MOST>,
 ) -> Result<u32, AccessFault>
     requires callable { CanCall (D.seen link.old) }
-    requires few { run.more * (run.looks + 2) ≤ reads_most }
+    requires few { run.more * (run.looks + own_words (is_wide size)) ≤ reads_most }
     requires empty { words.old.items ≡ [] }
     ensures asked { IfOk result
-        (λ last. LoadsRead (values_read run.looks run.more (drop 2 words.new.items)) last (told (D.seen link.old)) (told (D.seen link.new))) }
-    ensures count { OnOk result (length words.new.items ≡ run.more * (run.looks + 2) + 3) }
-    ensures failed { IfErr result (Fails (LoadsAsking run.looks run.more) (D.seen link.old) (D.seen link.new)) }
+        (λ last. LoadsRead (is_wide size) (values_read (is_wide size) run.looks run.more (drop 2 words.new.items)) last
+        (told (D.seen link.old)) (told (D.seen link.new))) }
+    ensures count { OnOk result (length words.new.items ≡ run.more * (run.looks + own_words (is_wide size)) + 3) }
+    ensures failed { IfErr result (Fails (LoadsAsking (is_wide size) run.looks run.more) (D.seen link.old) (D.seen link.new)) }
     ensures keeps { Keeps access_why (D.seen link.old) (D.seen link.new) result }
 {
     let mut operations = [DmiOp::Read(Abstractcs::ADDRESS); OPERATIONS_MOST];
-    let filled = fill_loads(run, &mut operations);
+    let filled = fill_loads(size, run, &mut operations);
     link.many(&operations[..filled], words)?;
     let last = end_command(link, words[filled - 1])?;
     Ok(last)
@@ -77,19 +122,21 @@ fn ask_loads<D: Dmi>(
 /// The same by autoexec, which is off again behind them.
 fn run_loads<D: Dmi>(
     link: &mut D,
+    size: Size,
     run: Run,
     words: &mut ArrayVec<u32, OPERATIONS_MOST>,
 ) -> Result<u32, AccessFault>
     requires callable { CanCall (D.seen link.old) }
-    requires few { run.more * (run.looks + 2) ≤ reads_most }
+    requires few { run.more * (run.looks + own_words (is_wide size)) ≤ reads_most }
     requires empty { words.old.items ≡ [] }
     ensures asked { IfOk result
-        (λ last. AskedLoads (values_read run.looks run.more (drop 2 words.new.items)) last (told (D.seen link.old)) (told (D.seen link.new))) }
-    ensures count { OnOk result (length words.new.items ≡ run.more * (run.looks + 2) + 3) }
-    ensures failed { IfErr result (Fails (AskLoadsFailed run.looks run.more) (D.seen link.old) (D.seen link.new)) }
+        (λ last. AskedLoads (is_wide size) (values_read (is_wide size) run.looks run.more (drop 2 words.new.items)) last
+        (told (D.seen link.old)) (told (D.seen link.new))) }
+    ensures count { OnOk result (length words.new.items ≡ run.more * (run.looks + own_words (is_wide size)) + 3) }
+    ensures failed { IfErr result (Fails (AskLoadsFailed (is_wide size) run.looks run.more) (D.seen link.old) (D.seen link.new)) }
     ensures keeps { Keeps access_why (D.seen link.old) (D.seen link.new) result }
 {
-    let last = ask_loads(link, run, words)?;
+    let last = ask_loads(link, size, run, words)?;
     link.write(Abstractauto::ADDRESS, 0)?;
     Ok(last)
 }
@@ -111,21 +158,23 @@ fn made_of(size: Size, address: u64, handed: u16, least: u16, more: u16, x8: u64
 
 /// Hands out the first elements of those that a run read, and the one behind them.
 fn hand_out(
+    size: Size,
     words: &[u32],
     taken: u16,
     looks: u16,
     value: u64,
     into: &mut ArrayVec<u64, ELEMENTS_MOST>,
 )
-    requires there { taken * (looks + 2) + 2 ≤ length words.now }
+    requires there { taken * (looks + own_words (is_wide size)) + 2 ≤ length words.now }
     requires room { length into.old.items + taken < most_elements }
-    ensures handed { into.new.items ≡ into.old.items ++ (values_read looks taken (drop 2 words.now) ++ value ∷ []) }
+    ensures handed { into.new.items ≡ into.old.items ++ (values_read (is_wide size) looks taken (drop 2 words.now) ++ value ∷ []) }
 {
+    let own = usize::from(own_words(size));
     let mut at = 2;
     'elements: for _element in 0..taken {
-        let upper = at + usize::from(looks);
-        into.push(join(words[upper + 1], words[upper]));
-        at = upper + 2;
+        let looked = at + usize::from(looks);
+        into.push(element_of(size, words, looked));
+        at = looked + own;
     }
     into.push(value);
 }
@@ -142,7 +191,7 @@ fn load_run<D: Dmi>(
     into: &mut ArrayVec<u64, ELEMENTS_MOST>,
 ) -> Result<bool, AccessFault>
     requires callable { CanCall (D.seen link.old) }
-    requires few { run.more * (run.looks + 2) ≤ reads_most }
+    requires few { run.more * (run.looks + own_words (is_wide size)) ≤ reads_most }
     requires within { length into.old.items + 2 + run.more < count }
     requires room { count ≤ most_elements }
     requires ends { address + count * count_of size ≤ all_addresses }
@@ -154,11 +203,11 @@ fn load_run<D: Dmi>(
 {
     let handed = into.len() as u16;
     let mut words = ArrayVec::new();
-    let last = run_loads(link, run, &mut words)?;
+    let last = run_loads(link, size, run, &mut words)?;
     match Abstractcs::from_word(last).cmderr {
         0 => {
             let value = read_double(link)?;
-            hand_out(&words, run.more, run.looks, value, into);
+            hand_out(size, &words, run.more, run.looks, value, into);
             Ok(true)
         }
         EARLY => {
@@ -167,7 +216,7 @@ fn load_run<D: Dmi>(
             let Some(made) = made_of(size, address, handed, 1, run.more, x8) else {
                 return Err(AccessFault::Odd(OddStatus::Abstractcs(last)));
             };
-            hand_out(&words, made - 1, run.looks, value, into);
+            hand_out(size, &words, made - 1, run.looks, value, into);
             Ok(false)
         }
         EXCEPTION => {
@@ -176,7 +225,7 @@ fn load_run<D: Dmi>(
             let Some(made) = made_of(size, address, handed, 0, run.more, x8) else {
                 return Err(AccessFault::Odd(OddStatus::Abstractcs(last)));
             };
-            hand_out(&words, made, run.looks, value, into);
+            hand_out(size, &words, made, run.looks, value, into);
             Err(AccessFault::Memory(element(size, address, handed + 1 + made, count)))
         }
         _ => Err(AccessFault::Odd(OddStatus::Abstractcs(last))),
@@ -207,7 +256,7 @@ pub fn load_front<D: Dmi>(
     let mut trial = true;
     'runs: while looks <= LOOKS_MOST && into.len() + 3 < usize::from(count) {
         let left = count - 3 - into.len() as u16;
-        let run = next_run(left, looks, 2, trial);
+        let run = next_run(left, looks, own_words(size), trial);
         let whole = load_run(link, size, address, count, run, into)?;
         trial = !whole;
         if !whole {

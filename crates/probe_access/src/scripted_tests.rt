@@ -1,7 +1,10 @@
 //! Single steps and blocks over operations whose answers are given beforehand: words of `abstractcs` and `dmstatus` by the layouts of RISC-V Debug
 //! Specification 1.0, "Abstract Control and Status" and "Debug Module Status".
 
-ghost use Rattle.std.specs.Prelude.{◌≡◌, ◌≤◌, [], true};
+ghost use Rattle.std.specs.Prelude.{◌≡◌, ◌≤◌, ◌+◌, ◌*◌, [], true};
+ghost use Rattle.rv_model.specs.Memory.{is_aligned};
+ghost use Rattle.rv_model.specs.Size.{count_of};
+ghost use Rattle.debug_model.specs.Command.{all_addresses};
 ghost use Rattle.debug_model.specs.Told.{IsAsLoaded};
 ghost use Rattle.debug_model.specs.Kept.{CanCall};
 
@@ -98,7 +101,7 @@ const AT_ONCE: [u32; 9] = [
     IDLE,
     STEPPED,
     0,
-    0x4000_0107,
+    0x4000_0907,
     IDLE,
     IDLE,
 ];
@@ -130,7 +133,7 @@ const TOO_EARLY: [u32; 14] = [
     IDLE,
     STEPPED,
     0,
-    0x4000_0107,
+    0x4000_0907,
     IDLE,
     IDLE,
 ];
@@ -195,6 +198,22 @@ pub(crate) fn load_bytes<D: Dmi>(link: &mut D, count: u16) -> Result<Loaded, Fau
         count: into.len(),
         last: into.last().copied(),
     })
+}
+
+/// Opens the chip and loads five elements.
+pub(crate) fn load_five<D: Dmi>(link: &mut D, size: Size) -> Result<[u64; 5], Fault>
+    requires callable { CanCall (D.seen link.old) }
+    requires loaded { IsAsLoaded (D.seen link.old).far }
+    requires aligned { is_aligned 0x8000_0000 size ≡ true }
+    requires ends { 0x8000_0000 + 5 * count_of size ≤ all_addresses }
+{
+    let target = connect(link)?;
+    let Seen::Halted(halted) = target.look(link, 0)? else {
+        return Err(Fault::SeenOtherwise);
+    };
+    let mut into: ArrayVec<u64, 512> = ArrayVec::new();
+    load_block(link, &halted, size, 0x8000_0000, 5, &mut into)?;
+    Ok([into[0], into[1], into[2], into[3], into[4]])
 }
 
 /// Opens the chip and loads two words.

@@ -15,18 +15,19 @@ use debug_model::Dmi;
 use probe_run::Halted;
 use rv_model::{Dcsr, register_number};
 
-/// A word of `dcsr` with its step flag so.
+/// A word of `dcsr` with its step flag so, and with it `stepie`: a step takes an interrupt where a turn without a debugger does.
 fn flagged(word: u64, on: bool) -> u64
     ensures { result ≡ with_flag on word }
 {
     let dcsr = Dcsr {
         step: on,
+        stepie: on,
         ..Dcsr::from_word(word)
     };
     dcsr.word()
 }
 
-/// Sets or clears the step flag in `dcsr` of the halted hart, which is selected.
+/// Sets or clears the step flag and `stepie` in `dcsr` of the halted hart, which is selected.
 fn set_flag<D: Dmi>(link: &mut D, halted: &Halted, on: bool) -> Result<(), AccessFault>
     requires callable { CanCall (D.seen link.old) }
     requires serving { Serving halted.now.number (D.seen link.old).far }
@@ -44,8 +45,8 @@ fn set_flag<D: Dmi>(link: &mut D, halted: &Halted, on: bool) -> Result<(), Acces
     Ok(())
 }
 
-/// Makes the halted hart, which is selected, do one instruction: sets the step flag in its `dcsr`, lets it go until a Look sees it halted again,
-/// and clears the flag. `Run` where 64 Looks did not: the flag is still set then (RISC-V Debug Specification 1.0, "Single Step").
+/// Makes the halted hart, which is selected, do one instruction: sets the step flag and `stepie` in its `dcsr`, lets it go until a Look sees it halted
+/// again, and clears both. `Run` where 64 Looks did not: the flag is still set then (RISC-V Debug Specification 1.0, "Single Step").
 pub fn step<D: Dmi>(link: &mut D, halted: Halted) -> Result<Halted, AccessFault>
     requires callable { CanCall (D.seen link.old) }
     requires serving { Serving halted.number (D.seen link.old).far }

@@ -1,18 +1,74 @@
 ghost use Rattle.std.specs.Prelude.{◌≡◌, ◌≤◌, IfOk, IfErr, OnOk};
+ghost use Rattle.rv_model.specs.Dcsr.{dcsr_of_word};
 ghost use Rattle.probe_access.specs.Cuts.{IfCut, LeftAside, Leaves, Unchanged};
 ghost use Rattle.probe_access.specs.Scratches.{ScratchLeft};
-ghost use Rattle.probe_access.specs.Stops.{StopFailed, StopRead, StoppedAt};
+ghost use Rattle.probe_access.specs.Stops.{StopApart, StopApartFailed, StopAskFailed, StopAsked, StopFailed, StopRead, StoppedAt};
 ghost use Rattle.debug_model.specs.Kept.{CanCall, Keeps};
 ghost use Rattle.probe_run.specs.Told.{Fails, OnChip, told};
 ghost use Rattle.probe_access.specs.Faults.{access_why};
 ghost use Rattle.probe_run.specs.Told.{Serving};
 
+use crate::commands::{end_command, transfer_of};
+use crate::doubles::join;
 use crate::fault::AccessFault;
 use crate::stopped::Stop;
-use crate::transfers::read_register;
-use debug_model::Dmi;
+use crate::transfers::read_apart;
+use arrayvec::ArrayVec;
+use debug_model::{AbstractCommand, Abstractcs, Data0, Data1, Dmi, DmiOp};
 use probe_run::Halted;
 use rv_model::{Dcsr, register_number};
+
+/// What these words of `dpc` and `dcsr` show.
+fn stop_of(pc: u64, word: u64) -> Stop
+    ensures pc { result.pc ≡ pc }
+    ensures cause { result.cause ≡ (dcsr_of_word word).cause }
+{
+    let dcsr = Dcsr::from_word(word);
+    Stop {
+        pc,
+        cause: dcsr.cause,
+    }
+}
+
+/// Asks for `dpc` and then for `dcsr` of the selected hart and reads their words, in one call with one poll for both, where the end shows no error: a word
+/// that is read while a command is under way sets one, and with an error no command starts (RISC-V Debug Specification 1.0, "Abstract Control and Status",
+/// cmderr). An error is cleared. `dcsr` has 32 bits, so of its words the lower one is read alone.
+fn stop_at_once<D: Dmi>(link: &mut D) -> Result<Option<Stop>, AccessFault>
+    requires callable { CanCall (D.seen link.old) }
+    ensures asked { IfOk result (λ answer. StopAsked answer (told (D.seen link.old)) (told (D.seen link.new))) }
+    ensures failed { IfErr result (Fails StopAskFailed (D.seen link.old) (D.seen link.new)) }
+    ensures keeps { Keeps access_why (D.seen link.old) (D.seen link.new) result }
+{
+    let dpc = transfer_of(register_number::DPC, false).word();
+    let dcsr = transfer_of(register_number::DCSR, false).word();
+    let operations = [
+        DmiOp::Write(AbstractCommand::ADDRESS, dpc),
+        DmiOp::Read(Data1::ADDRESS),
+        DmiOp::Read(Data0::ADDRESS),
+        DmiOp::Write(AbstractCommand::ADDRESS, dcsr),
+        DmiOp::Read(Data0::ADDRESS),
+        DmiOp::Read(Abstractcs::ADDRESS),
+    ];
+    let mut words = ArrayVec::new();
+    link.many(&operations, &mut words)?;
+    let last = end_command(link, words[5])?;
+    if Abstractcs::from_word(last).cmderr != 0 {
+        return Ok(None);
+    }
+    Ok(Some(stop_of(join(words[2], words[1]), u64::from(words[4]))))
+}
+
+/// Reads both by calls of their own.
+fn stop_apart<D: Dmi>(link: &mut D) -> Result<Stop, AccessFault>
+    requires callable { CanCall (D.seen link.old) }
+    ensures read { IfOk result (λ stop. StopApart stop.pc stop.cause (told (D.seen link.old)) (told (D.seen link.new))) }
+    ensures failed { IfErr result (Fails StopApartFailed (D.seen link.old) (D.seen link.new)) }
+    ensures keeps { Keeps access_why (D.seen link.old) (D.seen link.new) result }
+{
+    let pc = read_apart(link, register_number::DPC)?;
+    let word = read_apart(link, register_number::DCSR)?;
+    Ok(stop_of(pc, word))
+}
 
 /// Where the halted hart stands, which is selected, and why it halted: its `dpc`, and the cause in its `dcsr`.
 pub fn stop<D: Dmi>(link: &mut D, halted: &Halted) -> Result<Stop, AccessFault>
@@ -27,11 +83,11 @@ pub fn stop<D: Dmi>(link: &mut D, halted: &Halted) -> Result<Stop, AccessFault>
     ensures keeps { Keeps access_why (D.seen link.old) (D.seen link.new) result }
 {
     let _halted = halted;
-    let pc = read_register(link, register_number::DPC)?;
-    let word = read_register(link, register_number::DCSR)?;
-    let dcsr = Dcsr::from_word(word);
-    Ok(Stop {
-        pc,
-        cause: dcsr.cause,
-    })
+    match stop_at_once(link)? {
+        Some(found) => Ok(found),
+        None => {
+            let found = stop_apart(link)?;
+            Ok(found)
+        }
+    }
 }

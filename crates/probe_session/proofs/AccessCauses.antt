@@ -1,16 +1,17 @@
 -- What caused a fault of the wire in an access, and in a call on a hart's slots.
 use Rattle.std.proofs.Common.{ℕ, Bool, true, false, List, [], Option, IfSome, sym, subst}
 use Rattle.debug_model.specs.declared.dmi.DmiFault.{DmiFault}
+use Rattle.debug_model.specs.declared.dmi_op.DmiOp.{DmiOp}
 use Rattle.debug_model.specs.Told.{Far}
 use Rattle.probe_access.specs.declared.fault.AccessFault.{AccessFault}
 use Rattle.probe_access.specs.declared.fault.AccessFault.TheVariants as fault
 use Rattle.probe_access.specs.BlockRuns.{Causes}
 use Rattle.probe_access.specs.BusBlockRuns.{BusCauses}
-use Rattle.probe_access.specs.CommandRuns.{CommandFailed}
+use Rattle.probe_access.specs.CommandRuns.{CommandFailed, EndBehindFailed}
 use Rattle.probe_access.specs.Faults.{BrokeIn}
-use Rattle.probe_access.specs.RegisterRuns.{ReadFailed, WriteFailed, AskFailed, ReadApartFailed, ReadApartFailedAt}
+use Rattle.probe_access.specs.RegisterRuns.{ReadFailed, WriteFailed, ReadApartFailed, ReadApartFailedAt}
 use Rattle.probe_access.specs.StepRuns.{FlagFailed, StepFailed, of_run, with_flag}
-use Rattle.probe_access.specs.Stops.{StopFailed, dpc_number}
+use Rattle.probe_access.specs.Stops.{StopApartFailed, StopFailed, dpc_number}
 use Rattle.probe_access.specs.RegisterAccess.{transfer_word}
 use Rattle.probe_run.specs.declared.fault.RunFault.{RunFault}
 use Rattle.probe_run.specs.declared.fault.RunFault.TheVariants as run_fault
@@ -58,18 +59,18 @@ apart_wire fault.StillBusy number old_count new_count old new f = tt
 apart_wire (fault.Run why) number old_count new_count old new f = absurd f
 apart_wire (fault.Odd shown) number old_count new_count old new f = tt
 
-asking_wire : (e : AccessFault) (number old_count new_count : ℕ) (old new : Tells) → AskFailed number old_count new_count old new e
-    → AccessWire old_count new_count new.far e
-asking_wire (fault.Dmi why) number old_count new_count old new f = broke_in why f
-asking_wire (fault.Memory address) number old_count new_count old new f = tt
-asking_wire (fault.Register asked) number old_count new_count old new f = tt
-asking_wire fault.StillBusy number old_count new_count old new f = tt
-asking_wire (fault.Run why) number old_count new_count old new f = absurd f
-asking_wire (fault.Odd shown) number old_count new_count old new f = tt
+behind_wire : (e : AccessFault) (Front : List Act → Type 0) (op : DmiOp) (ops : List DmiOp) (old_count new_count : ℕ) (old new : Tells)
+    → EndBehindFailed Front op ops old_count new_count old new e → AccessWire old_count new_count new.far e
+behind_wire (fault.Dmi why) Front op ops old_count new_count old new f = broke_in why f
+behind_wire (fault.Memory address) Front op ops old_count new_count old new f = tt
+behind_wire (fault.Register asked) Front op ops old_count new_count old new f = tt
+behind_wire fault.StillBusy Front op ops old_count new_count old new f = tt
+behind_wire (fault.Run why) Front op ops old_count new_count old new f = absurd f
+behind_wire (fault.Odd shown) Front op ops old_count new_count old new f = tt
 
 pub read_wire : (e : AccessFault) (number old_count new_count : ℕ) (old new : Tells) → ReadFailed number old_count new_count old new e
     → AccessWire old_count new_count new.far e
-read_wire e number old_count new_count old new (ReadFailed.asking f) = asking_wire e number old_count new_count old new f
+read_wire e number old_count new_count old new (ReadFailed.asking f) = behind_wire e _ _ _ old_count new_count old new f
 read_wire e number old_count new_count old new (ReadFailed.late mid early f) = apart_wire e number old_count new_count mid new f
 
 pub write_wire : (e : AccessFault) (number value old_count new_count : ℕ) (old new : Tells) → WriteFailed number value old_count new_count old new e
@@ -83,8 +84,10 @@ write_wire (fault.Odd shown) number value old_count new_count old new f = tt
 
 pub stop_wire : (e : AccessFault) (old_count new_count : ℕ) (old new : Tells) → StopFailed old_count new_count old new e
     → AccessWire old_count new_count new.far e
-stop_wire e old_count new_count old new (StopFailed.at_dpc f) = read_wire e dpc_number old_count new_count old new f
-stop_wire e old_count new_count old new (StopFailed.at_dcsr pc mid read f) = read_wire e dcsr_number old_count new_count mid new f
+stop_wire e old_count new_count old new (StopFailed.asking f) = behind_wire e _ _ _ old_count new_count old new f
+stop_wire e old_count new_count old new (StopFailed.late mid early (StopApartFailed.at_dpc f)) = apart_wire e dpc_number old_count new_count mid new f
+stop_wire e old_count new_count old new (StopFailed.late mid early (StopApartFailed.at_dcsr pc then read f)) =
+    apart_wire e dcsr_number old_count new_count then new f
 
 -- ---- memory
 

@@ -16,6 +16,7 @@ use Rattle.probe_access.specs.BusBlockRuns.{BusLoads, BusLoadsRefused, BusStores
 use Rattle.probe_access.specs.BusBlocks.{BusBlockLoadCut, BusBlockLoadLeft, BusBlockLoadedAt, BusBlockStoreCut, BusBlockStoreLeft}
 use Rattle.probe_access.specs.BusRuns.{cut_to}
 use Rattle.probe_access.specs.Cuts.{AccessLeftOff, BusLeftOff, IfCut, Leaves, LoadLeaves, Scratched, StoreLeaves}
+use Rattle.probe_access.specs.ReadRuns.{is_wide}
 use Rattle.probe_access.specs.ElementRuns.{LoadRuns, LoadRunsFailed, StoreRunsFailed}
 use Rattle.probe_access.proofs.CutSites.{if_cut}
 use Rattle.probe_run.specs.Acts.{Tells}
@@ -30,7 +31,7 @@ as_many size held = length-map held (cut_to size)
 -- ---- whole ones
 
 pub block_loaded : (size : Size) (address count : ℕ) (held : List ℕ) (old new : Tells) → IsReady old.far → length held ≡ count
-    → LoadRuns size address count old held new → Fetched held old new → WhereTold (BlockLoadedAt size address held) old.far new.far
+    → LoadRuns size address count old held new → Fetched (is_wide size) held old new → WhereTold (BlockLoadedAt size address held) old.far new.far
     → BlockLoadedAs Progbuf size address count (map (cut_to size) held) old new true
 block_loaded size address count held old new ready all runs fetched told = (
   as_many size held ∙ all,
@@ -51,7 +52,7 @@ fewer size held count below = let e : length (map (cut_to size) held) ≡ length
 
 pub block_loaded_none : (size : Size) (address count at old_count new_count : ℕ) (held : List ℕ) (old new : Tells) (e : AccessFault)
     → IsReady old.far → e ≡ fault.Memory at → BlockLoadLeft size address count held old.far new.far e
-    → LoadRunsFailed size address count held old_count new_count old new e → IfMemory (Fetched held old new) e
+    → LoadRunsFailed size address count held old_count new_count old new e → IfMemory (Fetched (is_wide size) held old new) e
     → BlockLoadedAs Progbuf size address count (map (cut_to size) held) old new false
 block_loaded_none size address count at old_count new_count held old new e ready is left failed fetched =
     let l = subst (BlockLoadLeft size address count held old.far new.far) is left in
@@ -59,7 +60,7 @@ block_loaded_none size address count at old_count new_count held old new e ready
       fewer size held count l.0,
       BlockLoadedNone.by_hart held count old_count new_count refl
           (subst (λ a. LoadRunsFailed size address count held old_count new_count old new (fault.Memory a)) l.1 h)
-          (subst (IfMemory (Fetched held old new)) is fetched) (refused_cut size address held old.far new.far ready l.2),
+          (subst (IfMemory (Fetched (is_wide size) held old new)) is fetched) (refused_cut size address held old.far new.far ready l.2),
     )
 
 pub bus_block_loaded_none : (size : Size) (address count at : ℕ) (held : List ℕ) (old new : Tells) (e : AccessFault)

@@ -17,6 +17,7 @@ use Rattle.probe_access.specs.BusBlocks.{BusBlockLoadLeft, BusBlockLoadRefused, 
 use Rattle.probe_access.specs.BusBlocks.{BusLoadedEach, BusStoredEach}
 use Rattle.probe_access.specs.BusRuns.{cut_to}
 use Rattle.probe_access.specs.Cuts.{BusBefore, BusBehind, IfCut, Leaves, LeftAside, LeftBehind, LoadLeaves, Scratched, StoreLeaves}
+use Rattle.probe_access.specs.ReadRuns.{is_wide}
 use Rattle.probe_access.specs.ElementRuns.{LoadRuns, LoadRunsFailed, StoreRuns, StoreRunsFailed}
 use Rattle.probe_run.specs.Acts.{Tells}
 use Rattle.probe_run.specs.Told.{Serving}
@@ -28,7 +29,7 @@ use Rattle.probe_session.specs.Failures.{Became}
 -- the elements from an address on were read; what was handed out may hold more above the size, which is left out
 pub data BlockLoaded : Path → (size : Size) → (address : ℕ) → (values : List ℕ) → (old new : Tells) → Type 0 where
   by_hart : {size : Size} {address : ℕ} {values : List ℕ} {old new : Tells} (held : List ℕ) → values ≡ map (cut_to size) held
-      → LoadRuns size address (length held) old held new → Fetched held old new
+      → LoadRuns size address (length held) old held new → Fetched (is_wide size) held old new
       → WhereTold (BlockLoadedAt size address values) old.far new.far → BlockLoaded Progbuf size address values old new
   by_bus : {size : Size} {address : ℕ} {values : List ℕ} {old new : Tells} (held : List ℕ) → values ≡ map (cut_to size) held
       → BusLoads size address old held new
@@ -38,7 +39,7 @@ pub data BlockLoaded : Path → (size : Size) → (address : ℕ) → (values : 
 pub data BlockLoadedNone : Path → (size : Size) → (address : ℕ) → (values : List ℕ) → (old new : Tells) → Type 0 where
   by_hart : {size : Size} {address : ℕ} {values : List ℕ} {old new : Tells} (held : List ℕ) (count old_count new_count : ℕ)
       → values ≡ map (cut_to size) held
-      → LoadRunsFailed size address count held old_count new_count old new (fault.Memory (element_at size address (length held))) → Fetched held old new
+      → LoadRunsFailed size address count held old_count new_count old new (fault.Memory (element_at size address (length held))) → Fetched (is_wide size) held old new
       → WhereTold (BlockLoadRefused size address values) old.far new.far → BlockLoadedNone Progbuf size address values old new
   by_bus : {size : Size} {address : ℕ} {values : List ℕ} {old new : Tells} (held : List ℕ) → values ≡ map (cut_to size) held
       → BusLoadsRefused size address held old new

@@ -46,8 +46,8 @@ rewrote_as f g h old new w same = record {
 
 -- ---- the flag is set and cleared, and that is all
 
-held_part : (d : DebugPart) → IsUnhit d → record d { step = true } ≡ step_begun d
-held_part d u = ap (λ (ss : List Slot). record d { step = true; slots = ss }) (sym (none_changed Hold d.slots u.none))
+held_part : (d : DebugPart) → IsUnhit d → record d { step = true; stepie = true } ≡ step_begun d
+held_part d u = ap (λ (ss : List Slot). record d { step = true; stepie = true; slots = ss }) (sym (none_changed Hold d.slots u.none))
 
 pub held_as : (h : ℕ) (old new : Target) → UnhitAt h old.board → Rewrote (with_step true) h old new → Rewrote (with_debug_part step_begun) h old new
 held_as h old new u w =

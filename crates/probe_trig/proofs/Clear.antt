@@ -233,5 +233,5 @@ ended_slots (Some cause.HaltReq) ss on unhit = on
 ended_slots (Some cause.Step) ss on unhit = ap hits_forgotten on ∙ forgotten_same ss (unhit refl)
 ended_slots (Some cause.Reset) ss on unhit = on
 
-pub ended_clear : (d : DebugPart) → IsClear d → record d { step = false } ≡ step_ended d
-ended_clear d c = ap (λ (ss : List Slot). record d { step = false; slots = ss }) (sym (ended_slots d.halted d.slots c.on c.none))
+pub ended_clear : (d : DebugPart) → IsClear d → record d { step = false; stepie = false } ≡ step_ended d
+ended_clear d c = ap (λ (ss : List Slot). record d { step = false; stepie = false; slots = ss }) (sym (ended_slots d.halted d.slots c.on c.none))

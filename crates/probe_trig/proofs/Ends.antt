@@ -95,7 +95,7 @@ two_changes [] = refl
 two_changes (s ∷ ss) = ap (λ zs. with_trigger trigger_forgotten (with_trigger trigger_back s) ∷ zs) (two_changes ss)
 
 abbrev stepped_with : Hart → List Slot → Hart
-stepped_with x ss = record { core = x.core; debug = record x.debug { step = false; slots = ss } }
+stepped_with x ss = record { core = x.core; debug = record x.debug { step = false; stepie = false; slots = ss } }
 
 -- by whether it was a whole one
 ended_as : (b : Bool) (x : Hart) → b ≡ is_step x.debug.halted → changes_all (ending b) (with_step false x) ≡ with_debug_part step_ended x

@@ -59,7 +59,7 @@ use Rattle.probe_trig.proofs.Told.{Led, frozen_halted, made_led, played}
 -- ---- the hart
 
 pub over_same : (x : Hart) → OverAlone x x
-over_same x = record { alone = alone x; stepie = refl; ebreakm = refl; addresses = refl }
+over_same x = record { alone = alone x; ebreakm = refl; addresses = refl }
 
 pub over_then : (x y z : Hart) → OverAlone x y → OverAlone y z → OverAlone x z
 over_then x y z p q = record {
@@ -73,7 +73,6 @@ over_then x y z p q = record {
       have_reset = q.alone.requests.have_reset ∙ p.alone.requests.have_reset;
     };
   };
-  stepie = q.stepie ∙ p.stepie;
   ebreakm = q.ebreakm ∙ p.ebreakm;
   addresses = q.addresses ∙ p.addresses;
 }
@@ -81,7 +80,6 @@ over_then x y z p q = record {
 pub over_flag : (on : Bool) (x : Hart) → OverAlone x (with_step on x)
 over_flag on x = record {
   alone = record { core = refl; requests = record { halted = refl; halt_request = refl; resume_request = refl; resume_ack = refl; have_reset = refl } };
-  stepie = refl;
   ebreakm = refl;
   addresses = refl;
 }
@@ -97,7 +95,6 @@ kept_by f (s ∷ ss) = ap (λ zs. s.tdata2 ∷ zs) (kept_by f ss)
 pub over_changed : (how : Change) (x : Hart) → OverAlone x (changes_all how x)
 over_changed how x = record {
   alone = record { core = refl; requests = record { halted = refl; halt_request = refl; resume_request = refl; resume_ack = refl; have_reset = refl } };
-  stepie = refl;
   ebreakm = refl;
   addresses = kept_by (trigger_changed how) x.debug.slots;
 }
@@ -154,13 +151,12 @@ trigger_set (s ∷ ss) (suc k) t = ap (λ zs. s.tdata2 ∷ zs) (trigger_set ss k
 
 over_selected : (x : Hart) (v : ℕ) → OverAlone x (debug_written x (number_of Tselect) v)
 unfolding debug_written csr_written trigger_csr_written
-over_selected x v = record { alone = alone_written x x Tselect v (alone x); stepie = refl; ebreakm = refl; addresses = refl }
+over_selected x v = record { alone = alone_written x x Tselect v (alone x); ebreakm = refl; addresses = refl }
 
 over_tdata1 : (x : Hart) (v : ℕ) → OverAlone x (debug_written x (number_of Tdata1) v)
 unfolding debug_written csr_written trigger_csr_written
 over_tdata1 x v = record {
   alone = alone_written x x Tdata1 v (alone x);
-  stepie = refl;
   ebreakm = refl;
   addresses = trigger_set x.debug.slots x.debug.tselect (trigger_of v);
 }

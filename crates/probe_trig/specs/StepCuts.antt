@@ -21,10 +21,9 @@ use Rattle.probe_trig.specs.Slots.{AtHarts, DebugAlone}
 abbrev pub addresses_of : List Slot → List ℕ
 addresses_of slots = map (λ (s : Slot). s.tdata2) slots
 
--- at most its tselect, the tdata1 of its slots and its step flag are others: it is halted as it was, with its requests
+-- at most its tselect, the tdata1 of its slots, its step flag and stepie are others: it is halted as it was, with its requests
 pub record OverAlone (x y : Hart) : Type 0 where
   pub alone : DebugAlone x y
-  pub stepie : y.debug.stepie ≡ x.debug.stepie
   pub ebreakm : y.debug.ebreakm ≡ x.debug.ebreakm
   pub addresses : addresses_of y.debug.slots ≡ addresses_of x.debug.slots
 

@@ -1,7 +1,8 @@
-use Rattle.std.proofs.Common.{◌∙◌, ◌++◌, ◌∷◌, ◌+◌, [], ap, arith}
-use Rattle.debug_model.specs.Addresses.{abstractauto_address, command_address, data0_address, data1_address}
-use Rattle.debug_model.specs.declared.dmi_op.DmiOp.TheVariants.{Read, Write}
+use Rattle.std.proofs.Common.{◌∙◌, ◌++◌, ◌∷◌, ◌+◌, ap, arith}
+use Rattle.debug_model.specs.Addresses.{abstractauto_address, command_address}
+use Rattle.debug_model.specs.declared.dmi_op.DmiOp.TheVariants.{Write}
 use Rattle.probe_access.specs.AskedRuns.{looks_of}
+use Rattle.probe_access.specs.ReadRuns.{element_ops, is_wide, own_words}
 use Rattle.probe_access.specs.RegisterAccess.{next_word}
 use Rattle.probe_access.proofs.AskedCalls.{left_within, step_within}
 use Rattle.probe_access.proofs.ReadCalls.{reads_snoc}
@@ -14,22 +15,21 @@ put_looks-looked-requires c =
       c.elements.invariant.place,
       c.elements.invariant.long,
       c.requires.few,
-      step_within c.elements._element c.args.run.more (c.args.run.looks + 2) c.elements-test.true,
+      step_within c.elements._element c.args.run.more (c.args.run.looks + own_words (is_wide c.args.size)) c.elements-test.true,
     )
 
 pub elements-preserved : goal.elements-preserved
 elements-preserved c = record {
-  filled = c.put-at-in-elements.ensures.put ∙ ap (λ xs. xs ++ Read data0_address ∷ []) c.put-upper.ensures.put
-      ∙ ap (λ xs. (xs ++ Read data1_address ∷ []) ++ Read data0_address ∷ []) c.put_looks-looked.ensures.put
-      ∙ ap (λ xs. ((xs ++ looks_of c.args.run.looks) ++ Read data1_address ∷ []) ++ Read data0_address ∷ []) c.elements.invariant.filled
-      ∙ ap (λ xs. Write abstractauto_address 1 ∷ Write command_address next_word ∷ xs) (reads_snoc c.args.run.looks c.elements._element);
+  filled = c.put_element-at.ensures.put ∙ ap (λ xs. xs ++ element_ops (is_wide c.args.size)) c.put_looks-looked.ensures.put
+      ∙ ap (λ xs. (xs ++ looks_of c.args.run.looks) ++ element_ops (is_wide c.args.size)) c.elements.invariant.filled
+      ∙ ap (λ xs. Write abstractauto_address 1 ∷ Write command_address next_word ∷ xs)
+      (reads_snoc (is_wide c.args.size) c.args.run.looks c.elements._element);
   place = omega (
     arith,
-    c.put-at-in-elements.ensures.behind,
-    c.put-upper.ensures.behind,
+    c.put_element-at.ensures.behind,
     c.put_looks-looked.ensures.behind,
     c.elements.invariant.place,
-    left_within (c.elements._element + 1) (c.args.run.looks + 2) (omega arith),
+    left_within (c.elements._element + 1) (c.args.run.looks + own_words (is_wide c.args.size)) (omega arith),
   );
-  long = c.put-at-in-elements.ensures.long ∙ c.put-upper.ensures.long ∙ c.put_looks-looked.ensures.long ∙ c.elements.invariant.long;
+  long = c.put_element-at.ensures.long ∙ c.put_looks-looked.ensures.long ∙ c.elements.invariant.long;
 }

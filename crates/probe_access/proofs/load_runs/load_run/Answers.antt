@@ -1,7 +1,7 @@
 use Rattle.std.proofs.Common.{◌∙◌, ◌-◌, ◌++◌, ◌∷◌, [], List, ℕ, drop, sym, ap, arith, refl}
 use Rattle.debug_model.specs.declared.abstractcs.Abstractcs.{Abstractcs}
 use Rattle.probe_run.specs.Told.{told}
-use Rattle.probe_access.specs.ReadRuns.{values_read}
+use Rattle.probe_access.specs.ReadRuns.{is_wide, values_read}
 use Rattle.probe_access.proofs.ReadHands.{
   hand_asking,
   hand_early_misplaced,
@@ -20,34 +20,39 @@ use Rattle.probe_access.proofs.load_runs.load_run.Goals as goal
 pub returns-in_err-last-clause-failed : goal.returns-in_err-last-clause-failed
 returns-in_err-last-clause-failed g c =
     err_failed c.from_residual.result c.in_err-last.field-0.0 _ c.from_residual.ensures.1
-    (hand_asking c.args.size c.args.address c.args.count c.args.run.looks c.args.run.more c.args.into.now.items _ _ _ _ c.in_err-last.field-0.0 c.requires.within
+    (hand_asking c.args.size c.args.address c.args.count c.args.run.looks c.args.run.more c.args.into.now.items _ _ _ _ c.in_err-last.field-0.0
+    c.requires.within
     c.in_err-last.ensures.failed)
 
 pub returns-in_err-value-in-0-clause-failed : goal.returns-in_err-value-in-0-clause-failed
 returns-in_err-value-in-0-clause-failed g c =
     err_failed c.from_residual-in_err-value-in-0.result _ _ c.from_residual-in_err-value-in-0.ensures.1
-    (hand_words c.args.size c.args.address c.args.count c.args.run.looks c.args.run.more c.in_ok-last.last c.args.into.now.items (drop 2 c.run_loads.new.words.items) _ _ _ (told (g.D.Dmi.seen c.args.link.now))
+    (hand_words c.args.size c.args.address c.args.count c.args.run.looks c.args.run.more c.in_ok-last.last c.args.into.now.items
+    (drop 2 c.run_loads.new.words.items) _ _ _ (told (g.D.Dmi.seen c.args.link.now))
     (told (g.D.Dmi.seen c.run_loads.new.link)) (told (g.D.Dmi.seen c.read_double.new.link)) c.in_err-value-in-0.field-0.0 c.requires.within
     c.run_loads.ensures.keeps.later c.read_double.ensures.keeps.later c.in_ok-last.ensures.asked c.in_err-value-in-0.ensures.broke)
 
 pub returns-in_err-value-in-1-clause-failed : goal.returns-in_err-value-in-1-clause-failed
 returns-in_err-value-in-1-clause-failed g c =
     err_failed c.from_residual-in_err-value-in-1.result _ _ c.from_residual-in_err-value-in-1.ensures.1
-    (hand_words c.args.size c.args.address c.args.count c.args.run.looks c.args.run.more c.in_ok-last.last c.args.into.now.items (drop 2 c.run_loads.new.words.items) _ _ _ (told (g.D.Dmi.seen c.args.link.now))
+    (hand_words c.args.size c.args.address c.args.count c.args.run.looks c.args.run.more c.in_ok-last.last c.args.into.now.items
+    (drop 2 c.run_loads.new.words.items) _ _ _ (told (g.D.Dmi.seen c.args.link.now))
     (told (g.D.Dmi.seen c.run_loads.new.link)) (told (g.D.Dmi.seen c.read_double-in-1.new.link)) c.in_err-value-in-1.field-0.0 c.requires.within
     c.run_loads.ensures.keeps.later c.read_double-in-1.ensures.keeps.later c.in_ok-last.ensures.asked c.in_err-value-in-1.ensures.broke)
 
 pub returns-in_err-value-in-3-clause-failed : goal.returns-in_err-value-in-3-clause-failed
 returns-in_err-value-in-3-clause-failed g c =
     err_failed c.from_residual-in_err-value-in-3.result _ _ c.from_residual-in_err-value-in-3.ensures.1
-    (hand_words c.args.size c.args.address c.args.count c.args.run.looks c.args.run.more c.in_ok-last.last c.args.into.now.items (drop 2 c.run_loads.new.words.items) _ _ _ (told (g.D.Dmi.seen c.args.link.now))
+    (hand_words c.args.size c.args.address c.args.count c.args.run.looks c.args.run.more c.in_ok-last.last c.args.into.now.items
+    (drop 2 c.run_loads.new.words.items) _ _ _ (told (g.D.Dmi.seen c.args.link.now))
     (told (g.D.Dmi.seen c.run_loads.new.link)) (told (g.D.Dmi.seen c.read_double-in-3.new.link)) c.in_err-value-in-3.field-0.0 c.requires.within
     c.run_loads.ensures.keeps.later c.read_double-in-3.ensures.keeps.later c.in_ok-last.ensures.asked c.in_err-value-in-3.ensures.broke)
 
 pub returns-in_err-x8-in-1-clause-failed : goal.returns-in_err-x8-in-1-clause-failed
 returns-in_err-x8-in-1-clause-failed g c =
     err_failed c.from_residual-in_err-x8-in-1.result c.in_err-x8-in-1.field-0.0 _ c.from_residual-in_err-x8-in-1.ensures.1
-    (hand_finding c.args.size c.args.address c.args.count c.args.run.looks c.args.run.more c.in_ok-last.last c.in_ok-value-in-1.value c.args.into.now.items (drop 2 c.run_loads.new.words.items) _ _ _
+    (hand_finding c.args.size c.args.address c.args.count c.args.run.looks c.args.run.more c.in_ok-last.last c.in_ok-value-in-1.value c.args.into.now.items
+    (drop 2 c.run_loads.new.words.items) _ _ _
     (told (g.D.Dmi.seen c.args.link.now)) (told (g.D.Dmi.seen c.run_loads.new.link)) (told (g.D.Dmi.seen c.read_double-in-1.new.link))
     (told (g.D.Dmi.seen c.read_apart.new.link)) c.in_err-x8-in-1.field-0.0 c.requires.within
     (omega (arith, c.run_loads.ensures.keeps.later, c.read_double-in-1.ensures.keeps.later)) c.read_apart.ensures.keeps.later c.in_ok-last.ensures.asked
@@ -55,16 +60,20 @@ returns-in_err-x8-in-1-clause-failed g c =
 
 pub returns-in_default-made_of-clause-failed : goal.returns-in_default-made_of-clause-failed
 returns-in_default-made_of-clause-failed g c =
-    hand_early_misplaced c.args.size c.args.address c.args.count _ c.args.run.looks c.args.run.more c.in_ok-last.last c.in_ok-value-in-1.value c.in_ok-x8-in-1.x8
-    c.args.into.now.items (drop 2 c.run_loads.new.words.items) _ _ (told (g.D.Dmi.seen c.args.link.now)) (told (g.D.Dmi.seen c.run_loads.new.link)) (told (g.D.Dmi.seen c.read_double-in-1.new.link))
+    hand_early_misplaced c.args.size c.args.address c.args.count _ c.args.run.looks c.args.run.more c.in_ok-last.last c.in_ok-value-in-1.value
+    c.in_ok-x8-in-1.x8
+    c.args.into.now.items (drop 2 c.run_loads.new.words.items) _ _ (told (g.D.Dmi.seen c.args.link.now)) (told (g.D.Dmi.seen c.run_loads.new.link)) (told
+    (g.D.Dmi.seen c.read_double-in-1.new.link))
     (told (g.D.Dmi.seen c.read_apart.new.link))
     (omega (arith, c.len-handed.ensures.value, c.requires.within, c.requires.room)) c.requires.within c.in_ok-last.ensures.asked
-    (ap (λ (s : Abstractcs). s.cmderr) (sym c.from_word.ensures) ∙ c.in-1.is) c.in_ok-value-in-1.ensures.read c.in_ok-x8-in-1.ensures.read (c.in_default-made_of.ensures.nowhere refl)
+    (ap (λ (s : Abstractcs). s.cmderr) (sym c.from_word.ensures) ∙ c.in-1.is) c.in_ok-value-in-1.ensures.read c.in_ok-x8-in-1.ensures.read
+    (c.in_default-made_of.ensures.nowhere refl)
 
 pub returns-in_err-x8-in-3-clause-failed : goal.returns-in_err-x8-in-3-clause-failed
 returns-in_err-x8-in-3-clause-failed g c =
     err_failed c.from_residual-in_err-x8-in-3.result c.in_err-x8-in-3.field-0.0 _ c.from_residual-in_err-x8-in-3.ensures.1
-    (hand_finding c.args.size c.args.address c.args.count c.args.run.looks c.args.run.more c.in_ok-last.last c.in_ok-value-in-3.value c.args.into.now.items (drop 2 c.run_loads.new.words.items) _ _ _
+    (hand_finding c.args.size c.args.address c.args.count c.args.run.looks c.args.run.more c.in_ok-last.last c.in_ok-value-in-3.value c.args.into.now.items
+    (drop 2 c.run_loads.new.words.items) _ _ _
     (told (g.D.Dmi.seen c.args.link.now)) (told (g.D.Dmi.seen c.run_loads.new.link)) (told (g.D.Dmi.seen c.read_double-in-3.new.link))
     (told (g.D.Dmi.seen c.read_apart-in-3.new.link)) c.in_err-x8-in-3.field-0.0 c.requires.within
     (omega (arith, c.run_loads.ensures.keeps.later, c.read_double-in-3.ensures.keeps.later)) c.read_apart-in-3.ensures.keeps.later c.in_ok-last.ensures.asked
@@ -72,11 +81,14 @@ returns-in_err-x8-in-3-clause-failed g c =
 
 pub returns-in_default-made_of-2-clause-failed : goal.returns-in_default-made_of-2-clause-failed
 returns-in_default-made_of-2-clause-failed g c =
-    hand_fault_misplaced c.args.size c.args.address c.args.count _ c.args.run.looks c.args.run.more c.in_ok-last.last c.in_ok-value-in-3.value c.in_ok-x8-in-3.x8
-    c.args.into.now.items (drop 2 c.run_loads.new.words.items) _ _ (told (g.D.Dmi.seen c.args.link.now)) (told (g.D.Dmi.seen c.run_loads.new.link)) (told (g.D.Dmi.seen c.read_double-in-3.new.link))
+    hand_fault_misplaced c.args.size c.args.address c.args.count _ c.args.run.looks c.args.run.more c.in_ok-last.last c.in_ok-value-in-3.value
+    c.in_ok-x8-in-3.x8
+    c.args.into.now.items (drop 2 c.run_loads.new.words.items) _ _ (told (g.D.Dmi.seen c.args.link.now)) (told (g.D.Dmi.seen c.run_loads.new.link)) (told
+    (g.D.Dmi.seen c.read_double-in-3.new.link))
     (told (g.D.Dmi.seen c.read_apart-in-3.new.link))
     (omega (arith, c.len-handed.ensures.value, c.requires.within, c.requires.room)) c.requires.within c.in_ok-last.ensures.asked
-    (ap (λ (s : Abstractcs). s.cmderr) (sym c.from_word.ensures) ∙ c.in-3.is) c.in_ok-value-in-3.ensures.read c.in_ok-x8-in-3.ensures.read (c.in_default-made_of-2.ensures.nowhere refl)
+    (ap (λ (s : Abstractcs). s.cmderr) (sym c.from_word.ensures) ∙ c.in-3.is) c.in_ok-value-in-3.ensures.read c.in_ok-x8-in-3.ensures.read
+    (c.in_default-made_of-2.ensures.nowhere refl)
 
 pub returns-in_ok-value-in-0-clause-handed : goal.returns-in_ok-value-in-0-clause-handed
 returns-in_ok-value-in-0-clause-handed g c =
@@ -84,33 +96,35 @@ returns-in_ok-value-in-0-clause-handed g c =
     c.hand_out.new.into.items (drop 2 c.run_loads.new.words.items) _ (told (g.D.Dmi.seen c.run_loads.new.link)) _ c.requires.within c.in_ok-last.ensures.asked
     (ap (λ (s : Abstractcs). s.cmderr) (sym c.from_word.ensures) ∙ c.in-0.is) c.in_ok-value-in-0.ensures.read
     (c.hand_out.ensures.handed ∙ ap (λ (xs : List ℕ). c.args.into.now.items
-    ++ (values_read c.args.run.looks c.args.run.more (drop 2 xs) ++ c.in_ok-value-in-0.value ∷ [])) c.deref.ensures.0)
+    ++ (values_read (is_wide c.args.size) c.args.run.looks c.args.run.more (drop 2 xs) ++ c.in_ok-value-in-0.value ∷ [])) c.deref.ensures.0)
 
 pub returns-in_ok-value-in-0-clause-most : goal.returns-in_ok-value-in-0-clause-most
 returns-in_ok-value-in-0-clause-most g c =
     omega (
       arith,
-      hand_long c.args.run.looks c.args.run.more c.in_ok-value-in-0.value c.args.into.now.items c.hand_out.new.into.items
+      hand_long c.args.size c.args.run.looks c.args.run.more c.in_ok-value-in-0.value c.args.into.now.items c.hand_out.new.into.items
           (drop 2 c.deref.result.now) c.hand_out.ensures.handed,
       c.requires.within,
     )
 
 pub returns-in-Some-clause-handed : goal.returns-in-Some-clause-handed
 returns-in-Some-clause-handed g c =
-    hand_short c.args.size c.args.address c.args.count _ c.args.run.looks c.args.run.more c.in-Some.made c.in_ok-last.last c.in_ok-value-in-1.value c.in_ok-x8-in-1.x8
+    hand_short c.args.size c.args.address c.args.count _ c.args.run.looks c.args.run.more c.in-Some.made c.in_ok-last.last c.in_ok-value-in-1.value
+    c.in_ok-x8-in-1.x8
     c.args.into.now.items c.hand_out-in-1.new.into.items (drop 2 c.run_loads.new.words.items) _ (told (g.D.Dmi.seen c.run_loads.new.link))
     (told (g.D.Dmi.seen c.read_double-in-1.new.link)) _
     (omega (arith, c.len-handed.ensures.value, c.requires.within, c.requires.room)) c.requires.within c.in_ok-last.ensures.asked
-    (ap (λ (s : Abstractcs). s.cmderr) (sym c.from_word.ensures) ∙ c.in-1.is) c.in_ok-value-in-1.ensures.read c.in_ok-x8-in-1.ensures.read c.in-Some.ensures.there.0 c.in-Some.ensures.there.1
+    (ap (λ (s : Abstractcs). s.cmderr) (sym c.from_word.ensures) ∙ c.in-1.is) c.in_ok-value-in-1.ensures.read c.in_ok-x8-in-1.ensures.read
+    c.in-Some.ensures.there.0 c.in-Some.ensures.there.1
     c.in-Some.ensures.there.2
     (c.hand_out-in-1.ensures.handed ∙ ap (λ (xs : List ℕ). c.args.into.now.items
-    ++ (values_read c.args.run.looks (c.in-Some.made - 1) (drop 2 xs) ++ c.in_ok-value-in-1.value ∷ [])) c.deref-in-1.ensures.0)
+    ++ (values_read (is_wide c.args.size) c.args.run.looks (c.in-Some.made - 1) (drop 2 xs) ++ c.in_ok-value-in-1.value ∷ [])) c.deref-in-1.ensures.0)
 
 pub returns-in-Some-clause-most : goal.returns-in-Some-clause-most
 returns-in-Some-clause-most g c =
     omega (
       arith,
-      hand_long c.args.run.looks (c.in-Some.made - 1) c.in_ok-value-in-1.value c.args.into.now.items c.hand_out-in-1.new.into.items
+      hand_long c.args.size c.args.run.looks (c.in-Some.made - 1) c.in_ok-value-in-1.value c.args.into.now.items c.hand_out-in-1.new.into.items
           (drop 2 c.deref-in-1.result.now) c.hand_out-in-1.ensures.handed,
       c.requires.within,
       c.in-Some.ensures.there.0,
@@ -123,13 +137,15 @@ returns-in-Some-made_of-clause-failed g c =
     c.in_ok-x8-in-3.x8 c.element.result c.args.into.now.items c.hand_out-in-3.new.into.items (drop 2 c.run_loads.new.words.items) _ _ _
     (told (g.D.Dmi.seen c.run_loads.new.link)) (told (g.D.Dmi.seen c.read_double-in-3.new.link)) _
     (omega (arith, c.len-handed.ensures.value, c.requires.within, c.requires.room)) c.requires.within c.in_ok-last.ensures.asked
-    (ap (λ (s : Abstractcs). s.cmderr) (sym c.from_word.ensures) ∙ c.in-3.is) c.in_ok-value-in-3.ensures.read c.in_ok-x8-in-3.ensures.read c.in-Some-made_of.ensures.there.1
+    (ap (λ (s : Abstractcs). s.cmderr) (sym c.from_word.ensures) ∙ c.in-3.is) c.in_ok-value-in-3.ensures.read c.in_ok-x8-in-3.ensures.read
+    c.in-Some-made_of.ensures.there.1
     c.in-Some-made_of.ensures.there.2 c.element.ensures
     (c.hand_out-in-3.ensures.handed ∙ ap (λ (xs : List ℕ). c.args.into.now.items
-    ++ (values_read c.args.run.looks c.in-Some-made_of.made (drop 2 xs) ++ c.in_ok-value-in-3.value ∷ [])) c.deref-in-3.ensures.0)
+    ++ (values_read (is_wide c.args.size) c.args.run.looks c.in-Some-made_of.made (drop 2 xs) ++ c.in_ok-value-in-3.value ∷ [])) c.deref-in-3.ensures.0)
 
 pub returns-in_default-clause-failed : goal.returns-in_default-clause-failed
 returns-in_default-clause-failed g c =
     let is = ap (λ (s : Abstractcs). s.cmderr) c.from_word.ensures in
-    hand_oddly c.args.size c.args.address c.args.count c.args.run.looks c.args.run.more c.in_ok-last.last c.args.into.now.items (drop 2 c.run_loads.new.words.items) _ _ _ _ c.requires.within
+    hand_oddly c.args.size c.args.address c.args.count c.args.run.looks c.args.run.more c.in_ok-last.last c.args.into.now.items
+    (drop 2 c.run_loads.new.words.items) _ _ _ _ c.requires.within
     c.in_ok-last.ensures.asked (λ e. let f = is ∙ e in omega arith) (λ e. let f = is ∙ e in omega arith) (λ e. let f = is ∙ e in omega arith)

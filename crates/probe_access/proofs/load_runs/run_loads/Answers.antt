@@ -1,6 +1,6 @@
 use Rattle.std.proofs.Common.{drop}
 use Rattle.probe_run.specs.Told.{told}
-use Rattle.probe_access.specs.ReadRuns.{values_read}
+use Rattle.probe_access.specs.ReadRuns.{is_wide, values_read}
 use Rattle.probe_access.proofs.ReadCalls.{loads_off, loads_off_failed}
 use Rattle.probe_access.proofs.RegisterCalls.{err_failed}
 use Rattle.probe_access.proofs.load_runs.run_loads.Goals as goal
@@ -8,11 +8,13 @@ use Rattle.probe_access.proofs.load_runs.run_loads.Goals as goal
 pub returns-in_err-write-clause-failed : goal.returns-in_err-write-clause-failed
 returns-in_err-write-clause-failed g c =
     err_failed c.from_residual-in_err-write.result _ _ c.from_residual-in_err-write.ensures.1
-    (loads_off_failed c.args.run.looks c.args.run.more c.in_ok-last.last _ _ _ (drop 2 c.ask_loads.new.words.items) (told (g.D.Dmi.seen c.args.link.now))
+    (loads_off_failed (is_wide c.args.size) c.args.run.looks c.args.run.more c.in_ok-last.last _ _ _ (drop 2 c.ask_loads.new.words.items) (told
+    (g.D.Dmi.seen c.args.link.now))
     (told (g.D.Dmi.seen c.ask_loads.new.link)) (told (g.D.Dmi.seen c.write.new.self)) c.in_err-write.field-0.0 c.in_ok-last.ensures.asked
     c.ask_loads.ensures.keeps.later c.write.ensures.keeps.later c.in_err-write.ensures.cut c.in_err-write.ensures.cause)
 
 pub returns-clause-asked : goal.returns-clause-asked
 returns-clause-asked g c =
-    loads_off (values_read c.args.run.looks c.args.run.more (drop 2 c.ask_loads.new.words.items)) c.in_ok-last.last _ _ _ c.in_ok-last.ensures.asked
+    loads_off (is_wide c.args.size) (values_read (is_wide c.args.size) c.args.run.looks c.args.run.more
+    (drop 2 c.ask_loads.new.words.items)) c.in_ok-last.last _ _ _ c.in_ok-last.ensures.asked
     c.in_ok-write.ensures.operated c.in_ok-write.ensures.passes
