@@ -7,12 +7,13 @@ use Rattle.std.specs.Cmp.{nat_cmp_total, unsigned_tied}
 use Rattle.std.proofs.lemmas.Bool.{cases_eq, cases_lt, eq-eqb, ne_eqb}
 use Rattle.std.proofs.Math.Arith.{mod-mul}
 use Rattle.std.proofs.Math.Nat.{pow-suc}
-use Rattle.rv_model.specs.Memory.{Bytes, value_at, with_byte, with_value}
+use Rattle.rv_model.specs.Memory.{Bytes, kept_byte, ram_base, value_at, with_byte, with_value}
+use Rattle.rv_model.proofs.MapLemmas.{kept_high}
 
--- what is seen at q where a value's lowest bytes, so many, stand from an address on, and this elsewhere
+-- what is seen at q where a write of a value's lowest bytes, so many, from an address on was kept, and this elsewhere
 abbrev pub byte_or : ℕ → ℕ → ℕ → ℕ → Option ℕ → Option ℕ
 byte_or a zero v q o = o
-byte_or a (suc n) v q o = byte_or (a + 1) n (v / 256) q (if q == a then Some (v % 256) else o)
+byte_or a (suc n) v q o = byte_or (a + 1) n (v / 256) q (if q == a then Some (kept_byte a (v % 256)) else o)
 
 pub get_insert : (m : Bytes) (a v q : ℕ) → get (insert m a v) q ≡ (if q == a then Some v else get m q)
 get_insert m a v q = get-insert nat_cmp_total m a v q ∙ ap (λ b. cond b (Some v) (get m q)) (unsigned_tied q a)
@@ -20,7 +21,7 @@ get_insert m a v q = get-insert nat_cmp_total m a v q ∙ ap (λ b. cond b (Some
 pub get-with_value : (m : Bytes) (a n v q : ℕ) → get (with_value m a n v) q ≡ byte_or a n v q (get m q)
 get-with_value m a zero v q = refl
 get-with_value m a (suc n) v q =
-    get-with_value (insert m a (v % 256)) (a + 1) n (v / 256) q ∙ ap (byte_or (a + 1) n (v / 256) q) (get_insert m a (v % 256) q)
+    get-with_value (insert m a (kept_byte a (v % 256))) (a + 1) n (v / 256) q ∙ ap (byte_or (a + 1) n (v / 256) q) (get_insert m a (kept_byte a (v % 256)) q)
 
 -- ---- outside and within
 
@@ -33,21 +34,22 @@ there q a x y other = ap (λ b. if b then x else y) (ne_eqb q a other)
 pub byte_below : (a n v q : ℕ) (o : Option ℕ) → q < a → byte_or a n v q o ≡ o
 byte_below a zero v q o below = refl
 byte_below a (suc n) v q o below =
-    byte_below (a + 1) n (v / 256) q (if q == a then Some (v % 256) else o) (omega arith)
-    ∙ there q a (Some (v % 256)) o (λ e. absurd (omega arith))
+    byte_below (a + 1) n (v / 256) q (if q == a then Some (kept_byte a (v % 256)) else o) (omega arith)
+    ∙ there q a (Some (kept_byte a (v % 256))) o (λ e. absurd (omega arith))
 
 pub byte_above : (a n v q : ℕ) (o : Option ℕ) → a + n ≤ q → byte_or a n v q o ≡ o
 byte_above a zero v q o above = refl
 byte_above a (suc n) v q o above =
-    byte_above (a + 1) n (v / 256) q (if q == a then Some (v % 256) else o) (omega arith)
-    ∙ there q a (Some (v % 256)) o (λ e. absurd (omega arith))
+    byte_above (a + 1) n (v / 256) q (if q == a then Some (kept_byte a (v % 256)) else o) (omega arith)
+    ∙ there q a (Some (kept_byte a (v % 256))) o (λ e. absurd (omega arith))
 
 -- what was there before doesn't matter
 pub byte_within : (a n v q : ℕ) (o o' : Option ℕ) → a ≤ q → q < a + n → byte_or a n v q o ≡ byte_or a n v q o'
 byte_within a zero v q o o' from below = absurd (omega arith)
 byte_within a (suc n) v q o o' from below = elim (cases_eq q a) [
-  | inl e ↦ ap (byte_or (a + 1) n (v / 256) q) (here q a (Some (v % 256)) o e ∙ sym (here q a (Some (v % 256)) o' e))
-  | inr other ↦ byte_within (a + 1) n (v / 256) q (if q == a then Some (v % 256) else o) (if q == a then Some (v % 256) else o') (omega arith) (omega arith)
+  | inl e ↦ ap (byte_or (a + 1) n (v / 256) q) (here q a (Some (kept_byte a (v % 256))) o e ∙ sym (here q a (Some (kept_byte a (v % 256))) o' e))
+  | inr other ↦ byte_within (a + 1) n (v / 256) q (if q == a then Some (kept_byte a (v % 256)) else o)
+      (if q == a then Some (kept_byte a (v % 256)) else o') (omega arith) (omega arith)
 ]
 
 -- below, within or above
@@ -68,8 +70,9 @@ place_of a n q = elim (cases_lt q a) [
 pub byte_some : (a n v q : ℕ) (o : Option ℕ) → a ≤ q → q < a + n → is_some (byte_or a n v q o) ≡ true
 byte_some a zero v q o from less = absurd (omega arith)
 byte_some a (suc n) v q o from less = elim (cases_eq q a) [
-  | inl e ↦ ap is_some (byte_below (a + 1) n (v / 256) q (if q == a then Some (v % 256) else o) (omega arith) ∙ here q a (Some (v % 256)) o e)
-  | inr other ↦ byte_some (a + 1) n (v / 256) q (if q == a then Some (v % 256) else o) (omega arith) (omega arith)
+  | inl e ↦ ap is_some (byte_below (a + 1) n (v / 256) q (if q == a then Some (kept_byte a (v % 256)) else o) (omega arith)
+      ∙ here q a (Some (kept_byte a (v % 256))) o e)
+  | inr other ↦ byte_some (a + 1) n (v / 256) q (if q == a then Some (kept_byte a (v % 256)) else o) (omega arith) (omega arith)
 ]
 
 -- ---- maps
@@ -145,19 +148,35 @@ positive : (n : ℕ) → 0 < 256 ^ n
 positive zero = omega arith
 positive (suc n) = omega (arith, pow-suc 256 n, positive n)
 
-byte_first : (a n v : ℕ) (o : Option ℕ) → byte_or a (suc n) v a o ≡ Some (v % 256)
-byte_first a n v o = byte_below (a + 1) n (v / 256) a (if a == a then Some (v % 256) else o) (omega arith) ∙ here a a (Some (v % 256)) o refl
+byte_first : (a n v : ℕ) (o : Option ℕ) → ram_base ≤ a → byte_or a (suc n) v a o ≡ Some (v % 256)
+byte_first a n v o high =
+    byte_below (a + 1) n (v / 256) a (if a == a then Some (kept_byte a (v % 256)) else o) (omega arith)
+    ∙ here a a (Some (kept_byte a (v % 256))) o refl ∙ ap Some (kept_high a (v % 256) high)
 
--- a value's bytes read back are its lowest bytes
-pub value_written : (m : Bytes) (a n v : ℕ) → value_at (with_value m a n v) a n ≡ Some (v % 256 ^ n)
-value_written m a zero v = ap Some (by_one v)
+-- the bytes of a value that were written to RAM, read back, are its lowest bytes
+pub value_written : (m : Bytes) (a n v : ℕ) → ram_base ≤ a → value_at (with_value m a n v) a n ≡ Some (v % 256 ^ n)
+value_written m a zero v high = ap Some (by_one v)
   where
     by_one : (v : ℕ) → 0 ≡ v % 256 ^ 0
     by_one v = omega arith
-value_written m a (suc n) v =
-    ap (λ o. with_byte o (value_at (with_value m a (suc n) v) (a + 1) n)) (get-with_value m a (suc n) v a ∙ byte_first a n v (get m a))
-    ∙ ap (with_byte (Some (v % 256))) (value_written (insert m a (v % 256)) (a + 1) n (v / 256))
+value_written m a (suc n) v high =
+    ap (λ o. with_byte o (value_at (with_value m a (suc n) v) (a + 1) n)) (get-with_value m a (suc n) v a ∙ byte_first a n v (get m a) high)
+    ∙ ap (with_byte (Some (v % 256))) (value_written (insert m a (kept_byte a (v % 256))) (a + 1) n (v / 256) (omega arith))
     ∙ ap Some (lowest (256 ^ n) v (positive n) ∙ ap (λ p. v % p) (sym (pow-suc 256 n)))
   where
     lowest : (p v : ℕ) → 0 < p → v % 256 + 256 * (v / 256 % p) ≡ v % (p * 256)
     lowest p v some = omega (arith, mod-mul v {m = p} {c = 256} some (omega arith))
+
+-- ---- RAM alone
+
+-- what is seen at q where all of a value's lowest bytes stand
+abbrev pub whole_or : ℕ → ℕ → ℕ → ℕ → Option ℕ → Option ℕ
+whole_or a zero v q o = o
+whole_or a (suc n) v q o = whole_or (a + 1) n (v / 256) q (if q == a then Some (v % 256) else o)
+
+-- RAM keeps all of what is written
+pub byte_or-whole : (a n v q : ℕ) (o : Option ℕ) → ram_base ≤ a → byte_or a n v q o ≡ whole_or a n v q o
+byte_or-whole a zero v q o high = refl
+byte_or-whole a (suc n) v q o high =
+    byte_or-whole (a + 1) n (v / 256) q (if q == a then Some (kept_byte a (v % 256)) else o) (omega arith)
+    ∙ ap (λ b. whole_or (a + 1) n (v / 256) q (if q == a then Some b else o)) (kept_high a (v % 256) high)

@@ -7,20 +7,19 @@ use Rattle.rv_model.specs.declared.insn.Insn.TheVariants.{Lui, Auipc, Jal, Jalr,
 use Rattle.rv_model.specs.declared.insn.Insn.TheVariants.{StoreConditional, Amo, Fence, FenceI, Csr, CsrImmediate, Ecall, Ebreak, Mret, Wfi}
 use Rattle.rv_model.specs.declared.mem_fault.MemFault.{MemFault}
 use Rattle.rv_model.specs.declared.size.Size.{Size}
-use Rattle.rv_model.specs.declared.size.Size.TheVariants.{B4}
 use Rattle.rv_model.specs.Accesses.{load_extension, load_size, width_extension, width_size}
 use Rattle.rv_model.specs.Core.{Core, offset_by, x_of}
 use Rattle.rv_model.specs.Effects.{Outcome, after_amo, after_load, after_reserve, after_sc, amo_step, effect_of, same_memory, sc_step, stored_step}
 use Rattle.rv_model.specs.Effects.{stores_at, stores_if_reserved_at, updates_at, loads_at, reserves_at}
 use Rattle.rv_model.specs.Execute.{decoded, exec_of, fetched}
 use Rattle.rv_model.specs.Laws.{answered}
-use Rattle.rv_model.specs.Memory.{Memory, after_store, cleared, covers, dropped, loaded, store_answer}
+use Rattle.rv_model.specs.Memory.{Memory, after_store, cleared, covers, dropped, fetch_of, loaded, store_answer}
 use Rattle.rv_model.specs.Rows.{meaning}
 use Rattle.rv_model.specs.Size.{count_of}
 use Rattle.rv_model.specs.Touch.{reads, reads_and_writes, touch_fetched, touch_of, touches_nothing, writes}
 use Rattle.rv_model.specs.Turn.{is_ebreak_at, is_ebreak_word}
 use Rattle.rv_model.proofs.MemoryLemmas.{after_store_refused, after_store_taken, store_answer_is}
-use Rattle.soft_laws.specs.SoftBreaks.{AreAligned, AreInside, is_listed, meets_some, patched_memory}
+use Rattle.soft_laws.specs.SoftBreaks.{AreSoftAddresses, AreInside, is_listed, meets_some, patched_memory}
 use Rattle.soft_laws.specs.SoftTurns.{ebreak_by, soft_touch, touch_by}
 use Rattle.soft_laws.specs.Undisturbed.{LeavesWords, accessed, accessed_fetched, accessed_meant, accessed_of, reaches, unless_refused}
 use Rattle.soft_laws.proofs.PatchedLemmas.{answered-patched, fetched-covered, fetched-patched, loaded-patched, patched-write}
@@ -208,15 +207,15 @@ fetched_by cs (Ok w) c m inside leaves = by (meaning w) leaves
     by (Some insn) left = effect-patched cs insn c m inside left
     by None left = refl
 
-pub exec-patched : (cs : List ℕ) (c : Core) (m : Memory) → AreAligned cs → AreInside cs m.bytes → is_listed cs c.pc ≡ false
+pub exec-patched : (cs : List ℕ) (c : Core) (m : Memory) → AreSoftAddresses cs → AreInside cs m.bytes → is_listed cs c.pc ≡ false
     → LeavesWords cs (accessed_of c m) → exec_of c (patched_memory cs m) ≡ patched_outcome cs (exec_of c m)
 unfolding exec_of accessed_of
 exec-patched cs c m are inside none leaves =
-    ap (λ r. fetched r c (patched_memory cs m)) (fetched-patched cs m c.pc are none) ∙ fetched_by cs (loaded m c.pc B4) c m inside leaves
+    ap (λ r. fetched r c (patched_memory cs m)) (fetched-patched cs m c.pc are none) ∙ fetched_by cs (fetch_of m c.pc) c m inside leaves
 
 -- ---- what stands at pc
 
-pub touch-patched : (cs : List ℕ) (c : Core) (m : Memory) → AreAligned cs → touch_of c (patched_memory cs m) ≡ soft_touch cs c m
+pub touch-patched : (cs : List ℕ) (c : Core) (m : Memory) → AreSoftAddresses cs → touch_of c (patched_memory cs m) ≡ soft_touch cs c m
 unfolding soft_touch touch_of meaning
 touch-patched cs c m are = by (is_listed cs c.pc) refl
   where
@@ -224,7 +223,7 @@ touch-patched cs c m are = by (is_listed cs c.pc) refl
     by true e = ap (λ r. touch_fetched r c) (fetched-covered cs m c.pc are e)
     by false e = ap (λ r. touch_fetched r c) (fetched-patched cs m c.pc are e)
 
-pub ebreak-patched : (cs : List ℕ) (c : Core) (m : Memory) → AreAligned cs → is_ebreak_at c (patched_memory cs m) ≡ ebreak_by (is_listed cs c.pc) c m
+pub ebreak-patched : (cs : List ℕ) (c : Core) (m : Memory) → AreSoftAddresses cs → is_ebreak_at c (patched_memory cs m) ≡ ebreak_by (is_listed cs c.pc) c m
 unfolding is_ebreak_at meaning
 ebreak-patched cs c m are = by (is_listed cs c.pc) refl
   where

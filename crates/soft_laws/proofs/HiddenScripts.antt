@@ -1,5 +1,5 @@
 -- Every command keeps the chip's world hidden, and so does a session.
-use Rattle.std.proofs.Common.{◌≡◌, ◌∙◌, ◌%◌, ℕ, Bool, true, false, not, ◌&&◌, List, [], ◌∷◌, length}
+use Rattle.std.proofs.Common.{◌≡◌, ◌∙◌, ℕ, Bool, true, false, not, ◌&&◌, List, [], ◌∷◌, length}
 use Rattle.std.proofs.Common.{refl, sym, ap, subst, inl, inr, if◌then◌else◌}
 use Rattle.std.specs.Prelude.{All, ◌==◌}
 use Rattle.std.proofs.lemmas.Bool.{false≢true}
@@ -17,11 +17,12 @@ use Rattle.abstract_debugger.specs.Transcript.{start}
 use Rattle.abstract_debugger.proofs.WalkLemmas.{Walks, act-walks, walk-halted, walk-if, walk-look, walk-stop_line}
 use Rattle.soft_laws.specs.Laws.{ChipsAreUndebugged, HasFewHarts, IsSoftWithinRanges, IsUndisturbed, SessionsHide, chip_outcome}
 use Rattle.soft_laws.specs.Lowered.{no_table}
-use Rattle.soft_laws.specs.SoftBreaks.{covered, has_some, is_listed, patched_board, patched_machine, without}
-use Rattle.soft_laws.specs.SoftDebugger.{SoftCommand, SoftState, clearing, first_soft_state, lifting, most_planted}
+use Rattle.soft_laws.specs.SoftBreaks.{IsSoftAddress, covered, has_some, is_listed, patched_board, patched_machine, without}
+use Rattle.debug_model.specs.declared.soft_command.SoftCommand.{SoftCommand}
+use Rattle.soft_laws.specs.SoftDebugger.{SoftState, clearing, first_soft_state, lifting, most_planted}
 use Rattle.soft_laws.specs.SoftDebugger.{plain_act, planting, prepared, put_in, setting, soft_act, soft_commands, soft_resuming}
 use Rattle.soft_laws.specs.SoftDebugger.{soft_session, soft_stepping, soft_transcript, switching}
-use Rattle.soft_laws.specs.SoftDebugger.SoftCommand.{Plain, Soft, Unsoft}
+use Rattle.debug_model.specs.declared.soft_command.SoftCommand.TheVariants.{Plain, Soft, Unsoft}
 use Rattle.soft_laws.proofs.HiddenPlans.{Hidden, Same, h-change, h-say}
 use Rattle.soft_laws.proofs.PlantedLemmas.{Plants, fewer_without}
 use Rattle.soft_laws.proofs.PlantedLemmas.{plants-changed, plants-known, put-either, without-listed}
@@ -36,10 +37,10 @@ use Rattle.soft_laws.proofs.HiddenSteps.{stepping-hidden}
 abbrev NextHidden : Machine → (SoftState → Plan) → Type 0
 NextHidden m next = (t : SoftState) → AreWords t.planted → Hidden m (Plants t.planted) (next t)
 
-put_words : (a : ℕ) (ps : List ℕ) → a % 4 ≡ 0 → AreWords ps → AreWords (put_in a ps)
+put_words : (a : ℕ) (ps : List ℕ) → IsSoftAddress a → AreWords ps → AreWords (put_in a ps)
 unfolding AreWords
 put_words a ps aligned words b there = elim (put-either a b ps there) [
-  | inl e ↦ subst (λ n. n % 4 ≡ 0) (sym e) aligned
+  | inl e ↦ subst IsSoftAddress (sym e) aligned
   | inr e ↦ words b e
 ]
 
@@ -47,7 +48,7 @@ without_words : (a : ℕ) (ps : List ℕ) → AreWords ps → AreWords (without 
 unfolding AreWords
 without_words a ps words b there = words b (without-listed a b ps there).before
 
-setting-hidden : (m : Machine) (a : ℕ) (s : SoftState) (next : SoftState → Plan) → a % 4 ≡ 0 → AreWords s.planted → NextHidden m next
+setting-hidden : (m : Machine) (a : ℕ) (s : SoftState) (next : SoftState → Plan) → IsSoftAddress a → AreWords s.planted → NextHidden m next
     → Hidden m (Plants s.planted) (setting a s next)
 setting-hidden m a s next aligned words f =
     let ws : Walks Walked (λ p q. Hidden m (Plants s.planted) p) = hidden-walk m s.planted in
@@ -63,7 +64,7 @@ setting-hidden m a s next aligned words f =
     (planting-hidden m a s.planted aligned (next s) later (f s words)
     (f (record s { planted = put_in a s.planted }) (put_words a s.planted aligned words)))))
 
-clearing-hidden : (m : Machine) (a : ℕ) (s : SoftState) (next : SoftState → Plan) → a % 4 ≡ 0 → AreWords s.planted → NextHidden m next
+clearing-hidden : (m : Machine) (a : ℕ) (s : SoftState) (next : SoftState → Plan) → IsSoftAddress a → AreWords s.planted → NextHidden m next
     → Hidden m (Plants s.planted) (clearing a s next)
 clearing-hidden m a s next aligned words f =
     let ws : Walks Walked (λ p q. Hidden m (Plants s.planted) p) = hidden-walk m s.planted in
@@ -136,8 +137,8 @@ plain-hidden m command.Slots s next words f = as_it_was m command.Slots s next t
 act-hidden : (m : Machine) (c : SoftCommand) (s : SoftState) (next : SoftState → Plan) → IsSoftWithinRanges c → AreWords s.planted → NextHidden m next
     → Hidden m (Plants s.planted) (soft_act c s next)
 act-hidden m (Plain c) s next within words f = plain-hidden m c s next words f
-act-hidden m (Soft a) s next within words f = setting-hidden m a s next within.0 words f
-act-hidden m (Unsoft a) s next within words f = clearing-hidden m a s next within.0 words f
+act-hidden m (Soft a) s next within words f = setting-hidden m a s next within words f
+act-hidden m (Unsoft a) s next within words f = clearing-hidden m a s next within words f
 
 commands-hidden : (m : Machine) (script : List SoftCommand) → All IsSoftWithinRanges script → NextHidden m (soft_commands script)
 commands-hidden m [] within s words = closing-hidden m s.planted words

@@ -1,5 +1,5 @@
 -- Patches, steps over them and the first breakpoint keep the chip's world hidden, and so do the commands that are as they were.
-use Rattle.std.proofs.Common.{◌≡◌, ◌∙◌, ◌+◌, ◌%◌, ◌<◌, ◌≤◌, ℕ, zero, suc, Bool, true, false, ◌||◌, List, [], ◌∷◌, Option, Some, None}
+use Rattle.std.proofs.Common.{◌≡◌, ◌∙◌, ◌+◌, ◌<◌, ◌≤◌, ℕ, zero, suc, Bool, true, false, ◌||◌, List, [], ◌∷◌, Option, Some, None}
 use Rattle.std.proofs.Common.{◌⊎◌, Result, Ok, Err, slice_get, refl, sym, ap, inl, inr, arith}
 use Rattle.std.proofs.lemmas.Bool.{cases_lt, false≢true}
 use Rattle.std.proofs.lemmas.Option.{none-some}
@@ -22,7 +22,7 @@ use Rattle.abstract_debugger.specs.Transcript.{World, changed, graded}
 use Rattle.abstract_debugger.proofs.WalkLemmas.{IsLost, IsUsual, Walks, walk-if, walk-one, walk-resumed, walk-stop_line}
 use Rattle.rv_model.specs.declared.cause.Cause.{Cause}
 use Rattle.soft_laws.specs.Laws.{HasRun}
-use Rattle.soft_laws.specs.SoftBreaks.{covered, is_listed}
+use Rattle.soft_laws.specs.SoftBreaks.{IsSoftAddress, covered, is_listed}
 use Rattle.soft_laws.specs.SoftDebugger.{closing, covering, lifting, most_harts, one_by}
 use Rattle.soft_laws.specs.SoftDebugger.{pc_at, planting, prepared, preparing, put_in, soft_one, soft_resuming}
 use Rattle.soft_laws.specs.SoftDebugger.{soft_stepping, word_at}
@@ -83,9 +83,9 @@ hidden-walk m ps = record {
 
 -- each of these addresses is a word's
 unfoldable pub AreWords : List ℕ → Type 0
-AreWords ps = (a : ℕ) → is_listed ps a ≡ true → a % 4 ≡ 0
+AreWords ps = (a : ℕ) → is_listed ps a ≡ true → IsSoftAddress a
 
-pub lifting-hidden : (m : Machine) (a : ℕ) (ps qs : List ℕ) → a % 4 ≡ 0 → Fewer a ps qs → (next : ℕ → Plan) → ((o : ℕ) → Hidden m (Plants qs) (next o))
+pub lifting-hidden : (m : Machine) (a : ℕ) (ps qs : List ℕ) → IsSoftAddress a → Fewer a ps qs → (next : ℕ → Plan) → ((o : ℕ) → Hidden m (Plants qs) (next o))
     → Hidden m (Plants ps) (lifting a next)
 lifting-hidden m a ps qs aligned fewer next h =
     h-take m (Plants ps) (plants-known ps) Access (see (λ b. change (Patch a (word_at a b) false) (next (word_at a b))))
@@ -93,7 +93,7 @@ lifting-hidden m a ps qs aligned fewer next h =
     h-change m (Plants ps) (Plants qs) (Patch a (word_at a b) false) (next (word_at a b)) aligned
     (λ w. plants-lifted a (word_at a b) ps qs w fewer) (h (word_at a b))))
 
-pub covering-hidden : (m : Machine) (K L : World → Type 0) → IsKnowledge K → (a original : ℕ) → a % 4 ≡ 0
+pub covering-hidden : (m : Machine) (K L : World → Type 0) → IsKnowledge K → (a original : ℕ) → IsSoftAddress a
     → ((w : World) → K w → L (changed (Patch a original true) w)) → (next : Plan) → Hidden m L next → Hidden m K (covering a original next)
 covering-hidden m K L knows a original aligned steps next h =
     h-take m K knows Access (see (λ b. change (Patch a original true) next))
@@ -242,8 +242,8 @@ prepared-hidden m [] next ready hn hr =
 prepared-hidden m (a ∷ ps) next ready hn hr =
     h-weaker m (Plants (a ∷ ps)) (Armed (a ∷ ps)) ready (λ w k. record { plants = k; all = k.guarded refl }) hr
 
-pub planting-hidden : (m : Machine) (a : ℕ) (ps : List ℕ) → a % 4 ≡ 0 → (next set : Plan) → Hidden m (Plants ps) next → Hidden m (Plants (put_in a ps)) set
-    → Hidden m (Armed ps) (planting a next set)
+pub planting-hidden : (m : Machine) (a : ℕ) (ps : List ℕ) → IsSoftAddress a → (next set : Plan) → Hidden m (Plants ps) next
+    → Hidden m (Plants (put_in a ps)) set → Hidden m (Armed ps) (planting a next set)
 planting-hidden m a ps aligned next set hn hs =
     h-take m (Armed ps) (armed-known ps) Access (see (λ b. by_load (loaded b.memory a B4) (say (Line.MemoryFault a) next)
     (λ original. covering a original (say (Line.SoftSet a) set))))

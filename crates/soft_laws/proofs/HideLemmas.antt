@@ -9,16 +9,16 @@ use Rattle.rv_model.specs.Execute.{exec_of}
 use Rattle.rv_model.specs.Memory.{Memory}
 use Rattle.rv_model.specs.Turn.{Place, executes, executes_by, memory_after, place_by, place_of, some_fires, stops_at_ebreak, turn_by}
 use Rattle.soft_laws.specs.Laws.{PatchesHide}
-use Rattle.soft_laws.specs.SoftBreaks.{AreAligned, AreInside, is_listed, patched_board, patched_memory}
+use Rattle.soft_laws.specs.SoftBreaks.{AreSoftAddresses, AreInside, is_listed, patched_board, patched_memory}
 use Rattle.soft_laws.specs.SoftTurns.{ebreak_by, soft_executes, soft_fires, soft_memory_after, soft_place, soft_stops, soft_touch, soft_turn_by}
 use Rattle.soft_laws.specs.Undisturbed.{LeavesWords, accessed_of}
 use Rattle.soft_laws.proofs.ExecLemmas.{ebreak-patched, exec-patched, patched_outcome, touch-patched}
 
-pub stops-patched : (cs : List ℕ) (x : Hart) (m : Memory) → AreAligned cs → stops_at_ebreak x (patched_memory cs m) ≡ soft_stops cs x m
+pub stops-patched : (cs : List ℕ) (x : Hart) (m : Memory) → AreSoftAddresses cs → stops_at_ebreak x (patched_memory cs m) ≡ soft_stops cs x m
 unfolding soft_stops
 stops-patched cs x m are = ap (λ b. x.debug.ebreakm && b) (ebreak-patched cs x.core m are)
 
-pub executes-patched : (cs : List ℕ) (x : Hart) (m : Memory) → AreAligned cs → executes x (patched_memory cs m) ≡ soft_executes cs x m
+pub executes-patched : (cs : List ℕ) (x : Hart) (m : Memory) → AreSoftAddresses cs → executes x (patched_memory cs m) ≡ soft_executes cs x m
 unfolding executes
 executes-patched cs x m are =
     ap (λ t. executes_by x.debug.halted x.debug.resume_request x.debug.halt_request (some_fires t x) (stops_at_ebreak x (patched_memory cs m)))
@@ -48,8 +48,9 @@ executes_uncovered cs x m halts runs = by (is_listed cs x.core.pc) refl
     by true e = absurd (false≢true (sym (ap (executes_by x.debug.halted x.debug.resume_request x.debug.halt_request (soft_fires cs x m))
         (stops_there cs x m e (halts e)) ∙ stopped_by x.debug.halted x.debug.resume_request x.debug.halt_request (soft_fires cs x m)) ∙ runs))
 
-pub executed-patched : (cs : List ℕ) (x : Hart) (m : Memory) → AreAligned cs → AreInside cs m.bytes → (is_listed cs x.core.pc ≡ true → x.debug.ebreakm ≡ true)
-    → (soft_executes cs x m ≡ true → LeavesWords cs (accessed_of x.core m)) → soft_executes cs x m ≡ true
+pub executed-patched : (cs : List ℕ) (x : Hart) (m : Memory) → AreSoftAddresses cs → AreInside cs m.bytes
+    → (is_listed cs x.core.pc ≡ true → x.debug.ebreakm ≡ true) → (soft_executes cs x m ≡ true → LeavesWords cs (accessed_of x.core m))
+    → soft_executes cs x m ≡ true
     → exec_of x.core (patched_memory cs m) ≡ patched_outcome cs (exec_of x.core m)
 executed-patched cs x m are inside halts leaves runs = exec-patched cs x.core m are inside (executes_uncovered cs x m halts runs) (leaves runs)
 
@@ -67,7 +68,7 @@ same_place None resume false false true t o o' x same = refl
 same_place None resume false false false t o o' x same =
     ap (λ s. place_by None resume false false false t (record { step = s; memory = o.memory }) x) (same refl)
 
-place-patched : (cs : List ℕ) (x : Hart) (m : Memory) → AreAligned cs
+place-patched : (cs : List ℕ) (x : Hart) (m : Memory) → AreSoftAddresses cs
     → (soft_executes cs x m ≡ true → exec_of x.core (patched_memory cs m) ≡ patched_outcome cs (exec_of x.core m))
     → place_of x (patched_memory cs m) ≡ soft_place cs x m
 unfolding place_of soft_place
@@ -84,7 +85,7 @@ memory_by : (cs : List ℕ) (b : Bool) (m new new' : Memory) → (b ≡ true →
 memory_by cs true m new new' is = is refl
 memory_by cs false m new new' is = refl
 
-memory-patched : (cs : List ℕ) (x : Hart) (m : Memory) → AreAligned cs
+memory-patched : (cs : List ℕ) (x : Hart) (m : Memory) → AreSoftAddresses cs
     → (soft_executes cs x m ≡ true → exec_of x.core (patched_memory cs m) ≡ patched_outcome cs (exec_of x.core m))
     → memory_after x (patched_memory cs m) ≡ patched_memory cs (soft_memory_after cs x m)
 unfolding memory_after soft_memory_after
@@ -95,7 +96,7 @@ memory-patched cs x m are runs =
 
 -- ---- the board
 
-hides_by : (cs : List ℕ) (o : Option Hart) (h : ℕ) (b : Board) → AreAligned cs
+hides_by : (cs : List ℕ) (o : Option Hart) (h : ℕ) (b : Board) → AreSoftAddresses cs
     → ((x : Hart) → o ≡ Some x → soft_executes cs x b.memory ≡ true → exec_of x.core (patched_memory cs b.memory) ≡ patched_outcome cs
     (exec_of x.core b.memory))
     → turn_by o h (patched_board cs b) ≡ patched_board cs (soft_turn_by cs o h b)

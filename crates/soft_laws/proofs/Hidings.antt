@@ -5,7 +5,7 @@ use Rattle.abstract_debugger.specs.FirstMatch.{FirstMatch}
 use Rattle.abstract_debugger.specs.Transcript.{World}
 use Rattle.abstract_debugger.proofs.Transparency.{Erased}
 use Rattle.soft_laws.specs.Lowered.{Table}
-use Rattle.soft_laws.specs.SoftBreaks.{AreAligned, AreInside, covered, is_listed, patched_board}
+use Rattle.soft_laws.specs.SoftBreaks.{AreSoftAddresses, AreInside, covered, is_listed, patched_board}
 use Rattle.soft_laws.specs.SoftFirstMatch.{SoftFirstMatch}
 use Rattle.soft_laws.proofs.PatchLemmas.{Remembers}
 use Rattle.soft_laws.proofs.SoftPasts.{SameStories}
@@ -15,7 +15,7 @@ pub record Hides (m : Machine) (t : Table) (seen chip : World) : Type 0 where
   pub told : t.covered ≡ covered seen.past
   pub board : chip.board ≡ patched_board t.covered seen.board
   pub remembers : Remembers t.covered t.originals seen.board.memory.bytes
-  pub aligned : AreAligned t.covered
+  pub aligned : AreSoftAddresses t.covered
   pub inside : AreInside t.covered seen.board.memory.bytes
   pub lines : chip.lines ≡ seen.lines
   pub seen_erased : Erased m seen

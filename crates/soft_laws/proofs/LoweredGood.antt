@@ -33,10 +33,11 @@ use Rattle.abstract_debugger.proofs.WayWalks.{WayWalks, way-first, way-halted, w
 use Rattle.soft_laws.specs.Laws.{IsSoftWithinRanges, SoftFirstMatchHolds}
 use Rattle.soft_laws.specs.Lowered.{Table, hidden_board, lower, merged, no_table, patched_table, written_table}
 use Rattle.soft_laws.specs.SoftBreaks.{ebreak_word, has_some, is_listed, without}
-use Rattle.soft_laws.specs.SoftDebugger.{SoftCommand, SoftState, clearing, closing, covering, first_soft_state, lifting, most_harts, most_planted, one_by}
+use Rattle.debug_model.specs.declared.soft_command.SoftCommand.{SoftCommand}
+use Rattle.soft_laws.specs.SoftDebugger.{SoftState, clearing, closing, covering, first_soft_state, lifting, most_harts, most_planted, one_by}
 use Rattle.soft_laws.specs.SoftDebugger.{pc_at, plain_act, planting, prepared, preparing, put_in, setting, soft_act, soft_commands, soft_one, soft_resuming}
 use Rattle.soft_laws.specs.SoftDebugger.{soft_session, soft_stepping, switching, word_at}
-use Rattle.soft_laws.specs.SoftDebugger.SoftCommand.{Plain, Soft, Unsoft}
+use Rattle.debug_model.specs.declared.soft_command.SoftCommand.TheVariants.{Plain, Soft, Unsoft}
 use Rattle.soft_laws.proofs.HiddenScripts.{session-same}
 
 -- with every table

@@ -5,12 +5,13 @@ use Rattle.std.proofs.Common.{is_some, refl, sym, ap, if◌then◌else◌, inl, 
 use Rattle.std.specs.Prelude.{◌==◌}
 use Rattle.std.specs.FinMap.{get, get-remove}
 use Rattle.std.specs.Cmp.{nat_cmp_total, unsigned_tied}
-use Rattle.std.proofs.lemmas.Bool.{cases_eq, eq-eqb, eqb-true, false≢true, ne_eqb, or_parts}
-use Rattle.rv_model.specs.Memory.{Bytes, with_value}
+use Rattle.std.proofs.lemmas.Bool.{cases_eq, cases_lt, eq-eqb, eqb-true, false≢true, ne_eqb, or_parts}
+use Rattle.rv_model.specs.Memory.{Bytes, kept_byte, ram_base, with_value}
+use Rattle.rv_model.proofs.MapLemmas.{kept_high}
 use Rattle.soft_laws.specs.Lowered.{copied, ebreak_over, hidden_bytes, merged, merged_byte, put}
-use Rattle.soft_laws.specs.SoftBreaks.{AreAligned, AreInside, ebreak_word, meets, meets_some, patched_by, patched_bytes, without}
+use Rattle.soft_laws.specs.SoftBreaks.{AreInside, AreSoftAddresses, IsSoftAddress, ebreak_word, meets, meets_some, patched_by, patched_bytes, without}
 use Rattle.soft_laws.proofs.ByteLemmas.{Place, byte_or, byte_some, byte_within, get-with_value, get_insert, place_of, same_bytes, writes_swap}
-use Rattle.soft_laws.proofs.ByteLemmas.{byte_above, byte_below, written_over}
+use Rattle.soft_laws.proofs.ByteLemmas.{byte_above, byte_below, byte_or-whole, written_over}
 use Rattle.soft_laws.proofs.ByteLemmas.Place.{below, within, above}
 use Rattle.soft_laws.proofs.PatchedLemmas.{either_true, get-patched, meets-apart, meets-within, patched_or, uncovered_byte, words_apart}
 
@@ -98,7 +99,7 @@ hidden-patched cs originals m remembers = same_bytes (hidden_bytes cs originals 
 -- ---- one patch
 
 -- where a word is uncovered, by writing its original
-pub patch-off : (cs : List ℕ) → AreAligned cs → (m : Bytes) (a original : ℕ) → a % 4 ≡ 0
+pub patch-off : (cs : List ℕ) → AreSoftAddresses cs → (m : Bytes) (a original : ℕ) → IsSoftAddress a
     → with_value (patched_bytes cs m) a 4 original ≡ patched_bytes (without a cs) (with_value m a 4 original)
 unfolding patched_bytes
 patch-off [] are m a original aligned = refl
@@ -113,27 +114,28 @@ patch-off (c ∷ cs) are m a original aligned = by (a == c) refl (patch-off cs a
         ∙ written_over (patched_bytes cs m) a 4 ebreak_word original ∙ later
     by false e later =
         writes_swap (patched_bytes cs m) c 4 ebreak_word a 4 original
-        (words_apart c a are.0 aligned (λ is. false≢true (sym e ∙ eq-eqb a c is)))
+        (words_apart c a are.0.0 aligned.0 (λ is. false≢true (sym e ∙ eq-eqb a c is)))
         ∙ ap (λ b. with_value b c 4 ebreak_word) later
 
 -- where one is covered, by writing the ebreak
-pub patch-on : (cs : List ℕ) → AreAligned cs → (m : Bytes) (a original : ℕ) → a % 4 ≡ 0
+pub patch-on : (cs : List ℕ) → AreSoftAddresses cs → (m : Bytes) (a original : ℕ) → IsSoftAddress a
     → with_value (patched_bytes cs m) a 4 ebreak_word ≡ patched_bytes (a ∷ without a cs) (with_value m a 4 original)
 unfolding patched_bytes
 patch-on cs are m a original aligned =
     sym (written_over (patched_bytes cs m) a 4 original ebreak_word)
     ∙ ap (λ b. with_value b a 4 ebreak_word) (patch-off cs are m a original aligned)
 
-pub patch-moves : (covers : Bool) (cs : List ℕ) → AreAligned cs → (m : Bytes) (a original : ℕ) → a % 4 ≡ 0
+pub patch-moves : (covers : Bool) (cs : List ℕ) → AreSoftAddresses cs → (m : Bytes) (a original : ℕ) → IsSoftAddress a
     → with_value (patched_bytes cs m) a 4 (if covers then ebreak_word else original) ≡ patched_bytes (patched_by covers a cs) (with_value m a 4 original)
 patch-moves true cs are m a original aligned = patch-on cs are m a original aligned
 patch-moves false cs are m a original aligned = patch-off cs are m a original aligned
 
 -- ---- a merged write
 
-ebreak_bytes : (c q byte : ℕ) → byte_or c 4 ebreak_word q (Some byte) ≡ Some (ebreak_over c q byte)
-ebreak_bytes c q byte =
-    ap (λ n. if q == n then Some 0x00 else (if q == c + 1 + 1 then Some 0x10 else (if q == c + 1 then Some 0x00 else
+pub ebreak_bytes : (c q byte : ℕ) → ram_base ≤ c → byte_or c 4 ebreak_word q (Some byte) ≡ Some (ebreak_over c q byte)
+ebreak_bytes c q byte high =
+    byte_or-whole c 4 ebreak_word q (Some byte) high
+    ∙ ap (λ n. if q == n then Some 0x00 else (if q == c + 1 + 1 then Some 0x10 else (if q == c + 1 then Some 0x00 else
     (if q == c then Some 0x73 else Some byte))))
     (third c)
     ∙ ap (λ n. if q == c + 3 then Some 0x00 else (if q == n then Some 0x10 else (if q == c + 1 then Some 0x00 else
@@ -155,9 +157,28 @@ ebreak_bytes c q byte =
     five false false false true = refl
     five false false false false = refl
 
-patched_some : (cs : List ℕ) (q byte : ℕ) → patched_or cs q (Some byte) ≡ Some (merged_byte cs q byte)
-patched_some [] q byte = refl
-patched_some (c ∷ cs) q byte = ap (byte_or c 4 ebreak_word q) (patched_some cs q byte) ∙ ebreak_bytes c q (merged_byte cs q byte)
+patched_some : (cs : List ℕ) → AreSoftAddresses cs → (q byte : ℕ) → patched_or cs q (Some byte) ≡ Some (merged_byte cs q byte)
+patched_some [] are q byte = refl
+patched_some (c ∷ cs) are q byte = ap (byte_or c 4 ebreak_word q) (patched_some cs are.1 q byte) ∙ ebreak_bytes c q (merged_byte cs q byte) are.0.1
+
+-- below RAM no word is covered
+merged_low : (cs : List ℕ) → AreSoftAddresses cs → (q byte : ℕ) → q < ram_base → merged_byte cs q byte ≡ byte
+merged_low [] are q byte low = refl
+merged_low (c ∷ cs) are q byte low =
+    let beside : (k : ℕ) → c ≤ k → (q == k) ≡ false = λ k from. ne_eqb q k (λ e. absurd (omega (arith, e, from, low, are.0.1))) in
+    ap (λ b. if b then 0x00 else (if q == c + 2 then 0x10 else (if q == c + 1 then 0x00 else (if q == c then 0x73 else merged_byte cs q byte)))) (beside
+    (c + 3) (omega arith))
+    ∙ ap (λ b. if b then 0x10 else (if q == c + 1 then 0x00 else (if q == c then 0x73 else merged_byte cs q byte))) (beside (c + 2) (omega arith))
+    ∙ ap (λ b. if b then 0x00 else (if q == c then 0x73 else merged_byte cs q byte)) (beside (c + 1) (omega arith))
+    ∙ ap (λ b. if b then 0x73 else merged_byte cs q byte) (beside c (omega arith))
+    ∙ merged_low cs are.1 q byte low
+
+-- so it is the same to keep of a merged byte and to merge what is kept
+merged_kept : (cs : List ℕ) → AreSoftAddresses cs → (q byte : ℕ) → kept_byte q (merged_byte cs q byte) ≡ merged_byte cs q (kept_byte q byte)
+merged_kept cs are q byte = elim (cases_lt q ram_base) [
+  | inl low ↦ ap (kept_byte q) (merged_low cs are q byte low) ∙ sym (merged_low cs are q (kept_byte q byte) low)
+  | inr high ↦ kept_high q (merged_byte cs q byte) high ∙ ap (merged_byte cs q) (sym (kept_high q byte high))
+]
 
 pub merged_small : (cs : List ℕ) (q byte : ℕ) → byte < 256 → merged_byte cs q byte < 256
 merged_small [] q byte small = small
@@ -170,15 +191,17 @@ merged_small (c ∷ cs) q byte small = by (q == c + 3) (q == c + 2) (q == c + 1)
     by false false false true n small = omega arith
     by false false false false n small = small
 
-merged_at : (cs : List ℕ) (a n v q : ℕ) (o : Option ℕ) → byte_or a n (merged cs a n v) q (patched_or cs q o) ≡ patched_or cs q (byte_or a n v q o)
+merged_at : (cs : List ℕ) → AreSoftAddresses cs → (a n v q : ℕ) (o : Option ℕ)
+    → byte_or a n (merged cs a n v) q (patched_or cs q o) ≡ patched_or cs q (byte_or a n v q o)
 unfolding merged
-merged_at cs a zero v q o = refl
-merged_at cs a (suc n) v q o =
-    ap (λ rest. byte_or (a + 1) n rest q (if q == a then Some (merged cs a (suc n) v % 256) else patched_or cs q o)) (higher x y (merged_small cs a
-    (v % 256) (omega arith)))
-    ∙ ap (λ byte. byte_or (a + 1) n y q (if q == a then Some byte else patched_or cs q o)) (lowest x y (merged_small cs a (v % 256) (omega arith)))
+merged_at cs are a zero v q o = refl
+merged_at cs are a (suc n) v q o =
+    ap (λ rest. byte_or (a + 1) n rest q (if q == a then Some (kept_byte a (merged cs a (suc n) v % 256)) else patched_or cs q o))
+    (higher x y (merged_small cs a (v % 256) (omega arith)))
+    ∙ ap (λ byte. byte_or (a + 1) n y q (if q == a then Some (kept_byte a byte) else patched_or cs q o))
+    (lowest x y (merged_small cs a (v % 256) (omega arith)))
     ∙ ap (byte_or (a + 1) n y q) (first (q == a) refl)
-    ∙ merged_at cs (a + 1) n (v / 256) q (if q == a then Some (v % 256) else o)
+    ∙ merged_at cs are (a + 1) n (v / 256) q (if q == a then Some (kept_byte a (v % 256)) else o)
   where
     x : ℕ
     x = merged_byte cs a (v % 256)
@@ -192,15 +215,19 @@ merged_at cs a (suc n) v q o =
     lowest : (x y : ℕ) → x < 256 → (x + 256 * y) % 256 ≡ x
     lowest x y small = omega arith
 
-    first : (b : Bool) → (q == a) ≡ b → (if b then Some x else patched_or cs q o) ≡ patched_or cs q (if b then Some (v % 256) else o)
-    first true e = sym (ap (λ p. patched_or cs p (Some (v % 256))) (eqb-true q a e) ∙ patched_some cs a (v % 256))
+    first : (b : Bool) → (q == a) ≡ b
+        → (if b then Some (kept_byte a x) else patched_or cs q o) ≡ patched_or cs q (if b then Some (kept_byte a (v % 256)) else o)
+    first true e =
+        ap Some (merged_kept cs are a (v % 256))
+        ∙ sym (ap (λ p. patched_or cs p (Some (kept_byte a (v % 256)))) (eqb-true q a e) ∙ patched_some cs are a (kept_byte a (v % 256)))
     first false e = refl
 
 -- a merged write is a write below the patches
-pub merged-write : (cs : List ℕ) (m : Bytes) (a n v : ℕ) → with_value (patched_bytes cs m) a n (merged cs a n v) ≡ patched_bytes cs (with_value m a n v)
-merged-write cs m a n v = same_bytes (with_value (patched_bytes cs m) a n (merged cs a n v)) (patched_bytes cs (with_value m a n v)) (λ q.
+pub merged-write : (cs : List ℕ) → AreSoftAddresses cs → (m : Bytes) (a n v : ℕ)
+    → with_value (patched_bytes cs m) a n (merged cs a n v) ≡ patched_bytes cs (with_value m a n v)
+merged-write cs are m a n v = same_bytes (with_value (patched_bytes cs m) a n (merged cs a n v)) (patched_bytes cs (with_value m a n v)) (λ q.
     get-with_value (patched_bytes cs m) a n (merged cs a n v) q ∙ ap (byte_or a n (merged cs a n v) q) (get-patched cs m q)
-    ∙ merged_at cs a n v q (get m q) ∙ ap (patched_or cs q) (sym (get-with_value m a n v q)) ∙ sym (get-patched cs (with_value m a n v) q))
+    ∙ merged_at cs are a n v q (get m q) ∙ ap (patched_or cs q) (sym (get-with_value m a n v q)) ∙ sym (get-patched cs (with_value m a n v) q))
 
 -- ---- the table
 
@@ -220,15 +247,15 @@ without-meets a (c ∷ cs) q n is = by (a == c) is (without-meets a cs q n)
       | inr e ↦ later (meets c q n) (meets_some cs q n) (more e)
     ]
 
-pub without-aligned : (a : ℕ) (cs : List ℕ) → AreAligned cs → AreAligned (without a cs)
+pub without-aligned : (a : ℕ) (cs : List ℕ) → AreSoftAddresses cs → AreSoftAddresses (without a cs)
 without-aligned a [] are = are
 without-aligned a (c ∷ cs) are = by (a == c) (without-aligned a cs are.1)
   where
-    by : (b : Bool) → AreAligned (without a cs) → AreAligned (if b then without a cs else c ∷ without a cs)
+    by : (b : Bool) → AreSoftAddresses (without a cs) → AreSoftAddresses (if b then without a cs else c ∷ without a cs)
     by true more = more
     by false more = (are.0, more)
 
-pub patched-aligned : (covers : Bool) (a : ℕ) (cs : List ℕ) → a % 4 ≡ 0 → AreAligned cs → AreAligned (patched_by covers a cs)
+pub patched-aligned : (covers : Bool) (a : ℕ) (cs : List ℕ) → IsSoftAddress a → AreSoftAddresses cs → AreSoftAddresses (patched_by covers a cs)
 patched-aligned true a cs aligned are = (aligned, without-aligned a cs are)
 patched-aligned false a cs aligned are = without-aligned a cs are
 

@@ -4,13 +4,14 @@ use Rattle.std.proofs.Common.{refl, sym, ap, subst, if◌then◌else◌, inl, in
 use Rattle.std.specs.Prelude.{◌==◌, nat_lt}
 use Rattle.std.specs.FinMap.{get}
 use Rattle.std.proofs.lemmas.Bool.{and_parts, cases_eq, cases_lt, eq-eqb, eqb-true, false≢true, le-ltb, lt-ltb, ltb-false, ltb-true, ne_eqb, or_parts}
-use Rattle.rv_model.specs.declared.mem_fault.MemFault.TheVariants.{Misaligned}
+use Rattle.rv_model.specs.declared.mem_fault.MemFault.TheVariants.{Misaligned, Outside}
 use Rattle.rv_model.specs.declared.size.Size.{Size}
 use Rattle.rv_model.specs.declared.size.Size.TheVariants.{B4}
 use Rattle.rv_model.specs.Laws.{answered}
-use Rattle.rv_model.specs.Memory.{Bytes, Memory, is_aligned, loaded, or_outside, value_at, with_value}
+use Rattle.rv_model.specs.Memory.{Bytes, Memory, fetch_of, is_aligned, loaded, or_outside, ram_base, value_at, with_value}
 use Rattle.rv_model.specs.Size.{count_of}
-use Rattle.soft_laws.specs.SoftBreaks.{AreAligned, AreInside, ebreak_word, is_listed, meets, meets_some, patched_bytes, patched_memory}
+use Rattle.rv_model.proofs.MemoryLemmas.{fetch_high}
+use Rattle.soft_laws.specs.SoftBreaks.{AreInside, AreSoftAddresses, IsSoftAddress, ebreak_word, is_listed, meets, meets_some, patched_bytes, patched_memory}
 use Rattle.soft_laws.proofs.ByteLemmas.{Apart, byte_above, byte_below, byte_or, byte_some, get-with_value, value_apart, value_there, value_written}
 use Rattle.soft_laws.proofs.ByteLemmas.{writes_swap}
 
@@ -71,19 +72,19 @@ listed-there c cs a is = by (a == c) (is_listed cs a) is
     by true y e = refl
     by false y e = e
 
-pub listed-aligned : (cs : List ℕ) → AreAligned cs → (a : ℕ) → is_listed cs a ≡ true → a % 4 ≡ 0
-listed-aligned [] are a is = absurd (false≢true is)
-listed-aligned (c ∷ cs) are a is = elim (either_true (a == c) (is_listed cs a) is) [
-  | inl e ↦ subst (λ n. n % 4 ≡ 0) (sym (eqb-true a c e)) are.0
-  | inr later ↦ listed-aligned cs are.1 a later
+pub listed-soft : (cs : List ℕ) → AreSoftAddresses cs → (a : ℕ) → is_listed cs a ≡ true → IsSoftAddress a
+listed-soft [] are a is = absurd (false≢true is)
+listed-soft (c ∷ cs) are a is = elim (either_true (a == c) (is_listed cs a) is) [
+  | inl e ↦ subst IsSoftAddress (sym (eqb-true a c e)) are.0
+  | inr later ↦ listed-soft cs are.1 a later
 ]
 
-pub uncovered-apart : (cs : List ℕ) → AreAligned cs → (a : ℕ) → a % 4 ≡ 0 → is_listed cs a ≡ false → meets_some cs a 4 ≡ false
+pub uncovered-apart : (cs : List ℕ) → AreSoftAddresses cs → (a : ℕ) → a % 4 ≡ 0 → is_listed cs a ≡ false → meets_some cs a 4 ≡ false
 uncovered-apart [] are a aligned none = refl
 uncovered-apart (c ∷ cs) are a aligned none =
     let parts = or_parts (a == c) (is_listed cs a) none in
     let other : a ≡ c → ⊥ = (λ e. false≢true (sym parts.0 ∙ eq-eqb a c e)) in
-    ap (λ b. b || meets_some cs a 4) (meets-not c a 4 (words_apart c a are.0 aligned other)) ∙ uncovered-apart cs are.1 a aligned parts.1
+    ap (λ b. b || meets_some cs a 4) (meets-not c a 4 (words_apart c a are.0.0 aligned other)) ∙ uncovered-apart cs are.1 a aligned parts.1
 
 -- ---- reads and writes
 
@@ -103,14 +104,14 @@ patched-read (c ∷ cs) m a n none =
     let parts = or_parts (meets c a n) (meets_some cs a n) none in
     value_apart (patched_bytes cs m) c 4 ebreak_word a n (meets-apart c a n parts.0) ∙ patched-read cs m a n parts.1
 
-pub patched-covered : (cs : List ℕ) → AreAligned cs → (m : Bytes) (a : ℕ) → is_listed cs a ≡ true → value_at (patched_bytes cs m) a 4 ≡ Some ebreak_word
+pub patched-covered : (cs : List ℕ) → AreSoftAddresses cs → (m : Bytes) (a : ℕ) → is_listed cs a ≡ true → value_at (patched_bytes cs m) a 4 ≡ Some ebreak_word
 unfolding patched_bytes
 patched-covered [] are m a is = absurd (false≢true is)
 patched-covered (c ∷ cs) are m a is = elim (cases_eq a c) [
-  | inl e ↦ ap (λ n. value_at (with_value (patched_bytes cs m) c 4 ebreak_word) n 4) e ∙ value_written (patched_bytes cs m) c 4 ebreak_word
+  | inl e ↦ ap (λ n. value_at (with_value (patched_bytes cs m) c 4 ebreak_word) n 4) e ∙ value_written (patched_bytes cs m) c 4 ebreak_word are.0.1
   | inr other ↦
       let later : is_listed cs a ≡ true = sym (ap (λ b. b || is_listed cs a) (ne_eqb a c other)) ∙ is in
-      value_apart (patched_bytes cs m) c 4 ebreak_word a 4 (words_apart c a are.0 (listed-aligned cs are.1 a later) other)
+      value_apart (patched_bytes cs m) c 4 ebreak_word a 4 (words_apart c a are.0.0 (listed-soft cs are.1 a later).0 other)
       ∙ patched-covered cs are.1 m a later
 ]
 
@@ -184,19 +185,26 @@ answered-patched cs m a size inside = by (is_aligned a size)
     by false = refl
 
 -- the word at a pc that isn't covered
-pub fetched-patched : (cs : List ℕ) (m : Memory) (pc : ℕ) → AreAligned cs → is_listed cs pc ≡ false → loaded (patched_memory cs m) pc B4 ≡ loaded m pc B4
+word-patched : (cs : List ℕ) (m : Memory) (pc : ℕ) → AreSoftAddresses cs → is_listed cs pc ≡ false → loaded (patched_memory cs m) pc B4 ≡ loaded m pc B4
 unfolding loaded
-fetched-patched cs m pc are none = by (is_aligned pc B4) refl
+word-patched cs m pc are none = by (is_aligned pc B4) refl
   where
     by : (b : Bool) → is_aligned pc B4 ≡ b → (if b then or_outside (value_at (patched_bytes cs m.bytes) pc 4) else Err Misaligned)
         ≡ (if b then or_outside (value_at m.bytes pc 4) else Err Misaligned)
     by true e = ap or_outside (patched-read cs m.bytes pc 4 (uncovered-apart cs are pc (eqb-true (pc % 4) 0 e) none))
     by false e = refl
 
+pub fetched-patched : (cs : List ℕ) (m : Memory) (pc : ℕ) → AreSoftAddresses cs → is_listed cs pc ≡ false → fetch_of (patched_memory cs m) pc ≡ fetch_of m pc
+unfolding fetch_of
+fetched-patched cs m pc are none = ap (λ r. if nat_lt pc ram_base then Err Outside else r) (word-patched cs m pc are none)
+
 -- and at one that is
-pub fetched-covered : (cs : List ℕ) (m : Memory) (pc : ℕ) → AreAligned cs → is_listed cs pc ≡ true → loaded (patched_memory cs m) pc B4 ≡ Ok ebreak_word
+word-covered : (cs : List ℕ) (m : Memory) (pc : ℕ) → AreSoftAddresses cs → is_listed cs pc ≡ true → loaded (patched_memory cs m) pc B4 ≡ Ok ebreak_word
 unfolding loaded
-fetched-covered cs m pc are is =
+word-covered cs m pc are is =
     ap (λ b. if b then or_outside (value_at (patched_bytes cs m.bytes) pc 4) else Err Misaligned)
-    (eq-eqb (pc % 4) 0 (listed-aligned cs are pc is))
+    (eq-eqb (pc % 4) 0 (listed-soft cs are pc is).0)
     ∙ ap or_outside (patched-covered cs are m.bytes pc is)
+
+pub fetched-covered : (cs : List ℕ) (m : Memory) (pc : ℕ) → AreSoftAddresses cs → is_listed cs pc ≡ true → fetch_of (patched_memory cs m) pc ≡ Ok ebreak_word
+fetched-covered cs m pc are is = fetch_high (patched_memory cs m) pc (listed-soft cs are pc is).1 ∙ word-covered cs m pc are is

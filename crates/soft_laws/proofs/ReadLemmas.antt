@@ -11,7 +11,7 @@ use Rattle.rv_model.specs.declared.size.Size.{Size}
 use Rattle.rv_model.specs.Board.{Board, Hart}
 use Rattle.rv_model.specs.Execute.{exec_of}
 use Rattle.rv_model.specs.Laws.{answered}
-use Rattle.rv_model.specs.Memory.{Bytes, Memory, is_aligned, loaded, or_outside, value_at, with_byte, with_value}
+use Rattle.rv_model.specs.Memory.{Bytes, Memory, is_aligned, is_msip, kept_byte, loaded, msip_size, or_outside, value_at, with_byte, with_value}
 use Rattle.rv_model.specs.Size.{count_of}
 use Rattle.rv_model.specs.Turn.{executes, memory_after, turn_by}
 use Rattle.rv_model.proofs.MemoryLemmas.{store_answer_is}
@@ -117,12 +117,21 @@ reads_hide t m a size inside each small = record {
 
 -- ---- bytes through a replay
 
+kept_small : (a v : ℕ) → v < 256 → kept_byte a v < 256
+unfolding kept_byte
+kept_small a v less = by (is_msip a) (a % msip_size == 0)
+  where
+    by : (word first : Bool) → (if word then (if first then v % 2 else 0) else v) < 256
+    by true true = omega arith
+    by true false = omega arith
+    by false first = less
+
 byte_small : (a n v q : ℕ) (o : Option ℕ) → ((b : ℕ) → o ≡ Some b → b < 256) → (b : ℕ) → byte_or a n v q o ≡ Some b → b < 256
 byte_small a zero v q o small b is = small b is
-byte_small a (suc n) v q o small b is = byte_small (a + 1) n (v / 256) q (if q == a then Some (v % 256) else o) (first (q == a)) b is
+byte_small a (suc n) v q o small b is = byte_small (a + 1) n (v / 256) q (if q == a then Some (kept_byte a (v % 256)) else o) (first (q == a)) b is
   where
-    first : (c : Bool) (b : ℕ) → (if c then Some (v % 256) else o) ≡ Some b → b < 256
-    first true b e = subst (λ x. x < 256) (same_Some (v % 256) b e) (omega arith)
+    first : (c : Bool) (b : ℕ) → (if c then Some (kept_byte a (v % 256)) else o) ≡ Some b → b < 256
+    first true b e = subst (λ x. x < 256) (same_Some (kept_byte a (v % 256)) b e) (kept_small a (v % 256) (omega arith))
     first false b e = small b e
 
 written-stays : (m : Bytes) (a n v : ℕ) → Stays m (with_value m a n v)

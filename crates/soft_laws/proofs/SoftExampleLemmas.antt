@@ -1,6 +1,6 @@
 -- The worked examples with software breakpoints, computed: what is seen of memory is given by the program.
 use Rattle.std.proofs.Common.{◌≡◌, ◌∙◌, ◌+◌, ℕ, zero, suc, Bool, true, false, ◌||◌, List, [], ◌∷◌, Option, Some, None, is_some, Ok, refl, sym, ap}
-use Rattle.std.proofs.Common.{subst, if◌then◌else◌, inl, inr}
+use Rattle.std.proofs.Common.{subst, if◌then◌else◌, inl, inr, arith}
 use Rattle.std.specs.Prelude.{◌==◌, unwrap_or}
 use Rattle.std.proofs.lemmas.Bool.{eqb-true, false≢true}
 use Rattle.rv_model.specs.declared.size.Size.TheVariants.{B4}
@@ -10,6 +10,7 @@ use Rattle.rv_model.specs.Effects.{effect_of}
 use Rattle.rv_model.specs.Memory.{Memory, loaded, or_outside, value_at}
 use Rattle.rv_model.specs.Registers.{csr_value, csr_read_only}
 use Rattle.rv_model.specs.Rows.{meaning}
+use Rattle.rv_model.proofs.MemoryLemmas.{fetch_high}
 use Rattle.debug_model.specs.declared.command.Command.TheVariants as command
 use Rattle.debug_model.specs.declared.point.Point.TheVariants.{Access}
 use Rattle.abstract_debugger.specs.Debugger.{State, act, at_aligned, at_halted, at_path, by_load, first_state, going, look, one, reading}
@@ -26,9 +27,10 @@ use Rattle.abstract_debugger.proofs.Fetched.{some-unwrap, word_held}
 use Rattle.abstract_debugger.proofs.WalkLemmas.{IsUsual, Walks, act-walks, walk-aligned, walk-halted, walk-if, walk-look, walk-look_by, walk-one, walk-path}
 use Rattle.abstract_debugger.proofs.WalkLemmas.{walk-resumed, walk-stop_line}
 use Rattle.soft_laws.specs.SoftBreaks.{is_listed}
-use Rattle.soft_laws.specs.SoftDebugger.{SoftCommand, SoftState, covering, first_soft_state, lifting, most_harts, one_by, pc_at, planting, preparing}
+use Rattle.debug_model.specs.declared.soft_command.SoftCommand.{SoftCommand}
+use Rattle.soft_laws.specs.SoftDebugger.{SoftState, covering, first_soft_state, lifting, most_harts, one_by, pc_at, planting, preparing}
 use Rattle.soft_laws.specs.SoftDebugger.{soft_commands, soft_resuming, soft_session, soft_transcript, word_at}
-use Rattle.soft_laws.specs.SoftDebugger.SoftCommand.{Plain, Soft}
+use Rattle.debug_model.specs.declared.soft_command.SoftCommand.TheVariants.{Plain, Soft}
 use Rattle.soft_laws.specs.SoftExamples.{IsPlain, SoftCase, SoftExamplesHappen, SoftHappens, break_at_jump, jump_at, refused_twice}
 use Rattle.soft_laws.proofs.PatchedLemmas.{either_true}
 use Rattle.soft_laws.proofs.SoftFetched.{computed}
@@ -64,7 +66,7 @@ abbrev jump : ℕ
 jump = 0xffdff06f
 
 jump_loaded : (m : Memory) → IsPlain counter m → loaded m jump_at B4 ≡ Ok jump
-jump_loaded m plain = word_held counter m jump_at jump plain.holds refl
+jump_loaded m plain = sym (fetch_high m jump_at (omega arith)) ∙ word_held counter m jump_at jump plain.holds refl
 
 some_inside : (o : Option ℕ) (v : ℕ) → or_outside o ≡ Ok v → o ≡ Some v
 some_inside (Some x) v is = let e : x ≡ v = cc in ap Some e
@@ -80,7 +82,7 @@ covering-leads : (next more : Plan) → Leads counter next more → Leads counte
 covering-leads next more l =
     l-take counter Access (see (λ b. change (Patch jump_at jump true) next)) (see (λ b. change (Patch jump_at jump true) more))
     (l-see counter (λ b. change (Patch jump_at jump true) next) (λ b. change (Patch jump_at jump true) more)
-    (λ b. l-patch counter jump_at jump true next more jump_there l))
+    (λ b. l-patch counter jump_at jump true next more (omega arith) jump_there l))
 
 abbrev lifted : Plan → Plan
 lifted more = take Access (change (Patch jump_at jump false) more)
@@ -90,7 +92,7 @@ lifting-leads next more l =
     l-take counter Access (see (λ b. change (Patch jump_at (word_at jump_at b) false) (next (word_at jump_at b)))) (change (Patch jump_at jump false) more)
     (l-seen counter (λ b. change (Patch jump_at (word_at jump_at b) false) (next (word_at jump_at b))) (change (Patch jump_at jump false) more)
     (λ b plain. subst (λ v. Leads counter (change (Patch jump_at v false) (next v)) (change (Patch jump_at jump false) more))
-    (sym (ap (λ o. unwrap_or o 0) (jump_there b.memory plain))) (l-patch counter jump_at jump false (next jump) more jump_there l)))
+    (sym (ap (λ o. unwrap_or o 0) (jump_there b.memory plain))) (l-patch counter jump_at jump false (next jump) more (omega arith) jump_there l)))
 
 planting-leads : (next set more : Plan) → Leads counter set more
     → Leads counter (planting jump_at next set) (take Access (covering jump_at jump (say (Line.SoftSet jump_at) more)))

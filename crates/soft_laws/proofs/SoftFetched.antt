@@ -2,13 +2,12 @@
 use Rattle.std.proofs.Common.{◌≡◌, ◌∙◌, ℕ, List, [], ◌∷◌, Bool, true, false, ◌&&◌, Option, Some, None, Result, Ok}
 use Rattle.std.proofs.Common.{slice_get, slice_set, refl, sym, ap, subst, if◌then◌else◌}
 use Rattle.rv_model.specs.declared.mem_fault.MemFault.{MemFault}
-use Rattle.rv_model.specs.declared.size.Size.TheVariants.{B4}
 use Rattle.rv_model.specs.declared.touch.Touch.{Touch}
 use Rattle.rv_model.specs.Board.{Hart}
 use Rattle.rv_model.specs.Core.{Core}
 use Rattle.rv_model.specs.Effects.{Outcome as Effect}
 use Rattle.rv_model.specs.Execute.{decoded, exec_of, fetched}
-use Rattle.rv_model.specs.Memory.{Memory, kept, loaded}
+use Rattle.rv_model.specs.Memory.{Memory, kept, fetch_of}
 use Rattle.rv_model.specs.Rows.{meaning}
 use Rattle.rv_model.specs.Touch.{touch_fetched, touch_of, touches_nothing}
 use Rattle.rv_model.specs.Triggers.{fires}
@@ -64,15 +63,15 @@ world_with r behind x h w = record w {
 
 abbrev turned_by : Option Hart → ℕ → World → World
 turned_by (Some x) h w =
-    world_with (loaded w.board.memory x.core.pc B4) (memory_with (covered w.past) (loaded w.board.memory x.core.pc B4) x w.board.memory) x h w
+    world_with (fetch_of w.board.memory x.core.pc) (memory_with (covered w.past) (fetch_of w.board.memory x.core.pc) x w.board.memory) x h w
 turned_by None h w = w
 
-touch-with : (b : Bool) (c : Core) (m : Memory) → touch_by b c m ≡ touch_with b (loaded m c.pc B4) c
+touch-with : (b : Bool) (c : Core) (m : Memory) → touch_by b c m ≡ touch_with b (fetch_of m c.pc) c
 unfolding touch_of
 touch-with true c m = refl
 touch-with false c m = refl
 
-ebreak-with : (b : Bool) (c : Core) (m : Memory) → ebreak_by b c m ≡ ebreak_with b (loaded m c.pc B4)
+ebreak-with : (b : Bool) (c : Core) (m : Memory) → ebreak_by b c m ≡ ebreak_with b (fetch_of m c.pc)
 unfolding is_ebreak_at
 ebreak-with true c m = refl
 ebreak-with false c m = refl
@@ -93,9 +92,9 @@ turned-with : (x : Hart) (h : ℕ) (w : World) → world_by (soft_touch (covered
 unfolding soft_touch soft_stops exec_of
 turned-with x h w =
     let listed : Bool = is_listed (covered w.past) x.core.pc in
-    let o : Effect = fetched (loaded w.board.memory x.core.pc B4) x.core w.board.memory in
+    let o : Effect = fetched (fetch_of w.board.memory x.core.pc) x.core w.board.memory in
     ap (λ t. world_by t (x.debug.ebreakm && ebreak_by listed x.core w.board.memory) o x h w) (touch-with listed x.core w.board.memory)
-    ∙ ap (λ b. world_by (touch_with listed (loaded w.board.memory x.core.pc B4) x.core) (x.debug.ebreakm && b) o x h w)
+    ∙ ap (λ b. world_by (touch_with listed (fetch_of w.board.memory x.core.pc) x.core) (x.debug.ebreakm && b) o x h w)
     (ebreak-with listed x.core w.board.memory)
 
 turned-by : (o : Option Hart) (h : ℕ) (w : World) → slice_get w.board.harts h ≡ o → soft_turned h w ≡ turned_by o h w
@@ -132,7 +131,7 @@ turn_if-same false kept m behind x r h w v stays is =
     let e : world_with r m x h w ≡ v = cc in
     record { worlds = e; memories = ap (λ (u : World). u.board.memory) (sym e) }
 
-turn_word-same : (o : Option ℕ) (x : Hart) (h : ℕ) (w v : World) → ((word : ℕ) → o ≡ Some word → loaded w.board.memory x.core.pc B4 ≡ Ok word)
+turn_word-same : (o : Option ℕ) (x : Hart) (h : ℕ) (w v : World) → ((word : ℕ) → o ≡ Some word → fetch_of w.board.memory x.core.pc ≡ Ok word)
     → turn_word o x h w ≡ Some v → SameWorld (turned_by (Some x) h w) v w.board.memory
 turn_word-same None x h w v held is = absurd (cc)
 turn_word-same (Some word) x h w v held is =

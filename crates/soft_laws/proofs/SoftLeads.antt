@@ -1,11 +1,11 @@
 -- Plans that lead where another does, over memory that holds a program: a patch writes what stands there, and what is seen of memory is the program's.
-use Rattle.std.proofs.Common.{◌≡◌, ◌∙◌, ◌+◌, ◌*◌, ◌%◌, ◌<◌, ℕ, zero, suc, List, Bool, true, false, Option, Some, None}
+use Rattle.std.proofs.Common.{◌≤◌, ◌≡◌, ◌∙◌, ◌+◌, ◌*◌, ◌%◌, ◌<◌, ℕ, zero, suc, List, Bool, true, false, Option, Some, None}
 use Rattle.std.proofs.Common.{map, refl, sym, ap, arith, if◌then◌else◌}
 use Rattle.std.specs.Prelude.{◌==◌}
 use Rattle.std.specs.FinMap.{get}
 use Rattle.std.proofs.lemmas.Bool.{eqb-true}
 use Rattle.rv_model.specs.Board.{Board}
-use Rattle.rv_model.specs.Memory.{Bytes, Memory, kept, value_at, with_byte, with_value}
+use Rattle.rv_model.specs.Memory.{Bytes, Memory, kept, kept_byte, ram_base, value_at, with_byte, with_value}
 use Rattle.rv_model.specs.Undebugged.{with_bytes}
 use Rattle.debug_model.specs.declared.command.Path.{Path}
 use Rattle.debug_model.specs.declared.point.Point.{Point}
@@ -18,6 +18,7 @@ use Rattle.abstract_debugger.specs.Transcript.{Outcome, World, changed, said}
 use Rattle.soft_laws.specs.Shown.{AreBytes}
 use Rattle.soft_laws.specs.SoftExamples.{IsPlain}
 use Rattle.soft_laws.specs.SoftReplay.{soft_replay}
+use Rattle.rv_model.proofs.MapLemmas.{kept_high}
 use Rattle.soft_laws.proofs.ByteLemmas.{byte_or, get-with_value, same_bytes}
 use Rattle.soft_laws.proofs.SoftFetched.{SameWorld, changed_if, computed, finish-agrees, onward-agrees, taking-agrees}
 
@@ -29,9 +30,9 @@ rest_of b None rest v is = absurd (cc)
 rest_of b (Some y) None v is = absurd (cc)
 rest_of b (Some y) (Some r) v is = let e : y + 256 * r ≡ v = cc in (y, r, refl, refl, sym e)
 
-same_byte : (m : Bytes) → AreBytes m → (a n v : ℕ) → value_at m a n ≡ Some v → (q : ℕ) → byte_or a n v q (get m q) ≡ get m q
-same_byte m small a zero v is q = refl
-same_byte m small a (suc n) v is q =
+same_byte : (m : Bytes) → AreBytes m → (a n v : ℕ) → ram_base ≤ a → value_at m a n ≡ Some v → (q : ℕ) → byte_or a n v q (get m q) ≡ get m q
+same_byte m small a zero v high is q = refl
+same_byte m small a (suc n) v high is q =
     let parts = rest_of 0 (get m a) (value_at m (a + 1) n) v is in
     let y : ℕ = parts.0 in
     let r : ℕ = parts.1 in
@@ -39,18 +40,19 @@ same_byte m small a (suc n) v is q =
     let rest : value_at m (a + 1) n ≡ Some r = parts.3 in
     let whole : v ≡ y + 256 * r = parts.4 in
     let less : y < 256 = small a y first in
-    ap (λ k. byte_or (a + 1) n k q (if q == a then Some (v % 256) else get m q)) (omega (arith, whole, less))
-    ∙ ap (λ k. byte_or (a + 1) n r q (if q == a then Some k else get m q)) (omega (arith, whole, less))
-    ∙ ap (byte_or (a + 1) n r q) (by q y first (q == a) refl) ∙ same_byte m small (a + 1) n r rest q
+    let byte : kept_byte a (v % 256) ≡ y = kept_high a (v % 256) high ∙ omega (arith, whole, less) in
+    ap (λ k. byte_or (a + 1) n k q (if q == a then Some (kept_byte a (v % 256)) else get m q)) (omega (arith, whole, less))
+    ∙ ap (λ k. byte_or (a + 1) n r q (if q == a then Some k else get m q)) byte
+    ∙ ap (byte_or (a + 1) n r q) (by q y first (q == a) refl) ∙ same_byte m small (a + 1) n r (omega arith) rest q
   where
     by : (q y : ℕ) → get m a ≡ Some y → (b : Bool) → (q == a) ≡ b → (if b then Some y else get m q) ≡ get m q
     by q y first true e = sym first ∙ ap (get m) (sym (eqb-true q a e))
     by q y first false e = refl
 
-pub unwritten : (words : Program) (m : Memory) (a v : ℕ) → IsPlain words m → value_at m.bytes a 4 ≡ Some v → with_bytes m a 4 v ≡ m
-unwritten words m a v plain is =
+pub unwritten : (words : Program) (m : Memory) (a v : ℕ) → ram_base ≤ a → IsPlain words m → value_at m.bytes a 4 ≡ Some v → with_bytes m a 4 v ≡ m
+unwritten words m a v high plain is =
     ap (λ b. let n : Memory = record { bytes = b; reserved = map (kept a 4) m.reserved } in n)
-    (same_bytes (with_value m.bytes a 4 v) m.bytes (λ q. get-with_value m.bytes a 4 v q ∙ same_byte m.bytes plain.bytes a 4 v is q))
+    (same_bytes (with_value m.bytes a 4 v) m.bytes (λ q. get-with_value m.bytes a 4 v q ∙ same_byte m.bytes plain.bytes a 4 v high is q))
     ∙ ap (λ rs. let n : Memory = record { bytes = m.bytes; reserved = map (kept a 4) rs } in n) plain.free
     ∙ ap (λ rs. let n : Memory = record { bytes = m.bytes; reserved = rs } in n) (sym plain.free)
 
@@ -126,14 +128,14 @@ unfolding computed
 l-write words a count v next more = record { goes = λ w j o plain is. absurd (cc) }
 
 -- a patch of a word that stands there
-pub l-patch : (words : Program) (a v : ℕ) (covers : Bool) (next more : Plan) → ((m : Memory) → IsPlain words m → value_at m.bytes a 4 ≡ Some v)
+pub l-patch : (words : Program) (a v : ℕ) (covers : Bool) (next more : Plan) → ram_base ≤ a → ((m : Memory) → IsPlain words m → value_at m.bytes a 4 ≡ Some v)
     → Leads words next more → Leads words (change (Patch a v covers) next) (change (Patch a v covers) more)
 unfolding computed soft_replay
-l-patch words a v covers next more stands l = record {
+l-patch words a v covers next more high stands l = record {
   goes = λ w j o plain is.
       let kept : World = record w { past = changed_past (Patch a v covers) w.past } in
       ap (λ (m : Memory). soft_replay next (record { board = record { harts = w.board.harts; memory = m }; past = kept.past; lines = w.lines }) j)
-      (unwritten words w.board.memory a v plain (stands w.board.memory plain)) ∙ l.goes kept j o plain is;
+      (unwritten words w.board.memory a v high plain (stands w.board.memory plain)) ∙ l.goes kept j o plain is;
 }
 
 -- a plan that computes nothing leads anywhere

@@ -19,10 +19,11 @@ use Rattle.abstract_debugger.proofs.QuietLemmas.{says-by_load, says-change, says
 use Rattle.soft_laws.specs.Laws.{LoweredSessionsSayQuietly}
 use Rattle.soft_laws.specs.Lowered.{Table, hidden_board, lower, no_table}
 use Rattle.soft_laws.specs.SoftBreaks.{has_some, is_listed, without}
-use Rattle.soft_laws.specs.SoftDebugger.{SoftCommand, SoftState, clearing, closing, covering, first_soft_state, lifting, most_harts, most_planted, one_by}
+use Rattle.debug_model.specs.declared.soft_command.SoftCommand.{SoftCommand}
+use Rattle.soft_laws.specs.SoftDebugger.{SoftState, clearing, closing, covering, first_soft_state, lifting, most_harts, most_planted, one_by}
 use Rattle.soft_laws.specs.SoftDebugger.{pc_at, plain_act, planting, prepared, preparing, put_in, setting, soft_commands, soft_one, soft_resuming}
 use Rattle.soft_laws.specs.SoftDebugger.{soft_session, soft_stepping, switching, word_at}
-use Rattle.soft_laws.specs.SoftDebugger.SoftCommand.{Plain, Soft, Unsoft}
+use Rattle.debug_model.specs.declared.soft_command.SoftCommand.TheVariants.{Plain, Soft, Unsoft}
 use Rattle.soft_laws.proofs.StepHides.{lowered-change, table_of}
 
 -- ---- lowered plans

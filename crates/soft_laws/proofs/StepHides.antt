@@ -1,5 +1,5 @@
 -- Each step of a plan keeps the chip's world hidden: points, changes of a hart, a user's writes, patches and lines.
-use Rattle.std.proofs.Common.{◌≡◌, ◌∙◌, ◌%◌, ℕ, Bool, true, false, List, [], ◌∷◌, ◌++◌, Option, Some, None, slice_get, refl, sym, ap, subst, if◌then◌else◌}
+use Rattle.std.proofs.Common.{◌≡◌, ◌∙◌, ℕ, Bool, true, false, List, [], ◌∷◌, ◌++◌, Option, Some, None, slice_get, refl, sym, ap, subst, if◌then◌else◌}
 use Rattle.std.proofs.lemmas.Bool.{false≢true}
 use Rattle.rv_model.specs.Board.{Board, DebugPart, Hart, Machine, machine_of}
 use Rattle.rv_model.specs.Memory.{Bytes, Memory, cleared}
@@ -16,7 +16,7 @@ use Rattle.abstract_debugger.specs.Transcript.{World, changed, passed, said, sta
 use Rattle.abstract_debugger.proofs.Transparency.{Erased, erased-keeps}
 use Rattle.rv_model.specs.Undebugged.{SetReg}
 use Rattle.soft_laws.specs.Lowered.{Table, hidden_board, lower_change, merged, no_table, patched_table, written_table}
-use Rattle.soft_laws.specs.SoftBreaks.{AreInside, covered, ebreak_word, patched_board, patched_by, patched_bytes}
+use Rattle.soft_laws.specs.SoftBreaks.{AreInside, IsSoftAddress, covered, ebreak_word, patched_board, patched_by, patched_bytes}
 use Rattle.soft_laws.specs.SoftFirstMatch.{SoftFirstMatch}
 use Rattle.soft_laws.specs.SoftReplay.{soft_passed}
 use Rattle.soft_laws.specs.Undisturbed.{Undisturbed}
@@ -98,7 +98,7 @@ lowered-change (EbreakHalts h on) t next = refl
 
 -- a patch is one of a word
 abbrev pub IsOfWords : Change → Type 0
-IsOfWords (Patch a original covers) = a % 4 ≡ 0
+IsOfWords (Patch a original covers) = IsSoftAddress a
 IsOfWords (WriteMem a count v) = Unit {0}
 IsOfWords (WriteReg h r v) = Unit {0}
 IsOfWords (ArmSlot h slot what) = Unit {0}
@@ -139,7 +139,7 @@ hides_write m t a n v seen chip hides = record {
   told = hides.told;
   board = ap (changed_board (WriteMem a n (merged t.covered a n v))) hides.board
       ∙ ap (λ b. let c : Board = record seen.board { memory = with_memory_bytes seen.board.memory a n b } in c)
-      (merged-write t.covered seen.board.memory.bytes a n v);
+      (merged-write t.covered hides.aligned seen.board.memory.bytes a n v);
   remembers = remembers-write t.covered t.originals seen.board.memory.bytes a n v hides.remembers;
   aligned = hides.aligned;
   inside = inside-write t.covered seen.board.memory.bytes a n v hides.inside;
@@ -150,7 +150,7 @@ hides_write m t a n v seen chip hides = record {
   matched = λ right. (tt, hides.matched right.1);
 }
 
-hides_patch : (m : Machine) (t : Table) (a original : ℕ) (covers : Bool) (seen chip : World) → a % 4 ≡ 0 → Hides m t seen chip
+hides_patch : (m : Machine) (t : Table) (a original : ℕ) (covers : Bool) (seen chip : World) → IsSoftAddress a → Hides m t seen chip
     → Hides m (patched_table covers a original t) (changed (Patch a original covers) seen)
     (changed (WriteMem a patch_bytes (if covers then ebreak_word else original)) chip)
 hides_patch m t a original covers seen chip aligned hides = record {

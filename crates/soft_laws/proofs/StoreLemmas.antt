@@ -8,7 +8,6 @@ use Rattle.rv_model.specs.declared.insn.Insn.TheVariants.{Lui, Auipc, Jal, Jalr,
 use Rattle.rv_model.specs.declared.insn.Insn.TheVariants.{StoreConditional, Amo, Fence, FenceI, Csr, CsrImmediate, Ecall, Ebreak, Mret, Wfi}
 use Rattle.rv_model.specs.declared.mem_fault.MemFault.{MemFault}
 use Rattle.rv_model.specs.declared.size.Size.{Size}
-use Rattle.rv_model.specs.declared.size.Size.TheVariants.{B4}
 use Rattle.rv_model.specs.Accesses.{load_size, width_extension, width_size}
 use Rattle.rv_model.specs.Core.{Core, offset_by, x_of}
 use Rattle.rv_model.specs.declared.alu_op.AluOp.TheVariants as op
@@ -16,7 +15,7 @@ use Rattle.rv_model.specs.declared.alu_op.AluOp.{AluOp}
 use Rattle.rv_model.specs.Effects.{after_amo, after_reserve, after_sc, effect_of}
 use Rattle.rv_model.specs.Execute.{decoded, exec_of, fetched}
 use Rattle.rv_model.specs.Laws.{answered}
-use Rattle.rv_model.specs.Memory.{Bytes, Memory, after_store, covers, loaded, with_value}
+use Rattle.rv_model.specs.Memory.{Bytes, Memory, after_store, covers, fetch_of, loaded, with_value}
 use Rattle.rv_model.specs.Rows.{meaning}
 use Rattle.rv_model.specs.Size.{count_of}
 use Rattle.rv_model.specs.Touch.{reads, reads_and_writes, touches_nothing, writes}
@@ -103,7 +102,7 @@ fetched-bytes (Ok w) c m = by (meaning w)
 
 pub exec-bytes : (c : Core) (m : Memory) → Stored (accessed_of c m).store m.bytes (exec_of c m).memory.bytes
 unfolding exec_of accessed_of
-exec-bytes c m = fetched-bytes (loaded m c.pc B4) c m
+exec-bytes c m = fetched-bytes (fetch_of m c.pc) c m
 
 -- ---- what of it holds of covered words
 

@@ -18,7 +18,7 @@ use Rattle.abstract_debugger.specs.Transcript.{World, passed}
 use Rattle.abstract_debugger.proofs.Transparency.{Erased, erased-keeps}
 use Rattle.soft_laws.specs.Laws.{MayHide}
 use Rattle.soft_laws.specs.Lowered.{Table}
-use Rattle.soft_laws.specs.SoftBreaks.{AreAligned, AreInside, covered, meets_some, patched_board, patched_memory}
+use Rattle.soft_laws.specs.SoftBreaks.{AreSoftAddresses, AreInside, covered, meets_some, patched_board, patched_memory}
 use Rattle.soft_laws.specs.SoftFirstMatch.{SoftFirstMatch, armed_at_touch, covers_pc, soft_matches_at, soft_matching}
 use Rattle.soft_laws.specs.SoftTurns.{soft_executes, soft_fires, soft_memory_after, soft_noted_here, soft_stops, soft_touch}
 use Rattle.soft_laws.specs.SoftTurns.{soft_turn, soft_turn_by, soft_turned}
@@ -32,7 +32,7 @@ use Rattle.soft_laws.proofs.StoreLemmas.{exec-bytes, stored_covered, stored_ther
 
 -- ---- the notes
 
-noted-patched : (cs : List ℕ) (o : Option Hart) (h : ℕ) (m : Memory) (past : Past) → AreAligned cs
+noted-patched : (cs : List ℕ) (o : Option Hart) (h : ℕ) (m : Memory) (past : Past) → AreSoftAddresses cs
     → noted_here o h (patched_memory cs m) past ≡ soft_noted_here cs o h m past
 noted-patched cs None h m past are = refl
 noted-patched cs (Some x) h m past are =
@@ -71,7 +71,8 @@ armed-touch (Some (Watch kind address)) c m execs stopped = refl
 armed-touch (Some (Count turns)) c m execs stopped = refl
 armed-touch None c m execs stopped = refl
 
-matches-patched : (cs : List ℕ) (o : Option Core) (m : Memory) (s : Story) → AreAligned cs → matches_at o (patched_memory cs m) s ≡ soft_matches_at cs o m s
+matches-patched : (cs : List ℕ) (o : Option Core) (m : Memory) (s : Story) → AreSoftAddresses cs
+    → matches_at o (patched_memory cs m) s ≡ soft_matches_at cs o m s
 matches-patched cs None m s are = refl
 matches-patched cs (Some c) m s are =
     armed-touch s.armed c (patched_memory cs m) s.execs s.stopped ∙ ap (λ t. armed_at_touch s.armed c t s.execs s.stopped) (touch-patched cs c m are)
@@ -164,7 +165,7 @@ hides-turn m t h seen chip hides halts u =
     let o : Option Hart = slice_get seen.board.harts h in
     let leaves : (x : Hart) → o ≡ Some x → soft_executes cs x seen.board.memory ≡ true → LeavesWords cs (accessed_of x.core seen.board.memory) =
     leaves_here m h seen hides.seen_erased u o refl in
-    let aligned : AreAligned cs = subst AreAligned hides.told hides.aligned in
+    let aligned : AreSoftAddresses cs = subst AreSoftAddresses hides.told hides.aligned in
     let may : MayHide cs h seen.board = record {
       aligned = aligned;
       inside = subst (λ c. AreInside c seen.board.memory.bytes) hides.told hides.inside;

@@ -1,8 +1,7 @@
 -- Laws of software breakpoints: what a chip with patches in its memory does is what a user sees over memory without them.
 -- They are this project's own. A session is a plan, seen by `soft_replay`; the chip's journal is replayed along the same plan, lowered.
-use Rattle.std.specs.Prelude.{◌≡◌, ◌≤◌, ◌<◌, ◌%◌, ℕ, All, List, [], Some, true, slice_get}
+use Rattle.std.specs.Prelude.{◌≡◌, ◌<◌, ℕ, All, List, [], Some, true, slice_get}
 use Rattle.rv_model.specs.Board.{Board, Hart, machine_of}
-use Rattle.rv_model.specs.Memory.{ram_base}
 use Rattle.rv_model.specs.Turn.{turn}
 use Rattle.rv_model.specs.Undebugged.{undebugged}
 use Rattle.debug_model.specs.Command.{IsWithinRanges}
@@ -10,13 +9,14 @@ use Rattle.debug_model.specs.declared.point.Point.{Point}
 use Rattle.abstract_debugger.specs.Known.{IsFresh}
 use Rattle.abstract_debugger.specs.Laws.{SaysQuietly}
 use Rattle.abstract_debugger.specs.Own as entries
-use Rattle.abstract_debugger.specs.Plan.{Plan, patch_bytes}
+use Rattle.abstract_debugger.specs.Plan.{Plan}
 use Rattle.abstract_debugger.specs.Transcript.{End, Outcome, replay, start, trace}
 use Rattle.abstract_debugger.specs.Transcript.End.{Clean, WithErrors, NoHalt, NoAck, Open, Astray}
 use Rattle.soft_laws.specs.Lowered.{lower, no_table}
-use Rattle.soft_laws.specs.SoftBreaks.{AreAligned, AreInside, covered, is_listed, patched_board, patched_machine}
-use Rattle.soft_laws.specs.SoftDebugger.{SoftCommand, most_harts, soft_session, soft_transcript}
-use Rattle.soft_laws.specs.SoftDebugger.SoftCommand.{Plain, Soft, Unsoft}
+use Rattle.soft_laws.specs.SoftBreaks.{AreSoftAddresses, AreInside, IsSoftAddress, covered, is_listed, patched_board, patched_machine}
+use Rattle.debug_model.specs.declared.soft_command.SoftCommand.{SoftCommand}
+use Rattle.soft_laws.specs.SoftDebugger.{most_harts, soft_session, soft_transcript}
+use Rattle.debug_model.specs.declared.soft_command.SoftCommand.TheVariants.{Plain, Soft, Unsoft}
 use Rattle.soft_laws.specs.SoftFirstMatch.{SoftFirstMatch}
 use Rattle.soft_laws.specs.SoftReplay.{soft_replay}
 use Rattle.soft_laws.specs.SoftTurns.{soft_executes, soft_turn}
@@ -26,7 +26,7 @@ use Rattle.soft_laws.specs.Undisturbed.{LeavesWords, Undisturbed, accessed_of}
 
 -- the covered words are words of memory, one that hart h is at halts it, and what it executes leaves them alone
 pub record MayHide (cs : List ℕ) (h : ℕ) (b : Board) : Type 0 where
-  pub aligned : AreAligned cs
+  pub aligned : AreSoftAddresses cs
   pub inside : AreInside cs b.memory.bytes
   pub halts : (x : Hart) → slice_get b.harts h ≡ Some x → is_listed cs x.core.pc ≡ true → x.debug.ebreakm ≡ true
   pub leaves : (x : Hart) → slice_get b.harts h ≡ Some x → soft_executes cs x b.memory ≡ true → LeavesWords cs (accessed_of x.core b.memory)
@@ -36,10 +36,6 @@ abbrev pub PatchesHide : Type 0
 PatchesHide = (cs : List ℕ) (h : ℕ) (b : Board) → MayHide cs h b → turn h (patched_board cs b) ≡ patched_board cs (soft_turn cs h b)
 
 -- ---- sessions
-
--- an address that a breakpoint may be asked for: that of a word, from the base of RAM on
-abbrev pub IsSoftAddress : ℕ → Type 0
-IsSoftAddress a = (a % patch_bytes ≡ 0) × (ram_base ≤ a)
 
 abbrev pub IsSoftWithinRanges : SoftCommand → Type 0
 IsSoftWithinRanges (Plain c) = IsWithinRanges c

@@ -1,11 +1,12 @@
 -- Software breakpoints: which words of memory an ebreak covers, and memory with the ebreaks in it.
 -- The ebreak is that of the unprivileged manual, "Environment Call and Breakpoints", which halts a hart by ebreakm of RISC-V Debug Specification 1.0,
 -- "Debug Control and Status"; what is patched where is this project's own.
-use Rattle.std.specs.Prelude.{◌≡◌, ℕ, ◌+◌, ◌%◌, Bool, true, false, ◌||◌, ◌&&◌, ◌==◌, nat_lt, List, [], ◌∷◌, is_some, if◌then◌else◌}
+use Rattle.std.specs.Prelude.{◌≡◌, ℕ, ◌+◌, Bool, true, false, ◌||◌, ◌&&◌, ◌==◌, nat_lt, List, [], ◌∷◌, is_some, if◌then◌else◌}
 use Rattle.std.specs.FinMap.{get}
 use Rattle.rv_model.specs.Board.{Board, Machine}
 use Rattle.rv_model.specs.Memory.{Bytes, Memory, with_value}
 use Rattle.abstract_debugger.specs.Plan.{patch_bytes}
+pub use Rattle.debug_model.specs.SoftCommand.{IsSoftAddress}
 use Rattle.abstract_debugger.specs.Trace.{Past}
 use Rattle.abstract_debugger.specs.Trace.Note.{Did, Stop, Arm, Free, Patched}
 
@@ -71,10 +72,10 @@ abbrev pub meets_some : List ℕ → ℕ → ℕ → Bool
 meets_some [] a count = false
 meets_some (c ∷ cs) a count = meets c a count || meets_some cs a count
 
--- each address is a word's
-abbrev pub AreAligned : List ℕ → Type 0
-AreAligned [] = Unit {0}
-AreAligned (c ∷ cs) = (c % patch_bytes ≡ 0) × AreAligned cs
+-- each address is one that a breakpoint may be asked for
+abbrev pub AreSoftAddresses : List ℕ → Type 0
+AreSoftAddresses [] = Unit {0}
+AreSoftAddresses (c ∷ cs) = IsSoftAddress c × AreSoftAddresses cs
 
 -- each byte of the words lies in memory
 abbrev pub AreInside : List ℕ → Bytes → Type 0

@@ -7,6 +7,8 @@ use Rattle.rv_model.specs.Board.{Board, Hart}
 use Rattle.rv_model.specs.Memory.{loaded, value_at}
 use Rattle.debug_model.specs.declared.command.Command.{Command}
 use Rattle.debug_model.specs.declared.command.Command.TheVariants as command
+use Rattle.debug_model.specs.declared.soft_command.SoftCommand.{SoftCommand}
+use Rattle.debug_model.specs.declared.soft_command.SoftCommand.TheVariants.{Plain, Soft, Unsoft}
 use Rattle.debug_model.specs.declared.point.Point.{Point}
 use Rattle.debug_model.specs.declared.point.Point.TheVariants.{Access}
 use Rattle.abstract_debugger.specs.Debugger.{State, act, at_halted, by_load, by_state, first_state, going, look, one, stop_line}
@@ -19,11 +21,6 @@ use Rattle.abstract_debugger.specs.Slots.{any_hit, slots_at}
 use Rattle.abstract_debugger.specs.Transcript.{Outcome, start}
 use Rattle.soft_laws.specs.SoftBreaks.{has_some, is_listed, without}
 use Rattle.soft_laws.specs.SoftReplay.{soft_replay}
-
-pub data SoftCommand : Type 0 where
-  Plain : (command : Command) → SoftCommand
-  Soft : (address : ℕ) → SoftCommand
-  Unsoft : (address : ℕ) → SoftCommand
 
 -- what commands choose for those behind them, and the addresses at which breakpoints are planted, upwards
 pub record SoftState : Type 0 where

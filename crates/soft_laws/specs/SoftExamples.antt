@@ -11,8 +11,9 @@ use Rattle.abstract_debugger.specs.ExampleCases.{Holds, Program, counter, halted
 use Rattle.abstract_debugger.specs.Lines.{Line}
 use Rattle.abstract_debugger.specs.Transcript.{End, Outcome}
 use Rattle.soft_laws.specs.Shown.{AreBytes}
-use Rattle.soft_laws.specs.SoftDebugger.{SoftCommand, soft_transcript}
-use Rattle.soft_laws.specs.SoftDebugger.SoftCommand.{Plain, Soft, Unsoft}
+use Rattle.debug_model.specs.declared.soft_command.SoftCommand.{SoftCommand}
+use Rattle.soft_laws.specs.SoftDebugger.{soft_transcript}
+use Rattle.debug_model.specs.declared.soft_command.SoftCommand.TheVariants.{Plain, Soft, Unsoft}
 
 -- memory that holds the program, and no hart has a reservation
 pub record IsPlain (words : Program) (m : Memory) : Type 0 where

@@ -4,12 +4,11 @@ use Rattle.std.specs.Prelude.{◌≡◌, ℕ, Bool, false, List, [], ◌∷◌, 
 use Rattle.rv_model.specs.declared.insn.Insn.{Insn}
 use Rattle.rv_model.specs.declared.insn.Insn.TheVariants.{Load, Store, LoadReserved, StoreConditional, Amo}
 use Rattle.rv_model.specs.declared.mem_fault.MemFault.{MemFault}
-use Rattle.rv_model.specs.declared.size.Size.TheVariants.{B4}
 use Rattle.rv_model.specs.declared.touch.Touch.{Touch}
 use Rattle.rv_model.specs.Accesses.{load_size, width_size}
 use Rattle.rv_model.specs.Board.{Machine}
 use Rattle.rv_model.specs.Core.{Core, offset_by, x_of}
-use Rattle.rv_model.specs.Memory.{Memory, covers, loaded}
+use Rattle.rv_model.specs.Memory.{Memory, covers, fetch_of, loaded}
 use Rattle.rv_model.specs.Rows.{meaning}
 use Rattle.rv_model.specs.Touch.{touch, touches_nothing}
 use Rattle.rv_model.specs.Undebugged.{Entry, Exec, SetReg, SetMem}
@@ -45,7 +44,7 @@ accessed_fetched (Ok w) c m = accessed_meant (meaning w) c m
 accessed_fetched (Err fault) c m = touches_nothing c
 
 unfoldable pub accessed_of : Core → Memory → Touch
-accessed_of c m = accessed_fetched (loaded m c.pc B4) c m
+accessed_of c m = accessed_fetched (fetch_of m c.pc) c m
 
 -- ---- words left alone
 

@@ -1,0 +1,5 @@
+pub mod WordBytes
+pub mod Covering
+pub mod Lists
+pub mod Views
+pub mod PlantSteps

@@ -1,0 +1,10 @@
+use Rattle.std.proofs.Common.{subst}
+use Rattle.rv_model.specs.declared.size.Size.TheVariants.{B4}
+use Rattle.probe_run.specs.Told.{Fails}
+use Rattle.probe_access.specs.BusRuns.{BusStoreFailed}
+use Rattle.soft_break.proofs.table.SoftTable.unplant.Goals as goal
+
+pub returns-in-Err-clause-failed : goal.returns-in-Err-clause-failed
+returns-in-Err-clause-failed g c =
+    subst (λ v. Fails (BusStoreFailed B4 c.args.at v) (g.D.Dmi.seen c.args.link.now) (g.D.Dmi.seen c.give_back.new.link) c.in-Err.fault)
+    c.original.ensures.original c.in-Err.ensures.failed
