@@ -7,6 +7,7 @@ import shutil
 import subprocess
 import sys
 import tempfile
+import time
 from dataclasses import dataclass, field
 
 from items import blanked, items_of
@@ -181,19 +182,22 @@ def try_alone(crate, edit, kept):
     return outcome in REFUSALS, f"{edit.label}: {' '.join(what.split())[:SHOWN]}"
 
 
-def try_edits(crate, paths, kept, is_proved):
-    """Whether each edit is refused, and a line on it. The crate's proofs are taken from `kept` and put there. Where it has just been proved, a group's check asks for the changed functions
-    alone, with what these call."""
+def try_edits(crate, paths, kept, is_proved, until):
+    """Whether each edit is refused, or None where the time was over before it was tried, and a line on it. The crate's proofs are taken from `kept` and put there. Where it has just been
+    proved, a group's check asks for the changed functions alone, with what these call."""
     texts = texts_of(crate.folder)
     read = [read_edit(it, crate, texts) for it in paths]
     refused = {}
     for group in grouped(crate, [edit for edit, why in read if not why]):
-        refused |= try_group(crate, group, kept, paths_of(texts) if is_proved else {})
+        if time.monotonic() < until:
+            refused |= try_group(crate, group, kept, paths_of(texts) if is_proved else {})
     for edit, why in read:
         if why:
             # The kit takes an edit that changes nothing for one that it can't read: here it is one that the prover doesn't refuse.
             yield False, f"{edit.label}: {'NOT REFUSED' if why.startswith('it changes nothing') else 'BROKEN'}: {why}"
         elif edit.path in refused:
             yield True, f"{edit.label}: refused: {refused[edit.path]}"
+        elif time.monotonic() >= until:
+            yield None, f"{edit.label}: not tried: the time was over"
         else:
             yield try_alone(crate, edit, kept)

@@ -49,13 +49,13 @@ def make_ready(crate, since):
         stop(f"{crate.name} is not proved as it stands, so nothing was tried:\n{last}")
 
 
-def tried(crate, paths, since):
-    """Whether each edit is refused, and a line on it."""
+def tried(crate, paths, since, until=float("inf")):
+    """Whether each edit is refused, or None where the time, as `time.monotonic` has it, was over before it was tried, and a line on it."""
     with tempfile.TemporaryDirectory(prefix="kept-") as room:
         kept = f"{room}/kept"
         if os.path.isdir(f"{crate.folder}/{KEPT}"):
             shutil.copytree(f"{crate.folder}/{KEPT}", kept)
-        return [*try_edits(crate, paths, kept, since is not None)]
+        return [*try_edits(crate, paths, kept, since is not None, until)]
 
 
 @contextlib.contextmanager
