@@ -37,7 +37,9 @@ pub mod ScratchClauses
 pub mod StopCalls
 pub mod StopTold
 pub mod StopClauses
+pub mod StepFields
 pub mod StepLemmas
+pub mod StepReads
 pub mod StepClauses
 pub mod BusSites
 pub mod BusStages

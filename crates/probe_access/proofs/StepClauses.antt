@@ -1,25 +1,20 @@
--- The clauses of a single step.
-use Rattle.std.proofs.Common.{◌≡◌, ◌∙◌, ◌≤◌, ◌++◌, ℕ, [], ◌∷◌, map, Bool, true, false, Option, Some, None, refl, ap, subst, arith, sym}
+-- The clauses of a single step from a word of dcsr on.
+use Rattle.std.proofs.Common.{◌≡◌, ◌∙◌, ◌≤◌, ◌++◌, ℕ, [], ◌∷◌, map, Bool, true, false, Option, Some, None, refl, ap, subst, sym}
 use Rattle.std.proofs.lemmas.Option.{none-some}
-use Rattle.rv_model.specs.Board.{Hart}
-use Rattle.rv_model.specs.DebugRegisters.{dcsr_number, debug_refuses, debug_value}
-use Rattle.rv_model.specs.Registers.{csr_read_only, csr_value}
 use Rattle.debug_model.specs.Addresses.{dmcontrol_address, dmstatus_address}
 use Rattle.debug_model.specs.declared.dmi.DmiFault.{DmiFault}
 use Rattle.debug_model.specs.declared.dmi_op.DmiOp.TheVariants.{Read, Write}
 use Rattle.debug_model.specs.declared.point.Point.TheVariants.{ResumeReq}
-use Rattle.debug_model.specs.Dmi.{DmiComing}
-use Rattle.debug_model.specs.Module.{DebugModule, Site}
+use Rattle.debug_model.specs.Module.{DebugModule}
 use Rattle.debug_model.specs.Scan.{WhereTold}
-use Rattle.debug_model.specs.SystemBus.{BusUnit}
-use Rattle.debug_model.specs.Told.{Far, IsHalted, IsReady, Selects, site_of}
+use Rattle.debug_model.specs.Told.{Far, site_of}
 use Rattle.abstract_debugger.specs.Debugger.{Seen as Sight, sees_both}
 use Rattle.probe_access.specs.declared.fault.AccessFault.{AccessFault}
 use Rattle.probe_access.specs.declared.fault.AccessFault.TheVariants as access_fault
 use Rattle.probe_run.specs.declared.fault.RunFault.{RunFault}
 use Rattle.probe_run.specs.declared.fault.RunFault.TheVariants as run_fault
 use Rattle.probe_run.specs.declared.control.Request.TheVariants.{Resume}
-use Rattle.probe_run.specs.Acts.{Tells, tells}
+use Rattle.probe_run.specs.Acts.{Tells}
 use Rattle.probe_run.specs.Acts.Attempt.{Operation, Several}
 use Rattle.probe_run.specs.Acts.Did.{nothing}
 use Rattle.probe_run.specs.Happens.{Leaves, MissedAt, StepLeft as RunLeft, StepsAt, target_of}
@@ -28,53 +23,14 @@ use Rattle.probe_run.specs.Outcomes.{RunBroke, StepFails, asks}
 use Rattle.probe_run.specs.Outcomes.RunBroke.{at_first, at_look}
 use Rattle.probe_run.specs.Requests.{control_word}
 use Rattle.probe_run.proofs.ActLemmas.{broke_then}
-use Rattle.probe_access.specs.Registers.{reaches}
 use Rattle.probe_access.specs.Scratches.{ScratchLeft}
 use Rattle.probe_access.specs.SingleSteps.{FlaggedAt, StepLeft, StepMissedAt, SteppedAt}
-use Rattle.probe_access.specs.StepRuns.{FlagFailed, of_run, with_flag}
-use Rattle.probe_access.specs.StepRuns.FlagFailed.{at_read, at_write}
-use Rattle.probe_access.proofs.AroundTold.{read_clean, write_clean}
-use Rattle.probe_access.proofs.AroundUntold.{read_plain, write_plain}
-use Rattle.probe_access.proofs.Counted.{read_counted, write_counted}
-use Rattle.probe_access.proofs.RegAnswers.{ReadTold, StoodTold, read_told}
-use Rattle.probe_access.proofs.RegClauses.{first_told}
-use Rattle.probe_access.proofs.ScratchClauses.{clean_left, plain_left}
-use Rattle.probe_access.proofs.StopClauses.{reads_dcsr}
-
--- ---- the flag
-
-writes_dcsr : (y : Hart) → reaches true y dcsr_number ≡ true
-unfolding debug_value csr_value debug_refuses csr_read_only
-writes_dcsr y = refl
-
-flag_plain : (on : Bool) (old_count new_count : ℕ) (old new : Tells) (e : AccessFault) → FlagFailed on old_count new_count old new e → ScratchLeft None e
-flag_plain on old_count new_count old new e (at_read f) = plain_left e (read_plain dcsr_number 0 ⊥ old_count new_count old new e f)
-flag_plain on old_count new_count old new e (at_write word mid r f) =
-    plain_left e (write_plain dcsr_number (with_flag on word) 0 ⊥ old_count new_count mid new e f)
-
-flag_clean : (on : Bool) (h : ℕ) (c : Far) (bus : BusUnit) (x : Hart) (s : Site) (old_count new_count : ℕ) (old new : Tells) (e : AccessFault)
-    → StoodTold h bus x s x old.far → FlagFailed on old_count new_count old new e
-    → ScratchLeft (Some c) e
-flag_clean on h c bus x s old_count new_count old new e st (at_read f) =
-    clean_left c e (read_clean dcsr_number h bus x s x old_count new_count old new e (omega arith) (reads_dcsr x) st f)
-flag_clean on h c bus x s old_count new_count old new e st (at_write word mid r f) =
-    let a : ReadTold dcsr_number word h bus x s x mid.far = read_told dcsr_number word h bus x s x old mid (omega arith) st r in
-    clean_left c e (write_clean dcsr_number (with_flag on word) h bus x s x old_count new_count mid new e (omega arith) (writes_dcsr x) a.then f)
-
-pub flag_err : (on : Bool) (h : ℕ) (far : Option Far) (coming : Option DmiComing) (old_count new_count : ℕ) (new : Tells) (e : AccessFault) → IsReady far
-    → Selects h far → IsHalted h far
-    → FlagFailed on old_count new_count (tells far coming) new e → ScratchLeft far e
-flag_err on h None coming old_count new_count new e ready selects halted f = flag_plain on old_count new_count (tells None coming) new e f
-flag_err on h (Some c) coming old_count new_count new e ready selects halted f =
-    flag_clean on h c (site_of c).unit.bus halted.hart (site_of c) old_count new_count (tells (Some c) coming) new e (first_told h c ready halted selects) f
+use Rattle.probe_access.specs.StepRuns.{StepFromFailed, of_run, with_flag}
+use Rattle.probe_access.specs.StepRuns.StepFromFailed.{in_clear, in_run, in_set}
+use Rattle.probe_access.proofs.Counted.{write_counted}
+use Rattle.rv_model.specs.DebugRegisters.{dcsr_number}
 
 -- ---- faults since an earlier count of faults
-
-pub flag_counted : (on : Bool) (count mid_count new_count : ℕ) (old new : Tells) (e : AccessFault) → count ≤ mid_count → mid_count ≤ new_count
-    → FlagFailed on mid_count new_count old new e → FlagFailed on count new_count old new e
-flag_counted on count mid_count new_count old new e le later (at_read f) = at_read (read_counted dcsr_number count mid_count new_count old new e le later f)
-flag_counted on count mid_count new_count old new e le later (at_write word mid r f) =
-    at_write word mid r (write_counted dcsr_number (with_flag on word) count mid_count new_count mid new e le later f)
 
 broke_run : (h count mid_count new_count : ℕ) (old : Tells) (told : Option Far) (why : DmiFault) → count ≤ mid_count → mid_count ≤ new_count
     → RunBroke Resume sees_both h mid_count new_count old told why → RunBroke Resume sees_both h count new_count old told why
@@ -155,3 +111,14 @@ pub run_left : (h old_count new_count : ℕ) (a : Option Far) (b c : Tells) (why
 run_left h old_count new_count a b c (run_fault.Dmi why) sets f l = tt
 run_left h old_count new_count a b c (run_fault.NoHalt looks) sets f l = (f.0, (l.0, l.1, missed_told h l.0 a b.far c.far sets l.2))
 run_left h old_count new_count a b c (run_fault.NoAck looks) sets f l = (f.0, (l.0, l.1, missed_told h l.0 a b.far c.far sets l.2))
+
+-- ---- since an earlier count of faults
+
+pub from_counted : (h word count mid_count new_count : ℕ) (old new : Tells) (e : AccessFault) → count ≤ mid_count → mid_count ≤ new_count
+    → StepFromFailed h word mid_count new_count old new e → StepFromFailed h word count new_count old new e
+from_counted h word count mid_count new_count old new e le later (in_set f) =
+    in_set (write_counted dcsr_number (with_flag true word) count mid_count new_count old new e le later f)
+from_counted h word count mid_count new_count old new e le later (in_run begun w why f is) =
+    in_run begun w why (run_counted h count mid_count new_count begun new why le later f) is
+from_counted h word count mid_count new_count old new e le later (in_clear begun ran w r f) =
+    in_clear begun ran w r (write_counted dcsr_number (with_flag false word) count mid_count new_count ran new e le later f)

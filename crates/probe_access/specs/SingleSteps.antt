@@ -1,8 +1,10 @@
 -- What a single step does at a told chip, in the words of the abstract debugger: the hart's step flag is set, its one run is asked for and looked
 -- at, and the flag is cleared; turns of harts are all else that happens.
 -- RISC-V Debug Specification 1.0, "Single Step" and "Run Control".
-use Rattle.std.specs.Prelude.{◌≡◌, ℕ, Bool, true, false, Option, Some, None}
-use Rattle.rv_model.specs.Board.{DebugPart, Hart}
+use Rattle.std.specs.Prelude.{◌≡◌, ℕ, Bool, true, false, Option, Some, None, IfSome}
+use Rattle.rv_model.specs.Board.{Board, DebugPart, Hart}
+use Rattle.rv_model.specs.Dcsr.{dcsr_of_word}
+use Rattle.rv_model.specs.DebugRegisters.{dcsr_number, debug_value}
 use Rattle.debug_model.specs.declared.point.Point.TheVariants.{ResumeReq}
 use Rattle.debug_model.specs.Chip.{Chip}
 use Rattle.debug_model.specs.Scan.{WhereTold}
@@ -15,7 +17,7 @@ use Rattle.probe_access.specs.declared.fault.AccessFault.TheVariants as fault
 use Rattle.probe_run.specs.declared.fault.RunFault.{RunFault}
 use Rattle.probe_run.specs.declared.fault.RunFault.TheVariants as run_fault
 use Rattle.probe_run.specs.Happens.{MissedAt, StepsAt, target_of}
-use Rattle.probe_access.specs.Registers.{site_before}
+use Rattle.probe_access.specs.Registers.{IsHartAt, site_before}
 
 -- a hart with its step flag so, and with it stepie, so that a step takes the interrupt that an undebugged turn takes; nothing else is changed
 abbrev pub flagged : Bool → DebugPart → DebugPart
@@ -23,6 +25,20 @@ flagged on d = record d { step = on; stepie = on }
 
 abbrev pub with_step : Bool → Hart → Hart
 with_step on = with_debug_part (flagged on)
+
+-- ---- dcsr, as it was read
+
+-- where the chip is told, dcsr of hart h reads this word
+abbrev pub ReadsDcsr : ℕ → ℕ → Option Far → Type 0
+ReadsDcsr h word told = IfSome told (λ f. (hart : Hart) → IsHartAt h (site_of f).board hart → debug_value hart dcsr_number ≡ Some word)
+
+-- the one field of dcsr besides step and stepie that a write reaches
+abbrev pub HasEbreakm : Bool → ℕ → Board → Type 0
+HasEbreakm on h b = (hart : Hart) → IsHartAt h b hart → hart.debug.ebreakm ≡ on
+
+-- where the chip is told, ebreakm of hart h is as this word of dcsr says, so that a write of the word leaves it
+abbrev pub KeepsEbreakm : ℕ → ℕ → Option Far → Type 0
+KeepsEbreakm h word told = IfSome told (λ f. HasEbreakm (dcsr_of_word word).ebreakm h (site_of f).board)
 
 -- ---- at the harts
 

@@ -47,6 +47,6 @@ pub use memory::{cut_to, is_aligned, load, store};
 pub use odd::OddStatus;
 pub use registers::{reg, set_reg};
 pub use scratch::{Scratch, save};
-pub use single::step;
+pub use single::{step, step_from};
 pub use stopped::Stop;
 pub use stops::stop;

@@ -10,7 +10,7 @@ use Rattle.probe_access.specs.BusBlockRuns.{BusCauses}
 use Rattle.probe_access.specs.CommandRuns.{CommandFailed, EndBehindFailed}
 use Rattle.probe_access.specs.Faults.{BrokeIn}
 use Rattle.probe_access.specs.RegisterRuns.{ReadFailed, WriteFailed, ReadApartFailed, ReadApartFailedAt}
-use Rattle.probe_access.specs.StepRuns.{FlagFailed, StepFailed, of_run, with_flag}
+use Rattle.probe_access.specs.StepRuns.{StepFailed, StepFromFailed, of_run, with_flag}
 use Rattle.probe_access.specs.Stops.{StopApartFailed, StopFailed, dpc_number}
 use Rattle.probe_access.specs.RegisterAccess.{transfer_word}
 use Rattle.probe_run.specs.declared.fault.RunFault.{RunFault}
@@ -120,23 +120,24 @@ pub slots_wire : (e : AccessFault) (Whole : List Transfer → Type 0) (h old_cou
     → FailedIn Whole h old_count new_count old new e → AccessWire old_count new_count new.far e
 slots_wire e Whole h old_count new_count old new f = attempt_wire f.attempt e h old_count new_count f.mid new f.failed
 
-flag_wire : (e : AccessFault) (on : Bool) (old_count new_count : ℕ) (old new : Tells) → FlagFailed on old_count new_count old new e
-    → AccessWire old_count new_count new.far e
-flag_wire e on old_count new_count old new (FlagFailed.at_read f) = read_wire e dcsr_number old_count new_count old new f
-flag_wire e on old_count new_count old new (FlagFailed.at_write word mid read f) = write_wire e dcsr_number (with_flag on word) old_count new_count mid new f
-
 by_run : (why : RunFault) (old_count new_count : ℕ) (told : Option Far) → IfSome (run_why why) (DmiWire old_count new_count told)
     → AccessWire old_count new_count told (of_run why)
 by_run (run_fault.Dmi why) old_count new_count told w = w
 by_run (run_fault.NoHalt looks) old_count new_count told w = tt
 by_run (run_fault.NoAck looks) old_count new_count told w = tt
 
+pub step_from_wire : (e : AccessFault) (h word old_count new_count : ℕ) (old new : Tells) → StepFromFailed h word old_count new_count old new e
+    → AccessWire old_count new_count new.far e
+step_from_wire e h word old_count new_count old new (StepFromFailed.in_set f) = write_wire e dcsr_number (with_flag true word) old_count new_count old new f
+step_from_wire e h word old_count new_count old new (StepFromFailed.in_run begun sets why f is) =
+    subst (AccessWire old_count new_count new.far) (sym is) (by_run why old_count new_count new.far (step_wire why h old_count new_count begun new f))
+step_from_wire e h word old_count new_count old new (StepFromFailed.in_clear begun ran sets runs f) =
+    write_wire e dcsr_number (with_flag false word) old_count new_count ran new f
+
 pub single_step_wire : (e : AccessFault) (h old_count new_count : ℕ) (old new : Tells) → StepFailed h old_count new_count old new e
     → AccessWire old_count new_count new.far e
-single_step_wire e h old_count new_count old new (StepFailed.in_set f) = flag_wire e true old_count new_count old new f
-single_step_wire e h old_count new_count old new (StepFailed.in_run begun sets why f is) =
-    subst (AccessWire old_count new_count new.far) (sym is) (by_run why old_count new_count new.far (step_wire why h old_count new_count begun new f))
-single_step_wire e h old_count new_count old new (StepFailed.in_clear begun ran sets runs f) = flag_wire e false old_count new_count ran new f
+single_step_wire e h old_count new_count old new (StepFailed.at_read f) = read_wire e dcsr_number old_count new_count old new f
+single_step_wire e h old_count new_count old new (StepFailed.behind word mid read f) = step_from_wire e h word old_count new_count mid new f
 
 back_wire : (e : AccessFault) (h old_count new_count : ℕ) (old new : Tells) → BackFailed h old_count new_count old new e
     → AccessWire old_count new_count new.far e

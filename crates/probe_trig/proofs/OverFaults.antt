@@ -1,5 +1,6 @@
 -- Faults in the course of stepping over and of letting go.
 use Rattle.std.proofs.Common.{◌≤◌, ◌++◌, ℕ, Bool, true, false, List, [], ◌∷◌, map, Option}
+use Rattle.rv_model.specs.DebugRegisters.{dcsr_number}
 use Rattle.debug_model.specs.Addresses.{dmcontrol_address, dmstatus_address}
 use Rattle.debug_model.specs.declared.dmi.DmiFault.{DmiFault}
 use Rattle.debug_model.specs.declared.dmi_op.DmiOp.TheVariants.{Read, Write}
@@ -11,8 +12,9 @@ use Rattle.probe_access.specs.declared.fault.AccessFault.TheVariants as access_f
 use Rattle.probe_access.specs.Scratches.{ScratchLeft}
 use Rattle.probe_access.specs.SingleSteps.{StepLeft}
 use Rattle.probe_access.specs.StepRuns.{StepFailed, of_run}
-use Rattle.probe_access.specs.StepRuns.StepFailed.{in_clear, in_run, in_set}
-use Rattle.probe_access.proofs.StepClauses.{flag_counted, run_counted}
+use Rattle.probe_access.specs.StepRuns.StepFailed.{at_read, behind}
+use Rattle.probe_access.proofs.Counted.{read_counted}
+use Rattle.probe_access.proofs.StepClauses.{from_counted}
 use Rattle.probe_run.specs.declared.control.Request.TheVariants.{Resume}
 use Rattle.probe_run.specs.declared.fault.RunFault.{RunFault}
 use Rattle.probe_run.specs.declared.fault.RunFault.TheVariants as run_fault
@@ -37,11 +39,9 @@ use Rattle.probe_trig.proofs.TransferLemmas.{attempt_counted}
 
 pub step_counted : (h count mid_count new_count : ℕ) (old new : Tells) (e : AccessFault) → count ≤ mid_count → mid_count ≤ new_count
     → StepFailed h mid_count new_count old new e → StepFailed h count new_count old new e
-step_counted h count mid_count new_count old new e le later (in_set f) = in_set (flag_counted true count mid_count new_count old new e le later f)
-step_counted h count mid_count new_count old new e le later (in_run begun w why f is) =
-    in_run begun w why (run_counted h count mid_count new_count begun new why le later f) is
-step_counted h count mid_count new_count old new e le later (in_clear begun ran w r f) =
-    in_clear begun ran w r (flag_counted false count mid_count new_count ran new e le later f)
+step_counted h count mid_count new_count old new e le later (at_read f) = at_read (read_counted dcsr_number count mid_count new_count old new e le later f)
+step_counted h count mid_count new_count old new e le later (behind word mid r f) =
+    behind word mid r (from_counted h word count mid_count new_count mid new e le later f)
 
 pub failed_counted : (Whole : List Transfer → Type 0) (h count mid_count new_count : ℕ) (old new : Tells) (e : AccessFault) → count ≤ mid_count
     → mid_count ≤ new_count

@@ -1,65 +1,53 @@
-use Rattle.probe_access.specs.declared.fault.AccessFault.{AccessFault}
-use Rattle.probe_access.specs.BlockCuts.{MaybeFlagged}
-use Rattle.probe_access.specs.Cuts.{IfCut, LeftAside, Leaves}
-use Rattle.probe_access.proofs.BlockCutClauses.{clearing_cut, running_cut, setting_cut}
-use Rattle.std.proofs.Common.{◌≡◌, ℕ, subst, arith, false, Option}
-use Rattle.debug_model.specs.Scan.{WhereTold}
-use Rattle.debug_model.specs.Told.{Far}
-use Rattle.probe_access.specs.SingleSteps.{FlaggedAt}
-use Rattle.probe_access.specs.StepRuns.StepFailed.{in_set, in_run, in_clear}
-use Rattle.std.proofs.Common.{refl}
+use Rattle.std.proofs.Common.{false}
+use Rattle.rv_model.specs.DebugRegisters.{dcsr_number}
+use Rattle.probe_access.specs.StepRuns.StepFailed.{at_read, behind}
 use Rattle.probe_access.proofs.RegisterCalls.{err_failed}
-use Rattle.probe_access.proofs.StepClauses.{flag_counted, run_counted, run_left, step_told}
+use Rattle.probe_access.proofs.StepClauses.{flag_left, from_counted}
+use Rattle.probe_access.proofs.StepLemmas.{never_refused}
+use Rattle.probe_access.proofs.StepReads.{read_left, read_step, read_step_cut, reading_cut, still_reads}
+use Rattle.probe_access.proofs.StopClauses.{reads_dcsr}
 use Rattle.probe_access.proofs.single.step.Goals as goal
 
-of_same : (h k : ℕ) (old new : Option Far) → h ≡ k → WhereTold (FlaggedAt false h) old new → WhereTold (FlaggedAt false k) old new
-of_same h k old new is p = subst (λ n. WhereTold (FlaggedAt false n) old new) is p
+pub returns-in_err-word-clause-left : goal.returns-in_err-word-clause-left
+returns-in_err-word-clause-left g c =
+    err_failed c.from_residual.result c.in_err-word.field-0.0 _ c.from_residual.ensures.1
+    (flag_left c.args.halted.number _ _ _ c.in_err-word.field-0.0 (λ none. none)
+    (never_refused false c.args.halted.number dcsr_number _ _ c.in_err-word.field-0.0 reads_dcsr c.in_err-word.ensures.left))
 
-pub returns-in_err-set_flag-clause-failed : goal.returns-in_err-set_flag-clause-failed
-returns-in_err-set_flag-clause-failed g c =
-    err_failed c.from_residual.result c.in_err-set_flag.field-0.0 _ c.from_residual.ensures.1 (in_set c.in_err-set_flag.ensures.failed)
+pub returns-in_err-word-clause-failed : goal.returns-in_err-word-clause-failed
+returns-in_err-word-clause-failed g c =
+    err_failed c.from_residual.result c.in_err-word.field-0.0 _ c.from_residual.ensures.1 (at_read c.in_err-word.ensures.failed)
+
+pub returns-in_err-word-clause-cut : goal.returns-in_err-word-clause-cut
+returns-in_err-word-clause-cut g c =
+    err_failed c.from_residual.result c.in_err-word.field-0.0 _ c.from_residual.ensures.1
+    (reading_cut c.args.halted.number _ _ c.in_err-word.field-0.0 c.in_err-word.ensures.cut)
+
+pub step_from-requires-clause-reads : goal.step_from-requires-clause-reads
+step_from-requires-clause-reads g c =
+    still_reads c.args.halted.number c.in_ok-word.word _ _ c.requires.serving.ready c.requires.serving.halted c.in_ok-word.ensures.got
 
 pub returns-in_err-again-clause-left : goal.returns-in_err-again-clause-left
 returns-in_err-again-clause-left g c =
-    err_failed c.from_residual-in_err-again.result _ _ c.from_residual-in_err-again.ensures.1
-    (run_left c.args.halted.number _ _ _ _ _ c.in_err-again.field-0.0 c.in_ok-set_flag.ensures.flagged_at c.in_err-again.ensures.fails
-    c.in_err-again.ensures.left)
+    err_failed c.from_residual-in_err-again.result c.in_err-again.field-0.0 _ c.from_residual-in_err-again.ensures.1
+    (read_left c.args.halted.number c.in_ok-word.word _ _ _ c.in_err-again.field-0.0 c.in_ok-word.ensures.got c.in_err-again.ensures.left)
 
 pub returns-in_err-again-clause-failed : goal.returns-in_err-again-clause-failed
 returns-in_err-again-clause-failed g c =
-    err_failed c.from_residual-in_err-again.result _ _ c.from_residual-in_err-again.ensures.1
-    (in_run _ c.in_ok-set_flag.ensures.written c.in_err-again.field-0.0
-    (run_counted c.args.halted.number _ _ _ _ _ c.in_err-again.field-0.0 c.set_flag.ensures.keeps.later c.run_one.ensures.keeps.later
-    c.in_err-again.ensures.fails) refl)
-
-pub returns-in_err-set_flag-2-clause-failed : goal.returns-in_err-set_flag-2-clause-failed
-returns-in_err-set_flag-2-clause-failed g c =
-    err_failed c.from_residual-in_err-set_flag-2.result c.in_err-set_flag-2.field-0.0 _ c.from_residual-in_err-set_flag-2.ensures.1
-    (in_clear _ _ c.in_ok-set_flag.ensures.written c.in_ok-again.ensures.did
-    (flag_counted false _ _ _ _ _ c.in_err-set_flag-2.field-0.0 (omega (arith, c.set_flag.ensures.keeps.later, c.run_one.ensures.keeps.later))
-    c.set_flag-2.ensures.keeps.later c.in_err-set_flag-2.ensures.failed))
-
-pub returns-clause-stepped_at : goal.returns-clause-stepped_at
-returns-clause-stepped_at g c =
-    step_told c.args.halted.number _ _ _ _ c.in_ok-set_flag.ensures.flagged_at c.in_ok-again.ensures.happened
-    (of_same c.in_ok-again.again.number c.args.halted.number _ _ c.in_ok-again.ensures.hart c.in_ok-set_flag-2.ensures.flagged_at)
-
-pub returns-in_err-set_flag-clause-cut : goal.returns-in_err-set_flag-clause-cut
-returns-in_err-set_flag-clause-cut g c =
-    err_failed c.from_residual.result c.in_err-set_flag.field-0.0 _ c.from_residual.ensures.1
-    (setting_cut c.args.halted.number _ _ c.in_err-set_flag.field-0.0 c.in_err-set_flag.ensures.cut)
+    err_failed c.from_residual-in_err-again.result c.in_err-again.field-0.0 _ c.from_residual-in_err-again.ensures.1
+    (behind c.in_ok-word.word _ c.in_ok-word.ensures.read
+    (from_counted c.args.halted.number c.in_ok-word.word _ _ _ _ _ c.in_err-again.field-0.0 c.reg.ensures.keeps.later c.step_from.ensures.keeps.later
+    c.in_err-again.ensures.failed))
 
 pub returns-in_err-again-clause-cut : goal.returns-in_err-again-clause-cut
 returns-in_err-again-clause-cut g c =
-    err_failed c.from_residual-in_err-again.result _ _ c.from_residual-in_err-again.ensures.1
-    (running_cut c.args.halted.number _ _ _ c.in_err-again.field-0.0 c.in_ok-set_flag.ensures.flagged_at c.in_err-again.ensures.left)
+    err_failed c.from_residual-in_err-again.result c.in_err-again.field-0.0 _ c.from_residual-in_err-again.ensures.1
+    (read_step_cut c.args.halted.number c.in_ok-word.word _ _ _ c.in_err-again.field-0.0 c.requires.serving.ready c.requires.serving.halted
+    c.in_ok-word.ensures.got c.in_err-again.ensures.cut)
 
-cut_same : (h k : ℕ) (old new : Option Far) (e : AccessFault) → h ≡ k → IfCut (Leaves (LeftAside (MaybeFlagged false) h) old new) e
-    → IfCut (Leaves (LeftAside (MaybeFlagged false) k) old new) e
-cut_same h k old new e is p = subst (λ n. IfCut (Leaves (LeftAside (MaybeFlagged false) n) old new) e) is p
+pub returns-clause-stepped_at : goal.returns-clause-stepped_at
+returns-clause-stepped_at g c = read_step c.args.halted.number c.in_ok-word.word _ _ _ c.in_ok-word.ensures.got c.in_ok-again.ensures.stepped_at
 
-pub returns-in_err-set_flag-2-clause-cut : goal.returns-in_err-set_flag-2-clause-cut
-returns-in_err-set_flag-2-clause-cut g c =
-    err_failed c.from_residual-in_err-set_flag-2.result c.in_err-set_flag-2.field-0.0 _ c.from_residual-in_err-set_flag-2.ensures.1
-    (clearing_cut c.args.halted.number _ _ _ _ c.in_err-set_flag-2.field-0.0 c.in_ok-set_flag.ensures.flagged_at c.in_ok-again.ensures.happened
-    (cut_same c.in_ok-again.again.number c.args.halted.number _ _ c.in_err-set_flag-2.field-0.0 c.in_ok-again.ensures.hart c.in_err-set_flag-2.ensures.cut))
+pub returns-clause-stepped : goal.returns-clause-stepped
+returns-clause-stepped g c =
+    record { word = c.in_ok-word.word; mid = _; read = c.in_ok-word.ensures.read; steps = c.in_ok-again.ensures.stepped }
