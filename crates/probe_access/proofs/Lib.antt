@@ -37,7 +37,6 @@ pub mod ScratchClauses
 pub mod StopCalls
 pub mod StopTold
 pub mod StopClauses
-pub mod StepFields
 pub mod StepLemmas
 pub mod StepReads
 pub mod StepClauses

@@ -25,9 +25,10 @@ use Rattle.probe_run.specs.Requests.{control_word}
 use Rattle.probe_run.proofs.ActLemmas.{broke_then}
 use Rattle.probe_access.specs.Scratches.{ScratchLeft}
 use Rattle.probe_access.specs.SingleSteps.{FlaggedAt, StepLeft, StepMissedAt, SteppedAt}
-use Rattle.probe_access.specs.StepRuns.{StepFromFailed, of_run, with_flag}
+use Rattle.probe_access.specs.StepRuns.{ClearFailed, StepFromFailed, of_run, with_flag}
+use Rattle.probe_access.specs.StepRuns.ClearFailed.{at_read, at_write}
 use Rattle.probe_access.specs.StepRuns.StepFromFailed.{in_clear, in_run, in_set}
-use Rattle.probe_access.proofs.Counted.{write_counted}
+use Rattle.probe_access.proofs.Counted.{read_counted, write_counted}
 use Rattle.rv_model.specs.DebugRegisters.{dcsr_number}
 
 -- ---- faults since an earlier count of faults
@@ -114,6 +115,12 @@ run_left h old_count new_count a b c (run_fault.NoAck looks) sets f l = (f.0, (l
 
 -- ---- since an earlier count of faults
 
+pub clear_counted : (count mid_count new_count : ℕ) (old new : Tells) (e : AccessFault) → count ≤ mid_count → mid_count ≤ new_count
+    → ClearFailed mid_count new_count old new e → ClearFailed count new_count old new e
+clear_counted count mid_count new_count old new e le later (at_read f) = at_read (read_counted dcsr_number count mid_count new_count old new e le later f)
+clear_counted count mid_count new_count old new e le later (at_write word mid r f) =
+    at_write word mid r (write_counted dcsr_number (with_flag false word) count mid_count new_count mid new e le later f)
+
 pub from_counted : (h word count mid_count new_count : ℕ) (old new : Tells) (e : AccessFault) → count ≤ mid_count → mid_count ≤ new_count
     → StepFromFailed h word mid_count new_count old new e → StepFromFailed h word count new_count old new e
 from_counted h word count mid_count new_count old new e le later (in_set f) =
@@ -121,4 +128,4 @@ from_counted h word count mid_count new_count old new e le later (in_set f) =
 from_counted h word count mid_count new_count old new e le later (in_run begun w why f is) =
     in_run begun w why (run_counted h count mid_count new_count begun new why le later f) is
 from_counted h word count mid_count new_count old new e le later (in_clear begun ran w r f) =
-    in_clear begun ran w r (write_counted dcsr_number (with_flag false word) count mid_count new_count ran new e le later f)
+    in_clear begun ran w r (clear_counted count mid_count new_count ran new e le later f)

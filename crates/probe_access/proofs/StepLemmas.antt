@@ -27,7 +27,6 @@ use Rattle.probe_access.specs.StepRuns.{with_flag}
 use Rattle.probe_access.proofs.Aside.{Frozen}
 use Rattle.probe_access.proofs.CutSites.{if_cut}
 use Rattle.probe_access.proofs.ReadyUnit.{Held, halted_held}
-use Rattle.probe_access.proofs.StepFields.{flag_spares, step_spares}
 use Rattle.probe_access.proofs.StopClauses.{dcsr_held, small_shown}
 
 -- ---- the flag in dcsr
@@ -144,16 +143,3 @@ read_keeps h word None reads = tt
 read_keeps h word (Some f) reads = λ x here.
     let same : dcsr_value x.debug ≡ word = same_Some (dcsr_value x.debug) word (sym (dcsr_held x) ∙ reads x here) in
     sym (ap (λ (d : Dcsr). d.ebreakm) (ap dcsr_of_word (sym same) ∙ dcsr_read_back (dcsr_of x.debug) (small_shown x.debug.halted)))
-
--- and so it does behind the run
-pub run_keeps : (h word : ℕ) (a b c : Option Far) → KeepsEbreakm h word a → WhereTold (FlaggedAt true h) a b → WhereTold (RunLeaves (StepsAt h) h) b c
-    → KeepsEbreakm h word c
-run_keeps h word None b c keeps sets runs =
-    let end : c ≡ None = subst (λ (m : Option Far). WhereTold (RunLeaves (StepsAt h) h) m c) sets runs in
-    subst (KeepsEbreakm h word) (sym end) tt
-run_keeps h word (Some f) b c keeps sets runs =
-    let went : RunLeaves (StepsAt h) h sets.far.live.chip c = subst (λ (m : Option Far). WhereTold (RunLeaves (StepsAt h) h) m c) sets.is runs in
-    let on : Bool = (dcsr_of_word word).ebreakm in
-    subst (KeepsEbreakm h word) (sym went.is)
-    (step_spares on h (target_of (site_of sets.far)) (target_of (site_of went.far)) went.happened
-    (flag_spares true on h (target_of (site_of f)) (target_of (site_of sets.far)) sets.rewrote keeps))

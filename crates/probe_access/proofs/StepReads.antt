@@ -1,5 +1,5 @@
 -- A reading of dcsr in front of a step: turns alone pass meanwhile, and the word that was read is what the hart's dcsr reads still.
-use Rattle.std.proofs.Common.{◌≡◌, ◌∙◌, ◌++◌, ℕ, List, Option, Some, None, refl, sym, ap, subst, append_assoc, inl, slice_get}
+use Rattle.std.proofs.Common.{◌≡◌, ◌∙◌, ◌++◌, ℕ, List, Bool, false, Option, Some, None, refl, sym, ap, subst, append_assoc, inl, slice_get}
 use Rattle.std.proofs.lemmas.Option.{none-some, same_Some}
 use Rattle.rv_model.specs.Board.{Board, Hart}
 use Rattle.rv_model.specs.DebugRegisters.{dcsr_number, debug_value}
@@ -18,11 +18,12 @@ use Rattle.probe_run.specs.Happens.{target_of}
 use Rattle.probe_run.specs.Sites.{put_hart}
 use Rattle.probe_access.specs.declared.fault.AccessFault.{AccessFault}
 use Rattle.probe_access.specs.declared.fault.AccessFault.TheVariants as access_fault
-use Rattle.probe_access.specs.BlockCuts.{StepCut}
+use Rattle.probe_access.specs.BlockCuts.{MaybeFlagged, StepCut}
 use Rattle.probe_access.specs.BlockCuts.StepCut.{setting, running, clearing}
 use Rattle.probe_access.specs.Cuts.{IfCut, IsLeft, LeftAside, Leaves, Unchanged}
 use Rattle.probe_access.specs.Registers.{IsHartAt, RegisterReadAt, TurnsPassed}
-use Rattle.probe_access.specs.SingleSteps.{ReadsDcsr, StepLeft, StepMissedAt, SteppedAt}
+use Rattle.probe_access.specs.Scratches.{ScratchLeft}
+use Rattle.probe_access.specs.SingleSteps.{FlaggedAt, ReadsDcsr, StepLeft, StepMissedAt, SteppedAt}
 use Rattle.probe_access.proofs.Aside.{Frozen}
 use Rattle.probe_access.proofs.BlockCutClauses.{leaves_map}
 use Rattle.probe_access.proofs.CutSites.{if_cut}
@@ -30,6 +31,10 @@ use Rattle.probe_access.proofs.StepLemmas.{rests_there}
 
 abbrev pub WasRead : ℕ → ℕ → Option Far → Option Far → Type 0
 WasRead h word old new = WhereTold (RegisterReadAt h dcsr_number word) old new
+
+none_read : (h word : ℕ) (a b : Option Far) → WasRead h word a b → b ≡ None → a ≡ None
+none_read h word None b p none = refl
+none_read h word (Some f) b p none = absurd (none-some p.far (sym none ∙ p.is))
 
 -- ---- the halted hart
 
@@ -72,6 +77,58 @@ aside_behind Y h s t u ready halted p l = record {
   bus = l.bus ∙ p.bus;
 }
 
+-- ---- a write of the flag behind the reading
+
+pub read_flagged : (on : Bool) (h word : ℕ) (a b c : Option Far) → WasRead h word a b → WhereTold (FlaggedAt on h) b c → WhereTold (FlaggedAt on h) a c
+read_flagged on h word None b c reads sets = subst (λ (m : Option Far). WhereTold (FlaggedAt on h) m c) reads sets
+read_flagged on h word (Some f) b c reads sets =
+    let end : FlaggedAt on h reads.far.live.chip c = subst (λ (m : Option Far). WhereTold (FlaggedAt on h) m c) reads.is sets in
+    record {
+      far = end.far;
+      is = end.is;
+      rewrote = wrote_behind _ h (site_of f) (site_of reads.far) (target_of (site_of end.far)) reads.passed end.rewrote;
+      bus = end.bus ∙ reads.passed.bus;
+    }
+
+maybe_cleared : (h : ℕ) (s t : Site) → LeftAside Unchanged h s t → LeftAside (MaybeFlagged false) h s t
+maybe_cleared h s t l = record {
+  hart = l.hart;
+  here = l.here;
+  left = l.left;
+  one = inl l.one;
+  harts = l.harts;
+  board = l.board;
+  journal = l.journal;
+  bus = l.bus;
+}
+
+pub clearing_read_cut : (h : ℕ) (old new : Option Far) (e : AccessFault) → IfCut (Leaves (LeftAside Unchanged h) old new) e
+    → IfCut (Leaves (LeftAside (MaybeFlagged false) h) old new) e
+clearing_read_cut h old new e l =
+    if_cut (Leaves (LeftAside Unchanged h) old new) (Leaves (LeftAside (MaybeFlagged false) h) old new) e
+    (leaves_map (LeftAside Unchanged h) (LeftAside (MaybeFlagged false) h) old new (maybe_cleared h)) l
+
+flag_behind : (h word : ℕ) (a b c : Option Far) → IsReady a → IsHalted h a → WasRead h word a b → Leaves (LeftAside (MaybeFlagged false) h) b c
+    → Leaves (LeftAside (MaybeFlagged false) h) a c
+flag_behind h word None b c ready halted reads l = tt
+flag_behind h word (Some f) b c ready halted reads l =
+    let end : IsLeft (LeftAside (MaybeFlagged false) h) reads.far.live.chip c =
+    subst (λ (m : Option Far). Leaves (LeftAside (MaybeFlagged false) h) m c) reads.is l in
+    record { far = end.far; is = end.is; left = aside_behind _ h (site_of f) (site_of reads.far) (site_of end.far) ready halted reads.passed end.left }
+
+pub clearing_write_cut : (h word : ℕ) (a b c : Option Far) (e : AccessFault) → IsReady a → IsHalted h a → WasRead h word a b
+    → IfCut (Leaves (LeftAside (MaybeFlagged false) h) b c) e → IfCut (Leaves (LeftAside (MaybeFlagged false) h) a c) e
+clearing_write_cut h word a b c e ready halted reads l =
+    if_cut (Leaves (LeftAside (MaybeFlagged false) h) b c) (Leaves (LeftAside (MaybeFlagged false) h) a c) e (flag_behind h word a b c ready halted reads) l
+
+pub scratch_read : (h word : ℕ) (a b : Option Far) (e : AccessFault) → WasRead h word a b → ScratchLeft b e → ScratchLeft a e
+scratch_read h word a b (access_fault.Dmi why) reads l = tt
+scratch_read h word a b (access_fault.Memory at) reads l = l
+scratch_read h word a b (access_fault.Register number) reads l = none_read h word a b reads l
+scratch_read h word a b access_fault.StillBusy reads l = tt
+scratch_read h word a b (access_fault.Run why) reads l = l
+scratch_read h word a b (access_fault.Odd shown) reads l = none_read h word a b reads l
+
 -- ---- a step behind the reading
 
 pub read_step : (h word : ℕ) (a b c : Option Far) → WasRead h word a b → WhereTold (SteppedAt h) b c → WhereTold (SteppedAt h) a c
@@ -106,10 +163,6 @@ missed_behind h word last (Some f) b c reads missed =
       };
       bus = end.bus ∙ reads.passed.bus;
     }
-
-none_read : (h word : ℕ) (a b : Option Far) → WasRead h word a b → b ≡ None → a ≡ None
-none_read h word None b p none = refl
-none_read h word (Some f) b p none = absurd (none-some p.far (sym none ∙ p.is))
 
 pub read_left : (h word : ℕ) (a b c : Option Far) (e : AccessFault) → WasRead h word a b → StepLeft h b c e → StepLeft h a c e
 read_left h word a b c (access_fault.Dmi why) reads l = tt

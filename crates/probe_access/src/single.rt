@@ -3,7 +3,7 @@ ghost use Rattle.probe_access.specs.BlockCuts.{MaybeFlagged, StepCut};
 ghost use Rattle.probe_access.specs.Cuts.{IfCut, LeftAside, Leaves};
 ghost use Rattle.probe_access.specs.Scratches.{ScratchLeft};
 ghost use Rattle.probe_access.specs.SingleSteps.{FlaggedAt, KeepsEbreakm, ReadsDcsr, StepLeft, SteppedAt};
-ghost use Rattle.probe_access.specs.StepRuns.{FlagFailed, FlagWritten, StepFailed, StepFromFailed, SteppedFrom, SteppedOnce, with_flag};
+ghost use Rattle.probe_access.specs.StepRuns.{ClearFailed, FlagCleared, FlagFailed, FlagWritten, StepFailed, StepFromFailed, SteppedFrom, SteppedOnce, with_flag};
 ghost use Rattle.debug_model.specs.Kept.{CanCall, Keeps};
 ghost use Rattle.probe_run.specs.Told.{Fails, OnChip, told};
 ghost use Rattle.probe_access.specs.Faults.{access_why};
@@ -46,8 +46,26 @@ fn set_flag<D: Dmi>(link: &mut D, halted: &Halted, word: u64, on: bool) -> Resul
     Ok(())
 }
 
-/// Makes the halted hart, which is selected, do one instruction, as `step` does, where `word` is what its `dcsr` was just read as: it is not read again,
-/// since neither a step nor the turns of harts reach what is written back.
+/// Clears the step flag and `stepie` in `dcsr` of the halted hart, which is selected. `dcsr` is read for it, since a step may have changed what a write
+/// reaches there: a hart with several privilege modes goes on in the one that `prv` names (RISC-V Debug Specification 1.0, "Debug Control and Status").
+fn clear_flag<D: Dmi>(link: &mut D, halted: &Halted) -> Result<(), AccessFault>
+    requires callable { CanCall (D.seen link.old) }
+    requires serving { Serving halted.now.number (D.seen link.old).far }
+    ensures flagged_at { OnOk result (OnChip (FlaggedAt false halted.now.number) (D.seen link.old) (D.seen link.new)) }
+    ensures cleared { OnOk result (FlagCleared (told (D.seen link.old)) (told (D.seen link.new))) }
+    ensures left { IfErr result (ScratchLeft (D.seen link.old).far) }
+    ensures failed { IfErr result (Fails ClearFailed (D.seen link.old) (D.seen link.new)) }
+    ensures cut { IfErr result (IfCut (Leaves (LeftAside (MaybeFlagged false) halted.now.number) (D.seen link.old).far (D.seen link.new).far)) }
+    ensures serving { OnOk result (Serving halted.now.number (D.seen link.new).far) }
+    ensures keeps { Keeps access_why (D.seen link.old) (D.seen link.new) result }
+{
+    let word = reg(link, halted, register_number::DCSR)?;
+    set_flag(link, halted, word, false)?;
+    Ok(())
+}
+
+/// Makes the halted hart, which is selected, do one instruction, as `step` does, where `word` is what its `dcsr` was just read as: it is not read again
+/// in front of the step.
 pub fn step_from<D: Dmi>(link: &mut D, halted: Halted, word: u64) -> Result<Halted, AccessFault>
     requires callable { CanCall (D.seen link.old) }
     requires serving { Serving halted.number (D.seen link.old).far }
@@ -63,7 +81,7 @@ pub fn step_from<D: Dmi>(link: &mut D, halted: Halted, word: u64) -> Result<Halt
 {
     set_flag(link, &halted, word, true)?;
     let again = halted.run_one(link)?;
-    set_flag(link, &again, word, false)?;
+    clear_flag(link, &again)?;
     Ok(again)
 }
 

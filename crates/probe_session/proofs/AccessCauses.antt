@@ -10,7 +10,7 @@ use Rattle.probe_access.specs.BusBlockRuns.{BusCauses}
 use Rattle.probe_access.specs.CommandRuns.{CommandFailed, EndBehindFailed}
 use Rattle.probe_access.specs.Faults.{BrokeIn}
 use Rattle.probe_access.specs.RegisterRuns.{ReadFailed, WriteFailed, ReadApartFailed, ReadApartFailedAt}
-use Rattle.probe_access.specs.StepRuns.{StepFailed, StepFromFailed, of_run, with_flag}
+use Rattle.probe_access.specs.StepRuns.{ClearFailed, StepFailed, StepFromFailed, of_run, with_flag}
 use Rattle.probe_access.specs.Stops.{StopApartFailed, StopFailed, dpc_number}
 use Rattle.probe_access.specs.RegisterAccess.{transfer_word}
 use Rattle.probe_run.specs.declared.fault.RunFault.{RunFault}
@@ -126,13 +126,17 @@ by_run (run_fault.Dmi why) old_count new_count told w = w
 by_run (run_fault.NoHalt looks) old_count new_count told w = tt
 by_run (run_fault.NoAck looks) old_count new_count told w = tt
 
+clear_wire : (e : AccessFault) (old_count new_count : ℕ) (old new : Tells) → ClearFailed old_count new_count old new e
+    → AccessWire old_count new_count new.far e
+clear_wire e old_count new_count old new (ClearFailed.at_read f) = read_wire e dcsr_number old_count new_count old new f
+clear_wire e old_count new_count old new (ClearFailed.at_write word mid r f) = write_wire e dcsr_number (with_flag false word) old_count new_count mid new f
+
 pub step_from_wire : (e : AccessFault) (h word old_count new_count : ℕ) (old new : Tells) → StepFromFailed h word old_count new_count old new e
     → AccessWire old_count new_count new.far e
 step_from_wire e h word old_count new_count old new (StepFromFailed.in_set f) = write_wire e dcsr_number (with_flag true word) old_count new_count old new f
 step_from_wire e h word old_count new_count old new (StepFromFailed.in_run begun sets why f is) =
     subst (AccessWire old_count new_count new.far) (sym is) (by_run why old_count new_count new.far (step_wire why h old_count new_count begun new f))
-step_from_wire e h word old_count new_count old new (StepFromFailed.in_clear begun ran sets runs f) =
-    write_wire e dcsr_number (with_flag false word) old_count new_count ran new f
+step_from_wire e h word old_count new_count old new (StepFromFailed.in_clear begun ran sets runs f) = clear_wire e old_count new_count ran new f
 
 pub single_step_wire : (e : AccessFault) (h old_count new_count : ℕ) (old new : Tells) → StepFailed h old_count new_count old new e
     → AccessWire old_count new_count new.far e

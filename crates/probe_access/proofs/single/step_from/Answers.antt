@@ -6,15 +6,11 @@ use Rattle.std.proofs.Common.{◌≡◌, ℕ, subst, sym, arith, false, Option}
 use Rattle.debug_model.specs.Scan.{WhereTold}
 use Rattle.debug_model.specs.Told.{Far}
 use Rattle.probe_access.specs.SingleSteps.{FlaggedAt}
-use Rattle.probe_access.specs.StepRuns.{with_flag}
 use Rattle.probe_access.specs.StepRuns.StepFromFailed.{in_set, in_run, in_clear}
 use Rattle.std.proofs.Common.{refl}
 use Rattle.probe_access.proofs.RegisterCalls.{err_failed}
-use Rattle.rv_model.specs.DebugRegisters.{dcsr_number}
-use Rattle.probe_access.specs.SingleSteps.{KeepsEbreakm}
-use Rattle.probe_access.proofs.Counted.{write_counted}
-use Rattle.probe_access.proofs.StepClauses.{run_counted, run_left, step_told}
-use Rattle.probe_access.proofs.StepLemmas.{read_keeps, run_keeps}
+use Rattle.probe_access.proofs.StepClauses.{clear_counted, run_counted, run_left, step_told}
+use Rattle.probe_access.proofs.StepLemmas.{read_keeps}
 use Rattle.probe_access.proofs.single.step_from.Goals as goal
 
 of_same : (h k : ℕ) (old new : Option Far) → h ≡ k → WhereTold (FlaggedAt false h) old new → WhereTold (FlaggedAt false k) old new
@@ -37,17 +33,17 @@ returns-in_err-again-clause-failed g c =
     (run_counted c.args.halted.number _ _ _ _ _ c.in_err-again.field-0.0 c.set_flag.ensures.keeps.later c.run_one.ensures.keeps.later
     c.in_err-again.ensures.fails) refl)
 
-pub returns-in_err-set_flag-2-clause-failed : goal.returns-in_err-set_flag-2-clause-failed
-returns-in_err-set_flag-2-clause-failed g c =
-    err_failed c.from_residual-in_err-set_flag-2.result c.in_err-set_flag-2.field-0.0 _ c.from_residual-in_err-set_flag-2.ensures.1
+pub returns-in_err-clear_flag-clause-failed : goal.returns-in_err-clear_flag-clause-failed
+returns-in_err-clear_flag-clause-failed g c =
+    err_failed c.from_residual-in_err-clear_flag.result c.in_err-clear_flag.field-0.0 _ c.from_residual-in_err-clear_flag.ensures.1
     (in_clear _ _ c.in_ok-set_flag.ensures.written c.in_ok-again.ensures.did
-    (write_counted dcsr_number (with_flag false c.args.word) _ _ _ _ _ c.in_err-set_flag-2.field-0.0 (omega (arith, c.set_flag.ensures.keeps.later, c.run_one.ensures.keeps.later))
-    c.set_flag-2.ensures.keeps.later c.in_err-set_flag-2.ensures.failed))
+    (clear_counted _ _ _ _ _ c.in_err-clear_flag.field-0.0 (omega (arith, c.set_flag.ensures.keeps.later, c.run_one.ensures.keeps.later))
+    c.clear_flag.ensures.keeps.later c.in_err-clear_flag.ensures.failed))
 
 pub returns-clause-stepped_at : goal.returns-clause-stepped_at
 returns-clause-stepped_at g c =
     step_told c.args.halted.number _ _ _ _ c.in_ok-set_flag.ensures.flagged_at c.in_ok-again.ensures.happened
-    (of_same c.in_ok-again.again.number c.args.halted.number _ _ c.in_ok-again.ensures.hart c.in_ok-set_flag-2.ensures.flagged_at)
+    (of_same c.in_ok-again.again.number c.args.halted.number _ _ c.in_ok-again.ensures.hart c.in_ok-clear_flag.ensures.flagged_at)
 
 pub returns-in_err-set_flag-clause-cut : goal.returns-in_err-set_flag-clause-cut
 returns-in_err-set_flag-clause-cut g c =
@@ -63,20 +59,11 @@ cut_same : (h k : ℕ) (old new : Option Far) (e : AccessFault) → h ≡ k → 
     → IfCut (Leaves (LeftAside (MaybeFlagged false) k) old new) e
 cut_same h k old new e is p = subst (λ n. IfCut (Leaves (LeftAside (MaybeFlagged false) n) old new) e) is p
 
-pub returns-in_err-set_flag-2-clause-cut : goal.returns-in_err-set_flag-2-clause-cut
-returns-in_err-set_flag-2-clause-cut g c =
-    err_failed c.from_residual-in_err-set_flag-2.result c.in_err-set_flag-2.field-0.0 _ c.from_residual-in_err-set_flag-2.ensures.1
-    (clearing_cut c.args.halted.number _ _ _ _ c.in_err-set_flag-2.field-0.0 c.in_ok-set_flag.ensures.flagged_at c.in_ok-again.ensures.happened
-    (cut_same c.in_ok-again.again.number c.args.halted.number _ _ c.in_err-set_flag-2.field-0.0 c.in_ok-again.ensures.hart c.in_err-set_flag-2.ensures.cut))
+pub returns-in_err-clear_flag-clause-cut : goal.returns-in_err-clear_flag-clause-cut
+returns-in_err-clear_flag-clause-cut g c =
+    err_failed c.from_residual-in_err-clear_flag.result c.in_err-clear_flag.field-0.0 _ c.from_residual-in_err-clear_flag.ensures.1
+    (clearing_cut c.args.halted.number _ _ _ _ c.in_err-clear_flag.field-0.0 c.in_ok-set_flag.ensures.flagged_at c.in_ok-again.ensures.happened
+    (cut_same c.in_ok-again.again.number c.args.halted.number _ _ c.in_err-clear_flag.field-0.0 c.in_ok-again.ensures.hart c.in_err-clear_flag.ensures.cut))
 
 pub set_flag-requires-clause-ebreakm : goal.set_flag-requires-clause-ebreakm
 set_flag-requires-clause-ebreakm g c = read_keeps c.args.halted.number c.args.word _ c.requires.reads
-
-keeps_same : (h k word : ℕ) (told : Option Far) → h ≡ k → KeepsEbreakm k word told → KeepsEbreakm h word told
-keeps_same h k word told is p = subst (λ n. KeepsEbreakm n word told) (sym is) p
-
-pub set_flag-requires-2-clause-ebreakm : goal.set_flag-requires-2-clause-ebreakm
-set_flag-requires-2-clause-ebreakm g c =
-    keeps_same c.in_ok-again.again.number c.args.halted.number c.args.word _ c.in_ok-again.ensures.hart
-    (run_keeps c.args.halted.number c.args.word _ _ _ (read_keeps c.args.halted.number c.args.word _ c.requires.reads)
-    c.in_ok-set_flag.ensures.flagged_at c.in_ok-again.ensures.happened)
