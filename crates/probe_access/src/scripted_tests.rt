@@ -94,10 +94,9 @@ const NO_DCSR: Fault = Fault::Access(AccessFault::Register(0x7b0));
 const ODDLY: Fault = Fault::Access(AccessFault::Odd(OddStatus::Abstractcs(UNSUPPORTED)));
 
 /// A step whose first Look sees the hart halted again, and one whose third does.
-const AT_ONCE: [u32; 6] = [0, 0x4000_0143, IDLE, IDLE, STEPPED, IDLE];
+const AT_ONCE: [u32; 5] = [0x4000_0143, IDLE, IDLE, STEPPED, IDLE];
 
-const LATER: [u32; 8] = [
-    0,
+const LATER: [u32; 7] = [
     0x4000_0143,
     IDLE,
     IDLE,
@@ -107,9 +106,8 @@ const LATER: [u32; 8] = [
     IDLE,
 ];
 
-/// The words of `dcsr` come too early: a command is under way and `cmderr` is 1, and then the end. Behind the clearing they come again.
-const TOO_EARLY: [u32; 11] = [
-    0xffff_ffff,
+/// The word of `dcsr` comes too early: a command is under way and `cmderr` is 1, and then the end. Behind the clearing both data words are read.
+const TOO_EARLY: [u32; 10] = [
     0xffff_ffff,
     EARLY_BUSY,
     EARLY_BUSY,
@@ -141,12 +139,12 @@ fn steps(rt: HostRuntime) {
         (&AT_ONCE, Ok(1)),
         (&LATER, Ok(1)),
         (&TOO_EARLY, Ok(1)),
-        (&[0, 0, EXCEPTION, EXCEPTION], Err(NO_DCSR)),
-        (&[0, 7, IDLE, EXCEPTION], Err(NO_DCSR)),
-        (&[0, 7, IDLE, IDLE], Err(Fault::Access(ENDED))),
-        (&[0, 7, IDLE, IDLE, STEPPED, UNSUPPORTED], Err(ODDLY)),
-        (&[0, 7, IDLE, IDLE, STEPPED, EXCEPTION], Err(NO_DCSR)),
-        (&[0, 7, UNSUPPORTED], Err(Fault::Access(ENDED))),
+        (&[0, EXCEPTION, EXCEPTION], Err(NO_DCSR)),
+        (&[7, IDLE, EXCEPTION], Err(NO_DCSR)),
+        (&[7, IDLE, IDLE], Err(Fault::Access(ENDED))),
+        (&[7, IDLE, IDLE, STEPPED, UNSUPPORTED], Err(ODDLY)),
+        (&[7, IDLE, IDLE, STEPPED, EXCEPTION], Err(NO_DCSR)),
+        (&[7, UNSUPPORTED], Err(Fault::Access(ENDED))),
     ];
     for (words, wanted) in cases {
         let mut link = opened(words);

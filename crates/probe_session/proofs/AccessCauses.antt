@@ -9,6 +9,7 @@ use Rattle.probe_access.specs.BlockRuns.{Causes}
 use Rattle.probe_access.specs.BusBlockRuns.{BusCauses}
 use Rattle.probe_access.specs.CommandRuns.{CommandFailed, EndBehindFailed}
 use Rattle.probe_access.specs.Faults.{BrokeIn}
+use Rattle.probe_access.specs.DcsrRuns.{DcsrReadFailed}
 use Rattle.probe_access.specs.RegisterRuns.{ReadFailed, WriteFailed, ReadApartFailed, ReadApartFailedAt}
 use Rattle.probe_access.specs.StepRuns.{StepFailed, StepFromFailed, of_run, with_flag}
 use Rattle.probe_access.specs.Stops.{StopApartFailed, StopFailed, dpc_number}
@@ -136,7 +137,9 @@ step_from_wire e h word old_count new_count old new (StepFromFailed.in_clear beg
 
 pub single_step_wire : (e : AccessFault) (h old_count new_count : ℕ) (old new : Tells) → StepFailed h old_count new_count old new e
     → AccessWire old_count new_count new.far e
-single_step_wire e h old_count new_count old new (StepFailed.at_read f) = read_wire e dcsr_number old_count new_count old new f
+single_step_wire e h old_count new_count old new (StepFailed.at_read (DcsrReadFailed.asking f)) = behind_wire e _ _ _ old_count new_count old new f
+single_step_wire e h old_count new_count old new (StepFailed.at_read (DcsrReadFailed.late mid early f)) =
+    apart_wire e dcsr_number old_count new_count mid new f
 single_step_wire e h old_count new_count old new (StepFailed.behind word mid read f) = step_from_wire e h word old_count new_count mid new f
 
 back_wire : (e : AccessFault) (h old_count new_count : ℕ) (old new : Tells) → BackFailed h old_count new_count old new e

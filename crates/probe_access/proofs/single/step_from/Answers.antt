@@ -41,7 +41,8 @@ pub returns-in_err-set_flag-2-clause-failed : goal.returns-in_err-set_flag-2-cla
 returns-in_err-set_flag-2-clause-failed g c =
     err_failed c.from_residual-in_err-set_flag-2.result c.in_err-set_flag-2.field-0.0 _ c.from_residual-in_err-set_flag-2.ensures.1
     (in_clear _ _ c.in_ok-set_flag.ensures.written c.in_ok-again.ensures.did
-    (write_counted dcsr_number (with_flag false c.args.word) _ _ _ _ _ c.in_err-set_flag-2.field-0.0 (omega (arith, c.set_flag.ensures.keeps.later, c.run_one.ensures.keeps.later))
+    (write_counted dcsr_number (with_flag false c.args.word) _ _ _ _ _ c.in_err-set_flag-2.field-0.0
+    (omega (arith, c.set_flag.ensures.keeps.later, c.run_one.ensures.keeps.later))
     c.set_flag-2.ensures.keeps.later c.in_err-set_flag-2.ensures.failed))
 
 pub returns-clause-stepped_at : goal.returns-clause-stepped_at
