@@ -37,6 +37,10 @@ pub mod ScratchClauses
 pub mod StopCalls
 pub mod StopTold
 pub mod StopClauses
+pub mod DcsrCalls
+pub mod DcsrTold
+pub mod CutDcsr
+pub mod DcsrClauses
 pub mod StepLemmas
 pub mod StepReads
 pub mod StepClauses

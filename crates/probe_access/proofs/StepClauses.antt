@@ -28,7 +28,8 @@ use Rattle.probe_access.specs.SingleSteps.{FlaggedAt, StepLeft, StepMissedAt, St
 use Rattle.probe_access.specs.StepRuns.{ClearFailed, StepFromFailed, of_run, with_flag}
 use Rattle.probe_access.specs.StepRuns.ClearFailed.{at_read, at_write}
 use Rattle.probe_access.specs.StepRuns.StepFromFailed.{in_clear, in_run, in_set}
-use Rattle.probe_access.proofs.Counted.{read_counted, write_counted}
+use Rattle.probe_access.proofs.Counted.{write_counted}
+use Rattle.probe_access.proofs.DcsrCalls.{dcsr_counted}
 use Rattle.rv_model.specs.DebugRegisters.{dcsr_number}
 
 -- ---- faults since an earlier count of faults
@@ -117,7 +118,7 @@ run_left h old_count new_count a b c (run_fault.NoAck looks) sets f l = (f.0, (l
 
 pub clear_counted : (count mid_count new_count : ℕ) (old new : Tells) (e : AccessFault) → count ≤ mid_count → mid_count ≤ new_count
     → ClearFailed mid_count new_count old new e → ClearFailed count new_count old new e
-clear_counted count mid_count new_count old new e le later (at_read f) = at_read (read_counted dcsr_number count mid_count new_count old new e le later f)
+clear_counted count mid_count new_count old new e le later (at_read f) = at_read (dcsr_counted count mid_count new_count old new e le later f)
 clear_counted count mid_count new_count old new e le later (at_write word mid r f) =
     at_write word mid r (write_counted dcsr_number (with_flag false word) count mid_count new_count mid new e le later f)
 

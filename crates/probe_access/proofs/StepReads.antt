@@ -52,7 +52,8 @@ still_reads h word (Some f) new ready halted p =
 
 -- ---- turns in front
 
-journal_behind : (first mid new : List Point) (harts more : List ℕ) → mid ≡ first ++ turns harts → new ≡ mid ++ turns more → new ≡ first ++ turns (harts ++ more)
+journal_behind : (first mid new : List Point) (harts more : List ℕ) → mid ≡ first ++ turns harts → new ≡ mid ++ turns more
+    → new ≡ first ++ turns (harts ++ more)
 journal_behind first mid new harts more before is =
     is ∙ ap (λ (j : List Point). j ++ turns more) before ∙ append_assoc first (turns harts) (turns more)
     ∙ ap (λ (j : List Point). first ++ j) (sym (turns-append harts more))

@@ -73,7 +73,7 @@ dcsr_thin d small =
     omega arith
 
 -- dcsr is read by its lower word
-thin_as : (x : Hart) (held word : ℕ) → debug_value x dcsr_number ≡ Some held → (held < 2 ^ 32 → word ≡ held) → word ≡ dcsr_value x.debug
+pub thin_as : (x : Hart) (held word : ℕ) → debug_value x dcsr_number ≡ Some held → (held < 2 ^ 32 → word ≡ held) → word ≡ dcsr_value x.debug
 thin_as x held word is value_is =
     let same : held ≡ dcsr_value x.debug = same_Some held (dcsr_value x.debug) (sym is ∙ dcsr_held x) in
     value_is (subst (λ n. n < 2 ^ 32) (sym same) (dcsr_thin (dcsr_of x.debug) (small_shown x.debug.halted))) ∙ same

@@ -8,6 +8,7 @@ pub mod BusRuns
 pub mod BusStoreStreams
 pub mod BusStreams
 pub mod CommandRuns
+pub mod DcsrRuns
 pub mod Cuts
 pub mod AskedRuns
 pub mod ElementRuns

@@ -9,7 +9,8 @@ use Rattle.probe_run.specs.declared.fault.RunFault.{RunFault}
 use Rattle.probe_run.specs.declared.fault.RunFault.TheVariants as run_fault
 use Rattle.probe_run.specs.Acts.{Tells}
 use Rattle.probe_run.specs.Outcomes.{StepFails, SteppedBy}
-use Rattle.probe_access.specs.RegisterRuns.{ReadFailed, RegisterRead, RegisterWritten, WriteFailed}
+use Rattle.probe_access.specs.DcsrRuns.{DcsrRead, DcsrReadFailed}
+use Rattle.probe_access.specs.RegisterRuns.{RegisterWritten, WriteFailed}
 use Rattle.rv_model.specs.DebugRegisters.{dcsr_number}
 
 -- a word of dcsr with its step flag and stepie so, and its other fields as they were
@@ -27,12 +28,12 @@ FlagFailed on word old_count new_count old new e = WriteFailed dcsr_number (with
 pub record FlagCleared (old new : Tells) : Type 0 where
   pub word : ℕ
   pub mid : Tells
-  pub read : RegisterRead dcsr_number word old mid
+  pub read : DcsrRead word old mid
   pub written : FlagWritten false word mid new
 
 pub data ClearFailed (old_count new_count : ℕ) (old new : Tells) (e : AccessFault) : Type 0 where
-  at_read : ReadFailed dcsr_number old_count new_count old new e → ClearFailed old_count new_count old new e
-  at_write : (word : ℕ) (mid : Tells) → RegisterRead dcsr_number word old mid → FlagFailed false word old_count new_count mid new e
+  at_read : DcsrReadFailed old_count new_count old new e → ClearFailed old_count new_count old new e
+  at_write : (word : ℕ) (mid : Tells) → DcsrRead word old mid → FlagFailed false word old_count new_count mid new e
       → ClearFailed old_count new_count old new e
 
 -- a fault of run control among those of accesses: one of the link is the same here as there
@@ -63,10 +64,10 @@ pub data StepFromFailed (h word old_count new_count : ℕ) (old new : Tells) (e 
 pub record SteppedOnce (h : ℕ) (old new : Tells) : Type 0 where
   pub word : ℕ
   pub mid : Tells
-  pub read : RegisterRead dcsr_number word old mid
+  pub read : DcsrRead word old mid
   pub steps : SteppedFrom h word mid new
 
 pub data StepFailed (h old_count new_count : ℕ) (old new : Tells) (e : AccessFault) : Type 0 where
-  at_read : ReadFailed dcsr_number old_count new_count old new e → StepFailed h old_count new_count old new e
-  behind : (word : ℕ) (mid : Tells) → RegisterRead dcsr_number word old mid → StepFromFailed h word old_count new_count mid new e
+  at_read : DcsrReadFailed old_count new_count old new e → StepFailed h old_count new_count old new e
+  behind : (word : ℕ) (mid : Tells) → DcsrRead word old mid → StepFromFailed h word old_count new_count mid new e
       → StepFailed h old_count new_count old new e

@@ -17,6 +17,7 @@ mod bus_streams;
 #[cfg(test)]
 mod bus_tests;
 mod commands;
+mod dcsr;
 mod doubles;
 mod elements;
 mod fault;

@@ -94,35 +94,22 @@ const NO_DCSR: Fault = Fault::Access(AccessFault::Register(0x7b0));
 const ODDLY: Fault = Fault::Access(AccessFault::Odd(OddStatus::Abstractcs(UNSUPPORTED)));
 
 /// A step whose first Look sees the hart halted again, and one whose third does.
-const AT_ONCE: [u32; 9] = [
-    0,
-    0x4000_0143,
-    IDLE,
-    IDLE,
-    STEPPED,
-    0,
-    0x4000_0907,
-    IDLE,
-    IDLE,
-];
+const AT_ONCE: [u32; 7] = [0x4000_0143, IDLE, IDLE, STEPPED, 0x4000_0907, IDLE, IDLE];
 
-const LATER: [u32; 11] = [
-    0,
+const LATER: [u32; 9] = [
     0x4000_0143,
     IDLE,
     IDLE,
     0x000c_0c83,
     0x000f_0c83,
     STEPPED,
-    0,
     7,
     IDLE,
     IDLE,
 ];
 
-/// The first words of `dcsr` come too early: a command is under way and `cmderr` is 1, and then the end. Behind the clearing they come again.
-const TOO_EARLY: [u32; 14] = [
-    0xffff_ffff,
+/// The word of `dcsr` comes too early: a command is under way and `cmderr` is 1, and then the end. Behind the clearing both data words are read.
+const TOO_EARLY: [u32; 12] = [
     0xffff_ffff,
     EARLY_BUSY,
     EARLY_BUSY,
@@ -132,7 +119,6 @@ const TOO_EARLY: [u32; 14] = [
     0,
     IDLE,
     STEPPED,
-    0,
     0x4000_0907,
     IDLE,
     IDLE,
@@ -153,18 +139,20 @@ fn step_once<D: Dmi>(link: &mut D) -> Result<u16, Fault>
 
 #[test]
 fn steps(rt: HostRuntime) {
-    let cases: [(&[u32], Result<u16, Fault>); 8] = [
+    let cases: [(&[u32], Result<u16, Fault>); 10] = [
         (&AT_ONCE, Ok(1)),
         (&LATER, Ok(1)),
         (&TOO_EARLY, Ok(1)),
-        (&[0, 0, EXCEPTION, EXCEPTION], Err(NO_DCSR)),
-        (&[0, 7, IDLE, EXCEPTION], Err(NO_DCSR)),
-        (&[0, 7, IDLE, IDLE], Err(Fault::Access(ENDED))),
+        (&[0, EXCEPTION, EXCEPTION], Err(NO_DCSR)),
+        (&[7, IDLE, EXCEPTION], Err(NO_DCSR)),
+        (&[7, IDLE, IDLE], Err(Fault::Access(ENDED))),
         (
-            &[0, 7, IDLE, IDLE, STEPPED, 0, 0, UNSUPPORTED, UNSUPPORTED],
+            &[7, IDLE, IDLE, STEPPED, 0, UNSUPPORTED, UNSUPPORTED],
             Err(ODDLY),
         ),
-        (&[0, 7, UNSUPPORTED], Err(Fault::Access(ENDED))),
+        (&[7, IDLE, IDLE, STEPPED, 7, IDLE, UNSUPPORTED], Err(ODDLY)),
+        (&[7, IDLE, IDLE, STEPPED, 7, IDLE, EXCEPTION], Err(NO_DCSR)),
+        (&[7, UNSUPPORTED], Err(Fault::Access(ENDED))),
     ];
     for (words, wanted) in cases {
         let mut link = opened(words);

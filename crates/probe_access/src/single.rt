@@ -9,8 +9,9 @@ ghost use Rattle.probe_run.specs.Told.{Fails, OnChip, told};
 ghost use Rattle.probe_access.specs.Faults.{access_why};
 ghost use Rattle.probe_run.specs.Told.{Serving};
 
+use crate::dcsr::read_dcsr;
 use crate::fault::AccessFault;
-use crate::registers::{reg, set_reg};
+use crate::registers::set_reg;
 use debug_model::Dmi;
 use probe_run::Halted;
 use rv_model::{Dcsr, register_number};
@@ -59,7 +60,7 @@ fn clear_flag<D: Dmi>(link: &mut D, halted: &Halted) -> Result<(), AccessFault>
     ensures serving { OnOk result (Serving halted.now.number (D.seen link.new).far) }
     ensures keeps { Keeps access_why (D.seen link.old) (D.seen link.new) result }
 {
-    let word = reg(link, halted, register_number::DCSR)?;
+    let word = read_dcsr(link, halted)?;
     set_flag(link, halted, word, false)?;
     Ok(())
 }
@@ -99,7 +100,7 @@ pub fn step<D: Dmi>(link: &mut D, halted: Halted) -> Result<Halted, AccessFault>
     ensures serving { OnOk result (Serving halted.number (D.seen link.new).far) }
     ensures keeps { Keeps access_why (D.seen link.old) (D.seen link.new) result }
 {
-    let word = reg(link, &halted, register_number::DCSR)?;
+    let word = read_dcsr(link, &halted)?;
     let again = step_from(link, halted, word)?;
     Ok(again)
 }

@@ -9,6 +9,7 @@ use Rattle.probe_access.specs.BlockRuns.{Causes}
 use Rattle.probe_access.specs.BusBlockRuns.{BusCauses}
 use Rattle.probe_access.specs.CommandRuns.{CommandFailed, EndBehindFailed}
 use Rattle.probe_access.specs.Faults.{BrokeIn}
+use Rattle.probe_access.specs.DcsrRuns.{DcsrReadFailed}
 use Rattle.probe_access.specs.RegisterRuns.{ReadFailed, WriteFailed, ReadApartFailed, ReadApartFailedAt}
 use Rattle.probe_access.specs.StepRuns.{ClearFailed, StepFailed, StepFromFailed, of_run, with_flag}
 use Rattle.probe_access.specs.Stops.{StopApartFailed, StopFailed, dpc_number}
@@ -126,9 +127,14 @@ by_run (run_fault.Dmi why) old_count new_count told w = w
 by_run (run_fault.NoHalt looks) old_count new_count told w = tt
 by_run (run_fault.NoAck looks) old_count new_count told w = tt
 
+dcsr_wire : (e : AccessFault) (old_count new_count : ℕ) (old new : Tells) → DcsrReadFailed old_count new_count old new e
+    → AccessWire old_count new_count new.far e
+dcsr_wire e old_count new_count old new (DcsrReadFailed.asking f) = behind_wire e _ _ _ old_count new_count old new f
+dcsr_wire e old_count new_count old new (DcsrReadFailed.late mid early f) = apart_wire e dcsr_number old_count new_count mid new f
+
 clear_wire : (e : AccessFault) (old_count new_count : ℕ) (old new : Tells) → ClearFailed old_count new_count old new e
     → AccessWire old_count new_count new.far e
-clear_wire e old_count new_count old new (ClearFailed.at_read f) = read_wire e dcsr_number old_count new_count old new f
+clear_wire e old_count new_count old new (ClearFailed.at_read f) = dcsr_wire e old_count new_count old new f
 clear_wire e old_count new_count old new (ClearFailed.at_write word mid r f) = write_wire e dcsr_number (with_flag false word) old_count new_count mid new f
 
 pub step_from_wire : (e : AccessFault) (h word old_count new_count : ℕ) (old new : Tells) → StepFromFailed h word old_count new_count old new e
@@ -140,7 +146,7 @@ step_from_wire e h word old_count new_count old new (StepFromFailed.in_clear beg
 
 pub single_step_wire : (e : AccessFault) (h old_count new_count : ℕ) (old new : Tells) → StepFailed h old_count new_count old new e
     → AccessWire old_count new_count new.far e
-single_step_wire e h old_count new_count old new (StepFailed.at_read f) = read_wire e dcsr_number old_count new_count old new f
+single_step_wire e h old_count new_count old new (StepFailed.at_read f) = dcsr_wire e old_count new_count old new f
 single_step_wire e h old_count new_count old new (StepFailed.behind word mid read f) = step_from_wire e h word old_count new_count mid new f
 
 back_wire : (e : AccessFault) (h old_count new_count : ℕ) (old new : Tells) → BackFailed h old_count new_count old new e

@@ -251,7 +251,7 @@ fn a_hart_goes_by_its_hits_and_the_cause(rt: HostRuntime) {
             IDLE, FREE, 0, IDLE, // slot 2
             IDLE, FREE, 0, IDLE, // slot 3
             IDLE, // tselect
-            0, BEFORE, IDLE, IDLE, BACK, 0, dcsr, IDLE, IDLE, // the step
+            BEFORE, IDLE, IDLE, BACK, dcsr, IDLE, IDLE, // the step
             0, dcsr, IDLE, // its cause
             0, 0, IDLE, // tselect
             IDLE, ADDRESS, HELD, IDLE, IDLE, // slot 0 is put back
@@ -261,7 +261,7 @@ fn a_hart_goes_by_its_hits_and_the_cause(rt: HostRuntime) {
             IDLE, // tselect
             GONE,
         ];
-        let stepped = &words[..54];
+        let stepped = &words[..52];
         check(&rt, Call::Over, stepped, Ok(Answer::Done));
         if wanted == Answer::Stopped {
             check(&rt, Call::Go, stepped, Ok(wanted));

@@ -1,6 +1,5 @@
 -- Faults in the course of stepping over and of letting go.
 use Rattle.std.proofs.Common.{◌≤◌, ◌++◌, ℕ, Bool, true, false, List, [], ◌∷◌, map, Option}
-use Rattle.rv_model.specs.DebugRegisters.{dcsr_number}
 use Rattle.debug_model.specs.Addresses.{dmcontrol_address, dmstatus_address}
 use Rattle.debug_model.specs.declared.dmi.DmiFault.{DmiFault}
 use Rattle.debug_model.specs.declared.dmi_op.DmiOp.TheVariants.{Read, Write}
@@ -13,7 +12,7 @@ use Rattle.probe_access.specs.Scratches.{ScratchLeft}
 use Rattle.probe_access.specs.SingleSteps.{StepLeft}
 use Rattle.probe_access.specs.StepRuns.{StepFailed, of_run}
 use Rattle.probe_access.specs.StepRuns.StepFailed.{at_read, behind}
-use Rattle.probe_access.proofs.Counted.{read_counted}
+use Rattle.probe_access.proofs.DcsrCalls.{dcsr_counted}
 use Rattle.probe_access.proofs.StepClauses.{from_counted}
 use Rattle.probe_run.specs.declared.control.Request.TheVariants.{Resume}
 use Rattle.probe_run.specs.declared.fault.RunFault.{RunFault}
@@ -39,7 +38,7 @@ use Rattle.probe_trig.proofs.TransferLemmas.{attempt_counted}
 
 pub step_counted : (h count mid_count new_count : ℕ) (old new : Tells) (e : AccessFault) → count ≤ mid_count → mid_count ≤ new_count
     → StepFailed h mid_count new_count old new e → StepFailed h count new_count old new e
-step_counted h count mid_count new_count old new e le later (at_read f) = at_read (read_counted dcsr_number count mid_count new_count old new e le later f)
+step_counted h count mid_count new_count old new e le later (at_read f) = at_read (dcsr_counted count mid_count new_count old new e le later f)
 step_counted h count mid_count new_count old new e le later (behind word mid r f) =
     behind word mid r (from_counted h word count mid_count new_count mid new e le later f)
 

@@ -4,15 +4,13 @@ use Rattle.probe_access.specs.StepRuns.{with_flag}
 use Rattle.probe_access.specs.StepRuns.ClearFailed.{at_read, at_write}
 use Rattle.probe_access.proofs.Counted.{write_counted}
 use Rattle.probe_access.proofs.RegisterCalls.{err_failed}
-use Rattle.probe_access.proofs.StepLemmas.{never_refused, read_keeps}
+use Rattle.probe_access.proofs.StepLemmas.{read_keeps}
 use Rattle.probe_access.proofs.StepReads.{clearing_read_cut, clearing_write_cut, read_flagged, scratch_read, still_reads}
-use Rattle.probe_access.proofs.StopClauses.{reads_dcsr}
 use Rattle.probe_access.proofs.single.clear_flag.Goals as goal
 
 pub returns-in_err-word-clause-left : goal.returns-in_err-word-clause-left
 returns-in_err-word-clause-left g c =
-    err_failed c.from_residual.result c.in_err-word.field-0.0 _ c.from_residual.ensures.1
-    (never_refused false c.args.halted.now.number dcsr_number _ _ c.in_err-word.field-0.0 reads_dcsr c.in_err-word.ensures.left)
+    err_failed c.from_residual.result c.in_err-word.field-0.0 _ c.from_residual.ensures.1 c.in_err-word.ensures.left
 
 pub returns-in_err-word-clause-failed : goal.returns-in_err-word-clause-failed
 returns-in_err-word-clause-failed g c =
@@ -37,7 +35,7 @@ pub returns-in_err-set_flag-clause-failed : goal.returns-in_err-set_flag-clause-
 returns-in_err-set_flag-clause-failed g c =
     err_failed c.from_residual-in_err-set_flag.result c.in_err-set_flag.field-0.0 _ c.from_residual-in_err-set_flag.ensures.1
     (at_write c.in_ok-word.word _ c.in_ok-word.ensures.read
-    (write_counted dcsr_number (with_flag false c.in_ok-word.word) _ _ _ _ _ c.in_err-set_flag.field-0.0 c.reg.ensures.keeps.later
+    (write_counted dcsr_number (with_flag false c.in_ok-word.word) _ _ _ _ _ c.in_err-set_flag.field-0.0 c.read_dcsr.ensures.keeps.later
     c.set_flag.ensures.keeps.later c.in_err-set_flag.ensures.failed))
 
 pub returns-in_err-set_flag-clause-cut : goal.returns-in_err-set_flag-clause-cut

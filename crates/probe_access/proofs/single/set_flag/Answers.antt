@@ -44,7 +44,8 @@ pub returns-in_err-set_reg-clause-cut : goal.returns-in_err-set_reg-clause-cut
 returns-in_err-set_reg-clause-cut g c =
     err_failed c.from_residual.result c.in_err-set_reg.field-0.0 _ c.from_residual.ensures.1
     (flag_cut c.args.on c.args.halted.now.number c.args.word _ _ c.in_err-set_reg.field-0.0 c.requires.ebreakm
-    (cut_as c.args.on c.args.halted.now.number c.args.word c.flagged-value.result _ _ c.in_err-set_reg.field-0.0 c.flagged-value.ensures c.in_err-set_reg.ensures.cut))
+    (cut_as c.args.on c.args.halted.now.number c.args.word c.flagged-value.result _ _ c.in_err-set_reg.field-0.0 c.flagged-value.ensures
+    c.in_err-set_reg.ensures.cut))
 
 pub returns-clause-flagged_at : goal.returns-clause-flagged_at
 returns-clause-flagged_at g c =

@@ -1,18 +1,14 @@
-use Rattle.std.proofs.Common.{false}
-use Rattle.rv_model.specs.DebugRegisters.{dcsr_number}
 use Rattle.probe_access.specs.StepRuns.StepFailed.{at_read, behind}
 use Rattle.probe_access.proofs.RegisterCalls.{err_failed}
 use Rattle.probe_access.proofs.StepClauses.{flag_left, from_counted}
-use Rattle.probe_access.proofs.StepLemmas.{never_refused}
 use Rattle.probe_access.proofs.StepReads.{read_left, read_step, read_step_cut, reading_cut, still_reads}
-use Rattle.probe_access.proofs.StopClauses.{reads_dcsr}
 use Rattle.probe_access.proofs.single.step.Goals as goal
 
 pub returns-in_err-word-clause-left : goal.returns-in_err-word-clause-left
 returns-in_err-word-clause-left g c =
     err_failed c.from_residual.result c.in_err-word.field-0.0 _ c.from_residual.ensures.1
     (flag_left c.args.halted.number _ _ _ c.in_err-word.field-0.0 (λ none. none)
-    (never_refused false c.args.halted.number dcsr_number _ _ c.in_err-word.field-0.0 reads_dcsr c.in_err-word.ensures.left))
+    c.in_err-word.ensures.left)
 
 pub returns-in_err-word-clause-failed : goal.returns-in_err-word-clause-failed
 returns-in_err-word-clause-failed g c =
@@ -36,7 +32,7 @@ pub returns-in_err-again-clause-failed : goal.returns-in_err-again-clause-failed
 returns-in_err-again-clause-failed g c =
     err_failed c.from_residual-in_err-again.result c.in_err-again.field-0.0 _ c.from_residual-in_err-again.ensures.1
     (behind c.in_ok-word.word _ c.in_ok-word.ensures.read
-    (from_counted c.args.halted.number c.in_ok-word.word _ _ _ _ _ c.in_err-again.field-0.0 c.reg.ensures.keeps.later c.step_from.ensures.keeps.later
+    (from_counted c.args.halted.number c.in_ok-word.word _ _ _ _ _ c.in_err-again.field-0.0 c.read_dcsr.ensures.keeps.later c.step_from.ensures.keeps.later
     c.in_err-again.ensures.failed))
 
 pub returns-in_err-again-clause-cut : goal.returns-in_err-again-clause-cut
