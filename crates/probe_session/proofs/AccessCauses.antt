@@ -135,7 +135,7 @@ step_from_wire e h word old_count new_count old new (StepFromFailed.in_run begun
 step_from_wire e h word old_count new_count old new (StepFromFailed.in_clear begun ran sets runs f) =
     write_wire e dcsr_number (with_flag false word) old_count new_count ran new f
 
-pub single_step_wire : (e : AccessFault) (h old_count new_count : ℕ) (old new : Tells) → StepFailed h old_count new_count old new e
+single_step_wire : (e : AccessFault) (h old_count new_count : ℕ) (old new : Tells) → StepFailed h old_count new_count old new e
     → AccessWire old_count new_count new.far e
 single_step_wire e h old_count new_count old new (StepFailed.at_read (DcsrReadFailed.asking f)) = behind_wire e _ _ _ old_count new_count old new f
 single_step_wire e h old_count new_count old new (StepFailed.at_read (DcsrReadFailed.late mid early f)) =
