@@ -54,7 +54,7 @@ flag_written on x word same =
 
 -- ---- a hart that was changed while turns passed it by
 
-passed_rewrote : (f : Hart → Hart) (h : ℕ) (x : Hart) (s t : Site) → slice_get s.board.harts h ≡ Some x → Frozen x → TurnsPassedBut h (f x) s t
+pub passed_rewrote : (f : Hart → Hart) (h : ℕ) (x : Hart) (s t : Site) → slice_get s.board.harts h ≡ Some x → Frozen x → TurnsPassedBut h (f x) s t
     → Rewrote f h (target_of s) (target_of t)
 passed_rewrote f h x s t here frozen p = record {
   harts = p.harts;

@@ -50,8 +50,8 @@ fault_left p old_count new_count old new f (Fault.halt {h} next fell) m o lines 
 fault_left p old_count new_count old new f (Fault.resuming {h} next fell) m o lines a = resume_fell h m o next lines old_count new_count old new f fell a
 fault_left p old_count new_count old new f (Fault.stepping_over {h} stepped other fell) m o lines a =
     over_fell h m o stepped other lines old_count new_count old new f fell a
-fault_left p old_count new_count old new f (Fault.stepping {h} stepped other fell) m o lines a =
-    step_fell h m o stepped other lines old_count new_count old new f fell a
+fault_left p old_count new_count old new f (Fault.stepping {h} {word} stepped other got fell) m o lines a =
+    step_fell h word m o stepped other lines old_count new_count old new f fell a
 fault_left p old_count new_count old new f (Fault.asking {h} {number} fell) m o lines a =
     asked_fell h number m p.hart p.way o p.plan lines old_count new_count old new f fell a
 fault_left p old_count new_count old new f (Fault.reading {h} {number} fell of) m o lines a =

@@ -53,16 +53,18 @@ maybe_hit h word p not_step got = went_one (λ k. finds_maybe_hit got not_step)
 abbrev one_plan : ℕ → Branches → Plan
 one_plan h b = one h b.whole b.other
 
-pub once : (h word : ℕ) {t u v : Tells} → shows_step word ≡ true → Got h dcsr_number word t u → StepMade h u v → Went (at_one h) (behind_one h) [] t v
-once h word whole got made = went_then (none_hit h word (one_plan h) whole got) (went_one (λ b. steps b.whole b.other made))
+pub once : (h word : ℕ) {t u v : Tells} → shows_step word ≡ true → Got h dcsr_number word t u → StepMade h word u v
+    → Went (at_one h) (behind_one h) [] t v
+once h word whole got made = went_then (none_hit h word (one_plan h) whole got) (went_one (λ b. steps b.whole b.other got made))
 
 pub once_over : (h word : ℕ) {t u v : Tells} → shows_step word ≡ false → Got h dcsr_number word t u → StepOverMade h u v
     → Went (at_one h) (behind_one h) [] t v
 once_over h word not_step got made = went_then (maybe_hit h word (one_plan h) not_step got) (went_one (λ b. steps_over b.whole b.other made))
 
 pub once_falls : (h word : ℕ) {old_count mid_count new_count : ℕ} {t u v : Tells} {f : Failure} → shows_step word ≡ true → Got h dcsr_number word t u
-    → old_count ≤ mid_count → StepFell h mid_count new_count u v f → Falls (at_one h) [] old_count new_count t v f
-once_falls h word whole got le fell = falls_then (none_hit h word (one_plan h) whole got) le (falls_at (λ b. Fault.stepping b.whole b.other fell))
+    → old_count ≤ mid_count → StepFell h word mid_count new_count u v f → Falls (at_one h) [] old_count new_count t v f
+once_falls h word whole got le fell =
+    falls_then (none_hit h word (one_plan h) whole got) le (falls_at (λ b. Fault.stepping b.whole b.other got fell))
 
 pub once_over_falls : (h word : ℕ) {old_count mid_count new_count : ℕ} {t u v : Tells} {f : Failure} → shows_step word ≡ false → Got h dcsr_number word t u
     → old_count ≤ mid_count → StepOverFell h mid_count new_count u v f → Falls (at_one h) [] old_count new_count t v f
@@ -80,16 +82,20 @@ pub record Stepping (h more done : ℕ) (t u : Tells) : Type 0 where
 pub stepping_none : (h more : ℕ) (t : Tells) → Stepping h more 0 t t
 stepping_none h more t = record { left = more; all = omega arith; went = went_none }
 
--- the step was a whole one, and there is a next one
-pub record Next (h more done : ℕ) (t u : Tells) : Type 0 where
+-- dcsr was read as this word, the step was a whole one, and there is a next one
+pub record Next (h more done word : ℕ) (t u : Tells) : Type 0 where
+  pub before : Tells
+  pub got : Got h dcsr_number word before u
   pub left : ℕ
   pub all : done + 1 + left ≡ more
   pub went : Went (behind_first more h) (λ next. ready h (one h (stepped left h next) (stop_line h next))) [] t u
 
 next_by : (h more done left word : ℕ) {t u v : Tells} → done < more → done + left ≡ more → Went (behind_first more h) (behind_first left h) [] t u
-    → shows_step word ≡ true → Got h dcsr_number word u v → Next h more done t v
+    → shows_step word ≡ true → Got h dcsr_number word u v → Next h more done word t v
 next_by h more done zero word below all w whole got = absurd (omega arith)
-next_by h more done (suc n) word below all w whole got = record {
+next_by h more done (suc n) word {u = u} below all w whole got = record {
+  before = u;
+  got = got;
   left = n;
   all = omega arith;
   went = went_then w (went_then (went_one (λ next. finds_step (stepped (suc n) h next) (stop_line h next) got whole))
@@ -97,19 +103,19 @@ next_by h more done (suc n) word below all w whole got = record {
 }
 
 pub next_step : (h more done word : ℕ) {t u v : Tells} → done < more → Stepping h more done t u → shows_step word ≡ true → Got h dcsr_number word u v
-    → Next h more done t v
+    → Next h more done word t v
 next_step h more done word below s whole got = next_by h more done s.left word below s.all s.went whole got
 
-pub stepped_next : (h more done : ℕ) {t u v : Tells} → Next h more done t u → StepMade h u v → Stepping h more (done + 1) t v
-stepped_next h more done n made = record {
+pub stepped_next : (h more done word : ℕ) {t u v : Tells} → Next h more done word t u → StepMade h word u v → Stepping h more (done + 1) t v
+stepped_next h more done word n made = record {
   left = n.left;
   all = n.all;
-  went = went_then n.went (went_one (λ next. steps (stepped n.left h next) (stop_line h next) made));
+  went = went_then n.went (went_one (λ next. steps (stepped n.left h next) (stop_line h next) n.got made));
 }
 
-pub next_falls : (h more done : ℕ) {old_count mid_count new_count : ℕ} {t u v : Tells} {f : Failure} → Next h more done t u → old_count ≤ mid_count
-    → StepFell h mid_count new_count u v f → Falls (behind_first more h) [] old_count new_count t v f
-next_falls h more done n le fell = falls_then n.went le (falls_at (λ next. Fault.stepping (stepped n.left h next) (stop_line h next) fell))
+pub next_falls : (h more done word : ℕ) {old_count mid_count new_count : ℕ} {t u v : Tells} {f : Failure} → Next h more done word t u
+    → old_count ≤ mid_count → StepFell h word mid_count new_count u v f → Falls (behind_first more h) [] old_count new_count t v f
+next_falls h more done word n le fell = falls_then n.went le (falls_at (λ next. Fault.stepping (stepped n.left h next) (stop_line h next) n.got fell))
 
 pub found_falls : (h more done : ℕ) {old_count mid_count new_count : ℕ} {t u v : Tells} {f : Failure} → Stepping h more done t u → old_count ≤ mid_count
     → ReadFell h dcsr_number mid_count new_count u v f → Falls (behind_first more h) [] old_count new_count t v f
@@ -231,9 +237,9 @@ read_fell_at {x} {h} {number} {old_count} {new_count} {u} {v} {f} is p = subst (
 pub got_at : {x h number value : ℕ} {u v : Tells} → x ≡ h → Got x number value u v → Got h number value u v
 got_at {x} {h} {number} {value} {u} {v} is p = subst (λ n. Got n number value u v) is p
 
-pub made_at : {x h : ℕ} {u v : Tells} → x ≡ h → StepMade x u v → StepMade h u v
-made_at {x} {h} {u} {v} is p = subst (λ n. StepMade n u v) is p
+pub made_at : {x h word : ℕ} {u v : Tells} → x ≡ h → StepMade x word u v → StepMade h word u v
+made_at {x} {h} {word} {u} {v} is p = subst (λ n. StepMade n word u v) is p
 
-pub step_fell_at : {x h old_count new_count : ℕ} {u v : Tells} {f : Failure} → x ≡ h → StepFell x old_count new_count u v f
-    → StepFell h old_count new_count u v f
-step_fell_at {x} {h} {old_count} {new_count} {u} {v} {f} is p = subst (λ n. StepFell n old_count new_count u v f) is p
+pub step_fell_at : {x h word old_count new_count : ℕ} {u v : Tells} {f : Failure} → x ≡ h → StepFell x word old_count new_count u v f
+    → StepFell h word old_count new_count u v f
+step_fell_at {x} {h} {word} {old_count} {new_count} {u} {v} {f} is p = subst (λ n. StepFell n word old_count new_count u v f) is p

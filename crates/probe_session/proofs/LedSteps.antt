@@ -165,9 +165,9 @@ step_leads from to old new said (Step.finds_maybe_hit {h} {word} {p} got not_ste
     (λ n. At m h Still o p lines (target_at n)) old.far new.far
     (λ c d l. at_far m h Still o p lines l.far _ l.is (deals_went_on m h Still o p lines (target_of (site_of c)) (target_of (site_of l.far)) d
     (went_by (site_of c) (site_of l.far) l.passed))) got.told a)
-step_leads from to old new said (Step.steps {h} stepped other made) m o lines a =
+step_leads from to old new said (Step.steps {h} {word} stepped other got made) m o lines a =
     none_said m o to lines new.far (at_harts_so (OverAt h) m h h Still Still o (one h stepped other) (behind_step h stepped other) lines old.far new.far
-    (λ x y l d. over_deals m h o stepped other lines x y l d) (made_over m h o (one h stepped other) lines old new made a)
+    (λ x y l d. over_deals m h o stepped other lines x y l d) (made_over m h word o (one h stepped other) lines old new made a)
     (still_at m h o (one h stepped other) lines (target_at old.far) a))
 step_leads from to old new said (Step.holds_none {h} held free {t}) m o lines a =
     none_said m o to lines new.far (kept m m Ready Ready h h o _ free lines lines (target_at t.far) (λ x d. holds_none_deals m h o held free lines x d) a)

@@ -56,7 +56,8 @@ pub data Fault : Place → ℕ → ℕ → Tells → Tells → Failure → Type 
       → Fault (ready h (going h next)) old_count new_count old new f
   stepping_over : {h old_count new_count : ℕ} (stepped other : Plan) {old new : Tells} {f : Failure} → StepOverFell h old_count new_count old new f
       → Fault (still h (one h stepped other)) old_count new_count old new f
-  stepping : {h old_count new_count : ℕ} (stepped other : Plan) {old new : Tells} {f : Failure} → StepFell h old_count new_count old new f
+  stepping : {h word old_count new_count : ℕ} (stepped other : Plan) {before old new : Tells} {f : Failure} → Got h dcsr_number word before old
+      → StepFell h word old_count new_count old new f
       → Fault (ready h (one h stepped other)) old_count new_count old new f
   asking : {h number old_count new_count : ℕ} {p : Plan} {old new : Tells} {f : Failure} → AskFell h number old_count new_count old new f
       → Fault (still h p) old_count new_count old new f

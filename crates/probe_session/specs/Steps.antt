@@ -96,7 +96,8 @@ pub data Step : Place → Tells → List Line → Place → Tells → Type 0 whe
       → Step (still h p) old [] (ready h p) new
   finds_maybe_hit : {h word : ℕ} {p : Plan} {old new : Tells} → Got h dcsr_number word old new → shows_step word ≡ false
       → Step (still h p) old [] (still h p) new
-  steps : {h : ℕ} (stepped other : Plan) {old new : Tells} → StepMade h old new
+  -- dcsr was read in front of it, and the step is from its word on
+  steps : {h word : ℕ} (stepped other : Plan) {before old new : Tells} → Got h dcsr_number word before old → StepMade h word old new
       → Step (ready h (one h stepped other)) old [] (still h (behind_step h stepped other)) new
   holds_none : {h : ℕ} (held free : Plan) {t : Tells} → Step (ready h (see (λ b. if any_hit (slots_at h b) then held else free))) t [] (ready h free) t
   ends_either_way : {h : ℕ} {p : Plan} {t : Tells} → Step (still h (behind_step h p p)) t [] (still h p) t

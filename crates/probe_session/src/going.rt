@@ -34,7 +34,7 @@ fn step_once<D: Dmi>(link: &mut D, halted: Halted) -> Result<Halted, Failure>
 {
     let word = reg(link, &halted, register_number::DCSR)?;
     if shows_step(word) {
-        step(link, halted)
+        step(link, halted, word)
     } else {
         step_over(link, halted)
     }
@@ -54,7 +54,7 @@ fn more_steps_line<D: Dmi>(link: &mut D, halted: Halted, more: u16) -> Result<Li
         if !shows_step(word) {
             return stop_line(link, &now);
         }
-        now = step(link, now)?;
+        now = step(link, now, word)?;
     }
     stop_line(link, &now)
 }

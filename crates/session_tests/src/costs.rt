@@ -25,12 +25,12 @@ const SCAN_RISES: u64 = 46;
 /// A Look, which is two operations in one call, and a register.
 const REGISTER_SCANS: u64 = 3 + 5;
 
-/// A Look; `dcsr`; a step, which reads and writes `dcsr`, asks the hart with the first Look, and reads and writes `dcsr` again; and for the line `dpc` and
-/// `dcsr` in one call of six operations.
-const STEP_SCANS: u64 = 3 + 5 + (10 + 3 + 10) + 7;
+/// A Look; `dcsr`; a step from its word, which writes `dcsr`, asks the hart with the first Look, and writes `dcsr` again; and for the line `dpc` and `dcsr` in
+/// one call of six operations.
+const STEP_SCANS: u64 = 3 + 5 + (5 + 3 + 5) + 7;
 
-/// One step more of several: `dcsr`, and a step.
-const NEXT_STEP_SCANS: u64 = 5 + (10 + 3 + 10);
+/// One step more of several: `dcsr`, and a step from its word.
+const NEXT_STEP_SCANS: u64 = 5 + (5 + 3 + 5);
 
 /// A Look, `dcsr`, and the request with its first Look.
 const RESUME_SCANS: u64 = 3 + 5 + 3;

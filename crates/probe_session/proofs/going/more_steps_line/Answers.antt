@@ -1,4 +1,5 @@
 use Rattle.std.proofs.Common.{◌∙◌, refl, sym, subst, arith}
+use Rattle.probe_access.proofs.StepReads.{still_reads}
 use Rattle.probe_session.specs.Commands.{at_stop_line, ends_with}
 use Rattle.probe_session.specs.Links.{AttachedHalted}
 use Rattle.probe_session.specs.Said.{said_by}
@@ -38,7 +39,7 @@ returns-then-not-shows_step-clause-falls g c = err_then _ _ _
 pub returns-in_err-now-clause-falls : goal.returns-in_err-now-clause-falls
 returns-in_err-now-clause-falls g c =
     if_err _ c.in_err-now.field-0.0 _ c.from_residual-in_err-now.ensures.1
-    (next_falls c.args.halted.number c.args.more c.stepping._step
+    (next_falls c.args.halted.number c.args.more c.stepping._step _
     (next_step c.args.halted.number c.args.more c.stepping._step _ c.stepping-test.true c.stepping.invariant.steps
     (sym c.shows_step.ensures ∙ c.if-not-shows_step.false) (got_at c.stepping.invariant.same c.in_ok-word.ensures.got))
     (omega (arith, c.stepping.invariant.later, c.reg.ensures.keeps.later)) (step_fell_at c.stepping.invariant.same c.in_err-now.ensures.fell))
@@ -47,7 +48,7 @@ pub stepping-preserved : goal.stepping-preserved
 stepping-preserved g c = record {
   same = c.in_ok-now.ensures.hart ∙ c.stepping.invariant.same;
   serving = subst (λ n. AttachedHalted n (g.D.Dmi.seen c.step.new.link)) (sym c.in_ok-now.ensures.hart) c.in_ok-now.ensures.keeps.behind;
-  steps = stepped_next c.args.halted.number c.args.more c.stepping._step
+  steps = stepped_next c.args.halted.number c.args.more c.stepping._step _
       (next_step c.args.halted.number c.args.more c.stepping._step _ c.stepping-test.true c.stepping.invariant.steps
       (sym c.shows_step.ensures ∙ c.if-not-shows_step.false) (got_at c.stepping.invariant.same c.in_ok-word.ensures.got))
       (made_at c.stepping.invariant.same c.in_ok-now.ensures.made);
@@ -63,3 +64,7 @@ returns-clause-went g c = ok_then (λ line. ends_with (said_by line)) _ _
 pub returns-clause-falls : goal.returns-clause-falls
 returns-clause-falls g c = err_then _ _ _ (stepped_all c.args.halted.number c.args.more c.stepping._step (omega arith) c.stepping.invariant.steps)
     c.stepping.invariant.later (err_at at_stop_line _ _ _ _ _ c.stepping.invariant.same c.stop_line-2.ensures.falls)
+
+pub step-requires-clause-reads : goal.step-requires-clause-reads
+step-requires-clause-reads g c =
+    still_reads _ _ _ _ c.stepping.invariant.serving.serving.ready c.stepping.invariant.serving.serving.halted c.in_ok-word.ensures.got.told

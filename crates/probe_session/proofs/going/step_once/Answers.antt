@@ -1,5 +1,6 @@
 use Rattle.std.proofs.Common.{◌∙◌, sym}
 use Rattle.abstract_debugger.specs.Debugger.{one}
+use Rattle.probe_access.proofs.StepReads.{still_reads}
 use Rattle.probe_session.specs.Going.{Branches}
 use Rattle.probe_session.proofs.GoingLines.{on_ok_map, once, once_falls, once_over, once_over_falls, word_falls}
 use Rattle.probe_session.proofs.LinkLemmas.{if_err}
@@ -28,3 +29,7 @@ returns-else-shows_step-clause-falls g c = if_err_map _ _ _
     (λ f fell. once_over_falls c.args.halted.number _ (sym c.shows_step.ensures ∙ c.if-shows_step.false) c.in_ok-word.ensures.got
     c.reg.ensures.keeps.later fell)
     c.step_over.ensures.fell
+
+pub step-requires-clause-reads : goal.step-requires-clause-reads
+step-requires-clause-reads g c =
+    still_reads c.args.halted.number _ _ _ c.requires.serving.serving.ready c.requires.serving.serving.halted c.in_ok-word.ensures.got.told
