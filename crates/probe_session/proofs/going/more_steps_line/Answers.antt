@@ -4,7 +4,7 @@ use Rattle.probe_session.specs.Links.{AttachedHalted}
 use Rattle.probe_session.specs.Said.{said_by}
 use Rattle.probe_session.proofs.GoingLines.{err_at, found_falls, got_at, made_at, next_falls, next_step, ok_at, read_fell_at, step_fell_at}
 use Rattle.probe_session.proofs.GoingLines.{stepped_all, stepped_next, stepped_otherwise, stepping_none}
-use Rattle.probe_session.proofs.LinkLemmas.{if_err}
+use Rattle.probe_session.proofs.LinkLemmas.{goes_at, if_err}
 use Rattle.probe_session.proofs.OneLine.{err_then, ok_then}
 use Rattle.probe_session.proofs.going.more_steps_line.Goals as goal
 
@@ -63,3 +63,11 @@ returns-clause-went g c = ok_then (λ line. ends_with (said_by line)) _ _
 pub returns-clause-falls : goal.returns-clause-falls
 returns-clause-falls g c = err_then _ _ _ (stepped_all c.args.halted.number c.args.more c.stepping._step (omega arith) c.stepping.invariant.steps)
     c.stepping.invariant.later (err_at at_stop_line _ _ _ _ _ c.stepping.invariant.same c.stop_line-2.ensures.falls)
+
+pub returns-then-not-shows_step-clause-keeps : goal.returns-then-not-shows_step-clause-keeps
+returns-then-not-shows_step-clause-keeps g c =
+    goes_at c.stepping.invariant.same (omega (arith, c.stepping.invariant.later, c.reg.ensures.keeps.later))
+    (c.reg.ensures.keeps.fixed ∙ c.stepping.invariant.fixed) c.stop_line.ensures.keeps
+
+pub returns-clause-keeps : goal.returns-clause-keeps
+returns-clause-keeps g c = goes_at c.stepping.invariant.same c.stepping.invariant.later c.stepping.invariant.fixed c.stop_line-2.ensures.keeps
