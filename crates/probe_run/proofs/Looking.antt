@@ -24,15 +24,16 @@ use Rattle.probe_run.specs.Acts.{Did, Tells}
 use Rattle.probe_run.specs.Acts.Act.{Put}
 use Rattle.probe_run.specs.Happens.{IsAsSeen, Leaves, LeftBy, LooksAt, target_of}
 use Rattle.probe_run.specs.Looks.{look_act, seen_in}
-use Rattle.probe_run.specs.Outcomes.{FirstBroke, IsSeen, LookedAt, asks}
+use Rattle.probe_run.specs.Outcomes.{FirstBroke, IsSeen, LookedAgain, LookedAt, asks}
 use Rattle.probe_run.specs.Requests.{control_word}
+use Rattle.probe_run.specs.Waits.{LookBroke}
 use Rattle.probe_run.specs.Sites.{IsQuiet, TurnsAlone, spun}
 use Rattle.probe_run.proofs.Asking.{Stopped, Unasked, stopped_kept, unasked_kept}
 use Rattle.probe_run.proofs.Between.{Between, between_ready, between_spun, between_weaker, ready_between, stopped_unasked, there_turns}
 use Rattle.probe_run.proofs.FirstLooks.{first_outcome}
 use Rattle.probe_run.proofs.HartControl.{at_hart, halted_of, stopped_halted}
 use Rattle.probe_run.proofs.Runs.{cut_unit}
-use Rattle.probe_run.proofs.Calls.{HappenedCut, Holds, Outcome, did_outcome, outcome_holds, outcome_leaves, outcome_left}
+use Rattle.probe_run.proofs.Calls.{HappenedCut, Holds, Outcome, broke_outcome, did_outcome, holds_both, outcome_holds, outcome_leaves, outcome_left}
 use Rattle.probe_run.proofs.Moves.{CutAs, Reveals, Saw, cut_point, look_notes, saw, select_point, selected_in}
 use Rattle.probe_run.proofs.RanLemmas.{OperatedAt, Ran}
 use Rattle.probe_run.proofs.SiteLemmas.{AmidOperation, quiet_deeds, quiet_operation}
@@ -173,6 +174,14 @@ look_ran h word small s t ready (m, did, (e, looked, is)) =
     } in
     subst (λ x. LookRan h word s x) (sym is) r
 
+-- the same where the hart is selected already
+look_again_ran : (h word : ℕ) (s t : Site) → SiteReady s × (s.unit.hartsel ≡ h) → Ran (look_act word ∷ []) s t → LookRan h word s t
+look_again_ran h word s t (ready, sel) (e, looked, is) =
+    let b : Between Unasked h s = ready_between h s ready in
+    let l : Saw Unasked h (seen_in word) s e = saw h word Unasked Unasked s e unasked_kept unasked_kept b sel (reveals_none h (seen_in word)) looked in
+    let r : LookRan h word s e = record { looked = l.looked; known = known_at (seen_in word) h word s e refl b sel looked; unit = l.unit } in
+    subst (λ x. LookRan h word s x) (sym is) r
+
 known_ready : (h : ℕ) (t : Site) (now : Sight) → Known h t now → SiteReady t
 known_ready h t now (absent b) = between_ready h t b
 known_ready h t now (running ack b is) = between_ready h t b
@@ -180,25 +189,29 @@ known_ready h t now (halted ack b is) = between_ready h t (between_weaker Stoppe
 
 -- ---- at a told chip
 
-look_outcome : (h : ℕ) → h < 2 ^ 10 → (old new : Tells) (s : Seen) → IsReady old.far → (l : LookedAt h old new s) → Outcome (LookRan h l.word) old.far new.far
-look_outcome h small old new s ready l =
-    did_outcome (Put dmcontrol_address (control_word Nothing h) ∷ look_act l.word ∷ []) (LookRan h l.word) SiteReady old new ready
-    (λ x t r ran. look_ran h l.word small x t r ran) l.did
+pub look_outcome : (h word : ℕ) → h < 2 ^ 10 → (old new : Tells) → IsReady old.far → Did old (asks Nothing h ++ look_act word ∷ []) new
+    → Outcome (LookRan h word) old.far new.far
+look_outcome h word small old new ready did =
+    did_outcome (asks Nothing h ++ look_act word ∷ []) (LookRan h word) SiteReady old new ready (λ x t r ran. look_ran h word small x t r ran) did
 
-pub look_happened : (h : ℕ) → h < 2 ^ 10 → (old new : Tells) (s : Seen) → IsReady old.far → LookedAt h old new s
-    → WhereTold (Leaves (LooksAt h s) h) old.far new.far
-look_happened h small old new s ready l =
-    outcome_leaves (LooksAt h s) h (LookRan h l.word) old.far new.far
-    (λ x t r. record { happened = record { now = seen_in l.word; look = r.looked; is = l.shows }; unit = r.unit }) (look_outcome h small old new s ready l)
+pub look_again_outcome : (h word : ℕ) (old new : Tells) → IsReady old.far → Selects h old.far → Did old (look_act word ∷ []) new
+    → Outcome (LookRan h word) old.far new.far
+look_again_outcome h word old new ready selected did =
+    did_outcome (look_act word ∷ []) (LookRan h word) (λ x. SiteReady x × (x.unit.hartsel ≡ h)) old new
+    (holds_both SiteReady (λ x. x.unit.hartsel ≡ h) old.far ready selected) (λ x t r ran. look_again_ran h word x t r ran) did
 
-pub look_ready : (h : ℕ) → h < 2 ^ 10 → (old new : Tells) (s : Seen) → IsReady old.far → LookedAt h old new s → IsReady new.far
-look_ready h small old new s ready l = outcome_holds SiteReady (LookRan h l.word) old.far new.far (λ x t r. known_ready h t (seen_in l.word) r.known)
-    (look_outcome h small old new s ready l)
+pub look_happened : (h word : ℕ) (s : Seen) (old new : Option Far) → IsSeen h (seen_in word) s → Outcome (LookRan h word) old new
+    → WhereTold (Leaves (LooksAt h s) h) old new
+look_happened h word s old new shows o =
+    outcome_leaves (LooksAt h s) h (LookRan h word) old new
+    (λ x t r. record { happened = record { now = seen_in word; look = r.looked; is = shows }; unit = r.unit }) o
 
-pub look_selects : (h : ℕ) → h < 2 ^ 10 → (old new : Tells) (s : Seen) → IsReady old.far → LookedAt h old new s → Selects h new.far
-look_selects h small old new s ready l =
-    outcome_holds (λ x. x.unit.hartsel ≡ h) (LookRan h l.word) old.far new.far (λ x t r. ap (λ (u : DebugModule). u.hartsel) r.unit)
-    (look_outcome h small old new s ready l)
+pub look_ready : (h word : ℕ) (old new : Option Far) → Outcome (LookRan h word) old new → IsReady new
+look_ready h word old new o = outcome_holds SiteReady (LookRan h word) old new (λ x t r. known_ready h t (seen_in word) r.known) o
+
+pub look_selects : (h word : ℕ) (old new : Option Far) → Outcome (LookRan h word) old new → Selects h new
+look_selects h word old new o =
+    outcome_holds (λ x. x.unit.hartsel ≡ h) (LookRan h word) old new (λ x t r. ap (λ (u : DebugModule). u.hartsel) r.unit) o
 
 as_seen : (h : ℕ) (now : Sight) (s : Seen) (f : Far) → IsSeen h now s → Known h (site_of f) now → IsAsSeen (Some f) s
 as_seen h Sight.Absent seen.Absent f is k = tt
@@ -221,10 +234,9 @@ seen_told : (h : ℕ) (now : Sight) (s : Seen) (told : Option Far) → IsSeen h 
 seen_told h now s None is k = untold_seen s
 seen_told h now s (Some f) is k = as_seen h now s f is k
 
-pub look_seen : (h : ℕ) → h < 2 ^ 10 → (old new : Tells) (s : Seen) → IsReady old.far → LookedAt h old new s → IsAsSeen new.far s
-look_seen h small old new s ready l =
-    seen_told h (seen_in l.word) s new.far l.shows
-    (outcome_holds (λ t. Known h t (seen_in l.word)) (LookRan h l.word) old.far new.far (λ x t r. r.known) (look_outcome h small old new s ready l))
+pub look_seen : (h word : ℕ) (s : Seen) (old new : Option Far) → IsSeen h (seen_in word) s → Outcome (LookRan h word) old new → IsAsSeen new s
+look_seen h word s old new shows o =
+    seen_told h (seen_in word) s new shows (outcome_holds (λ t. Known h t (seen_in word)) (LookRan h word) old new (λ x t r. r.known) o)
 
 -- ---- a fault
 
@@ -258,8 +270,25 @@ look_broke h small old_count new_count old new fault ready b =
     (first_outcome Nothing h (HappenedCut (Cut (Look h)) h) SiteReady old_count new_count old new fault small ready (select_cut h small) (look_cut h small)
     b)
 
+look_again_cut : (h : ℕ) (s e t : Site) → SiteReady s × (s.unit.hartsel ≡ h) → Ran [] s e → SiteCut (Read dmstatus_address) e t
+    → HappenedCut (Cut (Look h)) h s t
+look_again_cut h s e t (ready, sel) is cut =
+    let q : CutAs (Look h) h s t = cut_point (Read dmstatus_address) (Look h) h s t ready.unit (look_notes h s ready.unit sel)
+    (subst (λ x. SiteCut (Read dmstatus_address) x t) is cut) in
+    record { happened = q.cut; unit = q.unit }
+
+pub look_again_broke : (h old_count new_count : ℕ) (old : Tells) (new : Option Far) (fault : DmiFault) → IsReady old.far → Selects h old.far
+    → LookBroke [] old_count new_count old new fault → WhereTold (LeftBy (Cut (Look h)) h) old.far new
+look_again_broke h old_count new_count old new fault ready selected b =
+    outcome_left (Cut (Look h)) h (HappenedCut (Cut (Look h)) h) old.far new (λ s t c. c)
+    (broke_outcome [] (Read dmstatus_address) (HappenedCut (Cut (Look h)) h) (λ x. SiteReady x × (x.unit.hartsel ≡ h)) old_count new_count old new fault
+    (holds_both SiteReady (λ x. x.unit.hartsel ≡ h) old.far ready selected) (look_again_cut h) b)
+
 -- ---- as the contract has them
 
 pub looked_at : (h word : ℕ) (old new : Tells) (s : Seen) → Did old (asks Nothing h ++ look_act word ∷ []) new → IsSeen h (seen_in word) s
     → LookedAt h old new s
 looked_at h word old new s did is = record { word = word; did = did; shows = is }
+
+pub looked_again : (h word : ℕ) (old new : Tells) (s : Seen) → Did old (look_act word ∷ []) new → IsSeen h (seen_in word) s → LookedAgain h old new s
+looked_again h word old new s did is = record { word = word; did = did; shows = is }

@@ -20,7 +20,7 @@ use Rattle.probe_run.specs.Acts.Act.{Put}
 use Rattle.probe_run.specs.Acts.Attempt.{Operation, Several}
 use Rattle.probe_run.specs.Looks.{Met, Missed, look_act, seen_in, test_of}
 use Rattle.probe_run.specs.Requests.{control_word}
-use Rattle.probe_run.specs.Waits.{WaitBroke}
+use Rattle.probe_run.specs.Waits.{LookBroke, WaitBroke}
 
 -- ---- faults
 
@@ -80,6 +80,17 @@ abbrev pub LookFails : ℕ → ℕ → ℕ → Tells → Tells → RunFault → 
 LookFails h old_count new_count old new (Dmi fault) = FirstBroke Nothing h old_count new_count old new.far fault
 LookFails h old_count new_count old new (NoHalt looks) = ⊥
 LookFails h old_count new_count old new (NoAck looks) = ⊥
+
+-- the hart that is selected was looked at, and nothing was written
+pub record LookedAgain (h : ℕ) (old new : Tells) (s : Seen) : Type 0 where
+  pub word : ℕ
+  pub did : Did old (look_act word ∷ []) new
+  pub shows : IsSeen h (seen_in word) s
+
+abbrev pub LookAgainFails : ℕ → ℕ → Tells → Tells → RunFault → Type 0
+LookAgainFails old_count new_count old new (Dmi fault) = LookBroke [] old_count new_count old new.far fault
+LookAgainFails old_count new_count old new (NoHalt looks) = ⊥
+LookAgainFails old_count new_count old new (NoAck looks) = ⊥
 
 -- ---- a halt: asked, seen, and the request cleared
 

@@ -1,7 +1,7 @@
 ghost use Rattle.std.specs.Prelude.{◌≡◌, ◌≤◌, ◌<◌, ◌^◌, IfOk, IfErr, OnOk};
 ghost use Rattle.debug_model.specs.Told.{IsReady, Selects};
 ghost use Rattle.probe_run.specs.Happens.{IsAsSeen, Leaves, LookLeft, LooksAt};
-ghost use Rattle.probe_run.specs.Outcomes.{IsSeen, LookFails, LookedAt};
+ghost use Rattle.probe_run.specs.Outcomes.{IsSeen, LookAgainFails, LookFails, LookedAgain, LookedAt};
 ghost use Rattle.probe_run.specs.Looks.{seen_in};
 ghost use Rattle.debug_model.specs.Kept.{CanCall, Keeps};
 ghost use Rattle.probe_run.specs.Told.{Fails, OnChip, told};
@@ -10,6 +10,7 @@ ghost use Rattle.probe_run.specs.Outcomes.{run_why};
 use crate::control::{Request, control_and_look};
 use crate::fault::RunFault;
 use crate::hart::{Halted, Running, Seen};
+use crate::wait;
 use debug_model::{Dmi, Dmstatus};
 
 /// A chip whose debug module was opened by `connect`.
@@ -49,6 +50,25 @@ impl Target {
         ensures keeps { Keeps run_why (D.seen link.old) (D.seen link.new) result }
     {
         let word = control_and_look(link, hart, Request::Nothing)?;
+        Ok(seen_of(word, hart))
+    }
+
+    /// One more Look of the hart that is selected, whose number is at most 1023: `dmstatus` is read once, and nothing is written.
+    pub fn look_again<D: Dmi>(&self, link: &mut D, hart: u16) -> Result<Seen, RunFault>
+        requires hart { hart < 2 ^ 10 }
+        requires callable { CanCall (D.seen link.old) }
+        requires ready { IsReady (D.seen link.old).far }
+        requires selects { Selects hart (D.seen link.old).far }
+        ensures did { IfOk result (LookedAgain hart (told (D.seen link.old)) (told (D.seen link.new))) }
+        ensures fails { IfErr result (Fails LookAgainFails (D.seen link.old) (D.seen link.new)) }
+        ensures happened { IfOk result (λ seen. OnChip (Leaves (LooksAt hart seen) hart) (D.seen link.old) (D.seen link.new)) }
+        ensures left { IfErr result (LookLeft hart (D.seen link.old).far (D.seen link.new).far) }
+        ensures ready { OnOk result (IsReady (D.seen link.new).far) }
+        ensures selects { OnOk result (Selects hart (D.seen link.new).far) }
+        ensures seen { IfOk result (IsAsSeen (D.seen link.new).far) }
+        ensures keeps { Keeps run_why (D.seen link.old) (D.seen link.new) result }
+    {
+        let word = wait::look(link)?;
         Ok(seen_of(word, hart))
     }
 }

@@ -1,4 +1,6 @@
 pub mod LinkLemmas
+pub mod Selections
+pub mod Knowing
 pub mod Conversions
 pub mod WentLemmas
 pub mod CallLemmas

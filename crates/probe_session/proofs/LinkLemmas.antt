@@ -1,5 +1,5 @@
 -- What faults of the layers below leave of the link, as a session's failures.
-use Rattle.std.proofs.Common.{◌≡◌, Result, Ok, Err, IfErr, IsErrAnd, subst, sym}
+use Rattle.std.proofs.Common.{◌≡◌, ◌≤◌, ◌∙◌, ℕ, Result, Ok, Err, IfErr, IsErrAnd, subst, sym, arith}
 use Rattle.debug_model.specs.declared.dmi.DmiFault.{DmiFault}
 use Rattle.debug_model.specs.declared.dmi.DmiFault.TheVariants as dmi_fault
 use Rattle.debug_model.specs.Dmi.{CanQuit}
@@ -15,7 +15,7 @@ use Rattle.probe_session.specs.declared.fault.Failure.TheVariants as failure
 use Rattle.probe_session.specs.declared.odd.Odd.TheVariants as odd
 use Rattle.probe_session.specs.declared.fault.LostCause.TheVariants as lost
 use Rattle.probe_session.specs.Failures.{failure_of_access, failure_of_dmi, failure_of_run}
-use Rattle.probe_session.specs.Links.{LeftBy}
+use Rattle.probe_session.specs.Links.{AttachedAt, Goes, LeftBy}
 
 -- what a `?` hands on
 pub if_err : {A : Type 0} (P : Failure → Type 0) (f : Failure) (result : Result A Failure) → IsErrAnd result (λ e. e ≡ f) → P f → IfErr result P
@@ -45,3 +45,10 @@ access_left s (access_fault.Register number) f b is = to s f (failure.Lost (lost
 access_left s access_fault.StillBusy f b is = to s f (failure.Lost lost.StillBusy) is (can_quit s b)
 access_left s (access_fault.Run why) f b is = to s f (failure_of_run why) is (run_left s why b)
 access_left s (access_fault.Odd shown) f b is = to s f (failure.Lost (lost.Odd (odd.Status shown))) is (can_quit s b)
+
+-- behind a call of a hart that is hart h
+pub goes_at : {A : Type 0} {n h : ℕ} {old mid new : DmiSeen} {result : Result A Failure} → n ≡ h → old.fault_count ≤ mid.fault_count → mid.fixed ≡ old.fixed
+    → Goes (λ (_ : A). AttachedAt n) mid new result → Goes (λ (_ : A). AttachedAt h) old new result
+goes_at {A} {n} {h} {old} {mid} {new} {result} is later fixed k =
+    let at : Goes (λ (_ : A). AttachedAt h) mid new result = subst (λ m. Goes (λ (_ : A). AttachedAt m) mid new result) is k in
+    record { later = omega (arith, later, at.later); fixed = at.fixed ∙ fixed; behind = at.behind }

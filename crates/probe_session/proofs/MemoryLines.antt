@@ -22,7 +22,7 @@ use Rattle.probe_session.specs.BlockCalls.{BlockStoreFell, BlockStored}
 use Rattle.probe_session.specs.Blocks.{Stores, storing}
 use Rattle.probe_session.specs.Commands.{at_line, ends_with}
 use Rattle.probe_session.specs.Goes.{Falls, Fault, Went}
-use Rattle.probe_session.specs.Links.{Attached}
+use Rattle.probe_session.specs.Links.{Attached, AttachedHalted}
 use Rattle.probe_session.specs.Met.{Rest, before_look}
 use Rattle.probe_session.specs.Places.{Place, at_say, idle, still}
 use Rattle.probe_session.specs.Reach.{AttachedBy, MemoryRest, ReachedAs, before_reach, path_by, place_by, written}
@@ -140,6 +140,9 @@ pub write_falls : (r : Reach) (size : Size) (a v count : ℕ) {old_count new_cou
 write_falls r size a v count is fell =
     falls_then (at_elements r size a v count is) (omega arith)
     (falls_at (λ next. Fault.storing_block (writing_stores (path_by r) count size a v next (done_line count next) count 0 (omega arith)) fell))
+
+pub attached_hart : {r : Reach} {x : Halted} {s : DmiSeen} → r ≡ reach.Hart x → AttachedBy r s → AttachedHalted x.number s
+attached_hart {r} {x} {s} is a = subst (λ q. AttachedBy q s) is a
 
 pub attached_by : (r : Reach) (s : DmiSeen) → AttachedBy r s → Attached s
 attached_by (reach.Hart x) s a = record { stands = a.stands; ready = a.serving.ready }

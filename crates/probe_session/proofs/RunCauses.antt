@@ -10,8 +10,9 @@ use Rattle.probe_run.specs.declared.fault.RunFault.{RunFault}
 use Rattle.probe_run.specs.declared.fault.RunFault.TheVariants as run_fault
 use Rattle.probe_run.specs.Acts.{Act, Attempt, Broke, Tells}
 use Rattle.probe_run.specs.Opening.{ActivateBroke, BusBroke, OpeningBroke}
-use Rattle.probe_run.specs.Outcomes.{HaltBroke, HaltFails, LookFails, ResumeFails, RunBroke, StepFails, run_why}
+use Rattle.probe_run.specs.Outcomes.{HaltBroke, HaltFails, ResumeFails, RunBroke, StepFails, run_why}
 use Rattle.probe_run.proofs.ActLemmas.{attempt_wire}
+use Rattle.probe_session.specs.Calls.{LookUnheard}
 use Rattle.probe_session.specs.Causes.{WireCause}
 
 -- a fault of the wire has its cause, and no other fault needs one
@@ -47,9 +48,10 @@ halt_broke : (why : DmiFault) {h old_count new_count : ℕ} {old : Tells} {told 
 halt_broke why (HaltBroke.before_halt b) = run_broke why b
 halt_broke why (HaltBroke.at_clear b) = broke_wire why b.broke
 
-pub look_wire : (why : RunFault) (h old_count new_count : ℕ) (old new : Tells) → LookFails h old_count new_count old new why
+pub look_wire : (why : RunFault) (h old_count new_count : ℕ) (old new : Tells) → LookUnheard h old_count new_count old new why
     → IfSome (run_why why) (DmiWire old_count new_count new.far)
-look_wire (run_fault.Dmi why) h old_count new_count old new f = broke_wire why f
+look_wire (run_fault.Dmi why) h old_count new_count old new (LookUnheard.selecting f) = broke_wire why f
+look_wire (run_fault.Dmi why) h old_count new_count old new (LookUnheard.again selected f) = broke_wire why f
 look_wire (run_fault.NoHalt looks) h old_count new_count old new f = tt
 look_wire (run_fault.NoAck looks) h old_count new_count old new f = tt
 

@@ -20,7 +20,7 @@ use Rattle.probe_run.specs.declared.fault.RunFault.{RunFault}
 use Rattle.probe_run.specs.declared.fault.RunFault.TheVariants as run_fault
 use Rattle.probe_run.specs.Acts.{Tells}
 use Rattle.probe_run.specs.Happens.{HaltCut, HaltLeft, Leaves as Left, LeftBy, LookLeft, MissedAt, ResumeLeft, RunCut, target_of}
-use Rattle.probe_run.specs.Outcomes.{HaltFails, LookFails, ResumeFails}
+use Rattle.probe_run.specs.Outcomes.{HaltFails, ResumeFails}
 use Rattle.probe_run.specs.Sites.{TurnsAlone}
 use Rattle.probe_run.proofs.SiteLemmas.{quiet_deeds}
 use Rattle.probe_session.specs.declared.fault.Failure.{Failure}
@@ -63,18 +63,18 @@ look_fell_by h m o p lines old new step w a =
 
 run_fell : (why : RunFault) (f : Failure) (h : ℕ) (m : Machine) (o : Origin) (p : Plan) (lines : List Line) (old_count new_count : ℕ) (old new : Tells)
     → ((s t : Target) → Deals m 0 Idle o p lines s → Cut (Look h) s t → OnTheWay o lines t.journal)
-    → LookFails h old_count new_count old new why → LookLeft h old.far new.far why → f ≡ failure_of_run why → At m 0 Idle o p lines (target_at old.far)
+    → LookLeft h old.far new.far why → f ≡ failure_of_run why → At m 0 Idle o p lines (target_at old.far)
     → Still (LeftAs o lines f) new.far
-run_fell (run_fault.Dmi why) f h m o p lines old_count new_count old new step heard told is a =
+run_fell (run_fault.Dmi why) f h m o p lines old_count new_count old new step told is a =
     by_dmi why f o lines new.far is (look_fell_by h m o p lines old.far new.far step told a)
-run_fell (run_fault.NoHalt looks) f h m o p lines old_count new_count old new step heard told is a = absurd heard
-run_fell (run_fault.NoAck looks) f h m o p lines old_count new_count old new step heard told is a = absurd heard
+run_fell (run_fault.NoHalt looks) f h m o p lines old_count new_count old new step told is a = absurd told
+run_fell (run_fault.NoAck looks) f h m o p lines old_count new_count old new step told is a = absurd told
 
 pub look_fell : (h : ℕ) (m : Machine) (o : Origin) (next : Seen → Plan) (lines : List Line) (old_count new_count : ℕ) (old new : Tells) (f : Failure)
     → LookFell h old_count new_count old new f
     → At m 0 Idle o (look h next) lines (target_at old.far) → Still (LeftAs o lines f) new.far
 look_fell h m o next lines old_count new_count old new f fell a =
-    run_fell fell.why f h m o (look h next) lines old_count new_count old new (λ s t d c. cut_way o (Look h) _ lines s t tt d.stands c) fell.heard
+    run_fell fell.why f h m o (look h next) lines old_count new_count old new (λ s t d c. cut_way o (Look h) _ lines s t tt d.stands c)
     fell.told fell.is a
 
 -- 64 Looks in vain

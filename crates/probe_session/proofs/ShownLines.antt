@@ -12,7 +12,7 @@ use Rattle.probe_session.specs.declared.shown.Shown.{Shown}
 use Rattle.probe_session.specs.declared.shown.Shown.TheVariants as shown
 use Rattle.probe_session.specs.Commands.{before, behind}
 use Rattle.probe_session.specs.Goes.{CalmNext, Fell, Spoke, Went}
-use Rattle.probe_session.specs.Links.{Attached, Goes}
+use Rattle.probe_session.specs.Links.{Attached, AttachedAt, Goes}
 use Rattle.probe_session.specs.Met.{before_look}
 use Rattle.probe_session.specs.Places.{idle, still}
 use Rattle.probe_session.specs.Shown.{AttachedShown, AttachedUpTo, DoneUpTo, at_lines_of, at_shown}
@@ -57,6 +57,11 @@ shown_keeps {x} {y} {old} {b} {d} link_is shown_is k =
 pub line_keeps : {x : Shown} {line : PrintedLine} {old b d : DmiSeen} → b ≡ d → x ≡ shown.Line line → Goes (λ _. Attached) old d (Ok line)
     → Goes AttachedUpTo old b (Ok (Some x))
 line_keeps link_is shown_is k = shown_keeps link_is shown_is (record { later = k.later; fixed = k.fixed; behind = k.behind })
+
+pub hart_line_keeps : {h : ℕ} {x : Shown} {line : PrintedLine} {old b d : DmiSeen} → b ≡ d → x ≡ shown.Line line → Goes (λ _. AttachedAt h) old d (Ok line)
+    → Goes AttachedUpTo old b (Ok (Some x))
+hart_line_keeps link_is shown_is k =
+    line_keeps link_is shown_is (record { later = k.later; fixed = k.fixed; behind = record { stands = k.behind.stands; ready = k.behind.ready } })
 
 -- without a call
 pub chosen_keeps : {x : Shown} {line : PrintedLine} {old b : DmiSeen} → b ≡ old → x ≡ shown.Line line → Attached old → Goes AttachedUpTo old b (Ok (Some x))

@@ -7,7 +7,7 @@ use Rattle.debug_model.specs.declared.dmi.DmiFault.{DmiFault}
 use Rattle.debug_model.specs.Dmi.{NoneOperated, ScannedCause, Shows}
 use Rattle.debug_model.specs.Scan.{WhereTold}
 use Rattle.debug_model.specs.Tap.{idcode}
-use Rattle.debug_model.specs.Told.{IsReady}
+use Rattle.debug_model.specs.Told.{IsReady, Selects}
 use Rattle.probe_access.specs.declared.fault.AccessFault.{AccessFault}
 use Rattle.probe_access.specs.declared.fault.AccessFault.TheVariants as fault
 use Rattle.probe_access.specs.Cuts.{IfCut, Leaves as LeavesChip, LeftAside, MaybeWritten, Unchanged}
@@ -24,7 +24,7 @@ use Rattle.probe_run.specs.declared.hart.Seen.{Seen}
 use Rattle.probe_run.specs.Acts.{Tells}
 use Rattle.probe_run.specs.Happens.{HaltLeft, HaltsAt, Leaves, LookLeft, ResumeLeft, ResumesAt, LooksAt}
 use Rattle.probe_run.specs.Told.{Serving}
-use Rattle.probe_run.specs.Outcomes.{HaltFails, HaltedBy, LookFails, LookedAt, ResumeFails, ResumedBy}
+use Rattle.probe_run.specs.Outcomes.{HaltFails, HaltedBy, LookAgainFails, LookFails, LookedAgain, LookedAt, ResumeFails, ResumedBy}
 use Rattle.probe_trig.specs.declared.change.Change.TheVariants.{Forget}
 use Rattle.debug_model.specs.declared.slot_use.SlotUse.{SlotUse}
 use Rattle.probe_trig.specs.declared.slot_view.SlotView.{SlotView}
@@ -46,8 +46,13 @@ pub record Identified (number : ℕ) (old new : Tells) : Type 0 where
   pub told : WhereTold NoneOperated old.far new.far
   pub ready : IsReady old.far
 
+-- a hart was looked at: it was selected first, or was selected already
+pub data LookHeard (h : ℕ) (old new : Tells) (seen : Seen) : Type 0 where
+  selecting : LookedAt h old new seen → LookHeard h old new seen
+  again : Selects h old.far → LookedAgain h old new seen → LookHeard h old new seen
+
 pub record LookMade (h : ℕ) (old new : Tells) (seen : Seen) : Type 0 where
-  pub heard : LookedAt h old new seen
+  pub heard : LookHeard h old new seen
   pub told : WhereTold (Leaves (LooksAt h seen) h) old.far new.far
 
 pub record HaltMade (h : ℕ) (old new : Tells) : Type 0 where
@@ -139,10 +144,14 @@ pub record IdcodeFell (old_count new_count : ℕ) (old new : Tells) (f : Failure
   pub ready : IsReady old.far
   pub is : f ≡ failure_of_dmi why
 
+pub data LookUnheard (h old_count new_count : ℕ) (old new : Tells) (why : RunFault) : Type 0 where
+  selecting : LookFails h old_count new_count old new why → LookUnheard h old_count new_count old new why
+  again : Selects h old.far → LookAgainFails old_count new_count old new why → LookUnheard h old_count new_count old new why
+
 pub record LookFell (h old_count new_count : ℕ) (old new : Tells) (f : Failure) : Type 0 where
   pub why : RunFault
   pub later : old_count ≤ new_count
-  pub heard : LookFails h old_count new_count old new why
+  pub heard : LookUnheard h old_count new_count old new why
   pub told : LookLeft h old.far new.far why
   pub is : f ≡ failure_of_run why
 

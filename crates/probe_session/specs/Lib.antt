@@ -16,6 +16,7 @@ pub mod Reach
 pub mod Going
 pub mod Showing
 pub mod Shown
+pub mod Known
 pub mod Led
 pub mod Acts
 pub mod Scripts

@@ -1,9 +1,10 @@
 -- What each call of a session finds of its link, and what it keeps and leaves of it.
 -- It is this project's own.
-use Rattle.std.specs.Prelude.{◌≡◌, ◌≤◌, ℕ, true, Result, Ok, Err}
+use Rattle.std.specs.Prelude.{◌≡◌, ◌≤◌, ℕ, true, Option, Some, Result, Ok, Err}
 use Rattle.debug_model.specs.Dmi.{CanQuit}
 use Rattle.debug_model.specs.Kept.{DmiSeen, Stands}
-use Rattle.debug_model.specs.Told.{IsReady}
+use Rattle.debug_model.specs.Chip.{Chip}
+use Rattle.debug_model.specs.Told.{Far, IsReady, Selects, site_of}
 use Rattle.probe_run.specs.Told.{Serving}
 use Rattle.probe_session.specs.declared.fault.Failure.{Failure}
 use Rattle.probe_session.specs.declared.fault.Failure.TheVariants as failure
@@ -17,6 +18,18 @@ pub record Attached (s : DmiSeen) : Type 0 where
 pub record AttachedHalted (h : ℕ) (s : DmiSeen) : Type 0 where
   pub stands : Stands s
   pub serving : Serving h s.far
+
+-- and hart h is selected
+pub record AttachedAt (h : ℕ) (s : DmiSeen) : Type 0 where
+  pub stands : Stands s
+  pub ready : IsReady s.far
+  pub selects : Selects h s.far
+
+-- the hart that is selected stays the same
+pub record SelectionStays (c : Chip) (new : Option Far) : Type 0 where
+  pub far : Far
+  pub is : new ≡ Some far
+  pub hartsel : (site_of far).unit.hartsel ≡ c.inside.works.site.unit.hartsel
 
 -- a fault of the wire is one that the wire gives; behind any other failure the stream can be ended
 abbrev pub LeftBy : DmiSeen → Failure → Type 0

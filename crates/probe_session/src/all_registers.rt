@@ -6,11 +6,13 @@ ghost use Rattle.probe_session.specs.Calls.{IsOfCores};
 ghost use Rattle.probe_session.specs.Commands.{before, state_of};
 ghost use Rattle.abstract_debugger.specs.Laws.{Quiet};
 ghost use Rattle.probe_session.specs.Goes.{Falls, Fell, Spoke, Went};
-ghost use Rattle.probe_session.specs.Links.{Attached, AttachedHalted, Goes};
+ghost use Rattle.debug_model.specs.Told.{Selects};
+ghost use Rattle.probe_session.specs.Known.{Knows};
+ghost use Rattle.probe_session.specs.Links.{Attached, AttachedHalted, Goes, SelectionStays};
 ghost use Rattle.probe_session.specs.Places.{idle};
 ghost use Rattle.probe_session.specs.Showing.{CalmRegisters, at_all_registers, at_next_register, at_registers};
 ghost use Rattle.probe_session.specs.Shown.{AttachedShown, IsOfBlock, at_shown};
-ghost use Rattle.probe_run.specs.Told.{told, Fails};
+ghost use Rattle.probe_run.specs.Told.{told, Fails, OnChip};
 
 use crate::fault::Failure;
 use crate::met::{Met, meet};
@@ -39,6 +41,7 @@ fn put_register<D: Dmi, K: Sink>(
     ensures fell { IfErr result (Fell CalmRegisters (at_next_register halted.now.number number) (D.seen link.old).fault_count (D.seen link.new).fault_count
         (told (D.seen link.old)) (told (D.seen link.new)) (K.fault_count out.old)
         (K.fault_count out.new) (K.contents out.old) (K.contents out.new)) }
+    ensures selection { OnOk result (OnChip SelectionStays (D.seen link.old) (D.seen link.new)) }
     ensures keeps { Goes (λ _. AttachedHalted halted.now.number) (D.seen link.old) (D.seen link.new) result }
     ensures sink_later { K.fault_count out.old ≤ K.fault_count out.new }
 {
@@ -59,6 +62,7 @@ pub(crate) fn put_registers<D: Dmi, K: Sink>(
     ensures fell { IfErr result (Fell Quiet (at_all_registers halted.now.number) (D.seen link.old).fault_count (D.seen link.new).fault_count
         (told (D.seen link.old)) (told (D.seen link.new)) (K.fault_count out.old)
         (K.fault_count out.new) (K.contents out.old) (K.contents out.new)) }
+    ensures selection { OnOk result (OnChip SelectionStays (D.seen link.old) (D.seen link.new)) }
     ensures keeps { Goes (λ _. Attached) (D.seen link.old) (D.seen link.new) result }
     ensures sink_later { K.fault_count out.old ≤ K.fault_count out.new }
 {
@@ -73,13 +77,15 @@ impl Session {
     /// The Look of `regs`, and what it shows: pc and x1 to x31 of the hart.
     pub(crate) fn regs<D: Dmi>(&self, link: &mut D) -> Result<Shown, Failure>
         requires serving { Attached (D.seen link.old) }
+        requires knows { Knows self.now.known self.now.hart (D.seen link.old).far }
         ensures went { IfOk result (λ shown. Went (before command.Regs (state_of self.now)) (at_shown shown (state_of self.now)) []
             (told (D.seen link.old)) (told (D.seen link.new))) }
         ensures falls { IfErr result (Fails (Falls (before command.Regs (state_of self.now)) []) (D.seen link.old) (D.seen link.new)) }
+        ensures selects { OnOk result (Selects self.now.hart (D.seen link.new).far) }
         ensures keeps { Goes AttachedShown (D.seen link.old) (D.seen link.new) result }
         ensures block { IfOk result IsOfBlock }
     {
-        match meet(link, &self.target, self.hart)? {
+        match meet(link, &self.target, self.hart, self.known)? {
             Met::Says(line) => Ok(Shown::Line(line)),
             Met::At(halted) => Ok(Shown::Registers(halted)),
         }

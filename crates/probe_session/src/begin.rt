@@ -5,10 +5,12 @@ ghost use Rattle.debug_model.specs.Told.{IsAsLoaded, Selects};
 ghost use Rattle.abstract_debugger.specs.Debugger.{first_state};
 ghost use Rattle.probe_run.specs.Opening.{ConnectFails, LosesLoaded, Opened, OpensLoaded, opening_why};
 ghost use Rattle.probe_session.specs.Commands.{state_of};
+ghost use Rattle.probe_session.specs.Known.{Knows};
 ghost use Rattle.probe_session.specs.Links.{Attached};
 ghost use Rattle.debug_model.specs.Kept.{CanCall, Keeps};
 ghost use Rattle.probe_run.specs.Told.{told, Fails};
 
+use crate::known::Known;
 use crate::session::Session;
 use debug_model::{Dmi, Path};
 use probe_run::{ConnectFault, connect};
@@ -22,6 +24,7 @@ impl Session {
         ensures fails { IfErr result (Fails ConnectFails (D.seen link.old) (D.seen link.new)) }
         ensures loaded { OnOk result (OpensLoaded (D.seen link.old).far (D.seen link.new).far) }
         ensures selects { OnOk result (IsAsLoaded (D.seen link.old).far → Selects 0 (D.seen link.new).far) }
+        ensures knows { IfOk result (λ session. IsAsLoaded (D.seen link.old).far → Knows session.known session.hart (D.seen link.new).far) }
         ensures serving { OnOk result (IsAsLoaded (D.seen link.old).far → Attached (D.seen link.new)) }
         ensures lost { IfErr result (LosesLoaded (D.seen link.old).far (D.seen link.new).far) }
         ensures keeps { Keeps opening_why (D.seen link.old) (D.seen link.new) result }
@@ -31,6 +34,7 @@ impl Session {
                 target,
                 hart: 0,
                 path: Path::Progbuf,
+                known: Known::Selected,
             }),
             Err(fault) => Err(fault),
         }

@@ -13,12 +13,13 @@ ghost use Rattle.probe_access.specs.BusRuns.{cut_to};
 ghost use Rattle.probe_session.specs.declared.fault.Failure.TheVariants as failure;
 ghost use Rattle.probe_session.specs.Commands.{before, state_of};
 ghost use Rattle.probe_session.specs.Goes.{Falls, Fell, Spoke, Went};
-ghost use Rattle.probe_session.specs.Links.{Attached, Goes};
+ghost use Rattle.probe_session.specs.Known.{Knows, known_by};
+ghost use Rattle.probe_session.specs.Links.{Attached, Goes, SelectionStays};
 ghost use Rattle.probe_session.specs.Places.{idle};
 ghost use Rattle.probe_session.specs.Reach.{AttachedBy};
 ghost use Rattle.probe_session.specs.Showing.{BytePut, RowCut, at_dump, byte_rows};
 ghost use Rattle.probe_session.specs.Shown.{AttachedShown, IsOfBlock, at_shown};
-ghost use Rattle.probe_run.specs.Told.{told, Fails};
+ghost use Rattle.probe_run.specs.Told.{told, Fails, OnChip};
 
 use crate::fault::Failure;
 use crate::memory::Elements;
@@ -96,6 +97,7 @@ pub(crate) fn put_rows<D: Dmi, K: Sink>(
     ensures fell { IfErr result (Fell Quiet (at_dump reach.now address count) (D.seen link.old).fault_count (D.seen link.new).fault_count
         (told (D.seen link.old)) (told (D.seen link.new)) (K.fault_count out.old)
         (K.fault_count out.new) (K.contents out.old) (K.contents out.new)) }
+    ensures selection { OnOk result (OnChip SelectionStays (D.seen link.old) (D.seen link.new)) }
     ensures keeps { Goes (λ _. Attached) (D.seen link.old) (D.seen link.new) result }
     ensures sink_later { K.fault_count out.old ≤ K.fault_count out.new }
 {
@@ -120,9 +122,11 @@ impl Session {
     ) -> Result<Shown, Failure>
         requires block { IsBlock 1 address count }
         requires serving { Attached (D.seen link.old) }
+        requires knows { Knows self.now.known self.now.hart (D.seen link.old).far }
         ensures went { IfOk result (λ shown. Went (before (command.Dump address count) (state_of self.now)) (at_shown shown (state_of self.now)) []
             (told (D.seen link.old)) (told (D.seen link.new))) }
         ensures falls { IfErr result (Fails (Falls (before (command.Dump address count) (state_of self.now)) []) (D.seen link.old) (D.seen link.new)) }
+        ensures knows { OnOk result (Knows (known_by self.now.path self.now.known) self.now.hart (D.seen link.new).far) }
         ensures keeps { Goes AttachedShown (D.seen link.old) (D.seen link.new) result }
         ensures block { IfOk result IsOfBlock }
     {

@@ -7,7 +7,7 @@ ghost use Rattle.abstract_debugger.specs.Plan.Plan.{say};
 ghost use Rattle.probe_session.specs.Commands.{at_letting_go, ends_with};
 ghost use Rattle.probe_session.specs.Goes.{Falls, Went};
 ghost use Rattle.probe_session.specs.Going.{at_one, behind_first, behind_one};
-ghost use Rattle.probe_session.specs.Links.{Attached, AttachedHalted, Goes};
+ghost use Rattle.probe_session.specs.Links.{AttachedAt, AttachedHalted, Goes};
 ghost use Rattle.probe_session.specs.Places.{ready, still};
 ghost use Rattle.probe_session.specs.Reach.{stepped};
 ghost use Rattle.probe_session.specs.Said.{said_by};
@@ -46,7 +46,7 @@ fn more_steps_line<D: Dmi>(link: &mut D, halted: Halted, more: u16) -> Result<Li
     ensures went { IfOk result (λ line. Went (behind_first more halted.number) (ends_with (said_by line)) [] (told (D.seen link.old))
         (told (D.seen link.new))) }
     ensures falls { IfErr result (Fails (Falls (behind_first more halted.number) []) (D.seen link.old) (D.seen link.new)) }
-    ensures keeps { Goes (λ _. Attached) (D.seen link.old) (D.seen link.new) result }
+    ensures keeps { Goes (λ _. AttachedAt halted.number) (D.seen link.old) (D.seen link.new) result }
 {
     let mut now = halted;
     'stepping: for _step in 0..more {
@@ -69,7 +69,7 @@ pub(crate) fn stepped_line<D: Dmi>(
     ensures went { IfOk result (λ line. Went (λ next. still halted.number (stepped count halted.number next))
         (ends_with (said_by line)) [] (told (D.seen link.old)) (told (D.seen link.new))) }
     ensures falls { IfErr result (Fails (Falls (λ next. still halted.number (stepped count halted.number next)) []) (D.seen link.old) (D.seen link.new)) }
-    ensures keeps { Goes (λ _. Attached) (D.seen link.old) (D.seen link.new) result }
+    ensures keeps { Goes (λ _. AttachedAt halted.number) (D.seen link.old) (D.seen link.new) result }
 {
     if count == 0 {
         return stop_line(link, &halted);
@@ -92,7 +92,7 @@ fn free_line<D: Dmi>(link: &mut D, halted: Halted) -> Result<Line, Failure>
     ensures went { IfOk result (λ line. Went (λ next. ready halted.number (going halted.number (say Resumed next)))
         (ends_with (said_by line)) [] (told (D.seen link.old)) (told (D.seen link.new))) }
     ensures falls { IfErr result (Fails (Falls (λ next. ready halted.number (going halted.number (say Resumed next))) []) (D.seen link.old) (D.seen link.new)) }
-    ensures keeps { Goes (λ _. Attached) (D.seen link.old) (D.seen link.new) result }
+    ensures keeps { Goes (λ _. AttachedAt halted.number) (D.seen link.old) (D.seen link.new) result }
 {
     halted.resume(link)?;
     Ok(Line::Resumed)
@@ -105,7 +105,7 @@ fn let_go_over_line<D: Dmi>(link: &mut D, halted: Halted) -> Result<Line, Failur
     ensures went { IfOk result (λ line. Went (at_letting_go halted.number) (ends_with (said_by line)) [] (told (D.seen link.old))
         (told (D.seen link.new))) }
     ensures falls { IfErr result (Fails (Falls (at_letting_go halted.number) []) (D.seen link.old) (D.seen link.new)) }
-    ensures keeps { Goes (λ _. Attached) (D.seen link.old) (D.seen link.new) result }
+    ensures keeps { Goes (λ _. AttachedAt halted.number) (D.seen link.old) (D.seen link.new) result }
 {
     let seen = slots(link, &halted)?;
     if !has_any(&seen) {
@@ -125,7 +125,7 @@ pub(crate) fn let_go_line<D: Dmi>(link: &mut D, halted: Halted) -> Result<Line, 
     ensures went { IfOk result (λ line. Went (at_letting_go halted.number) (ends_with (said_by line)) [] (told (D.seen link.old))
         (told (D.seen link.new))) }
     ensures falls { IfErr result (Fails (Falls (at_letting_go halted.number) []) (D.seen link.old) (D.seen link.new)) }
-    ensures keeps { Goes (λ _. Attached) (D.seen link.old) (D.seen link.new) result }
+    ensures keeps { Goes (λ _. AttachedAt halted.number) (D.seen link.old) (D.seen link.new) result }
 {
     let word = reg(link, &halted, register_number::DCSR)?;
     if shows_step(word) {

@@ -4,7 +4,7 @@ ghost use Rattle.std.specs.Prelude.{◌≡◌, ◌<◌, [], false, IfOk, IfErr};
 ghost use Rattle.probe_session.specs.Calls.{IsOfCores};
 ghost use Rattle.probe_session.specs.Commands.{at_arming, at_ebreak, at_freeing, at_register, at_stop_line, at_written_register, ends_with};
 ghost use Rattle.probe_session.specs.Goes.{Falls, Went};
-ghost use Rattle.probe_session.specs.Links.{Attached, AttachedHalted, Goes};
+ghost use Rattle.probe_session.specs.Links.{AttachedAt, AttachedHalted, Goes};
 ghost use Rattle.probe_session.specs.Said.{said_by};
 ghost use Rattle.probe_session.specs.Slots.{what_of};
 ghost use Rattle.probe_session.specs.Steps.{with_ebreakm};
@@ -27,7 +27,7 @@ pub(crate) fn stop_line<D: Dmi>(link: &mut D, halted: &Halted) -> Result<Line, F
         (λ line. Went (at_stop_line halted.now.number) (ends_with (said_by line)) [] (told (D.seen link.old))
         (told (D.seen link.new))) }
     ensures falls { IfErr result (Fails (Falls (at_stop_line halted.now.number) []) (D.seen link.old) (D.seen link.new)) }
-    ensures keeps { Goes (λ _. Attached) (D.seen link.old) (D.seen link.new) result }
+    ensures keeps { Goes (λ _. AttachedAt halted.now.number) (D.seen link.old) (D.seen link.new) result }
 {
     let at = stop(link, halted)?;
     if at.cause == Cause::Trigger.number() {
@@ -57,7 +57,7 @@ pub(crate) fn register_line<D: Dmi>(
         (λ line. Went (at_register halted.now.number number) (ends_with (said_by line)) [] (told (D.seen link.old))
         (told (D.seen link.new))) }
     ensures falls { IfErr result (Fails (Falls (at_register halted.now.number number) []) (D.seen link.old) (D.seen link.new)) }
-    ensures keeps { Goes (λ _. Attached) (D.seen link.old) (D.seen link.new) result }
+    ensures keeps { Goes (λ _. AttachedAt halted.now.number) (D.seen link.old) (D.seen link.new) result }
 {
     match reg_or_none(link, halted, number)? {
         Some(value) => Ok(Line::Register(number, value)),
@@ -77,7 +77,7 @@ pub(crate) fn written_register_line<D: Dmi>(
     ensures went { IfOk result (λ line. Went (at_written_register halted.now.number number value) (ends_with (said_by line)) []
         (told (D.seen link.old)) (told (D.seen link.new))) }
     ensures falls { IfErr result (Fails (Falls (at_written_register halted.now.number number value) []) (D.seen link.old) (D.seen link.new)) }
-    ensures keeps { Goes (λ _. Attached) (D.seen link.old) (D.seen link.new) result }
+    ensures keeps { Goes (λ _. AttachedAt halted.now.number) (D.seen link.old) (D.seen link.new) result }
 {
     if !set_reg_if_taken(link, halted, number, value)? {
         return Ok(Line::RegisterRefused(number));
@@ -111,7 +111,7 @@ pub(crate) fn ebreak_line<D: Dmi>(
         (λ line. Went (at_ebreak halted.now.number is_on) (ends_with (said_by line)) [] (told (D.seen link.old))
         (told (D.seen link.new))) }
     ensures falls { IfErr result (Fails (Falls (at_ebreak halted.now.number is_on) []) (D.seen link.old) (D.seen link.new)) }
-    ensures keeps { Goes (λ _. Attached) (D.seen link.old) (D.seen link.new) result }
+    ensures keeps { Goes (λ _. AttachedAt halted.now.number) (D.seen link.old) (D.seen link.new) result }
 {
     let word = reg(link, halted, register_number::DCSR)?;
     probe_access::set_reg(
@@ -135,7 +135,7 @@ pub(crate) fn armed_line<D: Dmi>(
         (λ line. Went (at_arming halted.now.number (what_of what)) (ends_with (said_by line)) [] (told (D.seen link.old))
         (told (D.seen link.new))) }
     ensures falls { IfErr result (Fails (Falls (at_arming halted.now.number (what_of what)) []) (D.seen link.old) (D.seen link.new)) }
-    ensures keeps { Goes (λ _. Attached) (D.seen link.old) (D.seen link.new) result }
+    ensures keeps { Goes (λ _. AttachedAt halted.now.number) (D.seen link.old) (D.seen link.new) result }
 {
     match arm(link, halted, what)? {
         Some(slot) => Ok(Line::Slot(slot, what, false)),
@@ -151,7 +151,7 @@ pub(crate) fn freed_line<D: Dmi>(link: &mut D, halted: &Halted, slot: u8) -> Res
         (λ line. Went (at_freeing halted.now.number slot) (ends_with (said_by line)) [] (told (D.seen link.old))
         (told (D.seen link.new))) }
     ensures falls { IfErr result (Fails (Falls (at_freeing halted.now.number slot) []) (D.seen link.old) (D.seen link.new)) }
-    ensures keeps { Goes (λ _. Attached) (D.seen link.old) (D.seen link.new) result }
+    ensures keeps { Goes (λ _. AttachedAt halted.now.number) (D.seen link.old) (D.seen link.new) result }
 {
     if disarm(link, halted, slot)? {
         Ok(Line::Slot(slot, SlotUse::Free, false))

@@ -13,6 +13,7 @@ mod fault;
 mod going;
 mod hart_lines;
 mod identity;
+mod known;
 mod laws;
 mod looks;
 mod memory;

@@ -1,10 +1,13 @@
-ghost use Rattle.std.specs.Prelude.{◌<◌, ◌^◌, [], IfOk, IfErr};
+ghost use Rattle.std.specs.Prelude.{◌<◌, ◌^◌, [], IfOk, IfErr, OnOk};
+ghost use Rattle.debug_model.specs.Told.{Selects};
 ghost use Rattle.probe_session.specs.Goes.{Falls};
+ghost use Rattle.probe_session.specs.Known.{Knows};
 ghost use Rattle.probe_session.specs.Links.{Attached, Goes};
 ghost use Rattle.probe_session.specs.Met.{MetAs, AttachedMet, before_look};
 ghost use Rattle.probe_run.specs.Told.{told, Fails};
 
 use crate::fault::Failure;
+use crate::known::Known;
 use crate::looks::look;
 use debug_model::Dmi;
 use printed_lines::Line;
@@ -19,15 +22,22 @@ pub(crate) enum Met {
     Says(Line),
 }
 
-/// The Look of a command for a halted hart.
-pub(crate) fn meet<D: Dmi>(link: &mut D, target: &Target, hart: u16) -> Result<Met, Failure>
+/// The Look of a command for a halted hart, of which this is known.
+pub(crate) fn meet<D: Dmi>(
+    link: &mut D,
+    target: &Target,
+    hart: u16,
+    known: Known,
+) -> Result<Met, Failure>
     requires hart { hart < 2 ^ 10 }
     requires serving { Attached (D.seen link.old) }
+    requires knows { Knows known hart (D.seen link.old).far }
     ensures met { IfOk result (MetAs hart (told (D.seen link.old)) (told (D.seen link.new))) }
     ensures falls { IfErr result (Fails (Falls (before_look hart) []) (D.seen link.old) (D.seen link.new)) }
+    ensures selects { OnOk result (Selects hart (D.seen link.new).far) }
     ensures keeps { Goes AttachedMet (D.seen link.old) (D.seen link.new) result }
 {
-    match look(link, target, hart)? {
+    match look(link, target, hart, known)? {
         Seen::Absent => Ok(Met::Says(Line::NoHart(hart))),
         Seen::Running(_) => Ok(Met::Says(Line::IsRunning(hart))),
         Seen::Halted(halted) => Ok(Met::At(halted)),

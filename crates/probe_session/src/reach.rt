@@ -1,6 +1,6 @@
 //! The way on which a command reaches memory.
 
-ghost use Rattle.std.specs.Prelude.{◌≡◌, [], true, map, IfOk, IfErr};
+ghost use Rattle.std.specs.Prelude.{◌≡◌, [], true, map, IfOk, IfErr, OnOk};
 ghost use Rattle.debug_model.specs.Command.{IsBlock};
 ghost use Rattle.rv_model.specs.Memory.{is_aligned};
 ghost use Rattle.rv_model.specs.Size.{count_of};
@@ -9,9 +9,10 @@ ghost use Rattle.probe_session.specs.Answers.{BlockLoadedAs, BlockStoredAs};
 ghost use Rattle.probe_session.specs.BlockCalls.{BlockLoadFell, BlockStoreFell};
 ghost use Rattle.probe_session.specs.Commands.{state_of};
 ghost use Rattle.probe_session.specs.Goes.{Falls};
-ghost use Rattle.probe_session.specs.Links.{Attached, Goes};
+ghost use Rattle.probe_session.specs.Known.{Knows, known_by};
+ghost use Rattle.probe_session.specs.Links.{Attached, Goes, SelectionStays};
 ghost use Rattle.probe_session.specs.Reach.{ReachedAs, AttachedBy, AttachedReached, before_reach, path_by};
-ghost use Rattle.probe_run.specs.Told.{told, Fails};
+ghost use Rattle.probe_run.specs.Told.{told, Fails, OnChip};
 
 use crate::fault::Failure;
 use crate::memory::{Elements, bus_load, bus_store, load, store};
@@ -44,14 +45,16 @@ impl Session {
     /// The way to memory that was chosen, with a Look of the hart where that needs one.
     pub(crate) fn reach<D: Dmi>(&self, link: &mut D) -> Result<Reached, Failure>
         requires serving { Attached (D.seen link.old) }
+        requires knows { Knows self.now.known self.now.hart (D.seen link.old).far }
         ensures reached { IfOk result
             (ReachedAs (state_of self.now) (told (D.seen link.old)) (told (D.seen link.new))) }
         ensures falls { IfErr result (Fails (Falls (before_reach (state_of self.now)) []) (D.seen link.old) (D.seen link.new)) }
+        ensures knows { OnOk result (Knows (known_by self.now.path self.now.known) self.now.hart (D.seen link.new).far) }
         ensures keeps { Goes AttachedReached (D.seen link.old) (D.seen link.new) result }
     {
         match self.path {
             Path::Bus => Ok(Reached::By(Reach::Bus)),
-            Path::Progbuf => match meet(link, &self.target, self.hart)? {
+            Path::Progbuf => match meet(link, &self.target, self.hart, self.known)? {
                 Met::Says(line) => Ok(Reached::Says(line)),
                 Met::At(halted) => Ok(Reached::By(Reach::Hart(halted))),
             },
@@ -75,6 +78,7 @@ pub(crate) fn load_by<D: Dmi>(
     ensures loaded { IfOk result (BlockLoadedAs (path_by reach.now) size address count (map (cut_to size) into.new.items) (told (D.seen link.old))
         (told (D.seen link.new))) }
     ensures fell { IfErr result (Fails (BlockLoadFell (path_by reach.now) size address count) (D.seen link.old) (D.seen link.new)) }
+    ensures selection { OnOk result (OnChip SelectionStays (D.seen link.old) (D.seen link.new)) }
     ensures keeps { Goes (λ _. AttachedBy reach.now) (D.seen link.old) (D.seen link.new) result }
 {
     match reach {
@@ -97,6 +101,7 @@ pub(crate) fn store_by<D: Dmi>(
     requires block { IsBlock (count_of size) address count }
     ensures stored { IfOk result (BlockStoredAs (path_by reach.now) size address value count (told (D.seen link.old)) (told (D.seen link.new))) }
     ensures fell { IfErr result (Fails (BlockStoreFell (path_by reach.now) size address value count) (D.seen link.old) (D.seen link.new)) }
+    ensures selection { OnOk result (OnChip SelectionStays (D.seen link.old) (D.seen link.new)) }
     ensures keeps { Goes (λ _. AttachedBy reach.now) (D.seen link.old) (D.seen link.new) result }
 {
     match reach {

@@ -5,6 +5,7 @@ ghost use Rattle.debug_model.specs.Command.{IsWithinRanges};
 ghost use Rattle.debug_model.specs.Told.{IsAsLoaded};
 ghost use Rattle.probe_session.specs.Causes.{EndCaused, SinkCaused};
 ghost use Rattle.probe_session.specs.Commands.{state_of};
+ghost use Rattle.probe_session.specs.Known.{Knows};
 ghost use Rattle.probe_session.specs.Links.{Attached};
 ghost use Rattle.probe_session.specs.Scripts.{EndedAs, FollowedAs, LeavesLink, ended_unopened, graded};
 ghost use Rattle.probe_session.specs.Transcribed.{TranscribedAs};
@@ -51,6 +52,7 @@ fn run_commands<D: Dmi, K: Sink>(
 ) -> Ended
     requires within { All IsWithinRanges commands.now }
     requires serving { Attached (D.seen link.old) }
+    requires knows { Knows begun.known begun.hart (D.seen link.old).far }
     ensures followed { FollowedAs commands.now (state_of begun) (D.seen link.old).fault_count (D.seen link.new).fault_count
         (told (D.seen link.old)) (told (D.seen link.new)) (K.fault_count out.old)
         (K.fault_count out.new) (K.contents out.old) (K.contents out.new) result }

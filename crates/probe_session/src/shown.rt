@@ -1,12 +1,12 @@
 //! What a command shows, and its lines.
 
-ghost use Rattle.std.specs.Prelude.{◌≤◌, false, IfOk, IfErr};
+ghost use Rattle.std.specs.Prelude.{◌≤◌, false, IfOk, IfErr, OnOk};
 ghost use Rattle.abstract_debugger.specs.Laws.{Quiet};
 ghost use Rattle.probe_session.specs.Goes.{Fell, Spoke};
-ghost use Rattle.probe_session.specs.Links.{Attached, Goes};
+ghost use Rattle.probe_session.specs.Links.{Attached, Goes, SelectionStays};
 ghost use Rattle.probe_session.specs.Places.{idle};
 ghost use Rattle.probe_session.specs.Shown.{AttachedShown, IsOfBlock, at_lines_of};
-ghost use Rattle.probe_run.specs.Told.{told};
+ghost use Rattle.probe_run.specs.Told.{told, OnChip};
 
 use crate::all_registers::put_registers;
 use crate::dumping::put_rows;
@@ -50,6 +50,7 @@ pub(crate) fn show<D: Dmi, K: Sink>(
     ensures fell { IfErr result (Fell Quiet (at_lines_of shown) (D.seen link.old).fault_count (D.seen link.new).fault_count
         (told (D.seen link.old)) (told (D.seen link.new)) (K.fault_count out.old)
         (K.fault_count out.new) (K.contents out.old) (K.contents out.new)) }
+    ensures selection { OnOk result (OnChip SelectionStays (D.seen link.old) (D.seen link.new)) }
     ensures keeps { Goes (λ _. Attached) (D.seen link.old) (D.seen link.new) result }
     ensures sink_later { K.fault_count out.old ≤ K.fault_count out.new }
 {

@@ -5,11 +5,13 @@ ghost use Rattle.debug_model.specs.declared.command.Command.TheVariants as comma
 ghost use Rattle.probe_session.specs.Commands.{before, state_of};
 ghost use Rattle.abstract_debugger.specs.Laws.{Quiet};
 ghost use Rattle.probe_session.specs.Goes.{Falls, Fell, Spoke, Went};
-ghost use Rattle.probe_session.specs.Links.{Attached, AttachedHalted, Goes};
+ghost use Rattle.debug_model.specs.Told.{Selects};
+ghost use Rattle.probe_session.specs.Known.{Knows};
+ghost use Rattle.probe_session.specs.Links.{Attached, AttachedHalted, Goes, SelectionStays};
 ghost use Rattle.probe_session.specs.Places.{idle};
 ghost use Rattle.probe_session.specs.Showing.{at_slots};
 ghost use Rattle.probe_session.specs.Shown.{AttachedShown, IsOfBlock, at_shown};
-ghost use Rattle.probe_run.specs.Told.{told, Fails};
+ghost use Rattle.probe_run.specs.Told.{told, Fails, OnChip};
 
 use crate::fault::Failure;
 use crate::met::{Met, meet};
@@ -34,6 +36,7 @@ pub(crate) fn put_slots<D: Dmi, K: Sink>(
     ensures fell { IfErr result (Fell Quiet (at_slots halted.now.number) (D.seen link.old).fault_count (D.seen link.new).fault_count
         (told (D.seen link.old)) (told (D.seen link.new)) (K.fault_count out.old)
         (K.fault_count out.new) (K.contents out.old) (K.contents out.new)) }
+    ensures selection { OnOk result (OnChip SelectionStays (D.seen link.old) (D.seen link.new)) }
     ensures keeps { Goes (λ _. Attached) (D.seen link.old) (D.seen link.new) result }
     ensures sink_later { K.fault_count out.old ≤ K.fault_count out.new }
 {
@@ -49,13 +52,15 @@ impl Session {
     /// The Look of `slots`, and what it shows: the slots of the hart.
     pub(crate) fn slots<D: Dmi>(&self, link: &mut D) -> Result<Shown, Failure>
         requires serving { Attached (D.seen link.old) }
+        requires knows { Knows self.now.known self.now.hart (D.seen link.old).far }
         ensures went { IfOk result (λ shown. Went (before command.Slots (state_of self.now)) (at_shown shown (state_of self.now)) []
             (told (D.seen link.old)) (told (D.seen link.new))) }
         ensures falls { IfErr result (Fails (Falls (before command.Slots (state_of self.now)) []) (D.seen link.old) (D.seen link.new)) }
+        ensures selects { OnOk result (Selects self.now.hart (D.seen link.new).far) }
         ensures keeps { Goes AttachedShown (D.seen link.old) (D.seen link.new) result }
         ensures block { IfOk result IsOfBlock }
     {
-        match meet(link, &self.target, self.hart)? {
+        match meet(link, &self.target, self.hart, self.known)? {
             Met::Says(line) => Ok(Shown::Line(line)),
             Met::At(halted) => Ok(Shown::Slots(halted)),
         }

@@ -1,14 +1,14 @@
 //! `write`: a value stored several times, from an address upwards.
 
-ghost use Rattle.std.specs.Prelude.{[], IfOk, IfErr};
+ghost use Rattle.std.specs.Prelude.{[], IfOk, IfErr, OnOk};
 ghost use Rattle.debug_model.specs.Command.{IsBlock};
 ghost use Rattle.rv_model.specs.Size.{count_of};
 ghost use Rattle.probe_session.specs.Commands.{ends_with};
 ghost use Rattle.probe_session.specs.Goes.{Falls, Went};
-ghost use Rattle.probe_session.specs.Links.{Attached, Goes};
+ghost use Rattle.probe_session.specs.Links.{Attached, Goes, SelectionStays};
 ghost use Rattle.probe_session.specs.Reach.{AttachedBy, path_by, place_by, written};
 ghost use Rattle.probe_session.specs.Said.{said_by};
-ghost use Rattle.probe_run.specs.Told.{told, Fails};
+ghost use Rattle.probe_run.specs.Told.{told, Fails, OnChip};
 
 use crate::fault::Failure;
 use crate::reach::{Reach, store_by};
@@ -32,6 +32,7 @@ pub(crate) fn written_line<D: Dmi>(
         (ends_with (said_by line)) [] (told (D.seen link.old)) (told (D.seen link.new))) }
     ensures falls { IfErr result (Fails (Falls (λ next. place_by reach.now (written size address value count (path_by reach.now) next)) [])
         (D.seen link.old) (D.seen link.new)) }
+    ensures selection { OnOk result (OnChip SelectionStays (D.seen link.old) (D.seen link.new)) }
     ensures keeps { Goes (λ _. Attached) (D.seen link.old) (D.seen link.new) result }
 {
     if !is_aligned(size, address) {

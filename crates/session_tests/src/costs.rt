@@ -22,18 +22,26 @@ const AMPLE: usize = 65_536;
 /// A scan of `dmi`.
 const SCAN_RISES: u64 = 46;
 
-/// A Look, which is two operations in one call, and a register.
-const REGISTER_SCANS: u64 = 3 + 5;
+/// A Look of the hart that is known to be selected: one operation.
+const LOOK_SCANS: u64 = 2;
 
-/// A Look; `dcsr`; a step from its word, which writes `dcsr`, asks the hart with the first Look, and writes `dcsr` again; and for the line `dpc` and `dcsr` in
-/// one call of six operations.
-const STEP_SCANS: u64 = 3 + 5 + (5 + 3 + 5) + 7;
+/// A Look, and a register.
+const REGISTER_SCANS: u64 = LOOK_SCANS + 5;
+
+/// A Look that selects its hart: two operations in one call.
+const HART_SCANS: u64 = 3;
+
+/// A step from a word of `dcsr`: it writes `dcsr` with both data words, asks the hart with the first Look, reads `dcsr` by one data word, and writes it.
+const STEP_FROM_SCANS: u64 = 5 + 3 + 4 + 5;
+
+/// A Look; `dcsr`; a step from its word; and for the line `dpc` and `dcsr` in one call of six operations.
+const STEP_SCANS: u64 = LOOK_SCANS + 5 + STEP_FROM_SCANS + 7;
 
 /// One step more of several: `dcsr`, and a step from its word.
-const NEXT_STEP_SCANS: u64 = 5 + (5 + 3 + 5);
+const NEXT_STEP_SCANS: u64 = 5 + STEP_FROM_SCANS;
 
 /// A Look, `dcsr`, and the request with its first Look.
-const RESUME_SCANS: u64 = 3 + 5 + 3;
+const RESUME_SCANS: u64 = LOOK_SCANS + 5 + 3;
 
 /// One byte more of a run, which its data0 is read for.
 const BYTE_SCANS: u64 = 1;
@@ -63,6 +71,13 @@ fn one_command_more_takes_so_many_scans(rt: HostRuntime) -> Result<(), Fail> {
     // a script, the same with one command more, and the scans of that
     let cases = [
         ("reg x5\n", "reg x5\nreg x5\n", REGISTER_SCANS),
+        ("hart 0\n", "hart 0\nhart 0\n", HART_SCANS),
+        ("hart 0\n", "hart 0\nreg x5\n", REGISTER_SCANS),
+        (
+            "idcode\nvia bus\nread 1 0x80000000\n",
+            "idcode\nvia bus\nread 1 0x80000000\nreg x5\n",
+            REGISTER_SCANS,
+        ),
         ("step\nstep\n", "step\nstep\nstep\n", STEP_SCANS),
         ("step 2\n", "step 3\n", NEXT_STEP_SCANS),
         ("step\n", "step\nresume\n", RESUME_SCANS),

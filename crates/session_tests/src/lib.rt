@@ -13,6 +13,8 @@ mod costs;
 #[cfg(test)]
 mod ended;
 #[cfg(test)]
+mod harts;
+#[cfg(test)]
 mod paths;
 #[cfg(test)]
 mod scripted;

@@ -1,6 +1,7 @@
 use Rattle.std.proofs.Common.{◌∙◌, arith}
 use Rattle.probe_session.proofs.LinkLemmas.{if_err}
 use Rattle.probe_session.proofs.RegisterShow.{all_registers, pc_fell, pc_of_cores, pc_shown, x_fell, x_of_cores, x_shown}
+use Rattle.probe_session.proofs.Selections.{stays_then}
 use Rattle.probe_session.proofs.all_registers.put_registers.Goals as goal
 
 pub put_register-requires-clause-of : goal.put_register-requires-clause-of
@@ -13,6 +14,7 @@ returns-in_err-put_register-clause-fell g c = if_err _ c.in_err-put_register.fie
 pub showing-init : goal.showing-init
 showing-init g c = record {
   serving = c.in_ok-put_register.ensures.keeps.behind;
+  stays = c.in_ok-put_register.ensures.selection;
   shown =
       pc_shown c.args.halted.now.number c.in_ok-put_register.ensures.spoke;
   later = c.put_register.ensures.keeps.later;
@@ -32,6 +34,7 @@ returns-in_err-put_register-2-clause-fell g c = if_err _ c.in_err-put_register-2
 pub showing-preserved : goal.showing-preserved
 showing-preserved g c = record {
   serving = c.in_ok-put_register-2.ensures.keeps.behind;
+  stays = stays_then _ _ _ c.showing.invariant.stays c.in_ok-put_register-2.ensures.selection;
   shown = x_shown c.args.halted.now.number c.showing.x c.showing-test.true c.showing.invariant.shown c.in_ok-put_register-2.ensures.spoke;
   later = omega (arith, c.showing.invariant.later, c.put_register-in-showing.ensures.keeps.later);
   fixed = c.put_register-in-showing.ensures.keeps.fixed ∙ c.showing.invariant.fixed;

@@ -3,7 +3,7 @@ use Rattle.probe_session.specs.Commands.{at_stop_line, ends_with}
 use Rattle.probe_session.specs.Said.{said_by}
 use Rattle.probe_session.proofs.GoingLines.{at_going, behind_falls, err_at, found_other, found_whole, free_to_go, got_at, held_back, held_falls, ok_at}
 use Rattle.probe_session.proofs.GoingLines.{read_fell_at, view_falls}
-use Rattle.probe_session.proofs.LinkLemmas.{if_err}
+use Rattle.probe_session.proofs.LinkLemmas.{goes_at, if_err}
 use Rattle.probe_session.proofs.OneLine.{err_then, ok_then}
 use Rattle.probe_session.proofs.going.let_go_over_line.Goals as goal
 
@@ -59,3 +59,13 @@ returns-clause-falls g c =
     (got_at c.in_ok-again.ensures.hart c.in_ok-word.ensures.got))
     (omega (arith, c.slots.ensures.keeps.later, c.step_over.ensures.keeps.later, c.reg.ensures.keeps.later))
     (err_at at_stop_line _ _ _ _ _ c.in_ok-again.ensures.hart c.stop_line.ensures.falls)
+
+pub returns-then-shows_step-clause-keeps : goal.returns-then-shows_step-clause-keeps
+returns-then-shows_step-clause-keeps g c =
+    goes_at c.in_ok-again.ensures.hart (omega (arith, c.slots.ensures.keeps.later, c.step_over.ensures.keeps.later, c.reg.ensures.keeps.later))
+    (c.reg.ensures.keeps.fixed ∙ c.step_over.ensures.keeps.fixed ∙ c.slots.ensures.keeps.fixed) c.free_line-then-shows_step.ensures.keeps
+
+pub returns-clause-keeps : goal.returns-clause-keeps
+returns-clause-keeps g c =
+    goes_at c.in_ok-again.ensures.hart (omega (arith, c.slots.ensures.keeps.later, c.step_over.ensures.keeps.later, c.reg.ensures.keeps.later))
+    (c.reg.ensures.keeps.fixed ∙ c.step_over.ensures.keeps.fixed ∙ c.slots.ensures.keeps.fixed) c.stop_line.ensures.keeps

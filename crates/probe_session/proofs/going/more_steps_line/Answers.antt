@@ -5,7 +5,7 @@ use Rattle.probe_session.specs.Links.{AttachedHalted}
 use Rattle.probe_session.specs.Said.{said_by}
 use Rattle.probe_session.proofs.GoingLines.{err_at, found_falls, got_at, made_at, next_falls, next_step, ok_at, read_fell_at, step_fell_at}
 use Rattle.probe_session.proofs.GoingLines.{stepped_all, stepped_next, stepped_otherwise, stepping_none}
-use Rattle.probe_session.proofs.LinkLemmas.{if_err}
+use Rattle.probe_session.proofs.LinkLemmas.{goes_at, if_err}
 use Rattle.probe_session.proofs.OneLine.{err_then, ok_then}
 use Rattle.probe_session.proofs.going.more_steps_line.Goals as goal
 
@@ -68,3 +68,11 @@ returns-clause-falls g c = err_then _ _ _ (stepped_all c.args.halted.number c.ar
 pub step-requires-clause-reads : goal.step-requires-clause-reads
 step-requires-clause-reads g c =
     still_reads _ _ _ _ c.stepping.invariant.serving.serving.ready c.stepping.invariant.serving.serving.halted c.in_ok-word.ensures.got.told
+
+pub returns-then-not-shows_step-clause-keeps : goal.returns-then-not-shows_step-clause-keeps
+returns-then-not-shows_step-clause-keeps g c =
+    goes_at c.stepping.invariant.same (omega (arith, c.stepping.invariant.later, c.reg.ensures.keeps.later))
+    (c.reg.ensures.keeps.fixed ∙ c.stepping.invariant.fixed) c.stop_line.ensures.keeps
+
+pub returns-clause-keeps : goal.returns-clause-keeps
+returns-clause-keeps g c = goes_at c.stepping.invariant.same c.stepping.invariant.later c.stepping.invariant.fixed c.stop_line-2.ensures.keeps

@@ -3,7 +3,7 @@ use Rattle.probe_session.specs.Commands.{ends_with}
 use Rattle.probe_session.specs.Going.{behind_first}
 use Rattle.probe_session.specs.Said.{said_by}
 use Rattle.probe_session.proofs.GoingLines.{err_at, first_falls, first_step, no_steps, ok_at}
-use Rattle.probe_session.proofs.LinkLemmas.{if_err}
+use Rattle.probe_session.proofs.LinkLemmas.{goes_at, if_err}
 use Rattle.probe_session.proofs.OneLine.{err_then, ok_then}
 use Rattle.probe_session.proofs.going.stepped_line.Goals as goal
 
@@ -28,3 +28,7 @@ pub returns-clause-falls : goal.returns-clause-falls
 returns-clause-falls g c = err_then _ _ _ (first_step c.args.halted.number c.args.count (c.args.count - 1) (omega
     (arith, c.if-count-eq0.false)) c.in_ok-again.ensures.went)
     c.step_once.ensures.keeps.later (err_at (behind_first _) _ _ _ _ _ c.in_ok-again.ensures.hart c.more_steps_line.ensures.falls)
+
+pub returns-clause-keeps : goal.returns-clause-keeps
+returns-clause-keeps g c =
+    goes_at c.in_ok-again.ensures.hart c.step_once.ensures.keeps.later c.step_once.ensures.keeps.fixed c.more_steps_line.ensures.keeps

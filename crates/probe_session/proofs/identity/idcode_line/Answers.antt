@@ -2,6 +2,7 @@ use Rattle.std.proofs.Common.{refl}
 use Rattle.probe_session.specs.Failures.{failure_of_dmi}
 use Rattle.probe_session.proofs.LinkLemmas.{if_err}
 use Rattle.probe_session.proofs.Lines.{idcode_falls, identified, ready_on}
+use Rattle.probe_session.proofs.Selections.{identified_stays}
 use Rattle.probe_session.proofs.identity.idcode_line.Goals as goal
 
 pub returns-in_err-number-clause-falls : goal.returns-in_err-number-clause-falls
@@ -33,3 +34,6 @@ returns-clause-keeps g c = record {
   fixed = c.idcode.ensures.keeps.fixed;
   behind = record { stands = c.in_ok-number.ensures.keeps.behind; ready = ready_on _ _ c.requires.serving.ready c.in_ok-number.ensures.path };
 }
+
+pub returns-clause-selection : goal.returns-clause-selection
+returns-clause-selection g c = identified_stays _ _ c.requires.serving.ready c.in_ok-number.ensures.path

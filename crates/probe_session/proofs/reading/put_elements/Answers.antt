@@ -6,6 +6,7 @@ use Rattle.probe_session.proofs.MemoryLines.{attached_by}
 use Rattle.probe_session.proofs.PutLines.{cut_as, fault_at, shown_as}
 use Rattle.probe_session.proofs.ReadLines.{block_fell, elements_refused, elements_shown, lines_cut, misaligned_cut, read_misaligned, refusal_cut}
 use Rattle.probe_session.proofs.SeenLemmas.{block_refused, block_whole}
+use Rattle.probe_session.proofs.Selections.{stays_here}
 use Rattle.probe_session.proofs.reading.put_elements.Goals as goal
 
 pub returns-in_err-put_line-clause-fell : goal.returns-in_err-put_line-clause-fell
@@ -52,3 +53,6 @@ returns-clause-spoke g c = elements_refused c.args.reach.now c.args.size c.args.
     (sym c.is_aligned.ensures ∙ c.if-not-is_aligned.false) (fault_at c.args.size c.args.address _ _ _ (cc) c.len.ensures.value)
     (block_refused c.if-is_whole.false c.in_ok-is_whole.ensures.loaded)
     (shown_as c.args.size c.args.address _ _ _ _ c.as_slice.ensures.value c.in_ok-put_values.ensures.put) c.in_ok-put_line-2.ensures.put
+
+pub returns-then-not-is_aligned-clause-selection : goal.returns-then-not-is_aligned-clause-selection
+returns-then-not-is_aligned-clause-selection g c = stays_here _

@@ -9,6 +9,7 @@ pub commands-init : goal.commands-init
 commands-init g c = record {
   within = c.requires.within;
   serving = c.requires.serving;
+  knows = c.requires.knows;
   so_far = spoke_none _;
   later = omega arith;
   sink_later =
@@ -22,6 +23,7 @@ commands-preserved-in-Done g c =
     record {
       within = within_after _ c.in-Some.command.now _ front c.commands.invariant.within;
       serving = c.in-Done.ensures.serving;
+      knows = c.in-Done.ensures.knows;
       so_far = done_one _ (state_of c.args.begun) c.in-Some.command.now _ _ (state_of c.commands.session) (state_of c.act.new.self) _ front
           c.commands.invariant.so_far c.in-Done.ensures.acted;
       later = omega (arith, c.commands.invariant.later, c.act.ensures.later);
@@ -35,6 +37,7 @@ commands-preserved g c =
     record {
       within = within_after _ c.in-Some.command.now _ front c.commands.invariant.within;
       serving = c.in-Error.ensures.serving;
+      knows = c.in-Error.ensures.knows;
       so_far = wrong_one _ (state_of c.args.begun) c.in-Some.command.now _ _ (state_of c.commands.session) (state_of c.act.new.self) _ front
           c.commands.invariant.so_far c.in-Error.ensures.acted;
       later = omega (arith, c.commands.invariant.later, c.act.ensures.later);

@@ -2,6 +2,7 @@ use Rattle.probe_run.specs.Told.{told}
 use Rattle.std.proofs.Common.{◌≡◌, ◌≤◌, All, length}
 use Rattle.debug_model.specs.Command.{IsWithinRanges}
 use Rattle.probe_session.specs.Commands.{state_of}
+use Rattle.probe_session.specs.Known.{Knows}
 use Rattle.probe_session.specs.Links.{Attached}
 use Rattle.probe_session.proofs.ScriptLemmas.{SoFar}
 use Rattle.probe_session.proofs.script.run_commands.Given as goal
@@ -10,6 +11,7 @@ abbrev pub invariant-commands : goal.invariant-commands
 invariant-commands g l = record {
   within : All IsWithinRanges l.rest;
   serving : Attached (g.D.Dmi.seen l.link);
+  knows : Knows l.session.known l.session.hart (g.D.Dmi.seen l.link).far;
   so_far : SoFar l.fn.commands (state_of l.fn.begun) l.rest (state_of l.session) l.has_errors (told (g.D.Dmi.seen l.fn.link)) (told (g.D.Dmi.seen l.link))
       (g.K.Sink.contents l.fn.out) (g.K.Sink.contents l.out);
   later : (g.D.Dmi.seen l.fn.link).fault_count ≤ (g.D.Dmi.seen l.link).fault_count;

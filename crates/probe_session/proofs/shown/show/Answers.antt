@@ -5,6 +5,7 @@ use Rattle.probe_session.proofs.OneLine.{if_err_map}
 use Rattle.probe_session.proofs.ShownLines.{fell_of, spoke_of}
 use Rattle.probe_session.proofs.Spoken.{fell_said, one_line, spoke_none}
 use Rattle.probe_session.proofs.WentLemmas.{went_none}
+use Rattle.probe_session.proofs.Selections.{stays_here}
 use Rattle.probe_session.proofs.shown.show.Goals as goal
 
 pub returns-in_err-put_line-in-Line-clause-fell : goal.returns-in_err-put_line-in-Line-clause-fell
@@ -30,3 +31,6 @@ returns-in-Elements-clause-fell g c = if_err_map _ _ _ (λ f p. fell_of c.in-Ele
 
 pub returns-in-Bytes-clause-fell : goal.returns-in-Bytes-clause-fell
 returns-in-Bytes-clause-fell g c = if_err_map _ _ _ (λ f p. fell_of c.in-Bytes.is p) c.put_rows.ensures.fell
+
+pub returns-in_ok-put_line-in-Line-clause-selection : goal.returns-in_ok-put_line-in-Line-clause-selection
+returns-in_ok-put_line-in-Line-clause-selection g c = stays_here _

@@ -2,6 +2,7 @@ use Rattle.std.proofs.Common.{get_or, arith}
 use Rattle.jt_base.proofs.FaultLemmas.{rises_from}
 use Rattle.debug_model.specs.declared.slot_use.SlotUse.TheVariants as slot_use
 use Rattle.probe_session.proofs.LinkLemmas.{if_err}
+use Rattle.probe_session.proofs.Selections.{viewed_stays}
 use Rattle.probe_session.proofs.SlotLines.{four_uses, slot_cut, slot_said, slots_all, slots_fell, slots_viewed, used_at}
 use Rattle.probe_session.proofs.Spoken.{fell_first}
 use Rattle.probe_session.proofs.slots_shown.put_slots.Goals as goal
@@ -33,3 +34,8 @@ showing-preserved g c = record {
 pub returns-clause-spoke : goal.returns-clause-spoke
 returns-clause-spoke g c = slots_all c.args.halted.now.number c.in_ok-seen.seen c.showing.slot
     (four_uses c.args.halted.now.number c.in_ok-seen.seen c.in_ok-seen.ensures.viewed) (omega arith) c.showing.invariant.said
+
+pub returns-clause-selection : goal.returns-clause-selection
+returns-clause-selection g c =
+    viewed_stays c.args.halted.now.number c.in_ok-seen.seen _ _ c.in_ok-seen.ensures.viewed c.requires.serving.serving.selects
+    c.in_ok-seen.ensures.keeps.behind.serving.selects

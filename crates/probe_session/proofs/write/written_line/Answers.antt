@@ -3,6 +3,7 @@ use Rattle.std.proofs.Common.{◌∙◌, sym}
 use Rattle.probe_session.proofs.LinkLemmas.{if_err}
 use Rattle.probe_session.proofs.MemoryLines.{attached_by, write_falls, write_misaligned, write_refused, wrote_all}
 use Rattle.probe_session.proofs.SeenLemmas.{all_stored, some_stored}
+use Rattle.probe_session.proofs.Selections.{stays_here}
 use Rattle.probe_session.proofs.write.written_line.Goals as goal
 
 pub returns-then-not-is_aligned-clause-went : goal.returns-then-not-is_aligned-clause-went
@@ -27,3 +28,6 @@ returns-in-Some-clause-went g c = write_refused c.args.reach.now c.args.size c.a
 
 pub returns-in-Some-clause-keeps : goal.returns-in-Some-clause-keeps
 returns-in-Some-clause-keeps g c = let b = attached_by c.args.reach.now _ c.in_ok-store_by.ensures.keeps.behind in search rules
+
+pub returns-then-not-is_aligned-clause-selection : goal.returns-then-not-is_aligned-clause-selection
+returns-then-not-is_aligned-clause-selection g c = stays_here _

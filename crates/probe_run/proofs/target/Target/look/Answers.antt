@@ -1,7 +1,7 @@
 use Rattle.probe_run.specs.Told.{told}
 use Rattle.probe_run.specs.Happens.{LookLeft}
 use Rattle.probe_run.proofs.ActLemmas.{if_err}
-use Rattle.probe_run.proofs.Looking.{look_broke, look_happened, look_ready, look_seen, look_selects, looked_at}
+use Rattle.probe_run.proofs.Looking.{look_broke, look_happened, look_outcome, look_ready, look_seen, look_selects, looked_at}
 use Rattle.probe_run.proofs.target.Target.look.Goals as goal
 
 pub returns-in_err-word-clause-left : goal.returns-in_err-word-clause-left
@@ -15,20 +15,20 @@ returns-clause-did g c = looked_at c.args.hart _ _ _ _ c.in_ok-word.ensures.did 
 
 pub returns-clause-happened : goal.returns-clause-happened
 returns-clause-happened g c =
-    look_happened c.args.hart c.requires.hart (told (g.D.Dmi.seen c.args.link.now)) (told (g.D.Dmi.seen c.control_and_look.new.link)) _ c.requires.ready
-    (looked_at c.args.hart _ _ _ _ c.in_ok-word.ensures.did c.seen_of.ensures)
+    look_happened c.args.hart _ _ _ _ c.seen_of.ensures
+    (look_outcome c.args.hart _ c.requires.hart (told (g.D.Dmi.seen c.args.link.now)) (told (g.D.Dmi.seen c.control_and_look.new.link)) c.requires.ready c.in_ok-word.ensures.did)
 
 pub returns-clause-ready : goal.returns-clause-ready
 returns-clause-ready g c =
-    look_ready c.args.hart c.requires.hart (told (g.D.Dmi.seen c.args.link.now)) (told (g.D.Dmi.seen c.control_and_look.new.link)) _ c.requires.ready
-    (looked_at c.args.hart _ _ _ _ c.in_ok-word.ensures.did c.seen_of.ensures)
+    look_ready c.args.hart _ _ _
+    (look_outcome c.args.hart _ c.requires.hart (told (g.D.Dmi.seen c.args.link.now)) (told (g.D.Dmi.seen c.control_and_look.new.link)) c.requires.ready c.in_ok-word.ensures.did)
 
 pub returns-clause-selects : goal.returns-clause-selects
 returns-clause-selects g c =
-    look_selects c.args.hart c.requires.hart (told (g.D.Dmi.seen c.args.link.now)) (told (g.D.Dmi.seen c.control_and_look.new.link)) _ c.requires.ready
-    (looked_at c.args.hart _ _ _ _ c.in_ok-word.ensures.did c.seen_of.ensures)
+    look_selects c.args.hart _ _ _
+    (look_outcome c.args.hart _ c.requires.hart (told (g.D.Dmi.seen c.args.link.now)) (told (g.D.Dmi.seen c.control_and_look.new.link)) c.requires.ready c.in_ok-word.ensures.did)
 
 pub returns-clause-seen : goal.returns-clause-seen
 returns-clause-seen g c =
-    look_seen c.args.hart c.requires.hart (told (g.D.Dmi.seen c.args.link.now)) (told (g.D.Dmi.seen c.control_and_look.new.link)) _ c.requires.ready
-    (looked_at c.args.hart _ _ _ _ c.in_ok-word.ensures.did c.seen_of.ensures)
+    look_seen c.args.hart _ _ _ _ c.seen_of.ensures
+    (look_outcome c.args.hart _ c.requires.hart (told (g.D.Dmi.seen c.args.link.now)) (told (g.D.Dmi.seen c.control_and_look.new.link)) c.requires.ready c.in_ok-word.ensures.did)

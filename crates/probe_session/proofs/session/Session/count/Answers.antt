@@ -1,6 +1,6 @@
 use Rattle.probe_session.specs.Commands.{armed, state_of}
 use Rattle.probe_session.specs.Said.{said_by}
-use Rattle.probe_session.proofs.LinkLemmas.{if_err}
+use Rattle.probe_session.proofs.LinkLemmas.{goes_at, if_err}
 use Rattle.probe_session.proofs.OneLine.{if_err_map, if_ok_map, met_as, met_at, met_at_falls, met_falls, met_says}
 use Rattle.abstract_debugger.specs.Trace.What.{Count}
 use Rattle.probe_session.proofs.session.Session.count.Goals as goal
@@ -24,3 +24,7 @@ returns-in-At-clause-falls g c =
     let m = met_as _ _ _ c.in-At.is c.in_ok-line.ensures.met in
     if_err_map _ _ _ (λ f p. met_at_falls (state_of c.args.self.now) (armed (Count c.args.turns)) c.in-At.halted.number m.0 m.1 c.meet.ensures.keeps.later p)
     c.armed_line.ensures.falls
+
+pub returns-in-At-clause-keeps : goal.returns-in-At-clause-keeps
+returns-in-At-clause-keeps g c =
+    let m = met_as _ _ _ c.in-At.is c.in_ok-line.ensures.met in goes_at m.0 c.meet.ensures.keeps.later c.meet.ensures.keeps.fixed c.armed_line.ensures.keeps

@@ -2,7 +2,7 @@ use Rattle.std.proofs.Common.{◌∙◌, arith, refl}
 use Rattle.probe_session.specs.Commands.{state_of}
 use Rattle.probe_session.specs.Failures.{failure_of_run}
 use Rattle.probe_session.specs.Said.{said_by}
-use Rattle.probe_session.proofs.LinkLemmas.{if_err}
+use Rattle.probe_session.proofs.LinkLemmas.{goes_at, if_err}
 use Rattle.probe_session.proofs.OneLine.{halt_absent, halt_falls, halt_halted, halt_made, halt_made_falls, if_err_map, if_ok_map, of_halted}
 use Rattle.probe_session.proofs.OneLine.{of_running, stops, stops_falls}
 use Rattle.probe_session.proofs.SeenLemmas.{saw_as}
@@ -58,3 +58,13 @@ returns-in-Halted-clause-falls g c =
     if_err_map _ _ _ (λ f p. stops_falls (state_of c.args.self.now) c.in-Halted.halted.number _ (of_halted c.in-Halted.is c.in_ok-look.ensures.of)
     (halt_halted (state_of c.args.self.now) _ (saw_as c.in-Halted.is c.in_ok-look.ensures.saw)) c.look.ensures.keeps.later p)
     c.stop_line-in-Halted.ensures.falls
+
+pub returns-in_ok-halted-in-Running-clause-keeps : goal.returns-in_ok-halted-in-Running-clause-keeps
+returns-in_ok-halted-in-Running-clause-keeps g c =
+    goes_at (c.in_ok-halted-in-Running.ensures.hart ∙ of_running c.in-Running.is c.in_ok-look.ensures.of)
+    (omega (arith, c.look.ensures.keeps.later, c.halt.ensures.keeps.later)) (c.halt.ensures.keeps.fixed ∙ c.look.ensures.keeps.fixed)
+    c.stop_line.ensures.keeps
+
+pub returns-in-Halted-clause-keeps : goal.returns-in-Halted-clause-keeps
+returns-in-Halted-clause-keeps g c =
+    goes_at (of_halted c.in-Halted.is c.in_ok-look.ensures.of) c.look.ensures.keeps.later c.look.ensures.keeps.fixed c.stop_line-in-Halted.ensures.keeps

@@ -1,6 +1,6 @@
 use Rattle.probe_session.specs.Commands.{written_and_shown, state_of}
 use Rattle.probe_session.specs.Said.{said_by}
-use Rattle.probe_session.proofs.LinkLemmas.{if_err}
+use Rattle.probe_session.proofs.LinkLemmas.{goes_at, if_err}
 use Rattle.probe_session.proofs.OneLine.{if_err_map, if_ok_map, met_as, met_at, met_at_falls, met_falls, met_says}
 use Rattle.probe_session.proofs.RegisterLemmas.{of_cores}
 use Rattle.probe_session.proofs.session.Session.set_reg.Goals as goal
@@ -27,3 +27,7 @@ returns-in-At-clause-falls g c =
 
 pub written_register_line-requires-clause-of : goal.written_register_line-requires-clause-of
 written_register_line-requires-clause-of g c = of_cores c.args.name.0 c.requires.known
+
+pub returns-in-At-clause-keeps : goal.returns-in-At-clause-keeps
+returns-in-At-clause-keeps g c =
+    let m = met_as _ _ _ c.in-At.is c.in_ok-line.ensures.met in goes_at m.0 c.meet.ensures.keeps.later c.meet.ensures.keeps.fixed c.written_register_line.ensures.keeps

@@ -1,6 +1,6 @@
 use Rattle.probe_session.specs.Commands.{state_of}
 use Rattle.probe_session.specs.Said.{said_by}
-use Rattle.probe_session.proofs.LinkLemmas.{if_err}
+use Rattle.probe_session.proofs.LinkLemmas.{goes_at, if_err}
 use Rattle.probe_session.proofs.OneLine.{if_err_map, if_ok_map, of_halted, state_absent, state_falls, state_halted, state_running, stops, stops_falls}
 use Rattle.probe_session.proofs.SeenLemmas.{saw_as}
 use Rattle.probe_session.proofs.session.Session.state.Goals as goal
@@ -24,3 +24,7 @@ pub returns-in-Halted-clause-falls : goal.returns-in-Halted-clause-falls
 returns-in-Halted-clause-falls g c =
     if_err_map _ _ _ (λ f p. stops_falls (state_of c.args.self.now) c.in-Halted.halted.number _ (of_halted c.in-Halted.is c.in_ok-look.ensures.of)
     (state_halted (state_of c.args.self.now) _ (saw_as c.in-Halted.is c.in_ok-look.ensures.saw)) c.look.ensures.keeps.later p) c.stop_line.ensures.falls
+
+pub returns-in-Halted-clause-keeps : goal.returns-in-Halted-clause-keeps
+returns-in-Halted-clause-keeps g c =
+    goes_at (of_halted c.in-Halted.is c.in_ok-look.ensures.of) c.look.ensures.keeps.later c.look.ensures.keeps.fixed c.stop_line.ensures.keeps

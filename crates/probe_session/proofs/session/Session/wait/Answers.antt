@@ -1,14 +1,21 @@
 use Rattle.std.proofs.Common.{◌∙◌, refl, arith}
 use Rattle.probe_session.specs.Commands.{state_of}
 use Rattle.probe_session.specs.Said.{said_by}
-use Rattle.probe_session.proofs.LinkLemmas.{if_err}
+use Rattle.probe_session.proofs.LinkLemmas.{goes_at, if_err}
 use Rattle.probe_session.proofs.OneLine.{if_err_map, if_ok_map, of_halted, stops, stops_falls, waited_absent, waited_again, waited_falls}
 use Rattle.probe_session.proofs.OneLine.{waited_halted, waited_none, waited_out}
 use Rattle.probe_session.proofs.SeenLemmas.{saw_as}
 use Rattle.probe_session.proofs.session.Session.wait.Goals as goal
 
 pub looking-init : goal.looking-init
-looking-init g c = record { serving = c.requires.serving; waited = waited_none (state_of c.args.self.now) c.args.looks _; later = omega arith; fixed = refl }
+looking-init g c = record {
+  serving = c.requires.serving;
+  knows = c.requires.knows;
+  selects = λ some. absurd (omega (arith, some));
+  waited = waited_none (state_of c.args.self.now) c.args.looks _;
+  later = omega arith;
+  fixed = refl;
+}
 
 pub returns-in_err-look-clause-falls : goal.returns-in_err-look-clause-falls
 returns-in_err-look-clause-falls g c =
@@ -33,7 +40,9 @@ returns-in-Halted-clause-falls g c =
 
 pub looking-preserved : goal.looking-preserved
 looking-preserved g c = record {
-  serving = c.in_ok-look.ensures.keeps.behind;
+  serving = record { stands = c.in_ok-look.ensures.keeps.behind.stands; ready = c.in_ok-look.ensures.keeps.behind.ready };
+  knows = c.in_ok-look.ensures.keeps.behind.selects;
+  selects = λ some. c.in_ok-look.ensures.keeps.behind.selects;
   waited = waited_again (state_of c.args.self.now) c.args.looks c.looking._look _ c.looking-test.true c.looking.invariant.waited
       (saw_as c.in-Running.is c.in_ok-look.ensures.saw);
   later = omega (arith, c.looking.invariant.later, c.look.ensures.keeps.later);
@@ -42,3 +51,19 @@ looking-preserved g c = record {
 
 pub returns-clause-went : goal.returns-clause-went
 returns-clause-went g c = waited_out (state_of c.args.self.now) c.args.looks c.looking._look (omega arith) c.looking.invariant.waited
+
+pub returns-in-Halted-clause-keeps : goal.returns-in-Halted-clause-keeps
+returns-in-Halted-clause-keeps g c =
+    goes_at (of_halted c.in-Halted.is c.in_ok-look.ensures.of) (omega (arith, c.looking.invariant.later, c.look.ensures.keeps.later))
+    (c.look.ensures.keeps.fixed ∙ c.looking.invariant.fixed) c.stop_line.ensures.keeps
+
+pub returns-clause-keeps : goal.returns-clause-keeps
+returns-clause-keeps g c = record {
+  later = c.looking.invariant.later;
+  fixed = c.looking.invariant.fixed;
+  behind = record {
+    stands = c.looking.invariant.serving.stands;
+    ready = c.looking.invariant.serving.ready;
+    selects = c.looking.invariant.selects (omega (arith, c.requires.looks));
+  };
+}

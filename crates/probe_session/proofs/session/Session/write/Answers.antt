@@ -1,6 +1,7 @@
 use Rattle.probe_session.specs.Commands.{state_of}
 use Rattle.probe_session.specs.Reach.{written}
 use Rattle.probe_session.specs.Said.{said_by}
+use Rattle.probe_session.proofs.Knowing.{still_knows}
 use Rattle.probe_session.proofs.LinkLemmas.{if_err}
 use Rattle.probe_session.proofs.MemoryLines.{reach_falls, reach_goes, reach_goes_falls, reach_says, reached_as}
 use Rattle.probe_session.proofs.OneLine.{if_err_map, if_ok_map}
@@ -23,3 +24,6 @@ pub returns-in-By-clause-falls : goal.returns-in-By-clause-falls
 returns-in-By-clause-falls g c = if_err_map _ _ _ (λ f p. reach_goes_falls (state_of c.args.self.now) c.in-By.reach
     (written c.args.size c.args.address c.args.value c.args.count) (reached_as _ _ _ c.in-By.is c.in_ok-line.ensures.reached) c.reach.ensures.keeps.later p)
     c.written_line.ensures.falls
+
+pub returns-in-By-clause-knows : goal.returns-in-By-clause-knows
+returns-in-By-clause-knows g c = still_knows _ _ _ _ _ c.written_line.ensures.selection c.in_ok-line.ensures.knows
