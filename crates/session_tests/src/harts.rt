@@ -1,6 +1,7 @@
 //! Which hart the Looks of a session are of, on a chip with two: each hart keeps a number of its own in x6.
 
-use crate::chips::{HALTED, Loading, PROGRAM, loaded, run_on};
+use crate::chips::{Loading, PROGRAM, loaded, run_on};
+use hart_debug::Start;
 use jt_base::MemorySink;
 use probe_session::Ended;
 use script_lang::parse;
@@ -12,7 +13,12 @@ use std::test::Fail;
 const AMPLE: usize = 4_096;
 
 /// Both harts halted.
-const TWO: Loading = Loading { harts: 2, ..HALTED };
+const TWO: Loading = Loading {
+    start: Start::Halted,
+    seed: 1,
+    busy: 1,
+    harts: 2,
+};
 
 /// x6 is 6 in hart 0, and 7 in hart 1, which is selected then.
 const NUMBERED: &str = "reg x6 6\nhart 1\nreg x6 7\n";
