@@ -37,7 +37,7 @@ struct Block {
 }
 
 /// Stores a block. An error where another fault than one of memory came.
-fn try_store_block<D: Dmi>(
+pub fn try_store_block<D: Dmi>(
     link: &mut D,
     halted: &Halted,
     size: Size,
@@ -60,7 +60,7 @@ fn try_store_block<D: Dmi>(
 }
 
 /// Loads a block. An error where another fault than one of memory came.
-fn try_load_block<D: Dmi>(
+pub fn try_load_block<D: Dmi>(
     link: &mut D,
     halted: &Halted,
     size: Size,

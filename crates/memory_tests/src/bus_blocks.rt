@@ -34,7 +34,7 @@ struct Block {
 }
 
 /// Stores a block. An error where another fault than one of memory came.
-fn try_store<D: Dmi>(
+pub fn try_store<D: Dmi>(
     link: &mut D,
     size: Size,
     address: u64,
@@ -56,7 +56,7 @@ fn try_store<D: Dmi>(
 }
 
 /// Loads a block. An error where another fault than one of memory came.
-fn try_load<D: Dmi>(
+pub fn try_load<D: Dmi>(
     link: &mut D,
     size: Size,
     address: u64,
@@ -69,6 +69,8 @@ fn try_load<D: Dmi>(
     requires some { (1 ≤ count) × (count ≤ most_elements) }
     requires ends { address + count * count_of size ≤ all_addresses }
     requires empty { into.old.items ≡ [] }
+    ensures callable { OnOk result (CanCall (D.seen link.new)) }
+    ensures ready { OnOk result (IsReady (D.seen link.new).far) }
 {
     match bus_load_block(link, size, address, count, into) {
         Ok(()) => Ok(Ok(())),

@@ -1,4 +1,4 @@
-//! Single steps of loaded chips. Each does one instruction, and the step flag is off again.
+//! Single steps of loaded chips. Each does one instruction, and behind it the step flag and stepie are off, and ebreakm as it was.
 
 ghost use Rattle.std.specs.Prelude.{IfOk, IfSome, IsSome};
 ghost use Rattle.chip_core.specs.Loads.{IsFirst};
@@ -10,7 +10,7 @@ use chip_core::{Bench, BenchWire};
 use debug_model::{Dmi, Event, Round, Schedule};
 use hart_debug::Start;
 use link_tests::Fault;
-use probe_access::{AccessFault, Stop, reg, step, stop};
+use probe_access::{AccessFault, Stop, reg, set_reg, step, stop};
 use probe_dmi::Link;
 use probe_run::{RunFault, Seen, connect};
 use probe_scan::Scanner;
@@ -43,8 +43,8 @@ struct Stepped {
     dcsr: u64,
 }
 
-/// Opens the chip and makes two steps with hart 0, which is halted.
-fn step_twice<D: Dmi>(link: &mut D) -> Result<Stepped, Fault>
+/// Opens the chip, writes this to `dcsr` of hart 0, which is halted, and makes two steps with it.
+fn step_twice<D: Dmi>(link: &mut D, written: u64) -> Result<Stepped, Fault>
     requires callable { CanCall (D.seen link.old) }
     requires loaded { IsAsLoaded (D.seen link.old).far }
 {
@@ -52,6 +52,7 @@ fn step_twice<D: Dmi>(link: &mut D) -> Result<Stepped, Fault>
     let Seen::Halted(halted) = target.look(link, 0)? else {
         return Err(Fault::SeenOtherwise);
     };
+    set_reg(link, &halted, DCSR, written)?;
     let once = step(link, halted)?;
     let first = stop(link, &once)?;
     let twice = step(link, once)?;
@@ -66,17 +67,24 @@ fn step_twice<D: Dmi>(link: &mut D) -> Result<Stepped, Fault>
     })
 }
 
-fn step_over<Q: Schedule>(bench: &mut Bench<Q>) -> Result<Stepped, Fault>
+fn step_over<Q: Schedule>(bench: &mut Bench<Q>, written: u64) -> Result<Stepped, Fault>
     requires loaded { IsSome bench.old }
     requires fresh { IfSome bench.old AsLoaded }
 {
     let mut link = Link::new(Scanner::new(BenchWire::new(bench, PIECE)));
-    step_twice(&mut link)
+    step_twice(&mut link, written)
 }
 
 #[test]
 fn a_step_does_one_instruction(rt: HostRuntime) -> Result<(), Fail> {
-    for busy in [1, 32] {
+    // none of its fields, ebreakm, and that with stepie and step
+    let cases = [
+        (1, 0, 0x4000_0103),
+        (32, 0, 0x4000_0103),
+        (1, 0x8000, 0x4000_8103),
+        (32, 0x8804, 0x4000_8103),
+    ];
+    for (busy, written, dcsr) in cases {
         let mut bench = Bench::blank();
         let schedule = SeedSchedule::new(7, busy, 2);
         bench.load(rt.alloc(), PROGRAM, 2, RAM_LEAST, Start::Halted, schedule)?;
@@ -90,9 +98,9 @@ fn a_step_does_one_instruction(rt: HostRuntime) -> Result<(), Fail> {
                 cause: 4,
             },
             x5: 6,
-            dcsr: 0x4000_0103,
+            dcsr,
         };
-        assert_eq!(rt; step_over(&mut bench), Ok(wanted));
+        assert_eq!(rt; step_over(&mut bench, written), Ok(wanted));
     }
     Ok(())
 }
@@ -122,7 +130,7 @@ fn a_hart_without_turns_makes_no_step(rt: HostRuntime) -> Result<(), Fail> {
         without_turns(alloc)?,
     )?;
     assert_eq!(rt;
-        step_over(&mut bench),
+        step_over(&mut bench, 0),
         Err(Fault::Access(AccessFault::Run(RunFault::NoAck(64))))
     );
     Ok(())
