@@ -45,7 +45,7 @@ use Rattle.probe_session.proofs.Tolds.{went_by}
 -- ---- what is known
 
 -- behind a whole step
-none_hit_now : (m : Machine) (h : ℕ) (o : Origin) (p : Plan) (lines : List Line) (t : Target) (x : Hart) → slice_get t.board.harts h ≡ Some x
+pub none_hit_now : (m : Machine) (h : ℕ) (o : Origin) (p : Plan) (lines : List Line) (t : Target) (x : Hart) → slice_get t.board.harts h ≡ Some x
     → is_step x.debug.halted ≡ true → Deals m h StillWay o p lines t → Deals m h Ready o p lines t
 none_hit_now m h o p lines t x here is d =
     let same : slice_get t.board.harts h ≡ slice_get d.stands.world.board.harts h = shown o h p lines t d.stands (deals_frozen m h StillWay o p lines t tt d) in

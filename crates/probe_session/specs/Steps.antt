@@ -34,6 +34,7 @@ use Rattle.probe_trig.specs.Stepping.{shows_step}
 use Rattle.probe_access.specs.Blocks.{element_at}
 use Rattle.probe_session.specs.BlockCalls.{BlockLoaded, BlockLoadedNone, BlockStored, BlockStoredNone}
 use Rattle.probe_session.specs.Blocks.{Loads, Stores, loading, storing}
+use Rattle.probe_session.specs.Known.{IsWhole}
 use Rattle.probe_session.specs.Places.{Place, at_say, idle, may_say, place, ready, spot, still}
 
 -- where a command stands behind its Look
@@ -94,6 +95,8 @@ pub data Step : Place → Tells → List Line → Place → Tells → Type 0 whe
   -- behind a whole step no slot has a hit, so that none is visited; behind any other stop some may
   finds_none_hit : {h word : ℕ} {p : Plan} {old new : Tells} → Got h dcsr_number word old new → shows_step word ≡ true
       → Step (still h p) old [] (ready h p) new
+  -- so it is where that is known, and not read again
+  knows_none_hit : {h : ℕ} {p : Plan} {t : Tells} → IsWhole h t.far → Step (still h p) t [] (ready h p) t
   finds_maybe_hit : {h word : ℕ} {p : Plan} {old new : Tells} → Got h dcsr_number word old new → shows_step word ≡ false
       → Step (still h p) old [] (still h p) new
   steps : {h : ℕ} (stepped other : Plan) {old new : Tells} → StepMade h old new

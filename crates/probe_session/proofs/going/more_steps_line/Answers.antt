@@ -6,6 +6,7 @@ use Rattle.probe_session.proofs.GoingLines.{err_at, found_falls, got_at, made_at
 use Rattle.probe_session.proofs.GoingLines.{stepped_all, stepped_next, stepped_otherwise, stepping_none}
 use Rattle.probe_session.proofs.LinkLemmas.{goes_at, if_err}
 use Rattle.probe_session.proofs.OneLine.{err_then, ok_then}
+use Rattle.probe_session.proofs.Whole.{whole_at}
 use Rattle.probe_session.proofs.going.more_steps_line.Goals as goal
 
 pub stepping-init : goal.stepping-init
@@ -71,3 +72,9 @@ returns-then-not-shows_step-clause-keeps g c =
 
 pub returns-clause-keeps : goal.returns-clause-keeps
 returns-clause-keeps g c = goes_at c.stepping.invariant.same c.stepping.invariant.later c.stepping.invariant.fixed c.stop_line-2.ensures.keeps
+
+pub returns-then-not-shows_step-clause-whole : goal.returns-then-not-shows_step-clause-whole
+returns-then-not-shows_step-clause-whole g c = whole_at _ _ c.stepping.invariant.same c.stop_line.ensures.whole
+
+pub returns-clause-whole : goal.returns-clause-whole
+returns-clause-whole g c = whole_at _ _ c.stepping.invariant.same c.stop_line-2.ensures.whole
