@@ -31,15 +31,20 @@ const REGISTER_SCANS: u64 = LOOK_SCANS + 5;
 /// A Look that selects its hart: two operations in one call.
 const HART_SCANS: u64 = 3;
 
-/// A Look; `dcsr`; a step, which reads and writes `dcsr`, asks the hart with the first Look, and reads and writes `dcsr` again; and for the line `dpc` and
-/// `dcsr` in one call of six operations.
-const STEP_SCANS: u64 = LOOK_SCANS + 5 + (10 + 3 + 10) + 7;
+/// `dcsr`, which shows why the hart halted.
+const CAUSE_SCANS: u64 = 5;
 
-/// One step more of several: `dcsr`, and a step.
-const NEXT_STEP_SCANS: u64 = 5 + (10 + 3 + 10);
+/// A single step, which reads and writes `dcsr`, asks the hart with the first Look, and reads and writes `dcsr` again.
+const ONE_STEP_SCANS: u64 = 10 + 3 + 10;
 
-/// A Look, `dcsr`, and the request with its first Look.
-const RESUME_SCANS: u64 = LOOK_SCANS + 5 + 3;
+/// A step right behind one: a Look, a single step, and for the line `dpc` and `dcsr` in one call of six operations.
+const STEP_SCANS: u64 = LOOK_SCANS + ONE_STEP_SCANS + 7;
+
+/// One step more of several.
+const NEXT_STEP_SCANS: u64 = CAUSE_SCANS + ONE_STEP_SCANS;
+
+/// Right behind a step: a Look, and the request with its first Look.
+const RESUME_SCANS: u64 = LOOK_SCANS + 3;
 
 /// One byte more of a run, which its data0 is read for.
 const BYTE_SCANS: u64 = 1;
@@ -79,6 +84,16 @@ fn one_command_more_takes_so_many_scans(rt: HostRuntime) -> Result<(), Fail> {
         ("step\nstep\n", "step\nstep\nstep\n", STEP_SCANS),
         ("step 2\n", "step 3\n", NEXT_STEP_SCANS),
         ("step\n", "step\nresume\n", RESUME_SCANS),
+        (
+            "step\nreg x5\n",
+            "step\nreg x5\nresume\n",
+            RESUME_SCANS + CAUSE_SCANS,
+        ),
+        (
+            "step\nreg x5\n",
+            "step\nreg x5\nstep\n",
+            STEP_SCANS + CAUSE_SCANS,
+        ),
         ("dump 0x80000000 60\n", "dump 0x80000000 61\n", BYTE_SCANS),
     ];
     for (shorter, longer, scans) in cases {
