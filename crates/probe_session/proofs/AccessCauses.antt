@@ -144,7 +144,7 @@ step_from_wire e h word old_count new_count old new (StepFromFailed.in_run begun
     subst (AccessWire old_count new_count new.far) (sym is) (by_run why old_count new_count new.far (step_wire why h old_count new_count begun new f))
 step_from_wire e h word old_count new_count old new (StepFromFailed.in_clear begun ran sets runs f) = clear_wire e old_count new_count ran new f
 
-single_step_wire : (e : AccessFault) (h old_count new_count : ℕ) (old new : Tells) → StepFailed h old_count new_count old new e
+pub single_step_wire : (e : AccessFault) (h old_count new_count : ℕ) (old new : Tells) → StepFailed h old_count new_count old new e
     → AccessWire old_count new_count new.far e
 single_step_wire e h old_count new_count old new (StepFailed.at_read f) = dcsr_wire e old_count new_count old new f
 single_step_wire e h old_count new_count old new (StepFailed.behind word mid read f) = step_from_wire e h word old_count new_count mid new f

@@ -27,7 +27,7 @@ use Rattle.probe_session.proofs.BrokeOff.{LeftAs}
 use Rattle.probe_session.proofs.OverFaults.{over_fell}
 use Rattle.probe_session.proofs.RegisterLemmas.{dcsr_of_harts, dcsr_taken}
 use Rattle.probe_session.proofs.RunFaults.{halt_fell, idcode_fell, look_fell, resume_fell}
-use Rattle.probe_session.proofs.Unhit.{step_fell}
+use Rattle.probe_session.proofs.Unhit.{step_fell, step_from_fell}
 use Rattle.probe_session.proofs.Tolds.{at_far, told_case, went_by}
 
 -- what was read passed the plan by
@@ -50,8 +50,10 @@ fault_left p old_count new_count old new f (Fault.halt {h} next fell) m o lines 
 fault_left p old_count new_count old new f (Fault.resuming {h} next fell) m o lines a = resume_fell h m o next lines old_count new_count old new f fell a
 fault_left p old_count new_count old new f (Fault.stepping_over {h} stepped other fell) m o lines a =
     over_fell h m o stepped other lines old_count new_count old new f fell a
-fault_left p old_count new_count old new f (Fault.stepping {h} {word} stepped other got fell) m o lines a =
-    step_fell h word m o stepped other lines old_count new_count old new f fell a
+fault_left p old_count new_count old new f (Fault.stepping {h} stepped other fell) m o lines a =
+    step_fell h m o stepped other lines old_count new_count old new f fell a
+fault_left p old_count new_count old new f (Fault.stepping_from {h} {word} stepped other got fell) m o lines a =
+    step_from_fell h word m o stepped other lines old_count new_count old new f fell a
 fault_left p old_count new_count old new f (Fault.asking {h} {number} fell) m o lines a =
     asked_fell h number m p.hart p.way o p.plan lines old_count new_count old new f fell a
 fault_left p old_count new_count old new f (Fault.reading {h} {number} fell of) m o lines a =

@@ -1,5 +1,6 @@
 -- `step` and `resume`.
-use Rattle.std.proofs.Common.{◌≡◌, ◌≤◌, ◌<◌, ◌+◌, ℕ, zero, suc, true, false, [], Result, Ok, Err, IfOk, IfErr, OnOk, refl, sym, ap, subst, arith}
+use Rattle.std.proofs.Common.{◌≡◌, ◌≤◌, ◌<◌, ◌+◌, ℕ, zero, suc, Bool, true, false, [], Result, Ok, Err, IfOk, IfErr, OnOk, refl, sym, ap, subst, arith}
+use Rattle.std.proofs.lemmas.Bool.{false≢true}
 use Rattle.rv_model.specs.DebugRegisters.{dcsr_number}
 use Rattle.abstract_debugger.specs.Debugger.{going, one, stepping, stop_line}
 use Rattle.abstract_debugger.specs.Lines.{Line}
@@ -10,15 +11,15 @@ use Rattle.probe_trig.specs.declared.slot_view.SlotView.{SlotView}
 use Rattle.probe_trig.specs.Runs.{ReadsAny}
 use Rattle.probe_trig.specs.Stepping.{shows_step}
 use Rattle.probe_session.specs.declared.fault.Failure.{Failure}
-use Rattle.probe_session.specs.Calls.{Got, ReadFell, ResumeFell, ResumeMade, SlotsFell, StepFell, StepMade, StepOverFell, StepOverMade, Viewed}
+use Rattle.probe_session.specs.Calls.{Got, ReadFell, ResumeFell, ResumeMade, SlotsFell, StepFell, StepFromFell, StepFromMade, StepMade, StepOverFell, StepOverMade, Viewed}
 use Rattle.probe_session.specs.Commands.{at_letting_go, at_stop_line, ends_with, let_go}
 use Rattle.probe_session.specs.Goes.{Falls, Fault, Went}
-use Rattle.probe_session.specs.Going.{Branches, at_one, behind_first, behind_one}
+use Rattle.probe_session.specs.Going.{Branches, StepSeen, at_one, behind_first, behind_one}
 use Rattle.probe_session.specs.Places.{Place, ready, still}
 use Rattle.probe_session.specs.Reach.{stepped}
 use Rattle.probe_session.specs.Steps.{any_in, behind_step}
-use Rattle.probe_session.specs.Steps.Step.{ends_either_way, finds_maybe_hit, finds_none_hit, finds_other, finds_step, holds_none, resumes, same}
-use Rattle.probe_session.specs.Steps.Step.{steps, steps_over, views_hits, views_none}
+use Rattle.probe_session.specs.Steps.Step.{ends_either_way, finds_maybe_hit, finds_none_hit, finds_other, finds_step, holds_none, knows_none_hit, resumes, same}
+use Rattle.probe_session.specs.Steps.Step.{steps, steps_from, steps_over, views_hits, views_none}
 use Rattle.probe_session.proofs.RegisterLemmas.{dcsr_of_harts}
 use Rattle.probe_session.proofs.WentLemmas.{falls_within, within}
 use Rattle.probe_session.proofs.WentLemmas.{falls_at, falls_then, went_none, went_one, went_then}
@@ -42,34 +43,46 @@ pub word_falls : {K : Type 0} (h : ℕ) (p : K → Plan) {old_count new_count : 
     → Falls (λ k. still h (p k)) [] old_count new_count t u f
 word_falls h p fell = falls_at (λ k. Fault.reading fell dcsr_of_harts)
 
-none_hit : {K : Type 0} (h word : ℕ) (p : K → Plan) {t u : Tells} → shows_step word ≡ true → Got h dcsr_number word t u
-    → Went (λ k. still h (p k)) (λ k. ready h (p k)) [] t u
-none_hit h word p whole got = went_one (λ k. finds_none_hit got whole)
+none_hit : {K : Type 0} (h : ℕ) (p : K → Plan) {t u : Tells} → StepSeen h t u true → Went (λ k. still h (p k)) (λ k. ready h (p k)) [] t u
+none_hit h p (StepSeen.read got whole) = went_one (λ k. finds_none_hit got whole)
+none_hit h p {t} {u} (StepSeen.known whole here is) =
+    subst (λ v. Went (λ k. still h (p k)) (λ k. ready h (p k)) [] t v) (sym here) (went_one (λ k. knows_none_hit whole))
 
-maybe_hit : {K : Type 0} (h word : ℕ) (p : K → Plan) {t u : Tells} → shows_step word ≡ false → Got h dcsr_number word t u
-    → Went (λ k. still h (p k)) (λ k. still h (p k)) [] t u
-maybe_hit h word p not_step got = went_one (λ k. finds_maybe_hit got not_step)
+maybe_hit : {K : Type 0} (h : ℕ) (p : K → Plan) {t u : Tells} → StepSeen h t u false → Went (λ k. still h (p k)) (λ k. still h (p k)) [] t u
+maybe_hit h p (StepSeen.read got not_step) = went_one (λ k. finds_maybe_hit got not_step)
+maybe_hit h p (StepSeen.known whole here is) = absurd (false≢true is)
+
+-- by what was seen
+pub seen_as : {h : ℕ} {b whole : Bool} {t u : Tells} → b ≡ whole → StepSeen h t u b → StepSeen h t u whole
+seen_as {h} {b} {whole} {t} {u} is s = subst (StepSeen h t u) is s
 
 abbrev one_plan : ℕ → Branches → Plan
 one_plan h b = one h b.whole b.other
 
-pub once : (h word : ℕ) {t u v : Tells} → shows_step word ≡ true → Got h dcsr_number word t u → StepMade h word u v
+pub once : (h : ℕ) {t u v : Tells} → StepSeen h t u true → StepMade h u v → Went (at_one h) (behind_one h) [] t v
+once h seen made = went_then (none_hit h (one_plan h) seen) (went_one (λ b. steps b.whole b.other made))
+
+pub once_from : (h word : ℕ) {t u v : Tells} → shows_step word ≡ true → Got h dcsr_number word t u → StepFromMade h word u v
     → Went (at_one h) (behind_one h) [] t v
-once h word whole got made = went_then (none_hit h word (one_plan h) whole got) (went_one (λ b. steps b.whole b.other got made))
+once_from h word whole got made = went_then (none_hit h (one_plan h) (StepSeen.read got whole)) (went_one (λ b. steps_from b.whole b.other got made))
 
-pub once_over : (h word : ℕ) {t u v : Tells} → shows_step word ≡ false → Got h dcsr_number word t u → StepOverMade h u v
+pub once_from_falls : (h word : ℕ) {old_count mid_count new_count : ℕ} {t u v : Tells} {f : Failure} → shows_step word ≡ true
+    → Got h dcsr_number word t u → old_count ≤ mid_count → StepFromFell h word mid_count new_count u v f → Falls (at_one h) [] old_count new_count t v f
+once_from_falls h word whole got le fell =
+    falls_then (none_hit h (one_plan h) (StepSeen.read got whole)) le (falls_at (λ b. Fault.stepping_from b.whole b.other got fell))
+
+pub once_over : (h : ℕ) {t u v : Tells} → StepSeen h t u false → StepOverMade h u v
     → Went (at_one h) (behind_one h) [] t v
-once_over h word not_step got made = went_then (maybe_hit h word (one_plan h) not_step got) (went_one (λ b. steps_over b.whole b.other made))
+once_over h seen made = went_then (maybe_hit h (one_plan h) seen) (went_one (λ b. steps_over b.whole b.other made))
 
-pub once_falls : (h word : ℕ) {old_count mid_count new_count : ℕ} {t u v : Tells} {f : Failure} → shows_step word ≡ true → Got h dcsr_number word t u
-    → old_count ≤ mid_count → StepFell h word mid_count new_count u v f → Falls (at_one h) [] old_count new_count t v f
-once_falls h word whole got le fell =
-    falls_then (none_hit h word (one_plan h) whole got) le (falls_at (λ b. Fault.stepping b.whole b.other got fell))
+pub once_falls : (h : ℕ) {old_count mid_count new_count : ℕ} {t u v : Tells} {f : Failure} → StepSeen h t u true
+    → old_count ≤ mid_count → StepFell h mid_count new_count u v f → Falls (at_one h) [] old_count new_count t v f
+once_falls h seen le fell = falls_then (none_hit h (one_plan h) seen) le (falls_at (λ b. Fault.stepping b.whole b.other fell))
 
-pub once_over_falls : (h word : ℕ) {old_count mid_count new_count : ℕ} {t u v : Tells} {f : Failure} → shows_step word ≡ false → Got h dcsr_number word t u
+pub once_over_falls : (h : ℕ) {old_count mid_count new_count : ℕ} {t u v : Tells} {f : Failure} → StepSeen h t u false
     → old_count ≤ mid_count → StepOverFell h mid_count new_count u v f → Falls (at_one h) [] old_count new_count t v f
-once_over_falls h word not_step got le fell =
-    falls_then (maybe_hit h word (one_plan h) not_step got) le (falls_at (λ b. Fault.stepping_over b.whole b.other fell))
+once_over_falls h seen le fell =
+    falls_then (maybe_hit h (one_plan h) seen) le (falls_at (λ b. Fault.stepping_over b.whole b.other fell))
 
 -- ---- several
 
@@ -106,16 +119,17 @@ pub next_step : (h more done word : ℕ) {t u v : Tells} → done < more → Ste
     → Next h more done word t v
 next_step h more done word below s whole got = next_by h more done s.left word below s.all s.went whole got
 
-pub stepped_next : (h more done word : ℕ) {t u v : Tells} → Next h more done word t u → StepMade h word u v → Stepping h more (done + 1) t v
+pub stepped_next : (h more done word : ℕ) {t u v : Tells} → Next h more done word t u → StepFromMade h word u v → Stepping h more (done + 1) t v
 stepped_next h more done word n made = record {
   left = n.left;
   all = n.all;
-  went = went_then n.went (went_one (λ next. steps (stepped n.left h next) (stop_line h next) n.got made));
+  went = went_then n.went (went_one (λ next. steps_from (stepped n.left h next) (stop_line h next) n.got made));
 }
 
 pub next_falls : (h more done word : ℕ) {old_count mid_count new_count : ℕ} {t u v : Tells} {f : Failure} → Next h more done word t u
-    → old_count ≤ mid_count → StepFell h word mid_count new_count u v f → Falls (behind_first more h) [] old_count new_count t v f
-next_falls h more done word n le fell = falls_then n.went le (falls_at (λ next. Fault.stepping (stepped n.left h next) (stop_line h next) n.got fell))
+    → old_count ≤ mid_count → StepFromFell h word mid_count new_count u v f → Falls (behind_first more h) [] old_count new_count t v f
+next_falls h more done word n le fell =
+    falls_then n.went le (falls_at (λ next. Fault.stepping_from (stepped n.left h next) (stop_line h next) n.got fell))
 
 pub found_falls : (h more done : ℕ) {old_count mid_count new_count : ℕ} {t u v : Tells} {f : Failure} → Stepping h more done t u → old_count ≤ mid_count
     → ReadFell h dcsr_number mid_count new_count u v f → Falls (behind_first more h) [] old_count new_count t v f
@@ -175,12 +189,12 @@ abbrev pub behind_held : ℕ → Plan → Place
 behind_held h next = still h (behind_step h (going h (say Line.Resumed next)) (stop_line h next))
 
 -- behind a whole step it goes, and no slot is visited
-pub unheld_to_go : (h word : ℕ) {t u : Tells} → shows_step word ≡ true → Got h dcsr_number word t u → Went (at_letting_go h) (at_going h) [] t u
-unheld_to_go h word whole got = went_then (none_hit h word (let_go h) whole got)
+pub unheld_to_go : (h : ℕ) {t u : Tells} → StepSeen h t u true → Went (at_letting_go h) (at_going h) [] t u
+unheld_to_go h seen = went_then (none_hit h (let_go h) seen)
     (went_one (λ next. holds_none (one h (going h (say Line.Resumed next)) (stop_line h next)) (going h (say Line.Resumed next))))
 
-pub maybe_held : (h word : ℕ) {t u : Tells} → shows_step word ≡ false → Got h dcsr_number word t u → Went (at_letting_go h) (at_letting_go h) [] t u
-maybe_held h word not_step got = maybe_hit h word (let_go h) not_step got
+pub maybe_held : (h : ℕ) {t u : Tells} → StepSeen h t u false → Went (at_letting_go h) (at_letting_go h) [] t u
+maybe_held h seen = maybe_hit h (let_go h) seen
 
 pub free_to_go : (h : ℕ) (view : SlotView) {t u : Tells} → any_in view ≡ false → Viewed h view t u → Went (at_letting_go h) (at_going h) [] t u
 free_to_go h view none viewed = went_one (λ next. views_none (one h (going h (say Line.Resumed next)) (stop_line h next))
@@ -237,9 +251,9 @@ read_fell_at {x} {h} {number} {old_count} {new_count} {u} {v} {f} is p = subst (
 pub got_at : {x h number value : ℕ} {u v : Tells} → x ≡ h → Got x number value u v → Got h number value u v
 got_at {x} {h} {number} {value} {u} {v} is p = subst (λ n. Got n number value u v) is p
 
-pub made_at : {x h word : ℕ} {u v : Tells} → x ≡ h → StepMade x word u v → StepMade h word u v
-made_at {x} {h} {word} {u} {v} is p = subst (λ n. StepMade n word u v) is p
+pub made_at : {x h word : ℕ} {u v : Tells} → x ≡ h → StepFromMade x word u v → StepFromMade h word u v
+made_at {x} {h} {word} {u} {v} is p = subst (λ n. StepFromMade n word u v) is p
 
-pub step_fell_at : {x h word old_count new_count : ℕ} {u v : Tells} {f : Failure} → x ≡ h → StepFell x word old_count new_count u v f
-    → StepFell h word old_count new_count u v f
-step_fell_at {x} {h} {word} {old_count} {new_count} {u} {v} {f} is p = subst (λ n. StepFell n word old_count new_count u v f) is p
+pub step_fell_at : {x h word old_count new_count : ℕ} {u v : Tells} {f : Failure} → x ≡ h → StepFromFell x word old_count new_count u v f
+    → StepFromFell h word old_count new_count u v f
+step_fell_at {x} {h} {word} {old_count} {new_count} {u} {v} {f} is p = subst (λ n. StepFromFell n word old_count new_count u v f) is p

@@ -43,7 +43,8 @@ use Rattle.probe_session.proofs.Tolds.{at_far, halt_deals, look_deals, other_fou
 use Rattle.probe_session.proofs.Tolds.{stop_deals, stop_trigger_deals, told_case, went_by}
 use Rattle.probe_session.proofs.ToldWrites.{armed_deals, ebreak_deals, freed_deals, full_deals, hits_deals}
 use Rattle.probe_session.proofs.ToldWrites.{never_refused, no_hits_deals, read_deals, read_next_deals, slots_deals}
-use Rattle.probe_session.proofs.Unhit.{either_way_deals, holds_none_deals, made_over, none_hit_deals, still_at}
+use Rattle.probe_session.proofs.Unhit.{either_way_deals, holds_none_deals, made_over, made_over_from, none_hit_deals, still_at}
+use Rattle.probe_session.proofs.Whole.{whole_ready}
 use Rattle.probe_session.proofs.ToldWrites.{unused_deals, write_deals, write_pc_deals, write_refused_deals}
 
 -- lines that grow by none
@@ -160,14 +161,20 @@ step_leads from to old new said (Step.finds_none_hit {h} {word} {p} got whole) m
     (λ n. At m h Ready o p lines (target_at n)) old.far new.far
     (λ c d l. at_far m h Ready o p lines l.far _ l.is (none_hit_deals m h o p lines (site_of c) (site_of l.far) l.hart l.here
     (sym (shows_as_step word l.hart l.value_is) ∙ whole) l.passed d)) got.told a)
+step_leads from to old new said (Step.knows_none_hit {h} {p} {t} whole) m o lines a =
+    none_said m o to lines new.far (whole_ready m h o p lines old.far whole a)
 step_leads from to old new said (Step.finds_maybe_hit {h} {word} {p} got not_step) m o lines a =
     none_said m o to lines new.far (told_case (RegisterReadAt h dcsr_number word) m h Still o p lines
     (λ n. At m h Still o p lines (target_at n)) old.far new.far
     (λ c d l. at_far m h Still o p lines l.far _ l.is (deals_went_on m h Still o p lines (target_of (site_of c)) (target_of (site_of l.far)) d
     (went_by (site_of c) (site_of l.far) l.passed))) got.told a)
-step_leads from to old new said (Step.steps {h} {word} stepped other got made) m o lines a =
+step_leads from to old new said (Step.steps {h} stepped other made) m o lines a =
     none_said m o to lines new.far (at_harts_so (OverAt h) m h h Still Still o (one h stepped other) (behind_step h stepped other) lines old.far new.far
-    (λ x y l d. over_deals m h o stepped other lines x y l d) (made_over m h word o (one h stepped other) lines old new made a)
+    (λ x y l d. over_deals m h o stepped other lines x y l d) (made_over m h o (one h stepped other) lines old new made a)
+    (still_at m h o (one h stepped other) lines (target_at old.far) a))
+step_leads from to old new said (Step.steps_from {h} {word} stepped other got made) m o lines a =
+    none_said m o to lines new.far (at_harts_so (OverAt h) m h h Still Still o (one h stepped other) (behind_step h stepped other) lines old.far new.far
+    (λ x y l d. over_deals m h o stepped other lines x y l d) (made_over_from m h word o (one h stepped other) lines old new made a)
     (still_at m h o (one h stepped other) lines (target_at old.far) a))
 step_leads from to old new said (Step.holds_none {h} held free {t}) m o lines a =
     none_said m o to lines new.far (kept m m Ready Ready h h o _ free lines lines (target_at t.far) (λ x d. holds_none_deals m h o held free lines x d) a)

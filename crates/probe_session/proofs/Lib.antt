@@ -36,6 +36,7 @@ pub mod RunFaults
 pub mod AccessFaults
 pub mod OverFaults
 pub mod Unhit
+pub mod Whole
 pub mod LedSteps
 pub mod Faults
 pub mod Endings

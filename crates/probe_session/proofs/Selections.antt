@@ -22,7 +22,7 @@ use Rattle.probe_session.specs.declared.known.Known.TheVariants as known
 use Rattle.probe_session.specs.Answers.{BlockLoadedAs, BlockStoredAs, RefusedStore}
 use Rattle.probe_session.specs.BlockCalls.{BlockLoaded, BlockLoadedNone, BlockStored, BlockStoredNone}
 use Rattle.probe_session.specs.Calls.{Got, Viewed}
-use Rattle.probe_session.specs.Known.{Knows}
+use Rattle.probe_session.specs.Known.{Knows, without_step}
 use Rattle.probe_session.specs.Links.{AttachedAt, AttachedHalted, Goes, SelectionStays}
 
 -- where it stays the same
@@ -42,9 +42,13 @@ pub selects_still : (h : ℕ) (old new : Option Far) → Stays old new → Selec
 selects_still h None new s selected = subst (Selects h) (sym s) tt
 selects_still h (Some f) new s selected = subst (Selects h) (sym s.is) (s.hartsel ∙ selected)
 
-pub knows_still : (k : Known) (h : ℕ) (old new : Option Far) → Stays old new → Knows k h old → Knows k h new
+pub knows_still : (k : Known) (h : ℕ) (old new : Option Far) → Stays old new → Knows k h old → Knows (without_step k) h new
 knows_still known.Nothing h old new s knows = tt
 knows_still known.Selected h old new s knows = selects_still h old new s knows
+knows_still known.Stepped h old new s knows = selects_still h old new s knows.serving.selects
+
+pub knows_without : (k : Known) (h : ℕ) (far : Option Far) → Knows k h far → Knows (without_step k) h far
+knows_without k h far knows = knows_still k h far far (stays_here far) knows
 
 -- ---- the call of a hart that is selected before it and behind it
 

@@ -1,7 +1,8 @@
 -- What a command shows, and the lines of it.
-use Rattle.std.proofs.Common.{◌≡◌, ◌≤◌, ℕ, Bool, List, [], Option, Some, Ok, refl, sym, subst, arith}
+use Rattle.std.proofs.Common.{◌≡◌, ◌≤◌, ℕ, Bool, List, [], Option, Some, Result, Ok, Err, OnOk, refl, sym, subst, arith}
 use Rattle.debug_model.specs.declared.command.Command.{Command}
 use Rattle.debug_model.specs.Kept.{DmiSeen}
+use Rattle.debug_model.specs.Told.{Far}
 use Rattle.abstract_debugger.specs.Debugger.{State}
 use Rattle.abstract_debugger.specs.Laws.{Quiet}
 use Rattle.abstract_debugger.specs.Plan.{Plan}
@@ -15,7 +16,7 @@ use Rattle.probe_session.specs.Goes.{CalmNext, Fell, Spoke, Went}
 use Rattle.probe_session.specs.Links.{Attached, AttachedAt, Goes}
 use Rattle.probe_session.specs.Met.{before_look}
 use Rattle.probe_session.specs.Places.{idle, still}
-use Rattle.probe_session.specs.Shown.{AttachedShown, AttachedUpTo, DoneUpTo, at_lines_of, at_shown}
+use Rattle.probe_session.specs.Shown.{AttachedShown, AttachedUpTo, DoneUpTo, IfLine, at_lines_of, at_shown}
 use Rattle.probe_session.proofs.OneLine.{for_halted, rest}
 use Rattle.probe_session.proofs.SeveralLines.{went_fell}
 use Rattle.probe_session.proofs.Spoken.{fell_within, spoke_within, went_spoke}
@@ -31,6 +32,21 @@ pub fell_of : {x y : Shown} {old_count new_count : ℕ} {t u : Tells} {sink_old 
     → Fell Quiet (at_lines_of y) old_count new_count t u sink_old sink_new c d f → Fell Quiet (at_lines_of x) old_count new_count t u sink_old sink_new c d f
 fell_of {old_count = old_count} {new_count = new_count} {t = t} {u = u} {sink_old = sink_old} {sink_new = sink_new} {c = c} {d = d} {f = f} is p =
     subst (λ z. Fell Quiet (at_lines_of z) old_count new_count t u sink_old sink_new c d f) (sym is) p
+
+-- a fact behind a line
+pub line_same : (x : Shown) (far : Option Far) → IfLine x (far ≡ far)
+line_same (shown.Line line) far = refl
+line_same (shown.Registers y) far = tt
+line_same (shown.Slots y) far = tt
+line_same (shown.Elements r size address count) far = tt
+line_same (shown.Bytes r address count) far = tt
+
+pub line_of : {x y : Shown} (P : Type 0) → x ≡ y → IfLine y P → IfLine x P
+line_of {x} {y} P is p = subst (λ z. IfLine z P) (sym is) p
+
+pub ok_line_of : {A : Type 0} {x y : Shown} (result : Result A Failure) (P : Type 0) → x ≡ y → IfLine y P → OnOk result (IfLine x P)
+ok_line_of (Ok value) P is p = line_of P is p
+ok_line_of (Err f) P is p = tt
 
 -- ---- of a command
 

@@ -34,7 +34,7 @@ use Rattle.probe_trig.specs.Stepping.{OverAt}
 use Rattle.probe_trig.proofs.Alone.{UnhitTold, alone_in_cut, alone_left, alone_made}
 use Rattle.probe_trig.proofs.Clear.{IsUnhit, UnhitAt}
 use Rattle.probe_session.specs.declared.fault.Failure.{Failure}
-use Rattle.probe_session.specs.Calls.{StepFell, StepMade}
+use Rattle.probe_session.specs.Calls.{StepFell, StepFromFell, StepFromMade, StepMade}
 use Rattle.probe_session.specs.Led.{target_at}
 use Rattle.probe_session.specs.Steps.{behind_step}
 use Rattle.probe_session.specs.Transcribed.{Still}
@@ -45,7 +45,7 @@ use Rattle.probe_session.proofs.Tolds.{went_by}
 -- ---- what is known
 
 -- behind a whole step
-none_hit_now : (m : Machine) (h : ℕ) (o : Origin) (p : Plan) (lines : List Line) (t : Target) (x : Hart) → slice_get t.board.harts h ≡ Some x
+pub none_hit_now : (m : Machine) (h : ℕ) (o : Origin) (p : Plan) (lines : List Line) (t : Target) (x : Hart) → slice_get t.board.harts h ≡ Some x
     → is_step x.debug.halted ≡ true → Deals m h StillWay o p lines t → Deals m h Ready o p lines t
 none_hit_now m h o p lines t x here is d =
     let same : slice_get t.board.harts h ≡ slice_get d.stands.world.board.harts h = shown o h p lines t d.stands (deals_frozen m h StillWay o p lines t tt d) in
@@ -117,13 +117,26 @@ pub still_at : (m : Machine) (h : ℕ) (o : Origin) (p : Plan) (lines : List Lin
 still_at m h o p lines told a = record { target = a.target; is = a.is; holds = deals_unspent m h o p lines a.target a.holds }
 
 -- over slots that are all off where they have a hit, since none has one
-pub made_over : (m : Machine) (h word : ℕ) (o : Origin) (p : Plan) (lines : List Line) (old new : Tells) → StepMade h word old new
+pub made_over : (m : Machine) (h : ℕ) (o : Origin) (p : Plan) (lines : List Line) (old new : Tells) → StepMade h old new
     → At m h Ready o p lines (target_at old.far) → WhereTold (AtHarts (OverAt h)) old.far new.far
-made_over m h word o p lines old new made a = alone_made h old.far new.far (unhit_told m h o p lines old.far a) made.told
+made_over m h o p lines old new made a = alone_made h old.far new.far (unhit_told m h o p lines old.far a) made.told
 
-pub step_fell : (h word : ℕ) (m : Machine) (o : Origin) (stepped other : Plan) (lines : List Line) (old_count new_count : ℕ) (old new : Tells) (f : Failure)
-    → StepFell h word old_count new_count old new f → At m h Ready o (one h stepped other) lines (target_at old.far) → Still (LeftAs o lines f) new.far
-step_fell h word m o stepped other lines old_count new_count old new f fell a =
+-- from a word of dcsr on
+pub made_over_from : (m : Machine) (h word : ℕ) (o : Origin) (p : Plan) (lines : List Line) (old new : Tells) → StepFromMade h word old new
+    → At m h Ready o p lines (target_at old.far) → WhereTold (AtHarts (OverAt h)) old.far new.far
+made_over_from m h word o p lines old new made a = alone_made h old.far new.far (unhit_told m h o p lines old.far a) made.told
+
+pub step_from_fell : (h word : ℕ) (m : Machine) (o : Origin) (stepped other : Plan) (lines : List Line) (old_count new_count : ℕ) (old new : Tells)
+    (f : Failure)
+    → StepFromFell h word old_count new_count old new f → At m h Ready o (one h stepped other) lines (target_at old.far) → Still (LeftAs o lines f) new.far
+step_from_fell h word m o stepped other lines old_count new_count old new f fell a =
+    let u : UnhitTold h old.far = unhit_told m h o (one h stepped other) lines old.far a in
+    over_by fell.why f h m o stepped other lines old.far new.far fell.is (alone_left h old.far new.far fell.why u fell.told)
+    (alone_in_cut h old.far new.far fell.why u fell.cut) (still_at m h o (one h stepped other) lines (target_at old.far) a)
+
+pub step_fell : (h : ℕ) (m : Machine) (o : Origin) (stepped other : Plan) (lines : List Line) (old_count new_count : ℕ) (old new : Tells) (f : Failure)
+    → StepFell h old_count new_count old new f → At m h Ready o (one h stepped other) lines (target_at old.far) → Still (LeftAs o lines f) new.far
+step_fell h m o stepped other lines old_count new_count old new f fell a =
     let u : UnhitTold h old.far = unhit_told m h o (one h stepped other) lines old.far a in
     over_by fell.why f h m o stepped other lines old.far new.far fell.is (alone_left h old.far new.far fell.why u fell.told)
     (alone_in_cut h old.far new.far fell.why u fell.cut) (still_at m h o (one h stepped other) lines (target_at old.far) a)

@@ -33,7 +33,7 @@ use Rattle.probe_session.specs.Failures.{Became, failure_of_dmi, failure_of_run}
 use Rattle.probe_session.specs.Goes.{Anyhow, Fault, Fell}
 use Rattle.probe_session.specs.Places.{Place}
 use Rattle.probe_session.specs.Scripts.{BrokeOff, EndedAs, at_commands}
-use Rattle.probe_session.proofs.AccessCauses.{AccessWire, block_wire, bus_block_wire, over_wire, read_wire, slots_wire, step_from_wire, stop_wire}
+use Rattle.probe_session.proofs.AccessCauses.{AccessWire, block_wire, bus_block_wire, over_wire, read_wire, single_step_wire, slots_wire, step_from_wire, stop_wire}
 use Rattle.probe_session.proofs.AccessCauses.{write_wire}
 use Rattle.probe_session.proofs.RunCauses.{DmiWire, halt_wire, look_wire, opening_wire, resume_wire, scanned_wire}
 
@@ -150,7 +150,9 @@ fault_wired p old_count new_count old new f (Fault.resuming {h} next r) =
     record { later = r.later; cause = of_run r.why f old_count new_count new.far r.is (resume_wire r.why h old_count new_count old new r.heard) }
 fault_wired p old_count new_count old new f (Fault.stepping_over {h} stepped other r) =
     record { later = r.later; cause = of_access r.why f old_count new_count new.far r.is (over_wire r.why h old_count new_count old new r.heard) }
-fault_wired p old_count new_count old new f (Fault.stepping {h} {word} stepped other got r) =
+fault_wired p old_count new_count old new f (Fault.stepping {h} stepped other r) =
+    record { later = r.later; cause = of_access r.why f old_count new_count new.far r.is (single_step_wire r.why h old_count new_count old new r.heard) }
+fault_wired p old_count new_count old new f (Fault.stepping_from {h} {word} stepped other got r) =
     record { later = r.later; cause = of_access r.why f old_count new_count new.far r.is (step_from_wire r.why h word old_count new_count old new r.heard) }
 fault_wired p old_count new_count old new f (Fault.asking {h} {number} r) = read_wired h number old_count new_count old new f r.fell
 fault_wired p old_count new_count old new f (Fault.reading {h} {number} r of) = read_wired h number old_count new_count old new f r

@@ -17,7 +17,7 @@ use Rattle.probe_access.specs.Scratches.{ScratchLeft}
 use Rattle.probe_access.specs.Stops.{StopFailed, StopRead, StoppedAt}
 use Rattle.probe_access.specs.BlockCuts.{StepCut}
 use Rattle.probe_access.specs.SingleSteps.{StepLeft, SteppedAt}
-use Rattle.probe_access.specs.StepRuns.{StepFromFailed, SteppedFrom}
+use Rattle.probe_access.specs.StepRuns.{StepFailed, StepFromFailed, SteppedFrom, SteppedOnce}
 use Rattle.probe_access.specs.RegisterAccess.{transfer_word}
 use Rattle.probe_run.specs.declared.fault.RunFault.{RunFault}
 use Rattle.probe_run.specs.declared.hart.Seen.{Seen}
@@ -93,8 +93,13 @@ pub record StepOverMade (h : ℕ) (old new : Tells) : Type 0 where
   pub heard : SteppedOverAny h old new
   pub told : WhereTold (AtHarts (OverAt h)) old.far new.far
 
--- it did one instruction, from this word of dcsr on, and its slots were left alone
-pub record StepMade (h word : ℕ) (old new : Tells) : Type 0 where
+-- it did one instruction, and its slots were left alone
+pub record StepMade (h : ℕ) (old new : Tells) : Type 0 where
+  pub heard : SteppedOnce h old new
+  pub told : WhereTold (SteppedAt h) old.far new.far
+
+-- the same, from this word of dcsr on
+pub record StepFromMade (h word : ℕ) (old new : Tells) : Type 0 where
   pub heard : SteppedFrom h word old new
   pub told : WhereTold (SteppedAt h) old.far new.far
 
@@ -232,7 +237,16 @@ pub record StepOverFell (h old_count new_count : ℕ) (old new : Tells) (f : Fai
   pub cut : IfCut (LeavesAt (OverCut h) old.far new.far) why
   pub is : Became why f
 
-pub record StepFell (h word old_count new_count : ℕ) (old new : Tells) (f : Failure) : Type 0 where
+pub record StepFell (h old_count new_count : ℕ) (old new : Tells) (f : Failure) : Type 0 where
+  pub why : AccessFault
+  pub later : old_count ≤ new_count
+  pub at : Serving h old.far
+  pub heard : StepFailed h old_count new_count old new why
+  pub told : StepLeft h old.far new.far why
+  pub cut : IfCut (LeavesChip (StepCut h) old.far new.far) why
+  pub is : Became why f
+
+pub record StepFromFell (h word old_count new_count : ℕ) (old new : Tells) (f : Failure) : Type 0 where
   pub why : AccessFault
   pub later : old_count ≤ new_count
   pub at : Serving h old.far

@@ -20,7 +20,7 @@ use Rattle.rv_model.specs.DebugRegisters.{dcsr_number}
 use Rattle.rv_model.specs.Registers.{csr_read_only, pc_number}
 use Rattle.probe_session.specs.declared.fault.Failure.{Failure}
 use Rattle.probe_session.specs.declared.fault.Failure.TheVariants as failure
-use Rattle.probe_session.specs.Calls.{AskFell, FoundStop, Gave, GiveFell, Got, HaltFell, IdcodeFell, IsOfHarts, LookFell, StepFell, StepOverFell}
+use Rattle.probe_session.specs.Calls.{AskFell, FoundStop, Gave, GiveFell, Got, HaltFell, IdcodeFell, IsOfHarts, LookFell, StepFell, StepFromFell, StepOverFell}
 use Rattle.probe_session.specs.Calls.{ReadFell, ResumeFell, SlotsFell, StopFell, WriteFell}
 use Rattle.probe_session.specs.BlockCalls.{BlockLoadFell, BlockStoreFell}
 use Rattle.probe_session.specs.Blocks.{MayLoad, Stores}
@@ -56,8 +56,10 @@ pub data Fault : Place → ℕ → ℕ → Tells → Tells → Failure → Type 
       → Fault (ready h (going h next)) old_count new_count old new f
   stepping_over : {h old_count new_count : ℕ} (stepped other : Plan) {old new : Tells} {f : Failure} → StepOverFell h old_count new_count old new f
       → Fault (still h (one h stepped other)) old_count new_count old new f
-  stepping : {h word old_count new_count : ℕ} (stepped other : Plan) {before old new : Tells} {f : Failure} → Got h dcsr_number word before old
-      → StepFell h word old_count new_count old new f
+  stepping : {h old_count new_count : ℕ} (stepped other : Plan) {old new : Tells} {f : Failure} → StepFell h old_count new_count old new f
+      → Fault (ready h (one h stepped other)) old_count new_count old new f
+  stepping_from : {h word old_count new_count : ℕ} (stepped other : Plan) {before old new : Tells} {f : Failure} → Got h dcsr_number word before old
+      → StepFromFell h word old_count new_count old new f
       → Fault (ready h (one h stepped other)) old_count new_count old new f
   asking : {h number old_count new_count : ℕ} {p : Plan} {old new : Tells} {f : Failure} → AskFell h number old_count new_count old new f
       → Fault (still h p) old_count new_count old new f

@@ -1,6 +1,6 @@
 -- What a command's Look of its hart answers: the hart, which is halted, or the line that says why there is none to work on.
 -- It is this project's own.
-use Rattle.std.specs.Prelude.{◌≡◌, ℕ, []}
+use Rattle.std.specs.Prelude.{◌≡◌, ℕ, false, []}
 use Rattle.debug_model.specs.Kept.{DmiSeen}
 use Rattle.abstract_debugger.specs.Debugger.{at_halted}
 use Rattle.abstract_debugger.specs.Plan.{Plan}
@@ -8,6 +8,7 @@ use Rattle.probe_run.specs.Acts.{Tells}
 use Rattle.probe_session.specs.declared.met.Met.{Met}
 use Rattle.probe_session.specs.declared.met.Met.TheVariants as met
 use Rattle.probe_session.specs.Goes.{Went}
+use Rattle.probe_session.specs.Known.{says_step}
 use Rattle.probe_session.specs.Links.{Attached, AttachedHalted}
 use Rattle.probe_session.specs.Places.{Place, at_say, idle, still}
 use Rattle.probe_session.specs.Said.{said_by}
@@ -27,3 +28,8 @@ MetAs h old new (met.Says line) = Went (before_look h) (λ r. at_say (said_by li
 abbrev pub AttachedMet : Met → DmiSeen → Type 0
 AttachedMet (met.At x) s = AttachedHalted x.number s
 AttachedMet (met.Says line) s = Attached s
+
+-- the line says nothing of a step
+abbrev pub SaysNoStep : Met → Type 0
+SaysNoStep (met.At x) = Unit {0}
+SaysNoStep (met.Says line) = says_step line ≡ false

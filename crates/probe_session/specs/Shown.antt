@@ -47,6 +47,14 @@ IsOfBlock (shown.Slots x) = Unit {0}
 IsOfBlock (shown.Elements r size address count) = IsBlock (count_of size) address count
 IsOfBlock (shown.Bytes r address count) = IsBlock 1 address count
 
+-- a fact that holds behind a line
+abbrev pub IfLine : Shown → Type 0 → Type 0
+IfLine (shown.Line line) P = P
+IfLine (shown.Registers x) P = Unit {0}
+IfLine (shown.Slots x) P = Unit {0}
+IfLine (shown.Elements r size address count) P = Unit {0}
+IfLine (shown.Bytes r address count) P = Unit {0}
+
 -- ---- of a command: nothing is shown of the one that ends a session, which does nothing
 
 pub record Ends (c : Command) (s t : State) (old new : Tells) : Type 0 where

@@ -28,12 +28,13 @@ use Rattle.abstract_debugger.specs.SlotUses.{hits_in, use_named}
 use Rattle.probe_run.specs.declared.hart.Seen.{Seen}
 use Rattle.probe_run.specs.declared.hart.Seen.TheVariants as seen
 use Rattle.probe_run.specs.Acts.{Tells}
-use Rattle.probe_session.specs.Calls.{FoundStop, Gave, GaveNone, Got, GotNone, HaltMade, HitsForgotten, Identified, IsOfCores}
+use Rattle.probe_session.specs.Calls.{FoundStop, Gave, GaveNone, Got, GotNone, HaltMade, HitsForgotten, Identified, IsOfCores, StepFromMade}
 use Rattle.probe_session.specs.Calls.{NoneFree, NotUsed, StepMade, StepOverMade, ResumeMade, LookMade, SlotFreed, SlotTaken, Viewed}
 use Rattle.probe_trig.specs.Stepping.{shows_step}
 use Rattle.probe_access.specs.Blocks.{element_at}
 use Rattle.probe_session.specs.BlockCalls.{BlockLoaded, BlockLoadedNone, BlockStored, BlockStoredNone}
 use Rattle.probe_session.specs.Blocks.{Loads, Stores, loading, storing}
+use Rattle.probe_session.specs.Known.{IsWhole}
 use Rattle.probe_session.specs.Places.{Place, at_say, idle, may_say, place, ready, spot, still}
 
 -- where a command stands behind its Look
@@ -94,10 +95,14 @@ pub data Step : Place → Tells → List Line → Place → Tells → Type 0 whe
   -- behind a whole step no slot has a hit, so that none is visited; behind any other stop some may
   finds_none_hit : {h word : ℕ} {p : Plan} {old new : Tells} → Got h dcsr_number word old new → shows_step word ≡ true
       → Step (still h p) old [] (ready h p) new
+  -- so it is where that is known, and not read again
+  knows_none_hit : {h : ℕ} {p : Plan} {t : Tells} → IsWhole h t.far → Step (still h p) t [] (ready h p) t
   finds_maybe_hit : {h word : ℕ} {p : Plan} {old new : Tells} → Got h dcsr_number word old new → shows_step word ≡ false
       → Step (still h p) old [] (still h p) new
+  steps : {h : ℕ} (stepped other : Plan) {old new : Tells} → StepMade h old new
+      → Step (ready h (one h stepped other)) old [] (still h (behind_step h stepped other)) new
   -- dcsr was read in front of it, and the step is from its word on
-  steps : {h word : ℕ} (stepped other : Plan) {before old new : Tells} → Got h dcsr_number word before old → StepMade h word old new
+  steps_from : {h word : ℕ} (stepped other : Plan) {before old new : Tells} → Got h dcsr_number word before old → StepFromMade h word old new
       → Step (ready h (one h stepped other)) old [] (still h (behind_step h stepped other)) new
   holds_none : {h : ℕ} (held free : Plan) {t : Tells} → Step (ready h (see (λ b. if any_hit (slots_at h b) then held else free))) t [] (ready h free) t
   ends_either_way : {h : ℕ} {p : Plan} {t : Tells} → Step (still h (behind_step h p p)) t [] (still h p) t

@@ -39,7 +39,7 @@ impl Session {
         ensures sink_later { K.fault_count out.old ≤ K.fault_count out.new }
     {
         let done = self.perform(link, command)?;
-        self.known = known_behind(command, self.hart, self.path, self.known);
+        self.known = known_behind(command, &done, self.hart, self.path, self.known);
         let Some(shown) = done else {
             return Ok(Acted::End);
         };

@@ -1,9 +1,10 @@
 //! The lines that a halted hart answers.
 
-ghost use Rattle.std.specs.Prelude.{◌≡◌, ◌<◌, [], false, IfOk, IfErr};
+ghost use Rattle.std.specs.Prelude.{◌≡◌, ◌<◌, [], true, false, IfOk, IfErr};
 ghost use Rattle.probe_session.specs.Calls.{IsOfCores};
 ghost use Rattle.probe_session.specs.Commands.{at_arming, at_ebreak, at_freeing, at_register, at_stop_line, at_written_register, ends_with};
 ghost use Rattle.probe_session.specs.Goes.{Falls, Went};
+ghost use Rattle.probe_session.specs.Known.{StandsStepped, says_step};
 ghost use Rattle.probe_session.specs.Links.{AttachedAt, AttachedHalted, Goes};
 ghost use Rattle.probe_session.specs.Said.{said_by};
 ghost use Rattle.probe_session.specs.Slots.{what_of};
@@ -27,6 +28,7 @@ pub(crate) fn stop_line<D: Dmi>(link: &mut D, halted: &Halted) -> Result<Line, F
         (λ line. Went (at_stop_line halted.now.number) (ends_with (said_by line)) [] (told (D.seen link.old))
         (told (D.seen link.new))) }
     ensures falls { IfErr result (Fails (Falls (at_stop_line halted.now.number) []) (D.seen link.old) (D.seen link.new)) }
+    ensures whole { IfOk result (λ line. says_step line ≡ true → StandsStepped halted.now.number (D.seen link.new).far) }
     ensures keeps { Goes (λ _. AttachedAt halted.now.number) (D.seen link.old) (D.seen link.new) result }
 {
     let at = stop(link, halted)?;

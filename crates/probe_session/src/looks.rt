@@ -1,4 +1,4 @@
-ghost use Rattle.std.specs.Prelude.{◌<◌, ◌^◌, IfOk, IfErr};
+ghost use Rattle.std.specs.Prelude.{◌<◌, ◌^◌, IfOk, IfErr, OnOk};
 ghost use Rattle.probe_run.specs.Happens.{IsAsSeen};
 ghost use Rattle.probe_session.specs.Calls.{LookFell, LookMade};
 ghost use Rattle.probe_session.specs.Known.{Knows};
@@ -25,10 +25,12 @@ pub(crate) fn look<D: Dmi>(
     ensures fell { IfErr result (Fails (LookFell hart) (D.seen link.old) (D.seen link.new)) }
     ensures seen { IfOk result (IsAsSeen (D.seen link.new).far) }
     ensures of { IfOk result (IsOf hart) }
+    ensures still { OnOk result (Knows known hart (D.seen link.new).far) }
     ensures keeps { Goes (λ _. AttachedAt hart) (D.seen link.old) (D.seen link.new) result }
 {
-    match known {
-        Known::Nothing => Ok(target.look(link, hart)?),
-        Known::Selected => Ok(target.look_again(link, hart)?),
+    if known.is_selected() {
+        Ok(target.look_again(link, hart)?)
+    } else {
+        Ok(target.look(link, hart)?)
     }
 }

@@ -3,7 +3,7 @@ ghost use Rattle.debug_model.specs.Told.{Selects};
 ghost use Rattle.probe_session.specs.Goes.{Falls};
 ghost use Rattle.probe_session.specs.Known.{Knows};
 ghost use Rattle.probe_session.specs.Links.{Attached, Goes};
-ghost use Rattle.probe_session.specs.Met.{MetAs, AttachedMet, before_look};
+ghost use Rattle.probe_session.specs.Met.{MetAs, AttachedMet, SaysNoStep, before_look};
 ghost use Rattle.probe_run.specs.Told.{told, Fails};
 
 use crate::fault::Failure;
@@ -35,6 +35,8 @@ pub(crate) fn meet<D: Dmi>(
     ensures met { IfOk result (MetAs hart (told (D.seen link.old)) (told (D.seen link.new))) }
     ensures falls { IfErr result (Fails (Falls (before_look hart) []) (D.seen link.old) (D.seen link.new)) }
     ensures selects { OnOk result (Selects hart (D.seen link.new).far) }
+    ensures still { OnOk result (Knows known hart (D.seen link.new).far) }
+    ensures says { IfOk result SaysNoStep }
     ensures keeps { Goes AttachedMet (D.seen link.old) (D.seen link.new) result }
 {
     match look(link, target, hart, known)? {

@@ -1,6 +1,6 @@
 //! The commands of one line.
 
-ghost use Rattle.std.specs.Prelude.{◌≡◌, ◌≤◌, ◌<◌, ◌^◌, [], IfOk, IfErr, OnOk, IsTrue};
+ghost use Rattle.std.specs.Prelude.{◌≡◌, ◌≤◌, ◌<◌, ◌^◌, [], true, IfOk, IfErr, OnOk, IsTrue};
 ghost use Rattle.debug_model.specs.Command.{IsBlock, last_slot, most_turns};
 ghost use Rattle.abstract_debugger.specs.Lines.Line.{Via};
 ghost use Rattle.rv_model.specs.Size.{count_of};
@@ -8,7 +8,7 @@ ghost use Rattle.debug_model.specs.Registers.{is_register};
 ghost use Rattle.debug_model.specs.declared.command.Command.TheVariants as command;
 ghost use Rattle.probe_session.specs.Commands.{at_line, before, state_of};
 ghost use Rattle.probe_session.specs.Goes.{Falls, Went};
-ghost use Rattle.probe_session.specs.Known.{Knows, known_by};
+ghost use Rattle.probe_session.specs.Known.{Knows, StandsStepped, known_by, says_step};
 ghost use Rattle.probe_session.specs.Links.{Attached, AttachedAt, Goes};
 ghost use Rattle.probe_session.specs.Said.{said_by};
 ghost use Rattle.probe_run.specs.Told.{told, Fails};
@@ -237,11 +237,12 @@ impl Session {
         ensures went { IfOk result (λ line. Went (before (command.Step count) (state_of self.now)) (at_line (said_by line) (state_of self.now)) []
             (told (D.seen link.old)) (told (D.seen link.new))) }
         ensures falls { IfErr result (Fails (Falls (before (command.Step count) (state_of self.now)) []) (D.seen link.old) (D.seen link.new)) }
+        ensures whole { IfOk result (λ line. says_step line ≡ true → StandsStepped self.now.hart (D.seen link.new).far) }
         ensures keeps { Goes (λ _. AttachedAt self.now.hart) (D.seen link.old) (D.seen link.new) result }
     {
         match meet(link, &self.target, self.hart, self.known)? {
             Met::Says(line) => Ok(line),
-            Met::At(halted) => stepped_line(link, halted, count),
+            Met::At(halted) => stepped_line(link, halted, count, self.known),
         }
     }
 
@@ -256,7 +257,7 @@ impl Session {
     {
         match meet(link, &self.target, self.hart, self.known)? {
             Met::Says(line) => Ok(line),
-            Met::At(halted) => let_go_line(link, halted),
+            Met::At(halted) => let_go_line(link, halted, self.known),
         }
     }
 

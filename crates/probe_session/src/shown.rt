@@ -1,11 +1,11 @@
 //! What a command shows, and its lines.
 
-ghost use Rattle.std.specs.Prelude.{◌≤◌, false, IfOk, IfErr, OnOk};
+ghost use Rattle.std.specs.Prelude.{◌≡◌, ◌≤◌, false, IfOk, IfErr, OnOk};
 ghost use Rattle.abstract_debugger.specs.Laws.{Quiet};
 ghost use Rattle.probe_session.specs.Goes.{Fell, Spoke};
 ghost use Rattle.probe_session.specs.Links.{Attached, Goes, SelectionStays};
 ghost use Rattle.probe_session.specs.Places.{idle};
-ghost use Rattle.probe_session.specs.Shown.{AttachedShown, IsOfBlock, at_lines_of};
+ghost use Rattle.probe_session.specs.Shown.{AttachedShown, IfLine, IsOfBlock, at_lines_of};
 ghost use Rattle.probe_run.specs.Told.{told, OnChip};
 
 use crate::all_registers::put_registers;
@@ -51,6 +51,7 @@ pub(crate) fn show<D: Dmi, K: Sink>(
         (told (D.seen link.old)) (told (D.seen link.new)) (K.fault_count out.old)
         (K.fault_count out.new) (K.contents out.old) (K.contents out.new)) }
     ensures selection { OnOk result (OnChip SelectionStays (D.seen link.old) (D.seen link.new)) }
+    ensures line { OnOk result (IfLine shown ((D.seen link.new).far ≡ (D.seen link.old).far)) }
     ensures keeps { Goes (λ _. Attached) (D.seen link.old) (D.seen link.new) result }
     ensures sink_later { K.fault_count out.old ≤ K.fault_count out.new }
 {

@@ -1,8 +1,8 @@
 ghost use Rattle.std.specs.Prelude.{◌≡◌, ◌<◌, true, false, IfOk, IfErr, OnOk};
 ghost use Rattle.probe_session.specs.Answers.{FreedAs, TakenAs};
-ghost use Rattle.probe_session.specs.Calls.{SlotsFell, StepFell, StepMade, StepOverFell, StepOverMade, Viewed};
-ghost use Rattle.probe_session.specs.Links.{AttachedHalted, Goes};
+ghost use Rattle.probe_session.specs.Calls.{SlotsFell, StepFell, StepFromFell, StepFromMade, StepMade, StepOverFell, StepOverMade, Viewed};
 ghost use Rattle.probe_access.specs.SingleSteps.{ReadsDcsr};
+ghost use Rattle.probe_session.specs.Links.{AttachedHalted, Goes};
 ghost use Rattle.probe_trig.specs.Runs.{ArmsAny, FreesAny, ReadsAny};
 ghost use Rattle.probe_trig.specs.SlotRegisters.{CanArm};
 ghost use Rattle.probe_run.specs.Told.{told, Fails};
@@ -76,12 +76,28 @@ pub(crate) fn step_over<D: Dmi>(link: &mut D, halted: Halted) -> Result<Halted, 
     Ok(again)
 }
 
-/// Makes the halted hart do one instruction, and leaves its slots as they are. `word` is what its `dcsr` was just read as.
-pub(crate) fn step<D: Dmi>(link: &mut D, halted: Halted, word: u64) -> Result<Halted, Failure>
+/// Makes the halted hart do one instruction, and leaves its slots as they are.
+pub(crate) fn step<D: Dmi>(link: &mut D, halted: Halted) -> Result<Halted, Failure>
+    requires serving { AttachedHalted halted.number (D.seen link.old) }
+    ensures made { OnOk result (StepMade halted.number (told (D.seen link.old)) (told (D.seen link.new))) }
+    ensures fell { IfErr result (Fails (StepFell halted.number) (D.seen link.old) (D.seen link.new)) }
+    ensures hart { IfOk result (λ again. again.number ≡ halted.number) }
+    ensures keeps { Goes (λ _. AttachedHalted halted.number) (D.seen link.old) (D.seen link.new) result }
+{
+    let again = probe_access::step(link, halted)?;
+    Ok(again)
+}
+
+/// The same where `word` is what the hart's `dcsr` was just read as.
+pub(crate) fn step_from<D: Dmi>(
+    link: &mut D,
+    halted: Halted,
+    word: u64,
+) -> Result<Halted, Failure>
     requires serving { AttachedHalted halted.number (D.seen link.old) }
     requires reads { ReadsDcsr halted.number word (D.seen link.old).far }
-    ensures made { OnOk result (StepMade halted.number word (told (D.seen link.old)) (told (D.seen link.new))) }
-    ensures fell { IfErr result (Fails (StepFell halted.number word) (D.seen link.old) (D.seen link.new)) }
+    ensures made { OnOk result (StepFromMade halted.number word (told (D.seen link.old)) (told (D.seen link.new))) }
+    ensures fell { IfErr result (Fails (StepFromFell halted.number word) (D.seen link.old) (D.seen link.new)) }
     ensures hart { IfOk result (λ again. again.number ≡ halted.number) }
     ensures keeps { Goes (λ _. AttachedHalted halted.number) (D.seen link.old) (D.seen link.new) result }
 {

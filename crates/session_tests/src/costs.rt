@@ -31,17 +31,24 @@ const REGISTER_SCANS: u64 = LOOK_SCANS + 5;
 /// A Look that selects its hart: two operations in one call.
 const HART_SCANS: u64 = 3;
 
-/// A step from a word of `dcsr`: it writes `dcsr` with both data words, asks the hart with the first Look, reads `dcsr` by one data word, and writes it.
+/// `dcsr`, which shows why the hart halted.
+const CAUSE_SCANS: u64 = 5;
+
+/// A single step from a word of `dcsr`: it writes `dcsr` with both data words, asks the hart with the first Look, reads `dcsr` by one data word, and
+/// writes it.
 const STEP_FROM_SCANS: u64 = 5 + 3 + 4 + 5;
 
-/// A Look; `dcsr`; a step from its word; and for the line `dpc` and `dcsr` in one call of six operations.
-const STEP_SCANS: u64 = LOOK_SCANS + 5 + STEP_FROM_SCANS + 7;
+/// A single step, which reads `dcsr` first by one data word.
+const ONE_STEP_SCANS: u64 = 4 + STEP_FROM_SCANS;
 
-/// One step more of several: `dcsr`, and a step from its word.
-const NEXT_STEP_SCANS: u64 = 5 + STEP_FROM_SCANS;
+/// A step right behind one: a Look, a single step, and for the line `dpc` and `dcsr` in one call of six operations.
+const STEP_SCANS: u64 = LOOK_SCANS + ONE_STEP_SCANS + 7;
 
-/// A Look, `dcsr`, and the request with its first Look.
-const RESUME_SCANS: u64 = LOOK_SCANS + 5 + 3;
+/// One step more of several.
+const NEXT_STEP_SCANS: u64 = CAUSE_SCANS + STEP_FROM_SCANS;
+
+/// Right behind a step: a Look, and the request with its first Look.
+const RESUME_SCANS: u64 = LOOK_SCANS + 3;
 
 /// One byte more of a run, which its data0 is read for.
 const BYTE_SCANS: u64 = 1;
@@ -81,6 +88,16 @@ fn one_command_more_takes_so_many_scans(rt: HostRuntime) -> Result<(), Fail> {
         ("step\nstep\n", "step\nstep\nstep\n", STEP_SCANS),
         ("step 2\n", "step 3\n", NEXT_STEP_SCANS),
         ("step\n", "step\nresume\n", RESUME_SCANS),
+        (
+            "step\nreg x5\n",
+            "step\nreg x5\nresume\n",
+            RESUME_SCANS + CAUSE_SCANS,
+        ),
+        (
+            "step\nreg x5\n",
+            "step\nreg x5\nstep\n",
+            STEP_SCANS + CAUSE_SCANS,
+        ),
         ("dump 0x80000000 60\n", "dump 0x80000000 61\n", BYTE_SCANS),
     ];
     for (shorter, longer, scans) in cases {

@@ -7,6 +7,7 @@ use Rattle.probe_session.proofs.GoingLines.{err_at, found_falls, got_at, made_at
 use Rattle.probe_session.proofs.GoingLines.{stepped_all, stepped_next, stepped_otherwise, stepping_none}
 use Rattle.probe_session.proofs.LinkLemmas.{goes_at, if_err}
 use Rattle.probe_session.proofs.OneLine.{err_then, ok_then}
+use Rattle.probe_session.proofs.Whole.{whole_at}
 use Rattle.probe_session.proofs.going.more_steps_line.Goals as goal
 
 pub stepping-init : goal.stepping-init
@@ -47,13 +48,13 @@ returns-in_err-now-clause-falls g c =
 pub stepping-preserved : goal.stepping-preserved
 stepping-preserved g c = record {
   same = c.in_ok-now.ensures.hart ∙ c.stepping.invariant.same;
-  serving = subst (λ n. AttachedHalted n (g.D.Dmi.seen c.step.new.link)) (sym c.in_ok-now.ensures.hart) c.in_ok-now.ensures.keeps.behind;
+  serving = subst (λ n. AttachedHalted n (g.D.Dmi.seen c.step_from.new.link)) (sym c.in_ok-now.ensures.hart) c.in_ok-now.ensures.keeps.behind;
   steps = stepped_next c.args.halted.number c.args.more c.stepping._step _
       (next_step c.args.halted.number c.args.more c.stepping._step _ c.stepping-test.true c.stepping.invariant.steps
       (sym c.shows_step.ensures ∙ c.if-not-shows_step.false) (got_at c.stepping.invariant.same c.in_ok-word.ensures.got))
       (made_at c.stepping.invariant.same c.in_ok-now.ensures.made);
-  later = omega (arith, c.stepping.invariant.later, c.reg.ensures.keeps.later, c.step.ensures.keeps.later);
-  fixed = c.step.ensures.keeps.fixed ∙ c.reg.ensures.keeps.fixed ∙ c.stepping.invariant.fixed;
+  later = omega (arith, c.stepping.invariant.later, c.reg.ensures.keeps.later, c.step_from.ensures.keeps.later);
+  fixed = c.step_from.ensures.keeps.fixed ∙ c.reg.ensures.keeps.fixed ∙ c.stepping.invariant.fixed;
 }
 
 pub returns-clause-went : goal.returns-clause-went
@@ -65,10 +66,6 @@ pub returns-clause-falls : goal.returns-clause-falls
 returns-clause-falls g c = err_then _ _ _ (stepped_all c.args.halted.number c.args.more c.stepping._step (omega arith) c.stepping.invariant.steps)
     c.stepping.invariant.later (err_at at_stop_line _ _ _ _ _ c.stepping.invariant.same c.stop_line-2.ensures.falls)
 
-pub step-requires-clause-reads : goal.step-requires-clause-reads
-step-requires-clause-reads g c =
-    still_reads _ _ _ _ c.stepping.invariant.serving.serving.ready c.stepping.invariant.serving.serving.halted c.in_ok-word.ensures.got.told
-
 pub returns-then-not-shows_step-clause-keeps : goal.returns-then-not-shows_step-clause-keeps
 returns-then-not-shows_step-clause-keeps g c =
     goes_at c.stepping.invariant.same (omega (arith, c.stepping.invariant.later, c.reg.ensures.keeps.later))
@@ -76,3 +73,13 @@ returns-then-not-shows_step-clause-keeps g c =
 
 pub returns-clause-keeps : goal.returns-clause-keeps
 returns-clause-keeps g c = goes_at c.stepping.invariant.same c.stepping.invariant.later c.stepping.invariant.fixed c.stop_line-2.ensures.keeps
+
+pub returns-then-not-shows_step-clause-whole : goal.returns-then-not-shows_step-clause-whole
+returns-then-not-shows_step-clause-whole g c = whole_at _ _ c.stepping.invariant.same c.stop_line.ensures.whole
+
+pub returns-clause-whole : goal.returns-clause-whole
+returns-clause-whole g c = whole_at _ _ c.stepping.invariant.same c.stop_line-2.ensures.whole
+
+pub step_from-requires-clause-reads : goal.step_from-requires-clause-reads
+step_from-requires-clause-reads g c =
+    still_reads _ _ _ _ c.stepping.invariant.serving.serving.ready c.stepping.invariant.serving.serving.halted c.in_ok-word.ensures.got.told

@@ -1,11 +1,23 @@
-use Rattle.std.proofs.Common.{◌∙◌, sym}
+use Rattle.std.proofs.Common.{◌∙◌, refl, sym, arith}
 use Rattle.abstract_debugger.specs.Debugger.{one}
 use Rattle.probe_access.proofs.StepReads.{still_reads}
-use Rattle.probe_session.specs.Going.{Branches}
-use Rattle.probe_session.proofs.GoingLines.{on_ok_map, once, once_falls, once_over, once_over_falls, word_falls}
+use Rattle.probe_session.specs.Going.{Branches, StepSeen}
+use Rattle.probe_session.proofs.GoingLines.{on_ok_map, once, once_falls, once_from, once_from_falls, once_over, once_over_falls, word_falls}
+use Rattle.probe_session.proofs.Knowing.{knows_step}
 use Rattle.probe_session.proofs.LinkLemmas.{if_err}
 use Rattle.probe_session.proofs.OneLine.{if_err_map}
 use Rattle.probe_session.proofs.going.step_once.Goals as goal
+
+pub returns-then-is_stepped-clause-went : goal.returns-then-is_stepped-clause-went
+returns-then-is_stepped-clause-went g c = on_ok_map _ _ _
+    (once c.args.halted.number
+    (StepSeen.known (knows_step c.args.known _ _ (sym c.is_stepped.ensures ∙ c.if-is_stepped.true) c.requires.knows).whole refl refl)) c.step.ensures.made
+
+pub returns-then-is_stepped-clause-falls : goal.returns-then-is_stepped-clause-falls
+returns-then-is_stepped-clause-falls g c = if_err_map _ _ _
+    (λ f fell. once_falls c.args.halted.number
+    (StepSeen.known (knows_step c.args.known _ _ (sym c.is_stepped.ensures ∙ c.if-is_stepped.true) c.requires.knows).whole refl refl) (omega arith) fell)
+    c.step.ensures.fell
 
 pub returns-in_err-word-clause-falls : goal.returns-in_err-word-clause-falls
 returns-in_err-word-clause-falls g c = if_err _ c.in_err-word.field-0.0 _ c.from_residual.ensures.1
@@ -13,23 +25,25 @@ returns-in_err-word-clause-falls g c = if_err _ c.in_err-word.field-0.0 _ c.from
 
 pub returns-then-shows_step-clause-went : goal.returns-then-shows_step-clause-went
 returns-then-shows_step-clause-went g c = on_ok_map _ _ _
-    (once c.args.halted.number _ (sym c.shows_step.ensures ∙ c.if-shows_step.true) c.in_ok-word.ensures.got) c.step.ensures.made
+    (once_from c.args.halted.number _ (sym c.shows_step.ensures ∙ c.if-shows_step.true) c.in_ok-word.ensures.got) c.step_from.ensures.made
 
 pub returns-then-shows_step-clause-falls : goal.returns-then-shows_step-clause-falls
 returns-then-shows_step-clause-falls g c = if_err_map _ _ _
-    (λ f fell. once_falls c.args.halted.number _ (sym c.shows_step.ensures ∙ c.if-shows_step.true) c.in_ok-word.ensures.got c.reg.ensures.keeps.later fell)
-    c.step.ensures.fell
+    (λ f fell. once_from_falls c.args.halted.number _ (sym c.shows_step.ensures ∙ c.if-shows_step.true) c.in_ok-word.ensures.got
+    c.reg.ensures.keeps.later fell)
+    c.step_from.ensures.fell
 
 pub returns-else-shows_step-clause-went : goal.returns-else-shows_step-clause-went
 returns-else-shows_step-clause-went g c = on_ok_map _ _ _
-    (once_over c.args.halted.number _ (sym c.shows_step.ensures ∙ c.if-shows_step.false) c.in_ok-word.ensures.got) c.step_over.ensures.made
+    (once_over c.args.halted.number (StepSeen.read c.in_ok-word.ensures.got (sym c.shows_step.ensures ∙ c.if-shows_step.false)))
+    c.step_over.ensures.made
 
 pub returns-else-shows_step-clause-falls : goal.returns-else-shows_step-clause-falls
 returns-else-shows_step-clause-falls g c = if_err_map _ _ _
-    (λ f fell. once_over_falls c.args.halted.number _ (sym c.shows_step.ensures ∙ c.if-shows_step.false) c.in_ok-word.ensures.got
+    (λ f fell. once_over_falls c.args.halted.number (StepSeen.read c.in_ok-word.ensures.got (sym c.shows_step.ensures ∙ c.if-shows_step.false))
     c.reg.ensures.keeps.later fell)
     c.step_over.ensures.fell
 
-pub step-requires-clause-reads : goal.step-requires-clause-reads
-step-requires-clause-reads g c =
+pub step_from-requires-clause-reads : goal.step_from-requires-clause-reads
+step_from-requires-clause-reads g c =
     still_reads c.args.halted.number _ _ _ c.requires.serving.serving.ready c.requires.serving.serving.halted c.in_ok-word.ensures.got.told

@@ -5,6 +5,7 @@ use Rattle.probe_session.specs.Said.{said_by}
 use Rattle.probe_session.proofs.GoingLines.{err_at, first_falls, first_step, no_steps, ok_at}
 use Rattle.probe_session.proofs.LinkLemmas.{goes_at, if_err}
 use Rattle.probe_session.proofs.OneLine.{err_then, ok_then}
+use Rattle.probe_session.proofs.Whole.{whole_at}
 use Rattle.probe_session.proofs.going.stepped_line.Goals as goal
 
 pub returns-then-count-eq0-clause-went : goal.returns-then-count-eq0-clause-went
@@ -32,3 +33,6 @@ returns-clause-falls g c = err_then _ _ _ (first_step c.args.halted.number c.arg
 pub returns-clause-keeps : goal.returns-clause-keeps
 returns-clause-keeps g c =
     goes_at c.in_ok-again.ensures.hart c.step_once.ensures.keeps.later c.step_once.ensures.keeps.fixed c.more_steps_line.ensures.keeps
+
+pub returns-clause-whole : goal.returns-clause-whole
+returns-clause-whole g c = whole_at _ _ c.in_ok-again.ensures.hart c.more_steps_line.ensures.whole

@@ -1,6 +1,7 @@
 use Rattle.std.proofs.Common.{◌∙◌, sym}
 use Rattle.probe_session.proofs.HartLines.{stop_falls, stop_plain, stop_trigger, stop_view_falls}
 use Rattle.probe_session.proofs.LinkLemmas.{if_err}
+use Rattle.probe_session.proofs.Whole.{says_found, says_trigger}
 use Rattle.probe_session.proofs.hart_lines.stop_line.Goals as goal
 
 pub returns-in_err-at-clause-falls : goal.returns-in_err-at-clause-falls
@@ -16,3 +17,10 @@ returns-then-at-number-clause-went g c = stop_trigger c.args.halted.now.number c
 
 pub returns-clause-went : goal.returns-clause-went
 returns-clause-went g c = stop_plain c.args.halted.now.number _ _ _ c.in_ok-at.ensures.found (λ e. c.if-at-number.false (e ∙ sym c.number.ensures))
+
+pub returns-then-at-number-clause-whole : goal.returns-then-at-number-clause-whole
+returns-then-at-number-clause-whole g c = λ shows. says_trigger c.in_ok-at.at.cause (c.if-at-number.true ∙ c.number.ensures) shows
+
+pub returns-clause-whole : goal.returns-clause-whole
+returns-clause-whole g c = λ shows. says_found c.args.halted.now.number c.in_ok-at.at.pc c.in_ok-at.at.cause _ _ c.requires.serving.serving
+    c.in_ok-at.ensures.keeps.behind.serving c.in_ok-at.ensures.found shows

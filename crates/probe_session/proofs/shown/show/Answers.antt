@@ -6,6 +6,7 @@ use Rattle.probe_session.proofs.ShownLines.{fell_of, spoke_of}
 use Rattle.probe_session.proofs.Spoken.{fell_said, one_line, spoke_none}
 use Rattle.probe_session.proofs.WentLemmas.{went_none}
 use Rattle.probe_session.proofs.Selections.{stays_here}
+use Rattle.probe_session.proofs.ShownLines.{line_of, line_same, ok_line_of}
 use Rattle.probe_session.proofs.shown.show.Goals as goal
 
 pub returns-in_err-put_line-in-Line-clause-fell : goal.returns-in_err-put_line-in-Line-clause-fell
@@ -34,3 +35,18 @@ returns-in-Bytes-clause-fell g c = if_err_map _ _ _ (λ f p. fell_of c.in-Bytes.
 
 pub returns-in_ok-put_line-in-Line-clause-selection : goal.returns-in_ok-put_line-in-Line-clause-selection
 returns-in_ok-put_line-in-Line-clause-selection g c = stays_here _
+
+pub returns-in_ok-put_line-in-Line-clause-line : goal.returns-in_ok-put_line-in-Line-clause-line
+returns-in_ok-put_line-in-Line-clause-line g c = line_same _ _
+
+pub returns-in_ok-put_registers-in-Registers-clause-line : goal.returns-in_ok-put_registers-in-Registers-clause-line
+returns-in_ok-put_registers-in-Registers-clause-line g c = line_of _ c.in-Registers.is tt
+
+pub returns-in_ok-put_slots-in-Slots-clause-line : goal.returns-in_ok-put_slots-in-Slots-clause-line
+returns-in_ok-put_slots-in-Slots-clause-line g c = line_of _ c.in-Slots.is tt
+
+pub returns-in-Elements-clause-line : goal.returns-in-Elements-clause-line
+returns-in-Elements-clause-line g c = ok_line_of _ _ c.in-Elements.is tt
+
+pub returns-in-Bytes-clause-line : goal.returns-in-Bytes-clause-line
+returns-in-Bytes-clause-line g c = ok_line_of _ _ c.in-Bytes.is tt

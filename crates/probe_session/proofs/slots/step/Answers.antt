@@ -7,7 +7,7 @@ use Rattle.probe_session.proofs.slots.step.Goals as goal
 pub returns-in_err-again-clause-fell : goal.returns-in_err-again-clause-fell
 returns-in_err-again-clause-fell g c = if_err _ (failure_of_access c.in_err-again.field-0.0) _ c.from_residual.ensures.1 (record {
   why = c.in_err-again.field-0.0;
-  later = c.step_from.ensures.keeps.later;
+  later = c.step.ensures.keeps.later;
   at = c.requires.serving.serving;
   heard = c.in_err-again.ensures.failed;
   told = c.in_err-again.ensures.left;
@@ -16,5 +16,5 @@ returns-in_err-again-clause-fell g c = if_err _ (failure_of_access c.in_err-agai
 })
 
 pub returns-in_err-again-clause-keeps : goal.returns-in_err-again-clause-keeps
-returns-in_err-again-clause-keeps g c = goes_err _ _ _ (failure_of_access c.in_err-again.field-0.0) _ c.step_from.ensures.keeps.later
-    c.step_from.ensures.keeps.fixed c.from_residual.ensures.1 (access_left _ c.in_err-again.field-0.0 _ c.in_err-again.ensures.keeps.behind refl)
+returns-in_err-again-clause-keeps g c = goes_err _ _ _ (failure_of_access c.in_err-again.field-0.0) _ c.step.ensures.keeps.later
+    c.step.ensures.keeps.fixed c.from_residual.ensures.1 (access_left _ c.in_err-again.field-0.0 _ c.in_err-again.ensures.keeps.behind refl)

@@ -5,7 +5,7 @@ use Rattle.probe_session.specs.Commands.{state_of}
 use Rattle.probe_session.proofs.LinkLemmas.{if_err}
 use Rattle.probe_session.proofs.Lines.{chosen, idcode_command, idcode_command_falls}
 use Rattle.probe_session.proofs.ShownLines.{chosen_keeps, did_as, hart_line_keeps, line_keeps, shown_keeps}
-use Rattle.probe_session.proofs.Knowing.{knows_behind, knows_ended, knows_looked, knows_same}
+use Rattle.probe_session.proofs.Knowing.{knows_behind, knows_ended, knows_looked, knows_same, knows_stepped}
 use Rattle.probe_session.proofs.Selections.{knows_still}
 use Rattle.probe_session.proofs.session.Session.perform.Goals as goal
 use Rattle.probe_session.proofs.session.Session.perform.Goals.{in-Idcode+in_ok-idcode_line-in-Idcode, in-Hart+in_ok-select-in-Hart}
@@ -110,26 +110,66 @@ returns-clause-keeps g c = elim c.match-command.branch [
 
 pub returns-clause-knows : goal.returns-clause-knows
 returns-clause-knows g c = elim c.match-command.branch [
-  | in-Idcode+in_ok-idcode_line-in-Idcode w ↦ knows_behind w.in-Idcode.is w.self-is (ap g.D.Dmi.seen w.link-is) (knows_still _ _ _ _ w.in_ok-idcode_line-in-Idcode.ensures.selection c.requires.knows)
-  | in-Hart+in_ok-select-in-Hart w ↦ knows_behind w.in-Hart.is w.self-is (ap g.D.Dmi.seen w.link-is) (knows_looked _ _ _ w.in_ok-select-in-Hart.ensures.keeps.behind.selects)
-  | in-State+in_ok-state-in-State w ↦ knows_behind w.in-State.is w.self-is (ap g.D.Dmi.seen w.link-is) w.in_ok-state-in-State.ensures.keeps.behind.selects
-  | in-Halt+in_ok-halt-in-Halt w ↦ knows_behind w.in-Halt.is w.self-is (ap g.D.Dmi.seen w.link-is) w.in_ok-halt-in-Halt.ensures.keeps.behind.selects
-  | in-Resume+in_ok-resume-in-Resume w ↦ knows_behind w.in-Resume.is w.self-is (ap g.D.Dmi.seen w.link-is) w.in_ok-resume-in-Resume.ensures.keeps.behind.selects
-  | in-Step+in_ok-step-in-Step w ↦ knows_behind w.in-Step.is w.self-is (ap g.D.Dmi.seen w.link-is) w.in_ok-step-in-Step.ensures.keeps.behind.selects
-  | in-Wait+in_ok-wait-in-Wait w ↦ knows_behind w.in-Wait.is w.self-is (ap g.D.Dmi.seen w.link-is) w.in_ok-wait-in-Wait.ensures.keeps.behind.selects
-  | in-Regs+in_ok-shown-in-Regs w ↦ knows_behind w.in-Regs.is w.self-is (ap g.D.Dmi.seen w.link-is) w.in_ok-shown-in-Regs.ensures.selects
-  | in-Reg+in_ok-reg-in-Reg w ↦ knows_behind w.in-Reg.is w.self-is (ap g.D.Dmi.seen w.link-is) w.in_ok-reg-in-Reg.ensures.keeps.behind.selects
-  | in-SetReg+in_ok-set_reg-in-SetReg w ↦ knows_behind w.in-SetReg.is w.self-is (ap g.D.Dmi.seen w.link-is) w.in_ok-set_reg-in-SetReg.ensures.keeps.behind.selects
-  | in-Read+in_ok-shown-in-Read w ↦ knows_behind w.in-Read.is w.self-is (ap g.D.Dmi.seen w.link-is) w.in_ok-shown-in-Read.ensures.knows
-  | in-Write+in_ok-write-in-Write w ↦ knows_behind w.in-Write.is w.self-is (ap g.D.Dmi.seen w.link-is) w.in_ok-write-in-Write.ensures.knows
-  | in-Dump+in_ok-shown-in-Dump w ↦ knows_behind w.in-Dump.is w.self-is (ap g.D.Dmi.seen w.link-is) w.in_ok-shown-in-Dump.ensures.knows
-  | in-Via w ↦ knows_behind w.in-Via.is w.self-is (ap g.D.Dmi.seen w.link-is) (knows_same _ _ _ _ _ w.choose.ensures.known (ap (λ (s : State). s.hart) w.choose.ensures.state) c.requires.knows)
-  | in-Break+in_ok-break_at-in-Break w ↦ knows_behind w.in-Break.is w.self-is (ap g.D.Dmi.seen w.link-is) w.in_ok-break_at-in-Break.ensures.keeps.behind.selects
-  | in-Watch+in_ok-watch-in-Watch w ↦ knows_behind w.in-Watch.is w.self-is (ap g.D.Dmi.seen w.link-is) w.in_ok-watch-in-Watch.ensures.keeps.behind.selects
-  | in-Count+in_ok-count-in-Count w ↦ knows_behind w.in-Count.is w.self-is (ap g.D.Dmi.seen w.link-is) w.in_ok-count-in-Count.ensures.keeps.behind.selects
-  | in-Clear+in_ok-clear-in-Clear w ↦ knows_behind w.in-Clear.is w.self-is (ap g.D.Dmi.seen w.link-is) w.in_ok-clear-in-Clear.ensures.keeps.behind.selects
-  | in-Slots+in_ok-shown-in-Slots w ↦ knows_behind w.in-Slots.is w.self-is (ap g.D.Dmi.seen w.link-is) w.in_ok-shown-in-Slots.ensures.selects
-  | in-Ebreak+in_ok-ebreak-in-Ebreak w ↦ knows_behind w.in-Ebreak.is w.self-is (ap g.D.Dmi.seen w.link-is) w.in_ok-ebreak-in-Ebreak.ensures.keeps.behind.selects
+  | in-Idcode+in_ok-idcode_line-in-Idcode w ↦
+      knows_behind w.in-Idcode.is w.shown-is w.self-is (ap g.D.Dmi.seen w.link-is)
+      (knows_still _ _ _ _ w.in_ok-idcode_line-in-Idcode.ensures.selection c.requires.knows)
+  | in-Hart+in_ok-select-in-Hart w ↦
+      knows_behind w.in-Hart.is w.shown-is w.self-is (ap g.D.Dmi.seen w.link-is)
+      (knows_looked _ _ _ w.in_ok-select-in-Hart.ensures.keeps.behind.selects)
+  | in-State+in_ok-state-in-State w ↦
+      knows_behind w.in-State.is w.shown-is w.self-is (ap g.D.Dmi.seen w.link-is)
+      w.in_ok-state-in-State.ensures.keeps.behind.selects
+  | in-Halt+in_ok-halt-in-Halt w ↦
+      knows_behind w.in-Halt.is w.shown-is w.self-is (ap g.D.Dmi.seen w.link-is)
+      w.in_ok-halt-in-Halt.ensures.keeps.behind.selects
+  | in-Resume+in_ok-resume-in-Resume w ↦
+      knows_behind w.in-Resume.is w.shown-is w.self-is (ap g.D.Dmi.seen w.link-is)
+      w.in_ok-resume-in-Resume.ensures.keeps.behind.selects
+  | in-Step+in_ok-step-in-Step w ↦
+      knows_behind w.in-Step.is w.shown-is w.self-is (ap g.D.Dmi.seen w.link-is)
+      (knows_stepped w.in_ok-step-in-Step.field-0 _ _ w.in_ok-step-in-Step.ensures.whole w.in_ok-step-in-Step.ensures.keeps.behind.selects)
+  | in-Wait+in_ok-wait-in-Wait w ↦
+      knows_behind w.in-Wait.is w.shown-is w.self-is (ap g.D.Dmi.seen w.link-is)
+      w.in_ok-wait-in-Wait.ensures.keeps.behind.selects
+  | in-Regs+in_ok-shown-in-Regs w ↦
+      knows_behind w.in-Regs.is w.shown-is w.self-is (ap g.D.Dmi.seen w.link-is)
+      w.in_ok-shown-in-Regs.ensures.selects
+  | in-Reg+in_ok-reg-in-Reg w ↦
+      knows_behind w.in-Reg.is w.shown-is w.self-is (ap g.D.Dmi.seen w.link-is)
+      w.in_ok-reg-in-Reg.ensures.keeps.behind.selects
+  | in-SetReg+in_ok-set_reg-in-SetReg w ↦
+      knows_behind w.in-SetReg.is w.shown-is w.self-is (ap g.D.Dmi.seen w.link-is)
+      w.in_ok-set_reg-in-SetReg.ensures.keeps.behind.selects
+  | in-Read+in_ok-shown-in-Read w ↦
+      knows_behind w.in-Read.is w.shown-is w.self-is (ap g.D.Dmi.seen w.link-is)
+      w.in_ok-shown-in-Read.ensures.knows
+  | in-Write+in_ok-write-in-Write w ↦
+      knows_behind w.in-Write.is w.shown-is w.self-is (ap g.D.Dmi.seen w.link-is)
+      w.in_ok-write-in-Write.ensures.knows
+  | in-Dump+in_ok-shown-in-Dump w ↦
+      knows_behind w.in-Dump.is w.shown-is w.self-is (ap g.D.Dmi.seen w.link-is)
+      w.in_ok-shown-in-Dump.ensures.knows
+  | in-Via w ↦
+      knows_behind w.in-Via.is w.shown-is w.self-is (ap g.D.Dmi.seen w.link-is)
+      (knows_same _ _ _ _ _ w.choose.ensures.known (ap (λ (s : State). s.hart) w.choose.ensures.state) c.requires.knows)
+  | in-Break+in_ok-break_at-in-Break w ↦
+      knows_behind w.in-Break.is w.shown-is w.self-is (ap g.D.Dmi.seen w.link-is)
+      w.in_ok-break_at-in-Break.ensures.keeps.behind.selects
+  | in-Watch+in_ok-watch-in-Watch w ↦
+      knows_behind w.in-Watch.is w.shown-is w.self-is (ap g.D.Dmi.seen w.link-is)
+      w.in_ok-watch-in-Watch.ensures.keeps.behind.selects
+  | in-Count+in_ok-count-in-Count w ↦
+      knows_behind w.in-Count.is w.shown-is w.self-is (ap g.D.Dmi.seen w.link-is)
+      w.in_ok-count-in-Count.ensures.keeps.behind.selects
+  | in-Clear+in_ok-clear-in-Clear w ↦
+      knows_behind w.in-Clear.is w.shown-is w.self-is (ap g.D.Dmi.seen w.link-is)
+      w.in_ok-clear-in-Clear.ensures.keeps.behind.selects
+  | in-Slots+in_ok-shown-in-Slots w ↦
+      knows_behind w.in-Slots.is w.shown-is w.self-is (ap g.D.Dmi.seen w.link-is)
+      w.in_ok-shown-in-Slots.ensures.selects
+  | in-Ebreak+in_ok-ebreak-in-Ebreak w ↦
+      knows_behind w.in-Ebreak.is w.shown-is w.self-is (ap g.D.Dmi.seen w.link-is)
+      w.in_ok-ebreak-in-Ebreak.ensures.keeps.behind.selects
 ]
 
 pub returns-in-End-clause-knows : goal.returns-in-End-clause-knows

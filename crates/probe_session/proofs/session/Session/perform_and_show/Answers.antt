@@ -1,7 +1,6 @@
 use Rattle.probe_session.specs.Commands.{state_of}
-use Rattle.probe_session.proofs.Knowing.{knows_as}
+use Rattle.probe_session.proofs.Knowing.{known_beside, knows_as, shown_knows}
 use Rattle.probe_session.proofs.LinkLemmas.{if_err}
-use Rattle.probe_session.proofs.Selections.{knows_still}
 use Rattle.probe_session.proofs.ShownLines.{done_some, shown_fell, shown_spoke}
 use Rattle.probe_session.proofs.Spoken.{fell_first}
 use Rattle.probe_session.proofs.session.Session.perform_and_show.Goals as goal
@@ -26,7 +25,11 @@ returns-clause-acted g c =
     (done_some c.args.command (state_of c.args.self.now) (state_of c.perform.new.self) c.in-Some.is c.in_ok-done.ensures.did) c.in_ok-show.ensures.spoke
 
 pub returns-then-branch-clause-knows : goal.returns-then-branch-clause-knows
-returns-then-branch-clause-knows g c = knows_still _ _ _ _ c.in_ok-show.ensures.selection (knows_as _ _ c.known_behind-self.ensures c.in_ok-done.ensures.knows)
+returns-then-branch-clause-knows g c =
+    shown_knows c.in-Some.shown _ _ _ _ c.in_ok-show.ensures.selection c.in_ok-show.ensures.line
+    (known_beside _ c.in-Some.is c.known_behind-self.ensures.beside) (knows_as _ _ c.known_behind-self.ensures.is c.in_ok-done.ensures.knows)
 
 pub returns-clause-knows : goal.returns-clause-knows
-returns-clause-knows g c = knows_still _ _ _ _ c.in_ok-show.ensures.selection (knows_as _ _ c.known_behind-self.ensures c.in_ok-done.ensures.knows)
+returns-clause-knows g c =
+    shown_knows c.in-Some.shown _ _ _ _ c.in_ok-show.ensures.selection c.in_ok-show.ensures.line
+    (known_beside _ c.in-Some.is c.known_behind-self.ensures.beside) (knows_as _ _ c.known_behind-self.ensures.is c.in_ok-done.ensures.knows)

@@ -2,6 +2,7 @@ use Rattle.probe_session.specs.Commands.{let_go, state_of}
 use Rattle.probe_session.specs.Said.{said_by}
 use Rattle.probe_session.proofs.LinkLemmas.{goes_at, if_err}
 use Rattle.probe_session.proofs.OneLine.{if_err_map, if_ok_map, met_as, met_at, met_at_falls, met_falls, met_says}
+use Rattle.probe_session.proofs.Knowing.{knows_met}
 use Rattle.probe_session.proofs.session.Session.resume.Goals as goal
 
 pub returns-in_err-line-clause-falls : goal.returns-in_err-line-clause-falls
@@ -25,3 +26,6 @@ returns-in-At-clause-falls g c =
 pub returns-in-At-clause-keeps : goal.returns-in-At-clause-keeps
 returns-in-At-clause-keeps g c =
     let m = met_as _ _ _ c.in-At.is c.in_ok-line.ensures.met in goes_at m.0 c.meet.ensures.keeps.later c.meet.ensures.keeps.fixed c.let_go_line.ensures.keeps
+
+pub let_go_line-requires-clause-knows : goal.let_go_line-requires-clause-knows
+let_go_line-requires-clause-knows g c = let m = met_as _ _ _ c.in-At.is c.in_ok-line.ensures.met in knows_met _ _ m.0 c.in_ok-line.ensures.still

@@ -3,6 +3,8 @@ use Rattle.probe_session.specs.Reach.{stepped}
 use Rattle.probe_session.specs.Said.{said_by}
 use Rattle.probe_session.proofs.LinkLemmas.{goes_at, if_err}
 use Rattle.probe_session.proofs.OneLine.{if_err_map, if_ok_map, met_as, met_at, met_at_falls, met_falls, met_says}
+use Rattle.probe_session.proofs.Knowing.{knows_met}
+use Rattle.probe_session.proofs.Whole.{no_step, says_as, whole_at}
 use Rattle.probe_session.proofs.session.Session.step.Goals as goal
 
 pub returns-in_err-line-clause-falls : goal.returns-in_err-line-clause-falls
@@ -28,3 +30,12 @@ returns-in-At-clause-falls g c =
 pub returns-in-At-clause-keeps : goal.returns-in-At-clause-keeps
 returns-in-At-clause-keeps g c =
     let m = met_as _ _ _ c.in-At.is c.in_ok-line.ensures.met in goes_at m.0 c.meet.ensures.keeps.later c.meet.ensures.keeps.fixed c.stepped_line.ensures.keeps
+
+pub returns-in-Says-clause-whole : goal.returns-in-Says-clause-whole
+returns-in-Says-clause-whole g c = λ shows. no_step (says_as c.in-Says.is c.in_ok-line.ensures.says) shows
+
+pub returns-in-At-clause-whole : goal.returns-in-At-clause-whole
+returns-in-At-clause-whole g c = let m = met_as _ _ _ c.in-At.is c.in_ok-line.ensures.met in whole_at _ _ m.0 c.stepped_line.ensures.whole
+
+pub stepped_line-requires-clause-knows : goal.stepped_line-requires-clause-knows
+stepped_line-requires-clause-knows g c = let m = met_as _ _ _ c.in-At.is c.in_ok-line.ensures.met in knows_met _ _ m.0 c.in_ok-line.ensures.still

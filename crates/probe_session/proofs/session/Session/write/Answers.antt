@@ -26,4 +26,4 @@ returns-in-By-clause-falls g c = if_err_map _ _ _ (λ f p. reach_goes_falls (sta
     c.written_line.ensures.falls
 
 pub returns-in-By-clause-knows : goal.returns-in-By-clause-knows
-returns-in-By-clause-knows g c = still_knows _ _ _ _ _ c.written_line.ensures.selection c.in_ok-line.ensures.knows
+returns-in-By-clause-knows g c = still_knows _ _ _ _ _ _ c.written_line.ensures.selection c.in_ok-line.ensures.knows
