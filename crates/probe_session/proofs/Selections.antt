@@ -1,5 +1,5 @@
 -- The hart that is selected, behind each call of a session that selects none.
-use Rattle.std.proofs.Common.{◌≡◌, ◌∙◌, ◌≤◌, ℕ, List, Bool, true, false, Option, Some, None, Result, Ok, Err, OnOk, IfOk, refl, sym, ap, subst, arith}
+use Rattle.std.proofs.Common.{◌≡◌, ◌∙◌, ℕ, List, Bool, true, false, Option, Some, None, Result, Ok, Err, OnOk, IfOk, refl, sym, ap, subst}
 use Rattle.rv_model.specs.declared.size.Size.{Size}
 use Rattle.debug_model.specs.declared.command.Path.TheVariants.{Progbuf, Bus}
 use Rattle.debug_model.specs.Chip.{Chip}
@@ -19,11 +19,11 @@ use Rattle.probe_trig.specs.declared.slot_view.SlotView.{SlotView}
 use Rattle.probe_session.specs.declared.fault.Failure.{Failure}
 use Rattle.probe_session.specs.declared.known.Known.{Known}
 use Rattle.probe_session.specs.declared.known.Known.TheVariants as known
-use Rattle.probe_session.specs.Answers.{BlockLoadedAs, BlockStoredAs, RefusedStore}
+use Rattle.probe_session.specs.Answers.{BlockLoadedAs, BlockStoredAs}
 use Rattle.probe_session.specs.BlockCalls.{BlockLoaded, BlockLoadedNone, BlockStored, BlockStoredNone}
 use Rattle.probe_session.specs.Calls.{Got, Viewed}
 use Rattle.probe_session.specs.Known.{Knows, without_step}
-use Rattle.probe_session.specs.Links.{AttachedAt, AttachedHalted, Goes, SelectionStays}
+use Rattle.probe_session.specs.Links.{AttachedHalted, Goes, SelectionStays}
 
 -- where it stays the same
 abbrev pub Stays : Option Far → Option Far → Type 0

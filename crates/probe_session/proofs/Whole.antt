@@ -1,5 +1,6 @@
 -- A told chip whose selected hart stands behind a whole step: turns and a Look leave it there, and none of its slots has a hit.
-use Rattle.std.proofs.Common.{◌≡◌, ◌∙◌, ◌++◌, ℕ, List, Bool, true, false, Option, Some, None, Result, Ok, Err, IfOk, is_some, slice_get, refl, sym, ap, subst, arith}
+use Rattle.std.proofs.Common.{◌≡◌, ◌∙◌, ◌++◌, ℕ, List, Bool, true, false, Option, Some, None, Result}
+use Rattle.std.proofs.Common.{IfOk, is_some, slice_get, refl, sym, ap, subst, arith}
 use Rattle.std.specs.Prelude.{◌==◌}
 use Rattle.std.proofs.lemmas.Bool.{eqb-true, false≢true}
 use Rattle.std.proofs.lemmas.Option.{none-some, same_Some}
@@ -7,7 +8,6 @@ use Rattle.rv_model.specs.declared.cause.Cause.{Cause}
 use Rattle.rv_model.specs.declared.cause.Cause.TheVariants as cause
 use Rattle.rv_model.specs.Board.{Board, Hart, Machine}
 use Rattle.rv_model.specs.Dcsr.{shown_cause}
-use Rattle.debug_model.specs.Chip.{Chip}
 use Rattle.debug_model.specs.Module.{Site}
 use Rattle.debug_model.specs.Scan.{WhereTold}
 use Rattle.debug_model.specs.Told.{Far, HartHalted, IsHalted, IsReady, Selects, SiteReady, site_of}
@@ -15,7 +15,7 @@ use Rattle.abstract_debugger.specs.Debugger.{halted_of}
 use Rattle.abstract_debugger.specs.Laws.{IsFrozenAt}
 use Rattle.abstract_debugger.specs.Lines.{Line}
 use Rattle.abstract_debugger.specs.Plan.{Plan, is_step}
-use Rattle.abstract_debugger.specs.Stands.{At, Deals, Looked, Origin, Target}
+use Rattle.abstract_debugger.specs.Stands.{At, Deals, Origin, Target}
 use Rattle.abstract_debugger.specs.Turns.{after_turns}
 use Rattle.abstract_debugger.specs.Ways.Way.{Ready, Still}
 use Rattle.abstract_debugger.proofs.FrozenLemmas.{stays_same}
@@ -31,7 +31,6 @@ use Rattle.probe_session.specs.declared.fault.Failure.{Failure}
 use Rattle.probe_session.specs.declared.known.Known.{Known}
 use Rattle.probe_session.specs.declared.known.Known.TheVariants as known
 use Rattle.probe_session.specs.declared.met.Met.{Met}
-use Rattle.probe_session.specs.declared.met.Met.TheVariants as met
 use Rattle.probe_session.specs.Known.{IsWhole, Knows, StandsStepped, says_step}
 use Rattle.probe_session.specs.Met.{SaysNoStep}
 use Rattle.probe_session.specs.Led.{target_at}

@@ -28,7 +28,8 @@ impl Session {
         ensures did { IfOk result (DoneUpTo command (state_of self.old) (state_of self.new) (told (D.seen link.old)) (told (D.seen link.new))) }
         ensures falls { IfErr result (Fails (Falls (before command (state_of self.old)) []) (D.seen link.old) (D.seen link.new)) }
         ensures keeps { Goes AttachedUpTo (D.seen link.old) (D.seen link.new) result }
-        ensures knows { IfOk result (λ shown. Knows (known_behind command shown self.new.hart self.new.path self.new.known) self.new.hart (D.seen link.new).far) }
+        ensures knows { IfOk result (λ shown. Knows (known_behind command shown self.new.hart self.new.path self.new.known) self.new.hart
+            (D.seen link.new).far) }
         ensures block { IfOk result (λ shown. IfSome shown IsOfBlock) }
     {
         let shown = match command {

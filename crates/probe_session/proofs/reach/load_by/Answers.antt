@@ -4,8 +4,8 @@ use Rattle.probe_session.proofs.reach.load_by.Goals as goal
 
 pub returns-in-Hart-clause-selection : goal.returns-in-Hart-clause-selection
 returns-in-Hart-clause-selection g c =
-    hart_load_stays _ _ _ _ _ (g.D.Dmi.seen c.args.link.now) (g.D.Dmi.seen c.load.new.link) _ c.load.ensures.loaded (attached_hart c.in-Hart.is c.requires.serving)
-    c.load.ensures.keeps
+    hart_load_stays _ _ _ _ _ (g.D.Dmi.seen c.args.link.now) (g.D.Dmi.seen c.load.new.link) _ c.load.ensures.loaded
+    (attached_hart c.in-Hart.is c.requires.serving) c.load.ensures.keeps
 
 pub returns-in-Bus-clause-selection : goal.returns-in-Bus-clause-selection
 returns-in-Bus-clause-selection g c =

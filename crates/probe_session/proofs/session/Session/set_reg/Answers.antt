@@ -30,4 +30,5 @@ written_register_line-requires-clause-of g c = of_cores c.args.name.0 c.requires
 
 pub returns-in-At-clause-keeps : goal.returns-in-At-clause-keeps
 returns-in-At-clause-keeps g c =
-    let m = met_as _ _ _ c.in-At.is c.in_ok-line.ensures.met in goes_at m.0 c.meet.ensures.keeps.later c.meet.ensures.keeps.fixed c.written_register_line.ensures.keeps
+    let m = met_as _ _ _ c.in-At.is c.in_ok-line.ensures.met in goes_at m.0 c.meet.ensures.keeps.later c.meet.ensures.keeps.fixed
+    c.written_register_line.ensures.keeps
