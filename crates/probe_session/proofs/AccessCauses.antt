@@ -1,5 +1,5 @@
 -- What caused a fault of the wire in an access, and in a call on a hart's slots.
-use Rattle.std.proofs.Common.{ℕ, Bool, true, false, List, [], Option, IfSome, sym, subst}
+use Rattle.std.proofs.Common.{ℕ, true, false, List, [], Option, IfSome, sym, subst}
 use Rattle.debug_model.specs.declared.dmi.DmiFault.{DmiFault}
 use Rattle.debug_model.specs.declared.dmi_op.DmiOp.{DmiOp}
 use Rattle.debug_model.specs.Told.{Far}

@@ -15,7 +15,7 @@ use Rattle.probe_access.specs.Blocks.{BlockLoadLeft, BlockLoadedAt, BlockStoreLe
 use Rattle.probe_access.specs.BusBlockRuns.{BusLoads, BusLoadsRefused, BusStoresRefused}
 use Rattle.probe_access.specs.BusBlocks.{BusBlockLoadCut, BusBlockLoadLeft, BusBlockLoadedAt, BusBlockStoreCut, BusBlockStoreLeft}
 use Rattle.probe_access.specs.BusRuns.{cut_to}
-use Rattle.probe_access.specs.Cuts.{AccessLeftOff, BusLeftOff, IfCut, Leaves, LoadLeaves, Scratched, StoreLeaves}
+use Rattle.probe_access.specs.Cuts.{AccessLeftOff, BusLeftOff, IfCut, Leaves, LoadLeaves, StoreLeaves}
 use Rattle.probe_access.specs.ReadRuns.{is_wide}
 use Rattle.probe_access.specs.ElementRuns.{LoadRuns, LoadRunsFailed, StoreRunsFailed}
 use Rattle.probe_access.proofs.CutSites.{if_cut}

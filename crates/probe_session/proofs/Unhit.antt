@@ -1,27 +1,25 @@
 -- A halted hart none of whose slots has a hit, over a told chip: what is known of it, and a single step that leaves its slots alone.
-use Rattle.std.proofs.Common.{◌≡◌, ◌∙◌, ℕ, zero, suc, Bool, true, false, List, [], ◌∷◌, Option, Some, None, slice_get, refl, sym, ap, subst, if◌then◌else◌}
+use Rattle.std.proofs.Common.{◌≡◌, ◌∙◌, ℕ, suc, Bool, true, false, List, [], ◌∷◌, Option, Some, None, slice_get, refl, sym, ap, subst, if◌then◌else◌}
 use Rattle.std.specs.List.{list_any}
 use Rattle.std.specs.Prelude.{◌==◌, ◌||◌}
 use Rattle.std.proofs.lemmas.Bool.{false≢true}
-use Rattle.std.proofs.lemmas.Option.{none-some, same_Some, slice_get-map}
+use Rattle.std.proofs.lemmas.Option.{same_Some, slice_get-map}
 use Rattle.rv_model.specs.declared.slot.Slot.{Slot}
-use Rattle.rv_model.specs.Board.{Board, DebugPart, Hart, Machine}
+use Rattle.rv_model.specs.Board.{DebugPart, Hart, Machine}
 use Rattle.debug_model.specs.Scan.{WhereTold}
 use Rattle.debug_model.specs.Module.{Site}
 use Rattle.debug_model.specs.Told.{Far, site_of}
 use Rattle.abstract_debugger.specs.Debugger.{halted_of, one}
 use Rattle.abstract_debugger.specs.FirstMatch.{has_here, story}
-use Rattle.abstract_debugger.specs.Known.{IsKnown}
 use Rattle.abstract_debugger.specs.Lines.{Line}
 use Rattle.abstract_debugger.specs.Plan.{Plan, is_step}
 use Rattle.abstract_debugger.specs.Plan.Plan.{see}
 use Rattle.abstract_debugger.specs.Slots.{any_hit, hits_of, slots_at, slots_here, trigger_has_hit}
 use Rattle.abstract_debugger.specs.Stands.{At, Deals, Origin, Target}
 use Rattle.abstract_debugger.specs.Trace.{Past}
-use Rattle.abstract_debugger.specs.Ways.{Fits, Way}
+use Rattle.abstract_debugger.specs.Ways.{Fits}
 use Rattle.abstract_debugger.specs.Ways.Way.{Idle, Ready, Still as StillWay}
-use Rattle.abstract_debugger.proofs.DealsLemmas.{deals_at_plan, deals_frozen, deals_known, deals_seen, deals_unspent, deals_went_on, if_false, if_true}
-use Rattle.abstract_debugger.proofs.DealsLemmas.{target_frozen}
+use Rattle.abstract_debugger.proofs.DealsLemmas.{deals_at_plan, deals_frozen, deals_known, deals_seen, deals_unspent, deals_went_on, if_false}
 use Rattle.abstract_debugger.proofs.KnownPoints.{known-stepped}
 use Rattle.abstract_debugger.proofs.SlotLemmas.{slot-hit}
 use Rattle.abstract_debugger.proofs.StandsLemmas.{shown}

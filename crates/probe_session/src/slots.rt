@@ -89,11 +89,7 @@ pub(crate) fn step<D: Dmi>(link: &mut D, halted: Halted) -> Result<Halted, Failu
 }
 
 /// The same where `word` is what the hart's `dcsr` was just read as.
-pub(crate) fn step_from<D: Dmi>(
-    link: &mut D,
-    halted: Halted,
-    word: u64,
-) -> Result<Halted, Failure>
+pub(crate) fn step_from<D: Dmi>(link: &mut D, halted: Halted, word: u64) -> Result<Halted, Failure>
     requires serving { AttachedHalted halted.number (D.seen link.old) }
     requires reads { ReadsDcsr halted.number word (D.seen link.old).far }
     ensures made { OnOk result (StepFromMade halted.number word (told (D.seen link.old)) (told (D.seen link.new))) }

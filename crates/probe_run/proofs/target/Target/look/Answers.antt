@@ -16,23 +16,19 @@ returns-clause-did g c = looked_at c.args.hart _ _ _ _ c.in_ok-word.ensures.did 
 pub returns-clause-happened : goal.returns-clause-happened
 returns-clause-happened g c =
     look_happened c.args.hart _ _ _ _ c.seen_of.ensures
-    (look_outcome c.args.hart _ c.requires.hart (told (g.D.Dmi.seen c.args.link.now)) (told (g.D.Dmi.seen c.control_and_look.new.link))
-    c.requires.ready c.in_ok-word.ensures.did)
+    (look_outcome c.args.hart _ c.requires.hart (told (g.D.Dmi.seen c.args.link.now)) (told (g.D.Dmi.seen c.control_and_look.new.link)) c.requires.ready c.in_ok-word.ensures.did)
 
 pub returns-clause-ready : goal.returns-clause-ready
 returns-clause-ready g c =
     look_ready c.args.hart _ _ _
-    (look_outcome c.args.hart _ c.requires.hart (told (g.D.Dmi.seen c.args.link.now)) (told (g.D.Dmi.seen c.control_and_look.new.link))
-    c.requires.ready c.in_ok-word.ensures.did)
+    (look_outcome c.args.hart _ c.requires.hart (told (g.D.Dmi.seen c.args.link.now)) (told (g.D.Dmi.seen c.control_and_look.new.link)) c.requires.ready c.in_ok-word.ensures.did)
 
 pub returns-clause-selects : goal.returns-clause-selects
 returns-clause-selects g c =
     look_selects c.args.hart _ _ _
-    (look_outcome c.args.hart _ c.requires.hart (told (g.D.Dmi.seen c.args.link.now)) (told (g.D.Dmi.seen c.control_and_look.new.link))
-    c.requires.ready c.in_ok-word.ensures.did)
+    (look_outcome c.args.hart _ c.requires.hart (told (g.D.Dmi.seen c.args.link.now)) (told (g.D.Dmi.seen c.control_and_look.new.link)) c.requires.ready c.in_ok-word.ensures.did)
 
 pub returns-clause-seen : goal.returns-clause-seen
 returns-clause-seen g c =
     look_seen c.args.hart _ _ _ _ c.seen_of.ensures
-    (look_outcome c.args.hart _ c.requires.hart (told (g.D.Dmi.seen c.args.link.now)) (told (g.D.Dmi.seen c.control_and_look.new.link))
-    c.requires.ready c.in_ok-word.ensures.did)
+    (look_outcome c.args.hart _ c.requires.hart (told (g.D.Dmi.seen c.args.link.now)) (told (g.D.Dmi.seen c.control_and_look.new.link)) c.requires.ready c.in_ok-word.ensures.did)
