@@ -190,6 +190,7 @@ fn check_block(
     assert_eq!(rt; bench.journal().accesses(), u64::from(inside) + refused);
     let handed = if call.stores { 0 } else { usize::from(inside) };
     assert_eq!(rt; into.len(), handed);
+    assert!(rt; bench.is_loaded());
     for number in 0..inside {
         let at = address_of(call.size, call.address, number);
         let was = loaded_from(image, call.size, at);
@@ -212,6 +213,7 @@ fn check_block(
 }
 
 /// The same on both paths, with loads and with stores.
+#[tactic(auto, using(crate::proofs::Edges::block_ends))]
 fn check_ways(
     rt: &impl Abort,
     alloc: Global,
