@@ -41,8 +41,14 @@ const STEP_FROM_SCANS: u64 = 5 + 3 + 4 + 5;
 /// A single step, which reads `dcsr` first by one data word.
 const ONE_STEP_SCANS: u64 = 4 + STEP_FROM_SCANS;
 
-/// A step right behind one: a Look, a single step, and for the line `dpc` and `dcsr` in one call of six operations.
-const STEP_SCANS: u64 = LOOK_SCANS + ONE_STEP_SCANS + 7;
+/// Where the hart stands, for a line: `dpc` and `dcsr` in one call of six operations.
+const STOP_SCANS: u64 = 7;
+
+/// A step right behind one: a Look, a single step, and where the hart stands.
+const STEP_SCANS: u64 = LOOK_SCANS + ONE_STEP_SCANS + STOP_SCANS;
+
+/// A step behind another command: a Look, `dcsr`, a single step from its word, and where the hart stands.
+const LATER_STEP_SCANS: u64 = LOOK_SCANS + CAUSE_SCANS + STEP_FROM_SCANS + STOP_SCANS;
 
 /// One step more of several.
 const NEXT_STEP_SCANS: u64 = CAUSE_SCANS + STEP_FROM_SCANS;
@@ -93,11 +99,7 @@ fn one_command_more_takes_so_many_scans(rt: HostRuntime) -> Result<(), Fail> {
             "step\nreg x5\nresume\n",
             RESUME_SCANS + CAUSE_SCANS,
         ),
-        (
-            "step\nreg x5\n",
-            "step\nreg x5\nstep\n",
-            STEP_SCANS + CAUSE_SCANS,
-        ),
+        ("step\nreg x5\n", "step\nreg x5\nstep\n", LATER_STEP_SCANS),
         ("dump 0x80000000 60\n", "dump 0x80000000 61\n", BYTE_SCANS),
     ];
     for (shorter, longer, scans) in cases {
