@@ -30,7 +30,7 @@ abbrev pub AddressSet : SlotUse → List Transfer → Type 0
 AddressSet what ts = ts ≡ address_set (address_named what)
 
 abbrev pub Armed : SlotUse → List Transfer → Type 0
-Armed what ts = ts ≡ armed what
+Armed what ts = (tinfo : ℕ) × (ts ≡ armed what tinfo)
 
 -- of four
 abbrev pub ReadAll : List SlotWords → ℕ → Tells → Tells → Type 0
