@@ -67,9 +67,13 @@ abbrev pub address_set : Option ℕ → List Transfer
 address_set (Some address) = Set Tdata2 address ∷ []
 address_set None = []
 
+-- a slot of this tinfo is armed
+abbrev pub armed_by : ℕ → SlotUse → List Transfer
+armed_by tinfo what = address_set (address_named what) ++ Set Tdata1 (word_named tinfo what) ∷ []
+
 -- which types the slot offers is read first
 abbrev pub armed : SlotUse → ℕ → List Transfer
-armed what tinfo = Got Tinfo tinfo ∷ (address_set (address_named what) ++ Set Tdata1 (word_named tinfo what) ∷ [])
+armed what tinfo = Got Tinfo tinfo ∷ armed_by tinfo what
 
 -- this slot is the lowest free one
 pub record Finds (slot : ℕ) (ts : List Transfer) : Type 0 where
