@@ -225,7 +225,7 @@ offered_did what tinfo h old mid new got arms =
     record { transfers = armed what tinfo; whole = (tinfo, refl); made = made_then h (Got Tinfo tinfo ∷ []) (armed_by tinfo what) old mid new got arms }
 
 -- of a slot that was armed
-pub tinfo_of : (what : SlotUse) (h : ℕ) (old new : Tells) → Did (Armed what) h old new → ℕ
+abbrev pub tinfo_of : (what : SlotUse) (h : ℕ) (old new : Tells) → Did (Armed what) h old new → ℕ
 tinfo_of what h old new d = d.whole.0
 
 pub armed_made : (what : SlotUse) (h : ℕ) (old new : Tells) (d : Did (Armed what) h old new) → Made h old (armed what (tinfo_of what h old new d)) new

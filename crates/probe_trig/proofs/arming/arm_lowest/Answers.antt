@@ -24,7 +24,7 @@ returns-in_err-arm_selected-in-Some-clause-failed g c =
     (failed_behind _ _ (Got Tselect c.in_ok-kept.kept ∷ d.transfers) _ _ _ _ _ _ _ _
     (omega (arith, c.reg.ensures.keeps.later, c.seek_free.ensures.keeps.later)) c.arm_selected.ensures.keeps.later
     (sought_behind c.in_ok-kept.kept c.args.halted.now.number _ _ _ (Some c.in-Some.slot) c.in_ok-kept.ensures.made d)
-    (arms_armed c.args.what tinfo c.in_ok-kept.kept c.in-Some.slot d.transfers d.whole) c.in_err-arm_selected-in-Some.ensures.failed)
+    (arms_armed c.args.what c.in_ok-kept.kept c.in-Some.slot d.transfers d.whole) c.in_err-arm_selected-in-Some.ensures.failed)
 
 pub returns-in_err-set_reg-in-Some-clause-failed : goal.returns-in_err-set_reg-in-Some-clause-failed
 returns-in_err-set_reg-in-Some-clause-failed g c =
