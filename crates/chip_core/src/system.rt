@@ -68,12 +68,7 @@ impl Model for System {
 impl System {
     /// These harts and this memory behind a TAP and a debug module of a release as a reset leaves them, with this limit of points. Nothing
     /// was noted or counted.
-    pub(crate) fn new(
-        version: Version,
-        harts: Vec<DebugHart>,
-        ram: Ram,
-        most_points: u64,
-    ) -> Self
+    pub(crate) fn new(version: Version, harts: Vec<DebugHart>, ram: Ram, most_points: u64) -> Self
         requires harts { vec_len harts ≤ hart_places }
         requires limit { RightLimit most_points }
         ensures system { result ≡ record {

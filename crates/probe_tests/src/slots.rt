@@ -298,11 +298,37 @@ fn slots_of_release_0_13_are_read_by_their_type(rt: HostRuntime) {
         &rt,
         Call::See,
         &[
-            0, 2, IDLE, // tselect
-            IDLE, ADDRESS_V013, HIT_V013, IDLE, 0, PLACE, IDLE, // slot 0
-            IDLE, ADDRESS_V013, HELD_V013, IDLE, 0, PLACE, IDLE, // slot 1
-            IDLE, ADDRESS_V013, HIT, IDLE, 0, PLACE, IDLE, // slot 2: bit 22 is no hit of type 2
-            IDLE, ADDRESS, HIT_V013, IDLE, 0, PLACE, IDLE, // slot 3: nor is bit 20 of type 6
+            0,
+            2,
+            IDLE, // tselect
+            IDLE,
+            ADDRESS_V013,
+            HIT_V013,
+            IDLE,
+            0,
+            PLACE,
+            IDLE, // slot 0
+            IDLE,
+            ADDRESS_V013,
+            HELD_V013,
+            IDLE,
+            0,
+            PLACE,
+            IDLE, // slot 1
+            IDLE,
+            ADDRESS_V013,
+            HIT,
+            IDLE,
+            0,
+            PLACE,
+            IDLE, // slot 2: bit 22 is no hit of type 2
+            IDLE,
+            ADDRESS,
+            HIT_V013,
+            IDLE,
+            0,
+            PLACE,
+            IDLE, // slot 3: nor is bit 20 of type 6
             IDLE,
         ],
         Ok(Answer::Saw(view)),

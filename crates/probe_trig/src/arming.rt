@@ -112,12 +112,7 @@ fn arm_offered<D: Dmi>(
     ensures keeps { Keeps access_why (D.seen link.old) (D.seen link.new) result }
 {
     set_address(link, halted, what)?;
-    set_reg(
-        link,
-        halted,
-        TriggerRegister::Tdata1,
-        word_for(what, tinfo),
-    )?;
+    set_reg(link, halted, TriggerRegister::Tdata1, word_for(what, tinfo))?;
     Ok(())
 }
 

@@ -122,8 +122,10 @@ debug_code =
     (coded× version_code (coded× (coded_option cause_code)
     (coded× coded_bool (coded× coded_bool (coded× coded_bool (coded× coded_bool (coded× coded_bool (coded× coded_bool (coded× coded_bool
     (coded× coded_ℕ (coded_list slot_code)))))))))))
-    (λ d. (d.version,
-    (d.halted, (d.halt_request, (d.resume_request, (d.resume_ack, (d.have_reset, (d.step, (d.stepie, (d.ebreakm, (d.tselect, d.slots)))))))))))
+    (λ d. (
+      d.version,
+      (d.halted, (d.halt_request, (d.resume_request, (d.resume_ack, (d.have_reset, (d.step, (d.stepie, (d.ebreakm, (d.tselect, d.slots))))))))),
+    ))
     (λ p. record {
       version = p.0;
       halted = p.1.0;

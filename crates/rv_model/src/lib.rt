@@ -42,8 +42,8 @@ pub use debug_laws::{
     memory_needs_access, program_buffer_examples, words_keep, writes_keep, writes_read_back,
 };
 pub use debug_word_laws::{
-    dcsr_examples, dcsr_read_back, releases_shown, trigger_read_back, trigger_registers, triggers_decoded,
-    triggers_kept,
+    dcsr_examples, dcsr_read_back, releases_shown, trigger_read_back, trigger_registers,
+    triggers_decoded, triggers_kept,
 };
 pub use did::Did;
 pub use examples::{

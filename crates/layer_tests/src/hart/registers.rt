@@ -81,7 +81,11 @@ const TRIGGERS: [(u64, u64, u64); 7] = [
     (0x2fff_ffff_ffff_ffff, 0x2800_0000_0010_1047, DISABLED),
     (0x6800_0000_0000_1044, DISABLED, 0x6800_0000_0000_1044),
     (0x6fff_ffff_ffff_ffff, DISABLED, 0x6800_0000_0040_1047),
-    (0x3800_0000_0000_0601, 0x3800_0000_0000_0601, 0x3800_0000_0000_0601),
+    (
+        0x3800_0000_0000_0601,
+        0x3800_0000_0000_0601,
+        0x3800_0000_0000_0601,
+    ),
     (0x4800_0000_0000_0000, DISABLED, DISABLED),
 ];
 
@@ -95,7 +99,11 @@ fn triggers_go_by_the_release(rt: HostRuntime) {
         assert_eq!(rt; read(&hart, 0x7a1), Some(DISABLED));
         for (word, older, newer) in TRIGGERS {
             assert!(rt; write(&mut hart, 0x7a1, word));
-            let kept = if version == Version::V013 { older } else { newer };
+            let kept = if version == Version::V013 {
+                older
+            } else {
+                newer
+            };
             assert_eq!(rt; read(&hart, 0x7a1), Some(kept));
         }
         // The debug version of dcsr is 4 in both.

@@ -32,7 +32,11 @@ impl Slots {
     {
         match number {
             TSELECT => Some(u64::from(self.tselect)),
-            TDATA1 => Some(slot_at(&self.slots, self.tselect).trigger.tdata1(self.version)),
+            TDATA1 => Some(
+                slot_at(&self.slots, self.tselect)
+                    .trigger
+                    .tdata1(self.version),
+            ),
             TDATA2 => Some(slot_at(&self.slots, self.tselect).tdata2),
             TINFO => Some(self.version.tinfo()),
             _ => None,
