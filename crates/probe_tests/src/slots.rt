@@ -294,6 +294,7 @@ fn slots_of_release_0_13_are_read_by_their_type(rt: HostRuntime) {
         ],
         hits: SlotSet(0b0011),
     };
+    // Bit 22 is no hit of type 2, nor is bit 20 of type 6.
     check(
         &rt,
         Call::See,
@@ -321,14 +322,14 @@ fn slots_of_release_0_13_are_read_by_their_type(rt: HostRuntime) {
             IDLE,
             0,
             PLACE,
-            IDLE, // slot 2: bit 22 is no hit of type 2
+            IDLE, // slot 2
             IDLE,
             ADDRESS,
             HIT_V013,
             IDLE,
             0,
             PLACE,
-            IDLE, // slot 3: nor is bit 20 of type 6
+            IDLE, // slot 3
             IDLE,
         ],
         Ok(Answer::Saw(view)),
