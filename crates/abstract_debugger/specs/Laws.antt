@@ -2,6 +2,7 @@
 -- They are this project's own; docs/HEADLINE.md reads them aloud.
 use Rattle.std.specs.Prelude.{◌≡◌, ◌≢◌, ◌⊎◌, ℕ, All, List, ◌∷◌, ◌++◌, Option, Some, None, false, slice_get}
 use Rattle.rv_model.specs.declared.cause.Cause.{Cause}
+use Rattle.rv_model.specs.declared.version.Version.{Version}
 use Rattle.rv_model.specs.Board.{Board, DebugPart, Hart, Machine, machine_of, reset_debug}
 use Rattle.rv_model.specs.Core.{Core}
 use Rattle.rv_model.specs.Registers.{reg_written}
@@ -48,7 +49,7 @@ EachNoteIsRight = (m : Machine) (later : Past) (note : Note) (earlier : Past) �
 
 -- a reset leaves harts that no debugger has touched
 abbrev pub ResetIsFresh : Type 0
-ResetIsFresh = (halted : Option Cause) → IsFreshPart (reset_debug halted)
+ResetIsFresh = (version : Version) (halted : Option Cause) → IsFreshPart (reset_debug version halted)
 
 -- ---- a journal that is cut
 

@@ -15,7 +15,7 @@ use Rattle.debug_model.specs.Transport.{updated_dtm}
 use Rattle.chip_laws.specs.Examples.{CommandExamples, ModuleExamples, TransportExamples, WordExamples, before_word, load_word, met_late}
 
 pub word_examples : WordExamples
-word_examples = record { dtmcs = refl; no_such_hart = refl; running = refl; halted = refl; abstractcs = refl; sbcs = refl }
+word_examples = record { dtmcs = refl; no_such_hart = refl; running = refl; halted = refl; no_such_hart_V013 = refl; running_V013 = refl; halted_V013 = refl; abstractcs = refl; sbcs = refl }
 
 pub transport_examples : TransportExamples
 unfolding updated_dtm

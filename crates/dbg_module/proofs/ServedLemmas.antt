@@ -182,7 +182,7 @@ pub operations_serve : OperationsServe
 operations_serve op s h = record { held = operations_hold op s h.held }
 
 pub reset_is_served : ResetIsServed
-reset_is_served hs = record { held = λ is. cc }
+reset_is_served version hs = record { held = λ is. cc }
 
 -- ---- micro steps
 
@@ -194,7 +194,7 @@ held_as x y same h =
     ∙ h
 
 same_requests : (d : DebugPart) → SameRequests d d
-same_requests d = record { halted = refl; halt_request = refl; resume_request = refl; resume_ack = refl; have_reset = refl }
+same_requests d = record { version = refl; halted = refl; halt_request = refl; resume_request = refl; resume_ack = refl; have_reset = refl }
 
 hart_by : (b : Bool) (x : Hart) (s t : Stepped) → SameRequests x.debug s.hart.debug → SameRequests x.debug t.hart.debug
     → SameRequests x.debug (cond b s t).hart.debug

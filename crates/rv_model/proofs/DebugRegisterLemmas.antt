@@ -26,7 +26,7 @@ use Rattle.rv_model.proofs.SlotLemmas.{set_fits, selected_fits, written_fits}
 -- ---- worked examples
 
 pub debug_register_numbers : DebugRegisterNumbers
-debug_register_numbers = record { tselect = refl; tdata1 = refl; tdata2 = refl; tinfo = refl; tinfo_reads = refl; dcsr = refl; dpc = refl; x0 = refl }
+debug_register_numbers = record { tselect = refl; tdata1 = refl; tdata2 = refl; tinfo = refl; disabled = refl; dcsr = refl; dpc = refl; x0 = refl }
 
 pub debug_register_examples : DebugRegisterExamples
 unfolding debug_value debug_refuses debug_written csr_value csr_read_only csr_written dcsr_word tdata1_of trigger_csr_value trigger_csr_written
@@ -34,7 +34,8 @@ debug_register_examples = record {
   dcsr = refl;
   dpc = refl;
   tinfo = refl;
-  tdata1 = refl;
+  tinfo_V013 = refl;
+  tdata1 = λ version. refl;
   mhartid = refl;
   last_x = refl;
   behind_last_x = refl;
@@ -64,7 +65,7 @@ pub record DebugKeeps (d after : DebugPart) : Type 0 where
   pub selected : d.tselect < slot_count → after.tselect < slot_count
 
 same_requests : (d : DebugPart) → SameRequests d d
-same_requests d = record { halted = refl; halt_request = refl; resume_request = refl; resume_ack = refl; have_reset = refl }
+same_requests d = record { version = refl; halted = refl; halt_request = refl; resume_request = refl; resume_ack = refl; have_reset = refl }
 
 abbrev TriggersKeep : TriggerPart → TriggerPart → Type 0
 TriggersKeep t after = (length after.slots ≡ length t.slots) × (CountsFit t.slots → CountsFit after.slots)
@@ -82,7 +83,7 @@ unfolding trigger_csr_written
 triggers_keep t number v =
     triggers_by (eqb number tselect_number) (eqb number tdata1_number) (eqb number tdata2_number) t _ _ _
     (refl, λ fits. fits, λ below. omega arith)
-    (length-set t.slots t.tselect _, λ fits. set_fits t.slots t.tselect _ (written_fits v) fits, λ below. below)
+    (length-set t.slots t.tselect _, λ fits. set_fits t.slots t.tselect _ (written_fits t.version v) fits, λ below. below)
     (length-set t.slots t.tselect _, λ fits. set_fits t.slots t.tselect _ (selected_fits t.slots t.tselect fits) fits, λ below. below)
 
 debug_by : (dcsr : Bool) (d a b : DebugPart) → DebugKeeps d a → DebugKeeps d b → DebugKeeps d (cond dcsr a b)
@@ -94,13 +95,13 @@ debug_csr_keeps d number v =
     let t = triggers_keep (triggers_of d) number v in
     debug_by (eqb number 0x7b0) d _ _
     (record {
-      requests = record { halted = refl; halt_request = refl; resume_request = refl; resume_ack = refl; have_reset = refl };
+      requests = record { version = refl; halted = refl; halt_request = refl; resume_request = refl; resume_ack = refl; have_reset = refl };
       slots = refl;
       counts = λ fits. fits;
       selected = λ below. below;
     })
     (record {
-      requests = record { halted = refl; halt_request = refl; resume_request = refl; resume_ack = refl; have_reset = refl };
+      requests = record { version = refl; halted = refl; halt_request = refl; resume_request = refl; resume_ack = refl; have_reset = refl };
       slots = t.0;
       counts = t.1;
       selected = t.2;
@@ -166,7 +167,7 @@ writes_read_back h v = record {
   dpc = refl;
   dcsr = refl;
   tselect = refl;
-  tdata1 = λ here. ap (λ s. Some (tdata1_of s.trigger)) (get_or-set_same h.debug.slots h.debug.tselect _ _ here);
+  tdata1 = λ here. ap (λ s. Some (tdata1_of h.debug.version s.trigger)) (get_or-set_same h.debug.slots h.debug.tselect _ _ here);
   tdata2 = λ here. ap (λ s. Some s.tdata2) (get_or-set_same h.debug.slots h.debug.tselect _ _ here);
   tinfo = refl;
 }

@@ -34,6 +34,7 @@ use Rattle.std.proofs.lemmas.List.{length-map, length-set}
 use Rattle.std.proofs.lemmas.Option.{none-some, same_Some, slice_get_within}
 use Rattle.rv_model.specs.declared.cause.Cause.{Cause}
 use Rattle.rv_model.specs.declared.touch.Touch.{Touch}
+use Rattle.rv_model.specs.declared.version.Version.{Version}
 use Rattle.rv_model.specs.Board.{Board, DebugPart, Hart, IsBoard, IsHart, reset_hart, reset_harts}
 use Rattle.rv_model.specs.Core.{Core, IsCore, reset_core}
 use Rattle.rv_model.specs.Effects.{Outcome}
@@ -53,27 +54,28 @@ use Rattle.rv_model.proofs.SlotLemmas.{counted_fits, marked_fits, map_fits, free
 reset_is_core : (id : ℕ) → IsCore (reset_core id)
 reset_is_core id = record { registers = refl; pc_aligned = refl; mtvec_aligned = refl; mepc_aligned = refl; mpp_fixed = refl }
 
-pub reset_is_hart : (id : ℕ) (halted : Option Cause) → IsHart id (reset_hart id halted)
-reset_is_hart id halted = record { number = refl; core = reset_is_core id; slots = refl; counts = free_slots_fit 4; selected = omega arith }
+pub reset_is_hart : (v : Version) (id : ℕ) (halted : Option Cause) → IsHart id (reset_hart v id halted)
+reset_is_hart v id halted = record { number = refl; core = reset_is_core id; slots = refl; counts = free_slots_fit 4; selected = omega arith }
 
-reset_count : (id : ℕ) (halted : List (Option Cause)) → length (reset_harts id halted) ≡ length halted
-reset_count id [] = refl
-reset_count id (first ∷ rest) = ap suc (reset_count (id + 1) rest)
+reset_count : (v : Version) (id : ℕ) (halted : List (Option Cause)) → length (reset_harts v id halted) ≡ length halted
+reset_count v id [] = refl
+reset_count v id (first ∷ rest) = ap suc (reset_count v (id + 1) rest)
 
-reset_each : (id : ℕ) (halted : List (Option Cause)) (h n : ℕ) (hart : Hart) → n ≡ id + h → slice_get (reset_harts id halted) h ≡ Some hart → IsHart n hart
-reset_each id [] h n hart place is = absurd (none-some hart is)
-reset_each id (first ∷ rest) zero n hart place is =
+reset_each : (v : Version) (id : ℕ) (halted : List (Option Cause)) (h n : ℕ) (hart : Hart) → n ≡ id + h → slice_get (reset_harts v id halted) h ≡ Some hart
+    → IsHart n hart
+reset_each v id [] h n hart place is = absurd (none-some hart is)
+reset_each v id (first ∷ rest) zero n hart place is =
     let at : id ≡ n = omega arith in
     let P : Hart → Type 0 = λ x. IsHart n x in
-    let Q : ℕ → Type 0 = λ k. IsHart k (reset_hart id first) in
-    subst P (same_Some (reset_hart id first) hart is) (subst Q at (reset_is_hart id first))
-reset_each id (first ∷ rest) (suc h) n hart place is = reset_each (id + 1) rest h n hart (omega arith) is
+    let Q : ℕ → Type 0 = λ k. IsHart k (reset_hart v id first) in
+    subst P (same_Some (reset_hart v id first) hart is) (subst Q at (reset_is_hart v id first))
+reset_each v id (first ∷ rest) (suc h) n hart place is = reset_each v (id + 1) rest h n hart (omega arith) is
 
 pub reset_boards_are_boards : ResetBoardsAreBoards
-reset_boards_are_boards halted m some most places = record {
-  some_hart = let e : length (reset_harts 0 halted) ≡ length halted = reset_count 0 halted in omega arith;
-  at_most_four = let e : length (reset_harts 0 halted) ≡ length halted = reset_count 0 halted in omega arith;
-  harts = λ h hart is. reset_each 0 halted h h hart (omega arith) is;
+reset_boards_are_boards v halted m some most places = record {
+  some_hart = let e : length (reset_harts v 0 halted) ≡ length halted = reset_count v 0 halted in omega arith;
+  at_most_four = let e : length (reset_harts v 0 halted) ≡ length halted = reset_count v 0 halted in omega arith;
+  harts = λ h hart is. reset_each v 0 halted h h hart (omega arith) is;
   places = places;
 }
 

@@ -2,6 +2,7 @@
 -- They are this project's own: the last is what lets a debugger be forgotten.
 use Rattle.std.specs.Prelude.{◌≡◌, ◌≢◌, ℕ, ◌<◌, ◌≤◌, List, Option, length, slice_get, if◌then◌else◌}
 use Rattle.rv_model.specs.declared.cause.Cause.{Cause}
+use Rattle.rv_model.specs.declared.version.Version.{Version}
 use Rattle.rv_model.specs.Board.{Board, IsBoard, execute, machine_of, reset_board}
 use Rattle.rv_model.specs.Memory.{Memory, hart_places}
 use Rattle.rv_model.specs.Turn.{executes_at, turn}
@@ -16,8 +17,8 @@ TurnLeavesOthers = (h : ℕ) (b : Board) → LeavesHarts h b (turn h b)
 
 -- what reset leaves is a board, of one to four harts
 abbrev pub ResetBoardsAreBoards : Type 0
-ResetBoardsAreBoards = (halted : List (Option Cause)) (m : Memory) → 0 < length halted → length halted ≤ hart_places → length m.reserved ≡ hart_places
-    → IsBoard (reset_board halted m)
+ResetBoardsAreBoards = (version : Version) (halted : List (Option Cause)) (m : Memory) → 0 < length halted → length halted ≤ hart_places
+    → length m.reserved ≡ hart_places → IsBoard (reset_board version halted m)
 
 -- and a turn leaves a board
 abbrev pub TurnKeepsBoard : Type 0

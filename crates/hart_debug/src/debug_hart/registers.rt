@@ -104,6 +104,7 @@ impl DebugHart {
     }
 
     /// Writes `dcsr` or a trigger register. It answers false, and changes nothing, where this is no number of one.
+    #[tactic(auto, using(crate::proofs::Registers::version_stays))]
     fn write_debug(&mut self, regno: u16, value: u64) -> bool
         ensures answer { result ≡ is_some (debug_csr_value self.old.debug regno) }
         ensures after { self.new ≡ record self.old { debug = debug_csr_written self.old.debug regno value } }
