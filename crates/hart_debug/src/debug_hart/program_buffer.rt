@@ -164,14 +164,15 @@ impl DebugHart {
                     accessed,
                 }
             }
-            // No instruction's effect is an interrupt.
-            Did::Trapped(_) | Did::Interrupted => {
+            Did::Trapped(_) => {
                 self.hart = before;
                 RanWord {
                     did: DebugDid::Exception,
                     accessed,
                 }
             }
+            // It never is: an interrupt is taken before the fetch, and no instruction's effect is one.
+            Did::Interrupted => REFUSED,
         }
     }
 }

@@ -4,12 +4,13 @@
 ghost use Rattle.std.specs.Prelude.{◌≡◌, true, false, not, ◌&&◌, is_some, IfErr};
 ghost use Rattle.rv_model.specs.DebugLaws.{WriteKeeps};
 ghost use Rattle.rv_model.specs.Dcsr.{dcsr_of};
-ghost use Rattle.rv_model.specs.DebugRegisters.{debug_csr_value, debug_csr_written, debug_value, debug_refuses, debug_written};
+ghost use Rattle.rv_model.specs.DebugRegisters.{debug_csr_value, debug_csr_written, debug_seen, debug_value, debug_refuses, debug_written};
 ghost use Rattle.rv_model.specs.Registers.{reg_value, reg_written};
 ghost use Rattle.hart_debug.specs.RegisterAnswers.{write_answer};
 
 use super::DebugHart;
 use rv_hart::{CsrFault, Hart};
+use rv_mem::Ram;
 use rv_model::Dcsr;
 use rv_model::register_number::{DCSR, DPC, MIP, X0};
 
