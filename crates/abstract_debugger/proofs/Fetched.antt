@@ -126,7 +126,7 @@ abbrev turn_at : Program → Option Hart → ℕ → World → Option World
 turn_at p (Some hart) h w = unless_enabled (mie_of hart.core == 1) (turn_word (word_in p hart.core.pc) hart h w)
 turn_at p None h w = Some w
 
-some_disabled : (enabled : Bool) (o : Option World) (v : World) → unless_enabled enabled o ≡ Some v → o ≡ Some v
+pub some_disabled : (enabled : Bool) (o : Option World) (v : World) → unless_enabled enabled o ≡ Some v → o ≡ Some v
 some_disabled true o v is = absurd (cc)
 some_disabled false o v is = is
 

@@ -21,7 +21,7 @@ use Rattle.debug_model.proofs.JournalLemmas.{points_forget_debugging, points_kee
 use Rattle.abstract_debugger.specs.Known.{Erased}
 use Rattle.abstract_debugger.specs.Laws.{FreshBoardsAreUnmasked, PastsAreUndebugged, ReplaysKeepUnmasked, Transparent}
 use Rattle.abstract_debugger.specs.Own.{lived, own}
-use Rattle.abstract_debugger.specs.Plan.{Change, changed_board, changed_past, ebreak_halts, hart_over, register_set, slot_changed, slot_freed}
+use Rattle.abstract_debugger.specs.Plan.{Change, Plan, changed_board, changed_past, ebreak_halts, hart_over, register_set, slot_changed, slot_freed}
 use Rattle.abstract_debugger.specs.Plan.{patch_bytes, step_begun, step_ended, with_debug_part}
 use Rattle.abstract_debugger.specs.Plan.Change.{WriteReg, WriteMem, ArmSlot, FreeSlot, StepOver, StepDone, EbreakHalts, Patch}
 use Rattle.abstract_debugger.specs.Slots.{hits_forgotten, over, with_slots}
@@ -166,7 +166,7 @@ erased-keeps m = record {
   says = λ line w is. record { machine = is.machine; unmasked = is.unmasked };
 }
 
-start-erased : (board : Board) → StepsUnmasked board → Erased (machine_of board) (start board)
+pub start-erased : (board : Board) → StepsUnmasked board → Erased (machine_of board) (start board)
 start-erased board unmasked = record { machine = refl; unmasked = unmasked }
 
 ends-erased : (plan : Plan) (board : Board) (journal : List Point) → StepsUnmasked board
