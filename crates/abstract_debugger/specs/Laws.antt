@@ -6,6 +6,7 @@ use Rattle.rv_model.specs.declared.version.Version.{Version}
 use Rattle.rv_model.specs.Board.{Board, DebugPart, Hart, Machine, machine_of, reset_debug}
 use Rattle.rv_model.specs.Core.{Core}
 use Rattle.rv_model.specs.Registers.{reg_written}
+use Rattle.rv_model.specs.TurnLaws.{StepsUnmasked}
 use Rattle.rv_model.specs.Undebugged.{undebugged}
 use Rattle.debug_model.specs.declared.command.Command.{Command}
 use Rattle.debug_model.specs.Command.{IsWithinRanges}
@@ -27,10 +28,19 @@ use Rattle.abstract_debugger.specs.Turns.{after_turns, turns}
 -- ---- transparency
 
 -- Memory with its reservations, and every hart's core, end as those of a machine that nobody debugs: of the same executed turns
--- and the run's own writes.
+-- and the run's own writes. The board begins with no hart that steps with its interrupts masked, as a reset leaves it.
 abbrev pub Transparent : Type 0
-Transparent = (plan : Plan) (board : Board) (journal : List Point)
+Transparent = (plan : Plan) (board : Board) (journal : List Point) → StepsUnmasked board
     → machine_of (replay plan (start board) journal).world.board ≡ undebugged (machine_of board) (entries.own (trace (replay plan (start board) journal)))
+
+-- no plan lets a hart step with its interrupts masked: it sets and clears stepie with the step flag
+abbrev pub ReplaysKeepUnmasked : Type 0
+ReplaysKeepUnmasked = (plan : Plan) (board : Board) (journal : List Point) → StepsUnmasked board
+    → StepsUnmasked (replay plan (start board) journal).world.board
+
+-- a board whose harts no debugger has touched is such a board
+abbrev pub FreshBoardsAreUnmasked : Type 0
+FreshBoardsAreUnmasked = (board : Board) → IsFresh board → StepsUnmasked board
 
 -- the machine that lives through a past is the undebugged run of its entries
 abbrev pub PastsAreUndebugged : Type 0

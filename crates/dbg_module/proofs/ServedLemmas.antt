@@ -7,9 +7,8 @@ use Rattle.rv_model.specs.Board.{DebugPart, Hart}
 use Rattle.rv_model.specs.DebugLaws.{SameRequests}
 use Rattle.rv_model.specs.DebugRegisters.{debug_value}
 use Rattle.rv_model.specs.Memory.{Memory}
-use Rattle.rv_model.specs.Execute.{exec_of}
 use Rattle.rv_model.specs.Touch.{touch_of}
-use Rattle.rv_model.specs.Turn.{place_by, place_of, some_fires, stops_at_ebreak}
+use Rattle.rv_model.specs.Turn.{place_by, place_of, some_fires, stops_at_ebreak, turn_outcome}
 use Rattle.rv_model.proofs.DebugLemmas.{writes_keep, words_keep}
 use Rattle.rv_model.proofs.MapLemmas.{slice_get-set_same, slice_get-set_other}
 use Rattle.debug_model.specs.declared.abstract_command.AbstractCommand.{AbstractCommand}
@@ -243,9 +242,9 @@ unfolding place_of
 turn_held (Some why) true x m halted resumes held = cc
 turn_held (Some why) false x m halted resumes held =
     ap (λ (o : Option Cause). (place_by o x.debug.resume_request x.debug.halt_request (some_fires (touch_of x.core m) x) (stops_at_ebreak x m)
-    (touch_of x.core m) (exec_of x.core m) x).hart) halted
+    (touch_of x.core m) (turn_outcome x m) x).hart) halted
     ∙ ap (λ (r : Bool). (place_by (Some why) r x.debug.halt_request (some_fires (touch_of x.core m) x) (stops_at_ebreak x m) (touch_of x.core m)
-    (exec_of x.core m) x).hart) resumes
+    (turn_outcome x m) x).hart) resumes
 turn_held None resume x m halted resumes held = cc
 
 -- the selected hart behind the turn of any hart

@@ -117,7 +117,7 @@ impl DebugHart {
         self.halted
     }
 
-    /// Sets or clears `dcsr.step`: a hart with it halts behind each instruction or trap.
+    /// Sets or clears `dcsr.step`: a hart with it halts behind each instruction, trap or interrupt.
     pub fn set_step(&mut self, on: bool)
         ensures { self.new ≡ with_debug (step_set on) self.old }
     {

@@ -42,6 +42,7 @@ reset_wide n small = record {
   x = λ i. zero_by (i == 0) (get_or (replicate 32 0) i 0) (zeros 32 i);
   pc = omega arith;
   mstatus = omega arith;
+  mie = zero_wide;
   mtvec = zero_wide;
   mscratch = zero_wide;
   mepc = zero_wide;

@@ -1,14 +1,15 @@
 -- What the registers that Debug Mode reaches hold, what a write of one keeps, and that it is read back.
-use Rattle.std.proofs.Common.{◌≡◌, ℕ, ◌+◌, ◌-◌, ◌<◌, Bool, true, false, cond, eqb, ltb, length, get_or, set, Option, Some, refl, ap, ◌∙◌, arith}
-use Rattle.std.proofs.lemmas.Bool.{cond-true, lt-ltb, le-ltb, ne_eqb}
+use Rattle.std.proofs.Common.{◌≡◌, ℕ, ◌+◌, ◌-◌, ◌<◌, Bool, true, false, cond, eqb, ltb, length, get_or, set, Option, Some, is_some, refl, sym, ap, ◌∙◌, arith}
+use Rattle.std.proofs.lemmas.Bool.{cond-true, eqb-true, lt-ltb, le-ltb, ne_eqb}
 use Rattle.std.proofs.lemmas.List.{get_or-set_same, length-set}
 use Rattle.rv_model.specs.Board.{DebugPart, Hart, slot_count}
 use Rattle.rv_model.specs.Core.{Core, x_of, with_x, aligned}
 use Rattle.rv_model.specs.Dcsr.{dcsr_word}
-use Rattle.rv_model.specs.DebugRegisters.{debug_csr_value, debug_csr_written, value_or, debug_value, debug_refuses, debug_written}
+use Rattle.rv_model.specs.DebugRegisters.{debug_csr_value, debug_csr_written, value_or, debug_seen, debug_value, debug_refuses, debug_written}
 use Rattle.rv_model.specs.DebugLaws.{DebugRegisterNumbers, DebugRegisterExamples, SameRequests, WriteKeeps, WritesKeep, WritesReadBack}
 use Rattle.rv_model.specs.Laws.{KeepsCore}
-use Rattle.rv_model.specs.Registers.{reg_value, reg_written, is_x_number, csr_value, csr_written, csr_read_only}
+use Rattle.rv_model.specs.Memory.{Memory}
+use Rattle.rv_model.specs.Registers.{mip_number, mip_value, reg_value, reg_written, is_x_number, csr_value, csr_written, csr_read_only}
 use Rattle.rv_model.specs.Triggers.{CountsFit}
 use Rattle.rv_model.specs.TriggerWords.{
   TriggerPart,
@@ -46,6 +47,32 @@ debug_register_examples = record {
   tinfo_written = refl;
   x0_written = refl;
 }
+
+-- ---- mip, which memory tells
+
+seen_else : (is_mip : Bool) (h : Hart) (m : Memory) (number : ℕ) → is_mip ≡ false
+    → cond is_mip (Some (mip_value h.core m)) (debug_value h number) ≡ debug_value h number
+seen_else true h m number e = absurd (cc)
+seen_else false h m number e = refl
+
+-- what is seen of each other register is its value
+pub seen_is_value : (h : Hart) (m : Memory) (number : ℕ) → eqb number mip_number ≡ false → debug_seen h m number ≡ debug_value h number
+unfolding debug_seen
+seen_is_value h m number other = seen_else (eqb number mip_number) h m number other
+
+mip_there : (h : Hart) → is_some (debug_value h mip_number) ≡ true
+unfolding debug_value csr_value
+mip_there h = refl
+
+seen_there_by : (is_mip : Bool) (h : Hart) (m : Memory) (number : ℕ) → (is_mip ≡ true → number ≡ mip_number)
+    → is_some (cond is_mip (Some (mip_value h.core m)) (debug_value h number)) ≡ is_some (debug_value h number)
+seen_there_by true h m number is = sym (ap (λ n. is_some (debug_value h n)) (is refl) ∙ mip_there h)
+seen_there_by false h m number is = refl
+
+-- and the same registers are there
+pub seen_there : (h : Hart) (m : Memory) (number : ℕ) → is_some (debug_seen h m number) ≡ is_some (debug_value h number)
+unfolding debug_seen
+seen_there h m number = seen_there_by (eqb number mip_number) h m number (eqb-true number mip_number)
 
 -- ---- writes of registers
 

@@ -80,6 +80,7 @@ core_wide h x whole wide = record {
   ];
   pc = wide 0x7b1 x.core.pc refl;
   mstatus = wide 0x300 x.core.mstatus refl;
+  mie = wide 0x304 x.core.mie refl;
   mtvec = wide 0x305 x.core.mtvec refl;
   mscratch = wide 0x340 x.core.mscratch refl;
   mepc = wide 0x341 x.core.mepc refl;

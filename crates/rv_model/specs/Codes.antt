@@ -21,19 +21,21 @@ use Rattle.rv_model.specs.TriggerWords.{comparison_number, comparison_of}
 
 abbrev pub core_code : Coded Core
 core_code =
-    code_by (ℕ × (List ℕ × (ℕ × (ℕ × (ℕ × (ℕ × (ℕ × (ℕ × ℕ))))))))
-    (coded× coded_ℕ (coded× (coded_list coded_ℕ) (coded× coded_ℕ (coded× coded_ℕ (coded× coded_ℕ (coded× coded_ℕ (coded× coded_ℕ (coded× coded_ℕ coded_ℕ))))))))
-    (λ c. (c.id, (c.x, (c.pc, (c.mstatus, (c.mtvec, (c.mscratch, (c.mepc, (c.mcause, c.mtval)))))))))
+    code_by (ℕ × (List ℕ × (ℕ × (ℕ × (ℕ × (ℕ × (ℕ × (ℕ × (ℕ × ℕ)))))))))
+    (coded× coded_ℕ (coded× (coded_list coded_ℕ) (coded× coded_ℕ (coded× coded_ℕ (coded× coded_ℕ (coded× coded_ℕ (coded× coded_ℕ (coded× coded_ℕ
+    (coded× coded_ℕ coded_ℕ)))))))))
+    (λ c. (c.id, (c.x, (c.pc, (c.mstatus, (c.mie, (c.mtvec, (c.mscratch, (c.mepc, (c.mcause, c.mtval))))))))))
     (λ p. record {
       id = p.0;
       x = p.1.0;
       pc = p.1.1.0;
       mstatus = p.1.1.1.0;
-      mtvec = p.1.1.1.1.0;
-      mscratch = p.1.1.1.1.1.0;
-      mepc = p.1.1.1.1.1.1.0;
-      mcause = p.1.1.1.1.1.1.1.0;
-      mtval = p.1.1.1.1.1.1.1.1;
+      mie = p.1.1.1.1.0;
+      mtvec = p.1.1.1.1.1.0;
+      mscratch = p.1.1.1.1.1.1.0;
+      mepc = p.1.1.1.1.1.1.1.0;
+      mcause = p.1.1.1.1.1.1.1.1.0;
+      mtval = p.1.1.1.1.1.1.1.1.1;
     })
     (λ _. refl)
 

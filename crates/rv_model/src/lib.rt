@@ -47,12 +47,13 @@ pub use debug_word_laws::{
 };
 pub use did::Did;
 pub use examples::{
-    alu_corners, counter_counts, divisions, reserved_words_mean_nothing, sc_fails_after_store,
-    sc_succeeds_after_lr, trap_examples, writes_keep_their_bits,
+    alu_corners, counter_counts, divisions, interrupt_examples, reserved_words_mean_nothing,
+    sc_fails_after_store, sc_succeeds_after_lr, trap_examples, writes_keep_their_bits,
 };
 pub use insn::Insn;
 pub use laws::{
-    execution_keeps, execution_leaves_others, refused_stores_keep_memory, rows_are_apart,
+    execution_keeps, execution_leaves_others, interrupts_are_taken, masked_execution_keeps,
+    refused_stores_keep_memory, rows_are_apart,
 };
 pub use load_op::LoadOp;
 pub use mem_fault::MemFault;
@@ -65,7 +66,8 @@ pub use slot_set::SlotSet;
 pub use touch::Touch;
 pub use trigger_word::DISABLED_WORD;
 pub use turn_laws::{
-    reset_boards_are_boards, turn_forgets_debugging, turn_keeps_board, turn_leaves_others,
+    reset_boards_are_boards, turn_forgets_debugging, turn_keeps_board, turn_keeps_unmasked,
+    turn_leaves_others,
 };
 pub use turned::Turned;
 pub use version::Version;

@@ -12,8 +12,8 @@ const ABSENT: [u16; 12] = [
 const KEPT: [(u16, u64, u64); 18] = [
     (0x300, 0x1800, 0x1888),
     (0x301, 0x8000_0000_0000_1101, 0x8000_0000_0000_1101),
-    (0x304, 0, 0),
-    (0x305, 0, 0xffff_ffff_ffff_fffc),
+    (0x304, 0, 8),
+    (0x305, 0, 0xffff_ffff_ffff_fffd),
     (0x340, 0, u64::MAX),
     (0x341, 0, 0xffff_ffff_ffff_fffc),
     (0x342, 0, u64::MAX),
