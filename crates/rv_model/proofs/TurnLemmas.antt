@@ -3,6 +3,7 @@ use Rattle.std.proofs.Common.{◌≡◌, ◌∙◌, ◌+◌, ℕ, List, [], ◌�
 use Rattle.std.proofs.lemmas.Bool.{cases_eq}
 use Rattle.std.proofs.lemmas.List.{length-set}
 use Rattle.std.proofs.lemmas.Option.{none-some, same_Some, slice_get_within}
+use Rattle.rv_model.specs.declared.version.Version.{Version}
 use Rattle.rv_model.specs.declared.cause.Cause.{Cause}
 use Rattle.rv_model.specs.declared.touch.Touch.{Touch}
 use Rattle.rv_model.specs.Board.{Board, DebugPart, Hart, Machine, cores, execute, execute_by, machine_of, reset_hart, reset_harts}
@@ -115,15 +116,15 @@ turned_unmasked (Some x) h b here each = unmasked_set b.harts h x (place_of x b.
 pub turn_keeps_unmasked : TurnKeepsUnmasked
 turn_keeps_unmasked h b each = turned_unmasked (slice_get b.harts h) h b refl each
 
-reset_each : (id : ℕ) (halted : List (Option Cause)) (h : ℕ) (hart : Hart) → slice_get (reset_harts id halted) h ≡ Some hart
+reset_each : (version : Version) (id : ℕ) (halted : List (Option Cause)) (h : ℕ) (hart : Hart) → slice_get (reset_harts version id halted) h ≡ Some hart
     → masks_interrupts hart.debug ≡ false
-reset_each id [] h hart is = absurd (none-some hart is)
-reset_each id (first ∷ rest) zero hart is =
-    subst (λ (x : Hart). masks_interrupts x.debug ≡ false) (same_Some (reset_hart id first) hart is) refl
-reset_each id (first ∷ rest) (suc h) hart is = reset_each (id + 1) rest h hart is
+reset_each version id [] h hart is = absurd (none-some hart is)
+reset_each version id (first ∷ rest) zero hart is =
+    subst (λ (x : Hart). masks_interrupts x.debug ≡ false) (same_Some (reset_hart version id first) hart is) refl
+reset_each version id (first ∷ rest) (suc h) hart is = reset_each version (id + 1) rest h hart is
 
 pub reset_boards_are_unmasked : ResetBoardsAreUnmasked
-reset_boards_are_unmasked halted m h hart is = reset_each 0 halted h hart is
+reset_boards_are_unmasked version halted m h hart is = reset_each version 0 halted h hart is
 
 -- ---- other harts
 

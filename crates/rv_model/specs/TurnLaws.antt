@@ -33,7 +33,7 @@ StepsUnmasked b = (h : ℕ) (hart : Hart) → slice_get b.harts h ≡ Some hart 
 
 -- a reset leaves no hart that steps, and a turn changes neither flag
 abbrev pub ResetBoardsAreUnmasked : Type 0
-ResetBoardsAreUnmasked = (halted : List (Option Cause)) (m : Memory) → StepsUnmasked (reset_board halted m)
+ResetBoardsAreUnmasked = (version : Version) (halted : List (Option Cause)) (m : Memory) → StepsUnmasked (reset_board version halted m)
 
 abbrev pub TurnKeepsUnmasked : Type 0
 TurnKeepsUnmasked = (h : ℕ) (b : Board) → StepsUnmasked b → StepsUnmasked (turn h b)
