@@ -41,7 +41,8 @@ fn swap(
 pub fn csr_register(hart: &mut Hart, ram: &Ram, change: CsrChange, p: CsrType) -> Did
     requires rd { p.rd < 32 }
     requires rs1 { p.rs1 < 32 }
-    ensures { record { core = hart.new; did = result } ≡ swaps_csr (writes_by change p.rs1) (change_by change) p.csr (x_of hart.old p.rs1) p.rd hart.old ram.now }
+    ensures { record { core = hart.new; did = result }
+        ≡ swaps_csr (writes_by change p.rs1) (change_by change) p.csr (x_of hart.old p.rs1) p.rd hart.old ram.now }
 {
     let operand = hart.x(p.rs1);
     swap(

@@ -1,5 +1,6 @@
 -- Execution on a machine and on a board: what it keeps, and that forgetting the debug parts goes before it or after it.
-use Rattle.std.proofs.Common.{◌≡◌, ◌==◌, ◌&&◌, ℕ, Bool, true, false, if◌then◌else◌, List, [], ◌∷◌, ◌++◌, map, set, zero, suc, Option, Some, None, Result, Ok, Err, slice_get, option_map, inl, refl, ap}
+use Rattle.std.proofs.Common.{◌≡◌, ◌==◌, ◌&&◌, ℕ, Bool, true, false, if◌then◌else◌, List, [], ◌∷◌, ◌++◌, map, set, zero, suc, Option, Some, None}
+use Rattle.std.proofs.Common.{Result, Ok, Err, slice_get, option_map, inl, refl, ap}
 use Rattle.std.proofs.lemmas.Bool.{false≢true}
 use Rattle.std.proofs.lemmas.List.{length-set}
 use Rattle.std.proofs.lemmas.Option.{slice_get-map}
@@ -13,7 +14,7 @@ use Rattle.rv_model.specs.Effects.{Outcome, effect_of, same_memory}
 use Rattle.rv_model.specs.Execute.{decoded, fetched, exec_masked_of, exec_of, interrupted, takes_interrupt}
 use Rattle.rv_model.specs.Board.{Hart, Machine, cores, execute_by}
 use Rattle.rv_model.specs.Undebugged.{Entry, entered, undebugged}
-use Rattle.rv_model.specs.Laws.{InterruptsAreTaken, InterruptsWhere, IsInterrupt, Keeps, ExecutionKeeps, LeavesOthers, ExecutionLeavesOthers}
+use Rattle.rv_model.specs.Laws.{InterruptsAreTaken, IsInterrupt, Keeps, ExecutionKeeps, LeavesOthers, ExecutionLeavesOthers}
 use Rattle.rv_model.specs.Laws.{MaskedExecutionKeeps}
 use Rattle.rv_model.proofs.EffectsKeep.{effect_keeps, effect_uninterrupted}
 use Rattle.rv_model.proofs.KeptLemmas.{interrupt_keeps, quiet, traps_keeps}

@@ -51,8 +51,8 @@ use Rattle.rv_model.proofs.DebugRegisterLemmas.{core_alone, writes_keep}
 -- ---- worked examples
 
 pub program_buffer_examples : ProgramBufferExamples
-unfolding ran_word meaning alu_of effect_of loaded store_answer after_store debug_seen debug_value debug_refuses debug_written csr_value csr_read_only csr_written
-    dcsr_word dcsr_of_word trigger_csr_value trigger_csr_written
+unfolding ran_word meaning alu_of effect_of loaded store_answer after_store debug_seen debug_value debug_refuses debug_written csr_value
+    csr_read_only csr_written dcsr_word dcsr_of_word trigger_csr_value trigger_csr_written
 program_buffer_examples = record {
   ebreak = λ h m. refl;
   all_zeros = λ h m. refl;

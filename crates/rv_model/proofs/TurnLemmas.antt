@@ -1,5 +1,6 @@
 -- A hart's turn against execution without debug parts, by the cases of the turn.
-use Rattle.std.proofs.Common.{◌≡◌, ◌∙◌, ◌+◌, ℕ, List, [], ◌∷◌, zero, suc, Bool, true, false, set, Option, Some, None, slice_get, option_map, refl, sym, ap, subst, inl, inr, if◌then◌else◌}
+use Rattle.std.proofs.Common.{◌≡◌, ◌∙◌, ◌+◌, ℕ, List, [], ◌∷◌, zero, suc, Bool, true, false, set, Option, Some, None, slice_get, option_map, refl, sym}
+use Rattle.std.proofs.Common.{ap, subst, inl, inr, if◌then◌else◌}
 use Rattle.std.proofs.lemmas.Bool.{cases_eq}
 use Rattle.std.proofs.lemmas.List.{length-set}
 use Rattle.std.proofs.lemmas.Option.{none-some, same_Some, slice_get_within}

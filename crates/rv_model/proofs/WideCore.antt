@@ -405,7 +405,8 @@ mip_wide : (pends : Bool) → IsWide (bit_value 3 pends)
 mip_wide true = omega arith
 mip_wide false = omega arith
 
-seen_by : (is_mip : Bool) (c : Core) (m : Memory) (number v : ℕ) → CoreWide c → (if is_mip then Some (mip_value c m) else csr_value c number) ≡ Some v → IsWide v
+seen_by : (is_mip : Bool) (c : Core) (m : Memory) (number v : ℕ) → CoreWide c
+    → (if is_mip then Some (mip_value c m) else csr_value c number) ≡ Some v → IsWide v
 seen_by true c m number v w is = subst (λ n. IsWide n) (same_Some (mip_value c m) v is) (mip_wide (msip_bit m c.id))
 seen_by false c m number v w is = csr_value_wide c number v w is
 

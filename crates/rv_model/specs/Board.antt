@@ -55,7 +55,7 @@ abbrev pub execute_by : Option Core → ℕ → Machine → Machine
 execute_by (Some c) h b = with_outcome h (exec_of c b.memory) b
 execute_by None h b = b
 
--- a machine after one instruction of hart h; nothing where there is no such hart
+-- a machine after one instruction, trap or interrupt of hart h; nothing where there is no such hart
 abbrev pub execute : ℕ → Machine → Machine
 execute h b = execute_by (slice_get b.cores h) h b
 

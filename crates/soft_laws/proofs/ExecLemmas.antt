@@ -1,5 +1,6 @@
 -- One instruction over memory with patches: where it isn't a covered one and leaves covered words alone, it does what it does without them.
-use Rattle.std.proofs.Common.{◌≡◌, ◌∙◌, ◌+◌, ◌*◌, ◌<◌, ◌≤◌, ◌&&◌, ◌==◌, ℕ, Bool, true, false, List, [], ◌∷◌, arith, Option, Some, None, Result, Ok, Err, refl, sym, ap, if◌then◌else◌}
+use Rattle.std.proofs.Common.{◌≡◌, ◌∙◌, ◌+◌, ◌*◌, ◌<◌, ◌≤◌, ◌&&◌, ◌==◌, ℕ, Bool, true, false, List, [], ◌∷◌, arith, Option, Some}
+use Rattle.std.proofs.Common.{None, Result, Ok, Err, refl, sym, ap, if◌then◌else◌}
 use Rattle.std.specs.Prelude.{nat_lt}
 use Rattle.std.specs.FinMap.{get}
 use Rattle.std.proofs.lemmas.Bool.{ltb-true}
@@ -235,7 +236,8 @@ effect-patched cs Ebreak c m are inside leaves = refl
 effect-patched cs Mret c m are inside leaves = refl
 effect-patched cs Wfi c m are inside leaves = refl
 
-fetched_by : (cs : List ℕ) (r : Result ℕ MemFault) (c : Core) (m : Memory) → AreSoftAddresses cs → AreInside cs m.bytes → LeavesWords cs (accessed_fetched r c m)
+fetched_by : (cs : List ℕ) (r : Result ℕ MemFault) (c : Core) (m : Memory) → AreSoftAddresses cs
+    → AreInside cs m.bytes → LeavesWords cs (accessed_fetched r c m)
     → fetched r c (patched_memory cs m) ≡ patched_outcome cs (fetched r c m)
 fetched_by cs (Err fault) c m are inside leaves = refl
 fetched_by cs (Ok w) c m are inside leaves = by (meaning w) leaves

@@ -162,7 +162,8 @@ start_plants board few = record { within = λ a is. is; guarded = λ some. absur
 
 -- a whole session, and the chip's
 pub session-same : (board : Board) (script : List SoftCommand) (journal : List Point) → All IsSoftWithinRanges script → HasFewHarts board
-    → StepsUnmasked board → IsUndisturbed board script journal → Same (machine_of board) (soft_transcript board script journal) (chip_outcome board script journal)
+    → StepsUnmasked board → IsUndisturbed board script journal
+    → Same (machine_of board) (soft_transcript board script journal) (chip_outcome board script journal)
 session-same board script journal within few unmasked u =
     (session-hidden (machine_of board) script within).goes no_table (start board) (start board) (hides-start board unmasked) (start_plants board few) journal u
 

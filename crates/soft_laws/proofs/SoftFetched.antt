@@ -170,7 +170,10 @@ turn-same : (words : Program) (h : ℕ) (w v : World) → Holds words w.board.me
     → SameWorld (soft_turned h w) v w.board.memory
 turn-same words h w v holds is =
     let s : SameWorld (turned_by (slice_get w.board.harts h) h w) v w.board.memory = turn_at-same words (slice_get w.board.harts h) h w v holds is in
-    record { worlds = turned-by (slice_get w.board.harts h) h w refl (disabled_here words (slice_get w.board.harts h) h w v is) ∙ s.worlds; memories = s.memories }
+    record {
+      worlds = turned-by (slice_get w.board.harts h) h w refl (disabled_here words (slice_get w.board.harts h) h w v is) ∙ s.worlds;
+      memories = s.memories;
+    }
 
 -- ---- a replay
 

@@ -89,14 +89,7 @@ impl DebugHart {
             ≡ swapped (debug_seen self.old ram.now p.csr) (csr_swap change p.rs1 p.csr (x_of self.old.core p.rs1) p.rd) self.old ram.now }
     {
         let operand = self.hart.x(p.rs1);
-        self.swap(
-            writes(change, p.rs1),
-            change,
-            p.csr,
-            operand,
-            p.rd,
-            ram,
-        )
+        self.swap(writes(change, p.rs1), change, p.csr, operand, p.rd, ram)
     }
 
     /// An instruction on a control and status register whose operand is an immediate.

@@ -69,16 +69,16 @@ static TAKEN: [(u64, u64, u64, bool); 8] = [
     (BIT_3, BIT_3, 1, true),
 ];
 
-fn check_taken(
-    rt: &impl Abort,
-    alloc: Global,
-    (mstatus, mie, msip, taken): (u64, u64, u64, bool),
-) {
+fn check_taken(rt: &impl Abort, alloc: Global, (mstatus, mie, msip, taken): (u64, u64, u64, bool)) {
     let mut ram = ram_with(rt, alloc, ADDI);
     set_msip(rt, &mut ram, MSIP, msip);
     let mut hart = hart_with(rt, mstatus, mie, DIRECT);
     let mut masked = hart;
-    let did = if taken { Did::Interrupted } else { Did::Retired };
+    let did = if taken {
+        Did::Interrupted
+    } else {
+        Did::Retired
+    };
     assert_eq!(rt; hart.exec(&mut ram), did);
     let x5 = if taken { 0 } else { 5 };
     assert_eq!(rt; hart.x(5), x5);
