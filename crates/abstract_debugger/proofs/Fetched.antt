@@ -1,21 +1,24 @@
--- A replay computed with the words at pc given by a program: none where a word is not listed, or where memory would change.
+-- A replay computed with the words at pc given by a program: none where a word is not listed, where memory would change, or where interrupts are enabled.
 use Rattle.std.proofs.Common.{◌≡◌, ◌∙◌, ℕ, List, [], ◌∷◌, Bool, true, false, ◌&&◌, Option, Some, None, is_some, Result, Ok, slice_get, slice_set}
 use Rattle.std.proofs.Common.{refl, sym, ap, subst, if◌then◌else◌}
 use Rattle.std.specs.Prelude.{unwrap_or, ◌==◌}
 use Rattle.std.proofs.lemmas.Bool.{eqb-true}
+use Rattle.std.proofs.lemmas.Option.{none-some, same_Some}
 use Rattle.rv_model.specs.declared.insn.Insn.{Insn}
 use Rattle.rv_model.specs.declared.insn.Insn.TheVariants.{Auipc, Ebreak, Immediate, Jal}
 use Rattle.rv_model.specs.declared.mem_fault.MemFault.{MemFault}
 use Rattle.rv_model.specs.declared.size.Size.TheVariants.{B4}
 use Rattle.rv_model.specs.Board.{Board, Hart}
-use Rattle.rv_model.specs.Core.{Core}
+use Rattle.rv_model.specs.Core.{Core, mie_of}
 use Rattle.rv_model.specs.Effects.{effect_of}
-use Rattle.rv_model.specs.Execute.{decoded, exec_of, fetched}
+use Rattle.rv_model.specs.Execute.{decoded, exec_masked_of, exec_of, fetched}
 use Rattle.rv_model.specs.Memory.{Memory, fetch_of}
 use Rattle.rv_model.specs.Rows.{meaning}
 use Rattle.rv_model.specs.Touch.{touch_of, touch_fetched}
 use Rattle.rv_model.specs.Triggers.{fires}
-use Rattle.rv_model.specs.Turn.{executes, executes_by, is_ebreak_at, is_ebreak_word, memory_after, place_by, place_of, some_fires}
+use Rattle.rv_model.specs.Turn.{executes, executes_by, is_ebreak_at, is_ebreak_word, masks_interrupts, memory_after, place_by, place_of, some_fires}
+use Rattle.rv_model.specs.Turn.{turn_outcome}
+use Rattle.rv_model.proofs.BoardLemmas.{exec_disabled}
 use Rattle.debug_model.specs.Journal.{debug_changed_by, halt_requested, resume_asked}
 use Rattle.rv_model.specs.Board.{DebugPart}
 use Rattle.debug_model.specs.declared.point.Point.{Point}
@@ -89,10 +92,20 @@ passed_by (Some hart) h w = world_with (fetch_of w.board.memory hart.core.pc)
     (memory_with (fetch_of w.board.memory hart.core.pc) hart w.board.memory) hart h w
 passed_by None h w = w
 
-passed-by : (o : Option Hart) (h : ℕ) (w : World) → slice_get w.board.harts h ≡ o → passed (Turn h) w ≡ passed_by o h w
-unfolding place_of touch_of exec_of is_ebreak_at memory_after executes
-passed-by None h w is = rw is refl
-passed-by (Some hart) h w is = rw is refl
+outcome_by : (masks : Bool) (c : Core) (m : Memory) → (mie_of c == 1) ≡ false → (if masks then exec_masked_of c m else exec_of c m) ≡ exec_masked_of c m
+outcome_by true c m off = refl
+outcome_by false c m off = exec_disabled c m off
+
+-- where interrupts are disabled, a turn executes the word at pc
+pub outcome_fetched : (hart : Hart) (m : Memory) → (mie_of hart.core == 1) ≡ false → turn_outcome hart m ≡ fetched (fetch_of m hart.core.pc) hart.core m
+unfolding turn_outcome exec_masked_of
+outcome_fetched hart m off = outcome_by (masks_interrupts hart.debug) hart.core m off
+
+passed-by : (o : Option Hart) (h : ℕ) (w : World) → slice_get w.board.harts h ≡ o → ((x : Hart) → o ≡ Some x → (mie_of x.core == 1) ≡ false)
+    → passed (Turn h) w ≡ passed_by o h w
+unfolding place_of touch_of is_ebreak_at memory_after executes
+passed-by None h w is off = rw is refl
+passed-by (Some hart) h w is off = rw (is, outcome_fetched hart w.board.memory (off hart refl)) refl
 
 -- none where the turn may change memory
 abbrev turn_if : (executed kept : Bool) → World → Option World
@@ -104,9 +117,28 @@ abbrev turn_word : Option ℕ → Hart → ℕ → World → Option World
 turn_word (Some word) hart h w = turn_if (executes_with (Ok word) hart) (keeps_memory (meaning word)) (world_with (Ok word) w.board.memory hart h w)
 turn_word None hart h w = None
 
+-- none where interrupts are enabled
+abbrev pub unless_enabled : (enabled : Bool) → Option World → Option World
+unless_enabled true o = None
+unless_enabled false o = o
+
 abbrev turn_at : Program → Option Hart → ℕ → World → Option World
-turn_at p (Some hart) h w = turn_word (word_in p hart.core.pc) hart h w
+turn_at p (Some hart) h w = unless_enabled (mie_of hart.core == 1) (turn_word (word_in p hart.core.pc) hart h w)
 turn_at p None h w = Some w
+
+pub some_disabled : (enabled : Bool) (o : Option World) (v : World) → unless_enabled enabled o ≡ Some v → o ≡ Some v
+some_disabled true o v is = absurd (cc)
+some_disabled false o v is = is
+
+pub is_disabled : (enabled : Bool) (o : Option World) (v : World) → unless_enabled enabled o ≡ Some v → enabled ≡ false
+is_disabled true o v is = absurd (cc)
+is_disabled false o v is = refl
+
+disabled_here : (p : Program) (o : Option Hart) (h : ℕ) (w v : World) → turn_at p o h w ≡ Some v → (x : Hart) → o ≡ Some x → (mie_of x.core == 1) ≡ false
+disabled_here p None h w v is x at = absurd (none-some x at)
+disabled_here p (Some y) h w v is x at =
+    ap (λ (z : Hart). mie_of z.core == 1) (sym (same_Some y x at))
+    ∙ is_disabled (mie_of y.core == 1) (turn_word (word_in p y.core.pc) y h w) v is
 
 -- the same world, and the same memory
 record Same (w v : World) (m : Memory) : Type 0 where
@@ -140,13 +172,14 @@ turn_at-same p None h w v holds is =
     let e : w ≡ v = cc in
     record { worlds = e; memories = ap (λ (x : World). x.board.memory) (sym e) }
 turn_at-same p (Some hart) h w v holds is =
-    turn_word-same (word_in p hart.core.pc) hart h w v (λ word found. word_held p w.board.memory hart.core.pc word holds found) is
+    turn_word-same (word_in p hart.core.pc) hart h w v (λ word found. word_held p w.board.memory hart.core.pc word holds found)
+    (some_disabled (mie_of hart.core == 1) (turn_word (word_in p hart.core.pc) hart h w) v is)
 
 turn-same : (p : Program) (h : ℕ) (w v : World) → Holds p w.board.memory → turn_at p (slice_get w.board.harts h) h w ≡ Some v
     → Same (passed (Turn h) w) v w.board.memory
 turn-same p h w v holds is =
     let s : Same (passed_by (slice_get w.board.harts h) h w) v w.board.memory = turn_at-same p (slice_get w.board.harts h) h w v holds is in
-    record { worlds = passed-by (slice_get w.board.harts h) h w refl ∙ s.worlds; memories = s.memories }
+    record { worlds = passed-by (slice_get w.board.harts h) h w refl (disabled_here p (slice_get w.board.harts h) h w v is) ∙ s.worlds; memories = s.memories }
 
 -- ---- a replay
 

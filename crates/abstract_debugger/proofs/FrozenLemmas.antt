@@ -8,9 +8,8 @@ use Rattle.rv_model.specs.declared.cause.Cause.{Cause}
 use Rattle.rv_model.specs.Board.{Board, DebugPart, Hart}
 use Rattle.rv_model.specs.Memory.{Memory}
 use Rattle.rv_model.specs.Registers.{pc_number}
-use Rattle.rv_model.specs.Turn.{executes, executes_by, memory_after, place_of, some_fires, stops_at_ebreak, turn, turn_by}
+use Rattle.rv_model.specs.Turn.{executes, executes_by, memory_after, place_of, some_fires, stops_at_ebreak, turn, turn_by, turn_outcome}
 use Rattle.rv_model.specs.Touch.{touch_of}
-use Rattle.rv_model.specs.Execute.{exec_of}
 use Rattle.rv_model.proofs.MapLemmas.{slice_get-set_other}
 use Rattle.abstract_debugger.specs.Laws.{ChangesMayWait, FrozenMayWait, FrozenStays, IsChangeOf, IsFrozen, IsFrozenAt}
 use Rattle.abstract_debugger.specs.Plan.{Change, changed_board, ebreak_halts, hart_over, register_set, slot_changed, slot_freed, step_begun}
@@ -33,7 +32,7 @@ halted_executes None resume request fired at_ebreak why is = absurd (none-some w
 frozen_memory : (hart : Hart) (m : Memory) → IsFrozen hart.debug → memory_after hart m ≡ m
 unfolding memory_after executes
 frozen_memory hart m f =
-    ap (λ b. if b then (exec_of hart.core m).memory else m)
+    ap (λ b. if b then (turn_outcome hart m).memory else m)
     (halted_executes hart.debug.halted hart.debug.resume_request hart.debug.halt_request (some_fires (touch_of hart.core m) hart)
     (stops_at_ebreak hart m) f.why f.halted)
 

@@ -12,11 +12,10 @@ use Rattle.rv_model.specs.declared.touch.Touch.{Touch}
 use Rattle.rv_model.specs.Board.{DebugPart, Hart, Machine}
 use Rattle.rv_model.specs.Core.{Core}
 use Rattle.rv_model.specs.Effects.{Outcome}
-use Rattle.rv_model.specs.Execute.{exec_of}
 use Rattle.rv_model.specs.Memory.{Memory}
 use Rattle.rv_model.specs.Touch.{touch_of}
 use Rattle.rv_model.specs.Triggers.{counted_down, fires, marked, slot_counted, slot_fires, slot_marked}
-use Rattle.rv_model.specs.Turn.{halted_for, place_by, place_of, resumed, some_fires, stops_at_ebreak}
+use Rattle.rv_model.specs.Turn.{halted_for, place_by, place_of, resumed, some_fires, stops_at_ebreak, turn_outcome}
 use Rattle.rv_model.specs.Undebugged.{Exec}
 use Rattle.abstract_debugger.specs.FirstMatch.{FirstMatch, NothingRunPast, StopsAtMatch, Story, armed_matches, has, has_here, matching, story, told}
 use Rattle.abstract_debugger.specs.Trace.{Past, no_slots, noted_by, noted_turn}
@@ -255,7 +254,7 @@ pub frozen_place : (hart : Hart) (mem : Memory) (why : Cause) → hart.debug.hal
 unfolding place_of
 frozen_place hart mem why is_halted not_asked =
     frozen_by hart.debug.halted hart.debug.resume_request hart.debug.halt_request (some_fires (touch_of hart.core mem) hart) (stops_at_ebreak hart mem)
-    (touch_of hart.core mem) (exec_of hart.core mem) hart why is_halted not_asked
+    (touch_of hart.core mem) (turn_outcome hart mem) hart why is_halted not_asked
 
 halted_notes : (halted : Option Cause) (request fired at_ebreak step : Bool) (h : ℕ) (slots : List Bool) (past : Past) (why : Cause) → halted ≡ Some why
     → noted_by halted request fired at_ebreak step h slots past ≡ past
@@ -292,7 +291,7 @@ resumed_place : (hart : Hart) (mem : Memory) (why : Cause) → hart.debug.halted
 unfolding place_of
 resumed_place hart mem why is_halted is_asked =
     resumed_by hart.debug.halted hart.debug.resume_request hart.debug.halt_request (some_fires (touch_of hart.core mem) hart) (stops_at_ebreak hart mem)
-    (touch_of hart.core mem) (exec_of hart.core mem) hart why is_halted is_asked
+    (touch_of hart.core mem) (turn_outcome hart mem) hart why is_halted is_asked
 
 goes : (way : Way) (m : Machine) (h : ℕ) (past : Past) (hart : Hart) (mem : Memory) (why : Cause) → hart.debug.halted ≡ Some why
     → hart.debug.resume_request ≡ true
@@ -314,7 +313,7 @@ turned_with way m h past hart mem halted asked step =
     Turned way m h past (noted_by halted hart.debug.halt_request (some_fires (touch_of hart.core mem) hart) (stops_at_ebreak hart mem) step h
     (fires (touch_of hart.core mem) hart.debug.slots) past)
     (place_by halted asked hart.debug.halt_request (some_fires (touch_of hart.core mem) hart) (stops_at_ebreak hart mem) (touch_of hart.core mem)
-    (exec_of hart.core mem) hart).hart.debug
+    (turn_outcome hart mem) hart).hart.debug
 
 turn_on : (m : Machine) (h : ℕ) (past : Past) (hart : Hart) (mem : Memory) → hart.debug.halted ≡ None → hart.debug.resume_request ≡ false
     → Moves false h past hart.debug.halted hart.debug.resume_request hart.debug.resume_ack hart.debug.step hart.debug.slots → Knows m h past hart.core mem
@@ -322,7 +321,7 @@ turn_on : (m : Machine) (h : ℕ) (past : Past) (hart : Hart) (mem : Memory) →
 unfolding place_of
 turn_on m h past hart mem running not_asked moves knows =
     at_fields (turned_with Idle m h past hart mem) hart.debug.halted None hart.debug.resume_request false hart.debug.step false running not_asked moves.step_is
-    (run_on hart.debug.halt_request (some_fires (touch_of hart.core mem) hart) (stops_at_ebreak hart mem) m h past hart mem (exec_of hart.core mem)
+    (run_on hart.debug.halt_request (some_fires (touch_of hart.core mem) hart) (stops_at_ebreak hart mem) m h past hart mem (turn_outcome hart mem)
     running not_asked moves.step_is moves.slots_are (moves.unspent refl) knows refl)
 
 turn_once : (m : Machine) (h : ℕ) (past : Past) (hart : Hart) (mem : Memory) → hart.debug.halted ≡ None → hart.debug.resume_request ≡ false
@@ -331,7 +330,7 @@ turn_once : (m : Machine) (h : ℕ) (past : Past) (hart : Hart) (mem : Memory) �
 unfolding place_of
 turn_once m h past hart mem running not_asked moves knows =
     at_fields (turned_with Asked m h past hart mem) hart.debug.halted None hart.debug.resume_request false hart.debug.step true running not_asked moves.step_is
-    (run_once hart.debug.halt_request (some_fires (touch_of hart.core mem) hart) (stops_at_ebreak hart mem) m h past hart mem (exec_of hart.core mem)
+    (run_once hart.debug.halt_request (some_fires (touch_of hart.core mem) hart) (stops_at_ebreak hart mem) m h past hart mem (turn_outcome hart mem)
     running not_asked moves.step_is moves.slots_are knows refl)
 
 -- the moves of a hart that has begun to run

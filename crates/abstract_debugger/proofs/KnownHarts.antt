@@ -10,7 +10,7 @@ use Rattle.rv_model.specs.declared.slot.Trigger.TheVariants.{Disabled}
 use Rattle.rv_model.specs.Board.{Board, DebugPart, Hart, Machine, machine_of}
 use Rattle.rv_model.proofs.MapLemmas.{slice_get-set_other}
 use Rattle.abstract_debugger.specs.FirstMatch.{FirstMatch}
-use Rattle.abstract_debugger.specs.Known.{IsFresh, IsFreshPart, IsKnown, way_at}
+use Rattle.abstract_debugger.specs.Known.{Erased, IsFresh, IsFreshPart, IsKnown, way_at}
 use Rattle.abstract_debugger.specs.Lines.{Line}
 use Rattle.abstract_debugger.specs.Own.{lived}
 use Rattle.abstract_debugger.specs.Slots.{over}
@@ -21,6 +21,7 @@ use Rattle.abstract_debugger.specs.Ways.Starts.{runs}
 use Rattle.abstract_debugger.specs.Ways.Way.{Idle}
 use Rattle.abstract_debugger.proofs.OverLemmas.{slice_get-over_same, slice_get-over_other, slice_get-set_here}
 use Rattle.abstract_debugger.proofs.StoryLemmas.{Alike, fits-alike, same_number}
+use Rattle.abstract_debugger.proofs.Transparency.{fresh_unmasked}
 
 -- ---- a list of harts that is changed at one place
 
@@ -78,7 +79,7 @@ way_there sel way j other = ap (λ b. if b then way else Idle) (ne_eqb j sel oth
 
 -- ---- changes of the selected hart, or of no hart
 
-pub known_selected : (m : Machine) (sel : ℕ) (way way' : Way) (w v : World) (g : Hart → Hart) → IsKnown m sel way w → machine_of v.board ≡ lived m v.past
+pub known_selected : (m : Machine) (sel : ℕ) (way way' : Way) (w v : World) (g : Hart → Hart) → IsKnown m sel way w → Erased m v
     → FirstMatch m v.past
     → ChangedAt sel g w.board.harts v.board.harts → ((j : ℕ) → (j ≡ sel → ⊥) → Alike j w.past v.past)
     → ((x : Hart) → slice_get w.board.harts sel ≡ Some x → Fits way sel w.past x.debug → Fits way' sel v.past (g x).debug) → IsKnown m sel way' v
@@ -110,7 +111,7 @@ known_idle m sel sel' w k = record {
     either false = refl
 
 pub known-said : (m : Machine) (sel : ℕ) (way : Way) (line : Line) (w : World) → IsKnown m sel way w → IsKnown m sel way (said line w)
-known-said m sel way line w k = record { erased = k.erased; right = k.right; each = k.each }
+known-said m sel way line w k = record { erased = record { machine = k.erased.machine; unmasked = k.erased.unmasked }; right = k.right; each = k.each }
 
 -- ---- where a session begins
 
@@ -139,7 +140,7 @@ fresh_fits h d None is f = inr (record {
 
 pub known-start : (sel : ℕ) (board : Board) → IsFresh board → IsKnown (machine_of board) sel Idle (start board)
 known-start sel board fresh = record {
-  erased = refl;
+  erased = record { machine = refl; unmasked = fresh_unmasked board fresh };
   right = tt;
   each = λ j x is. subst (λ way. Fits way j [] x.debug) (sym (either (j == sel))) (fresh_fits j x.debug x.debug.halted refl (fresh j x is));
 }

@@ -17,7 +17,7 @@ use Rattle.debug_model.specs.Journal.{debug_changed_by, halt_requested, resume_a
 use Rattle.debug_model.specs.declared.point.Point.TheVariants.{Turn, HaltReq, HaltClear, ResumeReq}
 use Rattle.abstract_debugger.specs.Debugger.{seen_at, seen_by, seen_here, sees_ack, sees_both, sees_halted}
 use Rattle.abstract_debugger.specs.FirstMatch.{FirstMatch, Story, has_here, matches_at, story}
-use Rattle.abstract_debugger.specs.Known.{IsKnown, way_at}
+use Rattle.abstract_debugger.specs.Known.{Erased, IsKnown, way_at}
 use Rattle.abstract_debugger.specs.Own.{lived}
 use Rattle.abstract_debugger.specs.Plan.{is_step}
 use Rattle.abstract_debugger.specs.Slots.{any_hit, hits_of, slots_at, slots_here, trigger_has_hit}
@@ -37,17 +37,17 @@ use Rattle.abstract_debugger.proofs.KnownHarts.{ChangedAt, changed-set, set_by, 
 core_here : (o : Option Hart) (hart : Hart) → o ≡ Some hart → option_map (λ (x : Hart). x.core) o ≡ Some hart.core
 core_here o hart is = ap (option_map (λ (x : Hart). x.core)) is
 
-knows_hart : (m : Machine) (h : ℕ) (w : World) (hart : Hart) → machine_of w.board ≡ lived m w.past → slice_get w.board.harts h ≡ Some hart
+knows_hart : (m : Machine) (h : ℕ) (w : World) (hart : Hart) → Erased m w → slice_get w.board.harts h ≡ Some hart
     → Knows m h w.past hart.core w.board.memory
 knows_hart m h w hart erased is k =
-    ap (λ (x : Machine). matches_at (slice_get x.cores h) x.memory (story h k w.past)) (sym erased)
+    ap (λ (x : Machine). matches_at (slice_get x.cores h) x.memory (story h k w.past)) (sym erased.machine)
     ∙ ap (λ o. matches_at o w.board.memory (story h k w.past)) (slice_get-cores w.board.harts h ∙ core_here (slice_get w.board.harts h) hart is)
 
 abbrev turned_world : Option Hart → ℕ → World → World
 turned_world o h w = record w { board = turn_by o h w.board; past = noted_here o h w.board.memory w.past }
 
 known_turned : (m : Machine) (sel : ℕ) (way : Way) (h : ℕ) (w : World) (o : Option Hart) → slice_get w.board.harts h ≡ o
-    → IsKnown m sel way w → machine_of (turned_world o h w).board ≡ lived m (turned_world o h w).past → IsKnown m sel way (turned_world o h w)
+    → IsKnown m sel way w → Erased m (turned_world o h w) → IsKnown m sel way (turned_world o h w)
 known_turned m sel way h w None is k erased = k
 known_turned m sel way h w (Some x) is k erased =
     let mem : Memory = w.board.memory in
@@ -72,7 +72,7 @@ known-turn m sel way h w k = known_turned m sel way h w (slice_get w.board.harts
 -- ---- points that a debugger takes
 
 known_request : (m : Machine) (sel : ℕ) (way : Way) (h : ℕ) (on : Bool) (w v : World) (o : Option Hart) → slice_get w.board.harts h ≡ o → IsKnown m sel way w
-    → machine_of v.board ≡ lived m v.past
+    → Erased m v
     → v.past ≡ w.past → v.board.harts ≡ set_by o h (with_debug (halt_requested on)) w.board.harts → IsKnown m sel way v
 known_request m sel way h on w v o is k erased past_is harts_are = record {
   erased = erased;

@@ -19,7 +19,7 @@ use Rattle.debug_model.specs.declared.point.Point.TheVariants.{Turn, Look, HaltC
 use Rattle.abstract_debugger.specs.Debugger.{Seen, State, access, act, arming, arming_at, at_aligned, at_halted, at_path, by_load, by_path, by_state}
 use Rattle.abstract_debugger.specs.Debugger.{by_store, commands, dumping, first_state, freeing, going, halted_of, halting, is_free_slot, look}
 use Rattle.abstract_debugger.specs.Debugger.{lost_step, most_looks, one, reading, register_line, row_bytes, saying, saying_row, seen_at, sees_ack}
-use Rattle.abstract_debugger.specs.Debugger.{sees_both, sees_halted, shown_registers, slot_lines, stepping, stop_line, stop_line_of, unseen, until}
+use Rattle.abstract_debugger.specs.Debugger.{sees_both, sees_halted, shown_registers, slots_shown_at, stepping, stop_line, stop_line_of, unseen, until}
 use Rattle.abstract_debugger.specs.Debugger.{waiting, writing}
 use Rattle.abstract_debugger.specs.Debugger.Seen.{Absent, Running, Halted}
 use Rattle.abstract_debugger.specs.Laws.{CommandsAreQuiet, Quiet, QuietBoards, SaysQuietly, SessionsSayQuietly}
@@ -296,7 +296,7 @@ act-calm (command.Watch kind a) s next f = calm-halted s.hart (next s) (arming s
 act-calm (command.Count turns) s next f = calm-halted s.hart (next s) (arming s.hart (Count turns) (next s)) (f s)
     (says-arming s.hart (Count turns) (next s) (f s))
 act-calm (command.Clear slot) s next f = calm-halted s.hart (next s) (freeing s.hart slot (next s)) (f s) (says-freeing s.hart slot (next s) (f s))
-act-calm command.Slots s next f = calm-halted s.hart (next s) _ (f s) (says-seen (λ b. slot_lines 0 (slots_at s.hart b)) (next s) (f s))
+act-calm command.Slots s next f = calm-halted s.hart (next s) _ (f s) (says-seen (slots_shown_at s.hart) (next s) (f s))
 act-calm (command.Ebreak is_on) s next f = calm-halted s.hart (next s) (change (EbreakHalts s.hart is_on) (say (Line.Ebreak is_on) (next s))) (f s)
     (says-change (EbreakHalts s.hart is_on) (say (Line.Ebreak is_on) (next s)) (says-say (Line.Ebreak is_on) (next s) (f s)))
 act-calm command.End s next f = calm-stop Done

@@ -149,7 +149,7 @@ all_free (suc n) zero s is = ap (λ (t : Slot). t.trigger) (sym (same_Some free_
 all_free (suc n) (suc k) s is = all_free n k s is
 
 pub reset_is_fresh : ResetIsFresh
-reset_is_fresh halted = record { not_asked = refl; no_step = refl; unused = all_free slot_count }
+reset_is_fresh version halted = record { not_asked = refl; no_step = refl; unused = all_free slot_count }
 
 -- ---- any place of a past
 

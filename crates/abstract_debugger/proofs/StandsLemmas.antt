@@ -25,6 +25,7 @@ use Rattle.abstract_debugger.proofs.CutLemmas.{cut_boards}
 use Rattle.abstract_debugger.proofs.FrontLemmas.{lines_grow, turns_keep_on}
 use Rattle.abstract_debugger.proofs.FrozenLemmas.{changed_hart, hart_change, hart_change-frozen, may_wait, stays_same}
 use Rattle.abstract_debugger.proofs.QuietLemmas.{quiet_boards}
+use Rattle.rv_model.specs.TurnLaws.{StepsUnmasked}
 use Rattle.abstract_debugger.proofs.Transparency.{transparent}
 
 -- ---- turns in front
@@ -324,9 +325,9 @@ cut_board o p lines t h n s only frozen =
     (f, written, ap (λ (x : Outcome). x.world.board) (nothing_more o p lines t s) ∙ is ∙ ap (hart_over f h) (sym s.board))
 
 -- the chip's own machine is the undebugged one, where the board is the transcript's
-pub undebugged_target : (plan : Plan) (board : Board) (t : Target) → (replay plan (start board) t.journal).world.board ≡ t.board
+pub undebugged_target : (plan : Plan) (board : Board) (t : Target) → StepsUnmasked board → (replay plan (start board) t.journal).world.board ≡ t.board
     → machine_of t.board ≡ undebugged (machine_of board) (own (trace (replay plan (start board) t.journal)))
-undebugged_target plan board t is = ap machine_of (sym is) ∙ transparent plan board t.journal
+undebugged_target plan board t unmasked is = ap machine_of (sym is) ∙ transparent plan board t.journal unmasked
 
 -- ---- several changes of one frozen hart are one
 

@@ -1,26 +1,30 @@
--- The machine of a replay's board is the undebugged run of its own entries, whatever the plan, the journal and the end.
+-- The machine of a replay's board is the undebugged run of its own entries, whatever the plan, the journal and the end: no change of a plan lets a step mask
+-- its interrupts.
 use Rattle.std.proofs.Common.{◌≡◌, ◌∙◌, ℕ, zero, suc, List, [], ◌∷◌, ◌++◌, Bool, true, false, Option, Some, None, slice_get, slice_set, refl, sym, ap}
-use Rattle.std.proofs.Common.{if◌then◌else◌}
+use Rattle.std.proofs.Common.{not, ◌&&◌, ◌==◌, subst, if◌then◌else◌}
+use Rattle.std.proofs.lemmas.Option.{same_Some}
 use Rattle.rv_model.specs.declared.cause.Cause.{Cause}
 use Rattle.rv_model.specs.Board.{Board, DebugPart, Hart, Machine, cores, execute, machine_of}
 use Rattle.rv_model.specs.Core.{Core}
 use Rattle.rv_model.specs.Memory.{Memory}
-use Rattle.rv_model.specs.Registers.{reg_written}
+use Rattle.rv_model.specs.Registers.{pc_number, reg_written}
 use Rattle.rv_model.specs.Touch.{touch_of}
 use Rattle.rv_model.specs.Triggers.{fires}
-use Rattle.rv_model.specs.Turn.{executes, executes_by, executes_here, some_fires, stops_at_ebreak}
+use Rattle.rv_model.specs.Turn.{executes, executes_by, executes_here, masks_interrupts, some_fires, stops_at_ebreak}
+use Rattle.rv_model.specs.TurnLaws.{StepsUnmasked}
 use Rattle.rv_model.specs.Undebugged.{Entry, SetReg, SetMem, entered, undebugged, with_reg}
 use Rattle.rv_model.proofs.BoardLemmas.{undebugged-append}
 use Rattle.debug_model.specs.Journal.{machine_after_point}
 use Rattle.debug_model.specs.declared.point.Point.{Point}
 use Rattle.debug_model.specs.declared.point.Point.TheVariants.{Turn, Look, HaltReq, HaltClear, ResumeReq, Access}
-use Rattle.debug_model.proofs.JournalLemmas.{points_forget_debugging}
-use Rattle.abstract_debugger.specs.Laws.{Transparent, PastsAreUndebugged}
+use Rattle.debug_model.proofs.JournalLemmas.{points_forget_debugging, points_keep_unmasked}
+use Rattle.abstract_debugger.specs.Known.{Erased}
+use Rattle.abstract_debugger.specs.Laws.{FreshBoardsAreUnmasked, PastsAreUndebugged, ReplaysKeepUnmasked, Transparent}
 use Rattle.abstract_debugger.specs.Own.{lived, own}
-use Rattle.abstract_debugger.specs.Plan.{Change, changed_board, changed_past, ebreak_halts, hart_over, register_set, slot_changed, slot_freed}
+use Rattle.abstract_debugger.specs.Plan.{Change, Plan, changed_board, changed_past, ebreak_halts, hart_over, register_set, slot_changed, slot_freed}
 use Rattle.abstract_debugger.specs.Plan.{patch_bytes, step_begun, step_ended, with_debug_part}
 use Rattle.abstract_debugger.specs.Plan.Change.{WriteReg, WriteMem, ArmSlot, FreeSlot, StepOver, StepDone, EbreakHalts, Patch}
-use Rattle.abstract_debugger.specs.Slots.{over}
+use Rattle.abstract_debugger.specs.Slots.{hits_forgotten, over, with_slots}
 use Rattle.abstract_debugger.specs.Trace.{Note, Past, noted, noted_by, noted_here, trace_of}
 use Rattle.abstract_debugger.specs.Trace.Note.{Did, Stop, Arm, Free, Patched}
 use Rattle.abstract_debugger.specs.Transcript.{World, replay, start}
@@ -123,19 +127,64 @@ change-lived (StepDone h) b past m is = debug-lived step_ended h b ∙ is
 change-lived (EbreakHalts h on) b past m is = debug-lived (ebreak_halts on) h b ∙ is
 change-lived (Patch a original covers) b past m is = ap (entered (SetMem a patch_bytes original)) is
 
--- ---- a replay
+-- ---- no change lets a step mask its interrupts
 
-abbrev pub Erased : Machine → World → Type 0
-Erased m w = machine_of w.board ≡ lived m w.past
+unmasked-over : (f : Hart → Hart) (h : ℕ) (hs : List Hart) → ((x : Hart) → masks_interrupts x.debug ≡ false → masks_interrupts (f x).debug ≡ false)
+    → ((j : ℕ) (x : Hart) → slice_get hs j ≡ Some x → masks_interrupts x.debug ≡ false) → (j : ℕ) (x : Hart) → slice_get (over h f hs) j ≡ Some x
+    → masks_interrupts x.debug ≡ false
+unmasked-over f h [] goes each j x is = each j x is
+unmasked-over f zero (y ∷ ys) goes each zero x is =
+    subst (λ (z : Hart). masks_interrupts z.debug ≡ false) (same_Some (f y) x is) (goes y (each zero y refl))
+unmasked-over f zero (y ∷ ys) goes each (suc j) x is = each (suc j) x is
+unmasked-over f (suc h) (y ∷ ys) goes each zero x is = each zero x is
+unmasked-over f (suc h) (y ∷ ys) goes each (suc j) x is = unmasked-over f h ys goes (λ k. each (suc k)) j x is
+
+written_masks : (is_pc : Bool) (d : DebugPart) → masks_interrupts (if is_pc then with_slots hits_forgotten d else d) ≡ masks_interrupts d
+written_masks true d = refl
+written_masks false d = refl
+
+change-unmasked : (c : Change) (b : Board) → StepsUnmasked b → StepsUnmasked (changed_board c b)
+change-unmasked (WriteReg h r v) b each =
+    unmasked-over (register_set r v) h b.harts (λ x is. written_masks (r == pc_number) x.debug ∙ is) each
+change-unmasked (WriteMem a count v) b each = each
+change-unmasked (ArmSlot h slot what) b each = unmasked-over (with_debug_part (slot_changed slot what)) h b.harts (λ x is. is) each
+change-unmasked (FreeSlot h slot) b each = unmasked-over (with_debug_part (slot_freed slot)) h b.harts (λ x is. is) each
+change-unmasked (StepOver h) b each = unmasked-over (with_debug_part step_begun) h b.harts (λ x is. refl) each
+change-unmasked (StepDone h) b each = unmasked-over (with_debug_part step_ended) h b.harts (λ x is. refl) each
+change-unmasked (EbreakHalts h on) b each = unmasked-over (with_debug_part (ebreak_halts on)) h b.harts (λ x is. is) each
+change-unmasked (Patch a original covers) b each = each
+
+-- ---- a replay
 
 pub erased-keeps : (m : Machine) → Keeps (Erased m)
 erased-keeps m = record {
-  passes = λ q w is. points_forget_debugging q w.board ∙ point-lived q w.board w.past m is;
-  changes = λ c w is. change-lived c w.board w.past m is;
-  says = λ line w is. is;
+  passes = λ q w is. record {
+    machine = points_forget_debugging q w.board is.unmasked ∙ point-lived q w.board w.past m is.machine;
+    unmasked = points_keep_unmasked q w.board is.unmasked;
+  };
+  changes = λ c w is. record { machine = change-lived c w.board w.past m is.machine; unmasked = change-unmasked c w.board is.unmasked };
+  says = λ line w is. record { machine = is.machine; unmasked = is.unmasked };
 }
 
+pub start-erased : (board : Board) → StepsUnmasked board → Erased (machine_of board) (start board)
+start-erased board unmasked = record { machine = refl; unmasked = unmasked }
+
+ends-erased : (plan : Plan) (board : Board) (journal : List Point) → StepsUnmasked board
+    → Erased (machine_of board) (replay plan (start board) journal).world
+ends-erased plan board journal unmasked =
+    replay-keeps (Erased (machine_of board)) (erased-keeps (machine_of board)) plan (start board) journal (start-erased board unmasked)
+
 pub transparent : Transparent
-transparent plan board journal =
-    replay-keeps (Erased (machine_of board)) (erased-keeps (machine_of board)) plan (start board) journal refl
+transparent plan board journal unmasked =
+    (ends-erased plan board journal unmasked).machine
     ∙ sym (pasts_are_undebugged (machine_of board) (replay plan (start board) journal).world.past)
+
+pub replays_keep_unmasked : ReplaysKeepUnmasked
+replays_keep_unmasked plan board journal unmasked = (ends-erased plan board journal unmasked).unmasked
+
+no_step : (step : Bool) (stepie : Bool) → step ≡ false → (step && not stepie) ≡ false
+no_step true stepie e = absurd (cc)
+no_step false stepie e = refl
+
+pub fresh_unmasked : FreshBoardsAreUnmasked
+fresh_unmasked board fresh h hart is = no_step hart.debug.step hart.debug.stepie (fresh h hart is).no_step

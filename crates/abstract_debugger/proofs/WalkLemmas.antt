@@ -20,7 +20,7 @@ use Rattle.debug_model.specs.declared.point.Point.TheVariants.{Look, HaltReq, Ha
 use Rattle.abstract_debugger.specs.Debugger.{Seen, State, access, act, arming, arming_at, at_aligned, at_halted, at_path, by_load, by_path, by_state}
 use Rattle.abstract_debugger.specs.Debugger.{by_store, dumping, freeing, going, halted_of, halting, is_free_slot, look}
 use Rattle.abstract_debugger.specs.Debugger.{lost_step, most_looks, one, reading, register_line, row_bytes, saying, saying_row, seen_at, sees_ack}
-use Rattle.abstract_debugger.specs.Debugger.{sees_both, sees_halted, shown_registers, slot_lines, stepping, stop_line, stop_line_of, unseen, until}
+use Rattle.abstract_debugger.specs.Debugger.{sees_both, sees_halted, shown_registers, slots_shown_at, stepping, stop_line, stop_line_of, unseen, until}
 use Rattle.abstract_debugger.specs.Debugger.{waiting, writing}
 use Rattle.abstract_debugger.specs.Debugger.Seen.{Absent, Running, Halted}
 use Rattle.abstract_debugger.specs.Lines.{Line}
@@ -347,8 +347,7 @@ act-walks ws (command.Count turns) s next more allowed f = walk-halted ws s.hart
     (What.Count turns) (next s) (more s) (f s))
 act-walks ws (command.Clear slot) s next more allowed f = walk-halted ws s.hart (next s) _ (more s) _ (f s) (walk-freeing ws s.hart slot (next s)
     (more s) (f s))
-act-walks ws command.Slots s next more allowed f = walk-halted ws s.hart (next s) _ (more s) _ (f s) (walk-seen ws (λ b. slot_lines 0
-    (slots_at s.hart b)) (next s) (more s) (f s))
+act-walks ws command.Slots s next more allowed f = walk-halted ws s.hart (next s) _ (more s) _ (f s) (walk-seen ws (slots_shown_at s.hart) (next s) (more s) (f s))
 act-walks ws (command.Ebreak is_on) s next more allowed f = walk-halted ws s.hart (next s) _ (more s) _ (f s)
     (ws.ebreaks s.hart is_on allowed (say (Line.Ebreak is_on) (next s)) (say (Line.Ebreak is_on) (more s))
     (ws.says (Line.Ebreak is_on) (next s) (more s) (f s)))

@@ -20,7 +20,7 @@ use Rattle.debug_model.specs.declared.point.Point.TheVariants.{Access}
 use Rattle.abstract_debugger.specs.Debugger.{State, access, act, arming, at_aligned, at_halted, at_path, by_load, by_path, by_store}
 use Rattle.abstract_debugger.specs.Debugger.{dumping, freeing, going, halting, one, reading, register_line}
 use Rattle.abstract_debugger.specs.Debugger.{row_bytes, saying, saying_row, shown_registers}
-use Rattle.abstract_debugger.specs.Debugger.{slot_lines, stepping, stop_line, writing}
+use Rattle.abstract_debugger.specs.Debugger.{slots_shown_at, stepping, stop_line, writing}
 use Rattle.abstract_debugger.specs.Lines.{Line}
 use Rattle.abstract_debugger.specs.Plan.{Plan}
 use Rattle.abstract_debugger.specs.Plan.Change.{WriteReg, WriteMem, EbreakHalts}
@@ -222,8 +222,8 @@ way-act ws (command.Count turns) s next in_range f = way_halted ws s.hart (next 
 way-act ws (command.Clear slot) s next in_range f = way_halted ws s.hart (next s) (freeing s.hart slot (next s)) (f s)
     (ws.frees s.hart slot (next s) (way_still ws s.hart (next s) (f s)))
 way-act ws command.Slots s next in_range f =
-    way_halted ws s.hart (next s) (see (λ b. saying (slot_lines 0 (slots_at s.hart b)) (next s))) (f s)
-    (way-seen ws s.hart (λ b. slot_lines 0 (slots_at s.hart b)) (next s) (f s))
+    way_halted ws s.hart (next s) (see (λ b. saying (slots_shown_at s.hart b) (next s))) (f s)
+    (way-seen ws s.hart (slots_shown_at s.hart) (next s) (f s))
 way-act ws (command.Ebreak is_on) s next in_range f =
     way_halted ws s.hart (next s) (change (EbreakHalts s.hart is_on) (say (Line.Ebreak is_on) (next s))) (f s)
     (ws.ebreaks s.hart is_on (say (Line.Ebreak is_on) (next s))

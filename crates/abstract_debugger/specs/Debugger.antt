@@ -9,6 +9,7 @@ use Rattle.rv_model.specs.declared.mem_fault.MemFault.{MemFault}
 use Rattle.rv_model.specs.declared.size.Size.{Size}
 use Rattle.rv_model.specs.declared.size.Size.TheVariants.{B1}
 use Rattle.rv_model.specs.declared.slot.Slot.{Slot}
+use Rattle.rv_model.specs.declared.version.Version.{Version}
 use Rattle.rv_model.specs.Board.{Board, Hart}
 use Rattle.rv_model.specs.Memory.{is_aligned, loaded, store_answer}
 use Rattle.rv_model.specs.Registers.{csr_read_only, first_x_number, pc_number, reg_value}
@@ -235,10 +236,18 @@ freeing h slot next =
     see (λ b. if is_free_slot (slice_get (slots_at h b) slot) then say (Line.SlotNotInUse slot) next
     else change (FreeSlot h slot) (say (Line.Slot slot Unused false) next))
 
--- a line for each slot, from the number of the first one on
-abbrev pub slot_lines : ℕ → List Slot → List Line
-slot_lines first [] = []
-slot_lines first (s ∷ slots) = Line.Slot first (use_of s) (trigger_has_hit s.trigger) ∷ slot_lines (suc first) slots
+-- a line for each slot of a chip of a release, from the number of the first one on
+abbrev pub slot_lines : Version → ℕ → List Slot → List Line
+slot_lines version first [] = []
+slot_lines version first (s ∷ slots) = Line.Slot first (use_of version s) (trigger_has_hit s.trigger) ∷ slot_lines version (suc first) slots
+
+abbrev pub slots_shown_of : Option Hart → List Line
+slots_shown_of (Some hart) = slot_lines hart.debug.version 0 hart.debug.slots
+slots_shown_of None = []
+
+-- the lines of the slots of hart h
+abbrev pub slots_shown_at : ℕ → Board → List Line
+slots_shown_at h b = slots_shown_of (slice_get b.harts h)
 
 -- ---- the commands
 
@@ -272,7 +281,7 @@ act (command.Break a) s next = at_halted s.hart (next s) (arming s.hart (Break a
 act (command.Watch kind a) s next = at_halted s.hart (next s) (arming s.hart (Watch kind a) (next s))
 act (command.Count turns) s next = at_halted s.hart (next s) (arming s.hart (Count turns) (next s))
 act (command.Clear slot) s next = at_halted s.hart (next s) (freeing s.hart slot (next s))
-act command.Slots s next = at_halted s.hart (next s) (see (λ b. saying (slot_lines 0 (slots_at s.hart b)) (next s)))
+act command.Slots s next = at_halted s.hart (next s) (see (λ b. saying (slots_shown_at s.hart b) (next s)))
 act (command.Ebreak is_on) s next = at_halted s.hart (next s) (change (EbreakHalts s.hart is_on) (say (Line.Ebreak is_on) (next s)))
 act command.End s next = stop Done
 

@@ -2,6 +2,7 @@
 -- The words are spelled by the unprivileged manual's formats.
 use Rattle.std.specs.Prelude.{◌≡◌, ℕ, Bool, true, false, List, [], ◌∷◌, Ok}
 use Rattle.rv_model.specs.declared.size.Size.TheVariants.{B4}
+use Rattle.rv_model.specs.declared.version.Version.TheVariants.{V10}
 use Rattle.rv_model.specs.Board.{Board, halted_by_reset, reset_hart, runs}
 use Rattle.rv_model.specs.Memory.{Memory, fetch_of}
 use Rattle.debug_model.specs.declared.command.Command.{Command}
@@ -38,11 +39,11 @@ breaker = (0x80000000, 0x00100073) ∷ []
 
 -- one hart, halted from reset on
 abbrev pub halted_board : Memory → Board
-halted_board m = record { harts = reset_hart 0 halted_by_reset ∷ []; memory = m }
+halted_board m = record { harts = reset_hart V10 0 halted_by_reset ∷ []; memory = m }
 
 -- two harts, running from reset on
 abbrev pub running_board : Memory → Board
-running_board m = record { harts = reset_hart 0 runs ∷ reset_hart 1 runs ∷ []; memory = m }
+running_board m = record { harts = reset_hart V10 0 runs ∷ reset_hart V10 1 runs ∷ []; memory = m }
 
 abbrev pub empty_board : Memory → Board
 empty_board m = record { harts = []; memory = m }

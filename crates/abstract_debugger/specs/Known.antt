@@ -5,6 +5,7 @@ use Rattle.std.specs.Prelude.{◌≡◌, ◌==◌, ℕ, false, Some, slice_get, 
 use Rattle.rv_model.specs.declared.slot.Slot.{Slot}
 use Rattle.rv_model.specs.declared.slot.Trigger.TheVariants.{Disabled}
 use Rattle.rv_model.specs.Board.{Board, DebugPart, Hart, Machine, machine_of}
+use Rattle.rv_model.specs.TurnLaws.{StepsUnmasked}
 use Rattle.abstract_debugger.specs.FirstMatch.{FirstMatch}
 use Rattle.abstract_debugger.specs.Own.{lived}
 use Rattle.abstract_debugger.specs.Transcript.{World}
@@ -15,8 +16,13 @@ use Rattle.abstract_debugger.specs.Ways.Way.{Idle}
 abbrev pub way_at : ℕ → Way → ℕ → Way
 way_at selected way j = if j == selected then way else Idle
 
+-- forgetting the debug parts, the board is the machine that lived through the past, and no step masks its interrupts
+pub record Erased (m : Machine) (w : World) : Type 0 where
+  pub machine : machine_of w.board ≡ lived m w.past
+  pub unmasked : StepsUnmasked w.board
+
 pub record IsKnown (m : Machine) (selected : ℕ) (way : Way) (w : World) : Type 0 where
-  pub erased : machine_of w.board ≡ lived m w.past
+  pub erased : Erased m w
   pub right : FirstMatch m w.past
   pub each : (j : ℕ) (hart : Hart) → slice_get w.board.harts j ≡ Some hart → Fits (way_at selected way j) j w.past hart.debug
 

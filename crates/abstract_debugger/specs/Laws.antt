@@ -2,9 +2,11 @@
 -- They are this project's own; docs/HEADLINE.md reads them aloud.
 use Rattle.std.specs.Prelude.{◌≡◌, ◌≢◌, ◌⊎◌, ℕ, All, List, ◌∷◌, ◌++◌, Option, Some, None, false, slice_get}
 use Rattle.rv_model.specs.declared.cause.Cause.{Cause}
+use Rattle.rv_model.specs.declared.version.Version.{Version}
 use Rattle.rv_model.specs.Board.{Board, DebugPart, Hart, Machine, machine_of, reset_debug}
 use Rattle.rv_model.specs.Core.{Core}
 use Rattle.rv_model.specs.Registers.{reg_written}
+use Rattle.rv_model.specs.TurnLaws.{StepsUnmasked}
 use Rattle.rv_model.specs.Undebugged.{undebugged}
 use Rattle.debug_model.specs.declared.command.Command.{Command}
 use Rattle.debug_model.specs.Command.{IsWithinRanges}
@@ -26,10 +28,19 @@ use Rattle.abstract_debugger.specs.Turns.{after_turns, turns}
 -- ---- transparency
 
 -- Memory with its reservations, and every hart's core, end as those of a machine that nobody debugs: of the same executed turns
--- and the run's own writes.
+-- and the run's own writes. The board begins with no hart that steps with its interrupts masked, as a reset leaves it.
 abbrev pub Transparent : Type 0
-Transparent = (plan : Plan) (board : Board) (journal : List Point)
+Transparent = (plan : Plan) (board : Board) (journal : List Point) → StepsUnmasked board
     → machine_of (replay plan (start board) journal).world.board ≡ undebugged (machine_of board) (entries.own (trace (replay plan (start board) journal)))
+
+-- no plan lets a hart step with its interrupts masked: it sets and clears stepie with the step flag
+abbrev pub ReplaysKeepUnmasked : Type 0
+ReplaysKeepUnmasked = (plan : Plan) (board : Board) (journal : List Point) → StepsUnmasked board
+    → StepsUnmasked (replay plan (start board) journal).world.board
+
+-- a board whose harts no debugger has touched is such a board
+abbrev pub FreshBoardsAreUnmasked : Type 0
+FreshBoardsAreUnmasked = (board : Board) → IsFresh board → StepsUnmasked board
 
 -- the machine that lives through a past is the undebugged run of its entries
 abbrev pub PastsAreUndebugged : Type 0
@@ -48,7 +59,7 @@ EachNoteIsRight = (m : Machine) (later : Past) (note : Note) (earlier : Past) �
 
 -- a reset leaves harts that no debugger has touched
 abbrev pub ResetIsFresh : Type 0
-ResetIsFresh = (halted : Option Cause) → IsFreshPart (reset_debug halted)
+ResetIsFresh = (version : Version) (halted : Option Cause) → IsFreshPart (reset_debug version halted)
 
 -- ---- a journal that is cut
 

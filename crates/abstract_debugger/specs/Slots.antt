@@ -8,6 +8,7 @@ use Rattle.rv_model.specs.declared.slot.Mcontrol6.{Mcontrol6}
 use Rattle.rv_model.specs.declared.slot.Slot.{Slot}
 use Rattle.rv_model.specs.declared.slot.Trigger.{Trigger}
 use Rattle.rv_model.specs.declared.slot.Trigger.TheVariants as kind
+use Rattle.rv_model.specs.declared.version.Version.{Version}
 use Rattle.rv_model.specs.Board.{Board, DebugPart, Hart}
 use Rattle.rv_model.specs.TriggerWords.{tdata1_of}
 use Rattle.debug_model.specs.declared.command.WatchKind.{WatchKind}
@@ -130,10 +131,19 @@ address_use Equal t tdata1 address = use_by t.m t.execute t.load t.store tdata1 
 address_use AtLeast t tdata1 address = Other tdata1
 address_use Below t tdata1 address = Other tdata1
 
-abbrev pub trigger_use : Trigger → ℕ → Use
-trigger_use (kind.Mcontrol6 t) tdata2 = address_use t.comparison t (tdata1_of (kind.Mcontrol6 t)) tdata2
-trigger_use (kind.Icount t) tdata2 = if t.m then Armed (Count t.count) else Other (tdata1_of (kind.Icount t))
-trigger_use kind.Disabled tdata2 = Unused
+-- of a chip of a release: what no script arms is shown as tdata1 reads
+abbrev pub trigger_use : Version → Trigger → ℕ → Use
+trigger_use version (kind.Mcontrol6 t) tdata2 = address_use t.comparison t (tdata1_of version (kind.Mcontrol6 t)) tdata2
+trigger_use version (kind.Icount t) tdata2 = if t.m then Armed (Count t.count) else Other (tdata1_of version (kind.Icount t))
+trigger_use version kind.Disabled tdata2 = Unused
 
-abbrev pub use_of : Slot → Use
-use_of s = trigger_use s.trigger s.tdata2
+abbrev pub use_of : Version → Slot → Use
+use_of version s = trigger_use version s.trigger s.tdata2
+
+abbrev pub uses_here : Option Hart → List Use
+uses_here (Some hart) = map (use_of hart.debug.version) hart.debug.slots
+uses_here None = []
+
+-- of the slots of hart h, by place
+abbrev pub uses_at : ℕ → Board → List Use
+uses_at h b = uses_here (slice_get b.harts h)

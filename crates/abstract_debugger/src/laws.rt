@@ -2,11 +2,14 @@
 
 ghost use Rattle.abstract_debugger.specs.Laws.{ChangesMayWait, CommandsAreQuiet, CommandsSpeakInOrder, CutBoards, CutLinesAreAFront, EachNoteIsRight};
 ghost use Rattle.abstract_debugger.specs.Laws.{FirstMatchHolds, FrozenMayWait, FrozenStays, LinesGrow, OnlyOpenOnesGrow, PastsAreUndebugged, QuietBoards};
-ghost use Rattle.abstract_debugger.specs.Laws.{ResetIsFresh, SessionsSayQuietly, Transparent, TurnsKeepOn};
+ghost use Rattle.abstract_debugger.specs.Laws.{FreshBoardsAreUnmasked, ReplaysKeepUnmasked, ResetIsFresh, SessionsSayQuietly, Transparent, TurnsKeepOn};
 
-/// Memory and every hart's core end as those of a machine that nobody debugs, whatever the plan, the board, the journal and the end.
+/// Memory and every hart's core end as those of a machine that nobody debugs, whatever the plan, the journal and the end, over each board on which
+/// no step masks interrupts. No plan leaves a step that does, and a board that no debugger has touched has none.
 pub fn transparent()
-    ensures { Transparent }
+    ensures machines { Transparent }
+    ensures unmasked { ReplaysKeepUnmasked }
+    ensures fresh { FreshBoardsAreUnmasked }
 {}
 
 /// The machine that lives through a past is the undebugged run of the past's own entries.

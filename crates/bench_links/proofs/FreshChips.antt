@@ -34,6 +34,7 @@ use Rattle.std.proofs.Common.{
 }
 use Rattle.std.proofs.lemmas.List.{append-nil, drop_all, length-append, length-drop, length-replicate}
 use Rattle.std.proofs.lemmas.List.Elements.{All-append, All-drop, All-replicate}
+use Rattle.rv_model.specs.declared.version.Version.TheVariants.{V10}
 use Rattle.rv_model.specs.declared.cause.Cause.{Cause}
 use Rattle.rv_model.specs.Board.{Hart, halted_by_reset, reset_hart, runs}
 use Rattle.rv_model.specs.Image.{ram_size}
@@ -109,12 +110,12 @@ memory_again image ram fits =
 
 -- ---- harts
 
-length_harts : (harts : ℕ) (halted : Option Cause) → length (loaded_harts harts halted) ≡ harts
+length_harts : (harts : ℕ) (halted : Option Cause) → length (loaded_harts V10 harts halted) ≡ harts
 length_harts zero halted = refl
-length_harts (suc n) halted = let more : _ = length-append (loaded_harts n halted) (reset_hart n halted ∷ []) in
-    omega (arith, ap length (one_hart_more n halted), more, length_harts n halted)
+length_harts (suc n) halted = let more : _ = length-append (loaded_harts V10 n halted) (reset_hart V10 n halted ∷ []) in
+    omega (arith, ap length (one_hart_more V10 n halted), more, length_harts n halted)
 
-starts : (harts : ℕ) (halted : Option Cause) → RightHarts harts → start_of (loaded_harts harts halted) ≡ start_by halted
+starts : (harts : ℕ) (halted : Option Cause) → RightHarts harts → start_of (loaded_harts V10 harts halted) ≡ start_by halted
 starts zero halted right = absurd (omega (arith, right.some))
 starts (suc zero) halted right = refl
 starts (suc (suc zero)) halted right = refl
@@ -137,13 +138,13 @@ start_either (h ∷ hs) = start_one h.debug.halted
 -- ---- the board
 
 reloaded_is : (image : List ℕ) (harts ram : ℕ) (halted : Option Cause) → Fits image ram → RightHarts harts → (halted ≡ runs) ⊎ (halted ≡ halted_by_reset)
-    → reloaded (loaded_board image harts ram halted) ≡ loaded_board image harts ram halted
+    → reloaded (loaded_board V10 image harts ram halted) ≡ loaded_board V10 image harts ram halted
 reloaded_is image harts ram halted fits right start =
-    let board = loaded_board image harts ram halted in
-    ap (λ i. loaded_board i (length board.harts) (ram_size board.memory) (start_of board.harts)) (image_is image ram fits)
-    ∙ ap (λ n. loaded_board (whole image ram) n (ram_size board.memory) (start_of board.harts)) (length_harts harts halted)
-    ∙ ap (λ n. loaded_board (whole image ram) harts n (start_of board.harts)) (size_is image ram fits)
-    ∙ ap (λ o. loaded_board (whole image ram) harts ram o) (starts harts halted right ∙ start_is halted start)
+    let board = loaded_board V10 image harts ram halted in
+    ap (λ i. loaded_board V10 i (length board.harts) (ram_size board.memory) (start_of board.harts)) (image_is image ram fits)
+    ∙ ap (λ n. loaded_board V10 (whole image ram) n (ram_size board.memory) (start_of board.harts)) (length_harts harts halted)
+    ∙ ap (λ n. loaded_board V10 (whole image ram) harts n (start_of board.harts)) (size_is image ram fits)
+    ∙ ap (λ o. loaded_board V10 (whole image ram) harts ram o) (starts harts halted right ∙ start_is halted start)
     ∙ ap (λ m. record board { memory = m }) (memory_again image ram fits)
 
 whole_bytes : (image : List ℕ) (ram : ℕ) → All (λ x. x < 256) image → All (λ x. x < 256) (whole image ram)
@@ -153,7 +154,7 @@ whole_bytes image ram bytes =
 
 just_loaded : (l : Live) → AsLoaded l → IsJustLoaded l
 just_loaded l a =
-    let board = loaded_board a.image a.harts a.ram a.halted in
+    let board = loaded_board V10 a.image a.harts a.ram a.halted in
     subst IsJustLoaded (sym a.is) (record {
       board = record {
         right = subst RightHarts (sym (length_harts a.harts a.halted)) a.right;
@@ -162,7 +163,7 @@ just_loaded l a =
       };
       plan = record { rounds = a.rounds; first = a.first };
       limit = a.limit;
-      is = ap (λ b. live (loaded_chip b a.plan a.most_points)) (sym (reloaded_is a.image a.harts a.ram a.halted a.fits a.right a.start));
+      is = ap (λ b. live (loaded_chip V10 b a.plan a.most_points)) (sym (reloaded_is a.image a.harts a.ram a.halted a.fits a.right a.start));
     })
 
 as_loaded : (l : Live) → IsJustLoaded l → AsLoaded l

@@ -3,6 +3,7 @@
 use Rattle.std.specs.Prelude.{◌≡◌, ℕ, zero, suc, ◌+◌, ◌<◌, ◌≤◌, List, [], ◌∷◌, length, All, Option, None, Some, IfSome, unwrap_or}
 use Rattle.std.specs.FinMap.{get}
 use Rattle.rv_model.specs.declared.cause.Cause.{Cause}
+use Rattle.rv_model.specs.declared.version.Version.TheVariants.{V10}
 use Rattle.rv_model.specs.Board.{Board, Hart, halted_by_reset, runs}
 use Rattle.rv_model.specs.Image.{ram_size}
 use Rattle.rv_model.specs.Memory.{Bytes, IsRamSize, Memory, ram_base}
@@ -40,7 +41,7 @@ limit_of l = l.chip.inside.works.most_points
 
 -- the board with what it has in memory as its image, as a load leaves it
 abbrev pub reloaded : Board → Board
-reloaded b = loaded_board (image_of b.memory) (length b.harts) (ram_size b.memory) (start_of b.harts)
+reloaded b = loaded_board V10 (image_of b.memory) (length b.harts) (ram_size b.memory) (start_of b.harts)
 
 pub record IsLoadedBoard (b : Board) : Type 0 where
   pub right : RightHarts (length b.harts)
@@ -56,7 +57,7 @@ pub record IsJustLoaded (l : Live) : Type 0 where
   pub board : IsLoadedBoard (board_of l)
   pub plan : IsFirstPlan (plan_of l)
   pub limit : RightLimit (limit_of l)
-  pub is : l ≡ live (loaded_chip (reloaded (board_of l)) (plan_of l) (limit_of l))
+  pub is : l ≡ live (loaded_chip V10 (reloaded (board_of l)) (plan_of l) (limit_of l))
 
 -- a bench whose chip was just loaded, and which has answered nothing yet
 pub record IsFresh (bench : Option Live) (unread : List ℕ) : Type 0 where

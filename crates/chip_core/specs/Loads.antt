@@ -1,6 +1,8 @@
 -- What a load puts onto the bench, and the numbers of its refusals. The checks are made in the order of the numbers 3, 2, 1, 4.
 -- How a program comes into the chip is this project's own choice.
 use Rattle.std.specs.Prelude.{◌≡◌, ℕ, ◌≤◌, List, length, All}
+use Rattle.rv_model.specs.declared.version.Version.{Version}
+use Rattle.rv_model.specs.declared.version.Version.TheVariants.{V10}
 use Rattle.debug_model.specs.declared.event.Event.{Event}
 use Rattle.debug_model.specs.Chip.{Live}
 use Rattle.debug_model.specs.Loaded.{live, loaded_board, loaded_chip, usual_points}
@@ -10,11 +12,16 @@ use Rattle.hart_debug.specs.declared.start.Start.{Start}
 use Rattle.chip_core.specs.declared.load_fault.LoadFault.{LoadFault}
 use Rattle.chip_core.specs.declared.load_fault.LoadFault.TheVariants.{BadHarts, BadSize, TooLong, NoMemory}
 
--- with this limit of points
-abbrev pub loaded_with : List ℕ → ℕ → ℕ → Start → RoundPlan → ℕ → Live
-loaded_with image harts ram start plan most_points = live (loaded_chip (loaded_board image harts ram (start_cause start)) plan most_points)
+-- a chip of this release with this limit of points
+abbrev pub loaded_as : Version → List ℕ → ℕ → ℕ → Start → RoundPlan → ℕ → Live
+loaded_as version image harts ram start plan most_points =
+    live (loaded_chip version (loaded_board version image harts ram (start_cause start)) plan most_points)
 
--- with the usual one
+-- of release 1.0
+abbrev pub loaded_with : List ℕ → ℕ → ℕ → Start → RoundPlan → ℕ → Live
+loaded_with image harts ram start plan most_points = loaded_as V10 image harts ram start plan most_points
+
+-- with the usual limit
 abbrev pub loaded : List ℕ → ℕ → ℕ → Start → RoundPlan → Live
 loaded image harts ram start plan = loaded_with image harts ram start plan usual_points
 

@@ -20,6 +20,7 @@ use debug_model::Counts;
 use hart_debug::DebugHart;
 use jtag_dtm::Tap;
 use rv_mem::Ram;
+use rv_model::Version;
 use std::marker::Model;
 use sys_events::Journal;
 
@@ -65,16 +66,16 @@ impl Model for System {
 }
 
 impl System {
-    /// These harts and this memory behind a TAP and a debug module as a reset leaves them, with this limit of points. Nothing was noted
-    /// or counted.
-    pub(crate) fn new(harts: Vec<DebugHart>, ram: Ram, most_points: u64) -> Self
+    /// These harts and this memory behind a TAP and a debug module of a release as a reset leaves them, with this limit of points. Nothing
+    /// was noted or counted.
+    pub(crate) fn new(version: Version, harts: Vec<DebugHart>, ram: Ram, most_points: u64) -> Self
         requires harts { vec_len harts ≤ hart_places }
         requires limit { RightLimit most_points }
         ensures system { result ≡ record {
           port = reset_port;
           works = record {
             dtm = fresh_dtm;
-            site = record { unit = reset_module; board = record { harts = harts.items; memory = ram }; journal = [] };
+            site = record { unit = reset_module version; board = record { harts = harts.items; memory = ram }; journal = [] };
             counts = no_counts;
             most_points = most_points;
           };
@@ -83,7 +84,7 @@ impl System {
     {
         System {
             tap: Tap::new(),
-            debug_module: Module::new(),
+            debug_module: Module::of_version(version),
             harts,
             ram,
             journal: Journal::empty(),

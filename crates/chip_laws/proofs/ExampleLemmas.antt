@@ -5,7 +5,7 @@ use Rattle.rv_model.specs.DebugRegisters.{debug_value}
 use Rattle.rv_model.specs.Effects.{Outcome, effect_of}
 use Rattle.rv_model.specs.Memory.{Memory}
 use Rattle.rv_model.specs.declared.did.Did.{Did}
-use Rattle.rv_model.specs.declared.did.Did.TheVariants.{Retired, Trapped}
+use Rattle.rv_model.specs.declared.did.Did.TheVariants.{Interrupted, Retired, Trapped}
 use Rattle.rv_model.specs.ProgramBuffer.{executed_by, ran_word}
 use Rattle.rv_model.specs.Rows.{meaning}
 use Rattle.debug_model.specs.declared.cmderr.Cmderr.TheVariants as cmderr
@@ -15,7 +15,7 @@ use Rattle.debug_model.specs.Transport.{updated_dtm}
 use Rattle.chip_laws.specs.Examples.{CommandExamples, ModuleExamples, TransportExamples, WordExamples, before_word, load_word, met_late}
 
 pub word_examples : WordExamples
-word_examples = record { dtmcs = refl; no_such_hart = refl; running = refl; halted = refl; abstractcs = refl; sbcs = refl }
+word_examples = record { dtmcs = refl; no_such_hart = refl; running = refl; halted = refl; no_such_hart_V013 = refl; running_V013 = refl; halted_V013 = refl; abstractcs = refl; sbcs = refl }
 
 pub transport_examples : TransportExamples
 unfolding updated_dtm
@@ -32,6 +32,7 @@ load_accesses hart m = by (effect_of _ hart.core m) (effect_of _ hart.core m).st
   by : (o : Outcome) (did : Did) → (executed_by did o true hart m).accessed ≡ true
   by o Retired = refl
   by o (Trapped cause) = refl
+  by o Interrupted = refl
 
 pub late_at_end : (hart : Hart) (m : Memory) → (micro_step hart m met_late).unit.error ≡ cmderr.Busy
 unfolding micro_step

@@ -10,6 +10,7 @@ use Rattle.debug_model.specs.Chip.{Chip, Inside, Live, Works, after, after_event
 use Rattle.debug_model.specs.Chip.{unless_ended, works_risen}
 use Rattle.debug_model.specs.Loaded.{AsLoaded, loaded_chip}
 use Rattle.debug_model.specs.Module.{Site}
+use Rattle.rv_model.specs.declared.version.Version.{Version}
 use Rattle.rv_model.specs.Board.{Board}
 use Rattle.debug_model.specs.Port.{Port, rise_finds_busy}
 use Rattle.debug_model.specs.Scan.{ticks}
@@ -132,12 +133,12 @@ feeds_offer first l bytes is = feed_offered first bytes l is
 
 -- ---- a loaded chip
 
-pub board_offers : (board : Board) (plan : RoundPlan) (most_points : ℕ) → TurnsOffered plan (loaded_chip board plan most_points)
+pub board_offers : (v : Version) (board : Board) (plan : RoundPlan) (most_points : ℕ) → TurnsOffered plan (loaded_chip v board plan most_points)
 unfolding turns_of offered first_rounds moved_on
-board_offers board plan most_points = record { turns = refl; plan = refl }
+board_offers v board plan most_points = record { turns = refl; plan = refl }
 
 plan_offers : (l : Live) → AsLoaded l → TurnsOffered l.chip.inside.plan l.chip
-plan_offers l a = subst (λ (m : Live). TurnsOffered m.chip.inside.plan m.chip) (sym a.is) (board_offers _ _ _)
+plan_offers l a = subst (λ (m : Live). TurnsOffered m.chip.inside.plan m.chip) (sym a.is) (board_offers _ _ _ _)
 
 pub at_its_start : (l : Live) → AsLoaded l → at_start l.chip.inside.plan ≡ l.chip.inside.plan
 at_its_start l a = subst (λ (m : Live). at_start m.chip.inside.plan ≡ m.chip.inside.plan) (sym a.is)

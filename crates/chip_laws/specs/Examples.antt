@@ -2,6 +2,7 @@
 -- RISC-V Debug Specification 1.0: "DTM Control and Status", "Debug Module Status", "Abstract Control and Status", "Abstract Commands",
 -- "System Bus Access Control and Status".
 use Rattle.std.specs.Prelude.{◌≡◌, ℕ, Bool, ◌∷◌, [], List, true, false, Some, None}
+use Rattle.rv_model.specs.declared.version.Version.TheVariants.{V013, V10}
 use Rattle.rv_model.specs.Board.{Hart, halted_by_reset, reset_hart, runs}
 use Rattle.rv_model.specs.Memory.{Memory}
 use Rattle.debug_model.specs.declared.cmderr.Cmderr.TheVariants as cmderr
@@ -22,9 +23,12 @@ use Rattle.debug_model.specs.TransportWords.{dtmcs_word}
 
 pub record WordExamples : Type 0 where
   pub dtmcs : dtmcs_word (dtmcs_seen fresh_dtm) ≡ 0x00001071
-  pub no_such_hart : dmstatus_word (hart_status None) ≡ 0x0000c083
-  pub running : dmstatus_word (hart_status (Some (reset_hart 0 runs))) ≡ 0x000c0c83
-  pub halted : dmstatus_word (hart_status (Some (reset_hart 0 halted_by_reset))) ≡ 0x000c0383
+  pub no_such_hart : dmstatus_word (hart_status V10 None) ≡ 0x0000c083
+  pub running : dmstatus_word (hart_status V10 (Some (reset_hart V10 0 runs))) ≡ 0x000c0c83
+  pub halted : dmstatus_word (hart_status V10 (Some (reset_hart V10 0 halted_by_reset))) ≡ 0x000c0383
+  pub no_such_hart_V013 : dmstatus_word (hart_status V013 None) ≡ 0x0000c082
+  pub running_V013 : dmstatus_word (hart_status V013 (Some (reset_hart V013 0 runs))) ≡ 0x000c0c82
+  pub halted_V013 : dmstatus_word (hart_status V013 (Some (reset_hart V013 0 halted_by_reset))) ≡ 0x000c0382
   pub abstractcs : abstractcs_word (abstractcs_shown reset_commands) ≡ 0x04000002
   pub sbcs : sbcs_word (sbcs_shown reset_bus) ≡ 0x2004080f
 
@@ -43,22 +47,22 @@ pub record TransportExamples : Type 0 where
 -- an active module that selects a hart, over these harts
 abbrev pub site : ℕ → List Hart → Memory → Site
 site h harts m = record {
-  unit = record reset_module { active = true; hartsel = h };
+  unit = record (reset_module V10) { active = true; hartsel = h };
   board = record { harts = harts; memory = m };
   journal = [];
 }
 
 abbrev pub waiting_hart : Hart
-waiting_hart = let hart : Hart = reset_hart 0 halted_by_reset in record hart { debug = record hart.debug { halt_request = true } }
+waiting_hart = let hart : Hart = reset_hart V10 0 halted_by_reset in record hart { debug = record hart.debug { halt_request = true } }
 
 pub record ModuleExamples : Type 0 where
   -- a read of dmstatus is a Look of hartsel, also where there is no such hart
-  pub looks : (m : Memory) → (after_read 0x11 (site 7 (reset_hart 0 runs ∷ []) m)).journal ≡ Look 7 ∷ []
+  pub looks : (m : Memory) → (after_read 0x11 (site 7 (reset_hart V10 0 runs ∷ []) m)).journal ≡ Look 7 ∷ []
   -- resumereq 1 with haltreq 0, where a halt request is set: that one is cleared first
   pub requests : (m : Memory) → (after_write 0x10 0x40000001 (site 0 (waiting_hart ∷ []) m)).journal ≡ HaltClear 0 ∷ ResumeReq 0 ∷ []
   -- a read of x5 where the hart runs
-  pub refuses : (m : Memory) → (after_write 0x17 0x00321005 (site 0 (reset_hart 0 runs ∷ []) m)).unit.commands.error ≡ cmderr.HaltResume
-  pub refuses_word : (m : Memory) → (after_write 0x17 0x00221005 (site 0 (reset_hart 0 runs ∷ []) m)).unit.commands.error ≡ cmderr.HaltResume
+  pub refuses : (m : Memory) → (after_write 0x17 0x00321005 (site 0 (reset_hart V10 0 runs ∷ []) m)).unit.commands.error ≡ cmderr.HaltResume
+  pub refuses_word : (m : Memory) → (after_write 0x17 0x00221005 (site 0 (reset_hart V10 0 runs ∷ []) m)).unit.commands.error ≡ cmderr.HaltResume
 
 -- ---- commands and the bus
 

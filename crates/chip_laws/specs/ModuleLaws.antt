@@ -75,7 +75,7 @@ ServedHartsRest = (hart : Hart) (m : Memory) (why : Cause) → hart.debug.halted
 -- while a command is under way a write of dmcontrol is ignored, but one with dmactive 0 resets the module all the same; harts and journal stay
 pub record DmcontrolWhileBusy (v : ℕ) (s : Site) : Type 0 where
   pub ignored : (dmcontrol_of v).dmactive ≡ true → controlled v s ≡ s
-  pub resets : (dmcontrol_of v).dmactive ≡ false → controlled v s ≡ record s { unit = reset_module }
+  pub resets : (dmcontrol_of v).dmactive ≡ false → controlled v s ≡ record s { unit = reset_module s.unit.version }
 
 abbrev pub BusyModulesIgnoreDmcontrol : Type 0
 BusyModulesIgnoreDmcontrol = (v : ℕ) (s : Site) → busy s.unit.commands ≡ true → DmcontrolWhileBusy v s

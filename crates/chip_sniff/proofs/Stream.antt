@@ -12,6 +12,8 @@ use Rattle.debug_model.specs.Chip.{Chip, after, answered, at_limit, end_of, feed
 use Rattle.debug_model.specs.Loaded.{live, loaded_board, loaded_chip}
 use Rattle.debug_model.specs.Signs.{sign_of}
 use Rattle.debug_model.specs.Schedule.{RoundPlan}
+use Rattle.rv_model.specs.declared.version.Version.{Version}
+use Rattle.rv_model.specs.declared.version.Version.TheVariants.{V10}
 use Rattle.rv_model.specs.Board.{Board}
 use Rattle.wire_sniff.specs.Ends.{bad_sign_from}
 use Rattle.wire_sniff.specs.declared.sniff_end.SniffEnd.TheVariants.{BadSign}
@@ -215,13 +217,14 @@ stream_tells (b ∷ bytes) = one_more_tells b bytes (stream_tells bytes)
 
 -- ---- a chip as loaded
 
-first_tied : (board : Board) (plan : RoundPlan) (most_points : ℕ) (answers : List ℕ) → Tied (loaded_chip board plan most_points) (first_sniffer answers)
-first_tied board plan most_points answers = record { tck = refl; state = refl; held = refl; selected = refl; reset = λ e. absurd (cc); scan = tt }
+first_tied : (v : Version) (board : Board) (plan : RoundPlan) (most_points : ℕ) (answers : List ℕ)
+    → Tied (loaded_chip v board plan most_points) (first_sniffer answers)
+first_tied v board plan most_points answers = record { tck = refl; state = refl; held = refl; selected = refl; reset = λ e. absurd (cc); scan = tt }
 
 pub lines_tell_operations : LinesTellOperations
 lines_tell_operations l stream loaded good unlimited clear =
-    let c = loaded_chip (loaded_board loaded.image loaded.harts loaded.ram loaded.halted) loaded.plan loaded.most_points in
+    let c = loaded_chip V10 (loaded_board V10 loaded.image loaded.harts loaded.ram loaded.halted) loaded.plan loaded.most_points in
     subst (λ x. operations_in (sniffed_lines stream (said x stream)) ≡ launched x stream) (sym loaded.is)
-    (stream_tells stream 0 c (first_sniffer (said (live c) stream)) (first_tied _ loaded.plan loaded.most_points (said (live c) stream)) refl good
+    (stream_tells stream 0 c (first_sniffer (said (live c) stream)) (first_tied V10 _ loaded.plan loaded.most_points (said (live c) stream)) refl good
     (subst (λ x. (feed x stream).ended ≢ Some AtLimit) loaded.is unlimited)
     (subst (λ x. are_clear (sniffed_lines stream (said x stream)) ≡ true) loaded.is clear))

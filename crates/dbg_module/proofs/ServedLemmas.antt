@@ -7,9 +7,8 @@ use Rattle.rv_model.specs.Board.{DebugPart, Hart}
 use Rattle.rv_model.specs.DebugLaws.{SameRequests}
 use Rattle.rv_model.specs.DebugRegisters.{debug_value}
 use Rattle.rv_model.specs.Memory.{Memory}
-use Rattle.rv_model.specs.Execute.{exec_of}
 use Rattle.rv_model.specs.Touch.{touch_of}
-use Rattle.rv_model.specs.Turn.{place_by, place_of, some_fires, stops_at_ebreak}
+use Rattle.rv_model.specs.Turn.{place_by, place_of, some_fires, stops_at_ebreak, turn_outcome}
 use Rattle.rv_model.proofs.DebugLemmas.{writes_keep, words_keep}
 use Rattle.rv_model.proofs.MapLemmas.{slice_get-set_same, slice_get-set_other}
 use Rattle.debug_model.specs.declared.abstract_command.AbstractCommand.{AbstractCommand}
@@ -182,7 +181,7 @@ pub operations_serve : OperationsServe
 operations_serve op s h = record { held = operations_hold op s h.held }
 
 pub reset_is_served : ResetIsServed
-reset_is_served hs = record { held = λ is. cc }
+reset_is_served version hs = record { held = λ is. cc }
 
 -- ---- micro steps
 
@@ -194,7 +193,7 @@ held_as x y same h =
     ∙ h
 
 same_requests : (d : DebugPart) → SameRequests d d
-same_requests d = record { halted = refl; halt_request = refl; resume_request = refl; resume_ack = refl; have_reset = refl }
+same_requests d = record { version = refl; halted = refl; halt_request = refl; resume_request = refl; resume_ack = refl; have_reset = refl }
 
 hart_by : (b : Bool) (x : Hart) (s t : Stepped) → SameRequests x.debug s.hart.debug → SameRequests x.debug t.hart.debug
     → SameRequests x.debug (cond b s t).hart.debug
@@ -243,9 +242,9 @@ unfolding place_of
 turn_held (Some why) true x m halted resumes held = cc
 turn_held (Some why) false x m halted resumes held =
     ap (λ (o : Option Cause). (place_by o x.debug.resume_request x.debug.halt_request (some_fires (touch_of x.core m) x) (stops_at_ebreak x m)
-    (touch_of x.core m) (exec_of x.core m) x).hart) halted
+    (touch_of x.core m) (turn_outcome x m) x).hart) halted
     ∙ ap (λ (r : Bool). (place_by (Some why) r x.debug.halt_request (some_fires (touch_of x.core m) x) (stops_at_ebreak x m) (touch_of x.core m)
-    (exec_of x.core m) x).hart) resumes
+    (turn_outcome x m) x).hart) resumes
 turn_held None resume x m halted resumes held = cc
 
 -- the selected hart behind the turn of any hart

@@ -1,6 +1,7 @@
 -- While a command is under way, the selected hart is halted, and no resume is asked of it: so it stays as the command needs it.
 -- RISC-V Debug Specification 1.0, "Abstract Commands". It is true of a module that was just reset, and each deed behind the transport keeps it.
 use Rattle.std.specs.Prelude.{◌≡◌, ℕ, true, List, slice_get}
+use Rattle.rv_model.specs.declared.version.Version.{Version}
 use Rattle.rv_model.specs.Board.{Hart}
 use Rattle.debug_model.specs.declared.dmi_op.DmiOp.{DmiOp}
 use Rattle.debug_model.specs.Commands.{busy, serves}
@@ -17,7 +18,7 @@ IsServed s = IsServedBy s.unit s.board.harts
 -- ---- that it stays so
 
 abbrev pub ResetIsServed : Type 0
-ResetIsServed = (hs : List Hart) → IsServedBy reset_module hs
+ResetIsServed = (version : Version) (hs : List Hart) → IsServedBy (reset_module version) hs
 
 abbrev pub OperationsServe : Type 0
 OperationsServe = (op : DmiOp) (s : Site) → IsServed s → IsServed (operated op s)

@@ -3,6 +3,7 @@
 ghost use Rattle.std.specs.Prelude.{◌≡◌, ◌≤◌, ◌++◌, List, length};
 ghost use Rattle.rv_model.specs.Board.{Hart};
 ghost use Rattle.rv_model.specs.Memory.{Memory, hart_places};
+ghost use Rattle.rv_model.specs.declared.version.Version.TheVariants.{V10};
 ghost use Rattle.debug_model.specs.declared.point.Point.{Point};
 ghost use Rattle.debug_model.specs.Module.{operated, operation_result, reset_module};
 ghost use Rattle.dbg_module.specs.Served.{IsServedBy};
@@ -17,11 +18,14 @@ use dbg_abstract::CommandUnit;
 use dbg_sysbus::BusUnit;
 use debug_model::{DmiOp, ModuleRegister};
 use hart_debug::DebugHart;
+use rv_model::Version;
 use std::marker::Model;
 
 /// The debug module.
 #[derive(Drop)]
 pub struct Module {
+    /// The release that it follows: it never changes.
+    version: Version,
     active: bool,
     hartsel: u16,
     commands: CommandUnit,
@@ -33,16 +37,25 @@ impl Model for Module {
 
     ghost Value = { DebugModule };
 
-    ghost view = { λ m. record { active = m.active; hartsel = m.hartsel; commands = m.commands; bus = m.bus } };
+    ghost view = { λ m. record { version = m.version; active = m.active; hartsel = m.hartsel; commands = m.commands; bus = m.bus } };
 }
 
 impl Module {
-    /// The module as a reset leaves it: it does not work until dmcontrol says so.
+    /// The module of release 1.0 as a reset leaves it: it does not work until dmcontrol says so.
     pub fn new() -> Self
-        ensures module { result ≡ reset_module }
+        ensures module { result ≡ reset_module V10 }
+        ensures served { (hs : List Hart) → IsServedBy result hs }
+    {
+        Module::of_version(Version::V10)
+    }
+
+    /// The same of a release.
+    pub fn of_version(version: Version) -> Self
+        ensures module { result ≡ reset_module version }
         ensures served { (hs : List Hart) → IsServedBy result hs }
     {
         Module {
+            version,
             active: false,
             hartsel: 0,
             commands: CommandUnit::new(),

@@ -6,9 +6,7 @@ ghost use Rattle.debug_model.specs.Module.{hart_status};
 
 use debug_model::Dmstatus;
 use hart_debug::DebugHart;
-
-/// `version` for the standard's release 1.0.
-const VERSION: u8 = 3;
+use rv_model::Version;
 
 /// The hart of a number, or `None` where there is no such hart.
 pub fn hart_at(harts: &[DebugHart], number: u16) -> Option<&DebugHart>
@@ -17,9 +15,9 @@ pub fn hart_at(harts: &[DebugHart], number: u16) -> Option<&DebugHart>
     harts.get(usize::from(number))
 }
 
-/// The status of a hart, or that there is no such hart.
-pub fn hart_status(hart: Option<&DebugHart>) -> Dmstatus
-    ensures { result ≡ hart_status (option_map (λ h. h.now) hart.entry) }
+/// The status of a hart, or that there is no such hart, on a chip of a release.
+pub fn hart_status(version: Version, hart: Option<&DebugHart>) -> Dmstatus
+    ensures { result ≡ hart_status version (option_map (λ h. h.now) hart.entry) }
 {
     match hart {
         Some(hart) => Dmstatus {
@@ -29,7 +27,7 @@ pub fn hart_status(hart: Option<&DebugHart>) -> Dmstatus
             running: !hart.is_halted(),
             halted: hart.is_halted(),
             authenticated: true,
-            version: VERSION,
+            version: version.number(),
         },
         None => Dmstatus {
             havereset: false,
@@ -38,7 +36,7 @@ pub fn hart_status(hart: Option<&DebugHart>) -> Dmstatus
             running: false,
             halted: false,
             authenticated: true,
-            version: VERSION,
+            version: version.number(),
         },
     }
 }

@@ -4,6 +4,7 @@ use Rattle.std.specs.Prelude.{◌≡◌, ℕ, Bool, true, false, List, [], ◌�
 use Rattle.rv_model.specs.declared.cause.Cause.{Cause}
 use Rattle.rv_model.specs.Board.{Board, DebugPart, Hart, Machine, execute, machine_of}
 use Rattle.rv_model.specs.Turn.{executes_at, turn}
+use Rattle.rv_model.specs.TurnLaws.{StepsUnmasked}
 use Rattle.debug_model.specs.declared.point.Point.{Point}
 use Rattle.debug_model.specs.declared.point.Point.TheVariants.{Turn, Look, HaltReq, HaltClear, ResumeReq, Access}
 
@@ -60,6 +61,10 @@ machine_after_point (HaltClear h) b = machine_of b
 machine_after_point (ResumeReq h) b = machine_of b
 machine_after_point Access b = machine_of b
 
--- an executed turn is one execution, and every other point nothing
+-- no request sets or clears step or stepie, and nor does a turn
+abbrev pub PointsKeepUnmasked : Type 0
+PointsKeepUnmasked = (p : Point) (b : Board) → StepsUnmasked b → StepsUnmasked (after_point p b)
+
+-- where no step masks interrupts, an executed turn is one execution, and every other point nothing
 abbrev pub PointsForgetDebugging : Type 0
-PointsForgetDebugging = (p : Point) (b : Board) → machine_of (after_point p b) ≡ machine_after_point p b
+PointsForgetDebugging = (p : Point) (b : Board) → StepsUnmasked b → machine_of (after_point p b) ≡ machine_after_point p b

@@ -3,6 +3,8 @@
 use Rattle.std.specs.Prelude.{◌≡◌, ◌⊎◌, ℕ, zero, suc, ◌<◌, ◌≤◌, ◌^◌, false, List, [], ◌∷◌, ◌++◌, length, replicate, Option, None, All}
 use Rattle.rv_model.specs.declared.cause.Cause.{Cause}
 use Rattle.debug_model.specs.declared.event.Event.{Event}
+use Rattle.rv_model.specs.declared.version.Version.{Version}
+use Rattle.rv_model.specs.declared.version.Version.TheVariants.{V10}
 use Rattle.rv_model.specs.Board.{Board, Hart, halted_by_reset, reset_harts, runs}
 use Rattle.rv_model.specs.Image.{with_image}
 use Rattle.rv_model.specs.Memory.{IsRamSize, Memory, hart_places, map_of}
@@ -12,30 +14,31 @@ use Rattle.debug_model.specs.Port.{reset_port}
 use Rattle.debug_model.specs.Schedule.{RoundPlan}
 use Rattle.debug_model.specs.Transport.{fresh_dtm}
 
--- so many harts, numbered from 0, halted for this reason or running
-abbrev pub loaded_harts : ℕ → Option Cause → List Hart
-loaded_harts harts halted = reset_harts 0 (replicate harts halted)
+-- so many harts of a release, numbered from 0, halted for this reason or running
+abbrev pub loaded_harts : Version → ℕ → Option Cause → List Hart
+loaded_harts version harts halted = reset_harts version 0 (replicate harts halted)
 
 -- the image from the start of RAM on, and zeros behind it
 abbrev pub loaded_memory : List ℕ → ℕ → Memory
 loaded_memory image ram = record { bytes = with_image (map_of (replicate ram 0)) image; reserved = replicate hart_places None }
 
-abbrev pub loaded_board : List ℕ → ℕ → ℕ → Option Cause → Board
-loaded_board image harts ram halted = record { harts = loaded_harts harts halted; memory = loaded_memory image ram }
+abbrev pub loaded_board : Version → List ℕ → ℕ → ℕ → Option Cause → Board
+loaded_board version image harts ram halted = record { harts = loaded_harts version harts halted; memory = loaded_memory image ram }
 
-abbrev pub loaded_inside : Board → RoundPlan → ℕ → Inside
-loaded_inside board plan most_points = record {
+abbrev pub loaded_inside : Version → Board → RoundPlan → ℕ → Inside
+loaded_inside version board plan most_points = record {
   works = record {
     dtm = fresh_dtm;
-    site = record { unit = reset_module; board = board; journal = [] };
+    site = record { unit = reset_module version; board = board; journal = [] };
     counts = no_counts;
     most_points = most_points;
   };
   plan = plan;
 }
 
-abbrev pub loaded_chip : Board → RoundPlan → ℕ → Chip
-loaded_chip board plan most_points = record { tck = false; port = reset_port; inside = loaded_inside board plan most_points }
+-- of a release, which its harts follow too
+abbrev pub loaded_chip : Version → Board → RoundPlan → ℕ → Chip
+loaded_chip version board plan most_points = record { tck = false; port = reset_port; inside = loaded_inside version board plan most_points }
 
 abbrev pub live : Chip → Live
 live c = record { chip = c; ended = None }
@@ -57,7 +60,7 @@ pub record RightLimit (most_points : ℕ) : Type 0 where
   pub some : 0 < most_points
   pub most : most_points ≤ 2 ^ 62
 
--- a chip as loaded, by some image of bytes, size, harts, start, schedule at its start and limit
+-- a chip of release 1.0 as loaded, by some image of bytes, size, harts, start, schedule at its start and limit
 pub record AsLoaded (l : Live) : Type 0 where
   pub image : List ℕ
   pub harts : ℕ
@@ -73,4 +76,4 @@ pub record AsLoaded (l : Live) : Type 0 where
   pub rounds : All (λ (r : List Event). length r ≤ 8) plan.rounds
   pub first : plan.place ≡ 0
   pub limit : RightLimit most_points
-  pub is : l ≡ live (loaded_chip (loaded_board image harts ram halted) plan most_points)
+  pub is : l ≡ live (loaded_chip V10 (loaded_board V10 image harts ram halted) plan most_points)

@@ -3,7 +3,9 @@
 -- harts outlive a reset of the module, and that a busy module ignores dmcontrol, are this project's own choices (docs/DEBUG_MODULE.md).
 use Rattle.std.specs.Prelude.{ℕ, ◌==◌, Bool, true, false, if◌then◌else◌, nat_lt, List, [], ◌∷◌, ◌++◌, map, Option, Some, None, is_some, slice_get}
 use Rattle.jt_base.specs.BitList.{number_of}
+use Rattle.rv_model.specs.declared.version.Version.{Version}
 use Rattle.rv_model.specs.Board.{Board, DebugPart, Hart}
+use Rattle.rv_model.specs.Version.{version_number}
 use Rattle.debug_model.specs.Addresses.{data0_address, data1_address, dmcontrol_address, dmstatus_address, abstractcs_address, command_address}
 use Rattle.debug_model.specs.Addresses.{abstractauto_address, progbuf0_address, progbuf1_address, progbuf2_address, progbuf3_address, sbcs_address}
 use Rattle.debug_model.specs.Addresses.{sbaddress0_address, sbaddress1_address, sbdata0_address, sbdata1_address, haltsum0_address}
@@ -26,13 +28,14 @@ use Rattle.debug_model.specs.SystemBus.{BusUnit, reset_bus, sbcs_shown, sbcs_wri
 use Rattle.debug_model.specs.SystemBus.{sbdata0_written, sbdata1_written}
 
 pub record DebugModule : Type 0 where
+  pub version : Version  -- of the specification that the module follows: it never changes
   pub active : Bool  -- dmactive
   pub hartsel : ℕ  -- hartsello, below 2^10
   pub commands : CommandUnit
   pub bus : BusUnit
 
-abbrev pub reset_module : DebugModule
-reset_module = record { active = false; hartsel = 0; commands = reset_commands; bus = reset_bus }
+abbrev pub reset_module : Version → DebugModule
+reset_module version = record { version = version; active = false; hartsel = 0; commands = reset_commands; bus = reset_bus }
 
 -- all that stands behind the transport
 pub record Site : Type 0 where
@@ -65,28 +68,25 @@ register_at a =
 
 -- ---- what a read shows
 
--- releases 1.0 of the standard
-abbrev pub module_version : ℕ
-module_version = 3
-
-abbrev pub hart_status : Option Hart → Dmstatus
-hart_status (Some hart) = record {
+-- by the release that the module follows
+abbrev pub hart_status : Version → Option Hart → Dmstatus
+hart_status version (Some hart) = record {
   havereset = hart.debug.have_reset;
   resumeack = hart.debug.resume_ack;
   nonexistent = false;
   running = if is_some hart.debug.halted then false else true;
   halted = is_some hart.debug.halted;
   authenticated = true;
-  version = module_version;
+  version = version_number version;
 }
-hart_status None = record {
+hart_status version None = record {
   havereset = false;
   resumeack = false;
   nonexistent = true;
   running = false;
   halted = false;
   authenticated = true;
-  version = module_version;
+  version = version_number version;
 }
 
 abbrev pub selected_hart : Site → Option Hart
@@ -110,7 +110,7 @@ haltsum selected harts = if nat_lt selected group_size then number_of (map is_ha
 abbrev pub shown : ModuleRegister → Site → ℕ
 shown (Word w) s = word_in w s.unit.commands
 shown dmcontrol s = dmcontrol_word (dmcontrol_shown s.unit)
-shown dmstatus s = dmstatus_word (hart_status (selected_hart s))
+shown dmstatus s = dmstatus_word (hart_status s.unit.version (selected_hart s))
 shown Abstractcs s = abstractcs_word (abstractcs_shown s.unit.commands)
 shown Command s = 0
 shown Abstractauto s = abstractauto_word s.unit.commands.auto
@@ -197,10 +197,10 @@ asked k s = noted (control_points k (slice_get s.board.harts k.hartsello)) (with
 abbrev pub acknowledged : Dmcontrol → Site → Site
 acknowledged k s = record s { board = debug_changed (reset_known k.ackhavereset) k.hartsello s.board }
 
--- a write with dmactive 0 resets the module and stops what is under way; the board and its requests stay
+-- a write with dmactive 0 resets the module and stops what is under way; the release that it follows, the board and its requests stay
 abbrev pub controlled_by : Bool → Dmcontrol → Site → Site
 controlled_by true k s = if busy s.unit.commands then s else acknowledged k (asked k s)
-controlled_by false k s = record s { unit = reset_module }
+controlled_by false k s = record s { unit = reset_module s.unit.version }
 
 abbrev pub controlled : ℕ → Site → Site
 controlled v s = controlled_by (dmcontrol_of v).dmactive (dmcontrol_of v) s

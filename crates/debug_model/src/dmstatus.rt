@@ -17,7 +17,7 @@ pub struct Dmstatus {
     pub halted: bool,
     /// Bit 7: the debug module may be used.
     pub authenticated: bool,
-    /// Bits 3 to 0: 3 for the standard's release 1.0.
+    /// Bits 3 to 0: 2 for the standard's release 0.13, 3 for release 1.0.
     pub version: u8,
 }
 

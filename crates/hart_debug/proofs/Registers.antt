@@ -7,7 +7,7 @@ use Rattle.rv_model.specs.Board.{DebugPart, Hart}
 use Rattle.rv_model.specs.Core.{Core, x_of}
 use Rattle.rv_model.specs.DebugRegisters.{debug_csr_value, debug_csr_written, debug_value, debug_refuses, debug_written, value_or}
 use Rattle.rv_model.specs.Registers.{Register, csr_value, csr_read_only, refuses_at, register_at, reg_value, reg_written, is_x_number}
-use Rattle.rv_model.specs.TriggerWords.{trigger_csr_written}
+use Rattle.rv_model.specs.TriggerWords.{TriggerPart, trigger_csr_written}
 use Rattle.rv_hart.specs.declared.csr_fault.CsrFault.{CsrFault}
 use Rattle.rv_hart.specs.declared.csr_fault.CsrFault.TheVariants.{Absent, ReadOnly}
 use Rattle.hart_debug.specs.RegisterAnswers.{write_answer}
@@ -158,3 +158,16 @@ absent_accepts h r e =
 pub absent_leaves : (h : Hart) (r v : ℕ) → debug_written h r v ≡ record { core = reg_written h.core r v; debug = debug_csr_written h.debug r v }
 unfolding debug_written
 absent_leaves h r v = refl
+
+-- ---- a write of a trigger register leaves the release
+
+version_by : (is_tselect is_tdata1 is_tdata2 : Bool) (t a b c : TriggerPart) → a.version ≡ t.version → b.version ≡ t.version → c.version ≡ t.version
+    → (cond is_tselect a (cond is_tdata1 b (cond is_tdata2 c t))).version ≡ t.version
+version_by true is_tdata1 is_tdata2 t a b c p q r = p
+version_by false true is_tdata2 t a b c p q r = q
+version_by false false true t a b c p q r = r
+version_by false false false t a b c p q r = refl
+
+pub version_stays : (t : TriggerPart) (number v : ℕ) → (trigger_csr_written t number v).version ≡ t.version
+unfolding trigger_csr_written
+version_stays t number v = version_by (eqb number 0x7a0) (eqb number 0x7a1) (eqb number 0x7a2) t _ _ _ refl refl refl

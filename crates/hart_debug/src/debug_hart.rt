@@ -2,6 +2,7 @@
 
 ghost use Rattle.std.specs.Prelude.{◌≡◌, ◌<◌, is_some};
 ghost use Rattle.rv_model.specs.Board.{reset_hart};
+ghost use Rattle.rv_model.specs.declared.version.Version.TheVariants.{V10};
 ghost use Rattle.debug_model.specs.Journal.{with_debug};
 ghost use Rattle.hart_debug.specs.Changes.{start_cause, step_set, ebreakm_set};
 
@@ -12,7 +13,7 @@ mod turn;
 
 use crate::start::Start;
 use rv_hart::Hart;
-use rv_model::Cause;
+use rv_model::{Cause, Version};
 use std::marker::Model;
 use trig_unit::Slots;
 
@@ -42,6 +43,7 @@ impl Model for DebugHart {
     ghost view = { λ h. record {
       core = h.hart;
       debug = record {
+        version = h.slots.version;
         halted = h.halted;
         halt_request = h.halt_request;
         resume_request = h.resume_request;
@@ -67,10 +69,18 @@ fn start_cause(start: Start) -> Option<Cause>
 }
 
 impl DebugHart {
-    /// The hart of a number below 4 as reset leaves it.
+    /// The hart of a number below 4 as reset leaves it, of release 1.0.
     pub fn new(id: u8, start: Start) -> Self
         requires { id < 4 }
-        ensures { result ≡ reset_hart id (start_cause start) }
+        ensures { result ≡ reset_hart V10 id (start_cause start) }
+    {
+        DebugHart::of_version(id, start, Version::V10)
+    }
+
+    /// The same of a release.
+    pub fn of_version(id: u8, start: Start, version: Version) -> Self
+        requires { id < 4 }
+        ensures { result ≡ reset_hart version id (start_cause start) }
     {
         DebugHart {
             hart: Hart::new(id),
@@ -82,7 +92,7 @@ impl DebugHart {
             step: false,
             stepie: false,
             ebreakm: false,
-            slots: Slots::new(),
+            slots: Slots::of_version(version),
         }
     }
 
@@ -107,7 +117,7 @@ impl DebugHart {
         self.halted
     }
 
-    /// Sets or clears `dcsr.step`: a hart with it halts behind each instruction or trap.
+    /// Sets or clears `dcsr.step`: a hart with it halts behind each instruction, trap or interrupt.
     pub fn set_step(&mut self, on: bool)
         ensures { self.new ≡ with_debug (step_set on) self.old }
     {

@@ -1,3 +1,4 @@
+mod interrupts;
 mod program_buffer;
 mod registers;
 mod triggers;

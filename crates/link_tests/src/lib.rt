@@ -13,6 +13,10 @@ mod fault;
 #[cfg(test)]
 mod operations;
 #[cfg(test)]
+mod quiet_wire;
+#[cfg(test)]
+mod releases;
+#[cfg(test)]
 mod run_control;
 #[cfg(test)]
 mod several;

@@ -67,27 +67,10 @@ back_told x8 x9 p q h bus x base w old new all is8 is9 st s =
 -- ---- the program
 
 abbrev pub with_program : ℕ → Kept → Kept
-with_program word k = record {
-  data0 = k.data0;
-  data1 = k.data1;
-  progbuf0 = word;
-  progbuf1 = ebreak_word;
-  progbuf2 = k.progbuf2;
-  progbuf3 = k.progbuf3;
-  command = k.command;
-}
+with_program word k = record k { progbuf0 = word; progbuf1 = ebreak_word }
 
 abbrev pub with_first : ℕ → Kept → Kept
-with_first word k = record {
-  data0 = k.data0;
-  data1 = k.data1;
-  progbuf0 = word;
-  progbuf1 = k.progbuf1;
-  progbuf2 = k.progbuf2;
-  progbuf3 = k.progbuf3;
-  command =
-      k.command;
-}
+with_first word k = record k { progbuf0 = word }
 
 -- the program is there, and the data words hold the address
 abbrev pub set_up : ℕ → ℕ → Kept → Kept

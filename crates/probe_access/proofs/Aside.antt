@@ -34,7 +34,7 @@ abbrev pub accessed : Memory → Site → Site
 accessed m s = record { unit = s.unit; board = record { harts = s.board.harts; memory = m }; journal = s.journal ++ Access ∷ [] }
 
 abbrev pub with_unit : CommandUnit → DebugModule → DebugModule
-with_unit c m = record { active = m.active; hartsel = m.hartsel; commands = c; bus = m.bus }
+with_unit c m = record m { commands = c }
 
 -- a hart that stays halted: no resume is asked of it
 pub record Frozen (hart : Hart) : Type 0 where

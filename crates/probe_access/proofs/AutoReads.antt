@@ -109,6 +109,7 @@ load_rests c e given v y base k f d below program = record {
   frozen = d.frozen;
   moves = transfer_does by_data0 c (begun k) y;
   idle = f.idle;
+  version = refl;
   advance = program.second;
   ebreak = program.third;
   decides = subst (λ n. (m : Memory) → WordDid (NextLoads e given y) (NextRefuses e given) n y m) (sym program.first)

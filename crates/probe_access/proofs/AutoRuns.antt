@@ -81,6 +81,7 @@ stage_rests e C P Q word size most h bus w i y base k es c below program = recor
   frozen = es.frozen i y base c;
   moves = transfer_does by_data0 e (begun k) y;
   idle = es.idle;
+  version = refl;
   advance = program.second;
   ebreak = program.third;
   decides = subst (λ n. (m : Memory) → WordDid (P i y) (Q i) n y m) (sym program.first) (es.decides i y base c below);
@@ -115,7 +116,7 @@ run_ran C P Q word size most h bus w b ds s t es within is (refused i y base k b
 -- ---- a write of data0
 
 abbrev pub started : Cmderr → Kept → ℕ → BusUnit → DebugModule
-started e k h bus = record { active = true; hartsel = h; commands = started_by e (commands_at by_data0 Fine (begun k) []); bus = bus }
+started e k h bus = record { version = k.version; active = true; hartsel = h; commands = started_by e (commands_at by_data0 Fine (begun k) []); bus = bus }
 
 -- it starts the command
 write_starts : (v : ℕ) (k : Kept) (h : ℕ) (bus : BusUnit) (y : Hart) (z : Site) (w : Hart) → HartAt h z w → Frozen y

@@ -16,7 +16,7 @@ use Rattle.probe_access.proofs.Turns.{passed-append, unit_passed}
 
 abbrev pub at_bus : BusUnit → Site → Site
 at_bus u s = record {
-  unit = record { active = s.unit.active; hartsel = s.unit.hartsel; commands = s.unit.commands; bus = u };
+  unit = record s.unit { bus = u };
   board = s.board;
   journal =
       s.journal;

@@ -44,7 +44,7 @@ step_made p base harts pends =
     let z : Site = passed harts base in
     let d : BusDone = done_behind harts p base in
     ap (λ b. let t : Site = record {
-      unit = record { active = z.unit.active; hartsel = z.unit.hartsel; commands = z.unit.commands; bus = d.unit };
+      unit = record z.unit { bus = d.unit };
       board =
           record { harts = z.board.harts; memory = d.memory };
       journal = z.journal ++ access_points b;

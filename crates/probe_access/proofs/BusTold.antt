@@ -224,7 +224,7 @@ value_whole B8 v low high small is_low is_high = omega arith
 -- ---- one access
 
 abbrev pub unit_like : DebugModule → BusUnit → DebugModule
-unit_like m u = record { active = m.active; hartsel = m.hartsel; commands = m.commands; bus = u }
+unit_like m u = record m { bus = u }
 
 pub bus_one_access : (u : BusUnit) (n : Memory) (m : Memory → Memory) (before : List ℕ) (base t : Site) → (a : AtBus u (accessed n (passed before base)) t)
     → n ≡ m (passed before base).board.memory

@@ -55,7 +55,7 @@ early_commands k number late = record {
 }
 
 abbrev pub early_unit : Kept → ℕ → Bool → ℕ → BusUnit → DebugModule
-early_unit k number late h bus = record { active = true; hartsel = h; commands = early_commands k number late; bus = bus }
+early_unit k number late h bus = record { version = k.version; active = true; hartsel = h; commands = early_commands k number late; bus = bus }
 
 abbrev pub late_unit : Kept → ℕ → ℕ → ℕ → BusUnit → DebugModule
 late_unit k number v h bus = unit_with (words_behind false number v k) Busy [] h bus
@@ -125,16 +125,7 @@ data1_read_keeps h bus y base z (early k number v late held (done harts is)) =
 data1_read_keeps h bus y base z (over k e set d) = over k e set (record { harts = d.harts; is = ap (operated (Read data1_address)) d.is })
 
 abbrev pub with_data1 : ℕ → Kept → Kept
-with_data1 v k = record {
-  data0 = k.data0;
-  data1 = v;
-  progbuf0 = k.progbuf0;
-  progbuf1 = k.progbuf1;
-  progbuf2 = k.progbuf2;
-  progbuf3 = k.progbuf3;
-  command =
-      k.command;
-}
+with_data1 v k = record k { data1 = v }
 
 pub data0_write_keeps : (v h : ℕ) (bus : BusUnit) (y : Hart) (base : Site) → KeepsErred h bus y base (Write data0_address v)
 unfolding register_at

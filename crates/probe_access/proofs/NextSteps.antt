@@ -1,6 +1,6 @@
 -- A register goes into the data words, and behind it the program buffer makes an access and raises the address, while turns pass: the access is made at one
 -- moment, and from there on memory is as it left it.
-use Rattle.std.proofs.Common.{◌≡◌, ◌∙◌, ◌+◌, ◌%◌, ◌^◌, ◌/◌, ℕ, List, [], ◌∷◌, ◌++◌, true, false, Some, None, refl, ap}
+use Rattle.std.proofs.Common.{◌≡◌, ◌∙◌, ◌+◌, ◌%◌, ◌^◌, ◌/◌, ℕ, List, [], ◌∷◌, ◌++◌, true, false, Some, None, refl, sym, ap}
 use Rattle.rv_model.specs.declared.debug_did.DebugDid.TheVariants as ended
 use Rattle.rv_model.specs.declared.size.Size.{Size}
 use Rattle.rv_model.specs.declared.size.Size.TheVariants.{B1, B2, B4, B8}
@@ -54,15 +54,7 @@ advanced_frozen size z f = record { why = f.why; halted = f.halted; not_asked = 
 
 -- the data words hold the value
 abbrev pub holding : ℕ → Kept → Kept
-holding v k = record {
-  data0 = v % 2 ^ 32;
-  data1 = v / 2 ^ 32;
-  progbuf0 = k.progbuf0;
-  progbuf1 = k.progbuf1;
-  progbuf2 = k.progbuf2;
-  progbuf3 = k.progbuf3;
-  command = k.command;
-}
+holding v k = record k { data0 = v % 2 ^ 32; data1 = v / 2 ^ 32 }
 
 -- the transfer comes first
 abbrev pub all_next : Kept → List Micro
@@ -89,7 +81,7 @@ commands_at a e k steps = record {
 }
 
 abbrev pub going : Abstractauto → Cmderr → Kept → List Micro → ℕ → BusUnit → DebugModule
-going a e k steps h bus = record { active = true; hartsel = h; commands = commands_at a e k steps; bus = bus }
+going a e k steps h bus = record { version = k.version; active = true; hartsel = h; commands = commands_at a e k steps; bus = bus }
 
 pub transfer_does : (a : Abstractauto) (e : Cmderr) (k : Kept) (y : Hart)
     → Does y (commands_at a e k (all_next k)) y (commands_at a e (holding (x_of y.core 9) k) (program_of (holding (x_of y.core 9) k)))
@@ -143,6 +135,7 @@ pub record NextRunning (a : Abstractauto) (e : Cmderr) (P : Memory → Hart → 
   pub frozen : Frozen y
   pub moves : Does y (commands_at a e k (all_next k)) y (commands_at a e j (program_of j))
   pub idle : bus.pending ≡ None
+  pub version : j.version ≡ k.version
   pub advance : j.progbuf1 ≡ advance_word size
   pub ebreak : j.progbuf2 ≡ ebreak_word
   pub decides : (m : Memory) → WordDid P Q j.progbuf0 y m
@@ -198,7 +191,9 @@ next_step a e P Q size k j h bus y base w s r (at_transfer harts is) =
     at_start harts
     (ap command_stepped is
     ∙ does_aside (going a e k (all_next k) h bus) h y (passed harts base) w (Transfer next_command) (program_of k) y (commands_at a e j (program_of j))
-    (stays_passed h harts base w r.held.here r.held.frozen) refl refl r.moves)
+    (stays_passed h harts base w r.held.here r.held.frozen) refl refl r.moves
+    ∙ ap (λ v. let m : DebugModule = record { version = v; active = true; hartsel = h; commands = commands_at a e j (program_of j); bus = bus } in
+    aside m h y (passed harts base)) (sym r.version))
 next_step a e P Q size k j h bus y base w s r (at_start harts is) = next_first a e P Q size k j h bus y base w harts s r is (r.decides (passed harts base).board.memory)
 next_step a e P Q size k j h bus y base w s r (in_middle before harts z n p fz is) =
     in_third before harts z n p fz

@@ -60,6 +60,7 @@ next_runs P Q size h bus y base w k held fy idle advance ebreak decides = record
   frozen = fy;
   moves = transfer_does no_auto Fine (begun k) y;
   idle = idle;
+  version = refl;
   advance = advance;
   ebreak = ebreak;
   decides = decides;

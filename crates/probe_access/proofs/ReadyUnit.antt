@@ -1,5 +1,6 @@
 -- A module that is ready, by its words: what a site is to which turns came, while one hart is held aside; and one operation there.
 use Rattle.std.proofs.Common.{◌≡◌, ◌∙◌, ◌++◌, ℕ, List, [], Bool, true, false, Option, Some, None, refl, sym, ap, is_some}
+use Rattle.rv_model.specs.declared.version.Version.{Version}
 use Rattle.rv_model.specs.declared.cause.Cause.{Cause}
 use Rattle.rv_model.specs.Board.{Hart}
 use Rattle.debug_model.specs.declared.abstract_command.AbstractCommand.{AbstractCommand}
@@ -22,6 +23,7 @@ use Rattle.probe_access.proofs.Turns.{aside_itself, aside_passed, passed-append,
 -- ---- by its words
 
 pub record Kept : Type 0 where
+  pub version : Version
   pub data0 : ℕ
   pub data1 : ℕ
   pub progbuf0 : ℕ
@@ -46,21 +48,21 @@ commands_of k error steps = record {
 }
 
 abbrev pub unit_with : Kept → Cmderr → List Micro → ℕ → BusUnit → DebugModule
-unit_with k error steps h bus = record { active = true; hartsel = h; commands = commands_of k error steps; bus = bus }
+unit_with k error steps h bus = record { version = k.version; active = true; hartsel = h; commands = commands_of k error steps; bus = bus }
 
 abbrev pub unit_of : Kept → ℕ → BusUnit → DebugModule
 unit_of k h bus = unit_with k Fine [] h bus
 
-abbrev pub kept_of : CommandUnit → Kept
-kept_of u = record {
-  data0 = u.data0;
-  data1 = u.data1;
-  progbuf0 = u.progbuf0;
-  progbuf1 = u.progbuf1;
-  progbuf2 = u.progbuf2;
-  progbuf3 = u.progbuf3;
-  command =
-      u.command;
+abbrev pub kept_of : DebugModule → Kept
+kept_of m = record {
+  version = m.version;
+  data0 = m.commands.data0;
+  data1 = m.commands.data1;
+  progbuf0 = m.commands.progbuf0;
+  progbuf1 = m.commands.progbuf1;
+  progbuf2 = m.commands.progbuf2;
+  progbuf3 = m.commands.progbuf3;
+  command = m.commands.command;
 }
 
 abbrev commands_like : CommandUnit → Abstractauto → Cmderr → List Micro → Bool → CommandUnit
@@ -85,18 +87,18 @@ commands_by u auto error steps late p q r s =
     ap (λ a. commands_like u a u.error u.steps u.late) p ∙ ap (λ e. commands_like u auto e u.steps u.late) q
     ∙ ap (λ ms. commands_like u auto error ms u.late) r ∙ ap (commands_like u auto error steps) s
 
-ready_commands : (u : CommandUnit) → CommandsReady u → u ≡ commands_of (kept_of u) Fine []
-ready_commands u r = commands_by u no_auto Fine [] false r.no_autoexec r.fine r.idle r.none_late
+ready_commands : (m : DebugModule) → CommandsReady m.commands → m.commands ≡ commands_of (kept_of m) Fine []
+ready_commands m r = commands_by m.commands no_auto Fine [] false r.no_autoexec r.fine r.idle r.none_late
 
 abbrev module_like : DebugModule → Bool → ℕ → CommandUnit → DebugModule
-module_like m active h u = record { active = active; hartsel = h; commands = u; bus = m.bus }
+module_like m active h u = record m { active = active; hartsel = h; commands = u }
 
 module_by : (m : DebugModule) (active : Bool) (h : ℕ) (u : CommandUnit) → m.active ≡ active → m.hartsel ≡ h → m.commands ≡ u → m ≡ module_like m active h u
 module_by m active h u p q r =
     ap (λ a. module_like m a m.hartsel m.commands) p ∙ ap (λ g. module_like m active g m.commands) q ∙ ap (module_like m active h) r
 
-pub ready_unit : (m : DebugModule) (h : ℕ) → ModuleReady m → m.hartsel ≡ h → m ≡ unit_of (kept_of m.commands) h m.bus
-ready_unit m h r is = module_by m true h (commands_of (kept_of m.commands) Fine []) r.active is (ready_commands m.commands r.commands)
+pub ready_unit : (m : DebugModule) (h : ℕ) → ModuleReady m → m.hartsel ≡ h → m ≡ unit_of (kept_of m) h m.bus
+ready_unit m h r is = module_by m true h (commands_of (kept_of m) Fine []) r.active is (ready_commands m r.commands)
 
 -- ---- a site that serves
 
@@ -116,7 +118,7 @@ halted_held h s ready halted = record {
 }
 
 pub at_first : (h : ℕ) (s : Site) (x : Hart) → ModuleReady s.unit → s.unit.hartsel ≡ h → HartAt h s x
-    → DoneAt (unit_of (kept_of s.unit.commands) h s.unit.bus) h x s s
+    → DoneAt (unit_of (kept_of s.unit) h s.unit.bus) h x s s
 unfolding passed
 at_first h s x ready selected here = record {
   harts = [];

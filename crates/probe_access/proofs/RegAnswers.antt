@@ -29,7 +29,7 @@ use Rattle.rv_model.proofs.MapLemmas.{set_same}
 -- ---- from a ready site, and back to one
 
 pub first_stood : (h : ℕ) (s : Site) (ready : SiteReady s) (halted : HartHalted h s.board) → s.unit.hartsel ≡ h
-    → Stood h s.unit.bus halted.hart s halted.hart (kept_of s.unit.commands) s
+    → Stood h s.unit.bus halted.hart s halted.hart (kept_of s.unit) s
 first_stood h s ready halted selected =
     let held : Held h halted.hart s = halted_held h s ready halted in
     record { held = held; frozen = held.frozen; idle = ready.unit.bus.idle; at = at_first h s halted.hart ready.unit selected halted.is }

@@ -34,7 +34,7 @@ use Rattle.probe_access.proofs.Turns.{stays_passed, hart_aside}
 pub first_told : (h : ℕ) (f : Far) (ready : SiteReady (site_of f)) (halted : HartHalted h (site_of f).board) → (site_of f).unit.hartsel ≡ h
     → StoodTold h (site_of f).unit.bus halted.hart (site_of f) halted.hart (Some f)
 first_told h f ready halted selected = record
-    { far = f; is = refl; kept = kept_of (site_of f).unit.commands; stood = first_stood h (site_of f) ready halted selected }
+    { far = f; is = refl; kept = kept_of (site_of f).unit; stood = first_stood h (site_of f) ready halted selected }
 
 -- ---- what holds of a chip again
 

@@ -104,29 +104,10 @@ words_got low high h bus y base w k s t st p =
     }
 
 abbrev pub with_double : ℕ → Kept → Kept
-with_double v k =
-    record {
-      data0 = low_half v;
-      data1 = high_half v;
-      progbuf0 = k.progbuf0;
-      progbuf1 = k.progbuf1;
-      progbuf2 = k.progbuf2;
-      progbuf3 = k.progbuf3;
-      command =
-          k.command;
-    }
+with_double v k = record k { data0 = low_half v; data1 = high_half v }
 
 abbrev pub with_data0 : ℕ → Kept → Kept
-with_data0 v k = record {
-  data0 = v;
-  data1 = k.data1;
-  progbuf0 = k.progbuf0;
-  progbuf1 = k.progbuf1;
-  progbuf2 = k.progbuf2;
-  progbuf3 = k.progbuf3;
-  command =
-      k.command;
-}
+with_data0 v k = record k { data0 = v }
 
 -- ---- writes that change the words alone, one after another
 

@@ -69,6 +69,7 @@ hart_with x xs = record {
     x = xs;
     pc = x.core.pc;
     mstatus = x.core.mstatus;
+    mie = x.core.mie;
     mtvec = x.core.mtvec;
     mscratch = x.core.mscratch;
     mepc = x.core.mepc;

@@ -43,15 +43,7 @@ use Rattle.probe_access.proofs.WordAccess.{StoreFaults, Stores, store_did}
 -- ---- the program
 
 abbrev with_words : ℕ → ℕ → ℕ → Kept → Kept
-with_words first second third k = record {
-  data0 = k.data0;
-  data1 = k.data1;
-  progbuf0 = first;
-  progbuf1 = second;
-  progbuf2 = third;
-  progbuf3 = k.progbuf3;
-  command = k.command;
-}
+with_words first second third k = record k { progbuf0 = first; progbuf1 = second; progbuf2 = third }
 
 abbrev pub with_block : ℕ → Size → Kept → Kept
 with_block word size k = with_words word (advance_word size) ebreak_word k

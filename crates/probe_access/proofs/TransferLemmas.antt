@@ -26,7 +26,9 @@ use Rattle.std.proofs.Common.{
   ap,
   subst,
   cond,
+  if◌then◌else◌,
 }
+use Rattle.rv_model.specs.declared.version.Version.{Version}
 use Rattle.rv_model.specs.declared.cause.Cause.{Cause}
 use Rattle.rv_model.specs.Board.{Hart}
 use Rattle.rv_model.specs.DebugLaws.{WriteKeeps}
@@ -144,29 +146,21 @@ shown_error s last on is =
 -- ---- the start of a command
 
 abbrev pub with_command : AbstractCommand → Kept → Kept
-with_command c k = record {
-  data0 = k.data0;
-  data1 = k.data1;
-  progbuf0 = k.progbuf0;
-  progbuf1 = k.progbuf1;
-  progbuf2 = k.progbuf2;
-  progbuf3 = k.progbuf3;
-  command = c;
-}
+with_command c k = record k { command = c }
 
-abbrev started_unit : Cmderr → CommandUnit → ℕ → BusUnit → DebugModule
-started_unit e u h bus = record { active = true; hartsel = h; commands = started_by e u; bus = bus }
+abbrev started_unit : Version → Cmderr → CommandUnit → ℕ → BusUnit → DebugModule
+started_unit v e u h bus = record { version = v; active = true; hartsel = h; commands = started_by e u; bus = bus }
 
 -- by why it is refused
 pub command_starts : (word : ℕ) (c : AbstractCommand) (why : Cmderr) (k : Kept) (h : ℕ) (bus : BusUnit) (y : Hart) (z : Site) (w : Hart) → HartAt h z w
     → command_of word ≡ c → refusal (Some y) c ≡ why
-    → after_write command_address word (aside (unit_of k h bus) h y z) ≡ aside (started_unit why (commands_of (with_command c k) Fine []) h bus) h y z
+    → after_write command_address word (aside (unit_of k h bus) h y z) ≡ aside (started_unit k.version why (commands_of (with_command c k) Fine []) h bus) h y z
 unfolding register_at
 command_starts word c why k h bus y z w here is reason =
-    ap (λ o. aside (started_unit (refusal o (command_of word)) (commands_of (with_command (command_of word) k) Fine []) h bus) h y z)
+    ap (λ o. aside (started_unit k.version (refusal o (command_of word)) (commands_of (with_command (command_of word) k) Fine []) h bus) h y z)
     (hart_aside (unit_of k h bus) h y z w here)
-    ∙ ap (λ (d : AbstractCommand). aside (started_unit (refusal (Some y) d) (commands_of (with_command d k) Fine []) h bus) h y z) is
-    ∙ ap (λ e. aside (started_unit e (commands_of (with_command c k) Fine []) h bus) h y z) reason
+    ∙ ap (λ (d : AbstractCommand). aside (started_unit k.version (refusal (Some y) d) (commands_of (with_command d k) Fine []) h bus) h y z) is
+    ∙ ap (λ e. aside (started_unit k.version e (commands_of (with_command c k) Fine []) h bus) h y z) reason
 
 -- ---- why a transfer is refused
 
@@ -236,18 +230,11 @@ refused_ends word last n m h y base w t held fy on idle none c starts =
 
 -- the words and the hart behind it
 abbrev pub words_behind : Bool → ℕ → ℕ → Kept → Kept
-words_behind true number v k = with_command (transfer_command true number) k
-words_behind false number v k =
-    record {
-      data0 = v % 2 ^ 32;
-      data1 = v / 2 ^ 32;
-      progbuf0 = k.progbuf0;
-      progbuf1 = k.progbuf1;
-      progbuf2 = k.progbuf2;
-      progbuf3 = k.progbuf3;
-      command =
-          transfer_command false number;
-    }
+words_behind write number v k = record k {
+  data0 = if write then k.data0 else v % 2 ^ 32;
+  data1 = if write then k.data1 else v / 2 ^ 32;
+  command = transfer_command write number;
+}
 
 abbrev pub hart_behind : Bool → ℕ → Kept → Hart → Hart
 hart_behind true number k y = debug_written y number (joined_halves k.data0 k.data1)

@@ -46,6 +46,7 @@ pc_wide c v w p = record {
   x = w.x;
   pc = omega arith;
   mstatus = w.mstatus;
+  mie = w.mie;
   mtvec = w.mtvec;
   mscratch = w.mscratch;
   mepc = w.mepc;

@@ -7,9 +7,8 @@ use Rattle.rv_model.specs.declared.touch.Touch.{Touch}
 use Rattle.rv_model.specs.Board.{DebugPart, Hart}
 use Rattle.rv_model.specs.Effects.{Outcome}
 use Rattle.rv_model.specs.Memory.{Memory}
-use Rattle.rv_model.specs.Turn.{place_by, place_of, some_fires, stops_at_ebreak}
+use Rattle.rv_model.specs.Turn.{place_by, place_of, some_fires, stops_at_ebreak, turn_outcome}
 use Rattle.rv_model.specs.Touch.{touch_of}
-use Rattle.rv_model.specs.Execute.{exec_of}
 
 -- ---- what a turn makes of a hart's requests
 
@@ -56,7 +55,7 @@ pub hart_turned : (x : Hart) (m : Memory) → Turned x.debug (place_of x m).hart
 unfolding place_of
 hart_turned x m =
     place_turned x.debug.halted x.debug.resume_request x.debug.halt_request (some_fires (touch_of x.core m) x) (stops_at_ebreak x m) (touch_of x.core m)
-    (exec_of x.core m) x refl refl
+    (turn_outcome x m) x refl refl
 
 -- ---- what is known of the harts' requests
 

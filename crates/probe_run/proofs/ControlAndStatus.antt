@@ -1,10 +1,13 @@
 -- The words of dmcontrol and dmstatus read back: what a request asks for, and what a Look shows.
 use Rattle.std.proofs.Common.{◌≡◌, ◌∙◌, ◌<◌, ◌^◌, ◌==◌, ℕ, Bool, true, false, Option, Some, None, refl, ap, arith, is_some, if◌then◌else◌}
+use Rattle.rv_model.specs.declared.version.Version.{Version}
+use Rattle.rv_model.specs.declared.version.Version.TheVariants.{V013, V10}
+use Rattle.rv_model.specs.Version.{version_number}
 use Rattle.rv_model.specs.declared.cause.Cause.{Cause}
 use Rattle.rv_model.specs.Board.{Hart}
 use Rattle.debug_model.specs.declared.dmcontrol.Dmcontrol.{Dmcontrol}
 use Rattle.debug_model.specs.Dmi.{value_of}
-use Rattle.debug_model.specs.Module.{hart_status, module_version}
+use Rattle.debug_model.specs.Module.{hart_status}
 use Rattle.debug_model.specs.ModuleWords.{dmcontrol_of, dmstatus_word}
 use Rattle.abstract_debugger.specs.Debugger.{seen_by, seen_here}
 use Rattle.probe_run.specs.declared.control.Request.{Request}
@@ -48,7 +51,7 @@ control_read Resume h small =
 
 -- ---- dmstatus
 
-status_read : (reset ack : Bool) (halted : Option Cause)
+status_read : (v : Version) (reset ack : Bool) (halted : Option Cause)
     → seen_in (value_of (dmstatus_word (record {
       havereset = reset;
       resumeack = ack;
@@ -56,18 +59,27 @@ status_read : (reset ack : Bool) (halted : Option Cause)
       running = if is_some halted then false else true;
       halted = is_some halted;
       authenticated = true;
-      version = module_version;
+      version = version_number v;
     }))) ≡ seen_by halted ack
-status_read true true (Some why) = refl
-status_read true true None = refl
-status_read true false (Some why) = refl
-status_read true false None = refl
-status_read false true (Some why) = refl
-status_read false true None = refl
-status_read false false (Some why) = refl
-status_read false false None = refl
+status_read V013 true true (Some why) = refl
+status_read V013 true true None = refl
+status_read V013 true false (Some why) = refl
+status_read V013 true false None = refl
+status_read V013 false true (Some why) = refl
+status_read V013 false true None = refl
+status_read V013 false false (Some why) = refl
+status_read V013 false false None = refl
+status_read V10 true true (Some why) = refl
+status_read V10 true true None = refl
+status_read V10 true false (Some why) = refl
+status_read V10 true false None = refl
+status_read V10 false true (Some why) = refl
+status_read V10 false true None = refl
+status_read V10 false false (Some why) = refl
+status_read V10 false false None = refl
 
 -- a Look shows the hart as it is
-pub seen_status : (o : Option Hart) → seen_in (value_of (dmstatus_word (hart_status o))) ≡ seen_here o
-seen_status (Some x) = status_read x.debug.have_reset x.debug.resume_ack x.debug.halted
-seen_status None = refl
+pub seen_status : (v : Version) (o : Option Hart) → seen_in (value_of (dmstatus_word (hart_status v o))) ≡ seen_here o
+seen_status v (Some x) = status_read v x.debug.have_reset x.debug.resume_ack x.debug.halted
+seen_status V013 None = refl
+seen_status V10 None = refl

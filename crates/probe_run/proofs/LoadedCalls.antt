@@ -1,6 +1,7 @@
 -- The opening of a chip that is told as it was loaded: Ok leaves it ready, and no register is refused.
 use Rattle.std.proofs.Common.{◌≡◌, ◌∙◌, ◌++◌, ℕ, List, [], ◌∷◌, map, Bool, true, false, Option, Some, None, refl, sym, ap, subst, append-nil}
 use Rattle.std.proofs.lemmas.Bool.{false≢true}
+use Rattle.rv_model.specs.declared.version.Version.TheVariants.{V10}
 use Rattle.debug_model.specs.Addresses.{dmcontrol_address, dmstatus_address, abstractcs_address, abstractauto_address, sbcs_address}
 use Rattle.debug_model.specs.declared.dmi.DmiFault.{DmiFault}
 use Rattle.debug_model.specs.declared.dmi_op.DmiOp.{DmiOp}
@@ -50,34 +51,34 @@ pub far_call : (acts : List Act) (E : Site → Site → Type 0) (m : Far) (mid n
 far_call acts E m mid new at leads d = let r : FarRan acts m new.far = far_ran mid m at acts new d in
     record { far = r.far; is = r.is; holds = leads (site_of r.far) r.ran }
 
-at_transport : (f : Far) (old mid : Tells) → old.far ≡ Some f → Fresh reset_module (site_of f) → (word : ℕ) → Did old (Scanned word ∷ []) mid
-    → CallRan (λ s t. On reset_module s t × (transport_fits word ≡ true)) f mid.far
-at_transport f old mid at fresh word d = far_call (Scanned word ∷ []) (λ s t. On reset_module s t × (transport_fits word ≡ true)) f old mid at
+at_transport : (f : Far) (old mid : Tells) → old.far ≡ Some f → Fresh (reset_module V10) (site_of f) → (word : ℕ) → Did old (Scanned word ∷ []) mid
+    → CallRan (λ s t. On (reset_module V10) s t × (transport_fits word ≡ true)) f mid.far
+at_transport f old mid at fresh word d = far_call (Scanned word ∷ []) (λ s t. On (reset_module V10) s t × (transport_fits word ≡ true)) f old mid at
     (λ t ran. transport_on word (site_of f) t fresh ran) d
 
-up_to_module : (f : Far) (old mid : Tells) → old.far ≡ Some f → Fresh reset_module (site_of f) → UpToModule old mid → CallRan (On active_unit) f mid.far
+up_to_module : (f : Far) (old mid : Tells) → old.far ≡ Some f → Fresh (reset_module V10) (site_of f) → UpToModule old mid → CallRan (On active_unit) f mid.far
 up_to_module f old mid at fresh u =
     let a = at_transport f old u.mid at fresh u.first.0 u.first.1.did in
     let b : CallRan (On active_unit) a.far mid.far =
     far_call _ (On active_unit) a.far u.mid mid a.is (λ t ran. (activated_on u.second.vain u.second.last (site_of a.far) t a.holds.0.fresh ran).0) u.second.did
     in
-    record { far = b.far; is = b.is; holds = on_on reset_module active_unit (site_of f) (site_of a.far) (site_of b.far) a.holds.0 b.holds }
+    record { far = b.far; is = b.is; holds = on_on (reset_module V10) active_unit (site_of f) (site_of a.far) (site_of b.far) a.holds.0 b.holds }
 
-up_to_commands : (f : Far) (old mid : Tells) → old.far ≡ Some f → Fresh reset_module (site_of f) → UpToCommands old mid → CallRan (After active_unit) f mid.far
+up_to_commands : (f : Far) (old mid : Tells) → old.far ≡ Some f → Fresh (reset_module V10) (site_of f) → UpToCommands old mid → CallRan (After active_unit) f mid.far
 up_to_commands f old mid at fresh u =
     let a : CallRan (On active_unit) f u.mid.far = up_to_module f old u.mid at fresh u.first in
     let b : CallRan (After active_unit) a.far mid.far =
     far_call _ (After active_unit) a.far u.mid mid a.is (λ t ran. (module_after u.second.0 (site_of a.far) t a.holds.fresh ran).0) u.second.1.did in
     record { far = b.far; is = b.is; holds = on_after active_unit active_unit (site_of f) (site_of a.far) (site_of b.far) a.holds b.holds }
 
-up_to_bus : (f : Far) (old mid : Tells) → old.far ≡ Some f → Fresh reset_module (site_of f) → UpToBus old mid → CallRan (After active_unit) f mid.far
+up_to_bus : (f : Far) (old mid : Tells) → old.far ≡ Some f → Fresh (reset_module V10) (site_of f) → UpToBus old mid → CallRan (After active_unit) f mid.far
 up_to_bus f old mid at fresh u =
     let a : CallRan (After active_unit) f u.mid.far = up_to_commands f old u.mid at fresh u.first in
     let b : CallRan (On active_unit) a.far mid.far =
     far_call _ (On active_unit) a.far u.mid mid a.is (λ t ran. (commands_on u.second.0 (site_of a.far) t a.holds.fresh ran).0) u.second.1.did in
     record { far = b.far; is = b.is; holds = after_on active_unit active_unit (site_of f) (site_of a.far) (site_of b.far) a.holds b.holds }
 
-fit_bus : (f : Far) (old mid : Tells) → old.far ≡ Some f → Fresh reset_module (site_of f) → Then UpToBus BusFits old mid → CallRan (After active_unit) f mid.far
+fit_bus : (f : Far) (old mid : Tells) → old.far ≡ Some f → Fresh (reset_module V10) (site_of f) → Then UpToBus BusFits old mid → CallRan (After active_unit) f mid.far
 fit_bus f old mid at fresh u =
     let a : CallRan (After active_unit) f u.mid.far = up_to_bus f old u.mid at fresh u.first in
     let b : CallRan (On active_unit) a.far mid.far =
@@ -89,7 +90,7 @@ fit_bus f old mid at fresh u =
 fresh_ready : (t : Site) → Fresh opened_unit t → SiteReady t
 fresh_ready t f = between_ready 0 t (record { unit = subst (λ m. ModuleReady m) (sym f.unit) opened_ready; wide = f.wide; harts = f.harts })
 
-opens : (f : Far) (old new : Tells) → old.far ≡ Some f → Fresh reset_module (site_of f) → Opened old new → OpenedChip f new.far
+opens : (f : Far) (old new : Tells) → old.far ≡ Some f → Fresh (reset_module V10) (site_of f) → Opened old new → OpenedChip f new.far
 opens f old new at fresh o =
     let a : CallRan (After active_unit) f o.second.mid.far =
     fit_bus f old o.second.mid at fresh (record { mid = o.mid; first = o.first; second = o.second.first }) in
@@ -193,8 +194,8 @@ several_after op ops u f m mid old_count new_count new fault quiet after at b =
     }
 
 -- dmactive is written, and dmcontrol read
-first_quietly : Quietly (Write dmcontrol_address (control_word Nothing 0) ∷ Read dmcontrol_address ∷ []) reset_module
-first_quietly = goes _ _ reset_module active_unit reset_quiet activates
+first_quietly : Quietly (Write dmcontrol_address (control_word Nothing 0) ∷ Read dmcontrol_address ∷ []) (reset_module V10)
+first_quietly = goes _ _ (reset_module V10) active_unit reset_quiet activates
     (goes _ _ active_unit active_unit active_quiet (reads_control active_unit) (done active_unit active_quiet))
 
 -- the errors of commands are cleared, and sbcs is read
@@ -207,14 +208,14 @@ bus_quietly =
 stays_on : (v : DebugModule) (s t : Site) → Fresh v s → Ran [] s t → On v s t
 stays_on v s t f is = subst (λ x. On v s x) (sym is) (record { fresh = f; went = record { harts = []; board = refl; journal = sym (append-nil s.journal) } })
 
-scan_cut : (f : Far) (old : Tells) (old_count new_count : ℕ) (new : Option Far) (fault : DmiFault) → old.far ≡ Some f → Fresh reset_module (site_of f)
+scan_cut : (f : Far) (old : Tells) (old_count new_count : ℕ) (new : Option Far) (fault : DmiFault) → old.far ≡ Some f → Fresh (reset_module V10) (site_of f)
     → Broke [] Scan old_count new_count old new fault → UnopenedChip f new
 scan_cut f old old_count new_count new fault at fresh b =
     let r : FarRan [] f b.mid.far = far_ran old f at [] b.mid b.did in
     let c : NoneOperated r.far.live.chip new = where_told NoneOperated b.mid.far new r.far r.is b.cut in
-    let same : Fresh reset_module (site_of r.far) = subst (λ x. Fresh reset_module x) (sym r.ran) fresh in
+    let same : Fresh (reset_module V10) (site_of r.far) = subst (λ x. Fresh (reset_module V10) x) (sym r.ran) fresh in
     let g : WentOn (target_of (site_of r.far)) (target_of (site_of c.far)) =
-    went_alone (site_of r.far) (site_of c.far) (fresh_deeds reset_module (site_of r.far) (site_of c.far) reset_quiet same c.site) in
+    went_alone (site_of r.far) (site_of c.far) (fresh_deeds (reset_module V10) (site_of r.far) (site_of c.far) reset_quiet same c.site) in
     record { far = c.far; is = c.is; happened = Cut.before (subst (λ (x : Site). WentOn (target_of x) (target_of (site_of c.far))) r.ran g) }
 
 look_cut : (f m : Far) (mid : Tells) (old_count new_count : ℕ) (new : Option Far) (fault : DmiFault) → On active_unit (site_of f) (site_of m) → mid.far ≡ Some m
@@ -234,10 +235,10 @@ look_cut f m mid old_count new_count new fault on at b =
     turned_cut old mid new w (Cut.before q) = Cut.before (turns_went old mid new w q)
     turned_cut old mid new w (Cut.behind p) = Cut.behind (turns_pointed old mid new 0 w p)
 
-starts_on : (f : Far) → Fresh reset_module (site_of f) → On reset_module (site_of f) (site_of f)
-starts_on f fresh = stays_on reset_module (site_of f) (site_of f) fresh refl
+starts_on : (f : Far) → Fresh (reset_module V10) (site_of f) → On (reset_module V10) (site_of f) (site_of f)
+starts_on f fresh = stays_on (reset_module V10) (site_of f) (site_of f) fresh refl
 
-opening_cut : (f : Far) (old new : Tells) (old_count new_count : ℕ) (fault : DmiFault) → old.far ≡ Some f → Fresh reset_module (site_of f)
+opening_cut : (f : Far) (old new : Tells) (old_count new_count : ℕ) (fault : DmiFault) → old.far ≡ Some f → Fresh (reset_module V10) (site_of f)
     → OpeningBroke old_count new_count old new fault → UnopenedChip f new.far
 opening_cut f old new old_count new_count fault at fresh (in_transport b) = scan_cut f old old_count new_count new.far fault at fresh b
 opening_cut f old new old_count new_count fault at fresh (in_activation b) = by_activation b.failed
@@ -245,11 +246,11 @@ opening_cut f old new old_count new_count fault at fresh (in_activation b) = by_
     by_activation : ActivateBroke old_count new_count b.mid new.far fault → UnopenedChip f new.far
     by_activation (at_first w) =
         let a = at_transport f old b.mid at fresh b.first.0 b.first.1.did in
-        several_before (Write dmcontrol_address (control_word Nothing 0)) (Read dmcontrol_address ∷ []) reset_module f a.far b.mid old_count new_count new.far
+        several_before (Write dmcontrol_address (control_word Nothing 0)) (Read dmcontrol_address ∷ []) (reset_module V10) f a.far b.mid old_count new_count new.far
         fault first_quietly a.holds.0 a.is w
     by_activation (at_read w) =
         let a = at_transport f old b.mid at fresh b.first.0 b.first.1.did in
-        cut_before (asks Nothing 0 ++ map active_act w.vain) (Read dmcontrol_address) reset_module active_unit active_unit f a.far b.mid old_count new_count
+        cut_before (asks Nothing 0 ++ map active_act w.vain) (Read dmcontrol_address) (reset_module V10) active_unit active_unit f a.far b.mid old_count new_count
         new.far fault active_quiet active_quiet (reads_control active_unit) a.holds.0 a.is
         (λ t ran. vain_activated w.vain (site_of a.far) t a.holds.0.fresh ran) w.broke
 opening_cut f old new old_count new_count fault at fresh (in_module b) =
@@ -273,7 +274,7 @@ opening_cut f old new old_count new_count fault at fresh (in_bus b) = by_bus b.f
         clears_bus a.holds a.is
         (λ t ran. stays_on active_unit (site_of a.far) t a.holds.fresh ran) w.broke
 
-loses : (f : Far) (old new : Tells) (old_count new_count : ℕ) (e : ConnectFault) → old.far ≡ Some f → Fresh reset_module (site_of f)
+loses : (f : Far) (old new : Tells) (old_count new_count : ℕ) (e : ConnectFault) → old.far ≡ Some f → Fresh (reset_module V10) (site_of f)
     → ConnectFails old_count new_count old new e → IsDmiFault e × UnopenedChip f new.far
 loses f old new old_count new_count (Dtm word) at fresh r =
     let a = at_transport f old new at fresh word r.did in refused _ (transport_fits word) a.holds.1 r.tested

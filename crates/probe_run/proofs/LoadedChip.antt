@@ -8,6 +8,8 @@ use Rattle.std.specs.List.{enumerate_from}
 use Rattle.std.specs.Ordering.{eq_by_cmp, nat_cmp}
 use Rattle.std.proofs.lemmas.List.Elements.{All-head, All-tail, All-nil, All-cons}
 use Rattle.std.proofs.lemmas.Option.{none-some, same_Some}
+use Rattle.rv_model.specs.declared.version.Version.{Version}
+use Rattle.rv_model.specs.declared.version.Version.TheVariants.{V10}
 use Rattle.rv_model.specs.declared.cause.Cause.{Cause}
 use Rattle.rv_model.specs.declared.slot.Slot.{Slot}
 use Rattle.rv_model.specs.Board.{Hart, free_slot, reset_hart}
@@ -40,6 +42,7 @@ reset_wide n small = record {
   x = λ i. zero_by (i == 0) (get_or (replicate 32 0) i 0) (zeros 32 i);
   pc = omega arith;
   mstatus = omega arith;
+  mie = zero_wide;
   mtvec = zero_wide;
   mscratch = zero_wide;
   mepc = zero_wide;
@@ -53,15 +56,16 @@ free_compared (suc n) zero s is = subst (λ (y : Slot). y.tdata2 < 2 ^ 64) (same
 free_compared (suc n) (suc k) s is = free_compared n k s is
 
 pub record ResetAs (n : ℕ) (x : Hart) : Type 0 where
+  pub version : Version
   pub halted : Option Cause
-  pub is : x ≡ reset_hart n halted
+  pub is : x ≡ reset_hart version n halted
   pub small : IsWide n
 
 reset_hart_wide : (n : ℕ) (x : Hart) → ResetAs n x → HartWide n x
 reset_hart_wide n x r =
     subst (λ y. HartWide n y) (sym r.is) (record {
-      whole = reset_is_hart n r.halted;
-      registers = registers_wide n (reset_hart n r.halted) (reset_is_hart n r.halted) (reset_wide n r.small) (free_compared 4);
+      whole = reset_is_hart r.version n r.halted;
+      registers = registers_wide n (reset_hart r.version n r.halted) (reset_is_hart r.version n r.halted) (reset_wide n r.small) (free_compared 4);
       compared = free_compared 4;
     })
 
@@ -86,20 +90,21 @@ length_end : (xs : List Hart) (y : Hart) → length (xs ++ y ∷ []) ≡ suc (le
 length_end [] y = refl
 length_end (z ∷ zs) y = ap suc (length_end zs y)
 
-loaded_length : (n : ℕ) (halted : Option Cause) → length (loaded_harts n halted) ≡ n
-loaded_length zero halted = refl
-loaded_length (suc n) halted = ap length (one_hart_more n halted) ∙ length_end (loaded_harts n halted) (reset_hart n halted) ∙ ap suc (loaded_length n halted)
+loaded_length : (v : Version) (n : ℕ) (halted : Option Cause) → length (loaded_harts v n halted) ≡ n
+loaded_length v zero halted = refl
+loaded_length v (suc n) halted =
+    ap length (one_hart_more v n halted) ∙ length_end (loaded_harts v n halted) (reset_hart v n halted) ∙ ap suc (loaded_length v n halted)
 
-pub each_reset : (n : ℕ) (halted : Option Cause) → n ≤ 4 → (j : ℕ) (x : Hart) → slice_get (loaded_harts n halted) j ≡ Some x → ResetAs j x
-each_reset zero halted most j x is = absurd (none-some x is)
-each_reset (suc n) halted most j x is =
+pub each_reset : (v : Version) (n : ℕ) (halted : Option Cause) → n ≤ 4 → (j : ℕ) (x : Hart) → slice_get (loaded_harts v n halted) j ≡ Some x → ResetAs j x
+each_reset v zero halted most j x is = absurd (none-some x is)
+each_reset v (suc n) halted most j x is =
     let zero_plus : 0 + j ≡ j = omega arith in
-    let end : 0 + length (loaded_harts n halted) ≡ n = let e : length (loaded_harts n halted) ≡ n = loaded_length n halted in omega arith in
-    let last : ResetAs n (reset_hart n halted) = record { halted = halted; is = refl; small = omega arith } in
+    let end : 0 + length (loaded_harts v n halted) ≡ n = let e : length (loaded_harts v n halted) ≡ n = loaded_length v n halted in omega arith in
+    let last : ResetAs n (reset_hart v n halted) = record { version = v; halted = halted; is = refl; small = omega arith } in
     subst (λ k. ResetAs k x) zero_plus
-    (at_end ResetAs (loaded_harts n halted) (reset_hart n halted) 0
-    (λ i w at. let e : i ≡ 0 + i = omega arith in subst (λ k. ResetAs k w) e (each_reset n halted (omega arith) i w at))
-    (subst (λ k. ResetAs k (reset_hart n halted)) (sym end) last) j x (subst (λ (hs : List Hart). slice_get hs j ≡ Some x) (one_hart_more n halted) is))
+    (at_end ResetAs (loaded_harts v n halted) (reset_hart v n halted) 0
+    (λ i w at. let e : i ≡ 0 + i = omega arith in subst (λ k. ResetAs k w) e (each_reset v n halted (omega arith) i w at))
+    (subst (λ k. ResetAs k (reset_hart v n halted)) (sym end) last) j x (subst (λ (hs : List Hart). slice_get hs j ≡ Some x) (one_hart_more v n halted) is))
 
 -- ---- memory
 
@@ -134,13 +139,13 @@ image_ready image ram all q v is =
 -- ---- the chip
 
 loaded_fresh : (image : List ℕ) (harts ram : ℕ) (halted : Option Cause) → harts ≤ 4 → All (λ b. b < 256) image
-    → Fresh reset_module (record { unit = reset_module; board = loaded_board image harts ram halted; journal = [] })
+    → Fresh (reset_module V10) (record { unit = (reset_module V10); board = loaded_board V10 image harts ram halted; journal = [] })
 loaded_fresh image harts ram halted most all = record {
   unit = refl;
-  wide = record { harts = λ j x is. reset_hart_wide j x (each_reset harts halted most j x is); memory = image_ready image ram all };
-  harts = λ j x is. let u : Unasked x.debug = reset_unasked j x (each_reset harts halted most j x is) in record { here = λ same. u; others = λ other. u };
+  wide = record { harts = λ j x is. reset_hart_wide j x (each_reset V10 harts halted most j x is); memory = image_ready image ram all };
+  harts = λ j x is. let u : Unasked x.debug = reset_unasked j x (each_reset V10 harts halted most j x is) in record { here = λ same. u; others = λ other. u };
 }
 
-pub fresh_loaded : (f : Far) → AsLoaded f.live → Fresh reset_module (site_of f)
+pub fresh_loaded : (f : Far) → AsLoaded f.live → Fresh (reset_module V10) (site_of f)
 fresh_loaded f a =
-    subst (λ (l : Live). Fresh reset_module l.chip.inside.works.site) (sym a.is) (loaded_fresh a.image a.harts a.ram a.halted a.right.most a.bytes)
+    subst (λ (l : Live). Fresh (reset_module V10) l.chip.inside.works.site) (sym a.is) (loaded_fresh a.image a.harts a.ram a.halted a.right.most a.bytes)

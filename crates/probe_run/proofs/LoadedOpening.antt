@@ -1,5 +1,6 @@
 -- The opening of a chip as it was loaded, step by step: every register shows what is asked of it, and one Look of hart 0 is all that happens.
 use Rattle.std.proofs.Common.{◌≡◌, ◌∙◌, ◌++◌, ℕ, [], ◌∷◌, Bool, true, false, slice_get, refl, sym, ap, subst, append-nil, arith, if◌then◌else◌}
+use Rattle.rv_model.specs.declared.version.Version.TheVariants.{V10}
 use Rattle.debug_model.specs.Addresses.{dmcontrol_address, dmstatus_address, abstractcs_address, abstractauto_address, sbcs_address}
 use Rattle.debug_model.specs.declared.dmi_op.DmiOp.TheVariants.{Read, Write}
 use Rattle.debug_model.specs.declared.module_register.ModuleRegister.TheVariants.{Abstractcs, Dmcontrol, Sbcs}
@@ -23,12 +24,12 @@ use Rattle.probe_run.proofs.ControlAndStatus.{control_for, control_read}
 
 -- the unit of the module before dmactive, behind it, and behind the opening
 abbrev pub active_unit : DebugModule
-active_unit = record { active = true; hartsel = 0; commands = reset_module.commands; bus = reset_bus }
+active_unit = record (reset_module V10) { active = true; hartsel = 0 }
 
 abbrev pub opened_unit : DebugModule
 opened_unit = record active_unit { bus = record reset_bus { access = 0 } }
 
-pub reset_quiet : QuietUnit reset_module
+pub reset_quiet : QuietUnit (reset_module V10)
 reset_quiet = (refl, refl)
 
 pub active_quiet : QuietUnit active_unit
@@ -56,7 +57,7 @@ opened_ready = record {
 plain_turns : (a : ℕ) (u : DebugModule) → ((x : Site) → operated (Read a) x ≡ x) → Turns (Read a) u u []
 plain_turns a u same x f = same x ∙ same_site x (record { unit = u; board = x.board; journal = x.journal ++ [] }) f.unit refl (sym (append-nil x.journal))
 
-pub activates : Turns (Write dmcontrol_address (control_word Nothing 0)) reset_module active_unit []
+pub activates : Turns (Write dmcontrol_address (control_word Nothing 0)) (reset_module V10) active_unit []
 unfolding register_at
 activates x f =
     let k = control_for Nothing 0 in
@@ -64,7 +65,7 @@ activates x f =
     ap (λ r. controlled_by r.dmactive r x) (control_read Nothing 0 (omega arith))
     ∙ unless_busy x.unit.commands.steps x (acknowledged k (asked k x)) (ap (λ (m : DebugModule). m.commands.steps) f.unit)
     ∙ same_site (acknowledged k (asked k x)) (record { unit = active_unit; board = x.board; journal = x.journal ++ [] })
-    (ap (λ (m : DebugModule). let u : DebugModule = record { active = true; hartsel = 0; commands = m.commands; bus = m.bus } in u) f.unit)
+    (ap (λ (m : DebugModule). let u : DebugModule = record m { active = true; hartsel = 0 } in u) f.unit)
     (not_known 0 (after_journal (control_points k (slice_get x.board.harts 0)) x.board) ∙ ap (λ ps. after_journal ps x.board) none)
     (ap (λ ps. x.journal ++ ps) none)
 

@@ -1,6 +1,9 @@
 -- The steps of an opening at the site of a chip as it was loaded.
 use Rattle.std.proofs.Common.{◌≡◌, ◌∙◌, ◌++◌, ℕ, List, [], ◌∷◌, map, Bool, true, false, Option, Some, None, is_some, slice_get, refl, sym, ap, subst}
 use Rattle.std.proofs.Common.{append_assoc, append-nil, if◌then◌else◌}
+use Rattle.rv_model.specs.declared.version.Version.{Version}
+use Rattle.rv_model.specs.declared.version.Version.TheVariants.{V013, V10}
+use Rattle.rv_model.specs.Version.{version_number}
 use Rattle.rv_model.specs.declared.cause.Cause.{Cause}
 use Rattle.rv_model.specs.Board.{Hart}
 use Rattle.debug_model.specs.Addresses.{dmcontrol_address, dmstatus_address, abstractcs_address, abstractauto_address, sbcs_address}
@@ -10,7 +13,7 @@ use Rattle.debug_model.specs.declared.module_register.ModuleRegister.TheVariants
 use Rattle.debug_model.specs.declared.point.Point.{Point}
 use Rattle.debug_model.specs.declared.point.Point.TheVariants.{Look}
 use Rattle.debug_model.specs.Dmi.{value_of}
-use Rattle.debug_model.specs.Module.{DebugModule, Site, hart_status, module_version, register_at, reset_module, result_by, result_of}
+use Rattle.debug_model.specs.Module.{DebugModule, Site, hart_status, register_at, reset_module, result_by, result_of}
 use Rattle.debug_model.specs.ModuleWords.{dmstatus_word}
 use Rattle.abstract_debugger.specs.Stands.{Pointed, Target, WentOn}
 use Rattle.abstract_debugger.specs.Turns.{after_turns, turns}
@@ -75,7 +78,7 @@ read_shows a word u ps test s t q leads shows f o =
     let w : Went (Read a) o.result u ps s t = went (Read a) o.result u u ps s t q q leads f o.one in
     ap test (o.word_is ∙ ap value_of w.amid.result_is) ∙ shows (spun w.amid.amid.before s) f.unit
 
-status_fits : (reset ack : Bool) (halted : Option Cause)
+status_fits : (v : Version) (reset ack : Bool) (halted : Option Cause)
     → module_fits (value_of (dmstatus_word (record {
       havereset = reset;
       resumeack = ack;
@@ -83,34 +86,43 @@ status_fits : (reset ack : Bool) (halted : Option Cause)
       running = if is_some halted then false else true;
       halted = is_some halted;
       authenticated = true;
-      version = module_version;
+      version = version_number v;
     }))) ≡ true
-status_fits true true (Some why) = refl
-status_fits true true None = refl
-status_fits true false (Some why) = refl
-status_fits true false None = refl
-status_fits false true (Some why) = refl
-status_fits false true None = refl
-status_fits false false (Some why) = refl
-status_fits false false None = refl
+status_fits V013 true true (Some why) = refl
+status_fits V013 true true None = refl
+status_fits V013 true false (Some why) = refl
+status_fits V013 true false None = refl
+status_fits V013 false true (Some why) = refl
+status_fits V013 false true None = refl
+status_fits V013 false false (Some why) = refl
+status_fits V013 false false None = refl
+status_fits V10 true true (Some why) = refl
+status_fits V10 true true None = refl
+status_fits V10 true false (Some why) = refl
+status_fits V10 true false None = refl
+status_fits V10 false true (Some why) = refl
+status_fits V10 false true None = refl
+status_fits V10 false false (Some why) = refl
+status_fits V10 false false None = refl
 
-hart_fits : (o : Option Hart) → module_fits (value_of (dmstatus_word (hart_status o))) ≡ true
-hart_fits (Some x) = status_fits x.debug.have_reset x.debug.resume_ack x.debug.halted
-hart_fits None = refl
+hart_fits : (v : Version) (o : Option Hart) → module_fits (value_of (dmstatus_word (hart_status v o))) ≡ true
+hart_fits v (Some x) = status_fits v x.debug.have_reset x.debug.resume_ack x.debug.halted
+hart_fits V013 None = refl
+hart_fits V10 None = refl
 
 shows_module : (x : Site) → x.unit ≡ active_unit → module_fits (value_of (result_of dmstatus_address x)) ≡ true
 unfolding register_at
-shows_module x is = ap (λ m. module_fits (value_of (result_by m.active Dmstatus x))) is ∙ hart_fits (slice_get x.board.harts x.unit.hartsel)
+shows_module x is = ap (λ m. module_fits (value_of (result_by m.active Dmstatus x))) is ∙ hart_fits x.unit.version (slice_get x.board.harts x.unit.hartsel)
 
 -- ---- the steps
 
 on_moved : (u : DebugModule) (s m t : Site) → t ≡ m → On u s m → On u s t
 on_moved u s m t is a = subst (λ x. On u s x) (sym is) a
 
-pub transport_on : (word : ℕ) (s t : Site) → Fresh reset_module s → Ran (Scanned word ∷ []) s t → On reset_module s t × (transport_fits word ≡ true)
+pub transport_on : (word : ℕ) (s t : Site) → Fresh (reset_module V10) s → Ran (Scanned word ∷ []) s t → On (reset_module V10) s t × (transport_fits word ≡ true)
 transport_on word s t f (m, scanned, is) =
-    let a : TurnsAlone s m = fresh_deeds reset_module s m reset_quiet f scanned.deeds in
-    (on_moved reset_module s m t is (record { fresh = fresh_along reset_module s m f a; went = went_alone s m a }), ap transport_fits scanned.value_is)
+    let a : TurnsAlone s m = fresh_deeds (reset_module V10) s m reset_quiet f scanned.deeds in
+    (on_moved (reset_module V10) s m t is (record { fresh = fresh_along (reset_module V10) s m f a; went = went_alone s m a }), ap transport_fits scanned.value_is)
 
 reads_on : (vain : List ℕ) (last : ℕ) (s t : Site) → Fresh active_unit s → Ran (map active_act vain ++ active_act last ∷ []) s t
     → On active_unit s t × (is_active last ≡ true)
@@ -123,10 +135,10 @@ reads_on (w ∷ ws) last s t f (m, did, rest) =
     let (b, shown) = reads_on ws last m t a.fresh rest in
     (on_on active_unit active_unit s m t a b, shown)
 
-pub written_on : (s t : Site) → Fresh reset_module s → (word : ℕ) → OperatedAt (Write dmcontrol_address (control_word Nothing 0)) word s t → On active_unit s t
-written_on s t f word o = op_on (Write dmcontrol_address (control_word Nothing 0)) word reset_module active_unit s t reset_quiet active_quiet activates f o
+pub written_on : (s t : Site) → Fresh (reset_module V10) s → (word : ℕ) → OperatedAt (Write dmcontrol_address (control_word Nothing 0)) word s t → On active_unit s t
+written_on s t f word o = op_on (Write dmcontrol_address (control_word Nothing 0)) word (reset_module V10) active_unit s t reset_quiet active_quiet activates f o
 
-pub activated_on : (vain : List ℕ) (last : ℕ) (s t : Site) → Fresh reset_module s → Ran (asks Nothing 0 ++ (map active_act vain ++ active_act last ∷ [])) s t
+pub activated_on : (vain : List ℕ) (last : ℕ) (s t : Site) → Fresh (reset_module V10) s → Ran (asks Nothing 0 ++ (map active_act vain ++ active_act last ∷ [])) s t
     → On active_unit s t × (is_active last ≡ true)
 activated_on vain last s t f (m, did, rest) =
     let a : On active_unit s m = written_on s m f (control_word Nothing 0) did in
@@ -139,7 +151,7 @@ vain_on (w ∷ ws) s t f (m, did, rest) =
     let a : On active_unit s m = op_on (Read dmcontrol_address) w active_unit active_unit s m active_quiet active_quiet (reads_control active_unit) f did in
     on_on active_unit active_unit s m t a (vain_on ws m t a.fresh rest)
 
-pub vain_activated : (vain : List ℕ) (s t : Site) → Fresh reset_module s → Ran (asks Nothing 0 ++ map active_act vain) s t → On active_unit s t
+pub vain_activated : (vain : List ℕ) (s t : Site) → Fresh (reset_module V10) s → Ran (asks Nothing 0 ++ map active_act vain) s t → On active_unit s t
 vain_activated vain s t f (m, did, rest) = let a : On active_unit s m = written_on s m f (control_word Nothing 0) did in
     on_on active_unit active_unit s m t a (vain_on vain m t a.fresh rest)
 

@@ -80,7 +80,7 @@ looks s r = if_active s.unit.active (noted (Look s.unit.hartsel ∷ []) s) s r.a
 
 pub look_shows : (s : Site) → ModuleReady s.unit → seen_in (value_of (result_of dmstatus_address s)) ≡ seen_at s.unit.hartsel s.board
 unfolding register_at
-look_shows s r = ap (λ b. seen_in (value_of (result_by b Dmstatus s))) r.active ∙ seen_status (slice_get s.board.harts s.unit.hartsel)
+look_shows s r = ap (λ b. seen_in (value_of (result_by b Dmstatus s))) r.active ∙ seen_status s.unit.version (slice_get s.board.harts s.unit.hartsel)
 
 -- ---- between turns
 

@@ -1,7 +1,8 @@
 -- The opening of a chip: which registers are read and written, in order, and what each of them must show.
 -- RISC-V Debug Specification 1.0, "Debug Module Registers" and "DTM Control and Status". What is asked of each register is this project's own choice.
 use Rattle.std.specs.Prelude.{◌≡◌, ◌++◌, ◌+◌, ◌<◌, ◌==◌, ◌&&◌, not, nat_le, ◌%◌, ℕ, List, [], ◌∷◌, length, map, All, Bool, true, false, Option, Some, None}
-use Rattle.std.specs.Prelude.{IfSome}
+use Rattle.std.specs.Prelude.{IfSome, is_some}
+use Rattle.rv_model.specs.Version.{version_of}
 use Rattle.debug_model.specs.Addresses.{dmcontrol_address, abstractcs_address, abstractauto_address, sbcs_address}
 use Rattle.debug_model.specs.declared.dmi.DmiFault.{DmiFault}
 use Rattle.debug_model.specs.declared.dmi_op.DmiOp.TheVariants.{Read, Write}
@@ -33,9 +34,9 @@ transport_fits w = (dtmcs_of w).version == 1 && (nat_le 7 (dtmcs_of w).abits && 
 abbrev pub is_active : ℕ → Bool
 is_active w = (dmcontrol_of w).dmactive
 
--- authenticated, and version 3
+-- authenticated, and of release 0.13 or 1.0
 abbrev pub module_fits : ℕ → Bool
-module_fits w = (dmstatus_of w).authenticated && (dmstatus_of w).version == 3
+module_fits w = (dmstatus_of w).authenticated && is_some (version_of (dmstatus_of w).version)
 
 -- at least four words of program buffer and two of data, and no command under way
 abbrev pub commands_fit : ℕ → Bool

@@ -15,6 +15,7 @@ use crate::target::{Target, opened};
 use crate::wait::look;
 use arrayvec::ArrayVec;
 use debug_model::{Abstractauto, Abstractcs, Dmcontrol, Dmi, DmiOp, Dmstatus, Dtmcs, Sbcs};
+use rv_model::Version;
 
 /// How often `dmcontrol` is read at most until dmactive is 1.
 const READS_MOST: u32 = 64;
@@ -34,12 +35,12 @@ fn is_active(word: u32) -> bool
     Dmcontrol::from_word(word).dmactive
 }
 
-/// Whether this is a debug module of version 3 that may be used.
+/// Whether this is a debug module of release 0.13 or 1.0 that may be used.
 fn has_module(word: u32) -> bool
     ensures { result ≡ module_fits word }
 {
     let status = Dmstatus::from_word(word);
-    status.authenticated && status.version == 3
+    status.authenticated && Version::from_number(status.version).is_some()
 }
 
 /// Whether there are four words of program buffer and two of data, and no command is under way.

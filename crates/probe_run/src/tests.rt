@@ -104,8 +104,9 @@ fn answering(words: &[u32]) -> ScriptedDmi
 fn opens(rt: HostRuntime) {
     // dtmcs, dmcontrol, dmstatus, abstractcs and sbcs, and what `connect` answers
     let lost = ConnectFault::Dmi(DmiFault::Wire(WireFault::RecvFailed));
-    let cases: [(&[u32], Option<ConnectFault>); 9] = [
+    let cases: [(&[u32], Option<ConnectFault>); 13] = [
         (&[0x1071, 1, 0x000c_0c83, 0x0400_0002, 0x2004_080f], None),
+        (&[0x1071, 1, 0x000c_0c82, 0x0400_0002, 0x2004_080f], None),
         (
             &[0x1071, 0, 0, 1, 0x000c_0c83, 0x0400_0002, 0x2004_080f],
             None,
@@ -114,6 +115,19 @@ fn opens(rt: HostRuntime) {
         (
             &[0x1071, 1, 0x000c_0c81],
             Some(ConnectFault::Module(0x000c_0c81, false)),
+        ),
+        (
+            &[0x1071, 1, 0x000c_0c80],
+            Some(ConnectFault::Module(0x000c_0c80, false)),
+        ),
+        (
+            &[0x1071, 1, 0x000c_0c84],
+            Some(ConnectFault::Module(0x000c_0c84, false)),
+        ),
+        // release 0.13, not authenticated
+        (
+            &[0x1071, 1, 0x000c_0c02],
+            Some(ConnectFault::Module(0x000c_0c02, false)),
         ),
         (
             &[0x1071, 1, 0x000c_0c83, 0x0300_0002],

@@ -5,6 +5,7 @@ use Rattle.std.specs.Prelude.{is_some, unwrap_or, ◌==◌, ⊤}
 use Rattle.std.specs.List.{list_any}
 use Rattle.std.proofs.lemmas.Bool.{false≢true, ne_eqb}
 use Rattle.std.proofs.lemmas.Option.{same_Some}
+use Rattle.rv_model.specs.declared.version.Version.{Version}
 use Rattle.rv_model.specs.declared.dcsr.Dcsr.{Dcsr}
 use Rattle.rv_model.specs.declared.mem_fault.MemFault.{MemFault}
 use Rattle.rv_model.specs.declared.mem_fault.MemFault.TheVariants.{Misaligned, Outside}
@@ -22,13 +23,13 @@ use Rattle.rv_model.specs.Undebugged.{with_bytes}
 use Rattle.rv_model.proofs.DebugWordLemmas.{dcsr_read_back}
 use Rattle.debug_model.specs.declared.point.Point.TheVariants.{Access}
 use Rattle.debug_model.specs.Module.{Site}
-use Rattle.abstract_debugger.specs.Debugger.{arming, arming_at, by_load, by_store, freeing, is_free_slot, register_line, saying, slot_lines, value_here}
+use Rattle.abstract_debugger.specs.Debugger.{arming, arming_at, by_load, by_store, freeing, is_free_slot, register_line, saying, slot_lines, slots_shown_at, slots_shown_of, value_here}
 use Rattle.abstract_debugger.specs.Laws.{IsFrozen}
 use Rattle.abstract_debugger.specs.Lines.{Line}
 use Rattle.abstract_debugger.specs.Plan.{Plan, ebreak_halts, register_set, slot_changed, with_debug_part}
 use Rattle.abstract_debugger.specs.Plan.Change.{EbreakHalts, FreeSlot, WriteMem, WriteReg}
 use Rattle.abstract_debugger.specs.Plan.Plan.{change, say, see, take}
-use Rattle.abstract_debugger.specs.Slots.{any_hit, first_free, hits_forgotten, hits_of, slots_at, slots_here, trigger_has_hit, use_of, with_slots}
+use Rattle.abstract_debugger.specs.Slots.{any_hit, first_free, hits_forgotten, hits_of, slots_at, slots_here, trigger_has_hit, use_of, uses_here, with_slots}
 use Rattle.abstract_debugger.specs.Slots.Use.{Armed, Unused}
 use Rattle.abstract_debugger.specs.Stands.{Deals, Origin, Pointed, Rewrote, Target}
 use Rattle.abstract_debugger.specs.Trace.{What}
@@ -245,20 +246,24 @@ ebreak_deals m h word on o next lines s r t x y here is passed there written d =
 
 -- ---- slots
 
-lines_same : (first : ℕ) (slots : List Slot) → slot_lines first slots ≡ lines_by first (map use_of slots) (hits_of slots)
-lines_same first [] = refl
-lines_same first (s ∷ slots) = ap (λ l. Line.Slot first (use_of s) (trigger_has_hit s.trigger) ∷ l) (lines_same (suc first) slots)
+lines_same : (v : Version) (first : ℕ) (slots : List Slot) → slot_lines v first slots ≡ lines_by first (map (use_of v) slots) (hits_of slots)
+lines_same v first [] = refl
+lines_same v first (s ∷ slots) = ap (λ l. Line.Slot first (use_of v s) (trigger_has_hit s.trigger) ∷ l) (lines_same v (suc first) slots)
+
+hart_lines_same : (o : Option Hart) → slots_shown_of o ≡ lines_by 0 (uses_here o) (hits_of (slots_here o))
+hart_lines_same (Some x) = lines_same x.debug.version 0 x.debug.slots
+hart_lines_same None = refl
 
 pub slots_deals : (m : Machine) (h : ℕ) (view : SlotView) (o : Origin) (next : Plan) (lines : List Line) (old new : Target) → ViewedAt view h old new
-    → Deals m h Still o (see (λ b. saying (slot_lines 0 (slots_at h b)) next)) lines old
+    → Deals m h Still o (see (λ b. saying (slots_shown_at h b) next)) lines old
     → Deals m h Still o (saying (lines_of_view view) next) lines new
 slots_deals m h view o next lines old new v d =
     deals_went_on m h Still o _ lines old new
     (deals_at_plan m h Still o _ _ lines old
     (ap (λ l. saying l next)
-    (lines_same 0 (slots_at h old.board) ∙ ap (λ us. lines_by 0 us (hits_of (slots_at h old.board))) (sym v.shows.uses_are)
+    (hart_lines_same (slice_get old.board.harts h) ∙ ap (λ us. lines_by 0 us (hits_of (slots_at h old.board))) (sym v.shows.uses_are)
     ∙ ap (λ hs. lines_by 0 (map use_named view.used) hs) (sym v.shows.hits_are)))
-    (deals_seen m h Still o (λ y. saying (slot_lines 0 (slots_here y)) next) lines old tt d)) v.went
+    (deals_seen m h Still o (λ y. saying (slots_shown_of y) next) lines old tt d)) v.went
 
 hits_plan : (m : Machine) (h : ℕ) (view : SlotView) (o : Origin) (held free : Plan) (lines : List Line) (old new : Target) → ViewedAt view h old new
     → Deals m h Still o (see (λ b. if any_hit (slots_at h b) then held else free)) lines old

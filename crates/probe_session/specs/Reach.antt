@@ -5,12 +5,11 @@ use Rattle.rv_model.specs.declared.size.Size.{Size}
 use Rattle.debug_model.specs.declared.command.Path.{Path}
 use Rattle.debug_model.specs.declared.command.Path.TheVariants.{Progbuf, Bus}
 use Rattle.debug_model.specs.Kept.{DmiSeen}
-use Rattle.abstract_debugger.specs.Debugger.{State, at_aligned, at_path, dumping, reading, register_line, saying, shown_registers, slot_lines}
+use Rattle.abstract_debugger.specs.Debugger.{State, at_aligned, at_path, dumping, reading, register_line, saying, shown_registers, slots_shown_at}
 use Rattle.abstract_debugger.specs.Debugger.{stepping, stop_line, writing}
 use Rattle.abstract_debugger.specs.Lines.{Line}
 use Rattle.abstract_debugger.specs.Plan.{Plan}
 use Rattle.abstract_debugger.specs.Plan.Plan.{say, see}
-use Rattle.abstract_debugger.specs.Slots.{slots_at}
 use Rattle.abstract_debugger.specs.Ways.{Way}
 use Rattle.abstract_debugger.specs.Ways.Way.{Idle, Still}
 use Rattle.probe_run.specs.Acts.{Tells}
@@ -78,7 +77,7 @@ abbrev pub some_shown : ℕ → List ℕ → Plan → Plan
 some_shown h numbers next = see (λ b. saying (map (register_line h b) numbers) next)
 
 abbrev pub slots_shown : ℕ → Plan → Plan
-slots_shown h next = see (λ b. saying (slot_lines 0 (slots_at h b)) next)
+slots_shown h next = see (λ b. saying (slots_shown_at h b) next)
 
 abbrev pub stepped : ℕ → ℕ → Plan → Plan
 stepped count h next = stepping count h (stop_line h next)

@@ -10,7 +10,7 @@ use Rattle.rv_model.specs.Registers.{csr_read_only, pc_number}
 use Rattle.debug_model.specs.declared.command.Path.{Path}
 use Rattle.debug_model.specs.Tap.{idcode}
 use Rattle.abstract_debugger.specs.Debugger.{arming, by_state, freeing, going, halted_of, halting, look, one}
-use Rattle.abstract_debugger.specs.Debugger.{register_line, saying, slot_lines, stop_line, value_here}
+use Rattle.abstract_debugger.specs.Debugger.{register_line, saying, slots_shown_at, stop_line, value_here}
 use Rattle.abstract_debugger.specs.Lines.{Line}
 use Rattle.abstract_debugger.specs.Plan.{Plan, is_step}
 use Rattle.abstract_debugger.specs.Plan.Change.{EbreakHalts, WriteReg}
@@ -133,7 +133,7 @@ pub data Step : Place → Tells → List Line → Place → Tells → Type 0 whe
       → Step (still h (change (EbreakHalts h on) next)) old [] (still h next) new
   -- slots
   shows_slots : {h : ℕ} {view : SlotView} (next : Plan) {old new : Tells} → Viewed h view old new
-      → Step (still h (see (λ b. saying (slot_lines 0 (slots_at h b)) next))) old [] (still h (saying (lines_of_view view) next)) new
+      → Step (still h (see (λ b. saying (slots_shown_at h b) next))) old [] (still h (saying (lines_of_view view) next)) new
   arms : {h slot : ℕ} {meant : SlotUse} (what : What) (next : Plan) {old new : Tells} → SlotTaken h meant slot old new
       → use_named meant ≡ Armed what → CanArm what
       → Step (still h (arming h what next)) old [] (still h (say (Line.Slot slot (Armed what) false) next)) new

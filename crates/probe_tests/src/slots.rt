@@ -1,5 +1,6 @@
 //! The calls on slots over operations whose answers are given beforehand: words of `abstractcs` and `dmstatus` by the layouts of RISC-V Debug
-//! Specification 1.0, "Abstract Control and Status" and "Debug Module Status", and of `tdata1` by "Match Control Type 6" and "Instruction Count".
+//! Specification 1.0, "Abstract Control and Status" and "Debug Module Status", of `tdata1` by "Match Control Type 6" and "Instruction Count", and by
+//! RISC-V External Debug Support 0.13.2, "Match Control", and of `tinfo` by "Trigger Info" of both.
 
 ghost use Rattle.std.specs.Prelude.{◌≡◌, true};
 
@@ -34,14 +35,16 @@ const GONE: u32 = 0x0003_0c83;
 
 const BACK: u32 = 0x0003_0383;
 
-/// The upper words of `tdata1`: an address trigger, a count, a free slot, and a type that is not known here.
+/// The upper words of `tdata1`: an address trigger of release 1.0, one of release 0.13, a count, a free slot, and a type that is not known here.
 const ADDRESS: u32 = 0x6800_0000;
+
+const ADDRESS_V013: u32 = 0x2800_0000;
 
 const COUNT: u32 = 0x3800_0000;
 
 const FREE: u32 = 0xf800_0000;
 
-const OTHER: u32 = 0x2000_0000;
+const OTHER: u32 = 0x4000_0000;
 
 /// The lower words of `tdata1`: a break with a hit, the same switched off, and a count of 5 with a hit.
 const HIT: u32 = 0x0040_1044;
@@ -49,6 +52,14 @@ const HIT: u32 = 0x0040_1044;
 const HELD: u32 = 0x0040_1004;
 
 const RAN_OUT: u32 = 0x0100_1601;
+
+/// The lower words of a break of release 0.13 with a hit, and of the same switched off.
+const HIT_V013: u32 = 0x0010_1044;
+
+const HELD_V013: u32 = 0x0010_1004;
+
+/// The lower word of `tinfo` of a slot that has the types 3, 6 and 15.
+const OFFERS_6: u32 = 0x0100_8048;
 
 /// The address of the break, and `dcsr` of a hart that a trigger stopped.
 const PLACE: u32 = 0x8000_0008;
@@ -158,7 +169,7 @@ fn each_operation_of_a_view_may_fail(rt: HostRuntime) {
             SlotUse::Break(0x8000_0008),
             SlotUse::Free,
             SlotUse::Count(5),
-            SlotUse::Other(0x2000_0000_0000_0044),
+            SlotUse::Other(0x4000_0000_0000_0044),
         ],
         hits: SlotSet(1),
     };
@@ -183,10 +194,11 @@ fn each_operation_of_an_arming_may_fail(rt: HostRuntime) {
         0, 2, IDLE, // tselect
         IDLE, OTHER, 0x44, IDLE, // slot 0
         IDLE, FREE, 0, IDLE, // slot 1
+        0, OFFERS_6, IDLE, // tinfo
         IDLE, IDLE, IDLE,
     ];
     check(&rt, Call::Break, &second, Ok(Answer::Armed(1)));
-    check(&rt, Call::Count, &second[..13], Ok(Answer::Armed(1)));
+    check(&rt, Call::Count, &second[..16], Ok(Answer::Armed(1)));
     check(
         &rt,
         Call::Break,
@@ -269,4 +281,57 @@ fn a_hart_goes_by_its_hits_and_the_cause(rt: HostRuntime) {
             check(&rt, Call::Go, &words, Ok(wanted));
         }
     }
+}
+
+#[test]
+fn slots_of_release_0_13_are_read_by_their_type(rt: HostRuntime) {
+    let view = SlotView {
+        used: [
+            SlotUse::Break(0x8000_0008),
+            SlotUse::Other(0x2800_0000_0010_1004),
+            SlotUse::Break(0x8000_0008),
+            SlotUse::Break(0x8000_0008),
+        ],
+        hits: SlotSet(0b0011),
+    };
+    // Bit 22 is no hit of type 2, nor is bit 20 of type 6.
+    check(
+        &rt,
+        Call::See,
+        &[
+            0,
+            2,
+            IDLE, // tselect
+            IDLE,
+            ADDRESS_V013,
+            HIT_V013,
+            IDLE,
+            0,
+            PLACE,
+            IDLE, // slot 0
+            IDLE,
+            ADDRESS_V013,
+            HELD_V013,
+            IDLE,
+            0,
+            PLACE,
+            IDLE, // slot 1
+            IDLE,
+            ADDRESS_V013,
+            HIT,
+            IDLE,
+            0,
+            PLACE,
+            IDLE, // slot 2
+            IDLE,
+            ADDRESS,
+            HIT_V013,
+            IDLE,
+            0,
+            PLACE,
+            IDLE, // slot 3
+            IDLE,
+        ],
+        Ok(Answer::Saw(view)),
+    );
 }

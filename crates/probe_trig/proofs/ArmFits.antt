@@ -30,10 +30,9 @@ use Rattle.std.proofs.Common.{
   arith,
 }
 use Rattle.std.proofs.lemmas.List.Elements.{All-nil, All-push}
-use Rattle.rv_model.specs.TriggerWords.{tdata1_of}
-use Rattle.rv_model.specs.declared.slot.Trigger.TheVariants.{Disabled}
+use Rattle.rv_model.specs.TriggerWords.{disabled_word}
 use Rattle.probe_run.specs.Acts.{Tells}
-use Rattle.probe_trig.specs.declared.register.TriggerRegister.TheVariants.{Tdata1, Tdata2, Tselect}
+use Rattle.probe_trig.specs.declared.register.TriggerRegister.TheVariants.{Tdata1, Tdata2, Tinfo, Tselect}
 use Rattle.debug_model.specs.declared.slot_use.SlotUse.{SlotUse}
 use Rattle.probe_trig.specs.Runs.{
   Arms,
@@ -47,15 +46,16 @@ use Rattle.probe_trig.specs.Runs.{
   address_set,
   armed,
   armed_at,
+  armed_by,
   freed,
   put_back,
   word_read,
   words_read,
 }
-use Rattle.probe_trig.specs.Single.{AddressSet, Armed, OneGot, OneSet, WordRead}
+use Rattle.probe_trig.specs.Single.{AddressSet, Armed, ArmedBy, OneGot, OneSet, WordRead}
 use Rattle.probe_trig.specs.Transfers.{Did, Made, Transfer}
 use Rattle.probe_trig.specs.Transfers.Transfer.{Got, Set}
-use Rattle.probe_trig.specs.SlotRegisters.{address_named, shows_free, trigger_named}
+use Rattle.probe_trig.specs.SlotRegisters.{address_named, shows_free, word_named}
 use Rattle.probe_trig.proofs.Shows.{disabled_free}
 use Rattle.probe_trig.proofs.TransferLemmas.{Fits, made_then}
 
@@ -89,7 +89,7 @@ frees_none slot k w free ts is = (
       (ap (λ (zs : List Transfer). Got Tselect k ∷ (word_read slot w ++ (zs ++ []))) is),
 )
 
-pub frees_set : (slot k w : ℕ) → shows_free w ≡ false → Fits (OneSet Tdata1 (tdata1_of Disabled)) (FreesAny slot) (Got Tselect k ∷ word_read slot w)
+pub frees_set : (slot k w : ℕ) → shows_free w ≡ false → Fits (OneSet Tdata1 disabled_word) (FreesAny slot) (Got Tselect k ∷ word_read slot w)
 frees_set slot k w used ts is = (
   put_back k,
   frees_any slot k w false (Got Tselect k ∷ (word_read slot w ++ (ts ++ put_back k))) used
@@ -150,7 +150,7 @@ sought_all h n old new s all = record {
 }
 
 abbrev free_word : ℕ
-free_word = tdata1_of Disabled
+free_word = disabled_word
 
 finds_at : (n w : ℕ) (words : List ℕ) (ts : List Transfer) → All IsInUse words → length words ≡ n → n < 4 → shows_free w ≡ true
     → ts ≡ words_read 0 words ++ word_read n w → SeeksAny ts
@@ -204,56 +204,74 @@ no_address o is = sym (ap address_set is)
 pub sets_address : (what : SlotUse) (a : ℕ) → address_named what ≡ Some a → Fits (OneSet Tdata2 a) (AddressSet what) []
 sets_address what a named ts is = ([], append-nil ts ∙ is ∙ address_made (address_named what) a named)
 
-pub arms_address : (what : SlotUse) → Fits (AddressSet what) (Armed what) []
-arms_address what ts is = (
-  Set Tdata1 (tdata1_of (trigger_named what)) ∷ [],
-  ap (λ (zs : List Transfer). zs ++ Set Tdata1 (tdata1_of (trigger_named what)) ∷ []) is,
+pub arms_address : (tinfo : ℕ) (what : SlotUse) → Fits (AddressSet what) (ArmedBy tinfo what) []
+arms_address tinfo what ts is = (
+  Set Tdata1 (word_named tinfo what) ∷ [],
+  ap (λ (zs : List Transfer). zs ++ Set Tdata1 (word_named tinfo what) ∷ []) is,
 )
 
-pub arms_trigger : (what : SlotUse) → Fits (OneSet Tdata1 (tdata1_of (trigger_named what))) (Armed what) (address_set (address_named what))
-arms_trigger what ts is = ([], ap (λ (zs : List Transfer). address_set (address_named what) ++ (zs ++ [])) is)
+pub arms_trigger : (tinfo : ℕ) (what : SlotUse) → Fits (OneSet Tdata1 (word_named tinfo what)) (ArmedBy tinfo what) (address_set (address_named what))
+arms_trigger tinfo what ts is = ([], ap (λ (zs : List Transfer). address_set (address_named what) ++ (zs ++ [])) is)
+
+pub arms_tinfo : (what : SlotUse) → Fits (OneGot Tinfo) (Armed what) []
+arms_tinfo what ts (tinfo, is) = (armed_by tinfo what, (tinfo, ap (λ (zs : List Transfer). zs ++ armed_by tinfo what) is))
+
+pub arms_offered : (what : SlotUse) (tinfo : ℕ) → Fits (ArmedBy tinfo what) (Armed what) (Got Tinfo tinfo ∷ [])
+arms_offered what tinfo ts is = ([], (tinfo, ap (λ (zs : List Transfer). Got Tinfo tinfo ∷ zs) (append-nil ts ∙ is)))
+
+pub offered_did : (what : SlotUse) (tinfo h : ℕ) (old mid new : Tells) → Made h old (Got Tinfo tinfo ∷ []) mid → Made h mid (armed_by tinfo what) new
+    → Did (Armed what) h old new
+offered_did what tinfo h old mid new got arms =
+    record { transfers = armed what tinfo; whole = (tinfo, refl); made = made_then h (Got Tinfo tinfo ∷ []) (armed_by tinfo what) old mid new got arms }
+
+-- of a slot that was armed
+abbrev pub tinfo_of : (what : SlotUse) (h : ℕ) (old new : Tells) → Did (Armed what) h old new → ℕ
+tinfo_of what h old new d = d.whole.0
+
+pub armed_made : (what : SlotUse) (h : ℕ) (old new : Tells) (d : Did (Armed what) h old new) → Made h old (armed what (tinfo_of what h old new d)) new
+armed_made what h old new d = subst (λ (zs : List Transfer). Made h old zs new) d.whole.1 d.made
 
 -- ---- the whole call
 
-abbrev pub arming : SlotUse → ℕ → List Transfer → Option ℕ → List Transfer
-arming what kept sought found = Got Tselect kept ∷ (sought ++ (armed_at what found ++ put_back kept))
+abbrev pub arming : SlotUse → ℕ → List Transfer → Option ℕ → ℕ → List Transfer
+arming what kept sought found tinfo = Got Tselect kept ∷ (sought ++ (armed_at what found tinfo ++ put_back kept))
 
-arms_any : (what : SlotUse) (kept : ℕ) (sought : List Transfer) (found : Option ℕ) (ts : List Transfer) → Seeks found sought
-    → ts ≡ arming what kept sought found → ArmsAny what ts
-arms_any what kept sought found ts seeks is = (found, record { kept = kept; sought = sought; seeks = seeks; is = is })
+arms_any : (what : SlotUse) (kept : ℕ) (sought : List Transfer) (found : Option ℕ) (tinfo : ℕ) (ts : List Transfer) → Seeks found sought
+    → ts ≡ arming what kept sought found tinfo → ArmsAny what ts
+arms_any what kept sought found tinfo ts seeks is = (found, record { kept = kept; sought = sought; seeks = seeks; tinfo = tinfo; is = is })
 
 finds_first : Seeks (Some 0) (word_read 0 free_word)
 finds_first = record { vain = []; used = record { all = All-nil IsInUse; few = omega arith }; here = refl; tdata1 = free_word; free = disabled_free; is = refl }
 
 pub arms_keep : (what : SlotUse) → Fits (OneGot Tselect) (ArmsAny what) []
 arms_keep what ts (k, is) =
-    let rest : List Transfer = word_read 0 free_word ++ (armed what ++ put_back k) in
-    (rest, arms_any what k (word_read 0 free_word) (Some 0) (ts ++ rest) finds_first (ap (λ (zs : List Transfer). zs ++ rest) is))
+    let rest : List Transfer = word_read 0 free_word ++ (armed what 0 ++ put_back k) in
+    (rest, arms_any what k (word_read 0 free_word) (Some 0) 0 (ts ++ rest) finds_first (ap (λ (zs : List Transfer). zs ++ rest) is))
 
 pub arms_seek : (what : SlotUse) (k : ℕ) → Fits SeeksAny (ArmsAny what) (Got Tselect k ∷ [])
 arms_seek what k ts (found, seeks) = (
-  armed_at what found ++ put_back k,
-  arms_any what k ts found (Got Tselect k ∷ (ts ++ (armed_at what found ++ put_back k))) seeks refl,
+  armed_at what found 0 ++ put_back k,
+  arms_any what k ts found 0 (Got Tselect k ∷ (ts ++ (armed_at what found 0 ++ put_back k))) seeks refl,
 )
 
 pub arms_none : (what : SlotUse) (k : ℕ) (sought : List Transfer) → Seeks None sought → Fits (OneSet Tselect k) (ArmsAny what) (Got Tselect k ∷ sought)
 arms_none what k sought seeks ts is =
-    ([], arms_any what k sought None (Got Tselect k ∷ (sought ++ (ts ++ []))) seeks (ap (λ (zs : List Transfer). Got Tselect k ∷ (sought ++ (zs ++ []))) is))
+    ([], arms_any what k sought None 0 (Got Tselect k ∷ (sought ++ (ts ++ []))) seeks (ap (λ (zs : List Transfer). Got Tselect k ∷ (sought ++ (zs ++ []))) is))
 
 pub arms_armed : (what : SlotUse) (k slot : ℕ) (sought : List Transfer) → Seeks (Some slot) sought → Fits (Armed what) (ArmsAny what) (Got Tselect k ∷ sought)
-arms_armed what k slot sought seeks ts is = (
+arms_armed what k slot sought seeks ts (tinfo, is) = (
   put_back k,
-  arms_any what k sought (Some slot) (Got Tselect k ∷ (sought ++ (ts ++ put_back k))) seeks
+  arms_any what k sought (Some slot) tinfo (Got Tselect k ∷ (sought ++ (ts ++ put_back k))) seeks
       (ap (λ (zs : List Transfer). Got Tselect k ∷ (sought ++ (zs ++ put_back k))) is),
 )
 
-pub arms_back : (what : SlotUse) (k slot : ℕ) (sought : List Transfer) → Seeks (Some slot) sought
-    → Fits (OneSet Tselect k) (ArmsAny what) (Got Tselect k ∷ (sought ++ armed what))
-arms_back what k slot sought seeks ts is = (
+pub arms_back : (what : SlotUse) (k slot tinfo : ℕ) (sought : List Transfer) → Seeks (Some slot) sought
+    → Fits (OneSet Tselect k) (ArmsAny what) (Got Tselect k ∷ (sought ++ armed what tinfo))
+arms_back what k slot tinfo sought seeks ts is = (
   [],
-  arms_any what k sought (Some slot) (Got Tselect k ∷ ((sought ++ armed what) ++ (ts ++ []))) seeks
+  arms_any what k sought (Some slot) tinfo (Got Tselect k ∷ ((sought ++ armed what tinfo) ++ (ts ++ []))) seeks
       (ap (λ (zs : List Transfer). Got Tselect k ∷ zs)
-      (append_assoc sought (armed what) (ts ++ []) ∙ ap (λ (zs : List Transfer). sought ++ (armed what ++ (zs ++ []))) is)),
+      (append_assoc sought (armed what tinfo) (ts ++ []) ∙ ap (λ (zs : List Transfer). sought ++ (armed what tinfo ++ (zs ++ []))) is)),
 )
 
 -- ---- what was made
@@ -266,19 +284,23 @@ pub no_address_done : (what : SlotUse) (h : ℕ) (old : Tells) → address_named
 no_address_done what h old named = subst (λ (zs : List Transfer). Made h old zs old) (no_address (address_named what) named) Made.nothing
 
 pub armed_did : (what : SlotUse) (k slot h : ℕ) (old a b c new : Tells) → Made h old (Got Tselect k ∷ []) a → Did (Seeks (Some slot)) h a b
-    → Made h b (armed what) c → Made h c (put_back k) new → Did (Arms what (Some slot)) h old new
-armed_did what k slot h old a b c new saved seeks arms last = record {
-  transfers = arming what k seeks.transfers (Some slot);
-  whole = record { kept = k; sought = seeks.transfers; seeks = seeks.whole; is = refl };
-  made = made_then h (Got Tselect k ∷ []) (seeks.transfers ++ (armed what ++ put_back k)) old a new saved
-      (made_then h seeks.transfers (armed what ++ put_back k) a b new seeks.made (made_then h (armed what) (put_back k) b c new arms last));
-}
+    → Did (Armed what) h b c → Made h c (put_back k) new → Did (Arms what (Some slot)) h old new
+armed_did what k slot h old a b c new saved seeks arms last =
+    let tinfo : ℕ = tinfo_of what h b c arms in
+    record {
+      transfers = arming what k seeks.transfers (Some slot) tinfo;
+      whole = record { kept = k; sought = seeks.transfers; seeks = seeks.whole; tinfo = tinfo; is = refl };
+      made = made_then h (Got Tselect k ∷ []) (seeks.transfers ++ (armed what tinfo ++ put_back k)) old a new saved
+          (made_then h seeks.transfers (armed what tinfo ++ put_back k) a b new seeks.made
+          (made_then h (armed what tinfo) (put_back k) b c new (armed_made what h b c arms) last));
+    }
 
+-- nothing is armed, so no tinfo is read: the one named here is any number
 pub none_did : (what : SlotUse) (k h : ℕ) (old a b new : Tells) → Made h old (Got Tselect k ∷ []) a → Did (Seeks None) h a b → Made h b (put_back k) new
     → Did (Arms what None) h old new
 none_did what k h old a b new saved seeks last = record {
-  transfers = arming what k seeks.transfers None;
-  whole = record { kept = k; sought = seeks.transfers; seeks = seeks.whole; is = refl };
+  transfers = arming what k seeks.transfers None 0;
+  whole = record { kept = k; sought = seeks.transfers; seeks = seeks.whole; tinfo = 0; is = refl };
   made = made_then h (Got Tselect k ∷ []) (seeks.transfers ++ put_back k) old a new saved (made_then h seeks.transfers (put_back k) a b new seeks.made last);
 }
 

@@ -3,7 +3,7 @@ use Rattle.std.proofs.Common.{◌≡◌, ◌∙◌, ◌||◌, ℕ, Bool, true, f
 use Rattle.rv_model.specs.declared.slot.Slot.{Slot}
 use Rattle.rv_model.specs.Board.{Board, Hart}
 use Rattle.abstract_debugger.specs.Plan.{with_debug_part}
-use Rattle.abstract_debugger.specs.Slots.{any_hit, hits_of, slots_at, slots_here, trigger_has_hit, use_of, with_slots, with_trigger}
+use Rattle.abstract_debugger.specs.Slots.{any_hit, hits_of, slots_at, slots_here, trigger_has_hit, use_of, uses_at, uses_here, with_slots, with_trigger}
 use Rattle.abstract_debugger.specs.Stands.{Rewrote, Target}
 use Rattle.probe_trig.specs.declared.change.Change.{Change}
 use Rattle.probe_trig.specs.declared.change.Change.TheVariants as change
@@ -24,6 +24,9 @@ use Rattle.probe_trig.proofs.Told.{Makes, Shown, played, went_as, wrote_as}
 -- the slots of the hart that is there
 pub slots_there : (h : ℕ) (x : Hart) (b : Board) → slice_get b.harts h ≡ Some x → slots_at h b ≡ x.debug.slots
 slots_there h x b is = ap slots_here is
+
+uses_there : (h : ℕ) (x : Hart) (b : Board) → slice_get b.harts h ≡ Some x → uses_at h b ≡ map (use_of x.debug.version) x.debug.slots
+uses_there h x b is = ap uses_here is
 
 -- along these transfers, from this hart
 pub shown_from : (ts all : List Transfer) (x y : Hart) → ts ≡ all → x ≡ y → Shown ts x → Shown all y
@@ -69,8 +72,8 @@ makes_changes how some wa wb wc wd h some_is x ts old new is whole frozen r sh w
           some_is
           ∙ hits_any wa wb wc wd (trigger_has_hit v.four.a.trigger) (trigger_has_hit v.four.b.trigger) (trigger_has_hit v.four.c.trigger)
           (trigger_has_hit v.four.d.trigger)
-          (shows_as_hit wa v.four.a.trigger (v.fits 0 v.four.a refl) f.word_a) (shows_as_hit wb v.four.b.trigger (v.fits 1 v.four.b refl) f.word_b)
-          (shows_as_hit wc v.four.c.trigger (v.fits 2 v.four.c refl) f.word_c) (shows_as_hit wd v.four.d.trigger (v.fits 3 v.four.d refl) f.word_d)
+          (shows_as_hit x.debug.version wa v.four.a.trigger (v.fits 0 v.four.a refl) f.word_a) (shows_as_hit x.debug.version wb v.four.b.trigger (v.fits 1 v.four.b refl) f.word_b)
+          (shows_as_hit x.debug.version wc v.four.c.trigger (v.fits 2 v.four.c refl) f.word_c) (shows_as_hit x.debug.version wd v.four.d.trigger (v.fits 3 v.four.d refl) f.word_d)
           ∙ any_four (trigger_has_hit v.four.a.trigger) (trigger_has_hit v.four.b.trigger) (trigger_has_hit v.four.c.trigger) (trigger_has_hit v.four.d.trigger)
           ∙ sym (ap any_hit (slots_there h x old.board is ∙ v.four.is));
       wrote = wrote_as h x (played ts x) (changes_all how) old new is frozen
@@ -105,7 +108,7 @@ makes_view view wa wb wc wd h shows x ts old new is whole frozen r sh w =
     let e : slots_at h old.board ≡ ss = slots_there h x old.board is ∙ v.four.is in
     record {
       shows = record {
-        uses_are = shows.uses_are ∙ f.uses ∙ ap (map use_of) (sym e);
+        uses_are = shows.uses_are ∙ f.uses ∙ ap (map (use_of x.debug.version)) (sym v.four.is) ∙ sym (uses_there h x old.board is);
         hits_are = shows.hits_are ∙ f.hits ∙ ap hits_of (sym e);
         small = shows.small;
       };

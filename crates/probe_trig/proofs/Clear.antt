@@ -13,11 +13,10 @@ use Rattle.rv_model.specs.declared.slot.Trigger.TheVariants as kind
 use Rattle.rv_model.specs.declared.touch.Touch.{Touch}
 use Rattle.rv_model.specs.Board.{Board, DebugPart, Hart}
 use Rattle.rv_model.specs.Effects.{Outcome}
-use Rattle.rv_model.specs.Execute.{exec_of}
 use Rattle.rv_model.specs.Memory.{Memory}
 use Rattle.rv_model.specs.Touch.{touch_of}
 use Rattle.rv_model.specs.Triggers.{counted_down, marked, slot_fires, trigger_counted, trigger_fires, trigger_hit}
-use Rattle.rv_model.specs.Turn.{halted_for, place_by, place_of, some_fires, stops_at_ebreak, turn, turn_by}
+use Rattle.rv_model.specs.Turn.{halted_for, place_by, place_of, some_fires, stops_at_ebreak, turn, turn_by, turn_outcome}
 use Rattle.rv_model.proofs.MapLemmas.{slice_get-set_other}
 use Rattle.debug_model.specs.declared.point.Point.TheVariants.{ResumeReq}
 use Rattle.debug_model.specs.Journal.{after_point, debug_changed_by, resume_asked, resume_asked_by, with_debug}
@@ -161,7 +160,7 @@ clear_by None resume false false false touch o x is asked c = clear_ran x.debug.
 clear_place : (x : Hart) (m : Memory) → IsClear x.debug → IsClear (place_of x m).hart.debug
 unfolding place_of
 clear_place x m c = clear_by x.debug.halted x.debug.resume_request x.debug.halt_request (some_fires (touch_of x.core m) x) (stops_at_ebreak x m)
-    (touch_of x.core m) (exec_of x.core m) x refl refl c
+    (touch_of x.core m) (turn_outcome x m) x refl refl c
 
 -- ---- on a board
 

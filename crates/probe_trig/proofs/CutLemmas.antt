@@ -20,7 +20,7 @@ use Rattle.probe_access.specs.Cuts.{IfCut, IsLeft, LeftAside, Leaves, MaybeWritt
 use Rattle.probe_run.specs.Acts.{Tells, tells}
 use Rattle.probe_run.specs.Happens.{target_of}
 use Rattle.probe_trig.specs.declared.register.TriggerRegister.{TriggerRegister}
-use Rattle.probe_trig.specs.declared.register.TriggerRegister.TheVariants.{Dcsr, Tdata1, Tdata2, Tselect}
+use Rattle.probe_trig.specs.declared.register.TriggerRegister.TheVariants.{Dcsr, Tdata1, Tdata2, Tinfo, Tselect}
 use Rattle.probe_trig.specs.Slots.{DebugAlone}
 use Rattle.probe_trig.specs.Transfers.{Attempt, AttemptFailed, FailedIn, Transfer, number_of}
 use Rattle.probe_trig.specs.Transfers.Attempt.{Getting, Setting}
@@ -34,6 +34,7 @@ unfolding debug_written csr_written
 core_kept x Tselect v = refl
 core_kept x Tdata1 v = refl
 core_kept x Tdata2 v = refl
+core_kept x Tinfo v = refl
 core_kept x Dcsr v = refl
 
 pub alone_written : (x y : Hart) (r : TriggerRegister) (v : ℕ) → DebugAlone x y → DebugAlone x (debug_written y (number_of r) v)
@@ -42,6 +43,7 @@ alone_written x y r v d =
     record {
       core = core_kept y r v ∙ d.core;
       requests = record {
+        version = k.requests.version ∙ d.requests.version;
         halted = k.requests.halted ∙ d.requests.halted;
         halt_request = k.requests.halt_request ∙ d.requests.halt_request;
         resume_request = k.requests.resume_request ∙ d.requests.resume_request;
@@ -56,7 +58,7 @@ alone_played (Got r v ∷ ts) x y d = alone_played ts x y d
 alone_played (Set r v ∷ ts) x y d = alone_played ts x (debug_written y (number_of r) v) (alone_written x y r v d)
 
 pub alone : (x : Hart) → DebugAlone x x
-alone x = record { core = refl; requests = record { halted = refl; halt_request = refl; resume_request = refl; resume_ack = refl; have_reset = refl } }
+alone x = record { core = refl; requests = record { version = refl; halted = refl; halt_request = refl; resume_request = refl; resume_ack = refl; have_reset = refl } }
 
 -- ---- the site
 

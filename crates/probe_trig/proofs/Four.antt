@@ -1,6 +1,7 @@
 -- The four slots along a whole call: they are read, or those with a hit are changed.
 use Rattle.std.proofs.Common.{◌≡◌, ◌∙◌, ◌<◌, ◌++◌, ℕ, List, [], ◌∷◌, map, length, refl, sym, ap, subst, arith}
 use Rattle.rv_model.specs.declared.slot.Slot.{Slot}
+use Rattle.rv_model.specs.declared.version.Version.{Version}
 use Rattle.rv_model.specs.Board.{Hart, IsHart}
 use Rattle.rv_model.specs.TriggerWords.{CountFits, tdata1_of}
 use Rattle.rv_model.specs.Triggers.{CountsFit}
@@ -61,10 +62,10 @@ whole_of h x w =
 -- ---- changed
 
 pub record FourChanged (how : Change) (x : Hart) (k kept wa wb wc wd : ℕ) (a b c d : Slot) : Type 0 where
-  pub word_a : wa ≡ tdata1_of a.trigger
-  pub word_b : wb ≡ tdata1_of b.trigger
-  pub word_c : wc ≡ tdata1_of c.trigger
-  pub word_d : wd ≡ tdata1_of d.trigger
+  pub word_a : wa ≡ tdata1_of x.debug.version a.trigger
+  pub word_b : wb ≡ tdata1_of x.debug.version b.trigger
+  pub word_c : wc ≡ tdata1_of x.debug.version c.trigger
+  pub word_d : wd ≡ tdata1_of x.debug.version d.trigger
   pub is : played (four_changed how kept wa wb wc wd) (posed k (a ∷ b ∷ c ∷ d ∷ []) x)
       ≡ posed k (map (with_trigger (trigger_changed how)) (a ∷ b ∷ c ∷ d ∷ [])) x
 
@@ -99,7 +100,7 @@ changed_four how x k kept wa wb wc wd a b c d small fits sh =
 -- ---- read
 
 record SlotSeen (i : ℕ) (w : SlotWords) (s : Slot) (ss : List Slot) (k : ℕ) (x : Hart) (rest : List Transfer) : Type 0 where
-  pub tdata1 : w.tdata1 ≡ tdata1_of s.trigger
+  pub tdata1 : w.tdata1 ≡ tdata1_of x.debug.version s.trigger
   pub tdata2 : w.tdata2 ≡ s.tdata2
   pub passed : Passed (slot_read i w ++ rest) (posed k ss x) rest (posed i ss x)
 
@@ -109,17 +110,18 @@ slot_seen i w s ss k x rest small here sh =
     let more : List Transfer = Got Tdata2 w.tdata2 ∷ rest in
     let a : WordPassed i w.tdata1 ss k x more = word_passed i w.tdata1 k ss x more small sh in
     record {
-      tdata1 = a.word ∙ ap (λ (u : Slot). tdata1_of u.trigger) here;
+      tdata1 = a.word ∙ ap (λ (u : Slot). tdata1_of x.debug.version u.trigger) here;
       tdata2 = same_Some w.tdata2 (slot_at i ss).tdata2 (sym a.passed.shown.0 ∙ tdata2_holds i ss x) ∙ ap (λ (u : Slot). u.tdata2) here;
       passed = passed_then (slot_read i w ++ rest) more rest (posed k ss x) (posed i ss x) (posed i ss x) a.passed
           (passed_got Tdata2 w.tdata2 rest (posed i ss x) a.passed.shown);
     }
 
-use_seen : (w : SlotWords) (s : Slot) → CountFits s.trigger → w.tdata1 ≡ tdata1_of s.trigger → w.tdata2 ≡ s.tdata2 → use_of_words w ≡ use_of s
-use_seen w s fits e f = shows_as_use w.tdata1 w.tdata2 s fits e f
+use_seen : (v : Version) (w : SlotWords) (s : Slot) → CountFits s.trigger → w.tdata1 ≡ tdata1_of v s.trigger → w.tdata2 ≡ s.tdata2
+    → use_of_words w ≡ use_of v s
+use_seen v w s fits e f = shows_as_use v w.tdata1 w.tdata2 s fits e f
 
 pub record FourSeen (x : Hart) (k kept : ℕ) (wa wb wc wd : SlotWords) (ss : List Slot) : Type 0 where
-  pub uses : map use_of_words (wa ∷ wb ∷ wc ∷ wd ∷ []) ≡ map use_of ss
+  pub uses : map use_of_words (wa ∷ wb ∷ wc ∷ wd ∷ []) ≡ map (use_of x.debug.version) ss
   pub hits : map hit_of_words (wa ∷ wb ∷ wc ∷ wd ∷ []) ≡ hits_of ss
   pub is : played (four_read kept wa wb wc wd) (posed k ss x) ≡ posed k ss x
 
@@ -143,12 +145,12 @@ seen_four x k kept wa wb wc wd a b c d small fits sh =
     let q2 : SlotSeen 2 wc c ss 1 x r3 = slot_seen 2 wc c ss 1 x r3 (omega arith) refl q1.passed.shown in
     let q3 : SlotSeen 3 wd d ss 2 x r4 = slot_seen 3 wd d ss 2 x r4 (omega arith) refl q2.passed.shown in
     record {
-      uses = lists (use_of_words wa) (use_of_words wb) (use_of_words wc) (use_of_words wd) (use_of a) (use_of b) (use_of c) (use_of d)
-          (use_seen wa a (fits 0 a refl) q0.tdata1 q0.tdata2) (use_seen wb b (fits 1 b refl) q1.tdata1 q1.tdata2)
-          (use_seen wc c (fits 2 c refl) q2.tdata1 q2.tdata2) (use_seen wd d (fits 3 d refl) q3.tdata1 q3.tdata2);
+      uses = lists (use_of_words wa) (use_of_words wb) (use_of_words wc) (use_of_words wd) (use_of x.debug.version a) (use_of x.debug.version b) (use_of x.debug.version c) (use_of x.debug.version d)
+          (use_seen x.debug.version wa a (fits 0 a refl) q0.tdata1 q0.tdata2) (use_seen x.debug.version wb b (fits 1 b refl) q1.tdata1 q1.tdata2)
+          (use_seen x.debug.version wc c (fits 2 c refl) q2.tdata1 q2.tdata2) (use_seen x.debug.version wd d (fits 3 d refl) q3.tdata1 q3.tdata2);
       hits = lists (hit_of_words wa) (hit_of_words wb) (hit_of_words wc) (hit_of_words wd) (trigger_has_hit a.trigger) (trigger_has_hit b.trigger)
           (trigger_has_hit c.trigger) (trigger_has_hit d.trigger)
-          (shows_as_hit wa.tdata1 a.trigger (fits 0 a refl) q0.tdata1) (shows_as_hit wb.tdata1 b.trigger (fits 1 b refl) q1.tdata1)
-          (shows_as_hit wc.tdata1 c.trigger (fits 2 c refl) q2.tdata1) (shows_as_hit wd.tdata1 d.trigger (fits 3 d refl) q3.tdata1);
+          (shows_as_hit x.debug.version wa.tdata1 a.trigger (fits 0 a refl) q0.tdata1) (shows_as_hit x.debug.version wb.tdata1 b.trigger (fits 1 b refl) q1.tdata1)
+          (shows_as_hit x.debug.version wc.tdata1 c.trigger (fits 2 c refl) q2.tdata1) (shows_as_hit x.debug.version wd.tdata1 d.trigger (fits 3 d refl) q3.tdata1);
       is = p.is ∙ q0.passed.is ∙ q1.passed.is ∙ q2.passed.is ∙ q3.passed.is ∙ put_back_is kept k 3 ss x (kept_is kept k ss x r0 sh) small;
     }

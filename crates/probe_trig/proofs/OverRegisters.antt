@@ -44,7 +44,7 @@ use Rattle.probe_access.proofs.CutSites.{cut_always, if_cut}
 use Rattle.probe_run.specs.Acts.{Tells, tells}
 use Rattle.probe_trig.specs.declared.change.Change.{Change}
 use Rattle.probe_trig.specs.declared.register.TriggerRegister.{TriggerRegister}
-use Rattle.probe_trig.specs.declared.register.TriggerRegister.TheVariants.{Dcsr, Tdata1, Tdata2, Tselect}
+use Rattle.probe_trig.specs.declared.register.TriggerRegister.TheVariants.{Dcsr, Tdata1, Tdata2, Tinfo, Tselect}
 use Rattle.probe_trig.specs.Runs.{ChangesAny, put_back, slot_changed}
 use Rattle.probe_trig.specs.StepCuts.{OverAlone, addresses_of}
 use Rattle.probe_trig.specs.Stepping.{EndsAny, ending}
@@ -66,6 +66,7 @@ over_then x y z p q = record {
   alone = record {
     core = q.alone.core ∙ p.alone.core;
     requests = record {
+      version = q.alone.requests.version ∙ p.alone.requests.version;
       halted = q.alone.requests.halted ∙ p.alone.requests.halted;
       halt_request = q.alone.requests.halt_request ∙ p.alone.requests.halt_request;
       resume_request = q.alone.requests.resume_request ∙ p.alone.requests.resume_request;
@@ -79,7 +80,7 @@ over_then x y z p q = record {
 
 pub over_flag : (on : Bool) (x : Hart) → OverAlone x (with_step on x)
 over_flag on x = record {
-  alone = record { core = refl; requests = record { halted = refl; halt_request = refl; resume_request = refl; resume_ack = refl; have_reset = refl } };
+  alone = record { core = refl; requests = record { version = refl; halted = refl; halt_request = refl; resume_request = refl; resume_ack = refl; have_reset = refl } };
   ebreakm = refl;
   addresses = refl;
 }
@@ -94,7 +95,7 @@ kept_by f (s ∷ ss) = ap (λ zs. s.tdata2 ∷ zs) (kept_by f ss)
 
 pub over_changed : (how : Change) (x : Hart) → OverAlone x (changes_all how x)
 over_changed how x = record {
-  alone = record { core = refl; requests = record { halted = refl; halt_request = refl; resume_request = refl; resume_ack = refl; have_reset = refl } };
+  alone = record { core = refl; requests = record { version = refl; halted = refl; halt_request = refl; resume_request = refl; resume_ack = refl; have_reset = refl } };
   ebreakm = refl;
   addresses = kept_by (trigger_changed how) x.debug.slots;
 }
@@ -106,6 +107,7 @@ Mild (Got r v) = Unit {0}
 Mild (Set Tselect v) = Unit {0}
 Mild (Set Tdata1 v) = Unit {0}
 Mild (Set Tdata2 v) = ⊥
+Mild (Set Tinfo v) = ⊥
 Mild (Set Dcsr v) = ⊥
 
 abbrev pub AllMild : List Transfer → Type 0
@@ -158,13 +160,14 @@ unfolding debug_written csr_written trigger_csr_written
 over_tdata1 x v = record {
   alone = alone_written x x Tdata1 v (alone x);
   ebreakm = refl;
-  addresses = trigger_set x.debug.slots x.debug.tselect (trigger_of v);
+  addresses = trigger_set x.debug.slots x.debug.tselect (trigger_of x.debug.version v);
 }
 
 over_written : (x y : Hart) (r : TriggerRegister) (v : ℕ) → Mild (Set r v) → OverAlone x y → OverAlone x (debug_written y (number_of r) v)
 over_written x y Tselect v m p = over_then x y (debug_written y (number_of Tselect) v) p (over_selected y v)
 over_written x y Tdata1 v m p = over_then x y (debug_written y (number_of Tdata1) v) p (over_tdata1 y v)
 over_written x y Tdata2 v m p = absurd m
+over_written x y Tinfo v m p = absurd m
 over_written x y Dcsr v m p = absurd m
 
 over_played : (ts : List Transfer) (x y : Hart) → AllMild ts → OverAlone x y → OverAlone x (played ts y)

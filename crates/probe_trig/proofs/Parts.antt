@@ -33,21 +33,23 @@ use Rattle.rv_model.specs.declared.slot.Mcontrol6.{Mcontrol6}
 use Rattle.rv_model.specs.declared.slot.Slot.{Slot}
 use Rattle.rv_model.specs.declared.slot.Trigger.{Trigger}
 use Rattle.rv_model.specs.declared.slot.Trigger.TheVariants as kind
+use Rattle.rv_model.specs.declared.version.Version.{Version}
 use Rattle.rv_model.specs.Board.{Hart, free_slot}
 use Rattle.rv_model.specs.DebugRegisters.{debug_value, debug_written}
 use Rattle.rv_model.specs.Registers.{csr_value, csr_written}
-use Rattle.rv_model.specs.TriggerWords.{CountFits, tdata1_of, trigger_csr_value, trigger_csr_written, trigger_of}
-use Rattle.rv_model.proofs.DebugWordLemmas.{trigger_read_back}
+use Rattle.rv_model.specs.TriggerWords.{CountFits, tdata1_of, tinfo_value, trigger_csr_value, trigger_csr_written, trigger_of, version_offered, version_shown}
+use Rattle.rv_model.proofs.DebugWordLemmas.{releases_shown, shown_back, trigger_read_back}
 use Rattle.rv_model.proofs.MapLemmas.{set_same}
 use Rattle.abstract_debugger.specs.Slots.{trigger_has_hit, with_trigger}
 use Rattle.probe_trig.specs.declared.change.Change.{Change}
 use Rattle.probe_trig.specs.declared.change.Change.TheVariants as change
 use Rattle.probe_trig.specs.declared.register.TriggerRegister.{TriggerRegister}
-use Rattle.probe_trig.specs.declared.register.TriggerRegister.TheVariants.{Tdata1, Tdata2, Tselect}
+use Rattle.probe_trig.specs.declared.register.TriggerRegister.TheVariants.{Tdata1, Tdata2, Tinfo, Tselect}
 use Rattle.probe_trig.specs.Runs.{hit_changed, slot_changed, word_read}
 use Rattle.probe_trig.specs.Transfers.{Transfer, number_of}
 use Rattle.probe_trig.specs.Transfers.Transfer.{Got, Set}
 use Rattle.probe_trig.specs.SlotRegisters.{shows_hit, trigger_changed, word_changed}
+use Rattle.probe_trig.proofs.Shows.{address_shown, shows_as_hit}
 use Rattle.probe_trig.proofs.Told.{Shown, played}
 
 -- ---- a hart with this tselect and these slots
@@ -62,7 +64,7 @@ select_holds : (k : ℕ) (ss : List Slot) (x : Hart) → debug_value (posed k ss
 unfolding debug_value csr_value trigger_csr_value
 select_holds k ss x = refl
 
-tdata1_holds : (k : ℕ) (ss : List Slot) (x : Hart) → debug_value (posed k ss x) (number_of Tdata1) ≡ Some (tdata1_of (slot_at k ss).trigger)
+tdata1_holds : (k : ℕ) (ss : List Slot) (x : Hart) → debug_value (posed k ss x) (number_of Tdata1) ≡ Some (tdata1_of x.debug.version (slot_at k ss).trigger)
 unfolding debug_value csr_value trigger_csr_value
 tdata1_holds k ss x = refl
 
@@ -75,7 +77,7 @@ unfolding debug_written csr_written trigger_csr_written
 select_set k v ss x = refl
 
 pub tdata1_set : (k v : ℕ) (ss : List Slot) (x : Hart)
-    → debug_written (posed k ss x) (number_of Tdata1) v ≡ posed k (set ss k (record (slot_at k ss) { trigger = trigger_of v })) x
+    → debug_written (posed k ss x) (number_of Tdata1) v ≡ posed k (set ss k (record (slot_at k ss) { trigger = trigger_of x.debug.version v })) x
 unfolding debug_written csr_written trigger_csr_written
 tdata1_set k v ss x = refl
 
@@ -83,6 +85,10 @@ pub tdata2_set : (k v : ℕ) (ss : List Slot) (x : Hart)
     → debug_written (posed k ss x) (number_of Tdata2) v ≡ posed k (set ss k (record (slot_at k ss) { tdata2 = v })) x
 unfolding debug_written csr_written trigger_csr_written
 tdata2_set k v ss x = refl
+
+tinfo_holds : (k : ℕ) (ss : List Slot) (x : Hart) → debug_value (posed k ss x) (number_of Tinfo) ≡ Some (tinfo_value x.debug.version)
+unfolding debug_value csr_value trigger_csr_value
+tinfo_holds k ss x = refl
 
 -- ---- transfers of which only a rest is left
 
@@ -112,7 +118,7 @@ selecting i k ss x rest small s =
     passed_set Tselect i rest (posed k ss x) (posed i ss x) (select_set k i ss x ∙ ap (λ n. posed n ss x) fits) s
 
 pub record WordPassed (i w : ℕ) (ss : List Slot) (k : ℕ) (x : Hart) (rest : List Transfer) : Type 0 where
-  pub word : w ≡ tdata1_of (slot_at i ss).trigger
+  pub word : w ≡ tdata1_of x.debug.version (slot_at i ss).trigger
   pub passed : Passed (word_read i w ++ rest) (posed k ss x) rest (posed i ss x)
 
 pub word_passed : (i w k : ℕ) (ss : List Slot) (x : Hart) (rest : List Transfer) → i < 4 → Shown (word_read i w ++ rest) (posed k ss x)
@@ -120,10 +126,23 @@ pub word_passed : (i w k : ℕ) (ss : List Slot) (x : Hart) (rest : List Transfe
 word_passed i w k ss x rest small s =
     let p : Passed (word_read i w ++ rest) (posed k ss x) (Got Tdata1 w ∷ rest) (posed i ss x) = selecting i k ss x (Got Tdata1 w ∷ rest) small s in
     record {
-      word = same_value (tdata1_of (slot_at i ss).trigger) w (sym (tdata1_holds i ss x) ∙ p.shown.0);
+      word = same_value (tdata1_of x.debug.version (slot_at i ss).trigger) w (sym (tdata1_holds i ss x) ∙ p.shown.0);
       passed = passed_then (word_read i w ++ rest) (Got Tdata1 w ∷ rest) rest (posed k ss x) (posed i ss x) (posed i ss x) p
           (passed_got Tdata1 w rest (posed i ss x) p.shown);
     }
+
+-- ---- its tinfo is read
+
+pub record TinfoPassed (tinfo i : ℕ) (ss : List Slot) (x : Hart) (rest : List Transfer) : Type 0 where
+  pub offered : version_offered tinfo ≡ x.debug.version
+  pub passed : Passed (Got Tinfo tinfo ∷ rest) (posed i ss x) rest (posed i ss x)
+
+pub tinfo_passed : (tinfo i : ℕ) (ss : List Slot) (x : Hart) (rest : List Transfer) → Shown (Got Tinfo tinfo ∷ rest) (posed i ss x)
+    → TinfoPassed tinfo i ss x rest
+tinfo_passed tinfo i ss x rest s = record {
+  offered = ap version_offered (same_value (tinfo_value x.debug.version) tinfo (sym (tinfo_holds i ss x) ∙ s.0)) ∙ (releases_shown x.debug.version).offered;
+  passed = passed_got Tinfo tinfo rest (posed i ss x) s;
+}
 
 -- ---- and is selected as it was at first
 
@@ -182,31 +201,45 @@ change_fits change.PutBack kind.Disabled f = f
 change_fits change.Forget kind.Disabled f = f
 change_fits change.PutBackAndForget kind.Disabled f = f
 
--- the trigger that a word read back holds
-pub read_as : (w : ℕ) (t : Trigger) → CountFits t → w ≡ tdata1_of t → trigger_of w ≡ t
-read_as w t fits e = ap trigger_of e ∙ trigger_read_back t fits
+-- a changed word is of the type of the word before it
+kept_word : (how : Change) (v : Version) (t : Trigger)
+    → tdata1_of (version_shown (tdata1_of v t)) (trigger_changed how t) ≡ tdata1_of v (trigger_changed how t)
+unfolding tdata1_of
+kept_word how v (kind.Mcontrol6 t) = ap (λ u. tdata1_of u (trigger_changed how (kind.Mcontrol6 t))) (address_shown v t)
+kept_word change.Hold v (kind.Icount t) = refl
+kept_word change.PutBack v (kind.Icount t) = refl
+kept_word change.Forget v (kind.Icount t) = refl
+kept_word change.PutBackAndForget v (kind.Icount t) = refl
+kept_word change.Hold v kind.Disabled = refl
+kept_word change.PutBack v kind.Disabled = refl
+kept_word change.Forget v kind.Disabled = refl
+kept_word change.PutBackAndForget v kind.Disabled = refl
 
 pub record SlotPassed (how : Change) (i w : ℕ) (s : Slot) (ss : List Slot) (k : ℕ) (x : Hart) (rest : List Transfer) : Type 0 where
-  pub word : w ≡ tdata1_of s.trigger
+  pub word : w ≡ tdata1_of x.debug.version s.trigger
   pub passed : Passed (slot_changed how i w ++ rest) (posed k ss x) rest (posed i (set ss i (with_trigger (trigger_changed how) s)) x)
 
-changed_as : (how : Change) (w : ℕ) (s : Slot) → CountFits s.trigger → w ≡ tdata1_of s.trigger → trigger_of (word_changed how w) ≡ trigger_changed how s.trigger
-changed_as how w s fits word =
-    ap (λ t. trigger_of (tdata1_of (trigger_changed how t))) (read_as w s.trigger fits word)
-    ∙ trigger_read_back (trigger_changed how s.trigger) (change_fits how s.trigger fits)
+changed_as : (v : Version) (how : Change) (w : ℕ) (s : Slot) → CountFits s.trigger → w ≡ tdata1_of v s.trigger
+    → trigger_of v (word_changed how w) ≡ trigger_changed how s.trigger
+changed_as v how w s fits word =
+    let t : Trigger = s.trigger in
+    ap (λ n. trigger_of v (word_changed how n)) word
+    ∙ ap (λ u. trigger_of v (tdata1_of (version_shown (tdata1_of v t)) (trigger_changed how u))) (shown_back v t fits)
+    ∙ ap (trigger_of v) (kept_word how v t)
+    ∙ trigger_read_back v (trigger_changed how t) (change_fits how t fits)
 
 hit_passed : (hit : Bool) (how : Change) (i w : ℕ) (s : Slot) (ss : List Slot) (x : Hart) (rest : List Transfer) → shows_hit w ≡ hit → CountFits s.trigger
-    → slot_at i ss ≡ s → slice_get ss i ≡ Some s → w ≡ tdata1_of s.trigger
+    → slot_at i ss ≡ s → slice_get ss i ≡ Some s → w ≡ tdata1_of x.debug.version s.trigger
     → Shown ((if hit then Set Tdata1 (word_changed how w) ∷ [] else []) ++ rest) (posed i ss x)
     → Passed ((if hit then Set Tdata1 (word_changed how w) ∷ [] else []) ++ rest) (posed i ss x) rest
     (posed i (set ss i (with_trigger (trigger_changed how) s)) x)
 hit_passed true how i w s ss x rest shows fits here at word sh =
     passed_set Tdata1 (word_changed how w) rest (posed i ss x) (posed i (set ss i (with_trigger (trigger_changed how) s)) x)
     (tdata1_set i (word_changed how w) ss x
-    ∙ ap (λ (u : Slot). posed i (set ss i (record u { trigger = trigger_of (word_changed how w) })) x) here
-    ∙ ap (λ (t : Trigger). posed i (set ss i (record s { trigger = t })) x) (changed_as how w s fits word)) sh
+    ∙ ap (λ (u : Slot). posed i (set ss i (record u { trigger = trigger_of x.debug.version (word_changed how w) })) x) here
+    ∙ ap (λ (t : Trigger). posed i (set ss i (record s { trigger = t })) x) (changed_as x.debug.version how w s fits word)) sh
 hit_passed false how i w s ss x rest shows fits here at word sh =
-    let none : trigger_has_hit s.trigger ≡ false = ap trigger_has_hit (sym (read_as w s.trigger fits word)) ∙ shows in
+    let none : trigger_has_hit s.trigger ≡ false = sym (shows_as_hit x.debug.version w s.trigger fits word) ∙ shows in
     let same : posed i ss x ≡ posed i (set ss i (with_trigger (trigger_changed how) s)) x =
     ap (λ zs. posed i zs x) (sym (set_same ss i s at))
     ∙ ap (λ (t : Trigger). posed i (set ss i (record s { trigger = t })) x) (sym (unchanged how s.trigger none)) in
@@ -217,7 +250,7 @@ pub slot_passed : (how : Change) (i w : ℕ) (s : Slot) (ss : List Slot) (k : �
     → Shown (slot_changed how i w ++ rest) (posed k ss x) → SlotPassed how i w s ss k x rest
 slot_passed how i w s ss k x rest small fits here at sh =
     let a : WordPassed i w ss k x (hit_changed how w ++ rest) = word_passed i w k ss x (hit_changed how w ++ rest) small sh in
-    let word : w ≡ tdata1_of s.trigger = a.word ∙ ap (λ (u : Slot). tdata1_of u.trigger) here in
+    let word : w ≡ tdata1_of x.debug.version s.trigger = a.word ∙ ap (λ (u : Slot). tdata1_of x.debug.version u.trigger) here in
     record {
       word = word;
       passed = passed_then (slot_changed how i w ++ rest) (hit_changed how w ++ rest) rest (posed k ss x) (posed i ss x)

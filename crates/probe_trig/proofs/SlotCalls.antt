@@ -7,9 +7,9 @@ use Rattle.abstract_debugger.specs.Debugger.{is_free_slot}
 use Rattle.abstract_debugger.specs.Plan.{slot_changed, slot_freed, with_debug_part}
 use Rattle.abstract_debugger.specs.Slots.{armed_for, first_free, freed as slot_free, is_free}
 use Rattle.abstract_debugger.proofs.OverLemmas.{set-over}
-use Rattle.probe_trig.specs.declared.register.TriggerRegister.TheVariants.{Tselect}
+use Rattle.probe_trig.specs.declared.register.TriggerRegister.TheVariants.{Tinfo, Tselect}
 use Rattle.debug_model.specs.declared.slot_use.SlotUse.{SlotUse}
-use Rattle.probe_trig.specs.Runs.{Arms, Finds, FindsNone, Frees, armed, freed, put_back, word_read, words_read}
+use Rattle.probe_trig.specs.Runs.{Arms, Finds, FindsNone, Frees, armed_by, freed, put_back, word_read, words_read}
 use Rattle.probe_trig.specs.Slots.{ArmedAt, FreedAt, FullAt, UnusedAt}
 use Rattle.probe_trig.specs.Transfers.{Transfer}
 use Rattle.probe_trig.specs.Transfers.Transfer.{Got}
@@ -17,7 +17,7 @@ use Rattle.probe_trig.specs.SlotRegisters.{CanArm}
 use Rattle.probe_trig.proofs.ArmedSlots.{ArmedAs, WordsPassed, armed_as, slot_freed as slot_freed_passed, there_at, words_passed}
 use Rattle.probe_trig.proofs.Calls.{played_from, shown_from, slots_there}
 use Rattle.probe_trig.proofs.Free.{lowest_free, none_free}
-use Rattle.probe_trig.proofs.Parts.{Passed, WordPassed, kept_is, passed_got, posed, put_back_is, slot_at, word_passed}
+use Rattle.probe_trig.proofs.Parts.{Passed, TinfoPassed, WordPassed, kept_is, passed_got, posed, put_back_is, slot_at, tinfo_passed, word_passed}
 use Rattle.probe_trig.proofs.Shows.{shows_as_free}
 use Rattle.probe_trig.proofs.Told.{Makes, Shown, played, went_as, wrote_as}
 
@@ -44,7 +44,7 @@ makes_freed slot h small x ts old new is whole frozen r sh w =
     record {
       in_use =
           ap (λ zs. is_free_slot (slice_get zs slot)) (slots_there h x old.board is) ∙ ap is_free_slot at
-          ∙ sym (shows_as_free r.tdata1 s.trigger (whole.counts slot s at) q.word) ∙ r.shows;
+          ∙ sym (shows_as_free x.debug.version r.tdata1 s.trigger (whole.counts slot s at) q.word) ∙ r.shows;
       wrote = wrote_as h x (played ts x) (with_debug_part (slot_freed slot)) old new is frozen
           (played_from ts (Got Tselect r.kept ∷ r0) x (posed k ss x) r.is refl ∙ p.is ∙ q.passed.is ∙ v.is
           ∙ put_back_is r.kept k slot (set ss slot (slot_free s)) x (kept_is r.kept k ss x r0 sh0) whole.selected
@@ -66,7 +66,7 @@ makes_unused slot h small x ts old new is whole frozen r sh w =
     record {
       free =
           ap (λ zs. is_free_slot (slice_get zs slot)) (slots_there h x old.board is) ∙ ap is_free_slot at
-          ∙ sym (shows_as_free r.tdata1 s.trigger (whole.counts slot s at) q.word) ∙ r.shows;
+          ∙ sym (shows_as_free x.debug.version r.tdata1 s.trigger (whole.counts slot s at) q.word) ∙ r.shows;
       went = went_as h x (played ts x) old new is frozen
           (played_from ts (Got Tselect r.kept ∷ r0) x (posed k ss x) r.is refl ∙ p.is ∙ q.passed.is
           ∙ put_back_is r.kept k slot ss x (kept_is r.kept k ss x r0 sh0) whole.selected) w;
@@ -84,7 +84,8 @@ makes_armed meant slot h can x ts old new is whole frozen r sh w =
     let s : Slot = slot_at slot ss in
     let at : slice_get ss slot ≡ Some s = there_at slot ss lt in
     let r3 : List Transfer = put_back r.kept in
-    let r2 : List Transfer = armed meant ++ r3 in
+    let r2' : List Transfer = armed_by r.tinfo meant ++ r3 in
+    let r2 : List Transfer = Got Tinfo r.tinfo ∷ r2' in
     let r1 : List Transfer = word_read slot f.tdata1 ++ r2 in
     let r0 : List Transfer = words_read 0 f.vain ++ r1 in
     let all : ts ≡ Got Tselect r.kept ∷ r0 =
@@ -94,15 +95,16 @@ makes_armed meant slot h can x ts old new is whole frozen r sh w =
     let p : Passed (Got Tselect r.kept ∷ r0) (posed k ss x) r0 (posed k ss x) = passed_got Tselect r.kept r0 (posed k ss x) sh0 in
     let a : WordsPassed 0 f.vain ss k x r1 = words_passed 0 f.vain ss k x r1 whole.slots whole.counts (omega (arith, f.used.few)) f.used.all p.shown in
     let q : WordPassed slot f.tdata1 ss a.last x r2 = word_passed slot f.tdata1 a.last ss x r2 small a.passed.shown in
-    let v : ArmedAs meant slot s ss x r3 = armed_as meant slot s ss x r3 can lt refl q.passed.shown in
+    let t : TinfoPassed r.tinfo slot ss x r2' = tinfo_passed r.tinfo slot ss x r2' q.passed.shown in
+    let v : ArmedAs r.tinfo meant slot s ss x r3 = armed_as r.tinfo meant slot s ss x r3 t.offered can lt refl t.passed.shown in
     record {
       lowest = ap first_free (slots_there h x old.board is)
-          ∙ lowest_free ss slot s at (sym (shows_as_free f.tdata1 s.trigger (whole.counts slot s at) q.word) ∙ f.free)
+          ∙ lowest_free ss slot s at (sym (shows_as_free x.debug.version f.tdata1 s.trigger (whole.counts slot s at) q.word) ∙ f.free)
           (λ j z below here. ap (λ (u : Slot). is_free u.trigger) (sym (is_there j z ss here)) ∙ a.used j (omega arith) (omega (arith, below, f.here)));
       what = v.what;
       what_is = v.named;
       wrote = wrote_as h x (played ts x) (with_debug_part (slot_changed slot v.what)) old new is frozen
-          (played_from ts (Got Tselect r.kept ∷ r0) x (posed k ss x) all refl ∙ p.is ∙ a.passed.is ∙ q.passed.is ∙ v.passed.is
+          (played_from ts (Got Tselect r.kept ∷ r0) x (posed k ss x) all refl ∙ p.is ∙ a.passed.is ∙ q.passed.is ∙ t.passed.is ∙ v.passed.is
           ∙ put_back_is r.kept k slot (set ss slot (armed_for v.what s)) x (kept_is r.kept k ss x r0 sh0) whole.selected
           ∙ ap (λ zs. posed k zs x) (set-over (armed_for v.what) ss slot s at)) w;
     }

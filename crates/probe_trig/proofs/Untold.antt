@@ -15,7 +15,7 @@ use Rattle.probe_access.specs.Scratches.{ScratchLeft}
 use Rattle.probe_run.specs.Acts.{Tells, tells}
 use Rattle.debug_model.specs.Dmi.{DmiComing}
 use Rattle.probe_trig.specs.declared.register.TriggerRegister.{TriggerRegister}
-use Rattle.probe_trig.specs.declared.register.TriggerRegister.TheVariants.{Dcsr, Tdata1, Tdata2, Tselect}
+use Rattle.probe_trig.specs.declared.register.TriggerRegister.TheVariants.{Dcsr, Tdata1, Tdata2, Tinfo, Tselect}
 use Rattle.probe_trig.specs.Transfers.{Attempt, AttemptFailed, FailedIn, Made, Transfer, Transferred, number_of}
 use Rattle.probe_trig.specs.Transfers.Attempt.{Getting, Setting}
 use Rattle.probe_trig.specs.Transfers.Made.{first, nothing}
@@ -62,10 +62,12 @@ unfolding debug_value csr_value trigger_csr_value debug_refuses csr_read_only
 reached true x Tselect = refl
 reached true x Tdata1 = refl
 reached true x Tdata2 = refl
+reached true x Tinfo = refl
 reached true x Dcsr = refl
 reached false x Tselect = refl
 reached false x Tdata1 = refl
 reached false x Tdata2 = refl
+reached false x Tinfo = refl
 reached false x Dcsr = refl
 
 not_denied : (write : Bool) (h : ℕ) (r : TriggerRegister) (old new : Option Far) → WhereTold (RegisterRefusedAt write h (number_of r)) old new → old ≡ None

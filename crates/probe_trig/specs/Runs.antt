@@ -1,17 +1,16 @@
 -- The transfers of each call on a hart's slots, in order.
--- RISC-V Debug Specification 1.0, "Trigger Select": a slot's registers are reached while tselect names it. That tselect is read first and put back last,
--- and that slots are visited from the lowest on, is this project's own.
+-- RISC-V Debug Specification 1.0, "Trigger Select": a slot's registers are reached while tselect names it; "Trigger Info": tinfo has a bit for each type that
+-- it offers. That tselect is read first and put back last, and that slots are visited from the lowest on, is this project's own.
 use Rattle.std.specs.Prelude.{◌≡◌, ◌++◌, ◌<◌, ℕ, suc, List, [], ◌∷◌, All, length, Bool, true, false, Option, Some, None, if◌then◌else◌}
-use Rattle.rv_model.specs.TriggerWords.{tdata1_of}
-use Rattle.rv_model.specs.declared.slot.Trigger.TheVariants.{Disabled}
+use Rattle.rv_model.specs.TriggerWords.{disabled_word}
 use Rattle.rv_model.specs.Board.{slot_count}
 use Rattle.probe_trig.specs.declared.change.Change.{Change}
-use Rattle.probe_trig.specs.declared.register.TriggerRegister.TheVariants.{Tselect, Tdata1, Tdata2}
+use Rattle.probe_trig.specs.declared.register.TriggerRegister.TheVariants.{Tselect, Tdata1, Tdata2, Tinfo}
 use Rattle.debug_model.specs.declared.slot_use.SlotUse.{SlotUse}
 use Rattle.probe_trig.specs.declared.slot_words.SlotWords.{SlotWords}
 use Rattle.probe_trig.specs.Transfers.{Transfer}
 use Rattle.probe_trig.specs.Transfers.Transfer.{Got, Set}
-use Rattle.probe_trig.specs.SlotRegisters.{address_named, shows_free, shows_hit, trigger_named, word_changed}
+use Rattle.probe_trig.specs.SlotRegisters.{address_named, shows_free, shows_hit, word_changed, word_named}
 
 -- the slot that was selected is selected again
 abbrev pub put_back : ℕ → List Transfer
@@ -68,8 +67,13 @@ abbrev pub address_set : Option ℕ → List Transfer
 address_set (Some address) = Set Tdata2 address ∷ []
 address_set None = []
 
-abbrev pub armed : SlotUse → List Transfer
-armed what = address_set (address_named what) ++ Set Tdata1 (tdata1_of (trigger_named what)) ∷ []
+-- a slot of this tinfo is armed
+abbrev pub armed_by : ℕ → SlotUse → List Transfer
+armed_by tinfo what = address_set (address_named what) ++ Set Tdata1 (word_named tinfo what) ∷ []
+
+-- which types the slot offers is read first
+abbrev pub armed : SlotUse → ℕ → List Transfer
+armed what tinfo = Got Tinfo tinfo ∷ armed_by tinfo what
 
 -- this slot is the lowest free one
 pub record Finds (slot : ℕ) (ts : List Transfer) : Type 0 where
@@ -94,15 +98,17 @@ Seeks None ts = FindsNone ts
 abbrev pub SeeksAny : List Transfer → Type 0
 SeeksAny ts = (found : Option ℕ) × Seeks found ts
 
-abbrev pub armed_at : SlotUse → Option ℕ → List Transfer
-armed_at what (Some slot) = armed what
-armed_at what None = []
+-- where there is a free one; tinfo is read of no other
+abbrev pub armed_at : SlotUse → Option ℕ → ℕ → List Transfer
+armed_at what (Some slot) tinfo = armed what tinfo
+armed_at what None tinfo = []
 
 pub record Arms (what : SlotUse) (found : Option ℕ) (ts : List Transfer) : Type 0 where
   pub kept : ℕ
   pub sought : List Transfer
   pub seeks : Seeks found sought
-  pub is : ts ≡ Got Tselect kept ∷ (sought ++ (armed_at what found ++ put_back kept))
+  pub tinfo : ℕ
+  pub is : ts ≡ Got Tselect kept ∷ (sought ++ (armed_at what found tinfo ++ put_back kept))
 
 abbrev pub ArmsAny : SlotUse → List Transfer → Type 0
 ArmsAny what ts = (found : Option ℕ) × Arms what found ts
@@ -111,7 +117,7 @@ ArmsAny what ts = (found : Option ℕ) × Arms what found ts
 
 abbrev pub freed : Bool → List Transfer
 freed true = []
-freed false = Set Tdata1 (tdata1_of Disabled) ∷ []
+freed false = Set Tdata1 disabled_word ∷ []
 
 pub record Frees (slot : ℕ) (free : Bool) (ts : List Transfer) : Type 0 where
   pub kept : ℕ

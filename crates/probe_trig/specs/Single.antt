@@ -6,7 +6,7 @@ use Rattle.probe_trig.specs.declared.change.Change.{Change}
 use Rattle.probe_trig.specs.declared.register.TriggerRegister.{TriggerRegister}
 use Rattle.debug_model.specs.declared.slot_use.SlotUse.{SlotUse}
 use Rattle.probe_trig.specs.declared.slot_words.SlotWords.{SlotWords}
-use Rattle.probe_trig.specs.Runs.{Changes, Reads, address_set, armed, slot_changed, slot_read, word_read}
+use Rattle.probe_trig.specs.Runs.{Changes, Reads, address_set, armed, armed_by, slot_changed, slot_read, word_read}
 use Rattle.probe_trig.specs.Transfers.{Did, Transfer}
 use Rattle.probe_trig.specs.Transfers.Transfer.{Got, Set}
 use Rattle.probe_trig.specs.SlotRegisters.{address_named, shows_hit}
@@ -29,8 +29,11 @@ SlotChanged how slot ts = (tdata1 : ℕ) × (ts ≡ slot_changed how slot tdata1
 abbrev pub AddressSet : SlotUse → List Transfer → Type 0
 AddressSet what ts = ts ≡ address_set (address_named what)
 
+abbrev pub ArmedBy : ℕ → SlotUse → List Transfer → Type 0
+ArmedBy tinfo what ts = ts ≡ armed_by tinfo what
+
 abbrev pub Armed : SlotUse → List Transfer → Type 0
-Armed what ts = ts ≡ armed what
+Armed what ts = (tinfo : ℕ) × (ts ≡ armed what tinfo)
 
 -- of four
 abbrev pub ReadAll : List SlotWords → ℕ → Tells → Tells → Type 0

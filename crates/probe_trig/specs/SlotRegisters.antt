@@ -1,11 +1,11 @@
 -- What the words of a slot's registers show, and what is made of a trigger that has a hit.
--- RISC-V Debug Specification 1.0, "Trigger Data 1" and "Trigger Data 2". That a slot is free where its type is 15, and what it is used for, is this
--- project's own.
+-- RISC-V Debug Specification 1.0, "Trigger Data 1" and "Trigger Data 2"; RISC-V External Debug Support 0.13.2, "Match Control". That a slot is free
+-- where its type is 15, what it is used for, and that a word is read by the type in it whatever release the chip follows, is this project's own.
 use Rattle.std.specs.Prelude.{ℕ, ◌==◌, ◌≤◌, Bool, true, false, Option, Some, None, if◌then◌else◌}
 use Rattle.rv_model.specs.declared.slot.Trigger.{Trigger}
 use Rattle.rv_model.specs.declared.slot.Trigger.TheVariants.{Disabled}
 use Rattle.rv_model.specs.Fields.{field}
-use Rattle.rv_model.specs.TriggerWords.{tdata1_of, trigger_of}
+use Rattle.rv_model.specs.TriggerWords.{tdata1_of, trigger_of, version_offered, version_shown}
 use Rattle.abstract_debugger.specs.Slots.{
   Use,
   address_trigger,
@@ -25,6 +25,10 @@ use Rattle.debug_model.specs.declared.slot_use.SlotUse.TheVariants as slot_use
 
 -- ---- what a slot is used for
 
+-- a word by the type in it: 2 is an address trigger of release 0.13, 6 one of release 1.0
+abbrev pub trigger_shown : ℕ → Trigger
+trigger_shown tdata1 = trigger_of (version_shown tdata1) tdata1
+
 -- type 15: a slot of any other type is in use, whoever programmed it
 abbrev pub shows_free : ℕ → Bool
 shows_free tdata1 = field 60 4 tdata1 == 15
@@ -36,10 +40,10 @@ or_other tdata1 Unused = Other tdata1
 or_other tdata1 (Other _) = Other tdata1
 
 abbrev pub use_shown : ℕ → ℕ → Use
-use_shown tdata1 tdata2 = if shows_free tdata1 then Unused else or_other tdata1 (trigger_use (trigger_of tdata1) tdata2)
+use_shown tdata1 tdata2 = if shows_free tdata1 then Unused else or_other tdata1 (trigger_use (version_shown tdata1) (trigger_shown tdata1) tdata2)
 
 abbrev pub shows_hit : ℕ → Bool
-shows_hit tdata1 = trigger_has_hit (trigger_of tdata1)
+shows_hit tdata1 = trigger_has_hit (trigger_shown tdata1)
 
 -- ---- what a slot is armed for
 
@@ -58,6 +62,10 @@ trigger_named (slot_use.Watch kind address) = watch_trigger kind
 trigger_named (slot_use.Count turns) = count_trigger turns
 trigger_named (slot_use.Other tdata1) = Disabled
 
+-- the word that arms a slot of this tinfo for it, by the type that the slot offers
+abbrev pub word_named : ℕ → SlotUse → ℕ
+word_named tinfo what = tdata1_of (version_offered tinfo) (trigger_named what)
+
 -- the address that it compares with
 abbrev pub address_named : SlotUse → Option ℕ
 address_named slot_use.Free = None
@@ -74,5 +82,6 @@ trigger_changed change.PutBack t = trigger_back t
 trigger_changed change.Forget t = trigger_forgotten t
 trigger_changed change.PutBackAndForget t = trigger_forgotten (trigger_back t)
 
+-- of the same type as before
 abbrev pub word_changed : Change → ℕ → ℕ
-word_changed how tdata1 = tdata1_of (trigger_changed how (trigger_of tdata1))
+word_changed how tdata1 = tdata1_of (version_shown tdata1) (trigger_changed how (trigger_shown tdata1))

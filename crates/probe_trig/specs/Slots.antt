@@ -7,7 +7,7 @@ use Rattle.debug_model.specs.Chip.{Chip}
 use Rattle.debug_model.specs.Told.{Far, site_of}
 use Rattle.abstract_debugger.specs.Debugger.{is_free_slot}
 use Rattle.abstract_debugger.specs.Plan.{slot_changed, slot_freed, with_debug_part}
-use Rattle.abstract_debugger.specs.Slots.{Use, first_free, hits_forgotten, hits_of, slots_at, use_of, with_slots}
+use Rattle.abstract_debugger.specs.Slots.{Use, first_free, hits_forgotten, hits_of, slots_at, uses_at, with_slots}
 use Rattle.abstract_debugger.specs.Slots.Use.{Armed}
 use Rattle.abstract_debugger.specs.Stands.{Rewrote, Target, WentOn}
 use Rattle.abstract_debugger.specs.Trace.{What}
@@ -53,7 +53,7 @@ pub record SlotsRead (view : SlotView) (h : ℕ) (old new : Tells) : Type 0 wher
 
 -- and so the hart's slots are
 pub record ViewedAt (view : SlotView) (h : ℕ) (old new : Target) : Type 0 where
-  pub shows : Shows view (map use_of (slots_at h old.board)) (hits_of (slots_at h old.board))
+  pub shows : Shows view (uses_at h old.board) (hits_of (slots_at h old.board))
   pub went : WentOn old new
 
 -- ---- a slot is armed, or freed

@@ -3,19 +3,20 @@
 use Rattle.std.specs.Prelude.{◌++◌, ℕ, List, [], ◌∷◌, true, false}
 use Rattle.debug_model.specs.Scan.{WhereTold}
 use Rattle.rv_model.specs.DebugRegisters.{dcsr_number}
-use Rattle.rv_model.specs.TriggerWords.{tdata1_number, tdata2_number, tselect_number}
+use Rattle.rv_model.specs.TriggerWords.{tdata1_number, tdata2_number, tinfo_number, tselect_number}
 use Rattle.probe_access.specs.declared.fault.AccessFault.{AccessFault}
 use Rattle.probe_access.specs.Cuts.{IfCut, LeftAside, Leaves, MaybeWritten, Unchanged}
 use Rattle.probe_access.specs.RegisterRuns.{ReadFailed, RegisterRead, RegisterWritten, WriteFailed}
 use Rattle.probe_access.specs.Registers.{RegisterReadAt, RegisterLeft, RegisterWrittenAt}
 use Rattle.probe_run.specs.Acts.{Tells}
 use Rattle.probe_trig.specs.declared.register.TriggerRegister.{TriggerRegister}
-use Rattle.probe_trig.specs.declared.register.TriggerRegister.TheVariants.{Tselect, Tdata1, Tdata2, Dcsr}
+use Rattle.probe_trig.specs.declared.register.TriggerRegister.TheVariants.{Tselect, Tdata1, Tdata2, Tinfo, Dcsr}
 
 abbrev pub number_of : TriggerRegister → ℕ
 number_of Tselect = tselect_number
 number_of Tdata1 = tdata1_number
 number_of Tdata2 = tdata2_number
+number_of Tinfo = tinfo_number
 number_of Dcsr = dcsr_number
 
 -- ---- transfers that were Ok

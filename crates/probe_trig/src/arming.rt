@@ -7,11 +7,11 @@ ghost use Rattle.probe_access.specs.Scratches.{ScratchLeft};
 ghost use Rattle.abstract_debugger.specs.Slots.{address_trigger};
 ghost use Rattle.rv_model.specs.TriggerWords.{CountFits};
 ghost use Rattle.probe_trig.specs.Faults.{ByFault, IfAccess, UnlessAccess, trig_why};
-ghost use Rattle.probe_trig.specs.Runs.{Arms, ArmsAny, Seeks, SeeksAny, address_set, armed};
-ghost use Rattle.probe_trig.specs.Single.{AddressSet, Armed};
+ghost use Rattle.probe_trig.specs.Runs.{Arms, ArmsAny, Seeks, SeeksAny, address_set, armed_by};
+ghost use Rattle.probe_trig.specs.Single.{AddressSet, Armed, ArmedBy};
 ghost use Rattle.probe_trig.specs.Slots.{ArmedAt, AtHarts, DebugAlone, FullAt};
 ghost use Rattle.probe_trig.specs.Transfers.{Did, FailedIn, Made};
-ghost use Rattle.probe_trig.specs.SlotRegisters.{CanArm, address_named, trigger_named};
+ghost use Rattle.probe_trig.specs.SlotRegisters.{CanArm, address_named, trigger_named, word_named};
 
 use crate::fault::TrigFault;
 use crate::register::{TriggerRegister, read_word, reg, set_reg};
@@ -19,7 +19,7 @@ use crate::words::shows_free;
 use debug_model::{Dmi, SlotUse, WatchKind};
 use probe_access::AccessFault;
 use probe_run::Halted;
-use rv_model::{Comparison, Icount, Mcontrol6, Trigger};
+use rv_model::{Comparison, Icount, Mcontrol6, Trigger, Version};
 
 /// How many slots a hart has.
 const SLOTS: u8 = 4;
@@ -60,6 +60,14 @@ fn trigger_for(what: SlotUse) -> Trigger
     }
 }
 
+/// The word that arms a slot of this `tinfo` for it: an address trigger is of type 6 where the slot offers that, else of type 2.
+fn word_for(what: SlotUse, tinfo: u64) -> u64
+    requires can { CanArm what }
+    ensures { result ≡ word_named tinfo what }
+{
+    trigger_for(what).tdata1(Version::offered_by(tinfo))
+}
+
 /// The address that it compares with, if it does.
 fn address_of(what: SlotUse) -> Option<u64>
     ensures { result ≡ address_named what }
@@ -88,23 +96,38 @@ fn set_address<D: Dmi>(link: &mut D, halted: &Halted, what: SlotUse) -> Result<(
     }
 }
 
-/// Arms the selected slot.
-fn arm_selected<D: Dmi>(link: &mut D, halted: &Halted, what: SlotUse) -> Result<(), AccessFault>
+/// Arms the selected slot, which has this `tinfo`.
+fn arm_offered<D: Dmi>(
+    link: &mut D,
+    halted: &Halted,
+    what: SlotUse,
+    tinfo: u64,
+) -> Result<(), AccessFault>
     requires can { CanArm what }
     requires stands { Stands (D.seen link.old) }
     requires serving { Serving halted.now.number (D.seen link.old).far }
-    ensures made { OnOk result (Made halted.now.number (told (D.seen link.old)) (armed what) (told (D.seen link.new))) }
-    ensures failed { IfErr result (Fails (FailedIn (Armed what) halted.now.number) (D.seen link.old) (D.seen link.new)) }
+    ensures made { OnOk result (Made halted.now.number (told (D.seen link.old)) (armed_by tinfo what) (told (D.seen link.new))) }
+    ensures failed { IfErr result (Fails (FailedIn (ArmedBy tinfo what) halted.now.number) (D.seen link.old) (D.seen link.new)) }
     ensures serving { OnOk result (Serving halted.now.number (D.seen link.new).far) }
     ensures keeps { Keeps access_why (D.seen link.old) (D.seen link.new) result }
 {
     set_address(link, halted, what)?;
-    set_reg(
-        link,
-        halted,
-        TriggerRegister::Tdata1,
-        trigger_for(what).tdata1(),
-    )?;
+    set_reg(link, halted, TriggerRegister::Tdata1, word_for(what, tinfo))?;
+    Ok(())
+}
+
+/// Arms the selected slot, by the types that it offers.
+fn arm_selected<D: Dmi>(link: &mut D, halted: &Halted, what: SlotUse) -> Result<(), AccessFault>
+    requires can { CanArm what }
+    requires callable { CanCall (D.seen link.old) }
+    requires serving { Serving halted.now.number (D.seen link.old).far }
+    ensures did { OnOk result (Did (Armed what) halted.now.number (told (D.seen link.old)) (told (D.seen link.new))) }
+    ensures failed { IfErr result (Fails (FailedIn (Armed what) halted.now.number) (D.seen link.old) (D.seen link.new)) }
+    ensures serving { OnOk result (Serving halted.now.number (D.seen link.new).far) }
+    ensures keeps { Keeps access_why (D.seen link.old) (D.seen link.new) result }
+{
+    let tinfo = reg(link, halted, TriggerRegister::Tinfo)?;
+    arm_offered(link, halted, what, tinfo)?;
     Ok(())
 }
 
@@ -155,7 +178,8 @@ fn arm_lowest<D: Dmi>(
 }
 
 /// Arms the lowest free slot of the halted hart, which is selected, for a break, a watch, or a count from 1 to 16,383, and answers which it is,
-/// below 4. `NoFreeSlot` where all four are in use.
+/// below 4. `NoFreeSlot` where all four are in use. An address trigger is of type 6 where `tinfo` of the slot offers that, and else of type 2
+/// (RISC-V External Debug Support 0.13.2, "Match Control"); a chip that has no `tinfo` answers `Access(Register(0x7a4))`.
 pub fn arm<D: Dmi>(link: &mut D, halted: &Halted, what: SlotUse) -> Result<u8, TrigFault>
     requires can { CanArm what }
     requires callable { CanCall (D.seen link.old) }

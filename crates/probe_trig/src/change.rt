@@ -3,7 +3,7 @@ ghost use Rattle.abstract_debugger.specs.Slots.{trigger_back, trigger_forgotten,
 ghost use Rattle.rv_model.specs.TriggerWords.{CountFits};
 ghost use Rattle.probe_trig.specs.SlotRegisters.{trigger_changed, word_changed};
 
-use rv_model::{Icount, Mcontrol6, Trigger};
+use rv_model::{Icount, Mcontrol6, Trigger, Version};
 
 /// What is made of a slot that has a hit. One that has none stays as it is.
 #[derive(Clone, Copy)]
@@ -87,10 +87,12 @@ impl Change {
         }
     }
 
-    /// What `tdata1` is to hold behind the change.
+    /// What `tdata1` is to hold behind the change, by the release that the word shows: its type stays.
     pub fn of_word(self, tdata1: u64) -> u64
         ensures { result ≡ word_changed self tdata1 }
     {
-        self.of_trigger(Trigger::from_tdata1(tdata1)).tdata1()
+        let version = Version::shown_by(tdata1);
+        self.of_trigger(Trigger::from_tdata1(tdata1, version))
+            .tdata1(version)
     }
 }

@@ -15,7 +15,7 @@ use crate::words::shows_free;
 use debug_model::Dmi;
 use probe_access::AccessFault;
 use probe_run::Halted;
-use rv_model::Trigger;
+use rv_model::DISABLED_WORD;
 
 /// Frees a slot where it is in use, and answers whether it was free.
 fn free<D: Dmi>(link: &mut D, halted: &Halted, slot: u8) -> Result<bool, AccessFault>
@@ -32,12 +32,7 @@ fn free<D: Dmi>(link: &mut D, halted: &Halted, slot: u8) -> Result<bool, AccessF
         set_reg(link, halted, TriggerRegister::Tselect, kept)?;
         return Ok(true);
     }
-    set_reg(
-        link,
-        halted,
-        TriggerRegister::Tdata1,
-        Trigger::Disabled.tdata1(),
-    )?;
+    set_reg(link, halted, TriggerRegister::Tdata1, DISABLED_WORD)?;
     set_reg(link, halted, TriggerRegister::Tselect, kept)?;
     Ok(false)
 }

@@ -16,12 +16,14 @@ use rv_model::register_number;
 /// A register of a halted hart that a call on its slots reads or writes.
 #[derive(Clone, Copy)]
 pub enum TriggerRegister {
-    /// Which slot the next two show.
+    /// Which slot the next three show.
     Tselect,
     /// The slot's trigger.
     Tdata1,
     /// What it compares with.
     Tdata2,
+    /// Which types of triggers it offers.
+    Tinfo,
     /// Why the hart halted.
     Dcsr,
 }
@@ -35,6 +37,7 @@ impl TriggerRegister {
             TriggerRegister::Tselect => register_number::TSELECT,
             TriggerRegister::Tdata1 => register_number::TDATA1,
             TriggerRegister::Tdata2 => register_number::TDATA2,
+            TriggerRegister::Tinfo => register_number::TINFO,
             TriggerRegister::Dcsr => register_number::DCSR,
         }
     }

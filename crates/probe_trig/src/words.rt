@@ -1,10 +1,11 @@
 ghost use Rattle.std.specs.Prelude.{◌≡◌};
 ghost use Rattle.abstract_debugger.specs.Slots.{address_use, trigger_has_hit};
 ghost use Rattle.abstract_debugger.specs.SlotUses.{use_named};
-ghost use Rattle.probe_trig.specs.SlotRegisters.{or_other, shows_free, shows_hit, use_shown};
+ghost use Rattle.probe_trig.specs.SlotRegisters.{or_other, shows_free, shows_hit, trigger_shown, use_shown};
+ghost use Rattle.rv_model.specs.TriggerWords.{CountFits};
 
 use debug_model::{SlotUse, WatchKind};
-use rv_model::{Comparison, Mcontrol6, Trigger};
+use rv_model::{Comparison, Mcontrol6, Trigger, Version};
 
 /// The place and the number of the type of a disabled trigger (RISC-V Debug Specification 1.0, "Trigger Data 1").
 const TYPE_LOW: u32 = 60;
@@ -18,11 +19,19 @@ pub fn shows_free(tdata1: u64) -> bool
     tdata1 >> TYPE_LOW == DISABLED
 }
 
+/// The trigger that `tdata1` shows, by the type in it: type 2 is an address trigger of release 0.13, type 6 one of release 1.0.
+fn trigger_shown(tdata1: u64) -> Trigger
+    ensures is { result ≡ trigger_shown tdata1 }
+    ensures fits { CountFits result }
+{
+    Trigger::from_tdata1(tdata1, Version::shown_by(tdata1))
+}
+
 /// Whether `tdata1` shows that the slot stopped the hart.
 pub fn shows_hit(tdata1: u64) -> bool
     ensures { result ≡ shows_hit tdata1 }
 {
-    match Trigger::from_tdata1(tdata1) {
+    match trigger_shown(tdata1) {
         Trigger::Mcontrol6(t) => t.hit,
         Trigger::Icount(t) => t.hit,
         Trigger::Disabled => false,
@@ -53,7 +62,7 @@ pub fn use_shown(tdata1: u64, tdata2: u64) -> SlotUse
     if shows_free(tdata1) {
         return SlotUse::Free;
     }
-    match Trigger::from_tdata1(tdata1) {
+    match trigger_shown(tdata1) {
         Trigger::Mcontrol6(t) => address_use(t, tdata1, tdata2),
         Trigger::Icount(t) if t.m => SlotUse::Count(t.count),
         Trigger::Icount(_) | Trigger::Disabled => SlotUse::Other(tdata1),

@@ -1,6 +1,6 @@
 -- The bits that a write of a control and status register sets.
-use Rattle.std.proofs.Common.{◌≡◌, ℕ, ◌+◌, ◌*◌, ◌/◌, ◌%◌, ◌^◌, ◌<◌, bit_and, ◌∙◌, lit<, arith}
-use Rattle.std.proofs.lemmas.Nat.{and_mask, and_mod}
+use Rattle.std.proofs.Common.{◌≡◌, ℕ, ◌+◌, ◌*◌, ◌/◌, ◌%◌, ◌^◌, ◌<◌, ◌≤◌, bit_and, ◌∙◌, lit<, arith}
+use Rattle.std.proofs.lemmas.Nat.{and_le_r, and_mask, and_mod}
 use Rattle.std.specs.Int.Bits.{and_zero_r}
 use Rattle.rv_words.proofs.FieldLemmas.{and_run}
 use Rattle.rv_model.specs.Fields.{field}
@@ -21,6 +21,9 @@ mstatus_bits_kept v = omega (arith, and_fields v, and_low_field v, and_zero_r v)
 
 pub and_address_bits : (v : ℕ) → bit_and v 0xfffffffffffffffc % 4 ≡ 0
 and_address_bits v = and_mod v 0xfffffffffffffffc 2 ∙ and_zero_r (v % 2 ^ 2)
+
+pub and_vector_bits : (v : ℕ) → bit_and v 0xfffffffffffffffd % 4 ≤ 1
+and_vector_bits v = omega (arith, and_mod v 0xfffffffffffffffd 2, and_le_r (v % 2 ^ 2) 1)
 
 -- ---- all bits
 

@@ -1,1 +1,2 @@
 pub mod CsrBits
+pub mod CsrSeen

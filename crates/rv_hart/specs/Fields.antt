@@ -5,12 +5,32 @@ use Rattle.rv_model.specs.Core.{Core, IsCore}
 use Rattle.rv_hart.specs.declared.hart.Hart.TheInside.{Inside}
 
 abbrev pub core_of : Inside → Core
-core_of h =
-    record { id = h.id; x = h.x; pc = h.pc; mstatus = h.mstatus; mtvec = h.mtvec; mscratch = h.mscratch; mepc = h.mepc; mcause = h.mcause; mtval = h.mtval }
+core_of h = record {
+  id = h.id;
+  x = h.x;
+  pc = h.pc;
+  mstatus = h.mstatus;
+  mie = h.mie;
+  mtvec = h.mtvec;
+  mscratch = h.mscratch;
+  mepc = h.mepc;
+  mcause = h.mcause;
+  mtval = h.mtval;
+}
 
 abbrev pub fields_of : Core → Inside
-fields_of c =
-    record { id = c.id; x = c.x; pc = c.pc; mstatus = c.mstatus; mtvec = c.mtvec; mscratch = c.mscratch; mepc = c.mepc; mcause = c.mcause; mtval = c.mtval }
+fields_of c = record {
+  id = c.id;
+  x = c.x;
+  pc = c.pc;
+  mstatus = c.mstatus;
+  mie = c.mie;
+  mtvec = c.mtvec;
+  mscratch = c.mscratch;
+  mepc = c.mepc;
+  mcause = c.mcause;
+  mtval = c.mtval;
+}
 
 pub record IsHart (c : Core) : Type 0 where
   pub core : IsCore c

@@ -49,8 +49,8 @@ impl Hart {
             Insn::Fence => self.advance(),
             Insn::FenceI => self.advance(),
             // Zicsr.
-            Insn::Csr(change, p) => csr_register(self, change, p),
-            Insn::CsrImmediate(change, p) => csr_immediate(self, change, p),
+            Insn::Csr(change, p) => csr_register(self, ram, change, p),
+            Insn::CsrImmediate(change, p) => csr_immediate(self, ram, change, p),
             // Environment call and breakpoint; trap return and wait for interrupt.
             Insn::Ecall => self.trap(ENVIRONMENT_CALL, 0),
             Insn::Ebreak => self.trap(BREAKPOINT, 0),

@@ -1,14 +1,15 @@
 -- What the registers that Debug Mode reaches hold, what a write of one keeps, and that it is read back.
-use Rattle.std.proofs.Common.{◌≡◌, ℕ, ◌+◌, ◌-◌, ◌<◌, Bool, true, false, cond, eqb, ltb, length, get_or, set, Option, Some, refl, ap, ◌∙◌, arith}
-use Rattle.std.proofs.lemmas.Bool.{cond-true, lt-ltb, le-ltb, ne_eqb}
+use Rattle.std.proofs.Common.{◌≡◌, ℕ, ◌+◌, ◌-◌, ◌<◌, Bool, true, false, cond, eqb, ltb, length, get_or, set, Option, Some, is_some, refl, sym, ap, ◌∙◌, arith}
+use Rattle.std.proofs.lemmas.Bool.{cond-true, eqb-true, lt-ltb, le-ltb, ne_eqb}
 use Rattle.std.proofs.lemmas.List.{get_or-set_same, length-set}
 use Rattle.rv_model.specs.Board.{DebugPart, Hart, slot_count}
 use Rattle.rv_model.specs.Core.{Core, x_of, with_x, aligned}
 use Rattle.rv_model.specs.Dcsr.{dcsr_word}
-use Rattle.rv_model.specs.DebugRegisters.{debug_csr_value, debug_csr_written, value_or, debug_value, debug_refuses, debug_written}
+use Rattle.rv_model.specs.DebugRegisters.{debug_csr_value, debug_csr_written, value_or, debug_seen, debug_value, debug_refuses, debug_written}
 use Rattle.rv_model.specs.DebugLaws.{DebugRegisterNumbers, DebugRegisterExamples, SameRequests, WriteKeeps, WritesKeep, WritesReadBack}
 use Rattle.rv_model.specs.Laws.{KeepsCore}
-use Rattle.rv_model.specs.Registers.{reg_value, reg_written, is_x_number, csr_value, csr_written, csr_read_only}
+use Rattle.rv_model.specs.Memory.{Memory}
+use Rattle.rv_model.specs.Registers.{mip_number, mip_value, reg_value, reg_written, is_x_number, csr_value, csr_written, csr_read_only}
 use Rattle.rv_model.specs.Triggers.{CountsFit}
 use Rattle.rv_model.specs.TriggerWords.{
   TriggerPart,
@@ -26,7 +27,7 @@ use Rattle.rv_model.proofs.SlotLemmas.{set_fits, selected_fits, written_fits}
 -- ---- worked examples
 
 pub debug_register_numbers : DebugRegisterNumbers
-debug_register_numbers = record { tselect = refl; tdata1 = refl; tdata2 = refl; tinfo = refl; tinfo_reads = refl; dcsr = refl; dpc = refl; x0 = refl }
+debug_register_numbers = record { tselect = refl; tdata1 = refl; tdata2 = refl; tinfo = refl; disabled = refl; dcsr = refl; dpc = refl; x0 = refl }
 
 pub debug_register_examples : DebugRegisterExamples
 unfolding debug_value debug_refuses debug_written csr_value csr_read_only csr_written dcsr_word tdata1_of trigger_csr_value trigger_csr_written
@@ -34,7 +35,8 @@ debug_register_examples = record {
   dcsr = refl;
   dpc = refl;
   tinfo = refl;
-  tdata1 = refl;
+  tinfo_V013 = refl;
+  tdata1 = λ version. refl;
   mhartid = refl;
   last_x = refl;
   behind_last_x = refl;
@@ -45,6 +47,32 @@ debug_register_examples = record {
   tinfo_written = refl;
   x0_written = refl;
 }
+
+-- ---- mip, which memory tells
+
+seen_else : (is_mip : Bool) (h : Hart) (m : Memory) (number : ℕ) → is_mip ≡ false
+    → cond is_mip (Some (mip_value h.core m)) (debug_value h number) ≡ debug_value h number
+seen_else true h m number e = absurd (cc)
+seen_else false h m number e = refl
+
+-- what is seen of each other register is its value
+pub seen_is_value : (h : Hart) (m : Memory) (number : ℕ) → eqb number mip_number ≡ false → debug_seen h m number ≡ debug_value h number
+unfolding debug_seen
+seen_is_value h m number other = seen_else (eqb number mip_number) h m number other
+
+mip_there : (h : Hart) → is_some (debug_value h mip_number) ≡ true
+unfolding debug_value csr_value
+mip_there h = refl
+
+seen_there_by : (is_mip : Bool) (h : Hart) (m : Memory) (number : ℕ) → (is_mip ≡ true → number ≡ mip_number)
+    → is_some (cond is_mip (Some (mip_value h.core m)) (debug_value h number)) ≡ is_some (debug_value h number)
+seen_there_by true h m number is = sym (ap (λ n. is_some (debug_value h n)) (is refl) ∙ mip_there h)
+seen_there_by false h m number is = refl
+
+-- and the same registers are there
+pub seen_there : (h : Hart) (m : Memory) (number : ℕ) → is_some (debug_seen h m number) ≡ is_some (debug_value h number)
+unfolding debug_seen
+seen_there h m number = seen_there_by (eqb number mip_number) h m number (eqb-true number mip_number)
 
 -- ---- writes of registers
 
@@ -64,7 +92,7 @@ pub record DebugKeeps (d after : DebugPart) : Type 0 where
   pub selected : d.tselect < slot_count → after.tselect < slot_count
 
 same_requests : (d : DebugPart) → SameRequests d d
-same_requests d = record { halted = refl; halt_request = refl; resume_request = refl; resume_ack = refl; have_reset = refl }
+same_requests d = record { version = refl; halted = refl; halt_request = refl; resume_request = refl; resume_ack = refl; have_reset = refl }
 
 abbrev TriggersKeep : TriggerPart → TriggerPart → Type 0
 TriggersKeep t after = (length after.slots ≡ length t.slots) × (CountsFit t.slots → CountsFit after.slots)
@@ -82,7 +110,7 @@ unfolding trigger_csr_written
 triggers_keep t number v =
     triggers_by (eqb number tselect_number) (eqb number tdata1_number) (eqb number tdata2_number) t _ _ _
     (refl, λ fits. fits, λ below. omega arith)
-    (length-set t.slots t.tselect _, λ fits. set_fits t.slots t.tselect _ (written_fits v) fits, λ below. below)
+    (length-set t.slots t.tselect _, λ fits. set_fits t.slots t.tselect _ (written_fits t.version v) fits, λ below. below)
     (length-set t.slots t.tselect _, λ fits. set_fits t.slots t.tselect _ (selected_fits t.slots t.tselect fits) fits, λ below. below)
 
 debug_by : (dcsr : Bool) (d a b : DebugPart) → DebugKeeps d a → DebugKeeps d b → DebugKeeps d (cond dcsr a b)
@@ -94,13 +122,13 @@ debug_csr_keeps d number v =
     let t = triggers_keep (triggers_of d) number v in
     debug_by (eqb number 0x7b0) d _ _
     (record {
-      requests = record { halted = refl; halt_request = refl; resume_request = refl; resume_ack = refl; have_reset = refl };
+      requests = record { version = refl; halted = refl; halt_request = refl; resume_request = refl; resume_ack = refl; have_reset = refl };
       slots = refl;
       counts = λ fits. fits;
       selected = λ below. below;
     })
     (record {
-      requests = record { halted = refl; halt_request = refl; resume_request = refl; resume_ack = refl; have_reset = refl };
+      requests = record { version = refl; halted = refl; halt_request = refl; resume_request = refl; resume_ack = refl; have_reset = refl };
       slots = t.0;
       counts = t.1;
       selected = t.2;
@@ -166,7 +194,7 @@ writes_read_back h v = record {
   dpc = refl;
   dcsr = refl;
   tselect = refl;
-  tdata1 = λ here. ap (λ s. Some (tdata1_of s.trigger)) (get_or-set_same h.debug.slots h.debug.tselect _ _ here);
+  tdata1 = λ here. ap (λ s. Some (tdata1_of h.debug.version s.trigger)) (get_or-set_same h.debug.slots h.debug.tselect _ _ here);
   tdata2 = λ here. ap (λ s. Some s.tdata2) (get_or-set_same h.debug.slots h.debug.tselect _ _ here);
   tinfo = refl;
 }

@@ -37,7 +37,7 @@ use Rattle.rv_model.specs.declared.size.Size.{Size}
 use Rattle.rv_model.specs.declared.size.Size.TheVariants.{B1, B2, B4, B8}
 use Rattle.rv_model.specs.Size.{count_of}
 use Rattle.rv_model.specs.Alu.{alu_of}
-use Rattle.rv_model.specs.Fields.{sign_extended}
+use Rattle.rv_model.specs.Fields.{bit_value, sign_extended}
 use Rattle.rv_model.specs.Laws.{answered}
 use Rattle.rv_model.specs.Rows.{meaning}
 use Rattle.rv_model.specs.Memory.{
@@ -47,6 +47,7 @@ use Rattle.rv_model.specs.Memory.{
   or_outside,
   is_aligned,
   fetch_of,
+  msip_bit,
   loaded,
   store_answer,
   after_store,
@@ -57,9 +58,9 @@ use Rattle.rv_model.specs.Memory.{
   covers,
 }
 use Rattle.rv_model.specs.Core.{Core, reset_core, x_of}
-use Rattle.rv_model.specs.Registers.{csr_value, csr_read_only}
-use Rattle.rv_model.specs.Effects.{Outcome, same_memory, after_load, stored_step, effect_of, sc_step, after_sc}
-use Rattle.rv_model.specs.Execute.{fetched, exec_of}
+use Rattle.rv_model.specs.Registers.{csr_seen, csr_value, csr_read_only}
+use Rattle.rv_model.specs.Effects.{Outcome, same_memory, after_load, stored_step, effect_of, sc_step, sets_rd, after_sc}
+use Rattle.rv_model.specs.Execute.{fetched, exec_masked_of, exec_of, interrupted, takes_interrupt}
 use Rattle.rv_model.specs.Board.{with_outcome}
 use Rattle.rv_model.specs.Undebugged.{undebugged, Entry, Exec}
 use Rattle.rv_model.specs.Examples.{
@@ -74,7 +75,10 @@ use Rattle.rv_model.specs.Examples.{
   ScFailsAfterStore,
   ScSucceedsAfterLr,
   hart_with,
+  hart_waiting,
+  InterruptExamples,
 }
+use Rattle.rv_model.proofs.BoardLemmas.{interrupts_are_taken}
 use Rattle.rv_model.proofs.MapLemmas.{slice_get-set_same}
 use Rattle.rv_model.proofs.MemoryLemmas.{after_store_refused, after_store_taken, store_answer_is}
 
@@ -84,36 +88,36 @@ reserved_words_mean_nothing = record { all_zeros = refl; all_ones = refl; branch
 
 -- ---- programs
 
--- a fetched word's outcome in the place of the execution
-fetch : (c : Core) (m : Memory) (w : ℕ) (es : List Entry) → fetch_of m c.pc ≡ Ok w
+-- where no interrupt is taken, a fetched word's outcome
+exec_fetched : (c : Core) (m : Memory) (r : Result ℕ MemFault) → takes_interrupt c m ≡ false → fetch_of m c.pc ≡ r → exec_of c m ≡ fetched r c m
+unfolding exec_masked_of
+exec_fetched c m r none is = (interrupts_are_taken c m).other none ∙ ap (λ r. fetched r c m) is
+
+-- and in the place of the execution
+fetch : (c : Core) (m : Memory) (w : ℕ) (es : List Entry) → takes_interrupt c m ≡ false → fetch_of m c.pc ≡ Ok w
     → undebugged (one_hart c m) (Exec 0 ∷ es) ≡ undebugged (with_outcome 0 (fetched (Ok w) c m) (one_hart c m)) es
-unfolding exec_of
-fetch c m w es is = ap (λ r. undebugged (with_outcome 0 (fetched r c m) (one_hart c m)) es) is
+fetch c m w es none is = ap (λ o. undebugged (with_outcome 0 o (one_hart c m)) es) (exec_fetched c m (Ok w) none is)
 
 pub counter_counts : CounterCounts
 unfolding meaning alu_of effect_of
 counter_counts m h =
-    fetch (reset_core 0) m 0x00500293 (Exec 0 ∷ Exec 0 ∷ []) h.sets
-    ∙ fetch (counter 5 0x80000004) m 0x00128293 (Exec 0 ∷ []) h.adds
-    ∙ fetch (counter 6 0x80000008) m 0xffdff06f [] h.jumps
+    fetch (reset_core 0) m 0x00500293 (Exec 0 ∷ Exec 0 ∷ []) refl h.sets
+    ∙ fetch (counter 5 0x80000004) m 0x00128293 (Exec 0 ∷ []) refl h.adds
+    ∙ fetch (counter 6 0x80000008) m 0xffdff06f [] refl h.jumps
 
 pub writes_keep_their_bits : WritesKeepTheirBits
 writes_keep_their_bits m = refl
 
 -- ---- single instructions
 
-exec_fetched : (c : Core) (m : Memory) (r : Result ℕ MemFault) → fetch_of m c.pc ≡ r → exec_of c m ≡ fetched r c m
-unfolding exec_of
-exec_fetched c m r is = ap (λ r. fetched r c m) is
-
 pub divisions : Divisions
 unfolding meaning alu_of effect_of
 divisions = record {
-  by_zero = λ m is. exec_fetched (hart_with 7 0) m (Ok 0x027342b3) is;
-  unsigned_by_zero = λ m is. exec_fetched (hart_with 7 0) m (Ok 0x027352b3) is;
-  remainder_by_zero = λ m is. exec_fetched (hart_with 7 0) m (Ok 0x027362b3) is;
-  overflow = λ m is. exec_fetched (hart_with 0x8000000000000000 0xffffffffffffffff) m (Ok 0x027342b3) is;
-  remainder_of_overflow = λ m is. exec_fetched (hart_with 0x8000000000000000 0xffffffffffffffff) m (Ok 0x027362b3) is;
+  by_zero = λ m is. exec_fetched (hart_with 7 0) m (Ok 0x027342b3) refl is;
+  unsigned_by_zero = λ m is. exec_fetched (hart_with 7 0) m (Ok 0x027352b3) refl is;
+  remainder_by_zero = λ m is. exec_fetched (hart_with 7 0) m (Ok 0x027362b3) refl is;
+  overflow = λ m is. exec_fetched (hart_with 0x8000000000000000 0xffffffffffffffff) m (Ok 0x027342b3) refl is;
+  remainder_of_overflow = λ m is. exec_fetched (hart_with 0x8000000000000000 0xffffffffffffffff) m (Ok 0x027362b3) refl is;
 }
 
 -- an aligned word of which memory has no first byte
@@ -124,32 +128,49 @@ outside m none = ap (λ o. or_outside (with_byte o (value_at m.bytes 0x1001 3)))
 load_outside : TrapsOutside 0x00032283 0x1000 0 5 0x1000
 unfolding meaning effect_of
 load_outside m is none =
-    exec_fetched (hart_with 0x1000 0) m (Ok 0x00032283) is
+    exec_fetched (hart_with 0x1000 0) m (Ok 0x00032283) refl is
     ∙ ap (λ r. same_memory m (after_load r (sign_extended 32) 5 0x1000 (hart_with 0x1000 0))) (outside m none)
 
 store_outside : TrapsOutside 0x00732023 0x1000 7 7 0x1000
 unfolding meaning effect_of
 store_outside m is none =
     let refused : store_answer m 0x1000 B4 ≡ Err Outside = store_answer_is m 0x1000 B4 ∙ ap answered (outside m none) in
-    exec_fetched (hart_with 0x1000 7) m (Ok 0x00732023) is
+    exec_fetched (hart_with 0x1000 7) m (Ok 0x00732023) refl is
     ∙ ap (λ r. record { step = stored_step r 0x1000 (hart_with 0x1000 7); memory = after_store m 0x1000 B4 7 }) refused
     ∙ ap (λ n. record { step = stored_step (Err Outside) 0x1000 (hart_with 0x1000 7); memory = n }) (after_store_refused m 0x1000 B4 7 Outside refused)
 
 pub trap_examples : TrapExamples
-unfolding meaning alu_of effect_of loaded store_answer after_store csr_value csr_read_only
+unfolding meaning alu_of effect_of loaded store_answer after_store csr_seen csr_value csr_read_only
 trap_examples = record {
-  no_instruction = λ m is. exec_fetched (hart_with 0 0) m (Ok 0x00007003) is;
-  environment_call = λ m is. exec_fetched (hart_with 0 0) m (Ok 0x00000073) is;
-  breakpoint = λ m is. exec_fetched (hart_with 0 0) m (Ok 0x00100073) is;
-  jump_by_two = λ m is. exec_fetched (hart_with 0 0) m (Ok 0x0020006f) is;
-  misaligned_load = λ m is. exec_fetched (hart_with 0x10 0) m (Ok 0x00132283) is;
-  misaligned_store = λ m is. exec_fetched (hart_with 0 0) m (Ok 0x007020a3) is;
+  no_instruction = λ m is. exec_fetched (hart_with 0 0) m (Ok 0x00007003) refl is;
+  environment_call = λ m is. exec_fetched (hart_with 0 0) m (Ok 0x00000073) refl is;
+  breakpoint = λ m is. exec_fetched (hart_with 0 0) m (Ok 0x00100073) refl is;
+  jump_by_two = λ m is. exec_fetched (hart_with 0 0) m (Ok 0x0020006f) refl is;
+  misaligned_load = λ m is. exec_fetched (hart_with 0x10 0) m (Ok 0x00132283) refl is;
+  misaligned_store = λ m is. exec_fetched (hart_with 0 0) m (Ok 0x007020a3) refl is;
   load_outside = load_outside;
   store_outside = store_outside;
-  write_of_mhartid = λ m is. exec_fetched (hart_with 0 0) m (Ok 0xf1401073) is;
-  no_such_register = λ m is. exec_fetched (hart_with 0 0) m (Ok 0x7b0022f3) is;
-  read_of_mhartid = λ m is. exec_fetched (hart_with 0 0) m (Ok 0xf14022f3) is;
-  nothing_at_pc = λ m is. exec_fetched (hart_with 0 0) m (Err Outside) is;
+  write_of_mhartid = λ m is. exec_fetched (hart_with 0 0) m (Ok 0xf1401073) refl is;
+  no_such_register = λ m is. exec_fetched (hart_with 0 0) m (Ok 0x7b0022f3) refl is;
+  read_of_mhartid = λ m is. exec_fetched (hart_with 0 0) m (Ok 0xf14022f3) refl is;
+  nothing_at_pc = λ m is. exec_fetched (hart_with 0 0) m (Err Outside) refl is;
+}
+
+-- ---- the machine software interrupt
+
+taken : (mtvec : ℕ) (m : Memory) → msip_bit m 0 ≡ true → exec_of (hart_waiting mtvec) m ≡ same_memory m (interrupted (hart_waiting mtvec))
+unfolding exec_of
+taken mtvec m is = ap (λ b. cond b (same_memory m (interrupted (hart_waiting mtvec))) (exec_masked_of (hart_waiting mtvec) m)) is
+
+pub interrupt_examples : InterruptExamples
+unfolding meaning effect_of exec_masked_of csr_seen csr_read_only
+interrupt_examples = record {
+  direct = λ m is. taken 0x80000100 m is;
+  vectored = λ m is. taken 0x80000101 m is;
+  vectors_wrap = λ m is. taken 0xfffffffffffffffd m is;
+  exception = λ m none is. exec_fetched (hart_waiting 0x80000101) m (Ok 0x00000073) none is;
+  pends = λ m set is. ap (λ r. fetched r (hart_waiting 0x80000100) m) is
+      ∙ ap (λ b. same_memory m (sets_rd 5 (bit_value 3 b) (hart_waiting 0x80000100))) set;
 }
 
 -- ---- reservations

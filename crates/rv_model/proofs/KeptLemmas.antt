@@ -32,6 +32,7 @@ use Rattle.std.proofs.Common.{
   bit_and,
   refl,
   sym,
+  subst,
   ap,
   ◌∙◌,
   inl,
@@ -42,15 +43,15 @@ use Rattle.std.proofs.lemmas.Bool.{eqb-true, eqb-false}
 use Rattle.std.proofs.lemmas.List.{get_or-set_other, length-set}
 use Rattle.std.proofs.lemmas.Nat.{and_block, and_mask, and_mod, and_le_r}
 use Rattle.rv_model.specs.declared.alu_op.AluOp.{AluOp}
-use Rattle.rv_model.specs.declared.did.Did.TheVariants.{Retired, Trapped}
+use Rattle.rv_model.specs.declared.did.Did.TheVariants.{Retired, Trapped, Interrupted}
 use Rattle.rv_model.specs.declared.mem_fault.MemFault.{MemFault}
 use Rattle.rv_model.specs.declared.operands.BType.{BType}
 use Rattle.rv_model.specs.declared.size.Size.{Size}
 use Rattle.rv_model.specs.Fields.{field}
 use Rattle.rv_model.specs.Memory.{Memory, loaded, store_answer, after_store, covers}
 use Rattle.rv_model.specs.Core.{Core, IsCore, with_x, next_pc, offset_by, mie_of, mpie_of, mstatus_with}
-use Rattle.rv_model.specs.Registers.{Register, registers, kept_of, written_at, csr_value, csr_written, csr_read_only, mstatus_bits, address_bits}
-use Rattle.rv_model.specs.Traps.{load_cause, store_cause, trap_entered, trap_left}
+use Rattle.rv_model.specs.Registers.{Register, registers, kept_of, written_at, csr_seen, csr_written, csr_read_only, mstatus_bits, address_bits, vector_bits}
+use Rattle.rv_model.specs.Traps.{interrupt_entered, load_cause, store_cause, trap_entered, trap_left}
 use Rattle.rv_model.specs.Effects.{
   Step,
   same_memory,
@@ -93,7 +94,7 @@ with_x_by false c r v other = record {
   is_core = λ h. record {
     registers = length-set c.x r v ∙ h.registers;
     pc_aligned = h.pc_aligned;
-    mtvec_aligned = h.mtvec_aligned;
+    mode_known = h.mode_known;
     mepc_aligned = h.mepc_aligned;
     mpp_fixed = h.mpp_fixed;
   };
@@ -109,7 +110,7 @@ at_pc c target fits = record {
   is_core = λ h. record {
     registers = h.registers;
     pc_aligned = fits h;
-    mtvec_aligned = h.mtvec_aligned;
+    mode_known = h.mode_known;
     mepc_aligned = h.mepc_aligned;
     mpp_fixed = h.mpp_fixed;
   };
@@ -124,6 +125,7 @@ next_aligned pc h = omega arith
 pub record StepKeeps (c : Core) (s : Step) : Type 0 where
   pub core : KeepsCore c s.core
   pub trapped : (cause : ℕ) → s.did ≡ Trapped cause → (value : ℕ) × (s.core ≡ trap_entered cause value c)
+  pub no_interrupt : s.did ≡ Interrupted → ⊥
 
 retired_is_not : (cause : ℕ) → Retired ≡ Trapped cause → ⊥
 retired_is_not cause e = cc
@@ -132,7 +134,7 @@ same_cause : (a b : ℕ) → Trapped a ≡ Trapped b → a ≡ b
 same_cause a b e = cc
 
 retired : (c after : Core) → KeepsCore c after → StepKeeps c (retires after)
-retired c after h = record { core = h; trapped = λ cause e. absurd (retired_is_not cause e) }
+retired c after h = record { core = h; trapped = λ cause e. absurd (retired_is_not cause e); no_interrupt = λ e. cc }
 
 next_keeps : (c : Core) → KeepsCore c (record c { pc = next_pc c })
 next_keeps c = at_pc c (next_pc c) (λ h. next_aligned c.pc h.pc_aligned)
@@ -161,14 +163,17 @@ mie_below c = bit_below (c.mstatus / 2 ^ 3)
 mpie_below : (c : Core) → mpie_of c < 2
 mpie_below c = bit_below (c.mstatus / 2 ^ 7)
 
+base_aligned : (mtvec : ℕ) → mtvec / 4 * 4 % 4 ≡ 0
+base_aligned mtvec = omega arith
+
 trap_keeps : (cause value : ℕ) (c : Core) → KeepsCore c (trap_entered cause value c)
 trap_keeps cause value c = record {
   same_id = refl;
   x0 = refl;
   is_core = λ h. record {
     registers = h.registers;
-    pc_aligned = h.mtvec_aligned;
-    mtvec_aligned = h.mtvec_aligned;
+    pc_aligned = base_aligned c.mtvec;
+    mode_known = h.mode_known;
     mepc_aligned = h.pc_aligned;
     mpp_fixed = mstatus_form 0 (mie_of c) (omega arith) (mie_below c);
   };
@@ -178,6 +183,25 @@ pub traps_keeps : (cause value : ℕ) (c : Core) → StepKeeps c (traps cause va
 traps_keeps cause value c = record {
   core = trap_keeps cause value c;
   trapped = λ other e. (value, ap (λ k. trap_entered k value c) (same_cause cause other e));
+  no_interrupt = λ e. cc;
+}
+
+-- the interrupt's handler, in either mode
+handler_by : (b : Bool) (mtvec : ℕ) → cond b ((mtvec / 4 * 4 + 12) % 2 ^ 64) (mtvec / 4 * 4) % 4 ≡ 0
+handler_by true mtvec = omega arith
+handler_by false mtvec = omega arith
+
+pub interrupt_keeps : (c : Core) → KeepsCore c (interrupt_entered c)
+interrupt_keeps c = record {
+  same_id = refl;
+  x0 = refl;
+  is_core = λ h. record {
+    registers = h.registers;
+    pc_aligned = handler_by (eqb (c.mtvec % 4) 1) c.mtvec;
+    mode_known = h.mode_known;
+    mepc_aligned = h.pc_aligned;
+    mpp_fixed = mstatus_form 0 (mie_of c) (omega arith) (mie_below c);
+  };
 }
 
 left_keeps : (c : Core) → KeepsCore c (trap_left c)
@@ -187,7 +211,7 @@ left_keeps c = record {
   is_core = λ h. record {
     registers = h.registers;
     pc_aligned = h.mepc_aligned;
-    mtvec_aligned = h.mtvec_aligned;
+    mode_known = h.mode_known;
     mepc_aligned = h.mepc_aligned;
     mpp_fixed = mstatus_form (mpie_of c) 1 (mpie_below c) (omega arith);
   };
@@ -232,6 +256,12 @@ aligned_bits v =
     let none : bit_and (v % 4) 0 ≤ 0 = and_le_r (v % 4) 0 in
     omega arith
 
+mode_kept : (v : ℕ) → (0 + bit_and v vector_bits) % 4 ≤ 1
+mode_kept v =
+    let low : bit_and v vector_bits % 4 ≡ bit_and (v % 4) 1 = and_mod v vector_bits 2 in
+    let one : bit_and (v % 4) 1 ≤ 1 = and_le_r (v % 4) 1 in
+    omega arith
+
 bit_of_eight : (u : ℕ) → bit_and u 8 ≡ u / 8 % 2 * 8
 bit_of_eight u =
     let cut : u ≡ u / 8 * 2 ^ 3 + u % 8 = omega arith in
@@ -264,20 +294,20 @@ mstatus_keeps c v = record {
   is_core = λ h. record {
     registers = h.registers;
     pc_aligned = h.pc_aligned;
-    mtvec_aligned = h.mtvec_aligned;
+    mode_known = h.mode_known;
     mepc_aligned = h.mepc_aligned;
     mpp_fixed = kept_mstatus v (0x1800 + bit_and v mstatus_bits) refl;
   };
 }
 
-mtvec_keeps : (c : Core) (v : ℕ) → KeepsCore c (record c { mtvec = 0 + bit_and v address_bits })
+mtvec_keeps : (c : Core) (v : ℕ) → KeepsCore c (record c { mtvec = 0 + bit_and v vector_bits })
 mtvec_keeps c v = record {
   same_id = refl;
   x0 = refl;
   is_core = λ h. record {
     registers = h.registers;
     pc_aligned = h.pc_aligned;
-    mtvec_aligned = aligned_bits v;
+    mode_known = mode_kept v;
     mepc_aligned = h.mepc_aligned;
     mpp_fixed = h.mpp_fixed;
   };
@@ -290,7 +320,7 @@ mepc_keeps c v = record {
   is_core = λ h. record {
     registers = h.registers;
     pc_aligned = h.pc_aligned;
-    mtvec_aligned = h.mtvec_aligned;
+    mode_known = h.mode_known;
     mepc_aligned = aligned_bits v;
     mpp_fixed = h.mpp_fixed;
   };
@@ -304,7 +334,7 @@ free_keeps c d i x pc mtvec mepc mstatus = record {
   is_core = λ h. record {
     registers = ap length x ∙ h.registers;
     pc_aligned = ap (λ n. n % 4) pc ∙ h.pc_aligned;
-    mtvec_aligned = ap (λ n. n % 4) mtvec ∙ h.mtvec_aligned;
+    mode_known = subst (λ n. n % 4 ≤ 1) (sym mtvec) h.mode_known;
     mepc_aligned = ap (λ n. n % 4) mepc ∙ h.mepc_aligned;
     mpp_fixed = ap (λ n. mstatus_with (field 3 1 n) (field 7 1 n)) mstatus ∙ h.mpp_fixed ∙ sym mstatus;
   };
@@ -316,7 +346,7 @@ registers_keep = (
   (
     λ c v. same_core c,
     (
-      λ c v. same_core c,
+      λ c v. free_keeps c _ refl refl refl refl refl refl,
       (
         mtvec_keeps,
         (
@@ -369,8 +399,8 @@ swapped_keeps None writes change number v rd c = traps_keeps 2 0 c
 swapped_keeps (Some old) writes change number v rd c =
     refused_or (writes && csr_read_only number) _ _ c (traps_keeps 2 0 c) (sets_rd_from c _ rd old (written_if writes c number (change old v)))
 
-pub swaps_csr_keeps : (writes : Bool) (change : ℕ → ℕ → ℕ) (number v rd : ℕ) (c : Core) → StepKeeps c (swaps_csr writes change number v rd c)
-swaps_csr_keeps writes change number v rd c = swapped_keeps (csr_value c number) writes change number v rd c
+pub swaps_csr_keeps : (writes : Bool) (change : ℕ → ℕ → ℕ) (number v rd : ℕ) (c : Core) (m : Memory) → StepKeeps c (swaps_csr writes change number v rd c m)
+swaps_csr_keeps writes change number v rd c m = swapped_keeps (csr_seen c m number) writes change number v rd c
 
 -- ---- memory
 
@@ -385,7 +415,7 @@ pub after_load_keeps : (r : Result ℕ MemFault) (extend : ℕ → ℕ) (rd a : 
 after_load_keeps (Ok v) extend rd a c = sets_rd_keeps rd (extend v) c
 after_load_keeps (Err fault) extend rd a c = traps_keeps (load_cause fault) a c
 
-stored_step_keeps : (r : Result ⊤ MemFault) (a : ℕ) (c : Core) → StepKeeps c (stored_step r a c)
+pub stored_step_keeps : (r : Result ⊤ MemFault) (a : ℕ) (c : Core) → StepKeeps c (stored_step r a c)
 stored_step_keeps (Ok u) a c = goes_on_keeps c
 stored_step_keeps (Err fault) a c = traps_keeps (store_cause fault) a c
 
@@ -424,7 +454,7 @@ reserves_keeps a size extend rd c m = record {
   trapped = λ cause e. is_trap m _ (after_load_keeps (loaded m a size) extend rd a c) cause e (reserve_trapped (loaded m a size) extend rd a c m cause e);
 }
 
-sc_step_keeps : (r : Result ℕ MemFault) (covered : Bool) (rd a : ℕ) (c : Core) → StepKeeps c (sc_step r covered rd a c)
+pub sc_step_keeps : (r : Result ℕ MemFault) (covered : Bool) (rd a : ℕ) (c : Core) → StepKeeps c (sc_step r covered rd a c)
 sc_step_keeps (Ok v) covered rd a c = sets_rd_keeps rd (cond covered 0 1) c
 sc_step_keeps (Err fault) covered rd a c = traps_keeps (store_cause fault) a c
 
@@ -462,7 +492,7 @@ stores_if_reserved_keeps a size v rd c m = record {
       (sc_trapped (loaded m a size) (covers m c.id a size) rd a size v c m cause e);
 }
 
-amo_step_keeps : (r : Result ℕ MemFault) (extend : ℕ → ℕ) (rd a : ℕ) (c : Core) → StepKeeps c (amo_step r extend rd a c)
+pub amo_step_keeps : (r : Result ℕ MemFault) (extend : ℕ → ℕ) (rd a : ℕ) (c : Core) → StepKeeps c (amo_step r extend rd a c)
 amo_step_keeps (Ok v) extend rd a c = sets_rd_keeps rd (extend v) c
 amo_step_keeps (Err fault) extend rd a c = traps_keeps (store_cause fault) a c
 

@@ -3,14 +3,14 @@ use Rattle.std.proofs.Common.{◌≡◌, ℕ, Bool, true, false, cond, ◌&&◌,
 use Rattle.rv_model.specs.declared.debug_did.DebugDid.{DebugDid}
 use Rattle.rv_model.specs.declared.debug_did.DebugDid.TheVariants as ended
 use Rattle.rv_model.specs.declared.did.Did.{Did}
-use Rattle.rv_model.specs.declared.did.Did.TheVariants.{Retired, Trapped}
+use Rattle.rv_model.specs.declared.did.Did.TheVariants.{Retired, Trapped, Interrupted}
 use Rattle.rv_model.specs.declared.insn.Insn.{Insn}
 use Rattle.rv_model.specs.declared.insn.Insn.TheVariants.{Store, LoadReserved, StoreConditional, Amo, Csr, CsrImmediate}
 use Rattle.rv_model.specs.Alu.{alu_of}
 use Rattle.rv_model.specs.Board.{Hart, IsHart}
 use Rattle.rv_model.specs.Core.{Core, with_x}
 use Rattle.rv_model.specs.Dcsr.{dcsr_word, dcsr_of_word}
-use Rattle.rv_model.specs.DebugRegisters.{debug_value, debug_refuses, debug_written}
+use Rattle.rv_model.specs.DebugRegisters.{debug_seen, debug_value, debug_refuses, debug_written}
 use Rattle.rv_model.specs.DebugLaws.{
   ProgramBufferExamples,
   WriteKeeps,
@@ -51,8 +51,8 @@ use Rattle.rv_model.proofs.DebugRegisterLemmas.{core_alone, writes_keep}
 -- ---- worked examples
 
 pub program_buffer_examples : ProgramBufferExamples
-unfolding ran_word meaning alu_of effect_of loaded store_answer after_store debug_value debug_refuses debug_written csr_value csr_read_only csr_written
-    dcsr_word dcsr_of_word trigger_csr_value trigger_csr_written
+unfolding ran_word meaning alu_of effect_of loaded store_answer after_store debug_seen debug_value debug_refuses debug_written csr_value
+    csr_read_only csr_written dcsr_word dcsr_of_word trigger_csr_value trigger_csr_written
 program_buffer_examples = record {
   ebreak = λ h m. refl;
   all_zeros = λ h m. refl;
@@ -95,11 +95,12 @@ swapped_refuses (Some old) s h m = swapped_if (s.writes && debug_refuses s.numbe
 executed_refuses : (d : Did) (o : Outcome) (accessed : Bool) (h : Hart) (m : Memory) → Refuses h m (executed_by d o accessed h m)
 executed_refuses Retired o accessed h m = λ differs. absurd (differs refl)
 executed_refuses (Trapped cause) o accessed h m = λ differs. nothing h m _ _
+executed_refuses Interrupted o accessed h m = λ differs. nothing h m _ _
 
 sort_refuses : (s : Sort) (insn : Insn) (h : Hart) (m : Memory) → Refuses h m (ran_sort s insn h m)
 sort_refuses Ends insn h m = λ differs. nothing h m _ _
 sort_refuses Refused insn h m = λ differs. nothing h m _ _
-sort_refuses (Swaps s) insn h m = swapped_refuses (debug_value h s.number) s h m
+sort_refuses (Swaps s) insn h m = swapped_refuses (debug_seen h m s.number) s h m
 sort_refuses Accesses insn h m = executed_refuses (effect_of insn h.core m).step.did _ true h m
 sort_refuses Plain insn h m = executed_refuses (effect_of insn h.core m).step.did _ false h m
 
@@ -147,7 +148,7 @@ pc_back c after k = record {
   is_core = λ core. record {
     registers = (k.is_core core).registers;
     pc_aligned = core.pc_aligned;
-    mtvec_aligned = (k.is_core core).mtvec_aligned;
+    mode_known = (k.is_core core).mode_known;
     mepc_aligned = (k.is_core core).mepc_aligned;
     mpp_fixed = (k.is_core core).mpp_fixed;
   };
@@ -157,6 +158,7 @@ executed_keeps : (d : Did) (o : Outcome) (accessed : Bool) (h : Hart) (m : Memor
     → WriteKeeps h (executed_by d o accessed h m).hart
 executed_keeps Retired o accessed h m k = core_alone h _ (pc_back h.core o.step.core k)
 executed_keeps (Trapped cause) o accessed h m k = same_hart h
+executed_keeps Interrupted o accessed h m k = same_hart h
 
 core_kept : (insn : Insn) (c : Core) (m : Memory) → KeepsCore c (effect_of insn c m).step.core
 unfolding effect_of
@@ -165,7 +167,7 @@ core_kept insn c m = (effect_keeps insn c m).core
 sort_keeps : (s : Sort) (insn : Insn) (h : Hart) (m : Memory) → WriteKeeps h (ran_sort s insn h m).hart
 sort_keeps Ends insn h m = same_hart h
 sort_keeps Refused insn h m = same_hart h
-sort_keeps (Swaps s) insn h m = swapped_keeps (debug_value h s.number) s h m
+sort_keeps (Swaps s) insn h m = swapped_keeps (debug_seen h m s.number) s h m
 sort_keeps Accesses insn h m = executed_keeps (effect_of insn h.core m).step.did (effect_of insn h.core m) true h m (core_kept insn h.core m)
 sort_keeps Plain insn h m = executed_keeps (effect_of insn h.core m).step.did (effect_of insn h.core m) false h m (core_kept insn h.core m)
 
@@ -177,6 +179,7 @@ executed_places : (d : Did) (o : Outcome) (accessed : Bool) (h : Hart) (m : Memo
     → length (executed_by d o accessed h m).memory.reserved ≡ length m.reserved
 executed_places Retired o accessed h m same = same
 executed_places (Trapped cause) o accessed h m same = refl
+executed_places Interrupted o accessed h m same = refl
 
 places_kept : (insn : Insn) (c : Core) (m : Memory) → length (effect_of insn c m).memory.reserved ≡ length m.reserved
 unfolding effect_of
@@ -193,7 +196,7 @@ swapped_places (Some old) s h m = either_places (s.writes && debug_refuses s.num
 sort_places : (s : Sort) (insn : Insn) (h : Hart) (m : Memory) → length (ran_sort s insn h m).memory.reserved ≡ length m.reserved
 sort_places Ends insn h m = refl
 sort_places Refused insn h m = refl
-sort_places (Swaps s) insn h m = swapped_places (debug_value h s.number) s h m
+sort_places (Swaps s) insn h m = swapped_places (debug_seen h m s.number) s h m
 sort_places Accesses insn h m = executed_places (effect_of insn h.core m).step.did (effect_of insn h.core m) true h m (places_kept insn h.core m)
 sort_places Plain insn h m = executed_places (effect_of insn h.core m).step.did (effect_of insn h.core m) false h m (places_kept insn h.core m)
 
@@ -242,11 +245,12 @@ executed_quiet : (d : Did) (o : Outcome) (accessed : Bool) (h : Hart) (m : Memor
     → QuietMemory m (executed_by d o accessed h m)
 executed_quiet Retired o accessed h m is = is
 executed_quiet (Trapped cause) o accessed h m is = λ quiet. refl
+executed_quiet Interrupted o accessed h m is = λ quiet. refl
 
 sort_quiet : (s : Sort) (insn : Insn) (h : Hart) (m : Memory) → sort_of insn h.core ≡ s → QuietMemory m (ran_sort s insn h m)
 sort_quiet Ends insn h m is = λ quiet. refl
 sort_quiet Refused insn h m is = λ quiet. refl
-sort_quiet (Swaps s) insn h m is = swapped_quiet (debug_value h s.number) s h m
+sort_quiet (Swaps s) insn h m is = swapped_quiet (debug_seen h m s.number) s h m
 sort_quiet Accesses insn h m is = executed_quiet (effect_of insn h.core m).step.did (effect_of insn h.core m) true h m
     (λ quiet. absurd (true_is_not_false quiet))
 sort_quiet Plain insn h m is = executed_quiet (effect_of insn h.core m).step.did (effect_of insn h.core m) false h m (λ quiet. plain_of insn h.core m is)
@@ -279,6 +283,7 @@ same_debug h = record { debug = refl; pc = refl }
 executed_debug : (d : Did) (o : Outcome) (accessed : Bool) (h : Hart) (m : Memory) → KeepsDebug h (executed_by d o accessed h m).hart
 executed_debug Retired o accessed h m = record { debug = refl; pc = refl }
 executed_debug (Trapped cause) o accessed h m = same_debug h
+executed_debug Interrupted o accessed h m = same_debug h
 
 sort_debug : (s : Sort) (insn : Insn) (h : Hart) (m : Memory) → is_swap s ≡ false → KeepsDebug h (ran_sort s insn h m).hart
 sort_debug Ends insn h m e = same_debug h

@@ -6,10 +6,11 @@ use Rattle.rv_model.specs.declared.slot.Slot.{Slot}
 use Rattle.rv_model.specs.declared.slot.Trigger.{Trigger}
 use Rattle.rv_model.specs.declared.slot.Trigger.TheVariants as kind
 use Rattle.rv_model.specs.declared.touch.Touch.{Touch}
+use Rattle.rv_model.specs.declared.version.Version.{Version}
 use Rattle.rv_model.specs.Board.{free_slot}
 use Rattle.rv_model.specs.Fields.{field}
 use Rattle.rv_model.specs.Triggers.{count_limit, CountFits, CountsFit, slot_fires, trigger_hit, slot_marked, trigger_counted, slot_counted}
-use Rattle.rv_model.specs.TriggerWords.{trigger_of}
+use Rattle.rv_model.specs.TriggerWords.{address_type, trigger_of}
 
 -- ---- one slot
 
@@ -41,15 +42,15 @@ counted_fits s fits = trigger_counted_fits s.trigger fits
 field_below : (w : ℕ) → field 10 14 w < count_limit
 field_below w = omega arith
 
-written_by : (is_6 is_3 : Bool) (a b c : Trigger) → CountFits a → CountFits b → CountFits c → CountFits (cond is_6 a (cond is_3 b c))
+written_by : (is_address is_3 : Bool) (a b c : Trigger) → CountFits a → CountFits b → CountFits c → CountFits (cond is_address a (cond is_3 b c))
 written_by true is_3 a b c p q r = p
 written_by false true a b c p q r = q
 written_by false false a b c p q r = r
 
 -- what a write of tdata1 keeps
-pub written_fits : (w : ℕ) → CountFits (trigger_of w)
+pub written_fits : (v : Version) (w : ℕ) → CountFits (trigger_of v w)
 unfolding trigger_of
-written_fits w = written_by (eqb (field 60 4 w) 6) (eqb (field 60 4 w) 3) _ _ _ tt (field_below w) tt
+written_fits v w = written_by (eqb (field 60 4 w) (address_type v)) (eqb (field 60 4 w) 3) _ _ _ tt (field_below w) tt
 
 -- ---- several
 

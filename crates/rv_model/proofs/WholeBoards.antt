@@ -28,52 +28,55 @@ use Rattle.std.proofs.Common.{
   inl,
   inr,
   arith,
+  if◌then◌else◌,
 }
 use Rattle.std.proofs.lemmas.Bool.{cases_eq}
 use Rattle.std.proofs.lemmas.List.{length-map, length-set}
 use Rattle.std.proofs.lemmas.Option.{none-some, same_Some, slice_get_within}
 use Rattle.rv_model.specs.declared.cause.Cause.{Cause}
 use Rattle.rv_model.specs.declared.touch.Touch.{Touch}
+use Rattle.rv_model.specs.declared.version.Version.{Version}
 use Rattle.rv_model.specs.Board.{Board, DebugPart, Hart, IsBoard, IsHart, reset_hart, reset_harts}
 use Rattle.rv_model.specs.Core.{Core, IsCore, reset_core}
 use Rattle.rv_model.specs.Effects.{Outcome}
-use Rattle.rv_model.specs.Execute.{exec_of}
+use Rattle.rv_model.specs.Execute.{exec_masked_of, exec_of}
 use Rattle.rv_model.specs.Laws.{Keeps}
 use Rattle.rv_model.specs.Memory.{Memory}
 use Rattle.rv_model.specs.Touch.{touch_of}
 use Rattle.rv_model.specs.Triggers.{slot_marked, slot_counted, counted_down}
-use Rattle.rv_model.specs.Turn.{executes, memory_after, place_by, place_of, some_fires, stepped, stops_at_ebreak, turn_by}
+use Rattle.rv_model.specs.Turn.{executes, masks_interrupts, memory_after, place_by, place_of, some_fires, stepped, stops_at_ebreak, turn_by, turn_outcome}
 use Rattle.rv_model.specs.TurnLaws.{ResetBoardsAreBoards, TurnKeepsBoard}
-use Rattle.rv_model.proofs.BoardLemmas.{execution_keeps}
+use Rattle.rv_model.proofs.BoardLemmas.{execution_keeps, masked_execution_keeps}
 use Rattle.rv_model.proofs.MapLemmas.{slice_get-set_same, slice_get-set_other}
 use Rattle.rv_model.proofs.SlotLemmas.{counted_fits, marked_fits, map_fits, free_slots_fit}
 
 -- ---- reset
 
 reset_is_core : (id : ℕ) → IsCore (reset_core id)
-reset_is_core id = record { registers = refl; pc_aligned = refl; mtvec_aligned = refl; mepc_aligned = refl; mpp_fixed = refl }
+reset_is_core id = record { registers = refl; pc_aligned = refl; mode_known = omega arith; mepc_aligned = refl; mpp_fixed = refl }
 
-pub reset_is_hart : (id : ℕ) (halted : Option Cause) → IsHart id (reset_hart id halted)
-reset_is_hart id halted = record { number = refl; core = reset_is_core id; slots = refl; counts = free_slots_fit 4; selected = omega arith }
+pub reset_is_hart : (v : Version) (id : ℕ) (halted : Option Cause) → IsHart id (reset_hart v id halted)
+reset_is_hart v id halted = record { number = refl; core = reset_is_core id; slots = refl; counts = free_slots_fit 4; selected = omega arith }
 
-reset_count : (id : ℕ) (halted : List (Option Cause)) → length (reset_harts id halted) ≡ length halted
-reset_count id [] = refl
-reset_count id (first ∷ rest) = ap suc (reset_count (id + 1) rest)
+reset_count : (v : Version) (id : ℕ) (halted : List (Option Cause)) → length (reset_harts v id halted) ≡ length halted
+reset_count v id [] = refl
+reset_count v id (first ∷ rest) = ap suc (reset_count v (id + 1) rest)
 
-reset_each : (id : ℕ) (halted : List (Option Cause)) (h n : ℕ) (hart : Hart) → n ≡ id + h → slice_get (reset_harts id halted) h ≡ Some hart → IsHart n hart
-reset_each id [] h n hart place is = absurd (none-some hart is)
-reset_each id (first ∷ rest) zero n hart place is =
+reset_each : (v : Version) (id : ℕ) (halted : List (Option Cause)) (h n : ℕ) (hart : Hart) → n ≡ id + h → slice_get (reset_harts v id halted) h ≡ Some hart
+    → IsHart n hart
+reset_each v id [] h n hart place is = absurd (none-some hart is)
+reset_each v id (first ∷ rest) zero n hart place is =
     let at : id ≡ n = omega arith in
     let P : Hart → Type 0 = λ x. IsHart n x in
-    let Q : ℕ → Type 0 = λ k. IsHart k (reset_hart id first) in
-    subst P (same_Some (reset_hart id first) hart is) (subst Q at (reset_is_hart id first))
-reset_each id (first ∷ rest) (suc h) n hart place is = reset_each (id + 1) rest h n hart (omega arith) is
+    let Q : ℕ → Type 0 = λ k. IsHart k (reset_hart v id first) in
+    subst P (same_Some (reset_hart v id first) hart is) (subst Q at (reset_is_hart v id first))
+reset_each v id (first ∷ rest) (suc h) n hart place is = reset_each v (id + 1) rest h n hart (omega arith) is
 
 pub reset_boards_are_boards : ResetBoardsAreBoards
-reset_boards_are_boards halted m some most places = record {
-  some_hart = let e : length (reset_harts 0 halted) ≡ length halted = reset_count 0 halted in omega arith;
-  at_most_four = let e : length (reset_harts 0 halted) ≡ length halted = reset_count 0 halted in omega arith;
-  harts = λ h hart is. reset_each 0 halted h h hart (omega arith) is;
+reset_boards_are_boards v halted m some most places = record {
+  some_hart = let e : length (reset_harts v 0 halted) ≡ length halted = reset_count v 0 halted in omega arith;
+  at_most_four = let e : length (reset_harts v 0 halted) ≡ length halted = reset_count v 0 halted in omega arith;
+  harts = λ h hart is. reset_each v 0 halted h h hart (omega arith) is;
   places = places;
 }
 
@@ -112,12 +115,21 @@ place_keeps None resume false false true touch o h hart same whole is =
     record { number = is.number; core = is.core; slots = is.slots; counts = is.counts; selected = is.selected }
 place_keeps None resume false false false touch o h hart same whole is = executed_hart h hart o.step.core same whole is
 
+-- what a turn executes keeps what every execution does, with interrupts or without
+keeps_by : (masks : Bool) (c : Core) (m : Memory) → Keeps c m (if masks then exec_masked_of c m else exec_of c m)
+keeps_by true c m = (masked_execution_keeps c m).keeps
+keeps_by false c m = execution_keeps c m
+
+pub outcome_keeps : (hart : Hart) (m : Memory) → Keeps hart.core m (turn_outcome hart m)
+unfolding turn_outcome
+outcome_keeps hart m = keeps_by (masks_interrupts hart.debug) hart.core m
+
 pub turn_keeps_hart : (h : ℕ) (hart : Hart) (m : Memory) → IsHart h hart → IsHart h (place_of hart m).hart
 unfolding place_of
 turn_keeps_hart h hart m is =
-    let k : Keeps hart.core m (exec_of hart.core m) = execution_keeps hart.core m in
+    let k : Keeps hart.core m (turn_outcome hart m) = outcome_keeps hart m in
     place_keeps hart.debug.halted hart.debug.resume_request hart.debug.halt_request (some_fires (touch_of hart.core m) hart) (stops_at_ebreak hart m)
-    (touch_of hart.core m) (exec_of hart.core m) h hart k.core.same_id k.core.is_core is
+    (touch_of hart.core m) (turn_outcome hart m) h hart k.core.same_id k.core.is_core is
 
 -- ---- a board's turn
 
@@ -127,7 +139,7 @@ places_if false a b same = refl
 
 places_kept : (hart : Hart) (m : Memory) → length (memory_after hart m).reserved ≡ length m.reserved
 unfolding memory_after
-places_kept hart m = places_if (executes hart m) (exec_of hart.core m).memory m (execution_keeps hart.core m).places
+places_kept hart m = places_if (executes hart m) (turn_outcome hart m).memory m (outcome_keeps hart m).places
 
 -- a hart in the place of another
 pub each_set : (xs : List Hart) (h : ℕ) (y : Hart) → h < length xs → IsHart h y → ((j : ℕ) (x : Hart) → slice_get xs j ≡ Some x → IsHart j x)

@@ -3,6 +3,8 @@ use Rattle.std.proofs.Common.{
   ◌≡◌,
   ◌+◌,
   ◌-◌,
+  ◌*◌,
+  ◌/◌,
   ◌%◌,
   ◌^◌,
   ◌<◌,
@@ -44,8 +46,11 @@ use Rattle.rv_model.specs.declared.mem_fault.MemFault.TheVariants.{Misaligned, O
 use Rattle.rv_model.specs.declared.operands.BType.{BType}
 use Rattle.rv_model.specs.Core.{Core, next_pc, offset_by, with_x, x_of}
 use Rattle.rv_model.specs.Effects.{Step, after_load, amo_step, branches, goes_on, jumps, retires, sc_step, sets_rd, stored_step, swapped_csr, swaps_csr, traps}
-use Rattle.rv_model.specs.Registers.{Register, csr_read_only, csr_value, csr_written, kept_of, register_at, registers, written_at}
-use Rattle.rv_model.specs.Traps.{load_cause, store_cause, trap_left}
+use Rattle.rv_model.specs.Fields.{bit_value}
+use Rattle.rv_model.specs.Memory.{Memory, msip_bit}
+use Rattle.rv_model.specs.Registers.{Register, csr_read_only, csr_seen, csr_value, csr_written, kept_of, mip_number, mip_value, register_at, registers}
+use Rattle.rv_model.specs.Registers.{written_at}
+use Rattle.rv_model.specs.Traps.{interrupt_entered, load_cause, store_cause, trap_left}
 use Rattle.rv_model.proofs.WideWords.{IsWide, mod_wide}
 
 pub record CoreWide (c : Core) : Type 0 where
@@ -53,6 +58,7 @@ pub record CoreWide (c : Core) : Type 0 where
   pub x : (i : ℕ) → IsWide (x_of c i)
   pub pc : IsWide c.pc
   pub mstatus : IsWide c.mstatus
+  pub mie : IsWide c.mie
   pub mtvec : IsWide c.mtvec
   pub mscratch : IsWide c.mscratch
   pub mepc : IsWide c.mepc
@@ -90,6 +96,7 @@ with_x_by false c r v w p = record {
   x = λ i. unless_zero (i == 0) (get_or c.x i 0) (get_or (set c.x r v) i 0) (w.x i) (λ q. set_wide c.x r v i q p);
   pc = w.pc;
   mstatus = w.mstatus;
+  mie = w.mie;
   mtvec = w.mtvec;
   mscratch = w.mscratch;
   mepc = w.mepc;
@@ -106,6 +113,7 @@ at_pc c target w p = record {
   x = w.x;
   pc = p;
   mstatus = w.mstatus;
+  mie = w.mie;
   mtvec = w.mtvec;
   mscratch = w.mscratch;
   mepc = w.mepc;
@@ -121,17 +129,39 @@ goes_on_wide c w = at_pc c (next_pc c) w (mod_wide (c.pc + 4))
 pub sets_rd_wide : (rd v : ℕ) (c : Core) → CoreWide c → IsWide v → CoreWide (sets_rd rd v c).core
 sets_rd_wide rd v c w p = goes_on_wide (with_x c rd v) (with_x_wide c rd v w p)
 
+base_wide : (mtvec : ℕ) → IsWide mtvec → IsWide (mtvec / 4 * 4)
+base_wide mtvec p = omega arith
+
 pub traps_wide : (cause value : ℕ) (c : Core) → CoreWide c → IsWide cause → IsWide value → CoreWide (traps cause value c).core
 traps_wide cause value c w p q = record {
   id = w.id;
   x = w.x;
-  pc = w.mtvec;
+  pc = base_wide c.mtvec w.mtvec;
   mstatus = omega arith;
+  mie = w.mie;
   mtvec = w.mtvec;
   mscratch = w.mscratch;
   mepc = w.pc;
   mcause = p;
   mtval = q;
+}
+
+handler_wide : (b : Bool) (mtvec : ℕ) → IsWide mtvec → IsWide (if b then (mtvec / 4 * 4 + 12) % 2 ^ 64 else mtvec / 4 * 4)
+handler_wide true mtvec p = mod_wide (mtvec / 4 * 4 + 12)
+handler_wide false mtvec p = base_wide mtvec p
+
+pub interrupt_wide : (c : Core) → CoreWide c → CoreWide (interrupt_entered c)
+interrupt_wide c w = record {
+  id = w.id;
+  x = w.x;
+  pc = handler_wide (c.mtvec % 4 == 1) c.mtvec w.mtvec;
+  mstatus = omega arith;
+  mie = w.mie;
+  mtvec = w.mtvec;
+  mscratch = w.mscratch;
+  mepc = w.pc;
+  mcause = omega arith;
+  mtval = zero_wide;
 }
 
 pub trap_left_wide : (c : Core) → CoreWide c → CoreWide (trap_left c)
@@ -140,6 +170,7 @@ trap_left_wide c w = record {
   x = w.x;
   pc = w.mepc;
   mstatus = omega arith;
+  mie = w.mie;
   mtvec = w.mtvec;
   mscratch = w.mscratch;
   mepc = w.mepc;
@@ -186,6 +217,7 @@ each_row = (
           x = w.x;
           pc = w.pc;
           mstatus = kept_wide v 0x1800 0x88 (omega arith);
+          mie = w.mie;
           mtvec = w.mtvec;
           mscratch = w.mscratch;
           mepc = w.mepc;
@@ -196,7 +228,22 @@ each_row = (
   (
     record { read = λ c w. omega arith; write = λ v c w. w },
     (
-      record { read = λ c w. omega arith; write = λ v c w. w },
+      record {
+        read = λ c w. w.mie;
+        write = λ v c
+            w. record {
+              id = w.id;
+              x = w.x;
+              pc = w.pc;
+              mstatus = w.mstatus;
+              mie = kept_wide v 0 0x8 (omega arith);
+              mtvec = w.mtvec;
+              mscratch = w.mscratch;
+              mepc = w.mepc;
+              mcause = w.mcause;
+              mtval = w.mtval;
+            };
+      },
       (
         record {
           read = λ c w. w.mtvec;
@@ -206,7 +253,8 @@ each_row = (
                 x = w.x;
                 pc = w.pc;
                 mstatus = w.mstatus;
-                mtvec = kept_wide v 0 (2 ^ 64 - 4) (omega arith);
+                mie = w.mie;
+                mtvec = kept_wide v 0 (2 ^ 64 - 3) (omega arith);
                 mscratch = w.mscratch;
                 mepc = w.mepc;
                 mcause = w.mcause;
@@ -222,6 +270,7 @@ each_row = (
                   x = w.x;
                   pc = w.pc;
                   mstatus = w.mstatus;
+                  mie = w.mie;
                   mtvec = w.mtvec;
                   mscratch = kept_wide v 0 (2 ^ 64 - 1) (omega arith);
                   mepc = w.mepc;
@@ -238,6 +287,7 @@ each_row = (
                     x = w.x;
                     pc = w.pc;
                     mstatus = w.mstatus;
+                    mie = w.mie;
                     mtvec = w.mtvec;
                     mscratch = w.mscratch;
                     mepc = kept_wide v 0 (2 ^ 64 - 4) (omega arith);
@@ -254,6 +304,7 @@ each_row = (
                       x = w.x;
                       pc = w.pc;
                       mstatus = w.mstatus;
+                      mie = w.mie;
                       mtvec = w.mtvec;
                       mscratch = w.mscratch;
                       mepc = w.mepc;
@@ -270,6 +321,7 @@ each_row = (
                         x = w.x;
                         pc = w.pc;
                         mstatus = w.mstatus;
+                        mie = w.mie;
                         mtvec = w.mtvec;
                         mscratch = w.mscratch;
                         mepc = w.mepc;
@@ -349,8 +401,22 @@ swapped_wide (Some old) writes change number v rd c wide w =
     (sets_rd_wide rd old (if writes then csr_written c number (change old v) else c)
     (if_written writes (csr_written c number (change old v)) c (csr_written_wide c number (change old v) w) w) (wide old refl))
 
-pub swaps_wide : (writes : Bool) (change : ℕ → ℕ → ℕ) (number v rd : ℕ) (c : Core) → CoreWide c → CoreWide (swaps_csr writes change number v rd c).core
-swaps_wide writes change number v rd c w = swapped_wide (csr_value c number) writes change number v rd c (λ old is. csr_value_wide c number old w is) w
+mip_wide : (pends : Bool) → IsWide (bit_value 3 pends)
+mip_wide true = omega arith
+mip_wide false = omega arith
+
+seen_by : (is_mip : Bool) (c : Core) (m : Memory) (number v : ℕ) → CoreWide c
+    → (if is_mip then Some (mip_value c m) else csr_value c number) ≡ Some v → IsWide v
+seen_by true c m number v w is = subst (λ n. IsWide n) (same_Some (mip_value c m) v is) (mip_wide (msip_bit m c.id))
+seen_by false c m number v w is = csr_value_wide c number v w is
+
+pub csr_seen_wide : (c : Core) (m : Memory) (number v : ℕ) → CoreWide c → csr_seen c m number ≡ Some v → IsWide v
+unfolding csr_seen
+csr_seen_wide c m number v w is = seen_by (number == mip_number) c m number v w is
+
+pub swaps_wide : (writes : Bool) (change : ℕ → ℕ → ℕ) (number v rd : ℕ) (c : Core) (m : Memory) → CoreWide c
+    → CoreWide (swaps_csr writes change number v rd c m).core
+swaps_wide writes change number v rd c m w = swapped_wide (csr_seen c m number) writes change number v rd c (λ old is. csr_seen_wide c m number old w is) w
 
 -- ---- loads, stores and atomic operations
 

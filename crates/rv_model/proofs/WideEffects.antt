@@ -1,5 +1,5 @@
 -- What every instruction leaves of a wide core and of ready memory, by its line in the table of effects.
-use Rattle.std.proofs.Common.{◌≡◌, ◌*◌, ◌/◌, ◌^◌, ◌<◌, ℕ, Option, Some, None, Result, Ok, Err, arith, refl}
+use Rattle.std.proofs.Common.{◌≡◌, ◌*◌, ◌/◌, ◌^◌, ◌<◌, ℕ, Bool, true, false, if◌then◌else◌, Option, Some, None, Result, Ok, Err, arith, refl}
 use Rattle.rv_model.specs.declared.alu_op.AluOp.{AluOp}
 use Rattle.rv_model.specs.declared.alu_op.AluOp.TheVariants as op
 use Rattle.rv_model.specs.declared.insn.Insn.{Insn}
@@ -37,7 +37,7 @@ use Rattle.rv_model.specs.declared.width.Width.TheVariants.{Word, DoubleWord}
 use Rattle.rv_model.specs.Accesses.{load_extension, load_size, whole, width_extension, width_size}
 use Rattle.rv_model.specs.Core.{Core, offset_by, x_of}
 use Rattle.rv_model.specs.Effects.{Outcome, Step, effect, effect_of, loads_at, reserves_at, same_memory, stores_at, stores_if_reserved_at, updates_at}
-use Rattle.rv_model.specs.Execute.{decoded, exec_of, fetched}
+use Rattle.rv_model.specs.Execute.{decoded, exec_masked_of, exec_of, fetched, interrupted, takes_interrupt}
 use Rattle.rv_model.specs.Fields.{sign_extended}
 use Rattle.rv_model.specs.Memory.{Memory, covers, fetch_of, loaded, store_answer}
 use Rattle.rv_model.specs.Rows.{meaning}
@@ -50,6 +50,7 @@ use Rattle.rv_model.proofs.WideCore.{
   branches_wide,
   goes_on_wide,
   illegal_wide,
+  interrupt_wide,
   jumps_wide,
   offset_wide,
   sc_wide,
@@ -180,8 +181,8 @@ effect_wide (Amo o width p) c m w r imm = updates_wide (x_of c p.rs1) (width_siz
     (x_wide c p.rs1 w) (width_extends width)
 effect_wide Fence c m w r imm = quiet_wide m (goes_on_wide c w) r
 effect_wide FenceI c m w r imm = quiet_wide m (goes_on_wide c w) r
-effect_wide (Csr change p) c m w r imm = quiet_wide m (swaps_wide _ _ _ _ p.rd c w) r
-effect_wide (CsrImmediate change p) c m w r imm = quiet_wide m (swaps_wide _ _ _ _ p.rd c w) r
+effect_wide (Csr change p) c m w r imm = quiet_wide m (swaps_wide _ _ _ _ p.rd c m w) r
+effect_wide (CsrImmediate change p) c m w r imm = quiet_wide m (swaps_wide _ _ _ _ p.rd c m w) r
 effect_wide Ecall c m w r imm = quiet_wide m (traps_wide 11 0 c w eleven_wide zero_wide) r
 effect_wide Ebreak c m w r imm = quiet_wide m (traps_wide 3 0 c w three_wide zero_wide) r
 effect_wide Mret c m w r imm = quiet_wide m (trap_left_wide c w) r
@@ -199,6 +200,15 @@ fetched_wide : (f : Result ℕ MemFault) (c : Core) (m : Memory) → CoreWide c 
 fetched_wide (Ok word) c m w r = decoded_wide (meaning word) c m w r (λ i is. meaning_wide word i is)
 fetched_wide (Err fault) c m w r = quiet_wide m (traps_wide 1 c.pc c w one_wide w.pc) r
 
+pub masked_wide : (c : Core) (m : Memory) → CoreWide c → MemoryReady m → OutcomeWide (exec_masked_of c m)
+unfolding exec_masked_of
+masked_wide c m w r = fetched_wide (fetch_of m c.pc) c m w r
+
+exec_by : (taken : Bool) (c : Core) (m : Memory) → CoreWide c → MemoryReady m
+    → OutcomeWide (if taken then same_memory m (interrupted c) else exec_masked_of c m)
+exec_by true c m w r = quiet_wide m (interrupt_wide c w) r
+exec_by false c m w r = masked_wide c m w r
+
 pub exec_wide : (c : Core) (m : Memory) → CoreWide c → MemoryReady m → OutcomeWide (exec_of c m)
 unfolding exec_of
-exec_wide c m w r = fetched_wide (fetch_of m c.pc) c m w r
+exec_wide c m w r = exec_by (takes_interrupt c m) c m w r

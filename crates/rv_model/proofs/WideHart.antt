@@ -36,13 +36,15 @@ use Rattle.rv_model.specs.declared.slot.Comparison.TheVariants.{Equal, AtLeast, 
 use Rattle.rv_model.specs.declared.slot.Slot.{Slot}
 use Rattle.rv_model.specs.declared.slot.Trigger.{Trigger}
 use Rattle.rv_model.specs.declared.slot.Trigger.TheVariants as kind
+use Rattle.rv_model.specs.declared.version.Version.{Version}
+use Rattle.rv_model.specs.declared.version.Version.TheVariants.{V013, V10}
 use Rattle.rv_model.specs.Board.{DebugPart, Hart, IsHart, free_slot}
 use Rattle.rv_model.specs.Core.{Core, x_of}
 use Rattle.rv_model.specs.Dcsr.{dcsr_of, dcsr_value, dcsr_word, shown_cause}
 use Rattle.rv_model.specs.DebugRegisters.{debug_csr_value, debug_value, value_or}
 use Rattle.rv_model.specs.Fields.{bit_value}
 use Rattle.rv_model.specs.Registers.{csr_value, is_x_number, reg_value}
-use Rattle.rv_model.specs.TriggerWords.{CountFits, comparison_number, selected_slot, tdata1_of, trigger_csr_value, triggers_of}
+use Rattle.rv_model.specs.TriggerWords.{CountFits, comparison_number, selected_slot, tdata1_of, tinfo_value, trigger_csr_value, triggers_of}
 use Rattle.rv_model.proofs.DebugRegisterLemmas.{is_x}
 use Rattle.rv_model.proofs.WideCore.{CoreWide, csr_value_wide, x_wide, zero_by}
 use Rattle.rv_model.proofs.WideWords.{IsWide}
@@ -78,6 +80,7 @@ core_wide h x whole wide = record {
   ];
   pc = wide 0x7b1 x.core.pc refl;
   mstatus = wide 0x300 x.core.mstatus refl;
+  mie = wide 0x304 x.core.mie refl;
   mtvec = wide 0x305 x.core.mtvec refl;
   mscratch = wide 0x340 x.core.mscratch refl;
   mepc = wide 0x341 x.core.mepc refl;
@@ -121,9 +124,17 @@ comparison_small Equal = omega arith
 comparison_small AtLeast = omega arith
 comparison_small Below = omega arith
 
-tdata1_wide : (t : Trigger) → CountFits t → IsWide (tdata1_of t)
+tdata1_wide : (v : Version) (t : Trigger) → CountFits t → IsWide (tdata1_of v t)
 unfolding tdata1_of
-tdata1_wide (kind.Mcontrol6 t) fits =
+tdata1_wide V013 (kind.Mcontrol6 t) fits =
+    let a : bit_value 20 t.hit ≤ 2 ^ 20 = bit_small 20 t.hit in
+    let b : bit_value 6 t.m ≤ 2 ^ 6 = bit_small 6 t.m in
+    let c : bit_value 2 t.execute ≤ 2 ^ 2 = bit_small 2 t.execute in
+    let d : bit_value 1 t.store ≤ 2 ^ 1 = bit_small 1 t.store in
+    let e : bit_value 0 t.load ≤ 2 ^ 0 = bit_small 0 t.load in
+    let f : comparison_number t.comparison ≤ 3 = comparison_small t.comparison in
+    omega arith
+tdata1_wide V10 (kind.Mcontrol6 t) fits =
     let a : bit_value 22 t.hit ≤ 2 ^ 22 = bit_small 22 t.hit in
     let b : bit_value 6 t.m ≤ 2 ^ 6 = bit_small 6 t.m in
     let c : bit_value 2 t.execute ≤ 2 ^ 2 = bit_small 2 t.execute in
@@ -131,13 +142,17 @@ tdata1_wide (kind.Mcontrol6 t) fits =
     let e : bit_value 0 t.load ≤ 2 ^ 0 = bit_small 0 t.load in
     let f : comparison_number t.comparison ≤ 3 = comparison_small t.comparison in
     omega arith
-tdata1_wide (kind.Icount t) fits =
+tdata1_wide v (kind.Icount t) fits =
     let a : bit_value 24 t.hit ≤ 2 ^ 24 = bit_small 24 t.hit in
     let b : bit_value 9 t.m ≤ 2 ^ 9 = bit_small 9 t.m in
     let c : bit_value 8 t.pending ≤ 2 ^ 8 = bit_small 8 t.pending in
     let d : t.count < 2 ^ 14 = fits in
     omega arith
-tdata1_wide kind.Disabled fits = omega arith
+tdata1_wide v kind.Disabled fits = omega arith
+
+tinfo_wide : (v : Version) → IsWide (tinfo_value v)
+tinfo_wide V013 = omega arith
+tinfo_wide V10 = omega arith
 
 -- the selected slot, where it is there
 selected_is : (h : ℕ) (x : Hart) → IsHart h x → slice_get x.debug.slots x.debug.tselect ≡ Some (selected_slot (triggers_of x.debug))
@@ -151,9 +166,9 @@ trigger_wide h x number v whole compared is =
     let s : Slot = selected_slot (triggers_of x.debug) in
     let at : slice_get x.debug.slots x.debug.tselect ≡ Some s = selected_is h x whole in
     some_if (number == 0x7a0) x.debug.tselect _ v (let a : x.debug.tselect < 4 = whole.selected in omega arith)
-    (λ u e. some_if (number == 0x7a1) (tdata1_of s.trigger) _ u (tdata1_wide s.trigger (whole.counts x.debug.tselect s at))
+    (λ u e. some_if (number == 0x7a1) (tdata1_of x.debug.version s.trigger) _ u (tdata1_wide x.debug.version s.trigger (whole.counts x.debug.tselect s at))
     (λ u' e'. some_if (number == 0x7a2) s.tdata2 _ u' (compared x.debug.tselect s at)
-    (λ u'' e''. some_if (number == 0x7a4) 0x01008048 None u'' (omega arith) (λ u''' e'''. absurd (none-some u''' e''')) e'') e') e) is
+    (λ u'' e''. some_if (number == 0x7a4) (tinfo_value x.debug.version) None u'' (tinfo_wide x.debug.version) (λ u''' e'''. absurd (none-some u''' e''')) e'') e') e) is
 
 or_wide : (o p : Option ℕ) (v : ℕ) → ((u : ℕ) → o ≡ Some u → IsWide u) → ((u : ℕ) → p ≡ Some u → IsWide u) → value_or o p ≡ Some v → IsWide v
 or_wide (Some u) p v first second is = subst (λ n. IsWide n) (same_Some u v is) (first u refl)

@@ -28,15 +28,16 @@ use Rattle.rv_model.specs.declared.slot.Slot.{Slot}
 use Rattle.rv_model.specs.declared.touch.Touch.{Touch}
 use Rattle.rv_model.specs.Board.{DebugPart, Hart}
 use Rattle.rv_model.specs.Effects.{Outcome}
-use Rattle.rv_model.specs.Execute.{exec_of}
+use Rattle.rv_model.specs.Core.{Core}
+use Rattle.rv_model.specs.Execute.{exec_masked_of, exec_of}
 use Rattle.rv_model.specs.Memory.{Memory}
 use Rattle.rv_model.specs.Touch.{touch_of}
 use Rattle.rv_model.specs.Triggers.{slot_counted, slot_marked, trigger_fires}
-use Rattle.rv_model.specs.Turn.{executes, memory_after, place_by, place_of, some_fires, stops_at_ebreak}
+use Rattle.rv_model.specs.Turn.{executes, masks_interrupts, memory_after, place_by, place_of, some_fires, stops_at_ebreak, turn_outcome}
 use Rattle.rv_model.proofs.WholeBoards.{turn_keeps_hart}
 use Rattle.rv_model.specs.Widths.{MemoryReady}
 use Rattle.rv_model.proofs.WideCore.{CoreWide}
-use Rattle.rv_model.proofs.WideEffects.{OutcomeWide, exec_wide}
+use Rattle.rv_model.proofs.WideEffects.{OutcomeWide, exec_wide, masked_wide}
 use Rattle.rv_model.proofs.WideMemory.{if_ready}
 use Rattle.rv_model.proofs.WideHart.{HartWide, core_wide, registers_wide}
 
@@ -80,21 +81,26 @@ place_core None resume false true at_ebreak touch o x w q = w
 place_core None resume false false true touch o x w q = w
 place_core None resume false false false touch o x w q = q
 
-executed_wide : (h : ℕ) (x : Hart) (m : Memory) → HartWide h x → MemoryReady m → OutcomeWide (exec_of x.core m)
-executed_wide h x m w r = exec_wide x.core m (core_wide h x w.whole w.registers) r
+either_wide : (masks : Bool) (c : Core) (m : Memory) → CoreWide c → MemoryReady m → OutcomeWide (if masks then exec_masked_of c m else exec_of c m)
+either_wide true c m w r = masked_wide c m w r
+either_wide false c m w r = exec_wide c m w r
+
+executed_wide : (h : ℕ) (x : Hart) (m : Memory) → HartWide h x → MemoryReady m → OutcomeWide (turn_outcome x m)
+unfolding turn_outcome
+executed_wide h x m w r = either_wide (masks_interrupts x.debug) x.core m (core_wide h x w.whole w.registers) r
 
 pub place_wide : (h : ℕ) (x : Hart) (m : Memory) → HartWide h x → MemoryReady m → HartWide h (place_of x m).hart
 unfolding place_of
 place_wide h x m w r =
     let y : Hart = (place_of x m).hart in
     let slots : SlotsWide y.debug.slots = place_slots x.debug.halted x.debug.resume_request x.debug.halt_request (some_fires (touch_of x.core m) x)
-    (stops_at_ebreak x m) (touch_of x.core m) (exec_of x.core m) x w.compared in
+    (stops_at_ebreak x m) (touch_of x.core m) (turn_outcome x m) x w.compared in
     let core : CoreWide y.core =
     place_core x.debug.halted x.debug.resume_request x.debug.halt_request (some_fires (touch_of x.core m) x) (stops_at_ebreak x m) (touch_of x.core m)
-    (exec_of x.core m) x
+    (turn_outcome x m) x
     (core_wide h x w.whole w.registers) (executed_wide h x m w r).core in
     record { whole = turn_keeps_hart h x m w.whole; registers = registers_wide h y (turn_keeps_hart h x m w.whole) core slots; compared = slots }
 
 pub memory_wide : (h : ℕ) (x : Hart) (m : Memory) → HartWide h x → MemoryReady m → MemoryReady (memory_after x m)
 unfolding memory_after
-memory_wide h x m w r = if_ready (executes x m) (exec_of x.core m).memory m (executed_wide h x m w r).memory r
+memory_wide h x m w r = if_ready (executes x m) (turn_outcome x m).memory m (executed_wide h x m w r).memory r

@@ -5,6 +5,7 @@ use Rattle.rv_model.specs.declared.cause.Cause.{Cause}
 use Rattle.rv_model.specs.declared.cause.Cause.TheVariants.{Reset}
 use Rattle.rv_model.specs.declared.slot.Slot.{Slot}
 use Rattle.rv_model.specs.declared.slot.Trigger.TheVariants.{Disabled}
+use Rattle.rv_model.specs.declared.version.Version.{Version}
 use Rattle.rv_model.specs.Memory.{Memory, hart_places}
 use Rattle.rv_model.specs.Core.{Core, IsCore, reset_core}
 use Rattle.rv_model.specs.Effects.{Outcome}
@@ -12,6 +13,7 @@ use Rattle.rv_model.specs.Execute.{exec_of}
 use Rattle.rv_model.specs.Triggers.{CountsFit}
 
 pub record DebugPart : Type 0 where
+  pub version : Version  -- of the specification that the hart follows: it never changes
   pub halted : Option Cause  -- why the hart is halted, or none where it runs
   pub halt_request : Bool
   pub resume_request : Bool
@@ -53,7 +55,7 @@ abbrev pub execute_by : Option Core → ℕ → Machine → Machine
 execute_by (Some c) h b = with_outcome h (exec_of c b.memory) b
 execute_by None h b = b
 
--- a machine after one instruction of hart h; nothing where there is no such hart
+-- a machine after one instruction, trap or interrupt of hart h; nothing where there is no such hart
 abbrev pub execute : ℕ → Machine → Machine
 execute h b = execute_by (slice_get b.cores h) h b
 
@@ -66,8 +68,9 @@ abbrev pub free_slot : Slot
 free_slot = record { trigger = Disabled; tdata2 = 0 }
 
 -- the debug part of a hart that has just been reset; given is the cause of its halt, or none where it runs
-abbrev pub reset_debug : Option Cause → DebugPart
-reset_debug halted = record {
+abbrev pub reset_debug : Version → Option Cause → DebugPart
+reset_debug version halted = record {
+  version = version;
   halted = halted;
   halt_request = false;
   resume_request = false;
@@ -80,16 +83,16 @@ reset_debug halted = record {
   slots = replicate slot_count free_slot;
 }
 
-abbrev pub reset_hart : ℕ → Option Cause → Hart
-reset_hart id halted = record { core = reset_core id; debug = reset_debug halted }
+abbrev pub reset_hart : Version → ℕ → Option Cause → Hart
+reset_hart version id halted = record { core = reset_core id; debug = reset_debug version halted }
 
 -- one hart for each, from a number on, halted by these causes or running
-abbrev pub reset_harts : ℕ → List (Option Cause) → List Hart
-reset_harts id [] = []
-reset_harts id (halted ∷ rest) = reset_hart id halted ∷ reset_harts (id + 1) rest
+abbrev pub reset_harts : Version → ℕ → List (Option Cause) → List Hart
+reset_harts version id [] = []
+reset_harts version id (halted ∷ rest) = reset_hart version id halted ∷ reset_harts version (id + 1) rest
 
-abbrev pub reset_board : List (Option Cause) → Memory → Board
-reset_board halted m = record { harts = reset_harts 0 halted; memory = m }
+abbrev pub reset_board : Version → List (Option Cause) → Memory → Board
+reset_board version halted m = record { harts = reset_harts version 0 halted; memory = m }
 
 abbrev pub runs : Option Cause
 runs = None

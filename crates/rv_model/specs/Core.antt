@@ -1,6 +1,6 @@
 -- A hart's core: all that a program can see of its own hart, and nothing that a debugger adds.
 -- Unprivileged manual, "Programmers' Model for Base Integer ISA"; privileged manual, "Machine-Level CSRs"; the reset values are this project's own choice.
-use Rattle.std.specs.Prelude.{◌≡◌, ℕ, ◌+◌, ◌*◌, ◌/◌, ◌%◌, ◌^◌, List, if◌then◌else◌, ◌==◌, length, replicate, slice_index, slice_set}
+use Rattle.std.specs.Prelude.{◌≡◌, ℕ, ◌+◌, ◌*◌, ◌/◌, ◌%◌, ◌^◌, ◌≤◌, List, if◌then◌else◌, ◌==◌, length, replicate, slice_index, slice_set}
 use Rattle.rv_model.specs.Memory.{ram_base}
 use Rattle.rv_model.specs.Fields.{field}
 
@@ -10,7 +10,8 @@ pub record Core : Type 0 where
   pub x : List ℕ  -- x0 to x31; the place of x0 is never read or written
   pub pc : ℕ  -- a multiple of 4
   pub mstatus : ℕ
-  pub mtvec : ℕ  -- a multiple of 4
+  pub mie : ℕ  -- bit 3 alone
+  pub mtvec : ℕ  -- the handler's base, a multiple of 4, and the mode, 0 or 1
   pub mscratch : ℕ
   pub mepc : ℕ  -- a multiple of 4
   pub mcause : ℕ
@@ -56,6 +57,22 @@ mpp_machine = 0x1800
 abbrev pub mstatus_with : ℕ → ℕ → ℕ
 mstatus_with mie mpie = mpp_machine + mie * 2 ^ 3 + mpie * 2 ^ 7
 
+-- ---- mie: machine software interrupts have bit 3, and the other fields are 0
+
+abbrev pub msie_of : Core → ℕ
+msie_of c = field 3 1 c.mie
+
+-- ---- mtvec: the base address of the trap handler, and in its two lowest bits the mode: direct or vectored
+
+abbrev pub handler_base : Core → ℕ
+handler_base c = aligned c.mtvec
+
+abbrev pub mode_of : Core → ℕ
+mode_of c = c.mtvec % 4
+
+abbrev pub vectored : ℕ
+vectored = 1
+
 -- ---- reset
 
 abbrev pub reset_core : ℕ → Core
@@ -64,6 +81,7 @@ reset_core id = record {
   x = replicate register_count 0;
   pc = ram_base;
   mstatus = mstatus_with 0 0;
+  mie = 0;
   mtvec = 0;
   mscratch = 0;
   mepc = 0;
@@ -75,6 +93,6 @@ reset_core id = record {
 pub record IsCore (c : Core) : Type 0 where
   pub registers : length c.x ≡ register_count
   pub pc_aligned : c.pc % 4 ≡ 0
-  pub mtvec_aligned : c.mtvec % 4 ≡ 0
+  pub mode_known : mode_of c ≤ vectored
   pub mepc_aligned : c.mepc % 4 ≡ 0
   pub mpp_fixed : mstatus_with (mie_of c) (mpie_of c) ≡ c.mstatus

@@ -7,7 +7,9 @@ use Rattle.rv_model.specs.declared.insn.Insn.{Insn}
 use Rattle.rv_model.specs.declared.insn.Insn.TheVariants.{Load, Csr, CsrImmediate}
 use Rattle.rv_model.specs.declared.load_op.LoadOp.TheVariants.{Ld}
 use Rattle.rv_model.specs.declared.register_number.TheConstants.{TSELECT, TDATA1, TDATA2, TINFO, DCSR, DPC, X0}
-use Rattle.rv_model.specs.declared.trigger_word.TheConstants.{TINFO_VALUE}
+use Rattle.rv_model.specs.declared.trigger_word.TheConstants.{DISABLED_WORD}
+use Rattle.rv_model.specs.declared.version.Version.{Version}
+use Rattle.rv_model.specs.declared.version.Version.TheVariants.{V013, V10}
 use Rattle.rv_model.specs.Board.{DebugPart, Hart, IsHart, reset_hart, slot_count}
 use Rattle.rv_model.specs.Core.{with_x, aligned, register_count}
 use Rattle.rv_model.specs.Dcsr.{dcsr_word, dcsr_of_word, shown_cause}
@@ -17,30 +19,34 @@ use Rattle.rv_model.specs.Memory.{Memory}
 use Rattle.rv_model.specs.ProgramBuffer.{Debugged, debugged, ran_word}
 use Rattle.rv_model.specs.Registers.{first_x_number, pc_number}
 use Rattle.rv_model.specs.Rows.{meaning}
-use Rattle.rv_model.specs.TriggerWords.{tselect_number, tdata1_number, tdata2_number, tinfo_number, tdata1_of, trigger_of, tinfo_value}
+use Rattle.rv_model.specs.TriggerWords.{tselect_number, tdata1_number, tdata2_number, tinfo_number, disabled_word, tdata1_of, trigger_of, tinfo_value}
 
--- ---- the code's numbers
+-- ---- the code's numbers, and the word of a slot that is free
 
 pub record DebugRegisterNumbers : Type 0 where
   pub tselect : TSELECT ≡ tselect_number
   pub tdata1 : TDATA1 ≡ tdata1_number
   pub tdata2 : TDATA2 ≡ tdata2_number
   pub tinfo : TINFO ≡ tinfo_number
-  pub tinfo_reads : TINFO_VALUE ≡ tinfo_value
+  pub disabled : DISABLED_WORD ≡ disabled_word
   pub dcsr : DCSR ≡ dcsr_number
   pub dpc : DPC ≡ pc_number
   pub x0 : X0 ≡ first_x_number
 
 -- ---- worked examples: hart 2, halted by reset
 
+abbrev pub halted_by : Version → Hart
+halted_by version = reset_hart version 2 (Some Reset)
+
 abbrev pub halted_hart : Hart
-halted_hart = reset_hart 2 (Some Reset)
+halted_hart = halted_by V10
 
 pub record DebugRegisterExamples : Type 0 where
   pub dcsr : debug_value halted_hart 0x07b0 ≡ Some 0x40000143
   pub dpc : debug_value halted_hart 0x07b1 ≡ Some 0x80000000
   pub tinfo : debug_value halted_hart 0x07a4 ≡ Some 0x01008048
-  pub tdata1 : debug_value halted_hart 0x07a1 ≡ Some 0xf800000000000000
+  pub tinfo_V013 : debug_value (halted_by V013) 0x07a4 ≡ Some 0x0000800c
+  pub tdata1 : (version : Version) → debug_value (halted_by version) 0x07a1 ≡ Some 0xf800000000000000
   pub mhartid : debug_value halted_hart 0x0f14 ≡ Some 2
   pub last_x : debug_value halted_hart 0x101f ≡ Some 0
   pub behind_last_x : debug_value halted_hart 0x1020 ≡ None
@@ -93,8 +99,9 @@ pub record ProgramBufferExamples : Type 0 where
 
 -- ---- writes of registers
 
--- a write leaves the hart halted or running as it was, and its requests
+-- a write leaves the hart halted or running as it was, its requests, and the release that it follows
 pub record SameRequests (d after : DebugPart) : Type 0 where
+  pub version : after.version ≡ d.version
   pub halted : after.halted ≡ d.halted
   pub halt_request : after.halt_request ≡ d.halt_request
   pub resume_request : after.resume_request ≡ d.resume_request
@@ -121,9 +128,9 @@ pub record ReadBack (h : Hart) (v : ℕ) : Type 0 where
   pub dpc : ReadsBack h 0x07b1 v (aligned v)
   pub dcsr : ReadsBack h 0x07b0 v (dcsr_word (record (dcsr_of_word v) { cause = shown_cause h.debug.halted }))
   pub tselect : ReadsBack h 0x07a0 v (v % slot_count)
-  pub tdata1 : h.debug.tselect < length h.debug.slots → ReadsBack h 0x07a1 v (tdata1_of (trigger_of v))
+  pub tdata1 : h.debug.tselect < length h.debug.slots → ReadsBack h 0x07a1 v (tdata1_of h.debug.version (trigger_of h.debug.version v))
   pub tdata2 : h.debug.tselect < length h.debug.slots → ReadsBack h 0x07a2 v v
-  pub tinfo : ReadsBack h 0x07a4 v tinfo_value
+  pub tinfo : ReadsBack h 0x07a4 v (tinfo_value h.debug.version)
 
 abbrev pub WritesReadBack : Type 0
 WritesReadBack = (h : Hart) (v : ℕ) → ReadBack h v

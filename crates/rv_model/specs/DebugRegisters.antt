@@ -4,7 +4,8 @@
 use Rattle.std.specs.Prelude.{ℕ, Bool, if◌then◌else◌, ◌==◌, Option, Some, None}
 use Rattle.rv_model.specs.Board.{DebugPart, Hart}
 use Rattle.rv_model.specs.Dcsr.{dcsr_value, dcsr_written}
-use Rattle.rv_model.specs.Registers.{reg_value, reg_written, csr_read_only}
+use Rattle.rv_model.specs.Memory.{Memory}
+use Rattle.rv_model.specs.Registers.{mip_number, mip_value, reg_value, reg_written, csr_read_only}
 use Rattle.rv_model.specs.TriggerWords.{trigger_csr_value, trigger_csr_written, triggers_of, with_triggers}
 
 abbrev pub dcsr_number : ℕ
@@ -27,6 +28,10 @@ value_or None other = other
 -- a register's value, or none where there is no such register
 unfoldable pub debug_value : Hart → ℕ → Option ℕ
 debug_value h number = value_or (reg_value h.core number) (debug_csr_value h.debug number)
+
+-- what Debug Mode reads of it where a memory is there, which tells mip
+unfoldable pub debug_seen : Hart → Memory → ℕ → Option ℕ
+debug_seen h m number = if number == mip_number then Some (mip_value h.core m) else debug_value h number
 
 -- is it a register that a write is refused of?
 unfoldable pub debug_refuses : ℕ → Bool

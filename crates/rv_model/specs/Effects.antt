@@ -27,7 +27,7 @@ use Rattle.rv_model.specs.Conditions.{holds}
 use Rattle.rv_model.specs.CsrChanges.{change_by, writes_by}
 use Rattle.rv_model.specs.Memory.{Memory, loaded, store_answer, after_store, reserve, dropped, covers}
 use Rattle.rv_model.specs.Core.{Core, x_of, with_x, next_pc, offset_by}
-use Rattle.rv_model.specs.Registers.{csr_value, csr_written, csr_read_only}
+use Rattle.rv_model.specs.Registers.{csr_seen, csr_written, csr_read_only}
 use Rattle.rv_model.specs.Traps.{misaligned_target, illegal_instruction, breakpoint, environment_call, load_cause, store_cause, trap_entered, trap_left}
 
 -- a core after one instruction, and what became of it
@@ -83,8 +83,8 @@ swapped_csr (Some old) writes change number v rd c =
     else sets_rd rd old (if writes then csr_written c number (change old v) else c)
 
 -- rd takes a register's old value; where the instruction writes, the register takes the changed one
-abbrev pub swaps_csr : Bool → (ℕ → ℕ → ℕ) → ℕ → ℕ → ℕ → Core → Step
-swaps_csr writes change number v rd c = swapped_csr (csr_value c number) writes change number v rd c
+abbrev pub swaps_csr : Bool → (ℕ → ℕ → ℕ) → ℕ → ℕ → ℕ → Core → Memory → Step
+swaps_csr writes change number v rd c m = swapped_csr (csr_seen c m number) writes change number v rd c
 
 -- ---- loads and stores: the step goes by what memory answers, and a refused access changes no memory
 
@@ -176,8 +176,8 @@ effect (StoreConditional width p) c m = stores_if_reserved width p c m
 effect (Amo o width p) c m = updates o width p c m
 effect Fence c m = same_memory m (goes_on c)
 effect FenceI c m = same_memory m (goes_on c)
-effect (Csr change p) c m = same_memory m (swaps_csr (writes_by change p.rs1) (change_by change) p.csr (x_of c p.rs1) p.rd c)
-effect (CsrImmediate change p) c m = same_memory m (swaps_csr (writes_by change p.imm) (change_by change) p.csr p.imm p.rd c)
+effect (Csr change p) c m = same_memory m (swaps_csr (writes_by change p.rs1) (change_by change) p.csr (x_of c p.rs1) p.rd c m)
+effect (CsrImmediate change p) c m = same_memory m (swaps_csr (writes_by change p.imm) (change_by change) p.csr p.imm p.rd c m)
 effect Ecall c m = same_memory m (traps environment_call 0 c)
 effect Ebreak c m = same_memory m (traps breakpoint 0 c)
 effect Mret c m = same_memory m (retires (trap_left c))

@@ -1,19 +1,19 @@
 -- Worked examples: what the definitions say of single words, single instructions and a small program.
 -- The words are spelled by the unprivileged manual's formats, and the results are worked by hand.
-use Rattle.std.specs.Prelude.{◌≡◌, ℕ, ◌/◌, ◌<◌, [], ◌∷◌, length, None, Ok, Err, slice_set, replicate}
+use Rattle.std.specs.Prelude.{◌≡◌, ℕ, ◌/◌, ◌<◌, true, false, [], ◌∷◌, length, None, Ok, Err, slice_set, replicate}
 use Rattle.std.specs.FinMap.{get}
 use Rattle.rv_model.specs.declared.did.Did.{Did}
-use Rattle.rv_model.specs.declared.did.Did.TheVariants.{Retired, Trapped}
+use Rattle.rv_model.specs.declared.did.Did.TheVariants.{Retired, Trapped, Interrupted}
 use Rattle.rv_model.specs.declared.insn.Insn.TheVariants.{StoreConditional}
 use Rattle.rv_model.specs.declared.mem_fault.MemFault.TheVariants.{Outside}
 use Rattle.rv_model.specs.declared.size.Size.{Size}
 use Rattle.rv_model.specs.declared.size.Size.TheVariants.{B8}
 use Rattle.rv_model.specs.declared.width.Width.TheVariants.{DoubleWord}
 use Rattle.rv_model.specs.Rows.{meaning}
-use Rattle.rv_model.specs.Memory.{Memory, fetch_of, loaded, store_answer, after_store, reserve, dropped}
+use Rattle.rv_model.specs.Memory.{Memory, fetch_of, msip_bit, loaded, store_answer, after_store, reserve, dropped}
 use Rattle.rv_model.specs.Core.{Core, reset_core, x_of}
 use Rattle.rv_model.specs.Effects.{effect_of, sets_rd}
-use Rattle.rv_model.specs.Execute.{exec_of}
+use Rattle.rv_model.specs.Execute.{exec_masked_of, exec_of}
 use Rattle.rv_model.specs.Board.{Machine}
 use Rattle.rv_model.specs.Undebugged.{undebugged, Exec, SetReg}
 
@@ -101,6 +101,39 @@ pub record TrapExamples : Type 0 where
   pub read_of_mhartid : Gives 0xf14022f3 0 0 0  -- csrrs x5, mhartid, x0: no write, so no trap
   pub nothing_at_pc : (m : Memory) → fetch_of m 0x80000000 ≡ Err Outside
       → exec_of (hart_with 0 0) m ≡ record { step = record { core = in_handler 0 0 1 0x80000000; did = Trapped 1 }; memory = m }
+
+-- ---- the machine software interrupt
+
+-- hart 0 at 0x80000000 with interrupts and this one enabled, and a handler
+abbrev pub hart_waiting : ℕ → Core
+hart_waiting mtvec = record (hart_with 0 0) { mie = 8; mtvec = mtvec }
+
+-- the hart in its handler at an address, by cause
+abbrev pub handling : ℕ → ℕ → ℕ → Core
+handling mtvec pc cause = record (hart_waiting mtvec) { pc = pc; mepc = 0x80000000; mcause = cause; mstatus = 0x1880 }
+
+-- its MSIP bit is set, and it enters the handler at an address
+abbrev pub Interrupts : ℕ → ℕ → Type 0
+Interrupts mtvec pc = (m : Memory) → msip_bit m 0 ≡ true
+    → exec_of (hart_waiting mtvec) m ≡ record { step = record { core = handling mtvec pc 0x8000000000000003; did = Interrupted }; memory = m }
+
+pub record InterruptExamples : Type 0 where
+  pub direct : Interrupts 0x80000100 0x80000100
+  pub vectored : Interrupts 0x80000101 0x8000010c
+  pub vectors_wrap : Interrupts 0xfffffffffffffffd 8
+  -- an exception is handled at the base in either mode: ecall, which no interrupt precedes
+  pub exception : (m : Memory) → msip_bit m 0 ≡ false → fetch_of m 0x80000000 ≡ Ok 0x00000073
+      → exec_of (hart_waiting 0x80000101) m ≡ record { step = record { core = handling 0x80000101 0x80000100 11; did = Trapped 11 }; memory = m }
+  -- csrrs x5, mip, x0
+  pub pends : (m : Memory) → msip_bit m 0 ≡ true → fetch_of m 0x80000000 ≡ Ok 0x344022f3
+      → exec_masked_of (hart_waiting 0x80000100) m
+      ≡ record {
+        step = record {
+          core = record (hart_waiting 0x80000100) { x = slice_set (slice_set (slice_set (replicate 32 0) 6 0) 7 0) 5 8; pc = 0x80000004 };
+          did = Retired;
+        };
+        memory = m;
+      }
 
 -- ---- reservations: sc.d x5, x7, (x6)
 

@@ -1,15 +1,15 @@
 -- Laws of the definitions, over all instructions at once, in the words of a program's author.
 -- Unprivileged manual: "Programmers' Model for Base Integer ISA" (x0 is zero), "Load-Reserved/Store-Conditional Instructions" (stores by other harts).
-use Rattle.std.specs.Prelude.{◌≡◌, ℕ, ◌⊎◌, length, ⊤, Option, Some, None, Result, Ok, Err, bit_and, slice_get, slice_index}
-use Rattle.rv_model.specs.declared.did.Did.TheVariants.{Trapped}
+use Rattle.std.specs.Prelude.{◌≡◌, ◌≢◌, ℕ, ◌⊎◌, true, false, length, ⊤, Option, Some, None, Result, Ok, Err, bit_and, slice_get, slice_index}
+use Rattle.rv_model.specs.declared.did.Did.TheVariants.{Trapped, Interrupted}
 use Rattle.rv_model.specs.declared.mem_fault.MemFault.{MemFault}
 use Rattle.rv_model.specs.declared.size.Size.{Size}
 use Rattle.rv_model.specs.Rows.{Row, rows}
 use Rattle.rv_model.specs.Memory.{Memory, loaded, store_answer, after_store}
 use Rattle.rv_model.specs.Core.{Core, IsCore}
 use Rattle.rv_model.specs.Effects.{Outcome}
-use Rattle.rv_model.specs.Execute.{exec_of}
-use Rattle.rv_model.specs.Traps.{trap_entered}
+use Rattle.rv_model.specs.Execute.{exec_masked_of, exec_of, takes_interrupt}
+use Rattle.rv_model.specs.Traps.{interrupt_entered, trap_entered}
 use Rattle.rv_model.specs.Board.{Machine, execute}
 
 -- ---- the instruction table
@@ -51,6 +51,11 @@ pub record IsTrap (cause : ℕ) (c : Core) (m : Memory) (o : Outcome) : Type 0 w
   pub core : o.step.core ≡ trap_entered cause value c
   pub memory : o.memory ≡ m
 
+-- the interrupt, and nothing else
+pub record IsInterrupt (c : Core) (m : Memory) (o : Outcome) : Type 0 where
+  pub core : o.step.core ≡ interrupt_entered c
+  pub memory : o.memory ≡ m
+
 -- what every instruction leaves of its own core and of memory
 pub record Keeps (c : Core) (m : Memory) (o : Outcome) : Type 0 where
   pub core : KeepsCore c o.step.core
@@ -61,6 +66,22 @@ pub record Keeps (c : Core) (m : Memory) (o : Outcome) : Type 0 where
 -- x0 never changes, pc stays a multiple of 4, other harts' reservations are kept or cleared, and an instruction that traps does what a trap does alone
 abbrev pub ExecutionKeeps : Type 0
 ExecutionKeeps = (c : Core) (m : Memory) → Keeps c m (exec_of c m)
+
+-- and so without interrupts, of which there is none then
+pub record MaskedKeeps (c : Core) (m : Memory) : Type 0 where
+  pub keeps : Keeps c m (exec_masked_of c m)
+  pub none : (exec_masked_of c m).step.did ≢ Interrupted
+
+abbrev pub MaskedExecutionKeeps : Type 0
+MaskedExecutionKeeps = (c : Core) (m : Memory) → MaskedKeeps c m
+
+-- the interrupt is taken exactly where it is enabled and pends, and all else is as without interrupts
+pub record InterruptsWhere (c : Core) (m : Memory) : Type 0 where
+  pub taken : takes_interrupt c m ≡ true → IsInterrupt c m (exec_of c m)
+  pub other : takes_interrupt c m ≡ false → exec_of c m ≡ exec_masked_of c m
+
+abbrev pub InterruptsAreTaken : Type 0
+InterruptsAreTaken = (c : Core) (m : Memory) → InterruptsWhere c m
 
 -- ---- one hart of a board
 

@@ -6,13 +6,13 @@ use Rattle.rv_model.specs.declared.debug_did.DebugDid.{DebugDid}
 use Rattle.rv_model.specs.declared.debug_did.DebugDid.TheVariants as ended
 use Rattle.rv_model.specs.declared.csr_change.CsrChange.{CsrChange}
 use Rattle.rv_model.specs.declared.did.Did.{Did}
-use Rattle.rv_model.specs.declared.did.Did.TheVariants.{Retired, Trapped}
+use Rattle.rv_model.specs.declared.did.Did.TheVariants.{Retired, Trapped, Interrupted}
 use Rattle.rv_model.specs.declared.insn.Insn.{Insn}
 use Rattle.rv_model.specs.declared.insn.Insn.TheVariants.{Auipc, Jal, Jalr, Branch, LoadReserved, StoreConditional, Csr, CsrImmediate, Ecall, Ebreak, Mret}
 use Rattle.rv_model.specs.declared.touch.Touch.{Touch}
 use Rattle.rv_model.specs.Board.{Hart}
 use Rattle.rv_model.specs.Core.{Core, x_of, with_x}
-use Rattle.rv_model.specs.DebugRegisters.{debug_value, debug_refuses, debug_written}
+use Rattle.rv_model.specs.DebugRegisters.{debug_seen, debug_refuses, debug_written}
 use Rattle.rv_model.specs.CsrChanges.{change_by, writes_by}
 use Rattle.rv_model.specs.Effects.{Outcome, effect_of}
 use Rattle.rv_model.specs.Memory.{Memory}
@@ -89,6 +89,7 @@ swapped (Some old) s h m = if s.writes && debug_refuses s.number then refused h 
 abbrev pub executed_by : Did → Outcome → Bool → Hart → Memory → Debugged
 executed_by Retired o accessed h m = debugged ended.Next accessed (record h { core = record o.step.core { pc = h.core.pc } }) o.memory
 executed_by (Trapped cause) o accessed h m = debugged ended.Exception accessed h m
+executed_by Interrupted o accessed h m = debugged ended.Exception accessed h m  -- no instruction's effect is an interrupt
 
 abbrev pub executed : Outcome → Bool → Hart → Memory → Debugged
 executed o accessed h m = executed_by o.step.did o accessed h m
@@ -96,7 +97,7 @@ executed o accessed h m = executed_by o.step.did o accessed h m
 abbrev pub ran_sort : Sort → Insn → Hart → Memory → Debugged
 ran_sort Ends insn h m = debugged ended.Ebreak false h m
 ran_sort Refused insn h m = refused h m
-ran_sort (Swaps s) insn h m = swapped (debug_value h s.number) s h m
+ran_sort (Swaps s) insn h m = swapped (debug_seen h m s.number) s h m
 ran_sort Accesses insn h m = executed (effect_of insn h.core m) true h m
 ran_sort Plain insn h m = executed (effect_of insn h.core m) false h m
 

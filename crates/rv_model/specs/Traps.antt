@@ -1,9 +1,12 @@
--- Traps: their codes, what one sets on its hart, and the return from one.
--- Privileged manual, "Machine Cause", "Machine Trap Value", "Trap-Return Instructions"; that mtval is 0 where it holds no address is this project's own choice.
-use Rattle.std.specs.Prelude.{ℕ}
+-- Traps: their codes, what one sets on its hart, and the return from one; and the machine software interrupt, which is a trap too.
+-- Privileged manual, "Machine Cause", "Machine Trap Value", "Machine Trap-Vector Base-Address Register", "Trap-Return Instructions"; that mtval is 0 where
+-- it holds no address is this project's own choice.
+use Rattle.std.specs.Prelude.{ℕ, ◌+◌, ◌*◌, ◌^◌, ◌==◌, if◌then◌else◌}
 use Rattle.rv_model.specs.declared.mem_fault.MemFault.{MemFault}
 use Rattle.rv_model.specs.declared.mem_fault.MemFault.TheVariants.{Misaligned, Outside}
-use Rattle.rv_model.specs.Core.{Core, mie_of, mpie_of, mstatus_with}
+use Rattle.rv_model.specs.Core.{Core, handler_base, mie_of, mode_of, mpie_of, mstatus_with, offset_by, vectored}
+
+-- ---- exceptions
 
 abbrev pub misaligned_target : ℕ
 misaligned_target = 0
@@ -32,7 +35,26 @@ store_cause Outside = 7
 
 -- the core as it enters its trap handler, by the trap's cause and value
 abbrev pub trap_entered : ℕ → ℕ → Core → Core
-trap_entered cause value c = record c { pc = c.mtvec; mepc = c.pc; mcause = cause; mtval = value; mstatus = mstatus_with 0 (mie_of c) }
+trap_entered cause value c = record c { pc = handler_base c; mepc = c.pc; mcause = cause; mtval = value; mstatus = mstatus_with 0 (mie_of c) }
+
+-- ---- the machine software interrupt
+
+abbrev pub software_interrupt : ℕ
+software_interrupt = 3
+
+-- in mcause the highest bit tells an interrupt from the other traps
+abbrev pub interrupt_cause : ℕ
+interrupt_cause = 2 ^ 63 + software_interrupt
+
+-- where it is handled: in vectored mode each code has an instruction of its own, from the base on
+abbrev pub interrupt_handler : Core → ℕ
+interrupt_handler c = if mode_of c == vectored then offset_by (handler_base c) (4 * software_interrupt) else handler_base c
+
+-- the core as it enters the handler before the instruction at pc
+abbrev pub interrupt_entered : Core → Core
+interrupt_entered c = record (trap_entered interrupt_cause 0 c) { pc = interrupt_handler c }
+
+-- ---- the return
 
 -- the core as mret leaves it
 abbrev pub trap_left : Core → Core

@@ -1,7 +1,8 @@
--- A hart's turn, the atomic step of a chip's harts: one resume, one stop, or one instruction or trap.
--- RISC-V Debug Specification 1.0, "Sdext (ISA Extension)": Debug Mode, single stepping and the halt causes of dcsr. That a halt request comes
+-- A hart's turn, the atomic step of a chip's harts: one resume, one stop, or one instruction, trap or interrupt.
+-- RISC-V Debug Specification 1.0, "Sdext (ISA Extension)": Debug Mode, single stepping and the halt causes of dcsr; "Debug Control and
+-- Status", the field stepie. That a halt request comes
 -- before triggers, and those before ebreak, is this project's own choice.
-use Rattle.std.specs.Prelude.{ℕ, Bool, true, false, ◌&&◌, Option, Some, None, Result, Ok, Err, slice_get, slice_set, if◌then◌else◌}
+use Rattle.std.specs.Prelude.{ℕ, Bool, true, false, not, ◌&&◌, Option, Some, None, Result, Ok, Err, slice_get, slice_set, if◌then◌else◌}
 use Rattle.std.specs.List.{list_any}
 use Rattle.rv_model.specs.declared.cause.Cause.{Cause}
 use Rattle.rv_model.specs.declared.cause.Cause.TheVariants as cause
@@ -14,7 +15,7 @@ use Rattle.rv_model.specs.declared.turned.Turned.TheVariants.{Idle, Resumed, Hal
 use Rattle.rv_model.specs.Board.{Board, DebugPart, Hart}
 use Rattle.rv_model.specs.Core.{Core}
 use Rattle.rv_model.specs.Effects.{Outcome}
-use Rattle.rv_model.specs.Execute.{exec_of}
+use Rattle.rv_model.specs.Execute.{exec_masked_of, exec_of}
 use Rattle.rv_model.specs.Memory.{Memory, fetch_of}
 use Rattle.rv_model.specs.Rows.{meaning}
 use Rattle.rv_model.specs.Touch.{touch_of}
@@ -83,6 +84,15 @@ executes_by halted resume request fired at_ebreak = executes_in (case_by halted 
 unfoldable pub executes : Hart → Memory → Bool
 executes h m = executes_by h.debug.halted h.debug.resume_request h.debug.halt_request (some_fires (touch_of h.core m) h) (stops_at_ebreak h m)
 
+-- ---- what is executed
+
+-- a single step takes no interrupt unless stepie is set
+abbrev pub masks_interrupts : DebugPart → Bool
+masks_interrupts d = d.step && not d.stepie
+
+unfoldable pub turn_outcome : Hart → Memory → Outcome
+turn_outcome h m = if masks_interrupts h.debug then exec_masked_of h.core m else exec_of h.core m
+
 -- the debug part behind an executed turn: counts fall, and a single step halts
 abbrev pub stepped : DebugPart → DebugPart
 stepped d = if d.step then halted_for cause.Step (record d { slots = counted_down d.slots }) else record d { slots = counted_down d.slots }
@@ -111,11 +121,11 @@ place_by halted resume request fired at_ebreak touch o h = place_in (case_by hal
 unfoldable pub place_of : Hart → Memory → Place
 place_of h m =
     place_by h.debug.halted h.debug.resume_request h.debug.halt_request (some_fires (touch_of h.core m) h) (stops_at_ebreak h m)
-    (touch_of h.core m) (exec_of h.core m) h
+    (touch_of h.core m) (turn_outcome h m) h
 
 -- the memory behind it: only an executed turn changes it
 unfoldable pub memory_after : Hart → Memory → Memory
-memory_after h m = if executes h m then (exec_of h.core m).memory else m
+memory_after h m = if executes h m then (turn_outcome h m).memory else m
 
 -- ---- on a board
 

@@ -7,7 +7,7 @@ use Rattle.rv_model.specs.Registers.{reg_written}
 use Rattle.rv_model.specs.Board.{Machine, execute}
 
 pub data Entry : Type 0 where
-  Exec : ℕ → Entry  -- hart h executes one instruction
+  Exec : ℕ → Entry  -- hart h executes one instruction, or takes one trap or interrupt
   SetReg : ℕ → ℕ → ℕ → Entry  -- hart h's register, by the debugger's number, is given a value
   SetMem : ℕ → ℕ → ℕ → Entry  -- from an address on, so many bytes are given a value, the least significant first
 

@@ -12,7 +12,7 @@ ghost use Rattle.rv_model.specs.DebugLaws.{
   WritesReadBack,
 };
 
-/// The numbers by which the code calls the debug and trigger registers, and what it has `tinfo` read.
+/// The numbers by which the code calls the debug and trigger registers, and what it writes into a slot that is to be free.
 pub fn debug_register_numbers()
     ensures { DebugRegisterNumbers }
 {}
@@ -27,7 +27,7 @@ pub fn program_buffer_examples()
     ensures { ProgramBufferExamples }
 {}
 
-/// A write of a register leaves the hart halted or running, its requests, and what is true of every core.
+/// A write of a register leaves the hart halted or running, its requests, the release that it follows, and what is true of every core.
 pub fn writes_keep()
     ensures { WritesKeep }
 {}

@@ -3,6 +3,7 @@
 ghost use Rattle.rv_model.specs.DebugWordExamples.{
   DcsrExamples,
   DcsrReadBack,
+  ReleasesShown,
   TriggerReadBack,
   TriggerRegisters,
   TriggersDecoded,
@@ -32,6 +33,11 @@ pub fn triggers_kept()
 /// What a word of `tdata1` holds is read back.
 pub fn trigger_read_back()
     ensures { TriggerReadBack }
+{}
+
+/// A word of `tdata1` shows by which release it is to be read, and `tinfo` by which an address trigger is to be written.
+pub fn releases_shown()
+    ensures { ReleasesShown }
 {}
 
 /// The trigger registers after reset, and writes of three of them.

@@ -5,4 +5,6 @@ pub enum Did {
     Retired,
     /// It trapped in place of its effect, with this exception code (privileged manual, "Machine Cause").
     Trapped(u8),
+    /// The machine software interrupt was taken before it (privileged manual, "Machine Interrupt Registers").
+    Interrupted,
 }

@@ -4,6 +4,7 @@ ghost use Rattle.rv_model.specs.AluCorners.{AluCorners};
 ghost use Rattle.rv_model.specs.Examples.{
   CounterCounts,
   Divisions,
+  InterruptExamples,
   ReservedWordsMeanNothing,
   ScFailsAfterStore,
   ScSucceedsAfterLr,
@@ -39,6 +40,11 @@ pub fn divisions()
 /// An instruction for each kind of trap, and what the trap sets.
 pub fn trap_examples()
     ensures { TrapExamples }
+{}
+
+/// The machine software interrupt in either mode of mtvec, and mip, which memory tells.
+pub fn interrupt_examples()
+    ensures { InterruptExamples }
 {}
 
 /// After another hart's store into the reserved bytes, sc stores nothing.

@@ -3,6 +3,8 @@
 ghost use Rattle.rv_model.specs.Laws.{
   ExecutionKeeps,
   ExecutionLeavesOthers,
+  InterruptsAreTaken,
+  MaskedExecutionKeeps,
   RefusedStoresKeepMemory,
   RowsAreApart,
 };
@@ -21,6 +23,16 @@ pub fn refused_stores_keep_memory()
 /// and an instruction that traps changes no memory, and of its core what a trap sets alone.
 pub fn execution_keeps()
     ensures { ExecutionKeeps }
+{}
+
+/// The same holds of execution without interrupts, which takes none.
+pub fn masked_execution_keeps()
+    ensures { MaskedExecutionKeeps }
+{}
+
+/// The machine software interrupt is taken exactly where it is enabled and pends, and leaves memory as it was.
+pub fn interrupts_are_taken()
+    ensures { InterruptsAreTaken }
 {}
 
 /// Execution by one hart leaves every other hart's core alone.

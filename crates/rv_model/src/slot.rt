@@ -1,7 +1,8 @@
-//! A hart's trigger slots, field by field (RISC-V Debug Specification 1.0, "Sdtrig (ISA Extension)").
+//! A hart's trigger slots, field by field
+//! (RISC-V Debug Specification 1.0, "Sdtrig (ISA Extension)"; RISC-V External Debug Support 0.13.2, "Match Control").
 //! `m`, `execute`, `load`, `store`, `count`, `pending` are fields of `tdata1`; `tdata2` stands beside every kind of trigger.
 
-/// How an address is compared with `tdata2`: the field `match` of `mcontrol6`.
+/// How an address is compared with `tdata2`: the field `match` of an address trigger.
 #[derive(Clone, Copy, Debug, PartialEq, Eq)]
 pub enum Comparison {
     /// 0: it is equal to `tdata2`.
@@ -12,10 +13,10 @@ pub enum Comparison {
     Below,
 }
 
-/// An address trigger, type 6.
+/// An address trigger: type 6, or type 2 (`mcontrol`) on a chip of release 0.13, with the same fields.
 #[derive(Clone, Copy, Debug, PartialEq, Eq)]
 pub struct Mcontrol6 {
-    /// It has fired: `hit0`.
+    /// It has fired: `hit0` of type 6, `hit` of type 2.
     pub hit: bool,
     /// How addresses are compared.
     pub comparison: Comparison,
@@ -45,7 +46,7 @@ pub struct Icount {
 /// What `tdata1` holds, by its field `type`.
 #[derive(Clone, Copy, Debug, PartialEq, Eq)]
 pub enum Trigger {
-    /// Type 6.
+    /// Type 6, or type 2 on a chip of release 0.13.
     Mcontrol6(Mcontrol6),
     /// Type 3.
     Icount(Icount),

@@ -1,24 +1,32 @@
-//! `tdata1` as a word, for each kind of trigger
-//! (RISC-V Debug Specification 1.0, "Trigger Data 1", "Match Control Type 6", "Instruction Count").
+//! `tdata1` as a word, for each kind of trigger and each release, and what `tinfo` says of the types
+//! (RISC-V Debug Specification 1.0, "Trigger Data 1", "Trigger Info", "Match Control Type 6", "Instruction Count";
+//! RISC-V External Debug Support 0.13.2, "Match Control").
 
 ghost use Rattle.std.specs.Prelude.{◌≡◌, ◌<◌};
-ghost use Rattle.rv_model.specs.TriggerWords.{comparison_number, comparison_of, count_limit, mcontrol6_word, mcontrol6_of, icount_word, icount_of, tdata1_of};
-ghost use Rattle.rv_model.specs.TriggerWords.{trigger_of, CountFits};
+ghost use Rattle.rv_model.specs.TriggerWords.{address_fixed, address_of, address_type, address_word, comparison_number, comparison_of, count_limit, hit_place};
+ghost use Rattle.rv_model.specs.TriggerWords.{icount_word, icount_of, tdata1_of, tinfo_value, trigger_of, version_offered, version_shown, CountFits};
 
 use crate::bits::{bit, bit_value, field};
 use crate::slot::{Comparison, Icount, Mcontrol6, Trigger};
+use crate::version::Version;
 
 const TYPE_LOW: u32 = 60;
 
 const TYPE_BITS: u32 = 4;
 
-const TYPE_MCONTROL6: u64 = 6;
+const TYPE_MCONTROL: u64 = 2;
 
 const TYPE_ICOUNT: u64 = 3;
 
-/// The bits of an `mcontrol6` word.
-mod mcontrol6_bits {
-    pub const HIT: u32 = 22;
+const TYPE_MCONTROL6: u64 = 6;
+
+/// The bits of the word of an address trigger, of either type.
+mod address_bits {
+    /// `hit` of `mcontrol`.
+    pub const HIT_V013: u32 = 20;
+
+    /// `hit0` of `mcontrol6`.
+    pub const HIT_V10: u32 = 22;
 
     pub const MATCH_LOW: u32 = 7;
 
@@ -31,8 +39,10 @@ mod mcontrol6_bits {
     pub const STORE: u32 = 1;
 
     pub const LOAD: u32 = 0;
-    /// Its type, `dmode` 1 and `action` 1.
-    pub const FIXED: u64 = 0x6800_0000_0000_1000;
+    /// Type 2, `dmode` 1 and `action` 1.
+    pub const FIXED_V013: u64 = 0x2800_0000_0000_1000;
+    /// Type 6, `dmode` 1 and `action` 1.
+    pub const FIXED_V10: u64 = 0x6800_0000_0000_1000;
 }
 
 /// The bits of an `icount` word.
@@ -50,11 +60,17 @@ mod icount_bits {
     pub const FIXED: u64 = 0x3800_0000_0000_0001;
 }
 
-/// What `tinfo` reads: version 1, and the types 3, 6 and 15.
-pub const TINFO_VALUE: u64 = 0x0100_8048;
+/// What `tinfo` reads on a chip of release 0.13: the types 2, 3 and 15.
+const TINFO_V013: u64 = 0x800c;
 
-/// Type 15 and `dmode` 1.
-const DISABLED: u64 = 0xf800_0000_0000_0000;
+/// What it reads on a chip of release 1.0: version 1, and the types 3, 6 and 15.
+const TINFO_V10: u64 = 0x0100_8048;
+
+/// The bit of `tinfo` that offers `mcontrol6`.
+const OFFERS_MCONTROL6: u32 = 6;
+
+/// What `tdata1` of a disabled slot reads: type 15 and `dmode` 1.
+pub const DISABLED_WORD: u64 = 0xf800_0000_0000_0000;
 
 impl Comparison {
     /// The field `match`: 0, 2 or 3.
@@ -80,30 +96,95 @@ impl Comparison {
     }
 }
 
-impl Mcontrol6 {
-    fn word(self) -> u64
-        ensures { result ≡ mcontrol6_word self }
+impl Version {
+    /// The number of the type of an address trigger.
+    fn address_type(self) -> u64
+        ensures { result ≡ address_type self }
     {
-        mcontrol6_bits::FIXED
-            + bit_value(self.hit, mcontrol6_bits::HIT)
-            + (u64::from(self.comparison.number()) << mcontrol6_bits::MATCH_LOW)
-            + bit_value(self.m, mcontrol6_bits::M)
-            + bit_value(self.execute, mcontrol6_bits::EXECUTE)
-            + bit_value(self.store, mcontrol6_bits::STORE)
-            + bit_value(self.load, mcontrol6_bits::LOAD)
+        match self {
+            Version::V013 => TYPE_MCONTROL,
+            Version::V10 => TYPE_MCONTROL6,
+        }
     }
 
-    fn from_word(word: u64) -> Self
-        ensures { result ≡ mcontrol6_of word }
+    /// The bit that says that an address trigger has fired.
+    fn hit_place(self) -> u32
+        ensures is { result ≡ hit_place self }
+        ensures inside { result < 32 }
     {
-        let comparison = field(word, mcontrol6_bits::MATCH_LOW, mcontrol6_bits::MATCH_BITS) as u8;
+        match self {
+            Version::V013 => address_bits::HIT_V013,
+            Version::V10 => address_bits::HIT_V10,
+        }
+    }
+
+    /// What is always set in the word of an address trigger.
+    fn address_fixed(self) -> u64
+        ensures { result ≡ address_fixed self }
+    {
+        match self {
+            Version::V013 => address_bits::FIXED_V013,
+            Version::V10 => address_bits::FIXED_V10,
+        }
+    }
+
+    /// What `tinfo` reads.
+    pub fn tinfo(self) -> u64
+        ensures { result ≡ tinfo_value self }
+    {
+        match self {
+            Version::V013 => TINFO_V013,
+            Version::V10 => TINFO_V10,
+        }
+    }
+
+    /// The release by which a word of `tdata1` is read: 0.13 for one of type 2, else 1.0.
+    pub fn shown_by(tdata1: u64) -> Self
+        ensures { result ≡ version_shown tdata1 }
+    {
+        if field(tdata1, TYPE_LOW, TYPE_BITS) == TYPE_MCONTROL {
+            Version::V013
+        } else {
+            Version::V10
+        }
+    }
+
+    /// The release whose address triggers a slot takes that has this `tinfo`: 1.0 where it offers type 6, else 0.13.
+    pub fn offered_by(tinfo: u64) -> Self
+        ensures { result ≡ version_offered tinfo }
+    {
+        if bit(tinfo, OFFERS_MCONTROL6) {
+            Version::V10
+        } else {
+            Version::V013
+        }
+    }
+}
+
+impl Mcontrol6 {
+    fn word(self, version: Version) -> u64
+        ensures { result ≡ address_word version self }
+    {
+        version.address_fixed()
+            + bit_value(self.hit, version.hit_place())
+            + (u64::from(self.comparison.number()) << address_bits::MATCH_LOW)
+            + bit_value(self.m, address_bits::M)
+            + bit_value(self.execute, address_bits::EXECUTE)
+            + bit_value(self.store, address_bits::STORE)
+            + bit_value(self.load, address_bits::LOAD)
+    }
+
+    fn from_word(word: u64, version: Version) -> Self
+        ensures { result ≡ address_of version word }
+    {
+        let comparison = field(word, address_bits::MATCH_LOW, address_bits::MATCH_BITS) as u8;
         Mcontrol6 {
-            hit: bit(word, mcontrol6_bits::HIT),
+            hit: bit(word, version.hit_place()),
             comparison: Comparison::from_number(comparison),
-            m: bit(word, mcontrol6_bits::M),
-            execute: bit(word, mcontrol6_bits::EXECUTE),
-            store: bit(word, mcontrol6_bits::STORE),
-            load: bit(word, mcontrol6_bits::LOAD),
+            m: bit(word, address_bits::M),
+            execute: bit(word, address_bits::EXECUTE),
+            store: bit(word, address_bits::STORE),
+            load: bit(word, address_bits::LOAD),
         }
     }
 }
@@ -134,27 +215,30 @@ impl Icount {
 }
 
 impl Trigger {
-    /// What `tdata1` reads. A count is below 2^14.
+    /// What `tdata1` reads on a chip of this release. A count is below 2^14.
     #[tactic(auto, unfolding(crate::specs::TriggerWords::tdata1_of))]
-    pub fn tdata1(self) -> u64
+    pub fn tdata1(self, version: Version) -> u64
         requires { CountFits self }
-        ensures { result ≡ tdata1_of self }
+        ensures { result ≡ tdata1_of version self }
     {
         match self {
-            Trigger::Mcontrol6(trigger) => trigger.word(),
+            Trigger::Mcontrol6(trigger) => trigger.word(version),
             Trigger::Icount(trigger) => trigger.word(),
-            Trigger::Disabled => DISABLED,
+            Trigger::Disabled => DISABLED_WORD,
         }
     }
 
-    /// What a write of `tdata1` keeps: a trigger of another type is disabled.
+    /// What a write of `tdata1` keeps on a chip of this release: a trigger of a type that it has not is disabled.
     #[tactic(auto, unfolding(crate::specs::TriggerWords::trigger_of))]
-    pub fn from_tdata1(word: u64) -> Self
-        ensures is { result ≡ trigger_of word }
+    pub fn from_tdata1(word: u64, version: Version) -> Self
+        ensures is { result ≡ trigger_of version word }
         ensures fits { CountFits result }
     {
-        match field(word, TYPE_LOW, TYPE_BITS) {
-            TYPE_MCONTROL6 => Trigger::Mcontrol6(Mcontrol6::from_word(word)),
+        let number = field(word, TYPE_LOW, TYPE_BITS);
+        if number == version.address_type() {
+            return Trigger::Mcontrol6(Mcontrol6::from_word(word, version));
+        }
+        match number {
             TYPE_ICOUNT => Trigger::Icount(Icount::from_word(word)),
             _ => Trigger::Disabled,
         }

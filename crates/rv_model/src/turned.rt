@@ -10,6 +10,6 @@ pub enum Turned {
     Resumed,
     /// It halted before its next instruction, or behind a single step, for this reason.
     Halted(Cause),
-    /// It executed one instruction or took one trap, and runs on.
+    /// It executed one instruction, or took one trap or interrupt, and runs on.
     Ran(Did),
 }

@@ -1,5 +1,6 @@
 //! Single instructions and short programs, with what the manuals say of them.
 
+mod interrupts;
 mod reference;
 mod registers;
 mod rows;

@@ -7,10 +7,9 @@ use Rattle.rv_model.specs.declared.cause.Cause.{Cause}
 use Rattle.rv_model.specs.declared.touch.Touch.{Touch}
 use Rattle.rv_model.specs.Board.{Board, DebugPart, Hart}
 use Rattle.rv_model.specs.Effects.{Outcome}
-use Rattle.rv_model.specs.Execute.{exec_of}
 use Rattle.rv_model.specs.Memory.{Memory}
 use Rattle.rv_model.specs.Registers.{pc_number}
-use Rattle.rv_model.specs.Turn.{place_by}
+use Rattle.rv_model.specs.Turn.{place_by, turn_outcome}
 use Rattle.debug_model.specs.Journal.{debug_changed_by, halt_requested, resume_asked, resume_asked_by, with_debug}
 use Rattle.debug_model.specs.declared.point.Point.{Point}
 use Rattle.debug_model.specs.declared.point.Point.TheVariants.{Turn, Look, HaltReq, HaltClear, ResumeReq, Access}
@@ -66,7 +65,7 @@ soft_place_leaves : (cs : List ℕ) (m : Memory) → Leaves (λ y. (soft_place c
 unfolding soft_place
 soft_place_leaves cs m y =
     place_leaves y.debug.halted y.debug.resume_request y.debug.halt_request (soft_fires cs y m) (soft_stops cs y m) (soft_touch cs y.core m)
-    (exec_of y.core m) y
+    (turn_outcome y m) y
 
 turned_each : (F : ℕ → Bool → Type 0) (cs : List ℕ) (o : Option Hart) (h : ℕ) (b : Board) → slice_get b.harts h ≡ o → Each F b.harts
     → Each F (soft_turn_by cs o h b).harts

@@ -5,6 +5,7 @@ use Rattle.std.specs.Prelude.{All, ◌==◌}
 use Rattle.std.proofs.lemmas.Bool.{false≢true}
 use Rattle.std.proofs.lemmas.List.Elements.{All-head, All-tail}
 use Rattle.rv_model.specs.Board.{Board, Machine, machine_of}
+use Rattle.rv_model.specs.TurnLaws.{StepsUnmasked}
 use Rattle.debug_model.specs.declared.command.Command.{Command}
 use Rattle.debug_model.specs.declared.command.Command.TheVariants as command
 use Rattle.debug_model.specs.declared.point.Point.{Point}
@@ -161,14 +162,15 @@ start_plants board few = record { within = λ a is. is; guarded = λ some. absur
 
 -- a whole session, and the chip's
 pub session-same : (board : Board) (script : List SoftCommand) (journal : List Point) → All IsSoftWithinRanges script → HasFewHarts board
-    → IsUndisturbed board script journal → Same (machine_of board) (soft_transcript board script journal) (chip_outcome board script journal)
-session-same board script journal within few u =
-    (session-hidden (machine_of board) script within).goes no_table (start board) (start board) (hides-start board) (start_plants board few) journal u
+    → StepsUnmasked board → IsUndisturbed board script journal
+    → Same (machine_of board) (soft_transcript board script journal) (chip_outcome board script journal)
+session-same board script journal within few unmasked u =
+    (session-hidden (machine_of board) script within).goes no_table (start board) (start board) (hides-start board unmasked) (start_plants board few) journal u
 
 pub sessions_hide : SessionsHide
-sessions_hide board script journal within few u =
+sessions_hide board script journal within few unmasked u =
     let same : Same (machine_of board) (soft_transcript board script journal) (chip_outcome board script journal) =
-    session-same board script journal within few u in
+    session-same board script journal within few unmasked u in
     record {
       end = same.end;
       lines = same.hides.lines;
@@ -178,6 +180,6 @@ sessions_hide board script journal within few u =
 
 -- the chip's machine is that of the session's own entries, under patches
 pub chips_are_undebugged : ChipsAreUndebugged
-chips_are_undebugged board script journal within few u =
-    ap machine_of (sessions_hide board script journal within few u).board
-    ∙ ap (patched_machine (covered (soft_transcript board script journal).world.past)) (soft_transparent (soft_session script) board journal)
+chips_are_undebugged board script journal within few unmasked u =
+    ap machine_of (sessions_hide board script journal within few unmasked u).board
+    ∙ ap (patched_machine (covered (soft_transcript board script journal).world.past)) (soft_transparent (soft_session script) board journal unmasked)

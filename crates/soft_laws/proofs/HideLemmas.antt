@@ -5,14 +5,13 @@ use Rattle.rv_model.specs.declared.cause.Cause.{Cause}
 use Rattle.rv_model.specs.declared.touch.Touch.{Touch}
 use Rattle.rv_model.specs.Board.{Board, Hart}
 use Rattle.rv_model.specs.Effects.{Outcome}
-use Rattle.rv_model.specs.Execute.{exec_of}
 use Rattle.rv_model.specs.Memory.{Memory}
-use Rattle.rv_model.specs.Turn.{Place, executes, executes_by, memory_after, place_by, place_of, some_fires, stops_at_ebreak, turn_by}
+use Rattle.rv_model.specs.Turn.{Place, executes, executes_by, memory_after, place_by, place_of, some_fires, stops_at_ebreak, turn_by, turn_outcome}
 use Rattle.soft_laws.specs.Laws.{PatchesHide}
 use Rattle.soft_laws.specs.SoftBreaks.{AreSoftAddresses, AreInside, is_listed, patched_board, patched_memory}
 use Rattle.soft_laws.specs.SoftTurns.{ebreak_by, soft_executes, soft_fires, soft_memory_after, soft_place, soft_stops, soft_touch, soft_turn_by}
 use Rattle.soft_laws.specs.Undisturbed.{LeavesWords, accessed_of}
-use Rattle.soft_laws.proofs.ExecLemmas.{ebreak-patched, exec-patched, patched_outcome, touch-patched}
+use Rattle.soft_laws.proofs.ExecLemmas.{ebreak-patched, outcome-patched, patched_outcome, touch-patched}
 
 pub stops-patched : (cs : List ℕ) (x : Hart) (m : Memory) → AreSoftAddresses cs → stops_at_ebreak x (patched_memory cs m) ≡ soft_stops cs x m
 unfolding soft_stops
@@ -51,8 +50,8 @@ executes_uncovered cs x m halts runs = by (is_listed cs x.core.pc) refl
 pub executed-patched : (cs : List ℕ) (x : Hart) (m : Memory) → AreSoftAddresses cs → AreInside cs m.bytes
     → (is_listed cs x.core.pc ≡ true → x.debug.ebreakm ≡ true) → (soft_executes cs x m ≡ true → LeavesWords cs (accessed_of x.core m))
     → soft_executes cs x m ≡ true
-    → exec_of x.core (patched_memory cs m) ≡ patched_outcome cs (exec_of x.core m)
-executed-patched cs x m are inside halts leaves runs = exec-patched cs x.core m are inside (executes_uncovered cs x m halts runs) (leaves runs)
+    → turn_outcome x (patched_memory cs m) ≡ patched_outcome cs (turn_outcome x m)
+executed-patched cs x m are inside halts leaves runs = outcome-patched cs x m are inside (executes_uncovered cs x m halts runs) (leaves runs)
 
 -- ---- the hart and the memory behind the turn
 
@@ -69,16 +68,16 @@ same_place None resume false false false t o o' x same =
     ap (λ s. place_by None resume false false false t (record { step = s; memory = o.memory }) x) (same refl)
 
 place-patched : (cs : List ℕ) (x : Hart) (m : Memory) → AreSoftAddresses cs
-    → (soft_executes cs x m ≡ true → exec_of x.core (patched_memory cs m) ≡ patched_outcome cs (exec_of x.core m))
+    → (soft_executes cs x m ≡ true → turn_outcome x (patched_memory cs m) ≡ patched_outcome cs (turn_outcome x m))
     → place_of x (patched_memory cs m) ≡ soft_place cs x m
 unfolding place_of soft_place
 place-patched cs x m are runs =
     ap (λ t. place_by x.debug.halted x.debug.resume_request x.debug.halt_request (some_fires t x) (stops_at_ebreak x (patched_memory cs m)) t
-    (exec_of x.core (patched_memory cs m)) x) (touch-patched cs x.core m are)
+    (turn_outcome x (patched_memory cs m)) x) (touch-patched cs x.core m are)
     ∙ ap (λ b. place_by x.debug.halted x.debug.resume_request x.debug.halt_request (soft_fires cs x m) b (soft_touch cs x.core m)
-    (exec_of x.core (patched_memory cs m)) x) (stops-patched cs x m are)
+    (turn_outcome x (patched_memory cs m)) x) (stops-patched cs x m are)
     ∙ same_place x.debug.halted x.debug.resume_request x.debug.halt_request (soft_fires cs x m) (soft_stops cs x m) (soft_touch cs x.core m)
-    (exec_of x.core (patched_memory cs m)) (exec_of x.core m) x (λ e. ap (λ (o : Outcome). o.step) (runs e))
+    (turn_outcome x (patched_memory cs m)) (turn_outcome x m) x (λ e. ap (λ (o : Outcome). o.step) (runs e))
 
 memory_by : (cs : List ℕ) (b : Bool) (m new new' : Memory) → (b ≡ true → new' ≡ patched_memory cs new)
     → (if b then new' else patched_memory cs m) ≡ patched_memory cs (if b then new else m)
@@ -86,19 +85,19 @@ memory_by cs true m new new' is = is refl
 memory_by cs false m new new' is = refl
 
 memory-patched : (cs : List ℕ) (x : Hart) (m : Memory) → AreSoftAddresses cs
-    → (soft_executes cs x m ≡ true → exec_of x.core (patched_memory cs m) ≡ patched_outcome cs (exec_of x.core m))
+    → (soft_executes cs x m ≡ true → turn_outcome x (patched_memory cs m) ≡ patched_outcome cs (turn_outcome x m))
     → memory_after x (patched_memory cs m) ≡ patched_memory cs (soft_memory_after cs x m)
 unfolding memory_after soft_memory_after
 memory-patched cs x m are runs =
-    ap (λ b. if b then (exec_of x.core (patched_memory cs m)).memory else patched_memory cs m) (executes-patched cs x m are)
-    ∙ memory_by cs (soft_executes cs x m) m (exec_of x.core m).memory (exec_of x.core (patched_memory cs m)).memory
+    ap (λ b. if b then (turn_outcome x (patched_memory cs m)).memory else patched_memory cs m) (executes-patched cs x m are)
+    ∙ memory_by cs (soft_executes cs x m) m (turn_outcome x m).memory (turn_outcome x (patched_memory cs m)).memory
     (λ e. ap (λ (o : Outcome). o.memory) (runs e))
 
 -- ---- the board
 
 hides_by : (cs : List ℕ) (o : Option Hart) (h : ℕ) (b : Board) → AreSoftAddresses cs
-    → ((x : Hart) → o ≡ Some x → soft_executes cs x b.memory ≡ true → exec_of x.core (patched_memory cs b.memory) ≡ patched_outcome cs
-    (exec_of x.core b.memory))
+    → ((x : Hart) → o ≡ Some x → soft_executes cs x b.memory ≡ true → turn_outcome x (patched_memory cs b.memory) ≡ patched_outcome cs
+    (turn_outcome x b.memory))
     → turn_by o h (patched_board cs b) ≡ patched_board cs (soft_turn_by cs o h b)
 hides_by cs None h b are runs = refl
 hides_by cs (Some x) h b are runs =

@@ -3,7 +3,7 @@ use Rattle.std.proofs.Common.{◌≡◌, ℕ, true, Some, slice_get}
 use Rattle.rv_model.specs.Board.{Hart, Machine}
 use Rattle.abstract_debugger.specs.FirstMatch.{FirstMatch}
 use Rattle.abstract_debugger.specs.Transcript.{World}
-use Rattle.abstract_debugger.proofs.Transparency.{Erased}
+use Rattle.abstract_debugger.specs.Known.{Erased}
 use Rattle.soft_laws.specs.Lowered.{Table}
 use Rattle.soft_laws.specs.SoftBreaks.{AreSoftAddresses, AreInside, covered, is_listed, patched_board}
 use Rattle.soft_laws.specs.SoftFirstMatch.{SoftFirstMatch}

@@ -24,6 +24,7 @@ use Rattle.abstract_debugger.specs.Transcript.{replay, start}
 use Rattle.abstract_debugger.specs.Ways.{Way}
 use Rattle.abstract_debugger.specs.Ways.Way.{Idle, Still, Ready}
 use Rattle.abstract_debugger.proofs.GoodLemmas.{Good, good-see}
+use Rattle.abstract_debugger.proofs.Transparency.{fresh_unmasked}
 use Rattle.abstract_debugger.proofs.KnownHarts.{known-start}
 use Rattle.abstract_debugger.proofs.KnownPoints.{known-ready}
 use Rattle.abstract_debugger.proofs.ScriptLemmas.{good-walks}
@@ -296,5 +297,5 @@ session-lowered m script within =
 
 pub soft_first_match : SoftFirstMatchHolds
 soft_first_match board script journal within few fresh u =
-    (session-same board script journal within few u).hides.matched
+    (session-same board script journal within few (fresh_unmasked board fresh) u).hides.matched
     ((session-lowered (machine_of board) script within no_table).goes (start board) (known-start 0 board fresh) journal)

@@ -9,11 +9,10 @@ use Rattle.rv_model.specs.declared.mem_fault.MemFault.{MemFault}
 use Rattle.rv_model.specs.declared.mem_fault.MemFault.TheVariants.{Misaligned}
 use Rattle.rv_model.specs.declared.size.Size.{Size}
 use Rattle.rv_model.specs.Board.{Board, Hart}
-use Rattle.rv_model.specs.Execute.{exec_of}
 use Rattle.rv_model.specs.Laws.{answered}
 use Rattle.rv_model.specs.Memory.{Bytes, Memory, is_aligned, is_msip, kept_byte, loaded, msip_size, or_outside, value_at, with_byte, with_value}
 use Rattle.rv_model.specs.Size.{count_of}
-use Rattle.rv_model.specs.Turn.{executes, memory_after, turn_by}
+use Rattle.rv_model.specs.Turn.{executes, memory_after, turn_by, turn_outcome}
 use Rattle.rv_model.proofs.MemoryLemmas.{store_answer_is}
 use Rattle.debug_model.specs.Journal.{debug_changed_by, halt_requested, resume_asked}
 use Rattle.debug_model.specs.declared.point.Point.{Point}
@@ -30,7 +29,7 @@ use Rattle.soft_laws.specs.SoftBreaks.{AreInside, meets_some}
 use Rattle.soft_laws.specs.Undisturbed.{accessed_of}
 use Rattle.soft_laws.proofs.ByteLemmas.{byte_or, get-with_value}
 use Rattle.soft_laws.proofs.PatchLemmas.{get-hidden, hidden_covered, hidden_or, hidden_uncovered, written-there}
-use Rattle.soft_laws.proofs.StoreLemmas.{Stored, exec-bytes}
+use Rattle.soft_laws.proofs.StoreLemmas.{Stored, outcome-bytes}
 
 -- ---- one byte
 
@@ -156,8 +155,8 @@ unfolding memory_after
 turn-stays None h b = stays_same b.memory.bytes
 turn-stays (Some x) h b = by (executes x b.memory)
   where
-    by : (c : Bool) → Stays b.memory.bytes (if c then (exec_of x.core b.memory).memory else b.memory).bytes
-    by true = stored-stays (accessed_of x.core b.memory).store b.memory.bytes (exec_of x.core b.memory).memory.bytes (exec-bytes x.core b.memory)
+    by : (c : Bool) → Stays b.memory.bytes (if c then (turn_outcome x b.memory).memory else b.memory).bytes
+    by true = stored-stays (accessed_of x.core b.memory).store b.memory.bytes (turn_outcome x b.memory).memory.bytes (outcome-bytes x b.memory)
     by false = stays_same b.memory.bytes
 
 asked-stays : (o : Option Hart) (f : DebugPart → DebugPart) (h : ℕ) (b : Board) → Stays b.memory.bytes (debug_changed_by o f h b).memory.bytes

@@ -1,17 +1,18 @@
 -- What a user of software breakpoints sees, computed with the words at pc given by a program, over memory that stays as it is.
 use Rattle.std.proofs.Common.{◌≡◌, ◌∙◌, ℕ, List, [], ◌∷◌, Bool, true, false, ◌&&◌, Option, Some, None, Result, Ok}
-use Rattle.std.proofs.Common.{slice_get, slice_set, refl, sym, ap, subst, if◌then◌else◌}
+use Rattle.std.proofs.lemmas.Option.{none-some, same_Some}
+use Rattle.std.proofs.Common.{◌==◌, slice_get, slice_set, refl, sym, ap, subst, if◌then◌else◌}
 use Rattle.rv_model.specs.declared.mem_fault.MemFault.{MemFault}
 use Rattle.rv_model.specs.declared.touch.Touch.{Touch}
 use Rattle.rv_model.specs.Board.{Hart}
-use Rattle.rv_model.specs.Core.{Core}
+use Rattle.rv_model.specs.Core.{Core, mie_of}
 use Rattle.rv_model.specs.Effects.{Outcome as Effect}
-use Rattle.rv_model.specs.Execute.{decoded, exec_of, fetched}
+use Rattle.rv_model.specs.Execute.{decoded, fetched}
 use Rattle.rv_model.specs.Memory.{Memory, kept, fetch_of}
 use Rattle.rv_model.specs.Rows.{meaning}
 use Rattle.rv_model.specs.Touch.{touch_fetched, touch_of, touches_nothing}
 use Rattle.rv_model.specs.Triggers.{fires}
-use Rattle.rv_model.specs.Turn.{executes_by, is_ebreak_at, is_ebreak_word, place_by, some_fires}
+use Rattle.rv_model.specs.Turn.{executes_by, is_ebreak_at, is_ebreak_word, place_by, some_fires, turn_outcome}
 use Rattle.debug_model.specs.Journal.{halt_requested, resume_asked}
 use Rattle.debug_model.specs.declared.point.Point.{Point}
 use Rattle.debug_model.specs.declared.point.Point.TheVariants.{Turn, Look, HaltReq, HaltClear, ResumeReq, Access}
@@ -21,7 +22,8 @@ use Rattle.abstract_debugger.specs.Plan.Change.{WriteReg, WriteMem, ArmSlot, Fre
 use Rattle.abstract_debugger.specs.Plan.Plan.{take, on_path, see, change, say, stop}
 use Rattle.abstract_debugger.specs.Trace.{noted_by}
 use Rattle.abstract_debugger.specs.Transcript.{End, Outcome, World, changed, graded, passed, said, same_point}
-use Rattle.abstract_debugger.proofs.Fetched.{either-agrees, keeps_memory, memory_kept, onward, point-kept, some_is, word_held, word_in}
+use Rattle.abstract_debugger.proofs.Fetched.{either-agrees, is_disabled, keeps_memory, memory_kept, onward, outcome_fetched, point-kept, some_disabled, some_is}
+use Rattle.abstract_debugger.proofs.Fetched.{unless_enabled, word_held, word_in}
 use Rattle.soft_laws.specs.SoftBreaks.{covered, is_listed}
 use Rattle.soft_laws.specs.SoftExamples.{IsPlain}
 use Rattle.soft_laws.specs.SoftReplay.{soft_finish, soft_taking}
@@ -87,20 +89,24 @@ world_by t stops o x h w = record w {
   past = noted_by x.debug.halted x.debug.halt_request (some_fires t x) stops x.debug.step h (fires t x.debug.slots) w.past;
 }
 
-turned-with : (x : Hart) (h : ℕ) (w : World) → world_by (soft_touch (covered w.past) x.core w.board.memory) (soft_stops (covered w.past) x w.board.memory)
-    (exec_of x.core w.board.memory) x h w ≡ turned_by (Some x) h w
-unfolding soft_touch soft_stops exec_of
-turned-with x h w =
+turned-with : (x : Hart) (h : ℕ) (w : World) → (mie_of x.core == 1) ≡ false
+    → world_by (soft_touch (covered w.past) x.core w.board.memory) (soft_stops (covered w.past) x w.board.memory)
+    (turn_outcome x w.board.memory) x h w ≡ turned_by (Some x) h w
+unfolding soft_touch soft_stops
+turned-with x h w off =
     let listed : Bool = is_listed (covered w.past) x.core.pc in
     let o : Effect = fetched (fetch_of w.board.memory x.core.pc) x.core w.board.memory in
-    ap (λ t. world_by t (x.debug.ebreakm && ebreak_by listed x.core w.board.memory) o x h w) (touch-with listed x.core w.board.memory)
+    ap (λ (e : Effect). world_by (soft_touch (covered w.past) x.core w.board.memory) (soft_stops (covered w.past) x w.board.memory) e x h w)
+    (outcome_fetched x w.board.memory off)
+    ∙ ap (λ t. world_by t (x.debug.ebreakm && ebreak_by listed x.core w.board.memory) o x h w) (touch-with listed x.core w.board.memory)
     ∙ ap (λ b. world_by (touch_with listed (fetch_of w.board.memory x.core.pc) x.core) (x.debug.ebreakm && b) o x h w)
     (ebreak-with listed x.core w.board.memory)
 
-turned-by : (o : Option Hart) (h : ℕ) (w : World) → slice_get w.board.harts h ≡ o → soft_turned h w ≡ turned_by o h w
+turned-by : (o : Option Hart) (h : ℕ) (w : World) → slice_get w.board.harts h ≡ o → ((x : Hart) → o ≡ Some x → (mie_of x.core == 1) ≡ false)
+    → soft_turned h w ≡ turned_by o h w
 unfolding soft_place soft_memory_after
-turned-by None h w is = rw is refl
-turned-by (Some x) h w is = rw is (turned-with x h w)
+turned-by None h w is off = rw is refl
+turned-by (Some x) h w is off = rw is (turned-with x h w (off x refl))
 
 -- none where the turn may change memory
 abbrev pub turn_if : (executed kept : Bool) → World → Option World
@@ -114,8 +120,15 @@ turn_word (Some word) x h w =
 turn_word None x h w = None
 
 abbrev pub turn_at : Program → Option Hart → ℕ → World → Option World
-turn_at words (Some x) h w = turn_word (word_in words x.core.pc) x h w
+turn_at words (Some x) h w = unless_enabled (mie_of x.core == 1) (turn_word (word_in words x.core.pc) x h w)
 turn_at words None h w = Some w
+
+disabled_here : (words : Program) (o : Option Hart) (h : ℕ) (w v : World) → turn_at words o h w ≡ Some v → (x : Hart) → o ≡ Some x
+    → (mie_of x.core == 1) ≡ false
+disabled_here words None h w v is x at = absurd (none-some x at)
+disabled_here words (Some y) h w v is x at =
+    ap (λ (z : Hart). mie_of z.core == 1) (sym (same_Some y x at))
+    ∙ is_disabled (mie_of y.core == 1) (turn_word (word_in words y.core.pc) y h w) v is
 
 pub record SameWorld (w v : World) (m : Memory) : Type 0 where
   pub worlds : w ≡ v
@@ -150,13 +163,17 @@ turn_at-same words None h w v holds is =
     let e : w ≡ v = cc in
     record { worlds = e; memories = ap (λ (u : World). u.board.memory) (sym e) }
 turn_at-same words (Some x) h w v holds is =
-    turn_word-same (word_in words x.core.pc) x h w v (λ word found. word_held words w.board.memory x.core.pc word holds found) is
+    turn_word-same (word_in words x.core.pc) x h w v (λ word found. word_held words w.board.memory x.core.pc word holds found)
+    (some_disabled (mie_of x.core == 1) (turn_word (word_in words x.core.pc) x h w) v is)
 
 turn-same : (words : Program) (h : ℕ) (w v : World) → Holds words w.board.memory → turn_at words (slice_get w.board.harts h) h w ≡ Some v
     → SameWorld (soft_turned h w) v w.board.memory
 turn-same words h w v holds is =
     let s : SameWorld (turned_by (slice_get w.board.harts h) h w) v w.board.memory = turn_at-same words (slice_get w.board.harts h) h w v holds is in
-    record { worlds = turned-by (slice_get w.board.harts h) h w refl ∙ s.worlds; memories = s.memories }
+    record {
+      worlds = turned-by (slice_get w.board.harts h) h w refl (disabled_here words (slice_get w.board.harts h) h w v is) ∙ s.worlds;
+      memories = s.memories;
+    }
 
 -- ---- a replay
 

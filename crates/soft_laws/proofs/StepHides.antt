@@ -13,7 +13,9 @@ use Rattle.abstract_debugger.specs.Plan.Change.{WriteReg, WriteMem, ArmSlot, Fre
 use Rattle.abstract_debugger.specs.Plan.Plan.{change}
 use Rattle.abstract_debugger.specs.Trace.Note.{Did, Arm, Free}
 use Rattle.abstract_debugger.specs.Transcript.{World, changed, passed, said, start}
-use Rattle.abstract_debugger.proofs.Transparency.{Erased, erased-keeps}
+use Rattle.rv_model.specs.TurnLaws.{StepsUnmasked}
+use Rattle.abstract_debugger.specs.Known.{Erased}
+use Rattle.abstract_debugger.proofs.Transparency.{erased-keeps, start-erased}
 use Rattle.rv_model.specs.Undebugged.{SetReg}
 use Rattle.soft_laws.specs.Lowered.{Table, hidden_board, lower_change, merged, no_table, patched_table, written_table}
 use Rattle.soft_laws.specs.SoftBreaks.{AreInside, IsSoftAddress, covered, ebreak_word, patched_board, patched_by, patched_bytes}
@@ -196,8 +198,8 @@ hides-said m t line seen chip hides = record {
   aligned = hides.aligned;
   inside = hides.inside;
   lines = ap (λ lines. lines ++ line ∷ []) hides.lines;
-  seen_erased = hides.seen_erased;
-  chip_erased = hides.chip_erased;
+  seen_erased = (erased-keeps m).says line seen hides.seen_erased;
+  chip_erased = (erased-keeps m).says line chip hides.chip_erased;
   stories = hides.stories;
   matched = hides.matched;
 }
@@ -209,17 +211,17 @@ hides-board m t seen chip hides =
     ∙ ap (λ b. let c : Board = record seen.board { memory = record seen.board.memory { bytes = b } } in c)
     (hidden-patched t.covered t.originals seen.board.memory.bytes hides.remembers)
 
-pub hides-start : (board : Board) → Hides (machine_of board) no_table (start board) (start board)
+pub hides-start : (board : Board) → StepsUnmasked board → Hides (machine_of board) no_table (start board) (start board)
 unfolding patched_bytes
-hides-start board = record {
+hides-start board unmasked = record {
   told = refl;
   board = refl;
   remembers = λ q is. absurd (false≢true is);
   aligned = tt;
   inside = λ q is. absurd (false≢true is);
   lines = refl;
-  seen_erased = refl;
-  chip_erased = refl;
+  seen_erased = start-erased board unmasked;
+  chip_erased = start-erased board unmasked;
   stories = λ h k. refl;
   matched = λ right. tt;
 }

@@ -12,13 +12,15 @@ use Rattle.rv_model.specs.Accesses.{load_size, width_extension, width_size}
 use Rattle.rv_model.specs.Core.{Core, offset_by, x_of}
 use Rattle.rv_model.specs.declared.alu_op.AluOp.TheVariants as op
 use Rattle.rv_model.specs.declared.alu_op.AluOp.{AluOp}
-use Rattle.rv_model.specs.Effects.{after_amo, after_reserve, after_sc, effect_of}
-use Rattle.rv_model.specs.Execute.{decoded, exec_of, fetched}
+use Rattle.rv_model.specs.Board.{Hart}
+use Rattle.rv_model.specs.Effects.{after_amo, after_reserve, after_sc, effect_of, same_memory}
+use Rattle.rv_model.specs.Execute.{decoded, exec_masked_of, exec_of, fetched, interrupted, takes_interrupt}
 use Rattle.rv_model.specs.Laws.{answered}
 use Rattle.rv_model.specs.Memory.{Bytes, Memory, after_store, covers, fetch_of, loaded, with_value}
 use Rattle.rv_model.specs.Rows.{meaning}
 use Rattle.rv_model.specs.Size.{count_of}
 use Rattle.rv_model.specs.Touch.{reads, reads_and_writes, touches_nothing, writes}
+use Rattle.rv_model.specs.Turn.{masks_interrupts, turn_outcome}
 use Rattle.rv_model.proofs.MemoryLemmas.{after_store_refused, after_store_taken, store_answer_is}
 use Rattle.soft_laws.specs.SoftBreaks.{meets, meets_some}
 use Rattle.soft_laws.specs.Undisturbed.{accessed, accessed_fetched, accessed_meant, accessed_of, reaches, unless_refused}
@@ -100,9 +102,29 @@ fetched-bytes (Ok w) c m = by (meaning w)
     by (Some insn) = effect-bytes insn c m
     by None = refl
 
-pub exec-bytes : (c : Core) (m : Memory) → Stored (accessed_of c m).store m.bytes (exec_of c m).memory.bytes
-unfolding exec_of accessed_of
-exec-bytes c m = fetched-bytes (fetch_of m c.pc) c m
+masked-bytes : (c : Core) (m : Memory) → Stored (accessed_of c m).store m.bytes (exec_masked_of c m).memory.bytes
+unfolding exec_masked_of accessed_of
+masked-bytes c m = fetched-bytes (fetch_of m c.pc) c m
+
+stored_same : (s : Option (ℕ × ℕ)) (m : Bytes) → Stored s m m
+stored_same None m = refl
+stored_same (Some access) m = inl refl
+
+exec-bytes : (c : Core) (m : Memory) → Stored (accessed_of c m).store m.bytes (exec_of c m).memory.bytes
+unfolding exec_of
+exec-bytes c m = by (takes_interrupt c m)
+  where
+    by : (b : Bool) → Stored (accessed_of c m).store m.bytes (if b then same_memory m (interrupted c) else exec_masked_of c m).memory.bytes
+    by true = stored_same (accessed_of c m).store m.bytes
+    by false = masked-bytes c m
+
+pub outcome-bytes : (x : Hart) (m : Memory) → Stored (accessed_of x.core m).store m.bytes (turn_outcome x m).memory.bytes
+unfolding turn_outcome
+outcome-bytes x m = by (masks_interrupts x.debug)
+  where
+    by : (b : Bool) → Stored (accessed_of x.core m).store m.bytes (if b then exec_masked_of x.core m else exec_of x.core m).memory.bytes
+    by true = masked-bytes x.core m
+    by false = exec-bytes x.core m
 
 -- ---- what of it holds of covered words
 

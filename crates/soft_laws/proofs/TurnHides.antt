@@ -4,18 +4,18 @@ use Rattle.std.specs.FinMap.{get}
 use Rattle.rv_model.specs.declared.touch.Touch.{Touch}
 use Rattle.rv_model.specs.Board.{Board, Hart, Machine, cores}
 use Rattle.rv_model.specs.Core.{Core}
-use Rattle.rv_model.specs.Execute.{exec_of}
 use Rattle.rv_model.specs.Memory.{Memory}
 use Rattle.rv_model.specs.Touch.{touch_of}
 use Rattle.rv_model.specs.Triggers.{fires}
-use Rattle.rv_model.specs.Turn.{some_fires, stops_at_ebreak, turn}
+use Rattle.rv_model.specs.Turn.{some_fires, stops_at_ebreak, turn, turn_outcome}
 use Rattle.debug_model.specs.declared.point.Point.TheVariants.{Turn}
 use Rattle.abstract_debugger.specs.FirstMatch.{FirstMatch, Story, armed_matches, matches_at, matching, story}
 use Rattle.abstract_debugger.specs.Own.{lived}
 use Rattle.abstract_debugger.specs.Trace.{Past, What, noted_by, noted_here}
 use Rattle.abstract_debugger.specs.Trace.What.{Break, Watch, Count}
 use Rattle.abstract_debugger.specs.Transcript.{World, passed}
-use Rattle.abstract_debugger.proofs.Transparency.{Erased, erased-keeps}
+use Rattle.abstract_debugger.specs.Known.{Erased}
+use Rattle.abstract_debugger.proofs.Transparency.{erased-keeps}
 use Rattle.soft_laws.specs.Laws.{MayHide}
 use Rattle.soft_laws.specs.Lowered.{Table}
 use Rattle.soft_laws.specs.SoftBreaks.{AreSoftAddresses, AreInside, covered, meets_some, patched_board, patched_memory}
@@ -28,7 +28,7 @@ use Rattle.soft_laws.proofs.HideLemmas.{executes_uncovered, patches_hide, stops-
 use Rattle.soft_laws.proofs.Hidings.{Hides, StopsWhereCovered}
 use Rattle.soft_laws.proofs.SoftPasts.{Agrees, SameStories, noted_by-covered, noted_by-leaves, noted_by-matched, noted_by-since, noted_by-stories}
 use Rattle.soft_laws.proofs.SoftTransparency.{cores_here, soft_turned-erased}
-use Rattle.soft_laws.proofs.StoreLemmas.{exec-bytes, stored_covered, stored_there}
+use Rattle.soft_laws.proofs.StoreLemmas.{outcome-bytes, stored_covered, stored_there}
 
 -- ---- the notes
 
@@ -79,12 +79,12 @@ matches-patched cs (Some c) m s are =
 
 matching-same : (m : Machine) (t : Table) (seen chip : World) → Hides m t seen chip → (h k : ℕ) → matching m h k chip.past ≡ soft_matching m h k seen.past
 matching-same m t seen chip hides h k =
-    ap (λ (x : Machine). matches_at (slice_get x.cores h) x.memory (story h k chip.past)) (sym hides.chip_erased)
+    ap (λ (x : Machine). matches_at (slice_get x.cores h) x.memory (story h k chip.past)) (sym hides.chip_erased.machine)
     ∙ ap (λ (b : Board). matches_at (slice_get (cores b.harts) h) b.memory (story h k chip.past)) hides.board
     ∙ ap (matches_at (slice_get (cores seen.board.harts) h) (patched_memory t.covered seen.board.memory)) (hides.stories h k)
     ∙ matches-patched t.covered (slice_get (cores seen.board.harts) h) seen.board.memory (story h k seen.past) hides.aligned
     ∙ ap (λ cs. soft_matches_at cs (slice_get (cores seen.board.harts) h) seen.board.memory (story h k seen.past)) hides.told
-    ∙ ap (λ (x : Machine). soft_matches_at (covered seen.past) (slice_get x.cores h) x.memory (story h k seen.past)) hides.seen_erased
+    ∙ ap (λ (x : Machine). soft_matches_at (covered seen.past) (slice_get x.cores h) x.memory (story h k seen.past)) hides.seen_erased.machine
 
 pub hides-agrees : (m : Machine) (t : Table) (seen chip : World) → Hides m t seen chip → (h : ℕ) → Agrees m h chip.past seen.past
 hides-agrees m t seen chip hides h = record {
@@ -107,16 +107,16 @@ memory_covered : (cs : List ℕ) (x : Hart) (m : Memory) → (soft_executes cs x
 unfolding soft_memory_after
 memory_covered cs x m leaves q there = by (soft_executes cs x m) refl
   where
-    by : (b : Bool) → soft_executes cs x m ≡ b → get (if b then (exec_of x.core m).memory else m).bytes q ≡ get m.bytes q
-    by true e = stored_covered cs (accessed_of x.core m).store m.bytes (exec_of x.core m).memory.bytes (exec-bytes x.core m) (leaves e).1 q there
+    by : (b : Bool) → soft_executes cs x m ≡ b → get (if b then (turn_outcome x m).memory else m).bytes q ≡ get m.bytes q
+    by true e = stored_covered cs (accessed_of x.core m).store m.bytes (turn_outcome x m).memory.bytes (outcome-bytes x m) (leaves e).1 q there
     by false e = refl
 
 memory_there : (cs : List ℕ) (x : Hart) (m : Memory) (q : ℕ) → is_some (get m.bytes q) ≡ true → is_some (get (soft_memory_after cs x m).bytes q) ≡ true
 unfolding soft_memory_after
 memory_there cs x m q there = by (soft_executes cs x m)
   where
-    by : (b : Bool) → is_some (get (if b then (exec_of x.core m).memory else m).bytes q) ≡ true
-    by true = stored_there (accessed_of x.core m).store m.bytes (exec_of x.core m).memory.bytes (exec-bytes x.core m) q there
+    by : (b : Bool) → is_some (get (if b then (turn_outcome x m).memory else m).bytes q) ≡ true
+    by true = stored_there (accessed_of x.core m).store m.bytes (turn_outcome x m).memory.bytes (outcome-bytes x m) q there
     by false = there
 
 turn_covered : (cs : List ℕ) (o : Option Hart) (h : ℕ) (b : Board)
@@ -146,13 +146,13 @@ leaves_here m h seen erased u o here x is runs =
     noted_by-leaves m x.debug.halted x.debug.resume_request x.debug.halt_request (soft_fires cs x seen.board.memory) (soft_stops cs x seen.board.memory)
     x.debug.step h (fires (soft_touch cs x.core seen.board.memory) x.debug.slots) seen.past u' runs in
     let left' : CoreLeaves cs (slice_get (cores seen.board.harts) h) seen.board.memory =
-    subst (λ (n : Machine). CoreLeaves cs (slice_get n.cores h) n.memory) (sym erased) left in
+    subst (λ (n : Machine). CoreLeaves cs (slice_get n.cores h) n.memory) (sym erased.machine) left in
     subst (λ p. CoreLeaves cs p seen.board.memory) (cores_here seen.board h x at) left'
 
 uncovered_here : (m : Machine) (h : ℕ) (seen : World) → Erased m seen → StopsWhereCovered seen → (x : Hart) → slice_get seen.board.harts h ≡ Some x
     → soft_executes (covered seen.past) x seen.board.memory ≡ true → covers_pc (covered seen.past) (slice_get (lived m seen.past).cores h) ≡ false
 uncovered_here m h seen erased halts x at runs =
-    ap (λ (n : Machine). covers_pc (covered seen.past) (slice_get n.cores h)) (sym erased)
+    ap (λ (n : Machine). covers_pc (covered seen.past) (slice_get n.cores h)) (sym erased.machine)
     ∙ ap (covers_pc (covered seen.past)) (cores_here seen.board h x at)
     ∙ executes_uncovered (covered seen.past) x seen.board.memory (halts h x at) runs
 

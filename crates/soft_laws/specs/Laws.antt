@@ -3,6 +3,7 @@
 use Rattle.std.specs.Prelude.{◌≡◌, ◌<◌, ℕ, All, List, [], Some, true, slice_get}
 use Rattle.rv_model.specs.Board.{Board, Hart, machine_of}
 use Rattle.rv_model.specs.Turn.{turn}
+use Rattle.rv_model.specs.TurnLaws.{StepsUnmasked}
 use Rattle.rv_model.specs.Undebugged.{undebugged}
 use Rattle.debug_model.specs.Command.{IsWithinRanges}
 use Rattle.debug_model.specs.declared.point.Point.{Point}
@@ -72,20 +73,21 @@ pub record IsHidden (seen chip : Outcome) : Type 0 where
 
 abbrev pub SessionsHide : Type 0
 SessionsHide = (board : Board) (script : List SoftCommand) (journal : List Point) → All IsSoftWithinRanges script → HasFewHarts board
-    → IsUndisturbed board script journal → IsHidden (soft_transcript board script journal) (chip_outcome board script journal)
+    → StepsUnmasked board → IsUndisturbed board script journal → IsHidden (soft_transcript board script journal) (chip_outcome board script journal)
 
 -- ---- transparency
 
--- Memory and every hart's core that a user sees are those of a machine that nobody debugs, whatever the plan.
+-- Memory and every hart's core that a user sees are those of a machine that nobody debugs, whatever the plan. The board begins with no hart that steps with
+-- its interrupts masked.
 abbrev pub SoftTransparent : Type 0
-SoftTransparent = (plan : Plan) (board : Board) (journal : List Point)
+SoftTransparent = (plan : Plan) (board : Board) (journal : List Point) → StepsUnmasked board
     → machine_of (soft_replay plan (start board) journal).world.board ≡ undebugged (machine_of board)
     (entries.own (trace (soft_replay plan (start board) journal)))
 
 -- So the chip's machine is that of the session's own entries, where a covered word counts as its original.
 abbrev pub ChipsAreUndebugged : Type 0
 ChipsAreUndebugged = (board : Board) (script : List SoftCommand) (journal : List Point) → All IsSoftWithinRanges script → HasFewHarts board
-    → IsUndisturbed board script journal
+    → StepsUnmasked board → IsUndisturbed board script journal
     → machine_of (chip_outcome board script journal).world.board
     ≡ patched_machine (covered (soft_transcript board script journal).world.past)
     (undebugged (machine_of board) (entries.own (trace (soft_transcript board script journal))))

@@ -4,11 +4,10 @@ use Rattle.std.specs.Prelude.{ℕ, Bool, true, false, ◌&&◌, Option, Some, No
 use Rattle.rv_model.specs.declared.touch.Touch.{Touch}
 use Rattle.rv_model.specs.Board.{Board, Hart}
 use Rattle.rv_model.specs.Core.{Core}
-use Rattle.rv_model.specs.Execute.{exec_of}
 use Rattle.rv_model.specs.Memory.{Memory}
 use Rattle.rv_model.specs.Touch.{touch_of, touches_nothing}
 use Rattle.rv_model.specs.Triggers.{fires}
-use Rattle.rv_model.specs.Turn.{Place, executes_by, is_ebreak_at, place_by, some_fires}
+use Rattle.rv_model.specs.Turn.{Place, executes_by, is_ebreak_at, place_by, some_fires, turn_outcome}
 use Rattle.std.specs.Prelude.{List}
 use Rattle.abstract_debugger.specs.Trace.{Past, noted_by}
 use Rattle.abstract_debugger.specs.Transcript.{World}
@@ -41,10 +40,10 @@ soft_executes cs x m = executes_by x.debug.halted x.debug.resume_request x.debug
 
 unfoldable pub soft_place : List ℕ → Hart → Memory → Place
 soft_place cs x m =
-    place_by x.debug.halted x.debug.resume_request x.debug.halt_request (soft_fires cs x m) (soft_stops cs x m) (soft_touch cs x.core m) (exec_of x.core m) x
+    place_by x.debug.halted x.debug.resume_request x.debug.halt_request (soft_fires cs x m) (soft_stops cs x m) (soft_touch cs x.core m) (turn_outcome x m) x
 
 unfoldable pub soft_memory_after : List ℕ → Hart → Memory → Memory
-soft_memory_after cs x m = if soft_executes cs x m then (exec_of x.core m).memory else m
+soft_memory_after cs x m = if soft_executes cs x m then (turn_outcome x m).memory else m
 
 abbrev pub soft_turn_by : List ℕ → Option Hart → ℕ → Board → Board
 soft_turn_by cs None h b = b

@@ -43,6 +43,7 @@ abbrev pub accessed_fetched : Result ℕ MemFault → Core → Memory → Touch
 accessed_fetched (Ok w) c m = accessed_meant (meaning w) c m
 accessed_fetched (Err fault) c m = touches_nothing c
 
+-- of the word at pc, also where an interrupt is taken before it
 unfoldable pub accessed_of : Core → Memory → Touch
 accessed_of c m = accessed_fetched (fetch_of m c.pc) c m
 

@@ -8,14 +8,14 @@ pub fn patches_hide()
     ensures { PatchesHide }
 {}
 
-/// For every script with software breakpoints, every journal and every end, the chip says what the user sees and ends so, and its board is the
-/// user's under patches, of which none is left where the session ran to its end.
+/// For every script with software breakpoints, every journal and every end, over each board on which no step masks interrupts, the chip says what
+/// the user sees and ends so, and its board is the user's under patches, of which none is left where the session ran to its end.
 pub fn sessions_hide()
     ensures { SessionsHide }
 {}
 
-/// What a user sees of memory and of every hart's core is a machine that nobody debugs, whatever the plan; so the chip's is too, where a covered
-/// word counts as its original.
+/// What a user sees of memory and of every hart's core is a machine that nobody debugs, whatever the plan, over each board on which no step masks
+/// interrupts; so the chip's is too, where a covered word counts as its original.
 pub fn soft_transparent()
     ensures seen { SoftTransparent }
     ensures chips { ChipsAreUndebugged }

@@ -1,5 +1,5 @@
 //! What one slot does: it fires, takes its hit, and lets its count fall
-//! (RISC-V Debug Specification 1.0, "Match Control Type 6" and "Instruction Count").
+//! (RISC-V Debug Specification 1.0, "Match Control Type 6" and "Instruction Count"; RISC-V External Debug Support 0.13.2, "Match Control").
 
 ghost use Rattle.std.specs.Prelude.{◌≡◌};
 ghost use Rattle.rv_model.specs.Triggers.{slot_fires, counted, slot_counted};

@@ -1,5 +1,6 @@
 ghost use Rattle.std.specs.Prelude.{◌≡◌, false, nat_lt, ◌<◌, replicate, [], ◌∷◌};
 ghost use Rattle.rv_model.specs.declared.touch.Touch.{Touch};
+ghost use Rattle.rv_model.specs.declared.version.Version.TheVariants.{V10};
 ghost use Rattle.rv_model.specs.Board.{free_slot, slot_count};
 ghost use Rattle.rv_model.specs.Triggers.{fires, marked, counted_down};
 ghost use Rattle.trig_unit.specs.Armed.{some_armed};
@@ -8,7 +9,7 @@ ghost use Rattle.trig_unit.specs.Members.{members, some_member, hit_by};
 mod registers;
 
 use crate::slot;
-use rv_model::{Slot, SlotSet, Touch, Trigger};
+use rv_model::{Slot, SlotSet, Touch, Trigger, Version};
 use std::marker::Model;
 
 /// How many slots a hart has.
@@ -17,6 +18,8 @@ pub const SLOTS: u8 = 4;
 /// A hart's trigger slots, and `tselect`.
 #[derive(Drop)]
 pub struct Slots {
+    /// The release that the hart follows: it never changes.
+    version: Version,
     tselect: u8,
     slots: [Slot; SLOTS as usize],
     /// Whether some slot is on in Machine Mode: a hart looks at it in each turn.
@@ -31,7 +34,7 @@ impl Model for Slots {
 
     ghost coded = { trigger_part_code };
 
-    ghost view = { λ s. record { tselect = s.tselect; slots = s.slots } };
+    ghost view = { λ s. record { version = s.version; tselect = s.tselect; slots = s.slots } };
 
     ghost invariant = { λ s. IsSlots s.tselect s.slots s.armed };
 }
@@ -54,15 +57,23 @@ fn set_of(a: bool, b: bool, c: bool, d: bool) -> SlotSet
 }
 
 impl Slots {
-    /// Four free slots, the first of them selected.
+    /// Four free slots of a hart of release 1.0, the first of them selected.
     pub fn new() -> Self
-        ensures { result ≡ record { tselect = 0; slots = replicate slot_count free_slot } }
+        ensures { result ≡ record { version = V10; tselect = 0; slots = replicate slot_count free_slot } }
+    {
+        Slots::of_version(Version::V10)
+    }
+
+    /// The same of a hart of a release.
+    pub fn of_version(version: Version) -> Self
+        ensures { result ≡ record { version = version; tselect = 0; slots = replicate slot_count free_slot } }
     {
         let free = Slot {
             trigger: Trigger::Disabled,
             tdata2: 0,
         };
         Slots {
+            version,
             tselect: 0,
             slots: [free; SLOTS as usize],
             armed: false,

@@ -1,6 +1,6 @@
 use crate::Slots;
 use rv_model::register_number::{TDATA1, TDATA2, TINFO, TSELECT};
-use rv_model::{SlotSet, Touch};
+use rv_model::{SlotSet, Touch, Version};
 
 /// `tdata1` of a free slot.
 const FREE: u64 = 0xf800_0000_0000_0000;
@@ -21,6 +21,18 @@ const BELOW: u64 = 0x180;
 
 /// `hit0` of an address trigger.
 const HIT: u64 = 0x40_0000;
+
+/// `tdata1` of the same on a hart of release 0.13: type 2, with `hit` in bit 20
+/// (RISC-V External Debug Support 0.13.2, "Match Control").
+const BREAK_V013: u64 = 0x2800_0000_0000_1044;
+
+const WATCH_LOAD_V013: u64 = 0x2800_0000_0000_1041;
+
+const WATCH_STORE_V013: u64 = 0x2800_0000_0000_1042;
+
+const WATCH_ACCESS_V013: u64 = 0x2800_0000_0000_1043;
+
+const HIT_V013: u64 = 0x10_0000;
 
 /// `tdata1` of a count of 3, and of what is left of it.
 const COUNT_OF_THREE: u64 = 0x3800_0000_0000_0e01;
@@ -107,6 +119,41 @@ fn tdata1_keeps_what_is_writable(rt: HostRuntime) {
         assert_eq!(rt; slots.read_csr(TDATA1), Some(kept));
         assert_eq!(rt; slots.read_csr(TDATA2), Some(u64::MAX));
     }
+}
+
+#[test]
+fn tdata1_of_release_0_13_keeps_what_is_writable(rt: HostRuntime) {
+    let cases = [
+        (0x2fff_ffff_ffff_ffff, 0x2800_0000_0010_1047),
+        (0x2000_0000_0000_0000, 0x2800_0000_0000_1000),
+        (0x2000_0000_0000_0080, 0x2800_0000_0000_1000),
+        (0x2000_0000_0000_0100, 0x2800_0000_0000_1100),
+        (0x2000_0000_0000_0180, 0x2800_0000_0000_1180),
+        (0x2000_0000_0040_0000, 0x2800_0000_0000_1000),
+        (BREAK_V013, BREAK_V013),
+        (BREAK_V013 + HIT_V013, BREAK_V013 + HIT_V013),
+        (WATCH_LOAD_V013, WATCH_LOAD_V013),
+        (WATCH_STORE_V013, WATCH_STORE_V013),
+        (WATCH_ACCESS_V013, WATCH_ACCESS_V013),
+        (COUNT_OF_THREE, COUNT_OF_THREE),
+        (FREE, FREE),
+        (BREAK, FREE),
+        (0x6fff_ffff_ffff_ffff, FREE),
+        (0x7fff_ffff_ffff_ffff, FREE),
+        (0, FREE),
+    ];
+    for (written, kept) in cases {
+        let mut slots = Slots::of_version(Version::V013);
+        assert!(rt; slots.write_csr(TDATA1, written));
+        assert_eq!(rt; slots.read_csr(TDATA1), Some(kept));
+    }
+    let mut slots = Slots::of_version(Version::V013);
+    assert_eq!(rt; slots.read_csr(TINFO), Some(0x800c));
+    assert!(rt; slots.write_csr(TDATA1, BREAK_V013));
+    assert!(rt; slots.write_csr(TDATA2, FIRST));
+    assert_eq!(rt; slots.fires(&executes(FIRST)), SlotSet(1));
+    slots.mark(SlotSet(1));
+    assert_eq!(rt; slots.read_csr(TDATA1), Some(BREAK_V013 + HIT_V013));
 }
 
 #[test]

@@ -15,7 +15,7 @@ use Rattle.debug_model.specs.Ties.{timing_told}
 use Rattle.debug_model.specs.Told.{Far, IsAsLoaded, chip_of}
 use Rattle.abstract_debugger.specs.Debugger.{session}
 use Rattle.abstract_debugger.proofs.ScriptLemmas.{first_match}
-use Rattle.abstract_debugger.proofs.Transparency.{transparent}
+use Rattle.abstract_debugger.proofs.Transparency.{fresh_unmasked, transparent}
 use Rattle.probe_session.specs.declared.ended.Ended.{Ended as End}
 use Rattle.probe_session.specs.declared.ended.Ended.TheVariants as ends
 use Rattle.probe_session.specs.declared.fault.LostCause.TheVariants as lost
@@ -23,22 +23,24 @@ use Rattle.probe_session.specs.Transcribed.{Still, TranscribedAs, WrittenAs, sho
 use Rattle.probe_session.proofs.Transcribing.{loaded_fresh}
 use Rattle.wire_session.specs.Headline.{Headline, IsUndebugged, UndebuggedBehind, board_of, journal_of}
 
-undebugged_by : (script : List Command) (first last : Far) → (shown script first last).world.board ≡ board_of last.live
+undebugged_by : (script : List Command) (first last : Far) → AsLoaded first.live → (shown script first last).world.board ≡ board_of last.live
     → IsUndebugged script first.live last.live
-undebugged_by script first last same = ap machine_of (sym same) ∙ transparent (session script) (board_of first.live) (journal_of last.live)
+undebugged_by script first last a same =
+    ap machine_of (sym same)
+    ∙ transparent (session script) (board_of first.live) (journal_of last.live) (fresh_unmasked (board_of first.live) (loaded_fresh first.live a))
 
-undebugged_behind : (script : List Command) (was is : Option (List ℕ)) (first last : Far) (e : End) → WrittenAs script was is first last e
-    → UndebuggedBehind e script first.live last.live
-undebugged_behind script was is first last ends.Clean w = undebugged_by script first last w.board_is
-undebugged_behind script was is first last ends.WithErrors w = undebugged_by script first last w.board_is
-undebugged_behind script was is first last (ends.Target fault) w = tt
-undebugged_behind script was is first last (ends.Wire why) w = tt
-undebugged_behind script was is first last (ends.Lost lost.DmiFailed) w = tt
-undebugged_behind script was is first last (ends.Lost lost.StillBusy) w = tt
-undebugged_behind script was is first last (ends.Lost (lost.NoHalt looks)) w = undebugged_by script first last w.board_is
-undebugged_behind script was is first last (ends.Lost (lost.NoAck looks)) w = undebugged_by script first last w.board_is
-undebugged_behind script was is first last (ends.Lost (lost.Odd odd)) w = tt
-undebugged_behind script was is first last ends.Sink w = undebugged_by script first last w.board_is
+undebugged_behind : (script : List Command) (was is : Option (List ℕ)) (first last : Far) (e : End) → AsLoaded first.live
+    → WrittenAs script was is first last e → UndebuggedBehind e script first.live last.live
+undebugged_behind script was is first last ends.Clean a w = undebugged_by script first last a w.board_is
+undebugged_behind script was is first last ends.WithErrors a w = undebugged_by script first last a w.board_is
+undebugged_behind script was is first last (ends.Target fault) a w = tt
+undebugged_behind script was is first last (ends.Wire why) a w = tt
+undebugged_behind script was is first last (ends.Lost lost.DmiFailed) a w = tt
+undebugged_behind script was is first last (ends.Lost lost.StillBusy) a w = tt
+undebugged_behind script was is first last (ends.Lost (lost.NoHalt looks)) a w = undebugged_by script first last a w.board_is
+undebugged_behind script was is first last (ends.Lost (lost.NoAck looks)) a w = undebugged_by script first last a w.board_is
+undebugged_behind script was is first last (ends.Lost (lost.Odd odd)) a w = tt
+undebugged_behind script was is first last ends.Sink a w = undebugged_by script first last a w.board_is
 
 -- the harts have had just the turns of the schedule with which the chip was loaded
 turns_behind : (first : Live) (c : Chip) → AsLoaded first → timing_of c ≡ timing_of first.chip → TurnsOffered first.chip.inside.plan c
@@ -53,7 +55,7 @@ headline_of : (script : List Command) (was is : Option (List ℕ)) (first last :
     → timing_of (chip_of last) ≡ timing_of (chip_of first) → Headline script was is first last e
 headline_of script was is first last e a within w same = record {
   written = w;
-  undebugged = undebugged_behind script was is first last e w;
+  undebugged = undebugged_behind script was is first last e a w;
   first_match = first_match (board_of first.live) script (journal_of last.live) within (loaded_fresh first.live a);
   turns = turns_behind first.live (chip_of last) a same;
 }

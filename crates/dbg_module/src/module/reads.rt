@@ -64,7 +64,7 @@ impl Module {
             }
             ModuleRegister::Dmcontrol => unnoted(self.dmcontrol()),
             ModuleRegister::Dmstatus => {
-                let status = hart_status(hart_at(harts, self.hartsel));
+                let status = hart_status(self.version, hart_at(harts, self.hartsel));
                 noted(status.word(), Point::Look(self.hartsel))
             }
             ModuleRegister::Abstractcs => unnoted(self.commands.abstractcs()),

@@ -55,7 +55,7 @@ impl Module {
         ensures { controlled_by control.dmactive control (bare_site self.old harts.old []) ≡ bare_site self.new harts.new result.items }
     {
         if !control.dmactive {
-            *self = Module::new();
+            *self = Module::of_version(self.version);
             return ArrayVec::new();
         }
         if self.commands.is_busy() {

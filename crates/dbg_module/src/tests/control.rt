@@ -1,9 +1,10 @@
 use super::bench::{
     ABSTRACTCS, Bench, COMMAND, DATA0, DMCONTROL, DMSTATUS, HALTSUM0, SBADDRESS0, SBCS, SBDATA0,
 };
-use crate::Performed;
+use crate::{Module, Performed};
 use debug_model::{DmiOp, Point};
-use hart_debug::Start;
+use hart_debug::{DebugHart, Start};
+use rv_model::Version;
 
 /// What the journal has of an operation.
 fn told_by(performed: &Performed) -> [Option<Point>; 2] {
@@ -194,4 +195,29 @@ fn reset_stops_what_is_under_way(rt: HostRuntime) {
     assert_eq!(rt; bench.read(DATA0), 0);
     bench.run();
     assert_eq!(rt; bench.harts[0].hart().x(8), 0);
+}
+
+/// What `dmstatus` shows where dmcontrol was written so, on a chip of a release with one halted hart and one that runs.
+fn status_of(version: Version, control: u32) -> u32 {
+    let mut module = Module::of_version(version);
+    let mut harts = [
+        DebugHart::of_version(0, Start::Halted, version),
+        DebugHart::of_version(1, Start::Running, version),
+    ];
+    let _ = module.perform(DmiOp::Write(DMCONTROL, 0), &mut harts);
+    let _ = module.perform(DmiOp::Write(DMCONTROL, control), &mut harts);
+    module.perform(DmiOp::Read(DMSTATUS), &mut harts).result
+}
+
+#[test]
+fn dmstatus_shows_the_release(rt: HostRuntime) {
+    // The field version: 2 for release 0.13, 3 for release 1.0 (RISC-V Debug Specification 1.0, "Debug Module Status").
+    for (control, older, newer) in [
+        (0x0000_0001, 0x000c_0382, 0x000c_0383),
+        (0x0001_0001, 0x000c_0c82, 0x000c_0c83),
+        (0x0002_0001, 0x0000_c082, 0x0000_c083),
+    ] {
+        assert_eq!(rt; status_of(Version::V013, control), older);
+        assert_eq!(rt; status_of(Version::V10, control), newer);
+    }
 }

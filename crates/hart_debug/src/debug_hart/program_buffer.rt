@@ -1,12 +1,11 @@
 //! One instruction word of the program buffer (RISC-V Debug Specification 1.0, "Program Buffer").
 
 ghost use Rattle.std.specs.Prelude.{◌≡◌, ◌<◌, true, is_some};
-ghost use Rattle.rv_model.specs.Memory.{Memory};
 ghost use Rattle.rv_model.specs.Effects.{effect_of};
 ghost use Rattle.rv_model.specs.Core.{x_of};
 ghost use Rattle.rv_model.specs.OperandsFit.{OperandsFit};
 ghost use Rattle.rv_model.specs.DebugLaws.{WriteKeeps};
-ghost use Rattle.rv_model.specs.DebugRegisters.{debug_value};
+ghost use Rattle.rv_model.specs.DebugRegisters.{debug_seen};
 ghost use Rattle.rv_model.specs.ProgramBuffer.{csr_swap, csr_swap_by, executed, ran_insn, ran_word, swapped};
 ghost use Rattle.rv_model.specs.Touch.{touch};
 ghost use Rattle.hart_debug.specs.BufferWord.{ran_to, touches_memory};
@@ -75,34 +74,43 @@ impl DebugHart {
             Insn::Ecall => REFUSED,
             Insn::Mret => REFUSED,
             // These reach the registers of Debug Mode too.
-            Insn::Csr(change, p) => self.swap_register(change, p),
-            Insn::CsrImmediate(change, p) => self.swap_immediate(change, p),
+            Insn::Csr(change, p) => self.swap_register(change, p, ram),
+            Insn::CsrImmediate(change, p) => self.swap_immediate(change, p, ram),
             _ => self.execute_in_place(insn, ram),
         }
     }
 
     /// An instruction on a control and status register whose operand is a register.
-    fn swap_register(&mut self, change: CsrChange, p: CsrType) -> RanWord
+    fn swap_register(&mut self, change: CsrChange, p: CsrType, ram: &Ram) -> RanWord
         requires halted { is_some self.old.debug.halted ≡ true }
         requires rd { p.rd < 32 }
         requires rs1 { p.rs1 < 32 }
-        ensures { (m : Memory) → ran_to self.new m result
-            ≡ swapped (debug_value self.old p.csr) (csr_swap change p.rs1 p.csr (x_of self.old.core p.rs1) p.rd) self.old m }
+        ensures { ran_to self.new ram.now result
+            ≡ swapped (debug_seen self.old ram.now p.csr) (csr_swap change p.rs1 p.csr (x_of self.old.core p.rs1) p.rd) self.old ram.now }
     {
         let operand = self.hart.x(p.rs1);
-        self.swap(writes(change, p.rs1), change, p.csr, operand, p.rd)
+        self.swap(writes(change, p.rs1), change, p.csr, operand, p.rd, ram)
     }
 
     /// An instruction on a control and status register whose operand is an immediate.
-    fn swap_immediate(&mut self, change: CsrChange, p: CsrImmType) -> RanWord
+    fn swap_immediate(&mut self, change: CsrChange, p: CsrImmType, ram: &Ram) -> RanWord
         requires halted { is_some self.old.debug.halted ≡ true }
         requires rd { p.rd < 32 }
-        ensures { (m : Memory) → ran_to self.new m result ≡ swapped (debug_value self.old p.csr) (csr_swap change p.imm p.csr p.imm p.rd) self.old m }
+        ensures { ran_to self.new ram.now result
+            ≡ swapped (debug_seen self.old ram.now p.csr) (csr_swap change p.imm p.csr p.imm p.rd) self.old ram.now }
     {
-        self.swap(writes(change, p.imm), change, p.csr, u64::from(p.imm), p.rd)
+        self.swap(
+            writes(change, p.imm),
+            change,
+            p.csr,
+            u64::from(p.imm),
+            p.rd,
+            ram,
+        )
     }
 
-    /// The destination takes a register's old value; where the instruction writes, the register takes the changed one.
+    #[tactic(auto, using(crate::proofs::Seen::refused_seen, crate::proofs::Seen::accepted_seen))]
+    /// The destination takes a register's old value, mip's from memory; where the instruction writes, the register takes the changed one.
     fn swap(
         &mut self,
         writes: bool,
@@ -110,12 +118,14 @@ impl DebugHart {
         number: u16,
         operand: u64,
         rd: u8,
+        ram: &Ram,
     ) -> RanWord
         requires halted { is_some self.old.debug.halted ≡ true }
         requires rd { rd < 32 }
-        ensures { (m : Memory) → ran_to self.new m result ≡ swapped (debug_value self.old number) (csr_swap_by writes change number operand rd) self.old m }
+        ensures { ran_to self.new ram.now result
+            ≡ swapped (debug_seen self.old ram.now number) (csr_swap_by writes change number operand rd) self.old ram.now }
     {
-        let Some(old) = self.reg_read(number) else {
+        let Some(old) = self.reg_read_with(number, ram) else {
             return REFUSED;
         };
         if !writes {
@@ -154,6 +164,8 @@ impl DebugHart {
                     accessed,
                 }
             }
+            // It never is: an interrupt is taken before the fetch, and no instruction's effect is one.
+            Did::Interrupted => REFUSED,
         }
     }
 }

@@ -4,14 +4,15 @@
 ghost use Rattle.std.specs.Prelude.{◌≡◌, true, false, not, ◌&&◌, is_some, IfErr};
 ghost use Rattle.rv_model.specs.DebugLaws.{WriteKeeps};
 ghost use Rattle.rv_model.specs.Dcsr.{dcsr_of};
-ghost use Rattle.rv_model.specs.DebugRegisters.{debug_csr_value, debug_csr_written, debug_value, debug_refuses, debug_written};
+ghost use Rattle.rv_model.specs.DebugRegisters.{debug_csr_value, debug_csr_written, debug_seen, debug_value, debug_refuses, debug_written};
 ghost use Rattle.rv_model.specs.Registers.{reg_value, reg_written};
 ghost use Rattle.hart_debug.specs.RegisterAnswers.{write_answer};
 
 use super::DebugHart;
 use rv_hart::{CsrFault, Hart};
+use rv_mem::Ram;
 use rv_model::Dcsr;
-use rv_model::register_number::{DCSR, DPC, X0};
+use rv_model::register_number::{DCSR, DPC, MIP, X0};
 
 /// The number behind that of x31.
 const END_OF_X: u16 = X0 + 32;
@@ -50,6 +51,7 @@ fn write_core(hart: &mut Hart, regno: u16, value: u64) -> Result<(), CsrFault>
 
 impl DebugHart {
     /// A register's value in Debug Mode, by the debugger's number, or `None` where there is no such register. The hart is halted.
+    /// mip reads 0 here: `reg_read_with` knows memory, which tells it.
     #[tactic(auto, unfolding(rv_model::specs::DebugRegisters::debug_value))]
     pub fn reg_read(&self, regno: u16) -> Option<u64>
         requires { is_some self.now.debug.halted ≡ true }
@@ -59,6 +61,19 @@ impl DebugHart {
             Some(value) => Some(value),
             None => self.read_debug(regno),
         }
+    }
+
+    /// A register's value in Debug Mode where a memory is there, which tells mip, or `None` where there is no such register.
+    /// The hart is halted.
+    #[tactic(auto, unfolding(rv_model::specs::DebugRegisters::debug_seen, rv_model::specs::Registers::csr_seen))]
+    pub fn reg_read_with(&self, regno: u16, ram: &Ram) -> Option<u64>
+        requires { is_some self.now.debug.halted ≡ true }
+        ensures { result ≡ debug_seen self.now ram.now regno }
+    {
+        if regno == MIP {
+            return self.hart.csr_read_with(regno, ram);
+        }
+        self.reg_read(regno)
     }
 
     /// Writes a register in Debug Mode, by the debugger's number; what is not writable stays as it is. The hart is halted.
@@ -104,6 +119,7 @@ impl DebugHart {
     }
 
     /// Writes `dcsr` or a trigger register. It answers false, and changes nothing, where this is no number of one.
+    #[tactic(auto, using(crate::proofs::Registers::version_stays))]
     fn write_debug(&mut self, regno: u16, value: u64) -> bool
         ensures answer { result ≡ is_some (debug_csr_value self.old.debug regno) }
         ensures after { self.new ≡ record self.old { debug = debug_csr_written self.old.debug regno value } }

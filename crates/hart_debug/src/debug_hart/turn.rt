@@ -1,11 +1,11 @@
 //! A hart's turn, one function for each case (RISC-V Debug Specification 1.0, "Sdext (ISA Extension)").
 
 ghost use Rattle.std.specs.Prelude.{◌≡◌, ◌<◌, nat_lt};
-ghost use Rattle.rv_model.specs.Execute.{exec_of};
-ghost use Rattle.rv_model.specs.Turn.{place_of, memory_after, resumed, halted_for, some_fires, stops_at_ebreak, ran};
+ghost use Rattle.rv_model.specs.Turn.{place_of, memory_after, masks_interrupts, resumed, halted_for, some_fires, stops_at_ebreak, ran, turn_outcome};
 ghost use Rattle.rv_model.specs.Touch.{touch_of};
 ghost use Rattle.rv_model.specs.Triggers.{fires};
 ghost use Rattle.trig_unit.specs.Members.{members};
+ghost use Rattle.hart_debug.specs.Execution.{exec_by};
 ghost use Rattle.hart_debug.specs.Stops.{stopped_at_trigger};
 ghost use Rattle.debug_model.specs.Journal.{with_debug};
 
@@ -15,18 +15,22 @@ use rv_hart::Hart;
 use rv_mem::Ram;
 use rv_model::{Cause, Did, SlotSet, Turned};
 
-/// Executes one instruction or takes one trap.
-fn execute(hart: &mut Hart, ram: &mut Ram) -> Did
-    ensures core { hart.new ≡ (exec_of hart.old ram.old).step.core }
-    ensures did { result ≡ (exec_of hart.old ram.old).step.did }
-    ensures memory { ram.new ≡ (exec_of hart.old ram.old).memory }
+/// Executes one instruction or takes one trap, or one interrupt where these are not masked.
+fn execute(hart: &mut Hart, ram: &mut Ram, masked: bool) -> Did
+    ensures core { hart.new ≡ (exec_by masked hart.old ram.old).step.core }
+    ensures did { result ≡ (exec_by masked hart.old ram.old).step.did }
+    ensures memory { ram.new ≡ (exec_by masked hart.old ram.old).memory }
 {
-    hart.exec(ram)
+    if masked {
+        hart.exec_masked(ram)
+    } else {
+        hart.exec(ram)
+    }
 }
 
 impl DebugHart {
     #[tactic(auto, unfolding(rv_model::specs::Turn::place_of, rv_model::specs::Turn::executes, rv_model::specs::Turn::memory_after))]
-    /// The hart's next turn: a resume, a stop, nothing where it is halted, or else one instruction or trap.
+    /// The hart's next turn: a resume, a stop, nothing where it is halted, or else one instruction, trap or interrupt.
     pub fn turn(&mut self, ram: &mut Ram) -> Turned
         ensures place { record { hart = self.new; turned = result } ≡ place_of self.old ram.old }
         ensures memory { ram.new ≡ memory_after self.old ram.old }
@@ -118,12 +122,21 @@ impl DebugHart {
         Turned::Halted(why)
     }
 
-    /// One instruction or one trap, behind which a single step halts. The counts fall.
-    fn run(&mut self, ram: &mut Ram) -> Turned
-        ensures place { record { hart = self.new; turned = result } ≡ ran (exec_of self.old.core ram.old) self.old }
-        ensures memory { ram.new ≡ (exec_of self.old.core ram.old).memory }
+    /// Whether a single step takes no interrupt.
+    fn masks_interrupts(&self) -> bool
+        ensures { result ≡ masks_interrupts self.now.debug }
     {
-        let did = execute(&mut self.hart, ram);
+        self.step && !self.stepie
+    }
+
+    /// One instruction, one trap or one interrupt, behind which a single step halts. The counts fall.
+    #[tactic(auto, unfolding(rv_model::specs::Turn::turn_outcome))]
+    fn run(&mut self, ram: &mut Ram) -> Turned
+        ensures place { record { hart = self.new; turned = result } ≡ ran (turn_outcome self.old ram.old) self.old }
+        ensures memory { ram.new ≡ (turn_outcome self.old ram.old).memory }
+    {
+        let masked = self.masks_interrupts();
+        let did = execute(&mut self.hart, ram, masked);
         self.slots.retired();
         if self.step {
             self.halted = Some(Cause::Step);

@@ -1,5 +1,6 @@
 use super::{read, write};
 use hart_debug::{DebugHart, Start};
+use rv_model::Version;
 use std::process::Abort;
 
 /// Numbers of registers that do not exist: beside those that do.
@@ -11,8 +12,8 @@ const ABSENT: [u16; 12] = [
 const KEPT: [(u16, u64, u64); 18] = [
     (0x300, 0x1800, 0x1888),
     (0x301, 0x8000_0000_0000_1101, 0x8000_0000_0000_1101),
-    (0x304, 0, 0),
-    (0x305, 0, 0xffff_ffff_ffff_fffc),
+    (0x304, 0, 8),
+    (0x305, 0, 0xffff_ffff_ffff_fffd),
     (0x340, 0, u64::MAX),
     (0x341, 0, 0xffff_ffff_ffff_fffc),
     (0x342, 0, u64::MAX),
@@ -69,4 +70,43 @@ fn registers_keep_their_bits(rt: HostRuntime) {
     // The cause that dcsr shows is the halt's, whatever is written.
     assert!(rt; write(&mut hart, 0x7b0, 0));
     assert_eq!(rt; read(&hart, 0x7b0), Some(0x4000_0143));
+}
+
+/// A word of `tdata1`, and what a hart of release 0.13 and one of release 1.0 keep of it: an address trigger of the one's type, of the
+/// other's, a count, and a type that neither has
+/// (RISC-V External Debug Support 0.13.2, "Match Control"; RISC-V Debug Specification 1.0, "Match Control Type 6").
+const TRIGGERS: [(u64, u64, u64); 7] = [
+    (0x2800_0000_0000_1044, 0x2800_0000_0000_1044, DISABLED),
+    (0x2800_0000_0010_1044, 0x2800_0000_0010_1044, DISABLED),
+    (0x2fff_ffff_ffff_ffff, 0x2800_0000_0010_1047, DISABLED),
+    (0x6800_0000_0000_1044, DISABLED, 0x6800_0000_0000_1044),
+    (0x6fff_ffff_ffff_ffff, DISABLED, 0x6800_0000_0040_1047),
+    (
+        0x3800_0000_0000_0601,
+        0x3800_0000_0000_0601,
+        0x3800_0000_0000_0601,
+    ),
+    (0x4800_0000_0000_0000, DISABLED, DISABLED),
+];
+
+const DISABLED: u64 = 0xf800_0000_0000_0000;
+
+#[test]
+fn triggers_go_by_the_release(rt: HostRuntime) {
+    for (version, types) in [(Version::V013, 0x800c), (Version::V10, 0x0100_8048)] {
+        let mut hart = DebugHart::of_version(2, Start::Halted, version);
+        assert_eq!(rt; read(&hart, 0x7a4), Some(types));
+        assert_eq!(rt; read(&hart, 0x7a1), Some(DISABLED));
+        for (word, older, newer) in TRIGGERS {
+            assert!(rt; write(&mut hart, 0x7a1, word));
+            let kept = if version == Version::V013 {
+                older
+            } else {
+                newer
+            };
+            assert_eq!(rt; read(&hart, 0x7a1), Some(kept));
+        }
+        // The debug version of dcsr is 4 in both.
+        assert_eq!(rt; read(&hart, 0x7b0), Some(0x4000_0143));
+    }
 }

@@ -1,11 +1,15 @@
-//! Traps and the return from one (privileged manual, "Machine Cause", "Machine Trap Value" and "Trap-Return Instructions").
+//! Traps, the machine software interrupt and the return from one (privileged manual, "Machine Cause", "Machine Trap Value",
+//! "Machine Trap-Vector Base-Address Register", "Machine Interrupt Registers" and "Trap-Return Instructions").
 
-ghost use Rattle.std.specs.Prelude.{◌≡◌};
+ghost use Rattle.std.specs.Prelude.{◌≡◌, ◌%◌};
+ghost use Rattle.rv_model.specs.Core.{handler_base};
 ghost use Rattle.rv_model.specs.Effects.{traps, retires};
+ghost use Rattle.rv_model.specs.Execute.{interrupted, takes_interrupt};
 ghost use Rattle.rv_model.specs.Traps.{load_cause, store_cause, trap_left};
 
-use super::Hart;
 use super::mstatus::{mie, mpie, mstatus_of};
+use super::{Hart, INSTRUCTION_SIZE};
+use rv_mem::Ram;
 use rv_model::{Did, MemFault};
 
 /// The target of a taken jump or branch is not a multiple of 4.
@@ -35,6 +39,15 @@ const STORE_OUTSIDE: u8 = 7;
 /// `ecall`.
 pub const ENVIRONMENT_CALL: u8 = 11;
 
+/// The machine software interrupt: its code in mcause, and its place in mie.
+const SOFTWARE_INTERRUPT: u64 = 3;
+
+/// The bit of mcause that tells an interrupt from other traps.
+const INTERRUPT: u64 = 0x8000_0000_0000_0000;
+
+/// The mode of mtvec in which each interrupt has an instruction of its own behind the base.
+const VECTORED: u64 = 1;
+
 /// The cause of a refused load or lr.
 pub fn load_cause(fault: MemFault) -> u8
     ensures { result ≡ load_cause fault }
@@ -56,6 +69,39 @@ pub fn store_cause(fault: MemFault) -> u8
 }
 
 impl Hart {
+    /// The base address of the trap handler.
+    fn handler_base(&self) -> u64
+        ensures address { result ≡ handler_base self.now }
+        ensures whole { result % 4 ≡ 0 }
+    {
+        self.mtvec / INSTRUCTION_SIZE * INSTRUCTION_SIZE
+    }
+
+    /// Whether the hart takes the machine software interrupt: it is enabled and pends. mstatus is asked first, since few programs enable interrupts.
+    #[inline(always)]
+    pub(crate) fn takes_interrupt(&self, ram: &Ram) -> bool
+        ensures { result ≡ takes_interrupt self.now ram.now }
+    {
+        mie(self.mstatus) == 1 && self.mie >> SOFTWARE_INTERRUPT & 1 == 1 && ram.msip(self.id)
+    }
+
+    /// Enters the handler of the machine software interrupt before the instruction at pc.
+    pub(crate) fn interrupt(&mut self) -> Did
+        ensures { record { core = self.new; did = result } ≡ interrupted self.old }
+    {
+        let base = self.handler_base();
+        self.mepc = self.pc;
+        self.mcause = INTERRUPT + SOFTWARE_INTERRUPT;
+        self.mtval = 0;
+        self.mstatus = mstatus_of(0, mie(self.mstatus));
+        self.pc = if self.mtvec % INSTRUCTION_SIZE == VECTORED {
+            base.wrapping_add(INSTRUCTION_SIZE * SOFTWARE_INTERRUPT)
+        } else {
+            base
+        };
+        Did::Interrupted
+    }
+
     /// Enters the trap handler for the instruction at pc; the value is an address, or 0.
     pub(crate) fn trap(&mut self, cause: u8, value: u64) -> Did
         ensures { record { core = self.new; did = result } ≡ traps cause value self.old }
@@ -64,7 +110,7 @@ impl Hart {
         self.mcause = u64::from(cause);
         self.mtval = value;
         self.mstatus = mstatus_of(0, mie(self.mstatus));
-        self.pc = self.mtvec;
+        self.pc = self.handler_base();
         Did::Trapped(cause)
     }
 

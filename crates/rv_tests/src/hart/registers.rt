@@ -8,8 +8,8 @@ use std::process::Abort;
 static REGISTERS: [(u16, u64, bool, u64); 13] = [
     (MSTATUS, 0x1800, false, 0x1888),
     (0x301, 0x8000_0000_0000_1101, false, 0x8000_0000_0000_1101),
-    (0x304, 0, false, 0),
-    (MTVEC, 0, false, u64::MAX - 3),
+    (0x304, 0, false, 8),
+    (MTVEC, 0, false, u64::MAX - 2),
     (MSCRATCH, 0, false, u64::MAX),
     (MEPC, 0, false, u64::MAX - 3),
     (MCAUSE, 0, false, u64::MAX),

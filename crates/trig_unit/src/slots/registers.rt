@@ -1,5 +1,6 @@
 //! The registers that reach the slots
 //! (RISC-V Debug Specification 1.0, "Trigger Select", "Trigger Data 1", "Trigger Data 2" and "Trigger Info").
+//! What `tdata1` and `tinfo` hold goes by the release that the hart follows.
 
 ghost use Rattle.std.specs.Prelude.{◌≡◌, ◌<◌, false, is_some, slice_index_or};
 ghost use Rattle.rv_model.specs.Board.{free_slot};
@@ -8,7 +9,7 @@ ghost use Rattle.trig_unit.specs.Parts.{CountsFit};
 
 use super::{SLOTS, Slots, any_armed};
 use rv_model::register_number::{TDATA1, TDATA2, TINFO, TSELECT};
-use rv_model::{Slot, TINFO_VALUE, Trigger};
+use rv_model::{Slot, Trigger};
 
 /// The bits that `tselect` keeps: the number of a slot.
 const TSELECT_BITS: u64 = 3;
@@ -31,9 +32,13 @@ impl Slots {
     {
         match number {
             TSELECT => Some(u64::from(self.tselect)),
-            TDATA1 => Some(slot_at(&self.slots, self.tselect).trigger.tdata1()),
+            TDATA1 => Some(
+                slot_at(&self.slots, self.tselect)
+                    .trigger
+                    .tdata1(self.version),
+            ),
             TDATA2 => Some(slot_at(&self.slots, self.tselect).tdata2),
-            TINFO => Some(TINFO_VALUE),
+            TINFO => Some(self.version.tinfo()),
             _ => None,
         }
     }
@@ -50,7 +55,7 @@ impl Slots {
             TDATA1 => {
                 let slot = slot_at(&self.slots, self.tselect);
                 self.put(Slot {
-                    trigger: Trigger::from_tdata1(value),
+                    trigger: Trigger::from_tdata1(value, self.version),
                     ..slot
                 });
             }

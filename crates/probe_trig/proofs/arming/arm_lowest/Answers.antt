@@ -2,7 +2,7 @@ use Rattle.std.proofs.Common.{[], ◌∷◌, ◌++◌, Some, None, arith}
 use Rattle.probe_trig.specs.declared.register.TriggerRegister.TheVariants.{Tselect}
 use Rattle.probe_trig.specs.Runs.{armed}
 use Rattle.probe_trig.specs.Transfers.Transfer.{Got}
-use Rattle.probe_trig.proofs.ArmFits.{arms_armed, arms_back, arms_keep, arms_none, arms_seek, armed_did, none_did, sought_behind}
+use Rattle.probe_trig.proofs.ArmFits.{arms_armed, arms_back, arms_keep, arms_none, arms_seek, armed_did, armed_made, none_did, sought_behind, tinfo_of}
 use Rattle.probe_run.proofs.ActLemmas.{if_err}
 use Rattle.probe_trig.proofs.TransferLemmas.{failed_behind, failed_first, made_then}
 use Rattle.probe_trig.proofs.arming.arm_lowest.Goals as goal
@@ -29,13 +29,14 @@ returns-in_err-arm_selected-in-Some-clause-failed g c =
 pub returns-in_err-set_reg-in-Some-clause-failed : goal.returns-in_err-set_reg-in-Some-clause-failed
 returns-in_err-set_reg-in-Some-clause-failed g c =
     let d = rw (c.in-Some.is) at c.in_ok-slot.ensures.did in
+    let tinfo = tinfo_of c.args.what c.args.halted.now.number _ _ c.in_ok-arm_selected-in-Some.ensures.did in
     if_err _ c.from_residual-in_err-set_reg-in-Some.result _ c.from_residual-in_err-set_reg-in-Some.ensures.1
-    (failed_behind _ _ (Got Tselect c.in_ok-kept.kept ∷ (d.transfers ++ armed c.args.what)) _ _ _ _ _ _ _ _
+    (failed_behind _ _ (Got Tselect c.in_ok-kept.kept ∷ (d.transfers ++ armed c.args.what tinfo)) _ _ _ _ _ _ _ _
     (omega (arith, c.reg.ensures.keeps.later, c.seek_free.ensures.keeps.later, c.arm_selected.ensures.keeps.later)) c.set_reg.ensures.keeps.later
-    (made_then c.args.halted.now.number (Got Tselect c.in_ok-kept.kept ∷ d.transfers) (armed c.args.what) _ _ _
+    (made_then c.args.halted.now.number (Got Tselect c.in_ok-kept.kept ∷ d.transfers) (armed c.args.what tinfo) _ _ _
     (sought_behind c.in_ok-kept.kept c.args.halted.now.number _ _ _ (Some c.in-Some.slot) c.in_ok-kept.ensures.made d)
-    c.in_ok-arm_selected-in-Some.ensures.made)
-    (arms_back c.args.what c.in_ok-kept.kept c.in-Some.slot d.transfers d.whole) c.in_err-set_reg-in-Some.ensures.failed)
+    (armed_made c.args.what c.args.halted.now.number _ _ c.in_ok-arm_selected-in-Some.ensures.did))
+    (arms_back c.args.what c.in_ok-kept.kept c.in-Some.slot tinfo d.transfers d.whole) c.in_err-set_reg-in-Some.ensures.failed)
 
 pub returns-in_err-set_reg-in-None-clause-failed : goal.returns-in_err-set_reg-in-None-clause-failed
 returns-in_err-set_reg-in-None-clause-failed g c =
@@ -49,7 +50,7 @@ returns-in_err-set_reg-in-None-clause-failed g c =
 pub returns-in_ok-set_reg-in-Some-clause-did : goal.returns-in_ok-set_reg-in-Some-clause-did
 returns-in_ok-set_reg-in-Some-clause-did g c =
     armed_did c.args.what c.in_ok-kept.kept c.in-Some.slot c.args.halted.now.number _ _ _ _ _ c.in_ok-kept.ensures.made
-    (rw (c.in-Some.is) at c.in_ok-slot.ensures.did) c.in_ok-arm_selected-in-Some.ensures.made c.in_ok-set_reg-in-Some.ensures.made
+    (rw (c.in-Some.is) at c.in_ok-slot.ensures.did) c.in_ok-arm_selected-in-Some.ensures.did c.in_ok-set_reg-in-Some.ensures.made
 
 pub returns-in_ok-set_reg-in-None-clause-did : goal.returns-in_ok-set_reg-in-None-clause-did
 returns-in_ok-set_reg-in-None-clause-did g c =

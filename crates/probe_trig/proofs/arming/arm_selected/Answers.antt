@@ -1,27 +1,21 @@
 use Rattle.std.proofs.Common.{[], ◌∷◌}
-use Rattle.rv_model.specs.TriggerWords.{tdata1_of}
-use Rattle.probe_trig.specs.declared.register.TriggerRegister.TheVariants.{Tdata1}
-use Rattle.probe_trig.specs.Runs.{address_set}
-use Rattle.probe_trig.specs.Transfers.Transfer.{Set}
-use Rattle.probe_trig.specs.SlotRegisters.{address_named, trigger_named}
-use Rattle.probe_trig.proofs.ArmFits.{arms_address, arms_trigger}
+use Rattle.probe_trig.specs.declared.register.TriggerRegister.TheVariants.{Tinfo}
+use Rattle.probe_trig.specs.Transfers.Transfer.{Got}
+use Rattle.probe_trig.proofs.ArmFits.{arms_offered, arms_tinfo, offered_did}
 use Rattle.probe_run.proofs.ActLemmas.{if_err}
-use Rattle.probe_trig.proofs.TransferLemmas.{failed_behind, failed_first, made_then}
+use Rattle.probe_trig.proofs.TransferLemmas.{failed_behind, failed_first}
 use Rattle.probe_trig.proofs.arming.arm_selected.Goals as goal
 
-pub returns-in_err-set_address-clause-failed : goal.returns-in_err-set_address-clause-failed
-returns-in_err-set_address-clause-failed g c =
-    if_err _ c.from_residual.result _ c.from_residual.ensures.1 (failed_first _ _ _ _ _ _ _ _ (arms_address c.args.what) c.in_err-set_address.ensures.failed)
+pub returns-in_err-tinfo-clause-failed : goal.returns-in_err-tinfo-clause-failed
+returns-in_err-tinfo-clause-failed g c =
+    if_err _ c.from_residual.result _ c.from_residual.ensures.1 (failed_first _ _ _ _ _ _ _ _ (arms_tinfo c.args.what) c.in_err-tinfo.ensures.failed)
 
-pub returns-in_err-set_reg-clause-failed : goal.returns-in_err-set_reg-clause-failed
-returns-in_err-set_reg-clause-failed g c =
-    if_err _ c.from_residual-in_err-set_reg.result _ c.from_residual-in_err-set_reg.ensures.1
-    (failed_behind _ _ (address_set (address_named c.args.what)) _ _ _ _ _ _ _ _ c.set_address.ensures.keeps.later c.set_reg.ensures.keeps.later
-    c.in_ok-set_address.ensures.made (arms_trigger c.args.what)
-    (rw (c.tdata1.ensures, c.trigger_for.ensures.is) at c.in_err-set_reg.ensures.failed))
+pub returns-in_err-arm_offered-clause-failed : goal.returns-in_err-arm_offered-clause-failed
+returns-in_err-arm_offered-clause-failed g c =
+    if_err _ c.from_residual-in_err-arm_offered.result _ c.from_residual-in_err-arm_offered.ensures.1
+    (failed_behind _ _ (Got Tinfo c.in_ok-tinfo.tinfo ∷ []) _ _ _ _ _ _ _ _ c.reg.ensures.keeps.later c.arm_offered.ensures.keeps.later
+    c.in_ok-tinfo.ensures.made (arms_offered c.args.what c.in_ok-tinfo.tinfo) c.in_err-arm_offered.ensures.failed)
 
-pub returns-clause-made : goal.returns-clause-made
-returns-clause-made g c =
-    made_then c.args.halted.now.number (address_set (address_named c.args.what))
-    (Set Tdata1 (tdata1_of (trigger_named c.args.what)) ∷ []) _ _ _ c.in_ok-set_address.ensures.made
-    (rw (c.tdata1.ensures, c.trigger_for.ensures.is) at c.in_ok-set_reg.ensures.made)
+pub returns-clause-did : goal.returns-clause-did
+returns-clause-did g c =
+    offered_did c.args.what c.in_ok-tinfo.tinfo c.args.halted.now.number _ _ _ c.in_ok-tinfo.ensures.made c.in_ok-arm_offered.ensures.made

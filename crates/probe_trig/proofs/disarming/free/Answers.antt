@@ -44,7 +44,7 @@ returns-in_err-set_reg-2-clause-failed g c =
     (made_then c.args.halted.now.number (Got Tselect c.in_ok-kept.kept ∷ [])
     (word_read c.args.slot c.in_ok-tdata1.tdata1) _ _ _ c.in_ok-kept.ensures.made c.in_ok-tdata1.ensures.made)
     (frees_set c.args.slot c.in_ok-kept.kept c.in_ok-tdata1.tdata1 (sym c.shows_free.ensures ∙ c.if-shows_free.false))
-    (rw (c.tdata1.ensures) at c.in_err-set_reg-2.ensures.failed))
+    c.in_err-set_reg-2.ensures.failed)
 
 pub returns-in_err-set_reg-3-clause-failed : goal.returns-in_err-set_reg-3-clause-failed
 returns-in_err-set_reg-3-clause-failed g c =
@@ -54,7 +54,7 @@ returns-in_err-set_reg-3-clause-failed g c =
     (made_then c.args.halted.now.number (Got Tselect c.in_ok-kept.kept ∷ [])
     (word_read c.args.slot c.in_ok-tdata1.tdata1 ++ freed false) _ _ _ c.in_ok-kept.ensures.made
     (made_then c.args.halted.now.number (word_read c.args.slot c.in_ok-tdata1.tdata1) (freed false) _ _ _ c.in_ok-tdata1.ensures.made
-    (rw (c.tdata1.ensures) at c.in_ok-set_reg-2.ensures.made)))
+    c.in_ok-set_reg-2.ensures.made))
     (frees_back c.args.slot c.in_ok-kept.kept c.in_ok-tdata1.tdata1 (sym c.shows_free.ensures ∙ c.if-shows_free.false)) c.in_err-set_reg-3.ensures.failed)
 
 pub returns-clause-did : goal.returns-clause-did
@@ -66,5 +66,5 @@ returns-clause-did g c = record {
       (made_then c.args.halted.now.number (word_read c.args.slot c.in_ok-tdata1.tdata1)
       (freed false ++ put_back c.in_ok-kept.kept) _ _ _ c.in_ok-tdata1.ensures.made
       (made_then c.args.halted.now.number (freed false) (put_back c.in_ok-kept.kept) _ _ _
-      (rw (c.tdata1.ensures) at c.in_ok-set_reg-2.ensures.made) c.in_ok-set_reg-3.ensures.made));
+      c.in_ok-set_reg-2.ensures.made c.in_ok-set_reg-3.ensures.made));
 }

@@ -5,6 +5,6 @@ use Rattle.chip_core.proofs.bench.load.make_harts.Given as goal
 
 abbrev pub invariant-loop-id : goal.invariant-loop-id
 invariant-loop-id l = record {
-  harts : l.harts.items ≡ loaded_harts l.id (start_cause l.start);
+  harts : l.harts.items ≡ loaded_harts l.version l.id (start_cause l.start);
   few : vec_len l.harts ≤ l.id;
 }
