@@ -7,7 +7,7 @@ use Rattle.rv_model.specs.declared.size.Size.{Size}
 use Rattle.rv_model.specs.declared.size.Size.TheVariants.{B1}
 use Rattle.rv_model.specs.Board.{Board}
 use Rattle.rv_model.specs.Memory.{is_aligned, loaded, store_answer}
-use Rattle.rv_model.specs.Registers.{csr_read_only}
+use Rattle.rv_model.specs.Registers.{csr_read_only, mip_number}
 use Rattle.rv_model.specs.Size.{count_of}
 use Rattle.debug_model.specs.Tap.{idcode}
 use Rattle.debug_model.specs.declared.command.Command.{Command}
@@ -20,7 +20,7 @@ use Rattle.abstract_debugger.specs.Debugger.{Seen, State, access, act, arming, a
 use Rattle.abstract_debugger.specs.Debugger.{by_store, commands, dumping, first_state, freeing, going, halted_of, halting, is_free_slot, look}
 use Rattle.abstract_debugger.specs.Debugger.{lost_step, most_looks, one, reading, register_line, row_bytes, saying, saying_row, seen_at, sees_ack}
 use Rattle.abstract_debugger.specs.Debugger.{sees_both, sees_halted, shown_registers, slots_shown_at, stepping, stop_line, stop_line_of, unseen, until}
-use Rattle.abstract_debugger.specs.Debugger.{waiting, writing}
+use Rattle.abstract_debugger.specs.Debugger.{mip_line, showing, showing_mip, waiting, writing}
 use Rattle.abstract_debugger.specs.Debugger.Seen.{Absent, Running, Halted}
 use Rattle.abstract_debugger.specs.Laws.{CommandsAreQuiet, Quiet, QuietBoards, SaysQuietly, SessionsSayQuietly}
 use Rattle.abstract_debugger.specs.Lines.{Line}
@@ -245,6 +245,11 @@ says-freeing h slot next c =
 says-seen : (lines : Board → List Line) (next : Plan) → Calm next → Says (see (λ b. saying (lines b) next))
 says-seen lines next c = says-see (λ b. saying (lines b) next) (λ b. says_of (saying (lines b) next) (says-saying (lines b) next c))
 
+says-showing : (h r : ℕ) (next : Plan) → Calm next → Says (showing h r next)
+says-showing h r next c = says-if (r == mip_number) (showing_mip h next) (see (λ b. say (register_line h b r) next))
+    (says-take Access (see (λ b. say (mip_line h b) next)) (says-seen (λ b. mip_line h b ∷ []) next c))
+    (says-seen (λ b. register_line h b r ∷ []) next c)
+
 pub says-resumed : (h : ℕ) (next : Plan) → Calm next → Says (going h (say Line.Resumed next))
 says-resumed h next c = says-going h (say Line.Resumed next) (says-say Line.Resumed next c)
 
@@ -276,12 +281,11 @@ act-calm (command.Wait k) s next f =
     calm-waiting k s.hart (say (Line.NoHart s.hart) (next s)) (say Line.Running (next s)) (stop_line s.hart (next s))
     (says-say (Line.NoHart s.hart) (next s) (f s)) (calm-say Line.Running (next s) (f s)) (says-stop_line s.hart (next s) (f s))
 act-calm command.Regs s next f = calm-halted s.hart (next s) _ (f s) (says-seen (λ b. map (register_line s.hart b) shown_registers) (next s) (f s))
-act-calm (command.Reg r) s next f = calm-halted s.hart (next s) _ (f s) (says-seen (λ b. register_line s.hart b r.0 ∷ []) (next s) (f s))
+act-calm (command.Reg r) s next f = calm-halted s.hart (next s) _ (f s) (says-showing s.hart r.0 (next s) (f s))
 act-calm (command.SetReg r v) s next f = calm-halted s.hart (next s) _ (f s)
-    (says-if (csr_read_only r.0) (say (Line.RegisterRefused r.0) (next s)) (change (WriteReg s.hart r.0 v)
-    (see (λ b. say (register_line s.hart b r.0) (next s))))
-    (says-say (Line.RegisterRefused r.0) (next s) (f s)) (says-change (WriteReg s.hart r.0 v) (see (λ b. say (register_line s.hart b r.0) (next s)))
-    (says-seen (λ b. register_line s.hart b r.0 ∷ []) (next s) (f s))))
+    (says-if (csr_read_only r.0) (say (Line.RegisterRefused r.0) (next s)) (change (WriteReg s.hart r.0 v) (showing s.hart r.0 (next s)))
+    (says-say (Line.RegisterRefused r.0) (next s) (f s)) (says-change (WriteReg s.hart r.0 v) (showing s.hart r.0 (next s))
+    (says-showing s.hart r.0 (next s) (f s))))
 act-calm (command.Read size a count) s next f = calm-path s (next s) (at_aligned a size (next s) (reading s.path count size a (next s))) (f s)
     (calm-aligned a size (next s) (reading s.path count size a (next s)) (f s) (calm-reading s.path count size a (next s) (f s)))
 act-calm (command.Write size a v count) s next f = calm-path s (next s) (at_aligned a size (next s)

@@ -8,7 +8,7 @@ use Rattle.rv_model.specs.declared.size.Size.{Size}
 use Rattle.rv_model.specs.declared.size.Size.TheVariants.{B1}
 use Rattle.rv_model.specs.Board.{Board}
 use Rattle.rv_model.specs.Memory.{is_aligned, loaded, store_answer}
-use Rattle.rv_model.specs.Registers.{csr_read_only}
+use Rattle.rv_model.specs.Registers.{csr_read_only, mip_number}
 use Rattle.rv_model.specs.Size.{count_of}
 use Rattle.debug_model.specs.Tap.{idcode}
 use Rattle.debug_model.specs.declared.command.Command.{Command}
@@ -21,7 +21,7 @@ use Rattle.abstract_debugger.specs.Debugger.{Seen, State, access, act, arming, a
 use Rattle.abstract_debugger.specs.Debugger.{by_store, dumping, freeing, going, halted_of, halting, is_free_slot, look}
 use Rattle.abstract_debugger.specs.Debugger.{lost_step, most_looks, one, reading, register_line, row_bytes, saying, saying_row, seen_at, sees_ack}
 use Rattle.abstract_debugger.specs.Debugger.{sees_both, sees_halted, shown_registers, slots_shown_at, stepping, stop_line, stop_line_of, unseen, until}
-use Rattle.abstract_debugger.specs.Debugger.{waiting, writing}
+use Rattle.abstract_debugger.specs.Debugger.{mip_line, showing, showing_mip, waiting, writing}
 use Rattle.abstract_debugger.specs.Debugger.Seen.{Absent, Running, Halted}
 use Rattle.abstract_debugger.specs.Lines.{Line}
 use Rattle.abstract_debugger.specs.Plan.{Change, Plan, PlanEnd, is_step}
@@ -271,6 +271,13 @@ pub walk-seen : {A : Command → Type 0} {R : Plan → Plan → Type 0} → Walk
     → (lines : Board → List Line) (next more : Plan) → R next more → R (see (λ b. saying (lines b) next)) (see (λ b. saying (lines b) more))
 walk-seen ws lines next more f = ws.sees (λ b. saying (lines b) next) (λ b. saying (lines b) more) (λ b. walk-saying ws (lines b) next more f)
 
+pub walk-showing : {A : Command → Type 0} {R : Plan → Plan → Type 0} → Walks A R
+    → (h r : ℕ) (next more : Plan) → R next more → R (showing h r next) (showing h r more)
+walk-showing ws h r next more f =
+    walk-if ws (r == mip_number) (showing_mip h next) (see (λ b. say (register_line h b r) next)) (showing_mip h more)
+    (see (λ b. say (register_line h b r) more))
+    (ws.takes Access _ _ (walk-seen ws (λ b. mip_line h b ∷ []) next more f)) (walk-seen ws (λ b. register_line h b r ∷ []) next more f)
+
 pub walk-resumed : {A : Command → Type 0} {R : Plan → Plan → Type 0} → Walks A R
     → (h : ℕ) (next more : Plan) → R next more → R (going h (say Line.Resumed next)) (going h (say Line.Resumed more))
 walk-resumed ws h next more f = walk-going ws h (say Line.Resumed next) (say Line.Resumed more) (ws.says Line.Resumed next more f)
@@ -314,14 +321,13 @@ act-walks ws (command.Wait k) s next more allowed f =
     (ws.says (Line.NoHart s.hart) (next s) (more s) (f s)) (ws.says Line.Running (next s) (more s) (f s)) (walk-stop_line ws s.hart (next s) (more s) (f s))
 act-walks ws command.Regs s next more allowed f = walk-halted ws s.hart (next s) _ (more s) _ (f s)
     (walk-seen ws (λ b. map (register_line s.hart b) shown_registers) (next s) (more s) (f s))
-act-walks ws (command.Reg r) s next more allowed f = walk-halted ws s.hart (next s) _ (more s) _ (f s) (walk-seen ws
-    (λ b. register_line s.hart b r.0 ∷ []) (next s) (more s) (f s))
+act-walks ws (command.Reg r) s next more allowed f = walk-halted ws s.hart (next s) _ (more s) _ (f s)
+    (walk-showing ws s.hart r.0 (next s) (more s) (f s))
 act-walks ws (command.SetReg r v) s next more allowed f = walk-halted ws s.hart (next s) _ (more s) _ (f s)
-    (walk-if ws (csr_read_only r.0) (say (Line.RegisterRefused r.0) (next s)) (change (WriteReg s.hart r.0 v) (see (λ b. say
-    (register_line s.hart b r.0) (next s))))
-    (say (Line.RegisterRefused r.0) (more s)) (change (WriteReg s.hart r.0 v) (see (λ b. say (register_line s.hart b r.0) (more s))))
+    (walk-if ws (csr_read_only r.0) (say (Line.RegisterRefused r.0) (next s)) (change (WriteReg s.hart r.0 v) (showing s.hart r.0 (next s)))
+    (say (Line.RegisterRefused r.0) (more s)) (change (WriteReg s.hart r.0 v) (showing s.hart r.0 (more s)))
     (ws.says (Line.RegisterRefused r.0) (next s) (more s) (f s)) (ws.changes (WriteReg s.hart r.0 v) tt _ _
-    (walk-seen ws (λ b. register_line s.hart b r.0 ∷ []) (next s) (more s) (f s))))
+    (walk-showing ws s.hart r.0 (next s) (more s) (f s))))
 act-walks ws (command.Read size a count) s next more allowed f =
     walk-path ws s (next s) (at_aligned a size (next s) (reading s.path count size a (next s))) (more s)
     (at_aligned a size (more s) (reading s.path count size a (more s))) (f s)

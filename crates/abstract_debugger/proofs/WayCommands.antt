@@ -8,7 +8,7 @@ use Rattle.rv_model.specs.declared.size.Size.{Size}
 use Rattle.rv_model.specs.declared.size.Size.TheVariants.{B1}
 use Rattle.rv_model.specs.Board.{Board, Hart}
 use Rattle.rv_model.specs.Memory.{is_aligned, loaded, store_answer}
-use Rattle.rv_model.specs.Registers.{csr_read_only}
+use Rattle.rv_model.specs.Registers.{csr_read_only, mip_number}
 use Rattle.rv_model.specs.Size.{count_of}
 use Rattle.debug_model.specs.Command.{IsWithinRanges}
 use Rattle.debug_model.specs.Tap.{idcode}
@@ -20,7 +20,7 @@ use Rattle.debug_model.specs.declared.point.Point.TheVariants.{Access}
 use Rattle.abstract_debugger.specs.Debugger.{State, access, act, arming, at_aligned, at_halted, at_path, by_load, by_path, by_store}
 use Rattle.abstract_debugger.specs.Debugger.{dumping, freeing, going, halting, one, reading, register_line}
 use Rattle.abstract_debugger.specs.Debugger.{row_bytes, saying, saying_row, shown_registers}
-use Rattle.abstract_debugger.specs.Debugger.{slots_shown_at, stepping, stop_line, writing}
+use Rattle.abstract_debugger.specs.Debugger.{mip_line, showing, showing_mip, slots_shown_at, stepping, stop_line, writing}
 use Rattle.abstract_debugger.specs.Lines.{Line}
 use Rattle.abstract_debugger.specs.Plan.{Plan}
 use Rattle.abstract_debugger.specs.Plan.Change.{WriteReg, WriteMem, EbreakHalts}
@@ -49,6 +49,12 @@ way-saying ws sel way (l ∷ lines) next g = ws.says sel way l (saying lines nex
 way-seen : {G : ℕ → Way → Plan → Type 0} → WayWalks G → (h : ℕ) (lines : Board → List Line) (next : Plan) → G 0 Idle next
     → G h Still (see (λ b. saying (lines b) next))
 way-seen ws h lines next fine = ws.sees h Still (λ b. saying (lines b) next) (λ b. way-saying ws h Still (lines b) next (way_still ws h next fine))
+
+way-showing : {G : ℕ → Way → Plan → Type 0} → WayWalks G → (h r : ℕ) (next : Plan) → G 0 Idle next → G h Still (showing h r next)
+way-showing ws h r next fine =
+    way-if ws h Still (r == mip_number) (showing_mip h next) (see (λ b. say (register_line h b r) next))
+    (ws.takes h Still Access tt (see (λ b. say (mip_line h b) next)) (way-seen ws h (λ b. mip_line h b ∷ []) next fine))
+    (way-seen ws h (λ b. register_line h b r ∷ []) next fine)
 
 -- ---- accesses
 
@@ -192,17 +198,14 @@ way-act ws command.Regs s next in_range f =
     way_halted ws s.hart (next s) (see (λ b. saying (map (register_line s.hart b) shown_registers) (next s))) (f s)
     (way-seen ws s.hart (λ b. map (register_line s.hart b) shown_registers) (next s) (f s))
 way-act ws (command.Reg r) s next in_range f =
-    way_halted ws s.hart (next s) (see (λ b. say (register_line s.hart b r.0) (next s))) (f s)
-    (way-seen ws s.hart (λ b. register_line s.hart b r.0 ∷ []) (next s) (f s))
+    way_halted ws s.hart (next s) (showing s.hart r.0 (next s)) (f s) (way-showing ws s.hart r.0 (next s) (f s))
 way-act ws (command.SetReg r v) s next in_range f =
     way_halted ws s.hart (next s)
-    (if csr_read_only r.0 then say (Line.RegisterRefused r.0) (next s) else change (WriteReg s.hart r.0 v)
-    (see (λ b. say (register_line s.hart b r.0) (next s)))) (f s)
+    (if csr_read_only r.0 then say (Line.RegisterRefused r.0) (next s) else change (WriteReg s.hart r.0 v) (showing s.hart r.0 (next s))) (f s)
     (way-if ws s.hart Still (csr_read_only r.0) (say (Line.RegisterRefused r.0) (next s))
-    (change (WriteReg s.hart r.0 v) (see (λ b. say (register_line s.hart b r.0) (next s))))
+    (change (WriteReg s.hart r.0 v) (showing s.hart r.0 (next s)))
     (ws.says s.hart Still (Line.RegisterRefused r.0) (next s) (way_still ws s.hart (next s) (f s)))
-    (ws.writes_reg s.hart r.0 v (see (λ b. say (register_line s.hart b r.0) (next s)))
-    (way-seen ws s.hart (λ b. register_line s.hart b r.0 ∷ []) (next s) (f s))))
+    (ws.writes_reg s.hart r.0 v (showing s.hart r.0 (next s)) (way-showing ws s.hart r.0 (next s) (f s))))
 way-act ws (command.Read size a count) s next in_range f =
     way-path ws s (next s) (at_aligned a size (next s) (reading s.path count size a (next s))) (f s)
     (λ way g. way-aligned ws s.hart way a size (next s) (reading s.path count size a (next s)) g (way-reading ws s.hart way s.path count size a (next s) g))

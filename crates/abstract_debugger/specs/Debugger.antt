@@ -11,8 +11,8 @@ use Rattle.rv_model.specs.declared.size.Size.TheVariants.{B1}
 use Rattle.rv_model.specs.declared.slot.Slot.{Slot}
 use Rattle.rv_model.specs.declared.version.Version.{Version}
 use Rattle.rv_model.specs.Board.{Board, Hart}
-use Rattle.rv_model.specs.Memory.{is_aligned, loaded, store_answer}
-use Rattle.rv_model.specs.Registers.{csr_read_only, first_x_number, pc_number, reg_value}
+use Rattle.rv_model.specs.Memory.{Memory, is_aligned, loaded, store_answer}
+use Rattle.rv_model.specs.Registers.{csr_read_only, first_x_number, mip_number, mip_value, pc_number, reg_value}
 use Rattle.rv_model.specs.Size.{count_of}
 use Rattle.debug_model.specs.declared.command.Command.{Command}
 use Rattle.debug_model.specs.declared.command.Command.TheVariants as command
@@ -154,6 +154,21 @@ value_here None r = 0
 abbrev pub register_line : ℕ → Board → ℕ → Line
 register_line h b r = Line.Register r (value_here (slice_get b.harts h) r)
 
+-- mip is told by memory, which other harts change: what it holds is that of the board which an access of its own meets
+abbrev pub mip_here : Option Hart → Memory → ℕ
+mip_here (Some hart) m = mip_value hart.core m
+mip_here None m = 0
+
+abbrev pub mip_line : ℕ → Board → Line
+mip_line h b = Line.Register mip_number (mip_here (slice_get b.harts h) b.memory)
+
+abbrev pub showing_mip : ℕ → (next : Plan) → Plan
+showing_mip h next = take Access (see (λ b. say (mip_line h b) next))
+
+-- each other register is shown as the last point left it
+abbrev pub showing : ℕ → ℕ → (next : Plan) → Plan
+showing h r next = if r == mip_number then showing_mip h next else see (λ b. say (register_line h b r) next)
+
 abbrev pub saying : List Line → (next : Plan) → Plan
 saying [] next = next
 saying (l ∷ lines) next = say l (saying lines next)
@@ -268,10 +283,10 @@ act command.Resume s next =
 act (command.Step k) s next = at_halted s.hart (next s) (stepping k s.hart (stop_line s.hart (next s)))
 act (command.Wait k) s next = waiting k s.hart (say (Line.NoHart s.hart) (next s)) (say Line.Running (next s)) (stop_line s.hart (next s))
 act command.Regs s next = at_halted s.hart (next s) (see (λ b. saying (map (register_line s.hart b) shown_registers) (next s)))
-act (command.Reg r) s next = at_halted s.hart (next s) (see (λ b. say (register_line s.hart b r.0) (next s)))
+act (command.Reg r) s next = at_halted s.hart (next s) (showing s.hart r.0 (next s))
 act (command.SetReg r v) s next =
     at_halted s.hart (next s) (if csr_read_only r.0 then say (Line.RegisterRefused r.0) (next s)
-    else change (WriteReg s.hart r.0 v) (see (λ b. say (register_line s.hart b r.0) (next s))))
+    else change (WriteReg s.hart r.0 v) (showing s.hart r.0 (next s)))
 act (command.Read size a count) s next = at_path s (next s) (at_aligned a size (next s) (reading s.path count size a (next s)))
 act (command.Write size a v count) s next =
     at_path s (next s) (at_aligned a size (next s) (writing s.path count size a v (next s) (say (Line.Wrote count) (next s))))

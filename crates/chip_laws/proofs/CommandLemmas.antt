@@ -3,7 +3,7 @@ use Rattle.std.proofs.Common.{◌≡◌, ℕ, ◌==◌, ◌<◌, Bool, true, fal
 use Rattle.rv_model.specs.declared.debug_did.DebugDid.{DebugDid}
 use Rattle.rv_model.specs.declared.debug_did.DebugDid.TheVariants as ended
 use Rattle.rv_model.specs.Board.{Hart}
-use Rattle.rv_model.specs.DebugRegisters.{debug_value}
+use Rattle.rv_model.specs.DebugRegisters.{debug_seen}
 use Rattle.rv_model.specs.Fields.{bit}
 use Rattle.rv_model.specs.Memory.{Memory}
 use Rattle.rv_model.specs.ProgramBuffer.{ran_word}
@@ -61,7 +61,7 @@ behind_same k ended.Exception rest u = failed_same k u
 step_same : (k : Stored) (steps : List Micro) (hart : Hart) (m : Memory) (u : CommandUnit)
     → SameStep k (step_by steps hart m u) (step_by steps hart m (rewritten k u))
 step_same k [] hart m u = record { hart = refl; memory = refl; accessed = refl; unit = refl }
-step_same k (Transfer t ∷ rest) hart m u = transfer_same k (debug_value hart t.regno) t rest hart m u
+step_same k (Transfer t ∷ rest) hart m u = transfer_same k (debug_seen hart m t.regno) t rest hart m u
 step_same k (Run w ∷ rest) hart m u = record { hart = refl; memory = refl; accessed = refl; unit = behind_same k (ran_word w hart m).did rest u }
 
 pub snapshots : (hart : Hart) (m : Memory) (u : CommandUnit) (k : Stored) → SameStep k (micro_step hart m u) (micro_step hart m (rewritten k u))

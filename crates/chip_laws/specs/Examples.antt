@@ -4,7 +4,7 @@
 use Rattle.std.specs.Prelude.{◌≡◌, ℕ, Bool, ◌∷◌, [], List, true, false, Some, None}
 use Rattle.rv_model.specs.declared.version.Version.TheVariants.{V013, V10}
 use Rattle.rv_model.specs.Board.{Hart, halted_by_reset, reset_hart, runs}
-use Rattle.rv_model.specs.Memory.{Memory}
+use Rattle.rv_model.specs.Memory.{Memory, msip_bit}
 use Rattle.debug_model.specs.declared.cmderr.Cmderr.TheVariants as cmderr
 use Rattle.debug_model.specs.declared.data_register.DataRegister.TheVariants.{Dmi}
 use Rattle.debug_model.specs.declared.dmi_op.DmiOp.{DmiOp}
@@ -79,6 +79,10 @@ before_word w = record reset_commands { steps = Run w ∷ Run ebreak_word ∷ []
 abbrev pub at_last_word : ℕ → CommandUnit
 at_last_word w = record reset_commands { steps = Run w ∷ [] }
 
+-- a transfer of mip under way, from the register or to it, in this size
+abbrev pub at_mip : Bool → ℕ → CommandUnit
+at_mip writes size = record reset_commands { steps = Transfer (record no_command { aarsize = size; write = writes; regno = 0x344 }) ∷ [] }
+
 -- a transfer under way that a write of `command` meets
 abbrev pub met_late : CommandUnit
 met_late = command_written 0x00221005 None (record reset_commands { steps = Transfer no_command ∷ [] })
@@ -87,6 +91,10 @@ pub record CommandExamples : Type 0 where
   -- a load and an ebreak make just one access to memory, whatever becomes of the load
   pub load_accesses : (hart : Hart) (m : Memory) → (micro_step hart m (before_word load_word)).accessed ≡ true
   pub ebreak_accesses_not : (hart : Hart) (m : Memory) → (micro_step hart m (at_last_word ebreak_word)).accessed ≡ false
+  -- mip is read from memory, which is an access in either size; a write of it is none
+  pub mip_accesses : (size : ℕ) (hart : Hart) (m : Memory) → (micro_step hart m (at_mip false size)).accessed ≡ true
+  pub mip_shows : (hart : Hart) (m : Memory) → msip_bit m hart.core.id ≡ true → (micro_step hart m (at_mip false 2)).unit.data0 ≡ 8
+  pub mip_written : (size : ℕ) (hart : Hart) (m : Memory) → (micro_step hart m (at_mip true size)).accessed ≡ false
   -- a program buffer that ends without ebreak, here in a word that does nothing, is an exception
   pub without_ebreak : (hart : Hart) (m : Memory) → (micro_step hart m (at_last_word 0x0000000f)).unit.error ≡ cmderr.Exception
   pub with_ebreak : (hart : Hart) (m : Memory) → (micro_step hart m (at_last_word ebreak_word)).unit ≡ reset_commands

@@ -5,7 +5,7 @@ use Rattle.std.proofs.lemmas.Option.{slice_get_within}
 use Rattle.rv_model.specs.declared.cause.Cause.{Cause}
 use Rattle.rv_model.specs.Board.{DebugPart, Hart}
 use Rattle.rv_model.specs.DebugLaws.{SameRequests}
-use Rattle.rv_model.specs.DebugRegisters.{debug_value}
+use Rattle.rv_model.specs.DebugRegisters.{debug_seen}
 use Rattle.rv_model.specs.Memory.{Memory}
 use Rattle.rv_model.specs.Touch.{touch_of}
 use Rattle.rv_model.specs.Turn.{place_by, place_of, some_fires, stops_at_ebreak, turn_outcome}
@@ -207,7 +207,7 @@ transferred_keeps None k rest x m u = same_requests x.debug
 
 step_keeps : (steps : List Micro) (x : Hart) (m : Memory) (u : CommandUnit) → SameRequests x.debug (step_by steps x m u).hart.debug
 step_keeps [] x m u = same_requests x.debug
-step_keeps (Transfer k ∷ rest) x m u = transferred_keeps (debug_value x k.regno) k rest x m u
+step_keeps (Transfer k ∷ rest) x m u = transferred_keeps (debug_seen x m k.regno) k rest x m u
 step_keeps (Run w ∷ rest) x m u = (words_keep w x m).hart.requests
 
 micro_keeps : (x : Hart) (m : Memory) (u : CommandUnit) → SameRequests x.debug (micro_step x m u).hart.debug

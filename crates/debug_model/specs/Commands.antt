@@ -7,9 +7,10 @@ use Rattle.rv_model.specs.declared.cause.Cause.{Cause}
 use Rattle.rv_model.specs.declared.debug_did.DebugDid.{DebugDid}
 use Rattle.rv_model.specs.declared.debug_did.DebugDid.TheVariants as ended
 use Rattle.rv_model.specs.Board.{Hart}
-use Rattle.rv_model.specs.DebugRegisters.{debug_value, debug_refuses, debug_written}
+use Rattle.rv_model.specs.DebugRegisters.{debug_seen, debug_value, debug_refuses, debug_written}
 use Rattle.rv_model.specs.Memory.{Memory}
 use Rattle.rv_model.specs.ProgramBuffer.{Debugged, ran_word}
+use Rattle.rv_model.specs.Registers.{mip_number}
 use Rattle.debug_model.specs.declared.abstract_command.AbstractCommand.{AbstractCommand}
 use Rattle.debug_model.specs.declared.abstractauto.Abstractauto.{Abstractauto}
 use Rattle.debug_model.specs.declared.abstractcs.Abstractcs.{Abstractcs}
@@ -254,12 +255,12 @@ taken_from v k u = if k.aarsize == size_double then record u { data0 = low_half 
 abbrev pub given_to : ℕ → AbstractCommand → CommandUnit → ℕ
 given_to old k u = if k.aarsize == size_double then joined_halves u.data0 u.data1 else joined_halves u.data0 (high_half old)
 
--- by what the register holds; a command with an absent one doesn't start
+-- By what the register is seen to hold; a command with an absent one doesn't start. mip is read from memory, so a read of it is an access, in either size.
 abbrev pub transferred : Option ℕ → AbstractCommand → List Micro → Hart → Memory → CommandUnit → Stepped
 transferred (Some v) k rest hart m u =
     if k.write
     then record { unit = left_with rest u; hart = debug_written hart k.regno (given_to v k u); memory = m; accessed = false }
-    else record { unit = left_with rest (taken_from v k u); hart = hart; memory = m; accessed = false }
+    else record { unit = left_with rest (taken_from v k u); hart = hart; memory = m; accessed = k.regno == mip_number }
 transferred None k rest hart m u = record { unit = left_with rest u; hart = hart; memory = m; accessed = false }
 
 -- behind a word of the program buffer; the last one without ebreak ends the command as an exception
@@ -277,7 +278,7 @@ executed_word d rest u = record { unit = unit_behind d.did rest u; hart = d.hart
 
 abbrev pub step_by : List Micro → Hart → Memory → CommandUnit → Stepped
 step_by [] hart m u = record { unit = u; hart = hart; memory = m; accessed = false }
-step_by (Transfer k ∷ rest) hart m u = transferred (debug_value hart k.regno) k rest hart m u
+step_by (Transfer k ∷ rest) hart m u = transferred (debug_seen hart m k.regno) k rest hart m u
 step_by (Run w ∷ rest) hart m u = executed_word (ran_word w hart m) rest u
 
 -- one micro step of a unit on its hart; nothing where no command is under way

@@ -1,8 +1,7 @@
 //! The micro steps of a command that is under way.
 
 ghost use Rattle.std.specs.Prelude.{◌≡◌, true, false, ◌∷◌, is_some};
-ghost use Rattle.rv_model.specs.DebugRegisters.{debug_value};
-ghost use Rattle.rv_model.specs.Memory.{Memory};
+ghost use Rattle.rv_model.specs.DebugRegisters.{debug_seen};
 ghost use Rattle.debug_model.specs.Commands.{busy, completed, failed, given_to, left_with, micro_step, step_by, taken_from, transferred, unit_behind, went_on};
 ghost use Rattle.dbg_abstract.specs.Steps.{stepped_to};
 
@@ -12,6 +11,7 @@ use crate::steps::take_first;
 use debug_model::{AbstractCommand, Cmderr, Micro};
 use hart_debug::{DebugDid, DebugHart};
 use rv_mem::Ram;
+use rv_model::register_number::MIP;
 
 impl CommandUnit {
     /// One micro step of the command under way, on its hart, which is halted; nothing where none is under way.
@@ -34,10 +34,7 @@ impl CommandUnit {
         ensures { stepped_to self.new hart.new ram.new result ≡ step_by (step ∷ self.old.steps) hart.old ram.old self.old }
     {
         match step {
-            Micro::Transfer(command) => {
-                self.transfer(command, hart);
-                false
-            }
+            Micro::Transfer(command) => self.transfer(command, hart, ram),
             Micro::Run(word) => {
                 let ran = hart.debug_exec(word, ram);
                 self.end_by(ran.did);
@@ -46,20 +43,23 @@ impl CommandUnit {
         }
     }
 
-    /// The transfer between the data words and the register of a command, and what is behind it.
-    fn transfer(&mut self, command: AbstractCommand, hart: &mut DebugHart)
+    /// The transfer between the data words and the register of a command, and what is behind it. Is it an access? A read of mip, which memory tells, is one.
+    fn transfer(&mut self, command: AbstractCommand, hart: &mut DebugHart, ram: &Ram) -> bool
         requires { is_some hart.old.debug.halted ≡ true }
-        ensures { (m : Memory) → stepped_to self.new hart.new m false
-            ≡ transferred (debug_value hart.old command.regno) command self.old.steps hart.old m self.old }
+        ensures { stepped_to self.new hart.new ram.now result
+            ≡ transferred (debug_seen hart.old ram.now command.regno) command self.old.steps hart.old ram.now self.old }
     {
-        if let Some(value) = hart.reg_read(command.regno) {
+        let mut accessed = false;
+        if let Some(value) = hart.reg_read_with(command.regno, ram) {
             if command.write {
                 let _written = hart.reg_write(command.regno, self.given_to(value, command));
             } else {
                 self.take_from(value, command);
+                accessed = command.regno == MIP;
             }
         }
         self.leave();
+        accessed
     }
 
     /// The data words take what a register holds: both, or the lower one alone.
