@@ -4,10 +4,9 @@ use Rattle.std.specs.Prelude.{◌≡◌, ◌⊎◌, ℕ, zero, suc, ◌<◌, ◌
 use Rattle.rv_model.specs.declared.cause.Cause.{Cause}
 use Rattle.debug_model.specs.declared.event.Event.{Event}
 use Rattle.rv_model.specs.declared.version.Version.{Version}
-use Rattle.rv_model.specs.declared.version.Version.TheVariants.{V10}
 use Rattle.rv_model.specs.Board.{Board, Hart, halted_by_reset, reset_harts, runs}
 use Rattle.rv_model.specs.Image.{with_image}
-use Rattle.rv_model.specs.Memory.{IsRamSize, Memory, hart_places, map_of}
+use Rattle.rv_model.specs.Memory.{IsRamSize, Memory, msip_memory}
 use Rattle.debug_model.specs.Chip.{Chip, Inside, Live, no_counts}
 use Rattle.debug_model.specs.Module.{reset_module}
 use Rattle.debug_model.specs.Port.{reset_port}
@@ -18,12 +17,12 @@ use Rattle.debug_model.specs.Transport.{fresh_dtm}
 abbrev pub loaded_harts : Version → ℕ → Option Cause → List Hart
 loaded_harts version harts halted = reset_harts version 0 (replicate harts halted)
 
--- the image from the start of RAM on, and zeros behind it
-abbrev pub loaded_memory : List ℕ → ℕ → Memory
-loaded_memory image ram = record { bytes = with_image (map_of (replicate ram 0)) image; reserved = replicate hart_places None }
+-- an MSIP word of 0 for each hart, the image from the start of RAM on, and zeros behind it
+abbrev pub loaded_memory : List ℕ → ℕ → ℕ → Memory
+loaded_memory image ram harts = record (msip_memory ram harts) { bytes = with_image (msip_memory ram harts).bytes image }
 
 abbrev pub loaded_board : Version → List ℕ → ℕ → ℕ → Option Cause → Board
-loaded_board version image harts ram halted = record { harts = loaded_harts version harts halted; memory = loaded_memory image ram }
+loaded_board version image harts ram halted = record { harts = loaded_harts version harts halted; memory = loaded_memory image ram harts }
 
 abbrev pub loaded_inside : Version → Board → RoundPlan → ℕ → Inside
 loaded_inside version board plan most_points = record {
@@ -60,8 +59,9 @@ pub record RightLimit (most_points : ℕ) : Type 0 where
   pub some : 0 < most_points
   pub most : most_points ≤ 2 ^ 62
 
--- a chip of release 1.0 as loaded, by some image of bytes, size, harts, start, schedule at its start and limit
+-- a chip as loaded, of some release, by some image of bytes, size, harts, start, schedule at its start and limit
 pub record AsLoaded (l : Live) : Type 0 where
+  pub version : Version
   pub image : List ℕ
   pub harts : ℕ
   pub ram : ℕ
@@ -76,4 +76,4 @@ pub record AsLoaded (l : Live) : Type 0 where
   pub rounds : All (λ (r : List Event). length r ≤ 8) plan.rounds
   pub first : plan.place ≡ 0
   pub limit : RightLimit most_points
-  pub is : l ≡ live (loaded_chip V10 (loaded_board V10 image harts ram halted) plan most_points)
+  pub is : l ≡ live (loaded_chip version (loaded_board version image harts ram halted) plan most_points)
