@@ -29,7 +29,9 @@ use Rattle.debug_model.specs.Chip.{Inside, Live, Works, after_event, after_event
 use Rattle.debug_model.specs.Commands.{CommandUnit, command_kept, executed_word, is_auto, is_under_way, left_with, micro_step, program_steps, refusal, serves}
 use Rattle.debug_model.specs.Commands.{is_supported, can_transfer, settled, start, start_unless, started_by, step_by, steps_of, transfer_steps, transferred}
 use Rattle.debug_model.specs.Commands.{unit_behind, went_on, with_word, word_read, word_written, command_written, abstractcs_written, abstractauto_written, busy}
-use Rattle.debug_model.specs.Commands.{written_late, accessed_busy}
+use Rattle.debug_model.specs.Commands.{Stepped, written_late, accessed_busy, taken_from}
+use Rattle.rv_model.specs.DebugRegisters.{debug_seen}
+use Rattle.rv_model.specs.ProgramBuffer.{ran_word}
 use Rattle.debug_model.specs.Course.{Course, Happening}
 use Rattle.debug_model.specs.Course.Course.{nothing, round, captured, updated}
 use Rattle.debug_model.specs.Deeds.{Deed, after_deed, bus_stepped, command_stepped, ran, stepped_by, turned, turned_by}
@@ -294,7 +296,183 @@ behind_steps ended.Next rest u = went_steps rest u
 behind_steps ended.Ebreak rest u = failed_steps rest u
 behind_steps ended.Exception rest u = failed_steps rest (record u { error = Exception })
 
-given_steps : (write : Bool) (rest : List Micro) (u v : CommandUnit) → length (left_with rest u).steps ≤ length rest → length (left_with rest v).steps ≤ length rest
-    → length (cond write (left_with rest u) (left_with rest v)).steps ≤ length rest
-given_steps true rest u v e f = e
-given_steps false rest u v e f = f
+given_steps : (write : Bool) (a b : Stepped) (n : ℕ) → length a.unit.steps ≤ n → length b.unit.steps ≤ n → length (cond write a b).unit.steps ≤ n
+given_steps true a b n e f = e
+given_steps false a b n e f = f
+
+transferred_steps : (seen : Option ℕ) (k : AbstractCommand) (rest : List Micro) (hart : Hart) (m : Memory) (u : CommandUnit)
+    → length (transferred seen k rest hart m u).unit.steps ≤ length rest
+transferred_steps (Some v) k rest hart m u = given_steps k.write _ _ (length rest) (left_steps rest u) (left_steps rest (taken_from v k u))
+transferred_steps None k rest hart m u = left_steps rest u
+
+shorter : (step : Micro) (rest : List Micro) (hart : Hart) (m : Memory) (u : CommandUnit) → length (step_by (step ∷ rest) hart m u).unit.steps ≤ length rest
+shorter (Transfer k) rest hart m u = transferred_steps (debug_seen hart m k.regno) k rest hart m u
+shorter (Run w) rest hart m u = behind_steps (ran_word w hart m).did rest u
+
+-- a micro step leaves one less, where there is the hart to carry it out
+stepped_left : (steps : List Micro) (hart : Option Hart) (s : Site) → steps_in s ≡ steps → left (stepped_by steps hart s) ≤ left s
+unfolding micro_step
+stepped_left [] hart s e = omega arith
+stepped_left (m ∷ ms) None s e = omega arith
+stepped_left (m ∷ ms) (Some hart) s e =
+    let long : left s ≡ suc (length ms) = ap length e in
+    let less : length (step_by (steps_in s) hart s.board.memory s.unit.commands).unit.steps ≤ length ms =
+    subst (λ xs. length (step_by xs hart s.board.memory s.unit.commands).unit.steps ≤ length ms) (sym e)
+    (shorter m ms hart s.board.memory s.unit.commands) in
+    omega arith
+
+stepped_hart : (steps : List Micro) (hart : Option Hart) (s : Site) → (stepped_by steps hart s).unit.hartsel ≡ s.unit.hartsel
+stepped_hart [] hart s = refl
+stepped_hart (m ∷ ms) None s = refl
+stepped_hart (m ∷ ms) (Some hart) s = refl
+
+-- ---- deeds
+
+turned_left : (hart : Option Hart) (h : ℕ) (s : Site) → Moves s (turned_by hart h s)
+turned_left (Some hart) h s = unmoved s _ refl refl
+turned_left None h s = unmoved s s refl refl
+
+deed_moves : (d : Deed) (s : Site) → Moves s (after_deed d s)
+unfolding after_deed
+deed_moves (Turned h) s = turned_left (slice_get s.board.harts h) h s
+deed_moves CommandStepped s =
+    fewer (stepped_left (steps_in s) (selected_hart s) s refl) (stepped_hart (steps_in s) (selected_hart s) s)
+deed_moves BusStepped s = unmoved s _ refl refl
+
+deed_harts : (d : Deed) (s : Site) → harts_of (after_deed d s) ≡ harts_of s
+unfolding after_deed
+deed_harts (Turned h) s = (turn_adds_by (slice_get s.board.harts h) h s refl).added.harts
+deed_harts CommandStepped s = (step_adds (steps_in s) (selected_hart s) s).added.harts
+deed_harts BusStepped s = (bus_adds s).added.harts
+
+pub deed_goes : (d : Deed) (s : Site) → GoesOn s → GoesOn (after_deed d s)
+deed_goes d s g = goes_by s (after_deed d s) (deed_moves d s) (deed_harts d s) g
+
+pub ran_goes : (ds : List Deed) (s : Site) → GoesOn s → GoesOn (ran ds s)
+unfolding ran
+ran_goes [] s g = g
+ran_goes (d ∷ ds) s g = ran_goes ds (after_deed d s) (deed_goes d s g)
+
+pub ran_harts : (ds : List Deed) (s : Site) → harts_of (ran ds s) ≡ harts_of s
+unfolding ran
+ran_harts [] s = refl
+ran_harts (d ∷ ds) s = ran_harts ds (after_deed d s) ∙ deed_harts d s
+
+-- ---- paths
+
+performed_goes : (flight : Option DmiOp) (w : Works) → GoesOn w.site → GoesOn (performed_by flight w).site
+performed_goes (Some op) w g = operation_goes op w.site g
+performed_goes None w g = g
+
+lost_goes : (flight : Option DmiOp) (w : Works) → GoesOn w.site → GoesOn (lost_by flight w).site
+lost_goes (Some op) w g = g
+lost_goes None w g = g
+
+event_goes : (e : Event) (w : Works) → GoesOn w.site → GoesOn (after_event e w).site
+unfolding after_event after_deed
+event_goes (event.Turn h) w g = deed_goes (Turned h) w.site g
+event_goes event.DmiDone w g = performed_goes w.dtm.flight w g
+event_goes event.DmiFail w g = lost_goes w.dtm.flight w g
+event_goes event.CmdStep w g = deed_goes CommandStepped w.site g
+event_goes event.BusDone w g = deed_goes BusStepped w.site g
+
+events_go : (es : List Event) (w : Works) → GoesOn w.site → GoesOn (after_events es w).site
+unfolding after_events
+events_go [] w g = g
+events_go (e ∷ es) w g = events_go es (after_event e w) (event_goes e w g)
+
+events_harts : (es : List Event) (w : Works) → harts_of (after_events es w).site ≡ harts_of w.site
+unfolding after_events
+events_harts [] w = refl
+events_harts (e ∷ es) w = events_harts es (after_event e w) ∙ (event_adds e w).added.harts
+
+pub tick_harts : (i : Inside) → harts_in (tick i) ≡ harts_in i
+unfolding tick
+tick_harts i = events_harts (round_of i.plan) (counted i.works)
+
+pub tick_paced : (i : Inside) → Paced i → Paced (tick i)
+unfolding tick
+tick_paced i p = record {
+  fair = subst (λ n. Fair fair_within n (moved i.plan)) (sym (events_harts (round_of i.plan) (counted i.works)))
+      (fair_moved fair_within (harts_in i) i.plan p.fair);
+  goes_on = events_go (round_of i.plan) (counted i.works) p.goes_on;
+}
+
+pub course_paced : (i j : Inside) (hs : List Happening) → Course i hs j → Paced i → Paced j
+course_paced i j hs nothing p = p
+course_paced i j hs (round before k c) p = tick_paced k (course_paced i k before c p)
+course_paced i j hs (captured r before k c) p = let q = course_paced i k before c p in record { fair = q.fair; goes_on = q.goes_on }
+course_paced i j hs (updated r bits before k c) p = let q = course_paced i k before c p in record { fair = q.fair; goes_on = q.goes_on }
+
+pub course_harts : (i j : Inside) (hs : List Happening) → Course i hs j → harts_in j ≡ harts_in i
+course_harts i j hs nothing = refl
+course_harts i j hs (round before k c) = tick_harts k ∙ course_harts i k before c
+course_harts i j hs (captured r before k c) = course_harts i k before c
+course_harts i j hs (updated r bits before k c) = course_harts i k before c
+
+-- ---- where nothing is under way
+
+pub idle_paced : (i : Inside) → steps_in i.works.site ≡ [] → Fair fair_within (harts_in i) i.plan → Paced i
+idle_paced i idle fair = let none : left i.works.site ≡ 0 = ap length idle in record { fair = fair; goes_on = record { few = omega arith; stands = inl idle } }
+
+pub ready_paced : (i : Inside) → SiteReady i.works.site → Fair fair_within (harts_in i) i.plan → Paced i
+ready_paced i ready fair = idle_paced i ready.unit.commands.idle fair
+
+pub loaded_paced : (l : Live) → AsLoaded l → Fair fair_within (harts_in l.chip.inside) l.chip.inside.plan → Paced l.chip.inside
+loaded_paced l a fair = idle_paced l.chip.inside (subst (λ (m : Live). steps_in m.chip.inside.works.site ≡ []) (sym a.is) refl) fair
+
+-- ---- a command gets on
+
+turned_fewer : (hart : Option Hart) (h : ℕ) (s : Site) → left (turned_by hart h s) ≤ left s
+turned_fewer (Some hart) h s = omega arith
+turned_fewer None h s = omega arith
+
+deed_left : (d : Deed) (s : Site) → left (after_deed d s) ≤ left s
+unfolding after_deed
+deed_left (Turned h) s = turned_fewer (slice_get s.board.harts h) h s
+deed_left CommandStepped s = stepped_left (steps_in s) (selected_hart s) s refl
+deed_left BusStepped s = omega arith
+
+pub ran_left : (ds : List Deed) (s : Site) → left (ran ds s) ≤ left s
+unfolding ran
+ran_left [] s = omega arith
+ran_left (d ∷ ds) s = let first : left (after_deed d s) ≤ left s = deed_left d s in let more = ran_left ds (after_deed d s) in omega arith
+
+some_or_past : (s : Site) (hart : Option Hart) → selected_hart s ≡ hart → s.unit.hartsel < harts_of s → hart ≢ None
+some_or_past s (Some hart) e below = λ none. cc
+some_or_past s None e below = elim (slice_get_cases s.board.harts s.unit.hartsel).1 [
+  | inl found ↦ absurd (none-some found.0 (sym e ∙ found.2))
+  | inr past ↦ let out : harts_of s ≤ s.unit.hartsel = past.0 in absurd (omega arith)
+]
+
+stepped_fewer : (steps : List Micro) (hart : Option Hart) (s : Site) → steps_in s ≡ steps → selected_hart s ≡ hart
+    → (steps ≡ []) ⊎ (s.unit.hartsel < harts_of s) → left (stepped_by steps hart s) ≤ left s - 1
+unfolding micro_step
+stepped_fewer [] hart s e f stands = let none : left s ≡ 0 = ap length e in omega arith
+stepped_fewer (m ∷ ms) None s e f (inl none) = absurd (let no : ⊥ = cc in no)
+stepped_fewer (m ∷ ms) None s e f (inr below) = absurd (some_or_past s None f below refl)
+stepped_fewer (m ∷ ms) (Some hart) s e f stands =
+    let long : left s ≡ suc (length ms) = ap length e in
+    let less : length (step_by (steps_in s) hart s.board.memory s.unit.commands).unit.steps ≤ length ms =
+    subst (λ xs. length (step_by xs hart s.board.memory s.unit.commands).unit.steps ≤ length ms) (sym e)
+    (shorter m ms hart s.board.memory s.unit.commands) in
+    omega arith
+
+pub command_fewer : (s : Site) → GoesOn s → left (command_stepped s) ≤ left s - 1
+command_fewer s g = stepped_fewer (steps_in s) (selected_hart s) s refl refl g.stands
+
+-- deeds among which is a micro step leave one less
+pub ran_fewer : (ds : List Deed) (s : Site) → GoesOn s → Contains ds CommandStepped → left (ran ds s) ≤ left s - 1
+unfolding ran after_deed
+ran_fewer [] s g (n, below, is) = absurd (omega arith)
+ran_fewer (CommandStepped ∷ ds) s g c =
+    let one : left (command_stepped s) ≤ left s - 1 = command_fewer s g in
+    let more : left (ran ds (command_stepped s)) ≤ left (command_stepped s) = ran_left ds (command_stepped s) in
+    omega arith
+ran_fewer (Turned h ∷ ds) s g (zero, below, is) = absurd (let no : ⊥ = cc in no)
+ran_fewer (Turned h ∷ ds) s g (suc n, below, is) =
+    let fewer : left (ran ds (turned h s)) ≤ left (turned h s) - 1 = ran_fewer ds (turned h s) (deed_goes (Turned h) s g) (n, omega arith, is) in
+    let first : left (turned h s) ≤ left s = deed_left (Turned h) s in
+    omega arith
+ran_fewer (BusStepped ∷ ds) s g (zero, below, is) = absurd (let no : ⊥ = cc in no)
+ran_fewer (BusStepped ∷ ds) s g (suc n, below, is) = ran_fewer ds (bus_stepped s) (deed_goes BusStepped s g) (n, omega arith, is)
