@@ -422,6 +422,27 @@ pub spent_fresh : (scans clocks least most row : ℕ) (old new : ScanSeen) → S
     → SpentWithin scans clocks least most 0 old new
 spent_fresh scans clocks least most row old new u = record { told = fresh_told old.fixed.slack scans clocks least most row old.far new.far u.told }
 
+costs_within : (slack : Option ℕ) (a p n m i j busy : ℕ) → a ≤ n → p ≤ m → Costs slack a p i j busy → Costs slack n m i j busy
+costs_within None a p n m i j busy few clocks_few e = tt
+costs_within (Some s) a p n m i j busy few clocks_few e = let most : a * s ≤ n * s = mul-le-mul_right s few in omega (arith, most, clocks_few, e)
+
+more_told : (slack : Option ℕ) (a p n m least most row : ℕ) (old new : Option Far) → a ≤ n → p ≤ m → WhereTold (Spent slack a p least most row) old new
+    → WhereTold (Spent slack n m least most row) old new
+more_told slack a p n m least most row None new few clocks_few u = u
+more_told slack a p n m least most row (Some f) new few clocks_few u = record {
+  far = u.far;
+  is = u.is;
+  more = u.more;
+  rose = costs_within slack a p n m _ _ _ few clocks_few u.rose;
+  up = u.up;
+  calm = u.calm;
+}
+
+pub spent_more : (a p n m least most row : ℕ) (old new : ScanSeen) → a ≤ n → p ≤ m → SpentWithin a p least most row old new
+    → SpentWithin n m least most row old new
+spent_more a p n m least most row old new few clocks_few u =
+    record { told = more_told old.fixed.slack a p n m least most row old.far new.far few clocks_few u.told }
+
 pub spent_as : (scans clocks least least' most most' row : ℕ) (old new : ScanSeen) → least ≡ least' → most ≡ most'
     → SpentWithin scans clocks least most row old new → SpentWithin scans clocks least' most' row old new
 spent_as scans clocks least least' most most' row old new e f u =

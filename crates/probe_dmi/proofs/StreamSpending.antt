@@ -27,6 +27,13 @@ waits_few operations = by (nat_lt 1 operations)
     by true = omega arith
     by false = omega arith
 
+pub waits_pace : (operations clocks : ℕ) → 1 < operations → clocks ≤ 24 → clocks ≤ waits_most operations
+waits_pace operations clocks several few = by (nat_lt 1 operations) refl
+  where
+    by : (b : Bool) → nat_lt 1 operations ≡ b → clocks ≤ cond b 24 0
+    by true e = few
+    by false e = let one : operations ≤ 1 = ltb-false 1 operations e in absurd (omega (arith, one, several))
+
 pauses_few : (n : ℕ) → pauses n ≤ 1
 pauses_few zero = omega arith
 pauses_few (suc n) = omega arith
@@ -50,14 +57,6 @@ begun_by : (several : Bool) → (2 ≤ scans_by several 0 0) × (17 ≤ clocks_b
 unfolding scans_by clocks_by
 begun_by true = (omega arith, omega arith)
 begun_by false = (omega arith, omega arith)
-
-pub begun_scans : (operations : ℕ) → 2 ≤ scans_spent operations 0 0
-unfolding scans_spent
-begun_scans operations = (begun_by (nat_lt 1 operations)).0
-
-pub begun_clocks : (operations : ℕ) → 17 ≤ clocks_spent operations 0 0
-unfolding clocks_spent
-begun_clocks operations = (begun_by (nat_lt 1 operations)).1
 
 -- ---- the next was carried
 
@@ -139,3 +138,14 @@ last_scans operations taken some few = (last_by (nat_lt 1 operations) operations
 pub last_clocks : (operations taken : ℕ) → 1 ≤ operations → taken ≤ operations → clocks_spent operations (taken + 1) 0 + 9 ≤ 118 * operations
 unfolding clocks_spent
 last_clocks operations taken some few = (last_by (nat_lt 1 operations) operations taken refl some few).1
+
+-- ---- with none taken yet
+
+-- of a list, less itself
+pub none_scans : (operations : ℕ) → 2 ≤ scans_spent operations (operations - operations) 0
+unfolding scans_spent
+none_scans operations = let none : operations - operations ≡ 0 = omega arith in rw none (begun_by (nat_lt 1 operations)).0
+
+pub none_clocks : (operations : ℕ) → 17 ≤ clocks_spent operations (operations - operations) 0
+unfolding clocks_spent
+none_clocks operations = let none : operations - operations ≡ 0 = omega arith in rw none (begun_by (nat_lt 1 operations)).1
