@@ -82,7 +82,7 @@ journal_count (p ∷ ps) b = journal_count ps (after_point p b) ∙ point_count 
 
 -- ---- turns
 
-turn_adds_by : (o : Option Hart) (h : ℕ) (s : Site) → slice_get s.board.harts h ≡ o
+pub turn_adds_by : (o : Option Hart) (h : ℕ) (s : Site) → slice_get s.board.harts h ≡ o
     → Adds (offered_by (length s.board.harts) (event.Turn h)) s (turned_by o h s)
 unfolding turns_of
 turn_adds_by (Some hart) h s here =
@@ -193,7 +193,7 @@ write_adds Sbdata1 v s = written_adds_by s.unit.active Sbdata1 v s
 write_adds Haltsum0 v s = written_adds_by s.unit.active Haltsum0 v s
 write_adds Nothing v s = written_adds_by s.unit.active Nothing v s
 
-operation_adds : (op : DmiOp) (s : Site) → Adds [] s (operated op s)
+pub operation_adds : (op : DmiOp) (s : Site) → Adds [] s (operated op s)
 operation_adds (Read a) s = read_adds_by s.unit.active (register_at a) s
 operation_adds (Write a v) s = write_adds (register_at a) v s
 
@@ -212,7 +212,7 @@ unfolding turns_of
 access_quiet true = record { turns = refl; few = omega arith }
 access_quiet false = record { turns = refl; few = omega arith }
 
-step_adds : (steps : List Micro) (o : Option Hart) (s : Site) → Adds [] s (stepped_by steps o s)
+pub step_adds : (steps : List Micro) (o : Option Hart) (s : Site) → Adds [] s (stepped_by steps o s)
 step_adds [] o s = still s s refl refl
 step_adds (m ∷ ms) None s = still s s refl refl
 step_adds (m ∷ ms) (Some hart) s =
@@ -220,7 +220,7 @@ step_adds (m ∷ ms) (Some hart) s =
     let few : _ ≤ 1 = quiet.few in
     adds [] (access_points _) s _ refl quiet.turns (omega arith) (length-set s.board.harts s.unit.hartsel _)
 
-bus_adds : (s : Site) → Adds [] s (bus_stepped s)
+pub bus_adds : (s : Site) → Adds [] s (bus_stepped s)
 bus_adds s =
     let quiet = access_quiet _ in
     let few : _ ≤ 1 = quiet.few in

@@ -3,6 +3,7 @@ pub mod PathLemmas
 pub mod ModuleLemmas
 pub mod ExampleLemmas
 pub mod Events
+pub mod Pace
 pub mod Turns
 pub mod Timing
 pub mod TapLemmas

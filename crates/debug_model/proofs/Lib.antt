@@ -4,5 +4,6 @@ pub mod JournalLemmas
 pub mod LoadedHarts
 pub mod ManyLemmas
 pub mod RegisterLemmas
+pub mod RiseLemmas
 pub mod Rounds
 pub mod WireLemmas

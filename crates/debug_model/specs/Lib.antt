@@ -15,8 +15,10 @@ pub mod Module
 pub mod ModuleWords
 pub mod Net
 pub mod Offered
+pub mod Pacing
 pub mod Port
 pub mod Registers
+pub mod Rises
 pub mod Scan
 pub mod Schedule
 pub mod ScriptArguments

@@ -33,12 +33,12 @@ stuck_launches Clear op stuck = absurd (stuck refl)
 stuck_launches Failed op stuck = refl
 stuck_launches Busy op stuck = refl
 
-stuck_launched : (s : Sticky) (op : Option DmiOp) (d : Dtm) → s ≢ Clear → launched s op d ≡ d
+pub stuck_launched : (s : Sticky) (op : Option DmiOp) (d : Dtm) → s ≢ Clear → launched s op d ≡ d
 stuck_launched Clear op d stuck = absurd (stuck refl)
 stuck_launched Failed op d stuck = refl
 stuck_launched Busy op d stuck = refl
 
-stuck_keeps : (bits : List Bool) (d : Dtm) → d.sticky ≢ Clear → Keeps Dmi bits d
+pub stuck_keeps : (bits : List Bool) (d : Dtm) → d.sticky ≢ Clear → Keeps Dmi bits d
 unfolding updated_dtm
 stuck_keeps bits d stuck =
     let op = operation_of (dmi_of (number_of bits)) in

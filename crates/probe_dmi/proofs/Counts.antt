@@ -53,11 +53,11 @@ unfolding ticks
 ticks_busy zero j = refl
 ticks_busy (suc n) j = ticks_busy n (tick j) ∙ tick_busy j
 
-busy_found : (found : Bool) (k : Counts) → found ≡ true → (busy_counted found k).dmi_busy ≡ k.dmi_busy + 1
+pub busy_found : (found : Bool) (k : Counts) → found ≡ true → (busy_counted found k).dmi_busy ≡ k.dmi_busy + 1
 busy_found true k e = refl
 busy_found false k e = absurd (let no : ⊥ = cc in no)
 
-busy_unfound : (found : Bool) (k : Counts) → found ≡ false → (busy_counted found k).dmi_busy ≡ k.dmi_busy
+pub busy_unfound : (found : Bool) (k : Counts) → found ≡ false → (busy_counted found k).dmi_busy ≡ k.dmi_busy
 busy_unfound true k e = absurd (let no : ⊥ = cc in no)
 busy_unfound false k e = refl
 
@@ -76,13 +76,13 @@ scan_unfound before between behind bits r i found =
 
 -- ---- operations that were lost
 
-pub losses : List Happening → ℕ
+unfoldable pub losses : List Happening → ℕ
 losses [] = 0
 losses (Launched op ∷ hs) = losses hs
 losses (Performed op result ∷ hs) = losses hs
 losses (Lost op ∷ hs) = losses hs + 1
 
-losses-append : (hs ks : List Happening) → losses (hs ++ ks) ≡ losses hs + losses ks
+pub losses-append : (hs ks : List Happening) → losses (hs ++ ks) ≡ losses hs + losses ks
 unfolding losses
 losses-append [] ks = omega arith
 losses-append (Launched op ∷ hs) ks = losses-append hs ks
@@ -130,7 +130,7 @@ launch_losses sticky.Clear None = refl
 launch_losses sticky.Failed op = refl
 launch_losses sticky.Busy op = refl
 
-update_losses : (r : DataRegister) (bits : List Bool) (d : Dtm) → losses (in_update r bits d) ≡ 0
+pub update_losses : (r : DataRegister) (bits : List Bool) (d : Dtm) → losses (in_update r bits d) ≡ 0
 unfolding losses
 update_losses Dmi bits d = launch_losses d.sticky (operation_of (dmi_of (number_of bits)))
 update_losses Dtmcs bits d = refl

@@ -20,9 +20,9 @@ use Rattle.chip_laws.proofs.StickyRounds.{tick_sticky}
 -- ---- nothing in flight
 
 -- nothing happens, and the transport stays as it is
-record Quiet (happened : List Happening) (old new : Dtm) : Type 0 where
-  none : happened ≡ []
-  same : new ≡ old
+pub record Quiet (happened : List Happening) (old new : Dtm) : Type 0 where
+  pub none : happened ≡ []
+  pub same : new ≡ old
 
 done_quiet : (f : Option DmiOp) (w : Works) → f ≡ None → Quiet (performs f w.site) w.dtm (performed_by f w).dtm
 done_quiet None w e = record { none = refl; same = refl }
@@ -32,7 +32,7 @@ lost_quiet : (f : Option DmiOp) (w : Works) → f ≡ None → Quiet (loses f) w
 lost_quiet None w e = record { none = refl; same = refl }
 lost_quiet (Some op) w e = absurd (let no : ⊥ = cc in no)
 
-event_quiet : (e : Event) (w : Works) → w.dtm.flight ≡ None → Quiet (in_event e w) w.dtm (after_event e w).dtm
+pub event_quiet : (e : Event) (w : Works) → w.dtm.flight ≡ None → Quiet (in_event e w) w.dtm (after_event e w).dtm
 unfolding after_event
 event_quiet (Turn h) w none = record { none = refl; same = refl }
 event_quiet DmiDone w none = done_quiet w.dtm.flight w none
@@ -40,7 +40,7 @@ event_quiet DmiFail w none = lost_quiet w.dtm.flight w none
 event_quiet CmdStep w none = record { none = refl; same = refl }
 event_quiet BusDone w none = record { none = refl; same = refl }
 
-events_quiet : (es : List Event) (w : Works) → w.dtm.flight ≡ None → Quiet (in_events es w) w.dtm (after_events es w).dtm
+pub events_quiet : (es : List Event) (w : Works) → w.dtm.flight ≡ None → Quiet (in_events es w) w.dtm (after_events es w).dtm
 unfolding in_events after_events
 events_quiet [] w none = record { none = refl; same = refl }
 events_quiet (e ∷ es) w none =
@@ -48,7 +48,7 @@ events_quiet (e ∷ es) w none =
     let rest = events_quiet es (after_event e w) (ap (λ (d : Dtm). d.flight) first.same ∙ none) in
     record { none = ap (λ xs. xs ++ in_events es (after_event e w)) first.none ∙ rest.none; same = rest.same ∙ first.same }
 
-tick_quiet : (j : Inside) → (dtm_of j).flight ≡ None → Quiet (in_round j) (dtm_of j) (dtm_of (tick j))
+pub tick_quiet : (j : Inside) → (dtm_of j).flight ≡ None → Quiet (in_round j) (dtm_of j) (dtm_of (tick j))
 unfolding tick
 tick_quiet j none = events_quiet (round_of j.plan) (counted j.works) none
 

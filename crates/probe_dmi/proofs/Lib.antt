@@ -1,4 +1,6 @@
 pub mod Asking
+pub mod Bounds
+pub mod Calm
 pub mod Carrying
 pub mod Conditions
 pub mod Counts
@@ -6,11 +8,15 @@ pub mod Courses
 pub mod Flight
 pub mod Heard
 pub mod ManyHeard
+pub mod Pacing
 pub mod Places
 pub mod Readings
+pub mod Rising
 pub mod Scans
+pub mod Spending
 pub mod Stages
 pub mod StreamEnds
+pub mod StreamSpending
 pub mod Streams
 pub mod Told
 pub mod Updates

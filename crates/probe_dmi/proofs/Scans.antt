@@ -1,5 +1,5 @@
 -- Scans of a register laid end to end: the rounds of a reset and of an instruction's path go before those of the scan.
-use Rattle.std.proofs.Common.{◌≡◌, ◌∙◌, ◌+◌, ℕ, List, Bool, Option, Some, None, refl, sym, ap, subst}
+use Rattle.std.proofs.Common.{◌≡◌, ◌∙◌, ◌+◌, ℕ, List, Bool, Option, Some, None, refl, sym, ap, subst, arith}
 use Rattle.debug_model.proofs.Rounds.{ticks_join}
 use Rattle.jt_base.specs.BitList.{bits_of, number_of}
 use Rattle.debug_model.specs.declared.data_register.DataRegister.{DataRegister}
@@ -128,6 +128,8 @@ scan_at slack r bits out f new p n e s d = record {
   before = n + d.before;
   between = d.between;
   behind = d.behind;
+  shifts = d.shifts;
+  least = omega (arith, d.least);
   out_is = d.out_is ∙ ap (λ q. dr_out bits q (ticks d.before (chip_of p).inside)) s ∙ ap (λ j. dr_out bits r (ticks d.before j)) e
       ∙ ap (λ j. dr_out bits r j) (ticks_join n d.before (chip_of f).inside);
   passed = ap (λ q. dr_inside d.before d.between d.behind bits q (chip_of p).inside) s ∙ ap (λ j. dr_inside d.before d.between d.behind bits r j) e
@@ -168,6 +170,8 @@ word_at r q bits value f mid new m p =
         before = x.before;
         between = x.between;
         behind = x.behind + p.rounds;
+        shifts = x.shifts;
+        least = omega (arith, x.least);
         out_is = x.out_is;
         passed = p.passed ∙ ap (ticks p.rounds) x.passed ∙ ticks_join x.behind p.rounds _;
       };

@@ -106,11 +106,11 @@ wait_captured r before between op i j w =
     wait_ticks between op i (capture r (ticks before j)) (wait_capture r op i (ticks before j) (wait_ticks before op i j w))
 
 -- as long as these bits, with an update that spares what is awaited
-record Sparing (r : DataRegister) (bits : List Bool) (j : Inside) : Type 0 where
+pub record Sparing (r : DataRegister) (bits : List Bool) (j : Inside) : Type 0 where
   left : (m : Inside) → dr_stays bits r m ≡ bits
   spares : (before between : ℕ) → Spares r bits (dtm_of (ticks between (capture r (ticks before j))))
 
-nop_sparing : (j : Inside) → Sparing Dmi (dmi_bits nop) j
+pub nop_sparing : (j : Inside) → Sparing Dmi (dmi_bits nop) j
 nop_sparing j = record { left = dmi_left nop; spares = λ before between. spares Dmi (dmi_bits nop) _ (nop_keeps _) }
 
 busy_still : (before between : ℕ) (j : Inside) → (dtm_of j).sticky ≡ Busy → (dtm_of (ticks between (capture Dtmcs (ticks before j)))).sticky ≡ Busy
@@ -119,7 +119,7 @@ busy_still before between j busy = ticks_sticky between (capture Dtmcs (ticks be
 reset_sparing : (j : Inside) → (dtm_of j).sticky ≡ Busy → Sparing Dtmcs reset_bits j
 reset_sparing j busy = record { left = dtmcs_left; spares = λ before between. reset_spares _ (busy_still before between j busy) }
 
-wait_scan : (r : DataRegister) (bits : List Bool) (op : DmiOp) (i j : Inside) → Sparing r bits j → Waiting op i j → (before between behind : ℕ)
+pub wait_scan : (r : DataRegister) (bits : List Bool) (op : DmiOp) (i j : Inside) → Sparing r bits j → Waiting op i j → (before between behind : ℕ)
     → Waiting op i (dr_inside before between behind bits r j)
 wait_scan r bits op i j h w before between behind =
     let n = ticks between (capture r (ticks before j)) in
@@ -230,7 +230,7 @@ nop_sticky before between behind j =
 pub finds_is : (s t : Sticky) (f g : Option DmiOp) → s ≡ t → f ≡ g → finds_busy s f ≡ finds_busy t g
 finds_is s t f g d e = cc
 
-settle_from : (between behind : ℕ) (hs : List Happening) (v : ℕ) (i m : Inside) → Settled hs v i m
+pub settle_from : (between behind : ℕ) (hs : List Happening) (v : ℕ) (i m : Inside) → Settled hs v i m
     → Settled hs v i (dr_inside 0 between behind (dmi_bits nop) Dmi m)
 settle_from between behind hs v i m s = settle_scan Dmi (dmi_bits nop) nop_harmless 0 between behind hs v i m s
 

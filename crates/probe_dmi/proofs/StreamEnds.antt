@@ -1,5 +1,5 @@
 -- Several operations on a told chip: the last result, and what a fault or too many busy answers leave.
-use Rattle.std.proofs.Common.{◌≡◌, ◌≢◌, ◌∙◌, ◌+◌, ◌≤◌, ◌<◌, ◌-◌, ℕ, List, [], ◌∷◌, ◌++◌, length, drop, take, map, All, if◌then◌else◌, length-append}
+use Rattle.std.proofs.Common.{◌≡◌, ◌≢◌, ◌∙◌, ◌+◌, ◌≤◌, ◌<◌, ◌-◌, ◌*◌, ℕ, List, [], ◌∷◌, ◌++◌, length, drop, take, map, All, if◌then◌else◌, length-append}
 use Rattle.std.proofs.Common.{length-drop, Bool, true, false, Option, Some, None, IfSome, refl, sym, ap, subst, arith, append-nil}
 use Rattle.std.proofs.lemmas.List.{take_all}
 use Rattle.std.proofs.lemmas.List.Elements.{All-head}
@@ -25,6 +25,9 @@ use Rattle.probe_dmi.proofs.Courses.{one_more, one_more_asked, performed-all, wi
 use Rattle.probe_dmi.proofs.Flight.{Settled, Waiting}
 use Rattle.probe_dmi.proofs.Places.{Place, ReachedAll, place_part, place_reached, reached_one}
 use Rattle.probe_dmi.proofs.Places.Place.{none_awaited, one_awaited}
+use Rattle.debug_model.specs.Kept.{ScanSeen}
+use Rattle.probe_dmi.proofs.Spending.{SpentWithin}
+use Rattle.probe_dmi.proofs.StreamSpending.{clocks_spent, scans_spent}
 use Rattle.probe_dmi.proofs.Stages.{Sent, ready_op, reset_count, reset_part, reset_wait}
 use Rattle.probe_dmi.proofs.Streams.{StillStreaming, Streaming, carried_at, cut_of, more_results, still_then, stream_on, stream_then}
 use Rattle.probe_dmi.proofs.Told.{at_passed, clean_at, false_is_true, heard_is, other_op}
@@ -309,3 +312,17 @@ room_on flight value results results' xs total kept_is some room =
 pub room_done : (flight : Bool) (value : ℕ) (results results' : List ℕ) (n total : ℕ) → results' ≡ kept flight value results → flight ≡ true → n < 1
     → length results + (if flight then 1 else 0) + n ≡ total → length results' ≡ total
 room_done flight value results results' n total kept_is one none room = omega (arith, room, none, ap (length {A = ℕ}) kept_is, length-kept flight value results)
+
+-- what was spent, with one operation fewer left
+pub spent_on : (ops rest left : List DmiOp) (old new : ScanSeen) → 1 ≤ length rest → left ≡ drop 1 rest → length rest ≤ length ops
+    → SpentWithin (scans_spent (length ops) ((length ops - length rest) + 1) 0) (clocks_spent (length ops) ((length ops - length rest) + 1) 0)
+      (46 * (length ops - length rest) + 46) ((length ops - length rest) + 1) 0 old new
+    → SpentWithin (scans_spent (length ops) (length ops - length left) 0) (clocks_spent (length ops) (length ops - length left) 0)
+      (46 * (length ops - length left)) (length ops - length left) 0 old new
+spent_on ops rest left old new some is room u =
+    let long : length left ≡ length rest - 1 = ap length is ∙ length-drop 1 rest in
+    let more : (length ops - length rest) + 1 ≡ length ops - length left = omega arith in
+    let least : 46 * (length ops - length rest) + 46 ≡ 46 * (length ops - length left) = omega (arith, more) in
+    subst (λ n. SpentWithin (scans_spent (length ops) n 0) (clocks_spent (length ops) n 0) (46 * (length ops - length left)) n 0 old new) more
+    (subst (λ n. SpentWithin (scans_spent (length ops) ((length ops - length rest) + 1) 0) (clocks_spent (length ops) ((length ops - length rest) + 1) 0) n
+      ((length ops - length rest) + 1) 0 old new) least u)

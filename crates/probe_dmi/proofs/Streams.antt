@@ -1,5 +1,5 @@
 -- Several operations on a told chip, call by call: where their loop stands, and what each way out of it leaves.
-use Rattle.std.proofs.Common.{◌≡◌, ◌∙◌, ◌+◌, ◌≤◌, ℕ, List, [], ◌∷◌, ◌++◌, ◌%◌, map, Bool, true, false, Option, Some, None, refl, sym, ap, subst, arith}
+use Rattle.std.proofs.Common.{◌≡◌, ◌∙◌, ◌+◌, ◌≤◌, ℕ, List, [], ◌∷◌, ◌++◌, ◌%◌, map, Bool, true, false, Option, Some, None, IfSome, refl, sym, ap, subst, arith}
 use Rattle.std.proofs.lemmas.List.{map-append}
 use Rattle.chip_laws.proofs.PathLemmas.{site_path}
 use Rattle.debug_model.specs.declared.data_register.DataRegister.TheVariants.{Dmi}
@@ -69,6 +69,11 @@ pub still_then : (Q T : Chip → Option Far → Type 0) (ops : List DmiOp) (resu
     → WhereTold (StillStreaming ops results left flight busy) old mid → WhereTold Q mid new → WhereTold T old new
 still_then Q T ops results left flight busy None mid new step u q = subst (λ m. WhereTold Q m new) u q
 still_then Q T ops results left flight busy (Some f) mid new step u q = step f u (subst (λ m. WhereTold Q m new) u.is q)
+
+pub streaming_clear : (ops : List DmiOp) (results : List ℕ) (left : List DmiOp) (flight : Bool) (busy : ℕ) (old new : Option Far)
+    → WhereTold (Streaming ops results left flight busy) old new → IfSome new (λ f. (dtm_of (chip_of f).inside).sticky ≡ Clear)
+streaming_clear ops results left flight busy None new u = subst (λ t. IfSome t (λ f. (dtm_of (chip_of f).inside).sticky ≡ Clear)) (sym u) tt
+streaming_clear ops results left flight busy (Some f) new u = subst (λ t. IfSome t (λ f. (dtm_of (chip_of f).inside).sticky ≡ Clear)) (sym u.is) u.clear
 
 -- ---- what a fault leaves
 

@@ -57,6 +57,11 @@ again_then : (Q T : Chip → Option Far → Type 0) (op : DmiOp) (taken : Bool) 
 again_then Q T op taken busy None mid new step u q = subst (λ m. WhereTold Q m new) u q
 again_then Q T op taken busy (Some f) mid new step u q = step f u (subst (λ m. WhereTold Q m new) u.is q)
 
+pub underway_clear : (op : DmiOp) (taken : Bool) (busy : ℕ) (old new : Option Far) → WhereTold (Underway op taken busy) old new
+    → IfSome new (λ f. (dtm_of (chip_of f).inside).sticky ≡ Clear)
+underway_clear op taken busy None new u = subst (λ t. IfSome t (λ f. (dtm_of (chip_of f).inside).sticky ≡ Clear)) (sym u) tt
+underway_clear op taken busy (Some f) new u = subst (λ t. IfSome t (λ f. (dtm_of (chip_of f).inside).sticky ≡ Clear)) (sym u.is) u.clear
+
 -- ---- its beginning
 
 pub settled_first : (c : Chip) → DtmClean (dtm_of c.inside) → Settled [] (dtm_of c.inside).value c.inside c.inside

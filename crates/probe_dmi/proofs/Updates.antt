@@ -52,7 +52,7 @@ cleared_clear Clear d e = refl
 cleared_clear Failed d e = absurd (let no : ⊥ = cc in no)
 cleared_clear Busy d e = absurd (let no : ⊥ = cc in no)
 
-reset_is : (d : Dtm) → updated_dtm Dtmcs reset_bits d ≡ cleared_by d.sticky d
+pub reset_is : (d : Dtm) → updated_dtm Dtmcs reset_bits d ≡ cleared_by d.sticky d
 unfolding updated_dtm
 reset_is d = ap (λ r. controlled r d) asks_reset
 

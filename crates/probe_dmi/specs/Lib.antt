@@ -1,3 +1,4 @@
 pub mod Operations
 pub mod Pace
 pub mod Registers
+pub mod Rises

@@ -5,6 +5,7 @@ use Rattle.debug_model.specs.declared.asked.Asked.TheVariants.{Reset}
 use Rattle.debug_model.specs.Asked.{Asking}
 use Rattle.debug_model.specs.Dmi.{Scans}
 use Rattle.debug_model.specs.Kept.{DmiSeen, ScanSeen}
+use Rattle.debug_model.specs.Rises.{BusyOnce, RisesByBusy, Within}
 use Rattle.probe_dmi.specs.declared.state.State.{State}
 use Rattle.probe_dmi.specs.declared.state.State.TheVariants.{New, Idle, Dead}
 
@@ -43,3 +44,9 @@ link_seen s state abits = record {
   fault_count = s.fault_count;
   fixed = s.fixed;
 }
+
+-- how often a call of so many operations lets TCK rise, and how often it finds the transport busy
+pub record Bounded (operations : ℕ) (old new : DmiSeen) : Type 0 where
+  pub by_busy : RisesByBusy operations old new
+  pub once : BusyOnce operations old new
+  pub rises : Within operations old new

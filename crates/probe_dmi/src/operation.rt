@@ -1,10 +1,11 @@
 ghost use Rattle.std.specs.Prelude.{◌≡◌, ◌≤◌, Some, OnErr, OnOk, IfOk, IfErr, option_map};
 ghost use Rattle.debug_model.specs.Dmi.{Answers, CanOperate, IsOperation, Operated, OperationCut, Scans};
 ghost use Rattle.debug_model.specs.Kept.{Keeps, OperationFails};
+ghost use Rattle.debug_model.specs.Rises.{FailsByWire, RisesAtLeast};
 ghost use Rattle.debug_model.specs.Scan.{WhereTold};
 ghost use Rattle.probe_dmi.specs.Pace.{IsPace};
 ghost use Rattle.probe_dmi.specs.Registers.{IsWidth};
-ghost use Rattle.probe_dmi.specs.Operations.{LeavesState, link_seen};
+ghost use Rattle.probe_dmi.specs.Operations.{Bounded, LeavesState, link_seen};
 ghost use Rattle.debug_model.specs.Asked.{AsksOperation, next_scan};
 
 use crate::pace::Pace;
@@ -69,6 +70,10 @@ impl<S: Scan> Registers<S> {
         ensures cut { OnErr result (WhereTold (OperationCut op) (S.seen self.old.scan).far (S.seen self.new.scan).far) }
         ensures cause { IfErr result (OperationFails (link_seen (S.seen self.old.scan) self.old.state abits)
             (link_seen (S.seen self.new.scan) self.new.state abits)) }
+        ensures bounded { Bounded 1 (link_seen (S.seen self.old.scan) self.old.state abits) (link_seen (S.seen self.new.scan) self.new.state abits) }
+        ensures least { OnOk result (RisesAtLeast 1 (link_seen (S.seen self.old.scan) self.old.state abits)
+            (link_seen (S.seen self.new.scan) self.new.state abits)) }
+        ensures never { IfErr result (FailsByWire (link_seen (S.seen self.old.scan) self.old.state abits)) }
         ensures state { LeavesState self.new.state result }
         ensures keeps { Keeps Some (link_seen (S.seen self.old.scan) self.old.state abits)
             (link_seen (S.seen self.new.scan) self.new.state abits) result }

@@ -1,9 +1,11 @@
-ghost use Rattle.std.specs.Prelude.{◌≡◌, ◌<◌, ◌≤◌, ◌+◌, [], ◌∷◌, ◌++◌, length, true, false, OnOk, OnErr, IfOk, IfErr};
+ghost use Rattle.std.specs.Prelude.{◌≡◌, ◌<◌, ◌≤◌, ◌+◌, ◌*◌, [], ◌∷◌, ◌++◌, length, true, false, OnOk, OnErr, IfOk, IfErr};
 ghost use Rattle.std.proofs.Props.{props};
 ghost use Rattle.debug_model.specs.Port.{data_register_of};
 ghost use Rattle.debug_model.specs.declared.data_register.DataRegister.TheVariants as dr;
 ghost use Rattle.debug_model.specs.Kept.{ScanFails, ScanKeeps, ScanRests};
-ghost use Rattle.debug_model.specs.Scan.{ComesOut, Fits, ScanCut, Scanned, WhereTold, idle_most};
+ghost use Rattle.debug_model.specs.Rises.{dmi_clocks};
+ghost use Rattle.debug_model.specs.Scan.{ComesOut, Fits, ScanCut, Scanned, WhereTold, dr_clocks, idle_most, ir_clocks, reset_clocks};
+ghost use Rattle.probe_dmi.specs.Rises.{RoseWithin, clearing_clocks, pauses, resets};
 ghost use Rattle.debug_model.specs.Told.{IsIdle};
 ghost use Rattle.probe_dmi.specs.declared.state.State.TheVariants.{Idle, New};
 ghost use Rattle.probe_dmi.specs.Operations.{LeavesState, is_alive_as, reset_first};
@@ -77,6 +79,7 @@ impl<S: Scan> Registers<S> {
         ensures cut { OnErr result (WhereTold Waited (S.seen self.old.scan).far (S.seen self.new.scan).far) }
         ensures coming { (S.seen self.new.scan).coming ≡ (S.seen self.old.scan).coming }
         ensures asked { (S.seen self.new.scan).asked ≡ and_asked (reset_first self.old.state) (S.seen self.old.scan).asked }
+        ensures rises { RoseWithin (resets self.old.state) (reset_clocks * resets self.old.state) (S.seen self.old.scan) (S.seen self.new.scan) }
         ensures cause { IfErr result (ScanFails (S.seen self.old.scan) (S.seen self.new.scan)) }
         ensures state { LeavesState self.new.state result }
         ensures later { (S.seen self.old.scan).fault_count ≤ (S.seen self.new.scan).fault_count }
@@ -101,6 +104,7 @@ impl<S: Scan> Registers<S> {
         ensures coming { (S.seen self.new.scan).coming ≡ (S.seen self.old.scan).coming }
         ensures asked { OnOk result ((S.seen self.new.scan).asked
             ≡ and_asked (reset_first self.old.state ++ asked.Select code ∷ []) (S.seen self.old.scan).asked) }
+        ensures rises { RoseWithin (resets self.old.state + 1) (reset_clocks * resets self.old.state + ir_clocks) (S.seen self.old.scan) (S.seen self.new.scan) }
         ensures cause { IfErr result (ScanFails (S.seen self.old.scan) (S.seen self.new.scan)) }
         ensures state { LeavesState self.new.state result }
         ensures keeps { ScanKeeps (S.seen self.old.scan) (S.seen self.new.scan) result }
@@ -123,6 +127,7 @@ impl<S: Scan> Registers<S> {
         ensures came { IfOk result (λ out. ComesOut out (S.seen self.old.scan).coming (S.seen self.new.scan).coming) }
         ensures length { IfOk result (λ out. length out ≡ length bits) }
         ensures asked { (S.seen self.new.scan).asked ≡ and_asked (asked.Shift bits ∷ []) (S.seen self.old.scan).asked }
+        ensures rises { RoseWithin 1 (dr_clocks bits) (S.seen self.old.scan) (S.seen self.new.scan) }
         ensures cause { IfErr result (ScanFails (S.seen self.old.scan) (S.seen self.new.scan)) }
         ensures state { LeavesState self.new.state result }
         ensures keeps { ScanKeeps (S.seen self.old.scan) (S.seen self.new.scan) result }
@@ -145,6 +150,8 @@ impl<S: Scan> Registers<S> {
         ensures length { IfOk result (λ out. length out ≡ length bits) }
         ensures asked { OnOk result ((S.seen self.new.scan).asked
             ≡ and_asked (reset_first self.old.state ++ asked.Select code ∷ asked.Shift bits ∷ []) (S.seen self.old.scan).asked) }
+        ensures rises { RoseWithin (resets self.old.state + 2) (reset_clocks * resets self.old.state + ir_clocks + dr_clocks bits)
+            (S.seen self.old.scan) (S.seen self.new.scan) }
         ensures cause { IfErr result (ScanFails (S.seen self.old.scan) (S.seen self.new.scan)) }
         ensures state { LeavesState self.new.state result }
         ensures keeps { ScanKeeps (S.seen self.old.scan) (S.seen self.new.scan) result }
@@ -161,6 +168,7 @@ impl<S: Scan> Registers<S> {
         ensures cut { OnErr result (WhereTold (CutFrom dr.Idcode idcode_bits) (S.seen self.old.scan).far (S.seen self.new.scan).far) }
         ensures heard { IfOk result (λ value. HeardNumber value (S.seen self.old.scan).coming (S.seen self.new.scan).coming) }
         ensures asked { OnOk result ((S.seen self.new.scan).asked ≡ and_asked idcode_acts (S.seen self.old.scan).asked) }
+        ensures rises { RoseWithin 2 (reset_clocks + dr_clocks idcode_bits) (S.seen self.old.scan) (S.seen self.new.scan) }
         ensures cause { IfErr result (ScanFails (S.seen self.old.scan) (S.seen self.new.scan)) }
         ensures state { LeavesState self.new.state result }
         ensures keeps { ScanKeeps (S.seen self.old.scan) (S.seen self.new.scan) result }
@@ -179,6 +187,7 @@ impl<S: Scan> Registers<S> {
         ensures heard { IfOk result (λ value. HeardNumber value (S.seen self.old.scan).coming (S.seen self.new.scan).coming) }
         ensures asked { OnOk result ((S.seen self.new.scan).asked
             ≡ and_asked (reset_first self.old.state ++ clearing) (S.seen self.old.scan).asked) }
+        ensures rises { RoseWithin (resets self.old.state + 2) (reset_clocks * resets self.old.state + clearing_clocks) (S.seen self.old.scan) (S.seen self.new.scan) }
         ensures cause { IfErr result (ScanFails (S.seen self.old.scan) (S.seen self.new.scan)) }
         ensures state { LeavesState self.new.state result }
         ensures keeps { ScanKeeps (S.seen self.old.scan) (S.seen self.new.scan) result }
@@ -208,6 +217,7 @@ impl<S: Scan> Registers<S> {
         ensures cut { OnErr result (WhereTold Waited (S.seen self.old.scan).far (S.seen self.new.scan).far) }
         ensures coming { (S.seen self.new.scan).coming ≡ (S.seen self.old.scan).coming }
         ensures asked { (S.seen self.new.scan).asked ≡ and_asked (idles clocks) (S.seen self.old.scan).asked }
+        ensures rises { RoseWithin (pauses clocks) clocks (S.seen self.old.scan) (S.seen self.new.scan) }
         ensures cause { IfErr result (ScanFails (S.seen self.old.scan) (S.seen self.new.scan)) }
         ensures state { LeavesState self.new.state result }
         ensures keeps { ScanKeeps (S.seen self.old.scan) (S.seen self.new.scan) result }
@@ -241,6 +251,7 @@ impl<S: Scan> Registers<S> {
         ensures heard { IfOk result (λ out. HeardDmi out (S.seen self.old.scan).coming (S.seen self.new.scan).coming) }
         ensures asked { OnOk result ((S.seen self.new.scan).asked
             ≡ and_asked (idles clocks ++ asked.Shift (bits_of_dmi abits sent) ∷ []) (S.seen self.old.scan).asked) }
+        ensures rises { RoseWithin (pauses clocks + 1) (clocks + dmi_clocks) (S.seen self.old.scan) (S.seen self.new.scan) }
         ensures cause { IfErr result (ScanFails (S.seen self.old.scan) (S.seen self.new.scan)) }
         ensures state { LeavesState self.new.state result }
         ensures keeps { ScanKeeps (S.seen self.old.scan) (S.seen self.new.scan) result }
@@ -259,6 +270,8 @@ impl<S: Scan> Registers<S> {
         ensures heard { IfOk result (λ value. HeardNumber value (S.seen self.old.scan).coming (S.seen self.new.scan).coming) }
         ensures asked { OnOk result ((S.seen self.new.scan).asked
             ≡ and_asked (reset_first self.old.state ++ clearing_again) (S.seen self.old.scan).asked) }
+        ensures rises { RoseWithin (resets self.old.state + 3) (reset_clocks * resets self.old.state + clearing_clocks + ir_clocks)
+            (S.seen self.old.scan) (S.seen self.new.scan) }
         ensures cause { IfErr result (ScanFails (S.seen self.old.scan) (S.seen self.new.scan)) }
         ensures state { LeavesState self.new.state result }
         ensures keeps { ScanKeeps (S.seen self.old.scan) (S.seen self.new.scan) result }

@@ -4,11 +4,13 @@ ghost use Rattle.std.specs.Prelude.{◌≡◌, ◌<◌, ◌≤◌, All, [], leng
 ghost use Rattle.debug_model.specs.Dmi.{CanOperate, IsOperation, Scans};
 ghost use Rattle.debug_model.specs.Kept.{Keeps, ManyFails};
 ghost use Rattle.debug_model.specs.Many.{AnswersAll, OperatedAll, OperationsCut, operations_most};
+ghost use Rattle.debug_model.specs.Rises.{FailsByWire, RisesAtLeast};
 ghost use Rattle.debug_model.specs.Scan.{WhereTold};
-ghost use Rattle.probe_dmi.specs.Operations.{LeavesState, kept, link_seen};
+ghost use Rattle.probe_dmi.specs.Operations.{Bounded, LeavesState, kept, link_seen};
 ghost use Rattle.debug_model.specs.Asked.{AsksOperations, first_scan};
 ghost use Rattle.probe_dmi.specs.Pace.{IsPace};
 ghost use Rattle.probe_dmi.specs.Registers.{IsWidth};
+ghost use Rattle.probe_dmi.specs.Rises.{waits_most};
 
 use crate::operation::{BUSY_MOST, STATUS_DONE, STATUS_FAILED, next_scan};
 use crate::pace::Pace;
@@ -37,9 +39,20 @@ fn keep(in_flight: bool, value: u32, results: &mut ArrayVec<u32, OPERATIONS_MOST
     }
 }
 
+/// For how many clocks a call of so many operations waits before each scan: one on its own never waits.
+fn clocks_before(pace: Pace, operations: usize) -> u8
+    requires pace { IsPace pace }
+    ensures few { result ≤ waits_most operations }
+{
+    if operations <= 1 {
+        return 0;
+    }
+    pace.clocks
+}
+
 impl<S: Scan> Registers<S> {
-    /// Does from 1 to 128 operations, in order, each once, and appends their results. The clocks of the pace stand before every scan of `dmi`, also the
-    /// first: a chip whose time for an operation divides the time from one scan to the next is met in one phase so, from call to call. Behind a clearing of
+    /// Does from 1 to 128 operations, in order, each once, and appends their results. Where there are several, the clocks of the pace stand before every scan of
+    /// `dmi`, also the first: a chip whose time for an operation divides the time from one scan to the next is met in one phase so, from call to call. Behind a clearing of
     /// the status none are needed, since its own scans are longer.
     pub fn stream(
         &mut self,
@@ -66,6 +79,11 @@ impl<S: Scan> Registers<S> {
         ensures cut { OnErr result (WhereTold (OperationsCut ops.now) (S.seen self.old.scan).far (S.seen self.new.scan).far) }
         ensures cause { IfErr result (ManyFails (length ops.now) (link_seen (S.seen self.old.scan) self.old.state abits)
             (link_seen (S.seen self.new.scan) self.new.state abits)) }
+        ensures bounded { Bounded (length ops.now) (link_seen (S.seen self.old.scan) self.old.state abits)
+            (link_seen (S.seen self.new.scan) self.new.state abits) }
+        ensures least { OnOk result (RisesAtLeast (length ops.now) (link_seen (S.seen self.old.scan) self.old.state abits)
+            (link_seen (S.seen self.new.scan) self.new.state abits)) }
+        ensures never { IfErr result (FailsByWire (link_seen (S.seen self.old.scan) self.old.state abits)) }
         ensures state { LeavesState self.new.state result }
         ensures keeps { Keeps Some (link_seen (S.seen self.old.scan) self.old.state abits)
             (link_seen (S.seen self.new.scan) self.new.state abits) result }
@@ -76,7 +94,7 @@ impl<S: Scan> Registers<S> {
         let mut rest = ops;
         let mut in_flight = false;
         let mut busy = 0;
-        let mut clocks = pace.clocks;
+        let mut clocks = clocks_before(*pace, ops.len());
         'scans: while busy < BUSY_MOST {
             let out = self.exchange_behind(clocks, abits, first_scan(rest))?;
             if out.op == STATUS_FAILED {
@@ -97,7 +115,7 @@ impl<S: Scan> Registers<S> {
             rest = after;
             in_flight = true;
             busy = 0;
-            clocks = pace.clocks;
+            clocks = clocks_before(*pace, ops.len());
         }
         self.state = State::Dead;
         Err(DmiFault::StillBusy)

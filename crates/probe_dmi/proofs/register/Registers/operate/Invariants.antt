@@ -7,12 +7,15 @@ use Rattle.probe_dmi.specs.declared.state.State.TheVariants.{Idle}
 use Rattle.probe_dmi.specs.Registers.{IsChosen, IsWidth}
 use Rattle.probe_dmi.proofs.Asking.{CarriedSoFar}
 use Rattle.probe_dmi.proofs.Heard.{SoFar}
+use Rattle.probe_dmi.proofs.Spending.{SpentWithin, taken_count}
 use Rattle.probe_dmi.proofs.Told.{Underway}
 use Rattle.probe_dmi.proofs.register.Registers.operate.Given as goal
 
 abbrev pub invariant-scans : goal.invariant-scans
 invariant-scans g l = record {
   underway : WhereTold (Underway l.op l.taken l.busy) (g.S.Scan.seen l.fn.self.scan).far (g.S.Scan.seen l.self.scan).far;
+  spent : SpentWithin (2 + taken_count l.taken) (17 + 46 * taken_count l.taken) (46 * taken_count l.taken) (taken_count l.taken) 0
+      (g.S.Scan.seen l.fn.self.scan) (g.S.Scan.seen l.self.scan);
   so_far : SoFar l.busy l.taken (g.S.Scan.seen l.fn.self.scan).coming (g.S.Scan.seen l.self.scan).coming;
   asked : CarriedSoFar l.fn.self.state l.abits l.op l.busy l.taken (g.S.Scan.seen l.fn.self.scan).asked (g.S.Scan.seen l.self.scan).asked;
   rests : ScanRests (g.S.Scan.seen l.self.scan);
