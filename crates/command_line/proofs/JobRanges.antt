@@ -4,6 +4,7 @@ use Rattle.std.proofs.Common.{Result, Ok, Err, IfOk}
 use Rattle.std.proofs.lemmas.Bool.Decides.{nat_tests}
 use Rattle.std.proofs.lemmas.Option.{none-some, same_Some}
 use Rattle.clap.specs.Words.{Row}
+use Rattle.rv_model.specs.declared.version.Version.{Version}
 use Rattle.debug_model.specs.Wire.{piece_most}
 use Rattle.command_line.specs.declared.job.ChipOptions.{ChipOptions}
 use Rattle.command_line.specs.declared.job.Job.{Job}
@@ -17,7 +18,7 @@ use Rattle.command_line.specs.Numbers.{◌>>=◌}
 use Rattle.command_line.specs.WrittenJob.{busy_unsaid, events_unsaid, harts_unsaid, piece_unsaid, ram_unsaid, seed_unsaid}
 use Rattle.command_line.specs.WrittenJob.{least_busy, least_events, least_piece, most_busy, most_events}
 use Rattle.command_line.specs.WrittenJob.{chain_in, flag_in, inputs_in, number_in, options_from, options_in, probe_from, probe_in, probe_of, ranged_in, rows_in}
-use Rattle.command_line.specs.WrittenJob.{sniff_from, sniff_in, sniff_of, value_in, way_in}
+use Rattle.command_line.specs.WrittenJob.{sniff_from, sniff_in, sniff_of, value_in, version_by, way_in}
 use Rattle.command_line.specs.Numbers.{within}
 
 none : {A : Type 0} {B : Type 0} (x : A) → None ≡ Some x → B
@@ -41,26 +42,27 @@ record Said (busy events : Option ℕ) (options : ChipOptions) : Type 0 where
   busy_is : busy ≡ Some options.busy
   events_is : events ≡ Some options.events
 
-said_are : (harts ram seed busy events : Option ℕ) (halted : Bool) (options : ChipOptions) → options_from harts ram seed busy events halted ≡ Some options
+said_are : (harts ram seed busy events : Option ℕ) (halted : Bool) (version : Version) (options : ChipOptions)
+    → options_from harts ram seed busy events halted version ≡ Some options
     → Said busy events options
-said_are (Some h) (Some r) (Some s) (Some b) (Some n) halted options e =
+said_are (Some h) (Some r) (Some s) (Some b) (Some n) halted version options e =
     record {
       busy_is = ap (λ (o : ChipOptions). Some o.busy) (same_Some _ options e);
       events_is =
           ap (λ (o : ChipOptions). Some o.events) (same_Some _ options e);
     }
-said_are (Some h) (Some r) (Some s) (Some b) None halted options e = none options e
-said_are (Some h) (Some r) (Some s) None events halted options e = none options e
-said_are (Some h) (Some r) None busy events halted options e = none options e
-said_are (Some h) None seed busy events halted options e = none options e
-said_are None ram seed busy events halted options e = none options e
+said_are (Some h) (Some r) (Some s) (Some b) None halted version options e = none options e
+said_are (Some h) (Some r) (Some s) None events halted version options e = none options e
+said_are (Some h) (Some r) None busy events halted version options e = none options e
+said_are (Some h) None seed busy events halted version options e = none options e
+said_are None ram seed busy events halted version options e = none options e
 
 options_range : (rows : List Row) (options : ChipOptions) → options_in rows ≡ Some options → OptionsInRange options
 unfolding options_in
 options_range rows options e =
     let said = said_are (number_in rows (codes "harts") harts_unsaid) (number_in rows (codes "ram") ram_unsaid) (number_in rows (codes "seed") seed_unsaid)
     (ranged_in rows (codes "busy") busy_unsaid least_busy most_busy) (ranged_in rows (codes "events") events_unsaid least_events most_events)
-    (flag_in rows (codes "halted")) options e in
+    (flag_in rows (codes "halted")) (version_by (flag_in rows (codes "v013"))) options e in
     record {
       busy = ranged_is rows (codes "busy") busy_unsaid least_busy most_busy options.busy said.busy_is;
       events = ranged_is rows (codes "events") events_unsaid least_events most_events options.events said.events_is;

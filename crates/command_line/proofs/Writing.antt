@@ -7,6 +7,7 @@ use Rattle.clap.specs.Words.{Row}
 use Rattle.debug_model.specs.Loaded.{usual_points}
 use Rattle.debug_model.specs.Wire.{piece_most}
 use Rattle.chain_scan.specs.ChainPlan.{Plan}
+use Rattle.rv_model.specs.declared.version.Version.{Version}
 use Rattle.command_line.specs.declared.job.Way.{Way}
 use Rattle.command_line.specs.Job.{InputsValue, JobValue, Text, gen}
 use Rattle.command_line.specs.Why.{HasNumber}
@@ -57,19 +58,20 @@ number_within rows option word least most number given is low high unsaid a b =
 
 -- ---- the options of a command
 
-options_from_is : (h r s b e : Option ℕ) (halted : Bool) → IsSome h → IsSome r → IsSome s → IsSome b → IsSome e → IsSome (options_from h r s b e halted)
-options_from_is None r s b e halted a1 a2 a3 a4 a5 = cc
-options_from_is (Some h) None s b e halted a1 a2 a3 a4 a5 = cc
-options_from_is (Some h) (Some r) None b e halted a1 a2 a3 a4 a5 = cc
-options_from_is (Some h) (Some r) (Some s) None e halted a1 a2 a3 a4 a5 = cc
-options_from_is (Some h) (Some r) (Some s) (Some b) None halted a1 a2 a3 a4 a5 = cc
-options_from_is (Some h) (Some r) (Some s) (Some b) (Some e) halted a1 a2 a3 a4 a5 = refl
+options_from_is : (h r s b e : Option ℕ) (halted : Bool) (version : Version) → IsSome h → IsSome r → IsSome s → IsSome b → IsSome e
+    → IsSome (options_from h r s b e halted version)
+options_from_is None r s b e halted version a1 a2 a3 a4 a5 = cc
+options_from_is (Some h) None s b e halted version a1 a2 a3 a4 a5 = cc
+options_from_is (Some h) (Some r) None b e halted version a1 a2 a3 a4 a5 = cc
+options_from_is (Some h) (Some r) (Some s) None e halted version a1 a2 a3 a4 a5 = cc
+options_from_is (Some h) (Some r) (Some s) (Some b) None halted version a1 a2 a3 a4 a5 = cc
+options_from_is (Some h) (Some r) (Some s) (Some b) (Some e) halted version a1 a2 a3 a4 a5 = refl
 
 pub options_write : (rows : List Row) → HasNumber rows (codes "harts") 0 (2 ^ 64 - 1) → HasNumber rows (codes "ram") 0 (2 ^ 64 - 1)
     → HasNumber rows (codes "seed") 0 (2 ^ 64 - 1) → HasNumber rows (codes "busy") least_busy most_busy
     → HasNumber rows (codes "events") least_events most_events → IsSome (options_in rows)
 unfolding options_in
-options_write rows harts ram seed busy events = options_from_is _ _ _ _ _ _ (number_any rows _ harts_unsaid (omega arith) harts)
+options_write rows harts ram seed busy events = options_from_is _ _ _ _ _ _ _ (number_any rows _ harts_unsaid (omega arith) harts)
     (number_any rows _ ram_unsaid (omega arith) ram) (number_any rows _ seed_unsaid (omega arith) seed)
     (busy busy_unsaid (omega arith) (omega arith)) (events events_unsaid (omega arith) (omega arith))
 

@@ -12,7 +12,7 @@ both_options =
     ∷ codes "chain" ∷ []
 
 abbrev pub both_flags : List Text
-both_flags = codes "halted" ∷ codes "loopback" ∷ []
+both_flags = codes "halted" ∷ codes "loopback" ∷ codes "v013" ∷ []
 
 abbrev pub probe_options : List Text
 probe_options = codes "at" ∷ codes "script" ∷ codes "chain" ∷ []
@@ -25,7 +25,7 @@ chip_options =
     codes "at" ∷ codes "image" ∷ codes "harts" ∷ codes "ram" ∷ codes "seed" ∷ codes "busy" ∷ codes "events" ∷ codes "chain" ∷ []
 
 abbrev pub chip_flags : List Text
-chip_flags = codes "halted" ∷ []
+chip_flags = codes "halted" ∷ codes "v013" ∷ []
 
 abbrev pub sniff_options : List Text
 sniff_options = codes "stream" ∷ codes "answers" ∷ []

@@ -5,6 +5,8 @@ use Rattle.std.specs.Prelude.{Bool, true, false, List, [], ◌∷◌, codes, byt
 use Rattle.std.specs.Borrow.{Bor}
 use Rattle.clap.specs.Words.{App, Kinds, Row, fault_of, first_of, found_of, matches_of, rows_of}
 use Rattle.clap.specs.declared.parser.matches.ArgMatches.{ArgMatches}
+use Rattle.rv_model.specs.declared.version.Version.{Version}
+use Rattle.rv_model.specs.declared.version.Version.TheVariants.{V013, V10}
 use Rattle.debug_model.specs.Loaded.{usual_points}
 use Rattle.debug_model.specs.Wire.{piece_most}
 use Rattle.chain_scan.specs.ChainPlan.{Plan}
@@ -90,20 +92,25 @@ number_in rows name unsaid = number_or unsaid (value_in rows name)
 unfoldable pub ranged_in : List Row → Text → ℕ → ℕ → ℕ → Option ℕ
 ranged_in rows name unsaid least most = number_in rows name unsaid >>= within least most
 
-abbrev pub options_from : Option ℕ → Option ℕ → Option ℕ → Option ℕ → Option ℕ → Bool → Option ChipOptions
-options_from said_harts said_ram said_seed said_busy said_events halted = do
+-- a chip follows release 1.0, or by `--v013` release 0.13
+abbrev pub version_by : (v013 : Bool) → Version
+version_by true = V013
+version_by false = V10
+
+abbrev pub options_from : Option ℕ → Option ℕ → Option ℕ → Option ℕ → Option ℕ → Bool → Version → Option ChipOptions
+options_from said_harts said_ram said_seed said_busy said_events halted version = do
   harts ← said_harts
   ram ← said_ram
   seed ← said_seed
   busy ← said_busy
   events ← said_events
-  Some (record { harts = harts; ram = ram; halted = halted; seed = seed; busy = busy; events = events })
+  Some (record { harts = harts; ram = ram; halted = halted; seed = seed; busy = busy; events = events; version = version })
 
 -- the options of a chip
 unfoldable pub options_in : List Row → Option ChipOptions
 options_in rows = options_from (number_in rows (codes "harts") harts_unsaid) (number_in rows (codes "ram") ram_unsaid)
     (number_in rows (codes "seed") seed_unsaid) (ranged_in rows (codes "busy") busy_unsaid least_busy most_busy)
-    (ranged_in rows (codes "events") events_unsaid least_events most_events) (flag_in rows (codes "halted"))
+    (ranged_in rows (codes "events") events_unsaid least_events most_events) (flag_in rows (codes "halted")) (version_by (flag_in rows (codes "v013")))
 
 -- an image and a script without a number, or a number alone
 abbrev pub inputs_from : Option Text → Option Text → Option Text → Option InputsValue

@@ -1,4 +1,5 @@
 use chain_scan::ChainPlan;
+use rv_model::Version;
 
 /// What the words ask for.
 #[derive(Drop)]
@@ -77,4 +78,6 @@ pub struct ChipOptions {
     pub busy: u8,
     /// The chip's limit of events: how many points a rise of TCK may find, from 1 to 2^62.
     pub events: u64,
+    /// The release of the debug specification that it follows.
+    pub version: Version,
 }

@@ -44,6 +44,8 @@ pub(crate) const SCRIPT: &str = "script";
 pub(crate) const SEED: &str = "seed";
 /// The file of a recorded stream.
 pub(crate) const STREAM: &str = "stream";
+/// Whether the chip follows release 0.13.
+pub(crate) const V013: &str = "v013";
 /// Whether a recording is drawn as a Value Change Dump.
 pub(crate) const VCD: &str = "vcd";
 
@@ -51,13 +53,13 @@ static BOTH_OPTIONS: [&str; 10] = [
     IMAGE, SCRIPT, GEN, HARTS, RAM, SEED, BUSY, EVENTS, PIECE, CHAIN,
 ];
 
-static BOTH_FLAGS: [&str; 2] = [HALTED, LOOPBACK];
+static BOTH_FLAGS: [&str; 3] = [HALTED, LOOPBACK, V013];
 
 static PROBE_OPTIONS: [&str; 3] = [AT, SCRIPT, CHAIN];
 
 static CHIP_OPTIONS: [&str; 8] = [AT, IMAGE, HARTS, RAM, SEED, BUSY, EVENTS, CHAIN];
 
-static CHIP_FLAGS: [&str; 1] = [HALTED];
+static CHIP_FLAGS: [&str; 2] = [HALTED, V013];
 
 static SNIFF_OPTIONS: [&str; 2] = [STREAM, ANSWERS];
 

@@ -2,15 +2,18 @@ ghost use Rattle.std.specs.Prelude.{◌≡◌, ◌≤◌, IfOk, string_bytes};
 ghost use Rattle.command_line.specs.Job.{Gives, inputs_value};
 ghost use Rattle.command_line.specs.Numbers.{number_of};
 ghost use Rattle.command_line.specs.WrittenJob.{chain_in, flag_in, inputs_from, inputs_in, number_in, number_or, options_in, ranged_in};
-ghost use Rattle.command_line.specs.WrittenJob.{rows_found, text_of, value_in, way_in};
+ghost use Rattle.command_line.specs.WrittenJob.{rows_found, text_of, value_in, version_by, way_in};
 
 use crate::chains::plan_of;
 use crate::fault::WordsFault;
 use crate::job::{ChipOptions, Inputs, Way};
-use crate::options::{BUSY, CHAIN, EVENTS, GEN, HALTED, HARTS, IMAGE, LOOPBACK, RAM, SCRIPT, SEED};
+use crate::options::{
+    BUSY, CHAIN, EVENTS, GEN, HALTED, HARTS, IMAGE, LOOPBACK, RAM, SCRIPT, SEED, V013,
+};
 use chain_scan::ChainPlan;
 use clap::ArgMatches;
 use debug_model::{POINTS_HIGHEST, POINTS_USUAL};
+use rv_model::Version;
 use script_lang::read_number;
 use std::alloc::Global;
 use std::ops::RangeInclusive;
@@ -100,6 +103,13 @@ pub(crate) fn ranged(
     }
 }
 
+/// The release of a chip whose words have `--v013` or do not.
+fn version_by(v013: bool) -> Version
+    ensures { result ≡ version_by v013 }
+{
+    if v013 { Version::V013 } else { Version::V10 }
+}
+
 /// The options of the chip.
 pub(crate) fn chip_options(matches: &ArgMatches) -> Result<ChipOptions, WordsFault>
     ensures { Gives (λ options. options) result (options_in (rows_found matches.now)) }
@@ -116,6 +126,7 @@ pub(crate) fn chip_options(matches: &ArgMatches) -> Result<ChipOptions, WordsFau
         seed,
         busy: busy as u8,
         events,
+        version: version_by(flag(matches, V013)),
     })
 }
 

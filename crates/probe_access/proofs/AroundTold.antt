@@ -21,6 +21,7 @@ use Rattle.probe_access.specs.MemoryRuns.SaveFailed.{at_x8 as save_x8, at_x9 as 
 use Rattle.probe_access.specs.RegisterRuns.{ReadFailed, WriteFailed, ReadApartFailed, Asks}
 use Rattle.probe_access.specs.Registers.{reaches}
 use Rattle.probe_access.specs.RegisterAccess.{program_word, x8_number, x9_number}
+use Rattle.probe_access.proofs.Plain.{Plain}
 use Rattle.probe_access.proofs.AccessSteps.{WordDid}
 use Rattle.probe_access.proofs.AccessTold.{Faulted, PerformedTold, SavedTold, back_told, neither_told, ran_told, saved_told}
 use Rattle.probe_access.proofs.Aside.{Frozen, accessed, passed}
@@ -51,7 +52,7 @@ Clean (access_fault.Run why) = ⊥
 Clean (access_fault.Odd shown) = ⊥
 
 pub apart_clean : (number h : ℕ) (bus : BusUnit) (y : Hart) (base : Site) (w : Hart) (old_count new_count : ℕ) (old new : Tells) (e : AccessFault)
-    → number < 2 ^ 16 → reaches false y number ≡ true → StoodTold h bus y base w old.far
+    → Plain number → reaches false y number ≡ true → StoodTold h bus y base w old.far
     → ReadApartFailed number old_count new_count old new e → Clean e
 apart_clean number h bus y base w old_count new_count old new (access_fault.Dmi why) small there st f = tt
 apart_clean number h bus y base w old_count new_count old new (access_fault.Memory at) small there st f = f
@@ -72,7 +73,7 @@ behind_clean Front op ops old_count new_count old new (access_fault.Run why) f =
 behind_clean Front op ops old_count new_count old new (access_fault.Odd shown) f = f
 
 pub read_clean : (number h : ℕ) (bus : BusUnit) (y : Hart) (base : Site) (w : Hart) (old_count new_count : ℕ) (old new : Tells) (e : AccessFault)
-    → number < 2 ^ 16 → reaches false y number ≡ true → StoodTold h bus y base w old.far
+    → Plain number → reaches false y number ≡ true → StoodTold h bus y base w old.far
     → ReadFailed number old_count new_count old new e → Clean e
 read_clean number h bus y base w old_count new_count old new e small there st (ReadFailed.asking f) =
     behind_clean (Asks number) _ _ old_count new_count old new e f
@@ -112,10 +113,10 @@ writes_x9 y = refl
 pub save_clean : (h : ℕ) (bus : BusUnit) (y : Hart) (base : Site) (w : Hart) (old_count new_count : ℕ) (old new : Tells) (e : AccessFault)
     → StoodTold h bus y base w old.far → SaveFailed old_count new_count old new e → Clean e
 save_clean h bus y base w old_count new_count old new e st (save_x8 f) =
-    read_clean x8_number h bus y base w old_count new_count old new e (omega arith) (reads_x8 y) st f
+    read_clean x8_number h bus y base w old_count new_count old new e (record { small = omega arith; other = refl }) (reads_x8 y) st f
 save_clean h bus y base w old_count new_count old new e st (save_x9 x8 mid r f) =
-    let a : ReadTold x8_number x8 h bus y base w mid.far = read_told x8_number x8 h bus y base w old mid (omega arith) st r in
-    read_clean x9_number h bus y base w old_count new_count mid new e (omega arith) (reads_x9 y) a.then f
+    let a : ReadTold x8_number x8 h bus y base w mid.far = read_told x8_number x8 h bus y base w old mid (record { small = omega arith; other = refl }) st r in
+    read_clean x9_number h bus y base w old_count new_count mid new e (record { small = omega arith; other = refl }) (reads_x9 y) a.then f
 
 pub put_back_clean : (x8 x9 h : ℕ) (bus : BusUnit) (y : Hart) (base : Site) (w : Hart) (old_count new_count : ℕ) (old new : Tells) (e : AccessFault)
     → StoodTold h bus y base w old.far → PutBackFailed x8 x9 old_count new_count old new e → Clean e

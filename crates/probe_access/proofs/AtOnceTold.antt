@@ -22,6 +22,7 @@ use Rattle.probe_access.proofs.Along.{ReadAt, SiteActs, Split, site_acts-split}
 use Rattle.probe_access.proofs.Aside.{aside, passed}
 use Rattle.probe_access.proofs.Errors.{Calm, Erred, ErredEnd, data0_read_keeps, data1_read_keeps, erred_cleared, erred_one, erred_polled, erred_ran, stood_calm}
 use Rattle.probe_access.proofs.Errors.Erred.{early, over}
+use Rattle.probe_access.proofs.Plain.{Holds, Plain}
 use Rattle.probe_access.proofs.ReadyUnit.{Kept, OpAt, commands_of, done_ran, op_at, unit_of, unit_with}
 use Rattle.probe_access.proofs.RegisterTold.{Rests, Stood, fine_left, got_at}
 use Rattle.probe_access.proofs.Steps.{Between, Course, DoneAt, between_ran}
@@ -32,7 +33,7 @@ use Rattle.probe_access.proofs.TransferLemmas.{
   polls_ran,
   read_status,
   shown_error,
-  transfer_does,
+  held_does,
   transfer_refusal_by,
   with_command,
   words_behind,
@@ -48,37 +49,38 @@ going_unit k number h bus =
 
 -- it is under way, or done, or was refused
 pub data Asked (number h : ℕ) (bus : BusUnit) (y : Hart) (base : Site) (k : Kept) (t : Site) : Type 0 where
-  going : (v : ℕ) → debug_value y number ≡ Some v
+  going : (v : ℕ) → Holds y number v
       → Between (going_unit k number h bus) (unit_of (words_behind false number v k) h bus) h y y base t → Asked number h bus y base k t
   failed : Erred h bus y base t → Asked number h bus y base k t
 
-asked_by : (number h : ℕ) (bus : BusUnit) (y : Hart) (base : Site) (w : Hart) (k : Kept) (t : Site) (o : Option ℕ) → Calm h bus y base w → number < 2 ^ 16
+asked_by : (number h : ℕ) (bus : BusUnit) (y : Hart) (base : Site) (w : Hart) (k : Kept) (t : Site) (o : Option ℕ) → Calm h bus y base w → Plain number
     → debug_value y number ≡ o → OpAt (Write command_address (transfer_word false number)) (transfer_word false number) (unit_of k h bus) h y base t
     → Asked number h bus y base k t
 asked_by number h bus y base w k t (Some v) c small held first =
     let command : AbstractCommand = transfer_command false number in
+    let holds : Holds y number v = record { is = held; other = small.other } in
     let start : Site = after_write command_address (transfer_word false number) (aside (unit_of k h bus) h y (passed first.harts base)) in
     let starts = command_starts (transfer_word false number) command Fine k h bus y (passed first.harts base) w
-    (stays_passed h first.harts base w c.held.here c.held.frozen) (transfer_back false number small)
+    (stays_passed h first.harts base w c.held.here c.held.frozen) (transfer_back false number small.small)
     (transfer_refusal_by y false number (Some v) false c.frozen held refl) in
     let m : DebugModule = going_unit k number h bus in
     let course : Course m h y base w = record { here = c.held.here; frozen = c.held.frozen; frozen_x = c.frozen; selected = refl; bus = c.idle } in
-    going v held
+    going v holds
     (subst (λ s. Between m (unit_of (words_behind false number v k) h bus) h y y base s) (sym first.is)
     (between_ran first.behind m (commands_of (words_behind false number v k) Fine []) h y y base w (Transfer command) start course c.frozen refl refl
-    (transfer_does false number v k y held) (still first.harts starts)))
+    (held_does number v k y holds) (still first.harts starts)))
 asked_by number h bus y base w k t None c small held first =
     let command : AbstractCommand = transfer_command false number in
     let n : DebugModule = unit_with (with_command command k) Exception [] h bus in
     let starts = command_starts (transfer_word false number) command Exception k h bus y (passed first.harts base) w
-    (stays_passed h first.harts base w c.held.here c.held.frozen) (transfer_back false number small)
+    (stays_passed h first.harts base w c.held.here c.held.frozen) (transfer_back false number small.small)
     (transfer_refusal_by y false number None false c.frozen held refl) in
     failed
     (over (with_command command k) Exception refl
     (done_ran n h y base w first.behind (after_write command_address (transfer_word false number) (aside (unit_of k h bus) h y (passed first.harts base))) t
     c.held c.frozen refl c.idle first.is (record { harts = first.harts; is = starts })))
 
-pub asked_first : (number h : ℕ) (bus : BusUnit) (y : Hart) (base : Site) (w : Hart) (k : Kept) (s t : Site) → number < 2 ^ 16 → Stood h bus y base w k s
+pub asked_first : (number h : ℕ) (bus : BusUnit) (y : Hart) (base : Site) (w : Hart) (k : Kept) (s t : Site) → Plain number → Stood h bus y base w k s
     → OneOperation (Write command_address (transfer_word false number)) (transfer_word false number) s t → Asked number h bus y base k t
 asked_first number h bus y base w k s t small st o =
     asked_by number h bus y base w k t (debug_value y number) (stood_calm h bus y base w k s st) small refl
@@ -93,7 +95,7 @@ asked_ran number h bus y base w k ds s t c is (going v held b) =
     going v held
     (subst (λ z. Between m (unit_of (words_behind false number v k) h bus) h y y base z) (sym is)
     (between_ran ds m (commands_of (words_behind false number v k) Fine []) h y y base w (Transfer (transfer_command false number)) s course c.frozen refl refl
-    (transfer_does false number v k y held) b))
+    (held_does number v k y held) b))
 asked_ran number h bus y base w k ds s t c is (failed e) = failed (erred_ran h bus y base w ds s t c is e)
 
 -- ---- the words
@@ -118,7 +120,7 @@ upper_at number result h bus y base w k s t behind c result_is is (going v held 
     wrong (erred_ran h bus y base w behind (operated (Read data1_address) s) t c is
     (early (with_command (transfer_command false number) k) number v false held (still harts (ap (operated (Read data1_address)) at))))
 upper_at number result h bus y base w k s t behind c result_is is (going v held (done harts at)) =
-    right v held (ap value_of (result_is ∙ ap (result_of data1_address) at))
+    right v held.is (ap value_of (result_is ∙ ap (result_of data1_address) at))
     (record {
       held = c.held;
       frozen = c.frozen;
@@ -154,7 +156,7 @@ lower_touched number low high h bus y base w k s t c (Touched.right v held high_
 lower_touched number low high h bus y base w k s t c (Touched.wrong e) r =
     BothTouched.wrong (erred_one h bus y base w (Read data0_address) r.result s t c (data0_read_keeps h bus y base) r.one e)
 
-pub both_touched : (number low high h : ℕ) (bus : BusUnit) (y : Hart) (base : Site) (w : Hart) (k : Kept) (s t : Site) → number < 2 ^ 16
+pub both_touched : (number low high h : ℕ) (bus : BusUnit) (y : Hart) (base : Site) (w : Hart) (k : Kept) (s t : Site) → Plain number
     → Stood h bus y base w k s → SiteActs (asked_acts number low high) s t → BothTouched number low high h bus y base w k t
 both_touched number low high h bus y base w k s t small st p =
     let c : Calm h bus y base w = stood_calm h bus y base w k s st in
@@ -222,7 +224,7 @@ touch_ended number low high last h bus y base w k words s t c (BothTouched.wrong
     let f : ErredEnd last h bus y base e.mid = erred_polled words last h bus y base w s e.mid c err e.polled not_busy in
     TouchEnd.wrong f.error (erred_cleared last h bus y base w e.mid t c f e.cleared)
 
-pub touch_ends : (number low high last h : ℕ) (bus : BusUnit) (y : Hart) (base : Site) (w : Hart) (k : Kept) (words : List ℕ) (s t : Site) → number < 2 ^ 16
+pub touch_ends : (number low high last h : ℕ) (bus : BusUnit) (y : Hart) (base : Site) (w : Hart) (k : Kept) (words : List ℕ) (s t : Site) → Plain number
     → Stood h bus y base w k s → SiteActs (asked_acts number low high ++ (map poll_act words ++ poll_act last ∷ clearing (error_shown last))) s t
     → shows_busy last ≡ false → TouchEnd number low high last h bus y base w k t
 touch_ends number low high last h bus y base w k words s t small st p not_busy =

@@ -300,15 +300,15 @@ any_put x y v z a (inr e) = any_same x (debug_written y x8_number v) z e (any_wr
 take_hung : (x8 h : ℕ) (bus : BusUnit) (y : Hart) (base : Site) (w : Hart) (old_count new_count : ℕ) (old new : Tells) (e : AccessFault)
     → StoodTold h bus y base w old.far → TakeFailed x8 old_count new_count old new e → IfCut (Hung (Written x8_number x8 y) h bus base new.far) e
 take_hung x8 h bus y base w old_count new_count old new e st (TakeFailed.swapping f) =
-    swap_hung x8_number x8 h bus y base w old_count new_count old new e (omega arith) st f
+    swap_hung x8_number x8 h bus y base w old_count new_count old new e (record { small = omega arith; other = refl }) st f
 take_hung x8 h bus y base w old_count new_count old new e st (TakeFailed.reading mid early f) =
     if_cut (Hung (λ z. z ≡ y) h bus base new.far) (Hung (Written x8_number x8 y) h bus base new.far) e
     (hung_map (λ z. z ≡ y) (Written x8_number x8 y) h bus base new.far (λ z is. inl is))
-    (read_hung x8_number h bus y base w old_count new_count mid new e (omega arith)
-    (unswapped_told x8_number x8 h bus y base w old mid (omega arith) st early) f)
+    (read_hung x8_number h bus y base w old_count new_count mid new e (record { small = omega arith; other = refl })
+    (unswapped_told x8_number x8 h bus y base w old mid (record { small = omega arith; other = refl }) st early) f)
 take_hung x8 h bus y base w old_count new_count old new e st (TakeFailed.writing value mid last early read f) =
     write_hung x8_number x8 h bus y base w old_count new_count last new e (omega arith)
-    (x8_read value h bus y base w mid last (unswapped_told x8_number x8 h bus y base w old mid (omega arith) st early) read) f
+    (x8_read value h bus y base w mid last (unswapped_told x8_number x8 h bus y base w old mid (record { small = omega arith; other = refl }) st early) read) f
 
 pub load_hung : (size : Size) (a h : ℕ) (bus : BusUnit) (x : Hart) (base : Site) (old_count new_count : ℕ) (old new : Tells) (e : AccessFault)
     → length x.core.x ≡ 32 → a < 2 ^ 64
@@ -316,7 +316,7 @@ pub load_hung : (size : Size) (a h : ℕ) (bus : BusUnit) (x : Hart) (base : Sit
 load_hung size a h bus x base old_count new_count old new _ all small st (load_saving e f) =
     if_cut (Hung (λ z. z ≡ x) h bus base new.far) (HungInside (AnyScratch x) LoadLeaves h bus base new.far) e
     (outside (λ z. z ≡ x) (AnyScratch x) LoadLeaves h bus base new.far (λ z s. any_same x x z s (itself x all)))
-    (read_hung x8_number h bus x base x old_count new_count old new e (omega arith) st f)
+    (read_hung x8_number h bus x base x old_count new_count old new e (record { small = omega arith; other = refl }) st f)
 load_hung size a h bus x base old_count new_count old new _ all small st (load_performing e x8 first saved f loses) =
     perform_hung (Loads size a (debug_written x x8_number a)) (LoadFaults size a) (AnyScratch x) LoadLeaves (load_word size) a h bus x base x old_count
     new_count first new e (itself x all)

@@ -26,6 +26,7 @@ use Rattle.probe_access.specs.Cuts.{IfCut}
 use Rattle.probe_access.specs.RegisterAccess.{transfer_word}
 use Rattle.probe_access.specs.RegisterRuns.{AskFailed, Asks, asked_acts}
 use Rattle.probe_access.specs.RegisterRuns.Asks.{asks}
+use Rattle.probe_access.proofs.Plain.{Plain}
 use Rattle.probe_access.proofs.Along.{AtSites, ReadAt, SiteActs, Split, did_sites, site_acts-split}
 use Rattle.probe_access.proofs.AtOnceTold.{
   Asked,
@@ -83,7 +84,7 @@ read_one a result s t o = record { result = result; one = o; value_is = refl }
 pub write_one : (a v result : ℕ) (s t : Site) → OneOperation (Write a v) result s t → OneOperation (Write a v) v s t
 write_one a v result s t o = record { before = o.before; behind = o.behind; is = o.is; result_is = refl }
 
-pub command_cut : (number h : ℕ) (bus : BusUnit) (y : Hart) (base : Site) (w : Hart) (k : Kept) (s t : Site) → number < 2 ^ 16 → Stood h bus y base w k s
+pub command_cut : (number h : ℕ) (bus : BusUnit) (y : Hart) (base : Site) (w : Hart) (k : Kept) (s t : Site) → Plain number → Stood h bus y base w k s
     → SiteCut (Write command_address (transfer_word false number)) s t → HungAt (λ z. z ≡ y) h bus base t
 command_cut number h bus y base w k s t small st (unperformed d) =
     hung_stood (λ z. z ≡ y) h bus y base w k t refl (stood_ran h bus y base w k s t st d)
@@ -144,7 +145,7 @@ words_cut number h bus y base w k (o ∷ p ∷ q ∷ []) op left s mid t c asked
 words_cut number h bus y base w k (o ∷ p ∷ q ∷ r ∷ done) op left s mid t c asked a at cut = absurd (let no : ⊥ = cc in no)
 
 together_cut : (number h : ℕ) (bus : BusUnit) (y : Hart) (base : Site) (w : Hart) (k : Kept) (done : List Done) (op : DmiOp) (left : List DmiOp)
-    (s mid t : Site) → number < 2 ^ 16 → Stood h bus y base w k s
+    (s mid t : Site) → Plain number → Stood h bus y base w k s
     → map op_of done ++ op ∷ left ≡ Write command_address (transfer_word false number) ∷ words_ops → OperationsAt done s mid → SiteCut op mid t
     → HungAt (λ z. z ≡ y) h bus base t
 together_cut number h bus y base w k [] op left s mid t small st asked at cut =
@@ -159,7 +160,7 @@ together_cut number h bus y base w k (o ∷ done) op left s mid t small st asked
 
 -- ---- polls behind it, and the clearing
 
-polls_hung : (number low high h : ℕ) (bus : BusUnit) (y : Hart) (base : Site) (w : Hart) (k : Kept) (words : List ℕ) (s mid t : Site) → number < 2 ^ 16
+polls_hung : (number low high h : ℕ) (bus : BusUnit) (y : Hart) (base : Site) (w : Hart) (k : Kept) (words : List ℕ) (s mid t : Site) → Plain number
     → Stood h bus y base w k s → SiteActs (asked_acts number low high ++ map poll_act words) s mid → RanAlone mid t → HungAt (λ z. z ≡ y) h bus base t
 polls_hung number low high h bus y base w k words s mid t small st p more =
     let split : Split (asked_acts number low high) (map poll_act words) s mid =
@@ -196,7 +197,7 @@ clears_hung number low high last h bus y base w k words s mid t c (BothTouched.w
 -- ---- by the fault
 
 several_hung : (number h : ℕ) (bus : BusUnit) (y : Hart) (base : Site) (w : Hart) (old_count new_count : ℕ) (old : Tells) (told : Option Far) (why : DmiFault)
-    → number < 2 ^ 16 → StoodTold h bus y base w old.far
+    → Plain number → StoodTold h bus y base w old.far
     → Broke [] (Several (Write command_address (transfer_word false number)) words_ops) old_count new_count old told why → Hung (λ z. z ≡ y) h bus base told
 several_hung number h bus y base w old_count new_count old told why small st b =
     let op : DmiOp = Write command_address (transfer_word false number) in
@@ -213,7 +214,7 @@ several_hung number h bus y base w old_count new_count old told why small st b =
     }
 
 begun_hung : (number h : ℕ) (bus : BusUnit) (y : Hart) (base : Site) (w : Hart) (old_count new_count : ℕ) (old : Tells) (told : Option Far) (why : DmiFault)
-    (acts : List Act) (failed : Attempt) → number < 2 ^ 16 → StoodTold h bus y base w old.far
+    (acts : List Act) (failed : Attempt) → Plain number → StoodTold h bus y base w old.far
     → BehindBegun (Asks number) (Write command_address (transfer_word false number)) words_ops acts failed
     → Broke acts failed old_count new_count old told why → Hung (λ z. z ≡ y) h bus base told
 begun_hung number h bus y base w old_count new_count old told why _ _ small st together b =
@@ -241,7 +242,7 @@ begun_hung number h bus y base w old_count new_count old told why _ _ small st (
           (both_touched number low high h bus y base w st.kept (site_of st.far) split.mid small st.stood split.first) split.rest not_busy error c.cut;
     }
 
-busy_hung : (number h : ℕ) (bus : BusUnit) (y : Hart) (base : Site) (w : Hart) (old new : Tells) (front : List Act) (words : List ℕ) → number < 2 ^ 16
+busy_hung : (number h : ℕ) (bus : BusUnit) (y : Hart) (base : Site) (w : Hart) (old new : Tells) (front : List Act) (words : List ℕ) → Plain number
     → StoodTold h bus y base w old.far → Asks number front → Did old (front ++ map poll_act words) new → Hung (λ z. z ≡ y) h bus base new.far
 unfolding ran
 busy_hung number h bus y base w old new _ words small st (asks low high) did =
@@ -255,7 +256,7 @@ busy_hung number h bus y base w old new _ words small st (asks low high) did =
     }
 
 pub asking_hung : (number h : ℕ) (bus : BusUnit) (y : Hart) (base : Site) (w : Hart) (old_count new_count : ℕ) (old new : Tells) (e : AccessFault)
-    → number < 2 ^ 16 → StoodTold h bus y base w old.far → AskFailed number old_count new_count old new e → IfCut (Hung (λ z. z ≡ y) h bus base new.far) e
+    → Plain number → StoodTold h bus y base w old.far → AskFailed number old_count new_count old new e → IfCut (Hung (λ z. z ≡ y) h bus base new.far) e
 asking_hung number h bus y base w old_count new_count old new (access_fault.Dmi why) small st f =
     begun_hung number h bus y base w old_count new_count old new.far why f.acts f.failed small st f.begun f.broke
 asking_hung number h bus y base w old_count new_count old new (access_fault.Memory at) small st f = tt

@@ -1,5 +1,5 @@
 -- What a call that broke off leaves of a told chip, by the board and the journal.
-use Rattle.std.proofs.Common.{◌≡◌, ◌∙◌, ◌<◌, ◌^◌, ◌++◌, ℕ, List, [], ◌∷◌, Option, Some, None, sym, ap, subst, append_assoc, arith}
+use Rattle.std.proofs.Common.{◌≡◌, ◌∙◌, ◌<◌, ◌^◌, ◌++◌, ℕ, List, [], ◌∷◌, Option, Some, None, refl, sym, ap, subst, append_assoc, arith}
 use Rattle.rv_model.specs.declared.size.Size.{Size}
 use Rattle.rv_model.specs.Board.{Board, Hart}
 use Rattle.rv_model.specs.DebugRegisters.{dcsr_number, debug_written}
@@ -21,6 +21,7 @@ use Rattle.probe_access.specs.MemoryRuns.{AroundFailed, LoadRunFailed, PutBackFa
 use Rattle.probe_access.specs.RegisterRuns.{ReadFailed, WriteFailed}
 use Rattle.probe_access.specs.Stops.{StopApartFailed, StopFailed, dpc_number}
 use Rattle.probe_access.specs.RegisterAccess.{x9_number}
+use Rattle.probe_access.proofs.Plain.{Plain}
 use Rattle.probe_access.proofs.Aside.{accessed, passed}
 use Rattle.probe_access.proofs.CutAccess.{AnyScratch, HungInside, InsideAt, around_hung, load_hung, store_cut}
 use Rattle.probe_access.proofs.CutAccess.InsideAt.{not_yet, made}
@@ -65,7 +66,7 @@ cut_left Y h c halted new e f = if_cut (Hung (Y halted.hart) h (site_of c).unit.
 
 -- ---- registers
 
-pub reg_cut : (h number : ℕ) (far : Option Far) (coming : Option DmiComing) (old_count new_count : ℕ) (new : Tells) (e : AccessFault) → number < 2 ^ 16
+pub reg_cut : (h number : ℕ) (far : Option Far) (coming : Option DmiComing) (old_count new_count : ℕ) (new : Tells) (e : AccessFault) → Plain number
     → IsReady far → Selects h far → IsHalted h far
     → ReadFailed number old_count new_count (tells far coming) new e → IfCut (Leaves (LeftAside Unchanged h) far new.far) e
 reg_cut h number None coming old_count new_count new e small ready selects halted f = cut_always (Leaves (LeftAside Unchanged h) None new.far) e tt
@@ -107,11 +108,11 @@ stop_hung : (h : ℕ) (bus : BusUnit) (y : Hart) (base : Site) (w : Hart) (old_c
     → StoodTold h bus y base w old.far → StopFailed old_count new_count old new e → IfCut (Hung (λ z. z ≡ y) h bus base new.far) e
 stop_hung h bus y base w old_count new_count old new e st (StopFailed.asking f) = stop_asking_hung h bus y base w old_count new_count old new e st f
 stop_hung h bus y base w old_count new_count old new e st (StopFailed.late mid early (StopApartFailed.at_dpc f)) =
-    apart_hung dpc_number h bus y base w old_count new_count mid new e (omega arith) (stop_early_told h bus y base w old mid st early) f
+    apart_hung dpc_number h bus y base w old_count new_count mid new e (record { small = omega arith; other = refl }) (stop_early_told h bus y base w old mid st early) f
 stop_hung h bus y base w old_count new_count old new e st (StopFailed.late mid early (StopApartFailed.at_dcsr pc then r f)) =
     let a : ReadTold dpc_number pc h bus y base w then.far =
-    apart_told dpc_number pc h bus y base w mid then (omega arith) (stop_early_told h bus y base w old mid st early) r in
-    apart_hung dcsr_number h bus y base w old_count new_count then new e (omega arith) a.then f
+    apart_told dpc_number pc h bus y base w mid then (record { small = omega arith; other = refl }) (stop_early_told h bus y base w old mid st early) r in
+    apart_hung dcsr_number h bus y base w old_count new_count then new e (record { small = omega arith; other = refl }) a.then f
 
 pub stop_cut : (h : ℕ) (far : Option Far) (coming : Option DmiComing) (old_count new_count : ℕ) (new : Tells) (e : AccessFault) → IsReady far → Selects h far
     → IsHalted h far → StopFailed old_count new_count (tells far coming) new e
@@ -131,12 +132,10 @@ scratch_as x y a = record {
       a.is ∙ sym (ap (λ (z : Hart). debug_written z x9_number a.q) (x8_written x a.p) ∙ x9_written (with_core_x x 8 a.p) a.q);
 }
 
-pub access_left : (N : Memory → Memory → Type 0) (h : ℕ) (s : Site) (halted : HartHalted h s.board) (t : Site)
-    → InsideAt (AnyScratch halted.hart) N h s.unit.bus s t → AccessLeftOff Scratched N h s t
-access_left N h s halted t (not_yet p) =
-    before_it (left_aside Scratched h s halted.hart t halted
-    (record { unit = p.unit; bus_is = p.bus_is; hart = p.hart; one = scratch_as halted.hart p.hart p.one; harts = p.harts; at = p.at }))
-access_left N h s halted t (made before n left p) =
+pub access_left_by : (Y : Hart → Hart → Type 0) (N : Memory → Memory → Type 0) (h : ℕ) (s : Site) (halted : HartHalted h s.board) (t : Site)
+    → InsideAt (Y halted.hart) N h s.unit.bus s t → AccessLeftOff Y N h s t
+access_left_by Y N h s halted t (not_yet p) = before_it (left_aside Y h s halted.hart t halted p)
+access_left_by Y N h s halted t (made before n left p) =
     let b : Site = accessed n (passed before s) in
     let first : Passed s (passed before s) = passed_turns before s in
     let last : Passed b (passed p.harts b) = passed_turns p.harts b in
@@ -144,7 +143,7 @@ access_left N h s halted t (made before n left p) =
       hart = halted.hart;
       here = halted.is;
       left = p.hart;
-      one = scratch_as halted.hart p.hart p.one;
+      one = p.one;
       before = first.harts;
       behind = last.harts;
       memory = n;
@@ -155,6 +154,17 @@ access_left N h s halted t (made before n left p) =
           ∙ append_assoc (s.journal ++ turns first.harts) (Access ∷ []) (turns last.harts);
       bus = ap (λ (u : Site). u.unit.bus) p.at ∙ p.bus_is;
     })
+
+scratch_inside : (x : Hart) (N : Memory → Memory → Type 0) (h : ℕ) (bus : BusUnit) (s t : Site) → InsideAt (AnyScratch x) N h bus s t
+    → InsideAt (Scratched x) N h bus s t
+scratch_inside x N h bus s t (not_yet p) =
+    not_yet (record { unit = p.unit; bus_is = p.bus_is; hart = p.hart; one = scratch_as x p.hart p.one; harts = p.harts; at = p.at })
+scratch_inside x N h bus s t (made before n left p) =
+    made before n left (record { unit = p.unit; bus_is = p.bus_is; hart = p.hart; one = scratch_as x p.hart p.one; harts = p.harts; at = p.at })
+
+pub access_left : (N : Memory → Memory → Type 0) (h : ℕ) (s : Site) (halted : HartHalted h s.board) (t : Site)
+    → InsideAt (AnyScratch halted.hart) N h s.unit.bus s t → AccessLeftOff Scratched N h s t
+access_left N h s halted t p = access_left_by Scratched N h s halted t (scratch_inside halted.hart N h s.unit.bus s t p)
 
 access_is_left : (N : Memory → Memory → Type 0) (h : ℕ) (c : Far) (halted : HartHalted h (site_of c).board) (new : Option Far) (e : AccessFault)
     → IfCut (HungInside (AnyScratch halted.hart) N h (site_of c).unit.bus (site_of c) new) e

@@ -77,13 +77,13 @@ together_cut : (h : ℕ) (bus : BusUnit) (y : Hart) (base : Site) (w : Hart) (k 
     → AsItWas h bus y base t
 together_cut h bus y base w k [] op left s mid t st asks_these at cut =
     let is : op ≡ Write command_address dcsr_word = cc in
-    command_cut dcsr_number h bus y base w k mid t (omega arith) (subst (Stood h bus y base w k) (sym at) st) (subst (λ o. SiteCut o mid t) is cut)
+    command_cut dcsr_number h bus y base w k mid t (record { small = omega arith; other = refl }) (subst (Stood h bus y base w k) (sym at) st) (subst (λ o. SiteCut o mid t) is cut)
 together_cut h bus y base w k (o ∷ done) op left s mid t st asks_these at cut =
     let first : o.op ≡ Write command_address dcsr_word = cc in
     let others : map op_of done ++ op ∷ left ≡ word_ops = cc in
     let one : OneOperation (Write command_address dcsr_word) o.result s at.0 = subst (λ q. OneOperation q o.result s at.0) first at.1 in
     rest_cut h bus y base w k done op left at.0 mid t (stood_calm h bus y base w k s st) others
-    (asked_first dcsr_number h bus y base w k s at.0 (omega arith) st (write_one command_address dcsr_word o.result s at.0 one)) at.2 cut
+    (asked_first dcsr_number h bus y base w k s at.0 (record { small = omega arith; other = refl }) st (write_one command_address dcsr_word o.result s at.0 one)) at.2 cut
 
 -- ---- polls behind it, and the clearing
 

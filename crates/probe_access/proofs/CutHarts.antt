@@ -32,6 +32,7 @@ use Rattle.debug_model.specs.declared.dmi_op.DmiOp.{DmiOp}
 use Rattle.probe_run.specs.Acts.Attempt.{Operation}
 use Rattle.probe_access.proofs.CutSites.{CommandCutAt, CommandCutTold, CutAt, CutWithin, SentAt, command_cut_told, cut_within, got_cut, if_cut}
 use Rattle.probe_access.proofs.CutSites.CommandCutAt.{unsent, sent, ended}
+use Rattle.probe_access.proofs.Plain.{Plain, Transferable, small_number}
 use Rattle.probe_access.proofs.ReadyUnit.{Held, Kept, commands_of, done_ran, unit_of, unit_with}
 use Rattle.probe_access.proofs.RegAnswers.{CommandTold, ReadTold, StoodTold, WrittenTold, command_told, halves_joined, read_told, written_told, too_early_told}
 use Rattle.probe_access.proofs.RegisterTold.{Stood, TransferTold, WordPuts, double_puts, error_cleared, got_at, with_double, Rests}
@@ -76,14 +77,14 @@ abbrev pub Either : Bool → ℕ → Kept → Hart → Hart → Type 0
 Either write number k y z = (z ≡ y) ⊎ (z ≡ hart_behind write number k y)
 
 sent_by : (write : Bool) (number h : ℕ) (bus : BusUnit) (y : Hart) (base : Site) (w : Hart) (k : Kept) (t : Site) (o : Option ℕ) (r : Bool) → Held h w base
-    → Frozen y → number < 2 ^ 16 → bus.pending ≡ None
+    → Frozen y → Transferable write number → bus.pending ≡ None
     → debug_value y number ≡ o → refusing write number ≡ r → SentAt (transfer_word write number) (unit_of k h bus) h y base t
     → HungAt (Either write number k y) h bus base t
 sent_by write number h bus y base w k t (Some v) false held fy small idle is refuses e =
     let command : AbstractCommand = transfer_command write number in
     let start : Site = after_write command_address (transfer_word write number) (aside (unit_of k h bus) h y (passed e.harts base)) in
     let starts = command_starts (transfer_word write number) command Fine k h bus y (passed e.harts base) w
-    (stays_passed h e.harts base w held.here held.frozen) (transfer_back write number small)
+    (stays_passed h e.harts base w held.here held.frozen) (transfer_back write number (small_number write number small))
     (transfer_refusal_by y write number (Some v) false fy is refuses) in
     let m : DebugModule = unit_with (with_command command k) Fine (Transfer command ∷ []) h bus in
     let course : Course m h y base w = record { here = held.here; frozen = held.frozen; frozen_x = fy; selected = refl; bus = idle } in
@@ -91,12 +92,12 @@ sent_by write number h bus y base w k t (Some v) false held fy small idle is ref
     between_hung (Either write number k y) m (unit_of (words_behind write number v k) h bus) h bus y z base t refl refl (inl refl) (inr refl)
     (subst (λ s. Between m (unit_of (words_behind write number v k) h bus) h y z base s) (sym e.is)
     (between_ran e.during m (commands_of (words_behind write number v k) Fine []) h y z base w (Transfer command) start course
-    (behind_frozen write number k y fy) refl refl (transfer_does write number v k y is) (still e.harts starts)))
+    (behind_frozen write number k y fy) refl refl (transfer_does write number v k y small is) (still e.harts starts)))
 sent_by write number h bus y base w k t (Some v) true held fy small idle is refuses e =
     let command : AbstractCommand = transfer_command write number in
     let n : DebugModule = unit_with (with_command command k) Exception [] h bus in
     let starts = command_starts (transfer_word write number) command Exception k h bus y (passed e.harts base) w
-    (stays_passed h e.harts base w held.here held.frozen) (transfer_back write number small)
+    (stays_passed h e.harts base w held.here held.frozen) (transfer_back write number (small_number write number small))
     (transfer_refusal_by y write number (Some v) true fy is refuses) in
     hung_done (Either write number k y) n h bus y base t refl (inl refl)
     (done_ran n h y base w e.during (after_write command_address (transfer_word write number) (aside (unit_of k h bus) h y (passed e.harts base))) t held fy
@@ -105,7 +106,7 @@ sent_by write number h bus y base w k t None r held fy small idle is refuses e =
     let command : AbstractCommand = transfer_command write number in
     let n : DebugModule = unit_with (with_command command k) Exception [] h bus in
     let starts = command_starts (transfer_word write number) command Exception k h bus y (passed e.harts base) w
-    (stays_passed h e.harts base w held.here held.frozen) (transfer_back write number small) (transfer_refusal_by y write number None r fy is refuses) in
+    (stays_passed h e.harts base w held.here held.frozen) (transfer_back write number (small_number write number small)) (transfer_refusal_by y write number None r fy is refuses) in
     hung_done (Either write number k y) n h bus y base t refl (inl refl)
     (done_ran n h y base w e.during (after_write command_address (transfer_word write number) (aside (unit_of k h bus) h y (passed e.harts base))) t held fy
     refl idle e.is (record { harts = e.harts; is = starts }))
@@ -118,7 +119,7 @@ end_cut write number last h bus y base w k mid t held fy idle error (refused non
     clear_cut (Either write number k y) last h bus y base w (with_command (transfer_command write number) k) mid t end.error_is held fy idle (inl refl)
     end.done_at cut
 
-pub transfer_cut : (write : Bool) (number h : ℕ) (bus : BusUnit) (y : Hart) (base : Site) (w : Hart) (k : Kept) (t : Site) → number < 2 ^ 16 → Held h w base
+pub transfer_cut : (write : Bool) (number h : ℕ) (bus : BusUnit) (y : Hart) (base : Site) (w : Hart) (k : Kept) (t : Site) → Transferable write number → Held h w base
     → Frozen y → bus.pending ≡ None
     → CommandCutAt (transfer_word write number) h bus y base w k t
     → HungAt (Either write number k y) h bus base t
@@ -129,7 +130,7 @@ transfer_cut write number h bus y base w k t small held fy none (ended last mid 
     end_cut write number last h bus y base w k mid t held fy none error (transfer_ends write number last k h bus y base w mid held fy small none c idle) cut
 
 transfer_hung : (front : List Act) (write : Bool) (number h : ℕ) (bus : BusUnit) (y : Hart) (base : Site) (w : Hart) (l : Kept) (old_count new_count : ℕ)
-    (old new : Tells) (e : AccessFault) → number < 2 ^ 16
+    (old new : Tells) (e : AccessFault) → Transferable write number
     → (st : StoodTold h bus y base w old.far) → WordPuts h bus y st.kept front l
     → CommandFailed front (transfer_word write number) old_count new_count old new e
     → IfCut (Hung (Either write number l y) h bus base new.far) e
@@ -188,7 +189,7 @@ words_hung h bus y base w old_count new_count mid told why st f =
     words_read_cut h bus y base w mid.far told cut.acts cut.op st cut.begun cut.cut
 
 read_at_hung : (number h : ℕ) (bus : BusUnit) (y : Hart) (base : Site) (w : Hart) (old_count new_count : ℕ) (old new : Tells) (why : DmiFault)
-    → number < 2 ^ 16 → StoodTold h bus y base w old.far
+    → Plain number → StoodTold h bus y base w old.far
     → ReadApartFailedAt number old_count new_count old new (access_fault.Dmi why) → Hung (λ z. z ≡ y) h bus base new.far
 read_at_hung number h bus y base w old_count new_count old new why small st (read_in_command _ f) =
     hung_map (Either false number st.kept y) (λ z. z ≡ y) h bus base new.far (λ z e. same_either number st.kept y z e)
@@ -200,7 +201,7 @@ read_at_hung number h bus y base w old_count new_count old new why small st (rea
     words_hung h bus y base w old_count new_count mid new.far why stood f
 
 pub apart_hung : (number h : ℕ) (bus : BusUnit) (y : Hart) (base : Site) (w : Hart) (old_count new_count : ℕ) (old new : Tells) (e : AccessFault)
-    → number < 2 ^ 16 → StoodTold h bus y base w old.far → ReadApartFailed number old_count new_count old new e
+    → Plain number → StoodTold h bus y base w old.far → ReadApartFailed number old_count new_count old new e
     → IfCut (Hung (λ z. z ≡ y) h bus base new.far) e
 apart_hung number h bus y base w old_count new_count old new (access_fault.Dmi why) small st f =
     read_at_hung number h bus y base w old_count new_count old new why small st f
@@ -213,7 +214,7 @@ apart_hung number h bus y base w old_count new_count old new (access_fault.Run w
 apart_hung number h bus y base w old_count new_count old new (access_fault.Odd shown) small st f = tt
 
 pub read_hung : (number h : ℕ) (bus : BusUnit) (y : Hart) (base : Site) (w : Hart) (old_count new_count : ℕ) (old new : Tells) (e : AccessFault)
-    → number < 2 ^ 16 → StoodTold h bus y base w old.far → ReadFailed number old_count new_count old new e
+    → Plain number → StoodTold h bus y base w old.far → ReadFailed number old_count new_count old new e
     → IfCut (Hung (λ z. z ≡ y) h bus base new.far) e
 read_hung number h bus y base w old_count new_count old new e small st (ReadFailed.asking f) =
     asking_hung number h bus y base w old_count new_count old new e small st f
@@ -255,10 +256,10 @@ write_hung number value h bus y base w old_count new_count old new (access_fault
 
 pub save_hung : (h : ℕ) (bus : BusUnit) (y : Hart) (base : Site) (w : Hart) (old_count new_count : ℕ) (old new : Tells) (e : AccessFault)
     → StoodTold h bus y base w old.far → SaveFailed old_count new_count old new e → IfCut (Hung (λ z. z ≡ y) h bus base new.far) e
-save_hung h bus y base w old_count new_count old new e st (save_x8 f) = read_hung x8_number h bus y base w old_count new_count old new e (omega arith) st f
+save_hung h bus y base w old_count new_count old new e st (save_x8 f) = read_hung x8_number h bus y base w old_count new_count old new e (record { small = omega arith; other = refl }) st f
 save_hung h bus y base w old_count new_count old new e st (save_x9 x8 mid r f) =
-    let a : ReadTold x8_number x8 h bus y base w mid.far = read_told x8_number x8 h bus y base w old mid (omega arith) st r in
-    read_hung x9_number h bus y base w old_count new_count mid new e (omega arith) a.then f
+    let a : ReadTold x8_number x8 h bus y base w mid.far = read_told x8_number x8 h bus y base w old mid (record { small = omega arith; other = refl }) st r in
+    read_hung x9_number h bus y base w old_count new_count mid new e (record { small = omega arith; other = refl }) a.then f
 
 -- neither was written, or the first, or both
 abbrev pub PutBack : ℕ → ℕ → Hart → Hart → Type 0

@@ -57,7 +57,7 @@ AsItWas h bus y base t = HungAt (λ z. z ≡ y) h bus base t
 second_cut : (low high h : ℕ) (bus : BusUnit) (y : Hart) (base : Site) (w : Hart) (k : Kept) (s t : Site) → Calm h bus y base w
     → BothTouched dpc_number low high h bus y base w k s → SiteCut (Write command_address dcsr_word) s t → AsItWas h bus y base t
 second_cut low high h bus y base w k s t c (BothTouched.right v held low_is high_is st) cut =
-    command_cut dcsr_number h bus y base w (words_behind false dpc_number v k) s t (omega arith) st cut
+    command_cut dcsr_number h bus y base w (words_behind false dpc_number v k) s t (record { small = omega arith; other = refl }) st cut
 second_cut low high h bus y base w k s t c (BothTouched.wrong e) (unperformed d) =
     erred_hung h bus y base t (erred_ran h bus y base w d.deeds s t c d.is e)
 second_cut low high h bus y base w k s t c (BothTouched.wrong e) (was_performed result o) =
@@ -72,7 +72,7 @@ data Second (h : ℕ) (bus : BusUnit) (y : Hart) (base t : Site) : Type 0 where
 second_asked : (low high h : ℕ) (bus : BusUnit) (y : Hart) (base : Site) (w : Hart) (k : Kept) (s t : Site) → Calm h bus y base w
     → BothTouched dpc_number low high h bus y base w k s → OneOperation (Write command_address dcsr_word) dcsr_word s t → Second h bus y base t
 second_asked low high h bus y base w k s t c (BothTouched.right v held low_is high_is st) o =
-    asked (words_behind false dpc_number v k) (asked_first dcsr_number h bus y base w (words_behind false dpc_number v k) s t (omega arith) st o)
+    asked (words_behind false dpc_number v k) (asked_first dcsr_number h bus y base w (words_behind false dpc_number v k) s t (record { small = omega arith; other = refl }) st o)
 second_asked low high h bus y base w k s t c (BothTouched.wrong e) o =
     none (erred_one h bus y base w (Write command_address dcsr_word) dcsr_word s t c (command_keeps dcsr_word h bus y base) o e)
 
@@ -162,13 +162,13 @@ together_cut : (h : ℕ) (bus : BusUnit) (y : Hart) (base : Site) (w : Hart) (k 
     → AsItWas h bus y base t
 together_cut h bus y base w k [] op left s mid t st asks_these at cut =
     let is : op ≡ Write command_address dpc_word = cc in
-    command_cut dpc_number h bus y base w k mid t (omega arith) (subst (Stood h bus y base w k) (sym at) st) (subst (λ o. SiteCut o mid t) is cut)
+    command_cut dpc_number h bus y base w k mid t (record { small = omega arith; other = refl }) (subst (Stood h bus y base w k) (sym at) st) (subst (λ o. SiteCut o mid t) is cut)
 together_cut h bus y base w k (o ∷ done) op left s mid t st asks_these at cut =
     let first : o.op ≡ Write command_address dpc_word = cc in
     let others : map op_of done ++ op ∷ left ≡ words_ops = cc in
     let one : OneOperation (Write command_address dpc_word) o.result s at.0 = subst (λ q. OneOperation q o.result s at.0) first at.1 in
     words_cut h bus y base w k done op left at.0 mid t (stood_calm h bus y base w k s st) others
-    (asked_first dpc_number h bus y base w k s at.0 (omega arith) st (write_one command_address dpc_word o.result s at.0 one)) at.2 cut
+    (asked_first dpc_number h bus y base w k s at.0 (record { small = omega arith; other = refl }) st (write_one command_address dpc_word o.result s at.0 one)) at.2 cut
 
 -- ---- polls behind it, and the clearing
 

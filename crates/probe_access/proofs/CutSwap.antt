@@ -27,6 +27,7 @@ use Rattle.probe_access.specs.Cuts.{IfCut}
 use Rattle.probe_access.specs.RegisterAccess.{transfer_word}
 use Rattle.probe_access.specs.RegisterRuns.{SwapFailed, Swaps, asked_acts, double_written, swapped_acts}
 use Rattle.probe_access.specs.RegisterRuns.Swaps.{swaps}
+use Rattle.probe_access.proofs.Plain.{Plain}
 use Rattle.probe_access.proofs.Along.{AtSites, SiteActs, Split, did_sites, operations_acts, site_acts-split}
 use Rattle.probe_access.proofs.AtOnceTold.{Asked, BothTouched, asked_first, both_touched, lower_touched, upper_touched}
 use Rattle.probe_access.proofs.CutAtOnce.{command_cut, erred_hung, lower_cut, over_cut, read_one, upper_cut, write_one}
@@ -111,14 +112,14 @@ giving_keeps number value h bus y base = (
   ),
 )
 
-written_cut : (number value h : ℕ) (bus : BusUnit) (y : Hart) (base : Site) (w : Hart) (l : Kept) (t : Site) → number < 2 ^ 16 → Calm h bus y base w
+written_cut : (number value h : ℕ) (bus : BusUnit) (y : Hart) (base : Site) (w : Hart) (l : Kept) (t : Site) → Plain number → Calm h bus y base w
     → CommandCutAt (transfer_word true number) h bus y base w (with_double value l) t → HungAt (Written number value y) h bus base t
 written_cut number value h bus y base w l t small c cut =
     at_map (Either true number (with_double value l) y) (Written number value y) h bus base t (λ z p. written_either number value l y z p)
-    (transfer_cut true number h bus y base w (with_double value l) t small c.held c.frozen c.idle cut)
+    (transfer_cut true number h bus y base w (with_double value l) t small.small c.held c.frozen c.idle cut)
 
 giving_cut : (number low high value h : ℕ) (bus : BusUnit) (y : Hart) (base : Site) (w : Hart) (k : Kept) (done : List Done) (op : DmiOp)
-    (left : List DmiOp) (s mid t : Site) → number < 2 ^ 16 → Calm h bus y base w → map op_of done ++ op ∷ left ≡ giving_ops number value
+    (left : List DmiOp) (s mid t : Site) → Plain number → Calm h bus y base w → map op_of done ++ op ∷ left ≡ giving_ops number value
     → BothTouched number low high h bus y base w k s → OperationsAt done s mid → SiteCut op mid t → HungAt (Written number value y) h bus base t
 giving_cut number low high value h bus y base w k done op left s mid t small c asked (BothTouched.right v held low_is high_is st) at cut =
     let l : Kept = words_behind false number v k in
@@ -138,7 +139,7 @@ abbrev swap_ops : ℕ → ℕ → List DmiOp
 swap_ops number value = Read data1_address ∷ Read data0_address ∷ giving_ops number value
 
 words_cut : (number value h : ℕ) (bus : BusUnit) (y : Hart) (base : Site) (w : Hart) (k : Kept) (done : List Done) (op : DmiOp) (left : List DmiOp)
-    (s mid t : Site) → number < 2 ^ 16 → Calm h bus y base w → map op_of done ++ op ∷ left ≡ swap_ops number value → Asked number h bus y base k s
+    (s mid t : Site) → Plain number → Calm h bus y base w → map op_of done ++ op ∷ left ≡ swap_ops number value → Asked number h bus y base k s
     → OperationsAt done s mid → SiteCut op mid t → HungAt (Written number value y) h bus base t
 words_cut number value h bus y base w k [] op left s mid t small c asked a at cut =
     let is : op ≡ Read data1_address = cc in
@@ -166,7 +167,7 @@ words_cut number value h bus y base w k (o ∷ p ∷ done) op left s mid t small
     at.2.2 cut
 
 together_cut : (number value h : ℕ) (bus : BusUnit) (y : Hart) (base : Site) (w : Hart) (k : Kept) (done : List Done) (op : DmiOp) (left : List DmiOp)
-    (s mid t : Site) → number < 2 ^ 16 → Stood h bus y base w k s
+    (s mid t : Site) → Plain number → Stood h bus y base w k s
     → map op_of done ++ op ∷ left ≡ Write command_address (transfer_word false number) ∷ swap_ops number value → OperationsAt done s mid → SiteCut op mid t
     → HungAt (Written number value y) h bus base t
 together_cut number value h bus y base w k [] op left s mid t small st asked at cut =
@@ -188,7 +189,7 @@ record WordsAt (number low high : ℕ) (rest : List Act) (h : ℕ) (bus : BusUni
   touched : BothTouched number low high h bus y base w k mid
   rest_are : SiteActs rest mid t
 
-words_at : (number low high value h : ℕ) (bus : BusUnit) (y : Hart) (base : Site) (w : Hart) (k : Kept) (more : List Act) (s t : Site) → number < 2 ^ 16
+words_at : (number low high value h : ℕ) (bus : BusUnit) (y : Hart) (base : Site) (w : Hart) (k : Kept) (more : List Act) (s t : Site) → Plain number
     → Stood h bus y base w k s → SiteActs (swapped_acts number low high value ++ more) s t
     → WordsAt number low high (giving_acts number value ++ more) h bus y base w k t
 words_at number low high value h bus y base w k more s t small st p =
@@ -198,7 +199,7 @@ words_at number low high value h bus y base w k more s t small st p =
     record { mid = cut.mid; touched = both_touched number low high h bus y base w k s cut.mid small st cut.first; rest_are = cut.rest }
 
 polled_cut : (number low high value h : ℕ) (bus : BusUnit) (y : Hart) (base : Site) (w : Hart) (k : Kept) (words : List ℕ) (s mid t : Site)
-    → number < 2 ^ 16 → Calm h bus y base w → InVain words → BothTouched number low high h bus y base w k s
+    → Plain number → Calm h bus y base w → InVain words → BothTouched number low high h bus y base w k s
     → SiteActs (giving_acts number value ++ map poll_act words) s mid → SiteCut (Read abstractcs_address) mid t
     → HungAt (Written number value y) h bus base t
 polled_cut number low high value h bus y base w k words s mid t small c vain (BothTouched.right v held low_is high_is st) p cut =
@@ -216,7 +217,7 @@ polled_cut number low high value h bus y base w k words s mid t small c vain (Bo
     (erred_ran h bus y base w more.deeds mid t c more.is
     (erred_ran h bus y base w polled.deeds split.mid mid c polled.is (giving_erred number value h bus y base w s split.mid c e split.first))))
 
-always_cut : (number low high value h : ℕ) (bus : BusUnit) (y : Hart) (base : Site) (w : Hart) (k : Kept) (words : List ℕ) (s t : Site) → number < 2 ^ 16
+always_cut : (number low high value h : ℕ) (bus : BusUnit) (y : Hart) (base : Site) (w : Hart) (k : Kept) (words : List ℕ) (s t : Site) → Plain number
     → Calm h bus y base w → BothTouched number low high h bus y base w k s → SiteActs (giving_acts number value ++ map poll_act words) s t
     → HungAt (Written number value y) h bus base t
 always_cut number low high value h bus y base w k words s t small c (BothTouched.right v held low_is high_is st) p =
@@ -234,7 +235,7 @@ always_cut number low high value h bus y base w k words s t small c (BothTouched
     (erred_ran h bus y base w polled.deeds split.mid t c polled.is (giving_erred number value h bus y base w s split.mid c e split.first)))
 
 cleared_cut : (number low high value last h : ℕ) (bus : BusUnit) (y : Hart) (base : Site) (w : Hart) (k : Kept) (words : List ℕ) (s mid t : Site)
-    → number < 2 ^ 16 → Calm h bus y base w → InVain words → shows_busy last ≡ false → error_shown last ≢ 0
+    → Plain number → Calm h bus y base w → InVain words → shows_busy last ≡ false → error_shown last ≢ 0
     → BothTouched number low high h bus y base w k s → SiteActs (giving_acts number value ++ (map poll_act words ++ poll_act last ∷ [])) s mid
     → SiteCut (Write abstractcs_address clears_cmderr) mid t → HungAt (Written number value y) h bus base t
 cleared_cut number low high value last h bus y base w k words s mid t small c vain not_busy error (BothTouched.right v held low_is high_is st) p cut =
@@ -253,7 +254,7 @@ cleared_cut number low high value last h bus y base w k words s mid t small c va
 -- ---- by the fault
 
 several_hung : (number value h : ℕ) (bus : BusUnit) (y : Hart) (base : Site) (w : Hart) (old_count new_count : ℕ) (old : Tells) (told : Option Far)
-    (why : DmiFault) → number < 2 ^ 16 → StoodTold h bus y base w old.far
+    (why : DmiFault) → Plain number → StoodTold h bus y base w old.far
     → Broke [] (Several (Write command_address (transfer_word false number)) (swap_ops number value)) old_count new_count old told why
     → Hung (Written number value y) h bus base told
 several_hung number value h bus y base w old_count new_count old told why small st b =
@@ -271,7 +272,7 @@ several_hung number value h bus y base w old_count new_count old told why small 
     }
 
 begun_hung : (number value h : ℕ) (bus : BusUnit) (y : Hart) (base : Site) (w : Hart) (old_count new_count : ℕ) (old : Tells) (told : Option Far)
-    (why : DmiFault) (acts : List Act) (failed : Attempt) → number < 2 ^ 16 → StoodTold h bus y base w old.far
+    (why : DmiFault) (acts : List Act) (failed : Attempt) → Plain number → StoodTold h bus y base w old.far
     → BehindBegun (Swaps number value) (Write command_address (transfer_word false number)) (swap_ops number value) acts failed
     → Broke acts failed old_count new_count old told why → Hung (Written number value y) h bus base told
 begun_hung number value h bus y base w old_count new_count old told why _ _ small st together b =
@@ -299,7 +300,7 @@ begun_hung number value h bus y base w old_count new_count old told why _ _ smal
           (stood_calm h bus y base w st.kept (site_of st.far) st.stood) vain not_busy error a.touched a.rest_are c.cut;
     }
 
-busy_hung : (number value h : ℕ) (bus : BusUnit) (y : Hart) (base : Site) (w : Hart) (old new : Tells) (front : List Act) (words : List ℕ) → number < 2 ^ 16
+busy_hung : (number value h : ℕ) (bus : BusUnit) (y : Hart) (base : Site) (w : Hart) (old new : Tells) (front : List Act) (words : List ℕ) → Plain number
     → StoodTold h bus y base w old.far → Swaps number value front → Did old (front ++ map poll_act words) new
     → Hung (Written number value y) h bus base new.far
 busy_hung number value h bus y base w old new _ words small st (swaps low high) did =
@@ -314,7 +315,7 @@ busy_hung number value h bus y base w old new _ words small st (swaps low high) 
     }
 
 pub swap_hung : (number value h : ℕ) (bus : BusUnit) (y : Hart) (base : Site) (w : Hart) (old_count new_count : ℕ) (old new : Tells) (e : AccessFault)
-    → number < 2 ^ 16 → StoodTold h bus y base w old.far → SwapFailed number value old_count new_count old new e
+    → Plain number → StoodTold h bus y base w old.far → SwapFailed number value old_count new_count old new e
     → IfCut (Hung (Written number value y) h bus base new.far) e
 swap_hung number value h bus y base w old_count new_count old new (access_fault.Dmi why) small st f =
     begun_hung number value h bus y base w old_count new_count old new.far why f.acts f.failed small st f.begun f.broke

@@ -65,7 +65,7 @@ dcsr_clean h c bus x s old_count new_count old new e st (DcsrReadFailed.asking f
     clean_left c e (behind_clean AsksDcsr _ _ old_count new_count old new e f)
 dcsr_clean h c bus x s old_count new_count old new e st (DcsrReadFailed.late mid early f) =
     clean_left c e
-    (apart_clean dcsr_number h bus x s x old_count new_count mid new e (omega arith) (reads_dcsr x) (dcsr_early_told h bus x s x old mid st early) f)
+    (apart_clean dcsr_number h bus x s x old_count new_count mid new e (record { small = omega arith; other = refl }) (reads_dcsr x) (dcsr_early_told h bus x s x old mid st early) f)
 
 pub dcsr_err : (h : ℕ) (far : Option Far) (coming : Option DmiComing) (old_count new_count : ℕ) (new : Tells) (e : AccessFault) → IsReady far → Selects h far
     → IsHalted h far → DcsrReadFailed old_count new_count (tells far coming) new e → ScratchLeft far e
@@ -79,7 +79,7 @@ dcsr_hung : (h : ℕ) (bus : BusUnit) (y : Hart) (base : Site) (w : Hart) (old_c
     → StoodTold h bus y base w old.far → DcsrReadFailed old_count new_count old new e → IfCut (Hung (λ z. z ≡ y) h bus base new.far) e
 dcsr_hung h bus y base w old_count new_count old new e st (DcsrReadFailed.asking f) = dcsr_asking_hung h bus y base w old_count new_count old new e st f
 dcsr_hung h bus y base w old_count new_count old new e st (DcsrReadFailed.late mid early f) =
-    apart_hung dcsr_number h bus y base w old_count new_count mid new e (omega arith) (dcsr_early_told h bus y base w old mid st early) f
+    apart_hung dcsr_number h bus y base w old_count new_count mid new e (record { small = omega arith; other = refl }) (dcsr_early_told h bus y base w old mid st early) f
 
 pub dcsr_cut : (h : ℕ) (far : Option Far) (coming : Option DmiComing) (old_count new_count : ℕ) (new : Tells) (e : AccessFault) → IsReady far → Selects h far
     → IsHalted h far → DcsrReadFailed old_count new_count (tells far coming) new e

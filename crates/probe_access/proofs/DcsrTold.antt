@@ -1,5 +1,5 @@
 -- dcsr is read by its lower word in one call: the end without an error says that the word is its.
-use Rattle.std.proofs.Common.{◌≡◌, ◌≢◌, ◌<◌, ◌^◌, ◌++◌, ℕ, List, ◌∷◌, map, false, Option, Some, None, sym, subst, arith}
+use Rattle.std.proofs.Common.{◌≡◌, ◌≢◌, ◌<◌, ◌^◌, ◌++◌, ℕ, List, ◌∷◌, map, false, Option, Some, None, refl, sym, subst, arith}
 use Rattle.rv_model.specs.Board.{Hart}
 use Rattle.rv_model.specs.DebugRegisters.{dcsr_number, debug_value}
 use Rattle.debug_model.specs.Dmi.{value_of}
@@ -25,7 +25,7 @@ pub dcsr_touched : (word h : ℕ) (bus : BusUnit) (y : Hart) (base : Site) (w : 
 dcsr_touched word h bus y base w k s t st p =
     subst (λ u. Touched dcsr_number word lower h bus y base w k u) (sym p.2.2)
     (lower_alone dcsr_number word h bus y base w k p.0 p.2.0 (stood_calm h bus y base w k s st)
-    (asked_first dcsr_number h bus y base w k s p.0 (omega arith) st p.1) p.2.1)
+    (asked_first dcsr_number h bus y base w k s p.0 (record { small = omega arith; other = refl }) st p.1) p.2.1)
 
 -- ---- the end
 
@@ -106,7 +106,7 @@ dcsr_read_told word h bus y base w old new st (DcsrRead.at_once r) =
     held_by word r.last h bus y base w new.far t.far t.is t.end r.error_is
 dcsr_read_told word h bus y base w old new st (DcsrRead.late mid first r) =
     let a : ReadTold dcsr_number word h bus y base w new.far =
-    apart_told dcsr_number word h bus y base w mid new (omega arith) (dcsr_early_told h bus y base w old mid st first) r in
+    apart_told dcsr_number word h bus y base w mid new (record { small = omega arith; other = refl }) (dcsr_early_told h bus y base w old mid st first) r in
     record { held = a.held; held_is = a.held_is; word_is = λ small. a.value_is (omega (arith, small)); then = a.then }
 
 -- ---- a link that tells nothing

@@ -1,7 +1,6 @@
 -- An error that stands while a transfer out of a register is under way or over: no access to the words and no command clears it, and the end shows it.
 use Rattle.std.proofs.Common.{◌≡◌, ◌≢◌, ◌∙◌, ℕ, List, [], ◌∷◌, ◌++◌, map, Bool, true, false, Option, Some, None, refl, sym, ap, subst, arith}
 use Rattle.rv_model.specs.Board.{Hart}
-use Rattle.rv_model.specs.DebugRegisters.{debug_value}
 use Rattle.debug_model.specs.Addresses.{data0_address, data1_address, abstractcs_address, command_address}
 use Rattle.debug_model.specs.declared.cmderr.Cmderr.{Cmderr}
 use Rattle.debug_model.specs.declared.cmderr.Cmderr.TheVariants.{Fine, Busy, NotSupported, Exception, HaltResume}
@@ -22,6 +21,7 @@ use Rattle.probe_access.specs.CommandRuns.{clearing, error_shown, poll_act, show
 use Rattle.probe_access.specs.RegisterAccess.{transfer_command}
 use Rattle.probe_access.proofs.Along.{SiteActs, Split, site_acts-split}
 use Rattle.probe_access.proofs.Aside.{Frozen, aside, passed}
+use Rattle.probe_access.proofs.Plain.{Holds, seen_held}
 use Rattle.probe_access.proofs.ReadyUnit.{Held, Kept, OpAt, commands_of, done_ran, op_at, op_done, unit_of, unit_with}
 use Rattle.probe_access.proofs.RegisterCalls.{some_cleared}
 use Rattle.probe_access.proofs.RegisterTold.{Rests, Stood, with_data0}
@@ -62,7 +62,7 @@ late_unit k number v h bus = unit_with (words_behind false number v k) Busy [] h
 
 -- hart h is aside, and as it was
 pub data Erred (h : ℕ) (bus : BusUnit) (y : Hart) (base t : Site) : Type 0 where
-  early : (k : Kept) (number v : ℕ) (late : Bool) → debug_value y number ≡ Some v
+  early : (k : Kept) (number v : ℕ) (late : Bool) → Holds y number v
       → Between (early_unit k number late h bus) (late_unit k number v h bus) h y y base t → Erred h bus y base t
   over : (k : Kept) (e : Cmderr) → is_set e ≡ true → DoneAt (unit_with k e [] h bus) h y base t → Erred h bus y base t
 
@@ -77,11 +77,11 @@ stood_calm h bus y base w k s st = record { held = st.held; frozen = st.frozen; 
 
 -- ---- it stays through deeds
 
-early_does : (k : Kept) (number v : ℕ) (late : Bool) (y : Hart) → debug_value y number ≡ Some v
+early_does : (k : Kept) (number v : ℕ) (late : Bool) (y : Hart) → Holds y number v
     → Does y (early_commands k number late) y (commands_of (words_behind false number v k) Busy [])
 unfolding micro_step
-early_does k number v true y is = record { each = λ m. rw is refl }
-early_does k number v false y is = record { each = λ m. rw is refl }
+early_does k number v true y held = record { each = λ m. let shown = seen_held y m number v held in let other = held.other in rw (shown, other) refl }
+early_does k number v false y held = record { each = λ m. let shown = seen_held y m number v held in let other = held.other in rw (shown, other) refl }
 
 pub erred_ran : (h : ℕ) (bus : BusUnit) (y : Hart) (base : Site) (w : Hart) (ds : List Deed) (s t : Site) → Calm h bus y base w → t ≡ ran ds s
     → Erred h bus y base s → Erred h bus y base t

@@ -1,4 +1,5 @@
 pub mod Aside
+pub mod Plain
 pub mod Turns
 pub mod Quiet
 pub mod Steps
@@ -120,3 +121,5 @@ pub mod BusStoreCuts
 pub mod BusStoreCauses
 pub mod BusStoreCalls
 pub mod BusStoreParts
+pub mod PendingTold
+pub mod PendingClauses

@@ -178,7 +178,7 @@ loads_hung size address count h values bus x s old_count new_count old new _ env
     (λ p. hung_behind size address count h values (pl.last ∷ []) bus x s pl.base new.far (all_but_last values pl.last ∙ all) pl.each
     pl.set.then.stood.held.here pl.bus_is
     (hung_map (λ z. z ≡ y) (AnyScratch x) h bus pl.base new.far (λ z is. any_scratched x z pl.p pl.last is) p))
-    (read_hung x9_number h bus y pl.base x old_count new_count mid new e (omega arith) pl.set.then f)
+    (read_hung x9_number h bus y pl.base x old_count new_count mid new e (record { small = omega arith; other = refl }) pl.set.then f)
 
 -- ---- while x8 and x9 were put back, and saved
 

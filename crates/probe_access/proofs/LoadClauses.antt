@@ -90,14 +90,14 @@ pub x8_saved : (x8 h : ℕ) (bus : BusUnit) (y : Hart) (base : Site) (w : Hart) 
     → RegisterRead x8_number x8 old new
     → x_of y.core 8 < 2 ^ 64 → x8 ≡ x_of y.core 8
 x8_saved x8 h bus y base w old new st r fits =
-    let a : ReadTold x8_number x8 h bus y base w new.far = read_told x8_number x8 h bus y base w old new (omega arith) st r in
+    let a : ReadTold x8_number x8 h bus y base w new.far = read_told x8_number x8 h bus y base w old new (record { small = omega arith; other = refl }) st r in
     held_as y x8_number a.held x8 (x_of y.core 8) (x8_value y) a.held_is a.value_is fits
 
 pub x8_read : (x8 h : ℕ) (bus : BusUnit) (y : Hart) (base : Site) (w : Hart) (old new : Tells) → StoodTold h bus y base w old.far
     → RegisterRead x8_number x8 old new
     → StoodTold h bus y base w new.far
 x8_read x8 h bus y base w old new st r = let a : ReadTold x8_number x8 h bus y base w new.far =
-    read_told x8_number x8 h bus y base w old new (omega arith) st r in a.then
+    read_told x8_number x8 h bus y base w old new (record { small = omega arith; other = refl }) st r in a.then
 
 pub x8_put : (x8 p h : ℕ) (bus : BusUnit) (x : Hart) (base : Site) (w : Hart) (old new : Tells) → length x.core.x ≡ 32 → x8 ≡ x_of x.core 8
     → StoodTold h bus (with_core_x x 8 p) base w old.far → RegisterWritten x8_number x8 old new → StoodTold h bus x base w new.far
@@ -117,11 +117,11 @@ take_clean : (x8 h : ℕ) (bus : BusUnit) (y : Hart) (base : Site) (w : Hart) (o
 take_clean x8 h bus y base w old_count new_count old new e st (TakeFailed.swapping f) =
     behind_clean (Swaps x8_number x8) _ _ old_count new_count old new e f
 take_clean x8 h bus y base w old_count new_count old new e st (TakeFailed.reading mid early f) =
-    read_clean x8_number h bus y base w old_count new_count mid new e (omega arith) (reads_x8 y)
-    (unswapped_told x8_number x8 h bus y base w old mid (omega arith) st early) f
+    read_clean x8_number h bus y base w old_count new_count mid new e (record { small = omega arith; other = refl }) (reads_x8 y)
+    (unswapped_told x8_number x8 h bus y base w old mid (record { small = omega arith; other = refl }) st early) f
 take_clean x8 h bus y base w old_count new_count old new e st (TakeFailed.writing value mid last early read f) =
     write_clean x8_number x8 h bus y base w old_count new_count last new e (omega arith) (writes_x8 y)
-    (x8_read value h bus y base w mid last (unswapped_told x8_number x8 h bus y base w old mid (omega arith) st early) read) f
+    (x8_read value h bus y base w mid last (unswapped_told x8_number x8 h bus y base w old mid (record { small = omega arith; other = refl }) st early) read) f
 
 -- ---- a load
 
@@ -224,7 +224,7 @@ load_only : (size : Size) (a h : ℕ) (bus : BusUnit) (x : Hart) (base : Site) (
     → OnlyMemory a (Faulted (LoadFaults size a) h bus x base x new.far) e
 load_only size a h bus x base old_count new_count old new _ fits small st (in_save e f) =
     clean_only a (Faulted (LoadFaults size a) h bus x base x new.far) e
-    (read_clean x8_number h bus x base x old_count new_count old new e (omega arith) (reads_x8 x) st f)
+    (read_clean x8_number h bus x base x old_count new_count old new e (record { small = omega arith; other = refl }) (reads_x8 x) st f)
 load_only size a h bus x base old_count new_count old new _ fits small st (performing e x8 first saved f loses) =
     lost_only a (Performed (load_word size) a 3 first new) (Faulted (LoadFaults size a) h bus x base x new.far) e loses
     (perform_only (Loads size a (debug_written x x8_number a)) (LoadFaults size a) (load_word size) a h bus x base x old_count new_count first new e

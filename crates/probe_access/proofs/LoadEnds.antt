@@ -1,5 +1,5 @@
 -- Where a block of loads stands at a told chip, however its elements were loaded, and what a fault of memory leaves.
-use Rattle.std.proofs.Common.{◌≡◌, ◌∙◌, ◌<◌, ◌≤◌, ◌+◌, ◌++◌, ℕ, List, [], ◌∷◌, length, sym, ap, subst, arith}
+use Rattle.std.proofs.Common.{◌≡◌, ◌∙◌, ◌<◌, ◌≤◌, ◌+◌, ◌++◌, ℕ, List, [], ◌∷◌, length, refl, sym, ap, subst, arith}
 use Rattle.std.proofs.Common.{length-append}
 use Rattle.rv_model.specs.declared.size.Size.{Size}
 use Rattle.rv_model.specs.Board.{Hart}
@@ -96,7 +96,7 @@ loads_only size address count h values bus x s old_count new_count old new _ env
     let pl : LoadPlace size address count values h bus x s mid.far =
     loads_place size address count h bus x s old values mid env bus_is (omega (arith, all)) st on in
     clean_at (λ at. LeftWith (LoadFault size address count values at h bus x s) h bus x new.far) e
-    (read_clean x9_number h bus (scratched pl.p pl.last x) pl.base x old_count new_count mid new e (omega arith) (reads_x9 (scratched pl.p pl.last x))
+    (read_clean x9_number h bus (scratched pl.p pl.last x) pl.base x old_count new_count mid new e (record { small = omega arith; other = refl }) (reads_x9 (scratched pl.p pl.last x))
     pl.set.then f)
 loads_only size address count h values bus x s old_count new_count old new _ env bus_is st (LoadsFailed.in_run e front more mid are on f) =
     subst (λ xs. OnlyAt (λ at. LeftWith (LoadFault size address count xs at h bus x s) h bus x new.far) e) (sym are)

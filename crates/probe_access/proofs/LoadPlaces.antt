@@ -286,7 +286,7 @@ pub last_load : (size : Size) (address count : ℕ) (front : List ℕ) (last h :
     → LeftWith (LoadsDone size address count (front ++ last ∷ []) h bus x s) h bus x new.far
 last_load size address count front last h bus x s mid new all count_is pl r =
     let y : Hart = scratched pl.p pl.last x in
-    let a : ReadTold x9_number last h bus y pl.base x new.far = read_told x9_number last h bus y pl.base x mid new (omega arith) pl.set.then r in
+    let a : ReadTold x9_number last h bus y pl.base x new.far = read_told x9_number last h bus y pl.base x mid new (record { small = omega arith; other = refl }) pl.set.then r in
     let same : last ≡ pl.last =
     held_as y x9_number a.held last pl.last (x9_value y ∙ ap Some (scratched_x9 pl.p pl.last x all)) a.held_is a.value_is pl.small in
     let n : length (front ++ last ∷ []) ≡ length front + 1 = all_but_last front last in

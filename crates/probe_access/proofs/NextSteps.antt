@@ -6,7 +6,7 @@ use Rattle.rv_model.specs.declared.size.Size.{Size}
 use Rattle.rv_model.specs.declared.size.Size.TheVariants.{B1, B2, B4, B8}
 use Rattle.rv_model.specs.Board.{Hart}
 use Rattle.rv_model.specs.Core.{x_of}
-use Rattle.rv_model.specs.DebugRegisters.{debug_value}
+use Rattle.rv_model.specs.DebugRegisters.{debug_seen}
 use Rattle.rv_model.specs.Alu.{alu_of}
 use Rattle.rv_model.specs.Effects.{effect_of}
 use Rattle.rv_model.specs.Memory.{Memory}
@@ -25,6 +25,7 @@ use Rattle.debug_model.specs.Deeds.Deed.{Turned, CommandStepped, BusStepped}
 use Rattle.debug_model.specs.Module.{DebugModule, Site}
 use Rattle.debug_model.specs.SystemBus.{BusUnit}
 use Rattle.probe_access.specs.RegisterAccess.{advance_word, ebreak_word, next_command, x9_number}
+use Rattle.probe_access.proofs.Plain.{seen_held}
 use Rattle.probe_access.proofs.AccessSteps.{WordDid, after_micro, one_more, program_of, rest_of}
 use Rattle.probe_access.proofs.AccessSteps.WordDid.{went, faulted}
 use Rattle.probe_access.proofs.Aside.{Frozen, accessed, aside, passed}
@@ -86,7 +87,10 @@ going a e k steps h bus = record { version = k.version; active = true; hartsel =
 pub transfer_does : (a : Abstractauto) (e : Cmderr) (k : Kept) (y : Hart)
     → Does y (commands_at a e k (all_next k)) y (commands_at a e (holding (x_of y.core 9) k) (program_of (holding (x_of y.core 9) k)))
 unfolding micro_step
-transfer_does a e k y = record { each = λ m. let is : debug_value y x9_number ≡ Some (x_of y.core 9) = x9_value y in rw is refl }
+transfer_does a e k y = record {
+  each = λ m. let is : debug_seen y m x9_number ≡ Some (x_of y.core 9) = seen_held y m x9_number (x_of y.core 9) (record { is = x9_value y; other = refl }) in
+      rw is refl;
+}
 
 access_of : (a : Abstractauto) (e : Cmderr) (k : Kept) (y : Hart) (m : Memory) (d : Debugged) → ran_word k.progbuf0 y m ≡ d
     → micro_step y m (commands_at a e k (program_of k)) ≡ executed_word d (rest_of k) (commands_at a e k (program_of k))

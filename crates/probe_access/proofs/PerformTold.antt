@@ -3,7 +3,7 @@ use Rattle.std.proofs.Common.{◌≡◌, ◌∙◌, ℕ, List, [], ◌∷◌, tr
 use Rattle.rv_model.specs.declared.cause.Cause.{Cause}
 use Rattle.rv_model.specs.Board.{Hart}
 use Rattle.rv_model.specs.Core.{x_of}
-use Rattle.rv_model.specs.DebugRegisters.{debug_refuses, debug_value}
+use Rattle.rv_model.specs.DebugRegisters.{debug_refuses, debug_seen, debug_value}
 use Rattle.rv_model.specs.Memory.{Memory}
 use Rattle.rv_model.specs.Registers.{csr_read_only}
 use Rattle.debug_model.specs.Addresses.{abstractcs_address, command_address}
@@ -20,6 +20,7 @@ use Rattle.probe_access.proofs.AccessSteps.{Running, Stage, WordDid, all_of, pro
 use Rattle.probe_access.proofs.AccessSteps.Stage.{at_transfer, at_start, in_middle, at_end, at_fault}
 use Rattle.probe_access.proofs.Along.{SiteActs}
 use Rattle.probe_access.proofs.Aside.{Frozen, accessed, aside, passed}
+use Rattle.probe_access.proofs.Plain.{seen_held}
 use Rattle.probe_access.proofs.Quiet.{active_ran}
 use Rattle.probe_access.proofs.ReadyUnit.{Held, Kept, commands_of, unit_of, unit_with}
 use Rattle.probe_access.proofs.RegisterTold.{CommandCut, Stood, command_cut, error_cleared, fine_left}
@@ -45,7 +46,10 @@ pub program_moves : (k : Kept) (x : Hart)
     → Does x (commands_of (programmed k) Fine (all_of (programmed k))) (hart_behind true x8_number k x)
     (commands_of (programmed k) Fine (program_of (programmed k)))
 unfolding micro_step
-program_moves k x = record { each = λ m. let is : debug_value x x8_number ≡ Some (x_of x.core 8) = x8_value x in rw is refl }
+program_moves k x = record {
+  each = λ m. let is : debug_seen x m x8_number ≡ Some (x_of x.core 8) = seen_held x m x8_number (x_of x.core 8) (record { is = x8_value x; other = refl }) in
+      rw is refl;
+}
 
 -- what it rests on, from a site that serves
 pub program_runs : (P : Memory → Hart → Memory → Type 0) (Q : Memory → Type 0) (h : ℕ) (bus : BusUnit) (x : Hart) (base : Site) (w : Hart) (k : Kept)

@@ -572,7 +572,7 @@ run_loads_hung size address count values more old_count new_count h bus x s old 
     (subst (λ xs. IfCut (LoadHung size address count xs h bus x s new.far) why) (sym (append-nil values))
     (if_cut (Hung (λ z. z ≡ st.hart) h bus st.other new.far) (LoadHung size address count values h bus x s new.far) why
     (λ p. hung_told e mid.far new.far st p)
-    (apart_hung x8_number h bus st.hart st.other x old_count new_count then new why (omega arith) (words_then e value mid then st words) f)))
+    (apart_hung x8_number h bus st.hart st.other x old_count new_count then new why (record { small = omega arith; other = refl }) (words_then e value mid then st words) f)))
 run_loads_hung size address count values more old_count new_count h bus x s old new _ env pl
     (RunLoadsFailed.refused read number value last mid then below a error words few x8 is) = tt
 run_loads_hung size address count values more old_count new_count h bus x s old new _ env pl

@@ -107,7 +107,7 @@ pub eight_told : (word : ℕ) (size : Size) (q x8 h : ℕ) (bus : BusUnit) (y : 
     → Handing word size q h bus y base w old.far → ReadApart x8_number x8 old new → EightTold word size x8 h bus y base w new.far
 eight_told word size q x8 h bus y base w old new g r =
     let c : CommandTold false x8_number r.ran.last h bus y base w g.then.kept r.mid.far =
-    command_told [] false x8_number r.ran.last h bus y base w g.then.kept old r.mid (omega arith) g.then (no_more g.then.kept) r.ran.ran in
+    command_told [] false x8_number r.ran.last h bus y base w g.then.kept old r.mid (record { small = omega arith; other = refl }) g.then (no_more g.then.kept) r.ran.ran in
     eight_by word size x8 r.ran.last h bus y base w g.then.kept r.mid new c.far c.is r.ran.error_is g.program c.transfer r.words
 
 -- where x8 has the address of an element
@@ -433,7 +433,7 @@ run_loads_only size address count values more old_count new_count h bus x s old 
     let t : ReadsTold r last (values ++ read) mid.far = run_asked size address count values read last h bus x s old mid env within pl a in
     let l : AnyLeft r mid.far = any_left r last (values ++ read) mid.far t.far t.is t.left in
     clean_at (λ at. LeftWith (LoadFault size address count (values ++ more) at h bus x s) h bus x new.far) e
-    (apart_clean x8_number h bus l.y l.other x old_count new_count then new e (omega arith) (reads_x8 l.y) (words_left r value mid then l words).set.then f)
+    (apart_clean x8_number h bus l.y l.other x old_count new_count then new e (record { small = omega arith; other = refl }) (reads_x8 l.y) (words_left r value mid then l words).set.then f)
 run_loads_only size address count values more old_count new_count h bus x s old new _ env pl
     (RunLoadsFailed.refused read made value last mid then within a error words few x8 is) =
     let e : LoadRun = run_of size address count h bus x s values in

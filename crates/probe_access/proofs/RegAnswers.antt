@@ -17,6 +17,7 @@ use Rattle.probe_access.specs.RegisterAccess.{joined, transfer_word}
 use Rattle.probe_access.proofs.Along.{AtSites, Split, did_sites, did_untold, site_acts-split}
 use Rattle.probe_access.proofs.Aside.{passed}
 use Rattle.probe_access.proofs.AtOnceTold.{TouchEnd, touch_ends}
+use Rattle.probe_access.proofs.Plain.{Plain, Transferable}
 use Rattle.probe_access.proofs.ReadyTurns.{BoardReady, Passed, board_ready_turns, passed_turns}
 use Rattle.probe_access.proofs.ReadyUnit.{Held, Kept, at_first, halted_held, kept_of, unit_of}
 use Rattle.probe_access.proofs.RegisterTold.{Stood, TransferTold, WordPuts, WordsGot, double_puts, transfer_told, words_got, words_put, with_double}
@@ -116,7 +117,7 @@ pub front_stood : (front rest : List Act) (h : ℕ) (bus : BusUnit) (y : Hart) (
 front_stood front rest h bus y base w k l s t puts st cut = words_put h bus y base w k l front s cut.mid puts st cut.first
 
 pub command_told : (front : List Act) (write : Bool) (number last h : ℕ) (bus : BusUnit) (y : Hart) (base : Site) (w : Hart) (l : Kept) (old new : Tells)
-    → number < 2 ^ 16
+    → Transferable write number
     → (st : StoodTold h bus y base w old.far) → WordPuts h bus y st.kept front l → RanCommand front (transfer_word write number) last old new
     → CommandTold write number last h bus y base w l new.far
 command_told front write number last h bus y base w l old new small st puts ran =
@@ -155,7 +156,7 @@ read_told_by number value last h bus y base w k mid new f is fine (taken v held 
     }
 read_told_by number value last h bus y base w k mid new f is fine (denied none error st) words = absurd (three_not_zero (error_shown last) error fine)
 
-pub apart_told : (number value h : ℕ) (bus : BusUnit) (y : Hart) (base : Site) (w : Hart) (old new : Tells) → number < 2 ^ 16 → StoodTold h bus y base w old.far
+pub apart_told : (number value h : ℕ) (bus : BusUnit) (y : Hart) (base : Site) (w : Hart) (old new : Tells) → Plain number → StoodTold h bus y base w old.far
     → ReadApart number value old new → ReadTold number value h bus y base w new.far
 apart_told number value h bus y base w old new small st r =
     let c : CommandTold false number r.ran.last h bus y base w st.kept r.mid.far =
@@ -168,7 +169,7 @@ pub record TouchTold (number low high last h : ℕ) (bus : BusUnit) (y : Hart) (
   pub is : told ≡ Some far
   pub end : TouchEnd number low high last h bus y base w k (site_of far)
 
-touch_told : (number low high last h : ℕ) (bus : BusUnit) (y : Hart) (base : Site) (w : Hart) (old new : Tells) → number < 2 ^ 16
+touch_told : (number low high last h : ℕ) (bus : BusUnit) (y : Hart) (base : Site) (w : Hart) (old new : Tells) → Plain number
     → (st : StoodTold h bus y base w old.far) → EndedBehind (asked_acts number low high) last old new
     → TouchTold number low high last h bus y base w st.kept new.far
 touch_told number low high last h bus y base w old new small st e =
@@ -195,14 +196,14 @@ too_early_by number low high last h bus y base w k told f is (TouchEnd.right v h
 too_early_by number low high last h bus y base w k told f is (TouchEnd.wrong error r) some =
     record { far = f; is = is; kept = r.kept; stood = r.stood }
 
-pub too_early_told : (number h : ℕ) (bus : BusUnit) (y : Hart) (base : Site) (w : Hart) (old new : Tells) → number < 2 ^ 16 → StoodTold h bus y base w old.far
+pub too_early_told : (number h : ℕ) (bus : BusUnit) (y : Hart) (base : Site) (w : Hart) (old new : Tells) → Plain number → StoodTold h bus y base w old.far
     → ReadTooEarly number old new → StoodTold h bus y base w new.far
 too_early_told number h bus y base w old new small st r =
     let t : TouchTold number r.low r.high r.last h bus y base w st.kept new.far =
     touch_told number r.low r.high r.last h bus y base w old new small st r.ended in
     too_early_by number r.low r.high r.last h bus y base w st.kept new.far t.far t.is t.end r.some
 
-pub read_told : (number value h : ℕ) (bus : BusUnit) (y : Hart) (base : Site) (w : Hart) (old new : Tells) → number < 2 ^ 16 → StoodTold h bus y base w old.far
+pub read_told : (number value h : ℕ) (bus : BusUnit) (y : Hart) (base : Site) (w : Hart) (old new : Tells) → Plain number → StoodTold h bus y base w old.far
     → RegisterRead number value old new → ReadTold number value h bus y base w new.far
 read_told number value h bus y base w old new small st (RegisterRead.at_once r) =
     let t : TouchTold number r.low r.high r.last h bus y base w st.kept new.far =
@@ -257,14 +258,14 @@ denied_told_by write number last h bus y base w k new f is refused (denied none 
     record { denied_is = none; then = record { far = f; is = is; kept = _; stood = st } }
 
 pub denied_told : (front : List Act) (write : Bool) (number h : ℕ) (bus : BusUnit) (y : Hart) (base : Site) (w : Hart) (l : Kept) (old new : Tells)
-    → number < 2 ^ 16
+    → Transferable write number
     → (st : StoodTold h bus y base w old.far) → WordPuts h bus y st.kept front l → RanTo front (transfer_word write number) 3 old new
     → DeniedTold write number h bus y base w new.far
 denied_told front write number h bus y base w l old new small st puts r =
     let c : CommandTold write number r.last h bus y base w l new.far = command_told front write number r.last h bus y base w l old new small st puts r.ran in
     denied_told_by write number r.last h bus y base w l new c.far c.is r.error_is c.transfer
 
-pub read_denied : (number h : ℕ) (bus : BusUnit) (y : Hart) (base : Site) (w : Hart) (old new : Tells) → number < 2 ^ 16 → StoodTold h bus y base w old.far
+pub read_denied : (number h : ℕ) (bus : BusUnit) (y : Hart) (base : Site) (w : Hart) (old new : Tells) → Plain number → StoodTold h bus y base w old.far
     → RanTo [] (transfer_word false number) 3 old new → DeniedTold false number h bus y base w new.far
 read_denied number h bus y base w old new small st r = denied_told [] false number h bus y base w st.kept old new small st (no_more st.kept) r
 
@@ -281,13 +282,13 @@ odd_told_by write number last h bus y base w k t (taken v held free error st) so
 odd_told_by write number last h bus y base w k t (denied none error st) some other = other error
 
 odd_told : (front : List Act) (write : Bool) (number : ℕ) (shown : OddStatus) (h : ℕ) (bus : BusUnit) (y : Hart) (base : Site) (w : Hart) (l : Kept)
-    (old new : Tells) → number < 2 ^ 16
+    (old new : Tells) → Transferable write number
     → (st : StoodTold h bus y base w old.far) → WordPuts h bus y st.kept front l → RanOddly front (transfer_word write number) shown old new → ⊥
 odd_told front write number shown h bus y base w l old new small st puts r =
     let c : CommandTold write number r.last h bus y base w l new.far = command_told front write number r.last h bus y base w l old new small st puts r.ran in
     odd_told_by write number r.last h bus y base w l (site_of c.far) c.transfer r.some r.other
 
-pub read_not_odd : (number : ℕ) (shown : OddStatus) (h : ℕ) (bus : BusUnit) (y : Hart) (base : Site) (w : Hart) (old new : Tells) → number < 2 ^ 16
+pub read_not_odd : (number : ℕ) (shown : OddStatus) (h : ℕ) (bus : BusUnit) (y : Hart) (base : Site) (w : Hart) (old new : Tells) → Plain number
     → StoodTold h bus y base w old.far → RanOddly [] (transfer_word false number) shown old new → ⊥
 read_not_odd number shown h bus y base w old new small st r = odd_told [] false number shown h bus y base w st.kept old new small st (no_more st.kept) r
 

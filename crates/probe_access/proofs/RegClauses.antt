@@ -10,6 +10,7 @@ use Rattle.probe_access.specs.declared.fault.AccessFault.TheVariants as access_f
 use Rattle.probe_run.specs.Acts.{Tells, tells}
 use Rattle.probe_access.specs.RegisterRuns.{AskFailed, ReadApartFailed, ReadFailed, RegisterRead}
 use Rattle.probe_access.specs.Registers.{RegisterReadAt, IfRegister, RegisterLeft}
+use Rattle.probe_access.proofs.Plain.{Plain}
 use Rattle.probe_access.proofs.Along.{did_untold}
 use Rattle.probe_access.proofs.Aside.{passed}
 use Rattle.probe_access.proofs.ReadyUnit.{kept_of, unit_of}
@@ -65,7 +66,7 @@ pub record RegOk (h number value : ℕ) (old new : Option Far) : Type 0 where
   pub got : WhereTold (RegisterReadAt h number value) old new
   pub serving : Serving h new
 
-pub reg_ok : (h number value : ℕ) (far : Option Far) (coming : Option DmiComing) (new : Tells) → number < 2 ^ 16 → IsReady far → Selects h far → IsHalted h far
+pub reg_ok : (h number value : ℕ) (far : Option Far) (coming : Option DmiComing) (new : Tells) → Plain number → IsReady far → Selects h far → IsHalted h far
     → RegisterRead number value (tells far coming) new → RegOk h number value far new.far
 reg_ok h number value None coming new small ready selects halted r =
     let end : new.far ≡ None = read_untold number value (tells None coming) new r refl in
@@ -106,7 +107,7 @@ reg_denied write h number asked f new ready halted t = record {
   serving = stood_serving h f ready halted new.far t.then;
 }
 
-apart_err : (h number : ℕ) (f : Far) (old_count new_count : ℕ) (mid new : Tells) (e : AccessFault) → number < 2 ^ 16 → (ready : SiteReady (site_of f))
+apart_err : (h number : ℕ) (f : Far) (old_count new_count : ℕ) (mid new : Tells) (e : AccessFault) → Plain number → (ready : SiteReady (site_of f))
     → (halted : HartHalted h (site_of f).board) → StoodTold h (site_of f).unit.bus halted.hart (site_of f) halted.hart mid.far
     → ReadApartFailed number old_count new_count mid new e → RegErr false h number (Some f) new.far e
 apart_err h number c old_count new_count mid new (access_fault.Dmi why) small ready halted st f = record { left = tt; serving = tt }
@@ -128,7 +129,7 @@ asking_err h number old_count new_count far old new access_fault.StillBusy f = r
 asking_err h number old_count new_count far old new (access_fault.Run why) f = absurd f
 asking_err h number old_count new_count far old new (access_fault.Odd shown) f = absurd f
 
-untold_err : (h number old_count new_count : ℕ) (mid new : Tells) (e : AccessFault) → mid.far ≡ None → ReadApartFailed number old_count new_count mid new e
+pub untold_err : (h number old_count new_count : ℕ) (mid new : Tells) (e : AccessFault) → mid.far ≡ None → ReadApartFailed number old_count new_count mid new e
     → RegErr false h number None new.far e
 untold_err h number old_count new_count mid new (access_fault.Dmi why) none f = record { left = tt; serving = tt }
 untold_err h number old_count new_count mid new (access_fault.Memory address) none f = absurd f
@@ -138,7 +139,7 @@ untold_err h number old_count new_count mid new access_fault.StillBusy none f = 
 untold_err h number old_count new_count mid new (access_fault.Run why) none f = absurd f
 untold_err h number old_count new_count mid new (access_fault.Odd shown) none f = record { left = refl; serving = tt }
 
-pub reg_err : (h number : ℕ) (far : Option Far) (coming : Option DmiComing) (old_count new_count : ℕ) (new : Tells) (e : AccessFault) → number < 2 ^ 16
+pub reg_err : (h number : ℕ) (far : Option Far) (coming : Option DmiComing) (old_count new_count : ℕ) (new : Tells) (e : AccessFault) → Plain number
     → IsReady far → Selects h far → IsHalted h far
     → ReadFailed number old_count new_count (tells far coming) new e → RegErr false h number far new.far e
 reg_err h number far coming old_count new_count new e small ready selects halted (ReadFailed.asking f) =

@@ -16,6 +16,7 @@ use Rattle.probe_access.specs.RegisterRuns.{double_written}
 use Rattle.probe_access.proofs.Aside.{Frozen, aside, passed}
 use Rattle.probe_access.specs.RegisterAccess.{transfer_command, transfer_word}
 use Rattle.probe_access.proofs.Along.{ReadAt, SiteActs, Split, site_acts-split}
+use Rattle.probe_access.proofs.Plain.{Transferable}
 use Rattle.probe_access.proofs.ReadyUnit.{Held, Kept, OpAt, op_at, op_done, unit_of, unit_with}
 use Rattle.probe_access.proofs.Steps.{DoneAt}
 use Rattle.probe_access.proofs.TransferLemmas.{
@@ -190,7 +191,7 @@ transfer_cleared write number last h bus y base w k mid t held fy idle (refused 
     end.done_at p)
 
 pub transfer_told : (write : Bool) (number : ℕ) (words : List ℕ) (last : ℕ) (h : ℕ) (bus : BusUnit) (y : Hart) (base : Site) (w : Hart) (k : Kept) (s t : Site)
-    → number < 2 ^ 16 → Stood h bus y base w k s
+    → Transferable write number → Stood h bus y base w k s
     → SiteActs (command_acts [] (transfer_word write number) words last) s t → shows_busy last ≡ false → TransferTold write number last h bus y base w k t
 transfer_told write number words last h bus y base w k s t small st p not_busy =
     let cut : CommandCut words (transfer_word write number) last s t = command_cut words (transfer_word write number) last s t p in

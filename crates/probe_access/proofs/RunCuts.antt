@@ -478,12 +478,12 @@ find_half C P Q Y N word size most last h bus w b old_count new_count mid new fa
     if_cut (Hung (λ z. z ≡ y) h bus base new.far) (HalfTold C Y N h bus b new.far) e
     (λ q. let r : Hung Y h bus base new.far = same_hung Y h bus y base new.far (f.first b y base c) q in
     record { far = r.far; is = r.is; half = unbegun C Y N h bus b b y base (site_of r.far) (omega arith) c r.hung })
-    (read_hung x8_number h bus y base w old_count new_count mid new e (omega arith) (record { far = far; is = is; kept = k; stood = st }) g)
+    (read_hung x8_number h bus y base w old_count new_count mid new e (record { small = omega arith; other = refl }) (record { far = far; is = is; kept = k; stood = st }) g)
 find_half C P Q Y N word size most last h bus w b old_count new_count mid new far e f within is (RunLeft.early i y base k shown below c p st) g =
     if_cut (Hung (λ z. z ≡ y) h bus base new.far) (HalfTold C Y N h bus b new.far) e
     (λ q. let r : Hung Y h bus base new.far = same_hung Y h bus y base new.far (f.first i y base c) q in
     record { far = r.far; is = r.is; half = unbegun C Y N h bus b i y base (site_of r.far) (omega (arith, below)) c r.hung })
-    (read_hung x8_number h bus y base w old_count new_count mid new e (omega arith) (record { far = far; is = is; kept = k; stood = st }) g)
+    (read_hung x8_number h bus y base w old_count new_count mid new e (record { small = omega arith; other = refl }) (record { far = far; is = is; kept = k; stood = st }) g)
 find_half C P Q Y N word size most last h bus w b old_count new_count mid new far e f within is (RunLeft.fault i y base k before shown below c p q st) g =
     let m : Memory = (passed before base).board.memory in
     let next : Site = accessed m (passed before base) in
@@ -501,4 +501,4 @@ find_half C P Q Y N word size most last h bus w b old_count new_count mid new fa
         inside = made before m ((f.fits i y base c (omega (arith, below, within))).refused m q) r.hung;
       };
     })
-    (read_hung x8_number h bus y next w old_count new_count mid new e (omega arith) (record { far = far; is = is; kept = k; stood = st }) g)
+    (read_hung x8_number h bus y next w old_count new_count mid new e (record { small = omega arith; other = refl }) (record { far = far; is = is; kept = k; stood = st }) g)

@@ -121,10 +121,10 @@ stop_plain old_count new_count old new e (StopFailed.late mid early f) = apart_p
 apart_cleanly : (h : ℕ) (c : Far) (bus : BusUnit) (x : Hart) (s : Site) (old_count new_count : ℕ) (old new : Tells) (e : AccessFault)
     → StoodTold h bus x s x old.far → StopApartFailed old_count new_count old new e → ScratchLeft (Some c) e
 apart_cleanly h c bus x s old_count new_count old new e st (StopApartFailed.at_dpc f) =
-    clean_left c e (apart_clean dpc_number h bus x s x old_count new_count old new e (omega arith) (reads_dpc x) st f)
+    clean_left c e (apart_clean dpc_number h bus x s x old_count new_count old new e (record { small = omega arith; other = refl }) (reads_dpc x) st f)
 apart_cleanly h c bus x s old_count new_count old new e st (StopApartFailed.at_dcsr pc mid r f) =
-    let a : ReadTold dpc_number pc h bus x s x mid.far = apart_told dpc_number pc h bus x s x old mid (omega arith) st r in
-    clean_left c e (apart_clean dcsr_number h bus x s x old_count new_count mid new e (omega arith) (reads_dcsr x) a.then f)
+    let a : ReadTold dpc_number pc h bus x s x mid.far = apart_told dpc_number pc h bus x s x old mid (record { small = omega arith; other = refl }) st r in
+    clean_left c e (apart_clean dcsr_number h bus x s x old_count new_count mid new e (record { small = omega arith; other = refl }) (reads_dcsr x) a.then f)
 
 stop_clean : (h : ℕ) (c : Far) (bus : BusUnit) (x : Hart) (s : Site) (old_count new_count : ℕ) (old new : Tells) (e : AccessFault)
     → StoodTold h bus x s x old.far → StopFailed old_count new_count old new e → ScratchLeft (Some c) e

@@ -38,7 +38,7 @@ lower_at number result h bus y base w k s t behind c result_is is (going v held 
     Touched.wrong (erred_ran h bus y base w behind (operated (Read data0_address) s) t c is
     (early (with_command (transfer_command false number) k) number v false held (still harts (ap (operated (Read data0_address)) at))))
 lower_at number result h bus y base w k s t behind c result_is is (going v held (done harts at)) =
-    Touched.right v held (ap value_of (result_is ∙ ap (result_of data0_address) at))
+    Touched.right v held.is (ap value_of (result_is ∙ ap (result_of data0_address) at))
     (record {
       held = c.held;
       frozen = c.frozen;
@@ -89,7 +89,7 @@ second_touched low high word h bus y base w k s t c (BothTouched.right v held lo
     let l : Kept = words_behind false dpc_number v k in
     second_by low high word v h bus y base w l t held low_is high_is
     (subst (λ u. Touched dcsr_number word lower h bus y base w l u) (sym p.2.2)
-    (lower_alone dcsr_number word h bus y base w l p.0 p.2.0 c (asked_first dcsr_number h bus y base w l s p.0 (omega arith) st p.1) p.2.1))
+    (lower_alone dcsr_number word h bus y base w l p.0 p.2.0 c (asked_first dcsr_number h bus y base w l s p.0 (record { small = omega arith; other = refl }) st p.1) p.2.1))
 second_touched low high word h bus y base w k s t c (BothTouched.wrong e) p = StopTouched.wrong (second_erred word h bus y base w s t c e p)
 
 pub stop_touched : (low high word h : ℕ) (bus : BusUnit) (y : Hart) (base : Site) (w : Hart) (k : Kept) (s t : Site) → Stood h bus y base w k s
@@ -97,7 +97,7 @@ pub stop_touched : (low high word h : ℕ) (bus : BusUnit) (y : Hart) (base : Si
 stop_touched low high word h bus y base w k s t st p =
     let cut : Split (asked_acts dpc_number low high) (second_acts word) s t = site_acts-split (asked_acts dpc_number low high) (second_acts word) s t p in
     second_touched low high word h bus y base w k cut.mid t (stood_calm h bus y base w k s st)
-    (both_touched dpc_number low high h bus y base w k s cut.mid (omega arith) st cut.first) cut.rest
+    (both_touched dpc_number low high h bus y base w k s cut.mid (record { small = omega arith; other = refl }) st cut.first) cut.rest
 
 -- ---- the end
 
@@ -190,8 +190,8 @@ stop_told pc cause h bus y base w old new st (StopRead.at_once r) =
     held_by pc cause r.low r.high r.word r.last h bus y base w new.far t.far t.is t.end r.error_is r.pc_is r.cause_is
 stop_told pc cause h bus y base w old new st (StopRead.late mid first r) =
     let again : StoodTold h bus y base w mid.far = stop_early_told h bus y base w old mid st first in
-    let a : ReadTold dpc_number pc h bus y base w r.mid.far = apart_told dpc_number pc h bus y base w mid r.mid (omega arith) again r.first in
-    let b : ReadTold dcsr_number r.word h bus y base w new.far = apart_told dcsr_number r.word h bus y base w r.mid new (omega arith) a.then r.second in
+    let a : ReadTold dpc_number pc h bus y base w r.mid.far = apart_told dpc_number pc h bus y base w mid r.mid (record { small = omega arith; other = refl }) again r.first in
+    let b : ReadTold dcsr_number r.word h bus y base w new.far = apart_told dcsr_number r.word h bus y base w r.mid new (record { small = omega arith; other = refl }) a.then r.second in
     record {
       dpc = a.held;
       dpc_is = a.held_is;

@@ -233,7 +233,7 @@ run_fell_only size address value count n again old_count new_count h bus x s old
     place_asked size address value count n again last h bus x s old mid env within pl a in
     let st : AnyStood h bus x mid.far = run_stood size address value count n last (n + 1 + again) h bus x s mid.far r.far r.is r.left in
     clean_at (λ at. LeftWith (StoreFault size address value count at h bus x s) h bus x new.far) e
-    (read_clean x8_number h bus st.hart st.base x old_count new_count mid new e (omega arith) (reads_x8 st.hart) st.then f)
+    (read_clean x8_number h bus st.hart st.base x old_count new_count mid new e (record { small = omega arith; other = refl }) (reads_x8 st.hart) st.then f)
 run_fell_only size address value count n again old_count new_count h bus x s old new _ env within pl (RunFell.refused found last mid a error least most r) =
     let at : StoreRun size address value count n last h bus x s (n + 1 + again) mid.far =
     place_asked size address value count n again last h bus x s old mid env within pl a in

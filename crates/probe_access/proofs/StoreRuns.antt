@@ -177,7 +177,7 @@ pub eight_read : (v p q h : ℕ) (bus : BusUnit) (x : Hart) (base : Site) (old n
     → StoodTold h bus (scratched p q x) base x old.far → RegisterRead x8_number v old new → EightRead v p q h bus x base new.far
 eight_read v p q h bus x base old new all st r =
     let y : Hart = scratched p q x in
-    let a : ReadTold x8_number v h bus y base x new.far = read_told x8_number v h bus y base x old new (omega arith) st r in
+    let a : ReadTold x8_number v h bus y base x new.far = read_told x8_number v h bus y base x old new (record { small = omega arith; other = refl }) st r in
     record {
       value_is = λ small. held_as y x8_number a.held v p (x8_value y ∙ ap Some (scratched_x8 p q x all)) a.held_is a.value_is small;
       then = a.then;

@@ -15,6 +15,7 @@ use Rattle.probe_access.specs.CommandRuns.{EndedBehind, clearing, error_shown, p
 use Rattle.probe_access.specs.MemoryRuns.{Taken}
 use Rattle.probe_access.specs.RegisterAccess.{joined, transfer_word, x8_number}
 use Rattle.probe_access.specs.RegisterRuns.{SwappedTooEarly, asked_acts, double_written, swapped_acts}
+use Rattle.probe_access.proofs.Plain.{Plain}
 use Rattle.probe_access.proofs.Along.{AtSites, SiteActs, Split, did_sites, did_untold, site_acts-split}
 use Rattle.probe_access.proofs.AtOnceTold.{BothTouched, EndSplit, both_touched, end_split, lower, upper}
 use Rattle.probe_access.proofs.Errors.{
@@ -70,7 +71,7 @@ given_by number low high value last v h bus y base w k t held low_is high_is (Tr
     three_not_zero : (n : ℕ) → n ≡ 3 → n ≡ 0 → ⊥
     three_not_zero n a b = omega arith
 
-given : (number low high value last h : ℕ) (bus : BusUnit) (y : Hart) (base : Site) (w : Hart) (k : Kept) (words : List ℕ) (s t : Site) → number < 2 ^ 16
+given : (number low high value last h : ℕ) (bus : BusUnit) (y : Hart) (base : Site) (w : Hart) (k : Kept) (words : List ℕ) (s t : Site) → Plain number
     → Calm h bus y base w → BothTouched number low high h bus y base w k s
     → SiteActs (giving_acts number value ++ (map poll_act words ++ poll_act last ∷ clearing (error_shown last))) s t → shows_busy last ≡ false
     → SwapEnd number low high value last h bus y base w t
@@ -79,7 +80,7 @@ given number low high value last h bus y base w k words s t small c (BothTouched
     let tail : List Act = Put command_address (transfer_word true number) ∷ (map poll_act words ++ poll_act last ∷ clearing (error_shown last)) in
     let cut : Split (double_written value) tail s t = site_acts-split (double_written value) tail s t p in
     given_by number low high value last v h bus y base w l t held low_is high_is
-    (transfer_told true number words last h bus y base w (with_double value l) cut.mid t small
+    (transfer_told true number words last h bus y base w (with_double value l) cut.mid t small.small
     (words_put h bus y base w l (with_double value l) (double_written value) s cut.mid (double_puts value h bus y l) st cut.first) cut.rest not_busy)
 given number low high value last h bus y base w k words s t small c (BothTouched.wrong e) p not_busy =
     let tail : List Act = map poll_act words ++ poll_act last ∷ clearing (error_shown last) in
@@ -90,7 +91,7 @@ given number low high value last h bus y base w k words s t small c (BothTouched
     SwapEnd.wrong f.error (erred_cleared last h bus y base w end.mid t c f end.cleared)
 
 pub swap_ends : (number low high value last h : ℕ) (bus : BusUnit) (y : Hart) (base : Site) (w : Hart) (k : Kept) (words : List ℕ) (s t : Site)
-    → number < 2 ^ 16 → Stood h bus y base w k s
+    → Plain number → Stood h bus y base w k s
     → SiteActs (swapped_acts number low high value ++ (map poll_act words ++ poll_act last ∷ clearing (error_shown last))) s t → shows_busy last ≡ false
     → SwapEnd number low high value last h bus y base w t
 swap_ends number low high value last h bus y base w k words s t small st p not_busy =
@@ -108,7 +109,7 @@ record SwapTold (number low high value last h : ℕ) (bus : BusUnit) (y : Hart) 
   is : told ≡ Some far
   end : SwapEnd number low high value last h bus y base w (site_of far)
 
-swap_told : (number low high value last h : ℕ) (bus : BusUnit) (y : Hart) (base : Site) (w : Hart) (old new : Tells) → number < 2 ^ 16
+swap_told : (number low high value last h : ℕ) (bus : BusUnit) (y : Hart) (base : Site) (w : Hart) (old new : Tells) → Plain number
     → StoodTold h bus y base w old.far → EndedBehind (swapped_acts number low high value) last old new
     → SwapTold number low high value last h bus y base w new.far
 swap_told number low high value last h bus y base w old new small st e =
@@ -142,7 +143,7 @@ unswapped_by : (number low high given last h : ℕ) (bus : BusUnit) (y : Hart) (
 unswapped_by number low high given last h bus y base w told f is (SwapEnd.right v held low_is high_is fine r) some = absurd (some fine)
 unswapped_by number low high given last h bus y base w told f is (SwapEnd.wrong error r) some = record { far = f; is = is; kept = r.kept; stood = r.stood }
 
-pub unswapped_told : (number value h : ℕ) (bus : BusUnit) (y : Hart) (base : Site) (w : Hart) (old new : Tells) → number < 2 ^ 16
+pub unswapped_told : (number value h : ℕ) (bus : BusUnit) (y : Hart) (base : Site) (w : Hart) (old new : Tells) → Plain number
     → StoodTold h bus y base w old.far → SwappedTooEarly number value old new → StoodTold h bus y base w new.far
 unswapped_told number value h bus y base w old new small st r =
     let t : SwapTold number r.low r.high value r.last h bus y base w new.far =
@@ -153,11 +154,11 @@ pub taken_told : (x8 value h : ℕ) (bus : BusUnit) (y : Hart) (base : Site) (w 
     → Taken x8 value old new → TakenTold x8_number value x8 h bus y base w new.far
 taken_told x8 value h bus y base w old new st (Taken.at_once r) =
     let t : SwapTold x8_number r.low r.high x8 r.last h bus y base w new.far =
-    swap_told x8_number r.low r.high x8 r.last h bus y base w old new (omega arith) st r.ended in
+    swap_told x8_number r.low r.high x8 r.last h bus y base w old new (record { small = omega arith; other = refl }) st r.ended in
     swapped_by x8_number value r.low r.high x8 r.last h bus y base w new.far t.far t.is t.end r.error_is r.is
 taken_told x8 value h bus y base w old new st (Taken.late mid last early read wrote) =
-    let again : StoodTold h bus y base w mid.far = unswapped_told x8_number x8 h bus y base w old mid (omega arith) st early in
-    let a : ReadTold x8_number value h bus y base w last.far = read_told x8_number value h bus y base w mid last (omega arith) again read in
+    let again : StoodTold h bus y base w mid.far = unswapped_told x8_number x8 h bus y base w old mid (record { small = omega arith; other = refl }) st early in
+    let a : ReadTold x8_number value h bus y base w last.far = read_told x8_number value h bus y base w mid last (record { small = omega arith; other = refl }) again read in
     let b : WrittenTold x8_number x8 h bus y base w a.then.kept new.far = written_told x8_number x8 h bus y base w last new (omega arith) a.then wrote in
     record { held = a.held; held_is = a.held_is; value_is = a.value_is; then = b.then }
 

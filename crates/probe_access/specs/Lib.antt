@@ -13,6 +13,7 @@ pub mod Cuts
 pub mod AskedRuns
 pub mod ElementRuns
 pub mod Faults
+pub mod Pending
 pub mod MemoryRuns
 pub mod Registers
 pub mod RegisterRuns

@@ -46,7 +46,7 @@ pub use bus_blocks::{bus_load_block, bus_store_block};
 pub use fault::AccessFault;
 pub use memory::{cut_to, is_aligned, load, store};
 pub use odd::OddStatus;
-pub use registers::{reg, set_reg};
+pub use registers::{held_reg, reg, set_reg};
 pub use scratch::{Scratch, save};
 pub use single::{step, step_from};
 pub use stopped::Stop;

@@ -1,7 +1,7 @@
 -- The opening of a chip that is told as it was loaded: Ok leaves it ready, and no register is refused.
 use Rattle.std.proofs.Common.{◌≡◌, ◌∙◌, ◌++◌, ℕ, List, [], ◌∷◌, map, Bool, true, false, Option, Some, None, refl, sym, ap, subst, append-nil}
 use Rattle.std.proofs.lemmas.Bool.{false≢true}
-use Rattle.rv_model.specs.declared.version.Version.TheVariants.{V10}
+use Rattle.rv_model.specs.declared.version.Version.{Version}
 use Rattle.debug_model.specs.Addresses.{dmcontrol_address, dmstatus_address, abstractcs_address, abstractauto_address, sbcs_address}
 use Rattle.debug_model.specs.declared.dmi.DmiFault.{DmiFault}
 use Rattle.debug_model.specs.declared.dmi_op.DmiOp.{DmiOp}
@@ -11,6 +11,7 @@ use Rattle.chip_laws.proofs.SeveralOperations.{StoppedAt, stopped_at}
 use Rattle.debug_model.specs.Course.{SitePath, performed}
 use Rattle.debug_model.specs.Dmi.{NoneOperated, OperationCut, SiteCut}
 use Rattle.debug_model.specs.Many.{OperationsCut}
+use Rattle.debug_model.specs.Loaded.{AsLoaded}
 use Rattle.debug_model.specs.Module.{DebugModule, Site, reset_module}
 use Rattle.debug_model.specs.Told.{Far, ModuleReady, SiteReady, site_of}
 use Rattle.abstract_debugger.specs.Stands.{Cut, Target, WentOn}
@@ -51,62 +52,62 @@ pub far_call : (acts : List Act) (E : Site → Site → Type 0) (m : Far) (mid n
 far_call acts E m mid new at leads d = let r : FarRan acts m new.far = far_ran mid m at acts new d in
     record { far = r.far; is = r.is; holds = leads (site_of r.far) r.ran }
 
-at_transport : (f : Far) (old mid : Tells) → old.far ≡ Some f → Fresh (reset_module V10) (site_of f) → (word : ℕ) → Did old (Scanned word ∷ []) mid
-    → CallRan (λ s t. On (reset_module V10) s t × (transport_fits word ≡ true)) f mid.far
-at_transport f old mid at fresh word d = far_call (Scanned word ∷ []) (λ s t. On (reset_module V10) s t × (transport_fits word ≡ true)) f old mid at
-    (λ t ran. transport_on word (site_of f) t fresh ran) d
+at_transport : (v : Version) (f : Far) (old mid : Tells) → old.far ≡ Some f → Fresh (reset_module v) (site_of f) → (word : ℕ) → Did old (Scanned word ∷ []) mid
+    → CallRan (λ s t. On (reset_module v) s t × (transport_fits word ≡ true)) f mid.far
+at_transport v f old mid at fresh word d = far_call (Scanned word ∷ []) (λ s t. On (reset_module v) s t × (transport_fits word ≡ true)) f old mid at
+    (λ t ran. transport_on v word (site_of f) t fresh ran) d
 
-up_to_module : (f : Far) (old mid : Tells) → old.far ≡ Some f → Fresh (reset_module V10) (site_of f) → UpToModule old mid → CallRan (On active_unit) f mid.far
-up_to_module f old mid at fresh u =
-    let a = at_transport f old u.mid at fresh u.first.0 u.first.1.did in
-    let b : CallRan (On active_unit) a.far mid.far =
-    far_call _ (On active_unit) a.far u.mid mid a.is (λ t ran. (activated_on u.second.vain u.second.last (site_of a.far) t a.holds.0.fresh ran).0) u.second.did
+up_to_module : (v : Version) (f : Far) (old mid : Tells) → old.far ≡ Some f → Fresh (reset_module v) (site_of f) → UpToModule old mid → CallRan (On (active_unit v)) f mid.far
+up_to_module v f old mid at fresh u =
+    let a = at_transport v f old u.mid at fresh u.first.0 u.first.1.did in
+    let b : CallRan (On (active_unit v)) a.far mid.far =
+    far_call _ (On (active_unit v)) a.far u.mid mid a.is (λ t ran. (activated_on v u.second.vain u.second.last (site_of a.far) t a.holds.0.fresh ran).0) u.second.did
     in
-    record { far = b.far; is = b.is; holds = on_on (reset_module V10) active_unit (site_of f) (site_of a.far) (site_of b.far) a.holds.0 b.holds }
+    record { far = b.far; is = b.is; holds = on_on (reset_module v) (active_unit v) (site_of f) (site_of a.far) (site_of b.far) a.holds.0 b.holds }
 
-up_to_commands : (f : Far) (old mid : Tells) → old.far ≡ Some f → Fresh (reset_module V10) (site_of f) → UpToCommands old mid → CallRan (After active_unit) f mid.far
-up_to_commands f old mid at fresh u =
-    let a : CallRan (On active_unit) f u.mid.far = up_to_module f old u.mid at fresh u.first in
-    let b : CallRan (After active_unit) a.far mid.far =
-    far_call _ (After active_unit) a.far u.mid mid a.is (λ t ran. (module_after u.second.0 (site_of a.far) t a.holds.fresh ran).0) u.second.1.did in
-    record { far = b.far; is = b.is; holds = on_after active_unit active_unit (site_of f) (site_of a.far) (site_of b.far) a.holds b.holds }
+up_to_commands : (v : Version) (f : Far) (old mid : Tells) → old.far ≡ Some f → Fresh (reset_module v) (site_of f) → UpToCommands old mid → CallRan (After (active_unit v)) f mid.far
+up_to_commands v f old mid at fresh u =
+    let a : CallRan (On (active_unit v)) f u.mid.far = up_to_module v f old u.mid at fresh u.first in
+    let b : CallRan (After (active_unit v)) a.far mid.far =
+    far_call _ (After (active_unit v)) a.far u.mid mid a.is (λ t ran. (module_after v u.second.0 (site_of a.far) t a.holds.fresh ran).0) u.second.1.did in
+    record { far = b.far; is = b.is; holds = on_after (active_unit v) (active_unit v) (site_of f) (site_of a.far) (site_of b.far) a.holds b.holds }
 
-up_to_bus : (f : Far) (old mid : Tells) → old.far ≡ Some f → Fresh (reset_module V10) (site_of f) → UpToBus old mid → CallRan (After active_unit) f mid.far
-up_to_bus f old mid at fresh u =
-    let a : CallRan (After active_unit) f u.mid.far = up_to_commands f old u.mid at fresh u.first in
-    let b : CallRan (On active_unit) a.far mid.far =
-    far_call _ (On active_unit) a.far u.mid mid a.is (λ t ran. (commands_on u.second.0 (site_of a.far) t a.holds.fresh ran).0) u.second.1.did in
-    record { far = b.far; is = b.is; holds = after_on active_unit active_unit (site_of f) (site_of a.far) (site_of b.far) a.holds b.holds }
+up_to_bus : (v : Version) (f : Far) (old mid : Tells) → old.far ≡ Some f → Fresh (reset_module v) (site_of f) → UpToBus old mid → CallRan (After (active_unit v)) f mid.far
+up_to_bus v f old mid at fresh u =
+    let a : CallRan (After (active_unit v)) f u.mid.far = up_to_commands v f old u.mid at fresh u.first in
+    let b : CallRan (On (active_unit v)) a.far mid.far =
+    far_call _ (On (active_unit v)) a.far u.mid mid a.is (λ t ran. (commands_on v u.second.0 (site_of a.far) t a.holds.fresh ran).0) u.second.1.did in
+    record { far = b.far; is = b.is; holds = after_on (active_unit v) (active_unit v) (site_of f) (site_of a.far) (site_of b.far) a.holds b.holds }
 
-fit_bus : (f : Far) (old mid : Tells) → old.far ≡ Some f → Fresh (reset_module V10) (site_of f) → Then UpToBus BusFits old mid → CallRan (After active_unit) f mid.far
-fit_bus f old mid at fresh u =
-    let a : CallRan (After active_unit) f u.mid.far = up_to_bus f old u.mid at fresh u.first in
-    let b : CallRan (On active_unit) a.far mid.far =
-    far_call _ (On active_unit) a.far u.mid mid a.is (λ t ran. (bus_on u.second.0 (site_of a.far) t a.holds.fresh ran).0) u.second.1.did in
-    record { far = b.far; is = b.is; holds = after_on active_unit active_unit (site_of f) (site_of a.far) (site_of b.far) a.holds b.holds }
+fit_bus : (v : Version) (f : Far) (old mid : Tells) → old.far ≡ Some f → Fresh (reset_module v) (site_of f) → Then UpToBus BusFits old mid → CallRan (After (active_unit v)) f mid.far
+fit_bus v f old mid at fresh u =
+    let a : CallRan (After (active_unit v)) f u.mid.far = up_to_bus v f old u.mid at fresh u.first in
+    let b : CallRan (On (active_unit v)) a.far mid.far =
+    far_call _ (On (active_unit v)) a.far u.mid mid a.is (λ t ran. (bus_on v u.second.0 (site_of a.far) t a.holds.fresh ran).0) u.second.1.did in
+    record { far = b.far; is = b.is; holds = after_on (active_unit v) (active_unit v) (site_of f) (site_of a.far) (site_of b.far) a.holds b.holds }
 
 -- ---- Ok
 
-fresh_ready : (t : Site) → Fresh opened_unit t → SiteReady t
-fresh_ready t f = between_ready 0 t (record { unit = subst (λ m. ModuleReady m) (sym f.unit) opened_ready; wide = f.wide; harts = f.harts })
+fresh_ready : (v : Version) (t : Site) → Fresh (opened_unit v) t → SiteReady t
+fresh_ready v t f = between_ready 0 t (record { unit = subst (λ m. ModuleReady m) (sym f.unit) (opened_ready v); wide = f.wide; harts = f.harts })
 
-opens : (f : Far) (old new : Tells) → old.far ≡ Some f → Fresh (reset_module V10) (site_of f) → Opened old new → OpenedChip f new.far
-opens f old new at fresh o =
-    let a : CallRan (After active_unit) f o.second.mid.far =
-    fit_bus f old o.second.mid at fresh (record { mid = o.mid; first = o.first; second = o.second.first }) in
-    let b : CallRan (On opened_unit) a.far new.far =
-    far_call _ (On opened_unit) a.far o.second.mid new a.is (λ t ran. opened_on (site_of a.far) t a.holds.fresh ran) o.second.second in
+opens : (v : Version) (f : Far) (old new : Tells) → old.far ≡ Some f → Fresh (reset_module v) (site_of f) → Opened old new → OpenedChip f new.far
+opens v f old new at fresh o =
+    let a : CallRan (After (active_unit v)) f o.second.mid.far =
+    fit_bus v f old o.second.mid at fresh (record { mid = o.mid; first = o.first; second = o.second.first }) in
+    let b : CallRan (On (opened_unit v)) a.far new.far =
+    far_call _ (On (opened_unit v)) a.far o.second.mid new a.is (λ t ran. opened_on v (site_of a.far) t a.holds.fresh ran) o.second.second in
     record {
       far = b.far;
       is = b.is;
-      ready = fresh_ready (site_of b.far) b.holds.fresh;
+      ready = fresh_ready v (site_of b.far) b.holds.fresh;
       selected = ap (λ (m : DebugModule). m.hartsel) b.holds.fresh.unit;
       happened = pointed_turns (target_of (site_of f)) (target_of (site_of a.far)) (target_of (site_of b.far)) a.holds.pointed b.holds.went;
     }
 
 opens_by : (old new : Tells) (told : Option Far) → old.far ≡ told → Opened old new → OpensLoaded told new.far
 opens_by old new None at o = tt
-opens_by old new (Some f) at o = λ loaded. opens f old new at (fresh_loaded f loaded) o
+opens_by old new (Some f) at o = λ (loaded : AsLoaded f.live). opens loaded.version f old new at (fresh_loaded f loaded) o
 
 pub opens_loaded : (old new : Tells) → Opened old new → OpensLoaded old.far new.far
 opens_loaded old new o = opens_by old new old.far refl o
@@ -194,33 +195,33 @@ several_after op ops u f m mid old_count new_count new fault quiet after at b =
     }
 
 -- dmactive is written, and dmcontrol read
-first_quietly : Quietly (Write dmcontrol_address (control_word Nothing 0) ∷ Read dmcontrol_address ∷ []) (reset_module V10)
-first_quietly = goes _ _ (reset_module V10) active_unit reset_quiet activates
-    (goes _ _ active_unit active_unit active_quiet (reads_control active_unit) (done active_unit active_quiet))
+first_quietly : (v : Version) → Quietly (Write dmcontrol_address (control_word Nothing 0) ∷ Read dmcontrol_address ∷ []) (reset_module v)
+first_quietly v = goes _ _ (reset_module v) (active_unit v) (reset_quiet v) (activates v)
+    (goes _ _ (active_unit v) (active_unit v) (active_quiet v) (reads_control (active_unit v)) (done (active_unit v) (active_quiet v)))
 
 -- the errors of commands are cleared, and sbcs is read
-bus_quietly : Quietly (Write abstractcs_address clears_cmderr ∷ Write abstractauto_address starts_none ∷ Read sbcs_address ∷ []) active_unit
-bus_quietly =
-    goes _ _ active_unit active_unit active_quiet clears_commands
-    (goes _ _ active_unit active_unit active_quiet clears_auto
-    (goes _ _ active_unit active_unit active_quiet (reads_bus active_unit) (done active_unit active_quiet)))
+bus_quietly : (v : Version) → Quietly (Write abstractcs_address clears_cmderr ∷ Write abstractauto_address starts_none ∷ Read sbcs_address ∷ []) (active_unit v)
+bus_quietly v =
+    goes _ _ (active_unit v) (active_unit v) (active_quiet v) (clears_commands v)
+    (goes _ _ (active_unit v) (active_unit v) (active_quiet v) (clears_auto v)
+    (goes _ _ (active_unit v) (active_unit v) (active_quiet v) (reads_bus (active_unit v)) (done (active_unit v) (active_quiet v))))
 
 stays_on : (v : DebugModule) (s t : Site) → Fresh v s → Ran [] s t → On v s t
 stays_on v s t f is = subst (λ x. On v s x) (sym is) (record { fresh = f; went = record { harts = []; board = refl; journal = sym (append-nil s.journal) } })
 
-scan_cut : (f : Far) (old : Tells) (old_count new_count : ℕ) (new : Option Far) (fault : DmiFault) → old.far ≡ Some f → Fresh (reset_module V10) (site_of f)
+scan_cut : (v : Version) (f : Far) (old : Tells) (old_count new_count : ℕ) (new : Option Far) (fault : DmiFault) → old.far ≡ Some f → Fresh (reset_module v) (site_of f)
     → Broke [] Scan old_count new_count old new fault → UnopenedChip f new
-scan_cut f old old_count new_count new fault at fresh b =
+scan_cut v f old old_count new_count new fault at fresh b =
     let r : FarRan [] f b.mid.far = far_ran old f at [] b.mid b.did in
     let c : NoneOperated r.far.live.chip new = where_told NoneOperated b.mid.far new r.far r.is b.cut in
-    let same : Fresh (reset_module V10) (site_of r.far) = subst (λ x. Fresh (reset_module V10) x) (sym r.ran) fresh in
+    let same : Fresh (reset_module v) (site_of r.far) = subst (λ x. Fresh (reset_module v) x) (sym r.ran) fresh in
     let g : WentOn (target_of (site_of r.far)) (target_of (site_of c.far)) =
-    went_alone (site_of r.far) (site_of c.far) (fresh_deeds (reset_module V10) (site_of r.far) (site_of c.far) reset_quiet same c.site) in
+    went_alone (site_of r.far) (site_of c.far) (fresh_deeds (reset_module v) (site_of r.far) (site_of c.far) (reset_quiet v) same c.site) in
     record { far = c.far; is = c.is; happened = Cut.before (subst (λ (x : Site). WentOn (target_of x) (target_of (site_of c.far))) r.ran g) }
 
-look_cut : (f m : Far) (mid : Tells) (old_count new_count : ℕ) (new : Option Far) (fault : DmiFault) → On active_unit (site_of f) (site_of m) → mid.far ≡ Some m
+look_cut : (v : Version) (f m : Far) (mid : Tells) (old_count new_count : ℕ) (new : Option Far) (fault : DmiFault) → On (active_unit v) (site_of f) (site_of m) → mid.far ≡ Some m
     → Broke [] (Operation (Read dmstatus_address)) old_count new_count mid new fault → UnopenedChip f new
-look_cut f m mid old_count new_count new fault on at b =
+look_cut v f m mid old_count new_count new fault on at b =
     let r : FarRan [] m b.mid.far = far_ran mid m at [] b.mid b.did in
     let c : OperationCut (Read dmstatus_address) r.far.live.chip new = where_told (OperationCut (Read dmstatus_address)) b.mid.far new r.far r.is b.cut in
     let cut : SiteCut (Read dmstatus_address) (site_of m) (site_of c.far) = subst (λ x. SiteCut (Read dmstatus_address) x (site_of c.far)) r.ran c.site in
@@ -228,82 +229,83 @@ look_cut f m mid old_count new_count new fault on at b =
       far = c.far;
       is = c.is;
       happened = turned_cut (target_of (site_of f)) (target_of (site_of m)) (target_of (site_of c.far)) on.went
-          (cut_look (Read dmstatus_address) active_unit active_unit (site_of m) (site_of c.far) active_quiet active_quiet looks_at_first on.fresh cut);
+          (cut_look (Read dmstatus_address) (active_unit v) (active_unit v) (site_of m) (site_of c.far) (active_quiet v) (active_quiet v) (looks_at_first v) on.fresh cut);
     }
   where
     turned_cut : (old mid new : Target) → WentOn old mid → Cut (Look 0) mid new → Cut (Look 0) old new
     turned_cut old mid new w (Cut.before q) = Cut.before (turns_went old mid new w q)
     turned_cut old mid new w (Cut.behind p) = Cut.behind (turns_pointed old mid new 0 w p)
 
-starts_on : (f : Far) → Fresh (reset_module V10) (site_of f) → On (reset_module V10) (site_of f) (site_of f)
-starts_on f fresh = stays_on (reset_module V10) (site_of f) (site_of f) fresh refl
+starts_on : (v : Version) (f : Far) → Fresh (reset_module v) (site_of f) → On (reset_module v) (site_of f) (site_of f)
+starts_on v f fresh = stays_on (reset_module v) (site_of f) (site_of f) fresh refl
 
-opening_cut : (f : Far) (old new : Tells) (old_count new_count : ℕ) (fault : DmiFault) → old.far ≡ Some f → Fresh (reset_module V10) (site_of f)
+opening_cut : (v : Version) (f : Far) (old new : Tells) (old_count new_count : ℕ) (fault : DmiFault) → old.far ≡ Some f → Fresh (reset_module v) (site_of f)
     → OpeningBroke old_count new_count old new fault → UnopenedChip f new.far
-opening_cut f old new old_count new_count fault at fresh (in_transport b) = scan_cut f old old_count new_count new.far fault at fresh b
-opening_cut f old new old_count new_count fault at fresh (in_activation b) = by_activation b.failed
+opening_cut v f old new old_count new_count fault at fresh (in_transport b) = scan_cut v f old old_count new_count new.far fault at fresh b
+opening_cut v f old new old_count new_count fault at fresh (in_activation b) = by_activation b.failed
   where
     by_activation : ActivateBroke old_count new_count b.mid new.far fault → UnopenedChip f new.far
     by_activation (at_first w) =
-        let a = at_transport f old b.mid at fresh b.first.0 b.first.1.did in
-        several_before (Write dmcontrol_address (control_word Nothing 0)) (Read dmcontrol_address ∷ []) (reset_module V10) f a.far b.mid old_count new_count new.far
-        fault first_quietly a.holds.0 a.is w
+        let a = at_transport v f old b.mid at fresh b.first.0 b.first.1.did in
+        several_before (Write dmcontrol_address (control_word Nothing 0)) (Read dmcontrol_address ∷ []) (reset_module v) f a.far b.mid old_count new_count new.far
+        fault (first_quietly v) a.holds.0 a.is w
     by_activation (at_read w) =
-        let a = at_transport f old b.mid at fresh b.first.0 b.first.1.did in
-        cut_before (asks Nothing 0 ++ map active_act w.vain) (Read dmcontrol_address) (reset_module V10) active_unit active_unit f a.far b.mid old_count new_count
-        new.far fault active_quiet active_quiet (reads_control active_unit) a.holds.0 a.is
-        (λ t ran. vain_activated w.vain (site_of a.far) t a.holds.0.fresh ran) w.broke
-opening_cut f old new old_count new_count fault at fresh (in_module b) =
-    let a : CallRan (On active_unit) f b.mid.far = up_to_module f old b.mid at fresh b.first in
-    look_cut f a.far b.mid old_count new_count new.far fault a.holds a.is b.failed
-opening_cut f old new old_count new_count fault at fresh (in_commands b) =
-    let a : CallRan (After active_unit) f b.mid.far = up_to_commands f old b.mid at fresh b.first in
-    cut_after [] (Read abstractcs_address) active_unit active_unit f a.far b.mid old_count new_count new.far fault active_quiet active_quiet
-    (reads_commands active_unit) a.holds a.is
-    (λ t ran. stays_on active_unit (site_of a.far) t a.holds.fresh ran) b.failed
-opening_cut f old new old_count new_count fault at fresh (in_bus b) = by_bus b.failed
+        let a = at_transport v f old b.mid at fresh b.first.0 b.first.1.did in
+        cut_before (asks Nothing 0 ++ map active_act w.vain) (Read dmcontrol_address) (reset_module v) (active_unit v) (active_unit v) f a.far b.mid old_count new_count
+        new.far fault (active_quiet v) (active_quiet v) (reads_control (active_unit v)) a.holds.0 a.is
+        (λ t ran. vain_activated v w.vain (site_of a.far) t a.holds.0.fresh ran) w.broke
+opening_cut v f old new old_count new_count fault at fresh (in_module b) =
+    let a : CallRan (On (active_unit v)) f b.mid.far = up_to_module v f old b.mid at fresh b.first in
+    look_cut v f a.far b.mid old_count new_count new.far fault a.holds a.is b.failed
+opening_cut v f old new old_count new_count fault at fresh (in_commands b) =
+    let a : CallRan (After (active_unit v)) f b.mid.far = up_to_commands v f old b.mid at fresh b.first in
+    cut_after [] (Read abstractcs_address) (active_unit v) (active_unit v) f a.far b.mid old_count new_count new.far fault (active_quiet v) (active_quiet v)
+    (reads_commands (active_unit v)) a.holds a.is
+    (λ t ran. stays_on (active_unit v) (site_of a.far) t a.holds.fresh ran) b.failed
+opening_cut v f old new old_count new_count fault at fresh (in_bus b) = by_bus b.failed
   where
     by_bus : BusBroke old_count new_count b.mid new.far fault → UnopenedChip f new.far
     by_bus (at_sbcs w) =
-        let a : CallRan (After active_unit) f b.mid.far = up_to_bus f old b.mid at fresh b.first in
-        several_after (Write abstractcs_address clears_cmderr) (Write abstractauto_address starts_none ∷ Read sbcs_address ∷ []) active_unit f a.far b.mid
-        old_count new_count new.far fault bus_quietly a.holds a.is w
+        let a : CallRan (After (active_unit v)) f b.mid.far = up_to_bus v f old b.mid at fresh b.first in
+        several_after (Write abstractcs_address clears_cmderr) (Write abstractauto_address starts_none ∷ Read sbcs_address ∷ []) (active_unit v) f a.far b.mid
+        old_count new_count new.far fault (bus_quietly v) a.holds a.is w
     by_bus (at_sberror w) =
-        let a : CallRan (After active_unit) f w.mid.far = fit_bus f old w.mid at fresh (record { mid = b.mid; first = b.first; second = w.first }) in
-        cut_after [] (Write sbcs_address clears_sberror) active_unit opened_unit f a.far w.mid old_count new_count new.far fault active_quiet opened_quiet
-        clears_bus a.holds a.is
-        (λ t ran. stays_on active_unit (site_of a.far) t a.holds.fresh ran) w.broke
+        let a : CallRan (After (active_unit v)) f w.mid.far = fit_bus v f old w.mid at fresh (record { mid = b.mid; first = b.first; second = w.first }) in
+        cut_after [] (Write sbcs_address clears_sberror) (active_unit v) (opened_unit v) f a.far w.mid old_count new_count new.far fault (active_quiet v) (opened_quiet v)
+        (clears_bus v) a.holds a.is
+        (λ t ran. stays_on (active_unit v) (site_of a.far) t a.holds.fresh ran) w.broke
 
-loses : (f : Far) (old new : Tells) (old_count new_count : ℕ) (e : ConnectFault) → old.far ≡ Some f → Fresh (reset_module V10) (site_of f)
+loses : (v : Version) (f : Far) (old new : Tells) (old_count new_count : ℕ) (e : ConnectFault) → old.far ≡ Some f → Fresh (reset_module v) (site_of f)
     → ConnectFails old_count new_count old new e → IsDmiFault e × UnopenedChip f new.far
-loses f old new old_count new_count (Dtm word) at fresh r =
-    let a = at_transport f old new at fresh word r.did in refused _ (transport_fits word) a.holds.1 r.tested
-loses f old new old_count new_count (Module word true) at fresh r =
-    let a = at_transport f old r.mid at fresh r.first.0 r.first.1.did in
-    let b = far_call (asks Nothing 0 ++ (map active_act r.second.front ++ active_act word ∷ [])) (λ s t. On active_unit s t × (is_active word ≡ true)) a.far
-    r.mid new a.is (λ t ran. activated_on r.second.front word (site_of a.far) t a.holds.0.fresh ran) r.second.did in
+loses v f old new old_count new_count (Dtm word) at fresh r =
+    let a = at_transport v f old new at fresh word r.did in refused _ (transport_fits word) a.holds.1 r.tested
+loses v f old new old_count new_count (Module word true) at fresh r =
+    let a = at_transport v f old r.mid at fresh r.first.0 r.first.1.did in
+    let b = far_call (asks Nothing 0 ++ (map active_act r.second.front ++ active_act word ∷ [])) (λ s t. On (active_unit v) s t × (is_active word ≡ true)) a.far
+    r.mid new a.is (λ t ran. activated_on v r.second.front word (site_of a.far) t a.holds.0.fresh ran) r.second.did in
     refused _ (is_active word) b.holds.1 r.second.inactive
-loses f old new old_count new_count (Module word false) at fresh r =
-    let a : CallRan (On active_unit) f r.mid.far = up_to_module f old r.mid at fresh r.first in
-    let b = far_call (look_act word ∷ []) (λ s t. After active_unit s t × (module_fits word ≡ true)) a.far r.mid new a.is
-    (λ t ran. module_after word (site_of a.far) t a.holds.fresh ran) r.second.did in
+loses v f old new old_count new_count (Module word false) at fresh r =
+    let a : CallRan (On (active_unit v)) f r.mid.far = up_to_module v f old r.mid at fresh r.first in
+    let b = far_call (look_act word ∷ []) (λ s t. After (active_unit v) s t × (module_fits word ≡ true)) a.far r.mid new a.is
+    (λ t ran. module_after v word (site_of a.far) t a.holds.fresh ran) r.second.did in
     refused _ (module_fits word) b.holds.1 r.second.tested
-loses f old new old_count new_count (Abstract word) at fresh r =
-    let a : CallRan (After active_unit) f r.mid.far = up_to_commands f old r.mid at fresh r.first in
-    let b = far_call (commands_acts word) (λ s t. On active_unit s t × (commands_fit word ≡ true)) a.far r.mid new a.is
-    (λ t ran. commands_on word (site_of a.far) t a.holds.fresh ran) r.second.did in
+loses v f old new old_count new_count (Abstract word) at fresh r =
+    let a : CallRan (After (active_unit v)) f r.mid.far = up_to_commands v f old r.mid at fresh r.first in
+    let b = far_call (commands_acts word) (λ s t. On (active_unit v) s t × (commands_fit word ≡ true)) a.far r.mid new a.is
+    (λ t ran. commands_on v word (site_of a.far) t a.holds.fresh ran) r.second.did in
     refused _ (commands_fit word) b.holds.1 r.second.tested
-loses f old new old_count new_count (Bus word) at fresh r =
-    let a : CallRan (After active_unit) f r.mid.far = up_to_bus f old r.mid at fresh r.first in
-    let b = far_call (bus_acts word) (λ s t. On active_unit s t × (bus_fits word ≡ true)) a.far r.mid new a.is
-    (λ t ran. bus_on word (site_of a.far) t a.holds.fresh ran) r.second.did in
+loses v f old new old_count new_count (Bus word) at fresh r =
+    let a : CallRan (After (active_unit v)) f r.mid.far = up_to_bus v f old r.mid at fresh r.first in
+    let b = far_call (bus_acts word) (λ s t. On (active_unit v) s t × (bus_fits word ≡ true)) a.far r.mid new a.is
+    (λ t ran. bus_on v word (site_of a.far) t a.holds.fresh ran) r.second.did in
     refused _ (bus_fits word) b.holds.1 r.second.tested
-loses f old new old_count new_count (Dmi fault) at fresh r = (tt, opening_cut f old new old_count new_count fault at fresh r)
+loses v f old new old_count new_count (Dmi fault) at fresh r = (tt, opening_cut v f old new old_count new_count fault at fresh r)
 
 loses_by : (old new : Tells) (told : Option Far) (old_count new_count : ℕ) (e : ConnectFault) → old.far ≡ told → ConnectFails old_count new_count old new e
     → LosesLoaded told new.far e
 loses_by old new None old_count new_count e at r = tt
-loses_by old new (Some f) old_count new_count e at r = λ loaded. loses f old new old_count new_count e at (fresh_loaded f loaded) r
+loses_by old new (Some f) old_count new_count e at r =
+    λ (loaded : AsLoaded f.live). loses loaded.version f old new old_count new_count e at (fresh_loaded f loaded) r
 
 pub loses_loaded : (old new : Tells) (old_count new_count : ℕ) (e : ConnectFault) → ConnectFails old_count new_count old new e → LosesLoaded old.far new.far e
 loses_loaded old new old_count new_count e r = loses_by old new old.far old_count new_count e refl r

@@ -1,5 +1,5 @@
 -- A chip as it was loaded: its module is reset, nothing is asked of its harts, and all its numbers are within their widths.
-use Rattle.std.proofs.Common.{◌≡◌, ◌∙◌, ◌++◌, ◌+◌, ◌<◌, ◌≤◌, ◌^◌, ◌==◌, ℕ, zero, suc, List, [], ◌∷◌, length, replicate, get_or, All, Bool, true, false}
+use Rattle.std.proofs.Common.{◌≡◌, ◌∙◌, ◌++◌, ◌+◌, ◌*◌, ◌<◌, ◌≤◌, ◌^◌, ◌==◌, ℕ, zero, suc, List, [], ◌∷◌, length, replicate, get_or, All, Bool, true, false}
 use Rattle.std.proofs.Common.{cond, Option, Some, slice_get, refl, sym, ap, subst, arith, append-nil}
 use Rattle.std.specs.Cmp.{nat_cmp_total}
 use Rattle.std.specs.FinMap as map
@@ -9,13 +9,12 @@ use Rattle.std.specs.Ordering.{eq_by_cmp, nat_cmp}
 use Rattle.std.proofs.lemmas.List.Elements.{All-head, All-tail, All-nil, All-cons}
 use Rattle.std.proofs.lemmas.Option.{none-some, same_Some}
 use Rattle.rv_model.specs.declared.version.Version.{Version}
-use Rattle.rv_model.specs.declared.version.Version.TheVariants.{V10}
 use Rattle.rv_model.specs.declared.cause.Cause.{Cause}
 use Rattle.rv_model.specs.declared.slot.Slot.{Slot}
 use Rattle.rv_model.specs.Board.{Hart, free_slot, reset_hart}
 use Rattle.rv_model.specs.Core.{reset_core}
 use Rattle.rv_model.specs.Image.{with_image}
-use Rattle.rv_model.specs.Memory.{Bytes, map_of, ram_base}
+use Rattle.rv_model.specs.Memory.{Bytes, laid, msip_base, msip_size, ram_base}
 use Rattle.rv_model.proofs.WholeBoards.{reset_is_hart}
 use Rattle.debug_model.specs.Chip.{Live}
 use Rattle.debug_model.proofs.LoadedHarts.{one_hart_more}
@@ -122,30 +121,34 @@ all_zeros : (n : ℕ) → All (λ b. b < 256) (replicate n 0)
 all_zeros zero = All-nil (λ b. b < 256)
 all_zeros (suc n) = All-cons (λ b. b < 256) 0 (replicate n 0) (omega arith) (all_zeros n)
 
-zeros_ready : (ram q v : ℕ) → get (map_of (replicate ram 0)) q ≡ Some v → v < 256
-unfolding map_of
-zeros_ready ram q v is =
-    found_small (replicate ram 0) ram_base q v [] (all_zeros ram) (λ e. absurd (none-some v e))
-    (ap (map.find nat_cmp q) (append-nil (enumerate_from ram_base (replicate ram 0)))
-    ∙ sym (get-from_entries nat_cmp_total (enumerate_from ram_base (replicate ram 0)) q) ∙ is)
+-- of so many bytes of MSIP words, and so many of RAM
+zeros_ready : (words ram q v : ℕ) → get (laid (replicate words 0) (replicate ram 0)) q ≡ Some v → v < 256
+unfolding laid
+zeros_ready words ram q v is =
+    let in_ram : map.find nat_cmp q (enumerate_from ram_base (replicate ram 0)) ≡ Some v → v < 256 = λ e.
+    found_small (replicate ram 0) ram_base q v [] (all_zeros ram) (λ none. absurd (none-some v none))
+    (ap (map.find nat_cmp q) (append-nil (enumerate_from ram_base (replicate ram 0))) ∙ e) in
+    found_small (replicate words 0) msip_base q v (enumerate_from ram_base (replicate ram 0)) (all_zeros words) in_ram
+    (sym (get-from_entries nat_cmp_total (enumerate_from msip_base (replicate words 0) ++ enumerate_from ram_base (replicate ram 0)) q) ∙ is)
 
-image_ready : (image : List ℕ) (ram : ℕ) → All (λ b. b < 256) image → MemoryReady (loaded_memory image ram)
+image_ready : (image : List ℕ) (ram harts : ℕ) → All (λ b. b < 256) image → MemoryReady (loaded_memory image ram harts)
 unfolding with_image
-image_ready image ram all q v is =
-    let m : Bytes = map_of (replicate ram 0) in
-    found_small image ram_base q v (entries m) all (λ e. zeros_ready ram q v (get-entries m q ∙ e))
+image_ready image ram harts all q v is =
+    let m : Bytes = laid (replicate (msip_size * harts) 0) (replicate ram 0) in
+    found_small image ram_base q v (entries m) all (λ e. zeros_ready (msip_size * harts) ram q v (get-entries m q ∙ e))
     (sym (get-from_entries nat_cmp_total (enumerate_from ram_base image ++ entries m) q) ∙ is)
 
 -- ---- the chip
 
-loaded_fresh : (image : List ℕ) (harts ram : ℕ) (halted : Option Cause) → harts ≤ 4 → All (λ b. b < 256) image
-    → Fresh (reset_module V10) (record { unit = (reset_module V10); board = loaded_board V10 image harts ram halted; journal = [] })
-loaded_fresh image harts ram halted most all = record {
+loaded_fresh : (v : Version) (image : List ℕ) (harts ram : ℕ) (halted : Option Cause) → harts ≤ 4 → All (λ b. b < 256) image
+    → Fresh (reset_module v) (record { unit = reset_module v; board = loaded_board v image harts ram halted; journal = [] })
+loaded_fresh v image harts ram halted most all = record {
   unit = refl;
-  wide = record { harts = λ j x is. reset_hart_wide j x (each_reset V10 harts halted most j x is); memory = image_ready image ram all };
-  harts = λ j x is. let u : Unasked x.debug = reset_unasked j x (each_reset V10 harts halted most j x is) in record { here = λ same. u; others = λ other. u };
+  wide = record { harts = λ j x is. reset_hart_wide j x (each_reset v harts halted most j x is); memory = image_ready image ram harts all };
+  harts = λ j x is. let u : Unasked x.debug = reset_unasked j x (each_reset v harts halted most j x is) in record { here = λ same. u; others = λ other. u };
 }
 
-pub fresh_loaded : (f : Far) → AsLoaded f.live → Fresh (reset_module V10) (site_of f)
+pub fresh_loaded : (f : Far) (a : AsLoaded f.live) → Fresh (reset_module a.version) (site_of f)
 fresh_loaded f a =
-    subst (λ (l : Live). Fresh (reset_module V10) l.chip.inside.works.site) (sym a.is) (loaded_fresh a.image a.harts a.ram a.halted a.right.most a.bytes)
+    subst (λ (l : Live). Fresh (reset_module a.version) l.chip.inside.works.site) (sym a.is)
+    (loaded_fresh a.version a.image a.harts a.ram a.halted a.right.most a.bytes)

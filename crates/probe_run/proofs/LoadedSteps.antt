@@ -110,81 +110,81 @@ hart_fits v (Some x) = status_fits v x.debug.have_reset x.debug.resume_ack x.deb
 hart_fits V013 None = refl
 hart_fits V10 None = refl
 
-shows_module : (x : Site) → x.unit ≡ active_unit → module_fits (value_of (result_of dmstatus_address x)) ≡ true
+shows_module : (v : Version) (x : Site) → x.unit ≡ active_unit v → module_fits (value_of (result_of dmstatus_address x)) ≡ true
 unfolding register_at
-shows_module x is = ap (λ m. module_fits (value_of (result_by m.active Dmstatus x))) is ∙ hart_fits x.unit.version (slice_get x.board.harts x.unit.hartsel)
+shows_module v x is = ap (λ m. module_fits (value_of (result_by m.active Dmstatus x))) is ∙ hart_fits x.unit.version (slice_get x.board.harts x.unit.hartsel)
 
 -- ---- the steps
 
 on_moved : (u : DebugModule) (s m t : Site) → t ≡ m → On u s m → On u s t
 on_moved u s m t is a = subst (λ x. On u s x) (sym is) a
 
-pub transport_on : (word : ℕ) (s t : Site) → Fresh (reset_module V10) s → Ran (Scanned word ∷ []) s t → On (reset_module V10) s t × (transport_fits word ≡ true)
-transport_on word s t f (m, scanned, is) =
-    let a : TurnsAlone s m = fresh_deeds (reset_module V10) s m reset_quiet f scanned.deeds in
-    (on_moved (reset_module V10) s m t is (record { fresh = fresh_along (reset_module V10) s m f a; went = went_alone s m a }), ap transport_fits scanned.value_is)
+pub transport_on : (v : Version) (word : ℕ) (s t : Site) → Fresh (reset_module v) s → Ran (Scanned word ∷ []) s t → On (reset_module v) s t × (transport_fits word ≡ true)
+transport_on v word s t f (m, scanned, is) =
+    let a : TurnsAlone s m = fresh_deeds (reset_module v) s m (reset_quiet v) f scanned.deeds in
+    (on_moved (reset_module v) s m t is (record { fresh = fresh_along (reset_module v) s m f a; went = went_alone s m a }), ap transport_fits scanned.value_is)
 
-reads_on : (vain : List ℕ) (last : ℕ) (s t : Site) → Fresh active_unit s → Ran (map active_act vain ++ active_act last ∷ []) s t
-    → On active_unit s t × (is_active last ≡ true)
-reads_on [] last s t f (m, did, is) = (
-  on_moved active_unit s m t is (op_on (Read dmcontrol_address) last active_unit active_unit s m active_quiet active_quiet (reads_control active_unit) f did),
-  read_shows dmcontrol_address last active_unit [] is_active s m active_quiet (reads_control active_unit) shows_active f did,
+reads_on : (v : Version) (vain : List ℕ) (last : ℕ) (s t : Site) → Fresh (active_unit v) s → Ran (map active_act vain ++ active_act last ∷ []) s t
+    → On (active_unit v) s t × (is_active last ≡ true)
+reads_on v [] last s t f (m, did, is) = (
+  on_moved (active_unit v) s m t is (op_on (Read dmcontrol_address) last (active_unit v) (active_unit v) s m (active_quiet v) (active_quiet v) (reads_control (active_unit v)) f did),
+  read_shows dmcontrol_address last (active_unit v) [] is_active s m (active_quiet v) (reads_control (active_unit v)) (shows_active v) f did,
 )
-reads_on (w ∷ ws) last s t f (m, did, rest) =
-    let a : On active_unit s m = op_on (Read dmcontrol_address) w active_unit active_unit s m active_quiet active_quiet (reads_control active_unit) f did in
-    let (b, shown) = reads_on ws last m t a.fresh rest in
-    (on_on active_unit active_unit s m t a b, shown)
+reads_on v (w ∷ ws) last s t f (m, did, rest) =
+    let a : On (active_unit v) s m = op_on (Read dmcontrol_address) w (active_unit v) (active_unit v) s m (active_quiet v) (active_quiet v) (reads_control (active_unit v)) f did in
+    let (b, shown) = reads_on v ws last m t a.fresh rest in
+    (on_on (active_unit v) (active_unit v) s m t a b, shown)
 
-pub written_on : (s t : Site) → Fresh (reset_module V10) s → (word : ℕ) → OperatedAt (Write dmcontrol_address (control_word Nothing 0)) word s t → On active_unit s t
-written_on s t f word o = op_on (Write dmcontrol_address (control_word Nothing 0)) word (reset_module V10) active_unit s t reset_quiet active_quiet activates f o
+pub written_on : (v : Version) (s t : Site) → Fresh (reset_module v) s → (word : ℕ) → OperatedAt (Write dmcontrol_address (control_word Nothing 0)) word s t → On (active_unit v) s t
+written_on v s t f word o = op_on (Write dmcontrol_address (control_word Nothing 0)) word (reset_module v) (active_unit v) s t (reset_quiet v) (active_quiet v) (activates v) f o
 
-pub activated_on : (vain : List ℕ) (last : ℕ) (s t : Site) → Fresh (reset_module V10) s → Ran (asks Nothing 0 ++ (map active_act vain ++ active_act last ∷ [])) s t
-    → On active_unit s t × (is_active last ≡ true)
-activated_on vain last s t f (m, did, rest) =
-    let a : On active_unit s m = written_on s m f (control_word Nothing 0) did in
-    let (b, shown) = reads_on vain last m t a.fresh rest in
-    (on_on active_unit active_unit s m t a b, shown)
+pub activated_on : (v : Version) (vain : List ℕ) (last : ℕ) (s t : Site) → Fresh (reset_module v) s → Ran (asks Nothing 0 ++ (map active_act vain ++ active_act last ∷ [])) s t
+    → On (active_unit v) s t × (is_active last ≡ true)
+activated_on v vain last s t f (m, did, rest) =
+    let a : On (active_unit v) s m = written_on v s m f (control_word Nothing 0) did in
+    let (b, shown) = reads_on v vain last m t a.fresh rest in
+    (on_on (active_unit v) (active_unit v) s m t a b, shown)
 
-vain_on : (vain : List ℕ) (s t : Site) → Fresh active_unit s → Ran (map active_act vain) s t → On active_unit s t
-vain_on [] s t f is = on_moved active_unit s s t is (record { fresh = f; went = record { harts = []; board = refl; journal = sym (append-nil s.journal) } })
-vain_on (w ∷ ws) s t f (m, did, rest) =
-    let a : On active_unit s m = op_on (Read dmcontrol_address) w active_unit active_unit s m active_quiet active_quiet (reads_control active_unit) f did in
-    on_on active_unit active_unit s m t a (vain_on ws m t a.fresh rest)
+vain_on : (v : Version) (vain : List ℕ) (s t : Site) → Fresh (active_unit v) s → Ran (map active_act vain) s t → On (active_unit v) s t
+vain_on v [] s t f is = on_moved (active_unit v) s s t is (record { fresh = f; went = record { harts = []; board = refl; journal = sym (append-nil s.journal) } })
+vain_on v (w ∷ ws) s t f (m, did, rest) =
+    let a : On (active_unit v) s m = op_on (Read dmcontrol_address) w (active_unit v) (active_unit v) s m (active_quiet v) (active_quiet v) (reads_control (active_unit v)) f did in
+    on_on (active_unit v) (active_unit v) s m t a (vain_on v ws m t a.fresh rest)
 
-pub vain_activated : (vain : List ℕ) (s t : Site) → Fresh (reset_module V10) s → Ran (asks Nothing 0 ++ map active_act vain) s t → On active_unit s t
-vain_activated vain s t f (m, did, rest) = let a : On active_unit s m = written_on s m f (control_word Nothing 0) did in
-    on_on active_unit active_unit s m t a (vain_on vain m t a.fresh rest)
+pub vain_activated : (v : Version) (vain : List ℕ) (s t : Site) → Fresh (reset_module v) s → Ran (asks Nothing 0 ++ map active_act vain) s t → On (active_unit v) s t
+vain_activated v vain s t f (m, did, rest) = let a : On (active_unit v) s m = written_on v s m f (control_word Nothing 0) did in
+    on_on (active_unit v) (active_unit v) s m t a (vain_on v vain m t a.fresh rest)
 
-pub module_after : (word : ℕ) (s t : Site) → Fresh active_unit s → Ran (look_act word ∷ []) s t → After active_unit s t × (module_fits word ≡ true)
-module_after word s t f (m, did, is) =
-    let w : Went (Read dmstatus_address) did.result active_unit (Look 0 ∷ []) s m =
-    went (Read dmstatus_address) did.result active_unit active_unit (Look 0 ∷ []) s m active_quiet active_quiet looks_at_first f did.one in
-    let a : After active_unit s m = record { fresh = w.fresh; pointed = went_look (Read dmstatus_address) did.result active_unit s m w } in (
-      subst (λ x. After active_unit s x) (sym is) a,
-      read_shows dmstatus_address word active_unit (Look 0 ∷ []) module_fits s m active_quiet looks_at_first
-          shows_module f did,
+pub module_after : (v : Version) (word : ℕ) (s t : Site) → Fresh (active_unit v) s → Ran (look_act word ∷ []) s t → After (active_unit v) s t × (module_fits word ≡ true)
+module_after v word s t f (m, did, is) =
+    let w : Went (Read dmstatus_address) did.result (active_unit v) (Look 0 ∷ []) s m =
+    went (Read dmstatus_address) did.result (active_unit v) (active_unit v) (Look 0 ∷ []) s m (active_quiet v) (active_quiet v) (looks_at_first v) f did.one in
+    let a : After (active_unit v) s m = record { fresh = w.fresh; pointed = went_look (Read dmstatus_address) did.result (active_unit v) s m w } in (
+      subst (λ x. After (active_unit v) s x) (sym is) a,
+      read_shows dmstatus_address word (active_unit v) (Look 0 ∷ []) module_fits s m (active_quiet v) (looks_at_first v)
+          (shows_module v) f did,
     )
 
-pub commands_on : (word : ℕ) (s t : Site) → Fresh active_unit s → Ran (commands_acts word) s t → On active_unit s t × (commands_fit word ≡ true)
-commands_on word s t f (m, did, is) = (
-  on_moved active_unit s m t is (op_on (Read abstractcs_address) word active_unit active_unit s m active_quiet active_quiet (reads_commands active_unit) f did),
-  read_shows abstractcs_address word active_unit [] commands_fit s m active_quiet (reads_commands active_unit) shows_commands f did,
+pub commands_on : (v : Version) (word : ℕ) (s t : Site) → Fresh (active_unit v) s → Ran (commands_acts word) s t → On (active_unit v) s t × (commands_fit word ≡ true)
+commands_on v word s t f (m, did, is) = (
+  on_moved (active_unit v) s m t is (op_on (Read abstractcs_address) word (active_unit v) (active_unit v) s m (active_quiet v) (active_quiet v) (reads_commands (active_unit v)) f did),
+  read_shows abstractcs_address word (active_unit v) [] commands_fit s m (active_quiet v) (reads_commands (active_unit v)) (shows_commands v) f did,
 )
 
-pub bus_on : (word : ℕ) (s t : Site) → Fresh active_unit s → Ran (bus_acts word) s t → On active_unit s t × (bus_fits word ≡ true)
-bus_on word s t f (m, errors, rest) =
+pub bus_on : (v : Version) (word : ℕ) (s t : Site) → Fresh (active_unit v) s → Ran (bus_acts word) s t → On (active_unit v) s t × (bus_fits word ≡ true)
+bus_on v word s t f (m, errors, rest) =
     let e : Site = rest.0 in
     let n : Site = rest.2.0 in
-    let a : On active_unit s m = op_on (Write abstractcs_address clears_cmderr) clears_cmderr active_unit active_unit s m active_quiet active_quiet
-    clears_commands f errors in
-    let b : On active_unit m e = op_on (Write abstractauto_address starts_none) starts_none active_unit active_unit m e active_quiet active_quiet clears_auto
+    let a : On (active_unit v) s m = op_on (Write abstractcs_address clears_cmderr) clears_cmderr (active_unit v) (active_unit v) s m (active_quiet v) (active_quiet v)
+    (clears_commands v) f errors in
+    let b : On (active_unit v) m e = op_on (Write abstractauto_address starts_none) starts_none (active_unit v) (active_unit v) m e (active_quiet v) (active_quiet v) (clears_auto v)
     a.fresh rest.1 in
-    let c : On active_unit e n = op_on (Read sbcs_address) word active_unit active_unit e n active_quiet active_quiet (reads_bus active_unit) b.fresh rest.2.1
+    let c : On (active_unit v) e n = op_on (Read sbcs_address) word (active_unit v) (active_unit v) e n (active_quiet v) (active_quiet v) (reads_bus (active_unit v)) b.fresh rest.2.1
     in (
-      on_on active_unit active_unit s m t a (on_on active_unit active_unit m e t b (on_moved active_unit e n t rest.2.2 c)),
-      read_shows sbcs_address word active_unit [] bus_fits e n active_quiet (reads_bus active_unit) shows_bus b.fresh rest.2.1,
+      on_on (active_unit v) (active_unit v) s m t a (on_on (active_unit v) (active_unit v) m e t b (on_moved (active_unit v) e n t rest.2.2 c)),
+      read_shows sbcs_address word (active_unit v) [] bus_fits e n (active_quiet v) (reads_bus (active_unit v)) (shows_bus v) b.fresh rest.2.1,
     )
 
-pub opened_on : (s t : Site) → Fresh active_unit s → Ran (Put sbcs_address clears_sberror ∷ []) s t → On opened_unit s t
-opened_on s t f (m, did, is) = on_moved opened_unit s m t is
-    (op_on (Write sbcs_address clears_sberror) clears_sberror active_unit opened_unit s m active_quiet opened_quiet clears_bus f did)
+pub opened_on : (v : Version) (s t : Site) → Fresh (active_unit v) s → Ran (Put sbcs_address clears_sberror ∷ []) s t → On (opened_unit v) s t
+opened_on v s t f (m, did, is) = on_moved (opened_unit v) s m t is
+    (op_on (Write sbcs_address clears_sberror) clears_sberror (active_unit v) (opened_unit v) s m (active_quiet v) (opened_quiet v) (clears_bus v) f did)

@@ -17,7 +17,7 @@ use Rattle.probe_run.specs.Acts.{Act, Broke, Did, DoesTogether, ScannedAs, Tells
 use Rattle.probe_run.specs.Acts.Act.{Scanned}
 use Rattle.probe_run.specs.Acts.Attempt.{Scan, Operation, Several}
 use Rattle.probe_run.specs.Opening.{ActivateBroke, Activated, ActivationBroke, BusBroke, NotActivated, ReadAs, ThenBroke, active_act, bus_acts}
-use Rattle.probe_run.specs.Opening.{clears_cmderr, is_active, starts_none}
+use Rattle.probe_run.specs.Opening.{BusCleared, BusFits, CommandsFit, ModuleFits, Opened, Then, TransportFits, clears_cmderr, is_active, starts_none}
 use Rattle.probe_run.specs.Opening.ActivateBroke.{at_first}
 use Rattle.probe_run.specs.Opening.BusBroke.{at_sbcs}
 use Rattle.probe_run.specs.Outcomes.{asks}
@@ -63,6 +63,18 @@ broke_behind R acts op op' count mid_count new_count old mid at told fault e fir
   broke = subst (λ xs. Broke xs (Operation op') count new_count mid told fault) (append-nil acts)
       (broke_then acts mid at d [] (Operation op') count mid_count new_count told fault le later
       (broke_op op op' mid_count new_count at.far told at.coming fault e cut cause));
+}
+
+abbrev pub opened_by : (old a b m c new : Tells) → TransportFits old a → Activated a b → ModuleFits b m → CommandsFit m c → Then BusFits BusCleared c new
+    → Opened old new
+opened_by old a b m c new transport active fits commands bus = record {
+  mid = c;
+  first = record {
+    mid = m;
+    first = record { mid = b; first = record { mid = a; first = transport; second = active }; second = fits };
+    second = commands;
+  };
+  second = bus;
 }
 
 -- ---- dmactive

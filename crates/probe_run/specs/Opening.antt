@@ -1,7 +1,8 @@
 -- The opening of a chip: which registers are read and written, in order, and what each of them must show.
 -- RISC-V Debug Specification 1.0, "Debug Module Registers" and "DTM Control and Status". What is asked of each register is this project's own choice.
 use Rattle.std.specs.Prelude.{◌≡◌, ◌++◌, ◌+◌, ◌<◌, ◌==◌, ◌&&◌, not, nat_le, ◌%◌, ℕ, List, [], ◌∷◌, length, map, All, Bool, true, false, Option, Some, None}
-use Rattle.std.specs.Prelude.{IfSome, is_some}
+use Rattle.std.specs.Prelude.{IfSome, if◌then◌else◌, is_some}
+use Rattle.rv_model.specs.declared.version.Version.{Version}
 use Rattle.rv_model.specs.Version.{version_of}
 use Rattle.debug_model.specs.Addresses.{dmcontrol_address, abstractcs_address, abstractauto_address, sbcs_address}
 use Rattle.debug_model.specs.declared.dmi.DmiFault.{DmiFault}
@@ -34,9 +35,12 @@ transport_fits w = (dtmcs_of w).version == 1 && (nat_le 7 (dtmcs_of w).abits && 
 abbrev pub is_active : ℕ → Bool
 is_active w = (dmcontrol_of w).dmactive
 
--- authenticated, and of release 0.13 or 1.0
+-- the release that dmstatus names, 0.13 or 1.0; none where the module is not authenticated, or follows another
+abbrev pub release_of : ℕ → Option Version
+release_of w = if (dmstatus_of w).authenticated then version_of (dmstatus_of w).version else None
+
 abbrev pub module_fits : ℕ → Bool
-module_fits w = (dmstatus_of w).authenticated && is_some (version_of (dmstatus_of w).version)
+module_fits w = is_some (release_of w)
 
 -- at least four words of program buffer and two of data, and no command under way
 abbrev pub commands_fit : ℕ → Bool
@@ -128,6 +132,11 @@ TransportFits = ReadFit transport_acts transport_fits
 abbrev pub ModuleFits : Tells → Tells → Type 0
 ModuleFits = ReadFit module_acts module_fits
 
+-- and of this release
+pub record ModuleShows (version : Version) (old new : Tells) : Type 0 where
+  pub fits : ModuleFits old new
+  pub release : release_of fits.0 ≡ Some version
+
 abbrev pub CommandsFit : Tells → Tells → Type 0
 CommandsFit = ReadFit commands_acts commands_fit
 
@@ -205,6 +214,11 @@ UpToBus = Then UpToCommands CommandsFit
 
 abbrev pub Opened : Tells → Tells → Type 0
 Opened = Then UpToBus (Then BusFits BusCleared)
+
+-- and the chip is of this release, as dmstatus showed it
+pub record OpenedAs (version : Version) (old new : Tells) : Type 0 where
+  pub opened : Opened old new
+  pub release : release_of opened.first.first.second.0 ≡ Some version
 
 -- a step failed behind the earlier ones, which were made
 pub record Behind (R : Tells → Tells → Type 0) (F : Tells → Tells → Type 0) (old new : Tells) : Type 0 where

@@ -1,6 +1,7 @@
 -- What each call of run control did at the link: the operations that it made, in order, with what the Looks showed, and where a fault came.
 -- RISC-V Debug Specification 1.0, "Halt Control" and "Run Control".
 use Rattle.std.specs.Prelude.{◌≡◌, ℕ, List, [], ◌∷◌, Bool, true, false, Option, Some, None}
+use Rattle.rv_model.specs.declared.version.Version.{Version}
 use Rattle.debug_model.specs.Addresses.{dmcontrol_address, dmstatus_address}
 use Rattle.debug_model.specs.declared.dmi.DmiFault.{DmiFault}
 use Rattle.debug_model.specs.declared.dmi_op.DmiOp.TheVariants.{Read, Write}
@@ -69,6 +70,12 @@ IsSeen h (Sight.Running ack) (seen.Halted x) = ⊥
 IsSeen h (Sight.Halted ack) seen.Absent = ⊥
 IsSeen h (Sight.Halted ack) (seen.Running r) = ⊥
 IsSeen h (Sight.Halted ack) (seen.Halted x) = x.number ≡ h
+
+-- what was seen is of a chip of this release
+abbrev pub SeenAs : Version → Seen → Type 0
+SeenAs v seen.Absent = Unit {0}
+SeenAs v (seen.Running r) = r.version ≡ v
+SeenAs v (seen.Halted x) = x.version ≡ v
 
 -- the hart was selected, and one Look made of it
 pub record LookedAt (h : ℕ) (old new : Tells) (s : Seen) : Type 0 where

@@ -1,10 +1,10 @@
 //! The opening of a chip, register by register.
 
-ghost use Rattle.std.specs.Prelude.{◌≡◌, ◌≤◌, ◌∷◌, [], true, false, IfErr, OnOk};
+ghost use Rattle.std.specs.Prelude.{◌≡◌, ◌≤◌, ◌∷◌, [], true, false, IfErr, IfOk, OnOk};
 ghost use Rattle.debug_model.specs.Told.{IsAsLoaded, IsReady, Selects};
 ghost use Rattle.probe_run.specs.Opening.{Activated, ActivationFails, BusCleared, BusFails, BusFits, CommandsFail, CommandsFit};
-ghost use Rattle.probe_run.specs.Opening.{ConnectFails, LosesLoaded, ModuleFails, ModuleFits, Opened, OpensLoaded, Then, TransportFails, TransportFits};
-ghost use Rattle.probe_run.specs.Opening.{bus_fits, clears_cmderr, clears_sberror, commands_fit, is_active, module_fits, starts_none, transport_fits};
+ghost use Rattle.probe_run.specs.Opening.{ConnectFails, LosesLoaded, ModuleFails, ModuleShows, Opened, OpenedAs, OpensLoaded, Then, TransportFails, TransportFits};
+ghost use Rattle.probe_run.specs.Opening.{bus_fits, clears_cmderr, clears_sberror, commands_fit, is_active, release_of, starts_none, transport_fits};
 ghost use Rattle.debug_model.specs.Kept.{CanCall, Keeps};
 ghost use Rattle.probe_run.specs.Told.{Fails, told};
 ghost use Rattle.probe_run.specs.Opening.{opening_why};
@@ -35,12 +35,16 @@ fn is_active(word: u32) -> bool
     Dmcontrol::from_word(word).dmactive
 }
 
-/// Whether this is a debug module of release 0.13 or 1.0 that may be used.
-fn has_module(word: u32) -> bool
-    ensures { result ≡ module_fits word }
+/// The release that a debug module follows, 0.13 or 1.0; none where it may not be used, or follows another.
+fn release_of(word: u32) -> Option<Version>
+    ensures { result ≡ release_of word }
 {
     let status = Dmstatus::from_word(word);
-    status.authenticated && Version::from_number(status.version).is_some()
+    if status.authenticated {
+        Version::from_number(status.version)
+    } else {
+        None
+    }
 }
 
 /// Whether there are four words of program buffer and two of data, and no command is under way.
@@ -145,18 +149,18 @@ fn activate<D: Dmi>(link: &mut D) -> Result<(), ConnectFault>
     Ok(())
 }
 
-/// Reads `dmstatus`.
-fn check_module<D: Dmi>(link: &mut D) -> Result<(), ConnectFault>
+/// Reads `dmstatus`, and tells the release that it shows.
+fn check_module<D: Dmi>(link: &mut D) -> Result<Version, ConnectFault>
     requires callable { CanCall (D.seen link.old) }
-    ensures did { OnOk result (ModuleFits (told (D.seen link.old)) (told (D.seen link.new))) }
+    ensures did { IfOk result (λ version. ModuleShows version (told (D.seen link.old)) (told (D.seen link.new))) }
     ensures fails { IfErr result (Fails ModuleFails (D.seen link.old) (D.seen link.new)) }
     ensures keeps { Keeps opening_why (D.seen link.old) (D.seen link.new) result }
 {
     let word = look(link)?;
-    if !has_module(word) {
-        return Err(ConnectFault::Module(word, false));
+    match release_of(word) {
+        Some(version) => Ok(version),
+        None => Err(ConnectFault::Module(word, false)),
     }
-    Ok(())
 }
 
 /// Reads `abstractcs`.
@@ -198,11 +202,12 @@ fn check_bus<D: Dmi>(link: &mut D) -> Result<(), ConnectFault>
 /// Opens a chip: the transport and the parts of the debug module are as the probe needs them, the module works, and its errors are cleared.
 ///
 /// `dtmcs` is read first (`Dtm`); dmactive is written 1 and read until it is 1, at most 64 times, and `dmstatus` is read once, which is a Look of
-/// hart 0 (`Module`); `abstractcs` is read (`Abstract`), its errors are cleared, and no word starts a command again; `sbcs` is read (`Bus`), and
+/// hart 0 (`Module`) and tells the release; `abstractcs` is read (`Abstract`), its errors are cleared, and no word starts a command again; `sbcs` is read (`Bus`), and
 /// its errors are cleared. Each of these faults has the register as it was read.
 pub fn connect<D: Dmi>(link: &mut D) -> Result<Target, ConnectFault>
     requires callable { CanCall (D.seen link.old) }
     ensures did { OnOk result (Opened (told (D.seen link.old)) (told (D.seen link.new))) }
+    ensures release { IfOk result (λ target. OpenedAs target.version (told (D.seen link.old)) (told (D.seen link.new))) }
     ensures fails { IfErr result (Fails ConnectFails (D.seen link.old) (D.seen link.new)) }
     ensures loaded { OnOk result (OpensLoaded (D.seen link.old).far (D.seen link.new).far) }
     ensures ready { OnOk result (IsAsLoaded (D.seen link.old).far → IsReady (D.seen link.new).far) }
@@ -212,8 +217,8 @@ pub fn connect<D: Dmi>(link: &mut D) -> Result<Target, ConnectFault>
 {
     check_transport(link)?;
     activate(link)?;
-    check_module(link)?;
+    let version = check_module(link)?;
     check_commands(link)?;
     check_bus(link)?;
-    Ok(opened())
+    Ok(opened(version))
 }

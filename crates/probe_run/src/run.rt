@@ -55,6 +55,7 @@ impl Running {
         ensures happened { OnOk result (OnChip (Leaves (HaltsAt self.number) self.number) (D.seen link.old) (D.seen link.new)) }
         ensures left { IfErr result (HaltLeft self.number (D.seen link.old).far (D.seen link.new).far) }
         ensures hart { IfOk result (λ halted. halted.number ≡ self.number) }
+        ensures version { IfOk result (λ halted. halted.version ≡ self.version) }
         ensures ready { OnOk result (IsReady (D.seen link.new).far) }
         ensures selects { OnOk result (Selects self.number (D.seen link.new).far) }
         ensures halted { OnOk result (IsHalted self.number (D.seen link.new).far) }
@@ -65,6 +66,7 @@ impl Running {
                 control(link, self.number, Request::Nothing)?;
                 Ok(Halted {
                     number: self.number,
+                    version: self.version,
                 })
             }
             Waited::Unshown { .. } => Err(RunFault::NoHalt(LOOKS_MOST)),
@@ -84,6 +86,7 @@ impl Halted {
         ensures happened { OnOk result (OnChip (Leaves (ResumesAt self.number) self.number) (D.seen link.old) (D.seen link.new)) }
         ensures left { IfErr result (ResumeLeft self.number (D.seen link.old).far (D.seen link.new).far) }
         ensures hart { IfOk result (λ running. running.number ≡ self.number) }
+        ensures version { IfOk result (λ running. running.version ≡ self.version) }
         ensures ready { OnOk result (IsReady (D.seen link.new).far) }
         ensures selects { OnOk result (Selects self.number (D.seen link.new).far) }
         ensures exists { OnOk result (Exists self.number (D.seen link.new).far) }
@@ -92,6 +95,7 @@ impl Halted {
         match ask(link, self.number, Request::Resume, Wanted::Acknowledged)? {
             Waited::Shown => Ok(Running {
                 number: self.number,
+                version: self.version,
             }),
             Waited::Unshown { .. } => Err(RunFault::NoAck(LOOKS_MOST)),
         }
@@ -108,6 +112,7 @@ impl Halted {
         ensures happened { OnOk result (OnChip (Leaves (StepsAt self.number) self.number) (D.seen link.old) (D.seen link.new)) }
         ensures left { IfErr result (StepLeft self.number (D.seen link.old).far (D.seen link.new).far) }
         ensures hart { IfOk result (λ halted. halted.number ≡ self.number) }
+        ensures version { IfOk result (λ halted. halted.version ≡ self.version) }
         ensures ready { OnOk result (IsReady (D.seen link.new).far) }
         ensures selects { OnOk result (Selects self.number (D.seen link.new).far) }
         ensures halted { OnOk result (IsHalted self.number (D.seen link.new).far) }

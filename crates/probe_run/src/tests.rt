@@ -7,6 +7,7 @@ use crate::target::opened;
 use crate::{ConnectFault, RunFault, connect};
 use arrayvec::ArrayVec;
 use debug_model::{Dmi, DmiFault, DmiOp, OPERATIONS_MOST, ScriptedDmi, WireFault};
+use rv_model::Version;
 
 /// Operations whose every read answers the same, and what was written.
 #[derive(Drop)]
@@ -161,6 +162,37 @@ fn gives_up_on_dmactive(rt: HostRuntime) {
 }
 
 #[test]
+fn tells_the_release(rt: HostRuntime) {
+    // dmstatus, and its field version
+    let cases: [(u32, Version); 2] = [(0x000c_0c82, Version::V013), (0x000c_0c83, Version::V10)];
+    for (word, wanted) in cases {
+        let mut link = answering(&[0x1071, 1, word, 0x0400_0002, 0x2004_080f]);
+        let told = connect(&mut link).map(|target| target.version());
+        assert_eq!(rt; told, Ok(wanted));
+        let mut seen = same(0x0000_0383);
+        let halted = match opened(wanted).look(&mut seen, 0) {
+            Ok(Seen::Halted(halted)) => Some(halted.version()),
+            _ => None,
+        };
+        assert_eq!(rt; halted, Some(wanted));
+    }
+}
+
+fn running() -> Running {
+    Running {
+        number: 1,
+        version: Version::V10,
+    }
+}
+
+fn halted() -> Halted {
+    Halted {
+        number: 0,
+        version: Version::V10,
+    }
+}
+
+#[test]
 fn looks(rt: HostRuntime) {
     // dmstatus, and what a Look of hart 2 answers: 0 is halted, 1 running, 2 absent
     let cases: [(u32, u8); 4] = [
@@ -171,7 +203,7 @@ fn looks(rt: HostRuntime) {
     ];
     for (word, wanted) in cases {
         let mut link = same(word);
-        let seen = match opened().look(&mut link, 2) {
+        let seen = match opened(Version::V013).look(&mut link, 2) {
             Ok(Seen::Halted(halted)) => (0, halted.hart()),
             Ok(Seen::Running(running)) => (1, running.hart()),
             Ok(Seen::Absent) => (2, 2),
@@ -187,15 +219,13 @@ fn looks(rt: HostRuntime) {
 fn halts(rt: HostRuntime) {
     let mut link = same(0x0000_0383);
     assert_eq!(rt;
-        Running { number: 1 }
-            .halt(&mut link)
-            .map(|halted| halted.hart()),
+        running().halt(&mut link).map(|halted| halted.hart()),
         Ok(1)
     );
     assert_eq!(rt; link.written.as_slice(), &[0x8001_0001, 0x0001_0001][..]);
     let mut runs_on = same(0x0000_0c83);
     assert_eq!(rt;
-        Running { number: 1 }.halt(&mut runs_on).err(),
+        running().halt(&mut runs_on).err(),
         Some(RunFault::NoHalt(64))
     );
     assert_eq!(rt; runs_on.reads, 64);
@@ -216,9 +246,9 @@ fn lets_go(rt: HostRuntime) {
     ];
     for (word, resumed, stepped) in cases {
         let mut link = same(word);
-        assert_eq!(rt; Halted { number: 0 }.resume(&mut link).err(), resumed);
+        assert_eq!(rt; halted().resume(&mut link).err(), resumed);
         assert_eq!(rt; link.written.as_slice(), &[0x4000_0001][..]);
-        assert_eq!(rt; Halted { number: 0 }.run_one(&mut link).err(), stepped);
+        assert_eq!(rt; halted().run_one(&mut link).err(), stepped);
         assert_eq!(rt; link.written.as_slice(), &[0x4000_0001, 0x4000_0001][..]);
     }
 }

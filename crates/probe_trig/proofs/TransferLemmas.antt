@@ -2,16 +2,26 @@
 use Rattle.std.proofs.Common.{◌≡◌, ◌∙◌, ◌≤◌, ◌++◌, ℕ, List, [], ◌∷◌, true, false, refl, sym, ap, subst, append_assoc}
 use Rattle.probe_access.specs.declared.fault.AccessFault.{AccessFault}
 use Rattle.probe_access.specs.RegisterRuns.{ReadFailed, WriteFailed}
+use Rattle.probe_access.specs.Pending.{is_mip}
 use Rattle.probe_access.specs.Cuts.{IfCut, LeftAside, Leaves, MaybeWritten, Unchanged}
 use Rattle.probe_access.specs.Registers.{RegisterLeft}
 use Rattle.probe_access.proofs.Counted.{read_counted, write_counted}
 use Rattle.probe_run.specs.Acts.{Tells}
 use Rattle.probe_trig.specs.declared.register.TriggerRegister.{TriggerRegister}
+use Rattle.probe_trig.specs.declared.register.TriggerRegister.TheVariants.{Tselect, Tdata1, Tdata2, Tinfo, Dcsr}
 use Rattle.probe_trig.specs.Single.{OneGot, OneSet}
 use Rattle.probe_trig.specs.Transfers.{Attempt, AttemptFailed, Begins, FailedIn, Made, Transfer, Transferred, number_of}
 use Rattle.probe_trig.specs.Transfers.Attempt.{Getting, Setting}
 use Rattle.probe_trig.specs.Transfers.Made.{first, nothing}
 use Rattle.probe_trig.specs.Transfers.Transfer.{Got, Set}
+
+-- none of them is mip
+pub not_mip : (r : TriggerRegister) → is_mip (number_of r) ≡ false
+not_mip Tselect = refl
+not_mip Tdata1 = refl
+not_mip Tdata2 = refl
+not_mip Tinfo = refl
+not_mip Dcsr = refl
 
 pub made_one : (h : ℕ) (t : Transfer) (old new : Tells) → Transferred h t old new → Made h old (t ∷ []) new
 made_one h t old new d = first d nothing

@@ -56,7 +56,7 @@ pub fn reg<D: Dmi>(
     ensures serving { OnOk result (Serving halted.now.number (D.seen link.new).far) }
     ensures keeps { Keeps access_why (D.seen link.old) (D.seen link.new) result }
 {
-    let value = probe_access::reg(link, halted, register.number())?;
+    let value = probe_access::held_reg(link, halted, register.number())?;
     Ok(value)
 }
 

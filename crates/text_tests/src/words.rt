@@ -1,15 +1,19 @@
 use chain_scan::ChainPlan;
 use command_line::{ChipOptions, Inputs, Job, Way, WordsFault, read_words, why_refused};
+use rv_model::Version;
 use std::alloc::{AllocError, Global};
 use std::test::Fail;
 
 /// Lines of words, and the jobs that they write, with a bar between them and a line feed after each pair but the last.
-/// Of a chip stand the harts, the bytes of memory, whether they are halted, the seed, the most rounds and the limit of events; of `both` then the most bytes
+/// Of a chip stand the harts, the bytes of memory, whether they are halted, the seed, the most rounds, the limit of events and a release other than 1.0; of `both` then the most bytes
 /// of a piece. The way to the chip comes last, of a chain the lengths near TDO and far from it.
 const JOBS: &str = "both --gen 5|1 65536 false 0 1 16777200 256 straight\n\
 both --gen=0x5 --|1 65536 false 0 1 16777200 256 straight\n\
 both --halted --gen 5|1 65536 true 0 1 16777200 256 straight\n\
 both --loopback --gen 5|1 65536 false 0 1 16777200 256 looped\n\
+both --v013 --gen 5|1 65536 false 0 1 16777200 of 0.13 256 straight\n\
+both --gen 5 --loopback --v013 --halted|1 65536 true 0 1 16777200 of 0.13 256 looped\n\
+both --gen 5 --halted --v013 --chain t,8|1 65536 true 0 1 16777200 of 0.13 256 near [8] far []\n\
 both --gen 5 --harts 0|0 65536 false 0 1 16777200 256 straight\n\
 both --gen 5 --ram=0xABcd|1 43981 false 0 1 16777200 256 straight\n\
 both --gen 5 --seed 18446744073709551615|1 65536 false 18446744073709551615 1 16777200 256 straight\n\
@@ -36,6 +40,8 @@ both --script=--halt --image core.bin|Files { image: \"core.bin\", script: \"--h
 probe --at localhost:9000 --script probe|localhost:9000 probe straight\n\
 probe --at a --script s --chain 4,t,6|a s near [6] far [4]\n\
 chip --at  --image a --halted --harts 4| a 4 65536 true 0 1 16777200 straight\n\
+chip --v013 --at a --image i|a i 1 65536 false 0 1 16777200 of 0.13 straight\n\
+chip --at a --halted --image i --v013|a i 1 65536 true 0 1 16777200 of 0.13 straight\n\
 chip --at a --image i --events 1000000000|a i 1 65536 false 0 1 1000000000 straight\n\
 chip --at a --image i --chain t,8|a i 1 65536 false 0 1 16777200 near [8] far []\n\
 sniff --stream s --answers a|s a listed\n\
@@ -53,6 +59,7 @@ help\n\
 both --gen 5 --at a\n\
 probe --at a --script s --image i\n\
 probe --at a --script s --halted\n\
+probe --at a --script s --v013\n\
 chip --at a --image i --script s\n\
 chip --at a --image i --piece 1\n\
 chip --at a --image i --loopback\n\
@@ -68,6 +75,9 @@ both --gen 5 --halted --halted\n\
 both --gen\n\
 both --gen --halted\n\
 both --gen 5 --halted=true\n\
+both --gen 5 --v013 --v013\n\
+both --gen 5 --v013=true\n\
+both --gen 5 --V013\n\
 both --gen 5 more\n\
 both --gen 5 -- more\n\
 both  --gen 5\n\
@@ -116,6 +126,7 @@ sniff --stream s --answers a --vcd --vcd\n\
 sniff --stream s --answers a --stream s\n\
 sniff --stream s --answers a --script s\n\
 sniff --stream s --answers a --halted\n\
+sniff --stream s --answers a --v013\n\
 sniff s a\n\
 both --gen 5 --vcd\n\
 chip --at a --image i --stream s\n\
@@ -230,8 +241,13 @@ fn shown_options(alloc: Global, options: ChipOptions) -> Result<String, Fail> {
         seed,
         busy,
         events,
+        version,
     } = options;
-    Ok(format!(in alloc; "{harts} {ram} {halted} {seed} {busy} {events}")?)
+    let release = match version {
+        Version::V013 => " of 0.13",
+        Version::V10 => "",
+    };
+    Ok(format!(in alloc; "{harts} {ram} {halted} {seed} {busy} {events}{release}")?)
 }
 
 /// A job; of one that is made from the number 5 not its inputs.

@@ -4,7 +4,6 @@ ghost use Rattle.std.specs.Prelude.{◌≡◌, ◌≤◌, ◌↔◌, Err, IfOk, 
 ghost use Rattle.rv_model.specs.Memory.{IsRamSize, hart_places};
 ghost use Rattle.debug_model.specs.Loaded.{AsLoaded, Fits, RightHarts, RightLimit, loaded_harts, loaded_memory, usual_points};
 ghost use Rattle.hart_debug.specs.Changes.{start_cause};
-ghost use Rattle.rv_model.specs.declared.version.Version.TheVariants.{V10};
 ghost use Rattle.chip_core.specs.Loads.{IsFirst, loaded, loaded_as, loaded_with};
 ghost use Rattle.debug_model.specs.Offered.{TurnsOffered};
 
@@ -39,15 +38,17 @@ fn make_harts(
     Ok(harts)
 }
 
-/// RAM of so many bytes with the image at its start, and zeros behind it.
-fn make_ram(alloc: Global, image: &[u8], size: u64) -> Result<Ram, LoadFault>
-    ensures ram { IfOk result (λ ram. ram ≡ loaded_memory image.now size) }
+/// RAM of so many bytes with the image at its start and zeros behind it, and the MSIP words of so many harts, from 1 to 4, all of them 0.
+fn make_ram(alloc: Global, image: &[u8], size: u64, harts: u8) -> Result<Ram, LoadFault>
+    requires some { 1 ≤ harts }
+    requires most { harts ≤ 4 }
+    ensures ram { IfOk result (λ ram. ram ≡ loaded_memory image.now size harts) }
     ensures right { OnOk result (IsRamSize size × Fits image.now size) }
     ensures harts { ¬ (result ≡ Err LoadFault.BadHarts) }
     ensures bad_size { (result ≡ Err LoadFault.BadSize) ↔ ¬ IsRamSize size }
     ensures too_long { (result ≡ Err LoadFault.TooLong) ↔ (IsRamSize size × ¬ Fits image.now size) }
 {
-    let made = Ram::new(alloc, size);
+    let made = Ram::with_msip(alloc, size, harts);
     if let Err(RamFault::BadSize) = made {
         return Err(LoadFault::BadSize);
     }
@@ -66,7 +67,7 @@ fn make_ram(alloc: Global, image: &[u8], size: u64) -> Result<Ram, LoadFault>
 
 impl<Q: Schedule> Bench<Q> {
     /// Puts a chip onto the bench in the place of what was there: the image at address 0x80000000 and zeros behind it, one to four harts
-    /// that run or are halted, an empty journal, and the TAP in Test-Logic-Reset. RAM has a multiple of 4,096 bytes, from 65,536 to
+    /// that run or are halted with an MSIP word of 0 each, an empty journal, and the TAP in Test-Logic-Reset. RAM has a multiple of 4,096 bytes, from 65,536 to
     /// 16,777,216. The chip follows release 1.0, and its limit of points is the usual one. After a refusal the bench is as before.
     pub fn load(
         &mut self,
@@ -101,7 +102,7 @@ impl<Q: Schedule> Bench<Q> {
         version: Version,
     ) -> Result<(), LoadFault>
         ensures chip { OnOk result (self.new ≡ Some (loaded_as version image.now harts ram start (Q.plan schedule) usual_points)) }
-        ensures as_loaded { OnOk result (version ≡ V10 → IsFirst (Q.plan schedule) → IfSome self.new AsLoaded) }
+        ensures as_loaded { OnOk result (IsFirst (Q.plan schedule) → IfSome self.new AsLoaded) }
         ensures turns { OnOk result (IfSome self.new (λ l. TurnsOffered (Q.plan schedule) l.chip)) }
         ensures kept { OnErr result (self.new ≡ self.old) }
         ensures right { OnOk result (RightHarts harts × (IsRamSize ram × Fits image.now ram)) }
@@ -154,8 +155,8 @@ impl<Q: Schedule> Bench<Q> {
         )
     }
 
-    /// A chip of any release with any limit.
-    fn load_as(
+    /// A chip of this release with this limit of points, from 1 to 2^62.
+    pub fn load_as(
         &mut self,
         alloc: Global,
         image: &[u8],
@@ -168,7 +169,7 @@ impl<Q: Schedule> Bench<Q> {
     ) -> Result<(), LoadFault>
         requires limit { RightLimit most_points }
         ensures chip { OnOk result (self.new ≡ Some (loaded_as version image.now harts ram start (Q.plan schedule) most_points)) }
-        ensures as_loaded { OnOk result (version ≡ V10 → IsFirst (Q.plan schedule) → IfSome self.new AsLoaded) }
+        ensures as_loaded { OnOk result (IsFirst (Q.plan schedule) → IfSome self.new AsLoaded) }
         ensures turns { OnOk result (IfSome self.new (λ l. TurnsOffered (Q.plan schedule) l.chip)) }
         ensures kept { OnErr result (self.new ≡ self.old) }
         ensures right { OnOk result (RightHarts harts × (IsRamSize ram × Fits image.now ram)) }
@@ -179,7 +180,7 @@ impl<Q: Schedule> Bench<Q> {
         if harts < 1 || harts > MOST_HARTS {
             return Err(LoadFault::BadHarts);
         }
-        let memory = make_ram(alloc, image, ram)?;
+        let memory = make_ram(alloc, image, ram, harts as u8)?;
         let Ok(made) = make_harts(alloc, version, harts as u8, start) else {
             return Err(LoadFault::NoMemory);
         };

@@ -1,6 +1,6 @@
-use Rattle.command_line.specs.WrittenJob.{options_in, options_from}
+use Rattle.command_line.specs.WrittenJob.{options_in, options_from, version_by}
 use Rattle.command_line.proofs.GivesLemmas.{gives_err, gives_then}
-use Rattle.std.proofs.Common.{sym}
+use Rattle.std.proofs.Common.{ap, ◌∙◌, sym}
 use Rattle.command_line.proofs.values.chip_options.Goals as goal
 
 pub returns-in_err-harts : goal.returns-in_err-harts
@@ -29,5 +29,6 @@ returns-in_err-events c = gives_then _ _ _ _ _ c.in_ok-harts.ensures (gives_then
 
 pub returns : goal.returns
 unfolding options_in
-returns c = λ i. options_from (c.in_ok-harts.ensures i) (c.in_ok-ram.ensures i) (c.in_ok-seed.ensures i) (c.in_ok-busy.ensures.read i)
-    (c.in_ok-events.ensures.read i) (sym c.flag.ensures i)
+returns c =
+    let version = sym (c.version_by.ensures ∙ ap version_by c.flag-2.ensures) in λ i. options_from (c.in_ok-harts.ensures i) (c.in_ok-ram.ensures i) (c.in_ok-seed.ensures i) (c.in_ok-busy.ensures.read i)
+    (c.in_ok-events.ensures.read i) (sym c.flag.ensures i) (version i)

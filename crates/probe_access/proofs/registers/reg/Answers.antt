@@ -1,33 +1,14 @@
-use Rattle.std.proofs.Common.{arith}
-use Rattle.probe_access.proofs.CutClauses.{reg_cut}
-use Rattle.probe_access.proofs.RegClauses.{reg_err, reg_ok}
-use Rattle.probe_access.proofs.RegisterCalls.{err_failed}
+use Rattle.std.proofs.Common.{true, false, ap}
+use Rattle.std.proofs.lemmas.Bool.{ne_eqb}
+use Rattle.rv_model.specs.Registers.{mip_number}
+use Rattle.probe_access.specs.Pending.{is_mip}
+use Rattle.probe_access.proofs.PendingClauses.{cut_by}
 use Rattle.probe_access.proofs.registers.reg.Goals as goal
 
-pub returns-clause-got : goal.returns-clause-got
-returns-clause-got g c =
-    (reg_ok c.args.halted.now.number c.args.register _ _ _ _ (omega arith) c.requires.serving.ready c.requires.serving.selects c.requires.serving.halted
-    c.in_ok-value.ensures.read).got
+pub returns-then-register-eq-MIP-clause-cut : goal.returns-then-register-eq-MIP-clause-cut
+returns-then-register-eq-MIP-clause-cut g c =
+    cut_by true c.args.register c.args.halted.now.number _ _ _ (ap is_mip c.if-register-eq-MIP.true) c.pending.ensures.cut
 
-pub returns-clause-serving : goal.returns-clause-serving
-returns-clause-serving g c =
-    (reg_ok c.args.halted.now.number c.args.register _ _ _ _ (omega arith) c.requires.serving.ready c.requires.serving.selects c.requires.serving.halted
-    c.in_ok-value.ensures.read).serving
-
-pub returns-in_err-value-clause-left : goal.returns-in_err-value-clause-left
-returns-in_err-value-clause-left g c =
-    err_failed c.from_residual.result c.in_err-value.field-0.0 _ c.from_residual.ensures.1
-    (reg_err c.args.halted.now.number c.args.register _ _ _ _ _ c.in_err-value.field-0.0 (omega arith) c.requires.serving.ready c.requires.serving.selects
-    c.requires.serving.halted c.in_err-value.ensures.failed).left
-
-pub returns-in_err-value-clause-serving_still : goal.returns-in_err-value-clause-serving_still
-returns-in_err-value-clause-serving_still g c =
-    err_failed c.from_residual.result c.in_err-value.field-0.0 _ c.from_residual.ensures.1
-    (reg_err c.args.halted.now.number c.args.register _ _ _ _ _ c.in_err-value.field-0.0 (omega arith) c.requires.serving.ready c.requires.serving.selects
-    c.requires.serving.halted c.in_err-value.ensures.failed).serving
-
-pub returns-in_err-value-clause-cut : goal.returns-in_err-value-clause-cut
-returns-in_err-value-clause-cut g c =
-    err_failed c.from_residual.result c.in_err-value.field-0.0 _ c.from_residual.ensures.1
-    (reg_cut c.args.halted.now.number c.args.register _ _ _ _ _ c.in_err-value.field-0.0 (omega arith) c.requires.serving.ready c.requires.serving.selects
-    c.requires.serving.halted c.in_err-value.ensures.failed)
+pub returns-clause-cut : goal.returns-clause-cut
+returns-clause-cut g c =
+    cut_by false c.args.register c.args.halted.now.number _ _ _ (ne_eqb c.args.register mip_number c.if-register-eq-MIP.false) c.held_reg.ensures.cut

@@ -1,9 +1,10 @@
 use Rattle.probe_run.specs.Told.{told}
-use Rattle.std.proofs.Common.{◌≤◌, arith}
+use Rattle.std.proofs.Common.{◌≤◌, ◌∙◌, Some, ap, arith, sym}
 use Rattle.probe_run.specs.Opening.{ConnectFails, LosesLoaded}
 use Rattle.probe_run.proofs.ActLemmas.{if_err}
 use Rattle.probe_run.proofs.LoadedCalls.{loses_loaded, opens_loaded}
 use Rattle.probe_run.proofs.OpenedReady.{opened_ready, opened_selects}
+use Rattle.probe_run.proofs.OpeningLemmas.{opened_by}
 use Rattle.probe_run.proofs.OpeningFails.{activation_fails, bus_fails, commands_fail, module_fails, transport_fails}
 use Rattle.probe_run.proofs.opening.connect.Goals as goal
 
@@ -44,22 +45,22 @@ returns-in_err-activate-clause-lost g c =
     (let a0 : (g.D.Dmi.seen c.args.link.now).fault_count ≤ (g.D.Dmi.seen c.check_transport.new.link).fault_count = c.check_transport.ensures.keeps.later in
     omega arith) c.activate.ensures.keeps.later c.in_ok-check_transport.ensures.did c.in_err-activate.ensures.fails))
 
-pub returns-in_err-check_module-clause-fails : goal.returns-in_err-check_module-clause-fails
-returns-in_err-check_module-clause-fails g c =
+pub returns-in_err-version-clause-fails : goal.returns-in_err-version-clause-fails
+returns-in_err-version-clause-fails g c =
     if_err (ConnectFails (g.D.Dmi.seen c.args.link.now).fault_count (g.D.Dmi.seen c.check_module.new.link).fault_count (told (g.D.Dmi.seen c.args.link.now))
-    (told (g.D.Dmi.seen c.check_module.new.link))) c.from_residual-in_err-check_module.result _ c.from_residual-in_err-check_module.ensures.1
+    (told (g.D.Dmi.seen c.check_module.new.link))) c.from_residual-in_err-version.result _ c.from_residual-in_err-version.ensures.1
     (module_fails (g.D.Dmi.seen c.args.link.now).fault_count (g.D.Dmi.seen c.activate.new.link).fault_count (g.D.Dmi.seen c.check_module.new.link).fault_count
     (told (g.D.Dmi.seen c.args.link.now)) (told (g.D.Dmi.seen c.activate.new.link)) (told (g.D.Dmi.seen c.check_module.new.link)) _
     (let a0 : (g.D.Dmi.seen c.args.link.now).fault_count ≤ (g.D.Dmi.seen c.check_transport.new.link).fault_count = c.check_transport.ensures.keeps.later in
     let a1 : (g.D.Dmi.seen c.check_transport.new.link).fault_count ≤ (g.D.Dmi.seen c.activate.new.link).fault_count = c.activate.ensures.keeps.later in
     omega arith) c.check_module.ensures.keeps.later
     (record { mid = (told (g.D.Dmi.seen c.check_transport.new.link)); first = c.in_ok-check_transport.ensures.did; second = c.in_ok-activate.ensures.did })
-    c.in_err-check_module.ensures.fails)
+    c.in_err-version.ensures.fails)
 
-pub returns-in_err-check_module-clause-lost : goal.returns-in_err-check_module-clause-lost
-returns-in_err-check_module-clause-lost g c =
-    if_err (LosesLoaded (g.D.Dmi.seen c.args.link.now).far (g.D.Dmi.seen c.check_module.new.link).far) c.from_residual-in_err-check_module.result _
-    c.from_residual-in_err-check_module.ensures.1
+pub returns-in_err-version-clause-lost : goal.returns-in_err-version-clause-lost
+returns-in_err-version-clause-lost g c =
+    if_err (LosesLoaded (g.D.Dmi.seen c.args.link.now).far (g.D.Dmi.seen c.check_module.new.link).far) c.from_residual-in_err-version.result _
+    c.from_residual-in_err-version.ensures.1
     (loses_loaded (told (g.D.Dmi.seen c.args.link.now)) (told (g.D.Dmi.seen c.check_module.new.link)) (g.D.Dmi.seen c.args.link.now).fault_count
     (g.D.Dmi.seen c.check_module.new.link).fault_count _
     (module_fails (g.D.Dmi.seen c.args.link.now).fault_count (g.D.Dmi.seen c.activate.new.link).fault_count
@@ -69,7 +70,7 @@ returns-in_err-check_module-clause-lost g c =
     let a1 : (g.D.Dmi.seen c.check_transport.new.link).fault_count ≤ (g.D.Dmi.seen c.activate.new.link).fault_count = c.activate.ensures.keeps.later in
     omega arith) c.check_module.ensures.keeps.later
     (record { mid = (told (g.D.Dmi.seen c.check_transport.new.link)); first = c.in_ok-check_transport.ensures.did; second = c.in_ok-activate.ensures.did })
-    c.in_err-check_module.ensures.fails))
+    c.in_err-version.ensures.fails))
 
 pub returns-in_err-check_commands-clause-fails : goal.returns-in_err-check_commands-clause-fails
 returns-in_err-check_commands-clause-fails g c =
@@ -91,7 +92,7 @@ returns-in_err-check_commands-clause-fails g c =
             second =
                 c.in_ok-activate.ensures.did;
           });
-      second = c.in_ok-check_module.ensures.did;
+      second = c.in_ok-version.ensures.did.fits;
     }) c.in_err-check_commands.ensures.fails)
 
 pub returns-in_err-check_commands-clause-lost : goal.returns-in_err-check_commands-clause-lost
@@ -116,7 +117,7 @@ returns-in_err-check_commands-clause-lost g c =
             second =
                 c.in_ok-activate.ensures.did;
           });
-      second = c.in_ok-check_module.ensures.did;
+      second = c.in_ok-version.ensures.did.fits;
     }) c.in_err-check_commands.ensures.fails))
 
 pub returns-in_err-check_bus-clause-fails : goal.returns-in_err-check_bus-clause-fails
@@ -142,7 +143,7 @@ returns-in_err-check_bus-clause-fails g c =
                   second =
                       c.in_ok-activate.ensures.did;
                 });
-            second = c.in_ok-check_module.ensures.did;
+            second = c.in_ok-version.ensures.did.fits;
           });
       second = c.in_ok-check_commands.ensures.did;
     })
@@ -174,103 +175,43 @@ returns-in_err-check_bus-clause-lost g c =
                   second =
                       c.in_ok-activate.ensures.did;
                 });
-            second = c.in_ok-check_module.ensures.did;
+            second = c.in_ok-version.ensures.did.fits;
           });
       second = c.in_ok-check_commands.ensures.did;
     })
     c.in_err-check_bus.ensures.fails))
 
 pub returns-clause-did : goal.returns-clause-did
-returns-clause-did g c = (record {
-  mid = (told (g.D.Dmi.seen c.check_commands.new.link));
-  first =
-      (record {
-        mid = (told (g.D.Dmi.seen c.check_module.new.link));
-        first =
-            (record {
-              mid = (told (g.D.Dmi.seen c.activate.new.link));
-              first =
-                  (record {
-                    mid = (told (g.D.Dmi.seen c.check_transport.new.link));
-                    first = c.in_ok-check_transport.ensures.did;
-                    second =
-                        c.in_ok-activate.ensures.did;
-                  });
-              second = c.in_ok-check_module.ensures.did;
-            });
-        second = c.in_ok-check_commands.ensures.did;
-      });
-  second = c.in_ok-check_bus.ensures.did;
-})
+returns-clause-did g c =
+    opened_by (told (g.D.Dmi.seen c.args.link.now)) (told (g.D.Dmi.seen c.check_transport.new.link)) (told (g.D.Dmi.seen c.activate.new.link))
+    (told (g.D.Dmi.seen c.check_module.new.link)) (told (g.D.Dmi.seen c.check_commands.new.link)) (told (g.D.Dmi.seen c.check_bus.new.link)) c.in_ok-check_transport.ensures.did c.in_ok-activate.ensures.did
+    c.in_ok-version.ensures.did.fits c.in_ok-check_commands.ensures.did c.in_ok-check_bus.ensures.did
+
+pub returns-clause-release : goal.returns-clause-release
+returns-clause-release g c = record {
+  opened = opened_by (told (g.D.Dmi.seen c.args.link.now)) (told (g.D.Dmi.seen c.check_transport.new.link)) (told (g.D.Dmi.seen c.activate.new.link))
+      (told (g.D.Dmi.seen c.check_module.new.link)) (told (g.D.Dmi.seen c.check_commands.new.link)) (told (g.D.Dmi.seen c.check_bus.new.link)) c.in_ok-check_transport.ensures.did c.in_ok-activate.ensures.did
+      c.in_ok-version.ensures.did.fits c.in_ok-check_commands.ensures.did c.in_ok-check_bus.ensures.did;
+  release = c.in_ok-version.ensures.did.release ∙ ap Some (sym c.opened.ensures);
+}
 
 pub returns-clause-loaded : goal.returns-clause-loaded
-returns-clause-loaded g c = opens_loaded (told (g.D.Dmi.seen c.args.link.now)) (told (g.D.Dmi.seen c.check_bus.new.link))
-    (record {
-      mid = (told (g.D.Dmi.seen c.check_commands.new.link));
-      first =
-          (record {
-            mid = (told (g.D.Dmi.seen c.check_module.new.link));
-            first =
-                (record {
-                  mid = (told (g.D.Dmi.seen c.activate.new.link));
-                  first =
-                      (record {
-                        mid = (told (g.D.Dmi.seen c.check_transport.new.link));
-                        first = c.in_ok-check_transport.ensures.did;
-                        second =
-                            c.in_ok-activate.ensures.did;
-                      });
-                  second = c.in_ok-check_module.ensures.did;
-                });
-            second = c.in_ok-check_commands.ensures.did;
-          });
-      second = c.in_ok-check_bus.ensures.did;
-    })
+returns-clause-loaded g c =
+    opens_loaded (told (g.D.Dmi.seen c.args.link.now)) (told (g.D.Dmi.seen c.check_bus.new.link))
+    (opened_by (told (g.D.Dmi.seen c.args.link.now)) (told (g.D.Dmi.seen c.check_transport.new.link)) (told (g.D.Dmi.seen c.activate.new.link))
+    (told (g.D.Dmi.seen c.check_module.new.link)) (told (g.D.Dmi.seen c.check_commands.new.link)) (told (g.D.Dmi.seen c.check_bus.new.link)) c.in_ok-check_transport.ensures.did c.in_ok-activate.ensures.did
+    c.in_ok-version.ensures.did.fits c.in_ok-check_commands.ensures.did c.in_ok-check_bus.ensures.did)
 
 pub returns-clause-ready : goal.returns-clause-ready
-returns-clause-ready g c = opened_ready (told (g.D.Dmi.seen c.args.link.now)) (told (g.D.Dmi.seen c.check_bus.new.link))
-    (record {
-      mid = (told (g.D.Dmi.seen c.check_commands.new.link));
-      first =
-          (record {
-            mid = (told (g.D.Dmi.seen c.check_module.new.link));
-            first =
-                (record {
-                  mid = (told (g.D.Dmi.seen c.activate.new.link));
-                  first =
-                      (record {
-                        mid = (told (g.D.Dmi.seen c.check_transport.new.link));
-                        first = c.in_ok-check_transport.ensures.did;
-                        second =
-                            c.in_ok-activate.ensures.did;
-                      });
-                  second = c.in_ok-check_module.ensures.did;
-                });
-            second = c.in_ok-check_commands.ensures.did;
-          });
-      second = c.in_ok-check_bus.ensures.did;
-    })
+returns-clause-ready g c =
+    opened_ready (told (g.D.Dmi.seen c.args.link.now)) (told (g.D.Dmi.seen c.check_bus.new.link))
+    (opened_by (told (g.D.Dmi.seen c.args.link.now)) (told (g.D.Dmi.seen c.check_transport.new.link)) (told (g.D.Dmi.seen c.activate.new.link))
+    (told (g.D.Dmi.seen c.check_module.new.link)) (told (g.D.Dmi.seen c.check_commands.new.link)) (told (g.D.Dmi.seen c.check_bus.new.link)) c.in_ok-check_transport.ensures.did c.in_ok-activate.ensures.did
+    c.in_ok-version.ensures.did.fits c.in_ok-check_commands.ensures.did c.in_ok-check_bus.ensures.did)
 
 pub returns-clause-selects : goal.returns-clause-selects
-returns-clause-selects g c = opened_selects (told (g.D.Dmi.seen c.args.link.now)) (told (g.D.Dmi.seen c.check_bus.new.link))
-    (record {
-      mid = (told (g.D.Dmi.seen c.check_commands.new.link));
-      first =
-          (record {
-            mid = (told (g.D.Dmi.seen c.check_module.new.link));
-            first =
-                (record {
-                  mid = (told (g.D.Dmi.seen c.activate.new.link));
-                  first =
-                      (record {
-                        mid = (told (g.D.Dmi.seen c.check_transport.new.link));
-                        first = c.in_ok-check_transport.ensures.did;
-                        second =
-                            c.in_ok-activate.ensures.did;
-                      });
-                  second = c.in_ok-check_module.ensures.did;
-                });
-            second = c.in_ok-check_commands.ensures.did;
-          });
-      second = c.in_ok-check_bus.ensures.did;
-    })
+returns-clause-selects g c =
+    opened_selects (told (g.D.Dmi.seen c.args.link.now)) (told (g.D.Dmi.seen c.check_bus.new.link))
+    (opened_by (told (g.D.Dmi.seen c.args.link.now)) (told (g.D.Dmi.seen c.check_transport.new.link)) (told (g.D.Dmi.seen c.activate.new.link))
+    (told (g.D.Dmi.seen c.check_module.new.link)) (told (g.D.Dmi.seen c.check_commands.new.link)) (told (g.D.Dmi.seen c.check_bus.new.link)) c.in_ok-check_transport.ensures.did c.in_ok-activate.ensures.did
+    c.in_ok-version.ensures.did.fits c.in_ok-check_commands.ensures.did c.in_ok-check_bus.ensures.did)

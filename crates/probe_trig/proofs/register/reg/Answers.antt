@@ -1,7 +1,12 @@
+use Rattle.std.proofs.Common.{◌∙◌, ap}
+use Rattle.probe_access.specs.Pending.{is_mip}
 use Rattle.probe_run.proofs.ActLemmas.{if_err}
-use Rattle.probe_trig.proofs.TransferLemmas.{get_failed, made_one}
+use Rattle.probe_trig.proofs.TransferLemmas.{get_failed, made_one, not_mip}
 use Rattle.probe_trig.specs.Transfers.Transfer.{Got}
 use Rattle.probe_trig.proofs.register.reg.Goals as goal
+
+pub held_reg-requires-clause-other : goal.held_reg-requires-clause-other
+held_reg-requires-clause-other g c = ap is_mip c.number.ensures ∙ not_mip c.args.register
 
 pub returns-in_err-value-clause-failed : goal.returns-in_err-value-clause-failed
 returns-in_err-value-clause-failed g c =

@@ -11,11 +11,11 @@ returns-in_err-word-clause-left g c =
     (look_broke c.args.hart c.requires.hart _ _ (told (g.D.Dmi.seen c.args.link.now)) _ _ c.requires.ready c.in_err-word.ensures.broke)
 
 pub returns-clause-did : goal.returns-clause-did
-returns-clause-did g c = looked_at c.args.hart _ _ _ _ c.in_ok-word.ensures.did c.seen_of.ensures
+returns-clause-did g c = looked_at c.args.hart _ _ _ _ c.in_ok-word.ensures.did c.seen_of.ensures.sight
 
 pub returns-clause-happened : goal.returns-clause-happened
 returns-clause-happened g c =
-    look_happened c.args.hart _ _ _ _ c.seen_of.ensures
+    look_happened c.args.hart _ _ _ _ c.seen_of.ensures.sight
     (look_outcome c.args.hart _ c.requires.hart (told (g.D.Dmi.seen c.args.link.now)) (told (g.D.Dmi.seen c.control_and_look.new.link)) c.requires.ready c.in_ok-word.ensures.did)
 
 pub returns-clause-ready : goal.returns-clause-ready
@@ -30,5 +30,5 @@ returns-clause-selects g c =
 
 pub returns-clause-seen : goal.returns-clause-seen
 returns-clause-seen g c =
-    look_seen c.args.hart _ _ _ _ c.seen_of.ensures
+    look_seen c.args.hart _ _ _ _ c.seen_of.ensures.sight
     (look_outcome c.args.hart _ c.requires.hart (told (g.D.Dmi.seen c.args.link.now)) (told (g.D.Dmi.seen c.control_and_look.new.link)) c.requires.ready c.in_ok-word.ensures.did)

@@ -11,11 +11,11 @@ returns-in_err-word-clause-left g c =
     (look_again_broke c.args.hart _ _ (told (g.D.Dmi.seen c.args.link.now)) _ _ c.requires.ready c.requires.selects c.in_err-word.ensures.broke)
 
 pub returns-clause-did : goal.returns-clause-did
-returns-clause-did g c = looked_again c.args.hart _ _ _ _ c.in_ok-word.ensures.did c.seen_of.ensures
+returns-clause-did g c = looked_again c.args.hart _ _ _ _ c.in_ok-word.ensures.did c.seen_of.ensures.sight
 
 pub returns-clause-happened : goal.returns-clause-happened
 returns-clause-happened g c =
-    look_happened c.args.hart _ _ _ _ c.seen_of.ensures
+    look_happened c.args.hart _ _ _ _ c.seen_of.ensures.sight
     (look_again_outcome c.args.hart _ (told (g.D.Dmi.seen c.args.link.now)) (told (g.D.Dmi.seen c.look.new.link))
     c.requires.ready c.requires.selects c.in_ok-word.ensures.did)
 
@@ -33,6 +33,6 @@ returns-clause-selects g c =
 
 pub returns-clause-seen : goal.returns-clause-seen
 returns-clause-seen g c =
-    look_seen c.args.hart _ _ _ _ c.seen_of.ensures
+    look_seen c.args.hart _ _ _ _ c.seen_of.ensures.sight
     (look_again_outcome c.args.hart _ (told (g.D.Dmi.seen c.args.link.now)) (told (g.D.Dmi.seen c.look.new.link))
     c.requires.ready c.requires.selects c.in_ok-word.ensures.did)
