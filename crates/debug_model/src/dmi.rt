@@ -4,6 +4,7 @@ ghost use Rattle.debug_model.specs.Asked.{AsksDtmcs, AsksIdcode, AsksOperation, 
 ghost use Rattle.debug_model.specs.Dmi.{Answers, IsOperation, NoneOperated, Operated, OperationCut, Passes, Shows};
 ghost use Rattle.debug_model.specs.Kept.{CanCall, DmiSeen, Keeps, ManyFails, OperationFails, RegisterScanFails};
 ghost use Rattle.debug_model.specs.Many.{AnswersAll, OperatedAll, OperationsCut, operations_most};
+ghost use Rattle.debug_model.specs.Rises.{BusyOnce, FailsByWire, RisesAtLeast, RisesByBusy, Within};
 ghost use Rattle.debug_model.specs.Scan.{WhereTold};
 ghost use Rattle.debug_model.specs.Tap.{idcode};
 ghost use Rattle.debug_model.specs.Transport.{dtmcs_seen, fresh_dtm};
@@ -45,8 +46,10 @@ pub const OPERATIONS_MOST: usize = 128;
 /// (RISC-V Debug Specification 1.0, "Debug Module Interface").
 ///
 /// Where it tells its far end the clauses say what each call does there, as a path of atomic steps: whatever the rounds and the busy
-/// answers were, an operation was performed exactly once. Where it tells what is to be heard, each answer is that. Behind any fault
-/// it is not alive, and no call can be made.
+/// answers were, an operation was performed exactly once. Each call also bounds how often it lets TCK rise: by its busy answers under
+/// any schedule, and under one that is fair within 32 rounds by 256 rises an operation and 8 times the slack; no operation meets more
+/// than one busy answer there, and only the wire fails. Where it tells what is to be heard, each answer is that. Behind any fault it is
+/// not alive, and no call can be made.
 pub trait Dmi: Drop {
     /// The chip at the far end, what is to be heard, and what scans were asked for, each where it is told; whether calls can be made; how many have failed; and
     /// what no call changes.
@@ -61,6 +64,7 @@ pub trait Dmi: Drop {
         ensures asked { OnOk result (AsksIdcode (seen self.old).asked (seen self.new).asked) }
         ensures cut { OnErr result (WhereTold NoneOperated (seen self.old).far (seen self.new).far) }
         ensures cause { IfErr result (RegisterScanFails (seen self.old) (seen self.new)) }
+        ensures rises { Within 1 (seen self.old) (seen self.new) }
         ensures keeps { Keeps Some (seen self.old) (seen self.new) result };
 
     /// Clears the sticky status (`dmireset`) and reads the 32 bits of `dtmcs` as they were before.
@@ -72,6 +76,7 @@ pub trait Dmi: Drop {
         ensures asked { IfOk result (λ value. AsksDtmcs value (seen self.old).asked (seen self.new).asked) }
         ensures cut { OnErr result (WhereTold NoneOperated (seen self.old).far (seen self.new).far) }
         ensures cause { IfErr result (RegisterScanFails (seen self.old) (seen self.new)) }
+        ensures rises { Within 1 (seen self.old) (seen self.new) }
         ensures keeps { Keeps Some (seen self.old) (seen self.new) result };
 
     /// Reads the register at an address below 2^7: the operation's own result.
@@ -83,6 +88,11 @@ pub trait Dmi: Drop {
         ensures asked { OnOk result (AsksOperation (Read address) (seen self.old).asked (seen self.new).asked) }
         ensures cut { OnErr result (WhereTold (OperationCut (Read address)) (seen self.old).far (seen self.new).far) }
         ensures cause { IfErr result (OperationFails (seen self.old) (seen self.new)) }
+        ensures by_busy { RisesByBusy 1 (seen self.old) (seen self.new) }
+        ensures least { OnOk result (RisesAtLeast 1 (seen self.old) (seen self.new)) }
+        ensures once { BusyOnce 1 (seen self.old) (seen self.new) }
+        ensures rises { Within 1 (seen self.old) (seen self.new) }
+        ensures never { IfErr result (FailsByWire (seen self.old)) }
         ensures keeps { Keeps Some (seen self.old) (seen self.new) result };
 
     /// Writes the register at an address below 2^7.
@@ -94,6 +104,11 @@ pub trait Dmi: Drop {
         ensures asked { OnOk result (AsksOperation (Write address value) (seen self.old).asked (seen self.new).asked) }
         ensures cut { OnErr result (WhereTold (OperationCut (Write address value)) (seen self.old).far (seen self.new).far) }
         ensures cause { IfErr result (OperationFails (seen self.old) (seen self.new)) }
+        ensures by_busy { RisesByBusy 1 (seen self.old) (seen self.new) }
+        ensures least { OnOk result (RisesAtLeast 1 (seen self.old) (seen self.new)) }
+        ensures once { BusyOnce 1 (seen self.old) (seen self.new) }
+        ensures rises { Within 1 (seen self.old) (seen self.new) }
+        ensures never { IfErr result (FailsByWire (seen self.old)) }
         ensures keeps { Keeps Some (seen self.old) (seen self.new) result };
 
     /// Does from 1 to 128 operations, in order, each once: `results` is empty, and then holds each one's own result, a write's being its data. The scan that
@@ -115,6 +130,11 @@ pub trait Dmi: Drop {
         ensures cut { OnErr result (WhereTold (OperationsCut ops.now) (seen self.old).far (seen self.new).far) }
         ensures none { OnErr result (results.new.items ≡ []) }
         ensures cause { IfErr result (ManyFails (length ops.now) (seen self.old) (seen self.new)) }
+        ensures by_busy { RisesByBusy (length ops.now) (seen self.old) (seen self.new) }
+        ensures least { OnOk result (RisesAtLeast (length ops.now) (seen self.old) (seen self.new)) }
+        ensures once { BusyOnce (length ops.now) (seen self.old) (seen self.new) }
+        ensures rises { Within (length ops.now) (seen self.old) (seen self.new) }
+        ensures never { IfErr result (FailsByWire (seen self.old)) }
         ensures keeps { Keeps Some (seen self.old) (seen self.new) result };
 
     /// Whether calls can be made: no call has failed.

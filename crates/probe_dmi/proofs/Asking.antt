@@ -1,12 +1,12 @@
 -- What scans were asked for, where that is told: the calls of an operation so far, and of several.
-use Rattle.std.proofs.Common.{◌≡◌, ◌∙◌, ◌+◌, ◌<◌, ◌≤◌, ℕ, List, [], ◌∷◌, ◌++◌, length, drop, Bool, true, false, Option, Some, None, option_map, refl, sym}
+use Rattle.std.proofs.Common.{◌≡◌, ◌∙◌, ◌+◌, ◌<◌, ◌≤◌, ℕ, List, [], ◌∷◌, ◌++◌, length, drop, Bool, true, false, Option, Some, None, refl, sym}
 use Rattle.std.proofs.Common.{ap, subst, arith}
 use Rattle.std.proofs.lemmas.List.{append_assoc}
 use Rattle.debug_model.specs.declared.asked.Asked.{Asked}
 use Rattle.debug_model.specs.declared.asked.Asked.TheVariants.{Select, Shift}
 use Rattle.debug_model.specs.declared.dmi_op.DmiOp.{DmiOp}
 use Rattle.debug_model.specs.declared.dmi_scan.DmiScan.{DmiScan}
-use Rattle.debug_model.specs.Asked.{Asking, Asks, AsksDtmcs, BehindReset, Carried, CarriedOut, StreamedOut, Streams}
+use Rattle.debug_model.specs.Asked.{Asks, AsksDtmcs, BehindReset, Carried, CarriedOut, StreamedOut, Streams}
 use Rattle.debug_model.specs.Asked.{abits_behind, and_asked, bits_of_dmi, carrying, clearing, clearing_again, first_scan, idles, next_scan, nop}
 use Rattle.debug_model.specs.Asked.BehindReset.{reset, stood}
 use Rattle.debug_model.specs.Asked.Carried.{busy, selected, took}

@@ -1,5 +1,5 @@
 -- The bounds of a call on a link, from what its scans have cost.
-use Rattle.std.proofs.Common.{◌≡◌, ◌∙◌, ℕ, suc, ◌+◌, ◌-◌, ◌*◌, ◌≤◌, List, ◌++◌, Bool, Option, Some, None, IfSome, IfErr, Result, Ok, Err, IsErrAnd, refl, sym, ap, subst, arith}
+use Rattle.std.proofs.Common.{◌≡◌, ◌∙◌, ℕ, suc, ◌+◌, ◌-◌, ◌*◌, ◌≤◌, List, ◌++◌, Bool, Option, Some, None, IfSome, IfErr, Result, Ok, Err, IsErrAnd, sym, ap, subst, arith}
 use Rattle.std.proofs.Math.Nat.{mul-le-mul_left, mul-le-mul_right}
 use Rattle.std.proofs.lemmas.Option.{same_Some}
 use Rattle.debug_model.specs.declared.data_register.DataRegister.{DataRegister}
@@ -14,14 +14,14 @@ use Rattle.debug_model.specs.Kept.{DmiSeen}
 use Rattle.debug_model.specs.Many.{OperationsCut}
 use Rattle.debug_model.specs.Pacing.{Paced}
 use Rattle.debug_model.specs.Rises.{FoundBusyAtMost, IsOfWire, PacedWithin, RoseByBusy, RoseLeast, Within}
-use Rattle.debug_model.specs.Rises.{busy_in, dmi_clocks, rate, rises_in, rises_most}
-use Rattle.debug_model.specs.Scan.{WhereTold, dr_inside}
+use Rattle.debug_model.specs.Rises.{busy_in, dmi_clocks, rate, rises_most}
+use Rattle.debug_model.specs.Scan.{WhereTold}
 use Rattle.debug_model.specs.Told.{Far, chip_of}
 use Rattle.probe_dmi.specs.Operations.{Bounded}
 use Rattle.probe_dmi.specs.Registers.{CutFrom, WordScanned}
 use Rattle.probe_dmi.specs.Rises.{Rose}
 use Rattle.probe_dmi.proofs.Calm.{part_paced}
-use Rattle.probe_dmi.proofs.Counts.{course_losses, losses}
+use Rattle.probe_dmi.proofs.Counts.{course_losses}
 use Rattle.probe_dmi.proofs.Pacing.{course_losses_none, scan_paced}
 use Rattle.probe_dmi.proofs.Spending.{Closed, Costs, most_at}
 use Rattle.probe_dmi.proofs.Told.{at_passed}

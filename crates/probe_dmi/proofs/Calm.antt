@@ -1,6 +1,6 @@
 -- How often scans of dmi find an operation in flight where the schedule is fair: once for each that they carry, since from a capture to its update there
 -- are more rounds than it takes to perform one.
-use Rattle.std.proofs.Common.{◌≡◌, ◌≢◌, ◌⊎◌, ◌∙◌, ℕ, ◌+◌, ◌%◌, ◌≤◌, List, length, Bool, true, false, Option, Some, None, refl, sym, ap, subst, arith, inl, inr}
+use Rattle.std.proofs.Common.{◌≡◌, ◌≢◌, ◌⊎◌, ◌∙◌, ℕ, ◌+◌, ◌%◌, ◌≤◌, List, Bool, true, false, Option, Some, None, refl, sym, ap, arith, inl, inr}
 use Rattle.debug_model.specs.declared.counts.Counts.{Counts}
 use Rattle.debug_model.specs.declared.data_register.DataRegister.{DataRegister}
 use Rattle.debug_model.specs.declared.data_register.DataRegister.TheVariants.{Dmi, Dtmcs}
@@ -13,10 +13,10 @@ use Rattle.debug_model.specs.Chip.{Inside, busy_counted}
 use Rattle.debug_model.specs.Pacing.{Paced, fair_within}
 use Rattle.debug_model.specs.Rises.{busy_in}
 use Rattle.debug_model.specs.Scan.{capture, dr_inside, dr_stays, dtm_of, ticks, update}
-use Rattle.debug_model.specs.Transport.{Dtm, cleared_by, dmi_seen, finds_busy, seen, sets_busy, status_number, status_seen, updated_dtm}
+use Rattle.debug_model.specs.Transport.{Dtm, cleared_by, dmi_seen, finds_busy, seen, sets_busy, status_number, updated_dtm}
 use Rattle.probe_dmi.specs.Registers.{Part}
 use Rattle.probe_dmi.specs.Registers.Part.{before_capture, behind_capture, behind_update}
-use Rattle.probe_dmi.proofs.Carrying.{scan_busy, stuck_keeps}
+use Rattle.probe_dmi.proofs.Carrying.{stuck_keeps}
 use Rattle.probe_dmi.proofs.Counts.{counts_in, scan_found, scan_unfound, ticks_busy}
 use Rattle.probe_dmi.proofs.Flight.{ticks_sticky}
 use Rattle.probe_dmi.proofs.Pacing.{capture_paced, scan_paced, ticks_land, ticks_none, ticks_paced}
@@ -118,9 +118,10 @@ captured_busy : (r : DataRegister) (before between : ℕ) (j : Inside)
     → (busy_in j ≤ busy_in (ticks between (capture r (ticks before j)))) × (busy_in (ticks between (capture r (ticks before j))) ≤ busy_in j + 1)
 captured_busy r before between j =
     let m = ticks before j in
-    let found = sets_busy r (dtm_of m) in
-    (omega (arith, ticks_busy before j, counted_more found (counts_in m), ticks_busy between (capture r m)),
-     omega (arith, ticks_busy before j, counted_one found (counts_in m), ticks_busy between (capture r m)))
+    let found = sets_busy r (dtm_of m) in (
+      omega (arith, ticks_busy before j, counted_more found (counts_in m), ticks_busy between (capture r m)),
+      omega (arith, ticks_busy before j, counted_one found (counts_in m), ticks_busy between (capture r m)),
+    )
 
 pub part_busy : (r : DataRegister) (bits : List Bool) (j k : Inside) → Part r bits j k → (busy_in j ≤ busy_in k) × (busy_in k ≤ busy_in j + 1)
 part_busy r bits j k (before_capture before) = (omega (arith, ticks_busy before j), omega (arith, ticks_busy before j))

@@ -1,5 +1,5 @@
 -- Rounds of a chip whose schedule is fair: they perform what is in flight within so many, and lose nothing.
-use Rattle.std.proofs.Common.{◌≡◌, ◌∙◌, ℕ, zero, suc, ◌+◌, ◌<◌, ◌≤◌, List, [], ◌∷◌, ◌++◌, Bool, true, false, Option, Some, None, refl, sym, ap, subst, arith}
+use Rattle.std.proofs.Common.{◌≡◌, ◌∙◌, ℕ, zero, suc, ◌+◌, ◌<◌, ◌≤◌, List, [], ◌∷◌, Bool, Option, Some, None, refl, sym, ap, subst, arith}
 use Rattle.std.proofs.Common.{Contains}
 use Rattle.chip_laws.proofs.Pace.{course_paced, tick_paced}
 use Rattle.debug_model.specs.declared.data_register.DataRegister.{DataRegister}
@@ -7,7 +7,7 @@ use Rattle.debug_model.specs.declared.dmi_op.DmiOp.{DmiOp}
 use Rattle.debug_model.specs.declared.event.Event.{Event}
 use Rattle.debug_model.specs.declared.event.Event.TheVariants.{Turn, DmiDone, DmiFail, CmdStep, BusDone}
 use Rattle.debug_model.specs.Chip.{Inside, Works, after_event, after_events, counted, performed_by, tick}
-use Rattle.debug_model.specs.Course.{Course, Happening, in_event, in_events, in_round, in_update, loses, performs}
+use Rattle.debug_model.specs.Course.{Course, Happening, in_event, in_events, in_round, in_update, performs}
 use Rattle.debug_model.specs.Course.Course.{nothing, round, captured, updated}
 use Rattle.debug_model.specs.Module.{Site, operation_result}
 use Rattle.debug_model.specs.Pacing.{Paced, fair_within}
@@ -15,7 +15,7 @@ use Rattle.debug_model.specs.Scan.{capture, dr_inside, dr_stays, dtm_of, ticks, 
 use Rattle.debug_model.specs.Schedule.{RoundPlan, moved, round_after, round_of}
 use Rattle.debug_model.specs.Transport.{Dtm, finished_by}
 use Rattle.probe_dmi.proofs.Counts.{losses, losses-append, update_losses}
-use Rattle.probe_dmi.proofs.Flight.{event_quiet, events_quiet, tick_quiet}
+use Rattle.probe_dmi.proofs.Flight.{events_quiet, tick_quiet}
 
 -- ---- nothing in flight
 
@@ -101,8 +101,12 @@ pub course_losses_none : (i j : Inside) (hs : List Happening) → Course i hs j 
 unfolding losses
 course_losses_none i j hs nothing p = refl
 course_losses_none i j hs (round before k c) p =
-    omega (arith, course_losses_none i k before c p, losses-append before (in_round k),
-      events_losses (round_of k.plan) (counted k.works) ((course_paced i k before c p).fair.no_dmi_fail 0))
+    omega (
+      arith,
+      course_losses_none i k before c p,
+      losses-append before (in_round k),
+      events_losses (round_of k.plan) (counted k.works) ((course_paced i k before c p).fair.no_dmi_fail 0),
+    )
 course_losses_none i j hs (captured r before k c) p = course_losses_none i k before c p
 course_losses_none i j hs (updated r bits before k c) p =
     omega (arith, course_losses_none i k before c p, losses-append before (in_update r bits (dtm_of k)), update_losses r bits (dtm_of k))

@@ -1,11 +1,11 @@
 -- The rises of TCK in each call on a transport's registers, from those of its scans.
-use Rattle.std.proofs.Common.{◌≡◌, ◌∙◌, ℕ, zero, suc, ◌+◌, ◌*◌, ◌≤◌, ◌<◌, List, length, Bool, true, false, Option, Some, None, IfSome, refl, sym, ap, subst, arith}
+use Rattle.std.proofs.Common.{◌≡◌, ◌∙◌, ℕ, zero, suc, ◌+◌, ◌*◌, ◌≤◌, ◌<◌, List, length, Bool, true, false, Option, Some, None, IfSome, refl, ap, subst, arith}
 use Rattle.std.proofs.Math.Nat.{mul-le-mul_right}
 use denote.Enum.Bare.{sameb}
 use Rattle.debug_model.proofs.Rounds.{busy_rounds, events_rounds}
 use Rattle.debug_model.specs.declared.data_register.DataRegister.{DataRegister}
 use Rattle.debug_model.specs.declared.data_register.DataRegister.TheVariants.{Idcode}
-use Rattle.debug_model.specs.Chip.{Chip, Inside, counted, tick}
+use Rattle.debug_model.specs.Chip.{Inside, counted, tick}
 use Rattle.debug_model.specs.Kept.{Fixed, ScanSeen}
 use Rattle.debug_model.specs.Port.{data_register_of}
 use Rattle.debug_model.specs.Rises.{rises_in}

@@ -10,13 +10,13 @@ use Rattle.debug_model.specs.declared.sticky.Sticky.TheVariants.{Clear}
 use Rattle.debug_model.specs.Asked.{reset_bits}
 use Rattle.debug_model.specs.Chip.{Chip, Inside}
 use Rattle.debug_model.specs.Kept.{ScanSeen}
-use Rattle.debug_model.specs.Pacing.{Paced, fair_within}
-use Rattle.debug_model.specs.Rises.{busy_in, dmi_clocks, rises_in}
+use Rattle.debug_model.specs.Pacing.{Paced}
+use Rattle.debug_model.specs.Rises.{busy_in, rises_in}
 use Rattle.debug_model.specs.Scan.{WhereTold, dr_inside, dtm_of, ticks}
 use Rattle.debug_model.specs.Told.{Far, IsClean, chip_of}
 use Rattle.debug_model.specs.TransportWords.{dmi_word}
 use Rattle.probe_dmi.specs.Registers.Part.{before_capture, behind_capture, behind_update}
-use Rattle.probe_dmi.specs.Registers.{CutFrom, DmiScanned, Part, Prepared, ScannedFrom, Waited, WordScanned, dmi_bits}
+use Rattle.probe_dmi.specs.Registers.{CutFrom, DmiScanned, Part, Prepared, Waited, WordScanned, dmi_bits}
 use Rattle.probe_dmi.specs.Rises.{Rose, RoseWithin}
 use Rattle.probe_dmi.proofs.Calm.{Calm, calm_begun, calm_cleared, calm_few, calm_found, calm_next, calm_part, calm_scan, part_busy, part_cleared, part_paced}
 use Rattle.probe_dmi.proofs.Calm.{scan_found_one}
@@ -120,7 +120,7 @@ told_two P Q T R far_of is_of (Some f) mid new step p q r =
 
 spent_two : (slack slack' : Option ℕ) (scans clocks least most row b q : ℕ) (R T : Chip → Option Far → Type 0) (old mid new : Option Far) → slack' ≡ slack
     → ((f : Far) (u : Spent slack scans clocks least most row (chip_of f) mid) → Rose slack b q (chip_of u.far) new → R (chip_of u.far) new
-      → T (chip_of f) new)
+    → T (chip_of f) new)
     → WhereTold (Spent slack scans clocks least most row) old mid → WhereTold (Rose slack' b q) mid new → WhereTold R mid new → WhereTold T old new
 spent_two slack slack' scans clocks least most row b q R T old mid new same step u r d =
     told_two (Spent slack scans clocks least most row) (Rose slack b q) T R (λ c new p. p.far) (λ c new p. p.is) old mid new step u
@@ -128,7 +128,7 @@ spent_two slack slack' scans clocks least most row b q R T old mid new same step
 
 still_two : (slack slack' : Option ℕ) (scans clocks least most row b q : ℕ) (R T : Chip → Option Far → Type 0) (old mid new : Option Far) → slack' ≡ slack
     → ((f : Far) (u : Still slack scans clocks least most row (chip_of f) mid) → Rose slack b q (chip_of u.far) new → R (chip_of u.far) new
-      → T (chip_of f) new)
+    → T (chip_of f) new)
     → WhereTold (Still slack scans clocks least most row) old mid → WhereTold (Rose slack' b q) mid new → WhereTold R mid new → WhereTold T old new
 still_two slack slack' scans clocks least most row b q R T old mid new same step u r d =
     told_two (Still slack scans clocks least most row) (Rose slack b q) T R (λ c new p. p.far) (λ c new p. p.is) old mid new step u

@@ -316,13 +316,13 @@ room_done flight value results results' n total kept_is one none room = omega (a
 -- what was spent, with one operation fewer left
 pub spent_on : (ops rest left : List DmiOp) (old new : ScanSeen) → 1 ≤ length rest → left ≡ drop 1 rest → length rest ≤ length ops
     → SpentWithin (scans_spent (length ops) ((length ops - length rest) + 1) 0) (clocks_spent (length ops) ((length ops - length rest) + 1) 0)
-      (46 * (length ops - length rest) + 46) ((length ops - length rest) + 1) 0 old new
+    (46 * (length ops - length rest) + 46) ((length ops - length rest) + 1) 0 old new
     → SpentWithin (scans_spent (length ops) (length ops - length left) 0) (clocks_spent (length ops) (length ops - length left) 0)
-      (46 * (length ops - length left)) (length ops - length left) 0 old new
+    (46 * (length ops - length left)) (length ops - length left) 0 old new
 spent_on ops rest left old new some is room u =
     let long : length left ≡ length rest - 1 = ap length is ∙ length-drop 1 rest in
     let more : (length ops - length rest) + 1 ≡ length ops - length left = omega arith in
     let least : 46 * (length ops - length rest) + 46 ≡ 46 * (length ops - length left) = omega (arith, more) in
     subst (λ n. SpentWithin (scans_spent (length ops) n 0) (clocks_spent (length ops) n 0) (46 * (length ops - length left)) n 0 old new) more
     (subst (λ n. SpentWithin (scans_spent (length ops) ((length ops - length rest) + 1) 0) (clocks_spent (length ops) ((length ops - length rest) + 1) 0) n
-      ((length ops - length rest) + 1) 0 old new) least u)
+    ((length ops - length rest) + 1) 0 old new) least u)

@@ -1,5 +1,5 @@
 -- What several operations in one call cost: each scan that finds the transport idle, with the clocks before it, and each busy answer apart.
-use Rattle.std.proofs.Common.{◌≡◌, ◌∙◌, ℕ, zero, suc, ◌+◌, ◌-◌, ◌*◌, ◌<◌, ◌≤◌, cond, nat_lt, Bool, true, false, add-one, refl, sym, ap, arith}
+use Rattle.std.proofs.Common.{◌≡◌, ℕ, zero, suc, ◌+◌, ◌-◌, ◌*◌, ◌<◌, ◌≤◌, cond, nat_lt, Bool, true, false, add-one, refl, ap, arith}
 use Rattle.std.proofs.lemmas.Bool.{ltb-false, ltb-true}
 use Rattle.probe_dmi.specs.Rises.{pauses, waits_most}
 
@@ -62,7 +62,7 @@ begun_by false = (omega arith, omega arith)
 
 next_by : (several : Bool) (taken row clocks : ℕ) → clocks ≤ cond several 24 0 → (0 < row → clocks ≡ 0)
     → (scans_by several taken row + (pauses clocks + 1) ≤ scans_by several (taken + 1) 0)
-      × (clocks_by several taken row + (clocks + 46) ≤ clocks_by several (taken + 1) 0)
+    × (clocks_by several taken row + (clocks + 46) ≤ clocks_by several (taken + 1) 0)
 unfolding scans_by clocks_by
 next_by true taken row clocks few once = let w = waited row clocks once in (omega (arith, w.0), omega (arith, w.1 few))
 next_by false taken row clocks few once =
@@ -83,7 +83,7 @@ next_clocks operations taken row clocks few once = (next_by (nat_lt 1 operations
 
 again_by : (several : Bool) (taken row clocks : ℕ) → clocks ≤ cond several 24 0 → (0 < row → clocks ≡ 0)
     → (scans_by several taken row + (pauses clocks + 1) + 3 ≤ scans_by several taken (row + 1) + 4)
-      × (clocks_by several taken row + (clocks + 46) + 59 ≤ clocks_by several taken (row + 1) + 105)
+    × (clocks_by several taken row + (clocks + 46) + 59 ≤ clocks_by several taken (row + 1) + 105)
 unfolding scans_by clocks_by
 again_by true taken row clocks few once =
     let w = waited row clocks once in

@@ -1,6 +1,6 @@
 -- Scans of a register of the transport from a TAP at rest: rounds, the capture, rounds, the update, rounds; and what a fault left of that.
 -- RISC-V Debug Specification 1.0, "JTAG DTM Registers"; a path of IEEE 1149.1 to Run-Test/Idle or to another instruction is rounds alone.
-use Rattle.std.specs.Prelude.{◌≡◌, ◌+◌, ◌≤◌, ℕ, List, length, Bool, true, false, Option, Some, None, IfSome}
+use Rattle.std.specs.Prelude.{◌≡◌, ◌+◌, ◌≤◌, ℕ, List, length, Bool, Option, Some, None, IfSome}
 use Rattle.jt_base.specs.BitList.{bits_of, number_of}
 use Rattle.debug_model.specs.declared.data_register.DataRegister.{DataRegister}
 use Rattle.debug_model.specs.declared.data_register.DataRegister.TheVariants.{Dmi}
@@ -9,8 +9,8 @@ use Rattle.debug_model.specs.Chip.{Chip, Inside}
 use Rattle.debug_model.specs.Dmi.{IsAtRest, IsDmi, heard}
 use Rattle.debug_model.specs.Scan.{Coming, TookOut, capture, dr_clocks, dr_inside, dr_out, ticks}
 use Rattle.debug_model.specs.Told.{Far, IsFree, IsOpen, IsRead, chip_of}
-use Rattle.debug_model.specs.Transport.{dmi_width, dtmcs_width, idcode_width, width_of}
-use Rattle.debug_model.specs.TransportWords.{address_bits, dmi_word, dtmcs_word}
+use Rattle.debug_model.specs.Transport.{dmi_width, width_of}
+use Rattle.debug_model.specs.TransportWords.{address_bits, dmi_word}
 
 -- ---- when a register can be scanned
 

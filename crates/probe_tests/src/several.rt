@@ -103,11 +103,17 @@ fn carries_the_next_with_each_scan(rt: HostRuntime) {
 
 #[test]
 fn waits_behind_a_busy_answer_where_it_learns(rt: HostRuntime) {
-    let numbers = [0x14, 0x3, DTMCS_BUSY, 0x1c, 0x24, 0x24, 0x1c];
+    let numbers = [
+        0x14, 0x3, DTMCS_BUSY, 0x1c, 0x24, 0x24, 0x1c, 0x24, 0x24, 0x1c,
+    ];
     let mut link = Link::paced(Recorder::new(&numbers));
     let mut results = ArrayVec::new();
     assert!(rt; link.alive());
     assert_eq!(rt; link.many(&READS, &mut results), Ok(()));
+    assert!(rt; link.alive());
+    results.clear();
+    assert_eq!(rt; link.many(&READS, &mut results), Ok(()));
+    assert_eq!(rt; results.as_slice(), [7, 9].as_slice());
     assert!(rt; link.alive());
     results.clear();
     assert_eq!(rt; link.many(&[DmiOp::Read(DATA0)], &mut results), Ok(()));
@@ -127,6 +133,11 @@ fn waits_behind_a_busy_answer_where_it_learns(rt: HostRuntime) {
         Call::Idle(1),
         Call::Dr(41, READ_DATA0),
         Call::Idle(1),
+        Call::Dr(41, READ_DATA1),
+        Call::Idle(1),
+        Call::Dr(41, 0),
+        Call::Ir(0x11),
+        Call::Dr(41, READ_DATA0),
         Call::Dr(41, 0),
     ];
     assert_eq!(rt; link.into_scan().calls.as_slice(), wanted.as_slice());
@@ -149,7 +160,7 @@ fn learns_from_each_of_two_busy_answers_and_then_from_each_second(rt: HostRuntim
         for _ in 0..busy {
             let _kept = numbers.try_push(0x3).is_ok() && numbers.try_push(DTMCS_BUSY).is_ok();
         }
-        for word in [0x14, 0x1c, 0x14, 0x1c] {
+        for word in [0x14, 0x1c, 0x14, 0x1c, 0x24] {
             let _kept = numbers.try_push(word).is_ok();
         }
         let mut link = Link::paced(Recorder::new(numbers.as_slice()));
@@ -157,7 +168,7 @@ fn learns_from_each_of_two_busy_answers_and_then_from_each_second(rt: HostRuntim
         assert!(rt; link.alive());
         assert_eq!(rt; link.read(DATA0), Ok(7));
         assert!(rt; link.alive());
-        assert_eq!(rt; link.many(&[DmiOp::Read(DATA0)], &mut results), Ok(()));
+        assert_eq!(rt; link.many(&READS, &mut results), Ok(()));
         let calls = link.into_scan().calls;
         let last = calls.iter().rev().nth(1);
         assert_eq!(rt; last, Some(&wanted));

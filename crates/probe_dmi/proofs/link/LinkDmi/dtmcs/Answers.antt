@@ -1,9 +1,11 @@
-use Rattle.std.proofs.Common.{◌∙◌, ap, rules}
+use Rattle.std.proofs.Common.{◌∙◌, ap, arith, rules}
 use Rattle.debug_model.specs.declared.dtmcs.Dtmcs.{Dtmcs as TheDtmcs}
 use Rattle.debug_model.specs.Asked.{abits_behind, reset_bits}
 use Rattle.debug_model.specs.declared.data_register.DataRegister.TheVariants.{Dtmcs}
 use Rattle.jt_base.proofs.Pieces.{on_err}
 use Rattle.probe_dmi.proofs.Asking.{asks_width}
+use Rattle.probe_dmi.proofs.Bounds.{cut_rises, word_rises}
+use Rattle.probe_dmi.proofs.Rising.{resets_few}
 use Rattle.probe_dmi.proofs.Stages.{reset_harmless}
 use Rattle.probe_dmi.proofs.Conditions.{can_operate}
 use Rattle.probe_dmi.proofs.Readings.{abits_told, dtmcs_value, none_cut, read_clean, read_none, read_then}
@@ -37,3 +39,11 @@ pub returns-clause-asked : goal.returns-clause-asked
 returns-clause-asked g c = asks_width c.args.self.now.registers.state c.in_ok-dtmcs.dtmcs c.args.self.now.abits c.abits_behind-self.result
     (g.S.Scan.seen c.args.self.now.registers.scan).asked _
     (c.abits_behind-self.ensures.value ∙ ap (λ (r : TheDtmcs). abits_behind r.abits c.args.self.now.abits) c.from_word.ensures) c.in_ok-dtmcs.ensures.asked
+
+pub returns-in_err-dtmcs-clause-rises : goal.returns-in_err-dtmcs-clause-rises
+returns-in_err-dtmcs-clause-rises g c = cut_rises _ _ Dtmcs reset_bits _ _ (omega (arith, resets_few c.args.self.now.registers.state))
+    (omega (arith, resets_few c.args.self.now.registers.state)) c.clear.ensures.rises.told c.in_err-dtmcs.ensures.cut
+
+pub returns-clause-rises : goal.returns-clause-rises
+returns-clause-rises g c = word_rises _ _ Dtmcs reset_bits c.in_ok-dtmcs.dtmcs _ _ (omega (arith, resets_few c.args.self.now.registers.state))
+    (omega (arith, resets_few c.args.self.now.registers.state)) c.clear.ensures.rises.told c.in_ok-dtmcs.ensures.scanned

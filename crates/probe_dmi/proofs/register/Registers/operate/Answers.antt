@@ -145,10 +145,10 @@ scans-preserved g c =
     record {
       underway = u;
       spent = spent_fresh _ _ _ _ 0 _ _ (spent_cleared (3 + taken_count c.scans.taken) (63 + 46 * taken_count c.scans.taken) (46 * taken_count c.scans.taken) (taken_count c.scans.taken) 0 3 59 (2 + taken_count c.scans.taken) (17 + 46 * taken_count c.scans.taken) c.in_ok-clear_again.field-0 _ (g.S.Scan.seen c.exchange_behind.new.self.scan) _ (omega arith)
-    (omega arith) (c.exchange_behind.ensures.keeps.fixed ∙ c.scans.invariant.fixed) (still_spent (2 + taken_count c.scans.taken) (17 + 46 * taken_count c.scans.taken) (46 * taken_count c.scans.taken) (taken_count c.scans.taken) 0 1 46 (3 + taken_count c.scans.taken) (63 + 46 * taken_count c.scans.taken) c.next_scan.result c.in_ok-out.out _ (g.S.Scan.seen c.scans.self.scan) _ (omega arith) (omega arith) c.scans.invariant.fixed
-    (underway_clear c.args.op c.scans.taken c.scans.busy (g.S.Scan.seen c.args.self.now.scan).far _ c.scans.invariant.underway) c.if-out-eq-STATUS_DONE.false c.if-out-eq-STATUS_FAILED.false
-    c.scans.invariant.spent c.exchange_behind.ensures.rises c.in_ok-out.ensures.scanned) (rose_more _ _ 3 59 _ _ c.clear_again.ensures.rises (omega (arith, resets_idle _ c.in_ok-out.ensures.state))
-    (omega (arith, resets_idle _ c.in_ok-out.ensures.state))) c.in_ok-clear_again.ensures.scanned);
+          (omega arith) (c.exchange_behind.ensures.keeps.fixed ∙ c.scans.invariant.fixed) (still_spent (2 + taken_count c.scans.taken) (17 + 46 * taken_count c.scans.taken) (46 * taken_count c.scans.taken) (taken_count c.scans.taken) 0 1 46 (3 + taken_count c.scans.taken) (63 + 46 * taken_count c.scans.taken) c.next_scan.result c.in_ok-out.out _ (g.S.Scan.seen c.scans.self.scan) _ (omega arith) (omega arith) c.scans.invariant.fixed
+          (underway_clear c.args.op c.scans.taken c.scans.busy (g.S.Scan.seen c.args.self.now.scan).far _ c.scans.invariant.underway) c.if-out-eq-STATUS_DONE.false c.if-out-eq-STATUS_FAILED.false
+          c.scans.invariant.spent c.exchange_behind.ensures.rises c.in_ok-out.ensures.scanned) (rose_more _ _ 3 59 _ _ c.clear_again.ensures.rises (omega (arith, resets_idle _ c.in_ok-out.ensures.state))
+          (omega (arith, resets_idle _ c.in_ok-out.ensures.state))) c.in_ok-clear_again.ensures.scanned);
       so_far = heard_again c.scans.busy c.scans.taken c.in_ok-out.out c.in_ok-clear_again.field-0 _ (g.S.Scan.seen c.scans.self.scan).coming
           (g.S.Scan.seen c.exchange_behind.new.self.scan).coming _ c.if-out-eq-STATUS_DONE.false c.if-out-eq-STATUS_FAILED.false c.scans.invariant.so_far
           c.in_ok-out.ensures.heard c.in_ok-clear_again.ensures.heard;

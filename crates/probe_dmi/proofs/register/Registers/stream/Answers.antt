@@ -115,15 +115,15 @@ scans-preserved-then-out-ne-STATUS_DONE g c =
     record {
       streaming = u;
       spent = (spent_cleared (scans_spent (length c.args.ops.now) (length c.args.ops.now - length c.scans.rest.now) c.scans.busy + (pauses c.scans.clocks + 1))
-    (clocks_spent (length c.args.ops.now) (length c.args.ops.now - length c.scans.rest.now) c.scans.busy + (c.scans.clocks + 46)) (46 * (length c.args.ops.now - length c.scans.rest.now)) (length c.args.ops.now - length c.scans.rest.now) c.scans.busy 3 59 (scans_spent (length c.args.ops.now) (length c.args.ops.now - length c.scans.rest.now) (c.scans.busy + 1))
-    (clocks_spent (length c.args.ops.now) (length c.args.ops.now - length c.scans.rest.now) (c.scans.busy + 1)) c.in_ok-clear_again.field-0 _ (g.S.Scan.seen c.exchange_behind.new.self.scan) _
-    (again_scans (length c.args.ops.now) (length c.args.ops.now - length c.scans.rest.now) c.scans.busy c.scans.clocks c.scans.invariant.share c.scans.invariant.waited)
-    (again_clocks (length c.args.ops.now) (length c.args.ops.now - length c.scans.rest.now) c.scans.busy c.scans.clocks c.scans.invariant.share c.scans.invariant.waited) (c.exchange_behind.ensures.keeps.fixed ∙ c.scans.invariant.fixed) (still_spent (scans_spent (length c.args.ops.now) (length c.args.ops.now - length c.scans.rest.now) c.scans.busy) (clocks_spent (length c.args.ops.now) (length c.args.ops.now - length c.scans.rest.now) c.scans.busy)
-    (46 * (length c.args.ops.now - length c.scans.rest.now)) (length c.args.ops.now - length c.scans.rest.now) c.scans.busy (pauses c.scans.clocks + 1) (c.scans.clocks + 46) (scans_spent (length c.args.ops.now) (length c.args.ops.now - length c.scans.rest.now) c.scans.busy + (pauses c.scans.clocks + 1))
-    (clocks_spent (length c.args.ops.now) (length c.args.ops.now - length c.scans.rest.now) c.scans.busy + (c.scans.clocks + 46)) c.first_scan.result c.in_ok-out.out _ (g.S.Scan.seen c.scans.self.scan) _ (omega arith) (omega arith) c.scans.invariant.fixed
-    (streaming_clear c.args.ops.now c.scans.results.items c.scans.rest.now c.scans.in_flight c.scans.busy (g.S.Scan.seen c.args.self.now.scan).far _ c.scans.invariant.streaming)
-    c.if-out-ne-STATUS_DONE.true c.if-out-eq-STATUS_FAILED.false c.scans.invariant.spent c.exchange_behind.ensures.rises c.in_ok-out.ensures.scanned) (rose_more _ _ 3 59 _ _ c.clear_again.ensures.rises (omega (arith, resets_idle _ c.in_ok-out.ensures.state))
-    (omega (arith, resets_idle _ c.in_ok-out.ensures.state))) c.in_ok-clear_again.ensures.scanned);
+          (clocks_spent (length c.args.ops.now) (length c.args.ops.now - length c.scans.rest.now) c.scans.busy + (c.scans.clocks + 46)) (46 * (length c.args.ops.now - length c.scans.rest.now)) (length c.args.ops.now - length c.scans.rest.now) c.scans.busy 3 59 (scans_spent (length c.args.ops.now) (length c.args.ops.now - length c.scans.rest.now) (c.scans.busy + 1))
+          (clocks_spent (length c.args.ops.now) (length c.args.ops.now - length c.scans.rest.now) (c.scans.busy + 1)) c.in_ok-clear_again.field-0 _ (g.S.Scan.seen c.exchange_behind.new.self.scan) _
+          (again_scans (length c.args.ops.now) (length c.args.ops.now - length c.scans.rest.now) c.scans.busy c.scans.clocks c.scans.invariant.share c.scans.invariant.waited)
+          (again_clocks (length c.args.ops.now) (length c.args.ops.now - length c.scans.rest.now) c.scans.busy c.scans.clocks c.scans.invariant.share c.scans.invariant.waited) (c.exchange_behind.ensures.keeps.fixed ∙ c.scans.invariant.fixed) (still_spent (scans_spent (length c.args.ops.now) (length c.args.ops.now - length c.scans.rest.now) c.scans.busy) (clocks_spent (length c.args.ops.now) (length c.args.ops.now - length c.scans.rest.now) c.scans.busy)
+          (46 * (length c.args.ops.now - length c.scans.rest.now)) (length c.args.ops.now - length c.scans.rest.now) c.scans.busy (pauses c.scans.clocks + 1) (c.scans.clocks + 46) (scans_spent (length c.args.ops.now) (length c.args.ops.now - length c.scans.rest.now) c.scans.busy + (pauses c.scans.clocks + 1))
+          (clocks_spent (length c.args.ops.now) (length c.args.ops.now - length c.scans.rest.now) c.scans.busy + (c.scans.clocks + 46)) c.first_scan.result c.in_ok-out.out _ (g.S.Scan.seen c.scans.self.scan) _ (omega arith) (omega arith) c.scans.invariant.fixed
+          (streaming_clear c.args.ops.now c.scans.results.items c.scans.rest.now c.scans.in_flight c.scans.busy (g.S.Scan.seen c.args.self.now.scan).far _ c.scans.invariant.streaming)
+          c.if-out-ne-STATUS_DONE.true c.if-out-eq-STATUS_FAILED.false c.scans.invariant.spent c.exchange_behind.ensures.rises c.in_ok-out.ensures.scanned) (rose_more _ _ 3 59 _ _ c.clear_again.ensures.rises (omega (arith, resets_idle _ c.in_ok-out.ensures.state))
+          (omega (arith, resets_idle _ c.in_ok-out.ensures.state))) c.in_ok-clear_again.ensures.scanned);
       share = omega arith;
       waited = λ some. refl;
       heard = heard_busy_again (length c.args.ops.now) (length c.scans.rest.now) c.scans.busy c.scans.in_flight c.scans.results.items c.in_ok-out.out
@@ -199,11 +199,11 @@ scans-preserved g c =
       streaming = u;
       spent = spent_on c.args.ops.now c.scans.rest.now _ _ _ c.in-len1-up.len_at_least (rest_is c.scans.rest.now) (omega arith)
           (spent_next (scans_spent (length c.args.ops.now) (length c.args.ops.now - length c.scans.rest.now) c.scans.busy) (clocks_spent (length c.args.ops.now) (length c.args.ops.now - length c.scans.rest.now) c.scans.busy)
-    (46 * (length c.args.ops.now - length c.scans.rest.now)) (length c.args.ops.now - length c.scans.rest.now) c.scans.busy (pauses c.scans.clocks + 1) (c.scans.clocks + 46)
-    (scans_spent (length c.args.ops.now) ((length c.args.ops.now - length c.scans.rest.now) + 1) 0) (clocks_spent (length c.args.ops.now) ((length c.args.ops.now - length c.scans.rest.now) + 1) 0) c.first_scan.result c.in_ok-out.out _ (g.S.Scan.seen c.scans.self.scan) _
-    (next_scans (length c.args.ops.now) (length c.args.ops.now - length c.scans.rest.now) c.scans.busy c.scans.clocks c.scans.invariant.share c.scans.invariant.waited)
-    (next_clocks (length c.args.ops.now) (length c.args.ops.now - length c.scans.rest.now) c.scans.busy c.scans.clocks c.scans.invariant.share c.scans.invariant.waited) c.scans.invariant.fixed
-    c.scans.invariant.spent c.exchange_behind.ensures.rises c.in_ok-out.ensures.scanned);
+          (46 * (length c.args.ops.now - length c.scans.rest.now)) (length c.args.ops.now - length c.scans.rest.now) c.scans.busy (pauses c.scans.clocks + 1) (c.scans.clocks + 46)
+          (scans_spent (length c.args.ops.now) ((length c.args.ops.now - length c.scans.rest.now) + 1) 0) (clocks_spent (length c.args.ops.now) ((length c.args.ops.now - length c.scans.rest.now) + 1) 0) c.first_scan.result c.in_ok-out.out _ (g.S.Scan.seen c.scans.self.scan) _
+          (next_scans (length c.args.ops.now) (length c.args.ops.now - length c.scans.rest.now) c.scans.busy c.scans.clocks c.scans.invariant.share c.scans.invariant.waited)
+          (next_clocks (length c.args.ops.now) (length c.args.ops.now - length c.scans.rest.now) c.scans.busy c.scans.clocks c.scans.invariant.share c.scans.invariant.waited) c.scans.invariant.fixed
+          c.scans.invariant.spent c.exchange_behind.ensures.rises c.in_ok-out.ensures.scanned);
       share = c.clocks_before-clocks-in-scans.ensures.few;
       waited = λ some. absurd (omega (arith, some));
       heard = heard_on (length c.args.ops.now) (length c.scans.rest.now) _ c.scans.busy c.scans.in_flight c.scans.results.items c.keep.new.results.items
